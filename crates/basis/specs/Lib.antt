@@ -1,0 +1,5 @@
+pub mod Names
+pub mod Numbers
+pub mod Refusals
+pub mod Roles
+pub mod Runs

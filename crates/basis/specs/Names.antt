@@ -1,0 +1,32 @@
+-- The syntax of names, lock IDs and secrets, as tests of the bytes of a text.
+use Rattle.std.specs.Prelude.{ℕ, List, length, Bool, ◌&&◌, ◌||◌, ◌==◌, nat_le, slice_index}
+use Rattle.std.specs.List.{list_all}
+use Rattle.std.specs.Char.{is_ascii_digit, is_ascii_lowercase, is_ascii_alphanumeric}
+
+-- between the least and the most bytes
+abbrev pub has_length : ℕ → ℕ → List ℕ → Bool
+has_length least most text = nat_le least (length text) && nat_le (length text) most
+
+-- a small letter, a digit or a hyphen (45)
+abbrev pub is_org_byte : ℕ → Bool
+is_org_byte b = is_ascii_lowercase b || is_ascii_digit b || b == 45
+
+-- 1 to 40 bytes of these, and the first is a letter
+abbrev pub is_org_name : List ℕ → Bool
+is_org_name text = has_length 1 40 text && list_all is_org_byte text && is_ascii_lowercase (slice_index text 0)
+
+-- an ASCII letter, a digit, a hyphen (45) or a low line (95)
+abbrev pub is_ws_byte : ℕ → Bool
+is_ws_byte b = is_ascii_alphanumeric b || b == 45 || b == 95
+
+-- 1 to 90 bytes of these
+abbrev pub is_ws_name : List ℕ → Bool
+is_ws_name text = has_length 1 90 text && list_all is_ws_byte text
+
+-- 1 to 128 bytes of text
+abbrev pub is_lock_id : List ℕ → Bool
+is_lock_id text = has_length 1 128 text
+
+-- 16 to 64 ASCII letters or digits
+abbrev pub is_secret : List ℕ → Bool
+is_secret text = has_length 16 64 text && list_all is_ascii_alphanumeric text

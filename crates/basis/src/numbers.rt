@@ -1,0 +1,212 @@
+//! Numbers of versions and runs, moments, and limits.
+ghost use Rattle.std.specs.Prelude.{◌≡◌, ◌↔◌, ℕ, ◌^◌, ◌<◌, ◌≤◌, length, Some, None, IsSome, IsNone, IfSome, IfOk, IfErr, IsErrOf};
+ghost use Rattle.basis.specs.Numbers.{begins_plainly, whole_of, number_of, within};
+
+use crate::memory::Unfit;
+use std::marker::Model;
+
+/// The greatest number of a version or a run.
+pub const MAX_NUMBER: u32 = 1_000_000_000;
+
+/// The last second of the year 9999, in seconds since 1970 (UTC).
+pub const MAX_MOMENT: u64 = 253_402_300_799;
+
+/// The greatest limit of an organization's workspaces.
+pub const MAX_LIMIT: u32 = 100_000;
+
+/// The limit that an organization has at first.
+pub const FIRST_LIMIT: u32 = 200;
+
+// Whether no plus and no leading zero stands first.
+fn begins_plainly(text: &[u8]) -> bool
+    ensures { result ≡ begins_plainly text.now }
+{
+    match text {
+        [b'+', ..] => false,
+        [b'0', ..] => text.len() == 1,
+        _ => true,
+    }
+}
+
+/// The whole number that digits without a leading zero write, below 2 ^ 64; `0` stands alone.
+pub fn whole_number(text: &str) -> Option<u64>
+    ensures { result ≡ whole_of text.now }
+{
+    if !begins_plainly(text.as_bytes()) {
+        return None;
+    }
+    text.parse::<u64>().ok()
+}
+
+/// The number of a version or a run: 1 to 1,000,000,000.
+#[derive(Clone, Copy, Debug, PartialEq, Eq, PartialOrd, Ord)]
+pub struct Number {
+    value: u32,
+}
+
+impl Model for Number {
+    ghost Value = { ℕ };
+
+    ghost view = { λ n. n.value };
+
+    ghost invariant = { λ n. (1 ≤ n.value) × (n.value ≤ 1_000_000_000) };
+
+    ghost inverse = { λ n. record { value = n } };
+}
+
+impl Number {
+    /// The number that digits without a leading zero write. It takes no memory, so it is never `Down`.
+    pub fn read(text: &str) -> Result<Number, Unfit>
+        ensures ok { IfOk result (λ n. number_of text.now ≡ Some n) }
+        ensures syntax { IfErr result (λ unfit. (unfit ≡ Unfit.Syntax) × (number_of text.now ≡ None)) }
+    {
+        match whole_number(text).and_then(Number::new) {
+            Some(number) => Ok(number),
+            None => Err(Unfit::Syntax),
+        }
+    }
+
+    pub fn new(value: u64) -> Option<Number>
+        ensures { result ≡ within 1 1_000_000_000 value }
+    {
+        if 1 <= value && value <= MAX_NUMBER as u64 {
+            Some(Number {
+                value: value as u32,
+            })
+        } else {
+            None
+        }
+    }
+
+    pub fn get(self) -> u32
+        ensures value { result ≡ self }
+        ensures least { 1 ≤ result }
+        ensures most { result ≤ 1_000_000_000 }
+    {
+        self.value
+    }
+}
+
+/// A moment, in whole seconds since 1970 (UTC): 0 to 253,402,300,799, the end of the year 9999.
+#[derive(Clone, Copy, Debug, PartialEq, Eq, PartialOrd, Ord)]
+pub struct Moment {
+    seconds: u64,
+}
+
+impl Model for Moment {
+    ghost Value = { ℕ };
+
+    ghost view = { λ m. m.seconds };
+
+    ghost invariant = { λ m. m.seconds ≤ 253_402_300_799 };
+
+    ghost inverse = { λ n. record { seconds = n } };
+}
+
+impl Moment {
+    pub fn new(seconds: u64) -> Option<Moment>
+        ensures { result ≡ within 0 253_402_300_799 seconds }
+    {
+        if seconds <= MAX_MOMENT {
+            Some(Moment { seconds })
+        } else {
+            None
+        }
+    }
+
+    /// Seconds since 1970.
+    pub fn seconds(self) -> u64
+        ensures value { result ≡ self }
+        ensures most { result ≤ 253_402_300_799 }
+    {
+        self.seconds
+    }
+}
+
+/// How many workspaces an organization may have: 0 to 100,000.
+#[derive(Clone, Copy, Debug, PartialEq, Eq, PartialOrd, Ord)]
+pub struct Limit {
+    value: u32,
+}
+
+impl Model for Limit {
+    ghost Value = { ℕ };
+
+    ghost view = { λ l. l.value };
+
+    ghost invariant = { λ l. l.value ≤ 100_000 };
+
+    ghost inverse = { λ n. record { value = n } };
+}
+
+impl Limit {
+    pub fn new(value: u32) -> Option<Limit>
+        ensures { result ≡ within 0 100_000 value }
+    {
+        if value <= MAX_LIMIT {
+            Some(Limit { value })
+        } else {
+            None
+        }
+    }
+
+    pub fn get(self) -> u32
+        ensures value { result ≡ self }
+        ensures most { result ≤ 100_000 }
+    {
+        self.value
+    }
+}
+
+#[cfg(test)]
+mod tests {
+    use super::*;
+
+    #[test]
+    fn reads_whole_numbers(rt: HostRuntime) {
+        for (text, whole, number) in [
+            ("0", Some(0), None),
+            ("1", Some(1), Some(1)),
+            ("10", Some(10), Some(10)),
+            ("1000000000", Some(1_000_000_000), Some(1_000_000_000)),
+            ("1000000001", Some(1_000_000_001), None),
+            (
+                "18446744073709551615",
+                Some(18_446_744_073_709_551_615),
+                None,
+            ),
+            ("18446744073709551616", None, None),
+            ("", None, None),
+            ("00", None, None),
+            ("01", None, None),
+            ("+1", None, None),
+            ("-1", None, None),
+            ("1a", None, None),
+            (" 1", None, None),
+            ("1.0", None, None),
+        ] {
+            assert_eq!(rt; whole_number(text), whole, "at {text}");
+            assert_eq!(rt;
+                Number::read(text).ok().map(Number::get),
+                number,
+                "at {text}"
+            );
+        }
+    }
+
+    #[test]
+    fn holds_numbers_to_their_bounds(rt: HostRuntime) {
+        assert_eq!(rt; Number::new(0), None);
+        assert_eq!(rt; Number::new(7).map(Number::get), Some(7));
+        assert_eq!(rt; Moment::new(0).map(Moment::seconds), Some(0));
+        // 9999-12-31T23:59:59Z
+        assert_eq!(rt;
+            Moment::new(253_402_300_799).map(Moment::seconds),
+            Some(253_402_300_799)
+        );
+        assert_eq!(rt; Moment::new(253_402_300_800), None);
+        assert_eq!(rt; Limit::new(0).map(Limit::get), Some(0));
+        assert_eq!(rt; Limit::new(100_000).map(Limit::get), Some(100_000));
+        assert_eq!(rt; Limit::new(100_001), None);
+    }
+}

@@ -1,0 +1,225 @@
+//! Why a request is refused: a number, a word and a status of HTTP for each reason.
+ghost use Rattle.std.specs.Prelude.{◌≡◌, ◌≤◌, length};
+ghost use Rattle.basis.specs.Refusals.{line_of, allow_text};
+
+/// The methods of a route, for the field Allow (RFC 9110, section 10.2.1).
+#[derive(Clone, Copy, Debug, PartialEq, Eq)]
+pub enum Allow {
+    /// What is only read: lists, a version, a run.
+    Lists,
+    Workspaces,
+    States,
+    Runs,
+    Actions,
+}
+
+impl Allow {
+    pub fn text(self) -> &'static str
+        ensures text { result.now ≡ allow_text self }
+        ensures short { length result.now ≤ 36 }
+    {
+        match self {
+            Allow::Lists => "GET",
+            Allow::Workspaces => "DELETE, GET, PUT",
+            Allow::States => "DELETE, GET, LOCK, POST, PUT, UNLOCK",
+            Allow::Runs => "GET, POST",
+            Allow::Actions => "POST",
+        }
+    }
+}
+
+/// Why a request is refused. A refused request changes no rows.
+#[derive(Clone, Copy, Debug, PartialEq, Eq)]
+pub enum Refusal {
+    /// The head or the framing isn't a message of HTTP/1.1 that custody takes (RFC 9112).
+    BadMessage,
+    /// A bearer token in the field and one in the query (RFC 6750, section 2).
+    TwoTokens,
+    BadQuery,
+    /// Content-MD5 isn't the digest of the body (RFC 1864).
+    BadDigest,
+    BadState,
+    BadLock,
+    BadBody,
+    NoToken,
+    BadToken,
+    NeedWrite,
+    NeedAdmin,
+    NoRoute,
+    NotFound,
+    /// The route is there without the method; the field Allow lists those it has.
+    NoMethod(Allow),
+    /// An `ID` was given and nobody holds.
+    NotHeld,
+    /// The holding run isn't applying.
+    NotApplying,
+    /// The state's lineage isn't that of the newest version.
+    OtherLineage,
+    /// The state's serial isn't greater than that of the newest version.
+    OldSerial,
+    WrongState,
+    HeldByRun,
+    OpenRuns,
+    OverLimit,
+    NoLength,
+    TooLarge,
+    /// Somebody holds (RFC 4918, section 11.3); the body is the holder's text.
+    Locked,
+    HeadTooLarge,
+    /// Memory or the store refused.
+    Unavailable,
+}
+
+#[derive(Clone, Copy)]
+struct Line {
+    number: u8,
+    word: &'static str,
+    status: u16,
+}
+
+fn make_line(number: u8, word: &'static str, status: u16) -> Line
+    ensures number { result.number ≡ number }
+    ensures word { result.word.now ≡ word.entry.now }
+    ensures status { result.status ≡ status }
+{
+    Line {
+        number,
+        word,
+        status,
+    }
+}
+
+impl Refusal {
+    fn line(self) -> Line
+        ensures number { result.number ≡ (line_of self).number }
+        ensures word { result.word.now ≡ (line_of self).word }
+        ensures status { result.status ≡ (line_of self).status }
+    {
+        match self {
+            Refusal::BadMessage => make_line(1, "bad-message", 400),
+            Refusal::TwoTokens => make_line(2, "two-tokens", 400),
+            Refusal::BadQuery => make_line(3, "bad-query", 400),
+            Refusal::BadDigest => make_line(4, "bad-digest", 400),
+            Refusal::BadState => make_line(5, "bad-state", 400),
+            Refusal::BadLock => make_line(6, "bad-lock", 400),
+            Refusal::BadBody => make_line(7, "bad-body", 400),
+            Refusal::NoToken => make_line(8, "no-token", 401),
+            Refusal::BadToken => make_line(9, "bad-token", 401),
+            Refusal::NeedWrite => make_line(10, "need-write", 403),
+            Refusal::NeedAdmin => make_line(11, "need-admin", 403),
+            Refusal::NoRoute => make_line(12, "no-route", 404),
+            Refusal::NotFound => make_line(13, "not-found", 404),
+            Refusal::NoMethod(_) => make_line(14, "no-method", 405),
+            Refusal::NotHeld => make_line(15, "not-held", 409),
+            Refusal::NotApplying => make_line(16, "not-applying", 409),
+            Refusal::OtherLineage => make_line(17, "lineage", 409),
+            Refusal::OldSerial => make_line(18, "serial", 409),
+            Refusal::WrongState => make_line(19, "wrong-state", 409),
+            Refusal::HeldByRun => make_line(20, "held-by-run", 409),
+            Refusal::OpenRuns => make_line(21, "open-runs", 409),
+            Refusal::OverLimit => make_line(22, "limit", 409),
+            Refusal::NoLength => make_line(23, "no-length", 411),
+            Refusal::TooLarge => make_line(24, "too-large", 413),
+            Refusal::Locked => make_line(25, "locked", 423),
+            Refusal::HeadTooLarge => make_line(26, "head-too-large", 431),
+            Refusal::Unavailable => make_line(27, "down", 503),
+        }
+    }
+
+    /// 1 to 27.
+    pub fn number(self) -> u8
+        ensures { result ≡ (line_of self).number }
+    {
+        self.line().number
+    }
+
+    /// The word in the body.
+    pub fn word(self) -> &'static str
+        ensures { result.now ≡ (line_of self).word }
+    {
+        self.line().word
+    }
+
+    /// The status of HTTP (RFC 9110, section 15; 423 of RFC 4918; 431 of RFC 6585).
+    pub fn status(self) -> u16
+        ensures { result ≡ (line_of self).status }
+    {
+        self.line().status
+    }
+}
+
+#[cfg(test)]
+mod tests {
+    use super::*;
+    use std::process::Abort;
+
+    fn assert_line(rt: &impl Abort, refusal: Refusal, number: u8, word: &str, status: u16) {
+        assert_eq!(rt; refusal.number(), number, "number of {word}");
+        assert_eq!(rt; refusal.word(), word);
+        assert_eq!(rt; refusal.status(), status, "status of {word}");
+    }
+
+    #[test]
+    fn has_lines_1_to_9(rt: HostRuntime) {
+        for (refusal, number, word, status) in [
+            (Refusal::BadMessage, 1, "bad-message", 400),
+            (Refusal::TwoTokens, 2, "two-tokens", 400),
+            (Refusal::BadQuery, 3, "bad-query", 400),
+            (Refusal::BadDigest, 4, "bad-digest", 400),
+            (Refusal::BadState, 5, "bad-state", 400),
+            (Refusal::BadLock, 6, "bad-lock", 400),
+            (Refusal::BadBody, 7, "bad-body", 400),
+            (Refusal::NoToken, 8, "no-token", 401),
+            (Refusal::BadToken, 9, "bad-token", 401),
+        ] {
+            assert_line(&rt, refusal, number, word, status);
+        }
+    }
+
+    #[test]
+    fn has_lines_10_to_18(rt: HostRuntime) {
+        for (refusal, number, word, status) in [
+            (Refusal::NeedWrite, 10, "need-write", 403),
+            (Refusal::NeedAdmin, 11, "need-admin", 403),
+            (Refusal::NoRoute, 12, "no-route", 404),
+            (Refusal::NotFound, 13, "not-found", 404),
+            (Refusal::NoMethod(Allow::Runs), 14, "no-method", 405),
+            (Refusal::NotHeld, 15, "not-held", 409),
+            (Refusal::NotApplying, 16, "not-applying", 409),
+            (Refusal::OtherLineage, 17, "lineage", 409),
+            (Refusal::OldSerial, 18, "serial", 409),
+        ] {
+            assert_line(&rt, refusal, number, word, status);
+        }
+    }
+
+    #[test]
+    fn has_lines_19_to_27(rt: HostRuntime) {
+        for (refusal, number, word, status) in [
+            (Refusal::WrongState, 19, "wrong-state", 409),
+            (Refusal::HeldByRun, 20, "held-by-run", 409),
+            (Refusal::OpenRuns, 21, "open-runs", 409),
+            (Refusal::OverLimit, 22, "limit", 409),
+            (Refusal::NoLength, 23, "no-length", 411),
+            (Refusal::TooLarge, 24, "too-large", 413),
+            (Refusal::Locked, 25, "locked", 423),
+            (Refusal::HeadTooLarge, 26, "head-too-large", 431),
+            (Refusal::Unavailable, 27, "down", 503),
+        ] {
+            assert_line(&rt, refusal, number, word, status);
+        }
+    }
+
+    #[test]
+    fn lists_the_methods_of_a_route(rt: HostRuntime) {
+        for (allow, text) in [
+            (Allow::Lists, "GET"),
+            (Allow::Workspaces, "DELETE, GET, PUT"),
+            (Allow::States, "DELETE, GET, LOCK, POST, PUT, UNLOCK"),
+            (Allow::Runs, "GET, POST"),
+            (Allow::Actions, "POST"),
+        ] {
+            assert_eq!(rt; allow.text(), text);
+        }
+    }
+}

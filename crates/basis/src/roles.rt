@@ -1,0 +1,66 @@
+//! Roles of tokens.
+ghost use Rattle.std.specs.Prelude.{◌≡◌, ◌≢◌, Some, None, IfSome, IfNone};
+ghost use Rattle.basis.specs.Roles.{includes, role_word};
+ghost use Rattle.basis.specs.declared.roles.Role.{Role as AnyRole};
+
+/// What a token may do. Each role includes the ones before.
+#[derive(Clone, Copy, Debug, PartialEq, Eq)]
+pub enum Role {
+    Read,
+    Write,
+    Admin,
+}
+
+impl Role {
+    /// Whether this role gives the leave that `least` gives.
+    pub fn includes(self, least: Role) -> bool
+        ensures { result ≡ includes self least }
+    {
+        match self {
+            Role::Read => least == Role::Read,
+            Role::Write => least != Role::Admin,
+            Role::Admin => true,
+        }
+    }
+
+    /// The role that an operator's command names: `read`, `write` or `admin`.
+    pub fn named(word: &str) -> Option<Role>
+        ensures named { IfSome result (λ role. word.now ≡ role_word role) }
+        ensures unknown { IfNone result ((role : AnyRole) → word.now ≢ role_word role) }
+    {
+        match word {
+            "read" => Some(Role::Read),
+            "write" => Some(Role::Write),
+            "admin" => Some(Role::Admin),
+            _ => None,
+        }
+    }
+}
+
+#[cfg(test)]
+mod tests {
+    use super::*;
+
+    #[test]
+    fn includes_the_roles_before(rt: HostRuntime) {
+        for (word, read, write, admin) in [
+            ("read", true, false, false),
+            ("write", true, true, false),
+            ("admin", true, true, true),
+        ] {
+            for (least, leave) in [
+                (Role::Read, read),
+                (Role::Write, write),
+                (Role::Admin, admin),
+            ] {
+                let role = Role::named(word);
+                assert_eq!(rt;
+                    role.map(|role| role.includes(least)),
+                    Some(leave),
+                    "{word}"
+                );
+            }
+        }
+        assert_eq!(rt; Role::named("Read"), None);
+    }
+}

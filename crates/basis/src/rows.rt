@@ -1,0 +1,82 @@
+//! What documents say, and what listings and bodies show.
+
+use crate::names::{LockId, WsName};
+use crate::numbers::{Moment, Number};
+use crate::runs::{RunAction, RunStatus};
+use crate::texts::{Items, Text};
+
+/// The greatest serial of a state: 2 ^ 63 - 1.
+pub const MAX_SERIAL: u64 = 9_223_372_036_854_775_807;
+
+/// The most bytes of a state's lineage.
+pub const MAX_LINEAGE: usize = 256;
+
+/// What custody reads of a Terraform state: `serial` counts its changes, and `lineage` tells states
+/// that don't follow one another apart. An absent lineage is empty.
+#[derive(Clone, Debug, Drop)]
+pub struct StateHead {
+    pub serial: u64,
+    pub lineage: Text,
+}
+
+/// Settings of a workspace.
+#[derive(Clone, Copy, Debug, PartialEq, Eq)]
+pub struct Settings {
+    pub auto_apply: bool,
+}
+
+/// What the document of a run's creation asks.
+#[derive(Debug, Drop)]
+pub struct RunAsk {
+    pub key: Option<Text>,
+    pub message: Text,
+    pub plan_only: bool,
+}
+
+/// Who holds a workspace, as it is shown: the ID of a lock, or the number n of a run, shown as `run-n`.
+#[derive(Clone, Debug, Drop)]
+pub enum HolderId {
+    Lock(LockId),
+    Run(Number),
+}
+
+/// A workspace as it is shown.
+#[derive(Clone, Debug, Drop)]
+pub struct WsRow {
+    pub auto_apply: bool,
+    pub holder: Option<HolderId>,
+    pub name: WsName,
+    /// The number of the newest version.
+    pub version: Option<Number>,
+}
+
+/// A version as it is listed.
+#[derive(Debug, Drop)]
+pub struct VersionRow {
+    pub created: Moment,
+    pub lineage: Text,
+    pub number: Number,
+    pub serial: u64,
+    /// How many bytes its text has.
+    pub size: u64,
+}
+
+/// A run as it is shown.
+#[derive(Debug, Drop)]
+pub struct RunRow {
+    /// The last accepted action.
+    pub action: Option<RunAction>,
+    pub created: Moment,
+    pub key: Option<Text>,
+    pub message: Text,
+    pub number: Number,
+    pub plan_only: bool,
+    pub status: RunStatus,
+}
+
+/// At most 50 items, rising, and whether further ones follow the last.
+#[derive(Debug, Drop)]
+pub struct Listing<T> {
+    pub items: Items<T>,
+    pub more: bool,
+}

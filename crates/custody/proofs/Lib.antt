@@ -1,0 +1,3 @@
+pub mod FrameLemmas
+pub mod WordLemmas
+mod ReplayLemmas

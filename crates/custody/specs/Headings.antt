@@ -1,0 +1,74 @@
+-- The first line of a frame: a moment, and a request's length or an operator's command.
+use Rattle.std.specs.Prelude.{ℕ, List, [], ◌∷◌, Option, Some, None, ◌&&◌, cond, option_map, option_and_then, bytes_eq, codes}
+use Rattle.basis.specs.Names.{is_org_name, is_secret}
+use Rattle.basis.specs.Numbers.{whole_of, within}
+use Rattle.basis.specs.Roles.{role_word}
+use Rattle.basis.specs.declared.roles.Role.{Role}
+use Rattle.basis.specs.declared.roles.Role.TheVariants.{Read, Write, Admin}
+use Rattle.serve.specs.declared.steps.Admin as Operator
+use Rattle.serve.specs.declared.steps.Admin.TheVariants.{OrgAdd, TokenAdd}
+use Rattle.custody.specs.declared.headings.Heading.{Heading}
+use Rattle.custody.specs.declared.headings.Heading.TheVariants.{Request, Command}
+
+-- the moment that a word writes
+abbrev pub moment_of : List ℕ → Option ℕ
+moment_of word = option_and_then (within 0 253_402_300_799) (whole_of word)
+
+-- the length of a request that a word writes: at most 20,000,000 bytes
+abbrev pub length_of : List ℕ → Option ℕ
+length_of word = option_and_then (within 0 20_000_000) (whole_of word)
+
+-- the limit that a word writes
+abbrev pub limit_of : List ℕ → Option ℕ
+limit_of word = option_and_then (within 0 100_000) (whole_of word)
+
+-- the role that a word names
+abbrev pub role_of : List ℕ → Option Role
+role_of word =
+    cond (bytes_eq word (role_word Read)) (Some Read)
+    (cond (bytes_eq word (role_word Write)) (Some Write)
+    (cond (bytes_eq word (role_word Admin)) (Some Admin) None))
+
+-- a command that adds an organization, where its name and limit read
+abbrev pub org_command : List ℕ → Option ℕ → Option Operator.Admin
+org_command org limit = cond (is_org_name org) (option_map (λ n. OrgAdd org n) limit) None
+
+-- `ORG`, with the limit 200, or `ORG LIMIT`
+abbrev pub org_add_of : List (List ℕ) → Option Operator.Admin
+org_add_of (org ∷ []) = org_command org (Some 200)
+org_add_of (org ∷ limit ∷ []) = org_command org (limit_of limit)
+org_add_of words = None
+
+-- a command that adds a token, where organization, name, role and secret read
+abbrev pub token_command : List ℕ → List ℕ → List ℕ → List ℕ → Option Operator.Admin
+token_command org name role secret =
+    cond (is_org_name org && is_org_name name && is_secret secret) (option_map (λ r. TokenAdd org name r secret) (role_of role)) None
+
+-- `ORG NAME ROLE SECRET`
+abbrev pub token_add_of : List (List ℕ) → Option Operator.Admin
+token_add_of (org ∷ name ∷ role ∷ secret ∷ []) = token_command org name role secret
+token_add_of words = None
+
+-- an operator's command: its name, and its own words
+abbrev pub command_of : List (List ℕ) → Option Operator.Admin
+command_of [] = None
+command_of (name ∷ words) =
+    cond (bytes_eq name (codes "org-add")) (org_add_of words)
+    (cond (bytes_eq name (codes "token-add")) (token_add_of words) None)
+
+-- what follows at that moment: `LEN`, the one word behind `http`
+abbrev pub request_at : ℕ → List (List ℕ) → Option Heading
+request_at at (word ∷ []) = option_map (λ len. Request at len) (length_of word)
+request_at at words = None
+
+-- a request's length after `http`, a command after `admin`
+abbrev pub heading_at : ℕ → List ℕ → List (List ℕ) → Option Heading
+heading_at at kind words =
+    cond (bytes_eq kind (codes "http")) (request_at at words)
+    (cond (bytes_eq kind (codes "admin")) (option_map (λ command. Command at command) (command_of words)) None)
+
+-- `at SECONDS http LEN` or `at SECONDS admin WORDS`
+abbrev pub heading_of : List (List ℕ) → Option Heading
+heading_of (word ∷ seconds ∷ kind ∷ words) =
+    cond (bytes_eq word (codes "at")) (option_and_then (λ at. heading_at at kind words) (moment_of seconds)) None
+heading_of words = None

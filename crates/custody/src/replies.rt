@@ -1,0 +1,65 @@
+//! What `replay` prints.
+ghost use Rattle.std.specs.Prelude.{◌≡◌, OnOk};
+ghost use Rattle.std.specs.Io.KnownBytes.{Appends};
+ghost use Rattle.custody.specs.Replies.{reply_text, printed, bad_frame_text, answer_line};
+
+use basis::Bytes;
+use std::io;
+use std::io::Write;
+
+fn print_reply<W: Write>(output: &mut W, reply: &[u8]) -> io::Result<()>
+    ensures { OnOk result (Appends (W.contents output.old) (W.contents output.new) (reply_text reply.now)) }
+{
+    writeln!(output, "reply {}", reply.len())?;
+    output.write_all(reply)?;
+    output.write_all(b"\n")
+}
+
+/// Prints the replies in order, each behind a line with its length.
+pub fn print_replies<W: Write>(output: &mut W, replies: &[Bytes]) -> io::Result<()>
+    ensures { OnOk result (Appends (W.contents output.old) (W.contents output.new) (printed replies.now)) }
+{
+    for reply in replies {
+        print_reply(output, reply.as_slice())?;
+    }
+    Ok(())
+}
+
+/// Prints the line about the frame that doesn't read; `frame` is its place, from 1 on.
+pub fn print_bad_frame<W: Write>(errors: &mut W, frame: usize) -> io::Result<()>
+    ensures { OnOk result (Appends (W.contents errors.old) (W.contents errors.new) (bad_frame_text frame)) }
+{
+    writeln!(errors, "custody: bad frame {frame}")
+}
+
+/// Prints an answer of one line, and sends on what a buffer holds.
+pub fn print_answer<W: Write>(output: &mut W, answer: &str) -> io::Result<()>
+    ensures { OnOk result (Appends (W.contents output.old) (W.contents output.new) (answer_line answer.now)) }
+{
+    output.write_all(answer.as_bytes())?;
+    output.write_all(b"\n")?;
+    output.flush()
+}
+
+#[cfg(test)]
+mod tests {
+    use super::*;
+    use std::test::Fail;
+
+    #[test]
+    fn prints_lengths_and_bytes(rt: HostRuntime) -> Result<(), Fail> {
+        let alloc = rt.alloc();
+        let mut replies = Vec::new(alloc);
+        replies.push(Bytes::copy_of(alloc, b"ok\n")?)?;
+        replies.push(Bytes::copy_of(alloc, b"")?)?;
+        replies.push(Bytes::copy_of(alloc, b"HTTP/1.1 200")?)?;
+        let mut output = Vec::new(alloc);
+        print_replies(&mut output, replies.as_slice())?;
+        print_bad_frame(&mut output, 10)?;
+        print_answer(&mut output, "refused down")?;
+        let text =
+            b"reply 3\nok\n\nreply 0\n\nreply 12\nHTTP/1.1 200\ncustody: bad frame 10\nrefused down\n";
+        assert_eq!(rt; output.as_slice(), text.as_slice());
+        Ok(())
+    }
+}

@@ -1,0 +1,12 @@
+use Rattle.std.proofs.Common.{map}
+use Rattle.std.proofs.lemmas.Result.{IfOk-weaker}
+use Rattle.serde_json.specs.View.{view}
+use Rattle.docs.specs.Bodies.{run_list_text, run_value}
+use Rattle.docs.proofs.Lists.{list_written, run_plain}
+use Rattle.docs.proofs.listings.write_run_list.Goals as goal
+
+pub returns : goal.returns
+unfolding run_list_text
+returns c =
+    let written = list_written run_value run_plain c.args.listing.now c.as_slice.result.now (map view c.in_ok-values.values.items) (view c.in_ok-value.value) in
+    IfOk-weaker c.to_body.result _ _ (λ v text. written v.items c.as_slice.ensures c.in_ok-values.ensures c.in_ok-value.ensures text) c.to_body.ensures

@@ -1,0 +1,4 @@
+pub mod Bodies
+pub mod Digests
+pub mod Documents
+pub mod Readings

@@ -1,0 +1,184 @@
+//! States, lock information, settings and what creates a run, as `serde_json` reads them.
+ghost use Rattle.std.specs.Prelude.{◌≡◌, ◌<◌, length, IfOk, OnOk, Err, IsErrOf, Some, None, option_and_then, codes};
+ghost use Rattle.serde_json.specs.Data.{Members, object};
+ghost use Rattle.serde_json.specs.Find.{get};
+ghost use Rattle.serde_json.specs.View.{view};
+ghost use Rattle.docs.specs.Readings.{StateLaw, LockLaw, SettingsLaw, AskLaw};
+ghost use Rattle.docs.specs.Documents.{object_of, serial_of, optional_text, state_head, is_free_id, lock_id_of, flag_of, small_object_of, settings_of, key_of, run_ask};
+
+use crate::faults::DocFault;
+use basis::names::MAX_LOCK_ID;
+use basis::rows::{MAX_LINEAGE, MAX_SERIAL};
+use basis::{LockId, RunAsk, Settings, StateHead, Text};
+use serde_json::{Map, Value};
+use std::alloc::Global;
+
+/// The most bytes of settings, and of what the creation of a run asks.
+pub const MAX_SMALL: usize = 16_384;
+
+/// The most bytes of a run's key.
+pub const MAX_KEY: usize = 64;
+
+/// The most bytes of a run's message.
+pub const MAX_MESSAGE: usize = 1_000;
+
+/// How the ID of a run begins, and that of no lock.
+const RUN_PREFIX: &[u8] = b"run-";
+
+/// What custody reads of a Terraform state: a JSON object with `serial`, and with `lineage` or without.
+#[tactic(auto, unfolding(crate::specs::Documents::state_head))]
+pub fn read_state(alloc: Global, bytes: &[u8]) -> Result<StateHead, DocFault>
+    ensures ok { IfOk result (λ head. state_head bytes.now ≡ Some head) }
+    ensures bad { IsErrOf result DocFault.Bad → state_head bytes.now ≡ None }
+    ensures down { IsErrOf result DocFault.Down → 0 < length bytes.now }
+    ensures law { StateLaw bytes.now }
+{
+    let value = read_object(alloc, bytes)?;
+    let Some(serial) = serial_of(&value) else {
+        return Err(DocFault::Bad);
+    };
+    let lineage = read_text(alloc, &value, "lineage", MAX_LINEAGE)?;
+    Ok(StateHead { serial, lineage })
+}
+
+/// The ID of a lock, in the lock information of Terraform: a JSON object with `ID`.
+#[tactic(auto, unfolding(crate::specs::Documents::lock_id_of))]
+pub fn read_lock(alloc: Global, bytes: &[u8]) -> Result<LockId, DocFault>
+    ensures ok { IfOk result (λ id. lock_id_of bytes.now ≡ Some id) }
+    ensures bad { IsErrOf result DocFault.Bad → lock_id_of bytes.now ≡ None }
+    ensures down { IsErrOf result DocFault.Down → 0 < length bytes.now }
+    ensures law { LockLaw bytes.now }
+{
+    let value = read_object(alloc, bytes)?;
+    match value.get("ID").and_then(Value::as_str) {
+        Some(id) if is_free_id(id.as_bytes()) => Ok(LockId::read(alloc, id)?),
+        _ => Err(DocFault::Bad),
+    }
+}
+
+/// The settings of a workspace: no bytes, or a JSON object with `auto_apply` or without.
+#[tactic(auto, unfolding(crate::specs::Documents::settings_of))]
+pub fn read_settings(alloc: Global, bytes: &[u8]) -> Result<Settings, DocFault>
+    ensures ok { IfOk result (λ settings. settings_of bytes.now ≡ Some settings) }
+    ensures bad { IsErrOf result DocFault.Bad → settings_of bytes.now ≡ None }
+    ensures down { IsErrOf result DocFault.Down → 0 < length bytes.now }
+    ensures long { MAX_SMALL < length bytes.now → result ≡ Err DocFault.Bad }
+    ensures law { SettingsLaw bytes.now }
+{
+    let value = read_small_object(alloc, bytes)?;
+    match read_flag(&value, "auto_apply") {
+        Some(auto_apply) => Ok(Settings { auto_apply }),
+        None => Err(DocFault::Bad),
+    }
+}
+
+/// What the creation of a run asks: no bytes, or a JSON object with `key`, `message` and `plan_only`, each or none.
+#[tactic(auto, unfolding(crate::specs::Documents::run_ask))]
+pub fn read_run(alloc: Global, bytes: &[u8]) -> Result<RunAsk, DocFault>
+    ensures ok { IfOk result (λ ask. run_ask bytes.now ≡ Some ask) }
+    ensures bad { IsErrOf result DocFault.Bad → run_ask bytes.now ≡ None }
+    ensures long { MAX_SMALL < length bytes.now → result ≡ Err DocFault.Bad }
+    ensures law { AskLaw bytes.now }
+{
+    let value = read_small_object(alloc, bytes)?;
+    let Some(plan_only) = read_flag(&value, "plan_only") else {
+        return Err(DocFault::Bad);
+    };
+    let key = read_key(alloc, &value)?;
+    let message = read_text(alloc, &value, "message", MAX_MESSAGE)?;
+    Ok(RunAsk {
+        key,
+        message,
+        plan_only,
+    })
+}
+
+// The object that the bytes are.
+fn read_object(alloc: Global, bytes: &[u8]) -> Result<Value, DocFault>
+    ensures ok { IfOk result (λ value. (members : Members) × (view value ≡ object members)
+        × (object_of bytes.now ≡ Some members)) }
+    ensures some { OnOk result (0 < length bytes.now) }
+    ensures bad { IsErrOf result DocFault.Bad → object_of bytes.now ≡ None }
+    ensures down { IsErrOf result DocFault.Down → 0 < length bytes.now }
+{
+    let value = Value::from_slice(alloc, bytes)?;
+    if !value.is_object() {
+        return Err(DocFault::Bad);
+    }
+    Ok(value)
+}
+
+// The object that a small request brings.
+fn read_small_object(alloc: Global, bytes: &[u8]) -> Result<Value, DocFault>
+    ensures ok { IfOk result (λ value. (members : Members) × (view value ≡ object members)
+        × (small_object_of bytes.now ≡ Some members)) }
+    ensures bad { IsErrOf result DocFault.Bad → small_object_of bytes.now ≡ None }
+    ensures down { IsErrOf result DocFault.Down → 0 < length bytes.now }
+    ensures long { MAX_SMALL < length bytes.now → result ≡ Err DocFault.Bad }
+{
+    if bytes.is_empty() {
+        return Ok(Value::Object(Map::new(alloc)));
+    }
+    if bytes.len() > MAX_SMALL {
+        return Err(DocFault::Bad);
+    }
+    read_object(alloc, bytes)
+}
+
+fn serial_of(value: &Value) -> Option<u64>
+    ensures { result ≡ option_and_then serial_of (get (codes "serial") (view value.now)) }
+{
+    match value.get("serial").and_then(Value::as_u64) {
+        Some(serial) if serial <= MAX_SERIAL => Some(serial),
+        _ => None,
+    }
+}
+
+fn is_free_id(id: &[u8]) -> bool
+    ensures { result ≡ is_free_id id.now }
+{
+    !id.is_empty() && id.len() <= MAX_LOCK_ID && !id.starts_with(RUN_PREFIX)
+}
+
+// A run's key, which may be absent.
+fn read_key(alloc: Global, value: &Value) -> Result<Option<Text>, DocFault>
+    ensures ok { IfOk result (λ key. key_of (get (codes "key") (view value.now)) ≡ Some key) }
+    ensures bad { IsErrOf result DocFault.Bad
+        → key_of (get (codes "key") (view value.now)) ≡ None }
+{
+    let Some(found) = value.get("key") else {
+        return Ok(None);
+    };
+    match found.as_str() {
+        Some(key) if !key.is_empty() && key.len() <= MAX_KEY => {
+            Ok(Some(Text::copy_of(alloc, key)?))
+        }
+        _ => Err(DocFault::Bad),
+    }
+}
+
+// A text under a key that may be absent.
+fn read_text(alloc: Global, value: &Value, key: &str, most: usize) -> Result<Text, DocFault>
+    ensures ok { IfOk result
+        (λ text. optional_text most (get key.now (view value.now)) ≡ Some text) }
+    ensures bad { IsErrOf result DocFault.Bad
+        → optional_text most (get key.now (view value.now)) ≡ None }
+{
+    let Some(found) = value.get(key) else {
+        return Ok(Text::new(String::new(alloc)));
+    };
+    match found.as_str() {
+        Some(text) if text.len() <= most => Ok(Text::copy_of(alloc, text)?),
+        _ => Err(DocFault::Bad),
+    }
+}
+
+// A flag under a key that may be absent.
+fn read_flag(value: &Value, key: &str) -> Option<bool>
+    ensures { result ≡ flag_of (get key.now (view value.now)) }
+{
+    match value.get(key) {
+        None => Some(false),
+        Some(found) => found.as_bool(),
+    }
+}

@@ -1,0 +1,20 @@
+//! The documents of custody: what requests bring, as values, and what replies show, as bytes.
+//!
+//! A reader takes any bytes. It answers `Ok` exactly with the value of its definition, and `Bad` only
+//! where there is none. A body is compact JSON, with its keys in the order of their bytes.
+#![tactic(auto)]
+
+pub mod bodies;
+pub mod digests;
+pub mod documents;
+pub mod faults;
+pub mod listings;
+
+pub use bodies::{unavailable_body, write_error, write_run, write_run_holder, write_ws};
+pub use digests::digest_fits;
+pub use documents::{read_lock, read_run, read_settings, read_state};
+pub use faults::DocFault;
+pub use listings::{write_run_list, write_version_list, write_ws_list};
+
+#[cfg(test)]
+mod tests;

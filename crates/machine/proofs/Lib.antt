@@ -1,0 +1,4 @@
+pub mod LawLemmas
+pub mod MeaningLemmas
+pub mod MapLemmas
+pub mod PlainLemmas

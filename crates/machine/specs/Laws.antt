@@ -1,0 +1,151 @@
+-- The laws that always hold of a workspace and of an organization.
+use Rattle.std.specs.Prelude.{◌≡◌, ◌≢◌, ℕ, ◌+◌, ◌^◌, ◌<◌, ◌≤◌, Bool, true, false, not, ◌&&◌, ◌||◌, ◌==◌, List, [], ◌∷◌, length, map, filter, Option, Some, None, IfSome, IsSomeAnd, IsTrue, ⊤}
+use Rattle.std.specs.List.{AllByRecursion}
+use Rattle.std.specs.Str.{bytes_eq}
+use Rattle.std.specs.FinMap.{FinMap, entries}
+use Rattle.basis.specs.Names.{is_org_name, is_ws_name, is_lock_id, has_length}
+use Rattle.basis.specs.Runs.{is_open}
+use Rattle.basis.specs.declared.runs.RunStatus.{RunStatus}
+use Rattle.basis.specs.declared.runs.RunStatus.TheVariants.{Pending, Planning, Planned, Applying, Applied, PlannedAndFinished, Errored, Discarded, Canceled}
+use Rattle.basis.specs.declared.runs.RunAction.{RunAction}
+use Rattle.basis.specs.declared.runs.RunAction.TheVariants.{ReportPlanned, ReportUnchanged, Fail, Confirm, ReportApplied, Discard, Cancel}
+use Rattle.machine.specs.Order.{name_cmp}
+use Rattle.machine.specs.Workspaces.{max_versions, max_open_runs, run_of}
+use Rattle.machine.specs.declared.records.Holder.{Holder}
+use Rattle.machine.specs.declared.records.Holder.TheVariants.{Nobody, Lock, Run as HoldingRun}
+use Rattle.machine.specs.declared.records.Version.{Version}
+use Rattle.machine.specs.declared.records.Run.{Run}
+use Rattle.machine.specs.declared.records.Token.{Token}
+use Rattle.machine.specs.declared.records.Workspace.{Workspace}
+use Rattle.machine.specs.declared.records.Organization.{Organization}
+
+-- the numbers rise, above `low` and below `next`
+abbrev pub Rises : ℕ → List ℕ → ℕ → Type 0
+Rises low [] next = ⊤
+Rises low (n ∷ ns) next = (low < n) × (n < next) × Rises n ns next
+
+-- the range of the next number of a version or a run
+abbrev pub IsNext : ℕ → Type 0
+IsNext next = (1 ≤ next) × (next ≤ 1_000_000_001)
+
+-- the parts of a version are in their ranges
+pub record IsVersion (v : Version) : Type 0 where
+  pub serial : v.serial < 2 ^ 63
+  pub lineage : length v.lineage ≤ 256
+  pub created : v.created ≤ 253_402_300_799
+
+-- planning, planned or applying
+abbrev pub is_active : RunStatus → Bool
+is_active Pending = false
+is_active Planning = true
+is_active Planned = true
+is_active Applying = true
+is_active Applied = false
+is_active PlannedAndFinished = false
+is_active Errored = false
+is_active Discarded = false
+is_active Canceled = false
+
+abbrev pub is_pending : RunStatus → Bool
+is_pending Pending = true
+is_pending Planning = false
+is_pending Planned = false
+is_pending Applying = false
+is_pending Applied = false
+is_pending PlannedAndFinished = false
+is_pending Errored = false
+is_pending Discarded = false
+is_pending Canceled = false
+
+-- the statuses in which the rows of an action end: of a plan-only run, and of a queued one
+abbrev pub plan_only_end : RunAction → RunStatus → Bool
+plan_only_end ReportPlanned PlannedAndFinished = true
+plan_only_end ReportUnchanged PlannedAndFinished = true
+plan_only_end Fail Errored = true
+plan_only_end Cancel Canceled = true
+plan_only_end _ _ = false
+
+abbrev pub queued_end : RunAction → RunStatus → Bool
+queued_end ReportPlanned Planned = true
+queued_end ReportPlanned Applying = true
+queued_end ReportUnchanged PlannedAndFinished = true
+queued_end Fail Errored = true
+queued_end Confirm Applying = true
+queued_end ReportApplied Applied = true
+queued_end Discard Discarded = true
+queued_end Cancel Canceled = true
+queued_end _ _ = false
+
+-- a run that no action has reached is pending or planning; any other is where its last action ends
+abbrev pub IsWhereActionEnds : Bool → Option RunAction → RunStatus → Type 0
+IsWhereActionEnds plan_only None Pending = ⊤
+IsWhereActionEnds plan_only None Planning = ⊤
+IsWhereActionEnds plan_only None _ = IsTrue false
+IsWhereActionEnds true (Some action) status = IsTrue (plan_only_end action status)
+IsWhereActionEnds false (Some action) status = IsTrue (queued_end action status)
+
+-- the run of this number holds
+abbrev pub holds : Holder → ℕ → Bool
+holds Nobody n = false
+holds (Lock id text) n = false
+holds (HoldingRun m) n = m == n
+
+abbrev pub is_nobody : Holder → Bool
+is_nobody Nobody = true
+is_nobody (Lock id text) = false
+is_nobody (HoldingRun n) = false
+
+-- a queued run is active exactly where it holds, and none waits where nobody holds; a plan-only run never waits
+pub record IsRun (holder : Holder) (r : Run) : Type 0 where
+  pub key : IfSome r.key (λ key. IsTrue (has_length 1 64 key))
+  pub message : length r.message ≤ 1_000
+  pub created : r.created ≤ 253_402_300_799
+  pub action : IsWhereActionEnds r.plan_only r.action r.status
+  pub active : r.plan_only ≡ false → is_active r.status ≡ holds holder r.number
+  pub waiting : is_pending r.status ≡ true → (r.plan_only ≡ false) × (is_nobody holder ≡ false)
+
+-- no two runs have one key
+abbrev pub KeysDiffer : List Run → Type 0
+KeysDiffer [] = ⊤
+KeysDiffer (r ∷ runs) = IfSome r.key (λ key. AllByRecursion (λ (s : Run). IfSome s.key (λ other. bytes_eq key other ≡ false)) runs) × KeysDiffer runs
+
+-- a holder's ID is one, and a holding run is a queued run of the list
+abbrev pub IsHolder : Holder → List Run → Type 0
+IsHolder Nobody runs = ⊤
+IsHolder (Lock id text) runs = IsTrue (is_lock_id id)
+IsHolder (HoldingRun n) runs = IsSomeAnd (run_of n runs) (λ r. r.plan_only ≡ false)
+
+-- the laws of the runs
+pub record AreRuns (holder : Holder) (next_run : ℕ) (runs : List Run) : Type 0 where
+  pub next : IsNext next_run
+  pub rise : Rises 0 (map (λ (r : Run). r.number) runs) next_run
+  pub each : AllByRecursion (IsRun holder) runs
+  pub open_runs : length (filter (λ (r : Run). is_open r.status) runs) ≤ max_open_runs
+  pub keys : KeysDiffer runs
+  pub held : IsHolder holder runs
+
+-- the laws of the versions
+pub record AreVersions (next_version : ℕ) (versions : List Version) : Type 0 where
+  pub next : IsNext next_version
+  pub rise : Rises 0 (map (λ (v : Version). v.number) versions) next_version
+  pub each : AllByRecursion IsVersion versions
+  pub kept : length versions ≤ max_versions
+
+-- the laws of a workspace
+pub record IsLawful (w : Workspace) : Type 0 where
+  pub versions : AreVersions w.next_version w.versions
+  pub runs : AreRuns w.holder w.next_run w.runs
+  pub released : IfSome w.released (λ id. IsTrue (is_lock_id id))
+
+-- no two tokens have one digest
+abbrev pub DigestsDiffer : List (List ℕ × Token) → Type 0
+DigestsDiffer [] = ⊤
+DigestsDiffer (e ∷ es) = AllByRecursion (λ (f : List ℕ × Token). bytes_eq e.1.digest f.1.digest ≡ false) es × DigestsDiffer es
+
+-- the laws of an organization
+pub record IsLawfulOrganization (o : Organization) : Type 0 where
+  pub limit : o.limit ≤ 100_000
+  pub token_names : AllByRecursion (λ (e : List ℕ × Token). IsTrue (is_org_name e.0)) (entries o.tokens)
+  pub digests : DigestsDiffer (entries o.tokens)
+  pub workspace_names : AllByRecursion (λ (e : List ℕ × Workspace). IsTrue (is_ws_name e.0)) (entries o.workspaces)
+  pub workspaces : AllByRecursion (λ (e : List ℕ × Workspace). IsLawful e.1) (entries o.workspaces)

@@ -1,0 +1,11 @@
+pub mod Order
+pub mod Places
+pub mod Workspaces
+pub mod Laws
+pub mod Writing
+pub mod Succession
+pub mod Rules
+pub mod Units
+pub mod Meaning
+pub mod Records
+pub mod Tokens

@@ -1,0 +1,110 @@
+-- The rules: what an act on a workspace is answered, and the workspace after it. A refusal changes nothing.
+use Rattle.std.specs.Prelude.{ℕ, ◌+◌, Bool, true, false, nat_le, nat_lt, cond, List, [], ◌∷◌, ◌++◌, Option, Some, None, option_map}
+use Rattle.basis.specs.Numbers.{within}
+use Rattle.basis.specs.declared.refusals.Refusal.{Refusal}
+use Rattle.basis.specs.declared.refusals.Refusal.TheVariants.{NotFound, OtherLineage, OldSerial, OverLimit, Locked}
+use Rattle.basis.specs.declared.rows.Settings.{Settings}
+use Rattle.basis.specs.declared.rows.StateHead.{StateHead}
+use Rattle.basis.specs.declared.rows.HolderId.{HolderId}
+use Rattle.basis.specs.declared.rows.HolderId.TheVariants.{Lock as LockHolder, Run as RunHolder}
+use Rattle.basis.specs.declared.rows.WsRow.{WsRow}
+use Rattle.machine.specs.Workspaces.{newest, last_of, max_versions, new_workspace, holder_status}
+use Rattle.machine.specs.Writing.{may_write}
+use Rattle.machine.specs.Succession.{Succession, first, same, other_lineage, old_serial, next, succession}
+use Rattle.machine.specs.declared.acts.Act.{Act}
+use Rattle.machine.specs.declared.acts.Act.TheVariants.{PutWorkspace, UpdateState, ReadState}
+use Rattle.machine.specs.declared.records.Holder.{Holder}
+use Rattle.machine.specs.declared.records.Holder.TheVariants.{Nobody, Lock, Run}
+use Rattle.machine.specs.declared.records.Version.{Version}
+use Rattle.machine.specs.declared.records.Workspace.{Workspace}
+
+-- what an act is answered
+pub data Outcome : Type 0 where
+  -- refused, for another reason than that somebody holds
+  refused : Refusal → Outcome
+  -- refused, since this holder holds
+  held : Holder → Outcome
+  -- done, and there is nothing to show
+  done : Outcome
+  -- there is no state
+  no_state : Outcome
+  -- the text of the newest state
+  state : List ℕ → Outcome
+  -- the workspace after the act
+  workspace : WsRow → Outcome
+
+-- who holds, as it is shown
+abbrev pub holder_id : Holder → Option HolderId
+holder_id Nobody = None
+holder_id (Lock id text) = Some (LockHolder id)
+holder_id (Run n) = Some (RunHolder n)
+
+-- the workspace of this name as it is shown
+abbrev pub row_of : List ℕ → Workspace → WsRow
+row_of name w = record { auto_apply = w.auto_apply; holder = holder_id w.holder; name = name; version = option_map (λ (v : Version). v.number) (newest w.versions) }
+
+-- the greatest number of a version or a run
+abbrev pub max_number : ℕ
+max_number = 1_000_000_000
+
+-- an accepted update: the version gets the next number, and of too many versions the oldest go
+abbrev pub with_version : Workspace → ℕ → StateHead → List ℕ → ℕ → Workspace
+with_version w number head text now =
+    record w {
+      next_version = number + 1;
+      versions = last_of max_versions (w.versions ++ (record { number = number; serial = head.serial; lineage = head.lineage; created = now; text = text }) ∷ []);
+    }
+
+-- an answer, and the workspace after it, if there is one
+pub record Ruled : Type 0 where
+  pub outcome : Outcome
+  pub after : Option Workspace
+
+abbrev pub ruled : Outcome → Option Workspace → Ruled
+ruled outcome after = record { outcome = outcome; after = after }
+
+-- the next number, if one is left
+abbrev pub number_left : ℕ → Option ℕ
+number_left n = within 1 max_number n
+
+abbrev pub numbered_update : Option ℕ → Workspace → StateHead → List ℕ → ℕ → Ruled
+numbered_update None w head text now = ruled (refused OverLimit) (Some w)
+numbered_update (Some number) w head text now = ruled done (Some (with_version w number head text now))
+
+abbrev pub accepted_update : Workspace → StateHead → List ℕ → ℕ → Ruled
+accepted_update w head text now = numbered_update (number_left w.next_version) w head text now
+
+abbrev pub by_succession : Succession → Workspace → StateHead → List ℕ → ℕ → Ruled
+by_succession first w head text now = accepted_update w head text now
+by_succession same w head text now = ruled done (Some w)
+by_succession other_lineage w head text now = ruled (refused OtherLineage) (Some w)
+by_succession old_serial w head text now = ruled (refused OldSerial) (Some w)
+by_succession next w head text now = accepted_update w head text now
+
+-- a refusal: of `Locked` the answer has the holder
+abbrev pub refused_by : Refusal → Holder → Outcome
+refused_by Locked holder = held holder
+refused_by refusal holder = refused refusal
+
+abbrev pub by_may_write : Option Refusal → Workspace → StateHead → List ℕ → ℕ → Ruled
+by_may_write (Some refusal) w head text now = ruled (refused_by refusal w.holder) (Some w)
+by_may_write None w head text now = by_succession (succession w.versions text head) w head text now
+
+abbrev pub update : Workspace → StateHead → List ℕ → Option (List ℕ) → ℕ → Ruled
+update w head text id now = by_may_write (may_write w.holder (holder_status w.holder w.runs) id) w head text now
+
+abbrev pub state_answer : Option Version → Outcome
+state_answer None = no_state
+state_answer (Some v) = state v.text
+
+abbrev pub with_settings : Workspace → Settings → Workspace
+with_settings w settings = record w { auto_apply = settings.auto_apply }
+
+-- the rules: of a name, an act and a moment, on the workspace of this name, if there is one
+abbrev pub rules : List ℕ → Act → ℕ → Option Workspace → Ruled
+rules name (PutWorkspace settings) now None = ruled (workspace (row_of name (new_workspace settings))) (Some (new_workspace settings))
+rules name (PutWorkspace settings) now (Some w) = ruled (workspace (row_of name (with_settings w settings))) (Some (with_settings w settings))
+rules name (UpdateState head text id) now None = ruled (refused NotFound) None
+rules name (UpdateState head text id) now (Some w) = update w head text id now
+rules name ReadState now None = ruled (refused NotFound) None
+rules name ReadState now (Some w) = ruled (state_answer (newest w.versions)) (Some w)

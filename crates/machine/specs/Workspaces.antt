@@ -1,0 +1,49 @@
+-- Parts of a workspace, and the laws that always hold of one.
+use Rattle.std.specs.Prelude.{◌≡◌, ◌≢◌, ℕ, ◌+◌, ◌-◌, ◌*◌, ◌^◌, ◌<◌, ◌≤◌, ◌↔◌, Bool, true, false, IsTrue, not, ◌&&◌, ◌==◌, nat_lt, cond, List, [], ◌∷◌, ◌++◌, length, drop, filter, find, Option, Some, None, IsSome, IfSome, MatchOption, option_map, option_and_then, ⊤, codes}
+use Rattle.std.specs.List.{AllByRecursion, list_any}
+use Rattle.basis.specs.declared.rows.Settings.{Settings}
+use Rattle.basis.specs.declared.runs.RunStatus.{RunStatus}
+use Rattle.basis.specs.declared.runs.RunStatus.TheVariants.{Pending, Planning, Planned, Applying, Applied, PlannedAndFinished, Errored, Discarded, Canceled}
+use Rattle.basis.specs.declared.runs.RunAction.{RunAction}
+use Rattle.basis.specs.Runs.{is_open}
+use Rattle.basis.specs.Names.{is_lock_id, has_length}
+use Rattle.machine.specs.declared.records.Holder.{Holder}
+use Rattle.machine.specs.declared.records.Holder.TheVariants.{Nobody, Lock, Run as HoldingRun}
+use Rattle.machine.specs.declared.records.Version.{Version}
+use Rattle.machine.specs.declared.records.Run.{Run}
+use Rattle.machine.specs.declared.records.Workspace.{Workspace}
+
+-- the most versions that a workspace keeps
+abbrev pub max_versions : ℕ
+max_versions = 100
+
+-- the most open runs of a workspace
+abbrev pub max_open_runs : ℕ
+max_open_runs = 100
+
+-- the newest version: the last of the list
+abbrev pub newest : List Version → Option Version
+newest [] = None
+newest (v ∷ []) = Some v
+newest (v ∷ w ∷ vs) = newest (w ∷ vs)
+
+-- the last `most` of the list: the oldest ones go
+abbrev pub last_of : ℕ → List Version → List Version
+last_of most vs = drop (length vs - most) vs
+
+-- a workspace at its creation
+abbrev pub new_workspace : Settings → Workspace
+new_workspace settings = record { auto_apply = settings.auto_apply; holder = Nobody; released = None; next_version = 1; next_run = 1; versions = []; runs = [] }
+
+-- the run of a number
+abbrev pub is_numbered : ℕ → Run → Bool
+is_numbered n r = r.number == n
+
+abbrev pub run_of : ℕ → List Run → Option Run
+run_of n runs = find (is_numbered n) runs
+
+-- the status of the run that holds
+abbrev pub holder_status : Holder → List Run → Option RunStatus
+holder_status Nobody runs = None
+holder_status (Lock id text) runs = None
+holder_status (HoldingRun n) runs = option_map (λ (r : Run). r.status) (run_of n runs)

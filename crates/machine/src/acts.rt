@@ -1,0 +1,95 @@
+//! What is asked of a workspace, what a decision needs of it, and what is decided.
+
+use crate::records::{Holder, Version};
+use basis::{Bytes, HolderId, LockId, Number, Refusal, RunStatus, Settings, StateHead, Text};
+
+/// What is asked of one workspace, its documents read.
+#[derive(Debug, Drop)]
+pub enum Act {
+    /// Makes the workspace, or sets the settings of the one that is there.
+    PutWorkspace(Settings),
+    /// Terraform's `POST` of a state, with the ID of the lock that the caller says it holds.
+    UpdateState {
+        head: StateHead,
+        text: Bytes,
+        lock_id: Option<LockId>,
+    },
+    /// Terraform's `GET` of the newest state.
+    ReadState,
+}
+
+/// What a decision needs of the newest version.
+#[derive(Debug, Drop)]
+pub struct Newest {
+    pub number: Number,
+    pub serial: u64,
+    pub lineage: Text,
+    /// Whether its text is the asked one, byte for byte.
+    pub is_same: bool,
+}
+
+/// What a decision needs of a workspace that is there.
+#[derive(Debug, Drop)]
+pub struct WorkspaceUnit {
+    pub auto_apply: bool,
+    pub holder: Holder,
+    /// The status of the holding run.
+    pub holder_status: Option<RunStatus>,
+    /// The ID of the lock that was released last.
+    pub released: Option<LockId>,
+    pub next_version: u64,
+    pub next_run: u64,
+    pub newest: Option<Newest>,
+    /// How many versions are kept.
+    pub versions: usize,
+}
+
+/// What a decision needs of one workspace, or that it isn't there.
+#[derive(Debug, Drop)]
+pub enum Unit {
+    Absent,
+    Present(WorkspaceUnit),
+}
+
+/// A workspace as it is shown, but for its name.
+#[derive(Debug, Drop)]
+pub struct Shown {
+    pub auto_apply: bool,
+    pub holder: Option<HolderId>,
+    pub version: Option<Number>,
+}
+
+/// What an accepted act is answered.
+#[derive(Debug, Drop)]
+pub enum Answer {
+    /// Nothing but that it is done.
+    Done,
+    /// There is no state.
+    NoState,
+    /// The text of the version of this number.
+    State(Number),
+    /// The workspace after the act.
+    Workspace(Shown),
+}
+
+/// How an accepted act changes its workspace.
+#[derive(Debug, Drop)]
+pub enum Change {
+    /// Makes the workspace.
+    Make(Settings),
+    /// Sets the settings of the workspace that is there.
+    Configure(Settings),
+    /// Puts a version behind the others, and lets the oldest ones go, as many as `gone` says.
+    AddVersion { version: Version, gone: usize },
+}
+
+/// What becomes of an act.
+#[derive(Debug, Drop)]
+pub enum Decision {
+    /// Nothing changes. The body of `Locked` is the holder's text.
+    Refused(Refusal),
+    Accepted {
+        answer: Answer,
+        change: Option<Change>,
+    },
+}

@@ -1,0 +1,17 @@
+//! The rules of custody over one organization's workspaces, with no store, no message and no document:
+//! what each act does to a workspace, who may write, and the trait `Keep` of what keeps organizations.
+#![tactic(auto)]
+
+pub mod acts;
+pub mod decisions;
+pub mod keeps;
+pub mod maps;
+pub mod plain;
+pub mod records;
+
+pub use acts::{Act, Answer, Change, Decision, Newest, Shown, Unit, WorkspaceUnit};
+pub use decisions::{MAX_VERSIONS, decide};
+pub use keeps::{AdminAnswer, Keep};
+pub use maps::NameMap;
+pub use plain::PlainKeep;
+pub use records::{Holder, Organization, Run, Token, Version, Workspace};

@@ -1,0 +1,121 @@
+//! A map from names to values, kept as a list in the order of the names' bytes.
+ghost use Rattle.std.specs.Prelude.{◌≡◌, option_copied, IfOk, IfErr, OnOk, OnErr};
+ghost use Rattle.std.specs.Prelude.{map as map_list};
+ghost use Rattle.std.specs.FinMap as map;
+ghost use Rattle.machine.specs.Order.{name_cmp};
+ghost use Rattle.machine.specs.Places.{IsAt, IsGapFor};
+
+use basis::{Down, Text};
+use std::alloc::Global;
+use std::cmp::Ordering;
+use std::marker::Model;
+
+/// A name and the value at it.
+#[derive(Drop)]
+pub(crate) struct Entry<T> {
+    pub(crate) name: Text,
+    pub(crate) value: T,
+}
+
+/// A map from names to values, in the order of the names' bytes.
+#[derive(Drop)]
+pub struct NameMap<T> {
+    pub(crate) entries: Vec<Entry<T>>,
+}
+
+impl<T> Model for NameMap<T> {
+    ghost use Rattle.std.specs.Prelude.{ℕ, List};
+    ghost use Rattle.std.specs.Coded.{coded_list, coded_ℕ};
+    ghost use Rattle.std.specs.FinMap as map;
+    ghost use Rattle.machine.specs.Order.{name_cmp};
+
+    ghost Value = { map.FinMap name_cmp T };
+
+    ghost coded = { map.code (coded_list coded_ℕ) T.code };
+
+    ghost use Rattle.std.specs.Prelude.{IsTrue};
+    ghost use Rattle.std.specs.Prelude.{map as map_list};
+
+    ghost view = { λ m. map.from_sorted (map_list (λ e. (e.name, e.value)) m.entries.items) };
+
+    ghost invariant = { λ m. IsTrue (map.is_sorted name_cmp (map_list (λ e. (e.name, e.value)) m.entries.items)) };
+}
+
+impl<T> NameMap<T> {
+    pub fn new(alloc: Global) -> NameMap<T>
+        ensures { result ≡ map.empty }
+    {
+        NameMap {
+            entries: Vec::new(alloc),
+        }
+    }
+
+    pub fn get(&self, name: &str) -> Option<&T>
+        ensures { option_copied result ≡ map.get self.now name.now }
+    {
+        match self.place_of(name) {
+            Ok(i) => Some(&self.entries[i].value),
+            Err(_) => None,
+        }
+    }
+
+    /// Puts the value at the name. What was there before goes.
+    pub fn insert(&mut self, name: Text, value: T) -> Result<(), Down>
+    where
+        T: Drop,
+        ensures ok { OnOk result (self.new ≡ map.insert self.old name value) }
+        ensures err { OnErr result (self.new ≡ self.old) }
+    {
+        match self.place_of(name.as_str()) {
+            Ok(i) => self.entries[i].value = value,
+            Err(i) => self.entries.insert(i, Entry { name, value })?,
+        }
+        Ok(())
+    }
+
+    /// The entries, in the order of their names.
+    pub(crate) fn entries(&self) -> &[Entry<T>]
+        ensures { map_list (λ e. (e.name, e.value)) result.now ≡ map.entries self.now }
+    {
+        self.entries.as_slice()
+    }
+
+    /// Where the name stands, or where it would go.
+    pub(crate) fn place_of(&self, name: &str) -> Result<usize, usize>
+        ensures found { IfOk result (λ i. IsAt name.now (map.entries self.now) i) }
+        ensures absent { IfErr result (λ i. IsGapFor name.now (map.entries self.now) i) }
+    {
+        for i in 0..self.entries.len() {
+            match name.cmp(self.entries[i].name.as_str()) {
+                Ordering::Less => return Err(i),
+                Ordering::Equal => return Ok(i),
+                Ordering::Greater => {}
+            }
+        }
+        Err(self.entries.len())
+    }
+}
+
+#[cfg(test)]
+mod tests {
+    use super::*;
+    use std::test::Fail;
+
+    fn sample(alloc: Global) -> Result<NameMap<u8>, Down> {
+        let mut map = NameMap::new(alloc);
+        map.insert(Text::copy_of(alloc, "prod")?, 1)?;
+        map.insert(Text::copy_of(alloc, "dev")?, 2)?;
+        map.insert(Text::copy_of(alloc, "pro")?, 3)?;
+        map.insert(Text::copy_of(alloc, "prod")?, 4)?;
+        Ok(map)
+    }
+
+    #[test]
+    fn keeps_the_order_of_names(rt: HostRuntime) -> Result<(), Fail> {
+        let map = sample(rt.alloc())?;
+        assert!(rt; map.entries().iter().map(|entry| entry.value).eq([2, 3, 4]));
+        assert_eq!(rt; map.get("prod").copied(), Some(4));
+        assert_eq!(rt; map.get("test").copied(), None);
+        Ok(())
+    }
+}

@@ -1,0 +1,425 @@
+//! A store in memory: every organization's record as nested values.
+ghost use Rattle.std.specs.Prelude.{◌≡◌, ◌≢◌, ℕ, ⊤, List, Option, Some, None, IfOk, OnOk, OnErr, option_map, option_copied};
+ghost use Rattle.std.specs.Prelude.{map as map_list};
+ghost use Rattle.std.specs.FinMap as map;
+ghost use Rattle.machine.specs.Records.{workspace_in, with_workspace, placed};
+ghost use Rattle.machine.specs.Tokens.{role_with, managed, new_organization, token_added};
+ghost use Rattle.machine.specs.Units.{is_text_of, newest_unit, workspace_unit, version_of, text_of, changed_by};
+ghost use Rattle.machine.specs.Workspaces.{newest, new_workspace, run_of, holder_status};
+ghost use Rattle.machine.specs.declared.records.Organization.{Organization as AnyOrganization};
+
+use crate::acts::{Act, Change, Newest, Unit, WorkspaceUnit};
+use crate::keeps::{AdminAnswer, Keep};
+use crate::maps::{Entry, NameMap};
+use crate::records::{Holder, Organization, Run, Token, Version, Workspace};
+use basis::{Bytes, Down, Items, Limit, Number, OrgName, Role, RunStatus, Settings, Text, WsName};
+use std::alloc::Global;
+
+/// A store in memory. It is always clean.
+#[derive(Drop)]
+pub struct PlainKeep {
+    organizations: NameMap<Organization>,
+}
+
+impl PlainKeep {
+    /// The store with no organization.
+    pub fn new(alloc: Global) -> PlainKeep
+        ensures { (o : List ℕ) → ⟦<PlainKeep as Keep>⟧.rows result o ≡ None }
+    {
+        PlainKeep {
+            organizations: NameMap::new(alloc),
+        }
+    }
+}
+
+impl Keep for PlainKeep {
+    ghost rows = { λ keep o. map.get keep.organizations o };
+
+    ghost clean = { λ _. ⊤ };
+
+    fn caller(
+        &mut self,
+        _alloc: Global,
+        org: &OrgName,
+        digest: &[u8; 32],
+    ) -> Result<Option<Role>, Down> {
+        match self.organizations.get(org.as_str()) {
+            Some(organization) => Ok(organization.role_with(digest)),
+            None => Ok(None),
+        }
+    }
+
+    fn unit(
+        &mut self,
+        _alloc: Global,
+        org: &OrgName,
+        ws: &WsName,
+        act: &Act,
+    ) -> Result<Unit, Down> {
+        let Some(organization) = self.organizations.get(org.as_str()) else {
+            return Ok(Unit::Absent);
+        };
+        match organization.workspaces.get(ws.as_str()) {
+            Some(workspace) => Ok(Unit::Present(workspace.unit(act)?)),
+            None => Ok(Unit::Absent),
+        }
+    }
+
+    fn text(
+        &mut self,
+        _alloc: Global,
+        org: &OrgName,
+        ws: &WsName,
+        n: Number,
+    ) -> Result<Option<Bytes>, Down> {
+        let Some(organization) = self.organizations.get(org.as_str()) else {
+            return Ok(None);
+        };
+        match organization.workspaces.get(ws.as_str()) {
+            Some(workspace) => workspace.text_of(n),
+            None => Ok(None),
+        }
+    }
+
+    fn apply(
+        &mut self,
+        alloc: Global,
+        org: &OrgName,
+        ws: &WsName,
+        change: &Change,
+    ) -> Result<(), Down> {
+        self.organizations
+            .apply(alloc, org.as_str(), ws.as_str(), change)
+    }
+
+    #[tactic(auto, using(crate::proofs::MapLemmas::get_own, crate::proofs::MapLemmas::get_other))]
+    fn org_add(&mut self, alloc: Global, org: &OrgName, limit: Limit) -> Result<AdminAnswer, Down> {
+        if self.organizations.get(org.as_str()).is_some() {
+            return Ok(AdminAnswer::Exists);
+        }
+        let name = Text::copy_of(alloc, org.as_str())?;
+        self.organizations
+            .insert(name, Organization::new(alloc, limit))?;
+        Ok(AdminAnswer::Done)
+    }
+
+    fn token_add(
+        &mut self,
+        alloc: Global,
+        org: &OrgName,
+        name: &OrgName,
+        role: Role,
+        digest: &[u8; 32],
+    ) -> Result<AdminAnswer, Down> {
+        let name = Text::copy_of(alloc, name.as_str())?;
+        let token = Token {
+            digest: *digest,
+            role,
+        };
+        self.organizations.add_token(org.as_str(), name, token)
+    }
+}
+
+impl NameMap<Organization> {
+    fn apply(&mut self, alloc: Global, org: &str, ws: &str, change: &Change) -> Result<(), Down>
+        ensures own { OnOk result (map.get self.new org.now ≡ option_map (λ (o : AnyOrganization). placed o ws.now (changed_by change.now (workspace_in (Some o) ws.now))) (map.get self.old org.now)) }
+        ensures others { (o : List ℕ) → o ≢ org.now → map.get self.new o ≡ map.get self.old o }
+        ensures err { OnErr result (self.new ≡ self.old) }
+    {
+        match self.place_of(org) {
+            Ok(i) => self.entries[i].value.workspaces.apply(alloc, ws, change),
+            Err(_) => Ok(()),
+        }
+    }
+
+    fn add_token(&mut self, org: &str, name: Text, token: Token) -> Result<AdminAnswer, Down>
+        ensures own { IfOk result (λ answer. managed answer (map.get self.new org.now) ≡ token_added name token (map.get self.old org.now)) }
+        ensures others { (o : List ℕ) → o ≢ org.now → map.get self.new o ≡ map.get self.old o }
+        ensures err { OnErr result (self.new ≡ self.old) }
+    {
+        match self.place_of(org) {
+            Ok(i) => self.entries[i].value.add_token(name, token),
+            Err(_) => Ok(AdminAnswer::Absent),
+        }
+    }
+}
+
+impl Organization {
+    fn new(alloc: Global, limit: Limit) -> Organization
+        ensures { result ≡ new_organization limit }
+    {
+        Organization {
+            limit,
+            tokens: NameMap::new(alloc),
+            workspaces: NameMap::new(alloc),
+        }
+    }
+
+    fn role_with(&self, digest: &[u8; 32]) -> Option<Role>
+        ensures { result ≡ role_with digest.now (map.entries self.now.tokens) }
+    {
+        role_with(digest, self.tokens.entries())
+    }
+
+    fn add_token(&mut self, name: Text, token: Token) -> Result<AdminAnswer, Down>
+        ensures ok { IfOk result (λ answer. managed answer (Some self.new) ≡ token_added name token (Some self.old)) }
+        ensures err { OnErr result (self.new ≡ self.old) }
+    {
+        if self.tokens.get(name.as_str()).is_some() || self.role_with(&token.digest).is_some() {
+            return Ok(AdminAnswer::Exists);
+        }
+        self.tokens.insert(name, token)?;
+        Ok(AdminAnswer::Done)
+    }
+}
+
+fn role_with(digest: &[u8; 32], entries: &[Entry<Token>]) -> Option<Role>
+    ensures { result ≡ role_with digest.now (map_list (λ e. (e.name, e.value)) entries.now) }
+{
+    for entry in entries {
+        if entry.value.digest == *digest {
+            return Some(entry.value.role);
+        }
+    }
+    None
+}
+
+impl NameMap<Workspace> {
+    fn apply(&mut self, alloc: Global, name: &str, change: &Change) -> Result<(), Down>
+        ensures ok { OnOk result (self.new ≡ with_workspace self.old name.now (changed_by change.now (map.get self.old name.now))) }
+        ensures err { OnErr result (self.new ≡ self.old) }
+    {
+        match self.place_of(name) {
+            Ok(i) => self.entries[i].value.change(alloc, change),
+            Err(_) => match change {
+                Change::Make(settings) => {
+                    let name = Text::copy_of(alloc, name)?;
+                    self.insert(name, Workspace::new(alloc, *settings))
+                }
+                // Nothing changes of what isn't there.
+                Change::Configure(_) => Ok(()),
+                Change::AddVersion { .. } => Ok(()),
+            },
+        }
+    }
+}
+
+impl Workspace {
+    fn new(alloc: Global, settings: Settings) -> Workspace
+        ensures { result ≡ new_workspace settings }
+    {
+        Workspace {
+            auto_apply: settings.auto_apply,
+            holder: Holder::Nobody,
+            released: None,
+            next_version: 1,
+            next_run: 1,
+            versions: Items::new(Vec::new(alloc)),
+            runs: Items::new(Vec::new(alloc)),
+        }
+    }
+
+    fn holder_status(&self) -> Option<RunStatus>
+        ensures { result ≡ holder_status self.now.holder self.now.runs }
+    {
+        match &self.holder {
+            Holder::Nobody | Holder::Lock { .. } => None,
+            Holder::Run(n) => match run_of(*n, self.runs.as_slice()) {
+                Some(run) => Some(run.status),
+                None => None,
+            },
+        }
+    }
+
+    fn unit(&self, act: &Act) -> Result<WorkspaceUnit, Down>
+        ensures { IfOk result (λ unit. unit ≡ workspace_unit act.now self.now) }
+    {
+        Ok(WorkspaceUnit {
+            auto_apply: self.auto_apply,
+            holder: self.holder.clone()?,
+            holder_status: self.holder_status(),
+            released: self.released.clone()?,
+            next_version: self.next_version,
+            next_run: self.next_run,
+            newest: newest_of(act, self.versions.as_slice())?,
+            versions: self.versions.as_slice().len(),
+        })
+    }
+
+    fn text_of(&self, n: Number) -> Result<Option<Bytes>, Down>
+        ensures { IfOk result (λ text. text ≡ text_of n (Some self.now)) }
+    {
+        match version_of(n, self.versions.as_slice()) {
+            Some(version) => Ok(Some(version.text.clone()?)),
+            None => Ok(None),
+        }
+    }
+
+    fn add_version(&mut self, version: &Version, gone: usize) -> Result<(), Down>
+        ensures ok { OnOk result (Some self.new ≡ changed_by (Change.AddVersion version.now gone) (Some self.old)) }
+        ensures err { OnErr result (self.new ≡ self.old) }
+    {
+        self.versions.push(version.clone()?)?;
+        self.versions.forget_first(gone);
+        self.next_version = version.number.get() as u64 + 1;
+        Ok(())
+    }
+
+    fn change(&mut self, alloc: Global, change: &Change) -> Result<(), Down>
+        ensures ok { OnOk result (Some self.new ≡ changed_by change.now (Some self.old)) }
+        ensures err { OnErr result (self.new ≡ self.old) }
+    {
+        match change {
+            Change::Make(settings) => *self = Workspace::new(alloc, *settings),
+            Change::Configure(settings) => self.auto_apply = settings.auto_apply,
+            Change::AddVersion { version, gone } => self.add_version(version, *gone)?,
+        }
+        Ok(())
+    }
+}
+
+fn is_text_of(act: &Act, text: &Bytes) -> bool
+    ensures { result ≡ is_text_of act.now text.now }
+{
+    match act {
+        Act::UpdateState { text: asked, .. } => text.as_slice() == asked.as_slice(),
+        Act::PutWorkspace(_) | Act::ReadState => false,
+    }
+}
+
+fn newest_unit(act: &Act, version: &Version) -> Result<Newest, Down>
+    ensures { IfOk result (λ unit. unit ≡ newest_unit act.now version.now) }
+{
+    Ok(Newest {
+        number: version.number,
+        serial: version.serial,
+        lineage: version.lineage.clone()?,
+        is_same: is_text_of(act, &version.text),
+    })
+}
+
+fn newest_of(act: &Act, versions: &[Version]) -> Result<Option<Newest>, Down>
+    ensures { IfOk result (λ unit. unit ≡ option_map (newest_unit act.now) (newest versions.now)) }
+{
+    match versions.last() {
+        Some(version) => Ok(Some(newest_unit(act, version)?)),
+        None => Ok(None),
+    }
+}
+
+fn run_of(n: Number, runs: &[Run]) -> Option<&Run>
+    ensures { option_copied result ≡ run_of n runs.now }
+{
+    runs.iter().find(|run| run.number == n)
+}
+
+fn version_of(n: Number, versions: &[Version]) -> Option<&Version>
+    ensures { option_copied result ≡ version_of n versions.now }
+{
+    let mut found = None;
+    for version in versions {
+        if version.number == n {
+            found = Some(version);
+        }
+    }
+    found
+}
+
+#[cfg(test)]
+mod tests {
+    use super::*;
+    use basis::{Moment, Number};
+    use std::test::Fail;
+
+    fn limit() -> Result<Limit, Fail> {
+        Ok(Limit::new(200).ok_or("a limit")?)
+    }
+
+    fn number(n: u64) -> Result<Number, Fail> {
+        Ok(Number::new(n).ok_or("a number")?)
+    }
+
+    // Adds the version of a number, whose text is that number's digits.
+    fn add_version(
+        keep: &mut PlainKeep,
+        alloc: Global,
+        org: &OrgName,
+        ws: &WsName,
+        n: u64,
+        gone: usize,
+    ) -> Result<(), Fail> {
+        let version = Version {
+            number: number(n)?,
+            serial: n,
+            lineage: Text::copy_of(alloc, "one")?,
+            created: Moment::new(1_700_000_000).ok_or("a moment")?,
+            text: Bytes::copy_of(alloc, format!(in alloc; "{n}")?.as_bytes())?,
+        };
+        keep.apply(alloc, org, ws, &Change::AddVersion { version, gone })?;
+        Ok(())
+    }
+
+    #[test]
+    fn tells_tokens_of_organizations_apart(rt: HostRuntime) -> Result<(), Fail> {
+        let alloc = rt.alloc();
+        let mut keep = PlainKeep::new(alloc);
+        let acme = OrgName::read(alloc, "acme")?;
+        let other = OrgName::read(alloc, "other")?;
+        let ci = OrgName::read(alloc, "ci")?;
+        for (org, answer) in [
+            (&other, AdminAnswer::Done),
+            (&acme, AdminAnswer::Done),
+            (&acme, AdminAnswer::Exists),
+        ] {
+            assert_eq!(rt; keep.org_add(alloc, org, limit()?)?, answer);
+        }
+        for (org, name, digest, answer) in [
+            (&acme, &ci, [1; 32], AdminAnswer::Done),
+            (&acme, &ci, [2; 32], AdminAnswer::Exists),
+            (&acme, &acme, [1; 32], AdminAnswer::Exists),
+            (&acme, &acme, [2; 32], AdminAnswer::Done),
+            (&ci, &ci, [3; 32], AdminAnswer::Absent),
+        ] {
+            assert_eq!(rt;
+                keep.token_add(alloc, org, name, Role::Write, &digest)?,
+                answer
+            );
+        }
+        assert_eq!(rt; keep.caller(alloc, &acme, &[2; 32])?, Some(Role::Write));
+        assert_eq!(rt; keep.caller(alloc, &acme, &[3; 32])?, None);
+        assert_eq!(rt; keep.caller(alloc, &other, &[1; 32])?, None);
+        assert_eq!(rt; keep.caller(alloc, &ci, &[1; 32])?, None);
+        Ok(())
+    }
+
+    #[test]
+    fn keeps_the_newest_of_101_versions(rt: HostRuntime) -> Result<(), Fail> {
+        let alloc = rt.alloc();
+        let mut keep = PlainKeep::new(alloc);
+        let acme = OrgName::read(alloc, "acme")?;
+        let other = OrgName::read(alloc, "other")?;
+        let prod = WsName::read(alloc, "prod")?;
+        for org in [&acme, &other] {
+            keep.org_add(alloc, org, limit()?)?;
+            let settings = Settings { auto_apply: true };
+            keep.apply(alloc, org, &prod, &Change::Make(settings))?;
+        }
+        for n in 1..=100 {
+            add_version(&mut keep, alloc, &acme, &prod, n, 0)?;
+        }
+        add_version(&mut keep, alloc, &acme, &prod, 101, 1)?;
+        let Unit::Present(unit) = keep.unit(alloc, &acme, &prod, &Act::ReadState)? else {
+            return Err(Fail::new("acme has no workspace"));
+        };
+        assert_eq!(rt;
+            (unit.versions, unit.next_version, unit.auto_apply),
+            (100, 102, true)
+        );
+        assert_eq!(rt; unit.newest.map(|newest| newest.number), Some(number(101)?));
+        assert!(rt; keep.text(alloc, &acme, &prod, number(1)?)?.is_none());
+        let text = keep.text(alloc, &acme, &prod, number(101)?)?;
+        assert_eq!(rt; text.as_ref().map(Bytes::as_slice), Some(b"101".as_slice()));
+        assert!(rt; keep.text(alloc, &other, &prod, number(101)?)?.is_none());
+        Ok(())
+    }
+}

@@ -1,0 +1,7 @@
+pub mod AsciiLemmas
+pub mod PartLemmas
+pub mod KindLemmas
+pub mod WalkLemmas
+pub mod LevelLemmas
+pub mod TableLemmas
+pub mod RouteLemmas

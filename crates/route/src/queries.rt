@@ -1,0 +1,155 @@
+//! The query of a request's target.
+ghost use Rattle.std.specs.Prelude.{◌≡◌, ◌≢◌, false, Some, None, OnOk, IfErr, IsSome, option_map};
+ghost use Rattle.std.specs.Cow.{cow_str_bytes};
+ghost use Rattle.route.specs.Checks.{Answers, or_refused};
+ghost use Rattle.route.specs.Pairs.{has_room, Takes};
+ghost use Rattle.route.specs.Queries.{query_read, lock_id_read, after_read, name_after, listed_from, number_after};
+
+use crate::acts::AskedAct;
+use basis::numbers::{MAX_NUMBER, whole_number};
+use basis::{LockId, Refusal, Text, Unfit, WsName};
+use std::alloc::Global;
+use std::borrow::CowStr;
+
+/// The key of a bearer token (RFC 6750, section 2.3).
+const TOKEN_KEY: &str = "access_token";
+
+/// The key of the ID of a held lock (Terraform, backend 'http').
+const ID_KEY: &str = "ID";
+
+/// The key of the item after which a list begins.
+const AFTER_KEY: &str = "after";
+
+/// The values of the keys that have a use.
+#[derive(Debug, Drop)]
+pub struct Query {
+    /// `access_token`: a bearer token.
+    pub token: Option<Text>,
+    /// `ID`: the lock that the sender says it has.
+    pub id: Option<Text>,
+    /// `after`: the item after which a list begins.
+    pub after: Option<Text>,
+}
+
+// A value for a key that has none so far.
+fn put(alloc: Global, place: &mut Option<Text>, value: &str) -> Result<(), Refusal>
+    ensures ok { OnOk result ((place.old ≡ None) × (place.new ≡ Some value.now)) }
+    ensures twice { IfErr result (λ refusal. refusal ≢ Refusal.Unavailable → (refusal ≡ Refusal.BadQuery) × IsSome place.old) }
+{
+    if place.is_some() {
+        return Err(Refusal::BadQuery);
+    }
+    match Text::copy_of(alloc, value) {
+        Ok(text) => {
+            *place = Some(text);
+            Ok(())
+        }
+        Err(_) => Err(Refusal::Unavailable),
+    }
+}
+
+// One more pair of the query.
+fn take(alloc: Global, found: &mut Query, name: &str, value: &str) -> Result<(), Refusal>
+    ensures ok { OnOk result (Takes name.now value.now found.old found.new) }
+    ensures twice { IfErr result (λ refusal. refusal ≢ Refusal.Unavailable → (refusal ≡ Refusal.BadQuery) × (has_room name.now value.now found.old ≡ false)) }
+{
+    if name == TOKEN_KEY {
+        return put(alloc, &mut found.token, value);
+    }
+    if name == ID_KEY {
+        return put(alloc, &mut found.id, value);
+    }
+    if name == AFTER_KEY {
+        return put(alloc, &mut found.after, value);
+    }
+    Ok(())
+}
+
+// One more pair of the query, decoded.
+fn take_pair(
+    alloc: Global,
+    found: &mut Query,
+    name: CowStr<'_>,
+    value: CowStr<'_>,
+) -> Result<(), Refusal>
+    ensures ok { OnOk result (Takes (cow_str_bytes name.entry) (cow_str_bytes value.entry) found.old found.new) }
+    ensures twice { IfErr result (λ refusal. refusal ≢ Refusal.Unavailable → (refusal ≡ Refusal.BadQuery) × (has_room (cow_str_bytes name.entry) (cow_str_bytes value.entry) found.old ≡ false)) }
+{
+    take(alloc, found, &name, &value)
+}
+
+/// The values of the keys that have a use; none of these keys comes twice.
+pub fn read_query(alloc: Global, query: &[u8]) -> Result<Query, Refusal>
+    ensures { Answers result (query_read query.now) }
+{
+    let mut found = Query {
+        token: None,
+        id: None,
+        after: None,
+    };
+    for pair in form_urlencoded::parse(alloc, query) {
+        let Ok((name, value)) = pair else {
+            return Err(Refusal::Unavailable);
+        };
+        if let Err(refusal) = take_pair(alloc, &mut found, name, value) {
+            return Err(refusal);
+        }
+    }
+    Ok(found)
+}
+
+/// The ID of a lock in a query.
+pub fn lock_id_in(alloc: Global, id: Option<Text>) -> Result<Option<LockId>, Refusal>
+    ensures { Answers result (lock_id_read id) }
+{
+    let Some(id) = id else {
+        return Ok(None);
+    };
+    match LockId::read(alloc, id.as_str()) {
+        Ok(id) => Ok(Some(id)),
+        Err(Unfit::Syntax) => Err(Refusal::BadQuery),
+        Err(Unfit::Down) => Err(Refusal::Unavailable),
+    }
+}
+
+fn list_after(alloc: Global, text: &str) -> Result<AskedAct, Refusal>
+    ensures { Answers result (or_refused Refusal.BadQuery (option_map listed_from (name_after text.now))) }
+{
+    match WsName::read(alloc, text) {
+        Ok(name) => Ok(AskedAct::ListWorkspaces { after: Some(name) }),
+        Err(Unfit::Syntax) => Err(Refusal::BadQuery),
+        Err(Unfit::Down) => Err(Refusal::Unavailable),
+    }
+}
+
+fn number_after(text: &str) -> Option<u64>
+    ensures { result ≡ number_after text.now }
+{
+    let number = whole_number(text)?;
+    if number <= MAX_NUMBER as u64 {
+        Some(number)
+    } else {
+        None
+    }
+}
+
+/// The act with the place where its list begins, if it lists anything.
+pub fn begin_after(alloc: Global, act: AskedAct, after: Option<Text>) -> Result<AskedAct, Refusal>
+    ensures { Answers result (after_read act after) }
+{
+    let Some(text) = after else {
+        return Ok(act);
+    };
+    match act {
+        AskedAct::ListWorkspaces { .. } => list_after(alloc, text.as_str()),
+        AskedAct::ListVersions { ws, .. } => match number_after(text.as_str()) {
+            Some(after) => Ok(AskedAct::ListVersions { ws, after }),
+            None => Err(Refusal::BadQuery),
+        },
+        AskedAct::ListRuns { ws, .. } => match number_after(text.as_str()) {
+            Some(after) => Ok(AskedAct::ListRuns { ws, after }),
+            None => Err(Refusal::BadQuery),
+        },
+        act => Ok(act),
+    }
+}

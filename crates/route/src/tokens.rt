@@ -1,0 +1,118 @@
+//! Bearer tokens.
+ghost use Rattle.std.specs.Prelude.{◌≡◌, Some, None, MatchOption, option_map, option_and_then};
+ghost use Rattle.route.specs.Checks.{Answers, or_refused, now_of, result_of};
+ghost use Rattle.route.specs.Tokens.{before, behind, unspaced, bearer_of, one_token, org_of, secret_of, token_of, token_read};
+
+use basis::{OrgName, Refusal, Secret, Unfit};
+use std::alloc::Global;
+use std::str;
+
+/// The scheme of bearer tokens (RFC 6750, section 2.1); its case doesn't count.
+const BEARER: &[u8] = b"bearer";
+
+/// A token whose text reads.
+#[derive(Drop)]
+pub struct Token {
+    pub org: OrgName,
+    pub secret: Secret,
+}
+
+// The bytes before and after the first such byte.
+fn cut_at(bytes: &[u8], byte: u8) -> (&[u8], &[u8])
+    ensures front { result.0.now ≡ before byte bytes.now }
+    ensures back { result.1.now ≡ behind byte bytes.now }
+{
+    match bytes.iter().position(|b| *b == byte) {
+        Some(place) => (&bytes[..place], &bytes[place + 1..]),
+        None => (bytes, &[]),
+    }
+}
+
+fn unspaced(bytes: &[u8]) -> &[u8]
+    ensures { result.now ≡ unspaced bytes.now }
+{
+    match bytes {
+        [b' ', rest @ ..] => unspaced(rest),
+        _ => bytes,
+    }
+}
+
+fn bearer_in(value: &[u8]) -> Option<&[u8]>
+    ensures { MatchOption result (bearer_of value.now ≡ None) (λ token. bearer_of value.now ≡ Some token.now) }
+{
+    let (word, rest) = cut_at(value, b' ');
+    if word.eq_ignore_ascii_case(BEARER) {
+        Some(unspaced(rest))
+    } else {
+        None
+    }
+}
+
+// The one token of a request.
+fn one_token<'t>(
+    authorization: Option<&'t [u8]>,
+    in_query: Option<&'t [u8]>,
+) -> Result<&'t [u8], Refusal>
+    ensures { Answers (result_of result) (one_token (option_and_then bearer_of (option_map now_of authorization.entry)) (option_map now_of in_query.entry)) }
+{
+    match (authorization.and_then(bearer_in), in_query) {
+        (Some(_), Some(_)) => Err(Refusal::TwoTokens),
+        (Some(token), None) => Ok(token),
+        (None, Some(token)) => Ok(token),
+        (None, None) => Err(Refusal::NoToken),
+    }
+}
+
+fn org_in(alloc: Global, bytes: &[u8]) -> Result<OrgName, Refusal>
+    ensures { Answers result (or_refused Refusal.BadToken (org_of bytes.now)) }
+{
+    let Ok(text) = str::from_utf8(bytes) else {
+        return Err(Refusal::BadToken);
+    };
+    match OrgName::read(alloc, text) {
+        Ok(org) => Ok(org),
+        Err(Unfit::Syntax) => Err(Refusal::BadToken),
+        Err(Unfit::Down) => Err(Refusal::Unavailable),
+    }
+}
+
+fn secret_in(alloc: Global, bytes: &[u8]) -> Result<Secret, Refusal>
+    ensures { Answers result (or_refused Refusal.BadToken (secret_of bytes.now)) }
+{
+    let Ok(text) = str::from_utf8(bytes) else {
+        return Err(Refusal::BadToken);
+    };
+    match Secret::read(alloc, text) {
+        Ok(secret) => Ok(secret),
+        Err(Unfit::Syntax) => Err(Refusal::BadToken),
+        Err(Unfit::Down) => Err(Refusal::Unavailable),
+    }
+}
+
+fn token_in(alloc: Global, text: &[u8]) -> Result<Token, Refusal>
+    ensures { Answers result (or_refused Refusal.BadToken (token_of text.now)) }
+{
+    let (org, secret) = cut_at(text, b'.');
+    let org = match org_in(alloc, org) {
+        Ok(org) => org,
+        Err(refusal) => return Err(refusal),
+    };
+    match secret_in(alloc, secret) {
+        Ok(secret) => Ok(Token { org, secret }),
+        Err(refusal) => Err(refusal),
+    }
+}
+
+/// The token of a request, from its field Authorization and from its query.
+pub fn read_token(
+    alloc: Global,
+    authorization: Option<&[u8]>,
+    in_query: Option<&[u8]>,
+) -> Result<Token, Refusal>
+    ensures { Answers result (token_read (option_map now_of authorization.entry) (option_map now_of in_query.entry)) }
+{
+    match one_token(authorization, in_query) {
+        Ok(text) => token_in(alloc, text),
+        Err(refusal) => Err(refusal),
+    }
+}

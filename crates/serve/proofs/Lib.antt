@@ -1,0 +1,4 @@
+pub mod RecordLemmas
+pub mod TakenLemmas
+pub mod RunLemmas
+pub mod ExchangeLemmas

@@ -1,0 +1,13 @@
+use Rattle.std.proofs.Common.{◌≡◌, ◌≤◌, length, take, vec_len, vec_capacity}
+use Rattle.serve.specs.Runs.{RunsTo}
+use Rattle.serve.proofs.service.run.Given as goal
+
+-- the steps so far are run, with a reply each
+abbrev pub invariant-steps : goal.invariant-steps
+invariant-steps g l = record {
+  count : l.taken ≡ l.step-index;
+  len : vec_len l.replies ≡ l.step-index;
+  room : length l.steps ≤ vec_capacity l.replies;
+  so_far : g.K.Keep.clean l.keep → g.K.Keep.clean l.fn.keep;
+  ran : g.K.Keep.clean l.keep → RunsTo (take l.step-index l.steps) (g.K.Keep.rows l.fn.keep) (g.K.Keep.rows l.keep) l.replies.items;
+}

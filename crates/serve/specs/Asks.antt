@@ -1,0 +1,29 @@
+-- What a step asks, and whose step it is.
+use Rattle.std.specs.Prelude.{◌≡◌, ℕ, Bool, true, false, List, [], Option, Some, None, codes}
+use Rattle.basis.specs.declared.refusals.Refusal.{Refusal}
+use Rattle.route.specs.declared.acts.Asked.{Asked}
+use Rattle.serve.specs.declared.steps.Admin.{Admin}
+use Rattle.serve.specs.declared.steps.Admin.TheVariants.{OrgAdd, TokenAdd}
+
+-- what a step asks, at a moment; the flag `due` says that the 100 line goes before the reply
+pub data Ask : Type 0 where
+  -- nothing, since its message is unfinished
+  silent : Ask
+  -- nothing of any organization: it is refused by what its bytes say; the last flag says that the method is HEAD
+  refused : ℕ → Bool → Refusal → Bool → Ask
+  -- an act, in the name of the organization of a token, with the digest of the body, if it has one, and the body
+  requests : ℕ → Bool → Asked → Option (List ℕ) → List ℕ → Ask
+  -- an operator's command
+  commands : ℕ → Admin → Ask
+
+-- the organization that an operator's command names
+abbrev pub commanded_of : Admin → List ℕ
+commanded_of (OrgAdd org limit) = org
+commanded_of (TokenAdd org name role secret) = org
+
+-- whose step it is: of the organization that the token or the command names, or nobody's
+abbrev pub organization_of : Ask → Option (List ℕ)
+organization_of silent = None
+organization_of (refused at due refusal is_head) = None
+organization_of (requests at due asked digest body) = Some asked.caller
+organization_of (commands at command) = Some (commanded_of command)

@@ -1,0 +1,123 @@
+-- Steps as their bytes say them, and whole runs of them over the records of all organizations.
+use Rattle.std.specs.Prelude.{◌≡◌, ℕ, Bool, true, false, cond, List, [], ◌∷◌, ◌++◌, length, Option, Some, None, codes, ⊤}
+use Rattle.std.specs.Str.{bytes_eq}
+use Rattle.machine.specs.declared.keeps.AdminAnswer.{AdminAnswer}
+use Rattle.machine.specs.declared.keeps.AdminAnswer.TheVariants.{Done, Exists, Absent}
+use Rattle.machine.specs.declared.records.Organization.{Organization}
+use Rattle.route.specs.Asks.{Asking, asked_of, asks}
+use Rattle.route.specs.Asks as route
+use Rattle.wire.specs.declared.messages.Message.{Message}
+use Rattle.wire.specs.Messages.{Reading, Reads, unfinished, whole}
+use Rattle.wire.specs.Messages as wire
+use Rattle.wire.specs.Links.{continue_if}
+use Rattle.wire.specs.Replies.{IsReplyText}
+use Rattle.serve.specs.declared.steps.Step.{Step}
+use Rattle.serve.specs.declared.steps.Step.TheVariants.{Request, Command}
+use Rattle.serve.specs.Asks.{Ask, silent, refused, requests, commands, organization_of}
+use Rattle.serve.specs.Steps.{Said, nothing, replies, tells, Stepped, step}
+
+-- the method of a message is HEAD
+abbrev pub is_head : Message → Bool
+is_head message = bytes_eq message.method (codes "HEAD")
+
+-- what a message asks at a moment
+abbrev pub asked_by : ℕ → Bool → Message → Asking → Ask
+asked_by at due message (route.refused refusal) = refused at due refusal (is_head message)
+asked_by at due message (asks asked) = requests at due asked message.content_md5 message.body
+
+-- what the reading of a string of bytes asks at a moment
+abbrev pub ask_of : ℕ → Reading → Ask
+ask_of at unfinished = silent
+ask_of at (wire.refused refusal head) = refused at false refusal head
+ask_of at (whole message due) = asked_by at due message (asked_of message)
+
+-- what the bytes of a connection ask at a moment
+pub record Asks (at : ℕ) (bytes : List ℕ) (ask : Ask) : Type 0 where
+  pub reading : Reading
+  pub reads : Reads bytes reading
+  pub is : ask ≡ ask_of at reading
+
+-- what a step asks
+abbrev pub IsAsked : Step → Ask → Type 0
+IsAsked (Request at bytes) ask = Asks at bytes ask
+IsAsked (Command at command) ask = ask ≡ commands at command
+
+-- what each of a list of steps asks
+abbrev pub AreAsked : List Step → List Ask → Type 0
+AreAsked [] [] = ⊤
+AreAsked [] (a ∷ asked) = ⊥
+AreAsked (s ∷ steps) [] = ⊥
+AreAsked (s ∷ steps) (a ∷ asked) = IsAsked s a × AreAsked steps asked
+
+-- an operator's answer as it is printed
+abbrev pub admin_text : AdminAnswer → List ℕ
+admin_text Done = codes "ok\n"
+admin_text Exists = codes "refused exists\n"
+admin_text Absent = codes "refused absent\n"
+
+-- the text of what is said
+abbrev pub IsText : Said → List ℕ → Type 0
+IsText nothing text = text ≡ []
+IsText (replies due at answer) text = (reply : List ℕ) × IsReplyText answer at reply × (text ≡ continue_if due ++ reply)
+IsText (tells answer) text = text ≡ admin_text answer
+
+abbrev pub AreTexts : List Said → List (List ℕ) → Type 0
+AreTexts [] [] = ⊤
+AreTexts [] (t ∷ ts) = ⊥
+AreTexts (s ∷ said) [] = ⊥
+AreTexts (s ∷ said) (t ∷ ts) = IsText s t × AreTexts said ts
+
+-- whose a step is: an organization's, or nobody's
+abbrev pub same_owner : Option (List ℕ) → Option (List ℕ) → Bool
+same_owner None None = true
+same_owner None (Some b) = false
+same_owner (Some a) None = false
+same_owner (Some a) (Some b) = bytes_eq a b
+
+abbrev pub is_own : Option (List ℕ) → Ask → Bool
+is_own owner ask = same_owner owner (organization_of ask)
+
+-- one more at the front, where it is one's own
+abbrev pub with_own : {A : Type 0} → Bool → A → List A → List A
+with_own true a rest = a ∷ rest
+with_own false a rest = rest
+
+-- what is asked of one organization, or of nobody, in the order of the steps
+abbrev pub own_asks : Option (List ℕ) → List Ask → List Ask
+own_asks owner [] = []
+own_asks owner (a ∷ asked) = with_own (is_own owner a) a (own_asks owner asked)
+
+-- the replies at the places of its own steps
+abbrev pub replies_at : Option (List ℕ) → List Ask → List (List ℕ) → List (List ℕ)
+replies_at owner [] ts = []
+replies_at owner (a ∷ asked) [] = []
+replies_at owner (a ∷ asked) (t ∷ ts) = with_own (is_own owner a) t (replies_at owner asked ts)
+
+-- the record that a step reads: that of its organization, and none where it is nobody's
+abbrev pub record_for : (List ℕ → Option Organization) → Option (List ℕ) → Option Organization
+record_for rows None = None
+record_for rows (Some org) = rows org
+
+-- the record of an organization after what is asked: only its own steps change it
+abbrev pub after_ask : Bool → Ask → Option Organization → Option Organization
+after_ask true ask r = (step r ask).after
+after_ask false ask r = r
+
+-- what is asked is carried out: each record afterwards
+abbrev pub Carries : Ask → (List ℕ → Option Organization) → (List ℕ → Option Organization) → Type 0
+Carries ask old new = (org : List ℕ) → new org ≡ after_ask (is_own (Some org) ask) ask (old org)
+
+-- what is said to the one who asks, by the records before
+abbrev pub said_to : (List ℕ → Option Organization) → Ask → Said
+said_to rows ask = (step (record_for rows (organization_of ask)) ask).said
+
+-- no record changes
+abbrev pub Stays : (List ℕ → Option Organization) → (List ℕ → Option Organization) → Type 0
+Stays old new = (org : List ℕ) → new org ≡ old org
+
+-- one step taken: what it asks is carried out, and this is the text of what is said
+pub record Takes (s : Step) (text : List ℕ) (old new : List ℕ → Option Organization) : Type 0 where
+  pub ask : Ask
+  pub is : IsAsked s ask
+  pub carries : Carries ask old new
+  pub text_is : IsText (said_to old ask) text

@@ -1,0 +1,124 @@
+//! One exchange: a request is read, answered and carried out, and its reply is written.
+ghost use Rattle.std.specs.Prelude.{◌≡◌, ◌++◌, ◌↔◌, ℕ, List, Bool, Option, Err, ◌≢◌, ◌⊎◌, true, false, IfOk, IfErr, OnErr, IfSome, IsErrOf};
+ghost use Rattle.machine.specs.declared.records.Organization.{Organization};
+ghost use Rattle.route.specs.Asks.{asked_of};
+ghost use Rattle.wire.specs.Replies.{IsReplyText};
+ghost use Rattle.wire.specs.Links.{continue_if};
+ghost use Rattle.wire.specs.declared.messages.WireFault.TheVariants.{Ended, Read, Continue};
+ghost use Rattle.serve.specs.Service.{asked_by, Carries, Stays, said_to, IsText};
+ghost use Rattle.serve.specs.Exchanges.{Exchanges, RepliesTo};
+
+use crate::messages::{carry, is_head, prepare, refused_reply};
+use basis::{Down, Moment};
+use machine::Keep;
+use route::Routes;
+use std::alloc::Global;
+use wire::{Inlet, Message, Outlet, Reply, WireFault, read_message, write_reply};
+
+/// Why an exchange ended without a whole reply. After the first three no rows changed.
+#[derive(Clone, Copy, Debug, PartialEq, Eq)]
+pub enum LinkFault {
+    /// The input ended inside the message.
+    Ended,
+    /// A read failed.
+    Read,
+    /// Writing the 100 line failed.
+    Continue,
+    /// Writing the reply failed: a front of it is written, and the step is taken.
+    Write,
+}
+
+/// A message is answered in full, and then its change is made.
+fn answer<K: Keep>(
+    alloc: Global,
+    keep: &mut K,
+    routes: &Routes,
+    now: Moment,
+    message: Message,
+) -> Result<Reply, Down>
+    ensures so_far { K.clean keep.new → K.clean keep.old }
+    ensures ok { K.clean keep.new → IfOk result (λ reply. (due : Bool)
+        → Carries (asked_by now due message (asked_of message)) (K.rows keep.old) (K.rows keep.new)
+        × ((text : List ℕ) → IsReplyText reply now text
+        → IsText (said_to (K.rows keep.old) (asked_by now due message (asked_of message))) (continue_if due ++ text))) }
+    ensures err { K.clean keep.new → OnErr result (Stays (K.rows keep.old) (K.rows keep.new)) }
+{
+    let prepared = prepare(alloc, keep, routes, now, message)?;
+    carry(alloc, keep, &prepared)?;
+    Ok(prepared.reply)
+}
+
+/// The reply where no message was read, or why there is none.
+fn fault_reply(alloc: Global, fault: WireFault) -> Result<Reply, LinkFault>
+    ensures ok { IfOk result (λ reply. (now : ℕ) (rows : List ℕ → Option Organization) → RepliesTo now (Err fault) rows rows reply) }
+    ensures ended { IsErrOf result LinkFault.Ended ↔ (fault ≡ Ended) }
+    ensures read { IsErrOf result LinkFault.Read ↔ (fault ≡ Read) }
+    ensures continues { IsErrOf result LinkFault.Continue ↔ (fault ≡ Continue) }
+    ensures never_write { IfErr result (λ fault. fault ≢ LinkFault.Write) }
+{
+    match fault {
+        WireFault::Refused(refusal, is_head) => match refused_reply(alloc, refusal, is_head) {
+            Ok(reply) => Ok(reply),
+            Err(Down) => Ok(Reply::unavailable(is_head)),
+        },
+        WireFault::Down => Ok(Reply::unavailable(false)),
+        WireFault::Ended => Err(LinkFault::Ended),
+        WireFault::Read => Err(LinkFault::Read),
+        WireFault::Continue => Err(LinkFault::Continue),
+    }
+}
+
+/// The reply to what was read, or why there is none.
+fn reply_to<K: Keep>(
+    alloc: Global,
+    keep: &mut K,
+    routes: &Routes,
+    now: Moment,
+    read: Result<Message, WireFault>,
+) -> Result<Reply, LinkFault>
+    ensures so_far { K.clean keep.new → K.clean keep.old }
+    ensures ok { K.clean keep.new → IfOk result (RepliesTo now read (K.rows keep.old) (K.rows keep.new)) }
+    ensures err { K.clean keep.new → OnErr result (Stays (K.rows keep.old) (K.rows keep.new)) }
+    ensures ended { IsErrOf result LinkFault.Ended ↔ (read ≡ Err Ended) }
+    ensures read { IsErrOf result LinkFault.Read ↔ (read ≡ Err Read) }
+    ensures continues { IsErrOf result LinkFault.Continue ↔ (read ≡ Err Continue) }
+    ensures never_write { IfErr result (λ fault. fault ≢ LinkFault.Write) }
+{
+    match read {
+        Ok(message) => {
+            let is_head = is_head(&message);
+            match answer(alloc, keep, routes, now, message) {
+                Ok(reply) => Ok(reply),
+                Err(Down) => Ok(Reply::unavailable(is_head)),
+            }
+        }
+        Err(fault) => fault_reply(alloc, fault),
+    }
+}
+
+/// One exchange over a keep.
+pub fn exchange<K: Keep, I: Inlet, O: Outlet>(
+    alloc: Global,
+    keep: &mut K,
+    routes: &Routes,
+    now: Moment,
+    inlet: &mut I,
+    outlet: &mut O,
+) -> Result<(), LinkFault>
+    requires reads { I.broken inlet.old ≡ false }
+    requires writes { O.broken outlet.old ≡ false }
+    ensures so_far { K.clean keep.new → K.clean keep.old }
+    ensures told { K.clean keep.new → IfSome (I.left inlet.old) (λ bytes.
+        Exchanges now bytes (K.rows keep.old) (K.rows keep.new) (O.written outlet.old) (O.written outlet.new) result) }
+    ensures read { (I.broken inlet.new ≡ true) ↔ IsErrOf result LinkFault.Read }
+    ensures written { (O.broken outlet.new ≡ true) ↔ (IsErrOf result LinkFault.Continue ⊎ IsErrOf result LinkFault.Write) }
+{
+    let read = read_message(alloc, inlet, outlet);
+    match reply_to(alloc, keep, routes, now, read) {
+        Ok(reply) => match write_reply(&reply, now, outlet) {
+            Ok(()) => Ok(()),
+            Err(_) => Err(LinkFault::Write),
+        },
+        Err(fault) => Err(fault),
+    }
+}

@@ -1,0 +1,28 @@
+//! An answer that is made in full before anything changes.
+
+use basis::{OrgName, Refusal, WsName};
+use machine::Change;
+use wire::{Message, Reply};
+
+/// A change that is to follow, once the answer is made.
+#[derive(Drop)]
+pub struct Pending {
+    pub org: OrgName,
+    pub ws: WsName,
+    pub change: Change,
+}
+
+/// An answer, and the change that is to follow.
+#[derive(Drop)]
+pub struct Prepared {
+    pub reply: Reply,
+    pub pending: Option<Pending>,
+}
+
+/// What came on a connection: a message, with the 100 line where it was written, or why there is none.
+#[derive(Drop)]
+pub enum Came {
+    Whole { message: Message, front: Vec<u8> },
+    Refused(Refusal, bool),
+    Unfinished,
+}

@@ -1,0 +1,232 @@
+//! The service over a keep: what it keeps between steps, and steps in turn.
+ghost use Rattle.std.specs.Prelude.{◌≡◌, ◌≤◌, ℕ, List, Option, Some, None, IfOk, IfErr, IfSome, IsErrOf, is_err, true, false, ◌↔◌, ◌⊎◌, OnOk, OnErr, length, take};
+ghost use Rattle.machine.specs.declared.records.Organization.{Organization};
+ghost use Rattle.serve.specs.Exchanges.{Exchanges, ended_of};
+ghost use Rattle.serve.specs.Asks.{Ask, commands};
+ghost use Rattle.serve.specs.Steps.{tells};
+ghost use Rattle.serve.specs.Service.{IsText, Takes, Stays, Carries, said_to, AreAsked};
+ghost use Rattle.serve.specs.Runs.{RunsTo, IsOwnRecord, AreOwnReplies};
+
+use crate::commands::{admin_text, command};
+use crate::exchanges::{LinkFault, exchange};
+use crate::messages::take_request;
+use crate::steps::{Admin, Step};
+use basis::{Bytes, Down, Moment};
+use machine::{AdminAnswer, Keep};
+use route::Routes;
+use std::alloc::Global;
+use wire::{Inlet, Outlet, Reply, WriteFault, write_reply};
+
+// The most bytes of an answer to an operator's command.
+const MAX_ADMIN_TEXT: usize = 15;
+
+/// A command is carried out once there is room for its text.
+fn take_command<K: Keep>(alloc: Global, keep: &mut K, asked: &Admin) -> Result<Bytes, Down>
+    ensures so_far { K.clean keep.new → K.clean keep.old }
+    ensures ok { K.clean keep.new → IfOk result (λ text. (at : ℕ) → Carries (commands at asked.now) (K.rows keep.old) (K.rows keep.new)
+        × IsText (said_to (K.rows keep.old) (commands at asked.now)) text) }
+    ensures err { K.clean keep.new → OnErr result (Stays (K.rows keep.old) (K.rows keep.new)) }
+{
+    let mut text = Vec::with_capacity(alloc, MAX_ADMIN_TEXT)?;
+    let answer = command(alloc, keep, asked)?;
+    text.extend_from_slice(admin_text(answer)).unwrap();
+    Ok(Bytes::new(text))
+}
+
+/// One step: what it is answered, once it is carried out.
+fn take_step<K: Keep>(
+    alloc: Global,
+    keep: &mut K,
+    routes: &Routes,
+    step: &Step,
+) -> Result<Bytes, Down>
+    ensures so_far { K.clean keep.new → K.clean keep.old }
+    ensures ok { K.clean keep.new → IfOk result (λ text. Takes step.now text (K.rows keep.old) (K.rows keep.new)) }
+    ensures err { K.clean keep.new → OnErr result (Stays (K.rows keep.old) (K.rows keep.new)) }
+{
+    match step {
+        Step::Request { at, bytes } => take_request(alloc, keep, routes, *at, bytes.as_slice()),
+        Step::Command { command, .. } => take_command(alloc, keep, command),
+    }
+}
+
+/// The steps in turn, up to the first that memory or the store refuses.
+fn run<K: Keep>(
+    alloc: Global,
+    keep: &mut K,
+    routes: &Routes,
+    steps: &[Step],
+    taken: &mut u64,
+) -> Result<Vec<Bytes>, Down>
+    ensures so_far { K.clean keep.new → K.clean keep.old }
+    ensures one_each { IfOk result (λ replies. length replies.items ≡ length steps.now) }
+    ensures most { taken.new ≤ length steps.now }
+    ensures all { OnOk result (taken.new ≡ length steps.now) }
+    ensures ran { K.clean keep.new → (replies : List (List ℕ)) × RunsTo (take taken.new steps.now) (K.rows keep.old) (K.rows keep.new) replies
+        × IfOk result (λ given. given.items ≡ replies) }
+{
+    *taken = 0;
+    let Ok(mut replies) = Vec::with_capacity(alloc, steps.len()) else {
+        return Err(Down);
+    };
+    'steps: for step in steps {
+        let reply = take_step(alloc, keep, routes, step)?;
+        replies.push(reply).unwrap();
+        *taken += 1;
+    }
+    Ok(replies)
+}
+
+/// The service over a keep: one exchange, operator's commands, and steps in turn.
+pub struct Service<K: Keep> {
+    keep: K,
+    // The router, once a first message has needed it.
+    routes: Option<Routes>,
+    taken: u64,
+}
+
+fn take_routes(alloc: Global, routes: &mut Option<Routes>) -> Result<Routes, Down> {
+    match routes.take() {
+        Some(routes) => Ok(routes),
+        None => match Routes::new(alloc) {
+            Ok(routes) => Ok(routes),
+            Err(_) => Err(Down),
+        },
+    }
+}
+
+fn ended(written: Result<(), WriteFault>) -> Result<(), LinkFault>
+    ensures { result ≡ ended_of written }
+{
+    match written {
+        Ok(()) => Ok(()),
+        Err(_) => Err(LinkFault::Write),
+    }
+}
+
+// No memory for the router: nothing is read.
+fn refuse_exchange<O: Outlet>(now: Moment, outlet: &mut O) -> Result<(), LinkFault>
+    requires { O.broken outlet.old ≡ false }
+    ensures told { (bytes : List ℕ) (rows : List ℕ → Option Organization) → Exchanges now bytes rows rows (O.written outlet.old) (O.written outlet.new) result }
+    ensures fault { IfErr result (λ fault. fault ≡ LinkFault.Write) }
+    ensures written { O.broken outlet.new ≡ is_err result }
+{
+    let reply = Reply::unavailable(false);
+    let written = write_reply(&reply, now, outlet);
+    ended(written)
+}
+
+impl<K: Keep> Service<K> {
+    pub fn new(keep: K) -> Service<K>
+        ensures keep { result.keep ≡ keep }
+        ensures taken { result.taken ≡ 0 }
+    {
+        Service {
+            keep,
+            routes: None,
+            taken: 0,
+        }
+    }
+
+    /// Gives the keep back, with all that it holds.
+    pub fn into_keep(self) -> K
+        ensures { result ≡ self.keep }
+    {
+        let Service {
+            keep,
+            routes,
+            taken,
+        } = self;
+        drop(routes);
+        let _ = taken;
+        keep
+    }
+
+    /// How many steps the last call of `replay` took, also where it answered `Down`; 0 before any.
+    pub fn taken(&self) -> u64
+        ensures { result ≡ self.now.taken }
+    {
+        self.taken
+    }
+
+    /// One exchange: a request is read, answered and carried out, and its reply is written. The
+    /// reader and the writer have not failed before; a failed read is never tried again.
+    pub fn exchange<I: Inlet, O: Outlet>(
+        &mut self,
+        alloc: Global,
+        now: Moment,
+        inlet: &mut I,
+        outlet: &mut O,
+    ) -> Result<(), LinkFault>
+        requires reads { I.broken inlet.old ≡ false }
+        requires writes { O.broken outlet.old ≡ false }
+        ensures so_far { K.clean self.new.keep → K.clean self.old.keep }
+        ensures told { K.clean self.new.keep → IfSome (I.left inlet.old) (λ bytes.
+            Exchanges now bytes (K.rows self.old.keep) (K.rows self.new.keep) (O.written outlet.old) (O.written outlet.new) result) }
+        ensures read { (I.broken inlet.new ≡ true) ↔ IsErrOf result LinkFault.Read }
+        ensures written { (O.broken outlet.new ≡ true) ↔ (IsErrOf result LinkFault.Continue ⊎ IsErrOf result LinkFault.Write) }
+    {
+        match take_routes(alloc, &mut self.routes) {
+            Ok(routes) => {
+                let result = exchange(alloc, &mut self.keep, &routes, now, inlet, outlet);
+                self.routes = Some(routes);
+                result
+            }
+            Err(_) => refuse_exchange(now, outlet),
+        }
+    }
+
+    /// Carries out an operator's command.
+    pub fn admin(&mut self, alloc: Global, now: Moment, asked: &Admin) -> Result<AdminAnswer, Down>
+        ensures so_far { K.clean self.new.keep → K.clean self.old.keep }
+        ensures ok { K.clean self.new.keep → IfOk result (λ answer. Carries (commands now asked.now) (K.rows self.old.keep) (K.rows self.new.keep)
+            × (said_to (K.rows self.old.keep) (commands now asked.now) ≡ tells answer)) }
+        ensures err { K.clean self.new.keep → OnErr result (Stays (K.rows self.old.keep) (K.rows self.new.keep)) }
+    {
+        command(alloc, &mut self.keep, asked)
+    }
+
+    fn run_all(&mut self, alloc: Global, steps: &[Step]) -> Result<Vec<Bytes>, Down>
+        ensures so_far { K.clean self.new.keep → K.clean self.old.keep }
+        ensures one_each { IfOk result (λ replies. length replies.items ≡ length steps.now) }
+        ensures most { self.new.taken ≤ length steps.now }
+        ensures all { OnOk result (self.new.taken ≡ length steps.now) }
+        ensures ran { K.clean self.new.keep → (replies : List (List ℕ)) × RunsTo (take self.new.taken steps.now) (K.rows self.old.keep) (K.rows self.new.keep) replies
+            × IfOk result (λ given. given.items ≡ replies) }
+    {
+        self.taken = 0;
+        let Ok(routes) = take_routes(alloc, &mut self.routes) else {
+            return Err(Down);
+        };
+        let result = run(alloc, &mut self.keep, &routes, steps, &mut self.taken);
+        self.routes = Some(routes);
+        result
+    }
+
+    /// Takes steps in turn, each answered in full before it changes anything, and gives one reply for
+    /// each: empty for an unfinished message. The step that memory or the store refuses ends it with
+    /// `Down`: it isn't taken, nor is any after it.
+    pub fn replay(&mut self, alloc: Global, steps: &[Step]) -> Result<Vec<Bytes>, Down>
+        ensures so_far { K.clean self.new.keep → K.clean self.old.keep }
+
+        // The steps taken ask something, each one thing (`one_asking`).
+        ensures readings { K.clean self.new.keep → (asked : List Ask) × AreAsked (take self.new.taken steps.now) asked }
+
+        // The replies at the places of an organization's own steps are those of its own machine.
+        ensures replies { K.clean self.new.keep → IfOk result (λ replies. (asked : List Ask) → AreAsked steps.now asked
+            → (org : List ℕ) → AreOwnReplies asked (K.rows self.old.keep) replies.items (Some org)) }
+
+        // Those of nobody's steps follow from their bytes and moments alone.
+        ensures nobody { K.clean self.new.keep → IfOk result (λ replies. (asked : List Ask) → AreAsked steps.now asked
+            → AreOwnReplies asked (K.rows self.old.keep) replies.items None) }
+
+        // Each organization's record is that of its own machine, run over its own steps of those taken.
+        ensures rows { K.clean self.new.keep → (asked : List Ask) → AreAsked (take self.new.taken steps.now) asked
+            → (org : List ℕ) → IsOwnRecord asked (K.rows self.old.keep) (K.rows self.new.keep) org }
+        ensures one_each { IfOk result (λ replies. length replies.items ≡ length steps.now) }
+        ensures taken_most { self.new.taken ≤ length steps.now }
+        ensures taken_all { OnOk result (self.new.taken ≡ length steps.now) }
+    {
+        self.run_all(alloc, steps)
+    }
+}

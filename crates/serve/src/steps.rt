@@ -1,0 +1,26 @@
+//! Steps: requests and operator's commands, each at a moment.
+
+use basis::{Bytes, Limit, Moment, OrgName, Role, Secret};
+
+/// An operator's command, its parts read.
+#[derive(Drop)]
+pub enum Admin {
+    OrgAdd {
+        org: OrgName,
+        limit: Limit,
+    },
+    TokenAdd {
+        org: OrgName,
+        name: OrgName,
+        role: Role,
+        secret: Secret,
+    },
+}
+
+/// What `replay` takes in turn.
+#[derive(Drop)]
+pub enum Step {
+    /// The bytes that came on one connection, and the moment of the exchange.
+    Request { at: Moment, bytes: Bytes },
+    Command { at: Moment, command: Admin },
+}

@@ -1,0 +1,38 @@
+//! Laws: that a step asks one thing, and that two worlds which agree on an organization answer it alike.
+ghost use Rattle.std.specs.Prelude.{◌≡◌, ℕ, List, Option, Some, IfOk, OnOk};
+ghost use Rattle.serve.specs.Asks.{Ask};
+ghost use Rattle.serve.specs.Service.{AreAsked, replies_at};
+ghost use Rattle.serve.specs.Laws.{OneAsking, Agree};
+
+use crate::service::Service;
+use crate::steps::Step;
+use basis::{Bytes, Down};
+use machine::Keep;
+use std::alloc::Global;
+
+/// The steps of a list ask one list of things.
+pub fn one_asking()
+    ensures { OneAsking }
+{}
+
+/// Two worlds: two keeps with equal records of an organization, and two lists of steps with the same
+/// own steps of it, give equal replies at the places of those steps, and leave equal records of it,
+/// whatever else differs.
+pub fn two_worlds<K: Keep, L: Keep>(
+    alloc: Global,
+    first: &mut Service<K>,
+    second: &mut Service<L>,
+    steps: &[Step],
+    others: &[Step],
+) -> Result<(Vec<Bytes>, Vec<Bytes>), Down>
+    ensures replies { K.clean first.new.keep → L.clean second.new.keep → IfOk result (λ both. (org : List ℕ) (asked other : List Ask)
+        → AreAsked steps.now asked → AreAsked others.now other → Agree org (K.rows first.old.keep) (L.rows second.old.keep) asked other
+        → replies_at (Some org) asked both.0.items ≡ replies_at (Some org) other both.1.items) }
+    ensures rows { K.clean first.new.keep → L.clean second.new.keep → OnOk result ((org : List ℕ) (asked other : List Ask)
+        → AreAsked steps.now asked → AreAsked others.now other → Agree org (K.rows first.old.keep) (L.rows second.old.keep) asked other
+        → K.rows first.new.keep org ≡ L.rows second.new.keep org) }
+{
+    let replies = first.replay(alloc, steps)?;
+    let answers = second.replay(alloc, others)?;
+    Ok((replies, answers))
+}

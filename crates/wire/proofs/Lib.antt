@@ -1,0 +1,11 @@
+pub mod LinkLemmas
+pub mod ReplyLemmas
+pub mod HeadLemmas
+pub mod ReadingLemmas
+pub mod FieldLemmas
+pub mod TargetLemmas
+pub mod LengthLemmas
+pub mod FeedLemmas
+pub mod FrameLemmas
+pub mod AnswerLemmas
+pub mod ExistenceLemmas

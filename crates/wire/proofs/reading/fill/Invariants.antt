@@ -1,0 +1,14 @@
+use Rattle.std.proofs.Common.{◌≡◌, ◌-◌, ◌≤◌, ℕ, List, ◌++◌, length, false, vec_capacity}
+use Rattle.std.specs.Io.KnownBytes.{Consumes}
+use Rattle.wire.proofs.reading.fill.Given as goal
+
+abbrev pub invariant-filling : goal.invariant-filling
+invariant-filling g l = record {
+  sound : g.I.Inlet.broken l.inlet ≡ false;
+  came : (came : List ℕ) × Consumes (g.I.Inlet.left l.initial.inlet) (g.I.Inlet.left l.inlet) came × (l.body.items ≡ l.initial.body.items ++ came);
+  short : length l.body.items ≤ l.len;
+  room : l.len ≤ vec_capacity l.body;
+}
+
+abbrev pub decreases-filling : goal.decreases-filling
+decreases-filling g l = l.len - length l.body.items

@@ -1,0 +1,38 @@
+-- The field lines of a head (RFC 9110, section 5): names are compared without regard to ASCII case.
+use Rattle.std.specs.Prelude.{ℕ, List, [], ◌∷◌, length, Bool, ◌&&◌, nat_lt, if◌then◌else◌, Option, Some, None}
+use Rattle.std.specs.List.{list_any}
+use Rattle.std.specs.Str.{str_eq_ignore_ascii_case}
+
+-- names with their values
+abbrev pub Fields : Type 0
+Fields = List (List ℕ × List ℕ)
+
+abbrev pub is_named : List ℕ → List ℕ × List ℕ → Bool
+is_named name field = str_eq_ignore_ascii_case field.0 name
+
+-- the values of the fields of a name, in order
+abbrev pub values : List ℕ → Fields → List (List ℕ)
+values name [] = []
+values name (field ∷ fields) = if is_named name field then field.1 ∷ values name fields else values name fields
+
+abbrev pub is_there : List ℕ → Fields → Bool
+is_there name fields = nat_lt 0 (length (values name fields))
+
+abbrev pub stands_twice : List ℕ → Fields → Bool
+stands_twice name fields = nat_lt 1 (length (values name fields))
+
+abbrev pub only_of : List (List ℕ) → Option (List ℕ)
+only_of [] = None
+only_of (value ∷ []) = Some value
+only_of (value ∷ (other ∷ values)) = None
+
+-- the value of the only field of a name
+abbrev pub value_of : List ℕ → Fields → Option (List ℕ)
+value_of name fields = only_of (values name fields)
+
+-- the field has the name and the value, in any case
+abbrev pub says : List ℕ → List ℕ → List ℕ × List ℕ → Bool
+says name wanted field = is_named name field && str_eq_ignore_ascii_case field.1 wanted
+
+abbrev pub has_value : List ℕ → List ℕ → Fields → Bool
+has_value name wanted fields = list_any (says name wanted) fields

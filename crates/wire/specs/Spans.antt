@@ -1,0 +1,56 @@
+-- What spans of a head cover, and what the functions over them answer.
+use Rattle.std.specs.Prelude.{◌≡◌, ℕ, ◌<◌, List, [], ◌∷◌, length, map, All, Option, Some, None, cond, min, Result, Ok, Err, ⊤}
+use Rattle.std.specs.Str.Parse.{digits_value}
+use Rattle.httparse.specs.declared.spans.HeaderSpan.{HeaderSpan}
+use Rattle.httparse.specs.Spans.{span_bytes, header_bytes, IsWithin, IsHeaderWithin}
+use Rattle.wire.specs.declared.fields.Lookup.{Lookup}
+use Rattle.wire.specs.declared.fields.Lookup.TheVariants.{Absent, Once, Again}
+use Rattle.wire.specs.declared.framing.Frame.{Frame}
+use Rattle.wire.specs.declared.framing.FrameFault.{FrameFault}
+use Rattle.wire.specs.declared.framing.FrameFault.TheVariants.{Refused, Down}
+use Rattle.wire.specs.declared.framing.Length.{Length}
+use Rattle.wire.specs.declared.framing.Length.TheVariants.{Refuses, Of}
+use Rattle.wire.specs.Fields.{Fields}
+use Rattle.wire.specs.Framing.{Parts, Verdict, refuses, takes, IsJudged, judged, is_length, length_refusal, length_written}
+
+-- the fields that the spans cover
+abbrev pub fields_at : List ℕ → List HeaderSpan → Fields
+fields_at head spans = map (header_bytes head) spans
+
+-- the spans lie in the head
+abbrev pub AreWithin : List ℕ → List HeaderSpan → Type 0
+AreWithin head spans = All (IsHeaderWithin (length head)) spans
+
+-- no value, one, or more
+abbrev pub LooksUp : List ℕ → List (List ℕ) → Lookup → Type 0
+LooksUp head values Absent = values ≡ []
+LooksUp head values (Once span) = (values ≡ span_bytes head span ∷ []) × IsWithin (length head) span
+LooksUp head values Again = 1 < length values
+
+-- the number that a length's digits write, or the cap where it is above
+abbrev pub capped_length : ℕ → List ℕ → Option ℕ
+capped_length cap text = cond (is_length text) (Some (min (digits_value 10 text) cap)) None
+
+abbrev pub GivesLength : Option (List ℕ) → ℕ → Length → Type 0
+GivesLength text most (Refuses refusal) = length_refusal text most ≡ Some refusal
+GivesLength text most (Of len) = (length_refusal text most ≡ None) × (len ≡ length_written text)
+
+abbrev pub parts_at : List ℕ → List ℕ → ℕ → List ℕ → List HeaderSpan → Parts
+parts_at method target minor head spans = record { method = method; target = target; minor = minor; fields = fields_at head spans }
+
+abbrev pub verdict_by : Result Frame FrameFault → Option Verdict
+verdict_by (Ok frame) = Some (takes frame)
+verdict_by (Err (Refused refusal is_head)) = Some (refuses refusal is_head)
+verdict_by (Err Down) = None
+
+-- the verdict on the parts, unless memory was refused
+abbrev pub GivesBy : (Verdict → Type 0) → Option Verdict → Type 0
+GivesBy P (Some verdict) = P verdict
+GivesBy P None = ⊤
+
+abbrev pub Judges : Parts → Result Frame FrameFault → Type 0
+Judges parts result = GivesBy (λ verdict. verdict ≡ judged parts) (verdict_by result)
+
+-- the verdict on a whole head, unless memory was refused
+abbrev pub Frames : List ℕ → Result Frame FrameFault → Type 0
+Frames head result = GivesBy (IsJudged head) (verdict_by result)

@@ -1,0 +1,137 @@
+//! What a message is read from and a reply is written to.
+ghost use Rattle.std.specs.Prelude.{◌≡◌, ℕ, ◌<◌, List, Bool, false, length, Option, IfOk, is_err};
+ghost use Rattle.std.specs.Io.{ReadsAtMost, WritesAtMost};
+ghost use Rattle.std.specs.Io.KnownBytes.{ReadConsumes, WriteAppends};
+
+use std::io::{Read, Write};
+
+/// The device failed in this call, and has failed from now on.
+#[derive(Clone, Copy, Debug, PartialEq, Eq)]
+pub struct Broken;
+
+/// A reader that is asked no more once it has failed.
+pub trait Inlet {
+    // The bytes that reads will give from here on, where they are known.
+    ghost left: { Self → Option (List ℕ) };
+
+    ghost broken: { Self → Bool };
+
+    fn failed(&self) -> bool
+        ensures { result ≡ broken self.now };
+
+    /// Into a buffer that isn't empty 0 bytes are read only at the input's end.
+    fn read(&mut self, buf: &mut [u8]) -> Result<usize, Broken>
+        requires { broken self.old ≡ false }
+        ensures bound { ReadsAtMost result buf.new }
+        ensures bytes { ReadConsumes (left self.old) (left self.new) result buf.new }
+        ensures cause { broken self.new ≡ is_err result };
+}
+
+/// A writer that is asked no more once it has failed.
+pub trait Outlet {
+    // The bytes that were written so far, where they are known.
+    ghost written: { Self → Option (List ℕ) };
+
+    ghost broken: { Self → Bool };
+
+    fn failed(&self) -> bool
+        ensures { result ≡ broken self.now };
+
+    /// Of a piece that isn't empty at least one byte is taken: a device that takes none has failed.
+    fn write(&mut self, piece: &[u8]) -> Result<usize, Broken>
+        requires { broken self.old ≡ false }
+        ensures bound { WritesAtMost result piece.now }
+        ensures bytes { WriteAppends (written self.old) (written self.new) result piece.now }
+        ensures some { IfOk result (λ count. 0 < length piece.now → 0 < count) }
+        ensures cause { broken self.new ≡ is_err result };
+}
+
+/// A reader of std.
+#[derive(Drop)]
+pub struct FromRead<R: Read> {
+    reader: R,
+    has_failed: bool,
+}
+
+impl<R: Read> FromRead<R> {
+    pub fn new(reader: R) -> FromRead<R>
+        ensures sound { ⟦<FromRead<R> as Inlet>⟧.broken result ≡ false }
+        ensures left { ⟦<FromRead<R> as Inlet>⟧.left result ≡ R.remaining reader }
+    {
+        FromRead {
+            reader,
+            has_failed: false,
+        }
+    }
+
+    pub fn into_inner(self) -> R
+        ensures { R.remaining result ≡ ⟦<FromRead<R> as Inlet>⟧.left self }
+    {
+        self.reader
+    }
+}
+
+impl<R: Read> Inlet for FromRead<R> {
+    ghost left = { λ s. R.remaining s.reader };
+
+    ghost broken = { λ s. s.has_failed };
+
+    fn failed(&self) -> bool {
+        self.has_failed
+    }
+
+    fn read(&mut self, buf: &mut [u8]) -> Result<usize, Broken> {
+        match self.reader.read(buf) {
+            Ok(count) => Ok(count),
+            Err(_) => {
+                self.has_failed = true;
+                Err(Broken)
+            }
+        }
+    }
+}
+
+/// A writer of std.
+#[derive(Drop)]
+pub struct ToWrite<W: Write> {
+    writer: W,
+    has_failed: bool,
+}
+
+impl<W: Write> ToWrite<W> {
+    pub fn new(writer: W) -> ToWrite<W>
+        ensures sound { ⟦<ToWrite<W> as Outlet>⟧.broken result ≡ false }
+        ensures written { ⟦<ToWrite<W> as Outlet>⟧.written result ≡ W.contents writer }
+    {
+        ToWrite {
+            writer,
+            has_failed: false,
+        }
+    }
+
+    pub fn into_inner(self) -> W
+        ensures { W.contents result ≡ ⟦<ToWrite<W> as Outlet>⟧.written self }
+    {
+        self.writer
+    }
+}
+
+impl<W: Write> Outlet for ToWrite<W> {
+    ghost written = { λ s. W.contents s.writer };
+
+    ghost broken = { λ s. s.has_failed };
+
+    fn failed(&self) -> bool {
+        self.has_failed
+    }
+
+    fn write(&mut self, piece: &[u8]) -> Result<usize, Broken> {
+        match self.writer.write(piece) {
+            Ok(count) if count > 0 || piece.is_empty() => Ok(count),
+            _ => {
+                self.has_failed = true;
+                Err(Broken)
+            }
+        }
+    }
+}

@@ -1,0 +1,40 @@
+//! Laws of the definitions, each the contract of a call that does nothing.
+ghost use Rattle.wire.specs.Laws.{OneReading, StaysRead, StaysDue, OneText};
+ghost use Rattle.wire.specs.Messages.{Reading, Reads};
+
+use crate::framing::some_verdict;
+use crate::heads::{MAX_HEAD, Place, end_in};
+
+/// Each string has a reading, which the parser's answer shows.
+pub fn some_reading(bytes: &[u8])
+    ensures { (reading : Reading) × Reads bytes.now reading }
+{
+    let mut place = Place::Blank;
+    let Some(len) = end_in(&mut place, bytes) else {
+        return;
+    };
+    if len > MAX_HEAD {
+        return;
+    }
+    some_verdict(bytes.split_at(len).0);
+}
+
+/// Each string has at most one reading.
+pub fn one_reading()
+    ensures { OneReading }
+{}
+
+/// Once a string is read, bytes that follow change nothing.
+pub fn stays_read()
+    ensures { StaysRead }
+{}
+
+/// Where the 100 line is due, it stays due.
+pub fn stays_due()
+    ensures { StaysDue }
+{}
+
+/// An answer has at most one text at a moment.
+pub fn one_text()
+    ensures { OneText }
+{}

@@ -1,0 +1,233 @@
+//! Writing a reply: its head is put together on the stack, so that no memory is taken.
+ghost use Rattle.std.specs.Prelude.{◌≡◌, ◌≤◌, ◌<◌, ◌+◌, ℕ, List, ◌++◌, length, is_err, false, [], codes, decimal, IfSome};
+ghost use Rattle.std.specs.Option.{option_copied};
+ghost use Rattle.httpdate.specs.Date.{date_text};
+ghost use Rattle.arrayvec.specs.ArrayVec.{array_vec_len};
+ghost use Rattle.basis.specs.Refusals.{allow_text};
+ghost use Rattle.wire.specs.Links.{Writes, line_end};
+ghost use Rattle.wire.specs.Replies.{IsDateOf, IsReplyText, reply_text, head_text, phrase_of, status_line, date_line, fixed_lines, allow_line, challenge_of, challenge_field, challenge_line, type_line, length_line, sent_body};
+
+use crate::devices::{Broken, Outlet};
+use crate::replies::Reply;
+use arrayvec::ArrayVec;
+use basis::{Moment, Refusal};
+use httpdate::HttpDate;
+use itoa::Buffer;
+
+/// The writer failed, or took no byte: a front of the reply stands written, and not all of it.
+#[derive(Clone, Copy, Debug, PartialEq, Eq)]
+pub struct WriteFault;
+
+// Room for the longest head of a reply.
+const MAX_REPLY_HEAD: usize = 512;
+
+// The one status that has no field Content-Length (RFC 9110, section 8.6).
+const NO_CONTENT: u16 = 204;
+
+type Head = ArrayVec<u8, MAX_REPLY_HEAD>;
+
+fn add(head: &mut Head, piece: &[u8])
+    requires { array_vec_len head.old + length piece.now ≤ 512 }
+    ensures items { head.new.items ≡ head.old.items ++ piece.now }
+{
+    head.try_extend_from_slice(piece).unwrap();
+}
+
+fn phrase(status: u16) -> &'static [u8]
+    ensures phrase { result.now ≡ phrase_of status }
+    ensures short { length result.now ≤ 31 }
+{
+    match status {
+        200 => b"OK",
+        204 => b"No Content",
+        400 => b"Bad Request",
+        401 => b"Unauthorized",
+        403 => b"Forbidden",
+        404 => b"Not Found",
+        405 => b"Method Not Allowed",
+        409 => b"Conflict",
+        411 => b"Length Required",
+        413 => b"Payload Too Large",
+        423 => b"Locked",
+        431 => b"Request Header Fields Too Large",
+        _ => b"Service Unavailable",
+    }
+}
+
+fn challenge(refusal: Refusal) -> Option<&'static [u8]>
+    ensures challenge { option_copied result ≡ challenge_of refusal }
+    ensures short { IfSome result (λ text. length text.now ≤ 50) }
+{
+    match refusal {
+        Refusal::NoToken => Some(b"Bearer realm=\"custody\""),
+        Refusal::TwoTokens => Some(b"Bearer realm=\"custody\", error=\"invalid_request\""),
+        Refusal::BadToken => Some(b"Bearer realm=\"custody\", error=\"invalid_token\""),
+        Refusal::NeedWrite | Refusal::NeedAdmin => {
+            Some(b"Bearer realm=\"custody\", error=\"insufficient_scope\"")
+        }
+        _ => None,
+    }
+}
+
+fn add_decimal(head: &mut Head, number: u64)
+    requires { array_vec_len head.old ≤ 480 }
+    ensures items { head.new.items ≡ head.old.items ++ decimal number }
+    ensures len { array_vec_len head.new ≤ array_vec_len head.old + 20 }
+{
+    let mut buffer = Buffer::new();
+    let digits = buffer.format(number);
+    add(head, digits.as_bytes());
+}
+
+fn add_status(head: &mut Head, status: u16)
+    requires { head.old.items ≡ [] }
+    ensures items { head.new.items ≡ status_line status }
+    ensures len { array_vec_len head.new ≤ 70 }
+{
+    add(head, b"HTTP/1.1 ");
+    add_decimal(head, u64::from(status));
+    add(head, b" ");
+    add(head, phrase(status));
+    add(head, b"\r\n");
+}
+
+fn add_date(head: &mut Head, date: HttpDate)
+    requires { array_vec_len head.old ≤ 70 }
+    ensures items { head.new.items ≡ head.old.items ++ date_line (date_text date) }
+    ensures len { array_vec_len head.new ≤ 110 }
+{
+    add(head, b"Date: ");
+    add(head, &date.to_bytes());
+    add(head, b"\r\n");
+}
+
+fn add_fixed(head: &mut Head)
+    requires { array_vec_len head.old ≤ 110 }
+    ensures items { head.new.items ≡ head.old.items ++ fixed_lines }
+    ensures len { array_vec_len head.new ≤ 170 }
+{
+    add(
+        head,
+        b"Connection: close\r\nCache-Control: private, no-store\r\n",
+    );
+}
+
+fn add_allow(head: &mut Head, refusal: Option<Refusal>)
+    requires { array_vec_len head.old ≤ 170 }
+    ensures items { head.new.items ≡ head.old.items ++ allow_line refusal }
+    ensures len { array_vec_len head.new ≤ 220 }
+{
+    if let Some(Refusal::NoMethod(allow)) = refusal {
+        add(head, b"Allow: ");
+        add(head, allow.text().as_bytes());
+        add(head, b"\r\n");
+    }
+}
+
+fn add_challenge_field(head: &mut Head, challenge: Option<&'static [u8]>)
+    requires room { array_vec_len head.old ≤ 220 }
+    requires short { IfSome challenge (λ text. length text.now ≤ 50) }
+    ensures items { head.new.items ≡ head.old.items ++ challenge_field (option_copied challenge.entry) }
+    ensures len { array_vec_len head.new ≤ 300 }
+{
+    if let Some(text) = challenge {
+        add(head, b"WWW-Authenticate: ");
+        add(head, text);
+        add(head, b"\r\n");
+    }
+}
+
+fn add_challenge(head: &mut Head, refusal: Option<Refusal>)
+    requires { array_vec_len head.old ≤ 220 }
+    ensures items { head.new.items ≡ head.old.items ++ challenge_line refusal }
+    ensures len { array_vec_len head.new ≤ 300 }
+{
+    if let Some(refusal) = refusal {
+        add_challenge_field(head, challenge(refusal));
+    }
+}
+
+fn add_type(head: &mut Head, body: &[u8])
+    requires { array_vec_len head.old ≤ 300 }
+    ensures items { head.new.items ≡ head.old.items ++ type_line body.now }
+    ensures len { array_vec_len head.new ≤ 340 }
+{
+    if !body.is_empty() {
+        add(head, b"Content-Type: application/json\r\n");
+    }
+}
+
+fn add_length(head: &mut Head, status: u16, len: usize)
+    requires { array_vec_len head.old ≤ 340 }
+    ensures items { head.new.items ≡ head.old.items ++ length_line status len }
+    ensures len { array_vec_len head.new ≤ 400 }
+{
+    if status != NO_CONTENT {
+        add(head, b"Content-Length: ");
+        add_decimal(head, len as u64);
+        add(head, b"\r\n");
+    }
+}
+
+// The head of the reply, with its empty line.
+fn put_head(head: &mut Head, reply: &Reply, date: HttpDate)
+    requires { head.old.items ≡ [] }
+    ensures { head.new.items ≡ head_text reply.now (date_text date) }
+{
+    let body = reply.body();
+    add_status(head, reply.status());
+    add_date(head, date);
+    add_fixed(head);
+    add_allow(head, reply.refusal());
+    add_challenge(head, reply.refusal());
+    add_type(head, body);
+    add_length(head, reply.status(), body.len());
+    add(head, b"\r\n");
+}
+
+/// Writes all of a piece, in as many writes as the device takes.
+pub(crate) fn write_all<O: Outlet>(outlet: &mut O, piece: &[u8]) -> Result<(), WriteFault>
+    requires { O.broken outlet.old ≡ false }
+    ensures text { Writes (O.written outlet.old) (O.written outlet.new) piece.now result }
+    ensures cause { O.broken outlet.new ≡ is_err result }
+{
+    let mut rest = piece;
+    'writing: while !rest.is_empty() {
+        match outlet.write(rest) {
+            Ok(count) => rest = rest.split_at(count).1,
+            Err(Broken) => return Err(WriteFault),
+        }
+    }
+    Ok(())
+}
+
+// The head, and then the body that is sent.
+fn write_both<O: Outlet>(head: &[u8], body: &[u8], outlet: &mut O) -> Result<(), WriteFault>
+    requires { O.broken outlet.old ≡ false }
+    ensures text { Writes (O.written outlet.old) (O.written outlet.new) (head.now ++ body.now) result }
+    ensures cause { O.broken outlet.new ≡ is_err result }
+{
+    write_all(outlet, head)?;
+    write_all(outlet, body)
+}
+
+fn sent(reply: &Reply) -> &[u8]
+    ensures { result.now ≡ sent_body reply.now.is_head reply.now.body }
+{
+    if reply.is_head() { &[] } else { reply.body() }
+}
+
+/// Writes the text of a reply at a moment, and takes no memory for it.
+pub fn write_reply<O: Outlet>(reply: &Reply, now: Moment, outlet: &mut O) -> Result<(), WriteFault>
+    requires { O.broken outlet.old ≡ false }
+    ensures text { (text : List ℕ) × IsReplyText reply.now now text
+        × Writes (O.written outlet.old) (O.written outlet.new) text result }
+    ensures any { (text : List ℕ) → IsReplyText reply.now now text
+        → Writes (O.written outlet.old) (O.written outlet.new) text result }
+    ensures cause { O.broken outlet.new ≡ is_err result }
+{
+    let date = HttpDate::from_unix_secs(now.seconds()).unwrap();
+    let mut head = Head::new();
+    put_head(&mut head, reply, date);
+    write_both(head.as_slice(), sent(reply), outlet)
+}
