@@ -86,7 +86,7 @@ impl Bytes {
 /// Items of a list, seen as the list.
 #[derive(Debug, Drop)]
 pub struct Items<T> {
-    items: Vec<T>,
+    pub items: Vec<T>,
 }
 
 impl<T> Model for Items<T> {

@@ -10,6 +10,8 @@ mod lines;
 mod replays;
 mod replies;
 #[cfg(test)]
+mod rows;
+#[cfg(test)]
 mod worked;
 
 use replays::{refuse_down, refuse_usage, run_frames};

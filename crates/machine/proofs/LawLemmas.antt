@@ -1,17 +1,25 @@
 -- The rules keep the laws of a workspace.
-use Rattle.std.proofs.Common.{◌≡◌, ℕ, ◌+◌, ◌-◌, ◌<◌, ◌≤◌, nat_le, nat_lt, Bool, true, false, cond, List, [], ◌∷◌, ◌++◌, length, drop, map, suc, zero, ◌&&◌, Option, Some, None, refl, sym, ap, subst, ◌∙◌, arith, length-append, length-drop}
+use Rattle.std.proofs.Common.{◌≡◌, ℕ, ◌+◌, ◌-◌, ◌<◌, ◌≤◌, nat_le, Bool, true, false, cond, List, [], ◌∷◌, ◌++◌, length, drop, map, suc, zero, ◌&&◌, not, Option, Some, None, IsTrue, refl, sym, subst, ◌∙◌, arith, length-drop}
+use Rattle.std.specs.Prelude.{find, option_map}
 use Rattle.std.specs.List.{AllByRecursion}
 use Rattle.std.proofs.lemmas.Bool.{leb-true}
 use Rattle.basis.specs.declared.refusals.Refusal.{Refusal}
 use Rattle.basis.specs.declared.rows.StateHead.{StateHead}
-use Rattle.machine.specs.Laws.{IsLawful, AreVersions, IsVersion, IsNext, Rises}
+use Rattle.machine.specs.Laws.{IsLawful, IsVersion, Rises, IsRun, is_pending, is_nobody}
 use Rattle.machine.specs.Meaning.{IsInRange, IsHead, IsLawfulIfThere}
-use Rattle.machine.specs.Workspaces.{newest, last_of, max_versions, holder_status}
+use Rattle.machine.specs.Workspaces.{max_versions, holder_status}
 use Rattle.machine.specs.Writing.{may_write}
 use Rattle.machine.specs.Succession.{Succession, first, same, other_lineage, old_serial, next, succession}
-use Rattle.machine.specs.Rules.{rules, by_may_write, by_succession, numbered_update, number_left, with_version, max_number}
+use Rattle.machine.specs.Rules.{Outcome, refused, ruled, rules, by_may_write, by_succession, numbered_update, number_left, with_version, max_number, with_settings, refused_by, done_with, done_already, purge, purged, lock, unlock, released, is_released, force_unlock}
+use Rattle.machine.specs.Settling.{is_waiting, first_waiting, to_start, started_if, settled}
+use Rattle.machine.proofs.SettlingLemmas.{release_is_lawful}
+use Rattle.machine.specs.declared.records.Holder.{Holder}
+use Rattle.machine.specs.declared.records.Holder.TheVariants.{Nobody, Lock, Run as HoldingRun}
+use Rattle.machine.specs.declared.records.Run.{Run}
+use Rattle.basis.specs.Names.{is_lock_id}
+use Rattle.std.specs.Str.{bytes_eq}
 use Rattle.machine.specs.declared.acts.Act.{Act}
-use Rattle.machine.specs.declared.acts.Act.TheVariants.{PutWorkspace, UpdateState, ReadState}
+use Rattle.machine.specs.declared.acts.Act.TheVariants.{PutWorkspace, UpdateState, ReadState, PurgeState, Lock as LockAct, Unlock, ForceUnlock}
 use Rattle.machine.specs.declared.records.Version.{Version}
 use Rattle.machine.specs.declared.records.Workspace.{Workspace}
 
@@ -70,10 +78,90 @@ version_is_lawful w n head text now e range moment lawful =
       released = lawful.released;
     }
 
+-- while the laws hold, nobody is to start
+none_waits : (holder : Holder) (runs : List Run) → is_nobody holder ≡ true → AllByRecursion (IsRun holder) runs → first_waiting runs ≡ None
+none_waits holder [] nobody all = refl
+none_waits holder (r ∷ runs) nobody all = passed (is_pending r.status) r.plan_only refl (none_waits holder runs nobody all.1)
+  where
+    passed : (b c : Bool) → is_pending r.status ≡ b → first_waiting runs ≡ None → option_map (λ (s : Run). s.number) (cond (b && not c) (Some r) (find is_waiting runs)) ≡ None
+    passed true c e more = absurd (let no : ⊥ = cc (sym nobody ∙ (all.0.waiting e).1) in no)
+    passed false c e more = more
+
+nobody_starts : (holder : Holder) (runs : List Run) → AllByRecursion (IsRun holder) runs → to_start holder (first_waiting runs) ≡ None
+nobody_starts Nobody runs all = none_waits Nobody runs refl all
+nobody_starts (Lock id text) runs all = refl
+nobody_starts (HoldingRun n) runs all = refl
+
+-- so a lawful workspace has settled
+still_is_lawful : (w : Workspace) → IsLawful w → IsLawful (settled w)
+still_is_lawful w lawful = subst (λ (start : Option ℕ). IsLawful (started_if start w)) (sym (nobody_starts w.holder w.runs lawful.runs.each)) lawful
+
+purge_is_lawful : (m : Option Refusal) (w : Workspace) → IsLawful w → IsLawfulIfThere (purge m w).after
+purge_is_lawful (Some refusal) w lawful = lawful
+purge_is_lawful None w lawful = still_is_lawful (purged w) (record {
+  versions = record { next = lawful.versions.next; rise = tt; each = tt; kept = omega arith };
+  runs = lawful.runs;
+  released = lawful.released;
+})
+
+-- under a lock the runs stand as they did under nobody
+under_lock : (id text : List ℕ) (runs : List Run) → AllByRecursion (IsRun Nobody) runs → AllByRecursion (IsRun (Lock id text)) runs
+under_lock id text [] all = tt
+under_lock id text (r ∷ runs) all = (
+  record {
+    key = all.0.key;
+    message = all.0.message;
+    created = all.0.created;
+    action = all.0.action;
+    active = all.0.active;
+    waiting = λ e. ((all.0.waiting e).0, refl);
+  },
+  under_lock id text runs all.1,
+)
+
+lock_is_lawful : (h : Holder) (id text : List ℕ) (w : Workspace) → w.holder ≡ h → IsTrue (is_lock_id id) → IsLawful w → IsLawfulIfThere (lock h id text w).after
+lock_is_lawful Nobody id text w e range lawful = record {
+  versions = lawful.versions;
+  runs = record {
+    next = lawful.runs.next;
+    rise = lawful.runs.rise;
+    each = under_lock id text w.runs (subst (λ (h : Holder). AllByRecursion (IsRun h) w.runs) e lawful.runs.each);
+    open_runs = lawful.runs.open_runs;
+    keys = lawful.runs.keys;
+    held = range;
+  };
+  released = lawful.released;
+}
+lock_is_lawful (Lock id_held text_held) id text w e range lawful = chosen (bytes_eq id id_held)
+  where
+    chosen : (b : Bool) → IsLawfulIfThere (cond b (done_already w) (ruled (refused_by Refusal.Locked w.holder) (Some w))).after
+    chosen true = lawful
+    chosen false = lawful
+lock_is_lawful (HoldingRun n) id text w e range lawful = lawful
+
+-- each of two answers leaves the workspace
+either_is_lawful : (b : Bool) (o : Outcome) (w : Workspace) → IsLawful w → IsLawfulIfThere (cond b (done_already w) (ruled o (Some w))).after
+either_is_lawful true o w lawful = lawful
+either_is_lawful false o w lawful = lawful
+
+unlock_is_lawful : (h : Holder) (id : List ℕ) (w : Workspace) → w.holder ≡ h → IsLawful w → IsLawfulIfThere (unlock h id w).after
+unlock_is_lawful Nobody id w e lawful = lawful
+unlock_is_lawful (Lock id_held text) id w e lawful = chosen (bytes_eq id id_held)
+  where
+    chosen : (b : Bool) → IsLawfulIfThere (cond b (done_with (released id_held w)) (cond (is_released w.released id) (done_already w) (ruled (refused_by Refusal.Locked w.holder) (Some w)))).after
+    chosen true = release_is_lawful id_held text w e lawful
+    chosen false = either_is_lawful (is_released w.released id) (refused_by Refusal.Locked w.holder) w lawful
+unlock_is_lawful (HoldingRun n) id w e lawful = either_is_lawful (is_released w.released id) (refused Refusal.HeldByRun) w lawful
+
+force_is_lawful : (h : Holder) (w : Workspace) → w.holder ≡ h → IsLawful w → IsLawfulIfThere (force_unlock h w).after
+force_is_lawful Nobody w e lawful = lawful
+force_is_lawful (Lock id_held text) w e lawful = release_is_lawful id_held text w e lawful
+force_is_lawful (HoldingRun n) w e lawful = lawful
+
 number_is_lawful : (w : Workspace) (head : StateHead) (text : List ℕ) (now : ℕ) (n : Option ℕ) → number_left w.next_version ≡ n
     → IsHead head → now ≤ 253_402_300_799 → IsLawful w → IsLawfulIfThere (numbered_update n w head text now).after
 number_is_lawful w head text now None e range moment lawful = lawful
-number_is_lawful w head text now (Some n) e range moment lawful = version_is_lawful w n head text now e range moment lawful
+number_is_lawful w head text now (Some n) e range moment lawful = still_is_lawful (with_version w n head text now) (version_is_lawful w n head text now e range moment lawful)
 
 succession_is_lawful : (w : Workspace) (head : StateHead) (text : List ℕ) (now : ℕ) (s : Succession)
     → IsHead head → now ≤ 253_402_300_799 → IsLawful w → IsLawfulIfThere (by_succession s w head text now).after
@@ -97,6 +185,14 @@ rules_are_lawful name None (PutWorkspace settings) now range moment lawful = rec
 }
 rules_are_lawful name None (UpdateState head text id) now range moment lawful = tt
 rules_are_lawful name None ReadState now range moment lawful = tt
-rules_are_lawful name (Some w) (PutWorkspace settings) now range moment lawful = record { versions = lawful.versions; runs = lawful.runs; released = lawful.released }
+rules_are_lawful name None (PurgeState id) now range moment lawful = tt
+rules_are_lawful name None (LockAct id text) now range moment lawful = tt
+rules_are_lawful name None (Unlock id) now range moment lawful = tt
+rules_are_lawful name None ForceUnlock now range moment lawful = tt
+rules_are_lawful name (Some w) (PutWorkspace settings) now range moment lawful = still_is_lawful (with_settings w settings) (record { versions = lawful.versions; runs = lawful.runs; released = lawful.released })
 rules_are_lawful name (Some w) (UpdateState head text id) now range moment lawful = update_is_lawful w head text now (may_write w.holder (holder_status w.holder w.runs) id) range moment lawful
 rules_are_lawful name (Some w) ReadState now range moment lawful = lawful
+rules_are_lawful name (Some w) (PurgeState id) now range moment lawful = purge_is_lawful (may_write w.holder (holder_status w.holder w.runs) id) w lawful
+rules_are_lawful name (Some w) (LockAct id text) now range moment lawful = lock_is_lawful w.holder id text w refl range lawful
+rules_are_lawful name (Some w) (Unlock id) now range moment lawful = unlock_is_lawful w.holder id w refl lawful
+rules_are_lawful name (Some w) ForceUnlock now range moment lawful = force_is_lawful w.holder w refl lawful

@@ -1,3 +1,5 @@
+pub mod SettlingLemmas
+pub mod Examples
 pub mod LawLemmas
 pub mod MeaningLemmas
 pub mod MapLemmas

@@ -2,6 +2,7 @@ pub mod Order
 pub mod Places
 pub mod Workspaces
 pub mod Laws
+pub mod Settling
 pub mod Writing
 pub mod Succession
 pub mod Rules

@@ -1,14 +1,12 @@
 -- That a decision is the model's: what it means for the workspace that it saw is what the rules say.
-use Rattle.std.specs.Prelude.{◌≡◌, ℕ, ◌+◌, ◌^◌, ◌<◌, ◌≤◌, List, length, Option, Some, None, IfSome, ⊤}
-use Rattle.basis.specs.declared.rows.Settings.{Settings}
+use Rattle.std.specs.Prelude.{◌≡◌, ℕ, ◌^◌, ◌<◌, ◌≤◌, List, length, Option, IfSome, IsTrue, ⊤}
+use Rattle.basis.specs.Names.{is_lock_id}
 use Rattle.basis.specs.declared.rows.StateHead.{StateHead}
 use Rattle.machine.specs.Laws.{IsLawful}
-use Rattle.machine.specs.Rules.{Ruled, rules}
+use Rattle.machine.specs.Rules.{rules}
 use Rattle.machine.specs.Units.{meaning, IsDue}
 use Rattle.machine.specs.declared.acts.Act.{Act}
-use Rattle.machine.specs.declared.acts.Act.TheVariants.{PutWorkspace, UpdateState, ReadState}
-use Rattle.machine.specs.declared.acts.Answer.{Answer}
-use Rattle.machine.specs.declared.acts.Change.{Change}
+use Rattle.machine.specs.declared.acts.Act.TheVariants.{PutWorkspace, UpdateState, ReadState, PurgeState, Lock as LockAct, Unlock, ForceUnlock}
 use Rattle.machine.specs.declared.acts.Decision.{Decision}
 use Rattle.machine.specs.declared.acts.Decision.TheVariants.{Refused, Accepted}
 use Rattle.machine.specs.declared.records.Workspace.{Workspace}
@@ -22,6 +20,10 @@ abbrev pub IsInRange : Act → Type 0
 IsInRange (PutWorkspace settings) = ⊤
 IsInRange (UpdateState head text id) = IsHead head
 IsInRange ReadState = ⊤
+IsInRange (PurgeState id) = ⊤
+IsInRange (LockAct id text) = IsTrue (is_lock_id id)
+IsInRange (Unlock id) = ⊤
+IsInRange ForceUnlock = ⊤
 
 -- a workspace that is there is lawful
 abbrev pub IsLawfulIfThere : Option Workspace → Type 0

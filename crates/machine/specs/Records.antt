@@ -1,9 +1,7 @@
 -- The record of an organization, or that there is none, under acts on its workspaces.
-use Rattle.std.specs.Prelude.{◌≡◌, ℕ, List, Option, Some, None, option_and_then}
+use Rattle.std.specs.Prelude.{ℕ, List, Option, Some, None, option_and_then}
 use Rattle.std.specs.FinMap.{FinMap, get, insert, remove}
 use Rattle.machine.specs.Order.{name_cmp}
-use Rattle.machine.specs.Rules.{Outcome, refused, Ruled, rules}
-use Rattle.machine.specs.declared.acts.Act.{Act}
 use Rattle.machine.specs.declared.records.Workspace.{Workspace}
 use Rattle.machine.specs.declared.records.Organization.{Organization}
 

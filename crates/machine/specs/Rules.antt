@@ -1,8 +1,9 @@
 -- The rules: what an act on a workspace is answered, and the workspace after it. A refusal changes nothing.
-use Rattle.std.specs.Prelude.{ℕ, ◌+◌, Bool, true, false, nat_le, nat_lt, cond, List, [], ◌∷◌, ◌++◌, Option, Some, None, option_map}
+use Rattle.std.specs.Prelude.{ℕ, ◌+◌, Bool, false, cond, List, [], ◌∷◌, ◌++◌, Option, Some, None, option_map}
+use Rattle.std.specs.Str.{bytes_eq}
 use Rattle.basis.specs.Numbers.{within}
 use Rattle.basis.specs.declared.refusals.Refusal.{Refusal}
-use Rattle.basis.specs.declared.refusals.Refusal.TheVariants.{NotFound, OtherLineage, OldSerial, OverLimit, Locked}
+use Rattle.basis.specs.declared.refusals.Refusal.TheVariants.{NotFound, OtherLineage, OldSerial, OverLimit, HeldByRun, Locked}
 use Rattle.basis.specs.declared.rows.Settings.{Settings}
 use Rattle.basis.specs.declared.rows.StateHead.{StateHead}
 use Rattle.basis.specs.declared.rows.HolderId.{HolderId}
@@ -10,9 +11,10 @@ use Rattle.basis.specs.declared.rows.HolderId.TheVariants.{Lock as LockHolder, R
 use Rattle.basis.specs.declared.rows.WsRow.{WsRow}
 use Rattle.machine.specs.Workspaces.{newest, last_of, max_versions, new_workspace, holder_status}
 use Rattle.machine.specs.Writing.{may_write}
+use Rattle.machine.specs.Settling.{settled}
 use Rattle.machine.specs.Succession.{Succession, first, same, other_lineage, old_serial, next, succession}
 use Rattle.machine.specs.declared.acts.Act.{Act}
-use Rattle.machine.specs.declared.acts.Act.TheVariants.{PutWorkspace, UpdateState, ReadState}
+use Rattle.machine.specs.declared.acts.Act.TheVariants.{PutWorkspace, UpdateState, ReadState, PurgeState, Lock as LockAct, Unlock, ForceUnlock}
 use Rattle.machine.specs.declared.records.Holder.{Holder}
 use Rattle.machine.specs.declared.records.Holder.TheVariants.{Nobody, Lock, Run}
 use Rattle.machine.specs.declared.records.Version.{Version}
@@ -63,20 +65,31 @@ pub record Ruled : Type 0 where
 abbrev pub ruled : Outcome → Option Workspace → Ruled
 ruled outcome after = record { outcome = outcome; after = after }
 
+-- an accepted change: the workspace settles, and what is shown is the workspace after that
+abbrev pub done_with : Workspace → Ruled
+done_with w = ruled done (Some (settled w))
+
+abbrev pub shown_with : List ℕ → Workspace → Ruled
+shown_with name w = ruled (workspace (row_of name (settled w))) (Some (settled w))
+
+-- nothing changes, and that is an answer too
+abbrev pub done_already : Workspace → Ruled
+done_already w = ruled done (Some w)
+
 -- the next number, if one is left
 abbrev pub number_left : ℕ → Option ℕ
 number_left n = within 1 max_number n
 
 abbrev pub numbered_update : Option ℕ → Workspace → StateHead → List ℕ → ℕ → Ruled
 numbered_update None w head text now = ruled (refused OverLimit) (Some w)
-numbered_update (Some number) w head text now = ruled done (Some (with_version w number head text now))
+numbered_update (Some number) w head text now = done_with (with_version w number head text now)
 
 abbrev pub accepted_update : Workspace → StateHead → List ℕ → ℕ → Ruled
 accepted_update w head text now = numbered_update (number_left w.next_version) w head text now
 
 abbrev pub by_succession : Succession → Workspace → StateHead → List ℕ → ℕ → Ruled
 by_succession first w head text now = accepted_update w head text now
-by_succession same w head text now = ruled done (Some w)
+by_succession same w head text now = done_already w
 by_succession other_lineage w head text now = ruled (refused OtherLineage) (Some w)
 by_succession old_serial w head text now = ruled (refused OldSerial) (Some w)
 by_succession next w head text now = accepted_update w head text now
@@ -100,11 +113,59 @@ state_answer (Some v) = state v.text
 abbrev pub with_settings : Workspace → Settings → Workspace
 with_settings w settings = record w { auto_apply = settings.auto_apply }
 
+-- a purge: every version goes, and the next number stays
+abbrev pub purged : Workspace → Workspace
+purged w = record w { versions = [] }
+
+abbrev pub purge : Option Refusal → Workspace → Ruled
+purge (Some refusal) w = ruled (refused_by refusal w.holder) (Some w)
+purge None w = done_with (purged w)
+
+-- the lock of an ID holds; its text is what took it
+abbrev pub locked : List ℕ → List ℕ → Workspace → Workspace
+locked id text w = record w { holder = Lock id text }
+
+-- LOCK: it takes hold where nobody holds, and is repeated where it holds
+abbrev pub lock : Holder → List ℕ → List ℕ → Workspace → Ruled
+lock Nobody id text w = done_with (locked id text w)
+lock (Lock id_held text_held) id text w = cond (bytes_eq id id_held) (done_already w) (ruled (refused_by Locked w.holder) (Some w))
+lock (Run n) id text w = ruled (refused_by Locked w.holder) (Some w)
+
+-- nobody holds any more, and the lock's ID is the one released last
+abbrev pub released : List ℕ → Workspace → Workspace
+released id w = record w { holder = Nobody; released = Some id }
+
+abbrev pub is_released : Option (List ℕ) → List ℕ → Bool
+is_released None id = false
+is_released (Some last) id = bytes_eq id last
+
+-- UNLOCK by an ID: it releases the lock that it names, and is repeated where nobody holds or where it was released last
+abbrev pub unlock : Holder → List ℕ → Workspace → Ruled
+unlock Nobody id w = done_already w
+unlock (Lock id_held text) id w =
+    cond (bytes_eq id id_held) (done_with (released id_held w))
+    (cond (is_released w.released id) (done_already w) (ruled (refused_by Locked w.holder) (Some w)))
+unlock (Run n) id w = cond (is_released w.released id) (done_already w) (ruled (refused HeldByRun) (Some w))
+
+-- UNLOCK with an empty body: it releases whatever lock holds
+abbrev pub force_unlock : Holder → Workspace → Ruled
+force_unlock Nobody w = done_already w
+force_unlock (Lock id_held text) w = done_with (released id_held w)
+force_unlock (Run n) w = ruled (refused HeldByRun) (Some w)
+
 -- the rules: of a name, an act and a moment, on the workspace of this name, if there is one
 abbrev pub rules : List ℕ → Act → ℕ → Option Workspace → Ruled
-rules name (PutWorkspace settings) now None = ruled (workspace (row_of name (new_workspace settings))) (Some (new_workspace settings))
-rules name (PutWorkspace settings) now (Some w) = ruled (workspace (row_of name (with_settings w settings))) (Some (with_settings w settings))
+rules name (PutWorkspace settings) now None = shown_with name (new_workspace settings)
+rules name (PutWorkspace settings) now (Some w) = shown_with name (with_settings w settings)
 rules name (UpdateState head text id) now None = ruled (refused NotFound) None
 rules name (UpdateState head text id) now (Some w) = update w head text id now
 rules name ReadState now None = ruled (refused NotFound) None
 rules name ReadState now (Some w) = ruled (state_answer (newest w.versions)) (Some w)
+rules name (PurgeState id) now None = ruled (refused NotFound) None
+rules name (PurgeState id) now (Some w) = purge (may_write w.holder (holder_status w.holder w.runs) id) w
+rules name (LockAct id text) now None = ruled (refused NotFound) None
+rules name (LockAct id text) now (Some w) = lock w.holder id text w
+rules name (Unlock id) now None = ruled (refused NotFound) None
+rules name (Unlock id) now (Some w) = unlock w.holder id w
+rules name ForceUnlock now None = ruled (refused NotFound) None
+rules name ForceUnlock now (Some w) = force_unlock w.holder w

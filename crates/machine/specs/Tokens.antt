@@ -1,10 +1,8 @@
 -- Callers, and the operator's commands on one organization.
-use Rattle.std.specs.Prelude.{◌≡◌, ℕ, Bool, true, false, cond, List, [], ◌∷◌, Option, Some, None, is_some, ◌||◌}
-use Rattle.std.specs.List.{list_any}
+use Rattle.std.specs.Prelude.{ℕ, Bool, cond, List, [], ◌∷◌, Option, Some, None, is_some, ◌||◌}
 use Rattle.std.specs.Str.{bytes_eq}
-use Rattle.std.specs.FinMap.{FinMap, empty, entries, get, insert}
+use Rattle.std.specs.FinMap.{empty, entries, get, insert}
 use Rattle.basis.specs.declared.roles.Role.{Role}
-use Rattle.machine.specs.Order.{name_cmp}
 use Rattle.machine.specs.declared.records.Token.{Token}
 use Rattle.machine.specs.declared.records.Organization.{Organization}
 use Rattle.machine.specs.declared.keeps.AdminAnswer.{AdminAnswer}

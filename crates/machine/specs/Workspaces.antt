@@ -1,12 +1,7 @@
 -- Parts of a workspace, and the laws that always hold of one.
-use Rattle.std.specs.Prelude.{◌≡◌, ◌≢◌, ℕ, ◌+◌, ◌-◌, ◌*◌, ◌^◌, ◌<◌, ◌≤◌, ◌↔◌, Bool, true, false, IsTrue, not, ◌&&◌, ◌==◌, nat_lt, cond, List, [], ◌∷◌, ◌++◌, length, drop, filter, find, Option, Some, None, IsSome, IfSome, MatchOption, option_map, option_and_then, ⊤, codes}
-use Rattle.std.specs.List.{AllByRecursion, list_any}
+use Rattle.std.specs.Prelude.{ℕ, ◌-◌, Bool, ◌==◌, List, [], ◌∷◌, length, drop, find, Option, Some, None, option_map}
 use Rattle.basis.specs.declared.rows.Settings.{Settings}
 use Rattle.basis.specs.declared.runs.RunStatus.{RunStatus}
-use Rattle.basis.specs.declared.runs.RunStatus.TheVariants.{Pending, Planning, Planned, Applying, Applied, PlannedAndFinished, Errored, Discarded, Canceled}
-use Rattle.basis.specs.declared.runs.RunAction.{RunAction}
-use Rattle.basis.specs.Runs.{is_open}
-use Rattle.basis.specs.Names.{is_lock_id, has_length}
 use Rattle.machine.specs.declared.records.Holder.{Holder}
 use Rattle.machine.specs.declared.records.Holder.TheVariants.{Nobody, Lock, Run as HoldingRun}
 use Rattle.machine.specs.declared.records.Version.{Version}

@@ -1,6 +1,6 @@
 -- Who may write (update or purge a state), by the holder and the ID that the request gives
 -- (Terraform documentation, 'Backend Type: http': the ID of the held lock is added to updates).
-use Rattle.std.specs.Prelude.{ℕ, Bool, true, false, ◌&&◌, ◌==◌, nat_eq, cond, List, take, drop, Option, Some, None, codes}
+use Rattle.std.specs.Prelude.{ℕ, Bool, true, false, ◌&&◌, ◌==◌, nat_eq, cond, List, drop, Option, Some, None, codes}
 use Rattle.std.specs.List.{starts_with}
 use Rattle.std.specs.Option.{option_map_or}
 use Rattle.std.specs.Str.{bytes_eq}

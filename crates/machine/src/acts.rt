@@ -16,6 +16,19 @@ pub enum Act {
     },
     /// Terraform's `GET` of the newest state.
     ReadState,
+    /// `DELETE` of a state: every version goes.
+    PurgeState {
+        lock_id: Option<LockId>,
+    },
+    /// Terraform's `LOCK`: the ID, and the lock information byte for byte as it was sent.
+    Lock {
+        id: LockId,
+        text: Bytes,
+    },
+    /// Terraform's `UNLOCK`, by the lock's ID.
+    Unlock(LockId),
+    /// `UNLOCK` of whatever lock holds.
+    ForceUnlock,
 }
 
 /// What a decision needs of the newest version.
@@ -42,6 +55,8 @@ pub struct WorkspaceUnit {
     pub newest: Option<Newest>,
     /// How many versions are kept.
     pub versions: usize,
+    /// The first run that waits: queued, pending, and of the least number.
+    pub first_waiting: Option<Number>,
 }
 
 /// What a decision needs of one workspace, or that it isn't there.
@@ -72,15 +87,28 @@ pub enum Answer {
     Workspace(Shown),
 }
 
-/// How an accepted act changes its workspace.
+/// What an accepted act does to its workspace.
 #[derive(Debug, Drop)]
-pub enum Change {
+pub enum Edit {
     /// Makes the workspace.
     Make(Settings),
     /// Sets the settings of the workspace that is there.
     Configure(Settings),
     /// Puts a version behind the others, and lets the oldest ones go, as many as `gone` says.
     AddVersion { version: Version, gone: usize },
+    /// Takes every version away.
+    Purge,
+    /// The lock of this ID holds, and its text is kept.
+    Hold { id: LockId, text: Bytes },
+    /// Nobody holds any more, and this is the ID released last.
+    Release(LockId),
+}
+
+/// How an accepted act changes its workspace: an edit, and the run that then starts, since nobody holds.
+#[derive(Debug, Drop)]
+pub struct Change {
+    pub edit: Edit,
+    pub start: Option<Number>,
 }
 
 /// What becomes of an act.

@@ -1,16 +1,21 @@
 //! Decisions: what becomes of an act, from the few values that it depends on.
-ghost use Rattle.std.specs.Prelude.{◌≡◌, ◌+◌, ◌-◌, ℕ, List, ◌<◌, ◌^◌, Option, Some, IfOk, option_map};
+ghost use Rattle.std.specs.Prelude.{◌≡◌, ◌+◌, ◌-◌, ℕ, List, ◌<◌, ◌^◌, Option, Some, None, IfOk, cond, option_map};
 ghost use Rattle.std.specs.Str.{bytes_eq};
-ghost use Rattle.machine.specs.Units.{unit_of, decision_of, decided_update, decided_after, decided_version, decided_read, shown_now, new_shown};
+ghost use Rattle.machine.specs.Units.{unit_of, decision_of, decided_update, decided_after, decided_version, decided_read, decided_purge, decided_lock, decided_unlock, decided_force, changing, start_now, holder_after, shown_now, new_shown};
+ghost use Rattle.machine.specs.Settling.{to_start};
 ghost use Rattle.machine.specs.Writing.{may_write, is_run_id, is_applying};
 ghost use Rattle.machine.specs.Succession.{lineages_differ};
-ghost use Rattle.machine.specs.Rules.{holder_id};
+ghost use Rattle.machine.specs.Rules.{holder_id, is_released};
 ghost use Rattle.machine.specs.Meaning.{Meets};
 ghost use Rattle.machine.specs.declared.records.Workspace.{Workspace as AnyWorkspace};
 ghost use Rattle.machine.specs.declared.records.Holder.TheVariants.{Run};
 ghost use Rattle.machine.specs.declared.acts.Unit.TheVariants.{Absent, Present};
+ghost use Rattle.machine.specs.declared.acts.Act.TheVariants.{PutWorkspace};
+ghost use Rattle.machine.specs.declared.acts.Answer.TheVariants.{Done};
+ghost use Rattle.machine.specs.declared.acts.Edit.TheVariants.{Release};
+ghost use Rattle.machine.specs.declared.acts.Decision.TheVariants.{Accepted, Refused};
 
-use crate::acts::{Act, Answer, Change, Decision, Newest, Shown, Unit, WorkspaceUnit};
+use crate::acts::{Act, Answer, Change, Decision, Edit, Newest, Shown, Unit, WorkspaceUnit};
 use crate::records::{Holder, Version};
 use basis::{
     Bytes, Down, HolderId, LockId, Moment, Number, Refusal, RunStatus, Settings, StateHead, Text,
@@ -93,12 +98,57 @@ fn holder_id(holder: &Holder) -> Result<Option<HolderId>, Down>
     }
 }
 
+// The run that is to start: none while somebody holds.
+fn to_start(holder: &Holder, first_waiting: Option<Number>) -> Option<Number>
+    ensures { result ≡ to_start holder.now first_waiting }
+{
+    match holder {
+        Holder::Nobody => first_waiting,
+        Holder::Lock { .. } => None,
+        Holder::Run(_) => None,
+    }
+}
+
+fn start_now(unit: &WorkspaceUnit) -> Option<Number>
+    ensures { result ≡ start_now unit.now }
+{
+    to_start(&unit.holder, unit.first_waiting)
+}
+
+fn holder_after(start: Option<Number>, holder: &Holder) -> Result<Option<HolderId>, Down>
+    ensures { IfOk result (λ id. id ≡ holder_after start holder.now) }
+{
+    match start {
+        None => holder_id(holder),
+        Some(n) => Ok(Some(HolderId::Run(n))),
+    }
+}
+
+fn accept(answer: Answer, edit: Edit, start: Option<Number>) -> Decision
+    ensures { result ≡ changing answer edit start }
+{
+    Decision::Accepted {
+        answer,
+        change: Some(Change { edit, start }),
+    }
+}
+
+// It is done already: nothing changes.
+fn accept_again() -> Decision
+    ensures { result ≡ Accepted Done None }
+{
+    Decision::Accepted {
+        answer: Answer::Done,
+        change: None,
+    }
+}
+
 fn shown(settings: Settings, unit: &WorkspaceUnit) -> Result<Shown, Down>
     ensures { IfOk result (λ shown. shown ≡ shown_now settings.auto_apply unit.now) }
 {
     Ok(Shown {
         auto_apply: settings.auto_apply,
-        holder: holder_id(&unit.holder)?,
+        holder: holder_after(start_now(unit), &unit.holder)?,
         version: number_of_newest(&unit.newest),
     })
 }
@@ -130,13 +180,9 @@ fn decide_version(
         created: now,
         text: text.clone()?,
     };
-    Ok(Decision::Accepted {
-        answer: Answer::Done,
-        change: Some(Change::AddVersion {
-            version,
-            gone: unit.versions.saturating_sub(MAX_VERSIONS - 1),
-        }),
-    })
+    let gone = unit.versions.saturating_sub(MAX_VERSIONS - 1);
+    let edit = Edit::AddVersion { version, gone };
+    Ok(accept(Answer::Done, edit, start_now(unit)))
 }
 
 fn decide_after(
@@ -151,10 +197,7 @@ fn decide_after(
         return decide_version(unit, head, text, now);
     };
     if newest.is_same {
-        return Ok(Decision::Accepted {
-            answer: Answer::Done,
-            change: None,
-        });
+        return Ok(accept_again());
     }
     if lineages_differ(&newest.lineage, &head.lineage) {
         return Ok(Decision::Refused(Refusal::OtherLineage));
@@ -195,20 +238,118 @@ fn decide_read(newest: &Option<Newest>) -> Decision
     }
 }
 
+fn decide_put(unit: &WorkspaceUnit, settings: Settings) -> Result<Decision, Down>
+    ensures { IfOk result (λ decision. decision ≡ decision_of (Present unit.now) (PutWorkspace settings) 0) }
+{
+    let shown = shown(settings, unit)?;
+    Ok(accept(
+        Answer::Workspace(shown),
+        Edit::Configure(settings),
+        start_now(unit),
+    ))
+}
+
+fn decide_purge(unit: &WorkspaceUnit, id: &Option<LockId>) -> Decision
+    ensures { result ≡ decided_purge (may_write unit.now.holder unit.now.holder_status id.now) unit.now }
+{
+    let refused = may_write(&unit.holder, unit.holder_status, id);
+    match refused {
+        Some(refusal) => Decision::Refused(refusal),
+        None => accept(Answer::Done, Edit::Purge, start_now(unit)),
+    }
+}
+
+fn decide_lock(holder: &Holder, id: &LockId, text: &Bytes) -> Result<Decision, Down>
+    ensures { IfOk result (λ decision. decision ≡ decided_lock holder.now id.now text.now) }
+{
+    match holder {
+        Holder::Nobody => {
+            let id = id.clone()?;
+            let text = text.clone()?;
+            Ok(accept(Answer::Done, Edit::Hold { id, text }, None))
+        }
+        Holder::Lock { id: held, .. } => {
+            let is_repeated = id.as_str() == held.as_str();
+            if is_repeated {
+                Ok(accept_again())
+            } else {
+                Ok(Decision::Refused(Refusal::Locked))
+            }
+        }
+        Holder::Run(_) => Ok(Decision::Refused(Refusal::Locked)),
+    }
+}
+
+fn is_released(released: &Option<LockId>, id: &LockId) -> bool
+    ensures { result ≡ is_released released.now id.now }
+{
+    match released {
+        None => false,
+        Some(last) => last.as_str() == id.as_str(),
+    }
+}
+
+// The lock of this ID goes, and the first run that waits starts.
+fn release(unit: &WorkspaceUnit, held: &LockId) -> Result<Decision, Down>
+    ensures { IfOk result (λ decision. decision ≡ changing Done (Release held.now) unit.now.first_waiting) }
+{
+    let edit = Edit::Release(held.clone()?);
+    Ok(accept(Answer::Done, edit, unit.first_waiting))
+}
+
+// An ID that doesn't hold: it is done already where it was released last.
+fn decide_again(unit: &WorkspaceUnit, id: &LockId, refusal: Refusal) -> Decision
+    ensures { result ≡ cond (is_released unit.now.released id.now) (Accepted Done None) (Refused refusal) }
+{
+    if is_released(&unit.released, id) {
+        accept_again()
+    } else {
+        Decision::Refused(refusal)
+    }
+}
+
+fn decide_unlock(unit: &WorkspaceUnit, id: &LockId) -> Result<Decision, Down>
+    ensures { IfOk result (λ decision. decision ≡ decided_unlock unit.now.holder unit.now id.now) }
+{
+    match &unit.holder {
+        Holder::Nobody => Ok(accept_again()),
+        Holder::Lock { id: held, .. } => {
+            let releases = id.as_str() == held.as_str();
+            if releases {
+                release(unit, held)
+            } else {
+                Ok(decide_again(unit, id, Refusal::Locked))
+            }
+        }
+        Holder::Run(_) => Ok(decide_again(unit, id, Refusal::HeldByRun)),
+    }
+}
+
+fn decide_force(unit: &WorkspaceUnit) -> Result<Decision, Down>
+    ensures { IfOk result (λ decision. decision ≡ decided_force unit.now.holder unit.now) }
+{
+    match &unit.holder {
+        Holder::Nobody => Ok(accept_again()),
+        Holder::Lock { id: held, .. } => release(unit, held),
+        Holder::Run(_) => Ok(Decision::Refused(Refusal::HeldByRun)),
+    }
+}
+
 fn decide_present(unit: &WorkspaceUnit, act: &Act, now: Moment) -> Result<Decision, Down>
     ensures { IfOk result (λ decision. decision ≡ decision_of (Present unit.now) act.now now) }
 {
     match act {
-        Act::PutWorkspace(settings) => Ok(Decision::Accepted {
-            answer: Answer::Workspace(shown(*settings, unit)?),
-            change: Some(Change::Configure(*settings)),
-        }),
+        Act::PutWorkspace(settings) => decide_put(unit, *settings),
         Act::UpdateState {
             head,
             text,
             lock_id,
         } => decide_update(unit, head, text, lock_id, now),
         Act::ReadState => Ok(decide_read(&unit.newest)),
+        Act::PurgeState { lock_id } => Ok(decide_purge(unit, lock_id)),
+        Act::Lock { id, text } => decide_lock(&unit.holder, id, text),
+        Act::Unlock(id) => decide_unlock(unit, id),
+        Act::ForceUnlock => decide_force(unit),
     }
 }
 
@@ -216,15 +357,20 @@ fn decide_absent(act: &Act) -> Decision
     ensures { (now : ℕ) → result ≡ decision_of Absent act.now now }
 {
     match act {
-        Act::PutWorkspace(settings) => Decision::Accepted {
-            answer: Answer::Workspace(Shown {
+        Act::PutWorkspace(settings) => {
+            let shown = Shown {
                 auto_apply: settings.auto_apply,
                 holder: None,
                 version: None,
-            }),
-            change: Some(Change::Make(*settings)),
-        },
-        Act::UpdateState { .. } | Act::ReadState => Decision::Refused(Refusal::NotFound),
+            };
+            accept(Answer::Workspace(shown), Edit::Make(*settings), None)
+        }
+        Act::UpdateState { .. } => Decision::Refused(Refusal::NotFound),
+        Act::ReadState => Decision::Refused(Refusal::NotFound),
+        Act::PurgeState { .. } => Decision::Refused(Refusal::NotFound),
+        Act::Lock { .. } => Decision::Refused(Refusal::NotFound),
+        Act::Unlock(_) => Decision::Refused(Refusal::NotFound),
+        Act::ForceUnlock => Decision::Refused(Refusal::NotFound),
     }
 }
 

@@ -9,7 +9,7 @@ pub mod maps;
 pub mod plain;
 pub mod records;
 
-pub use acts::{Act, Answer, Change, Decision, Newest, Shown, Unit, WorkspaceUnit};
+pub use acts::{Act, Answer, Change, Decision, Edit, Newest, Shown, Unit, WorkspaceUnit};
 pub use decisions::{MAX_VERSIONS, decide};
 pub use keeps::{AdminAnswer, Keep};
 pub use maps::NameMap;

@@ -1,18 +1,22 @@
 //! A store in memory: every organization's record as nested values.
-ghost use Rattle.std.specs.Prelude.{◌≡◌, ◌≢◌, ℕ, ⊤, List, Option, Some, None, IfOk, OnOk, OnErr, option_map, option_copied};
+ghost use Rattle.std.specs.Prelude.{◌≡◌, ◌≢◌, ℕ, ⊤, List, Option, Some, None, IfOk, OnOk, OnErr, cond, option_map, option_copied};
 ghost use Rattle.std.specs.Prelude.{map as map_list};
 ghost use Rattle.std.specs.FinMap as map;
 ghost use Rattle.machine.specs.Records.{workspace_in, with_workspace, placed};
 ghost use Rattle.machine.specs.Tokens.{role_with, managed, new_organization, token_added};
-ghost use Rattle.machine.specs.Units.{is_text_of, newest_unit, workspace_unit, version_of, text_of, changed_by};
+ghost use Rattle.machine.specs.Units.{is_text_of, newest_unit, workspace_unit, version_of, text_of, edited, changed_by};
+ghost use Rattle.basis.specs.declared.runs.RunStatus.TheVariants.{Planning};
+ghost use Rattle.machine.specs.Settling.{first_waiting, begun, started, started_if};
 ghost use Rattle.machine.specs.Workspaces.{newest, new_workspace, run_of, holder_status};
 ghost use Rattle.machine.specs.declared.records.Organization.{Organization as AnyOrganization};
 
-use crate::acts::{Act, Change, Newest, Unit, WorkspaceUnit};
+use crate::acts::{Act, Change, Edit, Newest, Unit, WorkspaceUnit};
 use crate::keeps::{AdminAnswer, Keep};
 use crate::maps::{Entry, NameMap};
 use crate::records::{Holder, Organization, Run, Token, Version, Workspace};
-use basis::{Bytes, Down, Items, Limit, Number, OrgName, Role, RunStatus, Settings, Text, WsName};
+use basis::{
+    Bytes, Down, Items, Limit, LockId, Number, OrgName, Role, RunStatus, Settings, Text, WsName,
+};
 use std::alloc::Global;
 
 /// A store in memory. It is always clean.
@@ -191,14 +195,19 @@ impl NameMap<Workspace> {
     {
         match self.place_of(name) {
             Ok(i) => self.entries[i].value.change(alloc, change),
-            Err(_) => match change {
-                Change::Make(settings) => {
+            Err(_) => match &change.edit {
+                Edit::Make(settings) => {
                     let name = Text::copy_of(alloc, name)?;
-                    self.insert(name, Workspace::new(alloc, *settings))
+                    let mut workspace = Workspace::new(alloc, *settings);
+                    workspace.start(change.start);
+                    self.insert(name, workspace)
                 }
                 // Nothing changes of what isn't there.
-                Change::Configure(_) => Ok(()),
-                Change::AddVersion { .. } => Ok(()),
+                Edit::Configure(_) => Ok(()),
+                Edit::AddVersion { .. } => Ok(()),
+                Edit::Purge => Ok(()),
+                Edit::Hold { .. } => Ok(()),
+                Edit::Release(_) => Ok(()),
             },
         }
     }
@@ -243,6 +252,7 @@ impl Workspace {
             next_run: self.next_run,
             newest: newest_of(act, self.versions.as_slice())?,
             versions: self.versions.as_slice().len(),
+            first_waiting: first_waiting(self.runs.as_slice()),
         })
     }
 
@@ -256,7 +266,7 @@ impl Workspace {
     }
 
     fn add_version(&mut self, version: &Version, gone: usize) -> Result<(), Down>
-        ensures ok { OnOk result (Some self.new ≡ changed_by (Change.AddVersion version.now gone) (Some self.old)) }
+        ensures ok { OnOk result (Some self.new ≡ edited (Edit.AddVersion version.now gone) (Some self.old)) }
         ensures err { OnErr result (self.new ≡ self.old) }
     {
         self.versions.push(version.clone()?)?;
@@ -265,17 +275,80 @@ impl Workspace {
         Ok(())
     }
 
+    fn purge(&mut self)
+        ensures { Some self.new ≡ edited Edit.Purge (Some self.old) }
+    {
+        let all = self.versions.as_slice().len();
+        self.versions.forget_first(all);
+    }
+
+    fn hold(&mut self, id: &LockId, text: &Bytes) -> Result<(), Down>
+        ensures ok { OnOk result (Some self.new ≡ edited (Edit.Hold id.now text.now) (Some self.old)) }
+        ensures err { OnErr result (self.new ≡ self.old) }
+    {
+        let id = id.clone()?;
+        let text = text.clone()?;
+        self.holder = Holder::Lock { id, text };
+        Ok(())
+    }
+
+    fn release(&mut self, id: &LockId) -> Result<(), Down>
+        ensures ok { OnOk result (Some self.new ≡ edited (Edit.Release id.now) (Some self.old)) }
+        ensures err { OnErr result (self.new ≡ self.old) }
+    {
+        self.released = Some(id.clone()?);
+        self.holder = Holder::Nobody;
+        Ok(())
+    }
+
+    fn edit(&mut self, alloc: Global, edit: &Edit) -> Result<(), Down>
+        ensures ok { OnOk result (Some self.new ≡ edited edit.now (Some self.old)) }
+        ensures err { OnErr result (self.new ≡ self.old) }
+    {
+        match edit {
+            Edit::Make(settings) => *self = Workspace::new(alloc, *settings),
+            Edit::Configure(settings) => self.auto_apply = settings.auto_apply,
+            Edit::AddVersion { version, gone } => self.add_version(version, *gone)?,
+            Edit::Purge => self.purge(),
+            Edit::Hold { id, text } => self.hold(id, text)?,
+            Edit::Release(id) => self.release(id)?,
+        }
+        Ok(())
+    }
+
+    /// The run of this number starts, if there is one that is to start.
+    fn start(&mut self, start: Option<Number>)
+        ensures { self.new ≡ started_if start self.old }
+    {
+        if let Some(n) = start {
+            self.holder = Holder::Run(n);
+            begin(&mut self.runs, n);
+        }
+    }
+
     fn change(&mut self, alloc: Global, change: &Change) -> Result<(), Down>
         ensures ok { OnOk result (Some self.new ≡ changed_by change.now (Some self.old)) }
         ensures err { OnErr result (self.new ≡ self.old) }
     {
-        match change {
-            Change::Make(settings) => *self = Workspace::new(alloc, *settings),
-            Change::Configure(settings) => self.auto_apply = settings.auto_apply,
-            Change::AddVersion { version, gone } => self.add_version(version, *gone)?,
-        }
+        self.edit(alloc, &change.edit)?;
+        self.start(change.start);
         Ok(())
     }
+}
+
+// The run of this number is planning.
+fn begin(runs: &mut Items<Run>, n: Number)
+    ensures { runs.new ≡ map_list (begun n) runs.old }
+{
+    for run in runs.items.iter_mut() {
+        run.status = begun_status(run.number == n, run.status);
+    }
+}
+
+fn begun_status(starts: bool, status: RunStatus) -> RunStatus
+    ensures { result ≡ cond starts Planning status }
+{
+    if starts { RunStatus::Planning } else { status }
 }
 
 fn is_text_of(act: &Act, text: &Bytes) -> bool
@@ -283,7 +356,12 @@ fn is_text_of(act: &Act, text: &Bytes) -> bool
 {
     match act {
         Act::UpdateState { text: asked, .. } => text.as_slice() == asked.as_slice(),
-        Act::PutWorkspace(_) | Act::ReadState => false,
+        Act::PutWorkspace(_) => false,
+        Act::ReadState => false,
+        Act::PurgeState { .. } => false,
+        Act::Lock { .. } => false,
+        Act::Unlock(_) => false,
+        Act::ForceUnlock => false,
     }
 }
 
@@ -311,6 +389,15 @@ fn run_of(n: Number, runs: &[Run]) -> Option<&Run>
     ensures { option_copied result ≡ run_of n runs.now }
 {
     runs.iter().find(|run| run.number == n)
+}
+
+fn first_waiting(runs: &[Run]) -> Option<Number>
+    ensures { result ≡ first_waiting runs.now }
+{
+    match runs.iter().find(|run| run.is_waiting()) {
+        Some(run) => Some(run.number),
+        None => None,
+    }
 }
 
 fn version_of(n: Number, versions: &[Version]) -> Option<&Version>
@@ -355,7 +442,8 @@ mod tests {
             created: Moment::new(1_700_000_000).ok_or("a moment")?,
             text: Bytes::copy_of(alloc, format!(in alloc; "{n}")?.as_bytes())?,
         };
-        keep.apply(alloc, org, ws, &Change::AddVersion { version, gone })?;
+        let edit = Edit::AddVersion { version, gone };
+        keep.apply(alloc, org, ws, &Change { edit, start: None })?;
         Ok(())
     }
 
@@ -402,7 +490,8 @@ mod tests {
         for org in [&acme, &other] {
             keep.org_add(alloc, org, limit()?)?;
             let settings = Settings { auto_apply: true };
-            keep.apply(alloc, org, &prod, &Change::Make(settings))?;
+            let edit = Edit::Make(settings);
+            keep.apply(alloc, org, &prod, &Change { edit, start: None })?;
         }
         for n in 1..=100 {
             add_version(&mut keep, alloc, &acme, &prod, n, 0)?;

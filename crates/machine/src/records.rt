@@ -1,4 +1,6 @@
 //! What an organization is: its limit, its tokens and its workspaces, as nested values.
+ghost use Rattle.std.specs.Prelude.{◌≡◌};
+ghost use Rattle.machine.specs.Settling.{is_waiting};
 
 use crate::maps::NameMap;
 use basis::{Bytes, Items, Limit, LockId, Moment, Number, Role, RunAction, RunStatus, Text};
@@ -31,6 +33,15 @@ pub struct Run {
     pub created: Moment,
     pub status: RunStatus,
     pub action: Option<RunAction>,
+}
+
+impl Run {
+    /// Whether it is a queued run that is pending.
+    pub fn is_waiting(&self) -> bool
+        ensures { result ≡ is_waiting self.now }
+    {
+        matches!(self.status, RunStatus::Pending) && !self.plan_only
+    }
 }
 
 /// What a workspace holds.

@@ -3,17 +3,17 @@
 use Rattle.std.specs.Prelude.{◌≡◌, ℕ, Bool, true, false, ◌||◌, cond, List, [], ◌∷◌, ◌++◌, Option, Some, None, Result, Ok, Err, is_some, option_map, codes}
 use Rattle.std.specs.Str.{bytes_eq}
 use Rattle.basis.specs.declared.refusals.Refusal.{Refusal}
-use Rattle.basis.specs.declared.refusals.Refusal.TheVariants.{BadToken, NotFound, BadDigest, BadState, BadBody, Locked}
+use Rattle.basis.specs.declared.refusals.Refusal.TheVariants.{BadToken, NotFound, BadDigest, BadState, BadLock, BadBody, Locked}
 use Rattle.basis.specs.declared.roles.Role.{Role}
 use Rattle.sha2.specs.Sha256.{sha256}
-use Rattle.docs.specs.Documents.{state_head, settings_of}
+use Rattle.docs.specs.Documents.{state_head, lock_id_of, settings_of}
 use Rattle.docs.specs.Digests.{digest_fits}
 use Rattle.docs.specs.Bodies.{error_text, ws_text, run_holder_text}
 use Rattle.machine.specs.Rules.{Outcome, refused, held, done, no_state, state, workspace, Ruled, rules}
 use Rattle.machine.specs.Records.{workspace_in, placed}
 use Rattle.machine.specs.Tokens.{caller_of, Managed, org_added, token_added, token_of}
 use Rattle.machine.specs.declared.acts.Act.{Act}
-use Rattle.machine.specs.declared.acts.Act.TheVariants.{PutWorkspace as PutAct, UpdateState as UpdateAct, ReadState as ReadAct}
+use Rattle.machine.specs.declared.acts.Act.TheVariants.{PutWorkspace as PutAct, UpdateState as UpdateAct, ReadState as ReadAct, PurgeState as PurgeAct, Lock as LockAct, Unlock as UnlockAct, ForceUnlock as ForceUnlockAct}
 use Rattle.machine.specs.declared.keeps.AdminAnswer.{AdminAnswer}
 use Rattle.machine.specs.declared.keeps.AdminAnswer.TheVariants.{Done, Exists, Absent}
 use Rattle.machine.specs.declared.records.Holder.{Holder}
@@ -74,10 +74,10 @@ place_of (PutWorkspace ws) = place ws true
 place_of (DeleteWorkspace ws) = None
 place_of (ReadState ws) = place ws false
 place_of (UpdateState ws) = place ws false
-place_of (PurgeState ws) = None
-place_of (Lock ws) = None
-place_of (Unlock ws) = None
-place_of (ForceUnlock ws) = None
+place_of (PurgeState ws) = place ws false
+place_of (Lock ws) = place ws false
+place_of (Unlock ws) = place ws false
+place_of (ForceUnlock ws) = place ws false
 place_of (ListVersions ws after) = None
 place_of (ReadVersion ws number) = None
 place_of (ListRuns ws after) = None
@@ -112,6 +112,10 @@ or_refused refusal f (Some a) = Ok (f a)
 abbrev pub act_of : AskedAct → Option (List ℕ) → List ℕ → Result Act Refusal
 act_of (PutWorkspace ws) id body = or_refused BadBody PutAct (settings_of body)
 act_of (UpdateState ws) id body = or_refused BadState (λ head. UpdateAct head body id) (state_head body)
+act_of (PurgeState ws) id body = Ok (PurgeAct id)
+act_of (Lock ws) id body = or_refused BadLock (λ held. LockAct held body) (lock_id_of body)
+act_of (Unlock ws) id body = or_refused BadLock UnlockAct (lock_id_of body)
+act_of (ForceUnlock ws) id body = Ok ForceUnlockAct
 act_of act id body = Ok ReadAct
 
 abbrev pub by_document : List ℕ → List ℕ → ℕ → Option Organization → Result Act Refusal → Answered

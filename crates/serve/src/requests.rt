@@ -1,6 +1,6 @@
 //! A request of an organization: the checks in their order, and the answer of the rules.
 ghost use Rattle.std.specs.Prelude.{◌≡◌, ℕ, List, [], Option, Some, None, Ok, Err, IsSome, is_some, IfOk, IfErr, option_map, ◌||◌};
-ghost use Rattle.basis.specs.declared.refusals.Refusal.TheVariants.{Locked, BadToken, NotFound, BadDigest, BadBody, BadState};
+ghost use Rattle.basis.specs.declared.refusals.Refusal.TheVariants.{Locked, BadToken, NotFound, BadDigest, BadBody, BadLock, BadState};
 ghost use Rattle.std.specs.Str.{bytes_eq};
 ghost use Rattle.route.specs.Policy.{is_allowed};
 ghost use Rattle.docs.specs.Bodies.{error_text, ws_text};
@@ -13,8 +13,8 @@ ghost use Rattle.machine.specs.Meaning.{ChangeIsDue};
 ghost use Rattle.machine.specs.Rules.{rules};
 ghost use Rattle.machine.specs.declared.records.Workspace.{Workspace};
 ghost use Rattle.machine.specs.declared.acts.Act.{Act as AnyAct};
-ghost use Rattle.machine.specs.declared.acts.Act.TheVariants.{PutWorkspace, UpdateState};
-ghost use Rattle.docs.specs.Documents.{settings_of, state_head};
+ghost use Rattle.machine.specs.declared.acts.Act.TheVariants.{PutWorkspace, UpdateState, Lock, Unlock};
+ghost use Rattle.docs.specs.Documents.{settings_of, state_head, lock_id_of};
 ghost use Rattle.machine.specs.declared.records.Organization.{Organization};
 ghost use Rattle.serve.specs.Steps.{refusing, holder_text, answer_to, ruled_in, act_of, or_refused, place_of, by_document, by_digest, by_names, in_place, by_organization, by_role, by_caller, request_step, fits};
 ghost use Rattle.serve.specs.Prepared.{Foresees};
@@ -23,7 +23,8 @@ ghost use Rattle.serve.specs.Units.{holder_in};
 use crate::prepared::{Pending, Prepared};
 use basis::{Bytes, Down, LockId, Moment, OrgName, Refusal, Role, WsName, WsRow};
 use docs::{
-    DocFault, digest_fits, read_settings, read_state, write_error, write_run_holder, write_ws,
+    DocFault, digest_fits, read_lock, read_settings, read_state, write_error, write_run_holder,
+    write_ws,
 };
 use machine::{Act, Answer, Change, Decision, Holder, Keep, Shown, Unit, decide};
 use route::{Asked, AskedAct, allowed, secret_digest};
@@ -245,6 +246,26 @@ fn read_update(
     }
 }
 
+fn read_locking(alloc: Global, body: Bytes) -> Result<Result<Act, Refusal>, Down>
+    ensures { IfOk result (λ read. read ≡ or_refused BadLock (λ held. Lock held body) (lock_id_of body)) }
+{
+    match read_lock(alloc, body.as_slice()) {
+        Ok(id) => Ok(Ok(Act::Lock { id, text: body })),
+        Err(DocFault::Bad) => Ok(Err(Refusal::BadLock)),
+        Err(DocFault::Down) => Err(Down),
+    }
+}
+
+fn read_unlocking(alloc: Global, body: &Bytes) -> Result<Result<Act, Refusal>, Down>
+    ensures { IfOk result (λ read. read ≡ or_refused BadLock Unlock (lock_id_of body.now)) }
+{
+    match read_lock(alloc, body.as_slice()) {
+        Ok(id) => Ok(Ok(Act::Unlock(id))),
+        Err(DocFault::Bad) => Ok(Err(Refusal::BadLock)),
+        Err(DocFault::Down) => Err(Down),
+    }
+}
+
 /// The act that the body's document spells, or why it spells none.
 fn read_act(
     alloc: Global,
@@ -257,6 +278,13 @@ fn read_act(
     match asked {
         AskedAct::PutWorkspace(_) => read_put(alloc, &body),
         AskedAct::UpdateState(_) => read_update(alloc, lock_id, body),
+        AskedAct::PurgeState(_) => {
+            let lock_id = lock_id.clone()?;
+            Ok(Ok(Act::PurgeState { lock_id }))
+        }
+        AskedAct::Lock(_) => read_locking(alloc, body),
+        AskedAct::Unlock(_) => read_unlocking(alloc, &body),
+        AskedAct::ForceUnlock(_) => Ok(Ok(Act::ForceUnlock)),
         _ => Ok(Ok(Act::ReadState)),
     }
 }
@@ -355,7 +383,12 @@ fn place_of(act: &AskedAct) -> Option<Place<'_>>
 {
     match act {
         AskedAct::PutWorkspace(ws) => Some(Place { ws, makes: true }),
-        AskedAct::ReadState(ws) | AskedAct::UpdateState(ws) => Some(Place { ws, makes: false }),
+        AskedAct::ReadState(ws) | AskedAct::UpdateState(ws) | AskedAct::PurgeState(ws) => {
+            Some(Place { ws, makes: false })
+        }
+        AskedAct::Lock(ws) | AskedAct::Unlock(ws) | AskedAct::ForceUnlock(ws) => {
+            Some(Place { ws, makes: false })
+        }
         _ => None,
     }
 }
@@ -399,7 +432,9 @@ fn with_organization<K: Keep>(
     if asked.org.as_str() == asked.caller.as_str() {
         with_place(alloc, keep, at, asked, digest, body)
     } else {
-        refuse(alloc, Refusal::NotFound)
+        // Told as an absent one is.
+        let absent = Refusal::NotFound;
+        refuse(alloc, absent)
     }
 }
 

@@ -21,3 +21,12 @@ returns-in-Configure-clause-ok c = absent_kept _ _ c.args.change.now (none_at_ga
 
 pub returns-in-AddVersion-clause-ok : goal.returns-in-AddVersion-clause-ok
 returns-in-AddVersion-clause-ok c = absent_kept _ _ c.args.change.now (none_at_gap _ _ _ c.in-Err.ensures.absent) (rw c.in-AddVersion.is refl)
+
+pub returns-in-Purge-clause-ok : goal.returns-in-Purge-clause-ok
+returns-in-Purge-clause-ok c = absent_kept _ _ c.args.change.now (none_at_gap _ _ _ c.in-Err.ensures.absent) (rw c.in-Purge.is refl)
+
+pub returns-in-Hold-clause-ok : goal.returns-in-Hold-clause-ok
+returns-in-Hold-clause-ok c = absent_kept _ _ c.args.change.now (none_at_gap _ _ _ c.in-Err.ensures.absent) (rw c.in-Hold.is refl)
+
+pub returns-in-Release-clause-ok : goal.returns-in-Release-clause-ok
+returns-in-Release-clause-ok c = absent_kept _ _ c.args.change.now (none_at_gap _ _ _ c.in-Err.ensures.absent) (rw c.in-Release.is refl)

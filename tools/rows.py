@@ -1,0 +1,432 @@
+#!/usr/bin/env python3
+"""Writes crates/custody/src/rows.rt: worked rows as frames, and what `custody replay` prints for them.
+
+Each row is a list of steps with the answer that the documentation of the backend and the rules of
+custody give it: a status, and a body where there is one. Nothing here is read off the program.
+
+    python3 tools/rows.py > crates/custody/src/rows.rt
+"""
+
+import base64
+import hashlib
+
+AT = 1700000000
+DATE = "Tue, 14 Nov 2023 22:13:20 GMT"
+A, W, R, B = "acme.adminadminadmin1", "acme.writewritewrite1", "acme.readreadreadread", "beta.betabetabetabeta"
+PHRASES = {
+    200: "OK",
+    204: "No Content",
+    400: "Bad Request",
+    401: "Unauthorized",
+    403: "Forbidden",
+    404: "Not Found",
+    405: "Method Not Allowed",
+    409: "Conflict",
+    411: "Length Required",
+    413: "Payload Too Large",
+    423: "Locked",
+    431: "Request Header Fields Too Large",
+}
+CHALLENGES = {
+    "no-token": "",
+    "two-tokens": ', error="invalid_request"',
+    "bad-token": ', error="invalid_token"',
+    "need-write": ', error="insufficient_scope"',
+    "need-admin": ', error="insufficient_scope"',
+}
+STATE_ALLOW = "DELETE, GET, LOCK, POST, PUT, UNLOCK"
+
+
+def state(serial):
+    return '{"version":4,"serial":%d,"lineage":"a1"}' % serial
+
+
+def reply(status, body="", allow=None, head=False):
+    """The reply's text; a body that is one word is the word of a refusal."""
+    lines = ["HTTP/1.1 %d %s" % (status, PHRASES[status]), "Date: " + DATE, "Connection: close", "Cache-Control: private, no-store"]
+    if allow:
+        lines.append("Allow: " + allow)
+    if body and not body.startswith("{"):
+        if body in CHALLENGES:
+            lines.append('WWW-Authenticate: Bearer realm="custody"' + CHALLENGES[body])
+        body = '{"error":"%s"}' % body
+    if body.strip():
+        lines.append("Content-Type: application/json")
+    if status != 204:
+        lines.append("Content-Length: %d" % len(body.encode()))
+    return "\r\n".join(lines) + "\r\n\r\n" + ("" if head else body)
+
+
+def frame(text, answer):
+    return ("at %d http %d\n%s\n" % (AT, len(text.encode()), text), answer)
+
+
+def raw(lines, answer, body=""):
+    """A request of these lines."""
+    return frame("\r\n".join(lines) + "\r\n\r\n" + body, reply(*answer))
+
+
+def admin(words, answer="ok"):
+    return ("at %d admin %s\n" % (AT, words), answer + "\n")
+
+
+def request(token, method, path, body=None, answer=(200, ""), md5=None, fields=()):
+    """A request; a path without /v1/ stands under /v1/acme/. Without a token the path has one."""
+    target = path if path.startswith("/") else "/v1/acme/" + path
+    lines = ["%s %s HTTP/1.1" % (method, target), "Host: c"]
+    if token:
+        lines.append("Authorization: Bearer " + token)
+    lines += fields
+    if md5 is True:
+        md5 = base64.b64encode(hashlib.md5((body or "").encode()).digest()).decode()
+    if md5:
+        lines.append("Content-MD5: " + md5)
+    if body is not None:
+        lines.append("Content-Length: %d" % len(body.encode()))
+    text = "\r\n".join(lines) + "\r\n\r\n" + (body or "")
+    return frame(text, reply(*answer))
+
+
+OK = (200, "")
+NOT_FOUND = (404, "not-found")
+SET_UP = [
+    admin("org-add acme"),
+    admin("token-add acme root admin adminadminadmin1"),
+    admin("token-add acme ci write writewritewrite1"),
+    admin("token-add acme eye read readreadreadread"),
+    admin("org-add beta"),
+    admin("token-add beta root admin betabetabetabeta"),
+    request(A, "PUT", "workspaces/net", None, (200, '{"auto_apply":false,"holder":null,"name":"net","version":null}')),
+]
+
+INFO = '{"ID":"5f2c","Operation":"OperationTypeApply","Info":"","Who":"ann@box","Version":"1.9.0","Created":"2023-11-14T22:13:20Z","Path":""}'
+CLIENT = "state/net?access_token=acme.writewritewrite1"
+HOLDING = "state/net?ID=5f2c&access_token=acme.writewritewrite1"
+EMPTY_MD5 = "1B2M2Y8AsgTpgAmY7PhCfg=="
+
+def post(token, body, answer, path="state/net"):
+    return request(token, "POST", path, body, answer)
+
+
+def sized(length, body, answer):
+    """A POST whose Content-Length is this text."""
+    return raw(["POST /v1/acme/state/net HTTP/1.1", "Host: c", "Authorization: Bearer " + W] + length, answer, body)
+
+
+BAD_STATE = (400, "bad-state")
+GET_NET = "GET /v1/acme/state/net HTTP/1.1"
+BEARER = "Authorization: Bearer " + R
+
+# Each row: its name, what it says, and its steps after the set-up.
+ROWS = [
+    (
+        "stock_client",
+        "A stock Terraform: its token in the address, a digest with each body; its UNLOCK repeated.",
+        [
+            request(None, "LOCK", CLIENT, INFO, OK, True),
+            request(None, "POST", HOLDING, state(1), OK, True),
+            request(None, "UNLOCK", CLIENT, INFO, OK, True),
+            request(None, "UNLOCK", HOLDING, INFO, OK, True),
+        ],
+    ),
+    (
+        "roles",
+        "No state yet, no workspace; a role that is too small is told before any name.",
+        [
+            request(R, "GET", "state/net", None, (204,)),
+            request(R, "GET", "state/none", None, NOT_FOUND),
+            post(R, state(1), (403, "need-write")),
+            post(R, state(1), (403, "need-write"), "state/none"),
+            post(R, state(1), (403, "need-write"), "/v1/beta/state/x"),
+            request(W, "PUT", "workspaces/two", None, (403, "need-admin")),
+            request(R, "GET", "runs/net", None, NOT_FOUND),
+        ],
+    ),
+    (
+        "absent_and_foreign",
+        "Another organization's workspace is answered as an absent one, by each act on a state.",
+        [
+            step
+            for path in ["/v1/acme/state/net", "/v1/acme/state/zzz", "/v1/beta/state/zzz"]
+            for step in [
+                request(B, "GET", path, None, NOT_FOUND),
+                request(B, "LOCK", path, '{"ID":"x"}', NOT_FOUND),
+                request(B, "UNLOCK", path, '{"ID":"x"}', NOT_FOUND),
+                request(B, "UNLOCK", path, None, NOT_FOUND),
+                request(B, "POST", path, state(1), NOT_FOUND),
+                request(B, "DELETE", path, None, NOT_FOUND),
+            ]
+        ],
+    ),
+    (
+        "holder_told",
+        "A refused LOCK, update or UNLOCK has the holder's text for its body, byte for byte.",
+        [
+            request(W, "LOCK", "state/net", '{ "ID": "x1" }', OK),
+            request(W, "LOCK", "state/net", '{"ID":"x2"}', (423, '{ "ID": "x1" }')),
+            post(W, state(1), (423, '{ "ID": "x1" }')),
+            request(W, "UNLOCK", "state/net", '{"ID":"x2"}', (423, '{ "ID": "x1" }')),
+            request(R, "GET", "state/net", None, (204,)),
+        ],
+    ),
+    (
+        "forced_release",
+        "An UNLOCK with an empty body is an admin's; a released ID is answered again; an ID of a run locks nothing.",
+        [
+            request(W, "LOCK", "state/net", '{"ID":"x1"}', OK),
+            request(W, "UNLOCK", "state/net", None, (403, "need-admin"), EMPTY_MD5),
+            post(W, state(1), (423, '{"ID":"x1"}')),
+            request(A, "UNLOCK", "state/net", None, OK, EMPTY_MD5),
+            request(A, "UNLOCK", "state/net", "", OK),
+            request(W, "UNLOCK", "state/net", '{"ID":"x1"}', OK),
+            post(W, state(1), OK),
+            request(W, "LOCK", "state/net", '{"ID":"run-7"}', (400, "bad-lock")),
+            request(W, "UNLOCK", "state/net", '{"ID":"run-7"}', (400, "bad-lock")),
+            request(W, "LOCK", "state/net", "", (400, "bad-lock")),
+        ],
+    ),
+    (
+        "first_text_stays",
+        "LOCK by the holding ID changes nothing; a purge is bound to the lock, and to no ID that doesn't hold.",
+        [
+            request(W, "LOCK", "state/net", '{"ID":"x1"}', OK),
+            request(W, "LOCK", "state/net", '{"ID":"x1","Who":"b"}', OK),
+            request(W, "LOCK", "state/net", '{"ID":"x2"}', (423, '{"ID":"x1"}')),
+            request(A, "DELETE", "state/net", None, (423, '{"ID":"x1"}')),
+            request(W, "DELETE", "state/net?ID=x1", None, (403, "need-admin")),
+            request(A, "DELETE", "state/net?ID=x1", None, OK),
+            request(W, "UNLOCK", "state/net", '{"ID":"x1"}', OK),
+            request(A, "DELETE", "state/net?ID=x1", None, (409, "not-held")),
+        ],
+    ),
+    (
+        "purge",
+        "Updates and purges under a lock; a purged workspace goes on with its next number, and shows who holds.",
+        [
+            post(W, state(1), OK),
+            request(W, "LOCK", "state/net", '{"ID":"x1"}', OK),
+            post(W, state(2), (423, '{"ID":"x1"}'), "state/net?ID=x2"),
+            post(W, state(2), OK, "state/net?ID=x1"),
+            request(A, "DELETE", "state/net?ID=x2", None, (423, '{"ID":"x1"}')),
+            request(R, "GET", "state/net", None, (200, state(2))),
+            request(W, "UNLOCK", "state/net", '{"ID":"x1"}', OK),
+            request(A, "DELETE", "state/net", None, OK),
+            request(A, "DELETE", "state/net", None, OK),
+            request(R, "GET", "state/net", None, (204,)),
+            post(W, state(1), OK),
+            request(A, "PUT", "workspaces/net", None, (200, '{"auto_apply":false,"holder":null,"name":"net","version":3}')),
+            request(W, "LOCK", "state/net", '{"ID":"x3"}', OK),
+            request(A, "PUT", "workspaces/net", None, (200, '{"auto_apply":false,"holder":"x3","name":"net","version":3}')),
+        ],
+    ),
+    (
+        "digests",
+        "Content-MD5 is judged before the document, of an empty body too (RFC 1864).",
+        [
+            request(W, "POST", "state/net", "abc", BAD_STATE, "kAFQmDzST7DWlj99KOF/cg=="),
+            request(W, "POST", "state/net", "abc", (400, "bad-digest"), EMPTY_MD5),
+            request(R, "GET", "state/net", None, (400, "bad-digest"), "kAFQmDzST7DWlj99KOF/cg=="),
+            request(R, "GET", "state/net", None, (204,), EMPTY_MD5),
+            request(R, "GET", "state/none", None, NOT_FOUND, "kAFQmDzST7DWlj99KOF/cg=="),
+        ],
+    ),
+    (
+        "succession",
+        "How a state follows the newest one: the same text, a serial that isn't greater, another lineage.",
+        [
+            post(W, state(1), OK),
+            post(W, state(1), OK),
+            post(W, state(1) + " ", (409, "serial")),
+            post(W, '{"serial":2,"lineage":"b2"}', (409, "lineage")),
+            post(W, '{"serial":2}', OK),
+            request(W, "PUT", "state/net", '{"serial":3,"lineage":"b2"}', OK),
+            request(R, "GET", "state/net", None, (200, '{"serial":3,"lineage":"b2"}')),
+            post(W, '{"serial":4}', (409, "not-held"), "state/net?ID=x1"),
+        ],
+    ),
+    (
+        "states",
+        "What is a state, and what is none: the serial is a whole number below 2^63, a lineage is a text.",
+        [
+            post(W, '{"serial":9223372036854775808}', BAD_STATE),
+            post(W, '{"serial":3.0}', BAD_STATE),
+            post(W, '{"serial":-1}', BAD_STATE),
+            post(W, "[]", BAD_STATE),
+            post(W, '{"lineage":"a1"}', BAD_STATE),
+            post(W, "", BAD_STATE),
+            post(W, '{"serial":1,"lineage":5}', BAD_STATE),
+            post(W, '{"serial":1e0}', BAD_STATE),
+            post(W, '{"serial":0}', OK),
+            post(W, '{"serial":9223372036854775807}', OK),
+            post(W, '{"serial":9223372036854775807,"x":1}', (409, "serial")),
+        ],
+    ),
+    (
+        "settings",
+        "Settings of a workspace: none, a flag, and what is no document of them.",
+        [
+            request(A, "PUT", "workspaces/net", "[]", (400, "bad-body")),
+            request(A, "PUT", "workspaces/net", '{"auto_apply":1}', (400, "bad-body")),
+            post(W, state(1), OK),
+            request(A, "PUT", "workspaces/net", '{"auto_apply":true,"x":2}', (200, '{"auto_apply":true,"holder":null,"name":"net","version":1}')),
+            request(A, "PUT", "workspaces/net", "", (200, '{"auto_apply":false,"holder":null,"name":"net","version":1}')),
+        ],
+    ),
+    (
+        "messages",
+        "Messages that are cut, too large, without a length or without Host; the 100 line.",
+        [
+            frame("\r\n".join([GET_NET, "Host: c", BEARER]) + "\r\n\r", ""),
+            sized(["Content-Length: 4194305"], "", (413, "too-large")),
+            raw(["LOCK /v1/acme/state/net HTTP/1.1", "Host: c", "Authorization: Bearer " + W, "Content-Length: 16385"], (413, "too-large")),
+            sized(["Transfer-Encoding: chunked"], "", (411, "no-length")),
+            sized(["Transfer-Encoding: chunked", "Content-Length: 39"], "", (400, "bad-message")),
+            raw([GET_NET, BEARER], (400, "bad-message")),
+            raw(["GET /v1/acme/state/net HTTP/1.0", BEARER], (204,)),
+            frame("\r\n\r\n" + "\r\n".join([GET_NET, "Host: c", BEARER]) + "\r\n\r\n", reply(204)),
+            frame(
+                "\r\n".join(["POST /v1/acme/state/net HTTP/1.1", "Host: c", "Authorization: Bearer " + W, "Expect: 100-continue", "Content-Length: 39"])
+                + "\r\n\r\n"
+                + state(1),
+                "HTTP/1.1 100 Continue\r\n\r\n" + reply(200),
+            ),
+        ],
+    ),
+    (
+        "lengths",
+        "Content-Length in each form (RFC 9112, section 6.2), and a folded field line (section 5.2).",
+        [
+            sized(["Content-Length: 0000000000000000000000039"], state(1), OK),
+            sized(["Content-Length: +39"], state(1), (400, "bad-message")),
+            sized(["Content-Length: 39,39"], state(1), (400, "bad-message")),
+            sized(["Content-Length: "], state(1), (400, "bad-message")),
+            sized(["Content-Length: 99999999999999999999999"], state(1), (413, "too-large")),
+            sized(["Content-Length: 39", "Content-Length: 39"], state(1), (400, "bad-message")),
+            sized(["X: 1", " 2", "Content-Length: 39"], state(1), (400, "bad-message")),
+        ],
+    ),
+    (
+        "tokens",
+        "Where a token stands and what it is (RFC 6750, section 2).",
+        [
+            request(R, "GET", "state/net?access_token=" + R, None, (400, "two-tokens")),
+            raw([GET_NET, "Host: c", "authorization: bearer " + W], (204,)),
+            raw([GET_NET, "Host: c"], (401, "no-token")),
+            raw([GET_NET, "Host: c", "Authorization: Basic eDp5"], (401, "no-token")),
+            request("acme.0000000000000000", "GET", "state/net", None, (401, "bad-token")),
+            request("zeta.adminadminadmin1", "GET", "state/net", None, (401, "bad-token")),
+            request(None, "GET", "state/net?access%5Ftoken=" + R, None, (204,)),
+        ],
+    ),
+    (
+        "routes",
+        "Paths, methods and forms of the target that have no route, and that have one.",
+        [
+            frame("\r\n".join(["HEAD /v1/acme/state/net HTTP/1.1", "Host: c", BEARER]) + "\r\n\r\n", reply(405, "no-method", STATE_ALLOW, True)),
+            request(R, "GET", "state/net/", None, (404, "no-route")),
+            request(R, "GET", "/v1/Acme/state/net", None, (404, "no-route")),
+            request(R, "GET", "runs/net/01", None, (404, "no-route")),
+            request(R, "GET", "state/net?ID=a&ID=a", None, (400, "bad-query")),
+            raw(["GET http://c/v1/acme/state/net HTTP/1.1", "Host: c", BEARER], (204,)),
+            raw(["GET HTTP://c/v1/acme/state/net HTTP/1.1", "Host: c", BEARER], (204,)),
+            raw(["GET http://c?x=1 HTTP/1.1", "Host: c", BEARER], (404, "no-route")),
+            raw(["GET http:///v1/acme/state/net HTTP/1.1", "Host: c", BEARER], (400, "bad-message")),
+            raw(["GET * HTTP/1.1", "Host: c", BEARER], (400, "bad-message")),
+        ],
+    ),
+]
+
+
+def literal(text):
+    out = text.replace("\\", "\\\\").replace('"', '\\"').replace("\r", "\\r").replace("\n", "\\n")
+    return '"' + out + '"'
+
+
+def printed(steps):
+    return "".join("reply %d\n%s\n" % (len(answer.encode()), answer) for _, answer in steps)
+
+
+def main():
+    print("""//! Worked rows: what is put in, and what is printed. Written by `tools/rows.py`, which makes the
+//! replies from the rows, and not from the program.
+use crate::frames::read_frames;
+use crate::replays::run_frames;
+use crate::replies::print_replies;
+use basis::{Bytes, Moment};
+use machine::{AdminAnswer, PlainKeep};
+use serve::{LinkFault, Service, Step};
+use std::alloc::Global;
+use std::process::Abort;
+use wire::{FromRead, ToWrite};
+
+// Two organizations with their tokens, and an empty workspace.
+const SET_UP: &str = %s;
+const SET_UP_PRINTED: &str = %s;
+
+// What an exchange writes; nothing where the input ended inside the message.
+fn written(
+    rt: &impl Abort,
+    alloc: Global,
+    service: &mut Service<PlainKeep>,
+    at: Moment,
+    bytes: &[u8],
+) -> Bytes {
+    let mut inlet = FromRead::new(bytes);
+    let mut outlet = ToWrite::new(Vec::new(alloc));
+    let ended = service.exchange(alloc, at, &mut inlet, &mut outlet);
+    assert!(rt; ended == Ok(()) || ended == Err(LinkFault::Ended));
+    Bytes::new(outlet.into_inner())
+}
+
+// The replies of frames, one exchange or command after the other.
+fn exchanged(rt: &impl Abort, alloc: Global, input: &[u8]) -> Vec<u8> {
+    let frames = read_frames(alloc, input).expect(rt, "frames");
+    let mut service = Service::new(PlainKeep::new(alloc));
+    let mut replies = Vec::new(alloc);
+    for step in frames.steps.as_slice() {
+        let reply = match step {
+            Step::Request { at, bytes } => written(rt, alloc, &mut service, *at, bytes.as_slice()),
+            Step::Command { at, command } => {
+                let answer = service.admin(alloc, *at, command).expect(rt, "an answer");
+                assert!(rt; answer == AdminAnswer::Done);
+                Bytes::copy_of(alloc, b"ok\\n").expect(rt, "room")
+            }
+        };
+        replies.push(reply).expect(rt, "room");
+    }
+    drop(service.into_keep());
+    let mut output = Vec::new(alloc);
+    print_replies(&mut output, replies.as_slice()).expect(rt, "room");
+    output
+}
+
+// The program prints what it is to print, and exchanges one by one write the same.
+fn passes(rt: &impl Abort, alloc: Global, frames: &str, printed: &str) {
+    let mut input = Vec::new(alloc);
+    input.extend_from_slice(SET_UP.as_bytes()).expect(rt, "room");
+    input.extend_from_slice(frames.as_bytes()).expect(rt, "room");
+    let mut expected = Vec::new(alloc);
+    expected.extend_from_slice(SET_UP_PRINTED.as_bytes()).expect(rt, "room");
+    expected.extend_from_slice(printed.as_bytes()).expect(rt, "room");
+    let mut output = Vec::new(alloc);
+    let mut errors = Vec::new(alloc);
+    let status = run_frames(alloc, &mut input.as_slice(), &mut output, &mut errors);
+    assert_eq!(rt; status, 0);
+    assert!(rt; errors.is_empty());
+    assert!(rt; output.as_slice() == expected.as_slice());
+    let output = exchanged(rt, alloc, input.as_slice());
+    assert!(rt; output.as_slice() == expected.as_slice());
+}""" % (literal("".join(step for step, _ in SET_UP)), literal(printed(SET_UP))))
+    for name, says, steps in ROWS:
+        print()
+        print("// " + says)
+        print("#[test]")
+        print("fn %s(rt: HostRuntime) {" % name)
+        print("    let alloc = rt.alloc();")
+        print("    let frames = %s;" % literal("".join(step for step, _ in steps)))
+        print("    let printed = %s;" % literal(printed(steps)))
+        print("    passes(&rt, alloc, frames, printed);")
+        print("}")
+
+
+main()
