@@ -1,3 +1,4 @@
+pub mod Examples
 pub mod FrameLemmas
 pub mod WordLemmas
 mod ReplayLemmas

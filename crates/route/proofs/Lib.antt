@@ -1,3 +1,4 @@
+pub mod Examples
 pub mod AsciiLemmas
 pub mod PartLemmas
 pub mod KindLemmas

@@ -1,3 +1,4 @@
+pub mod Examples
 pub mod LinkLemmas
 pub mod ReplyLemmas
 pub mod HeadLemmas
