@@ -12,6 +12,8 @@ mod replies;
 #[cfg(test)]
 mod rows;
 #[cfg(test)]
+mod terraform;
+#[cfg(test)]
 mod worked;
 
 use replays::{refuse_down, refuse_usage, run_frames};
