@@ -10,6 +10,8 @@ mod lines;
 mod replays;
 mod replies;
 #[cfg(test)]
+mod resent;
+#[cfg(test)]
 mod rows;
 #[cfg(test)]
 mod terraform;
