@@ -362,3 +362,56 @@ fn recorded_requests_are_answered(rt: HostRuntime) -> Result<(), Fail> {
         ],
     )
 }
+
+// What one apply sent, of a configuration with one output: its lock, its state under the lock, its unlock.
+const APPLY_LOCK: &str =
+    "LOCK /v1/acme/state/tf-net?access_token=acme.writewritewrite1 HTTP/1.1\r\nHost: 127.0.0.1:18083\r\nUser-Agent: Go-http-client/1.1\r\nContent-Length: 176\r\nContent-Md5: CdcMIqm81L82sRjvi+ZdOg==\r\nContent-Type: application/json\r\nAccept-Encoding: gzip\r\n\r\n";
+
+const APPLY_UNLOCK: &str =
+    "UNLOCK /v1/acme/state/tf-net?access_token=acme.writewritewrite1 HTTP/1.1\r\nHost: 127.0.0.1:18083\r\nUser-Agent: Go-http-client/1.1\r\nContent-Length: 176\r\nContent-Md5: CdcMIqm81L82sRjvi+ZdOg==\r\nContent-Type: application/json\r\nAccept-Encoding: gzip\r\n\r\n";
+
+const APPLY_INFO: &str =
+    "{\"ID\":\"fe6fff62-d5cd-75f9-f5f1-804e5929f930\",\"Operation\":\"OperationTypeApply\",\"Info\":\"\",\"Who\":\"root@vm\",\"Version\":\"1.11.4\",\"Created\":\"2026-11-22T12:05:49.424169042Z\",\"Path\":\"\"}";
+
+const APPLY_POST: &str =
+    "POST /v1/acme/state/tf-net?ID=fe6fff62-d5cd-75f9-f5f1-804e5929f930&access_token=acme.writewritewrite1 HTTP/1.1\r\nHost: 127.0.0.1:18083\r\nUser-Agent: Go-http-client/1.1\r\nContent-Length: 250\r\nContent-Md5: jI8/4nJDQuE8ArkLfiK7gQ==\r\nContent-Type: application/json\r\nAccept-Encoding: gzip\r\n\r\n";
+
+const APPLIED: &str = r#"{
+  "version": 4,
+  "terraform_version": "1.11.4",
+  "serial": 1,
+  "lineage": "7bdf22a2-c42a-1e81-53ce-0bf570e166ba",
+  "outputs": {
+    "value": {
+      "value": "one",
+      "type": "string"
+    }
+  },
+  "resources": [],
+  "check_results": null
+}
+"#;
+
+// the head before the state of `APPLIED`
+const STATE_OF_250: &str =
+    "HTTP/1.1 200 OK\r\nDate: Tue, 14 Nov 2023 22:13:20 GMT\r\nConnection: close\r\nCache-Control: private, no-store\r\nContent-Type: application/json\r\nContent-Length: 250\r\n\r\n";
+
+#[test]
+fn a_stock_terraform_applies(rt: HostRuntime) -> Result<(), Fail> {
+    expect_replies(
+        &rt,
+        rt.alloc(),
+        &[
+            // init
+            (GET, "", NO_STATE, ""),
+            // apply
+            (APPLY_LOCK, APPLY_INFO, DONE, ""),
+            (GET, "", NO_STATE, ""),
+            (GET, "", NO_STATE, ""),
+            (APPLY_POST, APPLIED, DONE, ""),
+            (APPLY_UNLOCK, APPLY_INFO, DONE, ""),
+            // output
+            (GET, "", STATE_OF_250, APPLIED),
+        ],
+    )
+}
