@@ -429,4 +429,5 @@ fn passes(rt: &impl Abort, alloc: Global, frames: &str, printed: &str) {
         print("}")
 
 
-main()
+if __name__ == "__main__":
+    main()

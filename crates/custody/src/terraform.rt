@@ -254,8 +254,9 @@ const STATE_OF_1510: &str =
 const NOT_HELD: &str =
     "HTTP/1.1 409 Conflict\r\nDate: Tue, 14 Nov 2023 22:13:20 GMT\r\nConnection: close\r\nCache-Control: private, no-store\r\nContent-Type: application/json\r\nContent-Length: 20\r\n\r\n{\"error\":\"not-held\"}";
 
-const NOT_FOUND: &str =
-    "HTTP/1.1 404 Not Found\r\nDate: Tue, 14 Nov 2023 22:13:20 GMT\r\nConnection: close\r\nCache-Control: private, no-store\r\nContent-Type: application/json\r\nContent-Length: 21\r\n\r\n{\"error\":\"not-found\"}";
+// the head before the lock information of `LOCK_INFO`
+const LOCKED: &str =
+    "HTTP/1.1 423 Locked\r\nDate: Tue, 14 Nov 2023 22:13:20 GMT\r\nConnection: close\r\nCache-Control: private, no-store\r\nContent-Type: application/json\r\nContent-Length: 175\r\n\r\n";
 
 const NO_LENGTH: &str =
     "HTTP/1.1 411 Length Required\r\nDate: Tue, 14 Nov 2023 22:13:20 GMT\r\nConnection: close\r\nCache-Control: private, no-store\r\nContent-Type: application/json\r\nContent-Length: 21\r\n\r\n{\"error\":\"no-length\"}";
@@ -356,9 +357,13 @@ fn recorded_requests_are_answered(rt: HostRuntime) -> Result<(), Fail> {
             (PUT_WITH_ID, PUT, NOT_HELD, ""),
             (FORCE_UNLOCK, "", NO_LENGTH, ""),
             (GET, "", STATE_OF_1510, POSTED),
-            // acts that are to come
-            (LOCK, LOCK_INFO, NOT_FOUND, ""),
-            (UNLOCK, LOCK_INFO, NOT_FOUND, ""),
+            // another's state isn't written under the lock, and the lock is released once
+            (LOCK, LOCK_INFO, DONE, ""),
+            (POST_WITH_ID, POSTED_WITH_ID, LOCKED, LOCK_INFO),
+            (PUT_WITH_ID, PUT, LOCKED, LOCK_INFO),
+            (GET, "", STATE_OF_1510, POSTED),
+            (UNLOCK, LOCK_INFO, DONE, ""),
+            (UNLOCK, LOCK_INFO, DONE, ""),
         ],
     )
 }

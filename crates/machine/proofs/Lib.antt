@@ -4,3 +4,4 @@ pub mod LawLemmas
 pub mod MeaningLemmas
 pub mod MapLemmas
 pub mod PlainLemmas
+pub mod CustodyLemmas

@@ -10,3 +10,4 @@ pub mod Units
 pub mod Meaning
 pub mod Records
 pub mod Tokens
+pub mod Custody

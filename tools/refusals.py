@@ -1,0 +1,85 @@
+#!/usr/bin/env python3
+"""Refuses each allocation in turn, and says how each run ended.
+
+    python3 tools/refusals.py rows PROGRAM     the worked rows through `custody replay`
+    python3 tools/refusals.py tests PROGRAM    each test of a crate (`rt test` leaves out/CRATE_tests)
+
+Allocation N of a process is refused, for N from 1 on, until runs meet no refusal any more. A run of a row has to end in
+`refused down` alone, status 3, or in the right replies; a test has to pass or to end for want of memory.
+"""
+
+import collections
+import os
+import subprocess
+import sys
+import tempfile
+
+import rows
+
+HERE = os.path.dirname(os.path.abspath(__file__))
+WANTS = ("error: Down\n", "error: AllocError\n", "error: AllocFailed {")
+QUIET = 20
+
+
+def refusing(folder):
+    library = folder + "/refuse.so"
+    subprocess.run(["cc", "-shared", "-fPIC", "-o", library, HERE + "/refuse.c", "-ldl"], check=True)
+    return library
+
+
+def each_refused(library, words, judge, data=b""):
+    """The counts of what `judge` says of the runs."""
+    counts, quiet, n = collections.Counter(), 0, 0
+    while quiet < QUIET:
+        n += 1
+        env = {"REFUSE": str(n), "LD_PRELOAD": library}
+        done = subprocess.run(words, input=data, capture_output=True, env=env)
+        verdict = judge(done)
+        counts[verdict] += 1
+        quiet = quiet + 1 if verdict == "right" else 0
+        if verdict == "wrong":
+            print("refusal", n, "of", words, ":", done.stdout[:200], done.stderr[:200], done.returncode)
+    return counts
+
+
+def row(steps):
+    want = rows.printed(steps).encode()
+
+    def judge(done):
+        if done.returncode == 0 and done.stdout == want:
+            return "right"
+        return "refused" if done.returncode == 3 and done.stdout == b"refused down\n" else "wrong"
+
+    return judge
+
+
+def test(done):
+    if done.returncode == 0:
+        return "right"
+    said = (done.stdout + done.stderr).decode()
+    return "refused" if said.startswith(WANTS) else "wrong"
+
+
+def main():
+    kind, program = sys.argv[1], os.path.abspath(sys.argv[2])
+    total = collections.Counter()
+    with tempfile.TemporaryDirectory() as folder:
+        library = refusing(folder)
+        if kind == "rows":
+            for name, _, steps in rows.ROWS:
+                steps = rows.SET_UP + steps
+                data = "".join(step for step, _ in steps).encode()
+                counts = each_refused(library, [program, "replay"], row(steps), data)
+                print(name, dict(counts), flush=True)
+                total.update(counts)
+        else:
+            listed = subprocess.run([program, "--list"], capture_output=True, text=True, check=True).stdout
+            for name in [line[: -len(": test")] for line in listed.splitlines() if line.endswith(": test")]:
+                counts = each_refused(library, [program, name], test)
+                print(name, dict(counts), flush=True)
+                total.update(counts)
+    print("in all", dict(total))
+    sys.exit(1 if total["wrong"] else 0)
+
+
+main()
