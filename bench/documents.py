@@ -1,7 +1,7 @@
 #!/usr/bin/env python3
 """Cost of documents: reads states of 1, 2 and 4 MiB by `docs` and by python3's json, and digests them by `docs` and by hashlib.
 
-Run it from the top of the repository: python3 bench/documents.py. It proves and builds bench/documents/main.rt
+Run it from the top of the repository: python3 bench/documents.py. It proves and builds bench/documents/main.rt.in.in
 with the kit, in a folder of its own over copies of the crates `basis` and `docs`, and prints a table in
 milliseconds of the processor, each the fewest of fifteen turns. Three kinds of states: as Terraform writes them,
 with many small objects, and with many small numbers.
@@ -63,7 +63,7 @@ def build(folder):
         shutil.copytree(f"{TOP}/crates/{name}", f"{folder}/crates/{name}")
     crate = f"{folder}/crates/timing"
     os.makedirs(f"{crate}/src")
-    shutil.copy(f"{TOP}/bench/documents/main.rt", f"{crate}/src")
+    shutil.copy(f"{TOP}/bench/documents/main.rt.in", f"{crate}/src/main.rt")
     state = state_of(terraform, 4096)
     said = subprocess.run(["rt", "run", "--", field_of(state)], cwd=crate, input=state, capture_output=True)
     if not os.path.isfile(f"{crate}/out/timing"):

@@ -4,7 +4,7 @@
 Each row is a list of steps with the answer that the documentation of the backend and the rules of
 custody give it: a status, and a body where there is one. Nothing here is read off the program.
 
-    python3 tools/rows.py > crates/custody/src/rows.rt
+    python3 tools/rows.py > crates/custody/src/rows.rt && (cd crates/custody && rt fmt)
 """
 
 import base64
