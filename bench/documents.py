@@ -1,7 +1,7 @@
 #!/usr/bin/env python3
 """Cost of documents: reads states of 1, 2 and 4 MiB by `docs` and by python3's json, and digests them by `docs` and by hashlib.
 
-Run it from the top of the repository: python3 bench/documents.py. It proves and builds bench/documents/main.rt.in.in
+Run it from the top of the repository: python3 bench/documents.py. It proves and builds bench/documents/main.rt.in
 with the kit, in a folder of its own over copies of the crates `basis` and `docs`, and prints a table in
 milliseconds of the processor, each the fewest of fifteen turns. Three kinds of states: as Terraform writes them,
 with many small objects, and with many small numbers.
