@@ -2,3 +2,4 @@ pub mod RecordLemmas
 pub mod TakenLemmas
 pub mod RunLemmas
 pub mod ExchangeLemmas
+pub mod AbsentLemmas

@@ -13,4 +13,4 @@ mod worlds;
 pub use exchanges::LinkFault;
 pub use service::Service;
 pub use steps::{Admin, Step};
-pub use worlds::{one_asking, two_worlds};
+pub use worlds::{foreign_as_absent, one_asking, two_worlds};

@@ -1,8 +1,9 @@
-//! Laws: that a step asks one thing, and that two worlds which agree on an organization answer it alike.
+//! Laws: that a step asks one thing, that two worlds which agree on an organization answer it alike, and that
+//! another organization's workspace is answered as an absent one.
 ghost use Rattle.std.specs.Prelude.{◌≡◌, ℕ, List, Option, Some, IfOk, OnOk};
 ghost use Rattle.serve.specs.Asks.{Ask};
 ghost use Rattle.serve.specs.Service.{AreAsked, replies_at};
-ghost use Rattle.serve.specs.Laws.{OneAsking, Agree};
+ghost use Rattle.serve.specs.Laws.{OneAsking, Agree, ForeignAsAbsent};
 
 use crate::service::Service;
 use crate::steps::Step;
@@ -13,6 +14,12 @@ use std::alloc::Global;
 /// The steps of a list ask one list of things.
 pub fn one_asking()
     ensures { OneAsking }
+{}
+
+/// A request on another organization's path has the answer of the same request on a workspace that the
+/// caller's own organization lacks, and changes nothing either.
+pub fn foreign_as_absent()
+    ensures { ForeignAsAbsent }
 {}
 
 /// Two worlds: two keeps with equal records of an organization, and two lists of steps with the same
