@@ -10,7 +10,7 @@ use Rattle.machine.specs.Writing.{may_write}
 use Rattle.machine.specs.Settling.{first_waiting, to_start, started, started_if, settled}
 use Rattle.machine.specs.Succession.{Succession, first, same, other_lineage, old_serial, next, succession}
 use Rattle.machine.specs.Rules.{Outcome, refused, ruled, done, rules, refused_by, by_may_write, by_succession, numbered_update, number_left, with_version, with_settings, done_with, done_already, purge, purged, lock, locked, unlock, released, is_released, force_unlock}
-use Rattle.machine.specs.Custody.{WritesCarryTheId, HoldsUntilReleased, RepeatsChangeNothing, LeastStarts}
+use Rattle.machine.specs.Custody.{WritesCarryTheId, VersionsChangeByTheId, HoldsUntilReleased, RepeatsChangeNothing, LeastStarts}
 use Rattle.machine.proofs.SettlingLemmas.{least_starts}
 use Rattle.machine.specs.declared.acts.Act.{Act}
 use Rattle.machine.specs.declared.acts.Act.TheVariants.{PutWorkspace, UpdateState, ReadState, PurgeState, Lock as LockAct, Unlock, ForceUnlock}
@@ -276,6 +276,47 @@ holds_until_released name (LockAct id t) now w v held text e h =
 holds_until_released name (Unlock id) now w v held text e h =
     unlocked_or_held id w v held text (bytes_eq id held) refl e (subst (λ (x : Holder). (unlock x id w).after ≡ Some v) e h)
 holds_until_released name ForceUnlock now w v held text e h = inr tt
+
+-- versions of a workspace that stays, or that only settles
+versions_of_same : (u w v : Workspace) → Some u ≡ Some v → u.versions ≡ w.versions → v.versions ≡ w.versions
+versions_of_same u w v e h = let same_one : u ≡ v = cc in ap (λ (x : Workspace). x.versions) (sym same_one) ∙ h
+
+settled_versions : (u : Workspace) → (settled u).versions ≡ u.versions
+settled_versions u = versions_stay u (to_start u.holder (first_waiting u.runs))
+
+-- a write under a lock: it leaves the workspace, or it carried the ID
+kept_or_carried : (given : Option (List ℕ)) (w v : Workspace) (held text : List ℕ) (after : Option Refusal → Option Workspace)
+    → after (Some Refusal.Locked) ≡ Some w → after (may_write (Lock held text) None given) ≡ Some v → (v.versions ≡ w.versions) ⊎ (given ≡ Some held)
+kept_or_carried None w v held text after stays e = inl (versions_of_same w w v (sym stays ∙ e) refl)
+kept_or_carried (Some id) w v held text after stays e = decided (bytes_eq id held) refl e
+  where
+    decided : (b : Bool) → bytes_eq id held ≡ b → after (cond b None (Some Refusal.Locked)) ≡ Some v → (v.versions ≡ w.versions) ⊎ (Some id ≡ Some held)
+    decided true t e = inr (ap Some ((bytes_eq-Decides id held).0 t))
+    decided false t e = inl (versions_of_same w w v (sym stays ∙ e) refl)
+
+unlocked_versions : (w v : Workspace) (held : List ℕ) (b c : Bool) (o : Outcome)
+    → (cond b (done_with (released held w)) (cond c (done_already w) (ruled o (Some w)))).after ≡ Some v → v.versions ≡ w.versions
+unlocked_versions w v held true c o e = versions_of_same (settled (released held w)) w v e (settled_versions (released held w))
+unlocked_versions w v held false true o e = versions_of_same w w v e refl
+unlocked_versions w v held false false o e = versions_of_same w w v e refl
+
+pub versions_change_by_the_id : VersionsChangeByTheId
+versions_change_by_the_id name (PutWorkspace settings) now w v held text lock e =
+    inl (versions_of_same (settled (with_settings w settings)) w v e (settled_versions (with_settings w settings)))
+versions_change_by_the_id name (UpdateState head state given) now w v held text lock e =
+    let after : Option Refusal → Option Workspace = λ m. (by_may_write m w head state now).after in
+    kept_or_carried given w v held text after refl (subst (λ (h : Holder). after (may_write h (holder_status h w.runs) given) ≡ Some v) lock e)
+versions_change_by_the_id name ReadState now w v held text lock e = inl (versions_of_same w w v e refl)
+versions_change_by_the_id name (PurgeState given) now w v held text lock e =
+    let after : Option Refusal → Option Workspace = λ m. (purge m w).after in
+    kept_or_carried given w v held text after refl (subst (λ (h : Holder). after (may_write h (holder_status h w.runs) given) ≡ Some v) lock e)
+versions_change_by_the_id name (LockAct id t) now w v held text e h =
+    let again_held : (lock (Lock held text) id t w).after ≡ Some v = subst (λ (x : Holder). (lock x id t w).after ≡ Some v) e h in
+    inl (versions_of_same w w v (sym (stays_by (bytes_eq id held) (refused_by Refusal.Locked w.holder) w) ∙ again_held) refl)
+versions_change_by_the_id name (Unlock id) now w v held text e h =
+    inl (unlocked_versions w v held (bytes_eq id held) (is_released w.released id) (refused_by Refusal.Locked w.holder) (subst (λ (x : Holder). (unlock x id w).after ≡ Some v) e h))
+versions_change_by_the_id name ForceUnlock now w v held text e h =
+    inl (versions_of_same (settled (released held w)) w v (subst (λ (x : Holder). (force_unlock x w).after ≡ Some v) e h) (settled_versions (released held w)))
 
 pub least : LeastStarts
 least runs top n e rise = least_starts 0 runs top n e rise

@@ -115,6 +115,13 @@ get_own m name v = get-insert names_total m name v name ∙ ap (λ (o : Ordering
 pub get_other : {X : Type 0} (m : FinMap name_cmp X) (name : List ℕ) (v : X) (o : List ℕ) → o ≢ name → get (map_insert m name v) o ≡ get m o
 get_other m name v o apart = get-insert names_total m name v o ∙ ap (λ b. cond b (Some v) (get m o)) (not_tied o name apart)
 
+-- nothing is there once it is taken away, and all others are as before
+pub removed_own : {X : Type 0} (m : FinMap name_cmp X) (name : List ℕ) → get (remove m name) name ≡ None
+removed_own m name = get-remove names_total m name name ∙ ap (λ (o : Ordering). cond (is_eq o) None (get m name)) (tied_itself names_total name)
+
+pub removed_other : {X : Type 0} (m : FinMap name_cmp X) (name o : List ℕ) → o ≢ name → get (remove m name) o ≡ get m o
+removed_other m name o apart = get-remove names_total m name o ∙ ap (λ b. cond b None (get m o)) (not_tied o name apart)
+
 -- rows of another type, each of which is an entry
 module _ {E X : Type 0} (entry : E → List ℕ × X) where
   pub read_entry : (rows : List E) (i : ℕ) (row : E) → i < length rows → row ≡ get_or rows i row → (d : List ℕ × X) → get_or (map entry rows) i d ≡ entry row

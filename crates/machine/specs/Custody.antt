@@ -25,6 +25,11 @@ abbrev pub WritesCarryTheId : Type 0
 WritesCarryTheId = (name : List ℕ) (act : Act) (now : ℕ) (w : Workspace) (held text : List ℕ) (id : Option (List ℕ))
     → w.holder ≡ Lock held text → WritesWith act id → (rules name act now (Some w)).outcome ≡ done → id ≡ Some held
 
+-- under a lock, versions change by an update or a purge that carried its ID, and by nothing else
+abbrev pub VersionsChangeByTheId : Type 0
+VersionsChangeByTheId = (name : List ℕ) (act : Act) (now : ℕ) (w v : Workspace) (held text : List ℕ)
+    → w.holder ≡ Lock held text → (rules name act now (Some w)).after ≡ Some v → (v.versions ≡ w.versions) ⊎ WritesWith act (Some held)
+
 -- an act that releases the lock of this ID
 abbrev pub Releases : Act → List ℕ → Type 0
 Releases (PutWorkspace settings) held = ⊥

@@ -1,5 +1,5 @@
 //! Laws of the rules, each the contract of a call that does nothing.
-ghost use Rattle.machine.specs.Custody.{HoldsUntilReleased, LeastStarts, RepeatsChangeNothing, WritesCarryTheId};
+ghost use Rattle.machine.specs.Custody.{HoldsUntilReleased, LeastStarts, RepeatsChangeNothing, VersionsChangeByTheId, WritesCarryTheId};
 
 /// A lock holds, with the text that took it, until an UNLOCK by its ID or a forced release.
 pub fn holds_until_released()
@@ -9,6 +9,11 @@ pub fn holds_until_released()
 /// While a lock holds, each accepted update or purge carried its ID.
 pub fn writes_carry_the_id()
     ensures { WritesCarryTheId }
+{}
+
+/// Under a lock, versions change by an update or a purge that carried its ID, and by nothing else.
+pub fn versions_change_by_the_id()
+    ensures { VersionsChangeByTheId }
 {}
 
 /// An act that comes again, at whatever moment, changes nothing more.

@@ -13,7 +13,10 @@ pub mod records;
 pub use acts::{Act, Answer, Change, Decision, Edit, Newest, Shown, Unit, WorkspaceUnit};
 pub use decisions::{MAX_VERSIONS, decide};
 pub use keeps::{AdminAnswer, Keep};
-pub use laws::{holds_until_released, least_starts, repeats_change_nothing, writes_carry_the_id};
+pub use laws::{
+    holds_until_released, least_starts, repeats_change_nothing, versions_change_by_the_id,
+    writes_carry_the_id,
+};
 pub use maps::NameMap;
 pub use plain::PlainKeep;
 pub use records::{Holder, Organization, Run, Token, Version, Workspace};

@@ -15,7 +15,7 @@ use Rattle.route.specs.Policy.{least_role, is_allowed, need_of}
 use Rattle.route.specs.declared.acts.Asked.{Asked}
 use Rattle.route.specs.declared.acts.AskedAct.{AskedAct}
 use Rattle.route.specs.declared.acts.AskedAct.TheVariants.{ListWorkspaces, ReadWorkspace, PutWorkspace, DeleteWorkspace, ReadState, UpdateState, PurgeState, Lock, Unlock, ForceUnlock, ListVersions, ReadVersion, ListRuns, MakeRun, ReadRun, ReportRun}
-use Rattle.serve.specs.Steps.{refusing, place_of, act_of, fits, by_names, in_place, by_organization, by_role, by_caller, request_step}
+use Rattle.serve.specs.Steps.{refusing, place_of, act_of, fits, by_names, in_place, by_organization, by_role, by_caller}
 use Rattle.serve.specs.Laws.{renamed, NeedsWorkspace, ForeignAsAbsent}
 
 role_stays : (act : AskedAct) (ws : List ℕ) → least_role (renamed act ws) ≡ least_role act

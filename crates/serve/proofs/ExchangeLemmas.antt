@@ -1,5 +1,5 @@
 -- One exchange: the reply to what was read, and what is written in all.
-use Rattle.std.proofs.Common.{◌≡◌, ℕ, ◌<◌, Bool, true, false, List, [], ◌∷◌, ◌++◌, length, Option, Some, None, Result, Ok, Err, IfSome, refl, sym, ap, subst, ◌∙◌, append_assoc, ◌⊎◌, inl, inr}
+use Rattle.std.proofs.Common.{◌≡◌, ℕ, Bool, false, List, [], ◌++◌, Option, Some, None, Result, Ok, Err, IfSome, refl, sym, ap, subst, ◌∙◌, append_assoc, inl, inr}
 use Rattle.std.specs.Io.KnownBytes.{Appends}
 use Rattle.basis.specs.declared.refusals.Refusal.{Refusal}
 use Rattle.docs.specs.Bodies.{error_text}
@@ -15,8 +15,8 @@ use Rattle.wire.specs.Replies.{Answer, IsReplyText, refused_answer, unavailable_
 use Rattle.serve.specs.Asks.{Ask}
 use Rattle.serve.specs.Asks as ask
 use Rattle.serve.specs.Prepared.{IsPrepared}
-use Rattle.serve.specs.Service.{asked_by, Asks, Carries, Stays, said_to, IsText}
-use Rattle.serve.specs.Exchanges.{IsServed, IsUnavailable, IsAnswered, IsReplied, RepliesTo, Exchanges, ended_of}
+use Rattle.serve.specs.Service.{asked_by, Carries, Stays, said_to, IsText}
+use Rattle.serve.specs.Exchanges.{IsAnswered, IsReplied, RepliesTo, Exchanges, ended_of}
 use Rattle.serve.specs.declared.prepared.Prepared.{Prepared}
 use Rattle.serve.proofs.TakenLemmas.{said_is, prepared_after, carries_after}
 

@@ -3,3 +3,5 @@ pub mod TakenLemmas
 pub mod RunLemmas
 pub mod ExchangeLemmas
 pub mod AbsentLemmas
+pub mod CustodyLemmas
+pub mod RepeatLemmas

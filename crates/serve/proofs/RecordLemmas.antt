@@ -1,10 +1,10 @@
 -- Records that stay as they are, and answers that are foreseen.
-use Rattle.std.proofs.Common.{◌≡◌, ℕ, Bool, true, false, cond, ◌||◌, List, Option, Some, None, Result, Ok, Err, IsSome, IfSome, IfOk, refl, sym, ap, subst, ◌∙◌}
+use Rattle.std.proofs.Common.{◌≡◌, ℕ, Bool, false, cond, ◌||◌, List, Option, Some, None, Result, Ok, Err, IsSome, IfSome, IfOk, refl, sym, ap, subst, ◌∙◌}
 use Rattle.std.specs.Prelude.{option_map}
-use Rattle.std.specs.Ordering.{eq_by_cmp, is_eq}
+use Rattle.std.specs.Ordering.{is_eq}
 use Rattle.std.specs.declared.cmp.Ordering.{Ordering}
 use Rattle.std.specs.declared.cmp.Ordering.TheVariants.{Less, Equal, Greater}
-use Rattle.std.specs.FinMap.{FinMap, get, insert, remove, get-insert, get_tied, same_map}
+use Rattle.std.specs.FinMap.{FinMap, get, insert, get-insert, same_map}
 use Rattle.machine.specs.Order.{name_cmp}
 use Rattle.machine.specs.Records.{workspace_in, with_workspace, placed}
 use Rattle.machine.specs.declared.records.Workspace.{Workspace}
@@ -28,7 +28,7 @@ use Rattle.machine.specs.Tokens.{caller_of}
 use Rattle.serve.specs.Units.{holder_in}
 use Rattle.serve.specs.declared.prepared.Pending.{Pending}
 use Rattle.serve.specs.declared.prepared.Prepared.{Prepared}
-use Rattle.machine.proofs.MapLemmas.{names_total, names_same, remove_absent, get_own, get_other}
+use Rattle.machine.proofs.MapLemmas.{names_total, names_same, remove_absent}
 
 -- a workspace put where it stands already
 inserted_same : (m : FinMap name_cmp Workspace) (ws : List ℕ) (w : Workspace) → get m ws ≡ Some w → insert m ws w ≡ m

@@ -1,19 +1,17 @@
 -- A run one step longer, and runs that agree.
-use Rattle.std.proofs.Common.{◌≡◌, ℕ, suc, ◌+◌, ◌≤◌, Bool, true, false, List, [], ◌∷◌, ◌++◌, length, take, get_or, ◌<◌, Option, Some, None, Result, Ok, Err, IfOk, OnOk, Vec, Global, refl, sym, ap, subst, ◌∙◌, append_assoc, arith}
-use Rattle.std.specs.Str.{bytes_eq}
+use Rattle.std.proofs.Common.{◌≡◌, ℕ, suc, ◌+◌, Bool, true, false, List, [], ◌∷◌, ◌++◌, length, take, get_or, ◌<◌, Option, Some, None, Result, Ok, Err, IfOk, OnOk, Vec, Global, refl, sym, ap, subst, ◌∙◌, arith}
 use Rattle.std.proofs.lemmas.Slice.Eq.{bytes_eq-Decides}
 use Rattle.std.proofs.lemmas.List.{take_more, length-take-le}
 use Rattle.machine.specs.declared.records.Organization.{Organization}
 use Rattle.std.proofs.Math.Seq.{take-length}
 use Rattle.wire.proofs.ReadingLemmas.{reads_one}
 use Rattle.wire.proofs.ReplyLemmas.{one_reply}
-use Rattle.wire.specs.Messages.{Reading}
 use Rattle.wire.specs.Links.{continue_if}
 use Rattle.serve.specs.declared.steps.Step.{Step}
 use Rattle.serve.specs.declared.steps.Step.TheVariants.{Request, Command}
 use Rattle.serve.specs.Asks.{Ask, silent, refused, requests, commands, organization_of}
 use Rattle.serve.specs.Steps.{Said, nothing, replies, tells, step, own_said, own_record}
-use Rattle.serve.specs.Service.{IsAsked, Asks, AreAsked, AreTexts, IsText, ask_of, same_owner, is_own, with_own, own_asks, replies_at, record_for, after_ask, Carries, said_to, Takes}
+use Rattle.serve.specs.Service.{IsAsked, AreAsked, AreTexts, IsText, ask_of, same_owner, is_own, with_own, own_asks, replies_at, record_for, after_ask, said_to, Takes}
 use Rattle.serve.specs.Runs.{RunsTo, IsOwnRecord, AreOwnReplies}
 use Rattle.serve.specs.Laws.{Agree}
 

@@ -1,5 +1,5 @@
 -- One step taken: what it asks is carried out, and this is the text of what is said.
-use Rattle.std.proofs.Common.{◌≡◌, ℕ, Bool, true, false, List, [], ◌∷◌, ◌++◌, Option, Some, None, Result, Ok, Err, IfOk, refl, sym, ap, subst, ◌∙◌}
+use Rattle.std.proofs.Common.{◌≡◌, ℕ, Bool, false, List, [], ◌++◌, Option, Some, Result, IfOk, refl, sym, ap, subst, ◌∙◌}
 use Rattle.basis.specs.declared.refusals.Refusal.{Refusal}
 use Rattle.docs.specs.Bodies.{error_text}
 use Rattle.machine.specs.declared.records.Organization.{Organization}
@@ -14,7 +14,7 @@ use Rattle.serve.specs.declared.prepared.Prepared.{Prepared}
 use Rattle.serve.specs.Asks.{Ask, silent, requests, commands}
 use Rattle.serve.specs.Asks as ask
 use Rattle.serve.specs.Prepared.{IsPrepared, Foresees}
-use Rattle.serve.specs.Steps.{Answered, request_step}
+use Rattle.serve.specs.Steps.{request_step}
 use Rattle.serve.specs.Service.{asked_by, Asks, Carries, Stays, said_to, IsText, after_ask, is_own}
 use Rattle.serve.specs.Steps.{Said, tells}
 use Rattle.serve.specs.Service.{Takes, IsAsked, admin_text}

@@ -1,5 +1,5 @@
 -- What a step asks, and whose step it is.
-use Rattle.std.specs.Prelude.{◌≡◌, ℕ, Bool, true, false, List, [], Option, Some, None, codes}
+use Rattle.std.specs.Prelude.{ℕ, Bool, List, Option, Some, None}
 use Rattle.basis.specs.declared.refusals.Refusal.{Refusal}
 use Rattle.route.specs.declared.acts.Asked.{Asked}
 use Rattle.serve.specs.declared.steps.Admin.{Admin}

@@ -9,8 +9,7 @@ use Rattle.machine.specs.declared.records.Organization.{Organization}
 use Rattle.serve.specs.declared.steps.Step.{Step}
 use Rattle.serve.specs.Asks.{Ask}
 use Rattle.serve.specs.Steps.{request_step}
-use Rattle.serve.specs.Service.{AreAsked, own_asks, replies_at}
-use Rattle.serve.specs.Runs.{IsOwnRecord, AreOwnReplies}
+use Rattle.serve.specs.Service.{AreAsked, own_asks}
 
 -- a list of steps asks one list of things
 abbrev pub OneAsking : Type 0

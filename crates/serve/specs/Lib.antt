@@ -6,3 +6,4 @@ pub mod Service
 pub mod Runs
 pub mod Exchanges
 pub mod Laws
+pub mod Custody

@@ -1,5 +1,5 @@
 -- Steps as their bytes say them, and whole runs of them over the records of all organizations.
-use Rattle.std.specs.Prelude.{◌≡◌, ℕ, Bool, true, false, cond, List, [], ◌∷◌, ◌++◌, length, Option, Some, None, codes, ⊤}
+use Rattle.std.specs.Prelude.{◌≡◌, ℕ, Bool, true, false, List, [], ◌∷◌, ◌++◌, Option, Some, None, codes, ⊤}
 use Rattle.std.specs.Str.{bytes_eq}
 use Rattle.machine.specs.declared.keeps.AdminAnswer.{AdminAnswer}
 use Rattle.machine.specs.declared.keeps.AdminAnswer.TheVariants.{Done, Exists, Absent}
@@ -14,7 +14,7 @@ use Rattle.wire.specs.Replies.{IsReplyText}
 use Rattle.serve.specs.declared.steps.Step.{Step}
 use Rattle.serve.specs.declared.steps.Step.TheVariants.{Request, Command}
 use Rattle.serve.specs.Asks.{Ask, silent, refused, requests, commands, organization_of}
-use Rattle.serve.specs.Steps.{Said, nothing, replies, tells, Stepped, step}
+use Rattle.serve.specs.Steps.{Said, nothing, replies, tells, step}
 
 -- the method of a message is HEAD
 abbrev pub is_head : Message → Bool

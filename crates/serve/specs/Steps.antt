@@ -1,6 +1,6 @@
 -- The machine of one organization: what it answers to what is asked, and its record afterwards. The
 -- checks come in their order, and the first that fails answers; then nothing changes.
-use Rattle.std.specs.Prelude.{◌≡◌, ℕ, Bool, true, false, ◌||◌, cond, List, [], ◌∷◌, ◌++◌, Option, Some, None, Result, Ok, Err, is_some, option_map, codes}
+use Rattle.std.specs.Prelude.{ℕ, Bool, true, false, ◌||◌, List, [], ◌∷◌, Option, Some, None, Result, Ok, Err, is_some, option_map}
 use Rattle.std.specs.Str.{bytes_eq}
 use Rattle.basis.specs.declared.refusals.Refusal.{Refusal}
 use Rattle.basis.specs.declared.refusals.Refusal.TheVariants.{BadToken, NotFound, BadDigest, BadState, BadLock, BadBody, Locked}
@@ -15,7 +15,6 @@ use Rattle.machine.specs.Tokens.{caller_of, Managed, org_added, token_added, tok
 use Rattle.machine.specs.declared.acts.Act.{Act}
 use Rattle.machine.specs.declared.acts.Act.TheVariants.{PutWorkspace as PutAct, UpdateState as UpdateAct, ReadState as ReadAct, PurgeState as PurgeAct, Lock as LockAct, Unlock as UnlockAct, ForceUnlock as ForceUnlockAct}
 use Rattle.machine.specs.declared.keeps.AdminAnswer.{AdminAnswer}
-use Rattle.machine.specs.declared.keeps.AdminAnswer.TheVariants.{Done, Exists, Absent}
 use Rattle.machine.specs.declared.records.Holder.{Holder}
 use Rattle.machine.specs.declared.records.Holder.TheVariants.{Nobody, Lock as LockHolder, Run as RunHolder}
 use Rattle.machine.specs.declared.records.Organization.{Organization}

@@ -13,4 +13,4 @@ mod worlds;
 pub use exchanges::LinkFault;
 pub use service::Service;
 pub use steps::{Admin, Step};
-pub use worlds::{foreign_as_absent, one_asking, two_worlds};
+pub use worlds::{foreign_as_absent, locks_are_kept, one_asking, steps_are_repeatable, two_worlds};

@@ -1,9 +1,10 @@
-//! Laws: that a step asks one thing, that two worlds which agree on an organization answer it alike, and that
-//! another organization's workspace is answered as an absent one.
+//! Laws: that a step asks one thing, that two worlds which agree on an organization answer it alike, that
+//! another organization's workspace is answered as an absent one, that locks are kept, and that repeats change nothing.
 ghost use Rattle.std.specs.Prelude.{◌≡◌, ℕ, List, Option, Some, IfOk, OnOk};
 ghost use Rattle.serve.specs.Asks.{Ask};
 ghost use Rattle.serve.specs.Service.{AreAsked, replies_at};
 ghost use Rattle.serve.specs.Laws.{OneAsking, Agree, ForeignAsAbsent};
+ghost use Rattle.serve.specs.Custody.{LocksAreKept, StepsAreRepeatable};
 
 use crate::service::Service;
 use crate::steps::Step;
@@ -20,6 +21,17 @@ pub fn one_asking()
 /// caller's own organization lacks, and changes nothing either.
 pub fn foreign_as_absent()
     ensures { ForeignAsAbsent }
+{}
+
+/// What a step of an organization's machine leaves of a workspace that a lock holds, of every record: its
+/// versions, or the step carried the lock's ID; and the lock with its text, or the step released it.
+pub fn locks_are_kept()
+    ensures { LocksAreKept }
+{}
+
+/// What is asked again, at whatever moment, while the record is as the first time left it, changes nothing more.
+pub fn steps_are_repeatable()
+    ensures { StepsAreRepeatable }
 {}
 
 /// Two worlds: two keeps with equal records of an organization, and two lists of steps with the same

@@ -1,10 +1,9 @@
-use Rattle.std.proofs.Common.{◌≡◌, ap, sym, ◌∙◌, subst, Option, None, List, ℕ}
+use Rattle.std.proofs.Common.{◌≡◌, ap, sym, ◌∙◌, subst, Option, None}
 use Rattle.basis.specs.declared.roles.Role.{Role}
-use Rattle.basis.specs.declared.refusals.Refusal.TheVariants.{BadToken}
 use Rattle.sha2.specs.Sha256.{sha256}
 use Rattle.machine.specs.Tokens.{caller_of}
 use Rattle.serve.specs.Prepared.{Foresees}
-use Rattle.serve.specs.Steps.{Answered, by_caller, request_step, refusing}
+use Rattle.serve.specs.Steps.{Answered, by_caller}
 use Rattle.serve.proofs.RecordLemmas.{if_ok}
 use Rattle.serve.proofs.requests.request.Goals as goal
 

@@ -1,6 +1,3 @@
-use Rattle.std.proofs.Common.{subst, sym, Result}
-use Rattle.serve.specs.declared.exchanges.LinkFault.{LinkFault}
-use Rattle.serve.specs.Exchanges.{Exchanges}
 use Rattle.serve.proofs.ExchangeLemmas.{refused_whole}
 use Rattle.serve.proofs.service.refuse_exchange.Goals as goal
 

@@ -1,4 +1,4 @@
-use Rattle.std.proofs.Common.{◌≡◌, ◌++◌, ◌∷◌, [], List, ℕ, subst, sym, ◌∙◌, rules, arith, vec_len, refl}
+use Rattle.std.proofs.Common.{◌≡◌, ◌++◌, ◌∷◌, [], List, ℕ, subst, sym, ◌∙◌, rules, arith, refl}
 use Rattle.serve.specs.Runs.{RunsTo}
 use Rattle.serve.proofs.RunLemmas.{runs_none, step_more}
 use Rattle.serve.proofs.service.run.Goals as goal

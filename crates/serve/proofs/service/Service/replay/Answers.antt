@@ -1,4 +1,4 @@
-use Rattle.std.proofs.Common.{Some, None, List, ℕ}
+use Rattle.std.proofs.Common.{None}
 use Rattle.serve.proofs.RunLemmas.{rows_by, replies_given, orgs_given}
 use Rattle.serve.proofs.service.Service.replay.Goals as goal
 
