@@ -1,5 +1,5 @@
 //! The service over a keep: what it keeps between steps, and steps in turn.
-ghost use Rattle.std.specs.Prelude.{◌≡◌, ◌≤◌, ℕ, List, Option, Some, None, IfOk, IfErr, IfSome, IsErrOf, is_err, true, false, ◌↔◌, ◌⊎◌, OnOk, OnErr, length, take};
+ghost use Rattle.std.specs.Prelude.{◌≡◌, ◌≤◌, ◌<◌, ℕ, List, Option, Some, None, IfOk, IfErr, IfSome, IsErrOf, is_err, true, false, ◌↔◌, ◌⊎◌, OnOk, OnErr, length, take};
 ghost use Rattle.machine.specs.declared.records.Organization.{Organization};
 ghost use Rattle.serve.specs.Exchanges.{Exchanges, ended_of};
 ghost use Rattle.serve.specs.Asks.{Ask, commands};
@@ -62,6 +62,7 @@ fn run<K: Keep>(
     ensures one_each { IfOk result (λ replies. length replies.items ≡ length steps.now) }
     ensures most { taken.new ≤ length steps.now }
     ensures all { OnOk result (taken.new ≡ length steps.now) }
+    ensures left { OnErr result (0 < length steps.now → taken.new < length steps.now) }
     ensures ran { K.clean keep.new → (replies : List (List ℕ)) × RunsTo (take taken.new steps.now) (K.rows keep.old) (K.rows keep.new) replies
         × IfOk result (λ given. given.items ≡ replies) }
 {
@@ -165,6 +166,7 @@ impl<K: Keep> Service<K> {
             Exchanges now bytes (K.rows self.old.keep) (K.rows self.new.keep) (O.written outlet.old) (O.written outlet.new) result) }
         ensures read { (I.broken inlet.new ≡ true) ↔ IsErrOf result LinkFault.Read }
         ensures written { (O.broken outlet.new ≡ true) ↔ (IsErrOf result LinkFault.Continue ⊎ IsErrOf result LinkFault.Write) }
+        ensures taken { self.new.taken ≡ self.old.taken }
     {
         match take_routes(alloc, &mut self.routes) {
             Ok(routes) => {
@@ -182,6 +184,7 @@ impl<K: Keep> Service<K> {
         ensures ok { K.clean self.new.keep → IfOk result (λ answer. Carries (commands now asked.now) (K.rows self.old.keep) (K.rows self.new.keep)
             × (said_to (K.rows self.old.keep) (commands now asked.now) ≡ tells answer)) }
         ensures err { K.clean self.new.keep → OnErr result (Stays (K.rows self.old.keep) (K.rows self.new.keep)) }
+        ensures taken { self.new.taken ≡ self.old.taken }
     {
         command(alloc, &mut self.keep, asked)
     }
@@ -191,10 +194,14 @@ impl<K: Keep> Service<K> {
         ensures one_each { IfOk result (λ replies. length replies.items ≡ length steps.now) }
         ensures most { self.new.taken ≤ length steps.now }
         ensures all { OnOk result (self.new.taken ≡ length steps.now) }
+        ensures left { OnErr result (self.new.taken < length steps.now) }
         ensures ran { K.clean self.new.keep → (replies : List (List ℕ)) × RunsTo (take self.new.taken steps.now) (K.rows self.old.keep) (K.rows self.new.keep) replies
             × IfOk result (λ given. given.items ≡ replies) }
     {
         self.taken = 0;
+        if steps.is_empty() {
+            return Ok(Vec::new(alloc));
+        }
         let Ok(routes) = take_routes(alloc, &mut self.routes) else {
             return Err(Down);
         };
@@ -226,6 +233,9 @@ impl<K: Keep> Service<K> {
         ensures one_each { IfOk result (λ replies. length replies.items ≡ length steps.now) }
         ensures taken_most { self.new.taken ≤ length steps.now }
         ensures taken_all { OnOk result (self.new.taken ≡ length steps.now) }
+
+        // After `Down` a step is left that wasn't taken.
+        ensures taken_fewer { OnErr result (self.new.taken < length steps.now) }
     {
         self.run_all(alloc, steps)
     }
