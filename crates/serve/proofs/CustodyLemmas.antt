@@ -1,30 +1,25 @@
 -- What a step leaves of a workspace that a lock holds.
-use Rattle.std.proofs.Common.{◌≡◌, ◌≢◌, ◌⊎◌, inl, inr, ℕ, Bool, true, false, ◌||◌, cond, List, Option, Some, None, Result, Ok, Err, is_some, refl, sym, ap, subst, ◌∙◌}
-use Rattle.std.specs.Prelude.{option_map}
+use Rattle.std.proofs.Common.{◌≡◌, ◌⊎◌, inl, inr, ℕ, Bool, true, false, ◌||◌, cond, List, Option, Some, None, Result, Ok, is_some, refl, sym, ap, subst, ◌∙◌}
 use Rattle.std.specs.Str.{bytes_eq}
-use Rattle.std.specs.FinMap.{FinMap, get}
+use Rattle.std.specs.FinMap.{get}
 use Rattle.std.proofs.lemmas.Slice.Eq.{bytes_eq-Decides}
 use Rattle.basis.specs.declared.refusals.Refusal.{Refusal}
 use Rattle.basis.specs.declared.refusals.Refusal.TheVariants.{BadState, BadLock, BadBody}
-use Rattle.basis.specs.declared.roles.Role.{Role}
 use Rattle.basis.specs.declared.rows.Settings.{Settings}
 use Rattle.basis.specs.declared.rows.StateHead.{StateHead}
 use Rattle.sha2.specs.Sha256.{sha256}
 use Rattle.docs.specs.Documents.{state_head, lock_id_of, settings_of}
-use Rattle.machine.specs.Order.{name_cmp}
-use Rattle.machine.specs.Records.{workspace_in, with_workspace, placed}
+use Rattle.machine.specs.Records.{workspace_in, with_workspace}
 use Rattle.machine.specs.Rules.{rules}
 use Rattle.machine.specs.Custody.{WritesWith, Releases}
-use Rattle.machine.specs.Tokens.{caller_of, managed, token_of, with_token, has_digest}
+use Rattle.machine.specs.Tokens.{managed, token_of, with_token, has_digest}
 use Rattle.machine.specs.declared.keeps.AdminAnswer.TheVariants.{Done, Exists}
-use Rattle.machine.proofs.MapLemmas.{get_own, get_other, removed_own, removed_other}
 use Rattle.machine.proofs.CustodyLemmas.{versions_change_by_the_id, holds_until_released}
 use Rattle.machine.specs.declared.acts.Act.{Act}
 use Rattle.machine.specs.declared.acts.Act.TheVariants.{PutWorkspace as PutAct, UpdateState as UpdateAct, Lock as LockAct, Unlock as UnlockAct}
 use Rattle.machine.specs.declared.records.Holder.TheVariants.{Lock as LockHolder}
 use Rattle.machine.specs.declared.records.Workspace.{Workspace}
 use Rattle.machine.specs.declared.records.Organization.{Organization}
-use Rattle.route.specs.Policy.{is_allowed}
 use Rattle.route.specs.declared.acts.Asked.{Asked}
 use Rattle.route.specs.declared.acts.AskedAct.{AskedAct}
 use Rattle.route.specs.declared.acts.AskedAct.TheVariants.{ListWorkspaces, ReadWorkspace, PutWorkspace, DeleteWorkspace, ReadState, UpdateState, PurgeState, Lock, Unlock, ForceUnlock, ListVersions, ReadVersion, ListRuns, MakeRun, ReadRun, ReportRun}
@@ -32,62 +27,9 @@ use Rattle.serve.specs.declared.steps.Admin.{Admin}
 use Rattle.serve.specs.declared.steps.Admin.TheVariants.{OrgAdd, TokenAdd}
 use Rattle.serve.specs.Asks.{Ask, silent, requests, commands}
 use Rattle.serve.specs.Asks as ask
-use Rattle.serve.specs.Steps.{Place, or_refused, act_of, fits, place_of, by_document, by_digest, by_names, in_place, by_organization, by_role, by_caller, request_step, command_step}
+use Rattle.serve.specs.Steps.{or_refused, act_of, request_step, command_step}
+use Rattle.serve.proofs.LeaveLemmas.{Leaves, request_leaves, own_workspace, other_workspace}
 use Rattle.serve.specs.Custody.{IsInCustody, LocksAreKept}
-
--- what the record is after a request: as it was, or with the workspace of its place as the rules leave it
-pub record IsRuled (r : Option Organization) (asked : Asked) (body : List ℕ) (now : ℕ) (after : Option Organization) : Type 0 where
-  pub ws : List ℕ
-  pub act : Act
-  pub spelt : act_of asked.act asked.lock_id body ≡ Ok act
-  pub is : after ≡ option_map (λ (o : Organization). placed o ws (rules ws act now (workspace_in r ws)).after) r
-
-abbrev Leaves : Option Organization → Asked → List ℕ → ℕ → Option Organization → Type 0
-Leaves r asked body now after = (after ≡ r) ⊎ IsRuled r asked body now after
-
-document_leaves : (r : Option Organization) (asked : Asked) (body ws : List ℕ) (now : ℕ) (read : Result Act Refusal) → act_of asked.act asked.lock_id body ≡ read
-    → Leaves r asked body now (by_document asked.caller ws now r read).after
-document_leaves r asked body ws now (Err refusal) e = inl refl
-document_leaves r asked body ws now (Ok act) e = inr (record { ws = ws; act = act; spelt = e; is = refl })
-
-digest_leaves : (r : Option Organization) (asked : Asked) (body ws : List ℕ) (now : ℕ) (fit : Bool)
-    → Leaves r asked body now (by_digest fit asked.caller ws now r (act_of asked.act asked.lock_id body)).after
-digest_leaves r asked body ws now false = inl refl
-digest_leaves r asked body ws now true = document_leaves r asked body ws now (act_of asked.act asked.lock_id body) refl
-
-names_leave : (r : Option Organization) (asked : Asked) (body ws : List ℕ) (now : ℕ) (found fit : Bool)
-    → Leaves r asked body now (by_names found fit asked.caller ws now r (act_of asked.act asked.lock_id body)).after
-names_leave r asked body ws now false fit = inl refl
-names_leave r asked body ws now true fit = digest_leaves r asked body ws now fit
-
-place_leaves : (r : Option Organization) (asked : Asked) (digest : Option (List ℕ)) (body : List ℕ) (now : ℕ) (p : Option Place)
-    → Leaves r asked body now (in_place p asked digest body now r).after
-place_leaves r asked digest body now None = inl refl
-place_leaves r asked digest body now (Some p) = names_leave r asked body p.ws now (p.makes || is_some (workspace_in r p.ws)) (fits digest body)
-
-organization_leaves : (r : Option Organization) (asked : Asked) (digest : Option (List ℕ)) (body : List ℕ) (now : ℕ) (own : Bool)
-    → Leaves r asked body now (by_organization own asked digest body now r).after
-organization_leaves r asked digest body now false = inl refl
-organization_leaves r asked digest body now true = place_leaves r asked digest body now (place_of asked.act)
-
-role_leaves : (r : Option Organization) (asked : Asked) (digest : Option (List ℕ)) (body : List ℕ) (now : ℕ) (enough : Bool)
-    → Leaves r asked body now (by_role enough asked digest body now r).after
-role_leaves r asked digest body now false = inl refl
-role_leaves r asked digest body now true = organization_leaves r asked digest body now (bytes_eq asked.org asked.caller)
-
-caller_leaves : (r : Option Organization) (asked : Asked) (digest : Option (List ℕ)) (body : List ℕ) (now : ℕ) (caller : Option Role)
-    → Leaves r asked body now (by_caller caller asked digest body now r).after
-caller_leaves r asked digest body now None = inl refl
-caller_leaves r asked digest body now (Some role) = role_leaves r asked digest body now (is_allowed asked.act role)
-
--- the workspace of a name, where one is put in place or taken away
-pub own_workspace : (m : FinMap name_cmp Workspace) (name : List ℕ) (w : Option Workspace) → get (with_workspace m name w) name ≡ w
-own_workspace m name None = removed_own m name
-own_workspace m name (Some w) = get_own m name w
-
-other_workspace : (m : FinMap name_cmp Workspace) (name : List ℕ) (w : Option Workspace) (other : List ℕ) → other ≢ name → get (with_workspace m name w) other ≡ get m other
-other_workspace m name None other apart = removed_other m name other apart
-other_workspace m name (Some w) other apart = get_other m name w other apart
 
 -- an act that writes with an ID has it from the query
 abbrev read_as : Act → Result Act Refusal
@@ -171,15 +113,15 @@ ruled_any at due asked digest body o place ws act w v held text spelt there lock
     (sym there ∙ sym (other_workspace o.workspaces place (rules place act at (get o.workspaces place)).after ws
     (λ same. let none : ⊥ = cc (sym apart ∙ (bytes_eq-Decides ws place).1 same) in none)) ∙ e)
 
-request_kept : (r : Option Organization) (at : ℕ) (due : Bool) (asked : Asked) (digest : Option (List ℕ)) (body : List ℕ) (after : Option Organization) (ws : List ℕ) (w v : Workspace) (held text : List ℕ)
-    → Leaves r asked body at after → workspace_in r ws ≡ Some w → w.holder ≡ LockHolder held text → workspace_in after ws ≡ Some v
+request_kept : (r : Option Organization) (at : ℕ) (due : Bool) (asked : Asked) (digest : Option (List ℕ)) (body : List ℕ) (after : ℕ → Option Organization) (ws : List ℕ) (w v : Workspace) (held text : List ℕ)
+    → Leaves r asked body after → workspace_in r ws ≡ Some w → w.holder ≡ LockHolder held text → workspace_in (after at) ws ≡ Some v
     → IsInCustody (requests at due asked digest body) held text w v
 request_kept r at due asked digest body after ws w v held text (inl h) there lock e =
-    stays (requests at due asked digest body) held text w v lock (sym there ∙ ap (λ (x : Option Organization). workspace_in x ws) (sym h) ∙ e)
+    stays (requests at due asked digest body) held text w v lock (sym there ∙ ap (λ (x : Option Organization). workspace_in x ws) (sym (h at)) ∙ e)
 request_kept None at due asked digest body after ws w v held text (inr h) there lock e = absurd (let none : ⊥ = cc in none)
 request_kept (Some o) at due asked digest body after ws w v held text (inr h) there lock e =
     ruled_any at due asked digest body o h.ws ws h.act w v held text h.spelt there lock
-    (ap (λ (x : Option Organization). workspace_in x ws) (sym h.is) ∙ e) (bytes_eq ws h.ws) refl
+    (ap (λ (x : Option Organization). workspace_in x ws) (sym (h.is at)) ∙ e) (bytes_eq ws h.ws) refl
 
 -- an operator's command leaves every workspace
 command_keeps : (r : Option Organization) (command : Admin) (ws : List ℕ) (w v : Workspace) → workspace_in r ws ≡ Some w → workspace_in (command_step r command).after ws ≡ Some v → Some w ≡ Some v
@@ -195,6 +137,5 @@ pub locks_are_kept : LocksAreKept
 locks_are_kept r silent ws w v held text there lock e = stays silent held text w v lock (sym there ∙ e)
 locks_are_kept r (ask.refused at due refusal is_head) ws w v held text there lock e = stays (ask.refused at due refusal is_head) held text w v lock (sym there ∙ e)
 locks_are_kept r (requests at due asked digest body) ws w v held text there lock e =
-    request_kept r at due asked digest body (request_step r at asked digest body).after ws w v held text
-    (caller_leaves r asked digest body at (caller_of r (sha256 asked.secret))) there lock e
+    request_kept r at due asked digest body (λ now. (request_step r now asked digest body).after) ws w v held text (request_leaves r asked digest body) there lock e
 locks_are_kept r (commands at command) ws w v held text there lock e = stays (commands at command) held text w v lock (command_keeps r command ws w v there e)
