@@ -360,7 +360,7 @@ use std::process::Abort;
 use wire::{FromRead, ToWrite};
 
 // Two organizations with their tokens, and an empty workspace.
-const SET_UP: &str = %s;
+pub const SET_UP: &str = %s;
 const SET_UP_PRINTED: &str = %s;
 
 // What an exchange writes; nothing where the input ended inside the message.
