@@ -1,3 +1,4 @@
+pub mod Checks
 pub mod Names
 pub mod Numbers
 pub mod Refusals

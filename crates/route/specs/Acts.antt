@@ -4,7 +4,7 @@ use Rattle.basis.specs.declared.refusals.Allow.{Allow}
 use Rattle.basis.specs.declared.refusals.Allow.TheVariants.{Lists, Workspaces, States, Runs, Actions}
 use Rattle.basis.specs.declared.refusals.Refusal.{Refusal}
 use Rattle.basis.specs.declared.refusals.Refusal.TheVariants.{NoMethod}
-use Rattle.route.specs.Checks.{or_refused}
+use Rattle.basis.specs.Checks.{or_refused}
 use Rattle.route.specs.declared.acts.AskedAct.{AskedAct}
 use Rattle.route.specs.declared.acts.AskedAct.TheVariants.{ListWorkspaces, ReadWorkspace, PutWorkspace, DeleteWorkspace, ReadState, UpdateState, PurgeState, Lock as LockState, Unlock as UnlockState, ForceUnlock, ListVersions, ReadVersion, ListRuns, MakeRun, ReadRun, ReportRun}
 use Rattle.route.specs.declared.places.Target.{Target}

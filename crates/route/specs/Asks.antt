@@ -8,7 +8,7 @@ use Rattle.route.specs.declared.acts.AskedAct.{AskedAct}
 use Rattle.route.specs.declared.places.Place.{Place}
 use Rattle.route.specs.declared.queries.Query.{Query}
 use Rattle.route.specs.declared.tokens.Token.{Token}
-use Rattle.route.specs.Checks.{or_refused, and_then}
+use Rattle.basis.specs.Checks.{or_refused, and_then}
 use Rattle.route.specs.Places.{place_of}
 use Rattle.route.specs.Acts.{act_read}
 use Rattle.route.specs.Queries.{query_read, lock_id_read, after_read}

@@ -10,7 +10,7 @@ use Rattle.basis.specs.declared.refusals.Refusal.TheVariants.{BadQuery}
 use Rattle.route.specs.declared.acts.AskedAct.{AskedAct}
 use Rattle.route.specs.declared.acts.AskedAct.TheVariants.{ListWorkspaces, ListVersions, ListRuns}
 use Rattle.route.specs.declared.queries.Query.{Query}
-use Rattle.route.specs.Checks.{or_refused}
+use Rattle.basis.specs.Checks.{or_refused}
 
 -- the key of a bearer token (RFC 6750, section 2.3)
 abbrev pub token_key : List ℕ

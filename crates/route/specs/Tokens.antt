@@ -6,7 +6,7 @@ use Rattle.basis.specs.Names.{is_org_name, is_secret}
 use Rattle.basis.specs.declared.refusals.Refusal.{Refusal}
 use Rattle.basis.specs.declared.refusals.Refusal.TheVariants.{TwoTokens, NoToken, BadToken}
 use Rattle.route.specs.declared.tokens.Token.{Token}
-use Rattle.route.specs.Checks.{or_refused, and_then}
+use Rattle.basis.specs.Checks.{or_refused, and_then}
 
 -- the bytes before the first such byte, or all of them
 abbrev pub before : ℕ → List ℕ → List ℕ

@@ -1,7 +1,8 @@
 //! What a message asks.
 ghost use Rattle.std.specs.Prelude.{◌≡◌, ◌≢◌, IfOk, IfErr, option_map};
 ghost use Rattle.route.specs.Asks.{asked_of, asked_read, at_place, with_query, query_text, is_bodyless, asks, refused};
-ghost use Rattle.route.specs.Checks.{Answers, now_of};
+ghost use Rattle.basis.specs.Checks.{Follows};
+ghost use Rattle.route.specs.Checks.{now_of};
 
 use crate::acts::{Asked, AskedAct};
 use crate::places::{Place, read_place};
@@ -58,7 +59,7 @@ fn with_query(
     act: AskedAct,
     found: Query,
 ) -> Result<Asked, Refusal>
-    ensures { Answers result (with_query authorization.now org act found) }
+    ensures { Follows result (with_query authorization.now org act found) }
 {
     let lock_id = match lock_id_in(alloc, found.id) {
         Ok(lock_id) => lock_id,
@@ -82,7 +83,7 @@ fn with_query(
 
 // What a message asks of what its path names.
 fn at_place(alloc: Global, message: &Message, place: Place) -> Result<Asked, Refusal>
-    ensures { Answers result (at_place message.now place) }
+    ensures { Follows result (at_place message.now place) }
 {
     let bodyless = is_bodyless(message.body.as_slice());
     let act = match act_asked(place.target, message.method.as_str(), bodyless) {
@@ -96,7 +97,7 @@ fn at_place(alloc: Global, message: &Message, place: Place) -> Result<Asked, Ref
 }
 
 fn asked_read(alloc: Global, routes: &Routes, message: &Message) -> Result<Asked, Refusal>
-    ensures { Answers result (asked_read message.now) }
+    ensures { Follows result (asked_read message.now) }
 {
     match read_place(alloc, routes, message.path.as_str()) {
         Ok(place) => at_place(alloc, message, place),

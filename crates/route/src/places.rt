@@ -1,6 +1,6 @@
 //! What a path names.
 ghost use Rattle.std.specs.Prelude.{◌≡◌, [], get_or, option_map};
-ghost use Rattle.route.specs.Checks.{Answers, or_refused};
+ghost use Rattle.basis.specs.Checks.{Follows, or_refused};
 ghost use Rattle.route.specs.Kinds.{org_of, ws_of, target_in, target_named, place_named};
 ghost use Rattle.route.specs.Places.{parts_of, place_of, action_of};
 
@@ -57,7 +57,7 @@ fn part(path: &str, place: usize) -> &str
 }
 
 fn read_org(alloc: Global, text: &str) -> Result<OrgName, Refusal>
-    ensures { Answers result (or_refused Refusal.NoRoute (org_of text.now)) }
+    ensures { Follows result (or_refused Refusal.NoRoute (org_of text.now)) }
 {
     match OrgName::read(alloc, text) {
         Ok(org) => Ok(org),
@@ -67,7 +67,7 @@ fn read_org(alloc: Global, text: &str) -> Result<OrgName, Refusal>
 }
 
 fn read_ws(alloc: Global, text: &str) -> Result<WsName, Refusal>
-    ensures { Answers result (or_refused Refusal.NoRoute (ws_of text.now)) }
+    ensures { Follows result (or_refused Refusal.NoRoute (ws_of text.now)) }
 {
     match WsName::read(alloc, text) {
         Ok(ws) => Ok(ws),
@@ -114,7 +114,7 @@ fn target_in(kind: Kind, path: &str, ws: WsName) -> Option<Target>
 
 // What a path of a kind names in its organization.
 fn target_named(alloc: Global, kind: Kind, path: &str) -> Result<Target, Refusal>
-    ensures { Answers result (or_refused Refusal.NoRoute (target_named kind (parts_of path.now))) }
+    ensures { Follows result (or_refused Refusal.NoRoute (target_named kind (parts_of path.now))) }
 {
     if kind == Kind::ListsWorkspaces {
         return Ok(Target::AllWorkspaces);
@@ -130,7 +130,7 @@ fn target_named(alloc: Global, kind: Kind, path: &str) -> Result<Target, Refusal
 
 // What a path of a kind names.
 fn place_named(alloc: Global, kind: Kind, path: &str) -> Result<Place, Refusal>
-    ensures { Answers result (or_refused Refusal.NoRoute (place_named kind (parts_of path.now))) }
+    ensures { Follows result (or_refused Refusal.NoRoute (place_named kind (parts_of path.now))) }
 {
     let org = match read_org(alloc, part(path, ORG_PART)) {
         Ok(org) => org,
@@ -144,7 +144,7 @@ fn place_named(alloc: Global, kind: Kind, path: &str) -> Result<Place, Refusal>
 
 /// What a path names; where it is no route, it is refused as `NoRoute`.
 pub fn read_place(alloc: Global, routes: &Routes, path: &str) -> Result<Place, Refusal>
-    ensures { Answers result (or_refused Refusal.NoRoute (place_of path.now)) }
+    ensures { Follows result (or_refused Refusal.NoRoute (place_of path.now)) }
 {
     match routes.kind_of(path) {
         Some(kind) => place_named(alloc, kind, path),

@@ -1,7 +1,7 @@
 //! The query of a request's target.
 ghost use Rattle.std.specs.Prelude.{◌≡◌, ◌≢◌, false, Some, None, OnOk, IfErr, IsSome, option_map};
 ghost use Rattle.std.specs.Cow.{cow_str_bytes};
-ghost use Rattle.route.specs.Checks.{Answers, or_refused};
+ghost use Rattle.basis.specs.Checks.{Follows, or_refused};
 ghost use Rattle.route.specs.Pairs.{has_room, Takes};
 ghost use Rattle.route.specs.Queries.{query_read, lock_id_read, after_read, name_after, listed_from, number_after};
 
@@ -80,7 +80,7 @@ fn take_pair(
 
 /// The values of the keys that have a use; none of these keys comes twice.
 pub fn read_query(alloc: Global, query: &[u8]) -> Result<Query, Refusal>
-    ensures { Answers result (query_read query.now) }
+    ensures { Follows result (query_read query.now) }
 {
     let mut found = Query {
         token: None,
@@ -100,7 +100,7 @@ pub fn read_query(alloc: Global, query: &[u8]) -> Result<Query, Refusal>
 
 /// The ID of a lock in a query.
 pub fn lock_id_in(alloc: Global, id: Option<Text>) -> Result<Option<LockId>, Refusal>
-    ensures { Answers result (lock_id_read id) }
+    ensures { Follows result (lock_id_read id) }
 {
     let Some(id) = id else {
         return Ok(None);
@@ -113,7 +113,7 @@ pub fn lock_id_in(alloc: Global, id: Option<Text>) -> Result<Option<LockId>, Ref
 }
 
 fn list_after(alloc: Global, text: &str) -> Result<AskedAct, Refusal>
-    ensures { Answers result (or_refused Refusal.BadQuery (option_map listed_from (name_after text.now))) }
+    ensures { Follows result (or_refused Refusal.BadQuery (option_map listed_from (name_after text.now))) }
 {
     match WsName::read(alloc, text) {
         Ok(name) => Ok(AskedAct::ListWorkspaces { after: Some(name) }),
@@ -135,7 +135,7 @@ fn number_after(text: &str) -> Option<u64>
 
 /// The act with the place where its list begins, if it lists anything.
 pub fn begin_after(alloc: Global, act: AskedAct, after: Option<Text>) -> Result<AskedAct, Refusal>
-    ensures { Answers result (after_read act after) }
+    ensures { Follows result (after_read act after) }
 {
     let Some(text) = after else {
         return Ok(act);

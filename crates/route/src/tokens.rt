@@ -1,6 +1,7 @@
 //! Bearer tokens.
 ghost use Rattle.std.specs.Prelude.{◌≡◌, Some, None, MatchOption, option_map, option_and_then};
-ghost use Rattle.route.specs.Checks.{Answers, or_refused, now_of, result_of};
+ghost use Rattle.basis.specs.Checks.{Follows, or_refused};
+ghost use Rattle.route.specs.Checks.{now_of, result_of};
 ghost use Rattle.route.specs.Tokens.{before, behind, unspaced, bearer_of, one_token, org_of, secret_of, token_of, token_read};
 
 use basis::{OrgName, Refusal, Secret, Unfit};
@@ -53,7 +54,7 @@ fn one_token<'t>(
     authorization: Option<&'t [u8]>,
     in_query: Option<&'t [u8]>,
 ) -> Result<&'t [u8], Refusal>
-    ensures { Answers (result_of result) (one_token (option_and_then bearer_of (option_map now_of authorization.entry)) (option_map now_of in_query.entry)) }
+    ensures { Follows (result_of result) (one_token (option_and_then bearer_of (option_map now_of authorization.entry)) (option_map now_of in_query.entry)) }
 {
     match (authorization.and_then(bearer_in), in_query) {
         (Some(_), Some(_)) => Err(Refusal::TwoTokens),
@@ -64,7 +65,7 @@ fn one_token<'t>(
 }
 
 fn org_in(alloc: Global, bytes: &[u8]) -> Result<OrgName, Refusal>
-    ensures { Answers result (or_refused Refusal.BadToken (org_of bytes.now)) }
+    ensures { Follows result (or_refused Refusal.BadToken (org_of bytes.now)) }
 {
     let Ok(text) = str::from_utf8(bytes) else {
         return Err(Refusal::BadToken);
@@ -77,7 +78,7 @@ fn org_in(alloc: Global, bytes: &[u8]) -> Result<OrgName, Refusal>
 }
 
 fn secret_in(alloc: Global, bytes: &[u8]) -> Result<Secret, Refusal>
-    ensures { Answers result (or_refused Refusal.BadToken (secret_of bytes.now)) }
+    ensures { Follows result (or_refused Refusal.BadToken (secret_of bytes.now)) }
 {
     let Ok(text) = str::from_utf8(bytes) else {
         return Err(Refusal::BadToken);
@@ -90,7 +91,7 @@ fn secret_in(alloc: Global, bytes: &[u8]) -> Result<Secret, Refusal>
 }
 
 fn token_in(alloc: Global, text: &[u8]) -> Result<Token, Refusal>
-    ensures { Answers result (or_refused Refusal.BadToken (token_of text.now)) }
+    ensures { Follows result (or_refused Refusal.BadToken (token_of text.now)) }
 {
     let (org, secret) = cut_at(text, b'.');
     let org = match org_in(alloc, org) {
@@ -109,7 +110,7 @@ pub fn read_token(
     authorization: Option<&[u8]>,
     in_query: Option<&[u8]>,
 ) -> Result<Token, Refusal>
-    ensures { Answers result (token_read (option_map now_of authorization.entry) (option_map now_of in_query.entry)) }
+    ensures { Follows result (token_read (option_map now_of authorization.entry) (option_map now_of in_query.entry)) }
 {
     match one_token(authorization, in_query) {
         Ok(text) => token_in(alloc, text),

@@ -1,7 +1,7 @@
 //! The methods of requests, and the act of a method at a place.
 ghost use Rattle.std.specs.Prelude.{◌≡◌, true, false};
 ghost use Rattle.route.specs.Acts.{verb_of, act_at, allow_of, act_read};
-ghost use Rattle.route.specs.Checks.{Answers};
+ghost use Rattle.basis.specs.Checks.{Follows};
 
 use crate::acts::AskedAct;
 use crate::places::Target;
@@ -92,7 +92,7 @@ fn allow_of(target: &Target) -> Allow
 
 /// The act of a method at a place, or what methods the place has.
 pub fn act_asked(target: Target, method: &str, bodyless: bool) -> Result<AskedAct, Refusal>
-    ensures { Answers result (act_read target method.now bodyless) }
+    ensures { Follows result (act_read target method.now bodyless) }
 {
     let allow = allow_of(&target);
     match Verb::named(method).and_then(|verb| act_at(target, verb, bodyless)) {
