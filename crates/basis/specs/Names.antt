@@ -1,6 +1,6 @@
--- The syntax of names, lock IDs and secrets, as tests of the bytes of a text.
-use Rattle.std.specs.Prelude.{ℕ, List, length, Bool, ◌&&◌, ◌||◌, ◌==◌, nat_le, slice_index}
-use Rattle.std.specs.List.{list_all}
+-- The syntax of names, IDs and secrets, as tests of the bytes of a text.
+use Rattle.std.specs.Prelude.{ℕ, List, ◌++◌, length, Bool, not, ◌&&◌, ◌||◌, ◌==◌, nat_eq, nat_le, slice_index, codes, decimal}
+use Rattle.std.specs.List.{list_all, starts_with}
 use Rattle.std.specs.Char.{is_ascii_digit, is_ascii_lowercase, is_ascii_alphanumeric}
 
 -- between the least and the most bytes
@@ -26,6 +26,14 @@ is_ws_name text = has_length 1 90 text && list_all is_ws_byte text
 -- 1 to 128 bytes of text
 abbrev pub is_lock_id : List ℕ → Bool
 is_lock_id text = has_length 1 128 text
+
+-- the ID by which run n holds a workspace
+unfoldable pub run_id : ℕ → List ℕ
+run_id n = codes "run-" ++ decimal n
+
+-- 1 to 128 bytes that don't begin as the IDs of runs do
+abbrev pub is_free_id : List ℕ → Bool
+is_free_id id = is_lock_id id && not (starts_with nat_eq id (codes "run-"))
 
 -- 16 to 64 ASCII letters or digits
 abbrev pub is_secret : List ℕ → Bool

@@ -1,5 +1,5 @@
 -- The table of refusals: a number, a word and the status of HTTP for each.
-use Rattle.std.specs.Prelude.{ℕ, List, [], ◌∷◌, codes}
+use Rattle.std.specs.Prelude.{ℕ, List, codes}
 use Rattle.basis.specs.declared.refusals.Allow.{Allow}
 use Rattle.basis.specs.declared.refusals.Allow.TheVariants.{Lists, Workspaces, States, Runs, Actions}
 use Rattle.basis.specs.declared.refusals.Refusal.{Refusal}

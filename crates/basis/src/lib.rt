@@ -14,7 +14,7 @@ pub mod runs;
 pub mod texts;
 
 pub use memory::{Down, Unfit};
-pub use names::{LockId, OrgName, Secret, WsName};
+pub use names::{LockId, OrgName, Secret, WsName, is_free_id, is_run_id};
 pub use numbers::{Limit, Moment, Number};
 pub use refusals::{Allow, Refusal};
 pub use roles::Role;

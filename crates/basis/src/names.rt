@@ -1,10 +1,12 @@
-//! Names, lock IDs and secrets.
-ghost use Rattle.std.specs.Prelude.{◌≡◌, ◌↔◌, ℕ, List, true, false, IsTrue, IfOk, IsErrOf, string_bytes};
+//! Names, IDs and secrets.
+ghost use Rattle.std.specs.Prelude.{◌≡◌, ◌↔◌, ℕ, List, true, false, IsTrue, IfOk, IsErrOf, string_bytes, bytes_eq, decimal};
 ghost use Rattle.std.specs.List.{list_all};
 ghost use Rattle.std.specs.Char.{is_ascii_alphanumeric};
-ghost use Rattle.basis.specs.Names.{is_org_name, is_org_byte, is_ws_name, is_ws_byte, is_lock_id, is_secret, has_length};
+ghost use Rattle.basis.specs.Names.{is_org_name, is_org_byte, is_ws_name, is_ws_byte, is_lock_id, is_free_id, run_id, is_secret, has_length};
 
 use crate::memory::Unfit;
+use crate::numbers::Number;
+use itoa::Buffer;
 use std::alloc::{AllocError, Global};
 use std::marker::Model;
 
@@ -16,6 +18,9 @@ pub const MAX_WS_NAME: usize = 90;
 
 /// The most bytes of a lock's ID.
 pub const MAX_LOCK_ID: usize = 128;
+
+/// How the ID of a run begins, and that of no lock.
+const RUN_PREFIX: &[u8] = b"run-";
 
 /// The least bytes of a token's secret.
 pub const MIN_SECRET: usize = 16;
@@ -71,6 +76,29 @@ fn is_lock_id(text: &[u8]) -> bool
     ensures { result ≡ is_lock_id text.now }
 {
     has_length(text, 1, MAX_LOCK_ID)
+}
+
+/// Whether a lock may have this ID: 1 to 128 bytes that don't begin with `run-`.
+pub fn is_free_id(id: &[u8]) -> bool
+    ensures { result ≡ is_free_id id.now }
+{
+    is_lock_id(id) && !id.starts_with(RUN_PREFIX)
+}
+
+fn are_digits_of(number: Number, digits: &[u8]) -> bool
+    ensures { result ≡ bytes_eq digits.now (decimal number) }
+{
+    digits == Buffer::new().format(number.get()).as_bytes()
+}
+
+/// Whether the run of a number holds a workspace by this ID, `run-` and the number. It takes no memory.
+pub fn is_run_id(number: Number, id: &str) -> bool
+    ensures { result ≡ bytes_eq id.now (run_id number) }
+{
+    match id.as_bytes().strip_prefix(RUN_PREFIX) {
+        Some(digits) => are_digits_of(number, digits),
+        None => false,
+    }
 }
 
 fn all_alphanumeric(text: &[u8]) -> bool
@@ -301,6 +329,26 @@ mod tests {
             "0123456789abcdef"
         );
         assert_eq!(rt; OrgName::read(alloc, "").err(), Some(Unfit::Syntax));
+        Ok(())
+    }
+
+    #[test]
+    fn tells_ids_of_runs_from_those_of_locks(rt: HostRuntime) -> Result<(), Fail> {
+        let number = Number::new(120).ok_or("a number")?;
+        for (id, is_run, is_free) in [
+            ("run-120", true, false),
+            ("run-12", false, false),
+            ("run-121", false, false),
+            ("run-0120", false, false),
+            ("run-", false, false),
+            ("run", false, true),
+            ("RUN-120", false, true),
+            ("120", false, true),
+            ("", false, false),
+        ] {
+            assert_eq!(rt; is_run_id(number, id), is_run, "run {id}");
+            assert_eq!(rt; is_free_id(id.as_bytes()), is_free, "lock {id}");
+        }
         Ok(())
     }
 }
