@@ -141,7 +141,8 @@ impl OrgName {
     }
 
     pub fn as_str(&self) -> &str
-        ensures { result.now ≡ self.now }
+        ensures text { result.now ≡ self.now }
+        ensures fits { IsTrue (is_org_name self.now) }
     {
         self.text.as_str()
     }
@@ -175,7 +176,8 @@ impl WsName {
     }
 
     pub fn as_str(&self) -> &str
-        ensures { result.now ≡ self.now }
+        ensures text { result.now ≡ self.now }
+        ensures fits { IsTrue (is_ws_name self.now) }
     {
         self.text.as_str()
     }

@@ -5,18 +5,20 @@ use Rattle.std.specs.List.{AllByRecursion}
 use Rattle.std.proofs.lemmas.Bool.{leb-true}
 use Rattle.basis.specs.declared.refusals.Refusal.{Refusal}
 use Rattle.basis.specs.declared.rows.StateHead.{StateHead}
-use Rattle.machine.specs.Laws.{IsLawful, IsVersion, Rises, IsRun, is_pending, is_nobody}
-use Rattle.machine.specs.Meaning.{IsInRange, IsHead, IsLawfulIfThere}
+use Rattle.machine.specs.Laws.{IsLawful, IsVersion, Rises, IsRun, is_pending, is_nobody, IsLawfulIfThere}
+use Rattle.machine.specs.Ranges.{IsHead, IsInRange, IsMoment}
+use Rattle.machine.specs.Records.{Seen, missing, there, standing}
+use Rattle.machine.specs.Effects.{effect}
 use Rattle.machine.specs.Workspaces.{max_versions, holder_status}
 use Rattle.machine.specs.Writing.{may_write}
 use Rattle.machine.specs.Succession.{Succession, first, same, other_lineage, old_serial, next, succession}
-use Rattle.machine.specs.Rules.{Outcome, refused, ruled, rules, by_may_write, by_succession, numbered_update, number_left, with_version, max_number, with_settings, refused_by, done_with, done_already, purge, purged, lock, unlock, released, is_released, force_unlock}
+use Rattle.machine.specs.Rules.{Outcome, refused, rules, by_may_write, by_succession, numbered_update, number_left, with_version, max_number, with_settings, refused_by, done_with, done_already, purge, purged, lock, unlock, released, is_released, force_unlock}
 use Rattle.machine.specs.Settling.{is_waiting, first_waiting, to_start, started_if, settled}
 use Rattle.machine.proofs.SettlingLemmas.{release_is_lawful}
 use Rattle.machine.specs.declared.records.Holder.{Holder}
 use Rattle.machine.specs.declared.records.Holder.TheVariants.{Nobody, Lock, Run as HoldingRun}
 use Rattle.machine.specs.declared.records.Run.{Run}
-use Rattle.basis.specs.Names.{is_lock_id}
+use Rattle.basis.specs.Names.{is_free_id}
 use Rattle.std.specs.Str.{bytes_eq}
 use Rattle.machine.specs.declared.acts.Act.{Act}
 use Rattle.machine.specs.declared.acts.Act.TheVariants.{PutWorkspace, UpdateState, ReadState, PurgeState, Lock as LockAct, Unlock, ForceUnlock}
@@ -49,7 +51,7 @@ All-drop (suc k) [] all = tt
 All-drop (suc k) (v ∷ vs) all = All-drop k vs all.1
 
 -- what the next number is, where one is left
-number_left-is : (n m : ℕ) → number_left n ≡ Some m → (m ≡ n) × (1 ≤ m) × (m ≤ max_number)
+pub number_left-is : (n m : ℕ) → number_left n ≡ Some m → (m ≡ n) × (1 ≤ m) × (m ≤ max_number)
 number_left-is n m e = let p = tests (nat_le 1 n) (nat_le n max_number) n m e in (p.0, rw p.0 (leb-true 1 n p.1), rw p.0 (leb-true n max_number p.2))
   where
     tests : (b c : Bool) (n m : ℕ) → cond (b && c) (Some n) None ≡ Some m → (m ≡ n) × (b ≡ true) × (c ≡ true)
@@ -96,7 +98,7 @@ nobody_starts (HoldingRun n) runs all = refl
 still_is_lawful : (w : Workspace) → IsLawful w → IsLawful (settled w)
 still_is_lawful w lawful = subst (λ (start : Option ℕ). IsLawful (started_if start w)) (sym (nobody_starts w.holder w.runs lawful.runs.each)) lawful
 
-purge_is_lawful : (m : Option Refusal) (w : Workspace) → IsLawful w → IsLawfulIfThere (purge m w).after
+purge_is_lawful : (m : Option Refusal) (w : Workspace) → IsLawful w → IsLawfulIfThere (purge m w).left
 purge_is_lawful (Some refusal) w lawful = lawful
 purge_is_lawful None w lawful = still_is_lawful (purged w) (record {
   versions = record { next = lawful.versions.next; rise = tt; each = tt; kept = omega arith };
@@ -119,7 +121,7 @@ under_lock id text (r ∷ runs) all = (
   under_lock id text runs all.1,
 )
 
-lock_is_lawful : (h : Holder) (id text : List ℕ) (w : Workspace) → w.holder ≡ h → IsTrue (is_lock_id id) → IsLawful w → IsLawfulIfThere (lock h id text w).after
+lock_is_lawful : (h : Holder) (id text : List ℕ) (w : Workspace) → w.holder ≡ h → IsTrue (is_free_id id) → IsLawful w → IsLawfulIfThere (lock h id text w).left
 lock_is_lawful Nobody id text w e range lawful = record {
   versions = lawful.versions;
   runs = record {
@@ -134,37 +136,37 @@ lock_is_lawful Nobody id text w e range lawful = record {
 }
 lock_is_lawful (Lock id_held text_held) id text w e range lawful = chosen (bytes_eq id id_held)
   where
-    chosen : (b : Bool) → IsLawfulIfThere (cond b (done_already w) (ruled (refused_by Refusal.Locked w.holder) (Some w))).after
+    chosen : (b : Bool) → IsLawfulIfThere (cond b (done_already w) (effect (refused_by Refusal.Locked w.holder) (Some w))).left
     chosen true = lawful
     chosen false = lawful
 lock_is_lawful (HoldingRun n) id text w e range lawful = lawful
 
 -- each of two answers leaves the workspace
-either_is_lawful : (b : Bool) (o : Outcome) (w : Workspace) → IsLawful w → IsLawfulIfThere (cond b (done_already w) (ruled o (Some w))).after
+either_is_lawful : (b : Bool) (o : Outcome) (w : Workspace) → IsLawful w → IsLawfulIfThere (cond b (done_already w) (effect o (Some w))).left
 either_is_lawful true o w lawful = lawful
 either_is_lawful false o w lawful = lawful
 
-unlock_is_lawful : (h : Holder) (id : List ℕ) (w : Workspace) → w.holder ≡ h → IsLawful w → IsLawfulIfThere (unlock h id w).after
+unlock_is_lawful : (h : Holder) (id : List ℕ) (w : Workspace) → w.holder ≡ h → IsLawful w → IsLawfulIfThere (unlock h id w).left
 unlock_is_lawful Nobody id w e lawful = lawful
 unlock_is_lawful (Lock id_held text) id w e lawful = chosen (bytes_eq id id_held)
   where
-    chosen : (b : Bool) → IsLawfulIfThere (cond b (done_with (released id_held w)) (cond (is_released w.released id) (done_already w) (ruled (refused_by Refusal.Locked w.holder) (Some w)))).after
+    chosen : (b : Bool) → IsLawfulIfThere (cond b (done_with (released id_held w)) (cond (is_released w.released id) (done_already w) (effect (refused_by Refusal.Locked w.holder) (Some w)))).left
     chosen true = release_is_lawful id_held text w e lawful
     chosen false = either_is_lawful (is_released w.released id) (refused_by Refusal.Locked w.holder) w lawful
 unlock_is_lawful (HoldingRun n) id w e lawful = either_is_lawful (is_released w.released id) (refused Refusal.HeldByRun) w lawful
 
-force_is_lawful : (h : Holder) (w : Workspace) → w.holder ≡ h → IsLawful w → IsLawfulIfThere (force_unlock h w).after
+force_is_lawful : (h : Holder) (w : Workspace) → w.holder ≡ h → IsLawful w → IsLawfulIfThere (force_unlock h w).left
 force_is_lawful Nobody w e lawful = lawful
 force_is_lawful (Lock id_held text) w e lawful = release_is_lawful id_held text w e lawful
 force_is_lawful (HoldingRun n) w e lawful = lawful
 
 number_is_lawful : (w : Workspace) (head : StateHead) (text : List ℕ) (now : ℕ) (n : Option ℕ) → number_left w.next_version ≡ n
-    → IsHead head → now ≤ 253_402_300_799 → IsLawful w → IsLawfulIfThere (numbered_update n w head text now).after
+    → IsHead head → now ≤ 253_402_300_799 → IsLawful w → IsLawfulIfThere (numbered_update n w head text now).left
 number_is_lawful w head text now None e range moment lawful = lawful
 number_is_lawful w head text now (Some n) e range moment lawful = still_is_lawful (with_version w n head text now) (version_is_lawful w n head text now e range moment lawful)
 
 succession_is_lawful : (w : Workspace) (head : StateHead) (text : List ℕ) (now : ℕ) (s : Succession)
-    → IsHead head → now ≤ 253_402_300_799 → IsLawful w → IsLawfulIfThere (by_succession s w head text now).after
+    → IsHead head → now ≤ 253_402_300_799 → IsLawful w → IsLawfulIfThere (by_succession s w head text now).left
 succession_is_lawful w head text now first range moment lawful = number_is_lawful w head text now (number_left w.next_version) refl range moment lawful
 succession_is_lawful w head text now same range moment lawful = lawful
 succession_is_lawful w head text now other_lineage range moment lawful = lawful
@@ -172,27 +174,27 @@ succession_is_lawful w head text now old_serial range moment lawful = lawful
 succession_is_lawful w head text now next range moment lawful = number_is_lawful w head text now (number_left w.next_version) refl range moment lawful
 
 update_is_lawful : (w : Workspace) (head : StateHead) (text : List ℕ) (now : ℕ) (m : Option Refusal)
-    → IsHead head → now ≤ 253_402_300_799 → IsLawful w → IsLawfulIfThere (by_may_write m w head text now).after
+    → IsHead head → now ≤ 253_402_300_799 → IsLawful w → IsLawfulIfThere (by_may_write m w head text now).left
 update_is_lawful w head text now (Some refusal) range moment lawful = lawful
 update_is_lawful w head text now None range moment lawful = succession_is_lawful w head text now (succession w.versions text head) range moment lawful
 
-pub rules_are_lawful : (name : List ℕ) (w : Option Workspace) (act : Act) (now : ℕ) → IsInRange act → now ≤ 253_402_300_799
-    → IsLawfulIfThere w → IsLawfulIfThere (rules name act now w).after
-rules_are_lawful name None (PutWorkspace settings) now range moment lawful = record {
+pub rules_are_lawful : (act : Act) (now : ℕ) (s : Seen) → IsInRange act → IsMoment now → IsLawfulIfThere (standing s) → IsLawfulIfThere (rules act now s).left
+rules_are_lawful (PutWorkspace settings) now (missing true) range moment lawful = record {
   versions = record { next = (omega arith, omega arith); rise = tt; each = tt; kept = omega arith };
   runs = record { next = (omega arith, omega arith); rise = tt; each = tt; open_runs = omega arith; keys = tt; held = tt };
   released = tt;
 }
-rules_are_lawful name None (UpdateState head text id) now range moment lawful = tt
-rules_are_lawful name None ReadState now range moment lawful = tt
-rules_are_lawful name None (PurgeState id) now range moment lawful = tt
-rules_are_lawful name None (LockAct id text) now range moment lawful = tt
-rules_are_lawful name None (Unlock id) now range moment lawful = tt
-rules_are_lawful name None ForceUnlock now range moment lawful = tt
-rules_are_lawful name (Some w) (PutWorkspace settings) now range moment lawful = still_is_lawful (with_settings w settings) (record { versions = lawful.versions; runs = lawful.runs; released = lawful.released })
-rules_are_lawful name (Some w) (UpdateState head text id) now range moment lawful = update_is_lawful w head text now (may_write w.holder (holder_status w.holder w.runs) id) range moment lawful
-rules_are_lawful name (Some w) ReadState now range moment lawful = lawful
-rules_are_lawful name (Some w) (PurgeState id) now range moment lawful = purge_is_lawful (may_write w.holder (holder_status w.holder w.runs) id) w lawful
-rules_are_lawful name (Some w) (LockAct id text) now range moment lawful = lock_is_lawful w.holder id text w refl range lawful
-rules_are_lawful name (Some w) (Unlock id) now range moment lawful = unlock_is_lawful w.holder id w refl lawful
-rules_are_lawful name (Some w) ForceUnlock now range moment lawful = force_is_lawful w.holder w refl lawful
+rules_are_lawful (PutWorkspace settings) now (missing false) range moment lawful = tt
+rules_are_lawful (UpdateState head text id) now (missing room) range moment lawful = tt
+rules_are_lawful ReadState now (missing room) range moment lawful = tt
+rules_are_lawful (PurgeState id) now (missing room) range moment lawful = tt
+rules_are_lawful (LockAct id text) now (missing room) range moment lawful = tt
+rules_are_lawful (Unlock id) now (missing room) range moment lawful = tt
+rules_are_lawful ForceUnlock now (missing room) range moment lawful = tt
+rules_are_lawful (PutWorkspace settings) now (there w) range moment lawful = still_is_lawful (with_settings w settings) (record { versions = lawful.versions; runs = lawful.runs; released = lawful.released })
+rules_are_lawful (UpdateState head text id) now (there w) range moment lawful = update_is_lawful w head text now (may_write w.holder (holder_status w.holder w.runs) id) range moment lawful
+rules_are_lawful ReadState now (there w) range moment lawful = lawful
+rules_are_lawful (PurgeState id) now (there w) range moment lawful = purge_is_lawful (may_write w.holder (holder_status w.holder w.runs) id) w lawful
+rules_are_lawful (LockAct id text) now (there w) range moment lawful = lock_is_lawful w.holder id text w refl range lawful
+rules_are_lawful (Unlock id) now (there w) range moment lawful = unlock_is_lawful w.holder id w refl lawful
+rules_are_lawful ForceUnlock now (there w) range moment lawful = force_is_lawful w.holder w refl lawful

@@ -1,7 +1,11 @@
 pub mod SettlingLemmas
+pub mod SettlesLemmas
 pub mod Examples
 pub mod LawLemmas
-pub mod MeaningLemmas
+pub mod DecisionLemmas
 pub mod MapLemmas
 pub mod PlainLemmas
 pub mod CustodyLemmas
+pub mod RefusalLemmas
+pub mod VersionLemmas
+pub mod KeepLemmas

@@ -12,7 +12,7 @@ use Rattle.std.specs.FinMap.Entries.{length-put, is_sorted-put}
 use Rattle.std.proofs.lemmas.List.{drop_more, take-append-drop, set_split, map-set, length-map, get_or_default, take_all, take_more}
 use Rattle.std.proofs.lemmas.List.Edits.{length-insert, insert_end}
 use Rattle.machine.specs.Order.{name_cmp}
-use Rattle.machine.specs.Places.{IsAt, IsGapFor}
+use Rattle.machine.specs.Inner.Places.{IsAt, IsGapFor}
 
 pub names_total : IsTotalOrder name_cmp
 names_total = nat_list_cmp_total

@@ -4,8 +4,7 @@ use Rattle.std.specs.Option.{option_or}
 use Rattle.std.proofs.lemmas.List.{take_more}
 use Rattle.machine.specs.Workspaces.{newest}
 use Rattle.machine.specs.Units.{find_last, version_of}
-use Rattle.machine.specs.Units.{changed_by}
-use Rattle.machine.specs.Records.{workspace_in, with_workspace, placed}
+use Rattle.machine.specs.Records.{with_workspace, placed}
 use Rattle.machine.specs.Order.{name_cmp}
 use Rattle.std.specs.FinMap.{FinMap, get, insert}
 use Rattle.machine.specs.declared.acts.Change.{Change}
@@ -13,6 +12,7 @@ use Rattle.machine.specs.declared.records.Workspace.{Workspace}
 use Rattle.machine.specs.declared.records.Organization.{Organization}
 use Rattle.machine.proofs.MapLemmas.{remove_absent}
 use Rattle.machine.specs.declared.records.Version.{Version}
+use Rattle.machine.specs.Changes.{changed_by}
 
 last_of_length : (vs : List Version) (n : ℕ) → length vs ≡ suc n → slice_get vs n ≡ newest vs
 last_of_length [] n e = absurd (omega arith)
@@ -29,7 +29,7 @@ or_cond : {X : Type 0} (b : Bool) (x : X) (o p : Option X) → option_or (cond b
 or_cond true x o p = refl
 or_cond false x o p = refl
 
-find_last_push : {X : Type 0} (test : X → Bool) (xs : List X) (x : X) → find_last test (xs ++ x ∷ []) ≡ cond (test x) (Some x) (find_last test xs)
+pub find_last_push : {X : Type 0} (test : X → Bool) (xs : List X) (x : X) → find_last test (xs ++ x ∷ []) ≡ cond (test x) (Some x) (find_last test xs)
 find_last_push test [] x = refl
 find_last_push test (y ∷ xs) x = rw (find_last_push test xs x) (or_cond (test x) x _ _)
 
@@ -48,5 +48,5 @@ absent_kept m name change none makes = rw (← none, makes) (sym (remove_absent 
 
 -- an organization after a change of one of its workspaces
 pub organization_changed : (m : FinMap name_cmp Organization) (org ws : List ℕ) (change : Change) (old : Organization) (new : FinMap name_cmp Workspace) → Some old ≡ get m org → new ≡ with_workspace old.workspaces ws (changed_by change (get old.workspaces ws))
-    → Some (record old { workspaces = new }) ≡ option_map (λ (o : Organization). placed o ws (changed_by change (workspace_in (Some o) ws))) (get m org)
+    → Some (record old { workspaces = new }) ≡ option_map (λ (o : Organization). placed o ws (changed_by change (get o.workspaces ws))) (get m org)
 organization_changed m org ws change old new was is = rw (← was) (ap (λ w. Some (record old { workspaces = w })) is)

@@ -52,7 +52,7 @@ all_above n low [] next le rise = tt
 all_above n low (r ∷ runs) next le rise = (λ e. absurd (omega (arith, e, le, rise.0)), all_above n r.number runs next (omega (arith, le, rise.0)) rise.2)
 
 -- the first that waits has its number alone
-first_alone : (low : ℕ) (runs : List Run) (next : ℕ) (f : Run) → find is_waiting runs ≡ Some f → Rises low (map (λ (r : Run). r.number) runs) next
+pub first_alone : (low : ℕ) (runs : List Run) (next : ℕ) (f : Run) → find is_waiting runs ≡ Some f → Rises low (map (λ (r : Run). r.number) runs) next
     → (low < f.number) × AreWaiting f.number runs
 first_alone low [] next f found rise = absurd (let no : ⊥ = cc in no)
 first_alone low (r ∷ runs) next f found rise = passed (is_waiting r) refl found (λ is. first_alone r.number runs next f is rise.2)

@@ -1,14 +1,37 @@
--- Custody, as laws of the rules: who writes under a lock, how long it holds, and that repeats change nothing.
-use Rattle.std.specs.Prelude.{◌≡◌, ◌≤◌, ◌⊎◌, ℕ, true, List, map, Option, Some, ⊤}
-use Rattle.std.specs.List.{AllByRecursion}
-use Rattle.machine.specs.Laws.{Rises}
-use Rattle.machine.specs.Settling.{is_waiting, first_waiting}
-use Rattle.machine.specs.Rules.{done, rules}
+-- Custody, as laws of the rules: who writes, how long a lock holds, what becomes of versions, and that repeats change nothing.
+use Rattle.std.specs.Prelude.{◌≡◌, ◌≤◌, ◌⊎◌, ◌+◌, ℕ, List, Option, Some, None, IsSome, ⊤}
+use Rattle.basis.specs.Names.{run_id}
+use Rattle.basis.specs.declared.rows.StateHead.{StateHead}
+use Rattle.basis.specs.declared.refusals.Refusal.{Refusal}
+use Rattle.basis.specs.declared.runs.RunStatus.{RunStatus}
+use Rattle.basis.specs.declared.runs.RunStatus.TheVariants.{Applying}
+use Rattle.machine.specs.Records.{Seen, there, standing}
+use Rattle.machine.specs.Rules.{Outcome, refused, held, done, no_state, state, workspace, rules}
+use Rattle.machine.specs.Units.{version_of}
+use Rattle.machine.specs.Workspaces.{newest, holder_status}
 use Rattle.machine.specs.declared.acts.Act.{Act}
 use Rattle.machine.specs.declared.acts.Act.TheVariants.{PutWorkspace, UpdateState, ReadState, PurgeState, Lock as LockAct, Unlock, ForceUnlock}
-use Rattle.machine.specs.declared.records.Holder.TheVariants.{Lock}
-use Rattle.machine.specs.declared.records.Run.{Run}
+use Rattle.machine.specs.declared.records.Holder.{Holder}
+use Rattle.machine.specs.declared.records.Holder.TheVariants.{Nobody, Lock, Run}
+use Rattle.machine.specs.declared.records.Version.{Version}
 use Rattle.machine.specs.declared.records.Workspace.{Workspace}
+
+-- a refusal
+abbrev pub IsRefusal : Outcome → Type 0
+IsRefusal (refused refusal) = ⊤
+IsRefusal (held holder) = ⊤
+IsRefusal done = ⊥
+IsRefusal no_state = ⊥
+IsRefusal (state text) = ⊥
+IsRefusal (workspace shown) = ⊥
+
+-- a refusal leaves the workspace as it is
+abbrev pub RefusalsChangeNothing : Type 0
+RefusalsChangeNothing = (act : Act) (now : ℕ) (s : Seen) → IsRefusal (rules act now s).answer → (rules act now s).left ≡ standing s
+
+-- who is told that another holds is told of the holder
+abbrev pub RefusalsTellTheHolder : Type 0
+RefusalsTellTheHolder = (act : Act) (now : ℕ) (w : Workspace) (holder : Holder) → (rules act now (there w)).answer ≡ held holder → holder ≡ w.holder
 
 -- an act that writes: an update or a purge, with this ID
 abbrev pub WritesWith : Act → Option (List ℕ) → Type 0
@@ -20,37 +43,82 @@ WritesWith (LockAct asked text) id = ⊥
 WritesWith (Unlock asked) id = ⊥
 WritesWith ForceUnlock id = ⊥
 
--- an accepted update or purge under a lock carried the lock's ID
+-- the ID that the holder writes with: none while nobody holds, that of the lock, or that of a run, which is applying
+abbrev pub IsWriter : Holder → Option RunStatus → Option (List ℕ) → Type 0
+IsWriter Nobody status id = id ≡ None
+IsWriter (Lock own text) status id = id ≡ Some own
+IsWriter (Run n) status id = (id ≡ Some (run_id n)) × (status ≡ Some Applying)
+
+-- an accepted update or purge carried the holder's ID, and none while nobody holds
 abbrev pub WritesCarryTheId : Type 0
-WritesCarryTheId = (name : List ℕ) (act : Act) (now : ℕ) (w : Workspace) (held text : List ℕ) (id : Option (List ℕ))
-    → w.holder ≡ Lock held text → WritesWith act id → (rules name act now (Some w)).outcome ≡ done → id ≡ Some held
+WritesCarryTheId = (act : Act) (now : ℕ) (w : Workspace) (id : Option (List ℕ))
+    → WritesWith act id → (rules act now (there w)).answer ≡ done → IsWriter w.holder (holder_status w.holder w.runs) id
 
 -- under a lock, versions change by an update or a purge that carried its ID, and by nothing else
 abbrev pub VersionsChangeByTheId : Type 0
-VersionsChangeByTheId = (name : List ℕ) (act : Act) (now : ℕ) (w v : Workspace) (held text : List ℕ)
-    → w.holder ≡ Lock held text → (rules name act now (Some w)).after ≡ Some v → (v.versions ≡ w.versions) ⊎ WritesWith act (Some held)
+VersionsChangeByTheId = (act : Act) (now : ℕ) (w v : Workspace) (own text : List ℕ)
+    → w.holder ≡ Lock own text → (rules act now (there w)).left ≡ Some v → (v.versions ≡ w.versions) ⊎ WritesWith act (Some own)
 
 -- an act that releases the lock of this ID
 abbrev pub Releases : Act → List ℕ → Type 0
-Releases (PutWorkspace settings) held = ⊥
-Releases (UpdateState head text id) held = ⊥
-Releases ReadState held = ⊥
-Releases (PurgeState id) held = ⊥
-Releases (LockAct id text) held = ⊥
-Releases (Unlock id) held = id ≡ held
-Releases ForceUnlock held = ⊤
+Releases (PutWorkspace settings) own = ⊥
+Releases (UpdateState head text id) own = ⊥
+Releases ReadState own = ⊥
+Releases (PurgeState id) own = ⊥
+Releases (LockAct id text) own = ⊥
+Releases (Unlock id) own = id ≡ own
+Releases ForceUnlock own = ⊤
 
 -- a lock holds, with its first text, until an act releases it
 abbrev pub HoldsUntilReleased : Type 0
-HoldsUntilReleased = (name : List ℕ) (act : Act) (now : ℕ) (w v : Workspace) (held text : List ℕ)
-    → w.holder ≡ Lock held text → (rules name act now (Some w)).after ≡ Some v → (v.holder ≡ Lock held text) ⊎ Releases act held
+HoldsUntilReleased = (act : Act) (now : ℕ) (w v : Workspace) (own text : List ℕ)
+    → w.holder ≡ Lock own text → (rules act now (there w)).left ≡ Some v → (v.holder ≡ Lock own text) ⊎ Releases act own
 
--- an act that comes again, at whatever moment, changes nothing more
+-- no act takes a workspace away that a lock holds
+abbrev pub LockedWorkspacesStay : Type 0
+LockedWorkspacesStay = (act : Act) (now : ℕ) (w : Workspace) (own text : List ℕ) → w.holder ≡ Lock own text → IsSome (rules act now (there w)).left
+
+-- what is posted is what GET gives
+abbrev pub WhatIsPostedIsRead : Type 0
+WhatIsPostedIsRead = (head : StateHead) (text : List ℕ) (id : Option (List ℕ)) (now later : ℕ) (w v : Workspace)
+    → (rules (UpdateState head text id) now (there w)).answer ≡ done → (rules (UpdateState head text id) now (there w)).left ≡ Some v
+    → (rules ReadState later (there v)).answer ≡ state text
+
+-- after a purge there is nothing to give
+abbrev pub NothingIsReadOfAPurge : Type 0
+NothingIsReadOfAPurge = (id : Option (List ℕ)) (now later : ℕ) (w v : Workspace)
+    → (rules (PurgeState id) now (there w)).answer ≡ done → (rules (PurgeState id) now (there w)).left ≡ Some v
+    → (rules ReadState later (there v)).answer ≡ no_state
+
+-- no version is made: the next number stays, and what is left of the versions is as it was
+pub record KeepsVersions (w v : Workspace) : Type 0 where
+  pub next : v.next_version ≡ w.next_version
+  pub left : (n : ℕ) (u : Version) → version_of n v.versions ≡ Some u → version_of n w.versions ≡ Some u
+
+-- a version is made: it has the next number, which rises by one, and what is left of the others is as it was
+pub record MakesVersion (w v : Workspace) : Type 0 where
+  pub made : Version
+  pub number : made.number ≡ w.next_version
+  pub newest : newest v.versions ≡ Some made
+  pub next : v.next_version ≡ w.next_version + 1
+  pub left : (n : ℕ) (u : Version) → version_of n v.versions ≡ Some u → (u ≡ made) ⊎ (version_of n w.versions ≡ Some u)
+
+-- the next numbers never fall, that of versions rises exactly where one is made, and a version that stays is unchanged
+abbrev pub NumbersRise : Type 0
+NumbersRise = (act : Act) (now : ℕ) (w v : Workspace) → (rules act now (there w)).left ≡ Some v
+    → (w.next_run ≤ v.next_run) × (KeepsVersions w v ⊎ MakesVersion w v)
+
+-- an act that changes nothing more where it comes again
+abbrev pub IsRepeatable : Act → Type 0
+IsRepeatable (PutWorkspace settings) = ⊤
+IsRepeatable (UpdateState head text id) = ⊤
+IsRepeatable ReadState = ⊤
+IsRepeatable (PurgeState id) = ⊤
+IsRepeatable (LockAct id text) = ⊤
+IsRepeatable (Unlock id) = ⊤
+IsRepeatable ForceUnlock = ⊤
+
+-- such an act, at whatever moment, on a workspace that is as the first left it
 abbrev pub RepeatsChangeNothing : Type 0
-RepeatsChangeNothing = (name : List ℕ) (act : Act) (now later : ℕ) (w : Option Workspace)
-    → (rules name act later (rules name act now w).after).after ≡ (rules name act now w).after
-
--- of runs whose numbers rise, the one that starts has the least number of those that wait
-abbrev pub LeastStarts : Type 0
-LeastStarts = (runs : List Run) (next n : ℕ) → first_waiting runs ≡ Some n → Rises 0 (map (λ (r : Run). r.number) runs) next
-    → AllByRecursion (λ (r : Run). is_waiting r ≡ true → n ≤ r.number) runs
+RepeatsChangeNothing = (act : Act) (now later : ℕ) (s : Seen) (v : Workspace) → IsRepeatable act
+    → (rules act now s).left ≡ Some v → (rules act later (there v)).left ≡ Some v

@@ -2,8 +2,8 @@
 use Rattle.std.specs.Prelude.{◌≡◌, ℕ, ◌^◌, ◌<◌, ◌≤◌, Bool, true, false, ◌==◌, List, [], ◌∷◌, length, map, filter, Option, Some, None, IfSome, IsSomeAnd, IsTrue, ⊤}
 use Rattle.std.specs.List.{AllByRecursion}
 use Rattle.std.specs.Str.{bytes_eq}
-use Rattle.std.specs.FinMap.{entries}
-use Rattle.basis.specs.Names.{is_org_name, is_ws_name, is_lock_id, has_length}
+use Rattle.std.specs.FinMap.{get}
+use Rattle.basis.specs.Names.{is_org_name, is_ws_name, is_free_id, has_length}
 use Rattle.basis.specs.Runs.{is_open}
 use Rattle.basis.specs.declared.runs.RunStatus.{RunStatus}
 use Rattle.basis.specs.declared.runs.RunStatus.TheVariants.{Pending, Planning, Planned, Applying, Applied, PlannedAndFinished, Errored, Discarded, Canceled}
@@ -108,10 +108,10 @@ abbrev pub KeysDiffer : List Run → Type 0
 KeysDiffer [] = ⊤
 KeysDiffer (r ∷ runs) = IfSome r.key (λ key. AllByRecursion (λ (s : Run). IfSome s.key (λ other. bytes_eq key other ≡ false)) runs) × KeysDiffer runs
 
--- a holder's ID is one, and a holding run is a queued run of the list
+-- a lock's ID is one that names no run, and a holding run is a queued run of the list
 abbrev pub IsHolder : Holder → List Run → Type 0
 IsHolder Nobody runs = ⊤
-IsHolder (Lock id text) runs = IsTrue (is_lock_id id)
+IsHolder (Lock id text) runs = IsTrue (is_free_id id)
 IsHolder (HoldingRun n) runs = IsSomeAnd (run_of n runs) (λ r. r.plan_only ≡ false)
 
 -- the laws of the runs
@@ -134,17 +134,29 @@ pub record AreVersions (next_version : ℕ) (versions : List Version) : Type 0 w
 pub record IsLawful (w : Workspace) : Type 0 where
   pub versions : AreVersions w.next_version w.versions
   pub runs : AreRuns w.holder w.next_run w.runs
-  pub released : IfSome w.released (λ id. IsTrue (is_lock_id id))
+  pub released : IfSome w.released (λ id. IsTrue (is_free_id id))
 
--- no two tokens have one digest
-abbrev pub DigestsDiffer : List (List ℕ × Token) → Type 0
-DigestsDiffer [] = ⊤
-DigestsDiffer (e ∷ es) = AllByRecursion (λ (f : List ℕ × Token). bytes_eq e.1.digest f.1.digest ≡ false) es × DigestsDiffer es
+-- a token's name is one, and its digest has 32 bytes
+pub record IsToken (name : List ℕ) (t : Token) : Type 0 where
+  pub named : IsTrue (is_org_name name)
+  pub digest : length t.digest ≡ 32
 
--- the laws of an organization
+-- a workspace's name is one, and the workspace is lawful
+pub record IsNamedWorkspace (name : List ℕ) (w : Workspace) : Type 0 where
+  pub named : IsTrue (is_ws_name name)
+  pub lawful : IsLawful w
+
+-- the laws of an organization: no two of its tokens have one digest
 pub record IsLawfulOrganization (o : Organization) : Type 0 where
   pub limit : o.limit ≤ 100_000
-  pub token_names : AllByRecursion (λ (e : List ℕ × Token). IsTrue (is_org_name e.0)) (entries o.tokens)
-  pub digests : DigestsDiffer (entries o.tokens)
-  pub workspace_names : AllByRecursion (λ (e : List ℕ × Workspace). IsTrue (is_ws_name e.0)) (entries o.workspaces)
-  pub workspaces : AllByRecursion (λ (e : List ℕ × Workspace). IsLawful e.1) (entries o.workspaces)
+  pub tokens : (name : List ℕ) (t : Token) → get o.tokens name ≡ Some t → IsToken name t
+  pub digests : (name other : List ℕ) (t u : Token) → get o.tokens name ≡ Some t → get o.tokens other ≡ Some u → t.digest ≡ u.digest → name ≡ other
+  pub workspaces : (name : List ℕ) (w : Workspace) → get o.workspaces name ≡ Some w → IsNamedWorkspace name w
+
+-- every record that is there is lawful
+abbrev pub AreLawful : (List ℕ → Option Organization) → Type 0
+AreLawful rows = (org : List ℕ) (o : Organization) → rows org ≡ Some o → IsLawfulOrganization o
+
+-- a workspace is lawful, where it is there
+abbrev pub IsLawfulIfThere : Option Workspace → Type 0
+IsLawfulIfThere w = IfSome w IsLawful

@@ -1,5 +1,5 @@
 -- The rules: what an act on a workspace is answered, and the workspace after it. A refusal changes nothing.
-use Rattle.std.specs.Prelude.{ℕ, ◌+◌, Bool, false, cond, List, [], ◌∷◌, ◌++◌, Option, Some, None, option_map}
+use Rattle.std.specs.Prelude.{ℕ, ◌+◌, Bool, true, false, cond, List, [], ◌∷◌, ◌++◌, Option, Some, None, option_map}
 use Rattle.std.specs.Str.{bytes_eq}
 use Rattle.basis.specs.Numbers.{within}
 use Rattle.basis.specs.declared.refusals.Refusal.{Refusal}
@@ -8,13 +8,15 @@ use Rattle.basis.specs.declared.rows.Settings.{Settings}
 use Rattle.basis.specs.declared.rows.StateHead.{StateHead}
 use Rattle.basis.specs.declared.rows.HolderId.{HolderId}
 use Rattle.basis.specs.declared.rows.HolderId.TheVariants.{Lock as LockHolder, Run as RunHolder}
-use Rattle.basis.specs.declared.rows.WsRow.{WsRow}
+use Rattle.machine.specs.Effects.{Effect, effect}
+use Rattle.machine.specs.Records.{Seen, missing, there}
 use Rattle.machine.specs.Workspaces.{newest, last_of, max_versions, new_workspace, holder_status}
 use Rattle.machine.specs.Writing.{may_write}
 use Rattle.machine.specs.Settling.{settled}
 use Rattle.machine.specs.Succession.{Succession, first, same, other_lineage, old_serial, next, succession}
 use Rattle.machine.specs.declared.acts.Act.{Act}
 use Rattle.machine.specs.declared.acts.Act.TheVariants.{PutWorkspace, UpdateState, ReadState, PurgeState, Lock as LockAct, Unlock, ForceUnlock}
+use Rattle.machine.specs.declared.acts.Shown.{Shown}
 use Rattle.machine.specs.declared.records.Holder.{Holder}
 use Rattle.machine.specs.declared.records.Holder.TheVariants.{Nobody, Lock, Run}
 use Rattle.machine.specs.declared.records.Version.{Version}
@@ -33,7 +35,11 @@ pub data Outcome : Type 0 where
   -- the text of the newest state
   state : List ℕ → Outcome
   -- the workspace after the act
-  workspace : WsRow → Outcome
+  workspace : Shown → Outcome
+
+-- an answer, and the workspace after it, if there is one
+abbrev pub Ruling : Type 0
+Ruling = Effect Outcome (Option Workspace)
 
 -- who holds, as it is shown
 abbrev pub holder_id : Holder → Option HolderId
@@ -41,9 +47,9 @@ holder_id Nobody = None
 holder_id (Lock id text) = Some (LockHolder id)
 holder_id (Run n) = Some (RunHolder n)
 
--- the workspace of this name as it is shown
-abbrev pub row_of : List ℕ → Workspace → WsRow
-row_of name w = record { auto_apply = w.auto_apply; holder = holder_id w.holder; name = name; version = option_map (λ (v : Version). v.number) (newest w.versions) }
+-- a workspace as it is shown
+abbrev pub shown_of : Workspace → Shown
+shown_of w = record { auto_apply = w.auto_apply; holder = holder_id w.holder; version = option_map (λ (v : Version). v.number) (newest w.versions) }
 
 -- the greatest number of a version or a run
 abbrev pub max_number : ℕ
@@ -57,41 +63,33 @@ with_version w number head text now =
       versions = last_of max_versions (w.versions ++ (record { number = number; serial = head.serial; lineage = head.lineage; created = now; text = text }) ∷ []);
     }
 
--- an answer, and the workspace after it, if there is one
-pub record Ruled : Type 0 where
-  pub outcome : Outcome
-  pub after : Option Workspace
-
-abbrev pub ruled : Outcome → Option Workspace → Ruled
-ruled outcome after = record { outcome = outcome; after = after }
-
 -- an accepted change: the workspace settles, and what is shown is the workspace after that
-abbrev pub done_with : Workspace → Ruled
-done_with w = ruled done (Some (settled w))
+abbrev pub done_with : Workspace → Ruling
+done_with w = effect done (Some (settled w))
 
-abbrev pub shown_with : List ℕ → Workspace → Ruled
-shown_with name w = ruled (workspace (row_of name (settled w))) (Some (settled w))
+abbrev pub shown_with : Workspace → Ruling
+shown_with w = effect (workspace (shown_of (settled w))) (Some (settled w))
 
 -- nothing changes, and that is an answer too
-abbrev pub done_already : Workspace → Ruled
-done_already w = ruled done (Some w)
+abbrev pub done_already : Workspace → Ruling
+done_already w = effect done (Some w)
 
 -- the next number, if one is left
 abbrev pub number_left : ℕ → Option ℕ
 number_left n = within 1 max_number n
 
-abbrev pub numbered_update : Option ℕ → Workspace → StateHead → List ℕ → ℕ → Ruled
-numbered_update None w head text now = ruled (refused OverLimit) (Some w)
+abbrev pub numbered_update : Option ℕ → Workspace → StateHead → List ℕ → ℕ → Ruling
+numbered_update None w head text now = effect (refused OverLimit) (Some w)
 numbered_update (Some number) w head text now = done_with (with_version w number head text now)
 
-abbrev pub accepted_update : Workspace → StateHead → List ℕ → ℕ → Ruled
+abbrev pub accepted_update : Workspace → StateHead → List ℕ → ℕ → Ruling
 accepted_update w head text now = numbered_update (number_left w.next_version) w head text now
 
-abbrev pub by_succession : Succession → Workspace → StateHead → List ℕ → ℕ → Ruled
+abbrev pub by_succession : Succession → Workspace → StateHead → List ℕ → ℕ → Ruling
 by_succession first w head text now = accepted_update w head text now
 by_succession same w head text now = done_already w
-by_succession other_lineage w head text now = ruled (refused OtherLineage) (Some w)
-by_succession old_serial w head text now = ruled (refused OldSerial) (Some w)
+by_succession other_lineage w head text now = effect (refused OtherLineage) (Some w)
+by_succession old_serial w head text now = effect (refused OldSerial) (Some w)
 by_succession next w head text now = accepted_update w head text now
 
 -- a refusal: of `Locked` the answer has the holder
@@ -99,11 +97,11 @@ abbrev pub refused_by : Refusal → Holder → Outcome
 refused_by Locked holder = held holder
 refused_by refusal holder = refused refusal
 
-abbrev pub by_may_write : Option Refusal → Workspace → StateHead → List ℕ → ℕ → Ruled
-by_may_write (Some refusal) w head text now = ruled (refused_by refusal w.holder) (Some w)
+abbrev pub by_may_write : Option Refusal → Workspace → StateHead → List ℕ → ℕ → Ruling
+by_may_write (Some refusal) w head text now = effect (refused_by refusal w.holder) (Some w)
 by_may_write None w head text now = by_succession (succession w.versions text head) w head text now
 
-abbrev pub update : Workspace → StateHead → List ℕ → Option (List ℕ) → ℕ → Ruled
+abbrev pub update : Workspace → StateHead → List ℕ → Option (List ℕ) → ℕ → Ruling
 update w head text id now = by_may_write (may_write w.holder (holder_status w.holder w.runs) id) w head text now
 
 abbrev pub state_answer : Option Version → Outcome
@@ -117,8 +115,8 @@ with_settings w settings = record w { auto_apply = settings.auto_apply }
 abbrev pub purged : Workspace → Workspace
 purged w = record w { versions = [] }
 
-abbrev pub purge : Option Refusal → Workspace → Ruled
-purge (Some refusal) w = ruled (refused_by refusal w.holder) (Some w)
+abbrev pub purge : Option Refusal → Workspace → Ruling
+purge (Some refusal) w = effect (refused_by refusal w.holder) (Some w)
 purge None w = done_with (purged w)
 
 -- the lock of an ID holds; its text is what took it
@@ -126,10 +124,10 @@ abbrev pub locked : List ℕ → List ℕ → Workspace → Workspace
 locked id text w = record w { holder = Lock id text }
 
 -- LOCK: it takes hold where nobody holds, and is repeated where it holds
-abbrev pub lock : Holder → List ℕ → List ℕ → Workspace → Ruled
+abbrev pub lock : Holder → List ℕ → List ℕ → Workspace → Ruling
 lock Nobody id text w = done_with (locked id text w)
-lock (Lock id_held text_held) id text w = cond (bytes_eq id id_held) (done_already w) (ruled (refused_by Locked w.holder) (Some w))
-lock (Run n) id text w = ruled (refused_by Locked w.holder) (Some w)
+lock (Lock id_held text_held) id text w = cond (bytes_eq id id_held) (done_already w) (effect (refused_by Locked w.holder) (Some w))
+lock (Run n) id text w = effect (refused_by Locked w.holder) (Some w)
 
 -- nobody holds any more, and the lock's ID is the one released last
 abbrev pub released : List ℕ → Workspace → Workspace
@@ -140,32 +138,34 @@ is_released None id = false
 is_released (Some last) id = bytes_eq id last
 
 -- UNLOCK by an ID: it releases the lock that it names, and is repeated where nobody holds or where it was released last
-abbrev pub unlock : Holder → List ℕ → Workspace → Ruled
+abbrev pub unlock : Holder → List ℕ → Workspace → Ruling
 unlock Nobody id w = done_already w
 unlock (Lock id_held text) id w =
     cond (bytes_eq id id_held) (done_with (released id_held w))
-    (cond (is_released w.released id) (done_already w) (ruled (refused_by Locked w.holder) (Some w)))
-unlock (Run n) id w = cond (is_released w.released id) (done_already w) (ruled (refused HeldByRun) (Some w))
+    (cond (is_released w.released id) (done_already w) (effect (refused_by Locked w.holder) (Some w)))
+unlock (Run n) id w = cond (is_released w.released id) (done_already w) (effect (refused HeldByRun) (Some w))
 
 -- UNLOCK with an empty body: it releases whatever lock holds
-abbrev pub force_unlock : Holder → Workspace → Ruled
+abbrev pub force_unlock : Holder → Workspace → Ruling
 force_unlock Nobody w = done_already w
 force_unlock (Lock id_held text) w = done_with (released id_held w)
-force_unlock (Run n) w = ruled (refused HeldByRun) (Some w)
+force_unlock (Run n) w = effect (refused HeldByRun) (Some w)
 
--- the rules: of a name, an act and a moment, on the workspace of this name, if there is one
-abbrev pub rules : List ℕ → Act → ℕ → Option Workspace → Ruled
-rules name (PutWorkspace settings) now None = shown_with name (new_workspace settings)
-rules name (PutWorkspace settings) now (Some w) = shown_with name (with_settings w settings)
-rules name (UpdateState head text id) now None = ruled (refused NotFound) None
-rules name (UpdateState head text id) now (Some w) = update w head text id now
-rules name ReadState now None = ruled (refused NotFound) None
-rules name ReadState now (Some w) = ruled (state_answer (newest w.versions)) (Some w)
-rules name (PurgeState id) now None = ruled (refused NotFound) None
-rules name (PurgeState id) now (Some w) = purge (may_write w.holder (holder_status w.holder w.runs) id) w
-rules name (LockAct id text) now None = ruled (refused NotFound) None
-rules name (LockAct id text) now (Some w) = lock w.holder id text w
-rules name (Unlock id) now None = ruled (refused NotFound) None
-rules name (Unlock id) now (Some w) = unlock w.holder id w
-rules name ForceUnlock now None = ruled (refused NotFound) None
-rules name ForceUnlock now (Some w) = force_unlock w.holder w
+-- a workspace that is missing is made by PUT where there is room, and nothing else finds it
+abbrev pub rules_missing : Act → Bool → Ruling
+rules_missing (PutWorkspace settings) room = cond room (shown_with (new_workspace settings)) (effect (refused OverLimit) None)
+rules_missing act room = effect (refused NotFound) None
+
+abbrev pub rules_there : Act → ℕ → Workspace → Ruling
+rules_there (PutWorkspace settings) now w = shown_with (with_settings w settings)
+rules_there (UpdateState head text id) now w = update w head text id now
+rules_there ReadState now w = effect (state_answer (newest w.versions)) (Some w)
+rules_there (PurgeState id) now w = purge (may_write w.holder (holder_status w.holder w.runs) id) w
+rules_there (LockAct id text) now w = lock w.holder id text w
+rules_there (Unlock id) now w = unlock w.holder id w
+rules_there ForceUnlock now w = force_unlock w.holder w
+
+-- the rules: of an act and a moment, on a workspace
+abbrev pub rules : Act → ℕ → Seen → Ruling
+rules act now (missing room) = rules_missing act room
+rules act now (there w) = rules_there act now w

@@ -1,8 +1,10 @@
 -- Settling: once nobody holds, the waiting run of least number starts (HCP Terraform, 'Run States and Stages':
 -- a workspace has one active run at a time, and the others wait in the order of their making).
-use Rattle.std.specs.Prelude.{ℕ, Bool, not, ◌&&◌, ◌==◌, cond, List, map, find, Option, Some, None, option_map}
+use Rattle.std.specs.Prelude.{◌≡◌, ◌≤◌, ◌⊎◌, ◌↔◌, ℕ, Bool, true, false, not, ◌&&◌, ◌==◌, cond, List, map, find, Option, Some, None, option_map}
+use Rattle.std.specs.List.{AllByRecursion}
 use Rattle.basis.specs.declared.runs.RunStatus.TheVariants.{Planning}
-use Rattle.machine.specs.Laws.{is_pending}
+use Rattle.machine.specs.Laws.{is_pending, Rises}
+use Rattle.machine.specs.Workspaces.{run_of}
 use Rattle.machine.specs.declared.records.Holder.{Holder}
 use Rattle.machine.specs.declared.records.Holder.TheVariants.{Nobody, Lock, Run as HoldingRun}
 use Rattle.machine.specs.declared.records.Run.{Run}
@@ -11,6 +13,10 @@ use Rattle.machine.specs.declared.records.Workspace.{Workspace}
 -- a queued run that is pending
 abbrev pub is_waiting : Run → Bool
 is_waiting r = is_pending r.status && not r.plan_only
+
+-- no run waits
+abbrev pub NoneWaits : List Run → Type 0
+NoneWaits runs = AllByRecursion (λ (r : Run). is_waiting r ≡ false) runs
 
 -- the number of the first run that waits: the least one, since runs rise by number
 abbrev pub first_waiting : List Run → Option ℕ
@@ -37,3 +43,19 @@ started_if (Some n) w = started n w
 -- the workspace once it has settled
 abbrev pub settled : Workspace → Workspace
 settled w = started_if (to_start w.holder (first_waiting w.runs)) w
+
+-- the waiting run of least number is planning and holds, and all else is as before
+pub record Starts (w v : Workspace) : Type 0 where
+  pub run : Run
+  pub there : run_of run.number w.runs ≡ Some run
+  pub waits : is_waiting run ≡ true
+  pub least : AllByRecursion (λ (r : Run). is_waiting r ≡ true → run.number ≤ r.number) w.runs
+  pub after : v ≡ started run.number w
+
+-- settling, as a relation of the workspaces before and after it: where somebody holds or none waits they are equal, and else a run starts
+abbrev pub Settles : Workspace → Workspace → Type 0
+Settles w v = (((w.holder ≡ Nobody → NoneWaits w.runs)) × (v ≡ w)) ⊎ ((w.holder ≡ Nobody) × Starts w v)
+
+-- where numbers rise, as they do in a lawful workspace, it allows one workspace, and that is `settled`
+abbrev pub SettlesOnce : Type 0
+SettlesOnce = (w v : Workspace) → Rises 0 (map (λ (r : Run). r.number) w.runs) w.next_run → Settles w v ↔ (v ≡ settled w)

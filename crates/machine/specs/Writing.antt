@@ -1,20 +1,14 @@
 -- Who may write (update or purge a state), by the holder and the ID that the request gives
 -- (Terraform documentation, 'Backend Type: http': the ID of the held lock is added to updates).
-use Rattle.std.specs.Prelude.{ℕ, Bool, true, false, ◌&&◌, ◌==◌, nat_eq, cond, List, drop, Option, Some, None, codes}
-use Rattle.std.specs.List.{starts_with}
-use Rattle.std.specs.Option.{option_map_or}
+use Rattle.std.specs.Prelude.{ℕ, Bool, true, false, cond, List, Option, Some, None}
 use Rattle.std.specs.Str.{bytes_eq}
-use Rattle.basis.specs.Numbers.{number_of}
+use Rattle.basis.specs.Names.{run_id}
 use Rattle.basis.specs.declared.refusals.Refusal.{Refusal}
 use Rattle.basis.specs.declared.refusals.Refusal.TheVariants.{NotHeld, NotApplying, Locked}
 use Rattle.basis.specs.declared.runs.RunStatus.{RunStatus}
 use Rattle.basis.specs.declared.runs.RunStatus.TheVariants.{Pending, Planning, Planned, Applying, Applied, PlannedAndFinished, Errored, Discarded, Canceled}
 use Rattle.machine.specs.declared.records.Holder.{Holder}
 use Rattle.machine.specs.declared.records.Holder.TheVariants.{Nobody, Lock, Run}
-
--- the ID of run n: `run-` and the number
-abbrev pub is_run_id : ℕ → List ℕ → Bool
-is_run_id n id = starts_with nat_eq id (codes "run-") && option_map_or (λ m. m == n) (number_of (drop 4 id)) false
 
 abbrev pub is_applying : Option RunStatus → Bool
 is_applying None = false
@@ -35,4 +29,4 @@ may_write Nobody status (Some id) = Some NotHeld
 may_write (Lock held text) status None = Some Locked
 may_write (Lock held text) status (Some id) = cond (bytes_eq id held) None (Some Locked)
 may_write (Run n) status None = Some Locked
-may_write (Run n) status (Some id) = cond (is_run_id n id) (cond (is_applying status) None (Some NotApplying)) (Some Locked)
+may_write (Run n) status (Some id) = cond (bytes_eq id (run_id n)) (cond (is_applying status) None (Some NotApplying)) (Some Locked)

@@ -1,7 +1,9 @@
 //! What is asked of a workspace, what a decision needs of it, and what is decided.
 
 use crate::records::{Holder, Version};
-use basis::{Bytes, HolderId, LockId, Number, Refusal, RunStatus, Settings, StateHead, Text};
+use basis::{
+    Bytes, HolderId, Limit, LockId, Number, Refusal, RunStatus, Settings, StateHead, Text,
+};
 
 /// What is asked of one workspace, its documents read.
 #[derive(Debug, Drop)]
@@ -62,7 +64,11 @@ pub struct WorkspaceUnit {
 /// What a decision needs of one workspace, or that it isn't there.
 #[derive(Debug, Drop)]
 pub enum Unit {
-    Absent,
+    /// How many workspaces the organization has, and how many it may have.
+    Absent {
+        workspaces: usize,
+        limit: Limit,
+    },
     Present(WorkspaceUnit),
 }
 

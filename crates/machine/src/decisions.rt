@@ -1,15 +1,17 @@
 //! Decisions: what becomes of an act, from the few values that it depends on.
 ghost use Rattle.std.specs.Prelude.{◌≡◌, ◌+◌, ◌-◌, ℕ, List, ◌<◌, ◌^◌, Option, Some, None, IfOk, cond, option_map};
 ghost use Rattle.std.specs.Str.{bytes_eq};
-ghost use Rattle.machine.specs.Units.{unit_of, decision_of, decided_update, decided_after, decided_version, decided_read, decided_purge, decided_lock, decided_unlock, decided_force, changing, start_now, holder_after, shown_now, new_shown};
+ghost use Rattle.machine.specs.Units.{unit_of};
+ghost use Rattle.machine.specs.Records.{seen_in};
+ghost use Rattle.machine.specs.Laws.{IsLawfulOrganization};
+ghost use Rattle.machine.specs.Inner.Decisions.{decision_of, decision_missing, decided_update, decided_after, decided_version, decided_read, decided_purge, decided_lock, decided_unlock, decided_force, changing, start_now, holder_after, shown_now, new_shown, Meets};
 ghost use Rattle.machine.specs.Settling.{to_start};
-ghost use Rattle.machine.specs.Writing.{may_write, is_run_id, is_applying};
+ghost use Rattle.machine.specs.Writing.{may_write, is_applying};
 ghost use Rattle.machine.specs.Succession.{lineages_differ};
 ghost use Rattle.machine.specs.Rules.{holder_id, is_released};
-ghost use Rattle.machine.specs.Meaning.{Meets};
-ghost use Rattle.machine.specs.declared.records.Workspace.{Workspace as AnyWorkspace};
+ghost use Rattle.machine.specs.declared.records.Organization.{Organization as AnyOrganization};
 ghost use Rattle.machine.specs.declared.records.Holder.TheVariants.{Run};
-ghost use Rattle.machine.specs.declared.acts.Unit.TheVariants.{Absent, Present};
+ghost use Rattle.machine.specs.declared.acts.Unit.TheVariants.{Present};
 ghost use Rattle.machine.specs.declared.acts.Act.TheVariants.{PutWorkspace};
 ghost use Rattle.machine.specs.declared.acts.Answer.TheVariants.{Done};
 ghost use Rattle.machine.specs.declared.acts.Edit.TheVariants.{Release};
@@ -19,24 +21,12 @@ use crate::acts::{Act, Answer, Change, Decision, Edit, Newest, Shown, Unit, Work
 use crate::records::{Holder, Version};
 use basis::{
     Bytes, Down, HolderId, LockId, Moment, Number, Refusal, RunStatus, Settings, StateHead, Text,
+    is_run_id,
 };
 use std::alloc::Global;
 
 /// The most versions that a workspace keeps.
 pub const MAX_VERSIONS: usize = 100;
-
-// Whether an ID is that of a run: `run-` and the number.
-fn is_run_id(n: Number, id: &LockId) -> bool
-    ensures { result ≡ is_run_id n id.now }
-{
-    match id.as_str().strip_prefix("run-") {
-        Some(number) => match Number::read(number) {
-            Ok(m) => m == n,
-            Err(_) => false,
-        },
-        None => false,
-    }
-}
 
 fn is_applying(status: Option<RunStatus>) -> bool
     ensures { result ≡ is_applying status }
@@ -73,7 +63,7 @@ fn may_write(holder: &Holder, status: Option<RunStatus>, id: &Option<LockId>) ->
 fn may_write_of_run(n: Number, status: Option<RunStatus>, id: &LockId) -> Option<Refusal>
     ensures { result ≡ may_write (Run n) status (Some id.now) }
 {
-    if !is_run_id(n, id) {
+    if !is_run_id(n, id.as_str()) {
         Some(Refusal::Locked)
     } else if is_applying(status) {
         None
@@ -353,18 +343,11 @@ fn decide_present(unit: &WorkspaceUnit, act: &Act, now: Moment) -> Result<Decisi
     }
 }
 
-fn decide_absent(act: &Act) -> Decision
-    ensures { (now : ℕ) → result ≡ decision_of Absent act.now now }
+fn decide_missing(act: &Act, has_room: bool) -> Decision
+    ensures { result ≡ decision_missing act.now has_room }
 {
     match act {
-        Act::PutWorkspace(settings) => {
-            let shown = Shown {
-                auto_apply: settings.auto_apply,
-                holder: None,
-                version: None,
-            };
-            accept(Answer::Workspace(shown), Edit::Make(*settings), None)
-        }
+        Act::PutWorkspace(settings) => decide_making(*settings, has_room),
         Act::UpdateState { .. } => Decision::Refused(Refusal::NotFound),
         Act::ReadState => Decision::Refused(Refusal::NotFound),
         Act::PurgeState { .. } => Decision::Refused(Refusal::NotFound),
@@ -374,19 +357,38 @@ fn decide_absent(act: &Act) -> Decision
     }
 }
 
+fn decide_making(settings: Settings, has_room: bool) -> Decision
+    ensures { result ≡ decision_missing (PutWorkspace settings) has_room }
+{
+    if !has_room {
+        return Decision::Refused(Refusal::OverLimit);
+    }
+    let shown = Shown {
+        auto_apply: settings.auto_apply,
+        holder: None,
+        version: None,
+    };
+    accept(Answer::Workspace(shown), Edit::Make(settings), None)
+}
+
 fn decided(unit: &Unit, act: &Act, now: Moment) -> Result<Decision, Down>
     ensures { IfOk result (λ decision. decision ≡ decision_of unit.now act.now now) }
 {
     match unit {
-        Unit::Absent => Ok(decide_absent(act)),
+        Unit::Absent { workspaces, limit } => {
+            let has_room = *workspaces < limit.get() as usize;
+            Ok(decide_missing(act, has_room))
+        }
         Unit::Present(unit) => decide_present(unit, act, now),
     }
 }
 
-/// What becomes of an act at a moment, from what it needs of its workspace.
+/// What becomes of an act at a moment, from what it needs of its workspace. Of a lawful organization
+/// it is what the rules say.
 pub fn decide(unit: &Unit, act: &Act, now: Moment) -> Result<Decision, Down>
     ensures decision { IfOk result (λ decision. decision ≡ decision_of unit.now act.now now) }
-    ensures model { IfOk result (λ decision. (w : Option AnyWorkspace) → unit.now ≡ unit_of w act.now → Meets w act.now now decision) }
+    ensures model { IfOk result (λ decision. (o : AnyOrganization) (name : List ℕ) → IsLawfulOrganization o → unit.now ≡ unit_of o name act.now
+        → Meets (seen_in o name) act.now now decision) }
 {
     decided(unit, act, now)
 }

@@ -1,8 +1,13 @@
 //! What keeps organizations: the interface of a store, and what an operator is answered.
-ghost use Rattle.std.specs.Prelude.{◌≡◌, ◌≢◌, ℕ, List, Option, Some, IfOk, OnOk, OnErr};
-ghost use Rattle.machine.specs.Tokens.{caller_of, managed, org_added, token_added, token_of};
-ghost use Rattle.machine.specs.Records.{workspace_in, placed};
-ghost use Rattle.machine.specs.Units.{unit_of, text_of, changed_by, IsDue};
+ghost use Rattle.std.specs.Prelude.{◌≡◌, ◌≢◌, ℕ, List, Option, Some, IfOk, OnOk, OnErr, option_map};
+ghost use Rattle.std.specs.FinMap.{get};
+ghost use Rattle.machine.specs.Effects.{effect};
+ghost use Rattle.machine.specs.Laws.{AreLawful};
+ghost use Rattle.machine.specs.Keeping.{Looks};
+ghost use Rattle.machine.specs.Tokens.{caller_of, org_added, token_added, token_of};
+ghost use Rattle.machine.specs.Records.{workspace_in, seen_in, placed};
+ghost use Rattle.machine.specs.Changes.{changed_by, IsDue};
+ghost use Rattle.machine.specs.Units.{unit_of, text_of};
 ghost use Rattle.machine.specs.declared.records.Organization.{Organization as AnyOrganization};
 
 use crate::acts::{Act, Change, Unit};
@@ -20,14 +25,22 @@ pub enum AdminAnswer {
 }
 
 /// What keeps organizations. It is seen as a map from the names of organizations to their records
-/// (`rows`), and what it promises of them holds as long as it is clean: a store in memory always is,
-/// and one in files is where nobody else wrote them and the disk gave back what was written.
+/// (`rows`). What it promises holds as long as it is clean, and what it promises of the values of
+/// records holds of a store that was sound: a store in memory always is both, once it is made here.
+/// A store in files is clean where nobody else wrote them and the disk gave back what was written.
 pub trait Keep {
     /// The record of each organization that is there.
     ghost rows: { Self → List ℕ → Option AnyOrganization };
 
-    /// Whether what is promised of rows holds so far.
+    /// Whether what is promised of the store holds so far.
     ghost clean: { Self → Type 0 };
+
+    /// Whether what the store holds obeys its laws. Each call keeps it.
+    ghost sound: { Self → Type 0 };
+
+    /// In a clean and sound store every record is lawful.
+    fn records_are_lawful(&self)
+        ensures { clean self.now → sound self.now → AreLawful (rows self.now) };
 
     /// The role of the organization's token with this digest.
     fn caller(
@@ -36,16 +49,14 @@ pub trait Keep {
         org: &OrgName,
         digest: &[u8; 32],
     ) -> Result<Option<Role>, Down>
-        ensures so_far { clean self.new → clean self.old }
-        ensures ok { clean self.new → IfOk result (λ role. role ≡ caller_of (rows self.old org.now) digest.now) }
-        ensures same { clean self.new → (o : List ℕ) → rows self.new o ≡ rows self.old o };
+        ensures looks { Looks rows clean sound self.old self.new }
+        ensures ok { clean self.new → sound self.old → IfOk result (λ role. role ≡ option_map (λ token. token.role) (caller_of (rows self.old org.now) digest.now)) };
 
     /// What a decision on the act needs of the workspace. The organization is there.
     fn unit(&mut self, alloc: Global, org: &OrgName, ws: &WsName, act: &Act) -> Result<Unit, Down>
-        ensures so_far { clean self.new → clean self.old }
-        ensures ok { clean self.new → IfOk result (λ unit. (o : AnyOrganization) → rows self.old org.now ≡ Some o
-            → unit ≡ unit_of (workspace_in (Some o) ws.now) act.now) }
-        ensures same { clean self.new → (o : List ℕ) → rows self.new o ≡ rows self.old o };
+        ensures looks { Looks rows clean sound self.old self.new }
+        ensures ok { clean self.new → sound self.old → IfOk result (λ unit. (o : AnyOrganization) → rows self.old org.now ≡ Some o
+            → unit ≡ unit_of o ws.now act.now) };
 
     /// The text of a version, if it is kept.
     fn text(
@@ -55,11 +66,10 @@ pub trait Keep {
         ws: &WsName,
         n: Number,
     ) -> Result<Option<Bytes>, Down>
-        ensures so_far { clean self.new → clean self.old }
-        ensures ok { clean self.new → IfOk result (λ text. text ≡ text_of n (workspace_in (rows self.old org.now) ws.now)) }
-        ensures same { clean self.new → (o : List ℕ) → rows self.new o ≡ rows self.old o };
+        ensures looks { Looks rows clean sound self.old self.new }
+        ensures ok { clean self.new → sound self.old → IfOk result (λ text. text ≡ text_of n (workspace_in (rows self.old org.now) ws.now)) };
 
-    /// Changes the workspace as a decision on it has said, in one transaction.
+    /// Changes a workspace, in one transaction. The organization is there, and the change is due.
     fn apply(
         &mut self,
         alloc: Global,
@@ -68,17 +78,20 @@ pub trait Keep {
         change: &Change,
     ) -> Result<(), Down>
         ensures so_far { clean self.new → clean self.old }
-        ensures own { clean self.new → OnOk result ((o : AnyOrganization) → rows self.old org.now ≡ Some o
-            → IsDue (workspace_in (Some o) ws.now) change.now
-            → rows self.new org.now ≡ Some (placed o ws.now (changed_by change.now (workspace_in (Some o) ws.now)))) }
-        ensures others { clean self.new → (o : List ℕ) → o ≢ org.now → rows self.new o ≡ rows self.old o }
+        ensures kept { clean self.new → sound self.old → (o : AnyOrganization) → rows self.old org.now ≡ Some o
+            → IsDue (seen_in o ws.now) change.now → sound self.new }
+        ensures own { clean self.new → sound self.old → OnOk result ((o : AnyOrganization) → rows self.old org.now ≡ Some o
+            → IsDue (seen_in o ws.now) change.now
+            → rows self.new org.now ≡ Some (placed o ws.now (changed_by change.now (get o.workspaces ws.now)))) }
+        ensures others { clean self.new → sound self.old → (o : List ℕ) → o ≢ org.now → rows self.new o ≡ rows self.old o }
         ensures err { clean self.new → OnErr result ((o : List ℕ) → rows self.new o ≡ rows self.old o) };
 
     /// Adds an organization, with no token and no workspace.
     fn org_add(&mut self, alloc: Global, org: &OrgName, limit: Limit) -> Result<AdminAnswer, Down>
         ensures so_far { clean self.new → clean self.old }
-        ensures own { clean self.new → IfOk result (λ answer. managed answer (rows self.new org.now) ≡ org_added limit (rows self.old org.now)) }
-        ensures others { clean self.new → (o : List ℕ) → o ≢ org.now → rows self.new o ≡ rows self.old o }
+        ensures kept { clean self.new → sound self.old → sound self.new }
+        ensures own { clean self.new → sound self.old → IfOk result (λ answer. effect answer (rows self.new org.now) ≡ org_added limit (rows self.old org.now)) }
+        ensures others { clean self.new → sound self.old → (o : List ℕ) → o ≢ org.now → rows self.new o ≡ rows self.old o }
         ensures err { clean self.new → OnErr result ((o : List ℕ) → rows self.new o ≡ rows self.old o) };
 
     /// Adds a token to an organization.
@@ -91,7 +104,8 @@ pub trait Keep {
         digest: &[u8; 32],
     ) -> Result<AdminAnswer, Down>
         ensures so_far { clean self.new → clean self.old }
-        ensures own { clean self.new → IfOk result (λ answer. managed answer (rows self.new org.now) ≡ token_added name.now (token_of digest.now role) (rows self.old org.now)) }
-        ensures others { clean self.new → (o : List ℕ) → o ≢ org.now → rows self.new o ≡ rows self.old o }
+        ensures kept { clean self.new → sound self.old → sound self.new }
+        ensures own { clean self.new → sound self.old → IfOk result (λ answer. effect answer (rows self.new org.now) ≡ token_added name.now (token_of digest.now role) (rows self.old org.now)) }
+        ensures others { clean self.new → sound self.old → (o : List ℕ) → o ≢ org.now → rows self.new o ≡ rows self.old o }
         ensures err { clean self.new → OnErr result ((o : List ℕ) → rows self.new o ≡ rows self.old o) };
 }

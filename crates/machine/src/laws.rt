@@ -1,12 +1,19 @@
 //! Laws of the rules, each the contract of a call that does nothing.
-ghost use Rattle.machine.specs.Custody.{HoldsUntilReleased, LeastStarts, RepeatsChangeNothing, VersionsChangeByTheId, WritesCarryTheId};
+ghost use Rattle.machine.specs.Settling.{SettlesOnce};
+ghost use Rattle.machine.specs.Custody.{HoldsUntilReleased, LockedWorkspacesStay, NothingIsReadOfAPurge, NumbersRise, RefusalsChangeNothing, RefusalsTellTheHolder, RepeatsChangeNothing, VersionsChangeByTheId, WhatIsPostedIsRead, WritesCarryTheId};
 
-/// A lock holds, with the text that took it, until an UNLOCK by its ID or a forced release.
-pub fn holds_until_released()
-    ensures { HoldsUntilReleased }
+/// A refusal leaves the workspace as it is.
+pub fn refusals_change_nothing()
+    ensures { RefusalsChangeNothing }
 {}
 
-/// While a lock holds, each accepted update or purge carried its ID.
+/// Who is told that another holds is told of the holder.
+pub fn refusals_tell_the_holder()
+    ensures { RefusalsTellTheHolder }
+{}
+
+/// An accepted update or purge carried the holder's ID, and none while nobody holds; a run that
+/// holds was applying.
 pub fn writes_carry_the_id()
     ensures { WritesCarryTheId }
 {}
@@ -16,12 +23,38 @@ pub fn versions_change_by_the_id()
     ensures { VersionsChangeByTheId }
 {}
 
+/// A lock holds, with the text that took it, until an UNLOCK by its ID or a forced release.
+pub fn holds_until_released()
+    ensures { HoldsUntilReleased }
+{}
+
+/// No act takes a workspace away that a lock holds.
+pub fn locked_workspaces_stay()
+    ensures { LockedWorkspacesStay }
+{}
+
+/// What is posted is what GET gives.
+pub fn what_is_posted_is_read()
+    ensures { WhatIsPostedIsRead }
+{}
+
+/// After a purge there is nothing to give.
+pub fn nothing_is_read_of_a_purge()
+    ensures { NothingIsReadOfAPurge }
+{}
+
+/// The next numbers never fall, that of versions rises exactly where one is made, and a version that
+/// stays is unchanged.
+pub fn numbers_rise()
+    ensures { NumbersRise }
+{}
+
 /// An act that comes again, at whatever moment, changes nothing more.
 pub fn repeats_change_nothing()
     ensures { RepeatsChangeNothing }
 {}
 
-/// Of the runs that wait, the one of least number starts.
-pub fn least_starts()
-    ensures { LeastStarts }
+/// Settling allows one workspace, and the rules give that one.
+pub fn settles_once()
+    ensures { SettlesOnce }
 {}

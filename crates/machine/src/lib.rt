@@ -14,8 +14,9 @@ pub use acts::{Act, Answer, Change, Decision, Edit, Newest, Shown, Unit, Workspa
 pub use decisions::{MAX_VERSIONS, decide};
 pub use keeps::{AdminAnswer, Keep};
 pub use laws::{
-    holds_until_released, least_starts, repeats_change_nothing, versions_change_by_the_id,
-    writes_carry_the_id,
+    holds_until_released, locked_workspaces_stay, nothing_is_read_of_a_purge, numbers_rise,
+    refusals_change_nothing, refusals_tell_the_holder, repeats_change_nothing, settles_once,
+    versions_change_by_the_id, what_is_posted_is_read, writes_carry_the_id,
 };
 pub use maps::NameMap;
 pub use plain::PlainKeep;

@@ -3,7 +3,7 @@ ghost use Rattle.std.specs.Prelude.{◌≡◌, option_copied, IfOk, IfErr, OnOk,
 ghost use Rattle.std.specs.Prelude.{map as map_list};
 ghost use Rattle.std.specs.FinMap as map;
 ghost use Rattle.machine.specs.Order.{name_cmp};
-ghost use Rattle.machine.specs.Places.{IsAt, IsGapFor};
+ghost use Rattle.machine.specs.Inner.Places.{IsAt, IsGapFor};
 
 use basis::{Down, Text};
 use std::alloc::Global;

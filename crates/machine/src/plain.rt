@@ -2,9 +2,12 @@
 ghost use Rattle.std.specs.Prelude.{◌≡◌, ◌≢◌, ℕ, ⊤, List, Option, Some, None, IfOk, OnOk, OnErr, cond, option_map, option_copied};
 ghost use Rattle.std.specs.Prelude.{map as map_list};
 ghost use Rattle.std.specs.FinMap as map;
-ghost use Rattle.machine.specs.Records.{workspace_in, with_workspace, placed};
-ghost use Rattle.machine.specs.Tokens.{role_with, managed, new_organization, token_added};
-ghost use Rattle.machine.specs.Units.{is_text_of, newest_unit, workspace_unit, version_of, text_of, edited, changed_by};
+ghost use Rattle.machine.specs.Effects.{effect};
+ghost use Rattle.machine.specs.Laws.{AreLawful};
+ghost use Rattle.machine.specs.Records.{with_workspace, placed};
+ghost use Rattle.machine.specs.Tokens.{token_with, has_digest, new_organization, org_added, token_added};
+ghost use Rattle.machine.specs.Changes.{edited, changed_by};
+ghost use Rattle.machine.specs.Units.{is_text_of, newest_unit, workspace_unit, unit_of, version_of, text_of};
 ghost use Rattle.basis.specs.declared.runs.RunStatus.TheVariants.{Planning};
 ghost use Rattle.machine.specs.Settling.{first_waiting, begun, started, started_if};
 ghost use Rattle.machine.specs.Workspaces.{newest, new_workspace, run_of, holder_status};
@@ -17,9 +20,10 @@ use crate::records::{Holder, Organization, Run, Token, Version, Workspace};
 use basis::{
     Bytes, Down, Items, Limit, LockId, Number, OrgName, Role, RunStatus, Settings, Text, WsName,
 };
+use basis::numbers::MAX_LIMIT;
 use std::alloc::Global;
 
-/// A store in memory. It is always clean.
+/// A store in memory. It is always clean, and sound where every record is lawful.
 #[derive(Drop)]
 pub struct PlainKeep {
     organizations: NameMap<Organization>,
@@ -28,18 +32,28 @@ pub struct PlainKeep {
 impl PlainKeep {
     /// The store with no organization.
     pub fn new(alloc: Global) -> PlainKeep
-        ensures { (o : List ℕ) → ⟦<PlainKeep as Keep>⟧.rows result o ≡ None }
+        ensures empty { (o : List ℕ) → ⟦<PlainKeep as Keep>⟧.rows result o ≡ None }
+        ensures sound { ⟦<PlainKeep as Keep>⟧.sound result }
     {
         PlainKeep {
             organizations: NameMap::new(alloc),
         }
     }
+
+    /// What is promised of a store in memory always holds.
+    pub fn is_always_clean(&self)
+        ensures { ⟦<PlainKeep as Keep>⟧.clean self.now }
+    {}
 }
 
 impl Keep for PlainKeep {
     ghost rows = { λ keep o. map.get keep.organizations o };
 
     ghost clean = { λ _. ⊤ };
+
+    ghost sound = { λ keep. AreLawful (λ o. map.get keep.organizations o) };
+
+    fn records_are_lawful(&self) {}
 
     fn caller(
         &mut self,
@@ -60,12 +74,12 @@ impl Keep for PlainKeep {
         ws: &WsName,
         act: &Act,
     ) -> Result<Unit, Down> {
-        let Some(organization) = self.organizations.get(org.as_str()) else {
-            return Ok(Unit::Absent);
-        };
-        match organization.workspaces.get(ws.as_str()) {
-            Some(workspace) => Ok(Unit::Present(workspace.unit(act)?)),
-            None => Ok(Unit::Absent),
+        match self.organizations.get(org.as_str()) {
+            Some(organization) => organization.unit(ws.as_str(), act),
+            None => Ok(Unit::Absent {
+                workspaces: 0,
+                limit: Limit::new(0).unwrap(),
+            }),
         }
     }
 
@@ -96,15 +110,9 @@ impl Keep for PlainKeep {
             .apply(alloc, org.as_str(), ws.as_str(), change)
     }
 
-    #[tactic(auto, using(crate::proofs::MapLemmas::get_own, crate::proofs::MapLemmas::get_other))]
     fn org_add(&mut self, alloc: Global, org: &OrgName, limit: Limit) -> Result<AdminAnswer, Down> {
-        if self.organizations.get(org.as_str()).is_some() {
-            return Ok(AdminAnswer::Exists);
-        }
-        let name = Text::copy_of(alloc, org.as_str())?;
-        self.organizations
-            .insert(name, Organization::new(alloc, limit))?;
-        Ok(AdminAnswer::Done)
+        prove!(limit.get() <= MAX_LIMIT);
+        self.organizations.add(alloc, org.as_str(), limit)
     }
 
     fn token_add(
@@ -126,7 +134,7 @@ impl Keep for PlainKeep {
 
 impl NameMap<Organization> {
     fn apply(&mut self, alloc: Global, org: &str, ws: &str, change: &Change) -> Result<(), Down>
-        ensures own { OnOk result (map.get self.new org.now ≡ option_map (λ (o : AnyOrganization). placed o ws.now (changed_by change.now (workspace_in (Some o) ws.now))) (map.get self.old org.now)) }
+        ensures own { OnOk result (map.get self.new org.now ≡ option_map (λ (o : AnyOrganization). placed o ws.now (changed_by change.now (map.get o.workspaces ws.now))) (map.get self.old org.now)) }
         ensures others { (o : List ℕ) → o ≢ org.now → map.get self.new o ≡ map.get self.old o }
         ensures err { OnErr result (self.new ≡ self.old) }
     {
@@ -136,8 +144,22 @@ impl NameMap<Organization> {
         }
     }
 
+    #[tactic(auto, using(crate::proofs::MapLemmas::get_own, crate::proofs::MapLemmas::get_other))]
+    fn add(&mut self, alloc: Global, org: &str, limit: Limit) -> Result<AdminAnswer, Down>
+        ensures own { IfOk result (λ answer. effect answer (map.get self.new org.now) ≡ org_added limit (map.get self.old org.now)) }
+        ensures others { (o : List ℕ) → o ≢ org.now → map.get self.new o ≡ map.get self.old o }
+        ensures err { OnErr result (self.new ≡ self.old) }
+    {
+        if self.get(org).is_some() {
+            return Ok(AdminAnswer::Exists);
+        }
+        let name = Text::copy_of(alloc, org)?;
+        self.insert(name, Organization::new(alloc, limit))?;
+        Ok(AdminAnswer::Done)
+    }
+
     fn add_token(&mut self, org: &str, name: Text, token: Token) -> Result<AdminAnswer, Down>
-        ensures own { IfOk result (λ answer. managed answer (map.get self.new org.now) ≡ token_added name token (map.get self.old org.now)) }
+        ensures own { IfOk result (λ answer. effect answer (map.get self.new org.now) ≡ token_added name token (map.get self.old org.now)) }
         ensures others { (o : List ℕ) → o ≢ org.now → map.get self.new o ≡ map.get self.old o }
         ensures err { OnErr result (self.new ≡ self.old) }
     {
@@ -160,16 +182,37 @@ impl Organization {
     }
 
     fn role_with(&self, digest: &[u8; 32]) -> Option<Role>
-        ensures { result ≡ role_with digest.now (map.entries self.now.tokens) }
+        ensures { result ≡ option_map (λ token. token.role) (token_with digest.now (map.entries self.now.tokens)) }
     {
-        role_with(digest, self.tokens.entries())
+        match token_with(digest, self.tokens.entries()) {
+            Some(token) => Some(token.role),
+            None => None,
+        }
+    }
+
+    fn has_digest(&self, digest: &[u8; 32]) -> bool
+        ensures { result ≡ has_digest digest.now self.now }
+    {
+        token_with(digest, self.tokens.entries()).is_some()
+    }
+
+    fn unit(&self, ws: &str, act: &Act) -> Result<Unit, Down>
+        ensures { IfOk result (λ unit. unit ≡ unit_of self.now ws.now act.now) }
+    {
+        match self.workspaces.get(ws) {
+            Some(workspace) => Ok(Unit::Present(workspace.unit(act)?)),
+            None => Ok(Unit::Absent {
+                workspaces: self.workspaces.entries().len(),
+                limit: self.limit,
+            }),
+        }
     }
 
     fn add_token(&mut self, name: Text, token: Token) -> Result<AdminAnswer, Down>
-        ensures ok { IfOk result (λ answer. managed answer (Some self.new) ≡ token_added name token (Some self.old)) }
+        ensures ok { IfOk result (λ answer. effect answer (Some self.new) ≡ token_added name token (Some self.old)) }
         ensures err { OnErr result (self.new ≡ self.old) }
     {
-        if self.tokens.get(name.as_str()).is_some() || self.role_with(&token.digest).is_some() {
+        if self.tokens.get(name.as_str()).is_some() || self.has_digest(&token.digest) {
             return Ok(AdminAnswer::Exists);
         }
         self.tokens.insert(name, token)?;
@@ -177,12 +220,12 @@ impl Organization {
     }
 }
 
-fn role_with(digest: &[u8; 32], entries: &[Entry<Token>]) -> Option<Role>
-    ensures { result ≡ role_with digest.now (map_list (λ e. (e.name, e.value)) entries.now) }
+fn token_with(digest: &[u8; 32], entries: &[Entry<Token>]) -> Option<Token>
+    ensures { result ≡ token_with digest.now (map_list (λ e. (e.name, e.value)) entries.now) }
 {
     for entry in entries {
         if entry.value.digest == *digest {
-            return Some(entry.value.role);
+            return Some(entry.value);
         }
     }
     None

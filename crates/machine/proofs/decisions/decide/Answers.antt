@@ -1,4 +1,4 @@
-use Rattle.machine.proofs.MeaningLemmas.{met}
+use Rattle.machine.proofs.DecisionLemmas.{met}
 use Rattle.machine.proofs.decisions.decide.Goals as goal
 
 pub returns-clause-model : goal.returns-clause-model

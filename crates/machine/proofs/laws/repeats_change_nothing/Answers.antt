@@ -1,5 +1,5 @@
-use Rattle.machine.proofs.CustodyLemmas.{repeats}
+use Rattle.machine.proofs.CustodyLemmas as lemma
 use Rattle.machine.proofs.laws.repeats_change_nothing.Goals as goal
 
 pub returns : goal.returns
-returns c = repeats
+returns c = lemma.repeats

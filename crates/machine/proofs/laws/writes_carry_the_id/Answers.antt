@@ -1,5 +1,5 @@
-use Rattle.machine.proofs.CustodyLemmas.{writes_carry_the_id}
+use Rattle.machine.proofs.RefusalLemmas as lemma
 use Rattle.machine.proofs.laws.writes_carry_the_id.Goals as goal
 
 pub returns : goal.returns
-returns c = writes_carry_the_id
+returns c = lemma.writes_carry_the_id

@@ -1,6 +1,7 @@
+use Rattle.machine.specs.Effects.{effect}
 use Rattle.std.proofs.Common.{arith, refl, ap, ◌∙◌}
 use Rattle.std.proofs.lemmas.Result.{IfOk-weaker}
-use Rattle.machine.specs.Tokens.{managed, token_added}
+use Rattle.machine.specs.Tokens.{token_added}
 use Rattle.machine.proofs.MapLemmas.{place_within, got_at, changed_in_order, changed_own, changed_other, none_at_gap}
 use Rattle.machine.proofs.plain.NameMap+Organization.add_token.Goals as goal
 
@@ -13,7 +14,7 @@ invariant_of-self c = changed_in_order _ _ _ c.self.view_is c.self.invariant _ _
 pub returns-in-Ok-clause-own : goal.returns-in-Ok-clause-own
 returns-in-Ok-clause-own c =
     let was = got_at _ _ _ c.self.view_is c.self.invariant _ _ c.in-Ok.ensures.found _ c.index_mut.ensures.value in
-    IfOk-weaker c.add_token.result _ _ (λ answer is. ap (managed answer) (changed_own _ _ _ c.self.view_is c.self.invariant _ _ c.in-Ok.ensures.found _ c.index_mut.ensures.value _ refl) ∙ is ∙ ap (token_added c.args.name c.args.token) was) c.add_token.ensures.ok
+    IfOk-weaker c.add_token.result _ _ (λ answer is. ap (effect answer) (changed_own _ _ _ c.self.view_is c.self.invariant _ _ c.in-Ok.ensures.found _ c.index_mut.ensures.value _ refl) ∙ is ∙ ap (token_added c.args.name c.args.token) was) c.add_token.ensures.ok
 
 pub returns-in-Ok-clause-others : goal.returns-in-Ok-clause-others
 returns-in-Ok-clause-others c = changed_other _ _ _ c.self.view_is c.self.invariant _ _ c.in-Ok.ensures.found _ c.index_mut.ensures.value _ refl

@@ -1,4 +1,4 @@
--- Where a name stands among entries that rise by their names, and where it would go.
+-- Contracts between functions: where a name stands among entries that rise by their names, and where it would go.
 use Rattle.std.specs.Prelude.{◌≡◌, ℕ, ◌<◌, ◌≤◌, List, get_or, set, length, Some, None}
 use Rattle.std.specs.List.{insert}
 use Rattle.std.specs.FinMap.{find, put}

@@ -1,0 +1,34 @@
+-- What a change does to a workspace, and when it is due: this is what a store's `apply` speaks of.
+use Rattle.std.specs.Prelude.{◌≡◌, ℕ, ◌+◌, List, [], ◌∷◌, ◌++◌, drop, Option, Some, None, option_map}
+use Rattle.machine.specs.Workspaces.{new_workspace}
+use Rattle.machine.specs.Settling.{started_if}
+use Rattle.machine.specs.Ranges.{IsInRange, IsMoment}
+use Rattle.machine.specs.Records.{Seen, standing}
+use Rattle.machine.specs.Rules.{rules, with_settings, purged, locked, released}
+use Rattle.machine.specs.declared.acts.Act.{Act}
+use Rattle.machine.specs.declared.acts.Edit.{Edit}
+use Rattle.machine.specs.declared.acts.Edit.TheVariants.{Make, Configure, AddVersion, Purge, Hold, Release}
+use Rattle.machine.specs.declared.acts.Change.{Change}
+use Rattle.machine.specs.declared.records.Workspace.{Workspace}
+
+-- the workspace after an edit
+abbrev pub edited : Edit → Option Workspace → Option Workspace
+edited (Make settings) w = Some (new_workspace settings)
+edited (Configure settings) w = option_map (λ (v : Workspace). with_settings v settings) w
+edited (AddVersion version gone) w =
+    option_map (λ (v : Workspace). record v { next_version = version.number + 1; versions = drop gone (v.versions ++ version ∷ []) }) w
+edited Purge w = option_map purged w
+edited (Hold id text) w = option_map (locked id text) w
+edited (Release id) w = option_map (released id) w
+
+-- the workspace after a change: an edit, and the run that starts
+abbrev pub changed_by : Change → Option Workspace → Option Workspace
+changed_by change w = option_map (started_if change.start) (edited change.edit w)
+
+-- a change is due where some act in its ranges, at some moment in range, has the workspace after it that the rules give
+pub record IsDue (s : Seen) (change : Change) : Type 0 where
+  pub act : Act
+  pub now : ℕ
+  pub range : IsInRange act
+  pub moment : IsMoment now
+  pub is : changed_by change (standing s) ≡ (rules act now s).left
