@@ -10,7 +10,8 @@ use Rattle.serde_json.specs.Read.{read}
 use Rattle.basis.specs.declared.rows.RunAsk.{RunAsk}
 use Rattle.basis.specs.declared.rows.Settings.{Settings}
 use Rattle.basis.specs.declared.rows.StateHead.{StateHead}
-use Rattle.docs.specs.Documents.{state_head, lock_id_of, settings_of, run_ask, object_of, serial_of, text_within, optional_text, make_head, head_in, is_free_id, free_id, lock_id_in, flag_of, small_object_of, make_settings, settings_in, key_of, make_ask, ask_in}
+use Rattle.basis.specs.Names.{is_free_id}
+use Rattle.docs.specs.Documents.{state_head, lock_id_of, settings_of, run_ask, object_of, serial_of, text_within, optional_text, make_head, head_in, free_id, lock_id_in, flag_of, small_object_of, make_settings, settings_in, key_of, make_ask, ask_in}
 use Rattle.docs.specs.Readings.{IsObject, IsText, IsState, IsLock, IsFlag, IsSmallObject, IsSettings, IsKey, IsAsk, StateLaw, LockLaw, SettingsLaw, AskLaw}
 
 -- ---- tests and options

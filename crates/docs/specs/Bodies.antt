@@ -1,8 +1,9 @@
 -- The bodies that the service writes: compact JSON, keys in the order of their bytes.
-use Rattle.std.specs.Prelude.{ℕ, Bool, List, [], ◌++◌, map, Option, Some, None, codes, decimal}
+use Rattle.std.specs.Prelude.{ℕ, Bool, List, [], map, Option, Some, None, codes}
 use Rattle.serde_json.specs.Data.{Data, Items, null, boolean, number, unsigned, string, array, object, member, no_members}
 use Rattle.serde_json.specs.View.{items_of}
 use Rattle.serde_json.specs.Written.{compact_text}
+use Rattle.basis.specs.Names.{run_id}
 use Rattle.basis.specs.Refusals.{line_of}
 use Rattle.basis.specs.declared.refusals.Refusal.{Refusal}
 use Rattle.basis.specs.declared.rows.HolderId.{HolderId}
@@ -21,10 +22,6 @@ error_value refusal = object (member (codes "error") (string (line_of refusal).w
 -- the body of a refusal
 unfoldable pub error_text : Refusal → List ℕ
 error_text refusal = compact_text (error_value refusal)
-
--- run n, as a holder is named
-abbrev pub run_id : ℕ → List ℕ
-run_id n = codes "run-" ++ decimal n
 
 -- who holds: nobody, a lock by its ID, or a run
 abbrev pub holder_value : Option HolderId → Data

@@ -1,12 +1,11 @@
 -- What documents say: a state, the information of a lock, a workspace's settings, a run's creation. Each is read by cases on
 -- the JSON value that the bytes have; where a key stands twice, the value counts that the reading keeps.
-use Rattle.std.specs.Prelude.{ℕ, List, [], ◌∷◌, length, Bool, false, not, ◌&&◌, nat_eq, nat_le, if◌then◌else◌, Option, Some, None, option_map, option_and_then, codes}
+use Rattle.std.specs.Prelude.{ℕ, List, [], ◌∷◌, length, Bool, false, nat_le, if◌then◌else◌, Option, Some, None, option_map, option_and_then, codes}
 use Rattle.std.specs.Str.{is_utf8}
-use Rattle.std.specs.List.{starts_with}
 use Rattle.serde_json.specs.Data.{Data, Members, no_members}
 use Rattle.serde_json.specs.Read.{read}
 use Rattle.serde_json.specs.Find.{get_member, as_bool, as_number, as_object, as_str, as_u64}
-use Rattle.basis.specs.Names.{has_length, is_lock_id}
+use Rattle.basis.specs.Names.{has_length, is_free_id}
 use Rattle.basis.specs.Numbers.{within}
 use Rattle.basis.specs.declared.rows.RunAsk.{RunAsk}
 use Rattle.basis.specs.declared.rows.Settings.{Settings}
@@ -43,11 +42,7 @@ head_in members =
 unfoldable pub state_head : List ℕ → Option StateHead
 state_head bytes = option_and_then head_in (object_of bytes)
 
--- 1 to 128 bytes that don't begin with `run-`, which is how runs are named
-abbrev pub is_free_id : List ℕ → Bool
-is_free_id id = is_lock_id id && not (starts_with nat_eq id (codes "run-"))
-
--- such an ID
+-- an ID that a lock may have
 abbrev pub free_id : List ℕ → Option (List ℕ)
 free_id id = if is_free_id id then Some id else None
 

@@ -3,7 +3,8 @@ ghost use Rattle.std.specs.Prelude.{◌≡◌, IfOk, false, string_bytes};
 ghost use Rattle.basis.specs.declared.refusals.Refusal.TheVariants.{Unavailable};
 ghost use Rattle.serde_json.specs.View.{view};
 ghost use Rattle.serde_json.specs.Written.{compact_text, has_float};
-ghost use Rattle.docs.specs.Bodies.{error_value, error_text, run_id, holder_value, number_value, ws_object, ws_value, ws_text, version_value, action_value, text_value, run_object, run_value, run_text, run_holder_value, run_holder_text};
+ghost use Rattle.basis.specs.Names.{run_id};
+ghost use Rattle.docs.specs.Bodies.{error_value, error_text, holder_value, number_value, ws_object, ws_value, ws_text, version_value, action_value, text_value, run_object, run_value, run_text, run_holder_value, run_holder_text};
 
 use basis::{
     Down, HolderId, Number, OrgName, Refusal, RunAction, RunRow, Text, VersionRow, WsName, WsRow,
@@ -184,6 +185,7 @@ fn run_holder_value(
 }
 
 // The ID of a run as a holder: `run-n`.
+#[tactic(auto, unfolding(basis::specs::Names::run_id))]
 fn run_id(alloc: Global, number: Number) -> Result<String, AllocError>
     ensures { IfOk result (λ id. string_bytes id ≡ run_id number) }
 {

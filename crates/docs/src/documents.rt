@@ -1,15 +1,14 @@
 //! States, lock information, settings and what creates a run, as `serde_json` reads them.
-ghost use Rattle.std.specs.Prelude.{◌≡◌, ◌<◌, length, IfOk, OnOk, Err, IsErrOf, Some, None, option_and_then, codes};
+ghost use Rattle.std.specs.Prelude.{◌≡◌, ◌<◌, length, IfOk, OnOk, Err, IsErrOf, IsSome, Some, None, option_and_then, codes};
 ghost use Rattle.serde_json.specs.Data.{Members, object};
 ghost use Rattle.serde_json.specs.Find.{get};
 ghost use Rattle.serde_json.specs.View.{view};
 ghost use Rattle.docs.specs.Readings.{StateLaw, LockLaw, SettingsLaw, AskLaw};
-ghost use Rattle.docs.specs.Documents.{object_of, serial_of, optional_text, state_head, is_free_id, lock_id_of, flag_of, small_object_of, settings_of, key_of, run_ask};
+ghost use Rattle.docs.specs.Documents.{object_of, serial_of, optional_text, state_head, lock_id_of, flag_of, small_object_of, settings_of, key_of, run_ask};
 
 use crate::faults::DocFault;
-use basis::names::MAX_LOCK_ID;
 use basis::rows::{MAX_LINEAGE, MAX_SERIAL};
-use basis::{LockId, RunAsk, Settings, StateHead, Text};
+use basis::{LockId, RunAsk, Settings, StateHead, Text, is_free_id};
 use serde_json::{Map, Value};
 use std::alloc::Global;
 
@@ -21,9 +20,6 @@ pub const MAX_KEY: usize = 64;
 
 /// The most bytes of a run's message.
 pub const MAX_MESSAGE: usize = 1_000;
-
-/// How the ID of a run begins, and that of no lock.
-const RUN_PREFIX: &[u8] = b"run-";
 
 /// What custody reads of a Terraform state: a JSON object with `serial`, and with `lineage` or without.
 #[tactic(auto, unfolding(crate::specs::Documents::state_head))]
@@ -77,6 +73,7 @@ pub fn read_settings(alloc: Global, bytes: &[u8]) -> Result<Settings, DocFault>
 pub fn read_run(alloc: Global, bytes: &[u8]) -> Result<RunAsk, DocFault>
     ensures ok { IfOk result (λ ask. run_ask bytes.now ≡ Some ask) }
     ensures bad { IsErrOf result DocFault.Bad → run_ask bytes.now ≡ None }
+    ensures down { IsErrOf result DocFault.Down → 0 < length bytes.now }
     ensures long { MAX_SMALL < length bytes.now → result ≡ Err DocFault.Bad }
     ensures law { AskLaw bytes.now }
 {
@@ -134,17 +131,13 @@ fn serial_of(value: &Value) -> Option<u64>
     }
 }
 
-fn is_free_id(id: &[u8]) -> bool
-    ensures { result ≡ is_free_id id.now }
-{
-    !id.is_empty() && id.len() <= MAX_LOCK_ID && !id.starts_with(RUN_PREFIX)
-}
-
 // A run's key, which may be absent.
 fn read_key(alloc: Global, value: &Value) -> Result<Option<Text>, DocFault>
     ensures ok { IfOk result (λ key. key_of (get (codes "key") (view value.now)) ≡ Some key) }
     ensures bad { IsErrOf result DocFault.Bad
         → key_of (get (codes "key") (view value.now)) ≡ None }
+    ensures down { IsErrOf result DocFault.Down
+        → IsSome (get (codes "key") (view value.now)) }
 {
     let Some(found) = value.get("key") else {
         return Ok(None);
@@ -163,6 +156,8 @@ fn read_text(alloc: Global, value: &Value, key: &str, most: usize) -> Result<Tex
         (λ text. optional_text most (get key.now (view value.now)) ≡ Some text) }
     ensures bad { IsErrOf result DocFault.Bad
         → optional_text most (get key.now (view value.now)) ≡ None }
+    ensures down { IsErrOf result DocFault.Down
+        → IsSome (get key.now (view value.now)) }
 {
     let Some(found) = value.get(key) else {
         return Ok(Text::new(String::new(alloc)));

@@ -1,5 +1,5 @@
 -- Worked requests, computed by the definitions themselves: what a message asks, or why it is refused.
-use Rattle.std.proofs.Common.{◌≡◌, ℕ, List, [], ◌∷◌, Option, Some, None, refl}
+use Rattle.std.proofs.Common.{◌≡◌, ℕ, List, [], Option, Some, None, refl}
 use Rattle.std.specs.Prelude.{codes}
 use Rattle.std.specs.Str.{chars, is_utf8}
 use Rattle.std.specs.Str.Lossy.{utf8_lossy, utf8_valid_len}
@@ -9,8 +9,9 @@ use Rattle.basis.specs.declared.refusals.Allow.TheVariants.{States}
 use Rattle.basis.specs.declared.refusals.Refusal.TheVariants.{TwoTokens, NoToken, BadToken, BadQuery, NoRoute, NoMethod}
 use Rattle.basis.specs.declared.runs.RunAction.TheVariants.{Discard}
 use Rattle.wire.specs.declared.messages.Message.{Message}
-use Rattle.route.specs.declared.acts.AskedAct.{AskedAct}
-use Rattle.route.specs.declared.acts.AskedAct.TheVariants.{ReadState, UpdateState, Lock, Unlock, ForceUnlock, ListVersions, ReportRun}
+use Rattle.route.specs.declared.acts.AskedAct.TheVariants.{OfWorkspace}
+use Rattle.route.specs.declared.acts.WsAct.{WsAct}
+use Rattle.route.specs.declared.acts.WsAct.TheVariants.{ReadState, UpdateState, Unlock, ForceUnlock, ListVersions, ReportRun}
 use Rattle.route.specs.Asks.{Asking, refused, asks, asked_of, asked_made}
 use Rattle.route.specs.Tokens.{token_made}
 
@@ -23,37 +24,38 @@ reader = Some (codes "Bearer acme.readreadreadread")
 abbrev net : List ℕ
 net = codes "/v1/acme/state/net"
 
-abbrev asks_of : AskedAct → Option (List ℕ) → List ℕ → Asking
-asks_of act lock_id secret = asks (asked_made (codes "acme") act lock_id (token_made (codes "acme") secret))
+-- of the workspace `net`
+abbrev asks_of : WsAct → Option (List ℕ) → List ℕ → Asking
+asks_of act lock_id secret = asks (asked_made (codes "acme") (OfWorkspace (codes "net") act) lock_id (token_made (codes "acme") secret))
 
-state_read : asked_of (message (codes "GET") net None reader []) ≡ asks_of (ReadState (codes "net")) None (codes "readreadreadread")
+state_read : asked_of (message (codes "GET") net None reader []) ≡ asks_of ReadState None (codes "readreadreadread")
 unfolding form_urlencoded_on_literals utf8_lossy utf8_valid_len chars is_utf8 encode
 state_read = refl
 
 -- a stock client's token and lock ID stand in the query
 update_with_id : asked_of (message (codes "POST") net (Some (codes "ID=5f2c&access_token=acme.writewritewrite1")) None (codes "{}"))
-    ≡ asks_of (UpdateState (codes "net")) (Some (codes "5f2c")) (codes "writewritewrite1")
+    ≡ asks_of UpdateState (Some (codes "5f2c")) (codes "writewritewrite1")
 unfolding form_urlencoded_on_literals utf8_lossy utf8_valid_len chars is_utf8 encode
 update_with_id = refl
 
-escaped_key : asked_of (message (codes "GET") net (Some (codes "access%5Ftoken=acme.readreadreadread")) None []) ≡ asks_of (ReadState (codes "net")) None (codes "readreadreadread")
+escaped_key : asked_of (message (codes "GET") net (Some (codes "access%5Ftoken=acme.readreadreadread")) None []) ≡ asks_of ReadState None (codes "readreadreadread")
 unfolding form_urlencoded_on_literals utf8_lossy utf8_valid_len chars is_utf8 encode
 escaped_key = refl
 
 -- UNLOCK is two acts, told apart by the body
-unlocked : asked_of (message (codes "UNLOCK") net None reader (codes "{}")) ≡ asks_of (Unlock (codes "net")) None (codes "readreadreadread")
+unlocked : asked_of (message (codes "UNLOCK") net None reader (codes "{}")) ≡ asks_of Unlock None (codes "readreadreadread")
 unfolding form_urlencoded_on_literals utf8_lossy utf8_valid_len chars is_utf8 encode
 unlocked = refl
 
-forced : asked_of (message (codes "UNLOCK") net None reader []) ≡ asks_of (ForceUnlock (codes "net")) None (codes "readreadreadread")
+forced : asked_of (message (codes "UNLOCK") net None reader []) ≡ asks_of ForceUnlock None (codes "readreadreadread")
 unfolding form_urlencoded_on_literals utf8_lossy utf8_valid_len chars is_utf8 encode
 forced = refl
 
-action : asked_of (message (codes "POST") (codes "/v1/acme/runs/net/2/actions/discard") None reader []) ≡ asks_of (ReportRun (codes "net") 2 Discard) None (codes "readreadreadread")
+action : asked_of (message (codes "POST") (codes "/v1/acme/runs/net/2/actions/discard") None reader []) ≡ asks_of (ReportRun 2 Discard) None (codes "readreadreadread")
 unfolding form_urlencoded_on_literals utf8_lossy utf8_valid_len chars is_utf8 encode
 action = refl
 
-listed : asked_of (message (codes "GET") (codes "/v1/acme/versions/net") (Some (codes "after=51")) reader []) ≡ asks_of (ListVersions (codes "net") 51) None (codes "readreadreadread")
+listed : asked_of (message (codes "GET") (codes "/v1/acme/versions/net") (Some (codes "after=51")) reader []) ≡ asks_of (ListVersions 51) None (codes "readreadreadread")
 unfolding form_urlencoded_on_literals utf8_lossy utf8_valid_len chars is_utf8 encode
 listed = refl
 
@@ -90,7 +92,7 @@ another_scheme : asked_of (message (codes "GET") net None (Some (codes "Basic eD
 unfolding form_urlencoded_on_literals utf8_lossy utf8_valid_len chars is_utf8 encode
 another_scheme = refl
 
-small_letters : asked_of (message (codes "GET") net None (Some (codes "bearer acme.readreadreadread")) []) ≡ asks_of (ReadState (codes "net")) None (codes "readreadreadread")
+small_letters : asked_of (message (codes "GET") net None (Some (codes "bearer acme.readreadreadread")) []) ≡ asks_of ReadState None (codes "readreadreadread")
 unfolding form_urlencoded_on_literals utf8_lossy utf8_valid_len chars is_utf8 encode
 small_letters = refl
 

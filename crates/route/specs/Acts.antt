@@ -1,12 +1,14 @@
 -- The act of a method at a place, and the methods that a place has.
-use Rattle.std.specs.Prelude.{ℕ, Bool, true, false, if◌then◌else◌, List, Option, Some, None, Result, codes, bytes_eq, option_and_then}
+use Rattle.std.specs.Prelude.{ℕ, Bool, true, false, if◌then◌else◌, List, Option, Some, None, Result, codes, bytes_eq, option_map, option_and_then}
 use Rattle.basis.specs.declared.refusals.Allow.{Allow}
 use Rattle.basis.specs.declared.refusals.Allow.TheVariants.{Lists, Workspaces, States, Runs, Actions}
 use Rattle.basis.specs.declared.refusals.Refusal.{Refusal}
 use Rattle.basis.specs.declared.refusals.Refusal.TheVariants.{NoMethod}
 use Rattle.basis.specs.Checks.{or_refused}
 use Rattle.route.specs.declared.acts.AskedAct.{AskedAct}
-use Rattle.route.specs.declared.acts.AskedAct.TheVariants.{ListWorkspaces, ReadWorkspace, PutWorkspace, DeleteWorkspace, ReadState, UpdateState, PurgeState, Lock as LockState, Unlock as UnlockState, ForceUnlock, ListVersions, ReadVersion, ListRuns, MakeRun, ReadRun, ReportRun}
+use Rattle.route.specs.declared.acts.AskedAct.TheVariants.{ListWorkspaces, OfWorkspace}
+use Rattle.route.specs.declared.acts.WsAct.{WsAct}
+use Rattle.route.specs.declared.acts.WsAct.TheVariants.{Read, Put as PutWorkspace, Delete as DeleteWorkspace, ReadState, UpdateState, PurgeState, Lock as LockState, Unlock as UnlockState, ForceUnlock, ListVersions, ReadVersion, ListRuns, MakeRun, ReadRun, ReportRun}
 use Rattle.route.specs.declared.places.Target.{Target}
 use Rattle.route.specs.declared.places.Target.TheVariants.{AllWorkspaces, Workspace, State, AllVersions, Version, AllRuns, Run, Action}
 use Rattle.route.specs.declared.verbs.Verb.{Verb}
@@ -23,30 +25,58 @@ verb_of method =
     else (if bytes_eq method (codes "UNLOCK") then Some Unlock
     else None)))))
 
--- an UNLOCK with an empty body frees whoever's lock it is
-abbrev pub unlock_of : List ℕ → Bool → AskedAct
-unlock_of ws true = ForceUnlock ws
-unlock_of ws false = UnlockState ws
+-- what a method asks among all workspaces; a list begins at its first item
+abbrev pub listing_act : Verb → Option AskedAct
+listing_act Get = Some (ListWorkspaces None)
+listing_act verb = None
 
--- the acts of each place; the flag says whether the body is empty, and a list begins at its first item
+-- of a workspace itself
+abbrev pub workspace_act : Verb → Option WsAct
+workspace_act Get = Some Read
+workspace_act Put = Some PutWorkspace
+workspace_act Delete = Some DeleteWorkspace
+workspace_act verb = None
+
+-- an UNLOCK with an empty body frees whoever's lock it is
+abbrev pub unlock_of : Bool → WsAct
+unlock_of true = ForceUnlock
+unlock_of false = UnlockState
+
+-- of its state; the flag says whether the body is empty
+abbrev pub state_act : Verb → Bool → WsAct
+state_act Get bodyless = ReadState
+state_act Post bodyless = UpdateState
+state_act Put bodyless = UpdateState
+state_act Delete bodyless = PurgeState
+state_act Lock bodyless = LockState
+state_act Unlock bodyless = unlock_of bodyless
+
+-- of its runs
+abbrev pub runs_act : Verb → Option WsAct
+runs_act Get = Some (ListRuns 0)
+runs_act Post = Some MakeRun
+runs_act verb = None
+
+-- where GET is the only method
+abbrev pub got : WsAct → Verb → Option WsAct
+got act Get = Some act
+got act verb = None
+
+-- where POST is the only method
+abbrev pub posted : WsAct → Verb → Option WsAct
+posted act Post = Some act
+posted act verb = None
+
+-- what a method asks of what a path names
 abbrev pub act_at : Target → Verb → Bool → Option AskedAct
-act_at AllWorkspaces Get bodyless = Some (ListWorkspaces None)
-act_at (Workspace ws) Get bodyless = Some (ReadWorkspace ws)
-act_at (Workspace ws) Put bodyless = Some (PutWorkspace ws)
-act_at (Workspace ws) Delete bodyless = Some (DeleteWorkspace ws)
-act_at (State ws) Get bodyless = Some (ReadState ws)
-act_at (State ws) Post bodyless = Some (UpdateState ws)
-act_at (State ws) Put bodyless = Some (UpdateState ws)
-act_at (State ws) Delete bodyless = Some (PurgeState ws)
-act_at (State ws) Lock bodyless = Some (LockState ws)
-act_at (State ws) Unlock bodyless = Some (unlock_of ws bodyless)
-act_at (AllVersions ws) Get bodyless = Some (ListVersions ws 0)
-act_at (Version ws number) Get bodyless = Some (ReadVersion ws number)
-act_at (AllRuns ws) Get bodyless = Some (ListRuns ws 0)
-act_at (AllRuns ws) Post bodyless = Some (MakeRun ws)
-act_at (Run ws number) Get bodyless = Some (ReadRun ws number)
-act_at (Action ws number action) Post bodyless = Some (ReportRun ws number action)
-act_at target verb bodyless = None
+act_at AllWorkspaces verb bodyless = listing_act verb
+act_at (Workspace ws) verb bodyless = option_map (OfWorkspace ws) (workspace_act verb)
+act_at (State ws) verb bodyless = Some (OfWorkspace ws (state_act verb bodyless))
+act_at (AllVersions ws) verb bodyless = option_map (OfWorkspace ws) (got (ListVersions 0) verb)
+act_at (Version ws number) verb bodyless = option_map (OfWorkspace ws) (got (ReadVersion number) verb)
+act_at (AllRuns ws) verb bodyless = option_map (OfWorkspace ws) (runs_act verb)
+act_at (Run ws number) verb bodyless = option_map (OfWorkspace ws) (got (ReadRun number) verb)
+act_at (Action ws number action) verb bodyless = option_map (OfWorkspace ws) (posted (ReportRun number action) verb)
 
 -- the methods of each place, as the field Allow lists them
 abbrev pub allow_of : Target → Allow

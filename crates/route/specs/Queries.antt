@@ -8,7 +8,9 @@ use Rattle.basis.specs.Numbers.{whole_of, within}
 use Rattle.basis.specs.declared.refusals.Refusal.{Refusal}
 use Rattle.basis.specs.declared.refusals.Refusal.TheVariants.{BadQuery}
 use Rattle.route.specs.declared.acts.AskedAct.{AskedAct}
-use Rattle.route.specs.declared.acts.AskedAct.TheVariants.{ListWorkspaces, ListVersions, ListRuns}
+use Rattle.route.specs.declared.acts.AskedAct.TheVariants.{ListWorkspaces, OfWorkspace}
+use Rattle.route.specs.declared.acts.WsAct.{WsAct}
+use Rattle.route.specs.declared.acts.WsAct.TheVariants.{ListVersions, ListRuns}
 use Rattle.route.specs.declared.queries.Query.{Query}
 use Rattle.basis.specs.Checks.{or_refused}
 
@@ -85,11 +87,15 @@ abbrev pub listed_from : List ℕ → AskedAct
 listed_from name = ListWorkspaces (Some name)
 
 -- the act with the place where its list begins; an act that lists nothing doesn't look at it
+abbrev pub ws_begun_after : WsAct → List ℕ → Option WsAct
+ws_begun_after (ListVersions from) text = option_map ListVersions (number_after text)
+ws_begun_after (ListRuns from) text = option_map ListRuns (number_after text)
+ws_begun_after act text = Some act
+
+-- the same of what is asked of the organization
 abbrev pub begun_after : AskedAct → List ℕ → Option AskedAct
 begun_after (ListWorkspaces from) text = option_map listed_from (name_after text)
-begun_after (ListVersions ws from) text = option_map (ListVersions ws) (number_after text)
-begun_after (ListRuns ws from) text = option_map (ListRuns ws) (number_after text)
-begun_after act text = Some act
+begun_after (OfWorkspace ws act) text = option_map (OfWorkspace ws) (ws_begun_after act text)
 
 -- the same, where the query has `after`
 abbrev pub after_read : AskedAct → Option (List ℕ) → Result AskedAct Refusal

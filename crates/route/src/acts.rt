@@ -7,27 +7,43 @@ use basis::{LockId, Number, OrgName, RunAction, Secret, WsName};
 pub enum AskedAct {
     /// The workspaces whose names come after this one.
     ListWorkspaces { after: Option<WsName> },
-    ReadWorkspace(WsName),
-    PutWorkspace(WsName),
-    DeleteWorkspace(WsName),
+    /// Something of one workspace.
+    OfWorkspace(WsName, WsAct),
+}
+
+/// What a request asks of one workspace.
+#[derive(Clone, Copy, Debug, PartialEq, Eq)]
+pub enum WsAct {
+    /// The workspace as it is shown.
+    Read,
+    /// Makes the workspace, or gives it other settings.
+    Put,
+    /// Takes the workspace away.
+    Delete,
     /// The text of the newest version.
-    ReadState(WsName),
-    UpdateState(WsName),
+    ReadState,
+    /// Makes a new version.
+    UpdateState,
     /// Takes all versions away.
-    PurgeState(WsName),
-    Lock(WsName),
+    PurgeState,
+    /// Locks the workspace.
+    Lock,
     /// UNLOCK with a body, which names the lock.
-    Unlock(WsName),
+    Unlock,
     /// UNLOCK with an empty body, whoever has the lock.
-    ForceUnlock(WsName),
+    ForceUnlock,
     /// The versions whose numbers are greater.
-    ListVersions { ws: WsName, after: u64 },
-    ReadVersion(WsName, Number),
+    ListVersions { after: u64 },
+    /// The text of a version.
+    ReadVersion(Number),
     /// The runs whose numbers are greater.
-    ListRuns { ws: WsName, after: u64 },
-    MakeRun(WsName),
-    ReadRun(WsName, Number),
-    ReportRun(WsName, Number, RunAction),
+    ListRuns { after: u64 },
+    /// Makes a run.
+    MakeRun,
+    /// A run as it is shown.
+    ReadRun(Number),
+    /// What is reported of a run, or asked of it.
+    ReportRun(Number, RunAction),
 }
 
 /// What a message asks, and in whose name.

@@ -13,7 +13,7 @@ mod tests;
 pub mod tokens;
 pub mod verbs;
 
-pub use acts::{Asked, AskedAct};
+pub use acts::{Asked, AskedAct, WsAct};
 pub use asks::asked;
 pub use digests::secret_digest;
 pub use policies::allowed;

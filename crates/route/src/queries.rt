@@ -3,9 +3,9 @@ ghost use Rattle.std.specs.Prelude.{◌≡◌, ◌≢◌, false, Some, None, OnO
 ghost use Rattle.std.specs.Cow.{cow_str_bytes};
 ghost use Rattle.basis.specs.Checks.{Follows, or_refused};
 ghost use Rattle.route.specs.Pairs.{has_room, Takes};
-ghost use Rattle.route.specs.Queries.{query_read, lock_id_read, after_read, name_after, listed_from, number_after};
+ghost use Rattle.route.specs.Queries.{query_read, lock_id_read, after_read, name_after, listed_from, number_after, ws_begun_after};
 
-use crate::acts::AskedAct;
+use crate::acts::{AskedAct, WsAct};
 use basis::numbers::{MAX_NUMBER, whole_number};
 use basis::{LockId, Refusal, Text, Unfit, WsName};
 use std::alloc::Global;
@@ -133,6 +133,26 @@ fn number_after(text: &str) -> Option<u64>
     }
 }
 
+fn ws_begun_after(act: WsAct, text: &str) -> Option<WsAct>
+    ensures { result ≡ ws_begun_after act text.now }
+{
+    match act {
+        WsAct::ListVersions { .. } => {
+            let after = number_after(text)?;
+            Some(WsAct::ListVersions { after })
+        }
+        WsAct::ListRuns { .. } => {
+            let after = number_after(text)?;
+            Some(WsAct::ListRuns { after })
+        }
+        WsAct::Read | WsAct::Put | WsAct::Delete => Some(act),
+        WsAct::ReadState | WsAct::UpdateState | WsAct::PurgeState => Some(act),
+        WsAct::Lock | WsAct::Unlock | WsAct::ForceUnlock => Some(act),
+        WsAct::ReadVersion(_) => Some(act),
+        WsAct::MakeRun | WsAct::ReadRun(_) | WsAct::ReportRun(_, _) => Some(act),
+    }
+}
+
 /// The act with the place where its list begins, if it lists anything.
 pub fn begin_after(alloc: Global, act: AskedAct, after: Option<Text>) -> Result<AskedAct, Refusal>
     ensures { Follows result (after_read act after) }
@@ -142,14 +162,9 @@ pub fn begin_after(alloc: Global, act: AskedAct, after: Option<Text>) -> Result<
     };
     match act {
         AskedAct::ListWorkspaces { .. } => list_after(alloc, text.as_str()),
-        AskedAct::ListVersions { ws, .. } => match number_after(text.as_str()) {
-            Some(after) => Ok(AskedAct::ListVersions { ws, after }),
+        AskedAct::OfWorkspace(ws, act) => match ws_begun_after(act, text.as_str()) {
+            Some(act) => Ok(AskedAct::OfWorkspace(ws, act)),
             None => Err(Refusal::BadQuery),
         },
-        AskedAct::ListRuns { ws, .. } => match number_after(text.as_str()) {
-            Some(after) => Ok(AskedAct::ListRuns { ws, after }),
-            None => Err(Refusal::BadQuery),
-        },
-        act => Ok(act),
     }
 }

@@ -1,4 +1,4 @@
-use crate::acts::{Asked, AskedAct};
+use crate::acts::{Asked, AskedAct, WsAct};
 use crate::{Routes, allowed, asked, secret_digest};
 use basis::{Bytes, Refusal, Role, Secret, Text};
 use http::Method;
@@ -71,63 +71,63 @@ fn every_act(rt: HostRuntime) -> Result<(), Fail> {
         ),
         (
             by_writer("GET", "/v1/acme/workspaces/net", ""),
-            "ReadWorkspace(WsName { text: \"net\" })",
+            "OfWorkspace(WsName { text: \"net\" }, Read)",
         ),
         (
             by_writer("PUT", "/v1/acme/workspaces/net", ""),
-            "PutWorkspace(WsName { text: \"net\" })",
+            "OfWorkspace(WsName { text: \"net\" }, Put)",
         ),
         (
             by_writer("DELETE", "/v1/acme/workspaces/net", ""),
-            "DeleteWorkspace(WsName { text: \"net\" })",
+            "OfWorkspace(WsName { text: \"net\" }, Delete)",
         ),
         (
             by_writer("GET", "/v1/acme/state/net", "after=a.b"),
-            "ReadState(WsName { text: \"net\" })",
+            "OfWorkspace(WsName { text: \"net\" }, ReadState)",
         ),
         (
             by_writer("POST", "/v1/acme/state/net", ""),
-            "UpdateState(WsName { text: \"net\" })",
+            "OfWorkspace(WsName { text: \"net\" }, UpdateState)",
         ),
         (
             by_writer("PUT", "/v1/acme/state/net", ""),
-            "UpdateState(WsName { text: \"net\" })",
+            "OfWorkspace(WsName { text: \"net\" }, UpdateState)",
         ),
         (
             by_writer("DELETE", "/v1/acme/state/net", ""),
-            "PurgeState(WsName { text: \"net\" })",
+            "OfWorkspace(WsName { text: \"net\" }, PurgeState)",
         ),
         (
             by_writer("LOCK", "/v1/acme/state/net", ""),
-            "Lock(WsName { text: \"net\" })",
+            "OfWorkspace(WsName { text: \"net\" }, Lock)",
         ),
         (
             by_writer("UNLOCK", "/v1/acme/state/net", ""),
-            "ForceUnlock(WsName { text: \"net\" })",
+            "OfWorkspace(WsName { text: \"net\" }, ForceUnlock)",
         ),
         (
             by_writer("GET", "/v1/acme/versions/net", "after=51"),
-            "ListVersions { ws: WsName { text: \"net\" }, after: 51 }",
+            "OfWorkspace(WsName { text: \"net\" }, ListVersions { after: 51 })",
         ),
         (
             by_writer("GET", "/v1/acme/versions/net/1000000000", ""),
-            "ReadVersion(WsName { text: \"net\" }, Number { value: 1000000000 })",
+            "OfWorkspace(WsName { text: \"net\" }, ReadVersion(Number { value: 1000000000 }))",
         ),
         (
             by_writer("GET", "/v1/acme/runs/net", "after=0"),
-            "ListRuns { ws: WsName { text: \"net\" }, after: 0 }",
+            "OfWorkspace(WsName { text: \"net\" }, ListRuns { after: 0 })",
         ),
         (
             by_writer("POST", "/v1/acme/runs/net", ""),
-            "MakeRun(WsName { text: \"net\" })",
+            "OfWorkspace(WsName { text: \"net\" }, MakeRun)",
         ),
         (
             by_writer("GET", "/v1/acme/runs/net/7", ""),
-            "ReadRun(WsName { text: \"net\" }, Number { value: 7 })",
+            "OfWorkspace(WsName { text: \"net\" }, ReadRun(Number { value: 7 }))",
         ),
         (
             by_writer("POST", "/v1/acme/runs/net/7/actions/confirm", ""),
-            "ReportRun(WsName { text: \"net\" }, Number { value: 7 }, Confirm)",
+            "OfWorkspace(WsName { text: \"net\" }, ReportRun(Number { value: 7 }, Confirm))",
         ),
     ];
     for (sent, want) in table {
@@ -253,7 +253,9 @@ fn parts_of_a_message(rt: HostRuntime) -> Result<(), Fail> {
             assert_eq!(rt; asked.caller.as_str(), "acme");
             assert_eq!(rt; asked.secret.as_str(), "writewritewrite1");
             assert_eq!(rt; asked.org.as_str(), "beta");
-            assert!(rt; matches!(&asked.act, AskedAct::Unlock(ws) if ws.as_str() == "net"));
+            assert!(rt;
+                matches!(&asked.act, AskedAct::OfWorkspace(ws, WsAct::Unlock) if ws.as_str() == "net")
+            );
             assert!(rt; matches!(&asked.lock_id, Some(id) if id.as_str() == "5f-2c"));
             assert_eq!(rt; allowed(&asked, Role::Read), Err(Refusal::NeedWrite));
             assert_eq!(rt; allowed(&asked, Role::Write), Ok(()));
