@@ -10,8 +10,8 @@ use Rattle.machine.specs.Writing.{may_write}
 use Rattle.machine.specs.Settling.{first_waiting, to_start, started, started_if, settled}
 use Rattle.machine.specs.Succession.{Succession, first, same, other_lineage, old_serial, next, succession}
 use Rattle.machine.specs.Rules.{Outcome, refused, done, rules, refused_by, by_may_write, by_succession, numbered_update, number_left, with_version, with_settings, done_with, done_already, purge, purged, lock, locked, unlock, released, is_released, force_unlock}
-use Rattle.machine.specs.Custody.{VersionsChangeByTheId, HoldsUntilReleased, LockedWorkspacesStay, RepeatsChangeNothing}
-use Rattle.machine.specs.Records.{missing, there}
+use Rattle.machine.specs.Custody.{VersionsChangeByTheId, HoldsUntilReleased, LockedWorkspacesStay, RepeatsChangeNothing, IsRefusal}
+use Rattle.machine.specs.Records.{Seen, missing, there}
 use Rattle.machine.specs.Effects.{effect}
 use Rattle.machine.specs.declared.acts.Act.{Act}
 use Rattle.machine.specs.declared.acts.Act.TheVariants.{PutWorkspace, UpdateState, ReadState, PurgeState, Lock as LockAct, Unlock, ForceUnlock}
@@ -316,13 +316,28 @@ some_unlocked : (w : Workspace) (after : Option Workspace) → Unlocks w after �
 some_unlocked w after (inl h) = rw h refl
 some_unlocked w after (inr h) = rw h.1 refl
 
-pub locked_workspaces_stay : LockedWorkspacesStay
-locked_workspaces_stay (PutWorkspace settings) now w held text e = refl
-locked_workspaces_stay (UpdateState head state id) now w held text e =
+pub workspaces_stay : (act : Act) (now : ℕ) (w : Workspace) → IsSome (rules act now (there w)).left
+workspaces_stay (PutWorkspace settings) now w = refl
+workspaces_stay (UpdateState head state id) now w =
     some_after w (λ t. (rules (UpdateState head state id) t (there w)).left) head state now (update_becomes head state w (may_write w.holder (holder_status w.holder w.runs) id))
-locked_workspaces_stay ReadState now w held text e = refl
-locked_workspaces_stay (PurgeState id) now w held text e =
+workspaces_stay ReadState now w = refl
+workspaces_stay (PurgeState id) now w =
     some_of_two w (settled (purged w)) (rules (PurgeState id) now (there w)).left (purge_becomes w (may_write w.holder (holder_status w.holder w.runs) id))
-locked_workspaces_stay (LockAct id t) now w held text e = some_of_two w (locked id t w) (rules (LockAct id t) now (there w)).left (lock_becomes id t w w.holder)
-locked_workspaces_stay (Unlock id) now w held text e = some_unlocked w (rules (Unlock id) now (there w)).left (unlock_becomes id w w.holder)
-locked_workspaces_stay ForceUnlock now w held text e = some_unlocked w (rules ForceUnlock now (there w)).left (force_becomes w w.holder)
+workspaces_stay (LockAct id t) now w = some_of_two w (locked id t w) (rules (LockAct id t) now (there w)).left (lock_becomes id t w w.holder)
+workspaces_stay (Unlock id) now w = some_unlocked w (rules (Unlock id) now (there w)).left (unlock_becomes id w w.holder)
+workspaces_stay ForceUnlock now w = some_unlocked w (rules ForceUnlock now (there w)).left (force_becomes w w.holder)
+
+pub locked_workspaces_stay : LockedWorkspacesStay
+locked_workspaces_stay act now w held text e = workspaces_stay act now w
+
+-- what is accepted leaves the workspace there
+pub accepted_stays : (act : Act) (now : ℕ) (s : Seen) → (IsRefusal (rules act now s).answer → ⊥) → IsSome (rules act now s).left
+accepted_stays (PutWorkspace settings) now (missing true) accepted = refl
+accepted_stays (PutWorkspace settings) now (missing false) accepted = absurd (accepted tt)
+accepted_stays (UpdateState head text id) now (missing room) accepted = absurd (accepted tt)
+accepted_stays ReadState now (missing room) accepted = absurd (accepted tt)
+accepted_stays (PurgeState id) now (missing room) accepted = absurd (accepted tt)
+accepted_stays (LockAct id text) now (missing room) accepted = absurd (accepted tt)
+accepted_stays (Unlock id) now (missing room) accepted = absurd (accepted tt)
+accepted_stays ForceUnlock now (missing room) accepted = absurd (accepted tt)
+accepted_stays act now (there w) accepted = workspaces_stay act now w

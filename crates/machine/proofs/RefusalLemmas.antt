@@ -13,7 +13,7 @@ use Rattle.machine.specs.Records.{Seen, missing, there}
 use Rattle.machine.specs.Workspaces.{newest, holder_status}
 use Rattle.machine.specs.Writing.{may_write, is_applying}
 use Rattle.machine.specs.Succession.{Succession, first, same, other_lineage, old_serial, next, succession}
-use Rattle.machine.specs.Rules.{Outcome, refused, held, done, Ruling, rules, refused_by, by_may_write, by_succession, numbered_update, number_left, done_with, done_already, purge, lock, unlock, released, is_released, force_unlock, state_answer}
+use Rattle.machine.specs.Rules.{Outcome, refused, held, done, Ruling, rules, rules_missing, refused_by, by_may_write, by_succession, numbered_update, number_left, done_with, done_already, purge, lock, unlock, released, is_released, force_unlock, state_answer}
 use Rattle.machine.specs.Custody.{IsRefusal, IsWriter, RefusalsChangeNothing, RefusalsTellTheHolder, WritesCarryTheId}
 use Rattle.machine.specs.declared.acts.Act.{Act}
 use Rattle.machine.specs.declared.acts.Act.TheVariants.{PutWorkspace, UpdateState, ReadState, PurgeState, Lock as LockAct, Unlock, ForceUnlock}
@@ -251,3 +251,116 @@ writes_carry_the_id (PurgeState given) now w id writes e =
 writes_carry_the_id (LockAct asked t) now w id writes e = absurd writes
 writes_carry_the_id (Unlock asked) now w id writes e = absurd writes
 writes_carry_the_id ForceUnlock now w id writes e = absurd writes
+
+-- a workspace that is missing has no holder to tell
+pub missing_tells_no_holder : (act : Act) (room : Bool) (holder : Holder) → (rules_missing act room).answer ≡ held holder → ⊥
+missing_tells_no_holder (PutWorkspace settings) true holder e = cc
+missing_tells_no_holder (PutWorkspace settings) false holder e = cc
+missing_tells_no_holder (UpdateState head text id) room holder e = cc
+missing_tells_no_holder ReadState room holder e = cc
+missing_tells_no_holder (PurgeState id) room holder e = cc
+missing_tells_no_holder (LockAct id text) room holder e = cc
+missing_tells_no_holder (Unlock id) room holder e = cc
+missing_tells_no_holder ForceUnlock room holder e = cc
+
+-- what is refused since somebody holds tells who
+abbrev pub IsOther : Outcome → Type 0
+IsOther o = o ≡ refused Locked → ⊥
+
+refused_other : (refusal : Refusal) (h : Holder) → IsOther (refused_by refusal h)
+refused_other BadMessage h e = cc
+refused_other TwoTokens h e = cc
+refused_other BadQuery h e = cc
+refused_other BadDigest h e = cc
+refused_other BadState h e = cc
+refused_other BadLock h e = cc
+refused_other BadBody h e = cc
+refused_other NoToken h e = cc
+refused_other BadToken h e = cc
+refused_other NeedWrite h e = cc
+refused_other NeedAdmin h e = cc
+refused_other NoRoute h e = cc
+refused_other NotFound h e = cc
+refused_other (NoMethod allow) h e = cc
+refused_other NotHeld h e = cc
+refused_other NotApplying h e = cc
+refused_other OtherLineage h e = cc
+refused_other OldSerial h e = cc
+refused_other WrongState h e = cc
+refused_other HeldByRun h e = cc
+refused_other OpenRuns h e = cc
+refused_other OverLimit h e = cc
+refused_other NoLength h e = cc
+refused_other TooLarge h e = cc
+refused_other Locked h e = cc
+refused_other HeadTooLarge h e = cc
+refused_other Unavailable h e = cc
+
+number_other : (w : Workspace) (head : StateHead) (text : List ℕ) (now : ℕ) (n : Option ℕ) → IsOther (numbered_update n w head text now).answer
+number_other w head text now None e = cc
+number_other w head text now (Some n) e = cc
+
+succession_other : (w : Workspace) (head : StateHead) (text : List ℕ) (now : ℕ) (s : Succession) → IsOther (by_succession s w head text now).answer
+succession_other w head text now first e = number_other w head text now (number_left w.next_version) e
+succession_other w head text now same e = cc
+succession_other w head text now other_lineage e = cc
+succession_other w head text now old_serial e = cc
+succession_other w head text now next e = number_other w head text now (number_left w.next_version) e
+
+update_other : (w : Workspace) (head : StateHead) (text : List ℕ) (now : ℕ) (m : Option Refusal) → IsOther (by_may_write m w head text now).answer
+update_other w head text now (Some refusal) e = refused_other refusal w.holder e
+update_other w head text now None e = succession_other w head text now (succession w.versions text head) e
+
+purge_other : (w : Workspace) (m : Option Refusal) → IsOther (purge m w).answer
+purge_other w (Some refusal) e = refused_other refusal w.holder e
+purge_other w None e = cc
+
+either_other : (w : Workspace) (o : Outcome) (b : Bool) → IsOther o → IsOther (cond b (done_already w) (effect o (Some w))).answer
+either_other w o true other e = cc
+either_other w o false other e = other e
+
+run_other : IsOther (refused HeldByRun)
+run_other e = cc
+
+lock_other : (id text : List ℕ) (w : Workspace) (h : Holder) → IsOther (lock h id text w).answer
+lock_other id text w Nobody e = cc
+lock_other id text w (Lock id_held text_held) e = either_other w (refused_by Locked w.holder) (bytes_eq id id_held) (refused_other Locked w.holder) e
+lock_other id text w (Run n) e = refused_other Locked w.holder e
+
+unlock_other : (id : List ℕ) (w : Workspace) (h : Holder) → IsOther (unlock h id w).answer
+unlock_other id w Nobody e = cc
+unlock_other id w (Lock id_held text) e = chosen (bytes_eq id id_held) e
+  where
+    chosen : (b : Bool) → (cond b (done_with (released id_held w)) (cond (is_released w.released id) (done_already w) (effect (refused_by Locked w.holder) (Some w)))).answer ≡ refused Locked → ⊥
+    chosen true e = cc
+    chosen false e = either_other w (refused_by Locked w.holder) (is_released w.released id) (refused_other Locked w.holder) e
+unlock_other id w (Run n) e = either_other w (refused HeldByRun) (is_released w.released id) run_other e
+
+force_other : (w : Workspace) (h : Holder) → IsOther (force_unlock h w).answer
+force_other w Nobody e = cc
+force_other w (Lock id_held text) e = cc
+force_other w (Run n) e = run_other e
+
+state_other : (o : Option Version) → IsOther (state_answer o)
+state_other None e = cc
+state_other (Some v) e = cc
+
+missing_other : (act : Act) (room : Bool) → IsOther (rules_missing act room).answer
+missing_other (PutWorkspace settings) true e = cc
+missing_other (PutWorkspace settings) false e = cc
+missing_other (UpdateState head text id) room e = cc
+missing_other ReadState room e = cc
+missing_other (PurgeState id) room e = cc
+missing_other (LockAct id text) room e = cc
+missing_other (Unlock id) room e = cc
+missing_other ForceUnlock room e = cc
+
+pub never_refused_as_locked : (act : Act) (now : ℕ) (s : Seen) → IsOther (rules act now s).answer
+never_refused_as_locked act now (missing room) e = missing_other act room e
+never_refused_as_locked (PutWorkspace settings) now (there w) e = cc
+never_refused_as_locked (UpdateState head text id) now (there w) e = update_other w head text now (may_write w.holder (holder_status w.holder w.runs) id) e
+never_refused_as_locked ReadState now (there w) e = state_other (newest w.versions) e
+never_refused_as_locked (PurgeState id) now (there w) e = purge_other w (may_write w.holder (holder_status w.holder w.runs) id) e
+never_refused_as_locked (LockAct id text) now (there w) e = lock_other id text w w.holder e
+never_refused_as_locked (Unlock id) now (there w) e = unlock_other id w w.holder e
+never_refused_as_locked ForceUnlock now (there w) e = force_other w w.holder e

@@ -88,13 +88,16 @@ settles_from w rise Nobody e = waiting (find is_waiting w.runs) refl
   where
     waiting : (o : Option Run) → find is_waiting w.runs ≡ o → Settles w (started_if (option_map (λ (r : Run). r.number) o) w)
     waiting None none = inl ((λ _. none_found w.runs none), refl)
-    waiting (Some f) found = inr (e, record {
-      run = f;
-      there = numbered_itself 0 w.runs w.next_run f found rise;
-      waits = found_passes is_waiting w.runs f found;
-      least = least_starts 0 w.runs w.next_run f.number (ap (option_map (λ (r : Run). r.number)) found) rise;
-      after = refl;
-    })
+    waiting (Some f) found = inr (
+      e,
+      record {
+        run = f;
+        there = numbered_itself 0 w.runs w.next_run f found rise;
+        waits = found_passes is_waiting w.runs f found;
+        least = least_starts 0 w.runs w.next_run f.number (ap (option_map (λ (r : Run). r.number)) found) rise;
+        after = refl;
+      },
+    )
 settles_from w rise (Lock id text) e = inl ((λ nobody. absurd (let none : ⊥ = cc (sym e ∙ nobody) in none)), refl)
 settles_from w rise (HoldingRun n) e = inl ((λ nobody. absurd (let none : ⊥ = cc (sym e ∙ nobody) in none)), refl)
 

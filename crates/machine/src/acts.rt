@@ -65,10 +65,7 @@ pub struct WorkspaceUnit {
 #[derive(Debug, Drop)]
 pub enum Unit {
     /// How many workspaces the organization has, and how many it may have.
-    Absent {
-        workspaces: usize,
-        limit: Limit,
-    },
+    Absent { workspaces: usize, limit: Limit },
     Present(WorkspaceUnit),
 }
 

@@ -17,10 +17,10 @@ use crate::acts::{Act, Change, Edit, Newest, Unit, WorkspaceUnit};
 use crate::keeps::{AdminAnswer, Keep};
 use crate::maps::{Entry, NameMap};
 use crate::records::{Holder, Organization, Run, Token, Version, Workspace};
+use basis::numbers::MAX_LIMIT;
 use basis::{
     Bytes, Down, Items, Limit, LockId, Number, OrgName, Role, RunStatus, Settings, Text, WsName,
 };
-use basis::numbers::MAX_LIMIT;
 use std::alloc::Global;
 
 /// A store in memory. It is always clean, and sound where every record is lawful.

@@ -1,141 +1,353 @@
--- What a step leaves of a workspace that a lock holds.
-use Rattle.std.proofs.Common.{◌≡◌, ◌⊎◌, inl, inr, ℕ, Bool, true, false, ◌||◌, cond, List, Option, Some, None, Result, Ok, is_some, refl, sym, ap, subst, ◌∙◌}
+-- What a step leaves of a workspace.
+use Rattle.std.proofs.Common.{◌≡◌, ◌≢◌, ◌⊎◌, inl, inr, ℕ, Bool, true, false, ◌||◌, ◌&&◌, cond, List, Option, Some, None, Result, Ok, Err, IsSome, is_some, nat_lt, refl, sym, ap, subst, ◌∙◌}
+use Rattle.std.specs.Prelude.{option_map}
 use Rattle.std.specs.Str.{bytes_eq}
-use Rattle.std.specs.FinMap.{get}
+use Rattle.std.specs.FinMap.{get, insert, get-empty}
 use Rattle.std.proofs.lemmas.Slice.Eq.{bytes_eq-Decides}
 use Rattle.basis.specs.declared.refusals.Refusal.{Refusal}
-use Rattle.basis.specs.declared.refusals.Refusal.TheVariants.{BadState, BadLock, BadBody}
+use Rattle.basis.specs.declared.refusals.Refusal.TheVariants.{Locked, BadState, BadLock, BadBody}
 use Rattle.basis.specs.declared.rows.Settings.{Settings}
 use Rattle.basis.specs.declared.rows.StateHead.{StateHead}
 use Rattle.sha2.specs.Sha256.{sha256}
 use Rattle.docs.specs.Documents.{state_head, lock_id_of, settings_of}
-use Rattle.machine.specs.Records.{workspace_in, with_workspace}
-use Rattle.machine.specs.Rules.{rules}
-use Rattle.machine.specs.Custody.{WritesWith, Releases}
-use Rattle.machine.specs.Tokens.{managed, token_of, with_token, has_digest}
+use Rattle.machine.specs.Order.{name_cmp}
+use Rattle.machine.specs.Effects.{effect}
+use Rattle.machine.specs.Records.{Seen, missing, there, workspace_in, count_of, seen_by, seen_in, standing, with_workspace, placed}
+use Rattle.machine.specs.Rules.{Outcome, refused, held, done, no_state, state, workspace, rules}
+use Rattle.machine.specs.Custody.{WritesWith, Releases, IsRepeatable, IsRefusal}
+use Rattle.machine.specs.Tokens.{new_organization, token_of, with_token, has_digest, token_added, new_organization}
+use Rattle.machine.specs.declared.keeps.AdminAnswer.{AdminAnswer}
 use Rattle.machine.specs.declared.keeps.AdminAnswer.TheVariants.{Done, Exists}
-use Rattle.machine.proofs.CustodyLemmas.{versions_change_by_the_id, holds_until_released}
 use Rattle.machine.specs.declared.acts.Act.{Act}
-use Rattle.machine.specs.declared.acts.Act.TheVariants.{PutWorkspace as PutAct, UpdateState as UpdateAct, Lock as LockAct, Unlock as UnlockAct}
+use Rattle.machine.specs.declared.acts.Act.TheVariants.{PutWorkspace as PutAct, UpdateState as UpdateAct, ReadState as ReadAct, PurgeState as PurgeAct, Lock as LockAct, Unlock as UnlockAct, ForceUnlock as ForceUnlockAct}
+use Rattle.machine.specs.declared.records.Holder.{Holder}
 use Rattle.machine.specs.declared.records.Holder.TheVariants.{Lock as LockHolder}
+use Rattle.machine.specs.declared.records.Token.{Token}
 use Rattle.machine.specs.declared.records.Workspace.{Workspace}
 use Rattle.machine.specs.declared.records.Organization.{Organization}
+use Rattle.machine.proofs.CustodyLemmas.{versions_change_by_the_id, holds_until_released, locked_workspaces_stay, workspaces_stay, accepted_stays, repeats}
+use Rattle.machine.proofs.MapLemmas.{get_own}
+use Rattle.machine.proofs.KeepLemmas.{own_workspace, other_workspace}
 use Rattle.route.specs.declared.acts.Asked.{Asked}
 use Rattle.route.specs.declared.acts.AskedAct.{AskedAct}
-use Rattle.route.specs.declared.acts.AskedAct.TheVariants.{ListWorkspaces, ReadWorkspace, PutWorkspace, DeleteWorkspace, ReadState, UpdateState, PurgeState, Lock, Unlock, ForceUnlock, ListVersions, ReadVersion, ListRuns, MakeRun, ReadRun, ReportRun}
+use Rattle.route.specs.declared.acts.AskedAct.TheVariants.{ListWorkspaces, OfWorkspace}
+use Rattle.route.specs.declared.acts.WsAct.{WsAct}
+use Rattle.route.specs.declared.acts.WsAct.TheVariants.{Read, Put, Delete, ReadState, UpdateState, PurgeState, Lock, Unlock, ForceUnlock, ListVersions, ReadVersion, ListRuns, MakeRun, ReadRun, ReportRun}
+use Rattle.wire.specs.Replies.{Answer}
 use Rattle.serve.specs.declared.steps.Admin.{Admin}
 use Rattle.serve.specs.declared.steps.Admin.TheVariants.{OrgAdd, TokenAdd}
+use Rattle.serve.specs.declared.prepared.Order.{Order}
 use Rattle.serve.specs.Asks.{Ask, silent, requests, commands}
 use Rattle.serve.specs.Asks as ask
-use Rattle.serve.specs.Steps.{or_refused, act_of, request_step, command_step}
-use Rattle.serve.proofs.LeaveLemmas.{Leaves, request_leaves, own_workspace, other_workspace}
-use Rattle.serve.specs.Custody.{IsInCustody, LocksAreKept}
+use Rattle.serve.specs.Checks.{spelt, act_of, checked}
+use Rattle.serve.specs.Steps.{Said, answer_to, seen_at, ruled_in, carried, request_step, command_step, step}
+use Rattle.serve.specs.Custody.{NamesIn, Names, StepsChangeWhatTheyName, IsActOn, IsInCustody, LocksAreKept, asked_again, MayRepeat, StepsAreRepeatable, IsAccepted, RepeatsLeaveTheWorkspace}
+use Rattle.serve.proofs.CheckLemmas.{Passes, order_passes}
+use Rattle.serve.proofs.RecordLemmas.{placed_as_it_was, placed_same, standing_at}
 
--- an act that writes with an ID has it from the query
-abbrev read_as : Act → Result Act Refusal
-read_as act = Ok act
+apart_from : (a b : List ℕ) → bytes_eq a b ≡ false → a ≢ b
+apart_from a b e same = let none : ⊥ = cc (sym e ∙ (bytes_eq-Decides a b).1 same) in none
 
-ok_is : {a b : Act} → read_as a ≡ read_as b → b ≡ a
-ok_is e = cc
+one_of : (w v : Workspace) → Some w ≡ Some v → w ≡ v
+one_of w v e = cc
 
-writes_by : (asked : AskedAct) (id : Option (List ℕ)) (body : List ℕ) (act : Act) (held : List ℕ) → act_of asked id body ≡ Ok act → WritesWith act (Some held) → id ≡ Some held
-writes_by (ListWorkspaces after) id body act held is writes = absurd (subst (λ (a : Act). WritesWith a (Some held)) (ok_is is) writes)
-writes_by (ReadWorkspace ws) id body act held is writes = absurd (subst (λ (a : Act). WritesWith a (Some held)) (ok_is is) writes)
-writes_by (PutWorkspace ws) id body act held is writes = by_settings (settings_of body) act is writes
-  where
-    by_settings : (o : Option Settings) (act : Act) → or_refused BadBody PutAct o ≡ Ok act → WritesWith act (Some held) → id ≡ Some held
-    by_settings None act is writes = absurd (let none : ⊥ = cc in none)
-    by_settings (Some settings) act is writes = absurd (subst (λ (a : Act). WritesWith a (Some held)) (ok_is is) writes)
-writes_by (DeleteWorkspace ws) id body act held is writes = absurd (subst (λ (a : Act). WritesWith a (Some held)) (ok_is is) writes)
-writes_by (ReadState ws) id body act held is writes = absurd (subst (λ (a : Act). WritesWith a (Some held)) (ok_is is) writes)
-writes_by (UpdateState ws) id body act held is writes = by_head (state_head body) act is writes
-  where
-    by_head : (o : Option StateHead) (act : Act) → or_refused BadState (λ head. UpdateAct head body id) o ≡ Ok act → WritesWith act (Some held) → id ≡ Some held
-    by_head None act is writes = absurd (let none : ⊥ = cc in none)
-    by_head (Some head) act is writes = subst (λ (a : Act). WritesWith a (Some held)) (ok_is is) writes
-writes_by (PurgeState ws) id body act held is writes = subst (λ (a : Act). WritesWith a (Some held)) (ok_is is) writes
-writes_by (Lock ws) id body act held is writes = by_id (lock_id_of body) act is writes
-  where
-    by_id : (o : Option (List ℕ)) (act : Act) → or_refused BadLock (λ asked. LockAct asked body) o ≡ Ok act → WritesWith act (Some held) → id ≡ Some held
-    by_id None act is writes = absurd (let none : ⊥ = cc in none)
-    by_id (Some asked) act is writes = absurd (subst (λ (a : Act). WritesWith a (Some held)) (ok_is is) writes)
-writes_by (Unlock ws) id body act held is writes = by_id (lock_id_of body) act is writes
-  where
-    by_id : (o : Option (List ℕ)) (act : Act) → or_refused BadLock UnlockAct o ≡ Ok act → WritesWith act (Some held) → id ≡ Some held
-    by_id None act is writes = absurd (let none : ⊥ = cc in none)
-    by_id (Some asked) act is writes = absurd (subst (λ (a : Act). WritesWith a (Some held)) (ok_is is) writes)
-writes_by (ForceUnlock ws) id body act held is writes = absurd (subst (λ (a : Act). WritesWith a (Some held)) (ok_is is) writes)
-writes_by (ListVersions ws after) id body act held is writes = absurd (subst (λ (a : Act). WritesWith a (Some held)) (ok_is is) writes)
-writes_by (ReadVersion ws number) id body act held is writes = absurd (subst (λ (a : Act). WritesWith a (Some held)) (ok_is is) writes)
-writes_by (ListRuns ws after) id body act held is writes = absurd (subst (λ (a : Act). WritesWith a (Some held)) (ok_is is) writes)
-writes_by (MakeRun ws) id body act held is writes = absurd (subst (λ (a : Act). WritesWith a (Some held)) (ok_is is) writes)
-writes_by (ReadRun ws number) id body act held is writes = absurd (subst (λ (a : Act). WritesWith a (Some held)) (ok_is is) writes)
-writes_by (ReportRun ws number action) id body act held is writes = absurd (subst (λ (a : Act). WritesWith a (Some held)) (ok_is is) writes)
+-- the workspaces after the rules of one of them
+own_after : (r : Option Organization) (org ws : List ℕ) (act : Act) (now : ℕ) → IsSome r
+    → workspace_in (ruled_in org ws r (rules act now (seen_at r ws))).left ws ≡ (rules act now (seen_at r ws)).left
+own_after None org ws act now some = absurd (let none : ⊥ = cc in none)
+own_after (Some o) org ws act now some = own_workspace o.workspaces ws (rules act now (seen_in o ws)).left
 
--- a workspace that stays
-stays : (what : Ask) (held text : List ℕ) (w v : Workspace) → w.holder ≡ LockHolder held text → Some w ≡ Some v → IsInCustody what held text w v
-stays what held text w v lock e =
-    let same : w ≡ v = cc in
-    record { versions = inl (ap (λ (x : Workspace). x.versions) (sym same)); holder = inl (ap (λ (x : Workspace). x.holder) (sym same) ∙ lock) }
+other_after : (r : Option Organization) (org ws other : List ℕ) (act : Act) (now : ℕ) → other ≢ ws
+    → workspace_in (ruled_in org ws r (rules act now (seen_at r ws))).left other ≡ workspace_in r other
+other_after None org ws other act now apart = refl
+other_after (Some o) org ws other act now apart = other_workspace o.workspaces ws (rules act now (seen_in o ws)).left other apart
 
-carried_or_kept : (asked : Asked) (body : List ℕ) (act : Act) (held : List ℕ) (w v : Workspace) → act_of asked.act asked.lock_id body ≡ Ok act
-    → (v.versions ≡ w.versions) ⊎ WritesWith act (Some held) → (v.versions ≡ w.versions) ⊎ (asked.lock_id ≡ Some held)
-carried_or_kept asked body act held w v spelt (inl h) = inl h
-carried_or_kept asked body act held w v spelt (inr h) = inr (writes_by asked.act asked.lock_id body act held spelt h)
+-- a workspace that stands is the one that the rules see
+seen_there : (r : Option Organization) (ws : List ℕ) (w : Workspace) → workspace_in r ws ≡ Some w → seen_at r ws ≡ there w
+seen_there None ws w e = absurd (let none : ⊥ = cc in none)
+seen_there (Some o) ws w e = ap (seen_by (nat_lt (count_of o) o.limit)) e
 
-released_or_held : (asked : Asked) (body : List ℕ) (act : Act) (held text : List ℕ) (v : Workspace) → act_of asked.act asked.lock_id body ≡ Ok act
-    → (v.holder ≡ LockHolder held text) ⊎ Releases act held
-    → (v.holder ≡ LockHolder held text) ⊎ ((a : Act) × (act_of asked.act asked.lock_id body ≡ Ok a) × Releases a held)
-released_or_held asked body act held text v spelt (inl h) = inl h
-released_or_held asked body act held text v spelt (inr h) = inr (act, spelt, h)
+names_of : (act : AskedAct) (ws : List ℕ) (what : WsAct) → act ≡ OfWorkspace ws what → NamesIn act ws
+names_of act ws what e = subst (λ (a : AskedAct). NamesIn a ws) (sym e) refl
 
--- the workspace that the rules were asked of
-ruled_own : (at : ℕ) (due : Bool) (asked : Asked) (digest : Option (List ℕ)) (body : List ℕ) (o : Organization) (ws : List ℕ) (act : Act) (w v : Workspace) (held text : List ℕ)
-    → act_of asked.act asked.lock_id body ≡ Ok act → get o.workspaces ws ≡ Some w → w.holder ≡ LockHolder held text
-    → get (with_workspace o.workspaces ws (rules ws act at (get o.workspaces ws)).after) ws ≡ Some v → IsInCustody (requests at due asked digest body) held text w v
-ruled_own at due asked digest body o ws act w v held text spelt there lock e =
-    let ruled : (rules ws act at (Some w)).after ≡ Some v =
-    ap (λ (x : Option Workspace). (rules ws act at x).after) (sym there) ∙ sym (own_workspace o.workspaces ws (rules ws act at (get o.workspaces ws)).after) ∙ e in
-    record {
-      versions = carried_or_kept asked body act held w v spelt (versions_change_by_the_id ws act at w v held text lock ruled);
-      holder = released_or_held asked body act held text v spelt (holds_until_released ws act at w v held text lock ruled);
-    }
-
-ruled_any : (at : ℕ) (due : Bool) (asked : Asked) (digest : Option (List ℕ)) (body : List ℕ) (o : Organization) (place ws : List ℕ) (act : Act) (w v : Workspace) (held text : List ℕ)
-    → act_of asked.act asked.lock_id body ≡ Ok act → get o.workspaces ws ≡ Some w → w.holder ≡ LockHolder held text
-    → get (with_workspace o.workspaces place (rules place act at (get o.workspaces place)).after) ws ≡ Some v
-    → (b : Bool) → bytes_eq ws place ≡ b → IsInCustody (requests at due asked digest body) held text w v
-ruled_any at due asked digest body o place ws act w v held text spelt there lock e true same =
-    ruled_own at due asked digest body o ws act w v held text spelt there lock
-    (subst (λ (p : List ℕ). get (with_workspace o.workspaces p (rules p act at (get o.workspaces p)).after) ws ≡ Some v) (sym ((bytes_eq-Decides ws place).0 same)) e)
-ruled_any at due asked digest body o place ws act w v held text spelt there lock e false apart =
-    stays (requests at due asked digest body) held text w v lock
-    (sym there ∙ sym (other_workspace o.workspaces place (rules place act at (get o.workspaces place)).after ws
-    (λ same. let none : ⊥ = cc (sym apart ∙ (bytes_eq-Decides ws place).1 same) in none)) ∙ e)
-
-request_kept : (r : Option Organization) (at : ℕ) (due : Bool) (asked : Asked) (digest : Option (List ℕ)) (body : List ℕ) (after : ℕ → Option Organization) (ws : List ℕ) (w v : Workspace) (held text : List ℕ)
-    → Leaves r asked body after → workspace_in r ws ≡ Some w → w.holder ≡ LockHolder held text → workspace_in (after at) ws ≡ Some v
-    → IsInCustody (requests at due asked digest body) held text w v
-request_kept r at due asked digest body after ws w v held text (inl h) there lock e =
-    stays (requests at due asked digest body) held text w v lock (sym there ∙ ap (λ (x : Option Organization). workspace_in x ws) (sym (h at)) ∙ e)
-request_kept None at due asked digest body after ws w v held text (inr h) there lock e = absurd (let none : ⊥ = cc in none)
-request_kept (Some o) at due asked digest body after ws w v held text (inr h) there lock e =
-    ruled_any at due asked digest body o h.ws ws h.act w v held text h.spelt there lock
-    (ap (λ (x : Option Organization). workspace_in x ws) (sym (h.is at)) ∙ e) (bytes_eq ws h.ws) refl
+act_on : (asked : Asked) (ws body : List ℕ) (what : WsAct) (act : Act) → asked.act ≡ OfWorkspace ws what → act_of what asked.lock_id body ≡ Ok act → IsActOn asked.act asked.lock_id body act
+act_on asked ws body what act e spelt = subst (λ (a : AskedAct). IsActOn a asked.lock_id body act) (sym e) spelt
 
 -- an operator's command leaves every workspace
-command_keeps : (r : Option Organization) (command : Admin) (ws : List ℕ) (w v : Workspace) → workspace_in r ws ≡ Some w → workspace_in (command_step r command).after ws ≡ Some v → Some w ≡ Some v
-command_keeps None command ws w v there e = absurd (let none : ⊥ = cc in none)
-command_keeps (Some o) (OrgAdd org limit) ws w v there e = sym there ∙ e
-command_keeps (Some o) (TokenAdd org name role secret) ws w v there e = chosen (is_some (get o.tokens name) || has_digest (sha256 secret) o) e
+command_keeps : (r : Option Organization) (command : Admin) (ws : List ℕ) → workspace_in (command_step r command).left ws ≡ workspace_in r ws
+command_keeps None (OrgAdd org limit) ws = nothing_in limit ws
   where
-    chosen : (b : Bool) → workspace_in (cond b (managed Exists (Some o)) (managed Done (Some (with_token o name (token_of (sha256 secret) role))))).after ws ≡ Some v → Some w ≡ Some v
-    chosen true e = sym there ∙ e
-    chosen false e = sym there ∙ e
+    nothing_in : (limit : ℕ) (ws : List ℕ) → workspace_in (Some (new_organization limit)) ws ≡ None
+    nothing_in limit ws = get-empty name_cmp ws
+command_keeps (Some o) (OrgAdd org limit) ws = refl
+command_keeps None (TokenAdd org name role secret) ws = refl
+command_keeps (Some o) (TokenAdd org name role secret) ws = chosen (is_some (get o.tokens name) || has_digest (sha256 secret) o)
+  where
+    chosen : (b : Bool) → workspace_in (cond b (effect Exists (Some o)) (effect Done (Some (with_token o name (token_of (sha256 secret) role))))).left ws ≡ get o.workspaces ws
+    chosen true = refl
+    chosen false = refl
+
+-- a step changes at most the workspace that it names
+request_leaves_others : (r : Option Organization) (now : ℕ) (asked : Asked) (digest : Option (List ℕ)) (body ws : List ℕ) (x : Result Order Refusal) → checked r asked digest body ≡ x
+    → (NamesIn asked.act ws → ⊥) → workspace_in (carried asked.caller now r x).left ws ≡ workspace_in r ws
+request_leaves_others r now asked digest body ws (Err refusal) e other = refl
+request_leaves_others r now asked digest body ws (Ok order) e other =
+    let p : Passes r asked body order = order_passes r asked digest body order e in
+    other_after r asked.caller order.ws ws order.act now
+    (λ same. other (subst (NamesIn asked.act) (sym same) (names_of asked.act order.ws p.what p.asks)))
+
+pub steps_change_what_they_name : StepsChangeWhatTheyName
+steps_change_what_they_name r silent ws other = refl
+steps_change_what_they_name r (ask.refused at due refusal is_head) ws other = refl
+steps_change_what_they_name r (requests at due asked digest body) ws other = request_leaves_others r at asked digest body ws (checked r asked digest body) refl other
+steps_change_what_they_name r (commands at command) ws other = command_keeps r command ws
+
+-- an act that writes with an ID has it from the query
+abbrev read_act : Act → Result Act Refusal
+read_act act = Ok act
+
+is_one : (a b : Act) → read_act a ≡ read_act b → b ≡ a
+is_one a b e = cc
+
+writes_by : (what : WsAct) (id : Option (List ℕ)) (body : List ℕ) (act : Act) (own : List ℕ) → act_of what id body ≡ Ok act → WritesWith act (Some own) → id ≡ Some own
+writes_by Read id body act own is writes = absurd (let none : ⊥ = cc in none)
+writes_by Put id body act own is writes = by_settings (settings_of body) is
+  where
+    by_settings : (o : Option Settings) → spelt BadBody PutAct o ≡ Ok act → id ≡ Some own
+    by_settings None is = absurd (let none : ⊥ = cc in none)
+    by_settings (Some settings) is = absurd (subst (λ (a : Act). WritesWith a (Some own)) (is_one (PutAct settings) act is) writes)
+writes_by Delete id body act own is writes = absurd (let none : ⊥ = cc in none)
+writes_by ReadState id body act own is writes = absurd (subst (λ (a : Act). WritesWith a (Some own)) (is_one ReadAct act is) writes)
+writes_by UpdateState id body act own is writes = by_head (state_head body) is
+  where
+    by_head : (o : Option StateHead) → spelt BadState (λ head. UpdateAct head body id) o ≡ Ok act → id ≡ Some own
+    by_head None is = absurd (let none : ⊥ = cc in none)
+    by_head (Some head) is = subst (λ (a : Act). WritesWith a (Some own)) (is_one (UpdateAct head body id) act is) writes
+writes_by PurgeState id body act own is writes = subst (λ (a : Act). WritesWith a (Some own)) (is_one (PurgeAct id) act is) writes
+writes_by Lock id body act own is writes = by_id (lock_id_of body) is
+  where
+    by_id : (o : Option (List ℕ)) → spelt BadLock (λ given. LockAct given body) o ≡ Ok act → id ≡ Some own
+    by_id None is = absurd (let none : ⊥ = cc in none)
+    by_id (Some given) is = absurd (subst (λ (a : Act). WritesWith a (Some own)) (is_one (LockAct given body) act is) writes)
+writes_by Unlock id body act own is writes = by_id (lock_id_of body) is
+  where
+    by_id : (o : Option (List ℕ)) → spelt BadLock UnlockAct o ≡ Ok act → id ≡ Some own
+    by_id None is = absurd (let none : ⊥ = cc in none)
+    by_id (Some given) is = absurd (subst (λ (a : Act). WritesWith a (Some own)) (is_one (UnlockAct given) act is) writes)
+writes_by ForceUnlock id body act own is writes = absurd (subst (λ (a : Act). WritesWith a (Some own)) (is_one ForceUnlockAct act is) writes)
+writes_by (ListVersions after) id body act own is writes = absurd (let none : ⊥ = cc in none)
+writes_by (ReadVersion number) id body act own is writes = absurd (let none : ⊥ = cc in none)
+writes_by (ListRuns after) id body act own is writes = absurd (let none : ⊥ = cc in none)
+writes_by MakeRun id body act own is writes = absurd (let none : ⊥ = cc in none)
+writes_by (ReadRun number) id body act own is writes = absurd (let none : ⊥ = cc in none)
+writes_by (ReportRun number action) id body act own is writes = absurd (let none : ⊥ = cc in none)
+
+-- a workspace that a step leaves as it is
+abbrev Kept : Option Workspace → Ask → List ℕ → List ℕ → List ℕ → Workspace → Type 0
+Kept after what ws own text w = (v : Workspace) × (after ≡ Some v) × IsInCustody what ws own text w v
+
+stays : (after : Option Workspace) (what : Ask) (ws own text : List ℕ) (w : Workspace) → after ≡ Some w → w.holder ≡ LockHolder own text → Kept after what ws own text w
+stays after what ws own text w e lock = (w, e, record { versions = inl refl; holder = inl lock })
+
+some_is : (o : Option Workspace) → IsSome o → (v : Workspace) × (o ≡ Some v)
+some_is None h = absurd (let none : ⊥ = cc in none)
+some_is (Some v) h = (v, refl)
+
+-- the workspace that the rules were asked of
+ruled_kept : (r : Option Organization) (now : ℕ) (due : Bool) (asked : Asked) (digest : Option (List ℕ)) (body : List ℕ) (o : Order) (w : Workspace) (own text : List ℕ)
+    → Passes r asked body o → workspace_in r o.ws ≡ Some w → w.holder ≡ LockHolder own text
+    → Kept (workspace_in (ruled_in asked.caller o.ws r (rules o.act now (seen_at r o.ws))).left o.ws) (requests now due asked digest body) o.ws own text w
+ruled_kept r now due asked digest body o w own text p stands lock =
+    let sees : seen_at r o.ws ≡ there w = seen_there r o.ws w stands in
+    let left : workspace_in (ruled_in asked.caller o.ws r (rules o.act now (seen_at r o.ws))).left o.ws ≡ (rules o.act now (there w)).left =
+    own_after r asked.caller o.ws o.act now p.there ∙ ap (λ (s : Seen). (rules o.act now s).left) sees in
+    let v = some_is (rules o.act now (there w)).left (locked_workspaces_stay o.act now w own text lock) in
+    let names : NamesIn asked.act o.ws = names_of asked.act o.ws p.what p.asks in (
+      v.0,
+      left ∙ v.1,
+      record {
+        versions = carried_or_kept v.0 names p (versions_change_by_the_id o.act now w v.0 own text lock v.1);
+        holder = released_or_held v.0 names p (holds_until_released o.act now w v.0 own text lock v.1);
+      },
+    )
+  where
+    carried_or_kept : (v : Workspace) → NamesIn asked.act o.ws → Passes r asked body o → (v.versions ≡ w.versions) ⊎ WritesWith o.act (Some own)
+        → (v.versions ≡ w.versions) ⊎ (NamesIn asked.act o.ws × (asked.lock_id ≡ Some own))
+    carried_or_kept v names p (inl h) = inl h
+    carried_or_kept v names p (inr h) = inr (names, writes_by p.what asked.lock_id body o.act own p.spelt h)
+
+    released_or_held : (v : Workspace) → NamesIn asked.act o.ws → Passes r asked body o → (v.holder ≡ LockHolder own text) ⊎ Releases o.act own
+        → (v.holder ≡ LockHolder own text) ⊎ (NamesIn asked.act o.ws × ((act : Act) × IsActOn asked.act asked.lock_id body act × Releases act own))
+    released_or_held v names p (inl h) = inl h
+    released_or_held v names p (inr h) = inr (names, (o.act, act_on asked o.ws body p.what o.act p.asks p.spelt, h))
+
+request_kept : (r : Option Organization) (now : ℕ) (due : Bool) (asked : Asked) (digest : Option (List ℕ)) (body ws : List ℕ) (w : Workspace) (own text : List ℕ) (x : Result Order Refusal)
+    → checked r asked digest body ≡ x → workspace_in r ws ≡ Some w → w.holder ≡ LockHolder own text
+    → Kept (workspace_in (carried asked.caller now r x).left ws) (requests now due asked digest body) ws own text w
+request_kept r now due asked digest body ws w own text (Err refusal) e stands lock = stays _ (requests now due asked digest body) ws own text w stands lock
+request_kept r now due asked digest body ws w own text (Ok o) e stands lock = by_name (bytes_eq ws o.ws) refl
+  where
+    p : Passes r asked body o
+    p = order_passes r asked digest body o e
+
+    by_name : (b : Bool) → bytes_eq ws o.ws ≡ b → Kept (workspace_in (ruled_in asked.caller o.ws r (rules o.act now (seen_at r o.ws))).left ws) (requests now due asked digest body) ws own text w
+    by_name true same =
+        let is : ws ≡ o.ws = (bytes_eq-Decides ws o.ws).0 same in
+        subst (λ (n : List ℕ). Kept (workspace_in (ruled_in asked.caller o.ws r (rules o.act now (seen_at r o.ws))).left n) (requests now due asked digest body) n own text w) (sym is)
+        (ruled_kept r now due asked digest body o w own text p (subst (λ (n : List ℕ). workspace_in r n ≡ Some w) is stands) lock)
+    by_name false apart =
+        stays (workspace_in (ruled_in asked.caller o.ws r (rules o.act now (seen_at r o.ws))).left ws) (requests now due asked digest body) ws own text w
+        (other_after r asked.caller o.ws ws o.act now (apart_from ws o.ws apart) ∙ stands) lock
 
 pub locks_are_kept : LocksAreKept
-locks_are_kept r silent ws w v held text there lock e = stays silent held text w v lock (sym there ∙ e)
-locks_are_kept r (ask.refused at due refusal is_head) ws w v held text there lock e = stays (ask.refused at due refusal is_head) held text w v lock (sym there ∙ e)
-locks_are_kept r (requests at due asked digest body) ws w v held text there lock e =
-    request_kept r at due asked digest body (λ now. (request_step r now asked digest body).after) ws w v held text (request_leaves r asked digest body) there lock e
-locks_are_kept r (commands at command) ws w v held text there lock e = stays (commands at command) held text w v lock (command_keeps r command ws w v there e)
+locks_are_kept r silent ws w own text stands lock = stays (workspace_in r ws) silent ws own text w stands lock
+locks_are_kept r (ask.refused at due refusal is_head) ws w own text stands lock = stays (workspace_in r ws) (ask.refused at due refusal is_head) ws own text w stands lock
+locks_are_kept r (requests at due asked digest body) ws w own text stands lock = request_kept r at due asked digest body ws w own text (checked r asked digest body) refl stands lock
+locks_are_kept r (commands at command) ws w own text stands lock =
+    stays (workspace_in (command_step r command).left ws) (commands at command) ws own text w (command_keeps r command ws ∙ stands) lock
+
+-- two orders of one request, over two records, are one
+one_name : (a b : List ℕ) (c d : WsAct) → OfWorkspace a c ≡ OfWorkspace b d → (a ≡ b) × (c ≡ d)
+one_name a b c d e = (ap name_of e, cc)
+  where
+    name_of : AskedAct → List ℕ
+    name_of (ListWorkspaces after) = a
+    name_of (OfWorkspace name act) = name
+
+same_order : (r q : Option Organization) (asked : Asked) (body : List ℕ) (o p : Order) → Passes r asked body o → Passes q asked body p → (p.ws ≡ o.ws) × (p.act ≡ o.act)
+same_order r q asked body o p first second =
+    let both : (p.ws ≡ o.ws) × (second.what ≡ first.what) = one_name p.ws o.ws second.what first.what (sym second.asks ∙ first.asks) in
+    (both.0, is_one o.act p.act (sym first.spelt ∙ ap (λ (w : WsAct). act_of w asked.lock_id body) (sym both.1) ∙ second.spelt))
+
+-- once more, on a record whose workspace is as the first left it
+again_there : (q : Option Organization) (org ws : List ℕ) (act : Act) (now later : ℕ) (s : Seen) (v : Workspace) → IsSome q → IsRepeatable act → (rules act now s).left ≡ Some v
+    → workspace_in q ws ≡ Some v → workspace_in (ruled_in org ws q (rules act later (seen_at q ws))).left ws ≡ Some v
+again_there q org ws act now later s v some may left stands =
+    own_after q org ws act later some ∙ ap (λ (t : Seen). (rules act later t).left) (seen_there q ws v stands) ∙ repeats act now later s v may left
+
+again_left : (q : Option Organization) (org ws : List ℕ) (act : Act) (now later : ℕ) (s : Seen) (v : Workspace) → IsSome q → IsRepeatable act → (rules act now s).left ≡ Some v
+    → workspace_in q ws ≡ Some v → (ruled_in org ws q (rules act later (seen_at q ws))).left ≡ q
+again_left None org ws act now later s v some may left stands = absurd (let none : ⊥ = cc in none)
+again_left (Some o) org ws act now later s v some may left stands =
+    let still : (rules act later (seen_in o ws)).left ≡ Some v = ap (λ (t : Seen). (rules act later t).left) (seen_there (Some o) ws v stands) ∙ repeats act now later s v may left in
+    ap (λ (w : Option Workspace). Some (placed o ws w)) (still ∙ sym stands) ∙ ap Some (placed_as_it_was o ws (get o.workspaces ws) refl)
+
+-- the second of two requests on the record that the first left
+second_leaves : (r : Option Organization) (now later : ℕ) (asked : Asked) (digest : Option (List ℕ)) (body : List ℕ) (x : Result Order Refusal) → checked r asked digest body ≡ x
+    → ((act : Act) → IsActOn asked.act asked.lock_id body act → IsRepeatable act)
+    → (carried asked.caller later (carried asked.caller now r x).left (checked (carried asked.caller now r x).left asked digest body)).left ≡ (carried asked.caller now r x).left
+second_leaves r now later asked digest body (Err refusal) e may =
+    ap (λ (y : Result Order Refusal). (carried asked.caller later r y).left) e
+second_leaves None now later asked digest body (Ok o) e may = absurd (let p = order_passes None asked digest body o e in let none : ⊥ = cc p.there in none)
+second_leaves (Some organization) now later asked digest body (Ok o) e may = by_left (rules o.act now (seen_in organization o.ws)).left refl
+  where
+    first : Passes (Some organization) asked body o
+    first = order_passes (Some organization) asked digest body o e
+
+    repeatable : IsRepeatable o.act
+    repeatable = may o.act (act_on asked o.ws body first.what o.act first.asks first.spelt)
+
+    on : Option Organization → Result Order Refusal → Option Organization
+    on q y = (carried asked.caller later q y).left
+
+    second : (q : Organization) (v : Workspace) → get q.workspaces o.ws ≡ Some v → (rules o.act now (seen_in organization o.ws)).left ≡ Some v
+        → (y : Result Order Refusal) → checked (Some q) asked digest body ≡ y → on (Some q) y ≡ Some q
+    second q v stands left (Err refusal) f = refl
+    second q v stands left (Ok p) f =
+        let passes : Passes (Some q) asked body p = order_passes (Some q) asked digest body p f in
+        let same : (p.ws ≡ o.ws) × (p.act ≡ o.act) = same_order (Some organization) (Some q) asked body o p first passes in
+        ap (λ (n : List ℕ). (ruled_in asked.caller n (Some q) (rules p.act later (seen_at (Some q) n))).left) same.0
+        ∙ ap (λ (a : Act). (ruled_in asked.caller o.ws (Some q) (rules a later (seen_at (Some q) o.ws))).left) same.1
+        ∙ again_left (Some q) asked.caller o.ws o.act now later (seen_in organization o.ws) v refl repeatable left stands
+
+    by_left : (w : Option Workspace) → (rules o.act now (seen_in organization o.ws)).left ≡ w
+        → (carried asked.caller later (carried asked.caller now (Some organization) (Ok o)).left (checked (carried asked.caller now (Some organization) (Ok o)).left asked digest body)).left
+        ≡ (carried asked.caller now (Some organization) (Ok o)).left
+    by_left None left =
+        let gone : get organization.workspaces o.ws ≡ None = none_before (get organization.workspaces o.ws) refl left in
+        let same : (carried asked.caller now (Some organization) (Ok o)).left ≡ Some organization =
+        ap (λ (w : Option Workspace). Some (placed organization o.ws w)) (left ∙ sym gone) ∙ ap Some (placed_as_it_was organization o.ws (get organization.workspaces o.ws) refl) in
+        let twice : (ruled_in asked.caller o.ws (Some organization) (rules o.act later (seen_in organization o.ws))).left ≡ Some organization =
+        ap (λ (w : Option Workspace). Some (placed organization o.ws w)) (none_again (get organization.workspaces o.ws) refl left ∙ sym gone)
+        ∙ ap Some (placed_as_it_was organization o.ws (get organization.workspaces o.ws) refl) in
+        ap (λ (q : Option Organization). on q (checked q asked digest body)) same ∙ ap (on (Some organization)) e ∙ twice ∙ sym same
+      where
+        room : Bool
+        room = nat_lt (count_of organization) organization.limit
+
+        none_before : (w : Option Workspace) → get organization.workspaces o.ws ≡ w → (rules o.act now (seen_by room (get organization.workspaces o.ws))).left ≡ None → get organization.workspaces o.ws ≡ None
+        none_before None t left = t
+        none_before (Some w) t left =
+            absurd (let some : IsSome (rules o.act now (there w)).left = workspaces_stay o.act now w in
+            let none : ⊥ = cc (sym some ∙ ap is_some (sym (ap (λ (x : Option Workspace). (rules o.act now (seen_by room x)).left) t) ∙ left)) in none)
+
+        none_again : (w : Option Workspace) → get organization.workspaces o.ws ≡ w → (rules o.act now (seen_by room (get organization.workspaces o.ws))).left ≡ None
+            → (rules o.act later (seen_by room (get organization.workspaces o.ws))).left ≡ None
+        none_again None t left =
+            ap (λ (x : Option Workspace). (rules o.act later (seen_by room x)).left) t ∙ ap (λ (x : Option Workspace). (rules o.act now (seen_by room x)).left) (sym t) ∙ left
+        none_again (Some w) t left = absurd (let none : ⊥ = cc (sym t ∙ none_before (Some w) t left) in none)
+    by_left (Some v) left =
+        let q : Organization = placed organization o.ws (rules o.act now (seen_in organization o.ws)).left in
+        let stands : get q.workspaces o.ws ≡ Some v = own_workspace organization.workspaces o.ws (rules o.act now (seen_in organization o.ws)).left ∙ left in
+        second q v stands left (checked (Some q) asked digest body) refl
+
+-- a token that is there is not added again
+token_again : (o : Organization) (name : List ℕ) (token : Token) (b : Bool) → (is_some (get o.tokens name) || has_digest token.digest o) ≡ b
+    → (token_added name token (cond b (effect Exists (Some o)) (effect Done (Some (with_token o name token)))).left).left ≡ (cond b (effect Exists (Some o)) (effect Done (Some (with_token o name token)))).left
+token_again o name token true e = ap (λ (b : Bool). (cond b (effect Exists (Some o)) (effect Done (Some (with_token o name token)))).left) e
+token_again o name token false e =
+    let p : Organization = with_token o name token in
+    let stands : is_some (get p.tokens name) ≡ true = ap is_some (get_own o.tokens name token) in
+    ap (λ (b : Bool). (cond (b || has_digest token.digest p) (effect Exists (Some p)) (effect Done (Some (with_token p name token)))).left) stands
+
+command_again : (r : Option Organization) (command : Admin) → (command_step (command_step r command).left command).left ≡ (command_step r command).left
+command_again None (OrgAdd org limit) = refl
+command_again (Some o) (OrgAdd org limit) = refl
+command_again None (TokenAdd org name role secret) = refl
+command_again (Some o) (TokenAdd org name role secret) =
+    let token : Token = token_of (sha256 secret) role in
+    token_again o name token (is_some (get o.tokens name) || has_digest token.digest o) refl
+
+pub steps_are_repeatable : StepsAreRepeatable
+steps_are_repeatable r silent later may = refl
+steps_are_repeatable r (ask.refused at due refusal is_head) later may = refl
+steps_are_repeatable r (requests at due asked digest body) later may = second_leaves r at later asked digest body (checked r asked digest body) refl may
+steps_are_repeatable r (commands at command) later may = command_again r command
+
+-- what was accepted leaves the workspace there
+not_refused : (org ws : List ℕ) (o : Outcome) → (answer_to org ws o).refusal ≡ None → IsRefusal o → ⊥
+not_refused org ws (refused refusal) e is = cc
+not_refused org ws (held holder) e is = cc
+not_refused org ws done e is = is
+not_refused org ws no_state e is = is
+not_refused org ws (state text) e is = is
+not_refused org ws (workspace shown) e is = is
+
+-- the second of two requests, on any record whose workspace is as the first left it
+later_leaves : (r q : Option Organization) (now later : ℕ) (asked : Asked) (digest : Option (List ℕ)) (body ws : List ℕ) (x y : Result Order Refusal)
+    → checked r asked digest body ≡ x → checked q asked digest body ≡ y → ((act : Act) → IsActOn asked.act asked.lock_id body act → IsRepeatable act)
+    → NamesIn asked.act ws → (carried asked.caller now r x).answer.refusal ≡ None → workspace_in q ws ≡ workspace_in (carried asked.caller now r x).left ws
+    → workspace_in (carried asked.caller later q y).left ws ≡ workspace_in q ws
+later_leaves r q now later asked digest body ws (Err refusal) y e f may names accepted same = absurd (let none : ⊥ = cc in none)
+later_leaves r q now later asked digest body ws (Ok o) (Err refusal) e f may names accepted same = refl
+later_leaves r q now later asked digest body ws (Ok o) (Ok p) e f may names accepted same =
+    let first : Passes r asked body o = order_passes r asked digest body o e in
+    let second : Passes q asked body p = order_passes q asked digest body p f in
+    let both : (p.ws ≡ o.ws) × (p.act ≡ o.act) = same_order r q asked body o p first second in
+    let is : o.ws ≡ ws = subst (λ (a : AskedAct). NamesIn a ws) first.asks names in
+    let v = some_is (rules o.act now (seen_at r o.ws)).left (accepted_stays o.act now (seen_at r o.ws) (not_refused asked.caller o.ws (rules o.act now (seen_at r o.ws)).answer accepted)) in
+    let stands : workspace_in q o.ws ≡ Some v.0 = subst (λ (n : List ℕ). workspace_in q n ≡ workspace_in (ruled_in asked.caller o.ws r (rules o.act now (seen_at r o.ws))).left n) (sym is) same
+    ∙ own_after r asked.caller o.ws o.act now first.there ∙ v.1 in
+    let repeatable : IsRepeatable o.act = may o.act (act_on asked o.ws body first.what o.act first.asks first.spelt) in
+    let left : workspace_in (ruled_in asked.caller o.ws q (rules o.act later (seen_at q o.ws))).left o.ws ≡ workspace_in q o.ws =
+    again_there q asked.caller o.ws o.act now later (seen_at r o.ws) v.0 second.there repeatable v.1 stands ∙ sym stands in
+    ap (λ (n : List ℕ). workspace_in (ruled_in asked.caller n q (rules p.act later (seen_at q n))).left ws) both.0
+    ∙ ap (λ (a : Act). workspace_in (ruled_in asked.caller o.ws q (rules a later (seen_at q o.ws))).left ws) both.1
+    ∙ subst (λ (n : List ℕ). workspace_in (ruled_in asked.caller o.ws q (rules o.act later (seen_at q o.ws))).left n ≡ workspace_in q n) is left
+
+pub repeats_leave_the_workspace : RepeatsLeaveTheWorkspace
+repeats_leave_the_workspace r q silent later ws may names accepted same = absurd names
+repeats_leave_the_workspace r q (ask.refused at due refusal is_head) later ws may names accepted same = absurd names
+repeats_leave_the_workspace r q (requests at due asked digest body) later ws may names accepted same =
+    later_leaves r q at later asked digest body ws (checked r asked digest body) (checked q asked digest body) refl refl may names accepted same
+repeats_leave_the_workspace r q (commands at command) later ws may names accepted same = absurd names

@@ -1,103 +1,162 @@
 -- One exchange: the reply to what was read, and what is written in all.
-use Rattle.std.proofs.Common.{◌≡◌, ℕ, Bool, false, List, [], ◌++◌, Option, Some, None, Result, Ok, Err, IfSome, refl, sym, ap, subst, ◌∙◌, append_assoc, inl, inr}
-use Rattle.std.specs.Io.KnownBytes.{Appends}
+use Rattle.std.proofs.Common.{◌≡◌, ◌≢◌, ◌⊎◌, ℕ, ◌<◌, Bool, true, false, List, [], ◌++◌, length, Option, Some, None, Result, Ok, Err, IsTrue, IsErrOf, refl, sym, ap, subst, ◌∙◌, append_assoc, inl, inr, drop, cond, nat_le, take}
+use Rattle.std.specs.Io.KnownBytes.{Appends, Consumes}
+use Rattle.std.specs.Str.{bytes_eq}
+use Rattle.std.proofs.lemmas.Slice.Eq.{bytes_eq-Decides}
 use Rattle.basis.specs.declared.refusals.Refusal.{Refusal}
 use Rattle.docs.specs.Bodies.{error_text}
 use Rattle.machine.specs.declared.records.Organization.{Organization}
-use Rattle.route.specs.Asks.{asked_of}
+use Rattle.route.specs.Asks.{Asking, asked_of, asks}
+use Rattle.route.specs.Asks as route
 use Rattle.wire.specs.declared.messages.Message.{Message}
 use Rattle.wire.specs.declared.messages.WireFault.{WireFault}
-use Rattle.wire.specs.declared.messages.WireFault.TheVariants.{Refused, Down}
-use Rattle.wire.specs.Messages.{Reads, whole}
-use Rattle.wire.specs.Messages as wire
-use Rattle.wire.specs.Links.{continue_if, Tells, Stops, Writes}
+use Rattle.wire.specs.declared.messages.WireFault.TheVariants.{Refused, Down, Ended, Read, Continue}
+use Rattle.wire.specs.declared.framing.Frame.{Frame}
+use Rattle.wire.specs.Heads.{Front, Unfinished, Long, Whole, front_of}
+use Rattle.wire.specs.Framing.{Verdict, refuses, takes, IsJudged}
+use Rattle.wire.specs.Messages.{Reading, Reads, ReadsBy, unfinished, refused, whole, message_of, reading_by, IsDue, IsDueBy}
+use Rattle.wire.specs.Links.{Answers, continue_if, continue_text, Stops, Writes, WritesDue}
 use Rattle.wire.specs.Replies.{Answer, IsReplyText, refused_answer, unavailable_answer}
-use Rattle.serve.specs.Asks.{Ask}
+use Rattle.serve.specs.Asks.{Ask, Owner, organization, nobody, operator, silent, requests, commands, owner_of}
 use Rattle.serve.specs.Asks as ask
-use Rattle.serve.specs.Prepared.{IsPrepared}
-use Rattle.serve.specs.Service.{asked_by, Carries, Stays, said_to, IsText}
-use Rattle.serve.specs.Exchanges.{IsAnswered, IsReplied, RepliesTo, Exchanges, ended_of}
+use Rattle.serve.specs.Steps.{Said, replies}
+use Rattle.serve.specs.Inner.Prepared.{IsPrepared}
+use Rattle.serve.specs.Inner.Replying.{RepliesTo, ended_of}
+use Rattle.serve.specs.Service.{asked_by, Asks, Carries, Stays, said_to, is_own, is_head, after_ask}
+use Rattle.serve.specs.Exchanges.{IsHead, IsAnswered, Exchanges, ChangesAtMostOne}
+use Rattle.serve.specs.declared.exchanges.LinkFault.{LinkFault}
+use Rattle.serve.specs.declared.exchanges.LinkFault.TheVariants.{Ended as LinkEnded, Read as LinkRead, Continue as LinkContinue, Write as LinkWrite}
 use Rattle.serve.specs.declared.prepared.Prepared.{Prepared}
-use Rattle.serve.proofs.TakenLemmas.{said_is, prepared_after, carries_after}
+use Rattle.serve.proofs.TakenLemmas.{prepared_after, carries_after}
+
+-- what is prepared is what is said
+prepared_said : (rows : List ℕ → Option Organization) (at : ℕ) (due : Bool) (message : Message) (asking : Asking) (p : Prepared)
+    → IsPrepared rows (asked_by at due message asking) p → said_to rows (asked_by at due message asking) ≡ replies due at p.reply
+prepared_said rows at due message (route.refused refusal) p h = ap (replies due at) (sym h.0)
+prepared_said rows at due message (asks asked) p h = ap (replies due at) (sym h.answer)
 
 -- a message is prepared, and its change follows
 pub message_answered : (old mid new : List ℕ → Option Organization) (at : ℕ) (due : Bool) (message : Message) (p : Prepared)
     → Stays old mid → IsPrepared old (asked_by at due message (asked_of message)) p
     → ((a : Ask) → IsPrepared mid a p → Carries a mid new)
-    → Carries (asked_by at due message (asked_of message)) old new
-    × ((text : List ℕ) → IsReplyText p.reply at text → IsText (said_to old (asked_by at due message (asked_of message))) (continue_if due ++ text))
+    → Carries (asked_by at due message (asked_of message)) old new × (said_to old (asked_by at due message (asked_of message)) ≡ replies due at p.reply)
 message_answered old mid new at due message p stays prepared carried =
     let a : Ask = asked_by at due message (asked_of message) in
-    (carries_after old mid new a stays (carried a (prepared_after old mid a p stays prepared)), (λ text is. said_is old at due message (asked_of message) p text prepared is))
+    (carries_after old mid new a stays (carried a (prepared_after old mid a p stays prepared)), prepared_said old at due message (asked_of message) p prepared)
+
+-- what is asked moves the record of one organization at most
+carried_one : (a : Ask) (old new : List ℕ → Option Organization) → Carries a old new → ChangesAtMostOne old new
+carried_one silent old new carries = ([], (λ other apart. carries other))
+carried_one (ask.refused at due refusal is_head) old new carries = ([], (λ other apart. carries other))
+carried_one (requests at due asked digest body) old new carries = (asked.caller, (λ other apart. carries other ∙ stays_apart (requests at due asked digest body) other old (bytes_eq other asked.caller) refl apart))
+  where
+    stays_apart : (a : Ask) (other : List ℕ) (rows : List ℕ → Option Organization) (b : Bool) → bytes_eq other asked.caller ≡ b → other ≢ asked.caller → after_ask b a (rows other) ≡ rows other
+    stays_apart a other rows true e apart = absurd (apart ((bytes_eq-Decides other asked.caller).0 e))
+    stays_apart a other rows false e apart = refl
+carried_one (commands at command) old new carries = (ask.commanded_of command, (λ other apart. carries other ∙ stays_apart (commands at command) other old (bytes_eq other (ask.commanded_of command)) refl apart))
+  where
+    stays_apart : (a : Ask) (other : List ℕ) (rows : List ℕ → Option Organization) (b : Bool) → bytes_eq other (ask.commanded_of command) ≡ b → other ≢ ask.commanded_of command → after_ask b a (rows other) ≡ rows other
+    stays_apart a other rows true e apart = absurd (apart ((bytes_eq-Decides other (ask.commanded_of command)).0 e))
+    stays_apart a other rows false e apart = refl
+
+pub answered_one : (now : ℕ) (message : Message) (old new : List ℕ → Option Organization) (reply : Answer)
+    → ((due : Bool) → Carries (asked_by now due message (asked_of message)) old new × (said_to old (asked_by now due message (asked_of message)) ≡ replies due now reply))
+    → ChangesAtMostOne old new
+answered_one now message old new reply h = carried_one (asked_by now false message (asked_of message)) old new (h false).0
+
+pub stayed_one : (old new : List ℕ → Option Organization) → Stays old new → ChangesAtMostOne old new
+stayed_one old new stays = ([], (λ other apart. stays other))
 
 -- the reply to a message that is served
-pub served_reply : (now : ℕ) (bytes : List ℕ) (before after : Option (List ℕ)) (message : Message) (read : Result Message WireFault) (old new : List ℕ → Option Organization) (reply : Answer)
+pub served_reply : (now : ℕ) (came : List ℕ) (left before after : Option (List ℕ)) (message : Message) (read : Result Message WireFault) (old new : List ℕ → Option Organization) (reply : Answer)
     → read ≡ Ok message
-    → ((due : Bool) → Carries (asked_by now due message (asked_of message)) old new
-    × ((text : List ℕ) → IsReplyText reply now text → IsText (said_to old (asked_by now due message (asked_of message))) (continue_if due ++ text)))
-    → Tells bytes before after read → (due : Bool) × Appends before after (continue_if due) × IsReplied now bytes due old new reply
-served_reply now bytes before after message read old new reply is h tells =
-    let t : (due : Bool) × Reads bytes (whole message due) × Appends before after (continue_if due) = subst (λ (r : Result Message WireFault). Tells bytes before after r) is tells in (
+    → ((due : Bool) → Carries (asked_by now due message (asked_of message)) old new × (said_to old (asked_by now due message (asked_of message)) ≡ replies due now reply))
+    → Answers came left before after read
+    → (due : Bool) × Appends before after (continue_if due) × ((text : List ℕ) → IsReplyText reply now text → IsAnswered now came old new due text)
+served_reply now came left before after message read old new reply is h told =
+    let t : (due : Bool) × Reads came (whole message due) × Appends before after (continue_if due) = subst (λ (r : Result Message WireFault). Answers came left before after r) is told in (
       t.0,
       t.2,
       (λ text is_text. inl (record {
         ask = asked_by now t.0 message (asked_of message);
         asks = record { reading = whole message t.0; reads = t.1; is = refl };
         carries = (h t.0).0;
-        said = (h t.0).1 text is_text;
+        answer = reply;
+        said = (h t.0).1;
+        is = is_text;
       })),
     )
 
-unavailable_by : (now : ℕ) (bytes : List ℕ) (before after : Option (List ℕ)) (due is_head : Bool) (old new : List ℕ → Option Organization) (reply : Answer)
-    → Appends before after (continue_if due) → Stays old new → reply ≡ unavailable_answer is_head
-    → (due : Bool) × Appends before after (continue_if due) × IsReplied now bytes due old new reply
-unavailable_by now bytes before after due is_head old new reply appends stays is = (
+-- where a message's reading says that the 100 line is due, it is
+due_by_rest : (frame : Frame) (rest : List ℕ) (message : Message) (b : Bool) → whole message true ≡ (cond b (whole (message_of frame (take frame.body_len rest)) frame.is_due) unfinished) → IsTrue frame.is_due
+due_by_rest frame rest message true e = let is : true ≡ frame.is_due = cc in sym is
+due_by_rest frame rest message false e = absurd (let none : ⊥ = cc in none)
+
+due_by : (front : Front) (bytes : List ℕ) (message : Message) → ReadsBy front bytes (whole message true) → IsDueBy front bytes
+due_by Unfinished bytes message e = absurd (let none : ⊥ = cc in none)
+due_by Long bytes message e = absurd (let none : ⊥ = cc in none)
+due_by (Whole n) bytes message (refuses refusal head, judged, e) = absurd (let none : ⊥ = cc in none)
+due_by (Whole n) bytes message (takes frame, judged, e) = (frame, judged, due_by_rest frame (drop n bytes) message (nat_le frame.body_len (length (drop n bytes))) e)
+
+due_is : (bytes : List ℕ) (message : Message) (due : Bool) → Reads bytes (whole message due) → IsTrue due → IsDue bytes
+due_is bytes message due reads is = due_by (front_of bytes) bytes message (subst (λ (d : Bool). Reads bytes (whole message d)) is reads)
+
+unavailable_by : (now : ℕ) (came : List ℕ) (before after : Option (List ℕ)) (due without_body : Bool) (old new : List ℕ → Option Organization) (reply : Answer)
+    → Appends before after (continue_if due) → (IsTrue due → IsDue came) → (IsTrue without_body → IsHead came) → Stays old new → reply ≡ unavailable_answer without_body
+    → (due : Bool) × Appends before after (continue_if due) × ((text : List ℕ) → IsReplyText reply now text → IsAnswered now came old new due text)
+unavailable_by now came before after due without_body old new reply appends is_due head stays is = (
   due,
   appends,
   (λ text is_text. inr (record {
     stays = stays;
-    due = due;
-    is_head = is_head;
-    reply = text;
+    is_due = is_due;
+    without_body = without_body;
+    is_head = head;
     is = subst (λ (a : Answer). IsReplyText a now text) is is_text;
-    made = refl;
   })),
 )
 
-pub unavailable_message : (now : ℕ) (bytes : List ℕ) (before after : Option (List ℕ)) (message : Message) (read : Result Message WireFault) (is_head : Bool) (old new : List ℕ → Option Organization) (reply : Answer)
-    → read ≡ Ok message → Stays old new → reply ≡ unavailable_answer is_head
-    → Tells bytes before after read → (due : Bool) × Appends before after (continue_if due) × IsReplied now bytes due old new reply
-unavailable_message now bytes before after message read is_head old new reply is stays made tells =
-    let t : (due : Bool) × Reads bytes (whole message due) × Appends before after (continue_if due) = subst (λ (r : Result Message WireFault). Tells bytes before after r) is tells in
-    unavailable_by now bytes before after t.0 is_head old new reply t.2 stays made
+pub unavailable_message : (now : ℕ) (came : List ℕ) (left before after : Option (List ℕ)) (message : Message) (read : Result Message WireFault) (without_body : Bool) (old new : List ℕ → Option Organization) (reply : Answer)
+    → read ≡ Ok message → without_body ≡ is_head message → Stays old new → reply ≡ unavailable_answer without_body
+    → Answers came left before after read
+    → (due : Bool) × Appends before after (continue_if due) × ((text : List ℕ) → IsReplyText reply now text → IsAnswered now came old new due text)
+unavailable_message now came left before after message read without_body old new reply is head stays made told =
+    let t : (due : Bool) × Reads came (whole message due) × Appends before after (continue_if due) = subst (λ (r : Result Message WireFault). Answers came left before after r) is told in
+    unavailable_by now came before after t.0 without_body old new reply t.2 (due_is came message t.0 t.1) (λ e. inl (message, t.0, t.1, sym head ∙ e)) stays made
+
+never : {A : Type 0} → IsTrue false → A
+never e = absurd (let none : ⊥ = cc in none)
 
 pub refused_message : (refusal : Refusal) (is_head : Bool) (fault : WireFault) (reply : Answer)
     → fault ≡ Refused refusal is_head → reply ≡ refused_answer refusal (error_text refusal) is_head
     → (now : ℕ) (rows : List ℕ → Option Organization) → RepliesTo now (Err fault) rows rows reply
-refused_message refusal is_head fault reply is made now rows bytes before after tells =
-    let t : Reads bytes (wire.refused refusal is_head) × Appends before after [] = subst (λ (f : WireFault). Tells bytes before after (Err f)) is tells in (
+refused_message refusal is_head fault reply is made now rows came left before after told =
+    let t : Reads came (refused refusal is_head) × Appends before after [] = subst (λ (f : WireFault). Answers came left before after (Err f)) is told in (
       false,
       t.1,
       (λ text is_text. inl (record {
         ask = ask.refused now false refusal is_head;
-        asks = record { reading = wire.refused refusal is_head; reads = t.0; is = refl };
+        asks = record { reading = refused refusal is_head; reads = t.0; is = refl };
         carries = λ org. refl;
-        said = (text, subst (λ (a : Answer). IsReplyText a now text) made is_text, refl);
+        answer = reply;
+        said = ap (replies false now) (sym made);
+        is = is_text;
       })),
     )
 
 pub unavailable_refusal : (refusal : Refusal) (is_head : Bool) (fault : WireFault) (reply : Answer)
     → fault ≡ Refused refusal is_head → reply ≡ unavailable_answer is_head
     → (now : ℕ) (rows : List ℕ → Option Organization) → RepliesTo now (Err fault) rows rows reply
-unavailable_refusal refusal is_head fault reply is made now rows bytes before after tells =
-    let t : Reads bytes (wire.refused refusal is_head) × Appends before after [] = subst (λ (f : WireFault). Tells bytes before after (Err f)) is tells in
-    unavailable_by now bytes before after false is_head rows rows reply t.1 (λ org. refl) made
+unavailable_refusal refusal is_head fault reply is made now rows came left before after told =
+    let t : Reads came (refused refusal is_head) × Appends before after [] = subst (λ (f : WireFault). Answers came left before after (Err f)) is told in
+    unavailable_by now came before after false is_head rows rows reply t.1 never
+    (λ e. inr (refusal, subst (λ (b : Bool). Reads came (refused refusal b)) e t.0)) (λ org. refl) made
 
 pub unavailable_reading : (fault : WireFault) (reply : Answer) → fault ≡ Down → reply ≡ unavailable_answer false
     → (now : ℕ) (rows : List ℕ → Option Organization) → RepliesTo now (Err fault) rows rows reply
-unavailable_reading fault reply is made now rows bytes before after tells =
-    let t : Appends before after [] = subst (λ (f : WireFault). Tells bytes before after (Err f)) is tells in
-    unavailable_by now bytes before after false false rows rows reply t (λ org. refl) made
+unavailable_reading fault reply is made now rows came left before after told =
+    let t : Appends before after [] = subst (λ (f : WireFault). Answers came left before after (Err f)) is told in
+    unavailable_by now came before after false false rows rows reply t never never (λ org. refl) made
 
 -- two pieces written one after the other
 appends_both : (a b c : Option (List ℕ)) (x y : List ℕ) → Appends a b x → Appends b c y → Appends a c (x ++ y)
@@ -106,37 +165,64 @@ appends_both (Some a) None c x y h k = absurd h
 appends_both (Some a) (Some b) None x y h k = absurd k
 appends_both (Some a) (Some b) (Some c) x y h k = k ∙ ap (λ (l : List ℕ). l ++ y) h ∙ append_assoc a x y
 
-stops_after : (a b c : Option (List ℕ)) (x y : List ℕ) → Appends a b x → Stops b c y → Stops a c (x ++ y)
-stops_after a b c x y h k = (x ++ k.0, k.1, k.2, ap (λ (l : List ℕ). x ++ l) k.3 ∙ sym (append_assoc x k.0 k.1), appends_both a b c x k.0 h k.4)
+-- by what came: what was read, the reply to it, and what was written of it
+abbrev Came : Option (List ℕ) → Option (List ℕ) → (List ℕ → Type 0) → Type 0
+Came old new P = (came : List ℕ) × Consumes old new came × P came
 
 -- the whole reply is written
-pub all_written : (left : Option (List ℕ)) (now : ℕ) (read : Result Message WireFault) (old new : List ℕ → Option Organization) (reply : Answer) (a b c : Option (List ℕ))
-    → IfSome left (λ bytes. Tells bytes a b read) → RepliesTo now read old new reply
+pub all_written : (unread left : Option (List ℕ)) (now : ℕ) (read : Result Message WireFault) (old new : List ℕ → Option Organization) (reply : Answer) (a b c : Option (List ℕ))
+    → Came unread left (λ came. Answers came left a b read) → RepliesTo now read old new reply
     → (text : List ℕ) × IsReplyText reply now text × Appends b c text
-    → IfSome left (λ bytes. (text : List ℕ) × IsAnswered now bytes old new text × Appends a c text)
-all_written None now read old new reply a b c tells replies h = tt
-all_written (Some bytes) now read old new reply a b c tells replies h =
-    let r = replies bytes a b tells in
-    (continue_if r.0 ++ h.0, r.2 h.0 h.1, appends_both a b c (continue_if r.0) h.0 r.1 h.2)
+    → Came unread left (λ came. (due : Bool) × (text : List ℕ) × IsAnswered now came old new due text × Appends a c (continue_if due ++ text))
+all_written unread left now read old new reply a b c told answered h =
+    let r = answered told.0 left a b told.2 in
+    (told.0, told.1, (r.0, h.0, r.2 h.0 h.1, appends_both a b c (continue_if r.0) h.0 r.1 h.2))
 
--- a front of it
-pub front_written : (left : Option (List ℕ)) (now : ℕ) (read : Result Message WireFault) (old new : List ℕ → Option Organization) (reply : Answer) (a b c : Option (List ℕ))
-    → IfSome left (λ bytes. Tells bytes a b read) → RepliesTo now read old new reply
+-- a part of it
+pub part_written : (unread left : Option (List ℕ)) (now : ℕ) (read : Result Message WireFault) (old new : List ℕ → Option Organization) (reply : Answer) (a b c : Option (List ℕ))
+    → Came unread left (λ came. Answers came left a b read) → RepliesTo now read old new reply
     → (text : List ℕ) × IsReplyText reply now text × Stops b c text
-    → IfSome left (λ bytes. (text : List ℕ) × IsAnswered now bytes old new text × Stops a c text)
-front_written None now read old new reply a b c tells replies h = tt
-front_written (Some bytes) now read old new reply a b c tells replies h =
-    let r = replies bytes a b tells in
-    (continue_if r.0 ++ h.0, r.2 h.0 h.1, stops_after a b c (continue_if r.0) h.0 r.1 h.2)
+    → Came unread left (λ came. (due : Bool) × (part : List ℕ) × (rest : List ℕ) × (0 < length rest) × IsAnswered now came old new due (part ++ rest) × Appends a c (continue_if due ++ part))
+part_written unread left now read old new reply a b c told answered h =
+    let r = answered told.0 left a b told.2 in
+    let stops = h.2 in
+    (told.0, told.1, (r.0, stops.0, stops.1, stops.2, r.2 (stops.0 ++ stops.1) (subst (IsReplyText reply now) stops.3 h.1), appends_both a b c (continue_if r.0) stops.0 r.1 stops.4))
+
+-- no reply: what came is unfinished, or the 100 line wasn't taken
+pub no_reply : (unread left : Option (List ℕ)) (now : ℕ) (read : Result Message WireFault) (old new : List ℕ → Option Organization) (a b : Option (List ℕ)) (fault : LinkFault)
+    → Came unread left (λ came. Answers came left a b read) → fault ≢ LinkWrite
+    → (fault ≡ LinkEnded → read ≡ Err Ended) → (fault ≡ LinkRead → read ≡ Err Read) → (fault ≡ LinkContinue → read ≡ Err Continue)
+    → Came unread left (λ came. Exchanges now came left old new a b {T = Unit {0}} (Err fault))
+no_reply unread left now read old new a b LinkEnded told write ended failed continued =
+    (told.0, told.1, subst (λ (r : Result Message WireFault). Answers told.0 left a b r) (ended refl) told.2)
+no_reply unread left now read old new a b LinkRead told write ended failed continued =
+    (told.0, told.1, subst (λ (r : Result Message WireFault). Answers told.0 left a b r) (failed refl) told.2)
+no_reply unread left now read old new a b LinkContinue told write ended failed continued =
+    (told.0, told.1, subst (λ (r : Result Message WireFault). Answers told.0 left a b r) (continued refl) told.2)
+no_reply unread left now read old new a b LinkWrite told write ended failed continued = absurd (write refl)
 
 -- no memory at all: nothing is read, and the refusal is written
-pub refused_whole : {T E : Type 0} (now : ℕ) (bytes : List ℕ) (rows : List ℕ → Option Organization) (reply : Answer) (a b : Option (List ℕ)) (written : Result T E) → reply ≡ unavailable_answer false
-    → (text : List ℕ) × IsReplyText reply now text × Writes a b text written → Exchanges now bytes rows rows a b (ended_of written)
-refused_whole now bytes rows reply a b (Ok done) is h =
-    (h.0, inr (record { stays = λ org. refl; due = false; is_head = false; reply = h.0; is = subst (λ (x : Answer). IsReplyText x now h.0) is h.1; made = refl }), h.2)
-refused_whole now bytes rows reply a b (Err fault) is h =
-    (h.0, inr (record { stays = λ org. refl; due = false; is_head = false; reply = h.0; is = subst (λ (x : Answer). IsReplyText x now h.0) is h.1; made = refl }), h.2)
+pub refused_whole : {T E : Type 0} (now : ℕ) (left : Option (List ℕ)) (rows : List ℕ → Option Organization) (reply : Answer) (a b : Option (List ℕ)) (written : Result T E) → reply ≡ unavailable_answer false
+    → (text : List ℕ) × IsReplyText reply now text × Writes a b text written → Exchanges now [] left rows rows a b (ended_of written)
+refused_whole now left rows reply a b (Ok done) is h =
+    (false, h.0, inr (record { stays = λ org. refl; is_due = never; without_body = false; is_head = never; is = subst (λ (x : Answer). IsReplyText x now h.0) is h.1 }), h.2)
+refused_whole now left rows reply a b (Err fault) is h =
+    let stops = h.2 in (
+      false,
+      stops.0,
+      stops.1,
+      stops.2,
+      inr (record {
+        stays = λ org. refl;
+        is_due = never;
+        without_body = false;
+        is_head = never;
+        is = subst (IsReplyText (unavailable_answer false) now) stops.3 (subst (λ (x : Answer). IsReplyText x now h.0) is h.1);
+      }),
+      stops.4,
+    )
 
-pub if_some_all : {A : Type 0} {P : A → Type 0} (o : Option A) → ((x : A) → P x) → IfSome o P
-if_some_all None h = tt
-if_some_all (Some x) h = h x
+-- nothing came
+pub consumes_nothing : (left : Option (List ℕ)) → Consumes left left []
+consumes_nothing None = tt
+consumes_nothing (Some bytes) = refl

@@ -1,8 +1,8 @@
+pub mod CheckLemmas
 pub mod RecordLemmas
 pub mod TakenLemmas
 pub mod RunLemmas
 pub mod ExchangeLemmas
-pub mod AbsentLemmas
-pub mod LeaveLemmas
+pub mod LawLemmas
 pub mod CustodyLemmas
-pub mod RepeatLemmas
+pub mod HolderLemmas

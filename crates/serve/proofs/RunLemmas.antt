@@ -9,21 +9,22 @@ use Rattle.wire.proofs.ReplyLemmas.{one_reply}
 use Rattle.wire.specs.Links.{continue_if}
 use Rattle.serve.specs.declared.steps.Step.{Step}
 use Rattle.serve.specs.declared.steps.Step.TheVariants.{Request, Command}
-use Rattle.serve.specs.Asks.{Ask, silent, refused, requests, commands, organization_of}
+use Rattle.serve.specs.Asks.{Ask, silent, refused, requests, commands, Owner, organization, nobody, operator, owner_of}
 use Rattle.serve.specs.Steps.{Said, nothing, replies, tells, step, own_said, own_record}
-use Rattle.serve.specs.Service.{IsAsked, AreAsked, AreTexts, IsText, ask_of, same_owner, is_own, with_own, own_asks, replies_at, record_for, after_ask, said_to, Takes}
-use Rattle.serve.specs.Runs.{RunsTo, IsOwnRecord, AreOwnReplies}
-use Rattle.serve.specs.Laws.{Agree}
+use Rattle.serve.specs.Service.{IsAsked, AreAsked, AreTexts, IsText, ask_of, same_owner, is_own, with_own, own_asks, replies_at, record_for, after_ask, said_to}
+use Rattle.serve.specs.Runs.{IsOwnMachine, IsOwnRecord, AreOwnReplies}
+use Rattle.serve.specs.Inner.Taking.{Takes, RunsTo}
+use Rattle.serve.specs.Laws.{TwoWorlds, own_steps, SameStepsAskTheSame}
 
 with_own-append : {A : Type 0} (b : Bool) (a : A) (xs ys : List A) → with_own b a (xs ++ ys) ≡ with_own b a xs ++ ys
 with_own-append true a xs ys = refl
 with_own-append false a xs ys = refl
 
-own_asks-push : (owner : Option (List ℕ)) (asked : List Ask) (a : Ask) → own_asks owner (asked ++ a ∷ []) ≡ own_asks owner asked ++ with_own (is_own owner a) a []
+own_asks-push : (owner : Owner) (asked : List Ask) (a : Ask) → own_asks owner (asked ++ a ∷ []) ≡ own_asks owner asked ++ with_own (is_own owner a) a []
 own_asks-push owner [] a = refl
 own_asks-push owner (b ∷ asked) a = ap (with_own (is_own owner b) b) (own_asks-push owner asked a) ∙ with_own-append (is_own owner b) b (own_asks owner asked) (with_own (is_own owner a) a [])
 
-replies_at-push : (owner : Option (List ℕ)) (asked : List Ask) (a : Ask) (ts : List (List ℕ)) (t : List ℕ) → length asked ≡ length ts
+replies_at-push : (owner : Owner) (asked : List Ask) (a : Ask) (ts : List (List ℕ)) (t : List ℕ) → length asked ≡ length ts
     → replies_at owner (asked ++ a ∷ []) (ts ++ t ∷ []) ≡ replies_at owner asked ts ++ with_own (is_own owner a) t []
 replies_at-push owner [] a [] t e = refl
 replies_at-push owner [] a (u ∷ ts) t e = absurd (omega arith)
@@ -33,11 +34,11 @@ replies_at-push owner (b ∷ asked) a (u ∷ ts) t e =
 
 own_record-append : (r : Option Organization) (xs ys : List Ask) → own_record r (xs ++ ys) ≡ own_record (own_record r xs) ys
 own_record-append r [] ys = refl
-own_record-append r (a ∷ xs) ys = own_record-append (step r a).after xs ys
+own_record-append r (a ∷ xs) ys = own_record-append (step r a).left xs ys
 
 own_said-append : (r : Option Organization) (xs ys : List Ask) → own_said r (xs ++ ys) ≡ own_said r xs ++ own_said (own_record r xs) ys
 own_said-append r [] ys = refl
-own_said-append r (a ∷ xs) ys = ap (λ (s : List Said). (step r a).said ∷ s) (own_said-append (step r a).after xs ys)
+own_said-append r (a ∷ xs) ys = ap (λ (s : List Said). (step r a).answer ∷ s) (own_said-append (step r a).left xs ys)
 
 AreTexts-append : (s s' : List Said) (ts ts' : List (List ℕ)) → AreTexts s ts → AreTexts s' ts' → AreTexts (s ++ s') (ts ++ ts')
 AreTexts-append [] s' [] ts' h h' = h'
@@ -63,39 +64,56 @@ after_more true r a = refl
 after_more false r a = refl
 
 -- equal owners
-owner_is : (owner other : Option (List ℕ)) → same_owner owner other ≡ true → owner ≡ other
-owner_is None None e = refl
-owner_is None (Some b) e = absurd (let no : ⊥ = cc in no)
-owner_is (Some a) None e = absurd (let no : ⊥ = cc in no)
-owner_is (Some a) (Some b) e = ap Some ((bytes_eq-Decides a b).0 e)
+owner_is : (owner other : Owner) → same_owner owner other ≡ true → owner ≡ other
+owner_is (organization a) (organization b) e = ap organization ((bytes_eq-Decides a b).0 e)
+owner_is (organization a) nobody e = absurd (let no : ⊥ = cc in no)
+owner_is (organization a) operator e = absurd (let no : ⊥ = cc in no)
+owner_is nobody (organization b) e = absurd (let no : ⊥ = cc in no)
+owner_is nobody nobody e = refl
+owner_is nobody operator e = absurd (let no : ⊥ = cc in no)
+owner_is operator (organization b) e = absurd (let no : ⊥ = cc in no)
+owner_is operator nobody e = absurd (let no : ⊥ = cc in no)
+owner_is operator operator e = refl
 
 -- what is said to the owner of one step more
-said_more : (b : Bool) (owner : Option (List ℕ)) (rows : List ℕ → Option Organization) (a : Ask) (text : List ℕ) → is_own owner a ≡ b
+said_more : (b : Bool) (owner : Owner) (rows : List ℕ → Option Organization) (a : Ask) (text : List ℕ) → is_own owner a ≡ b
     → IsText (said_to rows a) text → AreTexts (own_said (record_for rows owner) (with_own b a [])) (with_own b text [])
 said_more true owner rows a text e is =
-    (subst (λ (o : Option (List ℕ)). IsText (step (record_for rows o) a).said text) (sym (owner_is owner (organization_of a) e)) is, tt)
+    (subst (λ (o : Owner). IsText (step (record_for rows o) a).answer text) (sym (owner_is owner (owner_of a) e)) is, tt)
 said_more false owner rows a text e is = tt
 
 -- the record that the owner's next step reads is what its own run has left
 -- a step of nobody changes no record
-nobody_still : (b : Ask) (r : Option Organization) → same_owner None (organization_of b) ≡ true → (step r b).after ≡ r
+nobody_still : (b : Ask) (r : Option Organization) → same_owner nobody (owner_of b) ≡ true → (step r b).left ≡ r
 nobody_still silent r e = refl
 nobody_still (refused at due refusal is_head) r e = refl
 nobody_still (requests at due asked digest body) r e = absurd (let no : ⊥ = cc in no)
 nobody_still (commands at command) r e = absurd (let no : ⊥ = cc in no)
 
-one_of_nobody : (t : Bool) (b : Ask) (rest : List Ask) (r : Option Organization) → is_own None b ≡ t → own_record r rest ≡ r → own_record r (with_own t b rest) ≡ r
+one_of_nobody : (t : Bool) (b : Ask) (rest : List Ask) (r : Option Organization) → is_own nobody b ≡ t → own_record r rest ≡ r → own_record r (with_own t b rest) ≡ r
 one_of_nobody true b rest r e h = ap (λ (x : Option Organization). own_record x rest) (nobody_still b r e) ∙ h
 one_of_nobody false b rest r e h = h
 
-nobody_stays : (asked : List Ask) (r : Option Organization) → own_record r (own_asks None asked) ≡ r
+nobody_stays : (asked : List Ask) (r : Option Organization) → own_record r (own_asks nobody asked) ≡ r
 nobody_stays [] r = refl
-nobody_stays (b ∷ asked) r = one_of_nobody (is_own None b) b (own_asks None asked) r refl (nobody_stays asked r)
+nobody_stays (b ∷ asked) r = one_of_nobody (is_own nobody b) b (own_asks nobody asked) r refl (nobody_stays asked r)
 
-own_so_far : (owner : Option (List ℕ)) (asked : List Ask) (old mid : List ℕ → Option Organization) → ((org : List ℕ) → IsOwnRecord asked old mid org)
+-- no step so far is the operator's over all organizations
+not_operator : (a : Ask) → is_own operator a ≡ false
+not_operator silent = refl
+not_operator (refused at due refusal is_head) = refl
+not_operator (requests at due asked digest body) = refl
+not_operator (commands at command) = refl
+
+none_of_operator : (asked : List Ask) → own_asks operator asked ≡ []
+none_of_operator [] = refl
+none_of_operator (a ∷ asked) = ap (λ (b : Bool). with_own b a (own_asks operator asked)) (not_operator a) ∙ none_of_operator asked
+
+own_so_far : (owner : Owner) (asked : List Ask) (old mid : List ℕ → Option Organization) → ((org : List ℕ) → IsOwnRecord asked old mid org)
     → record_for mid owner ≡ own_record (record_for old owner) (own_asks owner asked)
-own_so_far (Some org) asked old mid rows = rows org
-own_so_far None asked old mid rows = sym (nobody_stays asked None)
+own_so_far (organization org) asked old mid rows = rows org
+own_so_far nobody asked old mid rows = sym (nobody_stays asked None)
+own_so_far operator asked old mid rows = sym (ap (own_record None) (none_of_operator asked))
 
 pub runs_none : (rows : List ℕ → Option Organization) → RunsTo [] rows rows []
 runs_none rows = record { asked = []; are = tt; rows = λ org. refl; texts = λ owner. tt }
@@ -110,10 +128,10 @@ runs_more steps s old mid new ts text len run taken =
       asked = asked ++ a ∷ [];
       are = AreAsked-push steps s asked a run.are taken.is;
       rows = λ org. taken.carries org
-          ∙ ap (after_ask (is_own (Some org) a) a) (run.rows org)
-          ∙ sym (after_more (is_own (Some org) a) (own_record (old org) (own_asks (Some org) asked)) a)
-          ∙ sym (own_record-append (old org) (own_asks (Some org) asked) (with_own (is_own (Some org) a) a []))
-          ∙ ap (own_record (old org)) (sym (own_asks-push (Some org) asked a));
+          ∙ ap (after_ask (is_own (organization org) a) a) (run.rows org)
+          ∙ sym (after_more (is_own (organization org) a) (own_record (old org) (own_asks (organization org) asked)) a)
+          ∙ sym (own_record-append (old org) (own_asks (organization org) asked) (with_own (is_own (organization org) a) a []))
+          ∙ ap (own_record (old org)) (sym (own_asks-push (organization org) asked a));
       texts = λ owner.
           let so_far : record_for mid owner ≡ own_record (record_for old owner) (own_asks owner asked) = own_so_far owner asked old mid run.rows in
           let more : AreTexts (own_said (own_record (record_for old owner) (own_asks owner asked)) (with_own (is_own owner a) a [])) (with_own (is_own owner a) text []) =
@@ -163,7 +181,7 @@ pub rows_by : (steps : List Step) (old new : List ℕ → Option Organization) (
 rows_by steps old new ts run asked are org = subst (λ (x : List Ask). IsOwnRecord x old new org) (all_asked_one steps run.asked asked run.are are) (run.rows org)
 
 pub texts_by : (steps : List Step) (old new : List ℕ → Option Organization) (ts : List (List ℕ)) → RunsTo steps old new ts
-    → (asked : List Ask) → AreAsked steps asked → (owner : Option (List ℕ)) → AreOwnReplies asked old ts owner
+    → (asked : List Ask) → AreAsked steps asked → (owner : Owner) → AreOwnReplies asked old ts owner
 texts_by steps old new ts run asked are owner = subst (λ (x : List Ask). AreOwnReplies x old ts owner) (all_asked_one steps run.asked asked run.are are) (run.texts owner)
 
 -- the step at hand, after those before it
@@ -179,31 +197,49 @@ step_more steps i s old mid new ts more text within is len pushed run taken =
 -- what a run gave, clause by clause
 pub replies_given : {E : Type 0} (steps : List Step) (taken : ℕ) (old new : List ℕ → Option Organization) (res : Result (Vec (List ℕ) Global) E)
     → (replies : List (List ℕ)) × RunsTo (take taken steps) old new replies × IfOk res (λ given. given.items ≡ replies) → OnOk res (taken ≡ length steps)
-    → (owner : Option (List ℕ)) → IfOk res (λ given. (asked : List Ask) → AreAsked steps asked → AreOwnReplies asked old given.items owner)
+    → (owner : Owner) → IfOk res (λ given. (asked : List Ask) → AreAsked steps asked → AreOwnReplies asked old given.items owner)
 replies_given steps taken old new (Ok given) h all owner = λ asked are.
     let whole : take taken steps ≡ steps = ap (λ (n : ℕ). take n steps) all ∙ take-length steps in
     let run : RunsTo steps old new h.0 = subst (λ (xs : List Step). RunsTo xs old new h.0) whole h.1 in
     subst (λ (ts : List (List ℕ)). AreOwnReplies asked old ts owner) (sym h.2) (texts_by steps old new h.0 run asked are owner)
 replies_given steps taken old new (Err e) h all owner = tt
 
-pub orgs_given : {E : Type 0} (steps : List Step) (taken : ℕ) (old new : List ℕ → Option Organization) (res : Result (Vec (List ℕ) Global) E)
-    → (replies : List (List ℕ)) × RunsTo (take taken steps) old new replies × IfOk res (λ given. given.items ≡ replies) → OnOk res (taken ≡ length steps)
-    → IfOk res (λ given. (asked : List Ask) → AreAsked steps asked → (org : List ℕ) → AreOwnReplies asked old given.items (Some org))
-orgs_given steps taken old new (Ok given) h all = λ asked are org. replies_given {E = ℕ} steps taken old new (Ok given) h all (Some org) asked are
-orgs_given steps taken old new (Err e) h all = tt
-
-pub replies_agree : (org : List ℕ) (first second : List ℕ → Option Organization) (asked other : List Ask) (xs ys : List (List ℕ)) → Agree org first second asked other
-    → AreOwnReplies asked first xs (Some org) → AreOwnReplies other second ys (Some org) → replies_at (Some org) asked xs ≡ replies_at (Some org) other ys
-replies_agree org first second asked other xs ys agree h k =
-    let same : own_said (first org) (own_asks (Some org) asked) ≡ own_said (second org) (own_asks (Some org) other) =
-    ap (λ (r : Option Organization). own_said r (own_asks (Some org) asked)) agree.rows ∙ ap (own_said (second org)) agree.steps in
-    one_list_of_texts (own_said (second org) (own_asks (Some org) other)) (replies_at (Some org) asked xs) (replies_at (Some org) other ys)
-    (subst (λ (s : List Said). AreTexts s (replies_at (Some org) asked xs)) same h) k
-
-pub rows_agree : (org : List ℕ) (first second first' second' : List ℕ → Option Organization) (asked other : List Ask) → Agree org first second asked other
-    → IsOwnRecord asked first first' org → IsOwnRecord other second second' org → first' org ≡ second' org
-rows_agree org first second first' second' asked other agree h k =
-    h ∙ ap (λ (r : Option Organization). own_record r (own_asks (Some org) asked)) agree.rows ∙ ap (own_record (second org)) agree.steps ∙ sym k
-
 pub whole_taken : (steps : List Step) (taken : ℕ) (asked : List Ask) → taken ≡ length steps → AreAsked steps asked → AreAsked (take taken steps) asked
 whole_taken steps taken asked all are = subst (λ (xs : List Step). AreAsked xs asked) (sym (ap (λ (n : ℕ). take n steps) all ∙ take-length steps)) are
+
+pub orgs_given : {E : Type 0} (steps : List Step) (taken : ℕ) (old new : List ℕ → Option Organization) (res : Result (Vec (List ℕ) Global) E)
+    → (replies : List (List ℕ)) × RunsTo (take taken steps) old new replies × IfOk res (λ given. given.items ≡ replies) → OnOk res (taken ≡ length steps)
+    → IfOk res (λ given. (asked : List Ask) → AreAsked steps asked → (org : List ℕ) → IsOwnMachine org asked old new given.items)
+orgs_given steps taken old new (Ok given) h all = λ asked are org. record {
+  own_replies = replies_given {E = ℕ} steps taken old new (Ok given) h all (organization org) asked are;
+  own_record = rows_by (take taken steps) old new h.0 h.1 asked (whole_taken steps taken asked all are) org;
+}
+orgs_given steps taken old new (Err e) h all = tt
+
+-- two worlds
+pub two_worlds : TwoWorlds
+two_worlds org asked other before after before' after' texts answers first second rows steps =
+    let said : own_said (before org) (own_asks (organization org) asked) ≡ own_said (before' org) (own_asks (organization org) other) =
+    ap (λ (r : Option Organization). own_said r (own_asks (organization org) asked)) rows ∙ ap (own_said (before' org)) steps in (
+      one_list_of_texts (own_said (before' org) (own_asks (organization org) other)) (replies_at (organization org) asked texts) (replies_at (organization org) other answers)
+          (subst (λ (s : List Said). AreTexts s (replies_at (organization org) asked texts)) said first.own_replies) second.own_replies,
+      first.own_record ∙ ap (λ (r : Option Organization). own_record r (own_asks (organization org) asked)) rows ∙ ap (own_record (before' org)) steps ∙ sym second.own_record,
+    )
+
+-- own steps of which each asks one thing
+own_are_asked : (org : List ℕ) (steps : List Step) (asked : List Ask) → AreAsked steps asked → AreAsked (own_steps org steps asked) (own_asks (organization org) asked)
+own_are_asked org [] [] h = tt
+own_are_asked org [] (a ∷ asked) h = absurd h
+own_are_asked org (s ∷ steps) [] h = absurd h
+own_are_asked org (s ∷ steps) (a ∷ asked) h = chosen (is_own (organization org) a) h.0 (own_are_asked org steps asked h.1)
+  where
+    chosen : (b : Bool) → IsAsked s a → AreAsked (own_steps org steps asked) (own_asks (organization org) asked)
+        → AreAsked (with_own b s (own_steps org steps asked)) (with_own b a (own_asks (organization org) asked))
+    chosen true is rest = (is, rest)
+    chosen false is rest = rest
+
+pub same_steps : SameStepsAskTheSame
+same_steps org steps others asked other are are' same =
+    all_asked_one (own_steps org steps asked) (own_asks (organization org) asked) (own_asks (organization org) other)
+    (own_are_asked org steps asked are)
+    (subst (λ (xs : List Step). AreAsked xs (own_asks (organization org) other)) (sym same) (own_are_asked org others other are'))

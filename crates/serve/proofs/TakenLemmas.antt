@@ -11,13 +11,14 @@ use Rattle.wire.specs.Messages as wire
 use Rattle.wire.specs.Links.{continue_if}
 use Rattle.wire.specs.Replies.{Answer, IsReplyText, refused_answer}
 use Rattle.serve.specs.declared.prepared.Prepared.{Prepared}
-use Rattle.serve.specs.Asks.{Ask, silent, requests, commands}
+use Rattle.serve.specs.Asks.{Ask, silent, requests, commands, organization}
 use Rattle.serve.specs.Asks as ask
-use Rattle.serve.specs.Prepared.{IsPrepared, Foresees}
+use Rattle.serve.specs.Inner.Prepared.{IsPrepared, Foresees}
 use Rattle.serve.specs.Steps.{request_step}
 use Rattle.serve.specs.Service.{asked_by, Asks, Carries, Stays, said_to, IsText, after_ask, is_own}
 use Rattle.serve.specs.Steps.{Said, tells}
-use Rattle.serve.specs.Service.{Takes, IsAsked, admin_text}
+use Rattle.serve.specs.Service.{IsAsked, admin_text}
+use Rattle.serve.specs.Inner.Taking.{Takes}
 use Rattle.serve.specs.declared.steps.Step.{Step}
 use Rattle.serve.specs.declared.steps.Step.TheVariants.{Command}
 use Rattle.serve.specs.declared.steps.Admin.{Admin}
@@ -47,7 +48,7 @@ prepared_after old new (requests at due asked digest body) p stays h =
 prepared_after old new (commands at command) p stays h = h
 
 pub carries_after : (old mid new : List ℕ → Option Organization) (a : Ask) → Stays old mid → Carries a mid new → Carries a old new
-carries_after old mid new a stays carries = λ org. carries org ∙ ap (after_ask (is_own (Some org) a) a) (stays org)
+carries_after old mid new a stays carries = λ org. carries org ∙ ap (after_ask (is_own (organization org) a) a) (stays org)
 
 -- a message is prepared, its text is made, and its change follows
 pub message_taken : (old mid new : List ℕ → Option Organization) (at : ℕ) (due : Bool) (message : Message) (p : Prepared) (front bytes : List ℕ)

@@ -16,14 +16,23 @@ pub data Ask : Type 0 where
   -- an operator's command
   commands : ℕ → Admin → Ask
 
+-- whose a step is
+pub data Owner : Type 0 where
+  -- the organization's of this name
+  organization : List ℕ → Owner
+  -- nobody's: what its bytes say is refused, or unfinished
+  nobody : Owner
+  -- the operator's, over all organizations
+  operator : Owner
+
 -- the organization that an operator's command names
 abbrev pub commanded_of : Admin → List ℕ
 commanded_of (OrgAdd org limit) = org
 commanded_of (TokenAdd org name role secret) = org
 
 -- whose step it is: of the organization that the token or the command names, or nobody's
-abbrev pub organization_of : Ask → Option (List ℕ)
-organization_of silent = None
-organization_of (refused at due refusal is_head) = None
-organization_of (requests at due asked digest body) = Some asked.caller
-organization_of (commands at command) = Some (commanded_of command)
+abbrev pub owner_of : Ask → Owner
+owner_of silent = nobody
+owner_of (refused at due refusal is_head) = nobody
+owner_of (requests at due asked digest body) = organization asked.caller
+owner_of (commands at command) = organization (commanded_of command)

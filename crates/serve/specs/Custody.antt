@@ -1,14 +1,37 @@
--- Custody, step by step: what a step of an organization's machine may do to a workspace that a lock holds.
-use Rattle.std.specs.Prelude.{◌≡◌, ◌⊎◌, ℕ, List, Option, Some, Ok}
+-- Custody, step by step: what a step of an organization's machine may do to a workspace.
+use Rattle.std.specs.Prelude.{◌≡◌, ◌⊎◌, ℕ, List, Option, Some, None, Ok, ⊤}
+use Rattle.basis.specs.declared.refusals.Refusal.TheVariants.{Locked}
 use Rattle.machine.specs.Records.{workspace_in}
-use Rattle.machine.specs.Custody.{Releases}
+use Rattle.machine.specs.Custody.{Releases, IsRepeatable}
 use Rattle.machine.specs.declared.acts.Act.{Act}
+use Rattle.machine.specs.declared.keeps.AdminAnswer.TheVariants.{Done}
 use Rattle.machine.specs.declared.records.Holder.TheVariants.{Lock}
 use Rattle.machine.specs.declared.records.Workspace.{Workspace}
 use Rattle.machine.specs.declared.records.Organization.{Organization}
+use Rattle.route.specs.declared.acts.Asked.{Asked}
+use Rattle.route.specs.declared.acts.AskedAct.{AskedAct}
+use Rattle.route.specs.declared.acts.AskedAct.TheVariants.{ListWorkspaces, OfWorkspace}
+use Rattle.route.specs.declared.acts.WsAct.{WsAct}
 use Rattle.serve.specs.Asks.{Ask, silent, requests, commands}
 use Rattle.serve.specs.Asks as ask
-use Rattle.serve.specs.Steps.{act_of, step}
+use Rattle.serve.specs.Checks.{act_of}
+use Rattle.serve.specs.Steps.{Said, nothing, replies, tells, holder_text, request_step, step}
+
+-- the workspace that is asked for has this name
+abbrev pub NamesIn : AskedAct → List ℕ → Type 0
+NamesIn (ListWorkspaces after) ws = ⊥
+NamesIn (OfWorkspace name act) ws = name ≡ ws
+
+-- the step names this workspace
+abbrev pub Names : Ask → List ℕ → Type 0
+Names silent ws = ⊥
+Names (ask.refused at due refusal is_head) ws = ⊥
+Names (requests at due asked digest body) ws = NamesIn asked.act ws
+Names (commands at command) ws = ⊥
+
+-- a step changes at most the workspace that it names
+abbrev pub StepsChangeWhatTheyName : Type 0
+StepsChangeWhatTheyName = (r : Option Organization) (what : Ask) (ws : List ℕ) → (Names what ws → ⊥) → workspace_in (step r what).left ws ≡ workspace_in r ws
 
 -- the request has this ID in its query
 abbrev pub CarriesId : Ask → List ℕ → Type 0
@@ -17,24 +40,29 @@ CarriesId (ask.refused at due refusal is_head) held = ⊥
 CarriesId (requests at due asked digest body) held = asked.lock_id ≡ Some held
 CarriesId (commands at command) held = ⊥
 
+-- the act, its documents read, that is asked of a workspace
+abbrev pub IsActOn : AskedAct → Option (List ℕ) → List ℕ → Act → Type 0
+IsActOn (ListWorkspaces after) id body act = ⊥
+IsActOn (OfWorkspace ws what) id body act = act_of what id body ≡ Ok act
+
 -- the request is an UNLOCK by this ID, or one with an empty body
 abbrev pub ReleasesLock : Ask → List ℕ → Type 0
 ReleasesLock silent held = ⊥
 ReleasesLock (ask.refused at due refusal is_head) held = ⊥
-ReleasesLock (requests at due asked digest body) held = (act : Act) × (act_of asked.act asked.lock_id body ≡ Ok act) × Releases act held
+ReleasesLock (requests at due asked digest body) held = (act : Act) × IsActOn asked.act asked.lock_id body act × Releases act held
 ReleasesLock (commands at command) held = ⊥
 
--- what a step leaves of a workspace that a lock holds: its versions, or the step carried the lock's ID; and the
--- lock, with the text that took it, or the step released it
-pub record IsInCustody (what : Ask) (held text : List ℕ) (w v : Workspace) : Type 0 where
-  pub versions : (v.versions ≡ w.versions) ⊎ CarriesId what held
-  pub holder : (v.holder ≡ Lock held text) ⊎ ReleasesLock what held
+-- what a step leaves of a workspace that a lock holds: its versions, or the step named it and carried the lock's ID; and the
+-- lock, with the text that took it, or the step named it and released it
+pub record IsInCustody (what : Ask) (ws held text : List ℕ) (w v : Workspace) : Type 0 where
+  pub versions : (v.versions ≡ w.versions) ⊎ (Names what ws × CarriesId what held)
+  pub holder : (v.holder ≡ Lock held text) ⊎ (Names what ws × ReleasesLock what held)
 
--- of every record, every step and every workspace
+-- a workspace that a lock holds is there after every step, and in custody: of every record, every step and every workspace
 abbrev pub LocksAreKept : Type 0
-LocksAreKept = (r : Option Organization) (what : Ask) (ws : List ℕ) (w v : Workspace) (held text : List ℕ)
-    → workspace_in r ws ≡ Some w → w.holder ≡ Lock held text → workspace_in (step r what).after ws ≡ Some v
-    → IsInCustody what held text w v
+LocksAreKept = (r : Option Organization) (what : Ask) (ws : List ℕ) (w : Workspace) (held text : List ℕ)
+    → workspace_in r ws ≡ Some w → w.holder ≡ Lock held text
+    → (v : Workspace) × (workspace_in (step r what).left ws ≡ Some v) × IsInCustody what ws held text w v
 
 -- the same thing asked at another moment: the same bytes, sent again
 abbrev pub asked_again : ℕ → Ask → Ask
@@ -43,6 +71,32 @@ asked_again later (ask.refused at due refusal is_head) = ask.refused later due r
 asked_again later (requests at due asked digest body) = requests later due asked digest body
 asked_again later (commands at command) = commands later command
 
+-- what may come again
+abbrev pub MayRepeat : Ask → Type 0
+MayRepeat silent = ⊤
+MayRepeat (ask.refused at due refusal is_head) = ⊤
+MayRepeat (requests at due asked digest body) = (act : Act) → IsActOn asked.act asked.lock_id body act → IsRepeatable act
+MayRepeat (commands at command) = ⊤
+
 -- what comes again, while the record is as the first left it, changes nothing more
 abbrev pub StepsAreRepeatable : Type 0
-StepsAreRepeatable = (r : Option Organization) (what : Ask) (later : ℕ) → (step (step r what).after (asked_again later what)).after ≡ (step r what).after
+StepsAreRepeatable = (r : Option Organization) (what : Ask) (later : ℕ) → MayRepeat what
+    → (step (step r what).left (asked_again later what)).left ≡ (step r what).left
+
+-- what is said doesn't refuse
+abbrev pub IsAccepted : Said → Type 0
+IsAccepted nothing = ⊥
+IsAccepted (replies due at answer) = answer.refusal ≡ None
+IsAccepted (tells answer) = answer ≡ Done
+
+-- what was accepted and comes again, while the workspace is as the first left it, whatever became of the rest, changes nothing more
+abbrev pub RepeatsLeaveTheWorkspace : Type 0
+RepeatsLeaveTheWorkspace = (r q : Option Organization) (what : Ask) (later : ℕ) (ws : List ℕ) → MayRepeat what → Names what ws → IsAccepted (step r what).answer
+    → workspace_in q ws ≡ workspace_in (step r what).left ws → workspace_in (step q (asked_again later what)).left ws ≡ workspace_in q ws
+
+-- the body of a 423 is the holder's: the text that took the lock, or that of the run
+abbrev pub LockedTellsTheHolder : Type 0
+LockedTellsTheHolder = (r : Option Organization) (now : ℕ) (asked : Asked) (digest : Option (List ℕ)) (body : List ℕ)
+    → (request_step r now asked digest body).answer.refusal ≡ Some Locked
+    → (ws : List ℕ) × (w : Workspace) × NamesIn asked.act ws × (workspace_in r ws ≡ Some w)
+    × ((request_step r now asked digest body).answer.body ≡ holder_text asked.caller ws w.holder)

@@ -1,66 +1,74 @@
 -- Laws of steps and runs.
-use Rattle.std.specs.Prelude.{◌≡◌, ℕ, false, List, Option, Some, None, ⊤}
-use Rattle.std.specs.Str.{bytes_eq}
+use Rattle.std.specs.Prelude.{◌≡◌, ◌≢◌, ℕ, Bool, false, true, List, [], ◌∷◌, Option, Some, None, Ok, ⊤}
+use Rattle.basis.specs.Checks.{and_then}
+use Rattle.basis.specs.declared.refusals.Refusal.{Refusal}
+use Rattle.basis.specs.declared.refusals.Refusal.TheVariants.{NotFound}
+use Rattle.machine.specs.Effects.{effect}
 use Rattle.machine.specs.Records.{workspace_in}
+use Rattle.machine.specs.declared.keeps.AdminAnswer.{AdminAnswer}
+use Rattle.machine.specs.declared.keeps.AdminAnswer.TheVariants.{Done}
+use Rattle.machine.specs.declared.records.Token.{Token}
+use Rattle.machine.specs.declared.records.Organization.{Organization}
 use Rattle.route.specs.declared.acts.Asked.{Asked}
 use Rattle.route.specs.declared.acts.AskedAct.{AskedAct}
-use Rattle.route.specs.declared.acts.AskedAct.TheVariants.{ListWorkspaces, ReadWorkspace, PutWorkspace, DeleteWorkspace, ReadState, UpdateState, PurgeState, Lock, Unlock, ForceUnlock, ListVersions, ReadVersion, ListRuns, MakeRun, ReadRun, ReportRun}
-use Rattle.machine.specs.declared.records.Organization.{Organization}
+use Rattle.route.specs.declared.acts.AskedAct.TheVariants.{ListWorkspaces, OfWorkspace}
+use Rattle.route.specs.declared.acts.WsAct.{WsAct}
+use Rattle.wire.specs.Replies.{Answer}
 use Rattle.serve.specs.declared.steps.Step.{Step}
-use Rattle.serve.specs.Asks.{Ask}
-use Rattle.serve.specs.Steps.{request_step}
-use Rattle.serve.specs.Service.{AreAsked, own_asks}
+use Rattle.serve.specs.Asks.{Ask, organization}
+use Rattle.serve.specs.Checks.{makes, is_in_reach, known_caller, may_do}
+use Rattle.serve.specs.Steps.{Said, replies, tells, refusing, request_step, step}
+use Rattle.serve.specs.Service.{AreAsked, with_own, is_own, own_asks, replies_at}
+use Rattle.serve.specs.Runs.{IsOwnMachine}
 
 -- a list of steps asks one list of things
 abbrev pub OneAsking : Type 0
 OneAsking = (steps : List Step) (x y : List Ask) → AreAsked steps x → AreAsked steps y → x ≡ y
 
--- two worlds that agree on the record of an organization and on its own steps
-pub record Agree (org : List ℕ) (first second : List ℕ → Option Organization) (asked others : List Ask) : Type 0 where
-  pub rows : first org ≡ second org
-  pub steps : own_asks (Some org) asked ≡ own_asks (Some org) others
+-- Two worlds: two runs, each of which is of this organization the run of its own machine. Where they begin with equal records of it
+-- and ask the same in its own steps, its replies and its records afterwards are equal, whatever else differs.
+abbrev pub TwoWorlds : Type 0
+TwoWorlds = (org : List ℕ) (asked other : List Ask) (before after before' after' : List ℕ → Option Organization) (replies answers : List (List ℕ))
+    → IsOwnMachine org asked before after replies → IsOwnMachine org other before' after' answers
+    → before org ≡ before' org → own_asks (organization org) asked ≡ own_asks (organization org) other
+    → (replies_at (organization org) asked replies ≡ replies_at (organization org) other answers) × (after org ≡ after' org)
 
--- the same act on another workspace; a list of workspaces names none
+-- the own steps of an organization, as they came: moments and bytes, or commands
+abbrev pub own_steps : List ℕ → List Step → List Ask → List Step
+own_steps org [] asked = []
+own_steps org (s ∷ steps) [] = []
+own_steps org (s ∷ steps) (a ∷ asked) = with_own (is_own (organization org) a) s (own_steps org steps asked)
+
+-- the same own steps ask the same
+abbrev pub SameStepsAskTheSame : Type 0
+SameStepsAskTheSame = (org : List ℕ) (steps others : List Step) (asked other : List Ask) → AreAsked steps asked → AreAsked others other
+    → own_steps org steps asked ≡ own_steps org others other → own_asks (organization org) asked ≡ own_asks (organization org) other
+
+-- a refusal leaves the record equal, of every step: a reply that refuses, and a command that isn't answered as done
+abbrev pub RefusalsChangeNothing : Type 0
+RefusalsChangeNothing = (r : Option Organization) (ask : Ask) → ((due : Bool) (at : ℕ) (answer : Answer) (refusal : Refusal)
+    → (step r ask).answer ≡ replies due at answer → answer.refusal ≡ Some refusal → (step r ask).left ≡ r)
+    × ((answer : AdminAnswer) → (step r ask).answer ≡ tells answer → answer ≢ Done → (step r ask).left ≡ r)
+
+-- a request whose caller and role pass, and which is out of the caller's reach, is answered not-found, whatever it asks
+abbrev pub OutOfReachIsNotFound : Type 0
+OutOfReachIsNotFound = (r : Option Organization) (now : ℕ) (asked : Asked) (digest : Option (List ℕ)) (body : List ℕ) (token : Token)
+    → is_in_reach asked ≡ false → known_caller r asked ≡ Ok token → may_do token asked ≡ Ok tt
+    → request_step r now asked digest body ≡ refusing NotFound r
+
+-- the same act on another workspace
 abbrev pub renamed : AskedAct → List ℕ → AskedAct
 renamed (ListWorkspaces after) ws = ListWorkspaces after
-renamed (ReadWorkspace old) ws = ReadWorkspace ws
-renamed (PutWorkspace old) ws = PutWorkspace ws
-renamed (DeleteWorkspace old) ws = DeleteWorkspace ws
-renamed (ReadState old) ws = ReadState ws
-renamed (UpdateState old) ws = UpdateState ws
-renamed (PurgeState old) ws = PurgeState ws
-renamed (Lock old) ws = Lock ws
-renamed (Unlock old) ws = Unlock ws
-renamed (ForceUnlock old) ws = ForceUnlock ws
-renamed (ListVersions old after) ws = ListVersions ws after
-renamed (ReadVersion old number) ws = ReadVersion ws number
-renamed (ListRuns old after) ws = ListRuns ws after
-renamed (MakeRun old) ws = MakeRun ws
-renamed (ReadRun old number) ws = ReadRun ws number
-renamed (ReportRun old number action) ws = ReportRun ws number action
+renamed (OfWorkspace old act) ws = OfWorkspace ws act
 
--- an act on a workspace that has to be there: all but the list of workspaces and PUT of one
+-- what is asked of a workspace that has to be there
 abbrev pub NeedsWorkspace : AskedAct → Type 0
 NeedsWorkspace (ListWorkspaces after) = ⊥
-NeedsWorkspace (ReadWorkspace old) = ⊤
-NeedsWorkspace (PutWorkspace old) = ⊥
-NeedsWorkspace (DeleteWorkspace old) = ⊤
-NeedsWorkspace (ReadState old) = ⊤
-NeedsWorkspace (UpdateState old) = ⊤
-NeedsWorkspace (PurgeState old) = ⊤
-NeedsWorkspace (Lock old) = ⊤
-NeedsWorkspace (Unlock old) = ⊤
-NeedsWorkspace (ForceUnlock old) = ⊤
-NeedsWorkspace (ListVersions old after) = ⊤
-NeedsWorkspace (ReadVersion old number) = ⊤
-NeedsWorkspace (ListRuns old after) = ⊤
-NeedsWorkspace (MakeRun old) = ⊤
-NeedsWorkspace (ReadRun old number) = ⊤
-NeedsWorkspace (ReportRun old number action) = ⊤
+NeedsWorkspace (OfWorkspace ws act) = makes act ≡ false
 
--- a request on another organization's path has the answer of the same request on a workspace that the caller's
--- own organization lacks, under whatever organization's path, and changes nothing either
-abbrev pub ForeignAsAbsent : Type 0
-ForeignAsAbsent = (r : Option Organization) (now : ℕ) (asked : Asked) (digest : Option (List ℕ)) (body org ws : List ℕ)
-    → bytes_eq asked.org asked.caller ≡ false → NeedsWorkspace asked.act → workspace_in r ws ≡ None
+-- a request that is out of the caller's reach has the answer of the same request on a workspace that the caller's own
+-- organization lacks, under whatever organization's path, and changes nothing either
+abbrev pub OutOfReachIsAsAbsent : Type 0
+OutOfReachIsAsAbsent = (r : Option Organization) (now : ℕ) (asked : Asked) (digest : Option (List ℕ)) (body org ws : List ℕ)
+    → is_in_reach asked ≡ false → NeedsWorkspace asked.act → workspace_in r ws ≡ None
     → request_step r now asked digest body ≡ request_step r now (record asked { org = org; act = renamed asked.act ws }) digest body

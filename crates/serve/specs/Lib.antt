@@ -1,9 +1,9 @@
 pub mod Asks
+pub mod Checks
 pub mod Steps
-pub mod Prepared
-pub mod Units
 pub mod Service
 pub mod Runs
 pub mod Exchanges
 pub mod Laws
 pub mod Custody
+pub mod Inner

@@ -13,7 +13,7 @@ use Rattle.wire.specs.Links.{continue_if}
 use Rattle.wire.specs.Replies.{IsReplyText}
 use Rattle.serve.specs.declared.steps.Step.{Step}
 use Rattle.serve.specs.declared.steps.Step.TheVariants.{Request, Command}
-use Rattle.serve.specs.Asks.{Ask, silent, refused, requests, commands, organization_of}
+use Rattle.serve.specs.Asks.{Ask, silent, refused, requests, commands, Owner, organization, nobody, operator, owner_of}
 use Rattle.serve.specs.Steps.{Said, nothing, replies, tells, step}
 
 -- the method of a message is HEAD
@@ -67,15 +67,20 @@ AreTexts [] (t ∷ ts) = ⊥
 AreTexts (s ∷ said) [] = ⊥
 AreTexts (s ∷ said) (t ∷ ts) = IsText s t × AreTexts said ts
 
--- whose a step is: an organization's, or nobody's
-abbrev pub same_owner : Option (List ℕ) → Option (List ℕ) → Bool
-same_owner None None = true
-same_owner None (Some b) = false
-same_owner (Some a) None = false
-same_owner (Some a) (Some b) = bytes_eq a b
+-- the same owner
+abbrev pub same_owner : Owner → Owner → Bool
+same_owner (organization a) (organization b) = bytes_eq a b
+same_owner (organization a) nobody = false
+same_owner (organization a) operator = false
+same_owner nobody (organization b) = false
+same_owner nobody nobody = true
+same_owner nobody operator = false
+same_owner operator (organization b) = false
+same_owner operator nobody = false
+same_owner operator operator = true
 
-abbrev pub is_own : Option (List ℕ) → Ask → Bool
-is_own owner ask = same_owner owner (organization_of ask)
+abbrev pub is_own : Owner → Ask → Bool
+is_own owner ask = same_owner owner (owner_of ask)
 
 -- one more at the front, where it is one's own
 abbrev pub with_own : {A : Type 0} → Bool → A → List A → List A
@@ -83,41 +88,35 @@ with_own true a rest = a ∷ rest
 with_own false a rest = rest
 
 -- what is asked of one organization, or of nobody, in the order of the steps
-abbrev pub own_asks : Option (List ℕ) → List Ask → List Ask
+abbrev pub own_asks : Owner → List Ask → List Ask
 own_asks owner [] = []
 own_asks owner (a ∷ asked) = with_own (is_own owner a) a (own_asks owner asked)
 
 -- the replies at the places of its own steps
-abbrev pub replies_at : Option (List ℕ) → List Ask → List (List ℕ) → List (List ℕ)
+abbrev pub replies_at : Owner → List Ask → List (List ℕ) → List (List ℕ)
 replies_at owner [] ts = []
 replies_at owner (a ∷ asked) [] = []
 replies_at owner (a ∷ asked) (t ∷ ts) = with_own (is_own owner a) t (replies_at owner asked ts)
 
--- the record that a step reads: that of its organization, and none where it is nobody's
-abbrev pub record_for : (List ℕ → Option Organization) → Option (List ℕ) → Option Organization
-record_for rows None = None
-record_for rows (Some org) = rows org
+-- the record that a step reads: that of its organization, and none where it is of no organization
+abbrev pub record_for : (List ℕ → Option Organization) → Owner → Option Organization
+record_for rows (organization org) = rows org
+record_for rows nobody = None
+record_for rows operator = None
 
 -- the record of an organization after what is asked: only its own steps change it
 abbrev pub after_ask : Bool → Ask → Option Organization → Option Organization
-after_ask true ask r = (step r ask).after
+after_ask true ask r = (step r ask).left
 after_ask false ask r = r
 
 -- what is asked is carried out: each record afterwards
 abbrev pub Carries : Ask → (List ℕ → Option Organization) → (List ℕ → Option Organization) → Type 0
-Carries ask old new = (org : List ℕ) → new org ≡ after_ask (is_own (Some org) ask) ask (old org)
+Carries ask old new = (org : List ℕ) → new org ≡ after_ask (is_own (organization org) ask) ask (old org)
 
 -- what is said to the one who asks, by the records before
 abbrev pub said_to : (List ℕ → Option Organization) → Ask → Said
-said_to rows ask = (step (record_for rows (organization_of ask)) ask).said
+said_to rows ask = (step (record_for rows (owner_of ask)) ask).answer
 
 -- no record changes
 abbrev pub Stays : (List ℕ → Option Organization) → (List ℕ → Option Organization) → Type 0
 Stays old new = (org : List ℕ) → new org ≡ old org
-
--- one step taken: what it asks is carried out, and this is the text of what is said
-pub record Takes (s : Step) (text : List ℕ) (old new : List ℕ → Option Organization) : Type 0 where
-  pub ask : Ask
-  pub is : IsAsked s ask
-  pub carries : Carries ask old new
-  pub text_is : IsText (said_to old ask) text

@@ -25,7 +25,8 @@ pub fn admin_text(answer: AdminAnswer) -> &'static [u8]
 /// Carries out an operator's command.
 pub fn command<K: Keep>(alloc: Global, keep: &mut K, command: &Admin) -> Result<AdminAnswer, Down>
     ensures so_far { K.clean keep.new → K.clean keep.old }
-    ensures ok { K.clean keep.new → IfOk result (λ answer. (at : ℕ) → Carries (commands at command.now) (K.rows keep.old) (K.rows keep.new)
+    ensures kept { K.clean keep.new → K.sound keep.old → K.sound keep.new }
+    ensures ok { K.clean keep.new → K.sound keep.old → IfOk result (λ answer. (at : ℕ) → Carries (commands at command.now) (K.rows keep.old) (K.rows keep.new)
         × (said_to (K.rows keep.old) (commands at command.now) ≡ tells answer)) }
     ensures err { K.clean keep.new → OnErr result (Stays (K.rows keep.old) (K.rows keep.new)) }
 {

@@ -2,11 +2,12 @@
 ghost use Rattle.std.specs.Prelude.{◌≡◌, ◌++◌, ◌↔◌, ℕ, List, Bool, Option, Err, ◌≢◌, ◌⊎◌, true, false, IfOk, IfErr, OnErr, IfSome, IsErrOf};
 ghost use Rattle.machine.specs.declared.records.Organization.{Organization};
 ghost use Rattle.route.specs.Asks.{asked_of};
-ghost use Rattle.wire.specs.Replies.{IsReplyText};
-ghost use Rattle.wire.specs.Links.{continue_if};
 ghost use Rattle.wire.specs.declared.messages.WireFault.TheVariants.{Ended, Read, Continue};
-ghost use Rattle.serve.specs.Service.{asked_by, Carries, Stays, said_to, IsText};
-ghost use Rattle.serve.specs.Exchanges.{Exchanges, RepliesTo};
+ghost use Rattle.serve.specs.Steps.{replies};
+ghost use Rattle.serve.specs.Service.{asked_by, Carries, Stays, said_to};
+ghost use Rattle.std.specs.Io.KnownBytes.{Consumes};
+ghost use Rattle.serve.specs.Exchanges.{Exchanges, ChangesAtMostOne};
+ghost use Rattle.serve.specs.Inner.Replying.{RepliesTo};
 
 use crate::messages::{carry, is_head, prepare, refused_reply};
 use basis::{Down, Moment};
@@ -37,10 +38,10 @@ fn answer<K: Keep>(
     message: Message,
 ) -> Result<Reply, Down>
     ensures so_far { K.clean keep.new → K.clean keep.old }
-    ensures ok { K.clean keep.new → IfOk result (λ reply. (due : Bool)
+    ensures kept { K.clean keep.new → K.sound keep.old → K.sound keep.new }
+    ensures ok { K.clean keep.new → K.sound keep.old → IfOk result (λ reply. (due : Bool)
         → Carries (asked_by now due message (asked_of message)) (K.rows keep.old) (K.rows keep.new)
-        × ((text : List ℕ) → IsReplyText reply now text
-        → IsText (said_to (K.rows keep.old) (asked_by now due message (asked_of message))) (continue_if due ++ text))) }
+        × (said_to (K.rows keep.old) (asked_by now due message (asked_of message)) ≡ replies due now reply)) }
     ensures err { K.clean keep.new → OnErr result (Stays (K.rows keep.old) (K.rows keep.new)) }
 {
     let prepared = prepare(alloc, keep, routes, now, message)?;
@@ -77,8 +78,10 @@ fn reply_to<K: Keep>(
     read: Result<Message, WireFault>,
 ) -> Result<Reply, LinkFault>
     ensures so_far { K.clean keep.new → K.clean keep.old }
-    ensures ok { K.clean keep.new → IfOk result (RepliesTo now read (K.rows keep.old) (K.rows keep.new)) }
+    ensures kept { K.clean keep.new → K.sound keep.old → K.sound keep.new }
+    ensures ok { K.clean keep.new → K.sound keep.old → IfOk result (RepliesTo now read (K.rows keep.old) (K.rows keep.new)) }
     ensures err { K.clean keep.new → OnErr result (Stays (K.rows keep.old) (K.rows keep.new)) }
+    ensures others { K.clean keep.new → K.sound keep.old → ChangesAtMostOne (K.rows keep.old) (K.rows keep.new) }
     ensures ended { IsErrOf result LinkFault.Ended ↔ (read ≡ Err Ended) }
     ensures read { IsErrOf result LinkFault.Read ↔ (read ≡ Err Read) }
     ensures continues { IsErrOf result LinkFault.Continue ↔ (read ≡ Err Continue) }
@@ -108,8 +111,12 @@ pub fn exchange<K: Keep, I: Inlet, O: Outlet>(
     requires reads { I.broken inlet.old ≡ false }
     requires writes { O.broken outlet.old ≡ false }
     ensures so_far { K.clean keep.new → K.clean keep.old }
-    ensures told { K.clean keep.new → IfSome (I.left inlet.old) (λ bytes.
-        Exchanges now bytes (K.rows keep.old) (K.rows keep.new) (O.written outlet.old) (O.written outlet.new) result) }
+    ensures kept { K.clean keep.new → K.sound keep.old → K.sound keep.new }
+    ensures told { K.clean keep.new → K.sound keep.old → (came : List ℕ) × Consumes (I.left inlet.old) (I.left inlet.new) came
+        × Exchanges now came (I.left inlet.new) (K.rows keep.old) (K.rows keep.new) (O.written outlet.old) (O.written outlet.new) result }
+    ensures stays { K.clean keep.new → (IsErrOf result LinkFault.Ended ⊎ (IsErrOf result LinkFault.Read ⊎ IsErrOf result LinkFault.Continue))
+        → Stays (K.rows keep.old) (K.rows keep.new) }
+    ensures others { K.clean keep.new → K.sound keep.old → ChangesAtMostOne (K.rows keep.old) (K.rows keep.new) }
     ensures read { (I.broken inlet.new ≡ true) ↔ IsErrOf result LinkFault.Read }
     ensures written { (O.broken outlet.new ≡ true) ↔ (IsErrOf result LinkFault.Continue ⊎ IsErrOf result LinkFault.Write) }
 {

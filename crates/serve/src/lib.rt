@@ -1,16 +1,21 @@
 //! One exchange, operator's commands and replay, over any keep.
 #![tactic(auto)]
 
+mod checks;
 mod commands;
 mod exchanges;
+mod laws;
 mod messages;
 mod prepared;
 mod requests;
 mod service;
 pub mod steps;
-mod worlds;
 
 pub use exchanges::LinkFault;
+pub use laws::{
+    locked_tells_the_holder, locks_are_kept, one_asking, out_of_reach_is_as_absent,
+    out_of_reach_is_not_found, refusals_change_nothing, repeats_leave_the_workspace,
+    same_steps_ask_the_same, steps_are_repeatable, steps_change_what_they_name, two_worlds,
+};
 pub use service::Service;
 pub use steps::{Admin, Step};
-pub use worlds::{foreign_as_absent, locks_are_kept, one_asking, steps_are_repeatable, two_worlds};

@@ -6,7 +6,8 @@ ghost use Rattle.wire.specs.Replies.{IsReplyText, refused_answer};
 ghost use Rattle.wire.specs.Links.{continue_if};
 ghost use Rattle.route.specs.Asks.{asked_of};
 ghost use Rattle.serve.specs.Asks.{Ask};
-ghost use Rattle.serve.specs.Prepared.{IsPrepared, IsCome};
+ghost use Rattle.machine.specs.Keeping.{Looks};
+ghost use Rattle.serve.specs.Inner.Prepared.{IsPrepared, IsCome};
 ghost use Rattle.serve.specs.Service.{is_head, asked_by, Asks, Carries, Stays, said_to, IsText};
 
 use crate::prepared::{Came, Prepared};
@@ -39,10 +40,9 @@ pub fn prepare<K: Keep>(
     at: Moment,
     message: Message,
 ) -> Result<Prepared, Down>
-    ensures so_far { K.clean keep.new → K.clean keep.old }
-    ensures ok { K.clean keep.new → IfOk result (λ p. (due : Bool)
+    ensures looks { Looks K.rows K.clean K.sound keep.old keep.new }
+    ensures ok { K.clean keep.new → K.sound keep.old → IfOk result (λ p. (due : Bool)
         → IsPrepared (K.rows keep.old) (asked_by at due message (asked_of message)) p) }
-    ensures same { K.clean keep.new → Stays (K.rows keep.old) (K.rows keep.new) }
 {
     let found = asked(alloc, routes, &message);
     let is_head = is_head(&message);
@@ -61,7 +61,8 @@ pub fn prepare<K: Keep>(
 /// Makes the change that was prepared.
 pub fn carry<K: Keep>(alloc: Global, keep: &mut K, prepared: &Prepared) -> Result<(), Down>
     ensures so_far { K.clean keep.new → K.clean keep.old }
-    ensures ok { K.clean keep.new → OnOk result ((ask : Ask) → IsPrepared (K.rows keep.old) ask prepared.now
+    ensures kept { K.clean keep.new → K.sound keep.old → (ask : Ask) → IsPrepared (K.rows keep.old) ask prepared.now → K.sound keep.new }
+    ensures ok { K.clean keep.new → K.sound keep.old → OnOk result ((ask : Ask) → IsPrepared (K.rows keep.old) ask prepared.now
         → Carries ask (K.rows keep.old) (K.rows keep.new)) }
     ensures err { K.clean keep.new → OnErr result (Stays (K.rows keep.old) (K.rows keep.new)) }
 {
@@ -109,7 +110,8 @@ fn take_message<K: Keep>(
     front: Vec<u8>,
 ) -> Result<Bytes, Down>
     ensures so_far { K.clean keep.new → K.clean keep.old }
-    ensures ok { K.clean keep.new → IfOk result (λ text. (due : Bool) → front.items ≡ continue_if due
+    ensures kept { K.clean keep.new → K.sound keep.old → K.sound keep.new }
+    ensures ok { K.clean keep.new → K.sound keep.old → IfOk result (λ text. (due : Bool) → front.items ≡ continue_if due
         → Carries (asked_by at due message (asked_of message)) (K.rows keep.old) (K.rows keep.new)
         × IsText (said_to (K.rows keep.old) (asked_by at due message (asked_of message))) text) }
     ensures err { K.clean keep.new → OnErr result (Stays (K.rows keep.old) (K.rows keep.new)) }
@@ -129,7 +131,8 @@ pub fn take_request<K: Keep>(
     bytes: &[u8],
 ) -> Result<Bytes, Down>
     ensures so_far { K.clean keep.new → K.clean keep.old }
-    ensures ok { K.clean keep.new → IfOk result (λ text. (ask : Ask) × Asks at bytes.now ask
+    ensures kept { K.clean keep.new → K.sound keep.old → K.sound keep.new }
+    ensures ok { K.clean keep.new → K.sound keep.old → IfOk result (λ text. (ask : Ask) × Asks at bytes.now ask
         × Carries ask (K.rows keep.old) (K.rows keep.new) × IsText (said_to (K.rows keep.old) ask) text) }
     ensures err { K.clean keep.new → OnErr result (Stays (K.rows keep.old) (K.rows keep.new)) }
 {

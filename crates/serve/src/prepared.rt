@@ -1,8 +1,23 @@
-//! An answer that is made in full before anything changes.
+//! What is asked of a workspace, and an answer that is made in full before anything changes.
 
 use basis::{OrgName, Refusal, WsName};
-use machine::Change;
+use machine::{Act, Change};
+use route::WsAct;
 use wire::{Message, Reply};
+
+/// An act on a workspace by its name.
+#[derive(Drop)]
+pub struct Place {
+    pub ws: WsName,
+    pub act: WsAct,
+}
+
+/// An act on a workspace by its name, its documents read.
+#[derive(Drop)]
+pub struct Order {
+    pub ws: WsName,
+    pub act: Act,
+}
 
 /// A change that is to follow, once the answer is made.
 #[derive(Drop)]

@@ -1,35 +1,86 @@
 //! A request of an organization: the checks in their order, and the answer of the rules.
-ghost use Rattle.std.specs.Prelude.{◌≡◌, ℕ, List, [], Option, Some, None, Ok, Err, IsSome, is_some, IfOk, IfErr, option_map, ◌||◌};
-ghost use Rattle.basis.specs.declared.refusals.Refusal.TheVariants.{Locked, BadToken, NotFound, BadDigest, BadBody, BadLock, BadState};
-ghost use Rattle.std.specs.Str.{bytes_eq};
-ghost use Rattle.route.specs.Policy.{is_allowed};
+ghost use Rattle.std.specs.Prelude.{◌≡◌, ◌≢◌, ℕ, List, [], Option, Some, None, Ok, IsSome, IfOk, OnOk, option_map};
+ghost use Rattle.basis.specs.Checks.{Follows};
 ghost use Rattle.docs.specs.Bodies.{error_text, ws_text};
-ghost use Rattle.machine.specs.Records.{workspace_in};
-ghost use Rattle.machine.specs.Units.{unit_of, meaning, answered, holder_of};
+ghost use Rattle.machine.specs.Keeping.{Looks};
+ghost use Rattle.machine.specs.Laws.{IsLawfulOrganization};
+ghost use Rattle.machine.specs.Ranges.{IsInRange};
+ghost use Rattle.machine.specs.Records.{workspace_in, seen_in};
+ghost use Rattle.machine.specs.Rules.{refused_by, rules};
+ghost use Rattle.machine.specs.Inner.Decisions.{meaning, answered, holder_of, ChangeIsDue};
 ghost use Rattle.machine.specs.declared.acts.Answer.TheVariants.{Workspace as ShownWorkspace};
 ghost use Rattle.machine.specs.declared.acts.Decision.TheVariants.{Accepted};
-ghost use Rattle.machine.specs.Rules.{refused_by};
-ghost use Rattle.machine.specs.Meaning.{ChangeIsDue};
-ghost use Rattle.machine.specs.Rules.{rules};
-ghost use Rattle.machine.specs.declared.records.Workspace.{Workspace};
-ghost use Rattle.machine.specs.declared.acts.Act.{Act as AnyAct};
-ghost use Rattle.machine.specs.declared.acts.Act.TheVariants.{PutWorkspace, UpdateState, Lock, Unlock};
-ghost use Rattle.docs.specs.Documents.{settings_of, state_head, lock_id_of};
 ghost use Rattle.machine.specs.declared.records.Organization.{Organization};
-ghost use Rattle.serve.specs.Steps.{refusing, holder_text, answer_to, ruled_in, act_of, or_refused, place_of, by_document, by_digest, by_names, in_place, by_organization, by_role, by_caller, request_step, fits};
-ghost use Rattle.serve.specs.Prepared.{Foresees};
-ghost use Rattle.serve.specs.Units.{holder_in};
+ghost use Rattle.serve.specs.Checks.{checked};
+ghost use Rattle.serve.specs.Steps.{refusing, holder_text, answer_to, ruled_in, carried, request_step};
+ghost use Rattle.serve.specs.Inner.Prepared.{Foresees};
+ghost use Rattle.serve.specs.Inner.Units.{holder_in};
 
-use crate::prepared::{Pending, Prepared};
-use basis::{Bytes, Down, LockId, Moment, OrgName, Refusal, Role, WsName, WsRow};
-use docs::{
-    DocFault, digest_fits, read_lock, read_settings, read_state, write_error, write_run_holder,
-    write_ws,
-};
-use machine::{Act, Answer, Change, Decision, Holder, Keep, Shown, Unit, decide};
-use route::{Asked, AskedAct, allowed, secret_digest};
+use crate::checks::{act_of, digest_checked, found, in_reach, known_caller};
+use crate::prepared::{Order, Pending, Prepared};
+use basis::numbers::MAX_MOMENT;
+use basis::{Bytes, Down, Moment, OrgName, Refusal, WsName, WsRow};
+use docs::{write_error, write_run_holder, write_ws};
+use machine::{Answer, Change, Decision, Holder, Keep, Shown, Unit, decide};
+use route::{Asked, allowed};
 use std::alloc::Global;
 use wire::Reply;
+
+/// What a request is answered at a moment, and the change that is to follow.
+pub fn request<K: Keep>(
+    alloc: Global,
+    keep: &mut K,
+    at: Moment,
+    asked: &Asked,
+    digest: &Option<Bytes>,
+    body: Bytes,
+) -> Result<Prepared, Down>
+    ensures looks { Looks K.rows K.clean K.sound keep.old keep.new }
+    ensures ok { K.clean keep.new → K.sound keep.old → IfOk result (Foresees (K.rows keep.old asked.now.caller) asked.now.caller
+        (request_step (K.rows keep.old asked.now.caller) at asked.now digest.now body)) }
+{
+    match checked(alloc, keep, asked, digest, body) {
+        Ok(order) => rule(alloc, keep, at, &asked.caller, &order),
+        Err(refusal) => refuse_unless_down(alloc, refusal),
+    }
+}
+
+/// What is asked of a workspace, once the checks have passed in their order, or the refusal of the
+/// first that fails; `Unavailable` is want of memory.
+fn checked<K: Keep>(
+    alloc: Global,
+    keep: &mut K,
+    asked: &Asked,
+    digest: &Option<Bytes>,
+    body: Bytes,
+) -> Result<Order, Refusal>
+    ensures looks { Looks K.rows K.clean K.sound keep.old keep.new }
+    ensures ok { K.clean keep.new → K.sound keep.old → Follows result (checked (K.rows keep.old asked.now.caller) asked.now digest.now body) }
+    ensures range { IfOk result (λ order. IsInRange order.act) }
+    ensures there { K.clean keep.new → K.sound keep.old → OnOk result (IsSome (K.rows keep.old asked.now.caller)) }
+{
+    let role = match known_caller(alloc, keep, asked) {
+        Ok(role) => role,
+        Err(refusal) => return Err(refusal),
+    };
+    if let Err(refusal) = allowed(asked, role) {
+        return Err(refusal);
+    }
+    if let Err(refusal) = in_reach(asked) {
+        return Err(refusal);
+    }
+    let place = match found(alloc, keep, &asked.caller, &asked.act) {
+        Ok(place) => place,
+        Err(refusal) => return Err(refusal),
+    };
+    if let Err(refusal) = digest_checked(digest, &body) {
+        return Err(refusal);
+    }
+    match act_of(alloc, place.act, &asked.lock_id, body) {
+        Ok(act) => Ok(Order { ws: place.ws, act }),
+        Err(refusal) => Err(refusal),
+    }
+}
 
 /// A refusal: its word, and nothing changes.
 fn refuse(alloc: Global, refusal: Refusal) -> Result<Prepared, Down>
@@ -42,12 +93,23 @@ fn refuse(alloc: Global, refusal: Refusal) -> Result<Prepared, Down>
     })
 }
 
+/// A refusal, but for want of memory.
+fn refuse_unless_down(alloc: Global, refusal: Refusal) -> Result<Prepared, Down>
+    ensures known { OnOk result (refusal ≢ Refusal.Unavailable) }
+    ensures ok { IfOk result (λ p. (r : Option Organization) (org : List ℕ) → Foresees r org (refusing refusal r) p) }
+{
+    match refusal {
+        Refusal::Unavailable => Err(Down),
+        _ => refuse(alloc, refusal),
+    }
+}
+
 /// The body that tells who holds.
 fn holder_body(alloc: Global, org: &OrgName, ws: &WsName, unit: &Unit) -> Result<Bytes, Down>
     ensures { IfOk result (λ body. body ≡ holder_text org.now ws.now (holder_in unit.now)) }
 {
     match unit {
-        Unit::Absent => Ok(Bytes::new(Vec::new(alloc))),
+        Unit::Absent { .. } => Ok(Bytes::new(Vec::new(alloc))),
         Unit::Present(unit) => match &unit.holder {
             Holder::Nobody => Ok(Bytes::new(Vec::new(alloc))),
             Holder::Lock { text, .. } => Ok(text.clone()?),
@@ -74,7 +136,7 @@ fn refused_reply(
 }
 
 fn workspace_reply(alloc: Global, ws: &WsName, shown: Shown) -> Result<Reply, Down>
-    ensures { IfOk result (λ reply. reply ≡ answer_to [] ws.now (answered ws.now (ShownWorkspace shown) None)) }
+    ensures { IfOk result (λ reply. reply ≡ answer_to [] ws.now (answered (ShownWorkspace shown) None)) }
 {
     let row = WsRow {
         auto_apply: shown.auto_apply,
@@ -93,10 +155,9 @@ fn accepted_reply<K: Keep>(
     ws: &WsName,
     answer: Answer,
 ) -> Result<Reply, Down>
-    ensures so_far { K.clean keep.new → K.clean keep.old }
-    ensures ok { K.clean keep.new → IfOk result (λ reply. reply
-        ≡ answer_to org.now ws.now (answered ws.now answer (workspace_in (K.rows keep.old org.now) ws.now))) }
-    ensures same { K.clean keep.new → (o : List ℕ) → K.rows keep.new o ≡ K.rows keep.old o }
+    ensures looks { Looks K.rows K.clean K.sound keep.old keep.new }
+    ensures ok { K.clean keep.new → K.sound keep.old → IfOk result (λ reply. reply
+        ≡ answer_to org.now ws.now (answered answer (workspace_in (K.rows keep.old org.now) ws.now))) }
 {
     match answer {
         Answer::Done => Ok(Reply::empty()),
@@ -131,13 +192,12 @@ fn accept<K: Keep>(
     answer: Answer,
     change: Option<Change>,
 ) -> Result<Prepared, Down>
-    ensures so_far { K.clean keep.new → K.clean keep.old }
-    ensures ok { K.clean keep.new → IfOk result (λ p. IsSome (K.rows keep.old org.now)
-        → ChangeIsDue (workspace_in (K.rows keep.old org.now) ws.now) (Accepted answer change)
+    ensures looks { Looks K.rows K.clean K.sound keep.old keep.new }
+    ensures ok { K.clean keep.new → K.sound keep.old → IfOk result (λ p. IsSome (K.rows keep.old org.now)
+        → ((o : Organization) → K.rows keep.old org.now ≡ Some o → ChangeIsDue (seen_in o ws.now) (Accepted answer change))
         → Foresees (K.rows keep.old org.now) org.now
         (ruled_in org.now ws.now (K.rows keep.old org.now)
-        (meaning ws.now (Accepted answer change) (workspace_in (K.rows keep.old org.now) ws.now))) p) }
-    ensures same { K.clean keep.new → (o : List ℕ) → K.rows keep.new o ≡ K.rows keep.old o }
+        (meaning (Accepted answer change) (workspace_in (K.rows keep.old org.now) ws.now))) p) }
 {
     let reply = accepted_reply(alloc, keep, org, ws, answer)?;
     let pending = pending(org, ws, change)?;
@@ -153,14 +213,13 @@ fn carry_out<K: Keep>(
     unit: &Unit,
     decision: Decision,
 ) -> Result<Prepared, Down>
-    ensures so_far { K.clean keep.new → K.clean keep.old }
-    ensures ok { K.clean keep.new → IfOk result (λ p. IsSome (K.rows keep.old org.now)
+    ensures looks { Looks K.rows K.clean K.sound keep.old keep.new }
+    ensures ok { K.clean keep.new → K.sound keep.old → IfOk result (λ p. IsSome (K.rows keep.old org.now)
         → holder_in unit.now ≡ holder_of (workspace_in (K.rows keep.old org.now) ws.now)
-        → ChangeIsDue (workspace_in (K.rows keep.old org.now) ws.now) decision
+        → ((o : Organization) → K.rows keep.old org.now ≡ Some o → ChangeIsDue (seen_in o ws.now) decision)
         → Foresees (K.rows keep.old org.now) org.now
         (ruled_in org.now ws.now (K.rows keep.old org.now)
-        (meaning ws.now decision (workspace_in (K.rows keep.old org.now) ws.now))) p) }
-    ensures same { K.clean keep.new → (o : List ℕ) → K.rows keep.new o ≡ K.rows keep.old o }
+        (meaning decision (workspace_in (K.rows keep.old org.now) ws.now))) p) }
 {
     match decision {
         Decision::Refused(refusal) => {
@@ -180,303 +239,15 @@ fn rule<K: Keep>(
     keep: &mut K,
     at: Moment,
     org: &OrgName,
-    ws: &WsName,
-    act: &Act,
+    order: &Order,
 ) -> Result<Prepared, Down>
-    ensures so_far { K.clean keep.new → K.clean keep.old }
-    ensures ok { K.clean keep.new → IfOk result (λ p. IsSome (K.rows keep.old org.now)
-        → Foresees (K.rows keep.old org.now) org.now
-        (ruled_in org.now ws.now (K.rows keep.old org.now)
-        (rules ws.now act.now at (workspace_in (K.rows keep.old org.now) ws.now))) p) }
-    ensures same { K.clean keep.new → (o : List ℕ) → K.rows keep.new o ≡ K.rows keep.old o }
+    ensures looks { Looks K.rows K.clean K.sound keep.old keep.new }
+    ensures ok { K.clean keep.new → K.sound keep.old → IfOk result (λ p. IsSome (K.rows keep.old org.now) → IsInRange order.now.act
+        → Foresees (K.rows keep.old org.now) org.now (carried org.now at (K.rows keep.old org.now) (Ok order.now)) p) }
 {
-    let unit = keep.unit(alloc, org, ws, act)?;
-    let decision = decide(&unit, act, at)?;
-    carry_out(alloc, keep, org, ws, &unit, decision)
-}
-
-/// Whether a workspace is there.
-fn is_there<K: Keep>(alloc: Global, keep: &mut K, org: &OrgName, ws: &WsName) -> Result<bool, Down>
-    ensures so_far { K.clean keep.new → K.clean keep.old }
-    ensures ok { K.clean keep.new → IfOk result (λ there. IsSome (K.rows keep.old org.now)
-        → there ≡ is_some (workspace_in (K.rows keep.old org.now) ws.now)) }
-    ensures same { K.clean keep.new → (o : List ℕ) → K.rows keep.new o ≡ K.rows keep.old o }
-{
-    let unit = keep.unit(alloc, org, ws, &Act::ReadState)?;
-    Ok(is_present(&unit))
-}
-
-fn is_present(unit: &Unit) -> bool
-    ensures { (w : Option Workspace) (act : AnyAct) → unit.now ≡ unit_of w act → result ≡ is_some w }
-{
-    match unit {
-        Unit::Absent => false,
-        Unit::Present(_) => true,
-    }
-}
-
-fn read_put(alloc: Global, body: &Bytes) -> Result<Result<Act, Refusal>, Down>
-    ensures { IfOk result (λ read. read ≡ or_refused BadBody PutWorkspace (settings_of body.now)) }
-{
-    match read_settings(alloc, body.as_slice()) {
-        Ok(settings) => Ok(Ok(Act::PutWorkspace(settings))),
-        Err(DocFault::Bad) => Ok(Err(Refusal::BadBody)),
-        Err(DocFault::Down) => Err(Down),
-    }
-}
-
-fn read_update(
-    alloc: Global,
-    lock_id: &Option<LockId>,
-    body: Bytes,
-) -> Result<Result<Act, Refusal>, Down>
-    ensures { IfOk result (λ read. read ≡ or_refused BadState (λ head. UpdateState head body lock_id.now) (state_head body)) }
-{
-    match read_state(alloc, body.as_slice()) {
-        Ok(head) => {
-            let lock_id = lock_id.clone()?;
-            Ok(Ok(Act::UpdateState {
-                head,
-                text: body,
-                lock_id,
-            }))
-        }
-        Err(DocFault::Bad) => Ok(Err(Refusal::BadState)),
-        Err(DocFault::Down) => Err(Down),
-    }
-}
-
-fn read_locking(alloc: Global, body: Bytes) -> Result<Result<Act, Refusal>, Down>
-    ensures { IfOk result (λ read. read ≡ or_refused BadLock (λ held. Lock held body) (lock_id_of body)) }
-{
-    match read_lock(alloc, body.as_slice()) {
-        Ok(id) => Ok(Ok(Act::Lock { id, text: body })),
-        Err(DocFault::Bad) => Ok(Err(Refusal::BadLock)),
-        Err(DocFault::Down) => Err(Down),
-    }
-}
-
-fn read_unlocking(alloc: Global, body: &Bytes) -> Result<Result<Act, Refusal>, Down>
-    ensures { IfOk result (λ read. read ≡ or_refused BadLock Unlock (lock_id_of body.now)) }
-{
-    match read_lock(alloc, body.as_slice()) {
-        Ok(id) => Ok(Ok(Act::Unlock(id))),
-        Err(DocFault::Bad) => Ok(Err(Refusal::BadLock)),
-        Err(DocFault::Down) => Err(Down),
-    }
-}
-
-/// The act that the body's document spells, or why it spells none.
-fn read_act(
-    alloc: Global,
-    asked: &AskedAct,
-    lock_id: &Option<LockId>,
-    body: Bytes,
-) -> Result<Result<Act, Refusal>, Down>
-    ensures { IfOk result (λ read. read ≡ act_of asked.now lock_id.now body) }
-{
-    match asked {
-        AskedAct::PutWorkspace(_) => read_put(alloc, &body),
-        AskedAct::UpdateState(_) => read_update(alloc, lock_id, body),
-        AskedAct::PurgeState(_) => {
-            let lock_id = lock_id.clone()?;
-            Ok(Ok(Act::PurgeState { lock_id }))
-        }
-        AskedAct::Lock(_) => read_locking(alloc, body),
-        AskedAct::Unlock(_) => read_unlocking(alloc, &body),
-        AskedAct::ForceUnlock(_) => Ok(Ok(Act::ForceUnlock)),
-        _ => Ok(Ok(Act::ReadState)),
-    }
-}
-
-fn fits(digest: &Option<Bytes>, body: &Bytes) -> bool
-    ensures { result ≡ fits digest.now body.now }
-{
-    match digest {
-        None => true,
-        Some(field) => digest_fits(field.as_slice(), body.as_slice()),
-    }
-}
-
-/// The document, then the rules.
-fn with_document<K: Keep>(
-    alloc: Global,
-    keep: &mut K,
-    at: Moment,
-    org: &OrgName,
-    ws: &WsName,
-    read: Result<Act, Refusal>,
-) -> Result<Prepared, Down>
-    ensures so_far { K.clean keep.new → K.clean keep.old }
-    ensures ok { K.clean keep.new → IfOk result (λ p. IsSome (K.rows keep.old org.now)
-        → Foresees (K.rows keep.old org.now) org.now (by_document org.now ws.now at (K.rows keep.old org.now) read) p) }
-    ensures same { K.clean keep.new → (o : List ℕ) → K.rows keep.new o ≡ K.rows keep.old o }
-{
-    match read {
-        Ok(act) => rule(alloc, keep, at, org, ws, &act),
-        Err(refusal) => refuse(alloc, refusal),
-    }
-}
-
-/// The digest, then the document.
-fn with_digest<K: Keep>(
-    alloc: Global,
-    keep: &mut K,
-    at: Moment,
-    asked: &Asked,
-    ws: &WsName,
-    digest: &Option<Bytes>,
-    body: Bytes,
-) -> Result<Prepared, Down>
-    ensures so_far { K.clean keep.new → K.clean keep.old }
-    ensures ok { K.clean keep.new → IfOk result (λ p. IsSome (K.rows keep.old asked.now.caller)
-        → Foresees (K.rows keep.old asked.now.caller) asked.now.caller
-        (by_digest (fits digest.now body) asked.now.caller ws.now at (K.rows keep.old asked.now.caller)
-        (act_of asked.now.act asked.now.lock_id body)) p) }
-    ensures same { K.clean keep.new → (o : List ℕ) → K.rows keep.new o ≡ K.rows keep.old o }
-{
-    if fits(digest, &body) {
-        let read = read_act(alloc, &asked.act, &asked.lock_id, body)?;
-        with_document(alloc, keep, at, &asked.caller, ws, read)
-    } else {
-        refuse(alloc, Refusal::BadDigest)
-    }
-}
-
-/// Whether the workspace is there or is to be made, then the digest.
-fn with_names<K: Keep>(
-    alloc: Global,
-    keep: &mut K,
-    at: Moment,
-    asked: &Asked,
-    place: &Place<'_>,
-    digest: &Option<Bytes>,
-    body: Bytes,
-) -> Result<Prepared, Down>
-    ensures so_far { K.clean keep.new → K.clean keep.old }
-    ensures ok { K.clean keep.new → IfOk result (λ p. IsSome (K.rows keep.old asked.now.caller)
-        → Foresees (K.rows keep.old asked.now.caller) asked.now.caller
-        (by_names (place.entry.now.makes || is_some (workspace_in (K.rows keep.old asked.now.caller) place.entry.now.ws.now)) (fits digest.now body)
-        asked.now.caller place.entry.now.ws.now at (K.rows keep.old asked.now.caller)
-        (act_of asked.now.act asked.now.lock_id body)) p) }
-    ensures same { K.clean keep.new → (o : List ℕ) → K.rows keep.new o ≡ K.rows keep.old o }
-{
-    let there = is_there(alloc, keep, &asked.caller, place.ws)?;
-    let found = place.makes || there;
-    if found {
-        with_digest(alloc, keep, at, asked, place.ws, digest, body)
-    } else {
-        refuse(alloc, Refusal::NotFound)
-    }
-}
-
-/// The workspace of an act, and whether the act makes one that isn't there.
-#[derive(Clone, Copy)]
-struct Place<'a> {
-    ws: &'a WsName,
-    makes: bool,
-}
-
-/// The place of an act whose work is there; the other acts are to come.
-fn place_of(act: &AskedAct) -> Option<Place<'_>>
-    ensures { option_map (λ p. record { ws = p.ws.now; makes = p.makes }) result ≡ place_of act.now }
-{
-    match act {
-        AskedAct::PutWorkspace(ws) => Some(Place { ws, makes: true }),
-        AskedAct::ReadState(ws) | AskedAct::UpdateState(ws) | AskedAct::PurgeState(ws) => {
-            Some(Place { ws, makes: false })
-        }
-        AskedAct::Lock(ws) | AskedAct::Unlock(ws) | AskedAct::ForceUnlock(ws) => {
-            Some(Place { ws, makes: false })
-        }
-        _ => None,
-    }
-}
-
-/// The act's workspace, then its names.
-fn with_place<K: Keep>(
-    alloc: Global,
-    keep: &mut K,
-    at: Moment,
-    asked: &Asked,
-    digest: &Option<Bytes>,
-    body: Bytes,
-) -> Result<Prepared, Down>
-    ensures so_far { K.clean keep.new → K.clean keep.old }
-    ensures ok { K.clean keep.new → IfOk result (λ p. IsSome (K.rows keep.old asked.now.caller)
-        → Foresees (K.rows keep.old asked.now.caller) asked.now.caller
-        (in_place (place_of asked.now.act) asked.now digest.now body at (K.rows keep.old asked.now.caller)) p) }
-    ensures same { K.clean keep.new → (o : List ℕ) → K.rows keep.new o ≡ K.rows keep.old o }
-{
-    match place_of(&asked.act) {
-        Some(place) => with_names(alloc, keep, at, asked, &place, digest, body),
-        None => refuse(alloc, Refusal::NotFound),
-    }
-}
-
-/// The organization of the path, then the act's workspace.
-fn with_organization<K: Keep>(
-    alloc: Global,
-    keep: &mut K,
-    at: Moment,
-    asked: &Asked,
-    digest: &Option<Bytes>,
-    body: Bytes,
-) -> Result<Prepared, Down>
-    ensures so_far { K.clean keep.new → K.clean keep.old }
-    ensures ok { K.clean keep.new → IfOk result (λ p. IsSome (K.rows keep.old asked.now.caller)
-        → Foresees (K.rows keep.old asked.now.caller) asked.now.caller
-        (by_organization (bytes_eq asked.now.org asked.now.caller) asked.now digest.now body at (K.rows keep.old asked.now.caller)) p) }
-    ensures same { K.clean keep.new → (o : List ℕ) → K.rows keep.new o ≡ K.rows keep.old o }
-{
-    if asked.org.as_str() == asked.caller.as_str() {
-        with_place(alloc, keep, at, asked, digest, body)
-    } else {
-        // Told as an absent one is.
-        let absent = Refusal::NotFound;
-        refuse(alloc, absent)
-    }
-}
-
-/// The role, then the organization of the path.
-fn with_role<K: Keep>(
-    alloc: Global,
-    keep: &mut K,
-    at: Moment,
-    role: Role,
-    asked: &Asked,
-    digest: &Option<Bytes>,
-    body: Bytes,
-) -> Result<Prepared, Down>
-    ensures so_far { K.clean keep.new → K.clean keep.old }
-    ensures ok { K.clean keep.new → IfOk result (λ p. IsSome (K.rows keep.old asked.now.caller)
-        → Foresees (K.rows keep.old asked.now.caller) asked.now.caller
-        (by_role (is_allowed asked.now.act role) asked.now digest.now body at (K.rows keep.old asked.now.caller)) p) }
-    ensures same { K.clean keep.new → (o : List ℕ) → K.rows keep.new o ≡ K.rows keep.old o }
-{
-    match allowed(asked, role) {
-        Ok(()) => with_organization(alloc, keep, at, asked, digest, body),
-        Err(refusal) => refuse(alloc, refusal),
-    }
-}
-
-/// What a request is answered at a moment, and the change that is to follow: the token, then the role.
-pub fn request<K: Keep>(
-    alloc: Global,
-    keep: &mut K,
-    at: Moment,
-    asked: &Asked,
-    digest: &Option<Bytes>,
-    body: Bytes,
-) -> Result<Prepared, Down>
-    ensures so_far { K.clean keep.new → K.clean keep.old }
-    ensures ok { K.clean keep.new → IfOk result (Foresees (K.rows keep.old asked.now.caller) asked.now.caller
-        (request_step (K.rows keep.old asked.now.caller) at asked.now digest.now body)) }
-    ensures same { K.clean keep.new → (o : List ℕ) → K.rows keep.new o ≡ K.rows keep.old o }
-{
-    let secret = secret_digest(&asked.secret);
-    match keep.caller(alloc, &asked.caller, &secret)? {
-        Some(role) => with_role(alloc, keep, at, role, asked, digest, body),
-        None => refuse(alloc, Refusal::BadToken),
-    }
+    keep.records_are_lawful();
+    prove!(at.seconds() <= MAX_MOMENT);
+    let unit = keep.unit(alloc, org, &order.ws, &order.act)?;
+    let decision = decide(&unit, &order.act, at)?;
+    carry_out(alloc, keep, org, &order.ws, &unit, decision)
 }

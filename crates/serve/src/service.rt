@@ -1,11 +1,14 @@
 //! The service over a keep: what it keeps between steps, and steps in turn.
-ghost use Rattle.std.specs.Prelude.{◌≡◌, ◌≤◌, ◌<◌, ℕ, List, Option, Some, None, IfOk, IfErr, IfSome, IsErrOf, is_err, true, false, ◌↔◌, ◌⊎◌, OnOk, OnErr, length, take};
+ghost use Rattle.std.specs.Prelude.{◌≡◌, ◌≤◌, ◌<◌, ℕ, List, [], Option, Some, None, IfOk, IfErr, IfSome, IsErrOf, is_err, true, false, ◌↔◌, ◌⊎◌, OnOk, OnErr, length, take};
 ghost use Rattle.machine.specs.declared.records.Organization.{Organization};
-ghost use Rattle.serve.specs.Exchanges.{Exchanges, ended_of};
-ghost use Rattle.serve.specs.Asks.{Ask, commands};
+ghost use Rattle.std.specs.Io.KnownBytes.{Consumes};
+ghost use Rattle.serve.specs.Exchanges.{Exchanges, ChangesAtMostOne};
+ghost use Rattle.serve.specs.Inner.Replying.{ended_of};
+ghost use Rattle.serve.specs.Inner.Taking.{Takes, RunsTo};
+ghost use Rattle.serve.specs.Asks.{Ask, commands, nobody};
 ghost use Rattle.serve.specs.Steps.{tells};
-ghost use Rattle.serve.specs.Service.{IsText, Takes, Stays, Carries, said_to, AreAsked};
-ghost use Rattle.serve.specs.Runs.{RunsTo, IsOwnRecord, AreOwnReplies};
+ghost use Rattle.serve.specs.Service.{IsText, Stays, Carries, said_to, AreAsked};
+ghost use Rattle.serve.specs.Runs.{IsOwnMachine, IsOwnRecord, AreOwnReplies};
 
 use crate::commands::{admin_text, command};
 use crate::exchanges::{LinkFault, exchange};
@@ -23,7 +26,8 @@ const MAX_ADMIN_TEXT: usize = 15;
 /// A command is carried out once there is room for its text.
 fn take_command<K: Keep>(alloc: Global, keep: &mut K, asked: &Admin) -> Result<Bytes, Down>
     ensures so_far { K.clean keep.new → K.clean keep.old }
-    ensures ok { K.clean keep.new → IfOk result (λ text. (at : ℕ) → Carries (commands at asked.now) (K.rows keep.old) (K.rows keep.new)
+    ensures kept { K.clean keep.new → K.sound keep.old → K.sound keep.new }
+    ensures ok { K.clean keep.new → K.sound keep.old → IfOk result (λ text. (at : ℕ) → Carries (commands at asked.now) (K.rows keep.old) (K.rows keep.new)
         × IsText (said_to (K.rows keep.old) (commands at asked.now)) text) }
     ensures err { K.clean keep.new → OnErr result (Stays (K.rows keep.old) (K.rows keep.new)) }
 {
@@ -41,7 +45,8 @@ fn take_step<K: Keep>(
     step: &Step,
 ) -> Result<Bytes, Down>
     ensures so_far { K.clean keep.new → K.clean keep.old }
-    ensures ok { K.clean keep.new → IfOk result (λ text. Takes step.now text (K.rows keep.old) (K.rows keep.new)) }
+    ensures kept { K.clean keep.new → K.sound keep.old → K.sound keep.new }
+    ensures ok { K.clean keep.new → K.sound keep.old → IfOk result (λ text. Takes step.now text (K.rows keep.old) (K.rows keep.new)) }
     ensures err { K.clean keep.new → OnErr result (Stays (K.rows keep.old) (K.rows keep.new)) }
 {
     match step {
@@ -59,11 +64,12 @@ fn run<K: Keep>(
     taken: &mut u64,
 ) -> Result<Vec<Bytes>, Down>
     ensures so_far { K.clean keep.new → K.clean keep.old }
+    ensures kept { K.clean keep.new → K.sound keep.old → K.sound keep.new }
     ensures one_each { IfOk result (λ replies. length replies.items ≡ length steps.now) }
     ensures most { taken.new ≤ length steps.now }
     ensures all { OnOk result (taken.new ≡ length steps.now) }
     ensures left { OnErr result (0 < length steps.now → taken.new < length steps.now) }
-    ensures ran { K.clean keep.new → (replies : List (List ℕ)) × RunsTo (take taken.new steps.now) (K.rows keep.old) (K.rows keep.new) replies
+    ensures ran { K.clean keep.new → K.sound keep.old → (replies : List (List ℕ)) × RunsTo (take taken.new steps.now) (K.rows keep.old) (K.rows keep.new) replies
         × IfOk result (λ given. given.items ≡ replies) }
 {
     *taken = 0;
@@ -108,7 +114,8 @@ fn ended(written: Result<(), WriteFault>) -> Result<(), LinkFault>
 // No memory for the router: nothing is read.
 fn refuse_exchange<O: Outlet>(now: Moment, outlet: &mut O) -> Result<(), LinkFault>
     requires { O.broken outlet.old ≡ false }
-    ensures told { (bytes : List ℕ) (rows : List ℕ → Option Organization) → Exchanges now bytes rows rows (O.written outlet.old) (O.written outlet.new) result }
+    ensures told { (left : Option (List ℕ)) (rows : List ℕ → Option Organization)
+        → Exchanges now [] left rows rows (O.written outlet.old) (O.written outlet.new) result }
     ensures fault { IfErr result (λ fault. fault ≡ LinkFault.Write) }
     ensures written { O.broken outlet.new ≡ is_err result }
 {
@@ -162,8 +169,14 @@ impl<K: Keep> Service<K> {
         requires reads { I.broken inlet.old ≡ false }
         requires writes { O.broken outlet.old ≡ false }
         ensures so_far { K.clean self.new.keep → K.clean self.old.keep }
-        ensures told { K.clean self.new.keep → IfSome (I.left inlet.old) (λ bytes.
-            Exchanges now bytes (K.rows self.old.keep) (K.rows self.new.keep) (O.written outlet.old) (O.written outlet.new) result) }
+        ensures kept { K.clean self.new.keep → K.sound self.old.keep → K.sound self.new.keep }
+        ensures told { K.clean self.new.keep → K.sound self.old.keep → (came : List ℕ) × Consumes (I.left inlet.old) (I.left inlet.new) came
+            × Exchanges now came (I.left inlet.new) (K.rows self.old.keep) (K.rows self.new.keep) (O.written outlet.old) (O.written outlet.new) result }
+
+        // What needs no bytes: where no whole message came no record changes, and never more than one does.
+        ensures stays { K.clean self.new.keep → (IsErrOf result LinkFault.Ended ⊎ (IsErrOf result LinkFault.Read ⊎ IsErrOf result LinkFault.Continue))
+            → Stays (K.rows self.old.keep) (K.rows self.new.keep) }
+        ensures others { K.clean self.new.keep → K.sound self.old.keep → ChangesAtMostOne (K.rows self.old.keep) (K.rows self.new.keep) }
         ensures read { (I.broken inlet.new ≡ true) ↔ IsErrOf result LinkFault.Read }
         ensures written { (O.broken outlet.new ≡ true) ↔ (IsErrOf result LinkFault.Continue ⊎ IsErrOf result LinkFault.Write) }
         ensures taken { self.new.taken ≡ self.old.taken }
@@ -181,7 +194,8 @@ impl<K: Keep> Service<K> {
     /// Carries out an operator's command.
     pub fn admin(&mut self, alloc: Global, now: Moment, asked: &Admin) -> Result<AdminAnswer, Down>
         ensures so_far { K.clean self.new.keep → K.clean self.old.keep }
-        ensures ok { K.clean self.new.keep → IfOk result (λ answer. Carries (commands now asked.now) (K.rows self.old.keep) (K.rows self.new.keep)
+        ensures kept { K.clean self.new.keep → K.sound self.old.keep → K.sound self.new.keep }
+        ensures ok { K.clean self.new.keep → K.sound self.old.keep → IfOk result (λ answer. Carries (commands now asked.now) (K.rows self.old.keep) (K.rows self.new.keep)
             × (said_to (K.rows self.old.keep) (commands now asked.now) ≡ tells answer)) }
         ensures err { K.clean self.new.keep → OnErr result (Stays (K.rows self.old.keep) (K.rows self.new.keep)) }
         ensures taken { self.new.taken ≡ self.old.taken }
@@ -191,11 +205,12 @@ impl<K: Keep> Service<K> {
 
     fn run_all(&mut self, alloc: Global, steps: &[Step]) -> Result<Vec<Bytes>, Down>
         ensures so_far { K.clean self.new.keep → K.clean self.old.keep }
+        ensures kept { K.clean self.new.keep → K.sound self.old.keep → K.sound self.new.keep }
         ensures one_each { IfOk result (λ replies. length replies.items ≡ length steps.now) }
         ensures most { self.new.taken ≤ length steps.now }
         ensures all { OnOk result (self.new.taken ≡ length steps.now) }
         ensures left { OnErr result (self.new.taken < length steps.now) }
-        ensures ran { K.clean self.new.keep → (replies : List (List ℕ)) × RunsTo (take self.new.taken steps.now) (K.rows self.old.keep) (K.rows self.new.keep) replies
+        ensures ran { K.clean self.new.keep → K.sound self.old.keep → (replies : List (List ℕ)) × RunsTo (take self.new.taken steps.now) (K.rows self.old.keep) (K.rows self.new.keep) replies
             × IfOk result (λ given. given.items ≡ replies) }
     {
         self.taken = 0;
@@ -215,20 +230,22 @@ impl<K: Keep> Service<K> {
     /// `Down`: it isn't taken, nor is any after it.
     pub fn replay(&mut self, alloc: Global, steps: &[Step]) -> Result<Vec<Bytes>, Down>
         ensures so_far { K.clean self.new.keep → K.clean self.old.keep }
+        ensures kept { K.clean self.new.keep → K.sound self.old.keep → K.sound self.new.keep }
 
         // The steps taken ask something, each one thing (`one_asking`).
-        ensures readings { K.clean self.new.keep → (asked : List Ask) × AreAsked (take self.new.taken steps.now) asked }
+        ensures readings { K.clean self.new.keep → K.sound self.old.keep → (asked : List Ask) × AreAsked (take self.new.taken steps.now) asked }
 
-        // The replies at the places of an organization's own steps are those of its own machine.
-        ensures replies { K.clean self.new.keep → IfOk result (λ replies. (asked : List Ask) → AreAsked steps.now asked
-            → (org : List ℕ) → AreOwnReplies asked (K.rows self.old.keep) replies.items (Some org)) }
+        // Isolation: of every organization, the replies at the places of its own steps and its record afterwards are
+        // those of its own machine, fed only its own steps.
+        ensures isolation { K.clean self.new.keep → K.sound self.old.keep → IfOk result (λ replies. (asked : List Ask) → AreAsked steps.now asked
+            → (org : List ℕ) → IsOwnMachine org asked (K.rows self.old.keep) (K.rows self.new.keep) replies.items) }
 
-        // Those of nobody's steps follow from their bytes and moments alone.
-        ensures nobody { K.clean self.new.keep → IfOk result (λ replies. (asked : List Ask) → AreAsked steps.now asked
-            → AreOwnReplies asked (K.rows self.old.keep) replies.items None) }
+        // The replies to nobody's steps follow from their bytes and moments alone.
+        ensures unattributed { K.clean self.new.keep → K.sound self.old.keep → IfOk result (λ replies. (asked : List Ask) → AreAsked steps.now asked
+            → AreOwnReplies asked (K.rows self.old.keep) replies.items nobody) }
 
-        // Each organization's record is that of its own machine, run over its own steps of those taken.
-        ensures rows { K.clean self.new.keep → (asked : List Ask) → AreAsked (take self.new.taken steps.now) asked
+        // Also after `Down`, each organization's record is that of its own machine, run over its own steps of those taken.
+        ensures rows { K.clean self.new.keep → K.sound self.old.keep → (asked : List Ask) → AreAsked (take self.new.taken steps.now) asked
             → (org : List ℕ) → IsOwnRecord asked (K.rows self.old.keep) (K.rows self.new.keep) org }
         ensures one_each { IfOk result (λ replies. length replies.items ≡ length steps.now) }
         ensures taken_most { self.new.taken ≤ length steps.now }

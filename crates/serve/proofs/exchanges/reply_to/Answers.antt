@@ -1,21 +1,31 @@
-use Rattle.std.proofs.Common.{subst, sym, Result}
+use Rattle.std.proofs.Common.{Result, subst, sym, refl}
 use Rattle.wire.specs.declared.messages.Message.{Message}
 use Rattle.wire.specs.declared.messages.WireFault.{WireFault}
-use Rattle.serve.specs.Exchanges.{RepliesTo}
+use Rattle.serve.specs.Inner.Replying.{RepliesTo}
 use Rattle.serve.proofs.RecordLemmas.{if_ok}
-use Rattle.serve.proofs.ExchangeLemmas.{served_reply, unavailable_message}
+use Rattle.serve.proofs.ExchangeLemmas.{served_reply, unavailable_message, answered_one, stayed_one}
 use Rattle.serve.proofs.exchanges.reply_to.Goals as goal
 
 pub returns-in-Ok-answer-clause-ok : goal.returns-in-Ok-answer-clause-ok
-returns-in-Ok-answer-clause-ok g c = λ clean bytes before after.
-    served_reply c.args.now bytes before after c.in-Ok.message c.args.read (g.K.Keep.rows c.args.keep.now) (g.K.Keep.rows c.answer.new.keep) c.in-Ok-answer.reply c.in-Ok.is (c.in-Ok-answer.ensures.ok clean)
+returns-in-Ok-answer-clause-ok g c = λ clean sound came left before after.
+    served_reply c.args.now came left before after c.in-Ok.message c.args.read (g.K.Keep.rows c.args.keep.now) (g.K.Keep.rows c.answer.new.keep) c.in-Ok-answer.reply c.in-Ok.is (c.in-Ok-answer.ensures.ok clean sound)
+
+pub returns-in-Ok-answer-clause-others : goal.returns-in-Ok-answer-clause-others
+returns-in-Ok-answer-clause-others g c = λ clean sound.
+    answered_one c.args.now c.in-Ok.message (g.K.Keep.rows c.args.keep.now) (g.K.Keep.rows c.answer.new.keep) c.in-Ok-answer.reply (c.in-Ok-answer.ensures.ok clean sound)
 
 pub returns-in-Err-answer-clause-ok : goal.returns-in-Err-answer-clause-ok
-returns-in-Err-answer-clause-ok g c = λ clean bytes before after.
-    unavailable_message c.args.now bytes before after c.in-Ok.message c.args.read c.is_head-is_head.result (g.K.Keep.rows c.args.keep.now) (g.K.Keep.rows c.answer.new.keep) c.unavailable.result c.in-Ok.is
-    (c.in-Err-answer.ensures.err clean) c.unavailable.ensures
+returns-in-Err-answer-clause-ok g c = λ clean sound came left before after.
+    unavailable_message c.args.now came left before after c.in-Ok.message c.args.read c.is_head-is_head.result (g.K.Keep.rows c.args.keep.now) (g.K.Keep.rows c.answer.new.keep) c.unavailable.result c.in-Ok.is
+    c.is_head-is_head.ensures (c.in-Err-answer.ensures.err clean) c.unavailable.ensures
+
+pub returns-in-Err-answer-clause-others : goal.returns-in-Err-answer-clause-others
+returns-in-Err-answer-clause-others g c = λ clean sound. stayed_one (g.K.Keep.rows c.args.keep.now) (g.K.Keep.rows c.answer.new.keep) (c.in-Err-answer.ensures.err clean)
 
 pub returns-in-Err-clause-ok : goal.returns-in-Err-clause-ok
-returns-in-Err-clause-ok g c = λ clean.
+returns-in-Err-clause-ok g c = λ clean sound.
     let rows = g.K.Keep.rows c.args.keep.now in
     if_ok c.fault_reply.result (λ reply replies. subst (λ (r : Result Message WireFault). RepliesTo c.args.now r rows rows reply) (sym c.in-Err.is) (replies c.args.now rows)) c.fault_reply.ensures.ok
+
+pub returns-in-Err-clause-others : goal.returns-in-Err-clause-others
+returns-in-Err-clause-others g c = λ clean sound. stayed_one (g.K.Keep.rows c.args.keep.now) (g.K.Keep.rows c.args.keep.now) (λ org. refl)

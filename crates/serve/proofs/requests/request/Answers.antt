@@ -1,17 +1,28 @@
-use Rattle.std.proofs.Common.{◌≡◌, ap, sym, ◌∙◌, subst, Option, None}
-use Rattle.basis.specs.declared.roles.Role.{Role}
-use Rattle.sha2.specs.Sha256.{sha256}
-use Rattle.machine.specs.Tokens.{caller_of}
-use Rattle.serve.specs.Prepared.{Foresees}
-use Rattle.serve.specs.Steps.{Answered, by_caller}
-use Rattle.serve.proofs.RecordLemmas.{if_ok}
+use Rattle.std.proofs.Common.{Ok, Err, Result, IsSome, Option, subst, sym, ◌≡◌, ap}
+use Rattle.basis.specs.declared.refusals.Refusal.{Refusal}
+use Rattle.machine.specs.declared.records.Organization.{Organization}
+use Rattle.serve.specs.Steps.{carried}
+use Rattle.serve.specs.Inner.Prepared.{Foresees}
+use Rattle.serve.specs.declared.prepared.Order.{Order}
+use Rattle.serve.proofs.RecordLemmas.{if_ok, refused_after}
 use Rattle.serve.proofs.requests.request.Goals as goal
 
-pub returns-in-None-clause-ok : goal.returns-in-None-clause-ok
-returns-in-None-clause-ok g c = λ clean.
+pub returns-in-Ok-clause-ok : goal.returns-in-Ok-clause-ok
+returns-in-Ok-clause-ok g c = λ clean sound.
     let org = c.args.asked.now.caller in
     let r = g.K.Keep.rows c.args.keep.now org in
-    let unknown : caller_of r (sha256 c.args.asked.now.secret) ≡ None = sym (c.in_ok-role.ensures.ok clean ∙ ap (caller_of r) c.secret_digest-secret.ensures) ∙ c.in-None.is in
-    if_ok c.refuse.result
-    (λ p foreseen. subst (λ (w : Answered). Foresees r org w p) (ap (λ (o : Option Role). by_caller o c.args.asked.now c.args.digest.now c.args.body c.args.at r) (sym unknown)) (foreseen r org))
-    c.refuse.ensures
+    let before : g.K.Keep.clean c.checked.new.keep = c.rule.ensures.looks.so_far clean in
+    let same : g.K.Keep.rows c.checked.new.keep org ≡ r = c.checked.ensures.looks.same before org in
+    let some : IsSome (g.K.Keep.rows c.checked.new.keep org) = subst IsSome (sym same) (c.in-Ok.ensures.there before sound) in
+    if_ok c.rule.result
+    (λ p foreseen.
+    subst (λ (x : Result Order Refusal). Foresees r org (carried org c.args.at r x) p) (sym (c.in-Ok.ensures.ok before sound))
+    (subst (λ (x : Option Organization). Foresees x org (carried org c.args.at x (Ok c.in-Ok.order)) p) same (foreseen some c.in-Ok.ensures.range)))
+    (c.rule.ensures.ok clean (c.checked.ensures.looks.kept before sound))
+
+pub returns-in-Err-clause-ok : goal.returns-in-Err-clause-ok
+returns-in-Err-clause-ok g c = λ clean sound.
+    let org = c.args.asked.now.caller in
+    let r = g.K.Keep.rows c.args.keep.now org in
+    refused_after c.in-Err.refusal r org _ c.refuse_unless_down.result
+    (λ apart. ap (carried org c.args.at r) (c.in-Err.ensures.ok clean sound apart)) c.refuse_unless_down.ensures.known c.refuse_unless_down.ensures.ok

@@ -1,10 +1,10 @@
 use Rattle.std.proofs.Common.{◌≡◌, ◌++◌, ◌∷◌, [], List, ℕ, subst, sym, ◌∙◌, rules, arith, refl}
-use Rattle.serve.specs.Runs.{RunsTo}
 use Rattle.serve.proofs.RunLemmas.{runs_none, step_more}
 use Rattle.serve.proofs.service.run.Goals as goal
+use Rattle.serve.specs.Inner.Taking.{RunsTo}
 
 pub returns-in_default-clause-ran : goal.returns-in_default-clause-ran
-returns-in_default-clause-ran g c = λ clean. ([], runs_none (g.K.Keep.rows c.args.keep.now), tt)
+returns-in_default-clause-ran g c = λ clean sound. ([], runs_none (g.K.Keep.rows c.args.keep.now), tt)
 
 pub steps-init : goal.steps-init
 steps-init g c = record {
@@ -12,7 +12,8 @@ steps-init g c = record {
   len = search rules;
   room = search rules;
   so_far = λ clean. clean;
-  ran = λ clean. subst (λ (ts : List (List ℕ)). RunsTo [] (g.K.Keep.rows c.args.keep.now) (g.K.Keep.rows c.args.keep.now) ts) (sym c.in-Ok.ensures.items) (runs_none (g.K.Keep.rows c.args.keep.now));
+  kept = λ clean sound. sound;
+  ran = λ clean sound. subst (λ (ts : List (List ℕ)). RunsTo [] (g.K.Keep.rows c.args.keep.now) (g.K.Keep.rows c.args.keep.now) ts) (sym c.in-Ok.ensures.items) (runs_none (g.K.Keep.rows c.args.keep.now));
 }
 
 pub steps-preserved : goal.steps-preserved
@@ -23,7 +24,8 @@ steps-preserved g c =
       len = search rules;
       room = search rules;
       so_far = λ clean. c.steps.invariant.so_far (c.take_step.ensures.so_far clean);
-      ran = λ clean. step_more c.args.steps.now c.steps.step-index c.step-item.result (g.K.Keep.rows c.args.keep.now) (g.K.Keep.rows c.steps.keep) (g.K.Keep.rows c.take_step.new.keep)
+      kept = λ clean sound. c.take_step.ensures.kept clean (c.steps.invariant.kept (c.take_step.ensures.so_far clean) sound);
+      ran = λ clean sound. step_more c.args.steps.now c.steps.step-index c.step-item.result (g.K.Keep.rows c.args.keep.now) (g.K.Keep.rows c.steps.keep) (g.K.Keep.rows c.take_step.new.keep)
           c.steps.replies.items c.push.new.self.items c.in_ok-reply.reply c.steps-test.true c.step-item.is (sym c.steps.replies.ok.0 ∙ c.steps.invariant.len) pushed
-          (c.steps.invariant.ran (c.take_step.ensures.so_far clean)) (c.in_ok-reply.ensures.ok clean);
+          (c.steps.invariant.ran (c.take_step.ensures.so_far clean) sound) (c.in_ok-reply.ensures.ok clean (c.steps.invariant.kept (c.take_step.ensures.so_far clean) sound));
     }

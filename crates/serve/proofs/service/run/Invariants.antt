@@ -1,6 +1,6 @@
 use Rattle.std.proofs.Common.{◌≡◌, ◌≤◌, length, take, vec_len, vec_capacity}
-use Rattle.serve.specs.Runs.{RunsTo}
 use Rattle.serve.proofs.service.run.Given as goal
+use Rattle.serve.specs.Inner.Taking.{RunsTo}
 
 -- the steps so far are run, with a reply each
 abbrev pub invariant-steps : goal.invariant-steps
@@ -9,5 +9,6 @@ invariant-steps g l = record {
   len : vec_len l.replies ≡ l.step-index;
   room : length l.steps ≤ vec_capacity l.replies;
   so_far : g.K.Keep.clean l.keep → g.K.Keep.clean l.fn.keep;
-  ran : g.K.Keep.clean l.keep → RunsTo (take l.step-index l.steps) (g.K.Keep.rows l.fn.keep) (g.K.Keep.rows l.keep) l.replies.items;
+  kept : g.K.Keep.clean l.keep → g.K.Keep.sound l.fn.keep → g.K.Keep.sound l.keep;
+  ran : g.K.Keep.clean l.keep → g.K.Keep.sound l.fn.keep → RunsTo (take l.step-index l.steps) (g.K.Keep.rows l.fn.keep) (g.K.Keep.rows l.keep) l.replies.items;
 }

@@ -1,0 +1,190 @@
+-- The checks of a request in their order, and what an order that passed them is.
+use Rattle.std.proofs.Common.{◌≡◌, ℕ, ◌^◌, ◌<◌, ◌≤◌, Bool, true, false, ◌&&◌, ◌||◌, not, List, length, Option, Some, None, Result, Ok, Err, IsSome, IsTrue, is_some, refl, sym, ap, subst, ◌∙◌, arith}
+use Rattle.std.specs.Prelude.{codes}
+use Rattle.std.specs.List.{starts_with}
+use Rattle.std.proofs.lemmas.Bool.{le-leb}
+use Rattle.basis.specs.Checks.{or_refused, and_then}
+use Rattle.basis.specs.Names.{is_free_id}
+use Rattle.basis.specs.declared.refusals.Refusal.{Refusal}
+use Rattle.basis.specs.declared.refusals.Refusal.TheVariants.{BadToken, BadState, BadLock, BadBody}
+use Rattle.basis.specs.declared.roles.Role.{Role}
+use Rattle.basis.specs.declared.rows.Settings.{Settings}
+use Rattle.basis.specs.declared.rows.StateHead.{StateHead}
+use Rattle.sha2.specs.Sha256.{sha256}
+use Rattle.serde_json.specs.Data.{Data}
+use Rattle.serde_json.specs.Find.{get_member}
+use Rattle.docs.specs.Documents.{state_head, lock_id_of, settings_of}
+use Rattle.docs.specs.Readings.{IsState, IsLock, IsText}
+use Rattle.docs.proofs.ReadingLemmas.{state_law, lock_law}
+use Rattle.machine.specs.Ranges.{IsHead, IsInRange}
+use Rattle.machine.specs.Records.{workspace_in}
+use Rattle.machine.specs.Tokens.{caller_of}
+use Rattle.machine.specs.declared.acts.Act.{Act}
+use Rattle.machine.specs.declared.acts.Act.TheVariants.{PutWorkspace as PutAct, UpdateState as UpdateAct, ReadState as ReadAct, PurgeState as PurgeAct, Lock as LockAct, Unlock as UnlockAct, ForceUnlock as ForceUnlockAct}
+use Rattle.machine.specs.declared.records.Token.{Token}
+use Rattle.machine.specs.declared.records.Organization.{Organization}
+use Rattle.route.specs.Policy.{role_refused, allowed_by}
+use Rattle.route.specs.declared.acts.Asked.{Asked}
+use Rattle.route.specs.declared.acts.AskedAct.{AskedAct}
+use Rattle.route.specs.declared.acts.AskedAct.TheVariants.{ListWorkspaces, OfWorkspace}
+use Rattle.route.specs.declared.acts.WsAct.{WsAct}
+use Rattle.route.specs.declared.acts.WsAct.TheVariants.{Read, Put, Delete, ReadState, UpdateState, PurgeState, Lock, Unlock, ForceUnlock, ListVersions, ReadVersion, ListRuns, MakeRun, ReadRun, ReportRun}
+use Rattle.serve.specs.Checks.{known_caller, may_do, in_reach, is_found, found_if, found, place, digest_checked, spelt, act_of, order, checked}
+use Rattle.serve.specs.Inner.Prepared.{known_role}
+use Rattle.serve.specs.declared.prepared.Place.{Place}
+use Rattle.serve.specs.declared.prepared.Order.{Order}
+
+module _ {A B : Type 0} where
+  pub after_ok : (x : Result A Refusal) (f : A → Result B Refusal) (a : A) (y : Result B Refusal) → x ≡ Ok a → f a ≡ y → and_then x f ≡ y
+  after_ok x f a y e h = ap (λ (r : Result A Refusal). and_then r f) e ∙ h
+
+  pub after_err : (x : Result A Refusal) (f : A → Result B Refusal) (refusal : Refusal) → x ≡ Err refusal → and_then x f ≡ Err refusal
+  after_err x f refusal e = ap (λ (r : Result A Refusal). and_then r f) e
+
+  -- what passed, passed at each check
+  pub passed : (x : Result A Refusal) (f : A → Result B Refusal) (b : B) → and_then x f ≡ Ok b → (a : A) × (x ≡ Ok a) × (f a ≡ Ok b)
+  passed (Ok a) f b e = (a, refl, e)
+  passed (Err refusal) f b e = absurd (let none : ⊥ = cc in none)
+
+-- what follows each check
+abbrev pub after_names : Asked → Option (List ℕ) → List ℕ → Place → Result Order Refusal
+after_names asked digest body p = and_then (digest_checked digest body) (λ _. and_then (act_of p.act asked.lock_id body) (λ act. Ok (order p.ws act)))
+
+abbrev pub after_reach : Option Organization → Asked → Option (List ℕ) → List ℕ → Result Order Refusal
+after_reach r asked digest body = and_then (found r asked.act) (after_names asked digest body)
+
+abbrev pub after_role : Option Organization → Asked → Option (List ℕ) → List ℕ → Result Order Refusal
+after_role r asked digest body = and_then (in_reach asked) (λ _. after_reach r asked digest body)
+
+abbrev pub after_caller : Option Organization → Asked → Option (List ℕ) → List ℕ → Token → Result Order Refusal
+after_caller r asked digest body token = and_then (may_do token asked) (λ _. after_role r asked digest body)
+
+token_of_role : (x : Result Token Refusal) (role : Role) → and_then x (λ token. Ok token.role) ≡ Ok role → (token : Token) × (x ≡ Ok token) × (token.role ≡ role)
+token_of_role (Ok token) role e = (token, refl, let same : token.role ≡ role = cc in same)
+token_of_role (Err refusal) role e = absurd (let none : ⊥ = cc in none)
+
+no_token : (x : Result Token Refusal) (refusal : Refusal) → and_then x (λ token. Ok token.role) ≡ Err refusal → x ≡ Err refusal
+no_token (Ok token) refusal e = absurd (let none : ⊥ = cc in none)
+no_token (Err other) refusal e = let same : other ≡ refusal = cc in ap Err same
+
+module _ (r : Option Organization) (asked : Asked) (digest : Option (List ℕ)) (body : List ℕ) where
+  pub caller_refused : (refusal : Refusal) → known_role r asked ≡ Err refusal → checked r asked digest body ≡ Err refusal
+  caller_refused refusal e = after_err (known_caller r asked) (after_caller r asked digest body) refusal (no_token (known_caller r asked) refusal e)
+
+  pub role_refuses : (role : Role) (refusal : Refusal) → known_role r asked ≡ Ok role → allowed_by (role_refused role asked.act) ≡ Err refusal → checked r asked digest body ≡ Err refusal
+  role_refuses role refusal e h =
+      let t : (token : Token) × (known_caller r asked ≡ Ok token) × (token.role ≡ role) = token_of_role (known_caller r asked) role e in
+      after_ok (known_caller r asked) (after_caller r asked digest body) t.0 (Err refusal) t.1
+      (after_err (may_do t.0 asked) (λ _. after_role r asked digest body) refusal (ap (λ (x : Role). allowed_by (role_refused x asked.act)) t.2 ∙ h))
+
+  pub past_role : (role : Role) (x : Result Order Refusal) → known_role r asked ≡ Ok role → allowed_by (role_refused role asked.act) ≡ Ok tt → after_role r asked digest body ≡ x → checked r asked digest body ≡ x
+  past_role role x e h rest =
+      let t : (token : Token) × (known_caller r asked ≡ Ok token) × (token.role ≡ role) = token_of_role (known_caller r asked) role e in
+      after_ok (known_caller r asked) (after_caller r asked digest body) t.0 x t.1
+      (after_ok (may_do t.0 asked) (λ _. after_role r asked digest body) tt x (ap (λ (y : Role). allowed_by (role_refused y asked.act)) t.2 ∙ h) rest)
+
+  pub past_reach : (role : Role) (x : Result Order Refusal) → known_role r asked ≡ Ok role → allowed_by (role_refused role asked.act) ≡ Ok tt → in_reach asked ≡ Ok tt
+      → after_reach r asked digest body ≡ x → checked r asked digest body ≡ x
+  past_reach role x e h reached rest = past_role role x e h (after_ok (in_reach asked) (λ _. after_reach r asked digest body) tt x reached rest)
+
+-- who has a token is there
+caller_there : (r : Option Organization) (digest : List ℕ) (token : Token) → or_refused BadToken (caller_of r digest) ≡ Ok token → IsSome r
+caller_there None digest token e = absurd (let none : ⊥ = cc in none)
+caller_there (Some o) digest token e = refl
+
+pub role_there : (r : Option Organization) (asked : Asked) (role : Role) → known_role r asked ≡ Ok role → IsSome r
+role_there r asked role e =
+    let t : (token : Token) × (known_caller r asked ≡ Ok token) × (token.role ≡ role) = token_of_role (known_caller r asked) role e in
+    caller_there r (sha256 asked.secret) t.0 t.1
+
+-- the documents of an act that is read are in their ranges
+text_most : (o : Option Data) (lineage : List ℕ) → IsText 256 o lineage → length lineage ≤ 256
+text_most None lineage h = rw h (omega arith)
+text_most (Some value) lineage h = h.1
+
+abbrev read_act : Act → Result Act Refusal
+read_act act = Ok act
+
+is_one : (a b : Act) → read_act a ≡ read_act b → a ≡ b
+is_one a b e = cc
+
+lineage_most : (body : List ℕ) (head : StateHead) → IsState body head → length head.lineage ≤ 256
+lineage_most body head is = text_most (get_member (codes "lineage") is.members) head.lineage is.lineage
+
+-- an ID that is read names no run
+id_free : (body id : List ℕ) → lock_id_of body ≡ Some id → IsTrue (is_free_id id)
+id_free body id t = let is : IsLock body id = (lock_law body id).0 t in rw (le-leb 1 (length id) is.least, le-leb (length id) 128 is.most, is.free) refl
+
+head_in_range : (body : List ℕ) (id : Option (List ℕ)) (o : Option StateHead) (act : Act) → state_head body ≡ o → spelt BadState (λ head. UpdateAct head body id) o ≡ Ok act → IsInRange act
+head_in_range body id None act t e = absurd (let none : ⊥ = cc in none)
+head_in_range body id (Some head) act t e =
+    let is : IsState body head = (state_law body head).0 t in
+    subst IsInRange (is_one (UpdateAct head body id) act e) (is.signed, lineage_most body head is)
+
+put_in_range : (o : Option Settings) (act : Act) → spelt BadBody PutAct o ≡ Ok act → IsInRange act
+put_in_range None act e = absurd (let none : ⊥ = cc in none)
+put_in_range (Some settings) act e = subst IsInRange (is_one (PutAct settings) act e) tt
+
+lock_in_range : (body : List ℕ) (o : Option (List ℕ)) (act : Act) → lock_id_of body ≡ o → spelt BadLock (λ held. LockAct held body) o ≡ Ok act → IsInRange act
+lock_in_range body None act t e = absurd (let none : ⊥ = cc in none)
+lock_in_range body (Some id) act t e = subst IsInRange (is_one (LockAct id body) act e) (id_free body id t)
+
+unlock_in_range : (o : Option (List ℕ)) (act : Act) → spelt BadLock UnlockAct o ≡ Ok act → IsInRange act
+unlock_in_range None act e = absurd (let none : ⊥ = cc in none)
+unlock_in_range (Some id) act e = subst IsInRange (is_one (UnlockAct id) act e) tt
+
+pub act_in_range : (what : WsAct) (id : Option (List ℕ)) (body : List ℕ) (act : Act) → act_of what id body ≡ Ok act → IsInRange act
+act_in_range Read id body act e = absurd (let none : ⊥ = cc in none)
+act_in_range Put id body act e = put_in_range (settings_of body) act e
+act_in_range Delete id body act e = absurd (let none : ⊥ = cc in none)
+act_in_range ReadState id body act e = subst IsInRange (is_one ReadAct act e) tt
+act_in_range UpdateState id body act e = head_in_range body id (state_head body) act refl e
+act_in_range PurgeState id body act e = subst IsInRange (is_one (PurgeAct id) act e) tt
+act_in_range Lock id body act e = lock_in_range body (lock_id_of body) act refl e
+act_in_range Unlock id body act e = unlock_in_range (lock_id_of body) act e
+act_in_range ForceUnlock id body act e = subst IsInRange (is_one ForceUnlockAct act e) tt
+act_in_range (ListVersions after) id body act e = absurd (let none : ⊥ = cc in none)
+act_in_range (ReadVersion number) id body act e = absurd (let none : ⊥ = cc in none)
+act_in_range (ListRuns after) id body act e = absurd (let none : ⊥ = cc in none)
+act_in_range MakeRun id body act e = absurd (let none : ⊥ = cc in none)
+act_in_range (ReadRun number) id body act e = absurd (let none : ⊥ = cc in none)
+act_in_range (ReportRun number action) id body act e = absurd (let none : ⊥ = cc in none)
+
+-- what an order that passed the checks is: the organization is there, and this act is asked of the workspace
+pub record Passes (r : Option Organization) (asked : Asked) (body : List ℕ) (o : Order) : Type 0 where
+  pub there : IsSome r
+  pub what : WsAct
+  pub asks : asked.act ≡ OfWorkspace o.ws what
+  pub is_there : is_found r o.ws what ≡ true
+  pub spelt : act_of what asked.lock_id body ≡ Ok o.act
+
+place_is : (b : Bool) (p q : Place) → found_if b p ≡ Ok q → (b ≡ true) × (p ≡ q)
+place_is true p q e = (refl, let same : p ≡ q = cc in same)
+place_is false p q e = absurd (let none : ⊥ = cc in none)
+
+found_place : (r : Option Organization) (act : AskedAct) (p : Place) → found r act ≡ Ok p → (act ≡ OfWorkspace p.ws p.act) × (is_found r p.ws p.act ≡ true)
+found_place r (ListWorkspaces after) p e = absurd (let none : ⊥ = cc in none)
+found_place r (OfWorkspace ws act) p e =
+    let h : (is_found r ws act ≡ true) × (place ws act ≡ p) = place_is (is_found r ws act) (place ws act) p e in
+    (ap (λ (q : Place). OfWorkspace q.ws q.act) h.1, subst (λ (q : Place). is_found r q.ws q.act ≡ true) h.1 h.0)
+
+order_is : (ws : List ℕ) (x : Result Act Refusal) (o : Order) → and_then x (λ act. Ok (order ws act)) ≡ Ok o → (ws ≡ o.ws) × (x ≡ Ok o.act)
+order_is ws (Ok act) o e = let same : order ws act ≡ o = cc in (ap (λ (p : Order). p.ws) same, ap (λ (p : Order). read_act p.act) same)
+order_is ws (Err refusal) o e = absurd (let none : ⊥ = cc in none)
+
+pub order_passes : (r : Option Organization) (asked : Asked) (digest : Option (List ℕ)) (body : List ℕ) (o : Order) → checked r asked digest body ≡ Ok o → Passes r asked body o
+order_passes r asked digest body o e =
+    let known = passed (known_caller r asked) (after_caller r asked digest body) o e in
+    let may = passed (may_do known.0 asked) (λ _. after_role r asked digest body) o known.2 in
+    let reached = passed (in_reach asked) (λ _. after_reach r asked digest body) o may.2 in
+    let named = passed (found r asked.act) (after_names asked digest body) o reached.2 in
+    let fit = passed (digest_checked digest body) (λ _. and_then (act_of named.0.act asked.lock_id body) (λ act. Ok (order named.0.ws act))) o named.2 in
+    let made : (named.0.ws ≡ o.ws) × (act_of named.0.act asked.lock_id body ≡ Ok o.act) = order_is named.0.ws (act_of named.0.act asked.lock_id body) o fit.2 in
+    let at : (asked.act ≡ OfWorkspace named.0.ws named.0.act) × (is_found r named.0.ws named.0.act ≡ true) = found_place r asked.act named.0 named.1 in
+    record {
+      there = caller_there r (sha256 asked.secret) known.0 known.1;
+      what = named.0.act;
+      asks = at.0 ∙ ap (λ (ws : List ℕ). OfWorkspace ws named.0.act) made.0;
+      is_there = subst (λ (ws : List ℕ). is_found r ws named.0.act ≡ true) made.0 at.1;
+      spelt = made.1;
+    }

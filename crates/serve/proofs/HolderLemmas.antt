@@ -1,0 +1,131 @@
+-- The body of a 423 is the holder's.
+use Rattle.std.proofs.Common.{◌≡◌, ℕ, Bool, true, false, cond, List, Option, Some, None, Result, Ok, Err, refl, sym, ap, subst, ◌∙◌}
+use Rattle.basis.specs.Checks.{or_refused, and_then}
+use Rattle.basis.specs.Roles.{includes}
+use Rattle.basis.specs.declared.refusals.Refusal.{Refusal}
+use Rattle.basis.specs.declared.refusals.Refusal.TheVariants.{Locked, BadToken, NotFound, BadDigest, BadState, BadLock, BadBody}
+use Rattle.basis.specs.declared.roles.Role.{Role}
+use Rattle.basis.specs.declared.roles.Role.TheVariants.{Read as Reads, Write as Writes, Admin as Manages}
+use Rattle.sha2.specs.Sha256.{sha256}
+use Rattle.docs.specs.Documents.{state_head, lock_id_of, settings_of}
+use Rattle.machine.specs.Records.{Seen, missing, there, standing, workspace_in}
+use Rattle.machine.specs.Rules.{Outcome, refused, held, done, no_state, state, workspace, rules}
+use Rattle.machine.specs.Tokens.{caller_of}
+use Rattle.machine.specs.declared.acts.Act.{Act}
+use Rattle.machine.specs.declared.records.Holder.{Holder}
+use Rattle.machine.specs.declared.records.Token.{Token}
+use Rattle.machine.specs.declared.records.Workspace.{Workspace}
+use Rattle.machine.specs.declared.records.Organization.{Organization}
+use Rattle.machine.proofs.RefusalLemmas.{refusals_tell_the_holder, never_refused_as_locked, missing_tells_no_holder}
+use Rattle.route.specs.Policy.{role_refused, allowed_by, least_role, need_of}
+use Rattle.route.specs.declared.acts.Asked.{Asked}
+use Rattle.route.specs.declared.acts.AskedAct.{AskedAct}
+use Rattle.route.specs.declared.acts.AskedAct.TheVariants.{ListWorkspaces, OfWorkspace}
+use Rattle.route.specs.declared.acts.WsAct.{WsAct}
+use Rattle.route.specs.declared.acts.WsAct.TheVariants.{Read, Put, Delete, ReadState, UpdateState, PurgeState, Lock, Unlock, ForceUnlock, ListVersions, ReadVersion, ListRuns, MakeRun, ReadRun, ReportRun}
+use Rattle.serve.specs.Checks.{require, known_caller, may_do, is_in_reach, in_reach, is_found, found_if, found, place, fits, digest_checked, spelt, act_of, checked}
+use Rattle.serve.specs.Steps.{answer_to, holder_text, seen_at, carried, request_step}
+use Rattle.serve.specs.Custody.{NamesIn, LockedTellsTheHolder}
+use Rattle.serve.specs.declared.prepared.Order.{Order}
+use Rattle.serve.specs.declared.prepared.Place.{Place}
+use Rattle.serve.proofs.CheckLemmas.{Passes, order_passes, after_names, after_reach, after_role, after_caller}
+use Rattle.serve.proofs.RecordLemmas.{standing_at}
+
+-- no check answers 423
+abbrev IsOther : {A : Type 0} → Result A Refusal → Type 0
+IsOther x = x ≡ Err Locked → ⊥
+
+module _ {A B : Type 0} where
+  other_then : (x : Result A Refusal) (f : A → Result B Refusal) → IsOther x → ((a : A) → IsOther (f a)) → IsOther (and_then x f)
+  other_then (Ok a) f first second e = second a e
+  other_then (Err refusal) f first second e = first (let same : refusal ≡ Locked = cc in ap Err same)
+
+required : (refusal : Refusal) (b : Bool) → (refusal ≡ Locked → ⊥) → IsOther (require refusal b)
+required refusal true apart e = let none : ⊥ = cc in none
+required refusal false apart e = apart (let same : refusal ≡ Locked = cc in same)
+
+caller_other : (o : Option Token) → IsOther (or_refused BadToken o)
+caller_other None e = let none : ⊥ = cc in none
+caller_other (Some token) e = let none : ⊥ = cc in none
+
+need_other : (role : Role) → IsOther (allowed_by (Some (need_of role)))
+need_other Reads e = let none : ⊥ = cc in none
+need_other Writes e = let none : ⊥ = cc in none
+need_other Manages e = let none : ⊥ = cc in none
+
+role_other : (b : Bool) (role : Role) → IsOther (allowed_by (cond b None (Some (need_of role))))
+role_other true role e = let none : ⊥ = cc in none
+role_other false role e = need_other role e
+
+place_other : (b : Bool) (p : Place) → IsOther (found_if b p)
+place_other true p e = let none : ⊥ = cc in none
+place_other false p e = let none : ⊥ = cc in none
+
+found_other : (r : Option Organization) (act : AskedAct) → IsOther (found r act)
+found_other r (ListWorkspaces after) e = let none : ⊥ = cc in none
+found_other r (OfWorkspace ws act) e = place_other (is_found r ws act) (place ws act) e
+
+spelt_other : {A : Type 0} (refusal : Refusal) (f : A → Act) (o : Option A) → (refusal ≡ Locked → ⊥) → IsOther (spelt refusal f o)
+spelt_other refusal f None apart e = apart (let same : refusal ≡ Locked = cc in same)
+spelt_other refusal f (Some a) apart e = let none : ⊥ = cc in none
+
+act_other : (act : WsAct) (id : Option (List ℕ)) (body : List ℕ) → IsOther (act_of act id body)
+act_other Read id body e = let none : ⊥ = cc in none
+act_other Put id body e = spelt_other BadBody _ (settings_of body) (λ is. let none : ⊥ = cc in none) e
+act_other Delete id body e = let none : ⊥ = cc in none
+act_other ReadState id body e = let none : ⊥ = cc in none
+act_other UpdateState id body e = spelt_other BadState _ (state_head body) (λ is. let none : ⊥ = cc in none) e
+act_other PurgeState id body e = let none : ⊥ = cc in none
+act_other Lock id body e = spelt_other BadLock _ (lock_id_of body) (λ is. let none : ⊥ = cc in none) e
+act_other Unlock id body e = spelt_other BadLock _ (lock_id_of body) (λ is. let none : ⊥ = cc in none) e
+act_other ForceUnlock id body e = let none : ⊥ = cc in none
+act_other (ListVersions after) id body e = let none : ⊥ = cc in none
+act_other (ReadVersion number) id body e = let none : ⊥ = cc in none
+act_other (ListRuns after) id body e = let none : ⊥ = cc in none
+act_other MakeRun id body e = let none : ⊥ = cc in none
+act_other (ReadRun number) id body e = let none : ⊥ = cc in none
+act_other (ReportRun number action) id body e = let none : ⊥ = cc in none
+
+ok_other : {A : Type 0} (a : A) → IsOther (Ok a)
+ok_other a e = let none : ⊥ = cc in none
+
+checked_other : (r : Option Organization) (asked : Asked) (digest : Option (List ℕ)) (body : List ℕ) → IsOther (checked r asked digest body)
+checked_other r asked digest body =
+    other_then (known_caller r asked) (after_caller r asked digest body) (caller_other (caller_of r (sha256 asked.secret))) (λ token.
+    other_then (may_do token asked) (λ _. after_role r asked digest body) (role_other (includes token.role (least_role asked.act)) (least_role asked.act)) (λ _.
+    other_then (in_reach asked) (λ _. after_reach r asked digest body) (required NotFound (is_in_reach asked) (λ is. let none : ⊥ = cc in none)) (λ _.
+    other_then (found r asked.act) (after_names asked digest body) (found_other r asked.act) (λ p.
+    other_then (digest_checked digest body) (λ _. and_then (act_of p.act asked.lock_id body) _) (required BadDigest (fits digest body) (λ is. let none : ⊥ = cc in none)) (λ _.
+    other_then (act_of p.act asked.lock_id body) _ (act_other p.act asked.lock_id body) (λ act. ok_other _))))))
+
+-- the outcome that is answered 423 tells of a holder
+held_by : (org ws : List ℕ) (o : Outcome) → (answer_to org ws o).refusal ≡ Some Locked → (o ≡ refused Locked → ⊥) → (h : Holder) × (o ≡ held h)
+held_by org ws (refused refusal) e never = absurd (never (let same : refusal ≡ Locked = cc in ap refused same))
+held_by org ws (held h) e never = (h, refl)
+held_by org ws done e never = absurd (let none : ⊥ = cc in none)
+held_by org ws no_state e never = absurd (let none : ⊥ = cc in none)
+held_by org ws (state text) e never = absurd (let none : ⊥ = cc in none)
+held_by org ws (workspace shown) e never = absurd (let none : ⊥ = cc in none)
+
+seen_holder : (s : Seen) (act : Act) (now : ℕ) (h : Holder) → (rules act now s).answer ≡ held h → (w : Workspace) × (s ≡ there w) × (h ≡ w.holder)
+seen_holder (missing room) act now h e = absurd (missing_tells_no_holder act room h e)
+seen_holder (there w) act now h e = (w, refl, refusals_tell_the_holder act now w h e)
+
+carried_holder : (r : Option Organization) (now : ℕ) (asked : Asked) (digest : Option (List ℕ)) (body : List ℕ) (x : Result Order Refusal) → checked r asked digest body ≡ x
+    → (carried asked.caller now r x).answer.refusal ≡ Some Locked
+    → (ws : List ℕ) × (w : Workspace) × NamesIn asked.act ws × (workspace_in r ws ≡ Some w) × ((carried asked.caller now r x).answer.body ≡ holder_text asked.caller ws w.holder)
+carried_holder r now asked digest body (Err refusal) e is = absurd (checked_other r asked digest body (e ∙ (let same : refusal ≡ Locked = cc in ap Err same)))
+carried_holder r now asked digest body (Ok o) e is =
+    let p : Passes r asked body o = order_passes r asked digest body o e in
+    let s : Seen = seen_at r o.ws in
+    let h : (h : Holder) × ((rules o.act now s).answer ≡ held h) = held_by asked.caller o.ws (rules o.act now s).answer is (never_refused_as_locked o.act now s) in
+    let w : (w : Workspace) × (s ≡ there w) × (h.0 ≡ w.holder) = seen_holder s o.act now h.0 h.1 in (
+      o.ws,
+      w.0,
+      subst (λ (a : AskedAct). NamesIn a o.ws) (sym p.asks) refl,
+      sym (standing_at r o.ws) ∙ ap standing w.1,
+      ap (λ (x : Outcome). (answer_to asked.caller o.ws x).body) h.1 ∙ ap (holder_text asked.caller o.ws) w.2,
+    )
+
+pub locked_tells_the_holder : LockedTellsTheHolder
+locked_tells_the_holder r now asked digest body is = carried_holder r now asked digest body (checked r asked digest body) refl is

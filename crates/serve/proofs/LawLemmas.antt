@@ -1,0 +1,139 @@
+-- Refusals change nothing, and what is out of reach is told as what isn't there.
+use Rattle.std.specs.Prelude.{if◌then◌else◌}
+use Rattle.std.proofs.Common.{◌≡◌, ◌≢◌, ◌⊎◌, inl, inr, ℕ, Bool, true, false, ◌&&◌, ◌||◌, cond, List, Option, Some, None, Result, Ok, Err, is_some, refl, sym, ap, subst, ◌∙◌}
+use Rattle.std.specs.Prelude.{option_map}
+use Rattle.std.specs.FinMap.{get}
+use Rattle.basis.specs.Checks.{and_then}
+use Rattle.basis.specs.declared.refusals.Refusal.{Refusal}
+use Rattle.basis.specs.declared.refusals.Refusal.TheVariants.{NotFound}
+use Rattle.machine.specs.Effects.{effect}
+use Rattle.machine.specs.Records.{workspace_in, standing, placed}
+use Rattle.machine.specs.Rules.{Outcome, refused, held, done, no_state, state, workspace, Ruling, rules}
+use Rattle.machine.specs.Custody.{IsRefusal}
+use Rattle.machine.specs.Tokens.{token_of, with_token, has_digest}
+use Rattle.machine.specs.declared.keeps.AdminAnswer.{AdminAnswer}
+use Rattle.machine.specs.declared.keeps.AdminAnswer.TheVariants.{Done, Exists, Absent}
+use Rattle.machine.specs.declared.records.Token.{Token}
+use Rattle.machine.specs.declared.records.Workspace.{Workspace}
+use Rattle.machine.specs.declared.records.Organization.{Organization}
+use Rattle.machine.proofs.RefusalLemmas.{refusals_change_nothing as rules_change_nothing}
+use Rattle.sha2.specs.Sha256.{sha256}
+use Rattle.basis.specs.Roles.{includes}
+use Rattle.basis.specs.declared.roles.Role.{Role}
+use Rattle.route.specs.Policy.{least_role, need_of, allowed_by}
+use Rattle.route.specs.declared.acts.Asked.{Asked}
+use Rattle.route.specs.declared.acts.AskedAct.{AskedAct}
+use Rattle.route.specs.declared.acts.AskedAct.TheVariants.{ListWorkspaces, OfWorkspace}
+use Rattle.route.specs.declared.acts.WsAct.{WsAct}
+use Rattle.wire.specs.Replies.{Answer}
+use Rattle.serve.specs.declared.steps.Admin.{Admin}
+use Rattle.serve.specs.declared.steps.Admin.TheVariants.{OrgAdd, TokenAdd}
+use Rattle.serve.specs.declared.prepared.Order.{Order}
+use Rattle.serve.specs.Asks.{Ask, silent, requests, commands}
+use Rattle.serve.specs.Asks as ask
+use Rattle.serve.specs.Checks.{known_caller, may_do, is_in_reach, in_reach, require, makes, is_served, is_found, found_if, found, place, checked}
+use Rattle.serve.specs.Steps.{Said, replies, tells, answer_to, seen_at, ruled_in, carried, request_step, command_step, step}
+use Rattle.serve.specs.Laws.{RefusalsChangeNothing, OutOfReachIsNotFound, renamed, NeedsWorkspace, OutOfReachIsAsAbsent}
+use Rattle.serve.proofs.CheckLemmas.{after_ok, after_err, after_names, after_reach, after_role, after_caller}
+use Rattle.serve.proofs.RecordLemmas.{placed_same, standing_at}
+
+-- an answer that refuses is that of a refusal by the rules
+refuses_by : (org ws : List ℕ) (o : Outcome) (refusal : Refusal) → (answer_to org ws o).refusal ≡ Some refusal → IsRefusal o
+refuses_by org ws (refused other) refusal e = tt
+refuses_by org ws (held holder) refusal e = tt
+refuses_by org ws done refusal e = absurd (let none : ⊥ = cc in none)
+refuses_by org ws no_state refusal e = absurd (let none : ⊥ = cc in none)
+refuses_by org ws (state text) refusal e = absurd (let none : ⊥ = cc in none)
+refuses_by org ws (workspace shown) refusal e = absurd (let none : ⊥ = cc in none)
+
+ruled_leaves : (org ws : List ℕ) (r : Option Organization) (ruling : Ruling) → ruling.left ≡ workspace_in r ws → (ruled_in org ws r ruling).left ≡ r
+ruled_leaves org ws r ruling e = ap (λ (w : Option Workspace). option_map (λ (o : Organization). placed o ws w) r) e ∙ placed_same r ws
+
+carried_leaves : (org : List ℕ) (now : ℕ) (r : Option Organization) (x : Result Order Refusal) (refusal : Refusal) → (carried org now r x).answer.refusal ≡ Some refusal → (carried org now r x).left ≡ r
+carried_leaves org now r (Err other) refusal e = refl
+carried_leaves org now r (Ok order) refusal e =
+    ruled_leaves org order.ws r (rules order.act now (seen_at r order.ws))
+    (rules_change_nothing order.act now (seen_at r order.ws) (refuses_by org order.ws (rules order.act now (seen_at r order.ws)).answer refusal e) ∙ standing_at r order.ws)
+
+command_leaves : (r : Option Organization) (command : Admin) → (command_step r command).answer ≢ Done → (command_step r command).left ≡ r
+command_leaves None (OrgAdd org limit) apart = absurd (apart refl)
+command_leaves (Some o) (OrgAdd org limit) apart = refl
+command_leaves None (TokenAdd org name role secret) apart = refl
+command_leaves (Some o) (TokenAdd org name role secret) apart = chosen (is_some (get o.tokens name) || has_digest (sha256 secret) o) apart
+  where
+    chosen : (b : Bool) → (cond b (effect Exists (Some o)) (effect Done (Some (with_token o name (token_of (sha256 secret) role))))).answer ≢ Done
+        → (cond b (effect Exists (Some o)) (effect Done (Some (with_token o name (token_of (sha256 secret) role))))).left ≡ Some o
+    chosen true apart = refl
+    chosen false apart = absurd (apart refl)
+
+answer_is : (due also : Bool) (at now : ℕ) (a b : Answer) → replies due at a ≡ replies also now b → a ≡ b
+answer_is due also at now a b e = cc
+
+word_is : (a b : AdminAnswer) → tells a ≡ tells b → a ≡ b
+word_is a b e = cc
+
+pub refusals_change_nothing : RefusalsChangeNothing
+refusals_change_nothing r silent = ((λ due at answer refusal e is. refl), (λ answer e apart. refl))
+refusals_change_nothing r (ask.refused at due refusal is_head) = ((λ due at answer refusal e is. refl), (λ answer e apart. refl))
+refusals_change_nothing r (requests at due asked digest body) = (
+  (λ also now answer refusal e is. carried_leaves asked.caller at r (checked r asked digest body) refusal
+      (ap (λ (a : Answer). a.refusal) (answer_is due also at now (request_step r at asked digest body).answer answer e) ∙ is)),
+  (λ answer e apart. absurd (let none : ⊥ = cc in none)),
+)
+refusals_change_nothing r (commands at command) = (
+  (λ due now answer refusal e is. absurd (let none : ⊥ = cc in none)),
+  (λ answer e apart. command_leaves r command (λ done. apart (sym (word_is (command_step r command).answer answer e) ∙ done))),
+)
+
+-- what is out of reach
+out_is : (asked : Asked) → is_in_reach asked ≡ false → in_reach asked ≡ Err NotFound
+out_is asked e = ap (require NotFound) e
+
+out_after_role : (r : Option Organization) (asked : Asked) (digest : Option (List ℕ)) (body : List ℕ) → is_in_reach asked ≡ false → after_role r asked digest body ≡ Err NotFound
+out_after_role r asked digest body e = after_err (in_reach asked) (λ _. after_reach r asked digest body) NotFound (out_is asked e)
+
+pub out_of_reach_is_not_found : OutOfReachIsNotFound
+out_of_reach_is_not_found r now asked digest body token out known may =
+    ap (carried asked.caller now r)
+    (after_ok (known_caller r asked) (after_caller r asked digest body) token (Err NotFound) known
+    (after_ok (may_do token asked) (λ _. after_role r asked digest body) tt (Err NotFound) may (out_after_role r asked digest body out)))
+
+-- a workspace that is lacking isn't found
+lacking : (b c : Bool) (r : Option Organization) (ws : List ℕ) → workspace_in r ws ≡ None → c ≡ false → (b && (c || is_some (workspace_in r ws))) ≡ false
+lacking true c r ws none e = ap (λ (d : Bool). d || is_some (workspace_in r ws)) e ∙ ap is_some none
+lacking false c r ws none e = refl
+
+absent_after_role : (r : Option Organization) (asked : Asked) (digest : Option (List ℕ)) (body org ws : List ℕ) (act : AskedAct) → NeedsWorkspace act → workspace_in r ws ≡ None
+    → after_role r (record asked { org = org; act = renamed act ws }) digest body ≡ Err NotFound
+absent_after_role r asked digest body org ws (ListWorkspaces after) needs none = absurd needs
+absent_after_role r asked digest body org ws (OfWorkspace old act) needs none = reached (is_in_reach other)
+  where
+    other : Asked
+    other = record asked { org = org; act = OfWorkspace ws act }
+
+    reached : (b : Bool) → and_then (require NotFound b) (λ _. after_reach r other digest body) ≡ Err NotFound
+    reached true = after_err (found r (OfWorkspace ws act)) (after_names other digest body) NotFound
+        (ap (λ (b : Bool). found_if b (place ws act)) (lacking (is_served act) (makes act) r ws none needs))
+    reached false = refl
+
+-- the role that is needed is the same
+role_stays : (act : AskedAct) (ws : List ℕ) → NeedsWorkspace act → least_role (renamed act ws) ≡ least_role act
+role_stays (ListWorkspaces after) ws needs = absurd needs
+role_stays (OfWorkspace old act) ws needs = refl
+
+pub out_of_reach_is_as_absent : OutOfReachIsAsAbsent
+out_of_reach_is_as_absent r now asked digest body org ws out needs none = ap (carried asked.caller now r) (called (known_caller r asked))
+  where
+    other : Asked
+    other = record asked { org = org; act = renamed asked.act ws }
+
+    allowed : (token : Token) → may_do token asked ≡ may_do token other
+    allowed token = ap (λ (l : Role). allowed_by (if includes token.role l then None else Some (need_of l))) (sym (role_stays asked.act ws needs))
+
+    judged : (x : Result (Unit {0}) Refusal) → and_then x (λ _. after_role r asked digest body) ≡ and_then x (λ _. after_role r other digest body)
+    judged (Ok passed) = out_after_role r asked digest body out ∙ sym (absent_after_role r asked digest body org ws asked.act needs none)
+    judged (Err refusal) = refl
+
+    called : (x : Result Token Refusal) → and_then x (after_caller r asked digest body) ≡ and_then x (after_caller r other digest body)
+    called (Ok token) = judged (may_do token asked) ∙ ap (λ (x : Result (Unit {0}) Refusal). and_then x (λ _. after_role r other digest body)) (allowed token)
+    called (Err refusal) = refl

@@ -1,5 +1,0 @@
-use Rattle.serve.proofs.CustodyLemmas as lemma
-use Rattle.serve.proofs.worlds.locks_are_kept.Goals as goal
-
-pub returns : goal.returns
-returns c = lemma.locks_are_kept

@@ -1,0 +1,145 @@
+-- The checks of a request from the token on, each by itself: what it gives, or the refusal. The checks of the message,
+-- the path, the query and the token's form come before them (`asked_of` of route).
+use Rattle.std.specs.Prelude.{ℕ, Bool, true, false, ◌&&◌, ◌||◌, List, Option, Some, None, Result, Ok, Err, is_some}
+use Rattle.std.specs.Str.{bytes_eq}
+use Rattle.basis.specs.Checks.{or_refused, and_then}
+use Rattle.basis.specs.declared.refusals.Refusal.{Refusal}
+use Rattle.basis.specs.declared.refusals.Refusal.TheVariants.{BadToken, NotFound, BadDigest, BadState, BadLock, BadBody}
+use Rattle.sha2.specs.Sha256.{sha256}
+use Rattle.docs.specs.Documents.{state_head, lock_id_of, settings_of}
+use Rattle.docs.specs.Digests.{digest_fits}
+use Rattle.machine.specs.Records.{workspace_in}
+use Rattle.machine.specs.Tokens.{caller_of}
+use Rattle.machine.specs.declared.acts.Act.{Act}
+use Rattle.machine.specs.declared.acts.Act.TheVariants.{PutWorkspace as PutAct, UpdateState as UpdateAct, ReadState as ReadAct, PurgeState as PurgeAct, Lock as LockAct, Unlock as UnlockAct, ForceUnlock as ForceUnlockAct}
+use Rattle.machine.specs.declared.records.Token.{Token}
+use Rattle.machine.specs.declared.records.Organization.{Organization}
+use Rattle.route.specs.Policy.{role_refused, allowed_by}
+use Rattle.route.specs.declared.acts.Asked.{Asked}
+use Rattle.route.specs.declared.acts.AskedAct.{AskedAct}
+use Rattle.route.specs.declared.acts.AskedAct.TheVariants.{ListWorkspaces, OfWorkspace}
+use Rattle.route.specs.declared.acts.WsAct.{WsAct}
+use Rattle.route.specs.declared.acts.WsAct.TheVariants.{Read, Put, Delete, ReadState, UpdateState, PurgeState, Lock, Unlock, ForceUnlock, ListVersions, ReadVersion, ListRuns, MakeRun, ReadRun, ReportRun}
+use Rattle.serve.specs.declared.prepared.Place.{Place}
+use Rattle.serve.specs.declared.prepared.Order.{Order}
+
+-- a condition, and the refusal where it doesn't hold
+abbrev pub require : Refusal → Bool → Result (Unit {0}) Refusal
+require refusal true = Ok tt
+require refusal false = Err refusal
+
+-- the caller: the token of the organization whose secret this is
+abbrev pub known_caller : Option Organization → Asked → Result Token Refusal
+known_caller r asked = or_refused BadToken (caller_of r (sha256 asked.secret))
+
+-- the policy: why a token may not do what is asked, or none
+abbrev pub policy : Token → Asked → Option Refusal
+policy token asked = role_refused token.role asked.act
+
+abbrev pub may_do : Token → Asked → Result (Unit {0}) Refusal
+may_do token asked = allowed_by (policy token asked)
+
+-- what a caller reaches is under the path of its own organization
+abbrev pub is_in_reach : Asked → Bool
+is_in_reach asked = bytes_eq asked.org asked.caller
+
+-- what is out of reach is told as what isn't there
+abbrev pub in_reach : Asked → Result (Unit {0}) Refusal
+in_reach asked = require NotFound (is_in_reach asked)
+
+-- an act on a workspace that needn't be there: it is made
+abbrev pub makes : WsAct → Bool
+makes Read = false
+makes Put = true
+makes Delete = false
+makes ReadState = false
+makes UpdateState = false
+makes PurgeState = false
+makes Lock = false
+makes Unlock = false
+makes ForceUnlock = false
+makes (ListVersions after) = false
+makes (ReadVersion number) = false
+makes (ListRuns after) = false
+makes MakeRun = false
+makes (ReadRun number) = false
+makes (ReportRun number action) = false
+
+-- an act whose work is there; the others are to come, and until then they find nothing
+abbrev pub is_served : WsAct → Bool
+is_served Read = false
+is_served Put = true
+is_served Delete = false
+is_served ReadState = true
+is_served UpdateState = true
+is_served PurgeState = true
+is_served Lock = true
+is_served Unlock = true
+is_served ForceUnlock = true
+is_served (ListVersions after) = false
+is_served (ReadVersion number) = false
+is_served (ListRuns after) = false
+is_served MakeRun = false
+is_served (ReadRun number) = false
+is_served (ReportRun number action) = false
+
+-- an act on the workspace of a name
+abbrev pub place : List ℕ → WsAct → Place
+place ws act = record { ws = ws; act = act }
+
+-- names: the workspace is there, or is to be made
+abbrev pub is_found : Option Organization → List ℕ → WsAct → Bool
+is_found r ws act = is_served act && (makes act || is_some (workspace_in r ws))
+
+abbrev pub found_if : Bool → Place → Result Place Refusal
+found_if true p = Ok p
+found_if false p = Err NotFound
+
+abbrev pub found : Option Organization → AskedAct → Result Place Refusal
+found r (ListWorkspaces after) = Err NotFound
+found r (OfWorkspace ws act) = found_if (is_found r ws act) (place ws act)
+
+-- Content-MD5, where it is sent, is the digest of the body
+abbrev pub fits : Option (List ℕ) → List ℕ → Bool
+fits None body = true
+fits (Some field) body = digest_fits field body
+
+abbrev pub digest_checked : Option (List ℕ) → List ℕ → Result (Unit {0}) Refusal
+digest_checked digest body = require BadDigest (fits digest body)
+
+-- the act that the body's document spells, or why it spells none
+abbrev pub spelt : {A : Type 0} → Refusal → (A → Act) → Option A → Result Act Refusal
+spelt refusal f None = Err refusal
+spelt refusal f (Some a) = Ok (f a)
+
+abbrev pub act_of : WsAct → Option (List ℕ) → List ℕ → Result Act Refusal
+act_of Read id body = Err NotFound
+act_of Put id body = spelt BadBody PutAct (settings_of body)
+act_of Delete id body = Err NotFound
+act_of ReadState id body = Ok ReadAct
+act_of UpdateState id body = spelt BadState (λ head. UpdateAct head body id) (state_head body)
+act_of PurgeState id body = Ok (PurgeAct id)
+act_of Lock id body = spelt BadLock (λ held. LockAct held body) (lock_id_of body)
+act_of Unlock id body = spelt BadLock UnlockAct (lock_id_of body)
+act_of ForceUnlock id body = Ok ForceUnlockAct
+act_of (ListVersions after) id body = Err NotFound
+act_of (ReadVersion number) id body = Err NotFound
+act_of (ListRuns after) id body = Err NotFound
+act_of MakeRun id body = Err NotFound
+act_of (ReadRun number) id body = Err NotFound
+act_of (ReportRun number action) id body = Err NotFound
+
+-- the same, its documents read
+abbrev pub order : List ℕ → Act → Order
+order ws act = record { ws = ws; act = act }
+
+-- the checks in their order: the caller, the role, the organization, the names, the digest, the document
+abbrev pub checked : Option Organization → Asked → Option (List ℕ) → List ℕ → Result Order Refusal
+checked r asked digest body =
+    and_then (known_caller r asked) (λ token.
+    and_then (may_do token asked) (λ _.
+    and_then (in_reach asked) (λ _.
+    and_then (found r asked.act) (λ p.
+    and_then (digest_checked digest body) (λ _.
+    and_then (act_of p.act asked.lock_id body) (λ act.
+    Ok (order p.ws act)))))))

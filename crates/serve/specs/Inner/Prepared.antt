@@ -1,0 +1,52 @@
+-- Contracts between functions: an answer that is made in full before anything changes, and the change that is to follow.
+use Rattle.std.specs.Prelude.{◌≡◌, ℕ, Bool, List, Option, Some, None, Result, Ok}
+use Rattle.std.specs.FinMap.{get}
+use Rattle.basis.specs.Checks.{and_then}
+use Rattle.basis.specs.declared.refusals.Refusal.{Refusal}
+use Rattle.basis.specs.declared.roles.Role.{Role}
+use Rattle.machine.specs.Records.{seen_in, placed}
+use Rattle.machine.specs.Changes.{changed_by, IsDue}
+use Rattle.machine.specs.declared.records.Organization.{Organization}
+use Rattle.route.specs.declared.acts.Asked.{Asked}
+use Rattle.docs.specs.Bodies.{error_text}
+use Rattle.wire.specs.Replies.{refused_answer}
+use Rattle.wire.specs.Messages.{Reads, unfinished, whole}
+use Rattle.wire.specs.Messages as wire
+use Rattle.wire.specs.Links.{continue_if}
+use Rattle.serve.specs.Asks.{Ask, silent, requests, commands}
+use Rattle.serve.specs.Asks as ask
+use Rattle.serve.specs.Checks.{known_caller}
+use Rattle.serve.specs.Steps.{Answered, request_step}
+use Rattle.serve.specs.declared.prepared.Came.{Came}
+use Rattle.serve.specs.declared.prepared.Came.TheVariants.{Whole, Refused, Unfinished}
+use Rattle.serve.specs.declared.prepared.Pending.{Pending}
+use Rattle.serve.specs.declared.prepared.Prepared.{Prepared}
+
+-- the role of the caller's token
+abbrev pub known_role : Option Organization → Asked → Result Role Refusal
+known_role r asked = and_then (known_caller r asked) (λ token. Ok token.role)
+
+-- the record of an organization after a change that is to follow, or as it is
+abbrev pub ChangesTo : Option Organization → List ℕ → Option Organization → Option Pending → Type 0
+ChangesTo r org after None = after ≡ r
+ChangesTo r org after (Some pending) =
+    (pending.org ≡ org) × (o : Organization) × (r ≡ Some o) × IsDue (seen_in o pending.ws) pending.change
+    × (after ≡ Some (placed o pending.ws (changed_by pending.change (get o.workspaces pending.ws))))
+
+-- what is prepared is the answer of the machine, and the change is that of the record of the organization
+pub record Foresees (r : Option Organization) (org : List ℕ) (want : Answered) (p : Prepared) : Type 0 where
+  pub answer : p.reply ≡ want.answer
+  pub change : ChangesTo r org want.left p.pending
+
+-- what is prepared is what is to be said, by the records as they stand
+abbrev pub IsPrepared : (List ℕ → Option Organization) → Ask → Prepared → Type 0
+IsPrepared rows silent p = ⊥
+IsPrepared rows (ask.refused at due refusal is_head) p = (p.reply ≡ refused_answer refusal (error_text refusal) is_head) × (p.pending ≡ None)
+IsPrepared rows (requests at due asked digest body) p = Foresees (rows asked.caller) asked.caller (request_step (rows asked.caller) at asked digest body) p
+IsPrepared rows (commands at command) p = ⊥
+
+-- what came on a connection: a message and the 100 line that was written, or why there is none
+abbrev pub IsCome : List ℕ → Came → Type 0
+IsCome bytes (Whole message front) = (due : Bool) × Reads bytes (whole message due) × (front.items ≡ continue_if due)
+IsCome bytes (Refused refusal is_head) = Reads bytes (wire.refused refusal is_head)
+IsCome bytes Unfinished = Reads bytes unfinished

@@ -1,0 +1,20 @@
+-- Contracts between functions: one step taken, and a run of steps over the records of all organizations.
+use Rattle.std.specs.Prelude.{ℕ, List, Option}
+use Rattle.machine.specs.declared.records.Organization.{Organization}
+use Rattle.serve.specs.declared.steps.Step.{Step}
+use Rattle.serve.specs.Asks.{Ask, Owner}
+use Rattle.serve.specs.Service.{IsAsked, AreAsked, Carries, said_to, IsText}
+use Rattle.serve.specs.Runs.{IsOwnRecord, AreOwnReplies}
+
+-- one step taken: what it asks is carried out, and this is the text of what is said
+pub record Takes (s : Step) (text : List ℕ) (old new : List ℕ → Option Organization) : Type 0 where
+  pub ask : Ask
+  pub is : IsAsked s ask
+  pub carries : Carries ask old new
+  pub text_is : IsText (said_to old ask) text
+
+pub record RunsTo (steps : List Step) (old new : List ℕ → Option Organization) (replies : List (List ℕ)) : Type 0 where
+  pub asked : List Ask
+  pub are : AreAsked steps asked
+  pub rows : (org : List ℕ) → IsOwnRecord asked old new org
+  pub texts : (owner : Owner) → AreOwnReplies asked old replies owner

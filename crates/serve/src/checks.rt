@@ -1,0 +1,245 @@
+//! The checks of a request from the token on, each by itself.
+ghost use Rattle.std.specs.Prelude.{◌≡◌, ℕ, List, IsSome, is_some, IfOk, Ok};
+ghost use Rattle.std.specs.FinMap.{get};
+ghost use Rattle.basis.specs.Checks.{Follows};
+ghost use Rattle.basis.specs.declared.refusals.Refusal.TheVariants.{BadBody, BadLock, BadState};
+ghost use Rattle.docs.specs.Documents.{settings_of, state_head, lock_id_of};
+ghost use Rattle.machine.specs.Keeping.{Looks};
+ghost use Rattle.machine.specs.Records.{workspace_in};
+ghost use Rattle.machine.specs.Units.{unit_of};
+ghost use Rattle.machine.specs.declared.acts.Act.{Act as AnyAct};
+ghost use Rattle.machine.specs.declared.acts.Act.TheVariants.{PutWorkspace, UpdateState, PurgeState, Lock, Unlock};
+ghost use Rattle.machine.specs.declared.records.Organization.{Organization};
+ghost use Rattle.serve.specs.Checks.{in_reach, makes, is_served, is_found, found, found_if, place, fits, digest_checked, spelt, act_of};
+ghost use Rattle.serve.specs.Inner.Prepared.{known_role};
+
+use crate::prepared::Place;
+use basis::{Bytes, Down, LockId, OrgName, Refusal, Role, WsName};
+use docs::{DocFault, digest_fits, read_lock, read_settings, read_state};
+use machine::{Act, Keep, Unit};
+use route::{Asked, AskedAct, WsAct, secret_digest};
+use std::alloc::Global;
+
+/// The role of the caller's token.
+pub fn known_caller<K: Keep>(alloc: Global, keep: &mut K, asked: &Asked) -> Result<Role, Refusal>
+    ensures looks { Looks K.rows K.clean K.sound keep.old keep.new }
+    ensures ok { K.clean keep.new → K.sound keep.old → Follows result (known_role (K.rows keep.old asked.now.caller) asked.now) }
+{
+    let secret = secret_digest(&asked.secret);
+    match keep.caller(alloc, &asked.caller, &secret) {
+        Ok(Some(role)) => Ok(role),
+        Ok(None) => Err(Refusal::BadToken),
+        Err(Down) => Err(Refusal::Unavailable),
+    }
+}
+
+/// Whether what is asked is in the caller's reach.
+pub fn in_reach(asked: &Asked) -> Result<(), Refusal>
+    ensures { result ≡ in_reach asked.now }
+{
+    if asked.org.as_str() == asked.caller.as_str() {
+        Ok(())
+    } else {
+        // Told as what isn't there.
+        Err(Refusal::NotFound)
+    }
+}
+
+fn makes(act: WsAct) -> bool
+    ensures { result ≡ makes act }
+{
+    match act {
+        WsAct::Put => true,
+        WsAct::Read | WsAct::Delete => false,
+        WsAct::ReadState | WsAct::UpdateState | WsAct::PurgeState => false,
+        WsAct::Lock | WsAct::Unlock | WsAct::ForceUnlock => false,
+        WsAct::ListVersions { .. } | WsAct::ReadVersion(_) => false,
+        WsAct::ListRuns { .. } | WsAct::MakeRun => false,
+        WsAct::ReadRun(_) | WsAct::ReportRun(_, _) => false,
+    }
+}
+
+fn is_served(act: WsAct) -> bool
+    ensures { result ≡ is_served act }
+{
+    match act {
+        WsAct::Put => true,
+        WsAct::Read | WsAct::Delete => false,
+        WsAct::ReadState | WsAct::UpdateState | WsAct::PurgeState => true,
+        WsAct::Lock | WsAct::Unlock | WsAct::ForceUnlock => true,
+        WsAct::ListVersions { .. } | WsAct::ReadVersion(_) => false,
+        WsAct::ListRuns { .. } | WsAct::MakeRun => false,
+        WsAct::ReadRun(_) | WsAct::ReportRun(_, _) => false,
+    }
+}
+
+fn is_present(unit: &Unit) -> bool
+    ensures { (o : Organization) (name : List ℕ) (act : AnyAct) → unit.now ≡ unit_of o name act → result ≡ is_some (get o.workspaces name) }
+{
+    match unit {
+        Unit::Absent { .. } => false,
+        Unit::Present(_) => true,
+    }
+}
+
+// Whether a workspace is there.
+fn is_there<K: Keep>(alloc: Global, keep: &mut K, org: &OrgName, ws: &WsName) -> Result<bool, Down>
+    ensures looks { Looks K.rows K.clean K.sound keep.old keep.new }
+    ensures ok { K.clean keep.new → K.sound keep.old → IsSome (K.rows keep.old org.now)
+        → IfOk result (λ there. there ≡ is_some (workspace_in (K.rows keep.old org.now) ws.now)) }
+{
+    let unit = keep.unit(alloc, org, ws, &Act::ReadState)?;
+    Ok(is_present(&unit))
+}
+
+fn found_if(is_found: bool, ws: &WsName, act: WsAct) -> Result<Place, Refusal>
+    ensures { Follows result (found_if is_found (place ws.now act)) }
+{
+    if !is_found {
+        return Err(Refusal::NotFound);
+    }
+    match ws.clone() {
+        Ok(ws) => Ok(Place { ws, act }),
+        Err(_) => Err(Refusal::Unavailable),
+    }
+}
+
+// Whether the workspace of an act is there, or is to be made.
+fn is_found<K: Keep>(
+    alloc: Global,
+    keep: &mut K,
+    org: &OrgName,
+    ws: &WsName,
+    act: WsAct,
+) -> Result<bool, Down>
+    ensures looks { Looks K.rows K.clean K.sound keep.old keep.new }
+    ensures ok { K.clean keep.new → K.sound keep.old → IsSome (K.rows keep.old org.now)
+        → IfOk result (λ found. found ≡ is_found (K.rows keep.old org.now) ws.now act) }
+{
+    let there = is_there(alloc, keep, org, ws)?;
+    Ok(is_served(act) && (makes(act) || there))
+}
+
+/// The place of what is asked: its workspace is there, or is to be made.
+pub fn found<K: Keep>(
+    alloc: Global,
+    keep: &mut K,
+    org: &OrgName,
+    asked: &AskedAct,
+) -> Result<Place, Refusal>
+    ensures looks { Looks K.rows K.clean K.sound keep.old keep.new }
+    ensures ok { K.clean keep.new → K.sound keep.old → IsSome (K.rows keep.old org.now)
+        → Follows result (found (K.rows keep.old org.now) asked.now) }
+{
+    match asked {
+        AskedAct::ListWorkspaces { .. } => Err(Refusal::NotFound),
+        AskedAct::OfWorkspace(ws, act) => match is_found(alloc, keep, org, ws, *act) {
+            Ok(is_found) => found_if(is_found, ws, *act),
+            Err(Down) => Err(Refusal::Unavailable),
+        },
+    }
+}
+
+fn fits(digest: &Option<Bytes>, body: &Bytes) -> bool
+    ensures { result ≡ fits digest.now body.now }
+{
+    match digest {
+        None => true,
+        Some(field) => digest_fits(field.as_slice(), body.as_slice()),
+    }
+}
+
+/// Whether Content-MD5, where it is sent, is the digest of the body (RFC 1864).
+pub fn digest_checked(digest: &Option<Bytes>, body: &Bytes) -> Result<(), Refusal>
+    ensures { result ≡ digest_checked digest.now body.now }
+{
+    if fits(digest, body) {
+        Ok(())
+    } else {
+        Err(Refusal::BadDigest)
+    }
+}
+
+fn read_put(alloc: Global, body: &Bytes) -> Result<Act, Refusal>
+    ensures { Follows result (spelt BadBody PutWorkspace (settings_of body.now)) }
+{
+    match read_settings(alloc, body.as_slice()) {
+        Ok(settings) => Ok(Act::PutWorkspace(settings)),
+        Err(DocFault::Bad) => Err(Refusal::BadBody),
+        Err(DocFault::Down) => Err(Refusal::Unavailable),
+    }
+}
+
+fn read_update(alloc: Global, lock_id: &Option<LockId>, body: Bytes) -> Result<Act, Refusal>
+    ensures { Follows result (spelt BadState (λ head. UpdateState head body lock_id.now) (state_head body)) }
+{
+    match read_state(alloc, body.as_slice()) {
+        Ok(head) => match lock_id.clone() {
+            Ok(lock_id) => Ok(Act::UpdateState {
+                head,
+                text: body,
+                lock_id,
+            }),
+            Err(_) => Err(Refusal::Unavailable),
+        },
+        Err(DocFault::Bad) => Err(Refusal::BadState),
+        Err(DocFault::Down) => Err(Refusal::Unavailable),
+    }
+}
+
+fn read_purge(lock_id: &Option<LockId>) -> Result<Act, Refusal>
+    ensures { Follows result (Ok (PurgeState lock_id.now)) }
+{
+    match lock_id.clone() {
+        Ok(lock_id) => Ok(Act::PurgeState { lock_id }),
+        Err(_) => Err(Refusal::Unavailable),
+    }
+}
+
+fn read_locking(alloc: Global, body: Bytes) -> Result<Act, Refusal>
+    ensures { Follows result (spelt BadLock (λ held. Lock held body) (lock_id_of body)) }
+{
+    match read_lock(alloc, body.as_slice()) {
+        Ok(id) => Ok(Act::Lock { id, text: body }),
+        Err(DocFault::Bad) => Err(Refusal::BadLock),
+        Err(DocFault::Down) => Err(Refusal::Unavailable),
+    }
+}
+
+fn read_unlocking(alloc: Global, body: &Bytes) -> Result<Act, Refusal>
+    ensures { Follows result (spelt BadLock Unlock (lock_id_of body.now)) }
+{
+    match read_lock(alloc, body.as_slice()) {
+        Ok(id) => Ok(Act::Unlock(id)),
+        Err(DocFault::Bad) => Err(Refusal::BadLock),
+        Err(DocFault::Down) => Err(Refusal::Unavailable),
+    }
+}
+
+/// The act that the body's document spells, or why it spells none.
+pub fn act_of(
+    alloc: Global,
+    act: WsAct,
+    lock_id: &Option<LockId>,
+    body: Bytes,
+) -> Result<Act, Refusal>
+    ensures { Follows result (act_of act lock_id.now body) }
+{
+    match act {
+        WsAct::Put => read_put(alloc, &body),
+        WsAct::ReadState => Ok(Act::ReadState),
+        WsAct::UpdateState => read_update(alloc, lock_id, body),
+        WsAct::PurgeState => read_purge(lock_id),
+        WsAct::Lock => read_locking(alloc, body),
+        WsAct::Unlock => read_unlocking(alloc, &body),
+        WsAct::ForceUnlock => Ok(Act::ForceUnlock),
+        WsAct::Read => Err(Refusal::NotFound),
+        WsAct::Delete => Err(Refusal::NotFound),
+        WsAct::ListVersions { .. } => Err(Refusal::NotFound),
+        WsAct::ReadVersion(_) => Err(Refusal::NotFound),
+        WsAct::ListRuns { .. } => Err(Refusal::NotFound),
+        WsAct::MakeRun => Err(Refusal::NotFound),
+        WsAct::ReadRun(_) => Err(Refusal::NotFound),
+        WsAct::ReportRun(_, _) => Err(Refusal::NotFound),
+    }
+}

@@ -1,0 +1,65 @@
+//! Laws of steps and runs, each the contract of a call that does nothing.
+ghost use Rattle.serve.specs.Laws.{OneAsking, TwoWorlds, SameStepsAskTheSame, RefusalsChangeNothing, OutOfReachIsNotFound, OutOfReachIsAsAbsent};
+ghost use Rattle.serve.specs.Custody.{StepsChangeWhatTheyName, LocksAreKept, StepsAreRepeatable, RepeatsLeaveTheWorkspace, LockedTellsTheHolder};
+
+/// The steps of a list ask one list of things.
+pub fn one_asking()
+    ensures { OneAsking }
+{}
+
+/// Two worlds: whoever's runs are, of an organization, those of its own machine (as `replay`'s are, by
+/// its clause `isolation`) gives it equal replies and equal records afterwards where they begin with
+/// equal records of it and ask the same in its own steps, whatever else differs.
+pub fn two_worlds()
+    ensures { TwoWorlds }
+{}
+
+/// Own steps that came alike, moments and bytes or commands, ask the same.
+pub fn same_steps_ask_the_same()
+    ensures { SameStepsAskTheSame }
+{}
+
+/// A refusal leaves the record equal, of every step.
+pub fn refusals_change_nothing()
+    ensures { RefusalsChangeNothing }
+{}
+
+/// A request whose caller and role pass, and which is out of the caller's reach, is answered
+/// `not-found`, whatever it asks: PUT of a workspace and the list of workspaces, too.
+pub fn out_of_reach_is_not_found()
+    ensures { OutOfReachIsNotFound }
+{}
+
+/// A request that is out of the caller's reach has the answer of the same request on a workspace that
+/// the caller's own organization lacks, and changes nothing either.
+pub fn out_of_reach_is_as_absent()
+    ensures { OutOfReachIsAsAbsent }
+{}
+
+/// A step changes at most the workspace that it names.
+pub fn steps_change_what_they_name()
+    ensures { StepsChangeWhatTheyName }
+{}
+
+/// What a step of an organization's machine leaves of a workspace that a lock holds, of every record:
+/// the workspace; its versions, or the step carried the lock's ID; and the lock with its text, or the
+/// step released it.
+pub fn locks_are_kept()
+    ensures { LocksAreKept }
+{}
+
+/// What is asked again, at whatever moment, while the record is as the first time left it, changes nothing more.
+pub fn steps_are_repeatable()
+    ensures { StepsAreRepeatable }
+{}
+
+/// What was accepted and is asked again, at whatever moment, while its workspace is as the first time
+/// left it, changes nothing more.
+pub fn repeats_leave_the_workspace()
+    ensures { RepeatsLeaveTheWorkspace }
+{}
+
+/// The body of a 423 is the holder's.
+pub fn locked_tells_the_holder()
+    ensures { LockedTellsTheHolder }
+{}
