@@ -5,7 +5,7 @@ use Rattle.std.specs.List.{flat_map}
 use Rattle.std.specs.Io.KnownBytes.{Appends}
 use Rattle.serve.specs.declared.steps.Step.{Step}
 use Rattle.machine.specs.declared.records.Organization.{Organization}
-use Rattle.serve.specs.Asks.{Ask}
+use Rattle.serve.specs.Asks.{Ask, Owner}
 use Rattle.serve.specs.Service.{AreAsked}
 use Rattle.serve.specs.Runs.{AreOwnReplies}
 use Rattle.custody.specs.Frames.{AreFrames}
@@ -34,7 +34,7 @@ no_rows org = None
 -- organization, and of nobody, those that its own machine says
 pub record AreReplies (steps : List Step) (replies : List (List ℕ)) : Type 0 where
   pub one_each : length replies ≡ length steps
-  pub own : (asked : List Ask) → AreAsked steps asked → (owner : Option (List ℕ)) → AreOwnReplies asked no_rows replies owner
+  pub own : (asked : List Ask) → AreAsked steps asked → (owner : Owner) → AreOwnReplies asked no_rows replies owner
 
 -- the replies to the frames of the bytes, and the place of the bad frame behind them, counted from 1
 abbrev pub Answers : List ℕ → List (List ℕ) → Option ℕ → Type 0

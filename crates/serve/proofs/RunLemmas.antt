@@ -243,3 +243,14 @@ same_steps org steps others asked other are are' same =
     all_asked_one (own_steps org steps asked) (own_asks (organization org) asked) (own_asks (organization org) other)
     (own_are_asked org steps asked are)
     (subst (λ (xs : List Step). AreAsked xs (own_asks (organization org) other)) (sym same) (own_are_asked org others other are'))
+
+-- no reply is the operator's over all organizations
+none_at_operator : (asked : List Ask) (ts : List (List ℕ)) → replies_at operator asked ts ≡ []
+none_at_operator [] ts = refl
+none_at_operator (a ∷ asked) [] = refl
+none_at_operator (a ∷ asked) (t ∷ ts) = ap (λ (b : Bool). with_own b t (replies_at operator asked ts)) (not_operator a) ∙ none_at_operator asked ts
+
+pub no_operator : (asked : List Ask) (rows : List ℕ → Option Organization) (ts : List (List ℕ)) → AreOwnReplies asked rows ts operator
+no_operator asked rows ts =
+    subst (λ (xs : List (List ℕ)). AreTexts (own_said None (own_asks operator asked)) xs) (sym (none_at_operator asked ts))
+    (subst (λ (xs : List Ask). AreTexts (own_said None xs) []) (sym (none_of_operator asked)) tt)
