@@ -9,12 +9,13 @@ use Rattle.machine.specs.Workspaces.{newest, new_workspace, holder_status, max_v
 use Rattle.machine.specs.Writing.{may_write}
 use Rattle.machine.specs.Settling.{first_waiting, to_start, started, started_if, settled}
 use Rattle.machine.specs.Succession.{Succession, first, same, other_lineage, old_serial, next, succession}
-use Rattle.machine.specs.Rules.{Outcome, refused, done, rules, refused_by, by_may_write, by_succession, numbered_update, number_left, with_version, with_settings, done_with, done_already, purge, purged, lock, locked, unlock, released, is_released, force_unlock}
+use Rattle.machine.specs.Rules.{Outcome, refused, Ruling, rules_missing, done, rules, refused_by, by_may_write, by_succession, numbered_update, number_left, with_version, with_settings, done_with, done_already, purge, purged, lock, locked, unlock, released, is_released, force_unlock}
 use Rattle.machine.specs.Custody.{VersionsChangeByTheId, HoldsUntilReleased, LockedWorkspacesStay, RepeatsChangeNothing, IsRefusal}
 use Rattle.machine.specs.Records.{Seen, missing, there}
 use Rattle.machine.specs.Effects.{effect}
+use Rattle.machine.proofs.MissingLemmas.{IsPut, Misses, put_or_missed}
 use Rattle.machine.specs.declared.acts.Act.{Act}
-use Rattle.machine.specs.declared.acts.Act.TheVariants.{PutWorkspace, UpdateState, ReadState, PurgeState, Lock as LockAct, Unlock, ForceUnlock}
+use Rattle.machine.specs.declared.acts.Act.TheVariants.{PutWorkspace, ReadWorkspace, UpdateState, ReadState, PurgeState, Lock as LockAct, Unlock, ForceUnlock}
 use Rattle.machine.specs.declared.records.Holder.{Holder}
 use Rattle.machine.specs.declared.records.Holder.TheVariants.{Nobody, Lock, Run as HoldingRun}
 use Rattle.machine.specs.declared.records.Version.{Version}
@@ -202,19 +203,22 @@ made_again settings now later v e = let same_one : new_workspace settings ≡ v 
 
 -- repeats change nothing
 pub repeats : RepeatsChangeNothing
-repeats (PutWorkspace settings) now later (missing true) v may e = made_again settings now later v e
-repeats (PutWorkspace settings) now later (missing false) v may e = absurd (let none : ⊥ = cc in none)
-repeats (UpdateState head text id) now later (missing room) v may e = absurd (let none : ⊥ = cc in none)
-repeats ReadState now later (missing room) v may e = absurd (let none : ⊥ = cc in none)
-repeats (PurgeState id) now later (missing room) v may e = absurd (let none : ⊥ = cc in none)
-repeats (LockAct id text) now later (missing room) v may e = absurd (let none : ⊥ = cc in none)
-repeats (Unlock id) now later (missing room) v may e = absurd (let none : ⊥ = cc in none)
-repeats ForceUnlock now later (missing room) v may e = absurd (let none : ⊥ = cc in none)
+repeats act now later (missing room) v may e = by_act (put_or_missed act)
+  where
+    made : (room : Bool) (settings : Settings) → (rules_missing (PutWorkspace settings) room).left ≡ Some v → (rules (PutWorkspace settings) later (there v)).left ≡ Some v
+    made true settings e = made_again settings now later v e
+    made false settings e = absurd (let none : ⊥ = cc in none)
+
+    by_act : IsPut act ⊎ Misses act → (rules act later (there v)).left ≡ Some v
+    by_act (inl put) =
+        subst (λ (a : Act). (rules a later (there v)).left ≡ Some v) (sym put.1) (made room put.0 (subst (λ (a : Act). (rules_missing a room).left ≡ Some v) put.1 e))
+    by_act (inr misses) = absurd (let none : ⊥ = cc (sym (ap (λ (r : Ruling). r.left) (misses room).0) ∙ e) in none)
 repeats (PutWorkspace settings) now later (there w) v may e =
     let u : Workspace = with_settings w settings in
     again (PutWorkspace settings) now later w (settled u) refl (ap Some (ap settled (settings_stay w settings (to_start w.holder (first_waiting w.runs))) ∙ settled_twice u)) v e
 repeats (UpdateState head text id) now later (there w) v may e =
     update_again head text id now later w (update_becomes head text w (may_write w.holder (holder_status w.holder w.runs) id)) v e
+repeats ReadWorkspace now later (there w) v may e = refl
 repeats ReadState now later (there w) v may e = refl
 repeats (PurgeState id) now later (there w) v may e = purge_again id now later w (purge_becomes w (may_write w.holder (holder_status w.holder w.runs) id)) v e
 repeats (LockAct id text) now later (there w) v may e = lock_again id text now later w (lock_becomes id text w w.holder) v e
@@ -252,6 +256,7 @@ holds_until_released (PutWorkspace settings) now w v held text e h =
     inl (holder_of_same (settled u) v held text h (holder_stays u held text e))
 holds_until_released (UpdateState head state id) now w v held text e h =
     inl (held_by head state now w v held text (λ t. (rules (UpdateState head state id) t (there w)).left) e (update_becomes head state w (may_write w.holder (holder_status w.holder w.runs) id)) h)
+holds_until_released ReadWorkspace now w v held text e h = inl (holder_of_same w v held text h e)
 holds_until_released ReadState now w v held text e h = inl (holder_of_same w v held text h e)
 holds_until_released (PurgeState id) now w v held text e h =
     inl (purge_held w v held text (rules (PurgeState id) now (there w)).left e (purge_becomes w (may_write w.holder (holder_status w.holder w.runs) id)) h)
@@ -291,6 +296,7 @@ versions_change_by_the_id (PutWorkspace settings) now w v held text lock e =
 versions_change_by_the_id (UpdateState head state given) now w v held text lock e =
     let after : Option Refusal → Option Workspace = λ m. (by_may_write m w head state now).left in
     kept_or_carried given w v held text after refl (subst (λ (h : Holder). after (may_write h (holder_status h w.runs) given) ≡ Some v) lock e)
+versions_change_by_the_id ReadWorkspace now w v held text lock e = inl (versions_of_same w w v e refl)
 versions_change_by_the_id ReadState now w v held text lock e = inl (versions_of_same w w v e refl)
 versions_change_by_the_id (PurgeState given) now w v held text lock e =
     let after : Option Refusal → Option Workspace = λ m. (purge m w).left in
@@ -320,6 +326,7 @@ pub workspaces_stay : (act : Act) (now : ℕ) (w : Workspace) → IsSome (rules 
 workspaces_stay (PutWorkspace settings) now w = refl
 workspaces_stay (UpdateState head state id) now w =
     some_after w (λ t. (rules (UpdateState head state id) t (there w)).left) head state now (update_becomes head state w (may_write w.holder (holder_status w.holder w.runs) id))
+workspaces_stay ReadWorkspace now w = refl
 workspaces_stay ReadState now w = refl
 workspaces_stay (PurgeState id) now w =
     some_of_two w (settled (purged w)) (rules (PurgeState id) now (there w)).left (purge_becomes w (may_write w.holder (holder_status w.holder w.runs) id))
@@ -332,12 +339,14 @@ locked_workspaces_stay act now w held text e = workspaces_stay act now w
 
 -- what is accepted leaves the workspace there
 pub accepted_stays : (act : Act) (now : ℕ) (s : Seen) → (IsRefusal (rules act now s).answer → ⊥) → IsSome (rules act now s).left
-accepted_stays (PutWorkspace settings) now (missing true) accepted = refl
-accepted_stays (PutWorkspace settings) now (missing false) accepted = absurd (accepted tt)
-accepted_stays (UpdateState head text id) now (missing room) accepted = absurd (accepted tt)
-accepted_stays ReadState now (missing room) accepted = absurd (accepted tt)
-accepted_stays (PurgeState id) now (missing room) accepted = absurd (accepted tt)
-accepted_stays (LockAct id text) now (missing room) accepted = absurd (accepted tt)
-accepted_stays (Unlock id) now (missing room) accepted = absurd (accepted tt)
-accepted_stays ForceUnlock now (missing room) accepted = absurd (accepted tt)
+accepted_stays act now (missing room) accepted = by_act (put_or_missed act)
+  where
+    made : (room : Bool) (settings : Settings) → (IsRefusal (rules_missing (PutWorkspace settings) room).answer → ⊥) → IsSome (rules_missing (PutWorkspace settings) room).left
+    made true settings accepted = refl
+    made false settings accepted = absurd (accepted tt)
+
+    by_act : IsPut act ⊎ Misses act → IsSome (rules_missing act room).left
+    by_act (inl put) =
+        subst (λ (a : Act). IsSome (rules_missing a room).left) (sym put.1) (made room put.0 (λ is. accepted (subst (λ (a : Act). IsRefusal (rules_missing a room).answer) (sym put.1) is)))
+    by_act (inr misses) = absurd (accepted (subst (λ (r : Ruling). IsRefusal r.answer) (sym (misses room).0) tt))
 accepted_stays act now (there w) accepted = workspaces_stay act now w

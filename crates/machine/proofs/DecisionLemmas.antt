@@ -2,18 +2,18 @@
 use Rattle.std.specs.FinMap.{get}
 use Rattle.basis.specs.declared.rows.Settings.{Settings}
 use Rattle.machine.specs.declared.records.Organization.{Organization}
-use Rattle.std.proofs.Common.{◌≡◌, ℕ, ◌+◌, ◌-◌, ◌==◌, nat_lt, Bool, true, false, cond, List, [], ◌∷◌, ◌++◌, drop, Option, Some, None, option_map, Result, Ok, Err, IfOk, refl, sym, ap, subst, ◌∙◌, length-append, eq-eqb}
+use Rattle.std.proofs.Common.{◌≡◌, ◌⊎◌, inl, inr, ℕ, ◌+◌, ◌-◌, ◌==◌, nat_lt, Bool, true, false, cond, List, [], ◌∷◌, ◌++◌, drop, Option, Some, None, option_map, Result, Ok, Err, IfOk, refl, sym, ap, subst, ◌∙◌, length-append, eq-eqb}
 use Rattle.std.specs.Str.{bytes_eq}
 use Rattle.basis.specs.declared.refusals.Refusal.{Refusal}
 use Rattle.basis.specs.declared.rows.StateHead.{StateHead}
 use Rattle.machine.specs.Workspaces.{newest, holder_status}
 use Rattle.machine.specs.Writing.{may_write}
 use Rattle.machine.specs.Succession.{after_newest, lineages_differ, same, other_lineage, old_serial, next}
-use Rattle.machine.specs.Rules.{rules, done, by_may_write, by_succession, numbered_update, number_left, state_answer, workspace, with_settings, purge, lock, unlock, force_unlock, is_released, released, done_with, done_already, refused_by, shown_of, rules_there, rules_missing, Ruling}
+use Rattle.machine.specs.Rules.{holder_id, rules, done, by_may_write, by_succession, numbered_update, number_left, state_answer, workspace, with_settings, purge, lock, unlock, force_unlock, is_released, released, done_with, done_already, refused_by, shown_of, rules_there, rules_missing, Ruling}
 use Rattle.machine.specs.Settling.{first_waiting, to_start, started_if}
 use Rattle.machine.specs.Units.{unit_of, workspace_unit, newest_unit, version_of, unit_by}
 use Rattle.machine.specs.declared.acts.Act.{Act}
-use Rattle.machine.specs.declared.acts.Act.TheVariants.{PutWorkspace, UpdateState, ReadState, PurgeState, Lock as LockAct, Unlock, ForceUnlock}
+use Rattle.machine.specs.declared.acts.Act.TheVariants.{PutWorkspace, ReadWorkspace, UpdateState, ReadState, PurgeState, Lock as LockAct, Unlock, ForceUnlock}
 use Rattle.machine.specs.declared.acts.Decision.{Decision}
 use Rattle.machine.specs.declared.acts.Decision.TheVariants.{Refused, Accepted}
 use Rattle.machine.specs.declared.acts.Answer.TheVariants.{Done}
@@ -30,6 +30,7 @@ use Rattle.machine.specs.Inner.Decisions.{decision_of, decided_update, decided_a
 use Rattle.machine.specs.Laws.{IsLawfulOrganization}
 use Rattle.machine.specs.Records.{Seen, seen_by, standing, count_of, seen_in}
 use Rattle.machine.specs.Ranges.{IsInRange, IsMoment}
+use Rattle.machine.proofs.MissingLemmas.{IsPut, Misses, put_or_missed}
 
 -- the newest version is the last of its number
 pub version_of-newest : (vs : List Version) (v : Version) → newest vs ≡ Some v → version_of v.number vs ≡ Some v
@@ -118,8 +119,15 @@ put_model w settings None (Some n) e = rw e refl
 put_model w settings (Some v) None e = rw e refl
 put_model w settings (Some v) (Some n) e = rw e refl
 
+shown_model : (w : Workspace) (o : Option Version) → newest w.versions ≡ o
+    → effect (workspace (record { auto_apply = w.auto_apply; holder = holder_id w.holder; version = option_map (λ (v : Newest). v.number) (option_map (newest_unit ReadWorkspace) (newest w.versions)) })) (Some w)
+    ≡ effect (workspace (shown_of w)) (Some w)
+shown_model w None e = rw e refl
+shown_model w (Some v) e = rw e refl
+
 there_model : (o : Organization) (w : Workspace) (act : Act) (now : ℕ) → meaning (decision_of (unit_by o act (Some w)) act now) (Some w) ≡ rules_there act now w
 there_model o w (PutWorkspace settings) now = put_model w settings (newest w.versions) (to_start w.holder (first_waiting w.runs)) refl
+there_model o w ReadWorkspace now = shown_model w (newest w.versions) refl
 there_model o w (UpdateState head text id) now = update_model w head text id now (may_write w.holder (holder_status w.holder w.runs) id)
 there_model o w ReadState now = read_model w (newest w.versions) refl
 there_model o w (PurgeState id) now = purge_model w id (may_write w.holder (holder_status w.holder w.runs) id)
@@ -128,14 +136,15 @@ there_model o w (Unlock id) now = unlock_model id w w.holder
 there_model o w ForceUnlock now = force_model w w.holder
 
 missing_model : (act : Act) (room : Bool) → meaning (decision_missing act room) None ≡ rules_missing act room
-missing_model (PutWorkspace settings) true = refl
-missing_model (PutWorkspace settings) false = refl
-missing_model (UpdateState head text id) room = refl
-missing_model ReadState room = refl
-missing_model (PurgeState id) room = refl
-missing_model (LockAct id text) room = refl
-missing_model (Unlock id) room = refl
-missing_model ForceUnlock room = refl
+missing_model act room = by_act (put_or_missed act)
+  where
+    made : (room : Bool) (settings : Settings) → meaning (decision_missing (PutWorkspace settings) room) None ≡ rules_missing (PutWorkspace settings) room
+    made true settings = refl
+    made false settings = refl
+
+    by_act : IsPut act ⊎ Misses act → meaning (decision_missing act room) None ≡ rules_missing act room
+    by_act (inl put) = subst (λ (a : Act). meaning (decision_missing a room) None ≡ rules_missing a room) (sym put.1) (made room put.0)
+    by_act (inr misses) = ap (λ (d : Decision). meaning d None) (misses room).1 ∙ sym (misses room).0
 
 model : (o : Organization) (w : Option Workspace) (act : Act) (now : ℕ)
     → meaning (decision_of (unit_by o act w) act now) (standing (seen_by (nat_lt (count_of o) o.limit) w)) ≡ rules act now (seen_by (nat_lt (count_of o) o.limit) w)

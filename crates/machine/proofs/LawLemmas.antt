@@ -1,5 +1,5 @@
 -- The rules keep the laws of a workspace.
-use Rattle.std.proofs.Common.{◌≡◌, ℕ, ◌+◌, ◌-◌, ◌<◌, ◌≤◌, nat_le, Bool, true, false, cond, List, [], ◌∷◌, ◌++◌, length, drop, map, suc, zero, ◌&&◌, not, Option, Some, None, IsTrue, refl, sym, subst, ◌∙◌, arith, length-drop}
+use Rattle.std.proofs.Common.{◌≡◌, ◌⊎◌, inl, inr, ℕ, ◌+◌, ◌-◌, ◌<◌, ◌≤◌, nat_le, Bool, true, false, cond, List, [], ◌∷◌, ◌++◌, length, drop, map, suc, zero, ◌&&◌, not, Option, Some, None, IsTrue, refl, sym, subst, ◌∙◌, arith, length-drop}
 use Rattle.std.specs.Prelude.{find, option_map}
 use Rattle.std.specs.List.{AllByRecursion}
 use Rattle.std.proofs.lemmas.Bool.{leb-true}
@@ -9,10 +9,12 @@ use Rattle.machine.specs.Laws.{IsLawful, IsVersion, Rises, IsRun, is_pending, is
 use Rattle.machine.specs.Ranges.{IsHead, IsInRange, IsMoment}
 use Rattle.machine.specs.Records.{Seen, missing, there, standing}
 use Rattle.machine.specs.Effects.{effect}
+use Rattle.basis.specs.declared.rows.Settings.{Settings}
+use Rattle.machine.proofs.MissingLemmas.{IsPut, Misses, put_or_missed}
 use Rattle.machine.specs.Workspaces.{max_versions, holder_status}
 use Rattle.machine.specs.Writing.{may_write}
 use Rattle.machine.specs.Succession.{Succession, first, same, other_lineage, old_serial, next, succession}
-use Rattle.machine.specs.Rules.{Outcome, refused, rules, by_may_write, by_succession, numbered_update, number_left, with_version, max_number, with_settings, refused_by, done_with, done_already, purge, purged, lock, unlock, released, is_released, force_unlock}
+use Rattle.machine.specs.Rules.{Outcome, refused, Ruling, rules_missing, rules, by_may_write, by_succession, numbered_update, number_left, with_version, max_number, with_settings, refused_by, done_with, done_already, purge, purged, lock, unlock, released, is_released, force_unlock}
 use Rattle.machine.specs.Settling.{is_waiting, first_waiting, to_start, started_if, settled}
 use Rattle.machine.proofs.SettlingLemmas.{release_is_lawful}
 use Rattle.machine.specs.declared.records.Holder.{Holder}
@@ -21,7 +23,7 @@ use Rattle.machine.specs.declared.records.Run.{Run}
 use Rattle.basis.specs.Names.{is_free_id}
 use Rattle.std.specs.Str.{bytes_eq}
 use Rattle.machine.specs.declared.acts.Act.{Act}
-use Rattle.machine.specs.declared.acts.Act.TheVariants.{PutWorkspace, UpdateState, ReadState, PurgeState, Lock as LockAct, Unlock, ForceUnlock}
+use Rattle.machine.specs.declared.acts.Act.TheVariants.{PutWorkspace, ReadWorkspace, UpdateState, ReadState, PurgeState, Lock as LockAct, Unlock, ForceUnlock}
 use Rattle.machine.specs.declared.records.Version.{Version}
 use Rattle.machine.specs.declared.records.Workspace.{Workspace}
 
@@ -179,19 +181,21 @@ update_is_lawful w head text now (Some refusal) range moment lawful = lawful
 update_is_lawful w head text now None range moment lawful = succession_is_lawful w head text now (succession w.versions text head) range moment lawful
 
 pub rules_are_lawful : (act : Act) (now : ℕ) (s : Seen) → IsInRange act → IsMoment now → IsLawfulIfThere (standing s) → IsLawfulIfThere (rules act now s).left
-rules_are_lawful (PutWorkspace settings) now (missing true) range moment lawful = record {
-  versions = record { next = (omega arith, omega arith); rise = tt; each = tt; kept = omega arith };
-  runs = record { next = (omega arith, omega arith); rise = tt; each = tt; open_runs = omega arith; keys = tt; held = tt };
-  released = tt;
-}
-rules_are_lawful (PutWorkspace settings) now (missing false) range moment lawful = tt
-rules_are_lawful (UpdateState head text id) now (missing room) range moment lawful = tt
-rules_are_lawful ReadState now (missing room) range moment lawful = tt
-rules_are_lawful (PurgeState id) now (missing room) range moment lawful = tt
-rules_are_lawful (LockAct id text) now (missing room) range moment lawful = tt
-rules_are_lawful (Unlock id) now (missing room) range moment lawful = tt
-rules_are_lawful ForceUnlock now (missing room) range moment lawful = tt
+rules_are_lawful act now (missing room) range moment lawful = by_act (put_or_missed act)
+  where
+    made : (room : Bool) (settings : Settings) → IsLawfulIfThere (rules_missing (PutWorkspace settings) room).left
+    made true settings = record {
+      versions = record { next = (omega arith, omega arith); rise = tt; each = tt; kept = omega arith };
+      runs = record { next = (omega arith, omega arith); rise = tt; each = tt; open_runs = omega arith; keys = tt; held = tt };
+      released = tt;
+    }
+    made false settings = tt
+
+    by_act : IsPut act ⊎ Misses act → IsLawfulIfThere (rules_missing act room).left
+    by_act (inl put) = subst (λ (a : Act). IsLawfulIfThere (rules_missing a room).left) (sym put.1) (made room put.0)
+    by_act (inr misses) = subst (λ (r : Ruling). IsLawfulIfThere r.left) (sym (misses room).0) tt
 rules_are_lawful (PutWorkspace settings) now (there w) range moment lawful = still_is_lawful (with_settings w settings) (record { versions = lawful.versions; runs = lawful.runs; released = lawful.released })
+rules_are_lawful ReadWorkspace now (there w) range moment lawful = lawful
 rules_are_lawful (UpdateState head text id) now (there w) range moment lawful = update_is_lawful w head text now (may_write w.holder (holder_status w.holder w.runs) id) range moment lawful
 rules_are_lawful ReadState now (there w) range moment lawful = lawful
 rules_are_lawful (PurgeState id) now (there w) range moment lawful = purge_is_lawful (may_write w.holder (holder_status w.holder w.runs) id) w lawful

@@ -1,6 +1,7 @@
 pub mod SettlingLemmas
 pub mod SettlesLemmas
 pub mod Examples
+pub mod MissingLemmas
 pub mod LawLemmas
 pub mod DecisionLemmas
 pub mod MapLemmas

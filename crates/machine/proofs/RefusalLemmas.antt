@@ -1,11 +1,13 @@
 -- Refusals: they change nothing, they tell the holder, and an accepted write carried the holder's ID.
-use Rattle.std.proofs.Common.{◌≡◌, ℕ, Bool, true, false, cond, List, Option, Some, None, refl, sym, ap, subst, ◌∙◌}
+use Rattle.std.proofs.Common.{◌≡◌, ◌⊎◌, inl, inr, ℕ, Bool, true, false, cond, List, Option, Some, None, refl, sym, ap, subst, ◌∙◌}
 use Rattle.std.specs.Str.{bytes_eq}
 use Rattle.std.proofs.lemmas.Slice.Eq.{bytes_eq-Decides}
 use Rattle.basis.specs.Names.{run_id}
 use Rattle.basis.specs.declared.refusals.Refusal.{Refusal}
 use Rattle.basis.specs.declared.refusals.Refusal.TheVariants.{BadMessage, TwoTokens, BadQuery, BadDigest, BadState, BadLock, BadBody, NoToken, BadToken, NeedWrite, NeedAdmin, NoRoute, NotFound, NoMethod, NotHeld, NotApplying, OtherLineage, OldSerial, WrongState, HeldByRun, OpenRuns, OverLimit, NoLength, TooLarge, Locked, HeadTooLarge, Unavailable}
+use Rattle.basis.specs.declared.rows.Settings.{Settings}
 use Rattle.basis.specs.declared.rows.StateHead.{StateHead}
+use Rattle.machine.proofs.MissingLemmas.{IsPut, Misses, put_or_missed}
 use Rattle.basis.specs.declared.runs.RunStatus.{RunStatus}
 use Rattle.basis.specs.declared.runs.RunStatus.TheVariants.{Pending, Planning, Planned, Applying, Applied, PlannedAndFinished, Errored, Discarded, Canceled}
 use Rattle.machine.specs.Effects.{effect}
@@ -16,7 +18,7 @@ use Rattle.machine.specs.Succession.{Succession, first, same, other_lineage, old
 use Rattle.machine.specs.Rules.{Outcome, refused, held, done, Ruling, rules, rules_missing, refused_by, by_may_write, by_succession, numbered_update, number_left, done_with, done_already, purge, lock, unlock, released, is_released, force_unlock, state_answer}
 use Rattle.machine.specs.Custody.{IsRefusal, IsWriter, RefusalsChangeNothing, RefusalsTellTheHolder, WritesCarryTheId}
 use Rattle.machine.specs.declared.acts.Act.{Act}
-use Rattle.machine.specs.declared.acts.Act.TheVariants.{PutWorkspace, UpdateState, ReadState, PurgeState, Lock as LockAct, Unlock, ForceUnlock}
+use Rattle.machine.specs.declared.acts.Act.TheVariants.{PutWorkspace, ReadWorkspace, UpdateState, ReadState, PurgeState, Lock as LockAct, Unlock, ForceUnlock}
 use Rattle.machine.specs.declared.records.Holder.{Holder}
 use Rattle.machine.specs.declared.records.Holder.TheVariants.{Nobody, Lock, Run}
 use Rattle.machine.specs.declared.records.Version.{Version}
@@ -128,16 +130,19 @@ force_leaves w (Lock id_held text) is = absurd is
 force_leaves w (Run n) is = refl
 
 pub refusals_change_nothing : RefusalsChangeNothing
-refusals_change_nothing (PutWorkspace settings) now (missing true) is = absurd is
-refusals_change_nothing (PutWorkspace settings) now (missing false) is = refl
-refusals_change_nothing (UpdateState head text id) now (missing room) is = refl
-refusals_change_nothing ReadState now (missing room) is = refl
-refusals_change_nothing (PurgeState id) now (missing room) is = refl
-refusals_change_nothing (LockAct id text) now (missing room) is = refl
-refusals_change_nothing (Unlock id) now (missing room) is = refl
-refusals_change_nothing ForceUnlock now (missing room) is = refl
+refusals_change_nothing act now (missing room) is = by_act (put_or_missed act)
+  where
+    made : (room : Bool) (settings : Settings) → IsRefusal (rules_missing (PutWorkspace settings) room).answer → (rules_missing (PutWorkspace settings) room).left ≡ None
+    made true settings is = absurd is
+    made false settings is = refl
+
+    by_act : IsPut act ⊎ Misses act → (rules_missing act room).left ≡ None
+    by_act (inl put) =
+        subst (λ (a : Act). (rules_missing a room).left ≡ None) (sym put.1) (made room put.0 (subst (λ (a : Act). IsRefusal (rules_missing a room).answer) put.1 is))
+    by_act (inr misses) = ap (λ (r : Ruling). r.left) (misses room).0
 refusals_change_nothing (PutWorkspace settings) now (there w) is = absurd is
 refusals_change_nothing (UpdateState head text id) now (there w) is = update_leaves w head text now (may_write w.holder (holder_status w.holder w.runs) id) is
+refusals_change_nothing ReadWorkspace now (there w) is = refl
 refusals_change_nothing ReadState now (there w) is = refl
 refusals_change_nothing (PurgeState id) now (there w) is = purge_leaves w (may_write w.holder (holder_status w.holder w.runs) id) is
 refusals_change_nothing (LockAct id text) now (there w) is = lock_leaves id text w w.holder is
@@ -196,6 +201,7 @@ force_tells w (Run n) holder e = run_tells w.holder holder e
 pub refusals_tell_the_holder : RefusalsTellTheHolder
 refusals_tell_the_holder (PutWorkspace settings) now w holder e = absurd (let none : ⊥ = cc in none)
 refusals_tell_the_holder (UpdateState head text id) now w holder e = update_tells w head text now (may_write w.holder (holder_status w.holder w.runs) id) holder e
+refusals_tell_the_holder ReadWorkspace now w holder e = absurd (let none : ⊥ = cc in none)
 refusals_tell_the_holder ReadState now w holder e = read_tells (newest w.versions) e
   where
     read_tells : (o : Option Version) → state_answer o ≡ held holder → holder ≡ w.holder
@@ -244,6 +250,7 @@ writes_carry_the_id (PutWorkspace settings) now w id writes e = absurd writes
 writes_carry_the_id (UpdateState head state given) now w id writes e =
     subst (IsWriter w.holder (holder_status w.holder w.runs)) writes
     (writer w.holder (holder_status w.holder w.runs) given (λ m. (by_may_write m w head state now).answer) (λ refusal is. never_done refusal w.holder is) e)
+writes_carry_the_id ReadWorkspace now w id writes e = absurd writes
 writes_carry_the_id ReadState now w id writes e = absurd writes
 writes_carry_the_id (PurgeState given) now w id writes e =
     subst (IsWriter w.holder (holder_status w.holder w.runs)) writes
@@ -254,14 +261,15 @@ writes_carry_the_id ForceUnlock now w id writes e = absurd writes
 
 -- a workspace that is missing has no holder to tell
 pub missing_tells_no_holder : (act : Act) (room : Bool) (holder : Holder) → (rules_missing act room).answer ≡ held holder → ⊥
-missing_tells_no_holder (PutWorkspace settings) true holder e = cc
-missing_tells_no_holder (PutWorkspace settings) false holder e = cc
-missing_tells_no_holder (UpdateState head text id) room holder e = cc
-missing_tells_no_holder ReadState room holder e = cc
-missing_tells_no_holder (PurgeState id) room holder e = cc
-missing_tells_no_holder (LockAct id text) room holder e = cc
-missing_tells_no_holder (Unlock id) room holder e = cc
-missing_tells_no_holder ForceUnlock room holder e = cc
+missing_tells_no_holder act room holder e = by_act (put_or_missed act)
+  where
+    made : (room : Bool) (settings : Settings) → (rules_missing (PutWorkspace settings) room).answer ≡ held holder → ⊥
+    made true settings e = cc
+    made false settings e = cc
+
+    by_act : IsPut act ⊎ Misses act → ⊥
+    by_act (inl put) = made room put.0 (subst (λ (a : Act). (rules_missing a room).answer ≡ held holder) put.1 e)
+    by_act (inr misses) = let none : ⊥ = cc (sym (ap (λ (r : Ruling). r.answer) (misses room).0) ∙ e) in none
 
 -- what is refused since somebody holds tells who
 abbrev pub IsOther : Outcome → Type 0
@@ -346,19 +354,21 @@ state_other None e = cc
 state_other (Some v) e = cc
 
 missing_other : (act : Act) (room : Bool) → IsOther (rules_missing act room).answer
-missing_other (PutWorkspace settings) true e = cc
-missing_other (PutWorkspace settings) false e = cc
-missing_other (UpdateState head text id) room e = cc
-missing_other ReadState room e = cc
-missing_other (PurgeState id) room e = cc
-missing_other (LockAct id text) room e = cc
-missing_other (Unlock id) room e = cc
-missing_other ForceUnlock room e = cc
+missing_other act room e = by_act (put_or_missed act)
+  where
+    made : (room : Bool) (settings : Settings) → IsOther (rules_missing (PutWorkspace settings) room).answer
+    made true settings e = cc
+    made false settings e = cc
+
+    by_act : IsPut act ⊎ Misses act → ⊥
+    by_act (inl put) = made room put.0 (subst (λ (a : Act). (rules_missing a room).answer ≡ refused Locked) put.1 e)
+    by_act (inr misses) = let none : ⊥ = cc (sym (ap (λ (r : Ruling). r.answer) (misses room).0) ∙ e) in none
 
 pub never_refused_as_locked : (act : Act) (now : ℕ) (s : Seen) → IsOther (rules act now s).answer
 never_refused_as_locked act now (missing room) e = missing_other act room e
 never_refused_as_locked (PutWorkspace settings) now (there w) e = cc
 never_refused_as_locked (UpdateState head text id) now (there w) e = update_other w head text now (may_write w.holder (holder_status w.holder w.runs) id) e
+never_refused_as_locked ReadWorkspace now (there w) e = cc
 never_refused_as_locked ReadState now (there w) e = state_other (newest w.versions) e
 never_refused_as_locked (PurgeState id) now (there w) e = purge_other w (may_write w.holder (holder_status w.holder w.runs) id) e
 never_refused_as_locked (LockAct id text) now (there w) e = lock_other id text w w.holder e

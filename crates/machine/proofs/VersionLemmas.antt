@@ -18,7 +18,7 @@ use Rattle.machine.proofs.LawLemmas.{number_left-is}
 use Rattle.machine.proofs.PlainLemmas.{find_last_push}
 use Rattle.machine.proofs.RefusalLemmas.{never_done}
 use Rattle.machine.specs.declared.acts.Act.{Act}
-use Rattle.machine.specs.declared.acts.Act.TheVariants.{PutWorkspace, UpdateState, ReadState, PurgeState, Lock as LockAct, Unlock, ForceUnlock}
+use Rattle.machine.specs.declared.acts.Act.TheVariants.{PutWorkspace, ReadWorkspace, UpdateState, ReadState, PurgeState, Lock as LockAct, Unlock, ForceUnlock}
 use Rattle.machine.specs.declared.records.Version.{Version}
 use Rattle.machine.specs.declared.records.Workspace.{Workspace}
 
@@ -164,6 +164,7 @@ unlock_numbers w v after e (inr h) = settled_numbers w (released h.0 w) v (sym h
 pub numbers_rise : NumbersRise
 numbers_rise (PutWorkspace settings) now w v e = settled_numbers w (with_settings w settings) v e (kept_numbers w (with_settings w settings) refl refl refl)
 numbers_rise (UpdateState head text id) now w v e = update_numbers w v head text now (may_write w.holder (holder_status w.holder w.runs) id) e
+numbers_rise ReadWorkspace now w v e = same_numbers w v e
 numbers_rise ReadState now w v e = same_numbers w v e
 numbers_rise (PurgeState id) now w v e = purge_numbers w v (rules (PurgeState id) now (there w)).left e (purge_becomes w (may_write w.holder (holder_status w.holder w.runs) id))
 numbers_rise (LockAct id text) now w v e = lock_numbers w v id text (rules (LockAct id text) now (there w)).left e (lock_becomes id text w w.holder)

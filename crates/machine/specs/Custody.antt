@@ -10,7 +10,7 @@ use Rattle.machine.specs.Rules.{Outcome, refused, held, done, no_state, state, w
 use Rattle.machine.specs.Units.{version_of}
 use Rattle.machine.specs.Workspaces.{newest, holder_status}
 use Rattle.machine.specs.declared.acts.Act.{Act}
-use Rattle.machine.specs.declared.acts.Act.TheVariants.{PutWorkspace, UpdateState, ReadState, PurgeState, Lock as LockAct, Unlock, ForceUnlock}
+use Rattle.machine.specs.declared.acts.Act.TheVariants.{PutWorkspace, ReadWorkspace, UpdateState, ReadState, PurgeState, Lock as LockAct, Unlock, ForceUnlock}
 use Rattle.machine.specs.declared.records.Holder.{Holder}
 use Rattle.machine.specs.declared.records.Holder.TheVariants.{Nobody, Lock, Run}
 use Rattle.machine.specs.declared.records.Version.{Version}
@@ -36,6 +36,7 @@ RefusalsTellTheHolder = (act : Act) (now : ℕ) (w : Workspace) (holder : Holder
 -- an act that writes: an update or a purge, with this ID
 abbrev pub WritesWith : Act → Option (List ℕ) → Type 0
 WritesWith (PutWorkspace settings) id = ⊥
+WritesWith ReadWorkspace id = ⊥
 WritesWith (UpdateState head text given) id = given ≡ id
 WritesWith ReadState id = ⊥
 WritesWith (PurgeState given) id = given ≡ id
@@ -62,6 +63,7 @@ VersionsChangeByTheId = (act : Act) (now : ℕ) (w v : Workspace) (own text : Li
 -- an act that releases the lock of this ID
 abbrev pub Releases : Act → List ℕ → Type 0
 Releases (PutWorkspace settings) own = ⊥
+Releases ReadWorkspace own = ⊥
 Releases (UpdateState head text id) own = ⊥
 Releases ReadState own = ⊥
 Releases (PurgeState id) own = ⊥
@@ -111,6 +113,7 @@ NumbersRise = (act : Act) (now : ℕ) (w v : Workspace) → (rules act now (ther
 -- an act that changes nothing more where it comes again
 abbrev pub IsRepeatable : Act → Type 0
 IsRepeatable (PutWorkspace settings) = ⊤
+IsRepeatable ReadWorkspace = ⊤
 IsRepeatable (UpdateState head text id) = ⊤
 IsRepeatable ReadState = ⊤
 IsRepeatable (PurgeState id) = ⊤

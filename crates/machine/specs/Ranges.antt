@@ -3,7 +3,7 @@ use Rattle.std.specs.Prelude.{ℕ, ◌^◌, ◌<◌, ◌≤◌, List, length, Is
 use Rattle.basis.specs.Names.{is_free_id}
 use Rattle.basis.specs.declared.rows.StateHead.{StateHead}
 use Rattle.machine.specs.declared.acts.Act.{Act}
-use Rattle.machine.specs.declared.acts.Act.TheVariants.{PutWorkspace, UpdateState, ReadState, PurgeState, Lock as LockAct, Unlock, ForceUnlock}
+use Rattle.machine.specs.declared.acts.Act.TheVariants.{PutWorkspace, ReadWorkspace, UpdateState, ReadState, PurgeState, Lock as LockAct, Unlock, ForceUnlock}
 
 -- what a state's head says is in range
 abbrev pub IsHead : StateHead → Type 0
@@ -16,6 +16,7 @@ IsMoment now = now ≤ 253_402_300_799
 -- the documents of an act are in their ranges
 abbrev pub IsInRange : Act → Type 0
 IsInRange (PutWorkspace settings) = ⊤
+IsInRange ReadWorkspace = ⊤
 IsInRange (UpdateState head text id) = IsHead head
 IsInRange ReadState = ⊤
 IsInRange (PurgeState id) = ⊤

@@ -15,7 +15,7 @@ use Rattle.machine.specs.Writing.{may_write}
 use Rattle.machine.specs.Settling.{settled}
 use Rattle.machine.specs.Succession.{Succession, first, same, other_lineage, old_serial, next, succession}
 use Rattle.machine.specs.declared.acts.Act.{Act}
-use Rattle.machine.specs.declared.acts.Act.TheVariants.{PutWorkspace, UpdateState, ReadState, PurgeState, Lock as LockAct, Unlock, ForceUnlock}
+use Rattle.machine.specs.declared.acts.Act.TheVariants.{PutWorkspace, ReadWorkspace, UpdateState, ReadState, PurgeState, Lock as LockAct, Unlock, ForceUnlock}
 use Rattle.machine.specs.declared.acts.Shown.{Shown}
 use Rattle.machine.specs.declared.records.Holder.{Holder}
 use Rattle.machine.specs.declared.records.Holder.TheVariants.{Nobody, Lock, Run}
@@ -158,6 +158,7 @@ rules_missing act room = effect (refused NotFound) None
 
 abbrev pub rules_there : Act → ℕ → Workspace → Ruling
 rules_there (PutWorkspace settings) now w = shown_with (with_settings w settings)
+rules_there ReadWorkspace now w = effect (workspace (shown_of w)) (Some w)
 rules_there (UpdateState head text id) now w = update w head text id now
 rules_there ReadState now w = effect (state_answer (newest w.versions)) (Some w)
 rules_there (PurgeState id) now w = purge (may_write w.holder (holder_status w.holder w.runs) id) w

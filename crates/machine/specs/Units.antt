@@ -7,7 +7,7 @@ use Rattle.machine.specs.Records.{count_of}
 use Rattle.machine.specs.Workspaces.{newest, holder_status}
 use Rattle.machine.specs.Settling.{first_waiting}
 use Rattle.machine.specs.declared.acts.Act.{Act}
-use Rattle.machine.specs.declared.acts.Act.TheVariants.{PutWorkspace, UpdateState, ReadState, PurgeState, Lock as LockAct, Unlock, ForceUnlock}
+use Rattle.machine.specs.declared.acts.Act.TheVariants.{PutWorkspace, ReadWorkspace, UpdateState, ReadState, PurgeState, Lock as LockAct, Unlock, ForceUnlock}
 use Rattle.machine.specs.declared.acts.Newest.{Newest}
 use Rattle.machine.specs.declared.acts.WorkspaceUnit.{WorkspaceUnit}
 use Rattle.machine.specs.declared.acts.Unit.{Unit as AnyUnit}
@@ -19,6 +19,7 @@ use Rattle.machine.specs.declared.records.Workspace.{Workspace}
 -- whether a text is the one that an act brings
 abbrev pub is_text_of : Act → List ℕ → Bool
 is_text_of (PutWorkspace settings) text = false
+is_text_of ReadWorkspace text = false
 is_text_of (UpdateState head asked id) text = bytes_eq text asked
 is_text_of ReadState text = false
 is_text_of (PurgeState id) text = false

@@ -10,6 +10,8 @@ use basis::{
 pub enum Act {
     /// Makes the workspace, or sets the settings of the one that is there.
     PutWorkspace(Settings),
+    /// The workspace as it is shown.
+    ReadWorkspace,
     /// Terraform's `POST` of a state, with the ID of the lock that the caller says it holds.
     UpdateState {
         head: StateHead,

@@ -4,7 +4,7 @@ ghost use Rattle.std.specs.Str.{bytes_eq};
 ghost use Rattle.machine.specs.Units.{unit_of};
 ghost use Rattle.machine.specs.Records.{seen_in};
 ghost use Rattle.machine.specs.Laws.{IsLawfulOrganization};
-ghost use Rattle.machine.specs.Inner.Decisions.{decision_of, decision_missing, decided_update, decided_after, decided_version, decided_read, decided_purge, decided_lock, decided_unlock, decided_force, changing, start_now, holder_after, shown_now, new_shown, Meets};
+ghost use Rattle.machine.specs.Inner.Decisions.{decision_of, decision_missing, decided_update, decided_after, decided_version, decided_read, decided_purge, decided_lock, decided_unlock, decided_force, changing, start_now, holder_after, shown_now, shown_held, new_shown, Meets};
 ghost use Rattle.machine.specs.Settling.{to_start};
 ghost use Rattle.machine.specs.Writing.{may_write, is_applying};
 ghost use Rattle.machine.specs.Succession.{lineages_differ};
@@ -13,7 +13,7 @@ ghost use Rattle.machine.specs.declared.records.Organization.{Organization as An
 ghost use Rattle.machine.specs.declared.records.Holder.TheVariants.{Run};
 ghost use Rattle.machine.specs.declared.acts.Unit.TheVariants.{Present};
 ghost use Rattle.machine.specs.declared.acts.Act.TheVariants.{PutWorkspace};
-ghost use Rattle.machine.specs.declared.acts.Answer.TheVariants.{Done};
+ghost use Rattle.machine.specs.declared.acts.Answer.TheVariants.{Done, Workspace as ShownWorkspace};
 ghost use Rattle.machine.specs.declared.acts.Edit.TheVariants.{Release};
 ghost use Rattle.machine.specs.declared.acts.Decision.TheVariants.{Accepted, Refused};
 
@@ -239,6 +239,20 @@ fn decide_put(unit: &WorkspaceUnit, settings: Settings) -> Result<Decision, Down
     ))
 }
 
+fn decide_show(unit: &WorkspaceUnit) -> Result<Decision, Down>
+    ensures { IfOk result (λ decision. decision ≡ Accepted (ShownWorkspace (shown_held unit.now)) None) }
+{
+    let shown = Shown {
+        auto_apply: unit.auto_apply,
+        holder: holder_id(&unit.holder)?,
+        version: number_of_newest(&unit.newest),
+    };
+    Ok(Decision::Accepted {
+        answer: Answer::Workspace(shown),
+        change: None,
+    })
+}
+
 fn decide_purge(unit: &WorkspaceUnit, id: &Option<LockId>) -> Decision
     ensures { result ≡ decided_purge (may_write unit.now.holder unit.now.holder_status id.now) unit.now }
 {
@@ -330,6 +344,7 @@ fn decide_present(unit: &WorkspaceUnit, act: &Act, now: Moment) -> Result<Decisi
 {
     match act {
         Act::PutWorkspace(settings) => decide_put(unit, *settings),
+        Act::ReadWorkspace => decide_show(unit),
         Act::UpdateState {
             head,
             text,
@@ -348,6 +363,7 @@ fn decide_missing(act: &Act, has_room: bool) -> Decision
 {
     match act {
         Act::PutWorkspace(settings) => decide_making(*settings, has_room),
+        Act::ReadWorkspace => Decision::Refused(Refusal::NotFound),
         Act::UpdateState { .. } => Decision::Refused(Refusal::NotFound),
         Act::ReadState => Decision::Refused(Refusal::NotFound),
         Act::PurgeState { .. } => Decision::Refused(Refusal::NotFound),

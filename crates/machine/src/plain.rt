@@ -400,6 +400,7 @@ fn is_text_of(act: &Act, text: &Bytes) -> bool
     match act {
         Act::UpdateState { text: asked, .. } => text.as_slice() == asked.as_slice(),
         Act::PutWorkspace(_) => false,
+        Act::ReadWorkspace => false,
         Act::ReadState => false,
         Act::PurgeState { .. } => false,
         Act::Lock { .. } => false,

@@ -20,7 +20,7 @@ use Rattle.machine.specs.Ranges.{IsHead, IsInRange}
 use Rattle.machine.specs.Records.{workspace_in}
 use Rattle.machine.specs.Tokens.{caller_of}
 use Rattle.machine.specs.declared.acts.Act.{Act}
-use Rattle.machine.specs.declared.acts.Act.TheVariants.{PutWorkspace as PutAct, UpdateState as UpdateAct, ReadState as ReadAct, PurgeState as PurgeAct, Lock as LockAct, Unlock as UnlockAct, ForceUnlock as ForceUnlockAct}
+use Rattle.machine.specs.declared.acts.Act.TheVariants.{PutWorkspace as PutAct, ReadWorkspace as ReadWorkspaceAct, UpdateState as UpdateAct, ReadState as ReadAct, PurgeState as PurgeAct, Lock as LockAct, Unlock as UnlockAct, ForceUnlock as ForceUnlockAct}
 use Rattle.machine.specs.declared.records.Token.{Token}
 use Rattle.machine.specs.declared.records.Organization.{Organization}
 use Rattle.route.specs.Policy.{role_refused, allowed_by}
@@ -134,7 +134,7 @@ unlock_in_range None act e = absurd (let none : ⊥ = cc in none)
 unlock_in_range (Some id) act e = subst IsInRange (is_one (UnlockAct id) act e) tt
 
 pub act_in_range : (what : WsAct) (id : Option (List ℕ)) (body : List ℕ) (act : Act) → act_of what id body ≡ Ok act → IsInRange act
-act_in_range Read id body act e = absurd (let none : ⊥ = cc in none)
+act_in_range Read id body act e = subst IsInRange (is_one ReadWorkspaceAct act e) tt
 act_in_range Put id body act e = put_in_range (settings_of body) act e
 act_in_range Delete id body act e = absurd (let none : ⊥ = cc in none)
 act_in_range ReadState id body act e = subst IsInRange (is_one ReadAct act e) tt

@@ -19,7 +19,7 @@ use Rattle.machine.specs.Tokens.{new_organization, token_of, with_token, has_dig
 use Rattle.machine.specs.declared.keeps.AdminAnswer.{AdminAnswer}
 use Rattle.machine.specs.declared.keeps.AdminAnswer.TheVariants.{Done, Exists}
 use Rattle.machine.specs.declared.acts.Act.{Act}
-use Rattle.machine.specs.declared.acts.Act.TheVariants.{PutWorkspace as PutAct, UpdateState as UpdateAct, ReadState as ReadAct, PurgeState as PurgeAct, Lock as LockAct, Unlock as UnlockAct, ForceUnlock as ForceUnlockAct}
+use Rattle.machine.specs.declared.acts.Act.TheVariants.{PutWorkspace as PutAct, ReadWorkspace as ReadWorkspaceAct, UpdateState as UpdateAct, ReadState as ReadAct, PurgeState as PurgeAct, Lock as LockAct, Unlock as UnlockAct, ForceUnlock as ForceUnlockAct}
 use Rattle.machine.specs.declared.records.Holder.{Holder}
 use Rattle.machine.specs.declared.records.Holder.TheVariants.{Lock as LockHolder}
 use Rattle.machine.specs.declared.records.Token.{Token}
@@ -110,7 +110,7 @@ is_one : (a b : Act) → read_act a ≡ read_act b → b ≡ a
 is_one a b e = cc
 
 writes_by : (what : WsAct) (id : Option (List ℕ)) (body : List ℕ) (act : Act) (own : List ℕ) → act_of what id body ≡ Ok act → WritesWith act (Some own) → id ≡ Some own
-writes_by Read id body act own is writes = absurd (let none : ⊥ = cc in none)
+writes_by Read id body act own is writes = absurd (subst (λ (a : Act). WritesWith a (Some own)) (is_one ReadWorkspaceAct act is) writes)
 writes_by Put id body act own is writes = by_settings (settings_of body) is
   where
     by_settings : (o : Option Settings) → spelt BadBody PutAct o ≡ Ok act → id ≡ Some own

@@ -11,7 +11,7 @@ use Rattle.docs.specs.Digests.{digest_fits}
 use Rattle.machine.specs.Records.{workspace_in}
 use Rattle.machine.specs.Tokens.{caller_of}
 use Rattle.machine.specs.declared.acts.Act.{Act}
-use Rattle.machine.specs.declared.acts.Act.TheVariants.{PutWorkspace as PutAct, UpdateState as UpdateAct, ReadState as ReadAct, PurgeState as PurgeAct, Lock as LockAct, Unlock as UnlockAct, ForceUnlock as ForceUnlockAct}
+use Rattle.machine.specs.declared.acts.Act.TheVariants.{PutWorkspace as PutAct, ReadWorkspace as ReadWorkspaceAct, UpdateState as UpdateAct, ReadState as ReadAct, PurgeState as PurgeAct, Lock as LockAct, Unlock as UnlockAct, ForceUnlock as ForceUnlockAct}
 use Rattle.machine.specs.declared.records.Token.{Token}
 use Rattle.machine.specs.declared.records.Organization.{Organization}
 use Rattle.route.specs.Policy.{role_refused, allowed_by}
@@ -67,7 +67,7 @@ makes (ReportRun number action) = false
 
 -- an act whose work is there; the others are to come, and until then they find nothing
 abbrev pub is_served : WsAct → Bool
-is_served Read = false
+is_served Read = true
 is_served Put = true
 is_served Delete = false
 is_served ReadState = true
@@ -113,7 +113,7 @@ spelt refusal f None = Err refusal
 spelt refusal f (Some a) = Ok (f a)
 
 abbrev pub act_of : WsAct → Option (List ℕ) → List ℕ → Result Act Refusal
-act_of Read id body = Err NotFound
+act_of Read id body = Ok ReadWorkspaceAct
 act_of Put id body = spelt BadBody PutAct (settings_of body)
 act_of Delete id body = Err NotFound
 act_of ReadState id body = Ok ReadAct

@@ -63,8 +63,8 @@ fn is_served(act: WsAct) -> bool
     ensures { result ≡ is_served act }
 {
     match act {
-        WsAct::Put => true,
-        WsAct::Read | WsAct::Delete => false,
+        WsAct::Read | WsAct::Put => true,
+        WsAct::Delete => false,
         WsAct::ReadState | WsAct::UpdateState | WsAct::PurgeState => true,
         WsAct::Lock | WsAct::Unlock | WsAct::ForceUnlock => true,
         WsAct::ListVersions { .. } | WsAct::ReadVersion(_) => false,
@@ -226,6 +226,7 @@ pub fn act_of(
     ensures { Follows result (act_of act lock_id.now body) }
 {
     match act {
+        WsAct::Read => Ok(Act::ReadWorkspace),
         WsAct::Put => read_put(alloc, &body),
         WsAct::ReadState => Ok(Act::ReadState),
         WsAct::UpdateState => read_update(alloc, lock_id, body),
@@ -233,7 +234,6 @@ pub fn act_of(
         WsAct::Lock => read_locking(alloc, body),
         WsAct::Unlock => read_unlocking(alloc, &body),
         WsAct::ForceUnlock => Ok(Act::ForceUnlock),
-        WsAct::Read => Err(Refusal::NotFound),
         WsAct::Delete => Err(Refusal::NotFound),
         WsAct::ListVersions { .. } => Err(Refusal::NotFound),
         WsAct::ReadVersion(_) => Err(Refusal::NotFound),

@@ -20,7 +20,7 @@ use Rattle.machine.specs.Rules.{Outcome, done, no_state, state, workspace, Rulin
 use Rattle.machine.specs.Changes.{changed_by, IsDue}
 use Rattle.machine.specs.Units.{text_of}
 use Rattle.machine.specs.declared.acts.Act.{Act}
-use Rattle.machine.specs.declared.acts.Act.TheVariants.{PutWorkspace, UpdateState, ReadState, PurgeState, Lock as LockAct, Unlock, ForceUnlock}
+use Rattle.machine.specs.declared.acts.Act.TheVariants.{PutWorkspace, ReadWorkspace, UpdateState, ReadState, PurgeState, Lock as LockAct, Unlock, ForceUnlock}
 use Rattle.machine.specs.declared.acts.Newest.{Newest}
 use Rattle.machine.specs.declared.acts.WorkspaceUnit.{WorkspaceUnit}
 use Rattle.machine.specs.declared.acts.Unit.{Unit as AnyUnit}
@@ -73,6 +73,10 @@ holder_after (Some n) holder = Some (RunHolder n)
 
 abbrev pub shown_now : Bool → WorkspaceUnit → Shown
 shown_now auto_apply u = record { auto_apply = auto_apply; holder = holder_after (start_now u) u.holder; version = option_map (λ (v : Newest). v.number) u.newest }
+
+-- the workspace as it is
+abbrev pub shown_held : WorkspaceUnit → Shown
+shown_held u = record { auto_apply = u.auto_apply; holder = holder_id u.holder; version = option_map (λ (v : Newest). v.number) u.newest }
 
 abbrev pub new_shown : Bool → Shown
 new_shown auto_apply = record { auto_apply = auto_apply; holder = None; version = None }
@@ -129,6 +133,7 @@ decision_missing act room = Refused NotFound
 abbrev pub decision_of : AnyUnit → Act → ℕ → Decision
 decision_of (Absent workspaces limit) act now = decision_missing act (nat_lt workspaces limit)
 decision_of (Present u) (PutWorkspace settings) now = changing (ShownWorkspace (shown_now settings.auto_apply u)) (Configure settings) (start_now u)
+decision_of (Present u) ReadWorkspace now = Accepted (ShownWorkspace (shown_held u)) None
 decision_of (Present u) (UpdateState head text id) now = decided_update (may_write u.holder u.holder_status id) u head text now
 decision_of (Present u) ReadState now = decided_read u.newest
 decision_of (Present u) (PurgeState id) now = decided_purge (may_write u.holder u.holder_status id) u
