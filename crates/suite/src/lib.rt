@@ -1,0 +1,6 @@
+//! The tests of the crates below, by their public calls: a module for each crate, the devices that
+//! fail in `devices`, and tables that are generated in `rows`.
+#![tactic(auto)]
+
+#[cfg(test)]
+mod basis_tests;
