@@ -4,3 +4,9 @@
 
 #[cfg(test)]
 mod basis_tests;
+#[cfg(test)]
+mod docs_tests;
+#[cfg(test)]
+mod steps;
+#[cfg(test)]
+mod texts;
