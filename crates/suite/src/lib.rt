@@ -5,8 +5,14 @@
 #[cfg(test)]
 mod basis_tests;
 #[cfg(test)]
+mod devices;
+#[cfg(test)]
 mod docs_tests;
+#[cfg(test)]
+mod requests;
 #[cfg(test)]
 mod steps;
 #[cfg(test)]
 mod texts;
+#[cfg(test)]
+mod wire_tests;
