@@ -11,7 +11,13 @@ mod docs_tests;
 #[cfg(test)]
 mod requests;
 #[cfg(test)]
+mod rows;
+#[cfg(test)]
+mod serve_tests;
+#[cfg(test)]
 mod steps;
+#[cfg(test)]
+mod terraform_tests;
 #[cfg(test)]
 mod texts;
 #[cfg(test)]
