@@ -11,6 +11,8 @@ mod docs_tests;
 #[cfg(test)]
 mod requests;
 #[cfg(test)]
+mod route_tests;
+#[cfg(test)]
 mod rows;
 #[cfg(test)]
 mod serve_tests;
