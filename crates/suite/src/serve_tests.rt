@@ -1,7 +1,7 @@
 //! Worked exchanges, each with its whole reply.
 use crate::devices::make_cuts;
-use crate::rows::{ACME, BETA, RESENT, ROWS, SET_UP};
-use crate::steps::{Sent, Story, expect_replies, now, replayed};
+use crate::rows::{ACME, BETA, LOCK_ROWS, MESSAGE_ROWS, RESENT, SET_UP, STATE_ROWS};
+use crate::steps::{Row, Sent, Story, expect_replies, now, replayed};
 use crate::texts::repeated;
 use basis::{Bytes, Down, Moment};
 use machine::{AdminAnswer, PlainKeep};
@@ -61,13 +61,28 @@ fn story_of(alloc: Global, before: &[(Sent, &str)], steps: &[(Sent, &str)]) -> R
     Ok(story)
 }
 
-#[test]
-fn rows_are_answered(rt: HostRuntime) -> Result<(), Fail> {
-    for row in ROWS {
-        let story = story_of(rt.alloc(), SET_UP, row.steps)?;
-        expect_story(&rt, rt.alloc(), &story, row.name)?;
+// Each row, behind `SET_UP`.
+fn expect_rows(rt: &impl Abort, alloc: Global, rows: &[Row]) -> Result<(), Fail> {
+    for row in rows {
+        let story = story_of(alloc, SET_UP, row.steps)?;
+        expect_story(rt, alloc, &story, row.name)?;
     }
     Ok(())
+}
+
+#[test]
+fn rows_of_locks_are_answered(rt: HostRuntime) -> Result<(), Fail> {
+    expect_rows(&rt, rt.alloc(), LOCK_ROWS)
+}
+
+#[test]
+fn rows_of_states_are_answered(rt: HostRuntime) -> Result<(), Fail> {
+    expect_rows(&rt, rt.alloc(), STATE_ROWS)
+}
+
+#[test]
+fn rows_of_messages_are_answered(rt: HostRuntime) -> Result<(), Fail> {
+    expect_rows(&rt, rt.alloc(), MESSAGE_ROWS)
 }
 
 // The steps of two organizations in turn.
