@@ -2,7 +2,7 @@
 """Refuses each allocation in turn, and says how each run ended.
 
     python3 tools/refusals.py rows PROGRAM     the worked rows through `custody replay`
-    python3 tools/refusals.py tests PROGRAM    each test of a crate (`rt test` leaves out/CRATE_tests)
+    python3 tools/refusals.py tests PROGRAM [FRONT]    each test whose name begins so (`rt test` leaves out/CRATE_tests)
 
 Allocation N of a process is refused, for N from 1 on, until runs meet no refusal any more. A run of a row has to end in
 `refused down` alone, status 3, or in the right replies; a test has to pass or to end for want of memory.
@@ -68,13 +68,14 @@ def main():
         if kind == "rows":
             for name, _, steps in rows.ROWS:
                 steps = rows.SET_UP + steps
-                data = "".join(step for step, _ in steps).encode()
+                data = rows.framed(steps).encode()
                 counts = each_refused(library, [program, "replay"], row(steps), data)
                 print(name, dict(counts), flush=True)
                 total.update(counts)
         else:
             listed = subprocess.run([program, "--list"], capture_output=True, text=True, check=True).stdout
-            for name in [line[: -len(": test")] for line in listed.splitlines() if line.endswith(": test")]:
+            names = [line[: -len(": test")] for line in listed.splitlines() if line.endswith(": test")]
+            for name in [name for name in names if name.startswith("".join(sys.argv[3:]))]:
                 counts = each_refused(library, [program, name], test)
                 print(name, dict(counts), flush=True)
                 total.update(counts)

@@ -1,14 +1,17 @@
 #!/usr/bin/env python3
-"""Writes crates/custody/src/rows.rt: worked rows as frames, and what `custody replay` prints for them.
+"""Worked rows: what is sent, and what is answered to it, step by step.
 
 Each row is a list of steps with the answer that the documentation of the backend and the rules of
 custody give it: a status, and a body where there is one. Nothing here is read off the program.
 
-    python3 tools/rows.py > crates/custody/src/rows.rt && (cd crates/custody && rt fmt)
+    python3 tools/rows.py            writes crates/suite/src/rows.rt
+    python3 tools/rows.py --check    says whether that file is what this would write
 """
 
 import base64
 import hashlib
+import os
+import sys
 
 AT = 1700000000
 DATE = "Tue, 14 Nov 2023 22:13:20 GMT"
@@ -57,17 +60,45 @@ def reply(status, body="", allow=None, head=False):
     return "\r\n".join(lines) + "\r\n\r\n" + ("" if head else body)
 
 
-def frame(text, answer):
-    return ("at %d http %d\n%s\n" % (AT, len(text.encode()), text), answer)
+class Request:
+    def __init__(self, text):
+        self.text = text
+
+    def framed(self):
+        return "at %d http %d\n%s\n" % (AT, len(self.text.encode()), self.text)
+
+    def written(self):
+        return "Sent::Request(%s)" % literal(self.text)
+
+
+class Command:
+    def __init__(self, words):
+        self.words = words
+
+    def framed(self):
+        return "at %d admin %s\n" % (AT, self.words)
+
+    def written(self):
+        name, *words = self.words.split(" ")
+        if name == "org-add":
+            (org,) = words
+            return "Sent::OrgAdd(%s)" % literal(org)
+        org, name, role, secret = words
+        return "Sent::TokenAdd(%s, %s, Role::%s, %s)" % (literal(org), literal(name), role.capitalize(), literal(secret))
+
+
+def told(text, answer):
+    """A request of this text, byte for byte."""
+    return (Request(text), answer)
 
 
 def raw(lines, answer, body=""):
     """A request of these lines."""
-    return frame("\r\n".join(lines) + "\r\n\r\n" + body, reply(*answer))
+    return told("\r\n".join(lines) + "\r\n\r\n" + body, reply(*answer))
 
 
 def admin(words, answer="ok"):
-    return ("at %d admin %s\n" % (AT, words), answer + "\n")
+    return (Command(words), answer + "\n")
 
 
 def request(token, method, path, body=None, answer=(200, ""), md5=None, fields=()):
@@ -84,7 +115,7 @@ def request(token, method, path, body=None, answer=(200, ""), md5=None, fields=(
     if body is not None:
         lines.append("Content-Length: %d" % len(body.encode()))
     text = "\r\n".join(lines) + "\r\n\r\n" + (body or "")
-    return frame(text, reply(*answer))
+    return told(text, reply(*answer))
 
 
 OK = (200, "")
@@ -276,15 +307,15 @@ ROWS = [
         "messages",
         "Messages that are cut, too large, without a length or without Host; the 100 line.",
         [
-            frame("\r\n".join([GET_NET, "Host: c", BEARER]) + "\r\n\r", ""),
+            told("\r\n".join([GET_NET, "Host: c", BEARER]) + "\r\n\r", ""),
             sized(["Content-Length: 4194305"], "", (413, "too-large")),
             raw(["LOCK /v1/acme/state/net HTTP/1.1", "Host: c", "Authorization: Bearer " + W, "Content-Length: 16385"], (413, "too-large")),
             sized(["Transfer-Encoding: chunked"], "", (411, "no-length")),
             sized(["Transfer-Encoding: chunked", "Content-Length: 39"], "", (400, "bad-message")),
             raw([GET_NET, BEARER], (400, "bad-message")),
             raw(["GET /v1/acme/state/net HTTP/1.0", BEARER], (204,)),
-            frame("\r\n\r\n" + "\r\n".join([GET_NET, "Host: c", BEARER]) + "\r\n\r\n", reply(204)),
-            frame(
+            told("\r\n\r\n" + "\r\n".join([GET_NET, "Host: c", BEARER]) + "\r\n\r\n", reply(204)),
+            told(
                 "\r\n".join(["POST /v1/acme/state/net HTTP/1.1", "Host: c", "Authorization: Bearer " + W, "Expect: 100-continue", "Content-Length: 39"])
                 + "\r\n\r\n"
                 + state(1),
@@ -322,7 +353,7 @@ ROWS = [
         "routes",
         "Paths, methods and forms of the target that have no route, and that have one.",
         [
-            frame("\r\n".join(["HEAD /v1/acme/state/net HTTP/1.1", "Host: c", BEARER]) + "\r\n\r\n", reply(405, "no-method", STATE_ALLOW, True)),
+            told("\r\n".join(["HEAD /v1/acme/state/net HTTP/1.1", "Host: c", BEARER]) + "\r\n\r\n", reply(405, "no-method", STATE_ALLOW, True)),
             request(R, "GET", "state/net/", None, (404, "no-route")),
             request(R, "GET", "/v1/Acme/state/net", None, (404, "no-route")),
             request(R, "GET", "runs/net/01", None, (404, "no-route")),
@@ -337,96 +368,123 @@ ROWS = [
 ]
 
 
+# An organization, its token, a workspace, a state, and the two looked at.
+RESENT = [
+    admin("org-add acme"),
+    admin("token-add acme root admin adminadminadmin1"),
+    request(A, "PUT", "workspaces/net", None, (200, '{"auto_apply":false,"holder":null,"name":"net","version":null}')),
+    post(A, state(1), OK),
+    request(A, "GET", "state/net", None, (200, state(1))),
+    request(A, "PUT", "workspaces/net", None, (200, '{"auto_apply":false,"holder":null,"name":"net","version":1}')),
+]
+
+# What each of two organizations sends.
+ACME = [
+    admin("org-add acme"),
+    admin("token-add acme root admin adminadminadmin1"),
+    request(A, "PUT", "workspaces/net", None, (200, '{"auto_apply":false,"holder":null,"name":"net","version":null}')),
+    post(A, state(1), OK),
+    request(A, "GET", "state/net", None, (200, state(1))),
+    request(A, "GET", "/v1/beta/state/net", None, NOT_FOUND),
+]
+BETA = [
+    admin("org-add beta"),
+    admin("token-add beta root admin betabetabetabeta"),
+    request(B, "GET", "state/net", None, NOT_FOUND),
+    request(B, "PUT", "/v1/beta/workspaces/net", None, (200, '{"auto_apply":false,"holder":null,"name":"net","version":null}')),
+    post(B, '{"serial":7}', OK, "/v1/beta/state/net"),
+    request(B, "GET", "/v1/beta/state/net", None, (200, '{"serial":7}')),
+]
+
+
 def literal(text):
     out = text.replace("\\", "\\\\").replace('"', '\\"').replace("\r", "\\r").replace("\n", "\\n")
     return '"' + out + '"'
+
+
+def framed(steps):
+    return "".join(sent.framed() for sent, _ in steps)
 
 
 def printed(steps):
     return "".join("reply %d\n%s\n" % (len(answer.encode()), answer) for _, answer in steps)
 
 
+WRITTEN = os.path.join(os.path.dirname(os.path.abspath(__file__)), "../crates/suite/src/rows.rt")
+
+
+# `rt fmt` breaks up a list that is longer.
+WIDTH = 60
+
+
+def item(indent, sent, answer):
+    """A step of a table, as `rt fmt` lays it out."""
+    pad, sent, answer = " " * indent, sent.written(), literal(answer)
+    name, words = sent[:-1].split("(", 1)
+    if len(sent + ", " + answer) <= WIDTH:
+        return ["%s(%s, %s)," % (pad, sent, answer)]
+    lines = ["    %s," % sent]
+    if len(words) > WIDTH:
+        lines = ["    %s(" % name, "        %s," % words, "    ),"]
+    return [pad + line for line in ["("] + lines + ["    %s," % answer, "),"]]
+
+
+def table(name, says, steps):
+    yield ""
+    yield "// " + says
+    yield "pub const %s: &[(Sent, &str)] = &[" % name
+    for sent, answer in steps:
+        yield from item(4, sent, answer)
+    yield "];"
+
+
+def row_written(name, says, steps):
+    yield "    // " + says
+    yield "    Row {"
+    yield '        name: "%s",' % name
+    yield "        steps: &["
+    for sent, answer in steps:
+        yield from item(12, sent, answer)
+    yield "        ],"
+    yield "    },"
+
+
+# A table of more than some 60 steps is past what one check of a test can take.
+LOCKS = ["stock_client", "holder_told", "forced_release", "first_text_stays", "purge"]
+STATES = ["absent_and_foreign", "digests", "succession", "states", "settings"]
+TABLES = [
+    ("LOCK_ROWS", "Locks, and what they bind.", [row for row in ROWS if row[0] in LOCKS]),
+    ("STATE_ROWS", "States and settings.", [row for row in ROWS if row[0] in STATES]),
+    ("MESSAGE_ROWS", "Messages, tokens, roles and routes.", [row for row in ROWS if row[0] not in LOCKS + STATES]),
+]
+
+
+def lines():
+    yield "//! Steps and what each is answered, written by `tools/rows.py`: edit that, and run it again."
+    yield "use crate::steps::{Row, Sent};"
+    yield "use basis::Role;"
+    yield from table("SET_UP", "Two organizations with their tokens, and an empty workspace.", SET_UP)
+    yield from table("ACME", "What one organization sends.", ACME)
+    yield from table("BETA", "What another one sends.", BETA)
+    yield from table("RESENT", "An organization, its token, a workspace, a state, and the two looked at.", RESENT)
+    for name, says, rows in TABLES:
+        yield ""
+        yield "// %s Each is sent after `SET_UP`." % says
+        yield "pub const %s: &[Row] = &[" % name
+        for row in rows:
+            yield from row_written(*row)
+        yield "];"
+
+
 def main():
-    print("""//! Worked rows: what is put in, and what is printed. Written by `tools/rows.py`, which makes the
-//! replies from the rows, and not from the program.
-use crate::frames::read_frames;
-use crate::replays::run_frames;
-use crate::replies::print_replies;
-use basis::{Bytes, Moment};
-use machine::{AdminAnswer, PlainKeep};
-use serve::{LinkFault, Service, Step};
-use std::alloc::Global;
-use std::process::Abort;
-use wire::{FromRead, ToWrite};
-
-// Two organizations with their tokens, and an empty workspace.
-pub const SET_UP: &str = %s;
-const SET_UP_PRINTED: &str = %s;
-
-// What an exchange writes; nothing where the input ended inside the message.
-fn written(
-    rt: &impl Abort,
-    alloc: Global,
-    service: &mut Service<PlainKeep>,
-    at: Moment,
-    bytes: &[u8],
-) -> Bytes {
-    let mut inlet = FromRead::new(bytes);
-    let mut outlet = ToWrite::new(Vec::new(alloc));
-    let ended = service.exchange(alloc, at, &mut inlet, &mut outlet);
-    assert!(rt; ended == Ok(()) || ended == Err(LinkFault::Ended));
-    Bytes::new(outlet.into_inner())
-}
-
-// The replies of frames, one exchange or command after the other.
-fn exchanged(rt: &impl Abort, alloc: Global, input: &[u8]) -> Vec<u8> {
-    let frames = read_frames(alloc, input).expect(rt, "frames");
-    let mut service = Service::new(PlainKeep::new(alloc));
-    let mut replies = Vec::new(alloc);
-    for step in frames.steps.as_slice() {
-        let reply = match step {
-            Step::Request { at, bytes } => written(rt, alloc, &mut service, *at, bytes.as_slice()),
-            Step::Command { at, command } => {
-                let answer = service.admin(alloc, *at, command).expect(rt, "an answer");
-                assert!(rt; answer == AdminAnswer::Done);
-                Bytes::copy_of(alloc, b"ok\\n").expect(rt, "room")
-            }
-        };
-        replies.push(reply).expect(rt, "room");
-    }
-    drop(service.into_keep());
-    let mut output = Vec::new(alloc);
-    print_replies(&mut output, replies.as_slice()).expect(rt, "room");
-    output
-}
-
-// The program prints what it is to print, and exchanges one by one write the same.
-fn passes(rt: &impl Abort, alloc: Global, frames: &str, printed: &str) {
-    let mut input = Vec::new(alloc);
-    input.extend_from_slice(SET_UP.as_bytes()).expect(rt, "room");
-    input.extend_from_slice(frames.as_bytes()).expect(rt, "room");
-    let mut expected = Vec::new(alloc);
-    expected.extend_from_slice(SET_UP_PRINTED.as_bytes()).expect(rt, "room");
-    expected.extend_from_slice(printed.as_bytes()).expect(rt, "room");
-    let mut output = Vec::new(alloc);
-    let mut errors = Vec::new(alloc);
-    let status = run_frames(alloc, &mut input.as_slice(), &mut output, &mut errors);
-    assert_eq!(rt; status, 0);
-    assert!(rt; errors.is_empty());
-    assert!(rt; output.as_slice() == expected.as_slice());
-    let output = exchanged(rt, alloc, input.as_slice());
-    assert!(rt; output.as_slice() == expected.as_slice());
-}""" % (literal("".join(step for step, _ in SET_UP)), literal(printed(SET_UP))))
-    for name, says, steps in ROWS:
-        print()
-        print("// " + says)
-        print("#[test]")
-        print("fn %s(rt: HostRuntime) {" % name)
-        print("    let alloc = rt.alloc();")
-        print("    let frames = %s;" % literal("".join(step for step, _ in steps)))
-        print("    let printed = %s;" % literal(printed(steps)))
-        print("    passes(&rt, alloc, frames, printed);")
-        print("}")
+    text = "\n".join(lines()) + "\n"
+    if sys.argv[1:] == ["--check"]:
+        with open(WRITTEN) as file:
+            if file.read() != text:
+                sys.exit("crates/suite/src/rows.rt isn't what tools/rows.py writes")
+        return
+    with open(WRITTEN, "w") as file:
+        file.write(text)
 
 
 if __name__ == "__main__":

@@ -36,31 +36,3 @@ impl Role {
         }
     }
 }
-
-#[cfg(test)]
-mod tests {
-    use super::*;
-
-    #[test]
-    fn includes_the_roles_before(rt: HostRuntime) {
-        for (word, read, write, admin) in [
-            ("read", true, false, false),
-            ("write", true, true, false),
-            ("admin", true, true, true),
-        ] {
-            for (least, leave) in [
-                (Role::Read, read),
-                (Role::Write, write),
-                (Role::Admin, admin),
-            ] {
-                let role = Role::named(word);
-                assert_eq!(rt;
-                    role.map(|role| role.includes(least)),
-                    Some(leave),
-                    "{word}"
-                );
-            }
-        }
-        assert_eq!(rt; Role::named("Read"), None);
-    }
-}

@@ -77,37 +77,3 @@ impl RunAction {
         }
     }
 }
-
-#[cfg(test)]
-mod tests {
-    use super::*;
-
-    #[test]
-    fn has_words(rt: HostRuntime) {
-        for (status, word, open) in [
-            (RunStatus::Pending, "pending", true),
-            (RunStatus::Planning, "planning", true),
-            (RunStatus::Planned, "planned", true),
-            (RunStatus::Applying, "applying", true),
-            (RunStatus::Applied, "applied", false),
-            (RunStatus::PlannedAndFinished, "planned_and_finished", false),
-            (RunStatus::Errored, "errored", false),
-            (RunStatus::Discarded, "discarded", false),
-            (RunStatus::Canceled, "canceled", false),
-        ] {
-            assert_eq!(rt; status.word(), word);
-            assert_eq!(rt; status.is_open(), open, "{word}");
-        }
-        for (action, word) in [
-            (RunAction::ReportPlanned, "planned"),
-            (RunAction::ReportUnchanged, "unchanged"),
-            (RunAction::Fail, "fail"),
-            (RunAction::Confirm, "confirm"),
-            (RunAction::ReportApplied, "applied"),
-            (RunAction::Discard, "discard"),
-            (RunAction::Cancel, "cancel"),
-        ] {
-            assert_eq!(rt; action.word(), word);
-        }
-    }
-}

@@ -9,14 +9,6 @@ mod headings;
 mod lines;
 mod replays;
 mod replies;
-#[cfg(test)]
-mod resent;
-#[cfg(test)]
-mod rows;
-#[cfg(test)]
-mod terraform;
-#[cfg(test)]
-mod worked;
 
 use replays::{refuse_down, refuse_usage, run_frames};
 use std::io::{BufWriter, ErrorKind};

@@ -15,6 +15,3 @@ pub use digests::digest_fits;
 pub use documents::{read_lock, read_run, read_settings, read_state};
 pub use faults::DocFault;
 pub use listings::{write_run_list, write_version_list, write_ws_list};
-
-#[cfg(test)]
-mod tests;

@@ -95,27 +95,3 @@ impl<T> NameMap<T> {
         Err(self.entries.len())
     }
 }
-
-#[cfg(test)]
-mod tests {
-    use super::*;
-    use std::test::Fail;
-
-    fn sample(alloc: Global) -> Result<NameMap<u8>, Down> {
-        let mut map = NameMap::new(alloc);
-        map.insert(Text::copy_of(alloc, "prod")?, 1)?;
-        map.insert(Text::copy_of(alloc, "dev")?, 2)?;
-        map.insert(Text::copy_of(alloc, "pro")?, 3)?;
-        map.insert(Text::copy_of(alloc, "prod")?, 4)?;
-        Ok(map)
-    }
-
-    #[test]
-    fn keeps_the_order_of_names(rt: HostRuntime) -> Result<(), Fail> {
-        let map = sample(rt.alloc())?;
-        assert!(rt; map.entries().iter().map(|entry| entry.value).eq([2, 3, 4]));
-        assert_eq!(rt; map.get("prod").copied(), Some(4));
-        assert_eq!(rt; map.get("test").copied(), None);
-        Ok(())
-    }
-}

@@ -8,8 +8,6 @@ pub mod places;
 pub mod policies;
 pub mod queries;
 pub mod routes;
-#[cfg(test)]
-mod tests;
 pub mod tokens;
 pub mod verbs;
 

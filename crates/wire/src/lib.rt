@@ -14,8 +14,6 @@ mod reading;
 mod replies;
 mod sending;
 mod targets;
-#[cfg(test)]
-mod tests;
 
 pub use devices::{Broken, FromRead, Inlet, Outlet, ToWrite};
 pub use laws::{one_reading, one_text, some_reading, stays_due, stays_read};

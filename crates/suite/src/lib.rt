@@ -1,0 +1,28 @@
+//! The tests of the crates below, by their public calls: a module for each crate, the devices that
+//! fail in `devices`, and tables that are generated in `rows`.
+#![tactic(auto)]
+
+#[cfg(test)]
+mod basis_tests;
+#[cfg(test)]
+mod devices;
+#[cfg(test)]
+mod docs_tests;
+#[cfg(test)]
+mod machine_tests;
+#[cfg(test)]
+mod requests;
+#[cfg(test)]
+mod route_tests;
+#[cfg(test)]
+mod rows;
+#[cfg(test)]
+mod serve_tests;
+#[cfg(test)]
+mod steps;
+#[cfg(test)]
+mod terraform_tests;
+#[cfg(test)]
+mod texts;
+#[cfg(test)]
+mod wire_tests;
