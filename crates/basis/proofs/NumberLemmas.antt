@@ -4,7 +4,8 @@ use Rattle.std.specs.Result.{result_ok, OkIff}
 use Rattle.std.specs.Char.{digit_value}
 use Rattle.std.specs.Str.Parse.{AllDigits, IsNumeral, digits_value, without_leading_plus, ParsesUnsigned}
 use Rattle.std.proofs.lemmas.Bool.{ltb-true, lt-ltb}
-use Rattle.basis.specs.Numbers.{all_digits, is_plain, begins_plainly, whole_of}
+use Rattle.basis.specs.Numbers.{all_digits, is_plain, whole_of}
+use Rattle.basis.specs.Inner.Numbers.{begins_plainly}
 
 both : (a b : Bool) → a ≡ true → b ≡ true → (a && b) ≡ true
 both a b p q = rw (p, q)
