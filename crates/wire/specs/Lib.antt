@@ -1,14 +1,11 @@
 pub use Rattle.httparse.specs.Grammar
 pub use Rattle.httpdate.specs.Date
 pub mod Heads
-pub mod Places
 pub mod Fields
 pub mod Targets
 pub mod Framing
-pub mod Spans
 pub mod Messages
 pub mod Links
-pub mod Bodies
 pub mod Replies
-pub mod Contents
 pub mod Laws
+pub mod Inner

@@ -601,6 +601,6 @@ fn laws_are_there(_rt: HostRuntime) {
     crate::some_reading(POST.as_bytes());
     crate::one_reading();
     crate::stays_read();
-    crate::stays_due();
+    crate::stays_awaited();
     crate::one_text();
 }
