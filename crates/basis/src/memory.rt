@@ -11,6 +11,10 @@ use std::fmt;
 pub struct Down;
 
 impl fmt::Display for Down {
+    ghost use Rattle.std.specs.Prelude.{Some, codes};
+
+    ghost output = { λ _. Some (codes "memory or the store refused") };
+
     fn fmt<W: fmt::Write>(&self, f: &mut fmt::Formatter<W>) -> fmt::Result {
         f.write_str("memory or the store refused")
     }

@@ -2,6 +2,9 @@
 ghost use Rattle.std.specs.Prelude.{◌≡◌, ◌≤◌, length};
 ghost use Rattle.basis.specs.Refusals.{line_of, allow_text};
 
+use std::error::Error;
+use std::fmt;
+
 /// Why a request is refused. A refused request changes no rows.
 #[derive(Clone, Copy, Debug, PartialEq, Eq)]
 pub enum Refusal {
@@ -102,6 +105,18 @@ impl Refusal {
         self.line().status
     }
 }
+
+impl fmt::Display for Refusal {
+    ghost use Rattle.std.specs.Prelude.{Some};
+
+    ghost output = { λ refusal. Some (line_of refusal).word };
+
+    fn fmt<W: fmt::Write>(&self, f: &mut fmt::Formatter<W>) -> fmt::Result {
+        f.write_str(self.word())
+    }
+}
+
+impl Error for Refusal {}
 
 /// The methods of a route, for the field Allow (RFC 9110, section 10.2.1).
 #[derive(Clone, Copy, Debug, PartialEq, Eq)]

@@ -12,6 +12,10 @@ use std::io::{Read, Write};
 pub struct Broken;
 
 impl fmt::Display for Broken {
+    ghost use Rattle.std.specs.Prelude.{Some, codes};
+
+    ghost output = { λ _. Some (codes "the device failed") };
+
     fn fmt<W: fmt::Write>(&self, f: &mut fmt::Formatter<W>) -> fmt::Result {
         f.write_str("the device failed")
     }

@@ -21,6 +21,10 @@ use std::fmt;
 pub struct WriteFault;
 
 impl fmt::Display for WriteFault {
+    ghost use Rattle.std.specs.Prelude.{Some, codes};
+
+    ghost output = { λ _. Some (codes "the reply couldn't be written whole") };
+
     fn fmt<W: fmt::Write>(&self, f: &mut fmt::Formatter<W>) -> fmt::Result {
         f.write_str("the reply couldn't be written whole")
     }
