@@ -4,7 +4,8 @@ use Rattle.std.specs.Result.{result_ok, OkIff}
 use Rattle.std.specs.Char.{digit_value}
 use Rattle.std.specs.Str.Parse.{AllDigits, IsNumeral, digits_value, without_leading_plus, ParsesUnsigned}
 use Rattle.std.proofs.lemmas.Bool.{ltb-true, lt-ltb}
-use Rattle.basis.specs.Numbers.{all_digits, is_plain, begins_plainly, whole_of}
+use Rattle.basis.specs.Numbers.{all_digits, is_plain, whole_of}
+use Rattle.basis.specs.Inner.Numbers.{begins_plainly}
 
 both : (a b : Bool) → a ≡ true → b ≡ true → (a && b) ≡ true
 both a b p q = rw (p, q)
@@ -41,8 +42,8 @@ plain_from text h numeral =
 
 plain_to : (text : List ℕ) → is_plain text ≡ true → IsNumeral 10 text
 plain_to text h =
-    let front : (nat_lt 0 (length text) && all_digits text) ≡ true = first_of_both (nat_lt 0 (length text) && all_digits text) _ h in
-    (ltb-true _ _ (first_of_both (nat_lt 0 (length text)) (all_digits text) front), all_digits-to text (second_of_both (nat_lt 0 (length text)) (all_digits text) front))
+    let parts : (nat_lt 0 (length text) && all_digits text) ≡ true = first_of_both (nat_lt 0 (length text) && all_digits text) _ h in
+    (ltb-true _ _ (first_of_both (nat_lt 0 (length text)) (all_digits text) parts), all_digits-to text (second_of_both (nat_lt 0 (length text)) (all_digits text) parts))
 
 -- the last test decides
 chosen_none : (b : Bool) (n : ℕ) → (b ≡ true → Unit {0} → Some n ≡ None) → cond b (Some n) None ≡ None

@@ -4,3 +4,4 @@ pub mod Numbers
 pub mod Refusals
 pub mod Roles
 pub mod Runs
+pub mod Inner

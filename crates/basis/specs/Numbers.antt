@@ -2,15 +2,12 @@
 use Rattle.std.specs.Prelude.{ℕ, List, [], ◌∷◌, length, Bool, true, not, ◌&&◌, ◌||◌, ◌==◌, ◌^◌, nat_le, nat_lt, slice_index, Option, Some, None, cond, option_and_then}
 use Rattle.std.specs.Char.{digit_value}
 use Rattle.std.specs.Str.Parse.{digits_value}
+use Rattle.basis.specs.declared.numbers.TheConstants.{MAX_NUMBER}
 
 -- decimal digits alone
 abbrev pub all_digits : List ℕ → Bool
 all_digits [] = true
 all_digits (c ∷ cs) = nat_lt (digit_value c) 10 && all_digits cs
-
--- neither a plus (43) nor a zero (48) before another byte stands first
-abbrev pub begins_plainly : List ℕ → Bool
-begins_plainly text = not (slice_index text 0 == 43) && (not (slice_index text 0 == 48) || length text == 1)
 
 -- one digit or more, the first a zero (48) only where it stands alone
 abbrev pub is_plain : List ℕ → Bool
@@ -24,6 +21,6 @@ whole_of text = cond (is_plain text && nat_lt (digits_value 10 text) (2 ^ 64)) (
 abbrev pub within : ℕ → ℕ → ℕ → Option ℕ
 within least most n = cond (nat_le least n && nat_le n most) (Some n) None
 
--- the number of a version or a run that a text writes: 1 to 1,000,000,000
+-- the number of a version or a run that a text writes
 abbrev pub number_of : List ℕ → Option ℕ
-number_of text = option_and_then (within 1 1_000_000_000) (whole_of text)
+number_of text = option_and_then (within 1 MAX_NUMBER) (whole_of text)

@@ -19,99 +19,14 @@ pub const MAX_WS_NAME: usize = 90;
 /// The most bytes of a lock's ID.
 pub const MAX_LOCK_ID: usize = 128;
 
-/// How the ID of a run begins, and that of no lock.
-const RUN_PREFIX: &[u8] = b"run-";
-
 /// The least bytes of a token's secret.
 pub const MIN_SECRET: usize = 16;
 
 /// The most bytes of a token's secret.
 pub const MAX_SECRET: usize = 64;
 
-fn has_length(text: &[u8], least: usize, most: usize) -> bool
-    ensures { result ≡ has_length least most text.now }
-{
-    least <= text.len() && text.len() <= most
-}
-
-fn is_org_byte(b: u8) -> bool
-    ensures { result ≡ is_org_byte b }
-{
-    b.is_ascii_lowercase() || b.is_ascii_digit() || b == b'-'
-}
-
-fn all_org_bytes(text: &[u8]) -> bool
-    ensures { result ≡ list_all is_org_byte text.now }
-{
-    text.iter().all(|b| is_org_byte(*b))
-}
-
-fn is_org_name(text: &[u8]) -> bool
-    ensures { result ≡ is_org_name text.now }
-{
-    has_length(text, 1, MAX_ORG_NAME)
-        && all_org_bytes(text)
-        && text.first().is_some_and(|b| b.is_ascii_lowercase())
-}
-
-fn is_ws_byte(b: u8) -> bool
-    ensures { result ≡ is_ws_byte b }
-{
-    b.is_ascii_alphanumeric() || b == b'-' || b == b'_'
-}
-
-fn all_ws_bytes(text: &[u8]) -> bool
-    ensures { result ≡ list_all is_ws_byte text.now }
-{
-    text.iter().all(|b| is_ws_byte(*b))
-}
-
-fn is_ws_name(text: &[u8]) -> bool
-    ensures { result ≡ is_ws_name text.now }
-{
-    has_length(text, 1, MAX_WS_NAME) && all_ws_bytes(text)
-}
-
-fn is_lock_id(text: &[u8]) -> bool
-    ensures { result ≡ is_lock_id text.now }
-{
-    has_length(text, 1, MAX_LOCK_ID)
-}
-
-/// Whether a lock may have this ID: 1 to 128 bytes that don't begin with `run-`.
-pub fn is_free_id(id: &[u8]) -> bool
-    ensures { result ≡ is_free_id id.now }
-{
-    is_lock_id(id) && !id.starts_with(RUN_PREFIX)
-}
-
-fn are_digits_of(number: Number, digits: &[u8]) -> bool
-    ensures { result ≡ bytes_eq digits.now (decimal number) }
-{
-    digits == Buffer::new().format(number.get()).as_bytes()
-}
-
-/// Whether the run of a number holds a workspace by this ID, `run-` and the number. It takes no memory.
-pub fn is_run_id(number: Number, id: &str) -> bool
-    ensures { result ≡ bytes_eq id.now (run_id number) }
-{
-    match id.as_bytes().strip_prefix(RUN_PREFIX) {
-        Some(digits) => are_digits_of(number, digits),
-        None => false,
-    }
-}
-
-fn all_alphanumeric(text: &[u8]) -> bool
-    ensures { result ≡ list_all is_ascii_alphanumeric text.now }
-{
-    text.iter().all(|b| b.is_ascii_alphanumeric())
-}
-
-fn is_secret(text: &[u8]) -> bool
-    ensures { result ≡ is_secret text.now }
-{
-    has_length(text, MIN_SECRET, MAX_SECRET) && all_alphanumeric(text)
-}
+/// How the ID of a run begins, and that of no lock.
+const RUN_PREFIX: &[u8] = b"run-";
 
 /// An organization's name, or a token's: 1 to 40 bytes of `a`-`z`, `0`-`9` and `-`, the first a letter.
 #[derive(Clone, Debug, Drop)]
@@ -249,4 +164,89 @@ impl Secret {
     {
         self.text.as_str()
     }
+}
+
+/// Whether a lock may have this ID: 1 to 128 bytes that don't begin with `run-`.
+pub fn is_free_id(id: &[u8]) -> bool
+    ensures { result ≡ is_free_id id.now }
+{
+    is_lock_id(id) && !id.starts_with(RUN_PREFIX)
+}
+
+/// Whether the run of a number holds a workspace by this ID, `run-` and the number. It takes no memory.
+pub fn is_run_id(number: Number, id: &str) -> bool
+    ensures { result ≡ bytes_eq id.now (run_id number) }
+{
+    match id.as_bytes().strip_prefix(RUN_PREFIX) {
+        Some(digits) => are_digits_of(number, digits),
+        None => false,
+    }
+}
+
+fn are_digits_of(number: Number, digits: &[u8]) -> bool
+    ensures { result ≡ bytes_eq digits.now (decimal number) }
+{
+    digits == Buffer::new().format(number.get()).as_bytes()
+}
+
+fn is_org_name(text: &[u8]) -> bool
+    ensures { result ≡ is_org_name text.now }
+{
+    has_length(text, 1, MAX_ORG_NAME)
+        && all_org_bytes(text)
+        && text.first().is_some_and(|b| b.is_ascii_lowercase())
+}
+
+fn all_org_bytes(text: &[u8]) -> bool
+    ensures { result ≡ list_all is_org_byte text.now }
+{
+    text.iter().all(|b| is_org_byte(*b))
+}
+
+fn is_org_byte(b: u8) -> bool
+    ensures { result ≡ is_org_byte b }
+{
+    b.is_ascii_lowercase() || b.is_ascii_digit() || b == b'-'
+}
+
+fn is_ws_name(text: &[u8]) -> bool
+    ensures { result ≡ is_ws_name text.now }
+{
+    has_length(text, 1, MAX_WS_NAME) && all_ws_bytes(text)
+}
+
+fn all_ws_bytes(text: &[u8]) -> bool
+    ensures { result ≡ list_all is_ws_byte text.now }
+{
+    text.iter().all(|b| is_ws_byte(*b))
+}
+
+fn is_ws_byte(b: u8) -> bool
+    ensures { result ≡ is_ws_byte b }
+{
+    b.is_ascii_alphanumeric() || b == b'-' || b == b'_'
+}
+
+fn is_lock_id(text: &[u8]) -> bool
+    ensures { result ≡ is_lock_id text.now }
+{
+    has_length(text, 1, MAX_LOCK_ID)
+}
+
+fn is_secret(text: &[u8]) -> bool
+    ensures { result ≡ is_secret text.now }
+{
+    has_length(text, MIN_SECRET, MAX_SECRET) && all_alphanumeric(text)
+}
+
+fn all_alphanumeric(text: &[u8]) -> bool
+    ensures { result ≡ list_all is_ascii_alphanumeric text.now }
+{
+    text.iter().all(|b| b.is_ascii_alphanumeric())
+}
+
+fn has_length(text: &[u8], least: usize, most: usize) -> bool
+    ensures { result ≡ has_length least most text.now }
+{
+    least <= text.len() && text.len() <= most
 }

@@ -1,6 +1,8 @@
 //! Numbers of versions and runs, moments, and limits.
 ghost use Rattle.std.specs.Prelude.{◌≡◌, ◌↔◌, ℕ, ◌^◌, ◌<◌, ◌≤◌, length, Some, None, IsSome, IsNone, IfSome, IfOk, IfErr, IsErrOf};
-ghost use Rattle.basis.specs.Numbers.{begins_plainly, whole_of, number_of, within};
+ghost use Rattle.basis.specs.Numbers.{whole_of, number_of, within};
+ghost use Rattle.basis.specs.Inner.Numbers.{begins_plainly};
+ghost use Rattle.basis.specs.declared.numbers.TheConstants.{MAX_NUMBER, MAX_MOMENT, MAX_LIMIT};
 
 use crate::memory::Unfit;
 use std::marker::Model;
@@ -17,27 +19,6 @@ pub const MAX_LIMIT: u32 = 100_000;
 /// The limit that an organization has at first.
 pub const FIRST_LIMIT: u32 = 200;
 
-// Whether no plus and no leading zero stands first.
-fn begins_plainly(text: &[u8]) -> bool
-    ensures { result ≡ begins_plainly text.now }
-{
-    match text {
-        [b'+', ..] => false,
-        [b'0', ..] => text.len() == 1,
-        _ => true,
-    }
-}
-
-/// The whole number that digits without a leading zero write, below 2 ^ 64; `0` stands alone.
-pub fn whole_number(text: &str) -> Option<u64>
-    ensures { result ≡ whole_of text.now }
-{
-    if !begins_plainly(text.as_bytes()) {
-        return None;
-    }
-    text.parse::<u64>().ok()
-}
-
 /// The number of a version or a run: 1 to 1,000,000,000.
 #[derive(Clone, Copy, Debug, PartialEq, Eq, PartialOrd, Ord)]
 pub struct Number {
@@ -49,7 +30,7 @@ impl Model for Number {
 
     ghost view = { λ n. n.value };
 
-    ghost invariant = { λ n. (1 ≤ n.value) × (n.value ≤ 1_000_000_000) };
+    ghost invariant = { λ n. (1 ≤ n.value) × (n.value ≤ MAX_NUMBER) };
 
     ghost inverse = { λ n. record { value = n } };
 }
@@ -67,7 +48,7 @@ impl Number {
     }
 
     pub fn new(value: u64) -> Option<Number>
-        ensures { result ≡ within 1 1_000_000_000 value }
+        ensures { result ≡ within 1 MAX_NUMBER value }
     {
         if 1 <= value && value <= MAX_NUMBER as u64 {
             Some(Number {
@@ -81,7 +62,7 @@ impl Number {
     pub fn get(self) -> u32
         ensures value { result ≡ self }
         ensures least { 1 ≤ result }
-        ensures most { result ≤ 1_000_000_000 }
+        ensures most { result ≤ MAX_NUMBER }
     {
         self.value
     }
@@ -98,14 +79,14 @@ impl Model for Moment {
 
     ghost view = { λ m. m.seconds };
 
-    ghost invariant = { λ m. m.seconds ≤ 253_402_300_799 };
+    ghost invariant = { λ m. m.seconds ≤ MAX_MOMENT };
 
     ghost inverse = { λ n. record { seconds = n } };
 }
 
 impl Moment {
     pub fn new(seconds: u64) -> Option<Moment>
-        ensures { result ≡ within 0 253_402_300_799 seconds }
+        ensures { result ≡ within 0 MAX_MOMENT seconds }
     {
         if seconds <= MAX_MOMENT {
             Some(Moment { seconds })
@@ -117,7 +98,7 @@ impl Moment {
     /// Seconds since 1970.
     pub fn seconds(self) -> u64
         ensures value { result ≡ self }
-        ensures most { result ≤ 253_402_300_799 }
+        ensures most { result ≤ MAX_MOMENT }
     {
         self.seconds
     }
@@ -134,14 +115,14 @@ impl Model for Limit {
 
     ghost view = { λ l. l.value };
 
-    ghost invariant = { λ l. l.value ≤ 100_000 };
+    ghost invariant = { λ l. l.value ≤ MAX_LIMIT };
 
     ghost inverse = { λ n. record { value = n } };
 }
 
 impl Limit {
     pub fn new(value: u32) -> Option<Limit>
-        ensures { result ≡ within 0 100_000 value }
+        ensures { result ≡ within 0 MAX_LIMIT value }
     {
         if value <= MAX_LIMIT {
             Some(Limit { value })
@@ -152,8 +133,29 @@ impl Limit {
 
     pub fn get(self) -> u32
         ensures value { result ≡ self }
-        ensures most { result ≤ 100_000 }
+        ensures most { result ≤ MAX_LIMIT }
     {
         self.value
+    }
+}
+
+/// The whole number that digits without a leading zero write, below 2 ^ 64; `0` stands alone.
+pub fn whole_number(text: &str) -> Option<u64>
+    ensures { result ≡ whole_of text.now }
+{
+    if !begins_plainly(text.as_bytes()) {
+        return None;
+    }
+    text.parse::<u64>().ok()
+}
+
+// Whether no plus and no leading zero stands first.
+fn begins_plainly(text: &[u8]) -> bool
+    ensures { result ≡ begins_plainly text.now }
+{
+    match text {
+        [b'+', ..] => false,
+        [b'0', ..] => text.len() == 1,
+        _ => true,
     }
 }

@@ -2,31 +2,8 @@
 ghost use Rattle.std.specs.Prelude.{◌≡◌, ◌≤◌, length};
 ghost use Rattle.basis.specs.Refusals.{line_of, allow_text};
 
-/// The methods of a route, for the field Allow (RFC 9110, section 10.2.1).
-#[derive(Clone, Copy, Debug, PartialEq, Eq)]
-pub enum Allow {
-    /// What is only read: lists, a version, a run.
-    Lists,
-    Workspaces,
-    States,
-    Runs,
-    Actions,
-}
-
-impl Allow {
-    pub fn text(self) -> &'static str
-        ensures text { result.now ≡ allow_text self }
-        ensures short { length result.now ≤ 36 }
-    {
-        match self {
-            Allow::Lists => "GET",
-            Allow::Workspaces => "DELETE, GET, PUT",
-            Allow::States => "DELETE, GET, LOCK, POST, PUT, UNLOCK",
-            Allow::Runs => "GET, POST",
-            Allow::Actions => "POST",
-        }
-    }
-}
+use std::error::Error;
+use std::fmt;
 
 /// Why a request is refused. A refused request changes no rows.
 #[derive(Clone, Copy, Debug, PartialEq, Eq)]
@@ -68,25 +45,6 @@ pub enum Refusal {
     HeadTooLarge,
     /// Memory or the store refused.
     Unavailable,
-}
-
-#[derive(Clone, Copy)]
-struct Line {
-    number: u8,
-    word: &'static str,
-    status: u16,
-}
-
-fn make_line(number: u8, word: &'static str, status: u16) -> Line
-    ensures number { result.number ≡ number }
-    ensures word { result.word.now ≡ word.entry.now }
-    ensures status { result.status ≡ status }
-{
-    Line {
-        number,
-        word,
-        status,
-    }
 }
 
 impl Refusal {
@@ -145,5 +103,62 @@ impl Refusal {
         ensures { result ≡ (line_of self).status }
     {
         self.line().status
+    }
+}
+
+impl fmt::Display for Refusal {
+    ghost use Rattle.std.specs.Prelude.{Some};
+
+    ghost output = { λ refusal. Some (line_of refusal).word };
+
+    fn fmt<W: fmt::Write>(&self, f: &mut fmt::Formatter<W>) -> fmt::Result {
+        f.write_str(self.word())
+    }
+}
+
+impl Error for Refusal {}
+
+/// The methods of a route, for the field Allow (RFC 9110, section 10.2.1).
+#[derive(Clone, Copy, Debug, PartialEq, Eq)]
+pub enum Allow {
+    /// What is only read: lists, a version, a run.
+    Lists,
+    Workspaces,
+    States,
+    Runs,
+    Actions,
+}
+
+impl Allow {
+    pub fn text(self) -> &'static str
+        ensures text { result.now ≡ allow_text self }
+        ensures short { length result.now ≤ 36 }
+    {
+        match self {
+            Allow::Lists => "GET",
+            Allow::Workspaces => "DELETE, GET, PUT",
+            Allow::States => "DELETE, GET, LOCK, POST, PUT, UNLOCK",
+            Allow::Runs => "GET, POST",
+            Allow::Actions => "POST",
+        }
+    }
+}
+
+#[derive(Clone, Copy)]
+struct Line {
+    number: u8,
+    word: &'static str,
+    status: u16,
+}
+
+fn make_line(number: u8, word: &'static str, status: u16) -> Line
+    ensures number { result.number ≡ number }
+    ensures word { result.word.now ≡ word.entry.now }
+    ensures status { result.status ≡ status }
+{
+    Line {
+        number,
+        word,
+        status,
     }
 }

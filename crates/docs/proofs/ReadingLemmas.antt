@@ -10,7 +10,9 @@ use Rattle.serde_json.specs.Read.{read}
 use Rattle.basis.specs.declared.rows.RunAsk.{RunAsk}
 use Rattle.basis.specs.declared.rows.Settings.{Settings}
 use Rattle.basis.specs.declared.rows.StateHead.{StateHead}
+use Rattle.basis.specs.declared.rows.TheConstants.{MAX_LINEAGE, MAX_SERIAL}
 use Rattle.basis.specs.Names.{is_free_id}
+use Rattle.docs.specs.declared.documents.TheConstants.{MAX_SMALL, MAX_KEY, MAX_MESSAGE}
 use Rattle.docs.specs.Documents.{state_head, lock_id_of, settings_of, run_ask, object_of, serial_of, text_within, optional_text, make_head, head_in, free_id, lock_id_in, flag_of, small_object_of, make_settings, settings_in, key_of, make_ask, ask_in}
 use Rattle.docs.specs.Readings.{IsObject, IsText, IsState, IsLock, IsFlag, IsSmallObject, IsSettings, IsKey, IsAsk, StateLaw, LockLaw, SettingsLaw, AskLaw}
 
@@ -54,8 +56,8 @@ object_said bytes ms is = rw (is_utf8-from_IsUtf8 bytes is.text, is.value) refl
 
 serial_read : (d : Data) (n : ℕ) → serial_of d ≡ Some n → (d ≡ number (unsigned n)) × (n < 9_223_372_036_854_775_808)
 serial_read (number (unsigned k)) n is =
-    let found = cond_some (nat_le 0 k && nat_le k 9_223_372_036_854_775_807) k n is in
-    let most : k ≤ 9_223_372_036_854_775_807 = leb-true k 9_223_372_036_854_775_807 (both (nat_le 0 k) (nat_le k 9_223_372_036_854_775_807) found.0).1 in
+    let found = cond_some (nat_le 0 k && nat_le k MAX_SERIAL) k n is in
+    let most : k ≤ 9_223_372_036_854_775_807 = leb-true k MAX_SERIAL (both (nat_le 0 k) (nat_le k MAX_SERIAL) found.0).1 in
     (ap (λ x. number (unsigned x)) found.1, rw (← found.1) (omega arith))
 serial_read (number (negative z)) n is = absurd (cc)
 serial_read (number (float x)) n is = absurd (cc)
@@ -87,14 +89,14 @@ head_read : (bytes : List ℕ) (ms : Members) (head : StateHead) → IsObject by
 head_read bytes ms head document is =
     option_and_then_some _ (option_and_then serial_of (get_member (codes "serial") ms)) head is (λ n serial rest.
     option_and_then_some serial_of (get_member (codes "serial") ms) n serial (λ d found whole.
-    option_map_some (make_head n) (optional_text 256 (get_member (codes "lineage") ms)) head rest (λ text lineage made.
+    option_map_some (make_head n) (optional_text MAX_LINEAGE (get_member (codes "lineage") ms)) head rest (λ text lineage made.
     let number_is = serial_read d n whole in
     rw (← made) (record {
       members = ms;
       document = document;
       serial = found ∙ ap Some number_is.0;
       signed = number_is.1;
-      lineage = text_read 256 (get_member (codes "lineage") ms) text lineage;
+      lineage = text_read MAX_LINEAGE (get_member (codes "lineage") ms) text lineage;
     }))))
 
 -- a state is what `state_head` gives
@@ -102,7 +104,7 @@ pub state_law : (bytes : List ℕ) → StateLaw bytes
 unfolding state_head
 state_law bytes head = (
   (λ is. option_and_then_some head_in (object_of bytes) head is (λ ms document found. head_read bytes ms head (object_read bytes ms document) found)),
-  (λ is. rw (object_said bytes is.members is.document, is.serial, serial_said head.serial is.signed, text_said 256 (get_member (codes "lineage") is.members) head.lineage is.lineage) refl),
+  (λ is. rw (object_said bytes is.members is.document, is.serial, serial_said head.serial is.signed, text_said MAX_LINEAGE (get_member (codes "lineage") is.members) head.lineage is.lineage) refl),
 )
 
 -- ---- locks
@@ -161,13 +163,13 @@ flag_said : (found : Option Data) (flag : Bool) → IsFlag found flag → flag_o
 flag_said None flag is = ap Some (sym is)
 flag_said (Some value) flag is = rw is refl
 
-small_read_as : (b : ℕ) (bytes : List ℕ) (ms : Members) (t : Bool) → nat_le (length (b ∷ bytes)) 16_384 ≡ t → cond t (object_of (b ∷ bytes)) None ≡ Some ms → IsSmallObject (b ∷ bytes) ms
+small_read_as : (b : ℕ) (bytes : List ℕ) (ms : Members) (t : Bool) → nat_le (length (b ∷ bytes)) MAX_SMALL ≡ t → cond t (object_of (b ∷ bytes)) None ≡ Some ms → IsSmallObject (b ∷ bytes) ms
 small_read_as b bytes ms true short is = (object_read (b ∷ bytes) ms is, leb-true _ _ short)
 small_read_as b bytes ms false short is = absurd (cc)
 
 small_read : (bytes : List ℕ) (ms : Members) → small_object_of bytes ≡ Some ms → IsSmallObject bytes ms
 small_read [] ms is = cc
-small_read (b ∷ bytes) ms is = small_read_as b bytes ms (nat_le (length (b ∷ bytes)) 16_384) refl is
+small_read (b ∷ bytes) ms is = small_read_as b bytes ms (nat_le (length (b ∷ bytes)) MAX_SMALL) refl is
 
 small_said : (bytes : List ℕ) (ms : Members) → IsSmallObject bytes ms → small_object_of bytes ≡ Some ms
 small_said [] ms is = ap Some (sym is)
@@ -194,10 +196,10 @@ settings_law bytes settings = (
 
 key_read : (found : Option Data) (key : Option (List ℕ)) → key_of found ≡ Some key → IsKey found key
 key_read None key is = cc
-key_read (Some value) None is = option_map_some Some (option_and_then (text_within 1 64) (as_str value)) None is (λ text said made. absurd (cc))
+key_read (Some value) None is = option_map_some Some (option_and_then (text_within 1 MAX_KEY) (as_str value)) None is (λ text said made. absurd (cc))
 key_read (Some value) (Some key) is =
-    option_map_some Some (option_and_then (text_within 1 64) (as_str value)) (Some key) is (λ text said made.
-    option_and_then_some (text_within 1 64) (as_str value) text said (λ s as_text fits.
+    option_map_some Some (option_and_then (text_within 1 MAX_KEY) (as_str value)) (Some key) is (λ text said made.
+    option_and_then_some (text_within 1 MAX_KEY) (as_str value) text said (λ s as_text fits.
     let parts = cond_some _ s text fits in
     let bounds = both _ _ parts.0 in
     let same : s ≡ key = cc in
@@ -211,13 +213,13 @@ key_said (Some value) (Some key) is = rw (is.0, le-leb _ _ is.1, le-leb _ _ is.2
 ask_read : (bytes : List ℕ) (ms : Members) (ask : RunAsk) → IsSmallObject bytes ms → ask_in ms ≡ Some ask → IsAsk bytes ask
 ask_read bytes ms ask document is =
     option_and_then_some _ (key_of (get_member (codes "key") ms)) ask is (λ key key_is rest.
-    option_and_then_some _ (optional_text 1_000 (get_member (codes "message") ms)) ask rest (λ message message_is last.
+    option_and_then_some _ (optional_text MAX_MESSAGE (get_member (codes "message") ms)) ask rest (λ message message_is last.
     option_map_some (make_ask key message) (flag_of (get_member (codes "plan_only") ms)) ask last (λ flag flag_is made.
     rw (← made) (record {
       members = ms;
       document = document;
       key = key_read (get_member (codes "key") ms) key key_is;
-      message = text_read 1_000 (get_member (codes "message") ms) message message_is;
+      message = text_read MAX_MESSAGE (get_member (codes "message") ms) message message_is;
       plan_only = flag_read (get_member (codes "plan_only") ms) flag flag_is;
     }))))
 
@@ -226,5 +228,5 @@ pub ask_law : (bytes : List ℕ) → AskLaw bytes
 unfolding run_ask
 ask_law bytes ask = (
   (λ is. option_and_then_some ask_in (small_object_of bytes) ask is (λ ms document found. ask_read bytes ms ask (small_read bytes ms document) found)),
-  (λ is. rw (small_said bytes is.members is.document, key_said (get_member (codes "key") is.members) ask.key is.key, text_said 1_000 (get_member (codes "message") is.members) ask.message is.message, flag_said (get_member (codes "plan_only") is.members) ask.plan_only is.plan_only) refl),
+  (λ is. rw (small_said bytes is.members is.document, key_said (get_member (codes "key") is.members) ask.key is.key, text_said MAX_MESSAGE (get_member (codes "message") is.members) ask.message is.message, flag_said (get_member (codes "plan_only") is.members) ask.plan_only is.plan_only) refl),
 )

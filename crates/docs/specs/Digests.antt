@@ -6,9 +6,9 @@ use Rattle.base64.specs.Engines.{standard}
 use Rattle.base64.specs.GeneralPurpose.{encode_of}
 
 -- the base64 text of the MD5 of a body
-unfoldable pub digest_text : List ℕ → List ℕ
-digest_text body = encode_of standard (md5 body)
+unfoldable pub content_md5_text : List ℕ → List ℕ
+content_md5_text body = encode_of standard (md5 body)
 
 -- the field is that text
 abbrev pub digest_fits : List ℕ → List ℕ → Bool
-digest_fits field body = bytes_eq field (digest_text body)
+digest_fits field body = bytes_eq field (content_md5_text body)

@@ -10,6 +10,8 @@ use Rattle.basis.specs.Numbers.{within}
 use Rattle.basis.specs.declared.rows.RunAsk.{RunAsk}
 use Rattle.basis.specs.declared.rows.Settings.{Settings}
 use Rattle.basis.specs.declared.rows.StateHead.{StateHead}
+use Rattle.basis.specs.declared.rows.TheConstants.{MAX_LINEAGE, MAX_SERIAL}
+use Rattle.docs.specs.declared.documents.TheConstants.{MAX_SMALL, MAX_KEY, MAX_MESSAGE}
 
 -- the members of the object that a JSON text is (RFC 8259), in UTF-8 and nested at most 127 deep
 abbrev pub object_of : List ℕ → Option Members
@@ -17,7 +19,7 @@ object_of bytes = if is_utf8 bytes then option_and_then as_object (read bytes) e
 
 -- a whole number that the reading holds as one, so neither 3.0 nor 1e0 nor -0: 0 to 2 ^ 63 - 1
 abbrev pub serial_of : Data → Option ℕ
-serial_of value = option_and_then (within 0 9_223_372_036_854_775_807) (option_and_then as_u64 (as_number value))
+serial_of value = option_and_then (within 0 MAX_SERIAL) (option_and_then as_u64 (as_number value))
 
 -- a text of so many bytes
 abbrev pub text_within : ℕ → ℕ → List ℕ → Option (List ℕ)
@@ -32,10 +34,10 @@ optional_text most (Some value) = option_and_then (text_within 0 most) (as_str v
 abbrev pub make_head : ℕ → List ℕ → StateHead
 make_head serial lineage = record { serial = serial; lineage = lineage }
 
--- a serial, which has to be there, and a lineage of at most 256 bytes
+-- a serial, which has to be there, and a lineage of at most MAX_LINEAGE bytes
 abbrev pub head_in : Members → Option StateHead
 head_in members =
-    option_and_then (λ serial. option_map (make_head serial) (optional_text 256 (get_member (codes "lineage") members)))
+    option_and_then (λ serial. option_map (make_head serial) (optional_text MAX_LINEAGE (get_member (codes "lineage") members)))
     (option_and_then serial_of (get_member (codes "serial") members))
 
 -- what counts of a Terraform state
@@ -59,10 +61,10 @@ abbrev pub flag_of : Option Data → Option Bool
 flag_of None = Some false
 flag_of (Some value) = as_bool value
 
--- the members of what a small request brings: no bytes are the empty object, and 16,384 bytes are the most
+-- the members of what a small request brings: no bytes are the empty object, and MAX_SMALL bytes are the most
 abbrev pub small_object_of : List ℕ → Option Members
 small_object_of [] = Some no_members
-small_object_of (b ∷ bytes) = if nat_le (length (b ∷ bytes)) 16_384 then object_of (b ∷ bytes) else None
+small_object_of (b ∷ bytes) = if nat_le (length (b ∷ bytes)) MAX_SMALL then object_of (b ∷ bytes) else None
 
 -- the settings of a workspace
 abbrev pub make_settings : Bool → Settings
@@ -76,20 +78,20 @@ settings_in members = option_map make_settings (flag_of (get_member (codes "auto
 unfoldable pub settings_of : List ℕ → Option Settings
 settings_of bytes = option_and_then settings_in (small_object_of bytes)
 
--- a text of 1 to 64 bytes; the key may be absent
+-- a text of 1 to MAX_KEY bytes; the key may be absent
 abbrev pub key_of : Option Data → Option (Option (List ℕ))
 key_of None = Some None
-key_of (Some value) = option_map Some (option_and_then (text_within 1 64) (as_str value))
+key_of (Some value) = option_map Some (option_and_then (text_within 1 MAX_KEY) (as_str value))
 
 -- what is asked of a run
 abbrev pub make_ask : Option (List ℕ) → List ℕ → Bool → RunAsk
 make_ask key message plan_only = record { key = key; message = message; plan_only = plan_only }
 
--- key, message of at most 1,000 bytes and kind, where they are there
+-- key, message of at most MAX_MESSAGE bytes and kind, where they are there
 abbrev pub ask_in : Members → Option RunAsk
 ask_in members =
     option_and_then (λ key. option_and_then (λ message. option_map (make_ask key message) (flag_of (get_member (codes "plan_only") members)))
-    (optional_text 1_000 (get_member (codes "message") members)))
+    (optional_text MAX_MESSAGE (get_member (codes "message") members)))
     (key_of (get_member (codes "key") members))
 
 -- what the creation of a run asks

@@ -7,6 +7,9 @@ use Rattle.serde_json.specs.Find.{get_member}
 use Rattle.basis.specs.declared.rows.RunAsk.{RunAsk}
 use Rattle.basis.specs.declared.rows.Settings.{Settings}
 use Rattle.basis.specs.declared.rows.StateHead.{StateHead}
+use Rattle.basis.specs.declared.names.TheConstants.{MAX_LOCK_ID}
+use Rattle.basis.specs.declared.rows.TheConstants.{MAX_LINEAGE}
+use Rattle.docs.specs.declared.documents.TheConstants.{MAX_SMALL, MAX_KEY, MAX_MESSAGE}
 use Rattle.docs.specs.Documents.{state_head, lock_id_of, settings_of, run_ask}
 
 -- the bytes are a JSON object with these members, in UTF-8
@@ -25,15 +28,15 @@ pub record IsState (bytes : List ℕ) (head : StateHead) : Type 0 where
   pub document : IsObject bytes members
   pub serial : get_member (codes "serial") members ≡ Some (number (unsigned head.serial))
   pub signed : head.serial < 2 ^ 63
-  pub lineage : IsText 256 (get_member (codes "lineage") members) head.lineage
+  pub lineage : IsText MAX_LINEAGE (get_member (codes "lineage") members) head.lineage
 
--- lock information: its ID is a text of 1 to 128 bytes that isn't the name of a run
+-- lock information: its ID is a text of 1 to MAX_LOCK_ID bytes that isn't the name of a run
 pub record IsLock (bytes id : List ℕ) : Type 0 where
   pub members : Members
   pub document : IsObject bytes members
   pub id_text : get_member (codes "ID") members ≡ Some (string id)
   pub least : 1 ≤ length id
-  pub most : length id ≤ 128
+  pub most : length id ≤ MAX_LOCK_ID
   pub free : starts_with nat_eq id (codes "run-") ≡ false
 
 -- absent, or true or false
@@ -41,10 +44,10 @@ abbrev pub IsFlag : Option Data → Bool → Type 0
 IsFlag None flag = flag ≡ false
 IsFlag (Some value) flag = value ≡ boolean flag
 
--- no bytes, which are the empty object, or an object of at most 16,384 bytes
+-- no bytes, which are the empty object, or an object of at most MAX_SMALL bytes
 abbrev pub IsSmallObject : List ℕ → Members → Type 0
 IsSmallObject [] members = members ≡ no_members
-IsSmallObject (b ∷ bytes) members = IsObject (b ∷ bytes) members × (length (b ∷ bytes) ≤ 16_384)
+IsSmallObject (b ∷ bytes) members = IsObject (b ∷ bytes) members × (length (b ∷ bytes) ≤ MAX_SMALL)
 
 -- settings: auto-apply is off where it is absent
 pub record IsSettings (bytes : List ℕ) (settings : Settings) : Type 0 where
@@ -52,18 +55,18 @@ pub record IsSettings (bytes : List ℕ) (settings : Settings) : Type 0 where
   pub document : IsSmallObject bytes members
   pub auto_apply : IsFlag (get_member (codes "auto_apply") members) settings.auto_apply
 
--- absent, or a text of 1 to 64 bytes
+-- absent, or a text of 1 to MAX_KEY bytes
 abbrev pub IsKey : Option Data → Option (List ℕ) → Type 0
 IsKey None key = key ≡ None
 IsKey (Some value) None = ⊥
-IsKey (Some value) (Some key) = (value ≡ string key) × (1 ≤ length key) × (length key ≤ 64)
+IsKey (Some value) (Some key) = (value ≡ string key) × (1 ≤ length key) × (length key ≤ MAX_KEY)
 
 -- what the creation of a run asks
 pub record IsAsk (bytes : List ℕ) (ask : RunAsk) : Type 0 where
   pub members : Members
   pub document : IsSmallObject bytes members
   pub key : IsKey (get_member (codes "key") members) ask.key
-  pub message : IsText 1_000 (get_member (codes "message") members) ask.message
+  pub message : IsText MAX_MESSAGE (get_member (codes "message") members) ask.message
   pub plan_only : IsFlag (get_member (codes "plan_only") members) ask.plan_only
 
 -- ---- the functions of Documents say the same

@@ -5,6 +5,8 @@ ghost use Rattle.serde_json.specs.Errors.{IsMemory};
 ghost use Rattle.std.specs.Prelude.{◌≡◌};
 
 use basis::Unfit;
+use std::error::Error;
+use std::fmt;
 
 /// Why a document wasn't read.
 #[derive(Clone, Copy, Debug, PartialEq, Eq)]
@@ -14,6 +16,17 @@ pub enum DocFault {
     /// Memory was refused, and nothing is said of the bytes.
     Down,
 }
+
+impl fmt::Display for DocFault {
+    fn fmt<W: fmt::Write>(&self, f: &mut fmt::Formatter<W>) -> fmt::Result {
+        f.write_str(match self {
+            DocFault::Bad => "the bytes aren't such a document",
+            DocFault::Down => "memory was refused",
+        })
+    }
+}
+
+impl Error for DocFault {}
 
 impl From<serde_json::Error> for DocFault {
     ghost from_gives = { λ error fault. (IsMemory error → fault ≡ NoMemory)

@@ -8,11 +8,31 @@ use basis::{Down, Listing, RunRow, VersionRow, WsRow};
 use serde_json::{Value, json};
 use std::alloc::{AllocError, Global};
 
-// A list, from the values of its items.
-fn list_object(alloc: Global, items: Vec<Value>, more: bool) -> Result<Value, AllocError>
-    ensures { IfOk result (λ value. view value ≡ list_object (items_view items.items) more) }
+/// A list of workspaces.
+pub fn write_ws_list(alloc: Global, listing: &Listing<WsRow>) -> Result<Vec<u8>, Down>
+    ensures { IfOk result (λ v. v.items ≡ ws_list_text listing.now) }
 {
-    json!(in alloc; {"items": Value::Array(items), "more": more})
+    let values = ws_values(alloc, listing.items.as_slice())?;
+    let value = list_object(alloc, values, listing.more)?;
+    to_body(alloc, &value)
+}
+
+/// A list of versions.
+pub fn write_version_list(alloc: Global, listing: &Listing<VersionRow>) -> Result<Vec<u8>, Down>
+    ensures { IfOk result (λ v. v.items ≡ version_list_text listing.now) }
+{
+    let values = version_values(alloc, listing.items.as_slice())?;
+    let value = list_object(alloc, values, listing.more)?;
+    to_body(alloc, &value)
+}
+
+/// A list of runs.
+pub fn write_run_list(alloc: Global, listing: &Listing<RunRow>) -> Result<Vec<u8>, Down>
+    ensures { IfOk result (λ v. v.items ≡ run_list_text listing.now) }
+{
+    let values = run_values(alloc, listing.items.as_slice())?;
+    let value = list_object(alloc, values, listing.more)?;
+    to_body(alloc, &value)
 }
 
 fn ws_values(alloc: Global, rows: &[WsRow]) -> Result<Vec<Value>, AllocError>
@@ -26,15 +46,6 @@ fn ws_values(alloc: Global, rows: &[WsRow]) -> Result<Vec<Value>, AllocError>
     Ok(values)
 }
 
-/// A list of workspaces.
-pub fn write_ws_list(alloc: Global, listing: &Listing<WsRow>) -> Result<Vec<u8>, Down>
-    ensures { IfOk result (λ v. v.items ≡ ws_list_text listing.now) }
-{
-    let values = ws_values(alloc, listing.items.as_slice())?;
-    let value = list_object(alloc, values, listing.more)?;
-    to_body(alloc, &value)
-}
-
 fn version_values(alloc: Global, rows: &[VersionRow]) -> Result<Vec<Value>, AllocError>
     ensures { IfOk result (λ values. map view values.items ≡ map version_value rows.now) }
 {
@@ -44,15 +55,6 @@ fn version_values(alloc: Global, rows: &[VersionRow]) -> Result<Vec<Value>, Allo
         values.push(value)?;
     }
     Ok(values)
-}
-
-/// A list of versions.
-pub fn write_version_list(alloc: Global, listing: &Listing<VersionRow>) -> Result<Vec<u8>, Down>
-    ensures { IfOk result (λ v. v.items ≡ version_list_text listing.now) }
-{
-    let values = version_values(alloc, listing.items.as_slice())?;
-    let value = list_object(alloc, values, listing.more)?;
-    to_body(alloc, &value)
 }
 
 fn run_values(alloc: Global, rows: &[RunRow]) -> Result<Vec<Value>, AllocError>
@@ -66,11 +68,9 @@ fn run_values(alloc: Global, rows: &[RunRow]) -> Result<Vec<Value>, AllocError>
     Ok(values)
 }
 
-/// A list of runs.
-pub fn write_run_list(alloc: Global, listing: &Listing<RunRow>) -> Result<Vec<u8>, Down>
-    ensures { IfOk result (λ v. v.items ≡ run_list_text listing.now) }
+// A list, from the values of its items.
+fn list_object(alloc: Global, items: Vec<Value>, more: bool) -> Result<Value, AllocError>
+    ensures { IfOk result (λ value. view value ≡ list_object (items_view items.items) more) }
 {
-    let values = run_values(alloc, listing.items.as_slice())?;
-    let value = list_object(alloc, values, listing.more)?;
-    to_body(alloc, &value)
+    json!(in alloc; {"items": Value::Array(items), "more": more})
 }

@@ -13,7 +13,7 @@ use Rattle.route.specs.declared.acts.AskedAct.TheVariants.{OfWorkspace}
 use Rattle.route.specs.declared.acts.WsAct.{WsAct}
 use Rattle.route.specs.declared.acts.WsAct.TheVariants.{ReadState, UpdateState, Unlock, ForceUnlock, ListVersions, ReportRun}
 use Rattle.route.specs.Asks.{Asking, refused, asks, asked_of, asked_made}
-use Rattle.route.specs.Tokens.{token_made}
+use Rattle.route.specs.Tokens.{bearer_token_made}
 
 abbrev message : List ℕ → List ℕ → Option (List ℕ) → Option (List ℕ) → List ℕ → Message
 message method path query authorization body = record { method = method; path = path; query = query; authorization = authorization; content_md5 = None; body = body }
@@ -26,7 +26,7 @@ net = codes "/v1/acme/state/net"
 
 -- of the workspace `net`
 abbrev asks_of : WsAct → Option (List ℕ) → List ℕ → Asking
-asks_of act lock_id secret = asks (asked_made (codes "acme") (OfWorkspace (codes "net") act) lock_id (token_made (codes "acme") secret))
+asks_of act lock_id secret = asks (asked_made (codes "acme") (OfWorkspace (codes "net") act) lock_id (bearer_token_made (codes "acme") secret))
 
 state_read : asked_of (message (codes "GET") net None reader []) ≡ asks_of ReadState None (codes "readreadreadread")
 unfolding form_urlencoded_on_literals utf8_lossy utf8_valid_len chars is_utf8 encode

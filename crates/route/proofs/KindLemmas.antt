@@ -5,23 +5,23 @@ use Rattle.std.specs.Option.{option_map, option_and_then}
 use Rattle.basis.specs.Names.{is_org_name, is_ws_name}
 use Rattle.basis.specs.Numbers.{number_of}
 use Rattle.basis.specs.declared.runs.RunAction.{RunAction}
-use Rattle.route.specs.declared.places.Place.{Place}
-use Rattle.route.specs.declared.places.Target.{Target}
-use Rattle.route.specs.declared.places.Target.TheVariants.{AllWorkspaces, Workspace, State, AllVersions, Version, AllRuns, Run, Action}
+use Rattle.route.specs.declared.paths.OrgResource.{OrgResource}
+use Rattle.route.specs.declared.paths.Resource.{Resource}
+use Rattle.route.specs.declared.paths.Resource.TheVariants.{AllWorkspaces, Workspace, State, AllVersions, Version, AllRuns, Run, Action}
 use Rattle.route.specs.declared.routes.Kind.{Kind}
 use Rattle.route.specs.declared.routes.Kind.TheVariants.{ListsWorkspaces, IsWorkspace, IsState, ListsVersions, IsVersion, ListsRuns, IsRun, IsAction}
-use Rattle.route.specs.Places.{action_of, after_org, in_org, place_at}
-use Rattle.route.specs.Kinds.{kind_at, kind_in, kind_if, target_named, place_named}
+use Rattle.route.specs.Paths.{action_of, after_org, in_org, resource_at}
+use Rattle.route.specs.Inner.Kinds.{kind_at, kind_in, kind_if, resource_named, org_resource_named}
 
--- what the shape says of the target
-abbrev Says : Option Kind → List (List ℕ) → Option Target → Type 0
-Says None parts target = target ≡ None
-Says (Some kind) parts target = target ≡ target_named kind parts
+-- what the shape says of the resource
+abbrev Says : Option Kind → List (List ℕ) → Option Resource → Type 0
+Says None parts resource = resource ≡ None
+Says (Some kind) parts resource = resource ≡ resource_named kind parts
 
--- what the shape says of the place
-abbrev pub Leads : Option Kind → List (List ℕ) → Option Place → Type 0
-Leads None parts place = place ≡ None
-Leads (Some kind) parts place = place ≡ place_named kind parts
+-- what the shape says of the resource in its organization
+abbrev pub Leads : Option Kind → List (List ℕ) → Option OrgResource → Type 0
+Leads None parts named = named ≡ None
+Leads (Some kind) parts named = named ≡ org_resource_named kind parts
 
 some_ws : {U : Type 0} (v : Bool) (text : List ℕ) (f : List ℕ → Option U) → cond v (f text) None ≡ option_and_then f (cond v (Some text) None)
 some_ws true text f = refl
@@ -31,11 +31,11 @@ no_ws : {U : Type 0} (v : Bool) → cond {A = Option U} v None None ≡ None
 no_ws true = refl
 no_ws false = refl
 
-of_none : {A : Type 0} (o : Option A) → option_and_then {U = Target} (λ x. None) o ≡ None
+of_none : {A : Type 0} (o : Option A) → option_and_then {U = Resource} (λ x. None) o ≡ None
 of_none None = refl
 of_none (Some x) = refl
 
-of_some : {A : Type 0} (f : A → Target) (o : Option A) → option_and_then (λ x. Some (f x)) o ≡ option_map f o
+of_some : {A : Type 0} (f : A → Resource) (o : Option A) → option_and_then (λ x. Some (f x)) o ≡ option_map f o
 of_some f None = refl
 of_some f (Some x) = refl
 
@@ -87,7 +87,7 @@ acts ws None p = refl
 acts ws (Some number) p = of_some (Action ws number) p
 
 no_acts : (o : Option ℕ) (p : Option RunAction)
-    → option_and_then {U = Target} (λ number. option_and_then (λ action. None) p) o ≡ None
+    → option_and_then {U = Resource} (λ number. option_and_then (λ action. None) p) o ≡ None
 no_acts None p = refl
 no_acts (Some number) p = of_none p
 
@@ -133,17 +133,17 @@ in_kind root version org (word ∷ (x ∷ ws) ∷ (y ∷ n) ∷ actions ∷ (z �
     five_parts root version org word (x ∷ ws) (y ∷ n) actions (z ∷ action) (bytes_eq word (codes "runs")) (bytes_eq actions (codes "actions"))
 in_kind root version org (word ∷ ws ∷ n ∷ actions ∷ action ∷ more ∷ parts) = no_ws (is_ws_name ws)
 
--- a target is in the organization, where its name reads
-lift : (root version org : List ℕ) (rest : List (List ℕ)) (kind : Option Kind) (target : Option Target)
-    → Says kind (root ∷ version ∷ org ∷ rest) target
-    → Leads kind (root ∷ version ∷ org ∷ rest) (cond (is_org_name org) (option_map (in_org org) target) None)
-lift root version org rest None target h = rw h (no_ws (is_org_name org))
-lift root version org rest (Some kind) target h =
-    rw h (some_ws (is_org_name org) org (λ o. option_map (in_org o) (target_named kind (root ∷ version ∷ org ∷ rest))))
+-- a resource is in the organization, where its name parses
+lift : (root version org : List ℕ) (rest : List (List ℕ)) (kind : Option Kind) (resource : Option Resource)
+    → Says kind (root ∷ version ∷ org ∷ rest) resource
+    → Leads kind (root ∷ version ∷ org ∷ rest) (cond (is_org_name org) (option_map (in_org org) resource) None)
+lift root version org rest None resource h = rw h (no_ws (is_org_name org))
+lift root version org rest (Some kind) resource h =
+    rw h (some_ws (is_org_name org) org (λ o. option_map (in_org o) (resource_named kind (root ∷ version ∷ org ∷ rest))))
 
-no_org : (u : Bool) (parts : List (List ℕ)) (kind : Option Kind) (place : Option Place) → Leads (cond (u && false) kind None) parts (cond (u && false) place None)
-no_org true parts kind place = refl
-no_org false parts kind place = refl
+no_org : (u : Bool) (parts : List (List ℕ)) (kind : Option Kind) (named : Option OrgResource) → Leads (cond (u && false) kind None) parts (cond (u && false) named None)
+no_org true parts kind named = refl
+no_org false parts kind named = refl
 
 some_org : (u : Bool) (root version org : List ℕ) (rest : List (List ℕ))
     → Leads (cond (u && true) (kind_in rest) None) (root ∷ version ∷ org ∷ rest)
@@ -151,14 +151,14 @@ some_org : (u : Bool) (root version org : List ℕ) (rest : List (List ℕ))
 some_org true root version org rest = lift root version org rest (kind_in rest) (after_org rest) (in_kind root version org rest)
 some_org false root version org rest = refl
 
-pub place_of_kind : (parts : List (List ℕ)) → Leads (kind_at parts) parts (place_at parts)
-place_of_kind [] = refl
-place_of_kind (root ∷ []) = refl
-place_of_kind (root ∷ version ∷ []) = refl
-place_of_kind (root ∷ version ∷ [] ∷ rest) =
+pub resource_of_kind : (parts : List (List ℕ)) → Leads (kind_at parts) parts (resource_at parts)
+resource_of_kind [] = refl
+resource_of_kind (root ∷ []) = refl
+resource_of_kind (root ∷ version ∷ []) = refl
+resource_of_kind (root ∷ version ∷ [] ∷ rest) =
     no_org (bytes_eq root [] && bytes_eq version (codes "v1")) (root ∷ version ∷ [] ∷ rest) (kind_in rest) (option_map (in_org []) (after_org rest))
-place_of_kind (root ∷ version ∷ (b ∷ org) ∷ rest) =
+resource_of_kind (root ∷ version ∷ (b ∷ org) ∷ rest) =
     some_org (bytes_eq root [] && bytes_eq version (codes "v1")) root version (b ∷ org) rest
 
-pub leads : (parts : List (List ℕ)) (kind : Option Kind) → kind ≡ kind_at parts → Leads kind parts (place_at parts)
-leads parts kind e = rw e (place_of_kind parts)
+pub leads : (parts : List (List ℕ)) (kind : Option Kind) → kind ≡ kind_at parts → Leads kind parts (resource_at parts)
+leads parts kind e = rw e (resource_of_kind parts)

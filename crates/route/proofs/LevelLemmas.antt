@@ -5,8 +5,8 @@ use Rattle.std.proofs.lemmas.Slice.Eq.{bytes_eq-Decides}
 use Rattle.matchit.specs.Rows.{RowsOf}
 use Rattle.matchit.specs.Seek.{own, step, seek, has_slash}
 use Rattle.matchit.specs.Level.{IsText}
-use Rattle.route.specs.Places.{parts_of, onto_first}
-use Rattle.route.specs.Kinds.{is_given}
+use Rattle.route.specs.Paths.{parts_of, onto_first}
+use Rattle.route.specs.Inner.Kinds.{is_given}
 use Rattle.route.proofs.PartLemmas.{parts_single, parts_cut}
 use Rattle.route.proofs.WalkLemmas.{Cut, cut_path, all_words, steps, word_end, word_more, Lacks, lacks_own, lacks_step, AreNames, name_nothing, name_empty, name_last, name_more, seek_none}
 

@@ -2,7 +2,7 @@
 use Rattle.std.proofs.Common.{◌≡◌, ◌≢◌, ℕ, zero, suc, ◌-◌, ◌==◌, ◌<◌, List, [], ◌∷◌, ◌++◌, length, get_or, Bool, true, false, cond, refl, ap, arith}
 use Rattle.std.proofs.lemmas.Bool.Decides.{nat_tests}
 use Rattle.matchit.specs.Seek.{has_slash}
-use Rattle.route.specs.Places.{parts_of, onto_first}
+use Rattle.route.specs.Paths.{parts_of, onto_first}
 
 pub slashless : (p : List ℕ) → ((i : ℕ) → i < length p → get_or p i 0 ≢ 47) → has_slash p ≡ false
 slashless [] h = refl

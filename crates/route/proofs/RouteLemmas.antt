@@ -9,9 +9,9 @@ use Rattle.matchit.specs.declared.error.InsertError.{InsertError}
 use Rattle.matchit.specs.declared.error.InsertError.TheVariants.{Conflict, InvalidParam, InvalidParamSegment, InvalidCatchAll, OutOfMemory}
 use Rattle.matchit.proofs.RenameLemmas.{first-rename}
 use Rattle.route.specs.declared.routes.Kind.{Kind}
-use Rattle.route.specs.Places.{parts_of}
-use Rattle.route.specs.Kinds.{kind_at}
-use Rattle.route.specs.Table.{kind_in_route, table}
+use Rattle.route.specs.Paths.{parts_of}
+use Rattle.route.specs.Inner.Kinds.{kind_at}
+use Rattle.route.specs.Inner.Table.{kind_in_route, table}
 use Rattle.route.proofs.TableLemmas.{table_reads}
 
 pub text_from : (path : List ℕ) → ((i : ℕ) → Fits w8 (get_or path i 0)) → IsText path

@@ -6,9 +6,9 @@ use Rattle.matchit.specs.Seek.{own, step, has_slash, first}
 use Rattle.matchit.specs.Level.{IsText}
 use Rattle.route.specs.declared.routes.Kind.{Kind}
 use Rattle.route.specs.declared.routes.Kind.TheVariants.{ListsWorkspaces, IsWorkspace, IsState, ListsVersions, IsVersion, ListsRuns, IsRun, IsAction}
-use Rattle.route.specs.Places.{parts_of}
-use Rattle.route.specs.Kinds.{kind_at, kind_in, is_given}
-use Rattle.route.specs.Table.{table}
+use Rattle.route.specs.Paths.{parts_of}
+use Rattle.route.specs.Inner.Kinds.{kind_at, kind_in, is_given}
+use Rattle.route.specs.Inner.Table.{table}
 use Rattle.route.proofs.WalkLemmas.{steps, Lacks, lacks_own, lacks_step}
 use Rattle.route.proofs.LevelLemmas.{Reads, nothing, reads_nothing, name_level, word_level, one_word, at_name, at_words, at_word, agrees, differs}
 

@@ -1,4 +1,4 @@
--- The act of a method at a place, and the methods that a place has.
+-- The act of a method on a resource, and the methods that a resource has.
 use Rattle.std.specs.Prelude.{ℕ, Bool, true, false, if◌then◌else◌, List, Option, Some, None, Result, codes, bytes_eq, option_map, option_and_then}
 use Rattle.basis.specs.declared.refusals.Allow.{Allow}
 use Rattle.basis.specs.declared.refusals.Allow.TheVariants.{Lists, Workspaces, States, Runs, Actions}
@@ -9,8 +9,8 @@ use Rattle.route.specs.declared.acts.AskedAct.{AskedAct}
 use Rattle.route.specs.declared.acts.AskedAct.TheVariants.{ListWorkspaces, OfWorkspace}
 use Rattle.route.specs.declared.acts.WsAct.{WsAct}
 use Rattle.route.specs.declared.acts.WsAct.TheVariants.{Read, Put as PutWorkspace, Delete as DeleteWorkspace, ReadState, UpdateState, PurgeState, Lock as LockState, Unlock as UnlockState, ForceUnlock, ListVersions, ReadVersion, ListRuns, MakeRun, ReadRun, ReportRun}
-use Rattle.route.specs.declared.places.Target.{Target}
-use Rattle.route.specs.declared.places.Target.TheVariants.{AllWorkspaces, Workspace, State, AllVersions, Version, AllRuns, Run, Action}
+use Rattle.route.specs.declared.paths.Resource.{Resource}
+use Rattle.route.specs.declared.paths.Resource.TheVariants.{AllWorkspaces, Workspace, State, AllVersions, Version, AllRuns, Run, Action}
 use Rattle.route.specs.declared.verbs.Verb.{Verb}
 use Rattle.route.specs.declared.verbs.Verb.TheVariants.{Get, Post, Put, Delete, Lock, Unlock}
 
@@ -68,7 +68,7 @@ posted act Post = Some act
 posted act verb = None
 
 -- what a method asks of what a path names
-abbrev pub act_at : Target → Verb → Bool → Option AskedAct
+abbrev pub act_at : Resource → Verb → Bool → Option AskedAct
 act_at AllWorkspaces verb bodyless = listing_act verb
 act_at (Workspace ws) verb bodyless = option_map (OfWorkspace ws) (workspace_act verb)
 act_at (State ws) verb bodyless = Some (OfWorkspace ws (state_act verb bodyless))
@@ -78,8 +78,8 @@ act_at (AllRuns ws) verb bodyless = option_map (OfWorkspace ws) (runs_act verb)
 act_at (Run ws number) verb bodyless = option_map (OfWorkspace ws) (got (ReadRun number) verb)
 act_at (Action ws number action) verb bodyless = option_map (OfWorkspace ws) (posted (ReportRun number action) verb)
 
--- the methods of each place, as the field Allow lists them
-abbrev pub allow_of : Target → Allow
+-- the methods of each resource, as the field Allow lists them
+abbrev pub allow_of : Resource → Allow
 allow_of AllWorkspaces = Lists
 allow_of (Workspace ws) = Workspaces
 allow_of (State ws) = States
@@ -89,10 +89,10 @@ allow_of (AllRuns ws) = Runs
 allow_of (Run ws number) = Lists
 allow_of (Action ws number action) = Actions
 
--- the act of a method; a place has only the methods that have one
-abbrev pub act_asked : Target → List ℕ → Bool → Option AskedAct
-act_asked target method bodyless = option_and_then (λ verb. act_at target verb bodyless) (verb_of method)
+-- the act of a method; a resource has only the methods that have one
+abbrev pub act_asked : Resource → List ℕ → Bool → Option AskedAct
+act_asked resource method bodyless = option_and_then (λ verb. act_at resource verb bodyless) (verb_of method)
 
--- the same, or the refusal that names the methods of the place
-abbrev pub act_read : Target → List ℕ → Bool → Result AskedAct Refusal
-act_read target method bodyless = or_refused (NoMethod (allow_of target)) (act_asked target method bodyless)
+-- the same, or the refusal that names the methods of the resource
+abbrev pub act_read : Resource → List ℕ → Bool → Result AskedAct Refusal
+act_read resource method bodyless = or_refused (NoMethod (allow_of resource)) (act_asked resource method bodyless)

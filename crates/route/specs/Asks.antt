@@ -5,14 +5,14 @@ use Rattle.basis.specs.declared.refusals.Refusal.TheVariants.{NoRoute}
 use Rattle.wire.specs.declared.messages.Message.{Message}
 use Rattle.route.specs.declared.acts.Asked.{Asked}
 use Rattle.route.specs.declared.acts.AskedAct.{AskedAct}
-use Rattle.route.specs.declared.places.Place.{Place}
+use Rattle.route.specs.declared.paths.OrgResource.{OrgResource}
 use Rattle.route.specs.declared.queries.Query.{Query}
-use Rattle.route.specs.declared.tokens.Token.{Token}
+use Rattle.route.specs.declared.tokens.BearerToken.{BearerToken}
 use Rattle.basis.specs.Checks.{or_refused, and_then}
-use Rattle.route.specs.Places.{place_of}
+use Rattle.route.specs.Paths.{resource_of}
 use Rattle.route.specs.Acts.{act_read}
 use Rattle.route.specs.Queries.{query_read, lock_id_read, after_read}
-use Rattle.route.specs.Tokens.{token_read}
+use Rattle.route.specs.Tokens.{bearer_token_read}
 
 -- what a message asks, or its refusal
 pub data Asking : Type 0 where
@@ -30,7 +30,7 @@ is_bodyless [] = true
 is_bodyless (b ∷ bytes) = false
 
 -- what is asked, from its parts
-abbrev pub asked_made : List ℕ → AskedAct → Option (List ℕ) → Token → Asked
+abbrev pub asked_made : List ℕ → AskedAct → Option (List ℕ) → BearerToken → Asked
 asked_made org act lock_id token =
     record { caller = token.org; secret = token.secret; org = org; act = act; lock_id = lock_id }
 
@@ -38,17 +38,17 @@ asked_made org act lock_id token =
 abbrev pub with_query : Option (List ℕ) → List ℕ → AskedAct → Query → Result Asked Refusal
 with_query authorization org act found =
     and_then (lock_id_read found.id) (λ lock_id. and_then (after_read act found.after) (λ begun.
-    and_then (token_read authorization found.token) (λ token. Ok (asked_made org begun lock_id token))))
+    and_then (bearer_token_read authorization found.token) (λ token. Ok (asked_made org begun lock_id token))))
 
 -- the method of a route, then the query and the token
-abbrev pub at_place : Message → Place → Result Asked Refusal
-at_place message place =
-    and_then (act_read place.target message.method (is_bodyless message.body)) (λ act.
-    and_then (query_read (query_text message.query)) (with_query message.authorization place.org act))
+abbrev pub asked_at : Message → OrgResource → Result Asked Refusal
+asked_at message named =
+    and_then (act_read named.resource message.method (is_bodyless message.body)) (λ act.
+    and_then (query_read (query_text message.query)) (with_query message.authorization named.org act))
 
 -- the route first
 abbrev pub asked_read : Message → Result Asked Refusal
-asked_read message = and_then (or_refused NoRoute (place_of message.path)) (at_place message)
+asked_read message = and_then (or_refused NoRoute (resource_of message.path)) (asked_at message)
 
 abbrev pub asking_of : Result Asked Refusal → Asking
 asking_of (Ok asked) = asks asked

@@ -1,10 +1,7 @@
 pub mod Policy
-pub mod Places
-pub mod Kinds
-pub mod Table
-pub mod Acts
-pub mod Checks
-pub mod Queries
-pub mod Pairs
-pub mod Tokens
 pub mod Asks
+pub mod Paths
+pub mod Acts
+pub mod Queries
+pub mod Tokens
+pub mod Inner

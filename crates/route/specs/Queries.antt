@@ -5,6 +5,7 @@ use Rattle.std.specs.Str.Lossy.{utf8_lossy}
 use Rattle.form_urlencoded.specs.Form.{raw_pairs, decode}
 use Rattle.basis.specs.Names.{is_ws_name, is_lock_id}
 use Rattle.basis.specs.Numbers.{whole_of, within}
+use Rattle.basis.specs.declared.numbers.TheConstants.{MAX_NUMBER}
 use Rattle.basis.specs.declared.refusals.Refusal.{Refusal}
 use Rattle.basis.specs.declared.refusals.Refusal.TheVariants.{BadQuery}
 use Rattle.route.specs.declared.acts.AskedAct.{AskedAct}
@@ -78,15 +79,15 @@ lock_id_read (Some text) = if is_lock_id text then Ok (Some text) else Err BadQu
 abbrev pub name_after : List ℕ → Option (List ℕ)
 name_after text = if is_ws_name text then Some text else None
 
--- the number after which a list of versions or runs begins: 0 to 1,000,000,000
+-- the number after which a list of versions or runs begins; 0 is before the first
 abbrev pub number_after : List ℕ → Option ℕ
-number_after text = option_and_then (within 0 1_000_000_000) (whole_of text)
+number_after text = option_and_then (within 0 MAX_NUMBER) (whole_of text)
 
 -- the list of workspaces after a name
 abbrev pub listed_from : List ℕ → AskedAct
 listed_from name = ListWorkspaces (Some name)
 
--- the act with the place where its list begins; an act that lists nothing doesn't look at it
+-- the act with the item after which its list begins; an act that lists nothing doesn't look at it
 abbrev pub ws_begun_after : WsAct → List ℕ → Option WsAct
 ws_begun_after (ListVersions from) text = option_map ListVersions (number_after text)
 ws_begun_after (ListRuns from) text = option_map ListRuns (number_after text)

@@ -5,7 +5,7 @@ use Rattle.std.specs.Str.{str_eq_ignore_ascii_case}
 use Rattle.basis.specs.Names.{is_org_name, is_secret}
 use Rattle.basis.specs.declared.refusals.Refusal.{Refusal}
 use Rattle.basis.specs.declared.refusals.Refusal.TheVariants.{TwoTokens, NoToken, BadToken}
-use Rattle.route.specs.declared.tokens.Token.{Token}
+use Rattle.route.specs.declared.tokens.BearerToken.{BearerToken}
 use Rattle.basis.specs.Checks.{or_refused, and_then}
 
 -- the bytes before the first such byte, or all of them
@@ -34,8 +34,8 @@ one_token None (Some text) = Ok text
 one_token None None = Err NoToken
 
 -- a token's parts
-abbrev pub token_made : List ℕ → List ℕ → Token
-token_made org secret = record { org = org; secret = secret }
+abbrev pub bearer_token_made : List ℕ → List ℕ → BearerToken
+bearer_token_made org secret = record { org = org; secret = secret }
 
 -- the organization's name that a text is
 abbrev pub org_of : List ℕ → Option (List ℕ)
@@ -46,11 +46,11 @@ abbrev pub secret_of : List ℕ → Option (List ℕ)
 secret_of text = if is_secret text then Some text else None
 
 -- a token is an organization's name, a dot (46) and a secret, cut at its first dot
-abbrev pub token_of : List ℕ → Option Token
-token_of text =
-    option_and_then (λ org. option_map (token_made org) (secret_of (behind 46 text))) (org_of (before 46 text))
+abbrev pub bearer_token_of : List ℕ → Option BearerToken
+bearer_token_of text =
+    option_and_then (λ org. option_map (bearer_token_made org) (secret_of (behind 46 text))) (org_of (before 46 text))
 
 -- the token of a request, from its field Authorization and from its query
-abbrev pub token_read : Option (List ℕ) → Option (List ℕ) → Result Token Refusal
-token_read authorization in_query =
-    and_then (one_token (option_and_then bearer_of authorization) in_query) (λ text. or_refused BadToken (token_of text))
+abbrev pub bearer_token_read : Option (List ℕ) → Option (List ℕ) → Result BearerToken Refusal
+bearer_token_read authorization in_query =
+    and_then (one_token (option_and_then bearer_of authorization) in_query) (λ text. or_refused BadToken (bearer_token_of text))

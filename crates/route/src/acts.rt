@@ -2,6 +2,20 @@
 
 use basis::{LockId, Number, OrgName, RunAction, Secret, WsName};
 
+/// What a message asks, and in whose name.
+#[derive(Drop)]
+pub struct Asked {
+    /// The organization that the token names.
+    pub caller: OrgName,
+    /// The secret of the token.
+    pub secret: Secret,
+    /// The organization that the path names.
+    pub org: OrgName,
+    pub act: AskedAct,
+    /// The ID in the query: the lock that the sender says it has.
+    pub lock_id: Option<LockId>,
+}
+
 /// What a request asks of the organization that its path names.
 #[derive(Debug, Drop)]
 pub enum AskedAct {
@@ -18,13 +32,13 @@ pub enum WsAct {
     Read,
     /// Makes the workspace, or gives it other settings.
     Put,
-    /// Takes the workspace away.
+    /// AddsPair the workspace away.
     Delete,
     /// The text of the newest version.
     ReadState,
     /// Makes a new version.
     UpdateState,
-    /// Takes all versions away.
+    /// AddsPair all versions away.
     PurgeState,
     /// Locks the workspace.
     Lock,
@@ -44,18 +58,4 @@ pub enum WsAct {
     ReadRun(Number),
     /// What is reported of a run, or asked of it.
     ReportRun(Number, RunAction),
-}
-
-/// What a message asks, and in whose name.
-#[derive(Drop)]
-pub struct Asked {
-    /// The organization that the token names.
-    pub caller: OrgName,
-    /// The secret of the token.
-    pub secret: Secret,
-    /// The organization that the path names.
-    pub org: OrgName,
-    pub act: AskedAct,
-    /// The ID in the query: the lock that the sender says it has.
-    pub lock_id: Option<LockId>,
 }

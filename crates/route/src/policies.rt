@@ -5,6 +5,30 @@ ghost use Rattle.route.specs.Policy.{least_role, least_role_on, role_refused, al
 use crate::acts::{Asked, AskedAct, WsAct};
 use basis::{Refusal, Role};
 
+/// Whether a role that a token has is enough for what is asked, or how it is refused. It looks at no
+/// name and takes no memory.
+pub fn allowed(asked: &Asked, role: Role) -> Result<(), Refusal>
+    ensures { result ≡ allowed_by (role_refused role asked.now.act) }
+{
+    let least = least_role(&asked.act);
+    if role.includes(least) {
+        return Ok(());
+    }
+    match least {
+        Role::Admin => Err(Refusal::NeedAdmin),
+        Role::Read | Role::Write => Err(Refusal::NeedWrite),
+    }
+}
+
+fn least_role(act: &AskedAct) -> Role
+    ensures { result ≡ least_role act.now }
+{
+    match act {
+        AskedAct::ListWorkspaces { .. } => Role::Read,
+        AskedAct::OfWorkspace(_, act) => least_role_on(*act),
+    }
+}
+
 fn least_role_on(act: WsAct) -> Role
     ensures { result ≡ least_role_on act }
 {
@@ -24,29 +48,5 @@ fn least_role_on(act: WsAct) -> Role
         WsAct::MakeRun => Role::Write,
         WsAct::ReadRun(_) => Role::Read,
         WsAct::ReportRun(_, _) => Role::Write,
-    }
-}
-
-fn least_role(act: &AskedAct) -> Role
-    ensures { result ≡ least_role act.now }
-{
-    match act {
-        AskedAct::ListWorkspaces { .. } => Role::Read,
-        AskedAct::OfWorkspace(_, act) => least_role_on(*act),
-    }
-}
-
-/// Whether a role that a token has is enough for what is asked, or how it is refused. It looks at no
-/// name and takes no memory.
-pub fn allowed(asked: &Asked, role: Role) -> Result<(), Refusal>
-    ensures { result ≡ allowed_by (role_refused role asked.now.act) }
-{
-    let least = least_role(&asked.act);
-    if role.includes(least) {
-        return Ok(());
-    }
-    match least {
-        Role::Admin => Err(Refusal::NeedAdmin),
-        Role::Read | Role::Write => Err(Refusal::NeedWrite),
     }
 }

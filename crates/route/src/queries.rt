@@ -1,8 +1,9 @@
 //! The query of a request's target.
 ghost use Rattle.std.specs.Prelude.{◌≡◌, ◌≢◌, false, Some, None, OnOk, IfErr, IsSome, option_map};
 ghost use Rattle.std.specs.Cow.{cow_str_bytes};
-ghost use Rattle.basis.specs.Checks.{Follows, or_refused};
-ghost use Rattle.route.specs.Pairs.{has_room, Takes};
+ghost use Rattle.basis.specs.Checks.{or_refused};
+ghost use Rattle.basis.specs.Inner.Checks.{Follows};
+ghost use Rattle.route.specs.Inner.Pairs.{has_room, AddsPair};
 ghost use Rattle.route.specs.Queries.{query_read, lock_id_read, after_read, name_after, listed_from, number_after, ws_begun_after};
 
 use crate::acts::{AskedAct, WsAct};
@@ -31,26 +32,42 @@ pub struct Query {
     pub after: Option<Text>,
 }
 
-// A value for a key that has none so far.
-fn put(alloc: Global, place: &mut Option<Text>, value: &str) -> Result<(), Refusal>
-    ensures ok { OnOk result ((place.old ≡ None) × (place.new ≡ Some value.now)) }
-    ensures twice { IfErr result (λ refusal. refusal ≢ Refusal.Unavailable → (refusal ≡ Refusal.BadQuery) × IsSome place.old) }
+/// The values of the keys that have a use; none of these keys comes twice.
+pub fn read_query(alloc: Global, query: &[u8]) -> Result<Query, Refusal>
+    ensures { Follows result (query_read query.now) }
 {
-    if place.is_some() {
-        return Err(Refusal::BadQuery);
-    }
-    match Text::copy_of(alloc, value) {
-        Ok(text) => {
-            *place = Some(text);
-            Ok(())
+    let mut found = Query {
+        token: None,
+        id: None,
+        after: None,
+    };
+    for pair in form_urlencoded::parse(alloc, query) {
+        let Ok((name, value)) = pair else {
+            return Err(Refusal::Unavailable);
+        };
+        if let Err(refusal) = add_decoded_pair(alloc, &mut found, name, value) {
+            return Err(refusal);
         }
-        Err(_) => Err(Refusal::Unavailable),
     }
+    Ok(found)
+}
+
+// One more pair of the query, decoded.
+fn add_decoded_pair(
+    alloc: Global,
+    found: &mut Query,
+    name: CowStr<'_>,
+    value: CowStr<'_>,
+) -> Result<(), Refusal>
+    ensures ok { OnOk result (AddsPair (cow_str_bytes name.entry) (cow_str_bytes value.entry) found.old found.new) }
+    ensures twice { IfErr result (λ refusal. refusal ≢ Refusal.Unavailable → (refusal ≡ Refusal.BadQuery) × (has_room (cow_str_bytes name.entry) (cow_str_bytes value.entry) found.old ≡ false)) }
+{
+    add_pair(alloc, found, &name, &value)
 }
 
 // One more pair of the query.
-fn take(alloc: Global, found: &mut Query, name: &str, value: &str) -> Result<(), Refusal>
-    ensures ok { OnOk result (Takes name.now value.now found.old found.new) }
+fn add_pair(alloc: Global, found: &mut Query, name: &str, value: &str) -> Result<(), Refusal>
+    ensures ok { OnOk result (AddsPair name.now value.now found.old found.new) }
     ensures twice { IfErr result (λ refusal. refusal ≢ Refusal.Unavailable → (refusal ≡ Refusal.BadQuery) × (has_room name.now value.now found.old ≡ false)) }
 {
     if name == TOKEN_KEY {
@@ -65,37 +82,21 @@ fn take(alloc: Global, found: &mut Query, name: &str, value: &str) -> Result<(),
     Ok(())
 }
 
-// One more pair of the query, decoded.
-fn take_pair(
-    alloc: Global,
-    found: &mut Query,
-    name: CowStr<'_>,
-    value: CowStr<'_>,
-) -> Result<(), Refusal>
-    ensures ok { OnOk result (Takes (cow_str_bytes name.entry) (cow_str_bytes value.entry) found.old found.new) }
-    ensures twice { IfErr result (λ refusal. refusal ≢ Refusal.Unavailable → (refusal ≡ Refusal.BadQuery) × (has_room (cow_str_bytes name.entry) (cow_str_bytes value.entry) found.old ≡ false)) }
+// A value for a key that has none so far.
+fn put(alloc: Global, slot: &mut Option<Text>, value: &str) -> Result<(), Refusal>
+    ensures ok { OnOk result ((slot.old ≡ None) × (slot.new ≡ Some value.now)) }
+    ensures twice { IfErr result (λ refusal. refusal ≢ Refusal.Unavailable → (refusal ≡ Refusal.BadQuery) × IsSome slot.old) }
 {
-    take(alloc, found, &name, &value)
-}
-
-/// The values of the keys that have a use; none of these keys comes twice.
-pub fn read_query(alloc: Global, query: &[u8]) -> Result<Query, Refusal>
-    ensures { Follows result (query_read query.now) }
-{
-    let mut found = Query {
-        token: None,
-        id: None,
-        after: None,
-    };
-    for pair in form_urlencoded::parse(alloc, query) {
-        let Ok((name, value)) = pair else {
-            return Err(Refusal::Unavailable);
-        };
-        if let Err(refusal) = take_pair(alloc, &mut found, name, value) {
-            return Err(refusal);
-        }
+    if slot.is_some() {
+        return Err(Refusal::BadQuery);
     }
-    Ok(found)
+    match Text::copy_of(alloc, value) {
+        Ok(text) => {
+            *slot = Some(text);
+            Ok(())
+        }
+        Err(_) => Err(Refusal::Unavailable),
+    }
 }
 
 /// The ID of a lock in a query.
@@ -112,24 +113,19 @@ pub fn lock_id_in(alloc: Global, id: Option<Text>) -> Result<Option<LockId>, Ref
     }
 }
 
-fn list_after(alloc: Global, text: &str) -> Result<AskedAct, Refusal>
-    ensures { Follows result (or_refused Refusal.BadQuery (option_map listed_from (name_after text.now))) }
+/// The act with the item after which its list begins, if it lists anything.
+pub fn begin_after(alloc: Global, act: AskedAct, after: Option<Text>) -> Result<AskedAct, Refusal>
+    ensures { Follows result (after_read act after) }
 {
-    match WsName::read(alloc, text) {
-        Ok(name) => Ok(AskedAct::ListWorkspaces { after: Some(name) }),
-        Err(Unfit::Syntax) => Err(Refusal::BadQuery),
-        Err(Unfit::Down) => Err(Refusal::Unavailable),
-    }
-}
-
-fn number_after(text: &str) -> Option<u64>
-    ensures { result ≡ number_after text.now }
-{
-    let number = whole_number(text)?;
-    if number <= MAX_NUMBER as u64 {
-        Some(number)
-    } else {
-        None
+    let Some(text) = after else {
+        return Ok(act);
+    };
+    match act {
+        AskedAct::ListWorkspaces { .. } => list_after(alloc, text.as_str()),
+        AskedAct::OfWorkspace(ws, act) => match ws_begun_after(act, text.as_str()) {
+            Some(act) => Ok(AskedAct::OfWorkspace(ws, act)),
+            None => Err(Refusal::BadQuery),
+        },
     }
 }
 
@@ -153,18 +149,23 @@ fn ws_begun_after(act: WsAct, text: &str) -> Option<WsAct>
     }
 }
 
-/// The act with the place where its list begins, if it lists anything.
-pub fn begin_after(alloc: Global, act: AskedAct, after: Option<Text>) -> Result<AskedAct, Refusal>
-    ensures { Follows result (after_read act after) }
+fn list_after(alloc: Global, text: &str) -> Result<AskedAct, Refusal>
+    ensures { Follows result (or_refused Refusal.BadQuery (option_map listed_from (name_after text.now))) }
 {
-    let Some(text) = after else {
-        return Ok(act);
-    };
-    match act {
-        AskedAct::ListWorkspaces { .. } => list_after(alloc, text.as_str()),
-        AskedAct::OfWorkspace(ws, act) => match ws_begun_after(act, text.as_str()) {
-            Some(act) => Ok(AskedAct::OfWorkspace(ws, act)),
-            None => Err(Refusal::BadQuery),
-        },
+    match WsName::read(alloc, text) {
+        Ok(name) => Ok(AskedAct::ListWorkspaces { after: Some(name) }),
+        Err(Unfit::Syntax) => Err(Refusal::BadQuery),
+        Err(Unfit::Down) => Err(Refusal::Unavailable),
+    }
+}
+
+fn number_after(text: &str) -> Option<u64>
+    ensures { result ≡ number_after text.now }
+{
+    let number = whole_number(text)?;
+    if number <= MAX_NUMBER as u64 {
+        Some(number)
+    } else {
+        None
     }
 }

@@ -1,13 +1,40 @@
 //! The shapes of routes, found by a router that is made once.
 ghost use Rattle.std.specs.Prelude.{◌≡◌, IfOk, IfErr};
 ghost use Rattle.matchit.specs.Router.{rename};
-ghost use Rattle.route.specs.Kinds.{kind_at};
-ghost use Rattle.route.specs.Places.{parts_of};
-ghost use Rattle.route.specs.Table.{kind_in_route, table};
+ghost use Rattle.route.specs.Inner.Kinds.{kind_at};
+ghost use Rattle.route.specs.Paths.{parts_of};
+ghost use Rattle.route.specs.Inner.Table.{kind_in_route, table};
 
 use basis::Down;
 use matchit::{InsertError, Router};
 use std::alloc::Global;
+
+/// The router of custody's paths. It is made once, and finding a route takes no memory.
+#[derive(Drop)]
+pub struct Routes {
+    router: Router<Kind>,
+    /// The router holds the table of routes.
+    ghost complete: { rename kind_in_route router ≡ table },
+}
+
+impl Routes {
+    pub fn new(alloc: Global) -> Result<Routes, Down> {
+        match make_router(alloc) {
+            Ok(router) => Ok(Routes { router }),
+            Err(_) => Err(Down),
+        }
+    }
+
+    /// The shape of a path's route. Only words and empty parts are looked at. It takes no memory.
+    pub(crate) fn kind_of(&self, path: &str) -> Option<Kind>
+        ensures { result ≡ kind_at (parts_of path.now) }
+    {
+        match self.router.at(path) {
+            Ok(found) => Some(*found.value),
+            Err(_) => None,
+        }
+    }
+}
 
 /// The shape of a route.
 #[derive(Clone, Copy, Debug, PartialEq, Eq)]
@@ -20,14 +47,6 @@ pub enum Kind {
     ListsRuns,
     IsRun,
     IsAction,
-}
-
-/// The router of custody's paths. It is made once, and finding a route takes no memory.
-#[derive(Drop)]
-pub struct Routes {
-    router: Router<Kind>,
-    /// The router holds the table of routes.
-    ghost complete: { rename kind_in_route router ≡ table },
 }
 
 // The router of the table.
@@ -48,23 +67,4 @@ fn make_router(alloc: Global) -> Result<Router<Kind>, InsertError>
         Kind::IsAction,
     )?;
     Ok(router)
-}
-
-impl Routes {
-    pub fn new(alloc: Global) -> Result<Routes, Down> {
-        match make_router(alloc) {
-            Ok(router) => Ok(Routes { router }),
-            Err(_) => Err(Down),
-        }
-    }
-
-    /// The shape of a path's route. Only words and empty parts are looked at. It takes no memory.
-    pub fn kind_of(&self, path: &str) -> Option<Kind>
-        ensures { result ≡ kind_at (parts_of path.now) }
-    {
-        match self.router.at(path) {
-            Ok(found) => Some(*found.value),
-            Err(_) => None,
-        }
-    }
 }

@@ -1,8 +1,9 @@
 //! Bearer tokens.
 ghost use Rattle.std.specs.Prelude.{◌≡◌, Some, None, MatchOption, option_map, option_and_then};
-ghost use Rattle.basis.specs.Checks.{Follows, or_refused};
-ghost use Rattle.route.specs.Checks.{now_of, result_of};
-ghost use Rattle.route.specs.Tokens.{before, behind, unspaced, bearer_of, one_token, org_of, secret_of, token_of, token_read};
+ghost use Rattle.basis.specs.Checks.{or_refused};
+ghost use Rattle.basis.specs.Inner.Checks.{Follows};
+ghost use Rattle.route.specs.Inner.Checks.{now_of, result_of};
+ghost use Rattle.route.specs.Tokens.{before, behind, unspaced, bearer_of, one_token, org_of, secret_of, bearer_token_of, bearer_token_read};
 
 use basis::{OrgName, Refusal, Secret, Unfit};
 use std::alloc::Global;
@@ -11,41 +12,24 @@ use std::str;
 /// The scheme of bearer tokens (RFC 6750, section 2.1); its case doesn't count.
 const BEARER: &[u8] = b"bearer";
 
-/// A token whose text reads.
+/// A token whose text parses.
 #[derive(Drop)]
-pub struct Token {
+pub struct BearerToken {
     pub org: OrgName,
     pub secret: Secret,
 }
 
-// The bytes before and after the first such byte.
-fn cut_at(bytes: &[u8], byte: u8) -> (&[u8], &[u8])
-    ensures front { result.0.now ≡ before byte bytes.now }
-    ensures back { result.1.now ≡ behind byte bytes.now }
+/// The token of a request, from its field Authorization and from its query.
+pub fn read_bearer_token(
+    alloc: Global,
+    authorization: Option<&[u8]>,
+    in_query: Option<&[u8]>,
+) -> Result<BearerToken, Refusal>
+    ensures { Follows result (bearer_token_read (option_map now_of authorization.entry) (option_map now_of in_query.entry)) }
 {
-    match bytes.iter().position(|b| *b == byte) {
-        Some(place) => (&bytes[..place], &bytes[place + 1..]),
-        None => (bytes, &[]),
-    }
-}
-
-fn unspaced(bytes: &[u8]) -> &[u8]
-    ensures { result.now ≡ unspaced bytes.now }
-{
-    match bytes {
-        [b' ', rest @ ..] => unspaced(rest),
-        _ => bytes,
-    }
-}
-
-fn bearer_in(value: &[u8]) -> Option<&[u8]>
-    ensures { MatchOption result (bearer_of value.now ≡ None) (λ token. bearer_of value.now ≡ Some token.now) }
-{
-    let (word, rest) = cut_at(value, b' ');
-    if word.eq_ignore_ascii_case(BEARER) {
-        Some(unspaced(rest))
-    } else {
-        None
+    match one_token(authorization, in_query) {
+        Ok(text) => bearer_token_in(alloc, text),
+        Err(refusal) => Err(refusal),
     }
 }
 
@@ -61,6 +45,31 @@ fn one_token<'t>(
         (Some(token), None) => Ok(token),
         (None, Some(token)) => Ok(token),
         (None, None) => Err(Refusal::NoToken),
+    }
+}
+
+fn bearer_in(value: &[u8]) -> Option<&[u8]>
+    ensures { MatchOption result (bearer_of value.now ≡ None) (λ token. bearer_of value.now ≡ Some token.now) }
+{
+    let (word, rest) = cut_at(value, b' ');
+    if word.eq_ignore_ascii_case(BEARER) {
+        Some(unspaced(rest))
+    } else {
+        None
+    }
+}
+
+fn bearer_token_in(alloc: Global, text: &[u8]) -> Result<BearerToken, Refusal>
+    ensures { Follows result (or_refused Refusal.BadToken (bearer_token_of text.now)) }
+{
+    let (org, secret) = cut_at(text, b'.');
+    let org = match org_in(alloc, org) {
+        Ok(org) => org,
+        Err(refusal) => return Err(refusal),
+    };
+    match secret_in(alloc, secret) {
+        Ok(secret) => Ok(BearerToken { org, secret }),
+        Err(refusal) => Err(refusal),
     }
 }
 
@@ -90,30 +99,22 @@ fn secret_in(alloc: Global, bytes: &[u8]) -> Result<Secret, Refusal>
     }
 }
 
-fn token_in(alloc: Global, text: &[u8]) -> Result<Token, Refusal>
-    ensures { Follows result (or_refused Refusal.BadToken (token_of text.now)) }
+// The bytes before and after the first such byte.
+fn cut_at(bytes: &[u8], byte: u8) -> (&[u8], &[u8])
+    ensures first { result.0.now ≡ before byte bytes.now }
+    ensures rest { result.1.now ≡ behind byte bytes.now }
 {
-    let (org, secret) = cut_at(text, b'.');
-    let org = match org_in(alloc, org) {
-        Ok(org) => org,
-        Err(refusal) => return Err(refusal),
-    };
-    match secret_in(alloc, secret) {
-        Ok(secret) => Ok(Token { org, secret }),
-        Err(refusal) => Err(refusal),
+    match bytes.iter().position(|b| *b == byte) {
+        Some(index) => (&bytes[..index], &bytes[index + 1..]),
+        None => (bytes, &[]),
     }
 }
 
-/// The token of a request, from its field Authorization and from its query.
-pub fn read_token(
-    alloc: Global,
-    authorization: Option<&[u8]>,
-    in_query: Option<&[u8]>,
-) -> Result<Token, Refusal>
-    ensures { Follows result (token_read (option_map now_of authorization.entry) (option_map now_of in_query.entry)) }
+fn unspaced(bytes: &[u8]) -> &[u8]
+    ensures { result.now ≡ unspaced bytes.now }
 {
-    match one_token(authorization, in_query) {
-        Ok(text) => token_in(alloc, text),
-        Err(refusal) => Err(refusal),
+    match bytes {
+        [b' ', rest @ ..] => unspaced(rest),
+        _ => bytes,
     }
 }

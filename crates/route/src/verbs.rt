@@ -1,11 +1,22 @@
-//! The methods of requests, and the act of a method at a place.
+//! The methods of requests, and the act of a method on a resource.
 ghost use Rattle.std.specs.Prelude.{◌≡◌};
 ghost use Rattle.route.specs.Acts.{verb_of, listing_act, workspace_act, state_act, runs_act, got, posted, act_at, allow_of, act_read};
-ghost use Rattle.basis.specs.Checks.{Follows};
+ghost use Rattle.basis.specs.Inner.Checks.{Follows};
 
 use crate::acts::{AskedAct, WsAct};
-use crate::places::Target;
+use crate::paths::Resource;
 use basis::{Allow, Refusal};
+
+/// The act of a method on a resource, or what methods the resource has.
+pub fn act_asked(resource: Resource, method: &str, bodyless: bool) -> Result<AskedAct, Refusal>
+    ensures { Follows result (act_read resource method.now bodyless) }
+{
+    let allow = allow_of(&resource);
+    match Verb::named(method).and_then(|verb| act_at(resource, verb, bodyless)) {
+        Some(act) => Ok(act),
+        None => Err(Refusal::NoMethod(allow)),
+    }
+}
 
 /// A method that some route has (RFC 9110, section 9.3; LOCK and UNLOCK as Terraform's backend 'http' sends them).
 #[derive(Clone, Copy, Debug, PartialEq, Eq)]
@@ -32,6 +43,25 @@ impl Verb {
             _ => None,
         }
     }
+}
+
+fn act_at(resource: Resource, verb: Verb, bodyless: bool) -> Option<AskedAct>
+    ensures { result ≡ act_at resource verb bodyless }
+{
+    let (ws, act) = match resource {
+        Resource::AllWorkspaces => return listing_act(verb),
+        Resource::Workspace(ws) => (ws, workspace_act(verb)),
+        Resource::State(ws) => (ws, Some(state_act(verb, bodyless))),
+        Resource::AllVersions(ws) => (ws, got(verb, WsAct::ListVersions { after: 0 })),
+        Resource::Version(ws, number) => (ws, got(verb, WsAct::ReadVersion(number))),
+        Resource::AllRuns(ws) => (ws, runs_act(verb)),
+        Resource::Run(ws, number) => (ws, got(verb, WsAct::ReadRun(number))),
+        Resource::Action(ws, number, action) => (
+            ws,
+            posted(verb, WsAct::ReportRun(number, action)),
+        ),
+    };
+    Some(AskedAct::OfWorkspace(ws, act?))
 }
 
 // Among all workspaces.
@@ -101,42 +131,15 @@ fn posted(verb: Verb, act: WsAct) -> Option<WsAct>
     }
 }
 
-fn act_at(target: Target, verb: Verb, bodyless: bool) -> Option<AskedAct>
-    ensures { result ≡ act_at target verb bodyless }
+fn allow_of(resource: &Resource) -> Allow
+    ensures { result ≡ allow_of resource.now }
 {
-    let (ws, act) = match target {
-        Target::AllWorkspaces => return listing_act(verb),
-        Target::Workspace(ws) => (ws, workspace_act(verb)),
-        Target::State(ws) => (ws, Some(state_act(verb, bodyless))),
-        Target::AllVersions(ws) => (ws, got(verb, WsAct::ListVersions { after: 0 })),
-        Target::Version(ws, number) => (ws, got(verb, WsAct::ReadVersion(number))),
-        Target::AllRuns(ws) => (ws, runs_act(verb)),
-        Target::Run(ws, number) => (ws, got(verb, WsAct::ReadRun(number))),
-        Target::Action(ws, number, action) => (ws, posted(verb, WsAct::ReportRun(number, action))),
-    };
-    Some(AskedAct::OfWorkspace(ws, act?))
-}
-
-fn allow_of(target: &Target) -> Allow
-    ensures { result ≡ allow_of target.now }
-{
-    match target {
-        Target::AllWorkspaces | Target::AllVersions(_) => Allow::Lists,
-        Target::Version(_, _) | Target::Run(_, _) => Allow::Lists,
-        Target::Workspace(_) => Allow::Workspaces,
-        Target::State(_) => Allow::States,
-        Target::AllRuns(_) => Allow::Runs,
-        Target::Action(_, _, _) => Allow::Actions,
-    }
-}
-
-/// The act of a method at a place, or what methods the place has.
-pub fn act_asked(target: Target, method: &str, bodyless: bool) -> Result<AskedAct, Refusal>
-    ensures { Follows result (act_read target method.now bodyless) }
-{
-    let allow = allow_of(&target);
-    match Verb::named(method).and_then(|verb| act_at(target, verb, bodyless)) {
-        Some(act) => Ok(act),
-        None => Err(Refusal::NoMethod(allow)),
+    match resource {
+        Resource::AllWorkspaces | Resource::AllVersions(_) => Allow::Lists,
+        Resource::Version(_, _) | Resource::Run(_, _) => Allow::Lists,
+        Resource::Workspace(_) => Allow::Workspaces,
+        Resource::State(_) => Allow::States,
+        Resource::AllRuns(_) => Allow::Runs,
+        Resource::Action(_, _, _) => Allow::Actions,
     }
 }

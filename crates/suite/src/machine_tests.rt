@@ -143,7 +143,7 @@ fn versions_seen(keep: &mut PlainKeep, alloc: Global) -> Result<(usize, Option<N
     let ws = WsName::read(alloc, "prod")?;
     match keep.unit(alloc, &org, &ws, &Act::ReadState)? {
         Unit::Present(unit) => Ok((unit.versions, unit.newest.map(|newest| newest.number))),
-        Unit::Absent => Err(Fail::new("no workspace")),
+        Unit::Absent { .. } => Err(Fail::new("no workspace")),
     }
 }
 

@@ -503,6 +503,6 @@ fn laws_are_there(_rt: HostRuntime) {
     wire::some_reading(POST.as_bytes());
     wire::one_reading();
     wire::stays_read();
-    wire::stays_due();
+    wire::stays_awaited();
     wire::one_text();
 }

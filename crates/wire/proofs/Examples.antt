@@ -1,67 +1,67 @@
 -- Worked replies, computed by the definitions themselves.
-use Rattle.std.proofs.Common.{◌≡◌, ℕ, List, [], ◌∷◌, ◌++◌, length, true, false, Some, None, refl}
+use Rattle.std.proofs.Common.{◌≡◌, ℕ, List, length, true, false, Some, None, refl}
 use Rattle.std.specs.Prelude.{codes}
 use Rattle.std.specs.Fmt.{digits}
 use Rattle.basis.specs.declared.refusals.Allow.TheVariants.{States}
-use Rattle.basis.specs.declared.refusals.Refusal.TheVariants.{NoToken, NotFound, NoMethod}
+use Rattle.basis.specs.declared.refusals.Refusal.TheVariants.{NoToken, NoMethod}
 use Rattle.wire.specs.Heads.{head_len}
-use Rattle.wire.specs.Replies.{empty_answer, no_content_answer, document_answer, refused_answer, unavailable_answer, reply_text}
+use Rattle.wire.specs.Replies.{empty_answer, no_content_answer, document_answer, refused_answer, unavailable_answer, text_with_date}
 
 abbrev date : List ℕ
 date = codes "Tue, 14 Nov 2023 22:13:20 GMT"
 
-done : reply_text empty_answer date
+done : text_with_date empty_answer date
     ≡ codes "HTTP/1.1 200 OK\r\nDate: Tue, 14 Nov 2023 22:13:20 GMT\r\nConnection: close\r\nCache-Control: private, no-store\r\nContent-Length: 0\r\n\r\n"
 unfolding digits
 done = refl
 
-document : reply_text (document_answer (codes "{\"version\":4,\"serial\":1,\"lineage\":\"a1\"}")) date
+document : text_with_date (document_answer (codes "{\"version\":4,\"serial\":1,\"lineage\":\"a1\"}")) date
     ≡ codes "HTTP/1.1 200 OK\r\nDate: Tue, 14 Nov 2023 22:13:20 GMT\r\nConnection: close\r\nCache-Control: private, no-store\r\nContent-Type: application/json\r\nContent-Length: 39\r\n\r\n{\"version\":4,\"serial\":1,\"lineage\":\"a1\"}"
 unfolding digits
 document = refl
 
-no_content : reply_text no_content_answer date
+no_content : text_with_date no_content_answer date
     ≡ codes "HTTP/1.1 204 No Content\r\nDate: Tue, 14 Nov 2023 22:13:20 GMT\r\nConnection: close\r\nCache-Control: private, no-store\r\n\r\n"
 unfolding digits
 no_content = refl
 
-no_token : reply_text (refused_answer NoToken (codes "{\"error\":\"no-token\"}") false) date
+no_token : text_with_date (refused_answer NoToken (codes "{\"error\":\"no-token\"}") false) date
     ≡ codes "HTTP/1.1 401 Unauthorized\r\nDate: Tue, 14 Nov 2023 22:13:20 GMT\r\nConnection: close\r\nCache-Control: private, no-store\r\nWWW-Authenticate: Bearer realm=\"custody\"\r\nContent-Type: application/json\r\nContent-Length: 20\r\n\r\n{\"error\":\"no-token\"}"
 unfolding digits
 no_token = refl
 
 -- HEAD: the lines on the body stay, and the body is left out
-head_asked : reply_text (refused_answer (NoMethod States) (codes "{\"error\":\"no-method\"}") true) date
+head_asked : text_with_date (refused_answer (NoMethod States) (codes "{\"error\":\"no-method\"}") true) date
     ≡ codes "HTTP/1.1 405 Method Not Allowed\r\nDate: Tue, 14 Nov 2023 22:13:20 GMT\r\nConnection: close\r\nCache-Control: private, no-store\r\nAllow: DELETE, GET, LOCK, POST, PUT, UNLOCK\r\nContent-Type: application/json\r\nContent-Length: 21\r\n\r\n"
 unfolding digits
 head_asked = refl
 
 -- the lengths of replies at that moment
-length_done : length (reply_text empty_answer date) ≡ 128
+length_done : length (text_with_date empty_answer date) ≡ 128
 unfolding digits
 length_done = refl
 
-length_document : length (reply_text (document_answer (codes "{\"version\":4,\"serial\":1,\"lineage\":\"a1\"}")) date) ≡ 200
+length_document : length (text_with_date (document_answer (codes "{\"version\":4,\"serial\":1,\"lineage\":\"a1\"}")) date) ≡ 200
 unfolding digits
 length_document = refl
 
-length_workspace : length (reply_text (document_answer (codes "{\"auto_apply\":false,\"holder\":null,\"name\":\"net\",\"version\":null}")) date) ≡ 223
+length_workspace : length (text_with_date (document_answer (codes "{\"auto_apply\":false,\"holder\":null,\"name\":\"net\",\"version\":null}")) date) ≡ 223
 unfolding digits
 length_workspace = refl
 
-length_no_content : length (reply_text no_content_answer date) ≡ 117
+length_no_content : length (text_with_date no_content_answer date) ≡ 117
 unfolding digits
 length_no_content = refl
 
-length_unavailable : length (reply_text (unavailable_answer false) date) ≡ 194
+length_unavailable : length (text_with_date (unavailable_answer false) date) ≡ 194
 unfolding digits
 length_unavailable = refl
 
-length_unavailable_to_head : length (reply_text (unavailable_answer true) date) ≡ 178
+length_unavailable_to_head : length (text_with_date (unavailable_answer true) date) ≡ 178
 unfolding digits
 length_unavailable_to_head = refl
 
--- where a head ends: at the first empty line, by LF LF or LF CR LF, past line breaks in front
+-- where a head ends: at the first empty line, by LF LF or LF CR LF, past line breaks before it
 head_of_two_lines : head_len (codes "GET / HTTP/1.1\r\nHost: c\r\n\r\nrest") ≡ Some 27
 head_of_two_lines = refl
 

@@ -9,8 +9,8 @@ use Rattle.httparse.specs.declared.spans.HeaderSpan.{HeaderSpan}
 use Rattle.httparse.specs.Spans.{span_bytes, header_bytes, IsWithin}
 use Rattle.wire.specs.declared.fields.Lookup.{Lookup}
 use Rattle.wire.specs.declared.fields.Lookup.TheVariants.{Absent, Once, Again}
-use Rattle.wire.specs.Fields.{Fields, values, is_named, says, has_value}
-use Rattle.wire.specs.Spans.{fields_at, LooksUp}
+use Rattle.wire.specs.Fields.{Fields, values, is_named, is_field, has_value}
+use Rattle.wire.specs.Inner.Spans.{fields_at, LooksUp}
 
 values-append : (name : List ℕ) (xs ys : Fields) → values name (xs ++ ys) ≡ values name xs ++ values name ys
 values-append name [] ys = refl
@@ -54,11 +54,11 @@ values_no name head spans i d b h is t =
     ∙ ap (λ t. values name (fields_at head (take i spans)) ++ cond t (f.1 ∷ []) []) (sym is ∙ t)
 
 pub has_more : (name wanted head : List ℕ) (spans : List HeaderSpan) (i : ℕ) (d : HeaderSpan) (b : Bool) → i < length spans
-    → b ≡ says name wanted (header_bytes head (get_or spans i d))
+    → b ≡ is_field name wanted (header_bytes head (get_or spans i d))
     → has_value name wanted (fields_at head (take (i + 1) spans)) ≡ (has_value name wanted (fields_at head (take i spans)) || b)
 has_more name wanted head spans i d b h is =
     ap (has_value name wanted) (fields_more head spans i d h)
-    ∙ list_any-push (says name wanted) (fields_at head (take i spans)) (header_bytes head (get_or spans i d))
+    ∙ list_any-push (is_field name wanted) (fields_at head (take i spans)) (header_bytes head (get_or spans i d))
     ∙ ap (λ t. has_value name wanted (fields_at head (take i spans)) || t) (sym is)
 
 pub looked_first : (head : List ℕ) (vs ws : List (List ℕ)) (found next : Lookup) (span : Span) → LooksUp head vs found → found ≡ Absent

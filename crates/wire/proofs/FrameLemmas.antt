@@ -6,12 +6,13 @@ use Rattle.httparse.specs.Spans.{RequestOverflows}
 use Rattle.http_header.specs.Token.{is_token_byte, IsToken}
 use Rattle.basis.specs.declared.refusals.Refusal.{Refusal}
 use Rattle.basis.specs.declared.refusals.Refusal.TheVariants.{BadMessage, NoLength}
+use Rattle.wire.specs.declared.framing.TheConstants.{MAX_FEEDS}
 use Rattle.wire.specs.declared.framing.Frame.{Frame}
 use Rattle.wire.specs.declared.framing.FrameFault.{FrameFault}
 use Rattle.wire.specs.Heads.{feeds_of}
 use Rattle.wire.specs.Targets.{origin_of}
-use Rattle.wire.specs.Framing.{Parts, parts_of, is_misframed, is_chunked, content_length, length_refusal, max_body, is_head_method, frame_of, judged_by, judged, Verdict, refuses, takes, says, max_feeds, IsJudged}
-use Rattle.wire.specs.Spans.{GivesBy, verdict_by, Judges, Frames}
+use Rattle.wire.specs.Framing.{Parts, parts_of, is_misframed, is_chunked, content_length, length_refusal, max_body, is_head_method, frame_of, judged_by, judged, Verdict, refuses, accepts, parsed, IsJudged}
+use Rattle.wire.specs.Inner.Spans.{GivesBy, verdict_by, Judges, Frames}
 use Rattle.wire.proofs.FeedLemmas.{feeds_request}
 
 -- a method of the grammar is a token
@@ -48,10 +49,10 @@ refuses_length p h text most r e m t c b l =
 
 pub takes_all : (p : Parts) (origin : List ℕ) (frame : Frame) (text : Option (List ℕ)) (most : ℕ)
     → false ≡ is_misframed p → false ≡ is_chunked p.fields → text ≡ content_length p.fields → most ≡ max_body p.method
-    → length_refusal text most ≡ None → Some origin ≡ origin_of p.target → frame ≡ frame_of p origin → takes frame ≡ judged p
+    → length_refusal text most ≡ None → Some origin ≡ origin_of p.target → frame ≡ frame_of p origin → accepts frame ≡ judged p
 takes_all p origin frame text most m t c b l o f =
     let here : length_refusal (content_length p.fields) (max_body p.method) ≡ None = rw (← c, ← b) l in
-    ap takes f ∙ ap (λ z. judged_by None z p) o ∙ sym (unframed p false m ∙ unchunked p false t ∙ ap (judged_at p) here)
+    ap accepts f ∙ ap (λ z. judged_by None z p) o ∙ sym (unframed p false m ∙ unchunked p false t ∙ ap (judged_at p) here)
 
 -- ---- a whole head
 
@@ -59,14 +60,14 @@ pub gives_weaker : (P Q : Verdict → Type 0) (o : Option Verdict) → ((v : Ver
 gives_weaker P Q (Some v) f p = f v p
 gives_weaker P Q None f p = tt
 
-pub judged_head : (head : List ℕ) (h : RequestHead) (rest : List ℕ) (result : Result Frame FrameFault) → feeds_of head ≤ max_feeds
+pub judged_head : (head : List ℕ) (h : RequestHead) (rest : List ℕ) (result : Result Frame FrameFault) → feeds_of head ≤ MAX_FEEDS
     → ReadsRequest head h rest → Judges (parts_of h) result → Frames head result
 judged_head head h rest result few reads judges =
     gives_weaker (λ v. v ≡ judged (parts_of h)) (IsJudged head) (verdict_by result)
-    (λ v e. (says (parts_of h), (few, (h, rest, reads, refl)), e)) judges
+    (λ v e. (parsed (parts_of h), (few, (h, rest, reads, refl)), e)) judges
 
 -- more than 64 fields have more than 66 line feeds
-pub no_request : (head : List ℕ) → feeds_of head ≤ max_feeds → RequestOverflows 64 head → HasNoRequest head
+pub no_request : (head : List ℕ) → feeds_of head ≤ MAX_FEEDS → RequestOverflows 64 head → HasNoRequest head
 no_request head few over h rest reads =
     let R : List ℕ → Type 0 = λ bytes. ReadsRequest bytes h rest in
     let many : 64 < length h.fields = over [] h rest (subst R (sym (append-nil head)) reads) in

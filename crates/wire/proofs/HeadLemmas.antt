@@ -2,14 +2,15 @@
 use Rattle.std.proofs.Common.{◌≡◌, ◌≢◌, ℕ, suc, ◌+◌, ◌<◌, ◌≤◌, List, [], ◌∷◌, ◌++◌, length, drop, get_or, Bool, true, false, ◌==◌, cond, nat_le, nat_lt, Option, Some, None, option_map, is_some, refl, sym, ap, ◌∙◌, arith, inl, inr, ◌⊎◌, length-append, append_assoc, add-one, drop-cons}
 use Rattle.std.proofs.lemmas.List.{append-nil}
 use Rattle.std.proofs.lemmas.Bool.{ltb-false, lt-ltb, le-ltb, le-leb, lt-leb}
-use Rattle.wire.specs.declared.heads.Place.{Place}
-use Rattle.wire.specs.declared.heads.Place.TheVariants.{Blank, Text, Feed, FeedReturn}
-use Rattle.wire.specs.Heads.{head_len, text_len, has_feed, Unfinished, Long, Whole, front_by, front_of, max_head}
-use Rattle.wire.specs.Places.{len_from, len_after, len_past}
+use Rattle.wire.specs.declared.heads.TheConstants.{MAX_HEAD}
+use Rattle.wire.specs.declared.heads.HeadPosition.{HeadPosition}
+use Rattle.wire.specs.declared.heads.HeadPosition.TheVariants.{Blank, Text, Feed, FeedReturn}
+use Rattle.wire.specs.Heads.{head_len, text_len, has_feed, Unfinished, Long, Whole, head_end_by, head_end_of}
+use Rattle.wire.specs.Inner.Positions.{len_from, len_after, len_past}
 
 -- a byte's step, whatever follows
-abbrev Step : Place → ℕ → Type 0
-Step p b = (q : Option Place) × ((bytes : List ℕ) → len_from p (b ∷ bytes) ≡ len_after q bytes)
+abbrev Step : HeadPosition → ℕ → Type 0
+Step p b = (q : Option HeadPosition) × ((bytes : List ℕ) → len_from p (b ∷ bytes) ≡ len_after q bytes)
 
 step_blank : (b : ℕ) (x y : Bool) → (b == 10) ≡ x → (b == 13) ≡ y → Step Blank b
 step_blank b true y e f = (Some Blank, λ bytes. simp e)
@@ -33,13 +34,13 @@ step_return : (b : ℕ) (x : Bool) → (b == 10) ≡ x → Step FeedReturn b
 step_return b true e = (None, λ bytes. simp e)
 step_return b false e = (Some Text, λ bytes. simp e)
 
-pub step : (p : Place) (b : ℕ) → Step p b
+pub step : (p : HeadPosition) (b : ℕ) → Step p b
 step Blank b = step_blank b (b == 10) (b == 13) refl refl
 step Text b = step_text b (b == 10) refl
 step Feed b = step_feed b (b == 10) (b == 13) refl refl
 step FeedReturn b = step_return b (b == 10) refl
 
-pub len_nil : (p : Place) → len_from p [] ≡ None
+pub len_nil : (p : HeadPosition) → len_from p [] ≡ None
 len_nil Blank = refl
 len_nil Text = refl
 len_nil Feed = refl
@@ -54,13 +55,13 @@ map_none None e = refl
 map_none (Some m) e = absurd (cc)
 
 -- bytes after the head's end change nothing
-pub len_more : (p : Place) (bytes more : List ℕ) (n : ℕ) → len_from p bytes ≡ Some n → len_from p (bytes ++ more) ≡ Some n
+pub len_more : (p : HeadPosition) (bytes more : List ℕ) (n : ℕ) → len_from p bytes ≡ Some n → len_from p (bytes ++ more) ≡ Some n
 len_more p [] more n e = let z = len_nil p in absurd (cc)
 len_more p (b ∷ bytes) more n e =
     let s = step p b in
     s.1 (bytes ++ more) ∙ go s.0 (λ q m h. len_more q bytes more m h) (sym (s.1 bytes) ∙ e)
   where
-    go : (q : Option Place) → ((q : Place) (m : ℕ) → len_from q bytes ≡ Some m → len_from q (bytes ++ more) ≡ Some m)
+    go : (q : Option HeadPosition) → ((q : HeadPosition) (m : ℕ) → len_from q bytes ≡ Some m → len_from q (bytes ++ more) ≡ Some m)
         → len_after q bytes ≡ Some n → len_after q (bytes ++ more) ≡ Some n
     go None ih h = h
     go (Some q) ih h =
@@ -68,12 +69,12 @@ len_more p (b ∷ bytes) more n e =
         ap (option_map suc) (ih q m.0 m.1) ∙ ap Some (sym m.2)
 
 -- the head lies in the bytes that show its end
-pub len_within : (p : Place) (bytes : List ℕ) (n : ℕ) → len_from p bytes ≡ Some n → n ≤ length bytes
+pub len_within : (p : HeadPosition) (bytes : List ℕ) (n : ℕ) → len_from p bytes ≡ Some n → n ≤ length bytes
 len_within p [] n e = let z = len_nil p in absurd (cc)
 len_within p (b ∷ bytes) n e =
     let s = step p b in go s.0 (λ q m h. len_within q bytes m h) (sym (s.1 bytes) ∙ e)
   where
-    go : (q : Option Place) → ((q : Place) (m : ℕ) → len_from q bytes ≡ Some m → m ≤ length bytes)
+    go : (q : Option HeadPosition) → ((q : HeadPosition) (m : ℕ) → len_from q bytes ≡ Some m → m ≤ length bytes)
         → len_after q bytes ≡ Some n → n ≤ length (b ∷ bytes)
     go None ih h = let one : 1 ≡ n = cc in omega arith
     go (Some q) ih h =
@@ -81,23 +82,23 @@ len_within p (b ∷ bytes) n e =
         let w : m.0 ≤ length bytes = ih q m.0 m.1 in
         omega (arith, m.2)
 
-positive_after : (q : Option Place) (bytes : List ℕ) (n : ℕ) → len_after q bytes ≡ Some n → 0 < n
+positive_after : (q : Option HeadPosition) (bytes : List ℕ) (n : ℕ) → len_after q bytes ≡ Some n → 0 < n
 positive_after None bytes n h = let one : 1 ≡ n = cc in omega arith
 positive_after (Some q) bytes n h = let m = map_some (len_from q bytes) n h in omega (arith, m.2)
 
-positive : (p : Place) (bytes : List ℕ) (n : ℕ) → len_from p bytes ≡ Some n → 0 < n
+positive : (p : HeadPosition) (bytes : List ℕ) (n : ℕ) → len_from p bytes ≡ Some n → 0 < n
 positive p [] n f = let z = len_nil p in absurd (cc)
 positive p (b ∷ bytes) n f = let s = step p b in positive_after s.0 bytes n (sym (s.1 bytes) ∙ f)
 
 -- an end that shows only with more bytes lies past the first ones
-pub len_late : (p : Place) (bytes more : List ℕ) (n : ℕ) → len_from p bytes ≡ None → len_from p (bytes ++ more) ≡ Some n → length bytes < n
+pub len_late : (p : HeadPosition) (bytes more : List ℕ) (n : ℕ) → len_from p bytes ≡ None → len_from p (bytes ++ more) ≡ Some n → length bytes < n
 len_late p [] more n e f = positive p more n f
 len_late p (b ∷ bytes) more n e f =
     let s = step p b in
     go s.0 (λ q m h k. len_late q bytes more m h k) (sym (s.1 bytes) ∙ e) (sym (s.1 (bytes ++ more)) ∙ f)
   where
-    go : (q : Option Place)
-        → ((q : Place) (m : ℕ) → len_from q bytes ≡ None → len_from q (bytes ++ more) ≡ Some m → length bytes < m)
+    go : (q : Option HeadPosition)
+        → ((q : HeadPosition) (m : ℕ) → len_from q bytes ≡ None → len_from q (bytes ++ more) ≡ Some m → length bytes < m)
         → len_after q bytes ≡ None → len_after q (bytes ++ more) ≡ Some n → length (b ∷ bytes) < n
     go None ih h k = absurd (cc)
     go (Some q) ih h k =
@@ -105,68 +106,68 @@ len_late p (b ∷ bytes) more n e f =
         let w : length bytes < m.0 = ih q m.0 (map_none (len_from q bytes) h) m.1 in
         omega (arith, m.2)
 
--- ---- the front of a string
+-- ---- where the head of a string ends
 
-long_none : (len : ℕ) → max_head ≤ len → front_by None len ≡ Long
-long_none len h = rw (le-ltb len max_head h) refl
+long_none : (len : ℕ) → MAX_HEAD ≤ len → head_end_by None len ≡ Long
+long_none len h = rw (le-ltb len MAX_HEAD h) refl
 
-pub long_some : (n len : ℕ) → max_head < n → front_by (Some n) len ≡ Long
-long_some n len h = rw (lt-leb n max_head h) refl
+pub long_some : (n len : ℕ) → MAX_HEAD < n → head_end_by (Some n) len ≡ Long
+long_some n len h = rw (lt-leb n MAX_HEAD h) refl
 
-long_by : (o : Option ℕ) (len : ℕ) → max_head ≤ len → ((n : ℕ) → o ≡ Some n → max_head < n) → front_by o len ≡ Long
+long_by : (o : Option ℕ) (len : ℕ) → MAX_HEAD ≤ len → ((n : ℕ) → o ≡ Some n → MAX_HEAD < n) → head_end_by o len ≡ Long
 long_by None len h late = long_none len h
 long_by (Some n) len h late = long_some n len (late n refl)
 
-none_by : (len : ℕ) → (front_by None len ≡ Unfinished) ⊎ (max_head ≤ len)
-none_by len = by_test (nat_lt len max_head) refl
+none_by : (len : ℕ) → (head_end_by None len ≡ Unfinished) ⊎ (MAX_HEAD ≤ len)
+none_by len = by_test (nat_lt len MAX_HEAD) refl
   where
-    by_test : (t : Bool) → nat_lt len max_head ≡ t → (front_by None len ≡ Unfinished) ⊎ (max_head ≤ len)
+    by_test : (t : Bool) → nat_lt len MAX_HEAD ≡ t → (head_end_by None len ≡ Unfinished) ⊎ (MAX_HEAD ≤ len)
     by_test true e = inl (rw e refl)
-    by_test false e = inr (ltb-false len max_head e)
+    by_test false e = inr (ltb-false len MAX_HEAD e)
 
-pub front_some : (bytes : List ℕ) (n : ℕ) → head_len bytes ≡ Some n → n ≤ max_head → front_of bytes ≡ Whole n
-front_some bytes n e h = rw (e, le-leb n max_head h) refl
+pub head_end_some : (bytes : List ℕ) (n : ℕ) → head_len bytes ≡ Some n → n ≤ MAX_HEAD → head_end_of bytes ≡ Whole n
+head_end_some bytes n e h = rw (e, le-leb n MAX_HEAD h) refl
 
-pub front_short : (bytes : List ℕ) → head_len bytes ≡ None → length bytes < max_head → front_of bytes ≡ Unfinished
-front_short bytes e h = rw (e, lt-ltb (length bytes) max_head h) refl
+pub head_end_short : (bytes : List ℕ) → head_len bytes ≡ None → length bytes < MAX_HEAD → head_end_of bytes ≡ Unfinished
+head_end_short bytes e h = rw (e, lt-ltb (length bytes) MAX_HEAD h) refl
 
-pub front_long : (bytes : List ℕ) → head_len bytes ≡ None → max_head ≤ length bytes → front_of bytes ≡ Long
-front_long bytes e h = rw (e, le-ltb (length bytes) max_head h) refl
+pub head_end_long : (bytes : List ℕ) → head_len bytes ≡ None → MAX_HEAD ≤ length bytes → head_end_of bytes ≡ Long
+head_end_long bytes e h = rw (e, le-ltb (length bytes) MAX_HEAD h) refl
 
 -- once it isn't unfinished, bytes that follow change nothing
-pub front_more : (bytes more : List ℕ) → front_of bytes ≢ Unfinished → front_of (bytes ++ more) ≡ front_of bytes
-front_more bytes more open_end = by_len (head_len bytes) refl
+pub head_end_more : (bytes more : List ℕ) → head_end_of bytes ≢ Unfinished → head_end_of (bytes ++ more) ≡ head_end_of bytes
+head_end_more bytes more open_end = by_len (head_len bytes) refl
   where
-    by_len : (o : Option ℕ) → head_len bytes ≡ o → front_of (bytes ++ more) ≡ front_of bytes
+    by_len : (o : Option ℕ) → head_len bytes ≡ o → head_end_of (bytes ++ more) ≡ head_end_of bytes
     by_len (Some n) e = rw (e, len_more Blank bytes more n e) refl
     by_len None e =
         elim (none_by (length bytes)) [
           | inl short ↦ absurd (open_end (rw e short))
           | inr long ↦
-              let late : (n : ℕ) → head_len (bytes ++ more) ≡ Some n → max_head < n =
+              let late : (n : ℕ) → head_len (bytes ++ more) ≡ Some n → MAX_HEAD < n =
               λ n f. let w : length bytes < n = len_late Blank bytes more n e f in omega arith in
               long_by (head_len (bytes ++ more)) (length (bytes ++ more)) (omega (arith, length-append bytes more, long)) late
-              ∙ sym (front_long bytes e long)
+              ∙ sym (head_end_long bytes e long)
         ]
 
-front_within_by : (o : Option ℕ) (len n : ℕ) → front_by o len ≡ Whole n → (o ≡ Some n)
-front_within_by (Some m) len n e = by_test (nat_le m max_head) refl
+head_end_within_by : (o : Option ℕ) (len n : ℕ) → head_end_by o len ≡ Whole n → (o ≡ Some n)
+head_end_within_by (Some m) len n e = by_test (nat_le m MAX_HEAD) refl
   where
-    by_test : (t : Bool) → nat_le m max_head ≡ t → Some m ≡ Some n
+    by_test : (t : Bool) → nat_le m MAX_HEAD ≡ t → Some m ≡ Some n
     by_test true f = let g : Whole m ≡ Whole n = sym (rw f refl) ∙ e in cc
     by_test false f = let g : Long ≡ Whole n = sym (rw f refl) ∙ e in absurd (cc)
-front_within_by None len n e = by_test (nat_lt len max_head) refl
+head_end_within_by None len n e = by_test (nat_lt len MAX_HEAD) refl
   where
-    by_test : (t : Bool) → nat_lt len max_head ≡ t → None ≡ Some n
+    by_test : (t : Bool) → nat_lt len MAX_HEAD ≡ t → None ≡ Some n
     by_test true f = let g : Unfinished ≡ Whole n = sym (rw f refl) ∙ e in absurd (cc)
     by_test false f = let g : Long ≡ Whole n = sym (rw f refl) ∙ e in absurd (cc)
 
-pub front_within : (bytes : List ℕ) (n : ℕ) → front_of bytes ≡ Whole n → n ≤ length bytes
-front_within bytes n e = len_within Blank bytes n (front_within_by (head_len bytes) (length bytes) n e)
+pub head_end_within : (bytes : List ℕ) (n : ℕ) → head_end_of bytes ≡ Whole n → n ≤ length bytes
+head_end_within bytes n e = len_within Blank bytes n (head_end_within_by (head_len bytes) (length bytes) n e)
 
 -- ---- a piece, byte by byte
 
-abbrev pub Goes : Place → List ℕ → ℕ → Place → Type 0
+abbrev pub Goes : HeadPosition → List ℕ → ℕ → HeadPosition → Type 0
 Goes p piece i q = (more : List ℕ) → len_from p (piece ++ more) ≡ len_past None i q (drop i piece ++ more)
 
 past_step : (o : Option ℕ) (i : ℕ) → option_map (λ n. i + n) (option_map suc o) ≡ option_map (λ n. i + 1 + n) o
@@ -176,20 +177,20 @@ past_step (Some n) i = let e : i + suc n ≡ i + 1 + n = omega arith in ap Some 
 split_at : (piece : List ℕ) (i : ℕ) (more : List ℕ) → i < length piece → drop i piece ++ more ≡ get_or piece i 0 ∷ (drop (i + 1) piece ++ more)
 split_at piece i more h = rw (add-one, drop-cons piece i 0 h) refl
 
-pub goes_on : (p q r : Place) (piece : List ℕ) (i : ℕ) → i < length piece → Goes p piece i q
+pub goes_on : (p q r : HeadPosition) (piece : List ℕ) (i : ℕ) → i < length piece → Goes p piece i q
     → ((bytes : List ℕ) → len_from q (get_or piece i 0 ∷ bytes) ≡ len_after (Some r) bytes) → Goes p piece (i + 1) r
 goes_on p q r piece i h goes after more =
     goes more ∙ ap (λ z. option_map (λ n. i + n) (len_from q z)) (split_at piece i more h)
     ∙ ap (λ z. option_map (λ n. i + n) z) (after (drop (i + 1) piece ++ more))
     ∙ past_step (len_from r (drop (i + 1) piece ++ more)) i
 
-pub goes_to_end : (p q : Place) (piece : List ℕ) (i : ℕ) → i < length piece → Goes p piece i q
+pub goes_to_end : (p q : HeadPosition) (piece : List ℕ) (i : ℕ) → i < length piece → Goes p piece i q
     → ((bytes : List ℕ) → len_from q (get_or piece i 0 ∷ bytes) ≡ Some 1) → (more : List ℕ) → len_from p (piece ++ more) ≡ Some (i + 1)
 goes_to_end p q piece i h goes after more =
     goes more ∙ ap (λ z. option_map (λ n. i + n) (len_from q z)) (split_at piece i more h)
     ∙ ap (λ z. option_map (λ n. i + n) z) (after (drop (i + 1) piece ++ more))
 
-pub goes_through : (p q : Place) (piece : List ℕ) → Goes p piece (length piece) q
+pub goes_through : (p q : HeadPosition) (piece : List ℕ) → Goes p piece (length piece) q
     → (more : List ℕ) → len_from p (piece ++ more) ≡ len_past None (length piece) q more
 goes_through p q piece goes more =
     goes more ∙ ap (λ z. option_map (λ n. length piece + n) (len_from q z)) (ap (λ z. z ++ more) (drop_length piece))
@@ -198,32 +199,32 @@ goes_through p q piece goes more =
     drop_length [] = refl
     drop_length (x ∷ xs) = drop_length xs
 
--- ---- what came in several reads
+-- ---- what received in several reads
 
-abbrev pub Passes : List ℕ → Place → Type 0
-Passes came q = (more : List ℕ) → head_len (came ++ more) ≡ len_past None (length came) q more
+abbrev pub Passes : List ℕ → HeadPosition → Type 0
+Passes received q = (more : List ℕ) → head_len (received ++ more) ≡ len_past None (length received) q more
 
-pub passes_none : (came : List ℕ) (q : Place) → Passes came q → head_len came ≡ None
-passes_none came q passes =
-    ap head_len (sym (append-nil came)) ∙ passes [] ∙ ap (λ z. option_map (λ n. length came + n) z) (len_nil q)
+pub passes_none : (received : List ℕ) (q : HeadPosition) → Passes received q → head_len received ≡ None
+passes_none received q passes =
+    ap head_len (sym (append-nil received)) ∙ passes [] ∙ ap (λ z. option_map (λ n. length received + n) z) (len_nil q)
 
 past_past : (o : Option ℕ) (m n : ℕ) → option_map (λ k. m + k) (option_map (λ k. n + k) o) ≡ option_map (λ k. m + n + k) o
 past_past None m n = refl
 past_past (Some k) m n = let e : m + (n + k) ≡ m + n + k = omega arith in ap Some e
 
-pub passes_more : (came piece : List ℕ) (q r : Place) → Passes came q
-    → ((more : List ℕ) → len_from q (piece ++ more) ≡ len_past None (length piece) r more) → Passes (came ++ piece) r
-passes_more came piece q r passes goes more =
-    ap head_len (append_assoc came piece more) ∙ passes (piece ++ more)
-    ∙ ap (λ z. option_map (λ n. length came + n) z) (goes more)
-    ∙ past_past (len_from r more) (length came) (length piece)
-    ∙ ap (λ z. option_map (λ k. z + k) (len_from r more)) (sym (length-append came piece))
+pub passes_more : (received piece : List ℕ) (q r : HeadPosition) → Passes received q
+    → ((more : List ℕ) → len_from q (piece ++ more) ≡ len_past None (length piece) r more) → Passes (received ++ piece) r
+passes_more received piece q r passes goes more =
+    ap head_len (append_assoc received piece more) ∙ passes (piece ++ more)
+    ∙ ap (λ z. option_map (λ n. length received + n) z) (goes more)
+    ∙ past_past (len_from r more) (length received) (length piece)
+    ∙ ap (λ z. option_map (λ k. z + k) (len_from r more)) (sym (length-append received piece))
 
-pub passes_end : (came piece : List ℕ) (q : Place) (n : ℕ) → Passes came q
-    → ((more : List ℕ) → len_from q (piece ++ more) ≡ Some n) → head_len (came ++ piece) ≡ Some (length came + n)
-passes_end came piece q n passes goes =
-    ap head_len (ap (λ z. came ++ z) (sym (append-nil piece))) ∙ passes (piece ++ [])
-    ∙ ap (λ z. option_map (λ n. length came + n) z) (goes [])
+pub passes_end : (received piece : List ℕ) (q : HeadPosition) (n : ℕ) → Passes received q
+    → ((more : List ℕ) → len_from q (piece ++ more) ≡ Some n) → head_len (received ++ piece) ≡ Some (length received + n)
+passes_end received piece q n passes goes =
+    ap head_len (ap (λ z. received ++ z) (sym (append-nil piece))) ∙ passes (piece ++ [])
+    ∙ ap (λ z. option_map (λ n. length received + n) z) (goes [])
 
-pub front_whole : (bytes : List ℕ) (n : ℕ) → front_of bytes ≡ Whole n → head_len bytes ≡ Some n
-front_whole bytes n e = front_within_by (head_len bytes) (length bytes) n e
+pub head_end_whole : (bytes : List ℕ) (n : ℕ) → head_end_of bytes ≡ Whole n → head_len bytes ≡ Some n
+head_end_whole bytes n e = head_end_within_by (head_len bytes) (length bytes) n e

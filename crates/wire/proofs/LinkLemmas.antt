@@ -1,8 +1,8 @@
--- What is written in pieces is written in a row, and what comes in pieces comes in a row.
+-- What is written in pieces is written in a row, and what is received in pieces is received in a row.
 use Rattle.std.proofs.Common.{◌≡◌, ℕ, List, [], ◌++◌, Option, Some, None, Result, Ok, Err, refl, sym, subst, ◌∙◌, arith, append_assoc, length-append}
 use Rattle.std.specs.Io.KnownBytes.{Appends, Consumes, Keeps}
 use Rattle.std.proofs.lemmas.List.{append-nil}
-use Rattle.wire.specs.Links.{Stops, Writes}
+use Rattle.wire.specs.Links.{WritesPrefix, Writes}
 
 pub Appends-none : (known : Option (List ℕ)) → Appends known known []
 Appends-none None = tt
@@ -36,12 +36,12 @@ Consumes-kept (Some xs) None c x p q = absurd p
 Consumes-kept (Some xs) (Some ys) None x p q = absurd q
 Consumes-kept (Some xs) (Some ys) (Some zs) x p q = rw q p
 
--- a front of a text is a front of the text with more after it
-pub Stops-longer : (old new : Option (List ℕ)) (text more : List ℕ) → Stops old new text → Stops old new (text ++ more)
-Stops-longer old new text more s =
+-- a prefix of a text is a prefix of the text with more after it
+pub WritesPrefix-longer : (old new : Option (List ℕ)) (text more : List ℕ) → WritesPrefix old new text → WritesPrefix old new (text ++ more)
+WritesPrefix-longer old new text more s =
     (s.0, s.1 ++ more, omega (arith, length-append s.1 more, s.2), rw (s.3, append_assoc), s.4)
 
--- the text's first part was written, and then the second or a front of it
+-- the text's first part was written, and then the second or a prefix of it
 pub Writes-then : {T E : Type 0} (old middle new : Option (List ℕ)) (x y : List ℕ) (r : Result T E)
     → Appends old middle x → Writes middle new y r → Writes old new (x ++ y) r
 Writes-then old middle new x y (Ok done) p q = Appends-then old middle new x y p q

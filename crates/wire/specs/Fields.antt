@@ -31,8 +31,8 @@ abbrev pub value_of : List ℕ → Fields → Option (List ℕ)
 value_of name fields = only_of (values name fields)
 
 -- the field has the name and the value, in any case
-abbrev pub says : List ℕ → List ℕ → List ℕ × List ℕ → Bool
-says name wanted field = is_named name field && str_eq_ignore_ascii_case field.1 wanted
+abbrev pub is_field : List ℕ → List ℕ → List ℕ × List ℕ → Bool
+is_field name wanted field = is_named name field && str_eq_ignore_ascii_case field.1 wanted
 
 abbrev pub has_value : List ℕ → List ℕ → Fields → Bool
-has_value name wanted fields = list_any (says name wanted) fields
+has_value name wanted fields = list_any (is_field name wanted) fields

@@ -7,6 +7,7 @@ use Rattle.httparse.specs.Grammar.{RequestHead, ReadsRequest, HasNoRequest}
 use Rattle.httparse.specs.Spans.{name_and_value}
 use Rattle.basis.specs.declared.refusals.Refusal.{Refusal}
 use Rattle.basis.specs.declared.refusals.Refusal.TheVariants.{BadMessage, NoLength, TooLarge, HeadTooLarge}
+use Rattle.wire.specs.declared.framing.TheConstants.{MAX_FEEDS, MAX_STATE_BODY, MAX_OTHER_BODY}
 use Rattle.wire.specs.declared.framing.Frame.{Frame}
 use Rattle.wire.specs.Heads.{feeds_of}
 use Rattle.wire.specs.Fields.{Fields, has_value, is_there, stands_twice, value_of}
@@ -23,19 +24,16 @@ abbrev pub parts_of : RequestHead → Parts
 parts_of h = record { method = h.method; target = h.target; minor = h.minor; fields = map name_and_value h.fields }
 
 -- what the bytes of a whole head are: too many field lines, no head of the grammar, or these parts
-pub data Saying : Type 0 where
-  crowded malformed : Saying
-  says : Parts → Saying
+pub data HeadParse : Type 0 where
+  crowded malformed : HeadParse
+  parsed : Parts → HeadParse
 
--- the request line and the empty line end in a line feed too
-abbrev pub max_feeds : ℕ
-max_feeds = 66
-
-abbrev pub Says : List ℕ → Saying → Type 0
-Says head crowded = max_feeds < feeds_of head
-Says head malformed = (feeds_of head ≤ max_feeds) × HasNoRequest head
-Says head (says parts) =
-    (feeds_of head ≤ max_feeds) × ((h : RequestHead) × (rest : List ℕ) × ReadsRequest head h rest × (parts ≡ parts_of h))
+-- at most MAX_FEEDS line feeds: the request line and the empty line end in one too
+abbrev pub ParsesAs : List ℕ → HeadParse → Type 0
+ParsesAs head crowded = MAX_FEEDS < feeds_of head
+ParsesAs head malformed = (feeds_of head ≤ MAX_FEEDS) × HasNoRequest head
+ParsesAs head (parsed parts) =
+    (feeds_of head ≤ MAX_FEEDS) × ((h : RequestHead) × (rest : List ℕ) × ReadsRequest head h rest × (parts ≡ parts_of h))
 
 -- HTTP/1.1 without a host, or two hosts
 abbrev pub is_without_host : ℕ → Fields → Bool
@@ -74,13 +72,13 @@ content_length fields = value_of (codes "content-length") fields
 abbrev pub body_length : Fields → ℕ
 body_length fields = length_written (content_length fields)
 
--- the most bytes of a body: 4 MiB for POST and PUT, 16 KiB for other methods
+-- the most bytes of a body
 abbrev pub max_body : List ℕ → ℕ
-max_body method = if bytes_eq method (codes "POST") || bytes_eq method (codes "PUT") then 4_194_304 else 16_384
+max_body method = if bytes_eq method (codes "POST") || bytes_eq method (codes "PUT") then MAX_STATE_BODY else MAX_OTHER_BODY
 
--- a client of HTTP/1.1 waits for leave to send its body
-abbrev pub is_due : ℕ → Fields → Bool
-is_due minor fields = minor == 1 && not (body_length fields == 0) && has_value (codes "expect") (codes "100-continue") fields
+-- a client of HTTP/1.1 awaits a `100 Continue` before it sends its body
+abbrev pub awaits_continue : ℕ → Fields → Bool
+awaits_continue minor fields = minor == 1 && not (body_length fields == 0) && has_value (codes "expect") (codes "100-continue") fields
 
 -- the first rules, each of which refuses the head as no message
 abbrev pub is_misframed : Parts → Bool
@@ -113,27 +111,27 @@ frame_of parts origin = record {
   authorization = value_of (codes "authorization") parts.fields;
   content_md5 = value_of (codes "content-md5") parts.fields;
   body_len = body_length parts.fields;
-  is_due = is_due parts.minor parts.fields;
+  awaits_continue = awaits_continue parts.minor parts.fields;
 }
 
--- refused, and whether the head could be parsed and its method is HEAD; or taken
+-- refused, and whether the head could be parsed and its method is HEAD; or accepted
 pub data Verdict : Type 0 where
   refuses : Refusal → Bool → Verdict
-  takes : Frame → Verdict
+  accepts : Frame → Verdict
 
 abbrev pub judged_by : Option Refusal → Option (List ℕ) → Parts → Verdict
 judged_by (Some refusal) origin parts = refuses refusal (is_head_method parts.method)
-judged_by None (Some origin) parts = takes (frame_of parts origin)
+judged_by None (Some origin) parts = accepts (frame_of parts origin)
 judged_by None None parts = refuses BadMessage (is_head_method parts.method)
 
 abbrev pub judged : Parts → Verdict
 judged parts = judged_by (refusal_of parts) (origin_of parts.target) parts
 
-abbrev pub verdict_of : Saying → Verdict
+abbrev pub verdict_of : HeadParse → Verdict
 verdict_of crowded = refuses HeadTooLarge false
 verdict_of malformed = refuses BadMessage false
-verdict_of (says parts) = judged parts
+verdict_of (parsed parts) = judged parts
 
 -- the verdict on a whole head
 abbrev pub IsJudged : List ℕ → Verdict → Type 0
-IsJudged head verdict = (saying : Saying) × Says head saying × (verdict ≡ verdict_of saying)
+IsJudged head verdict = (parse : HeadParse) × ParsesAs head parse × (verdict ≡ verdict_of parse)

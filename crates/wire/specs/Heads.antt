@@ -1,13 +1,6 @@
 -- Where the head of a request ends (RFC 9112, sections 2.1 and 2.2): at the first empty line after the first byte that is neither CR (13) nor LF (10).
 use Rattle.std.specs.Prelude.{ℕ, suc, List, [], ◌∷◌, length, Bool, false, ◌&&◌, ◌||◌, ◌==◌, nat_le, nat_lt, if◌then◌else◌, Option, Some, None, option_map, is_some, count_by}
-
--- the most bytes of a head, with its empty line
-abbrev pub max_head : ℕ
-max_head = 16_384
-
--- the most field lines of a head
-abbrev pub max_fields : ℕ
-max_fields = 64
+use Rattle.wire.specs.declared.heads.TheConstants.{MAX_HEAD}
 
 -- CR or LF
 abbrev pub is_break : ℕ → Bool
@@ -33,17 +26,17 @@ abbrev pub head_len : List ℕ → Option ℕ
 head_len [] = None
 head_len (b ∷ bytes) = if is_break b then option_map suc (head_len bytes) else text_len (b ∷ bytes)
 
--- what stands at the front of a string: no whole head yet, too many bytes without its end, or a head of so many bytes
-pub data Front : Type 0 where
-  Unfinished Long : Front
-  Whole : ℕ → Front
+-- where the head of a string ends: not yet, not within the most bytes of a head, or after so many bytes
+pub data HeadEnd : Type 0 where
+  Unfinished Long : HeadEnd
+  Whole : ℕ → HeadEnd
 
-abbrev pub front_by : Option ℕ → ℕ → Front
-front_by (Some n) len = if nat_le n max_head then Whole n else Long
-front_by None len = if nat_lt len max_head then Unfinished else Long
+abbrev pub head_end_by : Option ℕ → ℕ → HeadEnd
+head_end_by (Some n) len = if nat_le n MAX_HEAD then Whole n else Long
+head_end_by None len = if nat_lt len MAX_HEAD then Unfinished else Long
 
-abbrev pub front_of : List ℕ → Front
-front_of bytes = front_by (head_len bytes) (length bytes)
+abbrev pub head_end_of : List ℕ → HeadEnd
+head_end_of bytes = head_end_by (head_len bytes) (length bytes)
 
 abbrev pub is_feed : ℕ → Bool
 is_feed b = b == 10

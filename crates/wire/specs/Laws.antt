@@ -1,6 +1,6 @@
 -- The laws of readings and of reply texts.
 use Rattle.std.specs.Prelude.{◌≡◌, ◌≢◌, ℕ, List, ◌++◌}
-use Rattle.wire.specs.Messages.{Reading, unfinished, Reads, IsDue}
+use Rattle.wire.specs.Messages.{Reading, unfinished, Reads, AwaitsContinue}
 use Rattle.wire.specs.Replies.{Answer, IsReplyText}
 
 -- each string has at most one reading
@@ -11,9 +11,9 @@ OneReading = (bytes : List ℕ) (r s : Reading) → Reads bytes r → Reads byte
 abbrev pub StaysRead : Type 0
 StaysRead = (bytes more : List ℕ) (r : Reading) → Reads bytes r → r ≢ unfinished → Reads (bytes ++ more) r
 
--- where the 100 line is due, it stays due
-abbrev pub StaysDue : Type 0
-StaysDue = (bytes more : List ℕ) → IsDue bytes → IsDue (bytes ++ more)
+-- where a `100 Continue` is awaited, it is awaited whatever follows
+abbrev pub StaysAwaited : Type 0
+StaysAwaited = (bytes more : List ℕ) → AwaitsContinue bytes → AwaitsContinue (bytes ++ more)
 
 -- an answer has at most one text at a moment
 abbrev pub OneText : Type 0

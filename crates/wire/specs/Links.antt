@@ -1,10 +1,10 @@
--- What a reader gave and a writer took, and what the reading of a message answers.
+-- What a reader gave and a writer took, and what the reading of a message reports.
 use Rattle.std.specs.Prelude.{◌≡◌, ℕ, ◌<◌, List, [], ◌∷◌, ◌++◌, length, Bool, true, false, Option, Result, Ok, Err, codes, ⊤}
 use Rattle.std.specs.Io.KnownBytes.{Appends, IsAtEnd}
 use Rattle.wire.specs.declared.messages.Message.{Message}
 use Rattle.wire.specs.declared.messages.WireFault.{WireFault}
 use Rattle.wire.specs.declared.messages.WireFault.TheVariants.{Ended, Read, Continue, Refused, Down}
-use Rattle.wire.specs.Messages.{Reads, unfinished, refused, whole, IsDue, Due}
+use Rattle.wire.specs.Messages.{Reads, unfinished, refused, whole, AwaitsContinue, IsAwaited}
 
 -- CR LF
 abbrev pub line_end : List ℕ
@@ -18,33 +18,33 @@ abbrev pub continue_if : Bool → List ℕ
 continue_if true = continue_text
 continue_if false = []
 
--- a front of the text was written, and not all of it
-abbrev pub Stops : Option (List ℕ) → Option (List ℕ) → List ℕ → Type 0
-Stops old new text = (front : List ℕ) × (rest : List ℕ) × (0 < length rest) × (text ≡ front ++ rest) × Appends old new front
+-- a prefix of the text was written, and not all of it
+abbrev pub WritesPrefix : Option (List ℕ) → Option (List ℕ) → List ℕ → Type 0
+WritesPrefix old new text = (prefix : List ℕ) × (rest : List ℕ) × (0 < length rest) × (text ≡ prefix ++ rest) × Appends old new prefix
 
--- all of the text was written, or a front of it and not all
+-- all of the text was written, or a prefix of it and not all
 abbrev pub Writes : {T E : Type 0} → Option (List ℕ) → Option (List ℕ) → List ℕ → Result T E → Type 0
 Writes old new text (Ok done) = Appends old new text
-Writes old new text (Err fault) = Stops old new text
+Writes old new text (Err fault) = WritesPrefix old new text
 
--- the 100 line was written where it is due by these bytes, and else nothing
-abbrev pub WritesDue : List ℕ → Option (List ℕ) → Option (List ℕ) → Type 0
-WritesDue bytes old new = (due : Bool) × Due bytes due × Appends old new (continue_if due)
+-- the `100 Continue` was written where it is awaited by these bytes, and else nothing
+abbrev pub WritesContinue : List ℕ → Option (List ℕ) → Option (List ℕ) → Type 0
+WritesContinue bytes old new = (awaited : Bool) × IsAwaited bytes awaited × Appends old new (continue_if awaited)
 
--- what the reading of a message answers, by the bytes that came: those left, and those written before and after
-abbrev pub Answers : List ℕ → Option (List ℕ) → Option (List ℕ) → Option (List ℕ) → Result Message WireFault → Type 0
-Answers came left old new (Ok message) = (due : Bool) × Reads came (whole message due) × Appends old new (continue_if due)
-Answers came left old new (Err Ended) = Reads came unfinished × IsAtEnd left × WritesDue came old new
-Answers came left old new (Err Read) = Reads came unfinished × WritesDue came old new
-Answers came left old new (Err Continue) = IsDue came × Stops old new continue_text
-Answers came left old new (Err (Refused refusal is_head)) = Reads came (refused refusal is_head) × Appends old new []
-Answers came left old new (Err Down) = Appends old new []
+-- what the reading of a message reports, by the bytes received: those left, and those written before and after
+abbrev pub ReportsReceived : List ℕ → Option (List ℕ) → Option (List ℕ) → Option (List ℕ) → Result Message WireFault → Type 0
+ReportsReceived received left old new (Ok message) = (awaited : Bool) × Reads received (whole message awaited) × Appends old new (continue_if awaited)
+ReportsReceived received left old new (Err Ended) = Reads received unfinished × IsAtEnd left × WritesContinue received old new
+ReportsReceived received left old new (Err Read) = Reads received unfinished × WritesContinue received old new
+ReportsReceived received left old new (Err Continue) = AwaitsContinue received × WritesPrefix old new continue_text
+ReportsReceived received left old new (Err (Refused refusal is_head)) = Reads received (refused refusal is_head) × Appends old new []
+ReportsReceived received left old new (Err Down) = Appends old new []
 
--- the same by all the bytes that the reader had
-abbrev pub Tells : List ℕ → Option (List ℕ) → Option (List ℕ) → Result Message WireFault → Type 0
-Tells bytes old new (Ok message) = (due : Bool) × Reads bytes (whole message due) × Appends old new (continue_if due)
-Tells bytes old new (Err Ended) = Reads bytes unfinished × WritesDue bytes old new
-Tells bytes old new (Err Read) = ⊤
-Tells bytes old new (Err Continue) = IsDue bytes × Stops old new continue_text
-Tells bytes old new (Err (Refused refusal is_head)) = Reads bytes (refused refusal is_head) × Appends old new []
-Tells bytes old new (Err Down) = Appends old new []
+-- the same by the whole input, the bytes that the reader had
+abbrev pub ReportsInput : List ℕ → Option (List ℕ) → Option (List ℕ) → Result Message WireFault → Type 0
+ReportsInput bytes old new (Ok message) = (awaited : Bool) × Reads bytes (whole message awaited) × Appends old new (continue_if awaited)
+ReportsInput bytes old new (Err Ended) = Reads bytes unfinished × WritesContinue bytes old new
+ReportsInput bytes old new (Err Read) = ⊤
+ReportsInput bytes old new (Err Continue) = AwaitsContinue bytes × WritesPrefix old new continue_text
+ReportsInput bytes old new (Err (Refused refusal is_head)) = Reads bytes (refused refusal is_head) × Appends old new []
+ReportsInput bytes old new (Err Down) = Appends old new []

@@ -4,17 +4,17 @@ use Rattle.basis.specs.declared.refusals.Refusal.{Refusal}
 use Rattle.basis.specs.declared.refusals.Refusal.TheVariants.{HeadTooLarge}
 use Rattle.wire.specs.declared.framing.Frame.{Frame}
 use Rattle.wire.specs.declared.messages.Message.{Message}
-use Rattle.wire.specs.Heads.{Front, Unfinished, Long, Whole, front_of}
-use Rattle.wire.specs.Framing.{Verdict, refuses, takes, IsJudged}
+use Rattle.wire.specs.Heads.{HeadEnd, Unfinished, Long, Whole, head_end_of}
+use Rattle.wire.specs.Framing.{Verdict, refuses, accepts, IsJudged}
 
--- what a string is: unfinished; refused, and whether the head could be parsed and its method is HEAD; or a message, and whether the 100 line is due before its body
+-- what a string is: unfinished; refused, and whether the head could be parsed and its method is HEAD; or a message, and whether a `100 Continue` is awaited before its body
 pub data Reading : Type 0 where
   unfinished : Reading
   refused : Refusal → Bool → Reading
   whole : Message → Bool → Reading
 
-abbrev pub message_of : Frame → List ℕ → Message
-message_of frame body = record {
+abbrev pub framed_message : Frame → List ℕ → Message
+framed_message frame body = record {
   method = frame.method;
   path = frame.path;
   query = frame.query;
@@ -26,27 +26,27 @@ message_of frame body = record {
 -- the verdict on the head, and the bytes that follow it: those past the body aren't part of the message
 abbrev pub reading_by : Verdict → List ℕ → Reading
 reading_by (refuses refusal is_head) rest = refused refusal is_head
-reading_by (takes frame) rest =
-    if nat_le frame.body_len (length rest) then whole (message_of frame (take frame.body_len rest)) frame.is_due else unfinished
+reading_by (accepts frame) rest =
+    if nat_le frame.body_len (length rest) then whole (framed_message frame (take frame.body_len rest)) frame.awaits_continue else unfinished
 
-abbrev pub ReadsBy : Front → List ℕ → Reading → Type 0
+abbrev pub ReadsBy : HeadEnd → List ℕ → Reading → Type 0
 ReadsBy Unfinished bytes reading = reading ≡ unfinished
 ReadsBy Long bytes reading = reading ≡ refused HeadTooLarge false
 ReadsBy (Whole n) bytes reading =
     (verdict : Verdict) × IsJudged (take n bytes) verdict × (reading ≡ reading_by verdict (drop n bytes))
 
 abbrev pub Reads : List ℕ → Reading → Type 0
-Reads bytes reading = ReadsBy (front_of bytes) bytes reading
+Reads bytes reading = ReadsBy (head_end_of bytes) bytes reading
 
--- the head is whole and not refused, and the 100 line is due
-abbrev pub IsDueBy : Front → List ℕ → Type 0
-IsDueBy Unfinished bytes = ⊥
-IsDueBy Long bytes = ⊥
-IsDueBy (Whole n) bytes = (frame : Frame) × IsJudged (take n bytes) (takes frame) × IsTrue frame.is_due
+-- the head is whole and not refused, and the client awaits a `100 Continue` (RFC 9110, section 10.1.1)
+abbrev pub AwaitsContinueBy : HeadEnd → List ℕ → Type 0
+AwaitsContinueBy Unfinished bytes = ⊥
+AwaitsContinueBy Long bytes = ⊥
+AwaitsContinueBy (Whole n) bytes = (frame : Frame) × IsJudged (take n bytes) (accepts frame) × IsTrue frame.awaits_continue
 
-abbrev pub IsDue : List ℕ → Type 0
-IsDue bytes = IsDueBy (front_of bytes) bytes
+abbrev pub AwaitsContinue : List ℕ → Type 0
+AwaitsContinue bytes = AwaitsContinueBy (head_end_of bytes) bytes
 
--- whether it is
-abbrev pub Due : List ℕ → Bool → Type 0
-Due bytes due = IsTrue due ↔ IsDue bytes
+-- the flag says whether it does
+abbrev pub IsAwaited : List ℕ → Bool → Type 0
+IsAwaited bytes awaited = IsTrue awaited ↔ AwaitsContinue bytes

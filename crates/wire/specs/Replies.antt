@@ -101,8 +101,8 @@ head_text answer date =
     status_line answer.status ++ date_line date ++ fixed_lines ++ allow_line answer.refusal ++ challenge_line answer.refusal
     ++ type_line answer.body ++ length_line answer.status (length answer.body) ++ line_end
 
-abbrev pub reply_text : Answer → List ℕ → List ℕ
-reply_text answer date = head_text answer date ++ sent_body answer.is_head answer.body
+abbrev pub text_with_date : Answer → List ℕ → List ℕ
+text_with_date answer date = head_text answer date ++ sent_body answer.is_head answer.body
 
 -- the text of the date of a moment, in seconds since 1970
 abbrev pub IsDateOf : ℕ → List ℕ → Type 0
@@ -110,4 +110,4 @@ IsDateOf moment text = (date : HttpDate) × (unix_secs date ≡ moment) × (text
 
 -- the text of an answer at a moment
 abbrev pub IsReplyText : Answer → ℕ → List ℕ → Type 0
-IsReplyText answer moment text = (date : List ℕ) × IsDateOf moment date × (text ≡ reply_text answer date)
+IsReplyText answer moment text = (date : List ℕ) × IsDateOf moment date × (text ≡ text_with_date answer date)

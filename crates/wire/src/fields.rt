@@ -3,8 +3,8 @@ ghost use Rattle.std.specs.Prelude.{◌≡◌, ◌<◌, ◌≤◌, ◌^◌, ℕ,
 ghost use Rattle.std.specs.Option.{option_copied};
 ghost use Rattle.std.specs.Str.{str_eq_ignore_ascii_case};
 ghost use Rattle.httparse.specs.Spans.{header_bytes, IsHeaderWithin};
-ghost use Rattle.wire.specs.Fields.{values, is_named, is_there, stands_twice, value_of, has_value, says};
-ghost use Rattle.wire.specs.Spans.{fields_at, AreWithin, LooksUp};
+ghost use Rattle.wire.specs.Fields.{values, is_named, is_there, stands_twice, value_of, has_value, is_field};
+ghost use Rattle.wire.specs.Inner.Spans.{fields_at, AreWithin, LooksUp};
 
 use httparse::spans::{HeaderSpan, Span};
 
@@ -14,19 +14,6 @@ pub enum Lookup {
     Absent,
     Once(Span),
     Again,
-}
-
-fn is_same(text: &[u8], other: &[u8]) -> bool
-    ensures { result ≡ str_eq_ignore_ascii_case text.now other.now }
-{
-    text.eq_ignore_ascii_case(other)
-}
-
-fn is_named(head: &[u8], field: HeaderSpan, name: &[u8]) -> bool
-    requires { IsHeaderWithin (length head.now) field }
-    ensures { result ≡ is_named name.now (header_bytes head.now field) }
-{
-    is_same(field.name.of(head), name)
 }
 
 pub fn look_up(head: &[u8], fields: &[HeaderSpan], name: &[u8]) -> Lookup
@@ -43,6 +30,17 @@ pub fn look_up(head: &[u8], fields: &[HeaderSpan], name: &[u8]) -> Lookup
         }
     }
     found
+}
+
+/// The value of the only field of a name.
+pub fn value<'b>(head: &'b [u8], fields: &[HeaderSpan], name: &[u8]) -> Option<&'b [u8]>
+    requires { AreWithin head.now fields.now }
+    ensures { option_copied result ≡ value_of name.now (fields_at head.now fields.now) }
+{
+    match look_up(head, fields, name) {
+        Lookup::Once(span) => Some(span.of(head)),
+        _ => None,
+    }
 }
 
 pub fn is_there(head: &[u8], fields: &[HeaderSpan], name: &[u8]) -> bool
@@ -65,25 +63,6 @@ pub fn stands_twice(head: &[u8], fields: &[HeaderSpan], name: &[u8]) -> bool
     }
 }
 
-/// The value of the only field of a name.
-pub fn value<'b>(head: &'b [u8], fields: &[HeaderSpan], name: &[u8]) -> Option<&'b [u8]>
-    requires { AreWithin head.now fields.now }
-    ensures { option_copied result ≡ value_of name.now (fields_at head.now fields.now) }
-{
-    match look_up(head, fields, name) {
-        Lookup::Once(span) => Some(span.of(head)),
-        _ => None,
-    }
-}
-
-// Whether the field has the name and the value.
-fn says(head: &[u8], field: HeaderSpan, name: &[u8], wanted: &[u8]) -> bool
-    requires { IsHeaderWithin (length head.now) field }
-    ensures { result ≡ says name.now wanted.now (header_bytes head.now field) }
-{
-    is_named(head, field, name) && is_same(field.value.of(head), wanted)
-}
-
 /// Whether a field of a name has this value, in any case.
 pub fn has_value(head: &[u8], fields: &[HeaderSpan], name: &[u8], wanted: &[u8]) -> bool
     requires { AreWithin head.now fields.now }
@@ -91,9 +70,30 @@ pub fn has_value(head: &[u8], fields: &[HeaderSpan], name: &[u8], wanted: &[u8])
 {
     let mut found = false;
     for field in fields {
-        if says(head, *field, name, wanted) {
+        if is_field(head, *field, name, wanted) {
             found = true;
         }
     }
     found
+}
+
+// Whether the field has the name and the value.
+fn is_field(head: &[u8], field: HeaderSpan, name: &[u8], wanted: &[u8]) -> bool
+    requires { IsHeaderWithin (length head.now) field }
+    ensures { result ≡ is_field name.now wanted.now (header_bytes head.now field) }
+{
+    is_named(head, field, name) && is_same(field.value.of(head), wanted)
+}
+
+fn is_named(head: &[u8], field: HeaderSpan, name: &[u8]) -> bool
+    requires { IsHeaderWithin (length head.now) field }
+    ensures { result ≡ is_named name.now (header_bytes head.now field) }
+{
+    is_same(field.name.of(head), name)
+}
+
+fn is_same(text: &[u8], other: &[u8]) -> bool
+    ensures { result ≡ str_eq_ignore_ascii_case text.now other.now }
+{
+    text.eq_ignore_ascii_case(other)
 }

@@ -3,8 +3,8 @@ ghost use Rattle.std.specs.Prelude.{◌≡◌, ◌≤◌, ℕ, List, length, IfO
 ghost use Rattle.std.specs.Option.{option_copied};
 ghost use Rattle.httparse.specs.Grammar.{IsToken, RequestHead};
 ghost use Rattle.httparse.specs.Spans.{IsRequestWithin, IsRequestOf, IsRequestAt};
-ghost use Rattle.wire.specs.Framing.{is_without_host, repeats_a_field, is_framed_twice, max_body, is_due, is_misframed, frame_of, body_length, is_head_method, parts_of, Verdict, IsJudged};
-ghost use Rattle.wire.specs.Spans.{fields_at, AreWithin, capped_length, parts_at, Judges, Frames, GivesLength};
+ghost use Rattle.wire.specs.Framing.{is_without_host, repeats_a_field, is_framed_twice, max_body, awaits_continue, is_misframed, frame_of, body_length, is_head_method, parts_of, Verdict, IsJudged};
+ghost use Rattle.wire.specs.Inner.Spans.{fields_at, AreWithin, capped_length, parts_at, Judges, Frames, GivesLength};
 
 use crate::fields::{has_value, is_there, stands_twice, value};
 use crate::heads::feeds;
@@ -32,7 +32,7 @@ pub const MAX_OTHER_BODY: usize = 16_384;
 // A length above every limit is as good as this one.
 const LENGTH_CAP: usize = MAX_STATE_BODY + 1;
 
-/// The parts of a head that a message keeps, the length of its body, and whether the 100 line is due.
+/// The parts of a head that a message keeps, the length of its body, and whether a `100 Continue` is awaited.
 #[derive(Drop)]
 pub struct Frame {
     pub method: Method,
@@ -41,7 +41,7 @@ pub struct Frame {
     pub authorization: Option<Bytes>,
     pub content_md5: Option<Bytes>,
     pub body_len: usize,
-    pub is_due: bool,
+    pub awaits_continue: bool,
 }
 
 /// Why a whole head gives no frame.
@@ -53,158 +53,45 @@ pub enum FrameFault {
     Down,
 }
 
-fn is_without_host(head: &[u8], fields: &[HeaderSpan], minor: u8) -> bool
-    requires { AreWithin head.now fields.now }
-    ensures { result ≡ is_without_host minor (fields_at head.now fields.now) }
+/// The verdict on a whole head.
+pub fn read_frame(alloc: Global, head: &[u8]) -> Result<Frame, FrameFault>
+    ensures { Frames head.now result }
 {
-    (minor == 1 && !is_there(head, fields, b"host")) || stands_twice(head, fields, b"host")
-}
-
-fn repeats_a_field(head: &[u8], fields: &[HeaderSpan]) -> bool
-    requires { AreWithin head.now fields.now }
-    ensures { result ≡ repeats_a_field (fields_at head.now fields.now) }
-{
-    stands_twice(head, fields, b"authorization")
-        || stands_twice(head, fields, b"content-length")
-        || stands_twice(head, fields, b"content-md5")
-}
-
-fn is_framed_twice(head: &[u8], fields: &[HeaderSpan]) -> bool
-    requires { AreWithin head.now fields.now }
-    ensures { result ≡ is_framed_twice (fields_at head.now fields.now) }
-{
-    is_there(head, fields, b"transfer-encoding") && is_there(head, fields, b"content-length")
-}
-
-fn is_misframed(target: &str, minor: u8, head: &[u8], fields: &[HeaderSpan]) -> bool
-    requires { AreWithin head.now fields.now }
-    ensures { (method : List ℕ) → result ≡ is_misframed (parts_at method target.now minor head.now fields.now) }
-{
-    is_without_host(head, fields, minor)
-        || repeats_a_field(head, fields)
-        || origin(target).is_none()
-        || is_framed_twice(head, fields)
-}
-
-fn max_body(method: &[u8]) -> usize
-    ensures value { result ≡ max_body method.now }
-    ensures most { result ≤ 4_194_304 }
-{
-    if method == b"POST".as_slice() || method == b"PUT".as_slice() {
-        MAX_STATE_BODY
-    } else {
-        MAX_OTHER_BODY
+    let lines = feeds(head);
+    if lines > MAX_FEEDS {
+        return Err(FrameFault::Refused(Refusal::HeadTooLarge, false));
+    }
+    let mut fields = [EMPTY_HEADER_SPAN; MAX_FIELDS];
+    match parse_request(head, &mut fields) {
+        Ok(Status::Complete(spans)) => parsed(alloc, head, spans, &fields),
+        Ok(Status::Partial) => Err(FrameFault::Refused(Refusal::BadMessage, false)),
+        Err(_) => Err(FrameFault::Refused(Refusal::BadMessage, false)),
     }
 }
 
-// The number that a length's digits write, or the cap where it is above.
-fn capped_length(text: &[u8]) -> Option<usize>
-    ensures { result ≡ capped_length 4_194_305 text.now }
-{
-    if text.is_empty() {
-        return None;
-    }
-    let mut number = 0;
-    'digits: for byte in text {
-        if !byte.is_ascii_digit() {
-            return None;
-        }
-        number = LENGTH_CAP.min(number * 10 + (*byte - b'0') as usize);
-    }
-    Some(number)
-}
-
-// What the field Content-Length says.
-enum Length {
-    Refuses(Refusal),
-    Of(usize),
-}
-
-fn read_length(text: Option<&[u8]>, most: usize) -> Length
-    requires { most ≤ 4_194_304 }
-    ensures { GivesLength (option_copied text.entry) most result }
-{
-    let Some(text) = text else {
-        return Length::Of(0);
-    };
-    match capped_length(text) {
-        None => Length::Refuses(Refusal::BadMessage),
-        Some(len) if len > most => Length::Refuses(Refusal::TooLarge),
-        Some(len) => Length::Of(len),
-    }
-}
-
-fn is_head_method(method: &[u8]) -> bool
-    ensures { result ≡ is_head_method method.now }
-{
-    method == b"HEAD".as_slice()
-}
-
-fn is_due(minor: u8, body_len: usize, head: &[u8], fields: &[HeaderSpan]) -> bool
-    requires within { AreWithin head.now fields.now }
-    requires len { body_len ≡ body_length (fields_at head.now fields.now) }
-    ensures { result ≡ is_due minor (fields_at head.now fields.now) }
-{
-    minor == 1 && body_len != 0 && has_value(head, fields, b"expect", b"100-continue")
-}
-
-fn text_copied(alloc: Global, text: Option<&str>) -> Result<Option<Text>, Down>
-    ensures { IfOk result (λ copy. copy ≡ option_copied text.entry) }
-{
-    match text {
-        Some(text) => Ok(Some(Text::copy_of(alloc, text)?)),
-        None => Ok(None),
-    }
-}
-
-fn bytes_copied(alloc: Global, bytes: Option<&[u8]>) -> Result<Option<Bytes>, Down>
-    ensures { IfOk result (λ copy. copy ≡ option_copied bytes.entry) }
-{
-    match bytes {
-        Some(bytes) => Ok(Some(Bytes::copy_of(alloc, bytes)?)),
-        None => Ok(None),
-    }
-}
-
-fn method_copied(alloc: Global, method: &[u8]) -> Result<Method, Down>
-    requires { IsToken method.now }
-    ensures { IfOk result (λ copy. copy ≡ method.now) }
-{
-    match Method::from_bytes(alloc, method) {
-        Ok(method) => Ok(method),
-        Err(MethodError::Invalid) => unreachable!(),
-        Err(MethodError::OutOfMemory) => Err(Down),
-    }
-}
-
-fn taken(
+// The verdict on a head of the grammar.
+fn parsed(
     alloc: Global,
-    method: &[u8],
-    origin: &str,
-    minor: u8,
-    body_len: usize,
     head: &[u8],
+    spans: RequestSpans,
     fields: &[HeaderSpan],
-) -> Result<Frame, Down>
-    requires within { AreWithin head.now fields.now }
-    requires token { IsToken method.now }
-    requires len { body_len ≡ body_length (fields_at head.now fields.now) }
-    ensures { (target : List ℕ) → IfOk result (λ frame. frame ≡ frame_of (parts_at method.now target minor head.now fields.now) origin.now) }
+) -> Result<Frame, FrameFault>
+    requires within { IsRequestWithin head.now fields.now spans }
+    requires of { IsRequestOf head.now fields.now spans }
+    ensures { (h : RequestHead) → IsRequestAt head.now fields.now spans h → Judges (parts_of h) result }
 {
-    let method = method_copied(alloc, method)?;
-    let path = Text::copy_of(alloc, path(origin))?;
-    let query = text_copied(alloc, query(origin))?;
-    let authorization = bytes_copied(alloc, value(head, fields, b"authorization"))?;
-    let content_md5 = bytes_copied(alloc, value(head, fields, b"content-md5"))?;
-    Ok(Frame {
+    let method = spans.method.of(head);
+    let Ok(target) = str::from_utf8(spans.path.of(head)) else {
+        unreachable!()
+    };
+    judge(
+        alloc,
         method,
-        path,
-        query,
-        authorization,
-        content_md5,
-        body_len,
-        is_due: is_due(minor, body_len, head, fields),
-    })
+        target,
+        spans.version,
+        head,
+        &fields[..spans.headers],
+    )
 }
 
 // The rules that refuse a head, in their order, and then its frame.
@@ -239,19 +126,157 @@ fn judge(
     }
 }
 
-/// The verdict on a whole head.
-pub fn read_frame(alloc: Global, head: &[u8]) -> Result<Frame, FrameFault>
-    ensures { Frames head.now result }
+fn is_misframed(target: &str, minor: u8, head: &[u8], fields: &[HeaderSpan]) -> bool
+    requires { AreWithin head.now fields.now }
+    ensures { (method : List ℕ) → result ≡ is_misframed (parts_at method target.now minor head.now fields.now) }
 {
-    let lines = feeds(head);
-    if lines > MAX_FEEDS {
-        return Err(FrameFault::Refused(Refusal::HeadTooLarge, false));
+    is_without_host(head, fields, minor)
+        || repeats_a_field(head, fields)
+        || origin(target).is_none()
+        || is_framed_twice(head, fields)
+}
+
+fn is_without_host(head: &[u8], fields: &[HeaderSpan], minor: u8) -> bool
+    requires { AreWithin head.now fields.now }
+    ensures { result ≡ is_without_host minor (fields_at head.now fields.now) }
+{
+    (minor == 1 && !is_there(head, fields, b"host")) || stands_twice(head, fields, b"host")
+}
+
+fn repeats_a_field(head: &[u8], fields: &[HeaderSpan]) -> bool
+    requires { AreWithin head.now fields.now }
+    ensures { result ≡ repeats_a_field (fields_at head.now fields.now) }
+{
+    stands_twice(head, fields, b"authorization")
+        || stands_twice(head, fields, b"content-length")
+        || stands_twice(head, fields, b"content-md5")
+}
+
+fn is_framed_twice(head: &[u8], fields: &[HeaderSpan]) -> bool
+    requires { AreWithin head.now fields.now }
+    ensures { result ≡ is_framed_twice (fields_at head.now fields.now) }
+{
+    is_there(head, fields, b"transfer-encoding") && is_there(head, fields, b"content-length")
+}
+
+// What the field Content-Length says.
+enum Length {
+    Refuses(Refusal),
+    Of(usize),
+}
+
+fn read_length(text: Option<&[u8]>, most: usize) -> Length
+    requires { most ≤ MAX_STATE_BODY }
+    ensures { GivesLength (option_copied text.entry) most result }
+{
+    let Some(text) = text else {
+        return Length::Of(0);
+    };
+    match capped_length(text) {
+        None => Length::Refuses(Refusal::BadMessage),
+        Some(len) if len > most => Length::Refuses(Refusal::TooLarge),
+        Some(len) => Length::Of(len),
     }
-    let mut fields = [EMPTY_HEADER_SPAN; MAX_FIELDS];
-    match parse_request(head, &mut fields) {
-        Ok(Status::Complete(spans)) => parsed(alloc, head, spans, &fields),
-        Ok(Status::Partial) => Err(FrameFault::Refused(Refusal::BadMessage, false)),
-        Err(_) => Err(FrameFault::Refused(Refusal::BadMessage, false)),
+}
+
+// The number that a length's digits write, or the cap where it is above.
+fn capped_length(text: &[u8]) -> Option<usize>
+    ensures { result ≡ capped_length LENGTH_CAP text.now }
+{
+    if text.is_empty() {
+        return None;
+    }
+    let mut number = 0;
+    'digits: for byte in text {
+        if !byte.is_ascii_digit() {
+            return None;
+        }
+        number = LENGTH_CAP.min(number * 10 + (*byte - b'0') as usize);
+    }
+    Some(number)
+}
+
+fn max_body(method: &[u8]) -> usize
+    ensures value { result ≡ max_body method.now }
+    ensures most { result ≤ MAX_STATE_BODY }
+{
+    if method == b"POST".as_slice() || method == b"PUT".as_slice() {
+        MAX_STATE_BODY
+    } else {
+        MAX_OTHER_BODY
+    }
+}
+
+fn is_head_method(method: &[u8]) -> bool
+    ensures { result ≡ is_head_method method.now }
+{
+    method == b"HEAD".as_slice()
+}
+
+fn taken(
+    alloc: Global,
+    method: &[u8],
+    origin: &str,
+    minor: u8,
+    body_len: usize,
+    head: &[u8],
+    fields: &[HeaderSpan],
+) -> Result<Frame, Down>
+    requires within { AreWithin head.now fields.now }
+    requires token { IsToken method.now }
+    requires len { body_len ≡ body_length (fields_at head.now fields.now) }
+    ensures { (target : List ℕ) → IfOk result (λ frame. frame ≡ frame_of (parts_at method.now target minor head.now fields.now) origin.now) }
+{
+    let method = method_copied(alloc, method)?;
+    let path = Text::copy_of(alloc, path(origin))?;
+    let query = text_copied(alloc, query(origin))?;
+    let authorization = bytes_copied(alloc, value(head, fields, b"authorization"))?;
+    let content_md5 = bytes_copied(alloc, value(head, fields, b"content-md5"))?;
+    Ok(Frame {
+        method,
+        path,
+        query,
+        authorization,
+        content_md5,
+        body_len,
+        awaits_continue: awaits_continue(minor, body_len, head, fields),
+    })
+}
+
+fn awaits_continue(minor: u8, body_len: usize, head: &[u8], fields: &[HeaderSpan]) -> bool
+    requires within { AreWithin head.now fields.now }
+    requires len { body_len ≡ body_length (fields_at head.now fields.now) }
+    ensures { result ≡ awaits_continue minor (fields_at head.now fields.now) }
+{
+    minor == 1 && body_len != 0 && has_value(head, fields, b"expect", b"100-continue")
+}
+
+fn method_copied(alloc: Global, method: &[u8]) -> Result<Method, Down>
+    requires { IsToken method.now }
+    ensures { IfOk result (λ copy. copy ≡ method.now) }
+{
+    match Method::from_bytes(alloc, method) {
+        Ok(method) => Ok(method),
+        Err(MethodError::Invalid) => unreachable!(),
+        Err(MethodError::OutOfMemory) => Err(Down),
+    }
+}
+
+fn text_copied(alloc: Global, text: Option<&str>) -> Result<Option<Text>, Down>
+    ensures { IfOk result (λ copy. copy ≡ option_copied text.entry) }
+{
+    match text {
+        Some(text) => Ok(Some(Text::copy_of(alloc, text)?)),
+        None => Ok(None),
+    }
+}
+
+fn bytes_copied(alloc: Global, bytes: Option<&[u8]>) -> Result<Option<Bytes>, Down>
+    ensures { IfOk result (λ copy. copy ≡ option_copied bytes.entry) }
+{
+    match bytes {
+        Some(bytes) => Ok(Some(Bytes::copy_of(alloc, bytes)?)),
+        None => Ok(None),
     }
 }
 
@@ -269,29 +294,4 @@ pub fn some_verdict(head: &[u8])
         Ok(Status::Partial) => return,
         Err(_error) => return,
     }
-}
-
-// The verdict on a head of the grammar.
-fn parsed(
-    alloc: Global,
-    head: &[u8],
-    spans: RequestSpans,
-    fields: &[HeaderSpan],
-) -> Result<Frame, FrameFault>
-    requires within { IsRequestWithin head.now fields.now spans }
-    requires of { IsRequestOf head.now fields.now spans }
-    ensures { (h : RequestHead) → IsRequestAt head.now fields.now spans h → Judges (parts_of h) result }
-{
-    let method = spans.method.of(head);
-    let Ok(target) = str::from_utf8(spans.path.of(head)) else {
-        unreachable!()
-    };
-    judge(
-        alloc,
-        method,
-        target,
-        spans.version,
-        head,
-        &fields[..spans.headers],
-    )
 }

@@ -1,16 +1,16 @@
 //! Laws of the definitions, each the contract of a call that does nothing.
-ghost use Rattle.wire.specs.Laws.{OneReading, StaysRead, StaysDue, OneText};
+ghost use Rattle.wire.specs.Laws.{OneReading, StaysRead, StaysAwaited, OneText};
 ghost use Rattle.wire.specs.Messages.{Reading, Reads};
 
 use crate::framing::some_verdict;
-use crate::heads::{MAX_HEAD, Place, end_in};
+use crate::heads::{HeadPosition, MAX_HEAD, end_in};
 
 /// Each string has a reading, which the parser's answer shows.
 pub fn some_reading(bytes: &[u8])
     ensures { (reading : Reading) × Reads bytes.now reading }
 {
-    let mut place = Place::Blank;
-    let Some(len) = end_in(&mut place, bytes) else {
+    let mut position = HeadPosition::Blank;
+    let Some(len) = end_in(&mut position, bytes) else {
         return;
     };
     if len > MAX_HEAD {
@@ -29,9 +29,9 @@ pub fn stays_read()
     ensures { StaysRead }
 {}
 
-/// Where the 100 line is due, it stays due.
-pub fn stays_due()
-    ensures { StaysDue }
+/// Where a `100 Continue` is awaited, it is awaited whatever follows.
+pub fn stays_awaited()
+    ensures { StaysAwaited }
 {}
 
 /// An answer has at most one text at a moment.

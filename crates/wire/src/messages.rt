@@ -1,6 +1,8 @@
 //! A message of HTTP, and why none was read.
 use basis::{Bytes, Refusal, Text};
 use http::Method;
+use std::error::Error;
+use std::fmt;
 
 /// A request, as far as custody looks at it.
 #[derive(Debug, Drop)]
@@ -22,10 +24,24 @@ pub enum WireFault {
     Ended,
     /// A read failed.
     Read,
-    /// Writing the 100 line failed.
+    /// Writing the `100 Continue` failed.
     Continue,
     /// The head is refused; the flag says that it could be parsed and its method is HEAD.
     Refused(Refusal, bool),
     /// Memory was refused.
     Down,
 }
+
+impl fmt::Display for WireFault {
+    fn fmt<W: fmt::Write>(&self, f: &mut fmt::Formatter<W>) -> fmt::Result {
+        match self {
+            WireFault::Ended => f.write_str("the input ended inside the message"),
+            WireFault::Read => f.write_str("a read failed"),
+            WireFault::Continue => f.write_str("writing the `100 Continue` failed"),
+            WireFault::Refused(refusal, _) => write!(f, "the head is refused: {}", refusal.word()),
+            WireFault::Down => f.write_str("memory was refused"),
+        }
+    }
+}
+
+impl Error for WireFault {}

@@ -1,33 +1,10 @@
 //! An answer, from which a reply is written.
 ghost use Rattle.std.specs.Prelude.{◌≡◌, false, None};
 ghost use Rattle.wire.specs.Replies.{empty_answer, no_content_answer, document_answer, refused_answer, unavailable_answer, down_text};
-ghost use Rattle.wire.specs.Contents.{content_bytes};
+ghost use Rattle.wire.specs.Inner.Contents.{content_bytes};
 
 use basis::{Bytes, Refusal};
 use std::marker::Model;
-
-// The document of the refusal for want of memory.
-const DOWN_TEXT: &[u8] = b"{\"error\":\"down\"}";
-
-/// The body of a reply: none, the fixed one, or one that was made.
-#[derive(Drop)]
-enum Content {
-    Empty,
-    Fixed,
-    Held(Bytes),
-}
-
-impl Content {
-    fn bytes(&self) -> &[u8]
-        ensures { result.now ≡ content_bytes self.now }
-    {
-        match self {
-            Content::Empty => &[],
-            Content::Fixed => DOWN_TEXT,
-            Content::Held(bytes) => bytes.as_slice(),
-        }
-    }
-}
 
 /// What is answered. The flag `is_head` says that the method of the request is HEAD: the body is
 /// then left out when the reply is written (RFC 9110, section 9.3.2).
@@ -44,7 +21,7 @@ impl Model for Reply {
 
     ghost Value = { Answer };
 
-    ghost use Rattle.wire.specs.Contents.{answer_of};
+    ghost use Rattle.wire.specs.Inner.Contents.{answer_of};
 
     ghost view = { answer_of };
 }
@@ -130,3 +107,26 @@ impl Reply {
         self.is_head
     }
 }
+
+/// The body of a reply: none, the fixed one, or one that was made.
+#[derive(Drop)]
+enum Content {
+    Empty,
+    Fixed,
+    Held(Bytes),
+}
+
+impl Content {
+    fn bytes(&self) -> &[u8]
+        ensures { result.now ≡ content_bytes self.now }
+    {
+        match self {
+            Content::Empty => &[],
+            Content::Fixed => DOWN_TEXT,
+            Content::Held(bytes) => bytes.as_slice(),
+        }
+    }
+}
+
+// The document of the refusal for want of memory.
+const DOWN_TEXT: &[u8] = b"{\"error\":\"down\"}";

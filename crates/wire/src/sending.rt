@@ -5,7 +5,7 @@ ghost use Rattle.httpdate.specs.Date.{date_text};
 ghost use Rattle.arrayvec.specs.ArrayVec.{array_vec_len};
 ghost use Rattle.basis.specs.Refusals.{allow_text};
 ghost use Rattle.wire.specs.Links.{Writes, line_end};
-ghost use Rattle.wire.specs.Replies.{IsDateOf, IsReplyText, reply_text, head_text, phrase_of, status_line, date_line, fixed_lines, allow_line, challenge_of, challenge_field, challenge_line, type_line, length_line, sent_body};
+ghost use Rattle.wire.specs.Replies.{IsDateOf, IsReplyText, text_with_date, head_text, phrase_of, status_line, date_line, fixed_lines, allow_line, challenge_of, challenge_field, challenge_line, type_line, length_line, sent_body};
 
 use crate::devices::{Broken, Outlet};
 use crate::replies::Reply;
@@ -13,10 +13,24 @@ use arrayvec::ArrayVec;
 use basis::{Moment, Refusal};
 use httpdate::HttpDate;
 use itoa::Buffer;
+use std::error::Error;
+use std::fmt;
 
-/// The writer failed, or took no byte: a front of the reply stands written, and not all of it.
+/// The writer failed, or took no byte: a prefix of the reply stands written, and not all of it.
 #[derive(Clone, Copy, Debug, PartialEq, Eq)]
 pub struct WriteFault;
+
+impl fmt::Display for WriteFault {
+    ghost use Rattle.std.specs.Prelude.{Some, codes};
+
+    ghost output = { λ _. Some (codes "the reply couldn't be written whole") };
+
+    fn fmt<W: fmt::Write>(&self, f: &mut fmt::Formatter<W>) -> fmt::Result {
+        f.write_str("the reply couldn't be written whole")
+    }
+}
+
+impl Error for WriteFault {}
 
 // Room for the longest head of a reply.
 const MAX_REPLY_HEAD: usize = 512;
@@ -26,57 +40,67 @@ const NO_CONTENT: u16 = 204;
 
 type Head = ArrayVec<u8, MAX_REPLY_HEAD>;
 
-fn add(head: &mut Head, piece: &[u8])
-    requires { array_vec_len head.old + length piece.now ≤ 512 }
-    ensures items { head.new.items ≡ head.old.items ++ piece.now }
+/// Writes the text of a reply at a moment, and takes no memory for it.
+pub fn write_reply<O: Outlet>(reply: &Reply, now: Moment, outlet: &mut O) -> Result<(), WriteFault>
+    requires { O.broken outlet.old ≡ false }
+    ensures text { (text : List ℕ) × IsReplyText reply.now now text
+        × Writes (O.written outlet.old) (O.written outlet.new) text result }
+    ensures any { (text : List ℕ) → IsReplyText reply.now now text
+        → Writes (O.written outlet.old) (O.written outlet.new) text result }
+    ensures cause { O.broken outlet.new ≡ is_err result }
 {
-    head.try_extend_from_slice(piece).unwrap();
+    let date = HttpDate::from_unix_secs(now.seconds()).unwrap();
+    let mut head = Head::new();
+    put_head(&mut head, reply, date);
+    write_both(head.as_slice(), sent(reply), outlet)
 }
 
-fn phrase(status: u16) -> &'static [u8]
-    ensures phrase { result.now ≡ phrase_of status }
-    ensures short { length result.now ≤ 31 }
+// The head, and then the body that is sent.
+fn write_both<O: Outlet>(head: &[u8], body: &[u8], outlet: &mut O) -> Result<(), WriteFault>
+    requires { O.broken outlet.old ≡ false }
+    ensures text { Writes (O.written outlet.old) (O.written outlet.new) (head.now ++ body.now) result }
+    ensures cause { O.broken outlet.new ≡ is_err result }
 {
-    match status {
-        200 => b"OK",
-        204 => b"No Content",
-        400 => b"Bad Request",
-        401 => b"Unauthorized",
-        403 => b"Forbidden",
-        404 => b"Not Found",
-        405 => b"Method Not Allowed",
-        409 => b"Conflict",
-        411 => b"Length Required",
-        413 => b"Payload Too Large",
-        423 => b"Locked",
-        431 => b"Request Header Fields Too Large",
-        _ => b"Service Unavailable",
-    }
+    write_all(outlet, head)?;
+    write_all(outlet, body)
 }
 
-fn challenge(refusal: Refusal) -> Option<&'static [u8]>
-    ensures challenge { option_copied result ≡ challenge_of refusal }
-    ensures short { IfSome result (λ text. length text.now ≤ 50) }
+/// Writes all of a piece, in as many writes as the device takes.
+pub(crate) fn write_all<O: Outlet>(outlet: &mut O, piece: &[u8]) -> Result<(), WriteFault>
+    requires { O.broken outlet.old ≡ false }
+    ensures text { Writes (O.written outlet.old) (O.written outlet.new) piece.now result }
+    ensures cause { O.broken outlet.new ≡ is_err result }
 {
-    match refusal {
-        Refusal::NoToken => Some(b"Bearer realm=\"custody\""),
-        Refusal::TwoTokens => Some(b"Bearer realm=\"custody\", error=\"invalid_request\""),
-        Refusal::BadToken => Some(b"Bearer realm=\"custody\", error=\"invalid_token\""),
-        Refusal::NeedWrite | Refusal::NeedAdmin => {
-            Some(b"Bearer realm=\"custody\", error=\"insufficient_scope\"")
+    let mut rest = piece;
+    'writing: while !rest.is_empty() {
+        match outlet.write(rest) {
+            Ok(count) => rest = rest.split_at(count).1,
+            Err(Broken) => return Err(WriteFault),
         }
-        _ => None,
     }
+    Ok(())
 }
 
-fn add_decimal(head: &mut Head, number: u64)
-    requires { array_vec_len head.old ≤ 480 }
-    ensures items { head.new.items ≡ head.old.items ++ decimal number }
-    ensures len { array_vec_len head.new ≤ array_vec_len head.old + 20 }
+fn sent(reply: &Reply) -> &[u8]
+    ensures { result.now ≡ sent_body reply.now.is_head reply.now.body }
 {
-    let mut buffer = Buffer::new();
-    let digits = buffer.format(number);
-    add(head, digits.as_bytes());
+    if reply.is_head() { &[] } else { reply.body() }
+}
+
+// The head of the reply, with its empty line.
+fn put_head(head: &mut Head, reply: &Reply, date: HttpDate)
+    requires { head.old.items ≡ [] }
+    ensures { head.new.items ≡ head_text reply.now (date_text date) }
+{
+    let body = reply.body();
+    add_status(head, reply.status());
+    add_date(head, date);
+    add_fixed(head);
+    add_allow(head, reply.refusal());
+    add_challenge(head, reply.refusal());
+    add_type(head, body);
+    add_length(head, reply.status(), body.len());
+    add(head, b"\r\n");
 }
 
 fn add_status(head: &mut Head, status: u16)
@@ -124,6 +148,16 @@ fn add_allow(head: &mut Head, refusal: Option<Refusal>)
     }
 }
 
+fn add_challenge(head: &mut Head, refusal: Option<Refusal>)
+    requires { array_vec_len head.old ≤ 220 }
+    ensures items { head.new.items ≡ head.old.items ++ challenge_line refusal }
+    ensures len { array_vec_len head.new ≤ 300 }
+{
+    if let Some(refusal) = refusal {
+        add_challenge_field(head, challenge(refusal));
+    }
+}
+
 fn add_challenge_field(head: &mut Head, challenge: Option<&'static [u8]>)
     requires room { array_vec_len head.old ≤ 220 }
     requires short { IfSome challenge (λ text. length text.now ≤ 50) }
@@ -134,16 +168,6 @@ fn add_challenge_field(head: &mut Head, challenge: Option<&'static [u8]>)
         add(head, b"WWW-Authenticate: ");
         add(head, text);
         add(head, b"\r\n");
-    }
-}
-
-fn add_challenge(head: &mut Head, refusal: Option<Refusal>)
-    requires { array_vec_len head.old ≤ 220 }
-    ensures items { head.new.items ≡ head.old.items ++ challenge_line refusal }
-    ensures len { array_vec_len head.new ≤ 300 }
-{
-    if let Some(refusal) = refusal {
-        add_challenge_field(head, challenge(refusal));
     }
 }
 
@@ -169,65 +193,55 @@ fn add_length(head: &mut Head, status: u16, len: usize)
     }
 }
 
-// The head of the reply, with its empty line.
-fn put_head(head: &mut Head, reply: &Reply, date: HttpDate)
-    requires { head.old.items ≡ [] }
-    ensures { head.new.items ≡ head_text reply.now (date_text date) }
+fn add_decimal(head: &mut Head, number: u64)
+    requires { array_vec_len head.old ≤ 480 }
+    ensures items { head.new.items ≡ head.old.items ++ decimal number }
+    ensures len { array_vec_len head.new ≤ array_vec_len head.old + 20 }
 {
-    let body = reply.body();
-    add_status(head, reply.status());
-    add_date(head, date);
-    add_fixed(head);
-    add_allow(head, reply.refusal());
-    add_challenge(head, reply.refusal());
-    add_type(head, body);
-    add_length(head, reply.status(), body.len());
-    add(head, b"\r\n");
+    let mut buffer = Buffer::new();
+    let digits = buffer.format(number);
+    add(head, digits.as_bytes());
 }
 
-/// Writes all of a piece, in as many writes as the device takes.
-pub(crate) fn write_all<O: Outlet>(outlet: &mut O, piece: &[u8]) -> Result<(), WriteFault>
-    requires { O.broken outlet.old ≡ false }
-    ensures text { Writes (O.written outlet.old) (O.written outlet.new) piece.now result }
-    ensures cause { O.broken outlet.new ≡ is_err result }
+fn add(head: &mut Head, piece: &[u8])
+    requires { array_vec_len head.old + length piece.now ≤ 512 }
+    ensures items { head.new.items ≡ head.old.items ++ piece.now }
 {
-    let mut rest = piece;
-    'writing: while !rest.is_empty() {
-        match outlet.write(rest) {
-            Ok(count) => rest = rest.split_at(count).1,
-            Err(Broken) => return Err(WriteFault),
-        }
+    head.try_extend_from_slice(piece).unwrap();
+}
+
+fn phrase(status: u16) -> &'static [u8]
+    ensures phrase { result.now ≡ phrase_of status }
+    ensures short { length result.now ≤ 31 }
+{
+    match status {
+        200 => b"OK",
+        204 => b"No Content",
+        400 => b"Bad Request",
+        401 => b"Unauthorized",
+        403 => b"Forbidden",
+        404 => b"Not Found",
+        405 => b"Method Not Allowed",
+        409 => b"Conflict",
+        411 => b"Length Required",
+        413 => b"Payload Too Large",
+        423 => b"Locked",
+        431 => b"Request Header Fields Too Large",
+        _ => b"Service Unavailable",
     }
-    Ok(())
 }
 
-// The head, and then the body that is sent.
-fn write_both<O: Outlet>(head: &[u8], body: &[u8], outlet: &mut O) -> Result<(), WriteFault>
-    requires { O.broken outlet.old ≡ false }
-    ensures text { Writes (O.written outlet.old) (O.written outlet.new) (head.now ++ body.now) result }
-    ensures cause { O.broken outlet.new ≡ is_err result }
+fn challenge(refusal: Refusal) -> Option<&'static [u8]>
+    ensures challenge { option_copied result ≡ challenge_of refusal }
+    ensures short { IfSome result (λ text. length text.now ≤ 50) }
 {
-    write_all(outlet, head)?;
-    write_all(outlet, body)
-}
-
-fn sent(reply: &Reply) -> &[u8]
-    ensures { result.now ≡ sent_body reply.now.is_head reply.now.body }
-{
-    if reply.is_head() { &[] } else { reply.body() }
-}
-
-/// Writes the text of a reply at a moment, and takes no memory for it.
-pub fn write_reply<O: Outlet>(reply: &Reply, now: Moment, outlet: &mut O) -> Result<(), WriteFault>
-    requires { O.broken outlet.old ≡ false }
-    ensures text { (text : List ℕ) × IsReplyText reply.now now text
-        × Writes (O.written outlet.old) (O.written outlet.new) text result }
-    ensures any { (text : List ℕ) → IsReplyText reply.now now text
-        → Writes (O.written outlet.old) (O.written outlet.new) text result }
-    ensures cause { O.broken outlet.new ≡ is_err result }
-{
-    let date = HttpDate::from_unix_secs(now.seconds()).unwrap();
-    let mut head = Head::new();
-    put_head(&mut head, reply, date);
-    write_both(head.as_slice(), sent(reply), outlet)
+    match refusal {
+        Refusal::NoToken => Some(b"Bearer realm=\"custody\""),
+        Refusal::TwoTokens => Some(b"Bearer realm=\"custody\", error=\"invalid_request\""),
+        Refusal::BadToken => Some(b"Bearer realm=\"custody\", error=\"invalid_token\""),
+        Refusal::NeedWrite | Refusal::NeedAdmin => {
+            Some(b"Bearer realm=\"custody\", error=\"insufficient_scope\"")
+        }
+        _ => None,
+    }
 }

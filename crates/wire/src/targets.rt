@@ -6,40 +6,6 @@ ghost use Rattle.wire.specs.Targets.{begins_with_slash, begins_with_scheme, ends
 
 const SCHEME: &[u8] = b"http://";
 
-fn begins_with_slash(target: &[u8]) -> bool
-    ensures { result ≡ begins_with_slash target.now }
-{
-    match target {
-        [byte, ..] => *byte == b'/',
-        [] => false,
-    }
-}
-
-fn begins_with_scheme(target: &[u8]) -> bool
-    ensures value { result ≡ begins_with_scheme target.now }
-    ensures long { IsTrue result → 7 ≤ length target.now }
-{
-    target.len() >= SCHEME.len() && target[..SCHEME.len()].eq_ignore_ascii_case(SCHEME)
-}
-
-fn ends_host(byte: u8) -> bool
-    ensures { result ≡ ends_host byte }
-{
-    byte == b'/' || byte == b'?'
-}
-
-fn host_len(rest: &[u8]) -> usize
-    ensures place { result ≡ position_or_len ends_host rest.now }
-    ensures within { result ≤ length rest.now }
-{
-    for (i, byte) in rest.iter().enumerate() {
-        if ends_host(*byte) {
-            return i;
-        }
-    }
-    rest.len()
-}
-
 /// The target without scheme and host, where it has one of the two forms.
 pub fn origin(target: &str) -> Option<&str>
     ensures { option_copied result ≡ origin_of target.now }
@@ -56,12 +22,6 @@ pub fn origin(target: &str) -> Option<&str>
         return None;
     }
     Some(&target[SCHEME.len() + host..])
-}
-
-fn or_root(path: &str) -> &str
-    ensures { result.now ≡ or_root path.now }
-{
-    if path.is_empty() { "/" } else { path }
 }
 
 /// What stands before the first `?`, or `/`.
@@ -82,4 +42,44 @@ pub fn query(origin: &str) -> Option<&str>
         Some((_, query)) => Some(query),
         None => None,
     }
+}
+
+fn begins_with_slash(target: &[u8]) -> bool
+    ensures { result ≡ begins_with_slash target.now }
+{
+    match target {
+        [byte, ..] => *byte == b'/',
+        [] => false,
+    }
+}
+
+fn begins_with_scheme(target: &[u8]) -> bool
+    ensures value { result ≡ begins_with_scheme target.now }
+    ensures long { IsTrue result → 7 ≤ length target.now }
+{
+    target.len() >= SCHEME.len() && target[..SCHEME.len()].eq_ignore_ascii_case(SCHEME)
+}
+
+fn host_len(rest: &[u8]) -> usize
+    ensures position { result ≡ position_or_len ends_host rest.now }
+    ensures within { result ≤ length rest.now }
+{
+    for (i, byte) in rest.iter().enumerate() {
+        if ends_host(*byte) {
+            return i;
+        }
+    }
+    rest.len()
+}
+
+fn ends_host(byte: u8) -> bool
+    ensures { result ≡ ends_host byte }
+{
+    byte == b'/' || byte == b'?'
+}
+
+fn or_root(path: &str) -> &str
+    ensures { result.now ≡ or_root path.now }
+{
+    if path.is_empty() { "/" } else { path }
 }

@@ -1,5 +1,5 @@
 use Rattle.std.proofs.Common.{◌≡◌, ◌∙◌, true}
-use Rattle.basis.specs.Numbers.{begins_plainly}
+use Rattle.basis.specs.Inner.Numbers.{begins_plainly}
 use Rattle.basis.proofs.NumberLemmas.{whole_parsed}
 use Rattle.basis.proofs.numbers.whole_number.Goals as goal
 

@@ -1,5 +1,5 @@
 use Rattle.form_urlencoded.specs.Parse.{pairs_left}
-use Rattle.route.specs.Pairs.{IsSoFar}
+use Rattle.route.specs.Inner.Pairs.{IsSoFar}
 use Rattle.route.proofs.queries.read_query.Given as goal
 
 abbrev pub invariant-loop-pair : goal.invariant-loop-pair

@@ -4,7 +4,7 @@ use Rattle.matchit.specs.Rows.{param_token}
 use Rattle.matchit.specs.Router.{nearest}
 use Rattle.matchit.specs.declared.error.InsertError.TheVariants.{OutOfMemory}
 use Rattle.matchit.proofs.OnLiterals.{matchit_on_literals}
-use Rattle.route.specs.Table.{in_any_org}
+use Rattle.route.specs.Inner.Table.{in_any_org}
 use Rattle.route.proofs.RouteLemmas.{only_memory, memory_alone}
 use Rattle.route.proofs.routes.make_router.Goals as goal
 

@@ -1,6 +1,6 @@
 use Rattle.std.proofs.Common.{◌≡◌, take}
 use Rattle.wire.specs.Fields.{has_value}
-use Rattle.wire.specs.Spans.{fields_at}
+use Rattle.wire.specs.Inner.Spans.{fields_at}
 use Rattle.wire.proofs.fields.has_value.Given as goal
 
 abbrev pub invariant-loop-field : goal.invariant-loop-field

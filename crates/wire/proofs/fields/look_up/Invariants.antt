@@ -1,6 +1,6 @@
 use Rattle.std.proofs.Common.{take}
 use Rattle.wire.specs.Fields.{values}
-use Rattle.wire.specs.Spans.{fields_at, LooksUp}
+use Rattle.wire.specs.Inner.Spans.{fields_at, LooksUp}
 use Rattle.wire.proofs.fields.look_up.Given as goal
 
 abbrev pub invariant-loop-field : goal.invariant-loop-field

@@ -1,4 +1,4 @@
-use Rattle.wire.specs.Spans.{parts_at}
+use Rattle.wire.specs.Inner.Spans.{parts_at}
 use Rattle.wire.proofs.FrameLemmas.{refuses_frame, refuses_chunks, refuses_length, takes_all}
 use Rattle.wire.proofs.framing.judge.Goals as goal
 

@@ -1,15 +1,15 @@
 use Rattle.std.proofs.Common.{◌≡◌, ◌-◌, ◌≤◌, ℕ, List, ◌++◌, length, false, None}
 use Rattle.std.specs.Io.KnownBytes.{Consumes}
 use Rattle.wire.specs.Heads.{head_len}
-use Rattle.wire.specs.Places.{len_past}
+use Rattle.wire.specs.Inner.Positions.{len_past}
 use Rattle.wire.proofs.heads.read_head.Given as goal
 
 abbrev pub invariant-reading : goal.invariant-reading
 invariant-reading g l = record {
   sound : g.I.Inlet.broken l.inlet ≡ false;
-  came : Consumes (g.I.Inlet.left l.initial.inlet) (g.I.Inlet.left l.inlet) l.bytes.items;
+  received : Consumes (g.I.Inlet.left l.initial.inlet) (g.I.Inlet.left l.inlet) l.bytes.items;
   short : length l.bytes.items ≤ 16_384;
-  goes : (more : List ℕ) → head_len (l.bytes.items ++ more) ≡ len_past None (length l.bytes.items) l.place more;
+  goes : (more : List ℕ) → head_len (l.bytes.items ++ more) ≡ len_past None (length l.bytes.items) l.position more;
 }
 
 abbrev pub decreases-reading : goal.decreases-reading

@@ -7,7 +7,7 @@ use Rattle.wire.proofs.ExistenceLemmas.{reading_open, reading_late, reading_whol
 use Rattle.wire.proofs.laws.some_reading.Goals as goal
 
 pub returns-in_default : goal.returns-in_default
-returns-in_default c = reading_open c.args.bytes.now (passes_none c.args.bytes.now c.end_in.new.place c.in_default.ensures.end)
+returns-in_default c = reading_open c.args.bytes.now (passes_none c.args.bytes.now c.end_in.new.position c.in_default.ensures.end)
 
 pub returns-then-len-gt-MAX_HEAD : goal.returns-then-len-gt-MAX_HEAD
 returns-then-len-gt-MAX_HEAD c =

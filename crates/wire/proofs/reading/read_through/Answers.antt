@@ -7,8 +7,8 @@ pub returns-in-Ok-clause-answer : goal.returns-in-Ok-clause-answer
 returns-in-Ok-clause-answer g c =
     let found = c.in-Ok.ensures.found in
     let more = c.read_on.ensures.answer in
-    let C : List ℕ → Type 0 = λ came. Consumes (g.I.Inlet.left c.args.inlet.now) (g.I.Inlet.left c.read_head.new.inlet) came in (
-      c.in-Ok.heading.bytes ++ more.0,
-      Consumes-then _ _ _ c.in-Ok.heading.bytes more.0 (subst C (sym found.2.0) found.1) more.1,
+    let C : List ℕ → Type 0 = λ received. Consumes (g.I.Inlet.left c.args.inlet.now) (g.I.Inlet.left c.read_head.new.inlet) received in (
+      c.in-Ok.received_head.bytes ++ more.0,
+      Consumes-then _ _ _ c.in-Ok.received_head.bytes more.0 (subst C (sym found.2.0) found.1) more.1,
       more.2,
     )

@@ -5,7 +5,7 @@ use Rattle.wire.proofs.sending.write_all.Given as goal
 abbrev pub invariant-writing : goal.invariant-writing
 invariant-writing g l = record {
   sound : g.O.Outlet.broken l.outlet ≡ false;
-  done : (front : List ℕ) × (l.piece ≡ front ++ l.rest) × Appends (g.O.Outlet.written l.initial.outlet) (g.O.Outlet.written l.outlet) front;
+  done : (prefix : List ℕ) × (l.piece ≡ prefix ++ l.rest) × Appends (g.O.Outlet.written l.initial.outlet) (g.O.Outlet.written l.outlet) prefix;
 }
 
 abbrev pub decreases-writing : goal.decreases-writing

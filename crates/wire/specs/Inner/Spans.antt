@@ -11,7 +11,7 @@ use Rattle.wire.specs.declared.framing.FrameFault.TheVariants.{Refused, Down}
 use Rattle.wire.specs.declared.framing.Length.{Length}
 use Rattle.wire.specs.declared.framing.Length.TheVariants.{Refuses, Of}
 use Rattle.wire.specs.Fields.{Fields}
-use Rattle.wire.specs.Framing.{Parts, Verdict, refuses, takes, IsJudged, judged, is_length, length_refusal, length_written}
+use Rattle.wire.specs.Framing.{Parts, Verdict, refuses, accepts, IsJudged, judged, is_length, length_refusal, length_written}
 
 -- the fields that the spans cover
 abbrev pub fields_at : List ℕ → List HeaderSpan → Fields
@@ -39,7 +39,7 @@ abbrev pub parts_at : List ℕ → List ℕ → ℕ → List ℕ → List Header
 parts_at method target minor head spans = record { method = method; target = target; minor = minor; fields = fields_at head spans }
 
 abbrev pub verdict_by : Result Frame FrameFault → Option Verdict
-verdict_by (Ok frame) = Some (takes frame)
+verdict_by (Ok frame) = Some (accepts frame)
 verdict_by (Err (Refused refusal is_head)) = Some (refuses refusal is_head)
 verdict_by (Err Down) = None
 

@@ -1,13 +1,13 @@
--- What a path names, by its parts between slashes. No part is percent-decoded.
+-- The resource that a path names, by its parts between slashes. No part is percent-decoded.
 use Rattle.std.specs.Prelude.{ℕ, ◌&&◌, ◌==◌, if◌then◌else◌, List, [], ◌∷◌, Option, Some, None, codes, bytes_eq, option_map, option_and_then}
 use Rattle.basis.specs.Names.{is_org_name, is_ws_name}
 use Rattle.basis.specs.Numbers.{number_of}
 use Rattle.basis.specs.declared.runs.RunAction.{RunAction}
 use Rattle.basis.specs.declared.runs.RunAction.TheVariants.{ReportPlanned, ReportUnchanged, Fail, Confirm, ReportApplied, Discard, Cancel}
 use Rattle.basis.specs.Runs.{action_word}
-use Rattle.route.specs.declared.places.Target.{Target}
-use Rattle.route.specs.declared.places.Target.TheVariants.{AllWorkspaces, Workspace, State, AllVersions, Version, AllRuns, Run, Action}
-use Rattle.route.specs.declared.places.Place.{Place}
+use Rattle.route.specs.declared.paths.Resource.{Resource}
+use Rattle.route.specs.declared.paths.Resource.TheVariants.{AllWorkspaces, Workspace, State, AllVersions, Version, AllRuns, Run, Action}
+use Rattle.route.specs.declared.paths.OrgResource.{OrgResource}
 
 -- the byte joins the first part
 abbrev pub onto_first : ℕ → List (List ℕ) → List (List ℕ)
@@ -32,7 +32,7 @@ action_of word =
     else None))))))
 
 -- what a word says of a workspace
-abbrev pub of_workspace : List ℕ → List ℕ → Option Target
+abbrev pub of_workspace : List ℕ → List ℕ → Option Resource
 of_workspace word ws =
     if bytes_eq word (codes "workspaces") then Some (Workspace ws)
     else (if bytes_eq word (codes "state") then Some (State ws)
@@ -41,19 +41,19 @@ of_workspace word ws =
     else None)))
 
 -- what a word says of a workspace and a number
-abbrev pub of_number : List ℕ → List ℕ → ℕ → Option Target
+abbrev pub of_number : List ℕ → List ℕ → ℕ → Option Resource
 of_number word ws number =
     if bytes_eq word (codes "versions") then Some (Version ws number)
     else (if bytes_eq word (codes "runs") then Some (Run ws number)
     else None)
 
 -- what a word says of a workspace, a number and an action
-abbrev pub of_action : List ℕ → List ℕ → List ℕ → ℕ → RunAction → Option Target
+abbrev pub of_action : List ℕ → List ℕ → List ℕ → ℕ → RunAction → Option Resource
 of_action word actions ws number action =
     if bytes_eq word (codes "runs") && bytes_eq actions (codes "actions") then Some (Action ws number action) else None
 
 -- the parts after a workspace's name
-abbrev pub after_workspace : List ℕ → List ℕ → List (List ℕ) → Option Target
+abbrev pub after_workspace : List ℕ → List ℕ → List (List ℕ) → Option Resource
 after_workspace word ws [] = of_workspace word ws
 after_workspace word ws (n ∷ []) = option_and_then (of_number word ws) (number_of n)
 after_workspace word ws (n ∷ actions ∷ []) = None
@@ -62,23 +62,23 @@ after_workspace word ws (n ∷ actions ∷ action ∷ []) =
 after_workspace word ws (n ∷ actions ∷ action ∷ more ∷ parts) = None
 
 -- the parts after an organization's name
-abbrev pub after_org : List (List ℕ) → Option Target
+abbrev pub after_org : List (List ℕ) → Option Resource
 after_org [] = None
 after_org (word ∷ []) = if bytes_eq word (codes "workspaces") then Some AllWorkspaces else None
 after_org (word ∷ ws ∷ parts) = if is_ws_name ws then after_workspace word ws parts else None
 
--- a target in an organization
-abbrev pub in_org : List ℕ → Target → Place
-in_org org target = record { org = org; target = target }
+-- a resource in an organization
+abbrev pub in_org : List ℕ → Resource → OrgResource
+in_org org resource = record { org = org; resource = resource }
 
 -- what the parts of a path name: `/v1/`, an organization's name, and what is in it
-abbrev pub place_at : List (List ℕ) → Option Place
-place_at (root ∷ version ∷ org ∷ parts) =
+abbrev pub resource_at : List (List ℕ) → Option OrgResource
+resource_at (root ∷ version ∷ org ∷ parts) =
     if bytes_eq root [] && bytes_eq version (codes "v1") && is_org_name org then option_map (in_org org) (after_org parts) else None
-place_at [] = None
-place_at (root ∷ []) = None
-place_at (root ∷ version ∷ []) = None
+resource_at [] = None
+resource_at (root ∷ []) = None
+resource_at (root ∷ version ∷ []) = None
 
 -- what a path names, or none where it is no route
-abbrev pub place_of : List ℕ → Option Place
-place_of path = place_at (parts_of path)
+abbrev pub resource_of : List ℕ → Option OrgResource
+resource_of path = resource_at (parts_of path)

@@ -3,19 +3,19 @@ use Rattle.std.specs.Prelude.{◌≡◌, ℕ, Bool, ◌&&◌, List, [], ◌∷�
 use Rattle.route.specs.declared.queries.Query.{Query}
 use Rattle.route.specs.Queries.{token_key, id_key, after_key, value_if, values_in, values, is_single}
 
--- the values that a place holds
+-- the values that are found so far
 abbrev pub held : Option (List ℕ) → List (List ℕ)
 held None = []
 held (Some text) = text ∷ []
 
--- the places with one more pair each hold at most one value
+-- with one more pair no key has two values
 abbrev pub has_room : List ℕ → List ℕ → Query → Bool
 has_room name value found =
     is_single (held found.token ++ value_if token_key name value) && is_single (held found.id ++ value_if id_key name value)
     && is_single (held found.after ++ value_if after_key name value)
 
--- the places hold one more pair
-pub record Takes (name value : List ℕ) (old new : Query) : Type 0 where
+-- one more pair is found
+pub record AddsPair (name value : List ℕ) (old new : Query) : Type 0 where
   pub token : held new.token ≡ held old.token ++ value_if token_key name value
   pub id : held new.id ≡ held old.id ++ value_if id_key name value
   pub after : held new.after ≡ held old.after ++ value_if after_key name value
