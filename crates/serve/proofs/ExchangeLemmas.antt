@@ -12,10 +12,10 @@ use Rattle.wire.specs.declared.messages.Message.{Message}
 use Rattle.wire.specs.declared.messages.WireFault.{WireFault}
 use Rattle.wire.specs.declared.messages.WireFault.TheVariants.{Refused, Down, Ended, Read, Continue}
 use Rattle.wire.specs.declared.framing.Frame.{Frame}
-use Rattle.wire.specs.Heads.{Front, Unfinished, Long, Whole, front_of}
-use Rattle.wire.specs.Framing.{Verdict, refuses, takes, IsJudged}
-use Rattle.wire.specs.Messages.{Reading, Reads, ReadsBy, unfinished, refused, whole, message_of, reading_by, IsDue, IsDueBy}
-use Rattle.wire.specs.Links.{Answers, continue_if, continue_text, Stops, Writes, WritesDue}
+use Rattle.wire.specs.Heads.{HeadEnd, Unfinished, Long, Whole, head_end_of}
+use Rattle.wire.specs.Framing.{Verdict, refuses, accepts, IsJudged}
+use Rattle.wire.specs.Messages.{Reading, Reads, ReadsBy, unfinished, refused, whole, framed_message, reading_by, AwaitsContinue, AwaitsContinueBy}
+use Rattle.wire.specs.Links.{ReportsReceived, continue_if, continue_text, WritesPrefix, Writes, WritesContinue}
 use Rattle.wire.specs.Replies.{Answer, IsReplyText, refused_answer, unavailable_answer}
 use Rattle.serve.specs.Asks.{Ask, Owner, organization, nobody, operator, silent, requests, commands, owner_of}
 use Rattle.serve.specs.Asks as ask
@@ -71,10 +71,10 @@ stayed_one old new stays = ([], (λ other apart. stays other))
 pub served_reply : (now : ℕ) (came : List ℕ) (left before after : Option (List ℕ)) (message : Message) (read : Result Message WireFault) (old new : List ℕ → Option Organization) (reply : Answer)
     → read ≡ Ok message
     → ((due : Bool) → Carries (asked_by now due message (asked_of message)) old new × (said_to old (asked_by now due message (asked_of message)) ≡ replies due now reply))
-    → Answers came left before after read
+    → ReportsReceived came left before after read
     → (due : Bool) × Appends before after (continue_if due) × ((text : List ℕ) → IsReplyText reply now text → IsAnswered now came old new due text)
 served_reply now came left before after message read old new reply is h told =
-    let t : (due : Bool) × Reads came (whole message due) × Appends before after (continue_if due) = subst (λ (r : Result Message WireFault). Answers came left before after r) is told in (
+    let t : (due : Bool) × Reads came (whole message due) × Appends before after (continue_if due) = subst (λ (r : Result Message WireFault). ReportsReceived came left before after r) is told in (
       t.0,
       t.2,
       (λ text is_text. inl (record {
@@ -88,21 +88,21 @@ served_reply now came left before after message read old new reply is h told =
     )
 
 -- where a message's reading says that the 100 line is due, it is
-due_by_rest : (frame : Frame) (rest : List ℕ) (message : Message) (b : Bool) → whole message true ≡ (cond b (whole (message_of frame (take frame.body_len rest)) frame.is_due) unfinished) → IsTrue frame.is_due
-due_by_rest frame rest message true e = let is : true ≡ frame.is_due = cc in sym is
+due_by_rest : (frame : Frame) (rest : List ℕ) (message : Message) (b : Bool) → whole message true ≡ (cond b (whole (framed_message frame (take frame.body_len rest)) frame.awaits_continue) unfinished) → IsTrue frame.awaits_continue
+due_by_rest frame rest message true e = let is : true ≡ frame.awaits_continue = cc in sym is
 due_by_rest frame rest message false e = absurd (let none : ⊥ = cc in none)
 
-due_by : (front : Front) (bytes : List ℕ) (message : Message) → ReadsBy front bytes (whole message true) → IsDueBy front bytes
+due_by : (front : HeadEnd) (bytes : List ℕ) (message : Message) → ReadsBy front bytes (whole message true) → AwaitsContinueBy front bytes
 due_by Unfinished bytes message e = absurd (let none : ⊥ = cc in none)
 due_by Long bytes message e = absurd (let none : ⊥ = cc in none)
 due_by (Whole n) bytes message (refuses refusal head, judged, e) = absurd (let none : ⊥ = cc in none)
-due_by (Whole n) bytes message (takes frame, judged, e) = (frame, judged, due_by_rest frame (drop n bytes) message (nat_le frame.body_len (length (drop n bytes))) e)
+due_by (Whole n) bytes message (accepts frame, judged, e) = (frame, judged, due_by_rest frame (drop n bytes) message (nat_le frame.body_len (length (drop n bytes))) e)
 
-due_is : (bytes : List ℕ) (message : Message) (due : Bool) → Reads bytes (whole message due) → IsTrue due → IsDue bytes
-due_is bytes message due reads is = due_by (front_of bytes) bytes message (subst (λ (d : Bool). Reads bytes (whole message d)) is reads)
+due_is : (bytes : List ℕ) (message : Message) (due : Bool) → Reads bytes (whole message due) → IsTrue due → AwaitsContinue bytes
+due_is bytes message due reads is = due_by (head_end_of bytes) bytes message (subst (λ (d : Bool). Reads bytes (whole message d)) is reads)
 
 unavailable_by : (now : ℕ) (came : List ℕ) (before after : Option (List ℕ)) (due without_body : Bool) (old new : List ℕ → Option Organization) (reply : Answer)
-    → Appends before after (continue_if due) → (IsTrue due → IsDue came) → (IsTrue without_body → IsHead came) → Stays old new → reply ≡ unavailable_answer without_body
+    → Appends before after (continue_if due) → (IsTrue due → AwaitsContinue came) → (IsTrue without_body → IsHead came) → Stays old new → reply ≡ unavailable_answer without_body
     → (due : Bool) × Appends before after (continue_if due) × ((text : List ℕ) → IsReplyText reply now text → IsAnswered now came old new due text)
 unavailable_by now came before after due without_body old new reply appends is_due head stays is = (
   due,
@@ -118,10 +118,10 @@ unavailable_by now came before after due without_body old new reply appends is_d
 
 pub unavailable_message : (now : ℕ) (came : List ℕ) (left before after : Option (List ℕ)) (message : Message) (read : Result Message WireFault) (without_body : Bool) (old new : List ℕ → Option Organization) (reply : Answer)
     → read ≡ Ok message → without_body ≡ is_head message → Stays old new → reply ≡ unavailable_answer without_body
-    → Answers came left before after read
+    → ReportsReceived came left before after read
     → (due : Bool) × Appends before after (continue_if due) × ((text : List ℕ) → IsReplyText reply now text → IsAnswered now came old new due text)
 unavailable_message now came left before after message read without_body old new reply is head stays made told =
-    let t : (due : Bool) × Reads came (whole message due) × Appends before after (continue_if due) = subst (λ (r : Result Message WireFault). Answers came left before after r) is told in
+    let t : (due : Bool) × Reads came (whole message due) × Appends before after (continue_if due) = subst (λ (r : Result Message WireFault). ReportsReceived came left before after r) is told in
     unavailable_by now came before after t.0 without_body old new reply t.2 (due_is came message t.0 t.1) (λ e. inl (message, t.0, t.1, sym head ∙ e)) stays made
 
 never : {A : Type 0} → IsTrue false → A
@@ -131,7 +131,7 @@ pub refused_message : (refusal : Refusal) (is_head : Bool) (fault : WireFault) (
     → fault ≡ Refused refusal is_head → reply ≡ refused_answer refusal (error_text refusal) is_head
     → (now : ℕ) (rows : List ℕ → Option Organization) → RepliesTo now (Err fault) rows rows reply
 refused_message refusal is_head fault reply is made now rows came left before after told =
-    let t : Reads came (refused refusal is_head) × Appends before after [] = subst (λ (f : WireFault). Answers came left before after (Err f)) is told in (
+    let t : Reads came (refused refusal is_head) × Appends before after [] = subst (λ (f : WireFault). ReportsReceived came left before after (Err f)) is told in (
       false,
       t.1,
       (λ text is_text. inl (record {
@@ -148,14 +148,14 @@ pub unavailable_refusal : (refusal : Refusal) (is_head : Bool) (fault : WireFaul
     → fault ≡ Refused refusal is_head → reply ≡ unavailable_answer is_head
     → (now : ℕ) (rows : List ℕ → Option Organization) → RepliesTo now (Err fault) rows rows reply
 unavailable_refusal refusal is_head fault reply is made now rows came left before after told =
-    let t : Reads came (refused refusal is_head) × Appends before after [] = subst (λ (f : WireFault). Answers came left before after (Err f)) is told in
+    let t : Reads came (refused refusal is_head) × Appends before after [] = subst (λ (f : WireFault). ReportsReceived came left before after (Err f)) is told in
     unavailable_by now came before after false is_head rows rows reply t.1 never
     (λ e. inr (refusal, subst (λ (b : Bool). Reads came (refused refusal b)) e t.0)) (λ org. refl) made
 
 pub unavailable_reading : (fault : WireFault) (reply : Answer) → fault ≡ Down → reply ≡ unavailable_answer false
     → (now : ℕ) (rows : List ℕ → Option Organization) → RepliesTo now (Err fault) rows rows reply
 unavailable_reading fault reply is made now rows came left before after told =
-    let t : Appends before after [] = subst (λ (f : WireFault). Answers came left before after (Err f)) is told in
+    let t : Appends before after [] = subst (λ (f : WireFault). ReportsReceived came left before after (Err f)) is told in
     unavailable_by now came before after false false rows rows reply t never never (λ org. refl) made
 
 -- two pieces written one after the other
@@ -171,7 +171,7 @@ Came old new P = (came : List ℕ) × Consumes old new came × P came
 
 -- the whole reply is written
 pub all_written : (unread left : Option (List ℕ)) (now : ℕ) (read : Result Message WireFault) (old new : List ℕ → Option Organization) (reply : Answer) (a b c : Option (List ℕ))
-    → Came unread left (λ came. Answers came left a b read) → RepliesTo now read old new reply
+    → Came unread left (λ came. ReportsReceived came left a b read) → RepliesTo now read old new reply
     → (text : List ℕ) × IsReplyText reply now text × Appends b c text
     → Came unread left (λ came. (due : Bool) × (text : List ℕ) × IsAnswered now came old new due text × Appends a c (continue_if due ++ text))
 all_written unread left now read old new reply a b c told answered h =
@@ -180,8 +180,8 @@ all_written unread left now read old new reply a b c told answered h =
 
 -- a part of it
 pub part_written : (unread left : Option (List ℕ)) (now : ℕ) (read : Result Message WireFault) (old new : List ℕ → Option Organization) (reply : Answer) (a b c : Option (List ℕ))
-    → Came unread left (λ came. Answers came left a b read) → RepliesTo now read old new reply
-    → (text : List ℕ) × IsReplyText reply now text × Stops b c text
+    → Came unread left (λ came. ReportsReceived came left a b read) → RepliesTo now read old new reply
+    → (text : List ℕ) × IsReplyText reply now text × WritesPrefix b c text
     → Came unread left (λ came. (due : Bool) × (part : List ℕ) × (rest : List ℕ) × (0 < length rest) × IsAnswered now came old new due (part ++ rest) × Appends a c (continue_if due ++ part))
 part_written unread left now read old new reply a b c told answered h =
     let r = answered told.0 left a b told.2 in
@@ -190,15 +190,15 @@ part_written unread left now read old new reply a b c told answered h =
 
 -- no reply: what came is unfinished, or the 100 line wasn't taken
 pub no_reply : (unread left : Option (List ℕ)) (now : ℕ) (read : Result Message WireFault) (old new : List ℕ → Option Organization) (a b : Option (List ℕ)) (fault : LinkFault)
-    → Came unread left (λ came. Answers came left a b read) → fault ≢ LinkWrite
+    → Came unread left (λ came. ReportsReceived came left a b read) → fault ≢ LinkWrite
     → (fault ≡ LinkEnded → read ≡ Err Ended) → (fault ≡ LinkRead → read ≡ Err Read) → (fault ≡ LinkContinue → read ≡ Err Continue)
     → Came unread left (λ came. Exchanges now came left old new a b {T = Unit {0}} (Err fault))
 no_reply unread left now read old new a b LinkEnded told write ended failed continued =
-    (told.0, told.1, subst (λ (r : Result Message WireFault). Answers told.0 left a b r) (ended refl) told.2)
+    (told.0, told.1, subst (λ (r : Result Message WireFault). ReportsReceived told.0 left a b r) (ended refl) told.2)
 no_reply unread left now read old new a b LinkRead told write ended failed continued =
-    (told.0, told.1, subst (λ (r : Result Message WireFault). Answers told.0 left a b r) (failed refl) told.2)
+    (told.0, told.1, subst (λ (r : Result Message WireFault). ReportsReceived told.0 left a b r) (failed refl) told.2)
 no_reply unread left now read old new a b LinkContinue told write ended failed continued =
-    (told.0, told.1, subst (λ (r : Result Message WireFault). Answers told.0 left a b r) (continued refl) told.2)
+    (told.0, told.1, subst (λ (r : Result Message WireFault). ReportsReceived told.0 left a b r) (continued refl) told.2)
 no_reply unread left now read old new a b LinkWrite told write ended failed continued = absurd (write refl)
 
 -- no memory at all: nothing is read, and the refusal is written

@@ -4,8 +4,8 @@ use Rattle.std.specs.Io.KnownBytes.{Appends, IsAtEnd}
 use Rattle.basis.specs.declared.refusals.Refusal.{Refusal}
 use Rattle.machine.specs.declared.records.Organization.{Organization}
 use Rattle.wire.specs.declared.messages.Message.{Message}
-use Rattle.wire.specs.Messages.{Reads, unfinished, refused, whole, IsDue}
-use Rattle.wire.specs.Links.{continue_if, continue_text, Stops, WritesDue}
+use Rattle.wire.specs.Messages.{Reads, unfinished, refused, whole, AwaitsContinue}
+use Rattle.wire.specs.Links.{continue_if, continue_text, WritesPrefix, WritesContinue}
 use Rattle.wire.specs.Replies.{Answer, IsReplyText, unavailable_answer}
 use Rattle.serve.specs.Asks.{Ask}
 use Rattle.serve.specs.Steps.{replies}
@@ -30,7 +30,7 @@ IsHead came = ((message : Message) × (due : Bool) × Reads came (whole message 
 -- due, and the body is left out only where the method is HEAD
 pub record IsUnavailable (now : ℕ) (came : List ℕ) (old new : List ℕ → Option Organization) (due : Bool) (text : List ℕ) : Type 0 where
   pub stays : Stays old new
-  pub is_due : IsTrue due → IsDue came
+  pub is_due : IsTrue due → AwaitsContinue came
   pub without_body : Bool
   pub is_head : IsTrue without_body → IsHead came
   pub is : IsReplyText (unavailable_answer without_body) now text
@@ -43,9 +43,9 @@ IsAnswered now came old new due text = IsServed now came old new due text ⊎ Is
 abbrev pub Exchanges : ℕ → List ℕ → Option (List ℕ) → (List ℕ → Option Organization) → (List ℕ → Option Organization) → Option (List ℕ) → Option (List ℕ) → {T : Type 0} → Result T LinkFault → Type 0
 Exchanges now came left old new before after (Ok done) =
     (due : Bool) × (text : List ℕ) × IsAnswered now came old new due text × Appends before after (continue_if due ++ text)
-Exchanges now came left old new before after (Err Ended) = Reads came unfinished × IsAtEnd left × WritesDue came before after
-Exchanges now came left old new before after (Err Read) = Reads came unfinished × WritesDue came before after
-Exchanges now came left old new before after (Err Continue) = IsDue came × Stops before after continue_text
+Exchanges now came left old new before after (Err Ended) = Reads came unfinished × IsAtEnd left × WritesContinue came before after
+Exchanges now came left old new before after (Err Read) = Reads came unfinished × WritesContinue came before after
+Exchanges now came left old new before after (Err Continue) = AwaitsContinue came × WritesPrefix before after continue_text
 Exchanges now came left old new before after (Err Write) =
     (due : Bool) × (part : List ℕ) × (rest : List ℕ) × (0 < length rest) × IsAnswered now came old new due (part ++ rest) × Appends before after (continue_if due ++ part)
 

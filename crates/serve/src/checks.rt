@@ -1,7 +1,7 @@
 //! The checks of a request from the token on, each by itself.
 ghost use Rattle.std.specs.Prelude.{◌≡◌, ℕ, List, IsSome, is_some, IfOk, Ok};
 ghost use Rattle.std.specs.FinMap.{get};
-ghost use Rattle.basis.specs.Checks.{Follows};
+ghost use Rattle.basis.specs.Inner.Checks.{Follows};
 ghost use Rattle.basis.specs.declared.refusals.Refusal.TheVariants.{BadBody, BadLock, BadState};
 ghost use Rattle.docs.specs.Documents.{settings_of, state_head, lock_id_of};
 ghost use Rattle.machine.specs.Keeping.{Looks};

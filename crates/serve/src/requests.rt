@@ -1,6 +1,6 @@
 //! A request of an organization: the checks in their order, and the answer of the rules.
 ghost use Rattle.std.specs.Prelude.{◌≡◌, ◌≢◌, ℕ, List, [], Option, Some, None, Ok, IsSome, IfOk, OnOk, option_map};
-ghost use Rattle.basis.specs.Checks.{Follows};
+ghost use Rattle.basis.specs.Inner.Checks.{Follows};
 ghost use Rattle.docs.specs.Bodies.{error_text, ws_text};
 ghost use Rattle.machine.specs.Keeping.{Looks};
 ghost use Rattle.machine.specs.Laws.{IsLawfulOrganization};

@@ -4,7 +4,7 @@ use Rattle.std.specs.Io.KnownBytes.{Appends}
 use Rattle.machine.specs.declared.records.Organization.{Organization}
 use Rattle.wire.specs.declared.messages.Message.{Message}
 use Rattle.wire.specs.declared.messages.WireFault.{WireFault}
-use Rattle.wire.specs.Links.{Answers, continue_if}
+use Rattle.wire.specs.Links.{ReportsReceived, continue_if}
 use Rattle.wire.specs.Replies.{Answer, IsReplyText}
 use Rattle.serve.specs.Exchanges.{IsAnswered}
 use Rattle.serve.specs.declared.exchanges.LinkFault.{LinkFault}
@@ -12,7 +12,7 @@ use Rattle.serve.specs.declared.exchanges.LinkFault.TheVariants.{Write}
 
 -- the reply to what was read
 abbrev pub RepliesTo : ℕ → Result Message WireFault → (List ℕ → Option Organization) → (List ℕ → Option Organization) → Answer → Type 0
-RepliesTo now read old new reply = (came : List ℕ) (left before after : Option (List ℕ)) → Answers came left before after read
+RepliesTo now read old new reply = (came : List ℕ) (left before after : Option (List ℕ)) → ReportsReceived came left before after read
     → (due : Bool) × Appends before after (continue_if due) × ((text : List ℕ) → IsReplyText reply now text → IsAnswered now came old new due text)
 
 -- a reply that was written, or not whole
