@@ -10,7 +10,7 @@ ghost use Rattle.machine.specs.Units.{unit_of};
 ghost use Rattle.machine.specs.declared.acts.Act.{Act as AnyAct};
 ghost use Rattle.machine.specs.declared.acts.Act.TheVariants.{PutWorkspace, UpdateState, PurgeState, Lock, Unlock};
 ghost use Rattle.machine.specs.declared.records.Organization.{Organization};
-ghost use Rattle.serve.specs.Checks.{in_reach, makes, is_served, is_found, found, found_if, place, fits, digest_checked, spelt, act_of};
+ghost use Rattle.serve.specs.Checks.{require, in_reach, makes, is_served, is_found, found, found_if, place, fits, digest_checked, spelt, act_of};
 ghost use Rattle.serve.specs.Inner.Prepared.{known_role};
 
 use crate::prepared::Place;
@@ -33,16 +33,18 @@ pub fn known_caller<K: Keep>(alloc: Global, keep: &mut K, asked: &Asked) -> Resu
     }
 }
 
-/// Whether what is asked is in the caller's reach.
+/// Whether what is asked is in the caller's reach. What isn't is told as what isn't there.
 pub fn in_reach(asked: &Asked) -> Result<(), Refusal>
     ensures { result ≡ in_reach asked.now }
 {
-    if asked.org.as_str() == asked.caller.as_str() {
-        Ok(())
-    } else {
-        // Told as what isn't there.
-        Err(Refusal::NotFound)
-    }
+    let is_own = asked.org.as_str() == asked.caller.as_str();
+    require(is_own, Refusal::NotFound)
+}
+
+fn require(holds: bool, refusal: Refusal) -> Result<(), Refusal>
+    ensures { result ≡ require refusal holds }
+{
+    if holds { Ok(()) } else { Err(refusal) }
 }
 
 fn makes(act: WsAct) -> bool
@@ -153,11 +155,8 @@ fn fits(digest: &Option<Bytes>, body: &Bytes) -> bool
 pub fn digest_checked(digest: &Option<Bytes>, body: &Bytes) -> Result<(), Refusal>
     ensures { result ≡ digest_checked digest.now body.now }
 {
-    if fits(digest, body) {
-        Ok(())
-    } else {
-        Err(Refusal::BadDigest)
-    }
+    let is_fit = fits(digest, body);
+    require(is_fit, Refusal::BadDigest)
 }
 
 fn read_put(alloc: Global, body: &Bytes) -> Result<Act, Refusal>
