@@ -305,7 +305,7 @@ ROWS = [
     ),
     (
         "messages",
-        "Messages that are cut, too large, without a length or without Host; the 100 line.",
+        "Messages that are cut, too large, without a length or without Host; `100 Continue`.",
         [
             told("\r\n".join([GET_NET, "Host: c", BEARER]) + "\r\n\r", ""),
             sized(["Content-Length: 4194305"], "", (413, "too-large")),

@@ -8,11 +8,11 @@ use basis::{Bytes, Down, Unfit};
 use serve::Step;
 use std::alloc::Global;
 
-/// The steps of the frames up to the first that doesn't read.
+/// The steps of the frames up to the first that doesn't parse.
 #[derive(Drop)]
 pub struct Frames {
     pub steps: Vec<Step>,
-    /// Whether a frame follows that doesn't read.
+    /// Whether a frame follows that doesn't parse.
     pub is_bad: bool,
 }
 
@@ -53,7 +53,7 @@ fn read_frame(alloc: Global, bytes: &[u8]) -> Result<(Step, &[u8]), Unfit>
     read_step(alloc, heading, rest)
 }
 
-/// Reads frames up to the first that doesn't read. It has the place `steps.len() + 1`, from 1 on.
+/// Reads frames up to the first that doesn't parse. It has the place `steps.len() + 1`, from 1 on.
 pub fn read_frames(alloc: Global, bytes: &[u8]) -> Result<Frames, Down>
     ensures frames { IfOk result (λ frames. AreFrames bytes.now frames.steps.items frames.is_bad) }
     ensures only { IfOk result (λ frames. IsOnlyReading bytes.now frames.steps.items frames.is_bad) }

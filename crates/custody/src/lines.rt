@@ -10,7 +10,7 @@ pub const MAX_LINE: usize = 4096;
 
 fn part_at(bytes: &[u8], end: usize) -> (&[u8], &[u8])
     requires { end < length bytes.now }
-    ensures front { result.0.now ≡ take end bytes.now }
+    ensures before { result.0.now ≡ take end bytes.now }
     ensures rest { result.1.now ≡ drop (suc end) bytes.now }
 {
     let (front, rest) = bytes.split_at(end);

@@ -1,7 +1,7 @@
 //! The command `replay`: frames from one stream, replies to another.
 ghost use Rattle.std.specs.Prelude.{◌≡◌, ◌⊎◌, codes, true, false, IfSome, IfOk, OnOk};
 ghost use Rattle.std.specs.Io.KnownBytes.{Appends};
-ghost use Rattle.custody.specs.Replies.{printed, answer_line, AreReplies, Answers, Replays};
+ghost use Rattle.custody.specs.Replies.{printed, answer_line, AreReplies, AnswersFrames, Replays};
 
 use crate::frames::read_frames;
 use crate::replies::{print_answer, print_bad_frame, print_replies};
@@ -15,7 +15,7 @@ use std::io::{Read, Write};
 /// The exit status of a replay to its last frame.
 pub const DONE: u8 = 0;
 
-/// The exit status where a frame doesn't read.
+/// The exit status where a frame doesn't parse.
 pub const BAD_FRAME: u8 = 2;
 
 /// The exit status where the words don't read.
@@ -24,7 +24,7 @@ pub const USAGE: u8 = 2;
 /// The exit status where memory, standard input or standard output failed.
 pub const DOWN: u8 = 3;
 
-// The replies, and the place of the frame behind them that doesn't read.
+// The replies, and the place of the frame behind them that doesn't parse.
 #[derive(Drop)]
 struct Replay {
     replies: Vec<Bytes>,
@@ -51,7 +51,7 @@ fn read_all<I: Read>(alloc: Global, input: &mut I) -> Result<Vec<u8>, Down>
 }
 
 fn answer(alloc: Global, bytes: &[u8]) -> Result<Replay, Down>
-    ensures { IfOk result (λ replay. Answers bytes.now replay.replies.items replay.bad_frame) }
+    ensures { IfOk result (λ replay. AnswersFrames bytes.now replay.replies.items replay.bad_frame) }
 {
     let frames = read_frames(alloc, bytes)?;
     let replies = replayed(alloc, frames.steps.as_slice())?;
@@ -64,7 +64,7 @@ fn answer(alloc: Global, bytes: &[u8]) -> Result<Replay, Down>
 }
 
 fn answer_input<I: Read>(alloc: Global, input: &mut I) -> Result<Replay, Down>
-    ensures { IfOk result (λ replay. IfSome (I.remaining input.old) (λ bytes. Answers bytes replay.replies.items replay.bad_frame)) }
+    ensures { IfOk result (λ replay. IfSome (I.remaining input.old) (λ bytes. AnswersFrames bytes replay.replies.items replay.bad_frame)) }
 {
     let bytes = read_all(alloc, input)?;
     answer(alloc, bytes.as_slice())
@@ -96,7 +96,7 @@ pub fn refuse_usage<O: Write>(output: &mut O) -> u8
     }
 }
 
-/// Reads frames up to the first that doesn't read, replays them and prints the replies. The result
+/// Reads frames up to the first that doesn't parse, replays them and prints the replies. The result
 /// is the exit status.
 pub fn run_frames<I: Read, O: Write, E: Write>(
     alloc: Global,

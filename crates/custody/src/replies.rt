@@ -1,14 +1,14 @@
 //! What `replay` prints.
 ghost use Rattle.std.specs.Prelude.{◌≡◌, OnOk};
 ghost use Rattle.std.specs.Io.KnownBytes.{Appends};
-ghost use Rattle.custody.specs.Replies.{reply_text, printed, bad_frame_text, answer_line};
+ghost use Rattle.custody.specs.Replies.{reply_frame, printed, bad_frame_text, answer_line};
 
 use basis::Bytes;
 use std::io;
 use std::io::Write;
 
 fn print_reply<W: Write>(output: &mut W, reply: &[u8]) -> io::Result<()>
-    ensures { OnOk result (Appends (W.contents output.old) (W.contents output.new) (reply_text reply.now)) }
+    ensures { OnOk result (Appends (W.contents output.old) (W.contents output.new) (reply_frame reply.now)) }
 {
     writeln!(output, "reply {}", reply.len())?;
     output.write_all(reply)?;
@@ -25,7 +25,7 @@ pub fn print_replies<W: Write>(output: &mut W, replies: &[Bytes]) -> io::Result<
     Ok(())
 }
 
-/// Prints the line about the frame that doesn't read; `frame` is its place, from 1 on.
+/// Prints the line about the frame that doesn't parse; `frame` is its place, from 1 on.
 pub fn print_bad_frame<W: Write>(errors: &mut W, frame: usize) -> io::Result<()>
     ensures { OnOk result (Appends (W.contents errors.old) (W.contents errors.new) (bad_frame_text frame)) }
 {

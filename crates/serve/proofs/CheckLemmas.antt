@@ -48,16 +48,16 @@ module _ {A B : Type 0} where
 
 -- what follows each check
 abbrev pub after_names : Asked → Option (List ℕ) → List ℕ → Place → Result Order Refusal
-after_names asked digest body p = and_then (digest_checked digest body) (λ _. and_then (act_of p.act asked.lock_id body) (λ act. Ok (order p.ws act)))
+after_names asked content_md5 body p = and_then (digest_checked content_md5 body) (λ _. and_then (act_of p.act asked.lock_id body) (λ act. Ok (order p.ws act)))
 
 abbrev pub after_reach : Option Organization → Asked → Option (List ℕ) → List ℕ → Result Order Refusal
-after_reach r asked digest body = and_then (found r asked.act) (after_names asked digest body)
+after_reach r asked content_md5 body = and_then (found r asked.act) (after_names asked content_md5 body)
 
 abbrev pub after_role : Option Organization → Asked → Option (List ℕ) → List ℕ → Result Order Refusal
-after_role r asked digest body = and_then (in_reach asked) (λ _. after_reach r asked digest body)
+after_role r asked content_md5 body = and_then (in_reach asked) (λ _. after_reach r asked content_md5 body)
 
 abbrev pub after_caller : Option Organization → Asked → Option (List ℕ) → List ℕ → Token → Result Order Refusal
-after_caller r asked digest body token = and_then (may_do token asked) (λ _. after_role r asked digest body)
+after_caller r asked content_md5 body token = and_then (may_do token asked) (λ _. after_role r asked content_md5 body)
 
 token_of_role : (x : Result Token Refusal) (role : Role) → and_then x (λ token. Ok token.role) ≡ Ok role → (token : Token) × (x ≡ Ok token) × (token.role ≡ role)
 token_of_role (Ok token) role e = (token, refl, let same : token.role ≡ role = cc in same)
@@ -67,30 +67,30 @@ no_token : (x : Result Token Refusal) (refusal : Refusal) → and_then x (λ tok
 no_token (Ok token) refusal e = absurd (let none : ⊥ = cc in none)
 no_token (Err other) refusal e = let same : other ≡ refusal = cc in ap Err same
 
-module _ (r : Option Organization) (asked : Asked) (digest : Option (List ℕ)) (body : List ℕ) where
-  pub caller_refused : (refusal : Refusal) → known_role r asked ≡ Err refusal → checked r asked digest body ≡ Err refusal
-  caller_refused refusal e = after_err (known_caller r asked) (after_caller r asked digest body) refusal (no_token (known_caller r asked) refusal e)
+module _ (r : Option Organization) (asked : Asked) (content_md5 : Option (List ℕ)) (body : List ℕ) where
+  pub caller_refused : (refusal : Refusal) → known_role r asked ≡ Err refusal → checked r asked content_md5 body ≡ Err refusal
+  caller_refused refusal e = after_err (known_caller r asked) (after_caller r asked content_md5 body) refusal (no_token (known_caller r asked) refusal e)
 
-  pub role_refuses : (role : Role) (refusal : Refusal) → known_role r asked ≡ Ok role → allowed_by (role_refused role asked.act) ≡ Err refusal → checked r asked digest body ≡ Err refusal
+  pub role_refuses : (role : Role) (refusal : Refusal) → known_role r asked ≡ Ok role → allowed_by (role_refused role asked.act) ≡ Err refusal → checked r asked content_md5 body ≡ Err refusal
   role_refuses role refusal e h =
       let t : (token : Token) × (known_caller r asked ≡ Ok token) × (token.role ≡ role) = token_of_role (known_caller r asked) role e in
-      after_ok (known_caller r asked) (after_caller r asked digest body) t.0 (Err refusal) t.1
-      (after_err (may_do t.0 asked) (λ _. after_role r asked digest body) refusal (ap (λ (x : Role). allowed_by (role_refused x asked.act)) t.2 ∙ h))
+      after_ok (known_caller r asked) (after_caller r asked content_md5 body) t.0 (Err refusal) t.1
+      (after_err (may_do t.0 asked) (λ _. after_role r asked content_md5 body) refusal (ap (λ (x : Role). allowed_by (role_refused x asked.act)) t.2 ∙ h))
 
-  pub past_role : (role : Role) (x : Result Order Refusal) → known_role r asked ≡ Ok role → allowed_by (role_refused role asked.act) ≡ Ok tt → after_role r asked digest body ≡ x → checked r asked digest body ≡ x
+  pub past_role : (role : Role) (x : Result Order Refusal) → known_role r asked ≡ Ok role → allowed_by (role_refused role asked.act) ≡ Ok tt → after_role r asked content_md5 body ≡ x → checked r asked content_md5 body ≡ x
   past_role role x e h rest =
       let t : (token : Token) × (known_caller r asked ≡ Ok token) × (token.role ≡ role) = token_of_role (known_caller r asked) role e in
-      after_ok (known_caller r asked) (after_caller r asked digest body) t.0 x t.1
-      (after_ok (may_do t.0 asked) (λ _. after_role r asked digest body) tt x (ap (λ (y : Role). allowed_by (role_refused y asked.act)) t.2 ∙ h) rest)
+      after_ok (known_caller r asked) (after_caller r asked content_md5 body) t.0 x t.1
+      (after_ok (may_do t.0 asked) (λ _. after_role r asked content_md5 body) tt x (ap (λ (y : Role). allowed_by (role_refused y asked.act)) t.2 ∙ h) rest)
 
   pub past_reach : (role : Role) (x : Result Order Refusal) → known_role r asked ≡ Ok role → allowed_by (role_refused role asked.act) ≡ Ok tt → in_reach asked ≡ Ok tt
-      → after_reach r asked digest body ≡ x → checked r asked digest body ≡ x
-  past_reach role x e h reached rest = past_role role x e h (after_ok (in_reach asked) (λ _. after_reach r asked digest body) tt x reached rest)
+      → after_reach r asked content_md5 body ≡ x → checked r asked content_md5 body ≡ x
+  past_reach role x e h reached rest = past_role role x e h (after_ok (in_reach asked) (λ _. after_reach r asked content_md5 body) tt x reached rest)
 
 -- who has a token is there
-caller_there : (r : Option Organization) (digest : List ℕ) (token : Token) → or_refused BadToken (caller_of r digest) ≡ Ok token → IsSome r
-caller_there None digest token e = absurd (let none : ⊥ = cc in none)
-caller_there (Some o) digest token e = refl
+caller_there : (r : Option Organization) (content_md5 : List ℕ) (token : Token) → or_refused BadToken (caller_of r content_md5) ≡ Ok token → IsSome r
+caller_there None content_md5 token e = absurd (let none : ⊥ = cc in none)
+caller_there (Some o) content_md5 token e = refl
 
 pub role_there : (r : Option Organization) (asked : Asked) (role : Role) → known_role r asked ≡ Ok role → IsSome r
 role_there r asked role e =
@@ -172,13 +172,13 @@ order_is : (ws : List ℕ) (x : Result Act Refusal) (o : Order) → and_then x (
 order_is ws (Ok act) o e = let same : order ws act ≡ o = cc in (ap (λ (p : Order). p.ws) same, ap (λ (p : Order). read_act p.act) same)
 order_is ws (Err refusal) o e = absurd (let none : ⊥ = cc in none)
 
-pub order_passes : (r : Option Organization) (asked : Asked) (digest : Option (List ℕ)) (body : List ℕ) (o : Order) → checked r asked digest body ≡ Ok o → Passes r asked body o
-order_passes r asked digest body o e =
-    let known = passed (known_caller r asked) (after_caller r asked digest body) o e in
-    let may = passed (may_do known.0 asked) (λ _. after_role r asked digest body) o known.2 in
-    let reached = passed (in_reach asked) (λ _. after_reach r asked digest body) o may.2 in
-    let named = passed (found r asked.act) (after_names asked digest body) o reached.2 in
-    let fit = passed (digest_checked digest body) (λ _. and_then (act_of named.0.act asked.lock_id body) (λ act. Ok (order named.0.ws act))) o named.2 in
+pub order_passes : (r : Option Organization) (asked : Asked) (content_md5 : Option (List ℕ)) (body : List ℕ) (o : Order) → checked r asked content_md5 body ≡ Ok o → Passes r asked body o
+order_passes r asked content_md5 body o e =
+    let known = passed (known_caller r asked) (after_caller r asked content_md5 body) o e in
+    let may = passed (may_do known.0 asked) (λ _. after_role r asked content_md5 body) o known.2 in
+    let reached = passed (in_reach asked) (λ _. after_reach r asked content_md5 body) o may.2 in
+    let named = passed (found r asked.act) (after_names asked content_md5 body) o reached.2 in
+    let fit = passed (digest_checked content_md5 body) (λ _. and_then (act_of named.0.act asked.lock_id body) (λ act. Ok (order named.0.ws act))) o named.2 in
     let made : (named.0.ws ≡ o.ws) × (act_of named.0.act asked.lock_id body ≡ Ok o.act) = order_is named.0.ws (act_of named.0.act asked.lock_id body) o fit.2 in
     let at : (asked.act ≡ OfWorkspace named.0.ws named.0.act) × (is_found r named.0.ws named.0.act ≡ true) = found_place r asked.act named.0 named.1 in
     record {

@@ -21,7 +21,7 @@ use Rattle.machine.specs.declared.keeps.AdminAnswer.TheVariants.{Done, Exists}
 use Rattle.machine.specs.declared.acts.Act.{Act}
 use Rattle.machine.specs.declared.acts.Act.TheVariants.{PutWorkspace as PutAct, ReadWorkspace as ReadWorkspaceAct, UpdateState as UpdateAct, ReadState as ReadAct, PurgeState as PurgeAct, Lock as LockAct, Unlock as UnlockAct, ForceUnlock as ForceUnlockAct}
 use Rattle.machine.specs.declared.records.Holder.{Holder}
-use Rattle.machine.specs.declared.records.Holder.TheVariants.{Lock as LockHolder}
+use Rattle.machine.specs.declared.records.Holder.TheVariants.{Lock as HeldLock}
 use Rattle.machine.specs.declared.records.Token.{Token}
 use Rattle.machine.specs.declared.records.Workspace.{Workspace}
 use Rattle.machine.specs.declared.records.Organization.{Organization}
@@ -88,18 +88,18 @@ command_keeps (Some o) (TokenAdd org name role secret) ws = chosen (is_some (get
     chosen false = refl
 
 -- a step changes at most the workspace that it names
-request_leaves_others : (r : Option Organization) (now : ℕ) (asked : Asked) (digest : Option (List ℕ)) (body ws : List ℕ) (x : Result Order Refusal) → checked r asked digest body ≡ x
+request_leaves_others : (r : Option Organization) (now : ℕ) (asked : Asked) (content_md5 : Option (List ℕ)) (body ws : List ℕ) (x : Result Order Refusal) → checked r asked content_md5 body ≡ x
     → (NamesIn asked.act ws → ⊥) → workspace_in (carried asked.caller now r x).left ws ≡ workspace_in r ws
-request_leaves_others r now asked digest body ws (Err refusal) e other = refl
-request_leaves_others r now asked digest body ws (Ok order) e other =
-    let p : Passes r asked body order = order_passes r asked digest body order e in
+request_leaves_others r now asked content_md5 body ws (Err refusal) e other = refl
+request_leaves_others r now asked content_md5 body ws (Ok order) e other =
+    let p : Passes r asked body order = order_passes r asked content_md5 body order e in
     other_after r asked.caller order.ws ws order.act now
     (λ same. other (subst (NamesIn asked.act) (sym same) (names_of asked.act order.ws p.what p.asks)))
 
 pub steps_change_what_they_name : StepsChangeWhatTheyName
 steps_change_what_they_name r silent ws other = refl
-steps_change_what_they_name r (ask.refused at due refusal is_head) ws other = refl
-steps_change_what_they_name r (requests at due asked digest body) ws other = request_leaves_others r at asked digest body ws (checked r asked digest body) refl other
+steps_change_what_they_name r (ask.refused at awaited refusal is_head) ws other = refl
+steps_change_what_they_name r (requests at awaited asked content_md5 body) ws other = request_leaves_others r at asked content_md5 body ws (checked r asked content_md5 body) refl other
 steps_change_what_they_name r (commands at command) ws other = command_keeps r command ws
 
 -- an act that writes with an ID has it from the query
@@ -146,7 +146,7 @@ writes_by (ReportRun number action) id body act own is writes = absurd (let none
 abbrev Kept : Option Workspace → Ask → List ℕ → List ℕ → List ℕ → Workspace → Type 0
 Kept after what ws own text w = (v : Workspace) × (after ≡ Some v) × IsInCustody what ws own text w v
 
-stays : (after : Option Workspace) (what : Ask) (ws own text : List ℕ) (w : Workspace) → after ≡ Some w → w.holder ≡ LockHolder own text → Kept after what ws own text w
+stays : (after : Option Workspace) (what : Ask) (ws own text : List ℕ) (w : Workspace) → after ≡ Some w → w.holder ≡ HeldLock own text → Kept after what ws own text w
 stays after what ws own text w e lock = (w, e, record { versions = inl refl; holder = inl lock })
 
 some_is : (o : Option Workspace) → IsSome o → (v : Workspace) × (o ≡ Some v)
@@ -154,10 +154,10 @@ some_is None h = absurd (let none : ⊥ = cc in none)
 some_is (Some v) h = (v, refl)
 
 -- the workspace that the rules were asked of
-ruled_kept : (r : Option Organization) (now : ℕ) (due : Bool) (asked : Asked) (digest : Option (List ℕ)) (body : List ℕ) (o : Order) (w : Workspace) (own text : List ℕ)
-    → Passes r asked body o → workspace_in r o.ws ≡ Some w → w.holder ≡ LockHolder own text
-    → Kept (workspace_in (ruled_in asked.caller o.ws r (rules o.act now (seen_at r o.ws))).left o.ws) (requests now due asked digest body) o.ws own text w
-ruled_kept r now due asked digest body o w own text p stands lock =
+ruled_kept : (r : Option Organization) (now : ℕ) (awaited : Bool) (asked : Asked) (content_md5 : Option (List ℕ)) (body : List ℕ) (o : Order) (w : Workspace) (own text : List ℕ)
+    → Passes r asked body o → workspace_in r o.ws ≡ Some w → w.holder ≡ HeldLock own text
+    → Kept (workspace_in (ruled_in asked.caller o.ws r (rules o.act now (seen_at r o.ws))).left o.ws) (requests now awaited asked content_md5 body) o.ws own text w
+ruled_kept r now awaited asked content_md5 body o w own text p stands lock =
     let sees : seen_at r o.ws ≡ there w = seen_there r o.ws w stands in
     let left : workspace_in (ruled_in asked.caller o.ws r (rules o.act now (seen_at r o.ws))).left o.ws ≡ (rules o.act now (there w)).left =
     own_after r asked.caller o.ws o.act now p.there ∙ ap (λ (s : Seen). (rules o.act now s).left) sees in
@@ -176,33 +176,33 @@ ruled_kept r now due asked digest body o w own text p stands lock =
     carried_or_kept v names p (inl h) = inl h
     carried_or_kept v names p (inr h) = inr (names, writes_by p.what asked.lock_id body o.act own p.spelt h)
 
-    released_or_held : (v : Workspace) → NamesIn asked.act o.ws → Passes r asked body o → (v.holder ≡ LockHolder own text) ⊎ Releases o.act own
-        → (v.holder ≡ LockHolder own text) ⊎ (NamesIn asked.act o.ws × ((act : Act) × IsActOn asked.act asked.lock_id body act × Releases act own))
+    released_or_held : (v : Workspace) → NamesIn asked.act o.ws → Passes r asked body o → (v.holder ≡ HeldLock own text) ⊎ Releases o.act own
+        → (v.holder ≡ HeldLock own text) ⊎ (NamesIn asked.act o.ws × ((act : Act) × IsActOn asked.act asked.lock_id body act × Releases act own))
     released_or_held v names p (inl h) = inl h
     released_or_held v names p (inr h) = inr (names, (o.act, act_on asked o.ws body p.what o.act p.asks p.spelt, h))
 
-request_kept : (r : Option Organization) (now : ℕ) (due : Bool) (asked : Asked) (digest : Option (List ℕ)) (body ws : List ℕ) (w : Workspace) (own text : List ℕ) (x : Result Order Refusal)
-    → checked r asked digest body ≡ x → workspace_in r ws ≡ Some w → w.holder ≡ LockHolder own text
-    → Kept (workspace_in (carried asked.caller now r x).left ws) (requests now due asked digest body) ws own text w
-request_kept r now due asked digest body ws w own text (Err refusal) e stands lock = stays _ (requests now due asked digest body) ws own text w stands lock
-request_kept r now due asked digest body ws w own text (Ok o) e stands lock = by_name (bytes_eq ws o.ws) refl
+request_kept : (r : Option Organization) (now : ℕ) (awaited : Bool) (asked : Asked) (content_md5 : Option (List ℕ)) (body ws : List ℕ) (w : Workspace) (own text : List ℕ) (x : Result Order Refusal)
+    → checked r asked content_md5 body ≡ x → workspace_in r ws ≡ Some w → w.holder ≡ HeldLock own text
+    → Kept (workspace_in (carried asked.caller now r x).left ws) (requests now awaited asked content_md5 body) ws own text w
+request_kept r now awaited asked content_md5 body ws w own text (Err refusal) e stands lock = stays _ (requests now awaited asked content_md5 body) ws own text w stands lock
+request_kept r now awaited asked content_md5 body ws w own text (Ok o) e stands lock = by_name (bytes_eq ws o.ws) refl
   where
     p : Passes r asked body o
-    p = order_passes r asked digest body o e
+    p = order_passes r asked content_md5 body o e
 
-    by_name : (b : Bool) → bytes_eq ws o.ws ≡ b → Kept (workspace_in (ruled_in asked.caller o.ws r (rules o.act now (seen_at r o.ws))).left ws) (requests now due asked digest body) ws own text w
+    by_name : (b : Bool) → bytes_eq ws o.ws ≡ b → Kept (workspace_in (ruled_in asked.caller o.ws r (rules o.act now (seen_at r o.ws))).left ws) (requests now awaited asked content_md5 body) ws own text w
     by_name true same =
         let is : ws ≡ o.ws = (bytes_eq-Decides ws o.ws).0 same in
-        subst (λ (n : List ℕ). Kept (workspace_in (ruled_in asked.caller o.ws r (rules o.act now (seen_at r o.ws))).left n) (requests now due asked digest body) n own text w) (sym is)
-        (ruled_kept r now due asked digest body o w own text p (subst (λ (n : List ℕ). workspace_in r n ≡ Some w) is stands) lock)
+        subst (λ (n : List ℕ). Kept (workspace_in (ruled_in asked.caller o.ws r (rules o.act now (seen_at r o.ws))).left n) (requests now awaited asked content_md5 body) n own text w) (sym is)
+        (ruled_kept r now awaited asked content_md5 body o w own text p (subst (λ (n : List ℕ). workspace_in r n ≡ Some w) is stands) lock)
     by_name false apart =
-        stays (workspace_in (ruled_in asked.caller o.ws r (rules o.act now (seen_at r o.ws))).left ws) (requests now due asked digest body) ws own text w
+        stays (workspace_in (ruled_in asked.caller o.ws r (rules o.act now (seen_at r o.ws))).left ws) (requests now awaited asked content_md5 body) ws own text w
         (other_after r asked.caller o.ws ws o.act now (apart_from ws o.ws apart) ∙ stands) lock
 
 pub locks_are_kept : LocksAreKept
 locks_are_kept r silent ws w own text stands lock = stays (workspace_in r ws) silent ws own text w stands lock
-locks_are_kept r (ask.refused at due refusal is_head) ws w own text stands lock = stays (workspace_in r ws) (ask.refused at due refusal is_head) ws own text w stands lock
-locks_are_kept r (requests at due asked digest body) ws w own text stands lock = request_kept r at due asked digest body ws w own text (checked r asked digest body) refl stands lock
+locks_are_kept r (ask.refused at awaited refusal is_head) ws w own text stands lock = stays (workspace_in r ws) (ask.refused at awaited refusal is_head) ws own text w stands lock
+locks_are_kept r (requests at awaited asked content_md5 body) ws w own text stands lock = request_kept r at awaited asked content_md5 body ws w own text (checked r asked content_md5 body) refl stands lock
 locks_are_kept r (commands at command) ws w own text stands lock =
     stays (workspace_in (command_step r command).left ws) (commands at command) ws own text w (command_keeps r command ws ∙ stands) lock
 
@@ -233,16 +233,16 @@ again_left (Some o) org ws act now later s v some may left stands =
     ap (λ (w : Option Workspace). Some (placed o ws w)) (still ∙ sym stands) ∙ ap Some (placed_as_it_was o ws (get o.workspaces ws) refl)
 
 -- the second of two requests on the record that the first left
-second_leaves : (r : Option Organization) (now later : ℕ) (asked : Asked) (digest : Option (List ℕ)) (body : List ℕ) (x : Result Order Refusal) → checked r asked digest body ≡ x
+second_leaves : (r : Option Organization) (now later : ℕ) (asked : Asked) (content_md5 : Option (List ℕ)) (body : List ℕ) (x : Result Order Refusal) → checked r asked content_md5 body ≡ x
     → ((act : Act) → IsActOn asked.act asked.lock_id body act → IsRepeatable act)
-    → (carried asked.caller later (carried asked.caller now r x).left (checked (carried asked.caller now r x).left asked digest body)).left ≡ (carried asked.caller now r x).left
-second_leaves r now later asked digest body (Err refusal) e may =
+    → (carried asked.caller later (carried asked.caller now r x).left (checked (carried asked.caller now r x).left asked content_md5 body)).left ≡ (carried asked.caller now r x).left
+second_leaves r now later asked content_md5 body (Err refusal) e may =
     ap (λ (y : Result Order Refusal). (carried asked.caller later r y).left) e
-second_leaves None now later asked digest body (Ok o) e may = absurd (let p = order_passes None asked digest body o e in let none : ⊥ = cc p.there in none)
-second_leaves (Some organization) now later asked digest body (Ok o) e may = by_left (rules o.act now (seen_in organization o.ws)).left refl
+second_leaves None now later asked content_md5 body (Ok o) e may = absurd (let p = order_passes None asked content_md5 body o e in let none : ⊥ = cc p.there in none)
+second_leaves (Some organization) now later asked content_md5 body (Ok o) e may = by_left (rules o.act now (seen_in organization o.ws)).left refl
   where
     first : Passes (Some organization) asked body o
-    first = order_passes (Some organization) asked digest body o e
+    first = order_passes (Some organization) asked content_md5 body o e
 
     repeatable : IsRepeatable o.act
     repeatable = may o.act (act_on asked o.ws body first.what o.act first.asks first.spelt)
@@ -251,17 +251,17 @@ second_leaves (Some organization) now later asked digest body (Ok o) e may = by_
     on q y = (carried asked.caller later q y).left
 
     second : (q : Organization) (v : Workspace) → get q.workspaces o.ws ≡ Some v → (rules o.act now (seen_in organization o.ws)).left ≡ Some v
-        → (y : Result Order Refusal) → checked (Some q) asked digest body ≡ y → on (Some q) y ≡ Some q
+        → (y : Result Order Refusal) → checked (Some q) asked content_md5 body ≡ y → on (Some q) y ≡ Some q
     second q v stands left (Err refusal) f = refl
     second q v stands left (Ok p) f =
-        let passes : Passes (Some q) asked body p = order_passes (Some q) asked digest body p f in
+        let passes : Passes (Some q) asked body p = order_passes (Some q) asked content_md5 body p f in
         let same : (p.ws ≡ o.ws) × (p.act ≡ o.act) = same_order (Some organization) (Some q) asked body o p first passes in
         ap (λ (n : List ℕ). (ruled_in asked.caller n (Some q) (rules p.act later (seen_at (Some q) n))).left) same.0
         ∙ ap (λ (a : Act). (ruled_in asked.caller o.ws (Some q) (rules a later (seen_at (Some q) o.ws))).left) same.1
         ∙ again_left (Some q) asked.caller o.ws o.act now later (seen_in organization o.ws) v refl repeatable left stands
 
     by_left : (w : Option Workspace) → (rules o.act now (seen_in organization o.ws)).left ≡ w
-        → (carried asked.caller later (carried asked.caller now (Some organization) (Ok o)).left (checked (carried asked.caller now (Some organization) (Ok o)).left asked digest body)).left
+        → (carried asked.caller later (carried asked.caller now (Some organization) (Ok o)).left (checked (carried asked.caller now (Some organization) (Ok o)).left asked content_md5 body)).left
         ≡ (carried asked.caller now (Some organization) (Ok o)).left
     by_left None left =
         let gone : get organization.workspaces o.ws ≡ None = none_before (get organization.workspaces o.ws) refl left in
@@ -270,7 +270,7 @@ second_leaves (Some organization) now later asked digest body (Ok o) e may = by_
         let twice : (ruled_in asked.caller o.ws (Some organization) (rules o.act later (seen_in organization o.ws))).left ≡ Some organization =
         ap (λ (w : Option Workspace). Some (placed organization o.ws w)) (none_again (get organization.workspaces o.ws) refl left ∙ sym gone)
         ∙ ap Some (placed_as_it_was organization o.ws (get organization.workspaces o.ws) refl) in
-        ap (λ (q : Option Organization). on q (checked q asked digest body)) same ∙ ap (on (Some organization)) e ∙ twice ∙ sym same
+        ap (λ (q : Option Organization). on q (checked q asked content_md5 body)) same ∙ ap (on (Some organization)) e ∙ twice ∙ sym same
       where
         room : Bool
         room = nat_lt (count_of organization) organization.limit
@@ -289,7 +289,7 @@ second_leaves (Some organization) now later asked digest body (Ok o) e may = by_
     by_left (Some v) left =
         let q : Organization = placed organization o.ws (rules o.act now (seen_in organization o.ws)).left in
         let stands : get q.workspaces o.ws ≡ Some v = own_workspace organization.workspaces o.ws (rules o.act now (seen_in organization o.ws)).left ∙ left in
-        second q v stands left (checked (Some q) asked digest body) refl
+        second q v stands left (checked (Some q) asked content_md5 body) refl
 
 -- a token that is there is not added again
 token_again : (o : Organization) (name : List ℕ) (token : Token) (b : Bool) → (is_some (get o.tokens name) || has_digest token.digest o) ≡ b
@@ -310,8 +310,8 @@ command_again (Some o) (TokenAdd org name role secret) =
 
 pub steps_are_repeatable : StepsAreRepeatable
 steps_are_repeatable r silent later may = refl
-steps_are_repeatable r (ask.refused at due refusal is_head) later may = refl
-steps_are_repeatable r (requests at due asked digest body) later may = second_leaves r at later asked digest body (checked r asked digest body) refl may
+steps_are_repeatable r (ask.refused at awaited refusal is_head) later may = refl
+steps_are_repeatable r (requests at awaited asked content_md5 body) later may = second_leaves r at later asked content_md5 body (checked r asked content_md5 body) refl may
 steps_are_repeatable r (commands at command) later may = command_again r command
 
 -- what was accepted leaves the workspace there
@@ -324,15 +324,15 @@ not_refused org ws (state text) e is = is
 not_refused org ws (workspace shown) e is = is
 
 -- the second of two requests, on any record whose workspace is as the first left it
-later_leaves : (r q : Option Organization) (now later : ℕ) (asked : Asked) (digest : Option (List ℕ)) (body ws : List ℕ) (x y : Result Order Refusal)
-    → checked r asked digest body ≡ x → checked q asked digest body ≡ y → ((act : Act) → IsActOn asked.act asked.lock_id body act → IsRepeatable act)
+later_leaves : (r q : Option Organization) (now later : ℕ) (asked : Asked) (content_md5 : Option (List ℕ)) (body ws : List ℕ) (x y : Result Order Refusal)
+    → checked r asked content_md5 body ≡ x → checked q asked content_md5 body ≡ y → ((act : Act) → IsActOn asked.act asked.lock_id body act → IsRepeatable act)
     → NamesIn asked.act ws → (carried asked.caller now r x).answer.refusal ≡ None → workspace_in q ws ≡ workspace_in (carried asked.caller now r x).left ws
     → workspace_in (carried asked.caller later q y).left ws ≡ workspace_in q ws
-later_leaves r q now later asked digest body ws (Err refusal) y e f may names accepted same = absurd (let none : ⊥ = cc in none)
-later_leaves r q now later asked digest body ws (Ok o) (Err refusal) e f may names accepted same = refl
-later_leaves r q now later asked digest body ws (Ok o) (Ok p) e f may names accepted same =
-    let first : Passes r asked body o = order_passes r asked digest body o e in
-    let second : Passes q asked body p = order_passes q asked digest body p f in
+later_leaves r q now later asked content_md5 body ws (Err refusal) y e f may names accepted same = absurd (let none : ⊥ = cc in none)
+later_leaves r q now later asked content_md5 body ws (Ok o) (Err refusal) e f may names accepted same = refl
+later_leaves r q now later asked content_md5 body ws (Ok o) (Ok p) e f may names accepted same =
+    let first : Passes r asked body o = order_passes r asked content_md5 body o e in
+    let second : Passes q asked body p = order_passes q asked content_md5 body p f in
     let both : (p.ws ≡ o.ws) × (p.act ≡ o.act) = same_order r q asked body o p first second in
     let is : o.ws ≡ ws = subst (λ (a : AskedAct). NamesIn a ws) first.asks names in
     let v = some_is (rules o.act now (seen_at r o.ws)).left (accepted_stays o.act now (seen_at r o.ws) (not_refused asked.caller o.ws (rules o.act now (seen_at r o.ws)).answer accepted)) in
@@ -347,7 +347,7 @@ later_leaves r q now later asked digest body ws (Ok o) (Ok p) e f may names acce
 
 pub repeats_leave_the_workspace : RepeatsLeaveTheWorkspace
 repeats_leave_the_workspace r q silent later ws may names accepted same = absurd names
-repeats_leave_the_workspace r q (ask.refused at due refusal is_head) later ws may names accepted same = absurd names
-repeats_leave_the_workspace r q (requests at due asked digest body) later ws may names accepted same =
-    later_leaves r q at later asked digest body ws (checked r asked digest body) (checked q asked digest body) refl refl may names accepted same
+repeats_leave_the_workspace r q (ask.refused at awaited refusal is_head) later ws may names accepted same = absurd names
+repeats_leave_the_workspace r q (requests at awaited asked content_md5 body) later ws may names accepted same =
+    later_leaves r q at later asked content_md5 body ws (checked r asked content_md5 body) (checked q asked content_md5 body) refl refl may names accepted same
 repeats_leave_the_workspace r q (commands at command) later ws may names accepted same = absurd names

@@ -17,7 +17,7 @@ use Rattle.wire.specs.Framing.{Verdict, refuses, accepts, IsJudged}
 use Rattle.wire.specs.Messages.{Reading, Reads, ReadsBy, unfinished, refused, whole, framed_message, reading_by, AwaitsContinue, AwaitsContinueBy}
 use Rattle.wire.specs.Links.{ReportsReceived, continue_if, continue_text, WritesPrefix, Writes, WritesContinue}
 use Rattle.wire.specs.Replies.{Answer, IsReplyText, refused_answer, unavailable_answer}
-use Rattle.serve.specs.Asks.{Ask, Owner, organization, nobody, operator, silent, requests, commands, owner_of}
+use Rattle.serve.specs.Asks.{Ask, Owner, organization, unattributed, operator, silent, requests, commands, owner_of}
 use Rattle.serve.specs.Asks as ask
 use Rattle.serve.specs.Steps.{Said, replies}
 use Rattle.serve.specs.Inner.Prepared.{IsPrepared}
@@ -30,25 +30,25 @@ use Rattle.serve.specs.declared.prepared.Prepared.{Prepared}
 use Rattle.serve.proofs.TakenLemmas.{prepared_after, carries_after}
 
 -- what is prepared is what is said
-prepared_said : (rows : List ℕ → Option Organization) (at : ℕ) (due : Bool) (message : Message) (asking : Asking) (p : Prepared)
-    → IsPrepared rows (asked_by at due message asking) p → said_to rows (asked_by at due message asking) ≡ replies due at p.reply
-prepared_said rows at due message (route.refused refusal) p h = ap (replies due at) (sym h.0)
-prepared_said rows at due message (asks asked) p h = ap (replies due at) (sym h.answer)
+prepared_said : (rows : List ℕ → Option Organization) (at : ℕ) (awaited : Bool) (message : Message) (asking : Asking) (p : Prepared)
+    → IsPrepared rows (asked_by at awaited message asking) p → said_to rows (asked_by at awaited message asking) ≡ replies awaited at p.reply
+prepared_said rows at awaited message (route.refused refusal) p h = ap (replies awaited at) (sym h.0)
+prepared_said rows at awaited message (asks asked) p h = ap (replies awaited at) (sym h.answer)
 
 -- a message is prepared, and its change follows
-pub message_answered : (old mid new : List ℕ → Option Organization) (at : ℕ) (due : Bool) (message : Message) (p : Prepared)
-    → Stays old mid → IsPrepared old (asked_by at due message (asked_of message)) p
+pub message_answered : (old mid new : List ℕ → Option Organization) (at : ℕ) (awaited : Bool) (message : Message) (p : Prepared)
+    → Stays old mid → IsPrepared old (asked_by at awaited message (asked_of message)) p
     → ((a : Ask) → IsPrepared mid a p → Carries a mid new)
-    → Carries (asked_by at due message (asked_of message)) old new × (said_to old (asked_by at due message (asked_of message)) ≡ replies due at p.reply)
-message_answered old mid new at due message p stays prepared carried =
-    let a : Ask = asked_by at due message (asked_of message) in
-    (carries_after old mid new a stays (carried a (prepared_after old mid a p stays prepared)), prepared_said old at due message (asked_of message) p prepared)
+    → Carries (asked_by at awaited message (asked_of message)) old new × (said_to old (asked_by at awaited message (asked_of message)) ≡ replies awaited at p.reply)
+message_answered old mid new at awaited message p stays prepared carried =
+    let a : Ask = asked_by at awaited message (asked_of message) in
+    (carries_after old mid new a stays (carried a (prepared_after old mid a p stays prepared)), prepared_said old at awaited message (asked_of message) p prepared)
 
 -- what is asked moves the record of one organization at most
 carried_one : (a : Ask) (old new : List ℕ → Option Organization) → Carries a old new → ChangesAtMostOne old new
 carried_one silent old new carries = ([], (λ other apart. carries other))
-carried_one (ask.refused at due refusal is_head) old new carries = ([], (λ other apart. carries other))
-carried_one (requests at due asked digest body) old new carries = (asked.caller, (λ other apart. carries other ∙ stays_apart (requests at due asked digest body) other old (bytes_eq other asked.caller) refl apart))
+carried_one (ask.refused at awaited refusal is_head) old new carries = ([], (λ other apart. carries other))
+carried_one (requests at awaited asked content_md5 body) old new carries = (asked.caller, (λ other apart. carries other ∙ stays_apart (requests at awaited asked content_md5 body) other old (bytes_eq other asked.caller) refl apart))
   where
     stays_apart : (a : Ask) (other : List ℕ) (rows : List ℕ → Option Organization) (b : Bool) → bytes_eq other asked.caller ≡ b → other ≢ asked.caller → after_ask b a (rows other) ≡ rows other
     stays_apart a other rows true e apart = absurd (apart ((bytes_eq-Decides other asked.caller).0 e))
@@ -60,7 +60,7 @@ carried_one (commands at command) old new carries = (ask.commanded_of command, (
     stays_apart a other rows false e apart = refl
 
 pub answered_one : (now : ℕ) (message : Message) (old new : List ℕ → Option Organization) (reply : Answer)
-    → ((due : Bool) → Carries (asked_by now due message (asked_of message)) old new × (said_to old (asked_by now due message (asked_of message)) ≡ replies due now reply))
+    → ((awaited : Bool) → Carries (asked_by now awaited message (asked_of message)) old new × (said_to old (asked_by now awaited message (asked_of message)) ≡ replies awaited now reply))
     → ChangesAtMostOne old new
 answered_one now message old new reply h = carried_one (asked_by now false message (asked_of message)) old new (h false).0
 
@@ -68,13 +68,13 @@ pub stayed_one : (old new : List ℕ → Option Organization) → Stays old new 
 stayed_one old new stays = ([], (λ other apart. stays other))
 
 -- the reply to a message that is served
-pub served_reply : (now : ℕ) (came : List ℕ) (left before after : Option (List ℕ)) (message : Message) (read : Result Message WireFault) (old new : List ℕ → Option Organization) (reply : Answer)
+pub served_reply : (now : ℕ) (received : List ℕ) (left before after : Option (List ℕ)) (message : Message) (read : Result Message WireFault) (old new : List ℕ → Option Organization) (reply : Answer)
     → read ≡ Ok message
-    → ((due : Bool) → Carries (asked_by now due message (asked_of message)) old new × (said_to old (asked_by now due message (asked_of message)) ≡ replies due now reply))
-    → ReportsReceived came left before after read
-    → (due : Bool) × Appends before after (continue_if due) × ((text : List ℕ) → IsReplyText reply now text → IsAnswered now came old new due text)
-served_reply now came left before after message read old new reply is h told =
-    let t : (due : Bool) × Reads came (whole message due) × Appends before after (continue_if due) = subst (λ (r : Result Message WireFault). ReportsReceived came left before after r) is told in (
+    → ((awaited : Bool) → Carries (asked_by now awaited message (asked_of message)) old new × (said_to old (asked_by now awaited message (asked_of message)) ≡ replies awaited now reply))
+    → ReportsReceived received left before after read
+    → (awaited : Bool) × Appends before after (continue_if awaited) × ((text : List ℕ) → IsReplyText reply now text → IsAnswered now received old new awaited text)
+served_reply now received left before after message read old new reply is h told =
+    let t : (awaited : Bool) × Reads received (whole message awaited) × Appends before after (continue_if awaited) = subst (λ (r : Result Message WireFault). ReportsReceived received left before after r) is told in (
       t.0,
       t.2,
       (λ text is_text. inl (record {
@@ -87,42 +87,42 @@ served_reply now came left before after message read old new reply is h told =
       })),
     )
 
--- where a message's reading says that the 100 line is due, it is
-due_by_rest : (frame : Frame) (rest : List ℕ) (message : Message) (b : Bool) → whole message true ≡ (cond b (whole (framed_message frame (take frame.body_len rest)) frame.awaits_continue) unfinished) → IsTrue frame.awaits_continue
-due_by_rest frame rest message true e = let is : true ≡ frame.awaits_continue = cc in sym is
-due_by_rest frame rest message false e = absurd (let none : ⊥ = cc in none)
+-- where a message's reading says that `100 Continue` is awaited, it is
+awaited_by_rest : (frame : Frame) (rest : List ℕ) (message : Message) (b : Bool) → whole message true ≡ (cond b (whole (framed_message frame (take frame.body_len rest)) frame.awaits_continue) unfinished) → IsTrue frame.awaits_continue
+awaited_by_rest frame rest message true e = let is : true ≡ frame.awaits_continue = cc in sym is
+awaited_by_rest frame rest message false e = absurd (let none : ⊥ = cc in none)
 
-due_by : (front : HeadEnd) (bytes : List ℕ) (message : Message) → ReadsBy front bytes (whole message true) → AwaitsContinueBy front bytes
-due_by Unfinished bytes message e = absurd (let none : ⊥ = cc in none)
-due_by Long bytes message e = absurd (let none : ⊥ = cc in none)
-due_by (Whole n) bytes message (refuses refusal head, judged, e) = absurd (let none : ⊥ = cc in none)
-due_by (Whole n) bytes message (accepts frame, judged, e) = (frame, judged, due_by_rest frame (drop n bytes) message (nat_le frame.body_len (length (drop n bytes))) e)
+awaited_by : (head_end : HeadEnd) (bytes : List ℕ) (message : Message) → ReadsBy head_end bytes (whole message true) → AwaitsContinueBy head_end bytes
+awaited_by Unfinished bytes message e = absurd (let none : ⊥ = cc in none)
+awaited_by Long bytes message e = absurd (let none : ⊥ = cc in none)
+awaited_by (Whole n) bytes message (refuses refusal head, judged, e) = absurd (let none : ⊥ = cc in none)
+awaited_by (Whole n) bytes message (accepts frame, judged, e) = (frame, judged, awaited_by_rest frame (drop n bytes) message (nat_le frame.body_len (length (drop n bytes))) e)
 
-due_is : (bytes : List ℕ) (message : Message) (due : Bool) → Reads bytes (whole message due) → IsTrue due → AwaitsContinue bytes
-due_is bytes message due reads is = due_by (head_end_of bytes) bytes message (subst (λ (d : Bool). Reads bytes (whole message d)) is reads)
+awaited_is : (bytes : List ℕ) (message : Message) (awaited : Bool) → Reads bytes (whole message awaited) → IsTrue awaited → AwaitsContinue bytes
+awaited_is bytes message awaited reads is = awaited_by (head_end_of bytes) bytes message (subst (λ (d : Bool). Reads bytes (whole message d)) is reads)
 
-unavailable_by : (now : ℕ) (came : List ℕ) (before after : Option (List ℕ)) (due without_body : Bool) (old new : List ℕ → Option Organization) (reply : Answer)
-    → Appends before after (continue_if due) → (IsTrue due → AwaitsContinue came) → (IsTrue without_body → IsHead came) → Stays old new → reply ≡ unavailable_answer without_body
-    → (due : Bool) × Appends before after (continue_if due) × ((text : List ℕ) → IsReplyText reply now text → IsAnswered now came old new due text)
-unavailable_by now came before after due without_body old new reply appends is_due head stays is = (
-  due,
+unavailable_by : (now : ℕ) (received : List ℕ) (before after : Option (List ℕ)) (awaited without_body : Bool) (old new : List ℕ → Option Organization) (reply : Answer)
+    → Appends before after (continue_if awaited) → (IsTrue awaited → AwaitsContinue received) → (IsTrue without_body → IsHead received) → Stays old new → reply ≡ unavailable_answer without_body
+    → (awaited : Bool) × Appends before after (continue_if awaited) × ((text : List ℕ) → IsReplyText reply now text → IsAnswered now received old new awaited text)
+unavailable_by now received before after awaited without_body old new reply appends is_awaited head stays is = (
+  awaited,
   appends,
   (λ text is_text. inr (record {
     stays = stays;
-    is_due = is_due;
+    is_awaited = is_awaited;
     without_body = without_body;
     is_head = head;
     is = subst (λ (a : Answer). IsReplyText a now text) is is_text;
   })),
 )
 
-pub unavailable_message : (now : ℕ) (came : List ℕ) (left before after : Option (List ℕ)) (message : Message) (read : Result Message WireFault) (without_body : Bool) (old new : List ℕ → Option Organization) (reply : Answer)
+pub unavailable_message : (now : ℕ) (received : List ℕ) (left before after : Option (List ℕ)) (message : Message) (read : Result Message WireFault) (without_body : Bool) (old new : List ℕ → Option Organization) (reply : Answer)
     → read ≡ Ok message → without_body ≡ is_head message → Stays old new → reply ≡ unavailable_answer without_body
-    → ReportsReceived came left before after read
-    → (due : Bool) × Appends before after (continue_if due) × ((text : List ℕ) → IsReplyText reply now text → IsAnswered now came old new due text)
-unavailable_message now came left before after message read without_body old new reply is head stays made told =
-    let t : (due : Bool) × Reads came (whole message due) × Appends before after (continue_if due) = subst (λ (r : Result Message WireFault). ReportsReceived came left before after r) is told in
-    unavailable_by now came before after t.0 without_body old new reply t.2 (due_is came message t.0 t.1) (λ e. inl (message, t.0, t.1, sym head ∙ e)) stays made
+    → ReportsReceived received left before after read
+    → (awaited : Bool) × Appends before after (continue_if awaited) × ((text : List ℕ) → IsReplyText reply now text → IsAnswered now received old new awaited text)
+unavailable_message now received left before after message read without_body old new reply is head stays made told =
+    let t : (awaited : Bool) × Reads received (whole message awaited) × Appends before after (continue_if awaited) = subst (λ (r : Result Message WireFault). ReportsReceived received left before after r) is told in
+    unavailable_by now received before after t.0 without_body old new reply t.2 (awaited_is received message t.0 t.1) (λ e. inl (message, t.0, t.1, sym head ∙ e)) stays made
 
 never : {A : Type 0} → IsTrue false → A
 never e = absurd (let none : ⊥ = cc in none)
@@ -130,8 +130,8 @@ never e = absurd (let none : ⊥ = cc in none)
 pub refused_message : (refusal : Refusal) (is_head : Bool) (fault : WireFault) (reply : Answer)
     → fault ≡ Refused refusal is_head → reply ≡ refused_answer refusal (error_text refusal) is_head
     → (now : ℕ) (rows : List ℕ → Option Organization) → RepliesTo now (Err fault) rows rows reply
-refused_message refusal is_head fault reply is made now rows came left before after told =
-    let t : Reads came (refused refusal is_head) × Appends before after [] = subst (λ (f : WireFault). ReportsReceived came left before after (Err f)) is told in (
+refused_message refusal is_head fault reply is made now rows received left before after told =
+    let t : Reads received (refused refusal is_head) × Appends before after [] = subst (λ (f : WireFault). ReportsReceived received left before after (Err f)) is told in (
       false,
       t.1,
       (λ text is_text. inl (record {
@@ -147,16 +147,16 @@ refused_message refusal is_head fault reply is made now rows came left before af
 pub unavailable_refusal : (refusal : Refusal) (is_head : Bool) (fault : WireFault) (reply : Answer)
     → fault ≡ Refused refusal is_head → reply ≡ unavailable_answer is_head
     → (now : ℕ) (rows : List ℕ → Option Organization) → RepliesTo now (Err fault) rows rows reply
-unavailable_refusal refusal is_head fault reply is made now rows came left before after told =
-    let t : Reads came (refused refusal is_head) × Appends before after [] = subst (λ (f : WireFault). ReportsReceived came left before after (Err f)) is told in
-    unavailable_by now came before after false is_head rows rows reply t.1 never
-    (λ e. inr (refusal, subst (λ (b : Bool). Reads came (refused refusal b)) e t.0)) (λ org. refl) made
+unavailable_refusal refusal is_head fault reply is made now rows received left before after told =
+    let t : Reads received (refused refusal is_head) × Appends before after [] = subst (λ (f : WireFault). ReportsReceived received left before after (Err f)) is told in
+    unavailable_by now received before after false is_head rows rows reply t.1 never
+    (λ e. inr (refusal, subst (λ (b : Bool). Reads received (refused refusal b)) e t.0)) (λ org. refl) made
 
 pub unavailable_reading : (fault : WireFault) (reply : Answer) → fault ≡ Down → reply ≡ unavailable_answer false
     → (now : ℕ) (rows : List ℕ → Option Organization) → RepliesTo now (Err fault) rows rows reply
-unavailable_reading fault reply is made now rows came left before after told =
-    let t : Appends before after [] = subst (λ (f : WireFault). ReportsReceived came left before after (Err f)) is told in
-    unavailable_by now came before after false false rows rows reply t never never (λ org. refl) made
+unavailable_reading fault reply is made now rows received left before after told =
+    let t : Appends before after [] = subst (λ (f : WireFault). ReportsReceived received left before after (Err f)) is told in
+    unavailable_by now received before after false false rows rows reply t never never (λ org. refl) made
 
 -- two pieces written one after the other
 appends_both : (a b c : Option (List ℕ)) (x y : List ℕ) → Appends a b x → Appends b c y → Appends a c (x ++ y)
@@ -165,34 +165,34 @@ appends_both (Some a) None c x y h k = absurd h
 appends_both (Some a) (Some b) None x y h k = absurd k
 appends_both (Some a) (Some b) (Some c) x y h k = k ∙ ap (λ (l : List ℕ). l ++ y) h ∙ append_assoc a x y
 
--- by what came: what was read, the reply to it, and what was written of it
-abbrev Came : Option (List ℕ) → Option (List ℕ) → (List ℕ → Type 0) → Type 0
-Came old new P = (came : List ℕ) × Consumes old new came × P came
+-- by what received: what was read, the reply to it, and what was written of it
+abbrev Received : Option (List ℕ) → Option (List ℕ) → (List ℕ → Type 0) → Type 0
+Received old new P = (received : List ℕ) × Consumes old new received × P received
 
 -- the whole reply is written
 pub all_written : (unread left : Option (List ℕ)) (now : ℕ) (read : Result Message WireFault) (old new : List ℕ → Option Organization) (reply : Answer) (a b c : Option (List ℕ))
-    → Came unread left (λ came. ReportsReceived came left a b read) → RepliesTo now read old new reply
+    → Received unread left (λ received. ReportsReceived received left a b read) → RepliesTo now read old new reply
     → (text : List ℕ) × IsReplyText reply now text × Appends b c text
-    → Came unread left (λ came. (due : Bool) × (text : List ℕ) × IsAnswered now came old new due text × Appends a c (continue_if due ++ text))
+    → Received unread left (λ received. (awaited : Bool) × (text : List ℕ) × IsAnswered now received old new awaited text × Appends a c (continue_if awaited ++ text))
 all_written unread left now read old new reply a b c told answered h =
     let r = answered told.0 left a b told.2 in
     (told.0, told.1, (r.0, h.0, r.2 h.0 h.1, appends_both a b c (continue_if r.0) h.0 r.1 h.2))
 
 -- a part of it
 pub part_written : (unread left : Option (List ℕ)) (now : ℕ) (read : Result Message WireFault) (old new : List ℕ → Option Organization) (reply : Answer) (a b c : Option (List ℕ))
-    → Came unread left (λ came. ReportsReceived came left a b read) → RepliesTo now read old new reply
+    → Received unread left (λ received. ReportsReceived received left a b read) → RepliesTo now read old new reply
     → (text : List ℕ) × IsReplyText reply now text × WritesPrefix b c text
-    → Came unread left (λ came. (due : Bool) × (part : List ℕ) × (rest : List ℕ) × (0 < length rest) × IsAnswered now came old new due (part ++ rest) × Appends a c (continue_if due ++ part))
+    → Received unread left (λ received. (awaited : Bool) × (part : List ℕ) × (rest : List ℕ) × (0 < length rest) × IsAnswered now received old new awaited (part ++ rest) × Appends a c (continue_if awaited ++ part))
 part_written unread left now read old new reply a b c told answered h =
     let r = answered told.0 left a b told.2 in
     let stops = h.2 in
     (told.0, told.1, (r.0, stops.0, stops.1, stops.2, r.2 (stops.0 ++ stops.1) (subst (IsReplyText reply now) stops.3 h.1), appends_both a b c (continue_if r.0) stops.0 r.1 stops.4))
 
--- no reply: what came is unfinished, or the 100 line wasn't taken
+-- no reply: what received is unfinished, or `100 Continue` wasn't taken
 pub no_reply : (unread left : Option (List ℕ)) (now : ℕ) (read : Result Message WireFault) (old new : List ℕ → Option Organization) (a b : Option (List ℕ)) (fault : LinkFault)
-    → Came unread left (λ came. ReportsReceived came left a b read) → fault ≢ LinkWrite
+    → Received unread left (λ received. ReportsReceived received left a b read) → fault ≢ LinkWrite
     → (fault ≡ LinkEnded → read ≡ Err Ended) → (fault ≡ LinkRead → read ≡ Err Read) → (fault ≡ LinkContinue → read ≡ Err Continue)
-    → Came unread left (λ came. Exchanges now came left old new a b {T = Unit {0}} (Err fault))
+    → Received unread left (λ received. Exchanges now received left old new a b {T = Unit {0}} (Err fault))
 no_reply unread left now read old new a b LinkEnded told write ended failed continued =
     (told.0, told.1, subst (λ (r : Result Message WireFault). ReportsReceived told.0 left a b r) (ended refl) told.2)
 no_reply unread left now read old new a b LinkRead told write ended failed continued =
@@ -205,7 +205,7 @@ no_reply unread left now read old new a b LinkWrite told write ended failed cont
 pub refused_whole : {T E : Type 0} (now : ℕ) (left : Option (List ℕ)) (rows : List ℕ → Option Organization) (reply : Answer) (a b : Option (List ℕ)) (written : Result T E) → reply ≡ unavailable_answer false
     → (text : List ℕ) × IsReplyText reply now text × Writes a b text written → Exchanges now [] left rows rows a b (ended_of written)
 refused_whole now left rows reply a b (Ok done) is h =
-    (false, h.0, inr (record { stays = λ org. refl; is_due = never; without_body = false; is_head = never; is = subst (λ (x : Answer). IsReplyText x now h.0) is h.1 }), h.2)
+    (false, h.0, inr (record { stays = λ org. refl; is_awaited = never; without_body = false; is_head = never; is = subst (λ (x : Answer). IsReplyText x now h.0) is h.1 }), h.2)
 refused_whole now left rows reply a b (Err fault) is h =
     let stops = h.2 in (
       false,
@@ -214,7 +214,7 @@ refused_whole now left rows reply a b (Err fault) is h =
       stops.2,
       inr (record {
         stays = λ org. refl;
-        is_due = never;
+        is_awaited = never;
         without_body = false;
         is_head = never;
         is = subst (IsReplyText (unavailable_answer false) now) stops.3 (subst (λ (x : Answer). IsReplyText x now h.0) is h.1);
@@ -222,7 +222,7 @@ refused_whole now left rows reply a b (Err fault) is h =
       stops.4,
     )
 
--- nothing came
+-- nothing received
 pub consumes_nothing : (left : Option (List ℕ)) → Consumes left left []
 consumes_nothing None = tt
 consumes_nothing (Some bytes) = refl

@@ -89,13 +89,13 @@ act_other (ReportRun number action) id body e = let none : ⊥ = cc in none
 ok_other : {A : Type 0} (a : A) → IsOther (Ok a)
 ok_other a e = let none : ⊥ = cc in none
 
-checked_other : (r : Option Organization) (asked : Asked) (digest : Option (List ℕ)) (body : List ℕ) → IsOther (checked r asked digest body)
-checked_other r asked digest body =
-    other_then (known_caller r asked) (after_caller r asked digest body) (caller_other (caller_of r (sha256 asked.secret))) (λ token.
-    other_then (may_do token asked) (λ _. after_role r asked digest body) (role_other (includes token.role (least_role asked.act)) (least_role asked.act)) (λ _.
-    other_then (in_reach asked) (λ _. after_reach r asked digest body) (required NotFound (is_in_reach asked) (λ is. let none : ⊥ = cc in none)) (λ _.
-    other_then (found r asked.act) (after_names asked digest body) (found_other r asked.act) (λ p.
-    other_then (digest_checked digest body) (λ _. and_then (act_of p.act asked.lock_id body) _) (required BadDigest (fits digest body) (λ is. let none : ⊥ = cc in none)) (λ _.
+checked_other : (r : Option Organization) (asked : Asked) (content_md5 : Option (List ℕ)) (body : List ℕ) → IsOther (checked r asked content_md5 body)
+checked_other r asked content_md5 body =
+    other_then (known_caller r asked) (after_caller r asked content_md5 body) (caller_other (caller_of r (sha256 asked.secret))) (λ token.
+    other_then (may_do token asked) (λ _. after_role r asked content_md5 body) (role_other (includes token.role (least_role asked.act)) (least_role asked.act)) (λ _.
+    other_then (in_reach asked) (λ _. after_reach r asked content_md5 body) (required NotFound (is_in_reach asked) (λ is. let none : ⊥ = cc in none)) (λ _.
+    other_then (found r asked.act) (after_names asked content_md5 body) (found_other r asked.act) (λ p.
+    other_then (digest_checked content_md5 body) (λ _. and_then (act_of p.act asked.lock_id body) _) (required BadDigest (fits content_md5 body) (λ is. let none : ⊥ = cc in none)) (λ _.
     other_then (act_of p.act asked.lock_id body) _ (act_other p.act asked.lock_id body) (λ act. ok_other _))))))
 
 -- the outcome that is answered 423 tells of a holder
@@ -111,12 +111,12 @@ seen_holder : (s : Seen) (act : Act) (now : ℕ) (h : Holder) → (rules act now
 seen_holder (missing room) act now h e = absurd (missing_tells_no_holder act room h e)
 seen_holder (there w) act now h e = (w, refl, refusals_tell_the_holder act now w h e)
 
-carried_holder : (r : Option Organization) (now : ℕ) (asked : Asked) (digest : Option (List ℕ)) (body : List ℕ) (x : Result Order Refusal) → checked r asked digest body ≡ x
+carried_holder : (r : Option Organization) (now : ℕ) (asked : Asked) (content_md5 : Option (List ℕ)) (body : List ℕ) (x : Result Order Refusal) → checked r asked content_md5 body ≡ x
     → (carried asked.caller now r x).answer.refusal ≡ Some Locked
     → (ws : List ℕ) × (w : Workspace) × NamesIn asked.act ws × (workspace_in r ws ≡ Some w) × ((carried asked.caller now r x).answer.body ≡ holder_text asked.caller ws w.holder)
-carried_holder r now asked digest body (Err refusal) e is = absurd (checked_other r asked digest body (e ∙ (let same : refusal ≡ Locked = cc in ap Err same)))
-carried_holder r now asked digest body (Ok o) e is =
-    let p : Passes r asked body o = order_passes r asked digest body o e in
+carried_holder r now asked content_md5 body (Err refusal) e is = absurd (checked_other r asked content_md5 body (e ∙ (let same : refusal ≡ Locked = cc in ap Err same)))
+carried_holder r now asked content_md5 body (Ok o) e is =
+    let p : Passes r asked body o = order_passes r asked content_md5 body o e in
     let s : Seen = seen_at r o.ws in
     let h : (h : Holder) × ((rules o.act now s).answer ≡ held h) = held_by asked.caller o.ws (rules o.act now s).answer is (never_refused_as_locked o.act now s) in
     let w : (w : Workspace) × (s ≡ there w) × (h.0 ≡ w.holder) = seen_holder s o.act now h.0 h.1 in (
@@ -128,4 +128,4 @@ carried_holder r now asked digest body (Ok o) e is =
     )
 
 pub locked_tells_the_holder : LockedTellsTheHolder
-locked_tells_the_holder r now asked digest body is = carried_holder r now asked digest body (checked r asked digest body) refl is
+locked_tells_the_holder r now asked content_md5 body is = carried_holder r now asked content_md5 body (checked r asked content_md5 body) refl is

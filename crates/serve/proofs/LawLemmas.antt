@@ -66,22 +66,22 @@ command_leaves (Some o) (TokenAdd org name role secret) apart = chosen (is_some 
     chosen true apart = refl
     chosen false apart = absurd (apart refl)
 
-answer_is : (due also : Bool) (at now : ℕ) (a b : Answer) → replies due at a ≡ replies also now b → a ≡ b
-answer_is due also at now a b e = cc
+answer_is : (awaited also : Bool) (at now : ℕ) (a b : Answer) → replies awaited at a ≡ replies also now b → a ≡ b
+answer_is awaited also at now a b e = cc
 
 word_is : (a b : AdminAnswer) → tells a ≡ tells b → a ≡ b
 word_is a b e = cc
 
 pub refusals_change_nothing : RefusalsChangeNothing
-refusals_change_nothing r silent = ((λ due at answer refusal e is. refl), (λ answer e apart. refl))
-refusals_change_nothing r (ask.refused at due refusal is_head) = ((λ due at answer refusal e is. refl), (λ answer e apart. refl))
-refusals_change_nothing r (requests at due asked digest body) = (
-  (λ also now answer refusal e is. carried_leaves asked.caller at r (checked r asked digest body) refusal
-      (ap (λ (a : Answer). a.refusal) (answer_is due also at now (request_step r at asked digest body).answer answer e) ∙ is)),
+refusals_change_nothing r silent = ((λ awaited at answer refusal e is. refl), (λ answer e apart. refl))
+refusals_change_nothing r (ask.refused at awaited refusal is_head) = ((λ awaited at answer refusal e is. refl), (λ answer e apart. refl))
+refusals_change_nothing r (requests at awaited asked content_md5 body) = (
+  (λ also now answer refusal e is. carried_leaves asked.caller at r (checked r asked content_md5 body) refusal
+      (ap (λ (a : Answer). a.refusal) (answer_is awaited also at now (request_step r at asked content_md5 body).answer answer e) ∙ is)),
   (λ answer e apart. absurd (let none : ⊥ = cc in none)),
 )
 refusals_change_nothing r (commands at command) = (
-  (λ due now answer refusal e is. absurd (let none : ⊥ = cc in none)),
+  (λ awaited now answer refusal e is. absurd (let none : ⊥ = cc in none)),
   (λ answer e apart. command_leaves r command (λ done. apart (sym (word_is (command_step r command).answer answer e) ∙ done))),
 )
 
@@ -89,30 +89,30 @@ refusals_change_nothing r (commands at command) = (
 out_is : (asked : Asked) → is_in_reach asked ≡ false → in_reach asked ≡ Err NotFound
 out_is asked e = ap (require NotFound) e
 
-out_after_role : (r : Option Organization) (asked : Asked) (digest : Option (List ℕ)) (body : List ℕ) → is_in_reach asked ≡ false → after_role r asked digest body ≡ Err NotFound
-out_after_role r asked digest body e = after_err (in_reach asked) (λ _. after_reach r asked digest body) NotFound (out_is asked e)
+out_after_role : (r : Option Organization) (asked : Asked) (content_md5 : Option (List ℕ)) (body : List ℕ) → is_in_reach asked ≡ false → after_role r asked content_md5 body ≡ Err NotFound
+out_after_role r asked content_md5 body e = after_err (in_reach asked) (λ _. after_reach r asked content_md5 body) NotFound (out_is asked e)
 
 pub out_of_reach_is_not_found : OutOfReachIsNotFound
-out_of_reach_is_not_found r now asked digest body token out known may =
+out_of_reach_is_not_found r now asked content_md5 body token out known may =
     ap (carried asked.caller now r)
-    (after_ok (known_caller r asked) (after_caller r asked digest body) token (Err NotFound) known
-    (after_ok (may_do token asked) (λ _. after_role r asked digest body) tt (Err NotFound) may (out_after_role r asked digest body out)))
+    (after_ok (known_caller r asked) (after_caller r asked content_md5 body) token (Err NotFound) known
+    (after_ok (may_do token asked) (λ _. after_role r asked content_md5 body) tt (Err NotFound) may (out_after_role r asked content_md5 body out)))
 
 -- a workspace that is lacking isn't found
 lacking : (b c : Bool) (r : Option Organization) (ws : List ℕ) → workspace_in r ws ≡ None → c ≡ false → (b && (c || is_some (workspace_in r ws))) ≡ false
 lacking true c r ws none e = ap (λ (d : Bool). d || is_some (workspace_in r ws)) e ∙ ap is_some none
 lacking false c r ws none e = refl
 
-absent_after_role : (r : Option Organization) (asked : Asked) (digest : Option (List ℕ)) (body org ws : List ℕ) (act : AskedAct) → NeedsWorkspace act → workspace_in r ws ≡ None
-    → after_role r (record asked { org = org; act = renamed act ws }) digest body ≡ Err NotFound
-absent_after_role r asked digest body org ws (ListWorkspaces after) needs none = absurd needs
-absent_after_role r asked digest body org ws (OfWorkspace old act) needs none = reached (is_in_reach other)
+absent_after_role : (r : Option Organization) (asked : Asked) (content_md5 : Option (List ℕ)) (body org ws : List ℕ) (act : AskedAct) → NeedsWorkspace act → workspace_in r ws ≡ None
+    → after_role r (record asked { org = org; act = renamed act ws }) content_md5 body ≡ Err NotFound
+absent_after_role r asked content_md5 body org ws (ListWorkspaces after) needs none = absurd needs
+absent_after_role r asked content_md5 body org ws (OfWorkspace old act) needs none = reached (is_in_reach other)
   where
     other : Asked
     other = record asked { org = org; act = OfWorkspace ws act }
 
-    reached : (b : Bool) → and_then (require NotFound b) (λ _. after_reach r other digest body) ≡ Err NotFound
-    reached true = after_err (found r (OfWorkspace ws act)) (after_names other digest body) NotFound
+    reached : (b : Bool) → and_then (require NotFound b) (λ _. after_reach r other content_md5 body) ≡ Err NotFound
+    reached true = after_err (found r (OfWorkspace ws act)) (after_names other content_md5 body) NotFound
         (ap (λ (b : Bool). found_if b (place ws act)) (lacking (is_served act) (makes act) r ws none needs))
     reached false = refl
 
@@ -122,7 +122,7 @@ role_stays (ListWorkspaces after) ws needs = absurd needs
 role_stays (OfWorkspace old act) ws needs = refl
 
 pub out_of_reach_is_as_absent : OutOfReachIsAsAbsent
-out_of_reach_is_as_absent r now asked digest body org ws out needs none = ap (carried asked.caller now r) (called (known_caller r asked))
+out_of_reach_is_as_absent r now asked content_md5 body org ws out needs none = ap (carried asked.caller now r) (called (known_caller r asked))
   where
     other : Asked
     other = record asked { org = org; act = renamed asked.act ws }
@@ -130,10 +130,10 @@ out_of_reach_is_as_absent r now asked digest body org ws out needs none = ap (ca
     allowed : (token : Token) → may_do token asked ≡ may_do token other
     allowed token = ap (λ (l : Role). allowed_by (if includes token.role l then None else Some (need_of l))) (sym (role_stays asked.act ws needs))
 
-    judged : (x : Result (Unit {0}) Refusal) → and_then x (λ _. after_role r asked digest body) ≡ and_then x (λ _. after_role r other digest body)
-    judged (Ok passed) = out_after_role r asked digest body out ∙ sym (absent_after_role r asked digest body org ws asked.act needs none)
+    judged : (x : Result (Unit {0}) Refusal) → and_then x (λ _. after_role r asked content_md5 body) ≡ and_then x (λ _. after_role r other content_md5 body)
+    judged (Ok passed) = out_after_role r asked content_md5 body out ∙ sym (absent_after_role r asked content_md5 body org ws asked.act needs none)
     judged (Err refusal) = refl
 
-    called : (x : Result Token Refusal) → and_then x (after_caller r asked digest body) ≡ and_then x (after_caller r other digest body)
-    called (Ok token) = judged (may_do token asked) ∙ ap (λ (x : Result (Unit {0}) Refusal). and_then x (λ _. after_role r other digest body)) (allowed token)
+    called : (x : Result Token Refusal) → and_then x (after_caller r asked content_md5 body) ≡ and_then x (after_caller r other content_md5 body)
+    called (Ok token) = judged (may_do token asked) ∙ ap (λ (x : Result (Unit {0}) Refusal). and_then x (λ _. after_role r other content_md5 body)) (allowed token)
     called (Err refusal) = refl

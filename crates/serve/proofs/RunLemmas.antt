@@ -9,11 +9,11 @@ use Rattle.wire.proofs.ReplyLemmas.{one_reply}
 use Rattle.wire.specs.Links.{continue_if}
 use Rattle.serve.specs.declared.steps.Step.{Step}
 use Rattle.serve.specs.declared.steps.Step.TheVariants.{Request, Command}
-use Rattle.serve.specs.Asks.{Ask, silent, refused, requests, commands, Owner, organization, nobody, operator, owner_of}
+use Rattle.serve.specs.Asks.{Ask, silent, refused, requests, commands, Owner, organization, unattributed, operator, owner_of}
 use Rattle.serve.specs.Steps.{Said, nothing, replies, tells, step, own_said, own_record}
 use Rattle.serve.specs.Service.{IsAsked, AreAsked, AreTexts, IsText, ask_of, same_owner, is_own, with_own, own_asks, replies_at, record_for, after_ask, said_to}
 use Rattle.serve.specs.Runs.{IsOwnMachine, IsOwnRecord, AreOwnReplies}
-use Rattle.serve.specs.Inner.Taking.{Takes, RunsTo}
+use Rattle.serve.specs.Inner.Taking.{IsTaken, RunsTo}
 use Rattle.serve.specs.Laws.{TwoWorlds, own_steps, SameStepsAskTheSame}
 
 with_own-append : {A : Type 0} (b : Bool) (a : A) (xs ys : List A) → with_own b a (xs ++ ys) ≡ with_own b a xs ++ ys
@@ -66,13 +66,13 @@ after_more false r a = refl
 -- equal owners
 owner_is : (owner other : Owner) → same_owner owner other ≡ true → owner ≡ other
 owner_is (organization a) (organization b) e = ap organization ((bytes_eq-Decides a b).0 e)
-owner_is (organization a) nobody e = absurd (let no : ⊥ = cc in no)
+owner_is (organization a) unattributed e = absurd (let no : ⊥ = cc in no)
 owner_is (organization a) operator e = absurd (let no : ⊥ = cc in no)
-owner_is nobody (organization b) e = absurd (let no : ⊥ = cc in no)
-owner_is nobody nobody e = refl
-owner_is nobody operator e = absurd (let no : ⊥ = cc in no)
+owner_is unattributed (organization b) e = absurd (let no : ⊥ = cc in no)
+owner_is unattributed unattributed e = refl
+owner_is unattributed operator e = absurd (let no : ⊥ = cc in no)
 owner_is operator (organization b) e = absurd (let no : ⊥ = cc in no)
-owner_is operator nobody e = absurd (let no : ⊥ = cc in no)
+owner_is operator unattributed e = absurd (let no : ⊥ = cc in no)
 owner_is operator operator e = refl
 
 -- what is said to the owner of one step more
@@ -83,26 +83,26 @@ said_more true owner rows a text e is =
 said_more false owner rows a text e is = tt
 
 -- the record that the owner's next step reads is what its own run has left
--- a step of nobody changes no record
-nobody_still : (b : Ask) (r : Option Organization) → same_owner nobody (owner_of b) ≡ true → (step r b).left ≡ r
+-- a step of unattributed changes no record
+nobody_still : (b : Ask) (r : Option Organization) → same_owner unattributed (owner_of b) ≡ true → (step r b).left ≡ r
 nobody_still silent r e = refl
-nobody_still (refused at due refusal is_head) r e = refl
-nobody_still (requests at due asked digest body) r e = absurd (let no : ⊥ = cc in no)
+nobody_still (refused at awaited refusal is_head) r e = refl
+nobody_still (requests at awaited asked content_md5 body) r e = absurd (let no : ⊥ = cc in no)
 nobody_still (commands at command) r e = absurd (let no : ⊥ = cc in no)
 
-one_of_nobody : (t : Bool) (b : Ask) (rest : List Ask) (r : Option Organization) → is_own nobody b ≡ t → own_record r rest ≡ r → own_record r (with_own t b rest) ≡ r
+one_of_nobody : (t : Bool) (b : Ask) (rest : List Ask) (r : Option Organization) → is_own unattributed b ≡ t → own_record r rest ≡ r → own_record r (with_own t b rest) ≡ r
 one_of_nobody true b rest r e h = ap (λ (x : Option Organization). own_record x rest) (nobody_still b r e) ∙ h
 one_of_nobody false b rest r e h = h
 
-nobody_stays : (asked : List Ask) (r : Option Organization) → own_record r (own_asks nobody asked) ≡ r
+nobody_stays : (asked : List Ask) (r : Option Organization) → own_record r (own_asks unattributed asked) ≡ r
 nobody_stays [] r = refl
-nobody_stays (b ∷ asked) r = one_of_nobody (is_own nobody b) b (own_asks nobody asked) r refl (nobody_stays asked r)
+nobody_stays (b ∷ asked) r = one_of_nobody (is_own unattributed b) b (own_asks unattributed asked) r refl (nobody_stays asked r)
 
 -- no step so far is the operator's over all organizations
 not_operator : (a : Ask) → is_own operator a ≡ false
 not_operator silent = refl
-not_operator (refused at due refusal is_head) = refl
-not_operator (requests at due asked digest body) = refl
+not_operator (refused at awaited refusal is_head) = refl
+not_operator (requests at awaited asked content_md5 body) = refl
 not_operator (commands at command) = refl
 
 none_of_operator : (asked : List Ask) → own_asks operator asked ≡ []
@@ -112,14 +112,14 @@ none_of_operator (a ∷ asked) = ap (λ (b : Bool). with_own b a (own_asks opera
 own_so_far : (owner : Owner) (asked : List Ask) (old mid : List ℕ → Option Organization) → ((org : List ℕ) → IsOwnRecord asked old mid org)
     → record_for mid owner ≡ own_record (record_for old owner) (own_asks owner asked)
 own_so_far (organization org) asked old mid rows = rows org
-own_so_far nobody asked old mid rows = sym (nobody_stays asked None)
+own_so_far unattributed asked old mid rows = sym (nobody_stays asked None)
 own_so_far operator asked old mid rows = sym (ap (own_record None) (none_of_operator asked))
 
 pub runs_none : (rows : List ℕ → Option Organization) → RunsTo [] rows rows []
 runs_none rows = record { asked = []; are = tt; rows = λ org. refl; texts = λ owner. tt }
 
 pub runs_more : (steps : List Step) (s : Step) (old mid new : List ℕ → Option Organization) (ts : List (List ℕ)) (text : List ℕ)
-    → length ts ≡ length steps → RunsTo steps old mid ts → Takes s text mid new → RunsTo (steps ++ s ∷ []) old new (ts ++ text ∷ [])
+    → length ts ≡ length steps → RunsTo steps old mid ts → IsTaken s text mid new → RunsTo (steps ++ s ∷ []) old new (ts ++ text ∷ [])
 runs_more steps s old mid new ts text len run taken =
     let asked = run.asked in
     let a = taken.ask in
@@ -164,7 +164,7 @@ all_asked_one (s ∷ steps) (a ∷ xs) (b ∷ ys) h k = ap (λ (x : Ask). x ∷ 
 -- a thing said has one text
 one_text : (said : Said) (x y : List ℕ) → IsText said x → IsText said y → x ≡ y
 one_text nothing x y h k = h ∙ sym k
-one_text (replies due at answer) x y h k = h.2 ∙ ap (λ (r : List ℕ). continue_if due ++ r) (one_reply answer at h.0 k.0 h.1 k.1) ∙ sym k.2
+one_text (replies awaited at answer) x y h k = h.2 ∙ ap (λ (r : List ℕ). continue_if awaited ++ r) (one_reply answer at h.0 k.0 h.1 k.1) ∙ sym k.2
 one_text (tells answer) x y h k = h ∙ sym k
 
 pub one_list_of_texts : (said : List Said) (xs ys : List (List ℕ)) → AreTexts said xs → AreTexts said ys → xs ≡ ys
@@ -187,7 +187,7 @@ texts_by steps old new ts run asked are owner = subst (λ (x : List Ask). AreOwn
 -- the step at hand, after those before it
 pub step_more : (steps : List Step) (i : ℕ) (s : Step) (old mid new : List ℕ → Option Organization) (ts more : List (List ℕ)) (text : List ℕ)
     → i < length steps → s ≡ get_or steps i s → length ts ≡ i → more ≡ ts ++ text ∷ []
-    → RunsTo (take i steps) old mid ts → Takes s text mid new → RunsTo (take (i + 1) steps) old new more
+    → RunsTo (take i steps) old mid ts → IsTaken s text mid new → RunsTo (take (i + 1) steps) old new more
 step_more steps i s old mid new ts more text within is len pushed run taken =
     let size : length (take i steps) ≡ i = length-take-le i steps (omega arith) in
     let longer : take (i + 1) steps ≡ take i steps ++ s ∷ [] = take_more steps i s within ∙ ap (λ (x : Step). take i steps ++ x ∷ []) (sym is) in

@@ -18,7 +18,7 @@ use Rattle.serve.specs.Steps.{request_step}
 use Rattle.serve.specs.Service.{asked_by, Asks, Carries, Stays, said_to, IsText, after_ask, is_own}
 use Rattle.serve.specs.Steps.{Said, tells}
 use Rattle.serve.specs.Service.{IsAsked, admin_text}
-use Rattle.serve.specs.Inner.Taking.{Takes}
+use Rattle.serve.specs.Inner.Taking.{IsTaken}
 use Rattle.serve.specs.declared.steps.Step.{Step}
 use Rattle.serve.specs.declared.steps.Step.TheVariants.{Command}
 use Rattle.serve.specs.declared.steps.Admin.{Admin}
@@ -26,57 +26,57 @@ use Rattle.machine.specs.declared.keeps.AdminAnswer.{AdminAnswer}
 use Rattle.serve.proofs.RecordLemmas.{if_ok}
 
 -- what is said of what is prepared
-pub said_is : (rows : List ℕ → Option Organization) (at : ℕ) (due : Bool) (message : Message) (asking : Asking) (p : Prepared) (text : List ℕ)
-    → IsPrepared rows (asked_by at due message asking) p → IsReplyText p.reply at text → IsText (said_to rows (asked_by at due message asking)) (continue_if due ++ text)
-said_is rows at due message (route.refused refusal) p text h is = (text, subst (λ (a : Answer). IsReplyText a at text) h.0 is, refl)
-said_is rows at due message (asks asked) p text h is = (text, subst (λ (a : Answer). IsReplyText a at text) h.answer is, refl)
+pub said_is : (rows : List ℕ → Option Organization) (at : ℕ) (awaited : Bool) (message : Message) (asking : Asking) (p : Prepared) (text : List ℕ)
+    → IsPrepared rows (asked_by at awaited message asking) p → IsReplyText p.reply at text → IsText (said_to rows (asked_by at awaited message asking)) (continue_if awaited ++ text)
+said_is rows at awaited message (route.refused refusal) p text h is = (text, subst (λ (a : Answer). IsReplyText a at text) h.0 is, refl)
+said_is rows at awaited message (asks asked) p text h is = (text, subst (λ (a : Answer). IsReplyText a at text) h.answer is, refl)
 
-said_bytes : (rows : List ℕ → Option Organization) (at : ℕ) (due : Bool) (message : Message) (p : Prepared) (front bytes : List ℕ)
-    → IsPrepared rows (asked_by at due message (asked_of message)) p → front ≡ continue_if due
-    → (text : List ℕ) × IsReplyText p.reply at text × (bytes ≡ front ++ text)
-    → IsText (said_to rows (asked_by at due message (asked_of message))) bytes
-said_bytes rows at due message p front bytes prepared e h =
-    subst (λ (b : List ℕ). IsText (said_to rows (asked_by at due message (asked_of message))) b) (sym (h.2 ∙ ap (λ (f : List ℕ). f ++ h.0) e))
-    (said_is rows at due message (asked_of message) p h.0 prepared h.1)
+said_bytes : (rows : List ℕ → Option Organization) (at : ℕ) (awaited : Bool) (message : Message) (p : Prepared) (interim bytes : List ℕ)
+    → IsPrepared rows (asked_by at awaited message (asked_of message)) p → interim ≡ continue_if awaited
+    → (text : List ℕ) × IsReplyText p.reply at text × (bytes ≡ interim ++ text)
+    → IsText (said_to rows (asked_by at awaited message (asked_of message))) bytes
+said_bytes rows at awaited message p interim bytes prepared e h =
+    subst (λ (b : List ℕ). IsText (said_to rows (asked_by at awaited message (asked_of message))) b) (sym (h.2 ∙ ap (λ (f : List ℕ). f ++ h.0) e))
+    (said_is rows at awaited message (asked_of message) p h.0 prepared h.1)
 
 -- what is prepared stays so over rows that stay
 pub prepared_after : (old new : List ℕ → Option Organization) (a : Ask) (p : Prepared) → Stays old new → IsPrepared old a p → IsPrepared new a p
 prepared_after old new silent p stays h = h
-prepared_after old new (ask.refused at due refusal is_head) p stays h = h
-prepared_after old new (requests at due asked digest body) p stays h =
-    subst (λ (r : Option Organization). Foresees r asked.caller (request_step r at asked digest body) p) (sym (stays asked.caller)) h
+prepared_after old new (ask.refused at awaited refusal is_head) p stays h = h
+prepared_after old new (requests at awaited asked content_md5 body) p stays h =
+    subst (λ (r : Option Organization). Foresees r asked.caller (request_step r at asked content_md5 body) p) (sym (stays asked.caller)) h
 prepared_after old new (commands at command) p stays h = h
 
 pub carries_after : (old mid new : List ℕ → Option Organization) (a : Ask) → Stays old mid → Carries a mid new → Carries a old new
 carries_after old mid new a stays carries = λ org. carries org ∙ ap (after_ask (is_own (organization org) a) a) (stays org)
 
 -- a message is prepared, its text is made, and its change follows
-pub message_taken : (old mid new : List ℕ → Option Organization) (at : ℕ) (due : Bool) (message : Message) (p : Prepared) (front bytes : List ℕ)
-    → Stays old mid → IsPrepared old (asked_by at due message (asked_of message)) p
+pub message_taken : (old mid new : List ℕ → Option Organization) (at : ℕ) (awaited : Bool) (message : Message) (p : Prepared) (interim bytes : List ℕ)
+    → Stays old mid → IsPrepared old (asked_by at awaited message (asked_of message)) p
     → ((a : Ask) → IsPrepared mid a p → Carries a mid new)
-    → front ≡ continue_if due → (text : List ℕ) × IsReplyText p.reply at text × (bytes ≡ front ++ text)
-    → Carries (asked_by at due message (asked_of message)) old new × IsText (said_to old (asked_by at due message (asked_of message))) bytes
-message_taken old mid new at due message p front bytes stays prepared carried e h =
-    let a : Ask = asked_by at due message (asked_of message) in
-    (carries_after old mid new a stays (carried a (prepared_after old mid a p stays prepared)), said_bytes old at due message p front bytes prepared e h)
+    → interim ≡ continue_if awaited → (text : List ℕ) × IsReplyText p.reply at text × (bytes ≡ interim ++ text)
+    → Carries (asked_by at awaited message (asked_of message)) old new × IsText (said_to old (asked_by at awaited message (asked_of message))) bytes
+message_taken old mid new at awaited message p interim bytes stays prepared carried e h =
+    let a : Ask = asked_by at awaited message (asked_of message) in
+    (carries_after old mid new a stays (carried a (prepared_after old mid a p stays prepared)), said_bytes old at awaited message p interim bytes prepared e h)
 
 -- a message that came
-pub whole_taken : {E : Type 0} (old new : List ℕ → Option Organization) (at : ℕ) (bytes : List ℕ) (message : Message) (front : List ℕ) (res : Result (List ℕ) E)
-    → (due : Bool) × Reads bytes (whole message due) × (front ≡ continue_if due)
-    → IfOk res (λ text. (due : Bool) → front ≡ continue_if due
-    → Carries (asked_by at due message (asked_of message)) old new × IsText (said_to old (asked_by at due message (asked_of message))) text)
+pub whole_taken : {E : Type 0} (old new : List ℕ → Option Organization) (at : ℕ) (bytes : List ℕ) (message : Message) (interim : List ℕ) (res : Result (List ℕ) E)
+    → (awaited : Bool) × Reads bytes (whole message awaited) × (interim ≡ continue_if awaited)
+    → IfOk res (λ text. (awaited : Bool) → interim ≡ continue_if awaited
+    → Carries (asked_by at awaited message (asked_of message)) old new × IsText (said_to old (asked_by at awaited message (asked_of message))) text)
     → IfOk res (λ text. (a : Ask) × Asks at bytes a × Carries a old new × IsText (said_to old a) text)
-whole_taken old new at bytes message front res came h =
+whole_taken old new at bytes message interim res came h =
     if_ok res (λ text taken.
     let both = taken came.0 came.2 in
     (asked_by at came.0 message (asked_of message), record { reading = whole message came.0; reads = came.1; is = refl }, both.0, both.1)) h
 
 -- a refused head
-pub refused_taken : {E : Type 0} (rows : List ℕ → Option Organization) (at : ℕ) (bytes : List ℕ) (refusal : Refusal) (is_head : Bool) (reply : Answer) (front : List ℕ) (res : Result (List ℕ) E)
-    → Reads bytes (wire.refused refusal is_head) → reply ≡ refused_answer refusal (error_text refusal) is_head → front ≡ []
-    → IfOk res (λ b. (text : List ℕ) × IsReplyText reply at text × (b ≡ front ++ text))
+pub refused_taken : {E : Type 0} (rows : List ℕ → Option Organization) (at : ℕ) (bytes : List ℕ) (refusal : Refusal) (is_head : Bool) (reply : Answer) (interim : List ℕ) (res : Result (List ℕ) E)
+    → Reads bytes (wire.refused refusal is_head) → reply ≡ refused_answer refusal (error_text refusal) is_head → interim ≡ []
+    → IfOk res (λ b. (text : List ℕ) × IsReplyText reply at text × (b ≡ interim ++ text))
     → IfOk res (λ text. (a : Ask) × Asks at bytes a × Carries a rows rows × IsText (said_to rows a) text)
-refused_taken rows at bytes refusal is_head reply front res reads is none h =
+refused_taken rows at bytes refusal is_head reply interim res reads is none h =
     if_ok res (λ b made. (
       ask.refused at false refusal is_head,
       record { reading = wire.refused refusal is_head; reads = reads; is = refl },
@@ -92,7 +92,7 @@ silence_taken rows at bytes text reads none = (silent, record { reading = unfini
 -- an operator's command
 pub command_taken : {E : Type 0} (s : Step) (at : ℕ) (command : Admin) (old new : List ℕ → Option Organization) (res : Result (List ℕ) E) → s ≡ Command at command
     → IfOk res (λ text. (at : ℕ) → Carries (commands at command) old new × IsText (said_to old (commands at command)) text)
-    → IfOk res (λ text. Takes s text old new)
+    → IfOk res (λ text. IsTaken s text old new)
 command_taken s at command old new res is h =
     if_ok res (λ text taken. record {
       ask = commands at command;

@@ -5,13 +5,13 @@ use Rattle.route.specs.declared.acts.Asked.{Asked}
 use Rattle.serve.specs.declared.steps.Admin.{Admin}
 use Rattle.serve.specs.declared.steps.Admin.TheVariants.{OrgAdd, TokenAdd}
 
--- what a step asks, at a moment; the flag `due` says that the 100 line goes before the reply
+-- what a step asks, at a moment; the flag `awaited` says that `100 Continue` goes before the reply
 pub data Ask : Type 0 where
   -- nothing, since its message is unfinished
   silent : Ask
   -- nothing of any organization: it is refused by what its bytes say; the last flag says that the method is HEAD
   refused : ℕ → Bool → Refusal → Bool → Ask
-  -- an act, in the name of the organization of a token, with the digest of the body, if it has one, and the body
+  -- an act, in the name of the organization of a token, with the content_md5 of the body, if it has one, and the body
   requests : ℕ → Bool → Asked → Option (List ℕ) → List ℕ → Ask
   -- an operator's command
   commands : ℕ → Admin → Ask
@@ -20,8 +20,8 @@ pub data Ask : Type 0 where
 pub data Owner : Type 0 where
   -- the organization's of this name
   organization : List ℕ → Owner
-  -- nobody's: what its bytes say is refused, or unfinished
-  nobody : Owner
+  -- unattributed's: what its bytes say is refused, or unfinished
+  unattributed : Owner
   -- the operator's, over all organizations
   operator : Owner
 
@@ -30,9 +30,9 @@ abbrev pub commanded_of : Admin → List ℕ
 commanded_of (OrgAdd org limit) = org
 commanded_of (TokenAdd org name role secret) = org
 
--- whose step it is: of the organization that the token or the command names, or nobody's
+-- whose step it is: of the organization that the token or the command names, or unattributed's
 abbrev pub owner_of : Ask → Owner
-owner_of silent = nobody
-owner_of (refused at due refusal is_head) = nobody
-owner_of (requests at due asked digest body) = organization asked.caller
+owner_of silent = unattributed
+owner_of (refused at awaited refusal is_head) = unattributed
+owner_of (requests at awaited asked content_md5 body) = organization asked.caller
 owner_of (commands at command) = organization (commanded_of command)

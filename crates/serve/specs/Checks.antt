@@ -99,13 +99,13 @@ abbrev pub found : Option Organization → AskedAct → Result Place Refusal
 found r (ListWorkspaces after) = Err NotFound
 found r (OfWorkspace ws act) = found_if (is_found r ws act) (place ws act)
 
--- Content-MD5, where it is sent, is the digest of the body
+-- Content-MD5, where it is sent, is the content_md5 of the body
 abbrev pub fits : Option (List ℕ) → List ℕ → Bool
 fits None body = true
 fits (Some field) body = digest_fits field body
 
 abbrev pub digest_checked : Option (List ℕ) → List ℕ → Result (Unit {0}) Refusal
-digest_checked digest body = require BadDigest (fits digest body)
+digest_checked content_md5 body = require BadDigest (fits content_md5 body)
 
 -- the act that the body's document spells, or why it spells none
 abbrev pub spelt : {A : Type 0} → Refusal → (A → Act) → Option A → Result Act Refusal
@@ -133,13 +133,13 @@ act_of (ReportRun number action) id body = Err NotFound
 abbrev pub order : List ℕ → Act → Order
 order ws act = record { ws = ws; act = act }
 
--- the checks in their order: the caller, the role, the organization, the names, the digest, the document
+-- the checks in their order: the caller, the role, the organization, the names, the content_md5, the document
 abbrev pub checked : Option Organization → Asked → Option (List ℕ) → List ℕ → Result Order Refusal
-checked r asked digest body =
+checked r asked content_md5 body =
     and_then (known_caller r asked) (λ token.
     and_then (may_do token asked) (λ _.
     and_then (in_reach asked) (λ _.
     and_then (found r asked.act) (λ p.
-    and_then (digest_checked digest body) (λ _.
+    and_then (digest_checked content_md5 body) (λ _.
     and_then (act_of p.act asked.lock_id body) (λ act.
     Ok (order p.ws act)))))))

@@ -25,8 +25,8 @@ NamesIn (OfWorkspace name act) ws = name ≡ ws
 -- the step names this workspace
 abbrev pub Names : Ask → List ℕ → Type 0
 Names silent ws = ⊥
-Names (ask.refused at due refusal is_head) ws = ⊥
-Names (requests at due asked digest body) ws = NamesIn asked.act ws
+Names (ask.refused at awaited refusal is_head) ws = ⊥
+Names (requests at awaited asked content_md5 body) ws = NamesIn asked.act ws
 Names (commands at command) ws = ⊥
 
 -- a step changes at most the workspace that it names
@@ -36,8 +36,8 @@ StepsChangeWhatTheyName = (r : Option Organization) (what : Ask) (ws : List ℕ)
 -- the request has this ID in its query
 abbrev pub CarriesId : Ask → List ℕ → Type 0
 CarriesId silent held = ⊥
-CarriesId (ask.refused at due refusal is_head) held = ⊥
-CarriesId (requests at due asked digest body) held = asked.lock_id ≡ Some held
+CarriesId (ask.refused at awaited refusal is_head) held = ⊥
+CarriesId (requests at awaited asked content_md5 body) held = asked.lock_id ≡ Some held
 CarriesId (commands at command) held = ⊥
 
 -- the act, its documents read, that is asked of a workspace
@@ -48,8 +48,8 @@ IsActOn (OfWorkspace ws what) id body act = act_of what id body ≡ Ok act
 -- the request is an UNLOCK by this ID, or one with an empty body
 abbrev pub ReleasesLock : Ask → List ℕ → Type 0
 ReleasesLock silent held = ⊥
-ReleasesLock (ask.refused at due refusal is_head) held = ⊥
-ReleasesLock (requests at due asked digest body) held = (act : Act) × IsActOn asked.act asked.lock_id body act × Releases act held
+ReleasesLock (ask.refused at awaited refusal is_head) held = ⊥
+ReleasesLock (requests at awaited asked content_md5 body) held = (act : Act) × IsActOn asked.act asked.lock_id body act × Releases act held
 ReleasesLock (commands at command) held = ⊥
 
 -- what a step leaves of a workspace that a lock holds: its versions, or the step named it and carried the lock's ID; and the
@@ -67,15 +67,15 @@ LocksAreKept = (r : Option Organization) (what : Ask) (ws : List ℕ) (w : Works
 -- the same thing asked at another moment: the same bytes, sent again
 abbrev pub asked_again : ℕ → Ask → Ask
 asked_again later silent = silent
-asked_again later (ask.refused at due refusal is_head) = ask.refused later due refusal is_head
-asked_again later (requests at due asked digest body) = requests later due asked digest body
+asked_again later (ask.refused at awaited refusal is_head) = ask.refused later awaited refusal is_head
+asked_again later (requests at awaited asked content_md5 body) = requests later awaited asked content_md5 body
 asked_again later (commands at command) = commands later command
 
 -- what may come again
 abbrev pub MayRepeat : Ask → Type 0
 MayRepeat silent = ⊤
-MayRepeat (ask.refused at due refusal is_head) = ⊤
-MayRepeat (requests at due asked digest body) = (act : Act) → IsActOn asked.act asked.lock_id body act → IsRepeatable act
+MayRepeat (ask.refused at awaited refusal is_head) = ⊤
+MayRepeat (requests at awaited asked content_md5 body) = (act : Act) → IsActOn asked.act asked.lock_id body act → IsRepeatable act
 MayRepeat (commands at command) = ⊤
 
 -- what comes again, while the record is as the first left it, changes nothing more
@@ -86,7 +86,7 @@ StepsAreRepeatable = (r : Option Organization) (what : Ask) (later : ℕ) → Ma
 -- what is said doesn't refuse
 abbrev pub IsAccepted : Said → Type 0
 IsAccepted nothing = ⊥
-IsAccepted (replies due at answer) = answer.refusal ≡ None
+IsAccepted (replies awaited at answer) = answer.refusal ≡ None
 IsAccepted (tells answer) = answer ≡ Done
 
 -- what was accepted and comes again, while the workspace is as the first left it, whatever became of the rest, changes nothing more
@@ -96,7 +96,7 @@ RepeatsLeaveTheWorkspace = (r q : Option Organization) (what : Ask) (later : ℕ
 
 -- the body of a 423 is the holder's: the text that took the lock, or that of the run
 abbrev pub LockedTellsTheHolder : Type 0
-LockedTellsTheHolder = (r : Option Organization) (now : ℕ) (asked : Asked) (digest : Option (List ℕ)) (body : List ℕ)
-    → (request_step r now asked digest body).answer.refusal ≡ Some Locked
+LockedTellsTheHolder = (r : Option Organization) (now : ℕ) (asked : Asked) (content_md5 : Option (List ℕ)) (body : List ℕ)
+    → (request_step r now asked content_md5 body).answer.refusal ≡ Some Locked
     → (ws : List ℕ) × (w : Workspace) × NamesIn asked.act ws × (workspace_in r ws ≡ Some w)
-    × ((request_step r now asked digest body).answer.body ≡ holder_text asked.caller ws w.holder)
+    × ((request_step r now asked content_md5 body).answer.body ≡ holder_text asked.caller ws w.holder)

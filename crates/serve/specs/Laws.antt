@@ -46,15 +46,15 @@ SameStepsAskTheSame = (org : List ℕ) (steps others : List Step) (asked other :
 
 -- a refusal leaves the record equal, of every step: a reply that refuses, and a command that isn't answered as done
 abbrev pub RefusalsChangeNothing : Type 0
-RefusalsChangeNothing = (r : Option Organization) (ask : Ask) → ((due : Bool) (at : ℕ) (answer : Answer) (refusal : Refusal)
-    → (step r ask).answer ≡ replies due at answer → answer.refusal ≡ Some refusal → (step r ask).left ≡ r)
+RefusalsChangeNothing = (r : Option Organization) (ask : Ask) → ((awaited : Bool) (at : ℕ) (answer : Answer) (refusal : Refusal)
+    → (step r ask).answer ≡ replies awaited at answer → answer.refusal ≡ Some refusal → (step r ask).left ≡ r)
     × ((answer : AdminAnswer) → (step r ask).answer ≡ tells answer → answer ≢ Done → (step r ask).left ≡ r)
 
 -- a request whose caller and role pass, and which is out of the caller's reach, is answered not-found, whatever it asks
 abbrev pub OutOfReachIsNotFound : Type 0
-OutOfReachIsNotFound = (r : Option Organization) (now : ℕ) (asked : Asked) (digest : Option (List ℕ)) (body : List ℕ) (token : Token)
+OutOfReachIsNotFound = (r : Option Organization) (now : ℕ) (asked : Asked) (content_md5 : Option (List ℕ)) (body : List ℕ) (token : Token)
     → is_in_reach asked ≡ false → known_caller r asked ≡ Ok token → may_do token asked ≡ Ok tt
-    → request_step r now asked digest body ≡ refusing NotFound r
+    → request_step r now asked content_md5 body ≡ refusing NotFound r
 
 -- the same act on another workspace
 abbrev pub renamed : AskedAct → List ℕ → AskedAct
@@ -69,6 +69,6 @@ NeedsWorkspace (OfWorkspace ws act) = makes act ≡ false
 -- a request that is out of the caller's reach has the answer of the same request on a workspace that the caller's own
 -- organization lacks, under whatever organization's path, and changes nothing either
 abbrev pub OutOfReachIsAsAbsent : Type 0
-OutOfReachIsAsAbsent = (r : Option Organization) (now : ℕ) (asked : Asked) (digest : Option (List ℕ)) (body org ws : List ℕ)
+OutOfReachIsAsAbsent = (r : Option Organization) (now : ℕ) (asked : Asked) (content_md5 : Option (List ℕ)) (body org ws : List ℕ)
     → is_in_reach asked ≡ false → NeedsWorkspace asked.act → workspace_in r ws ≡ None
-    → request_step r now asked digest body ≡ request_step r now (record asked { org = org; act = renamed asked.act ws }) digest body
+    → request_step r now asked content_md5 body ≡ request_step r now (record asked { org = org; act = renamed asked.act ws }) content_md5 body

@@ -13,7 +13,7 @@ use Rattle.wire.specs.Links.{continue_if}
 use Rattle.wire.specs.Replies.{IsReplyText}
 use Rattle.serve.specs.declared.steps.Step.{Step}
 use Rattle.serve.specs.declared.steps.Step.TheVariants.{Request, Command}
-use Rattle.serve.specs.Asks.{Ask, silent, refused, requests, commands, Owner, organization, nobody, operator, owner_of}
+use Rattle.serve.specs.Asks.{Ask, silent, refused, requests, commands, Owner, organization, unattributed, operator, owner_of}
 use Rattle.serve.specs.Steps.{Said, nothing, replies, tells, step}
 
 -- the method of a message is HEAD
@@ -22,14 +22,14 @@ is_head message = bytes_eq message.method (codes "HEAD")
 
 -- what a message asks at a moment
 abbrev pub asked_by : ℕ → Bool → Message → Asking → Ask
-asked_by at due message (route.refused refusal) = refused at due refusal (is_head message)
-asked_by at due message (asks asked) = requests at due asked message.content_md5 message.body
+asked_by at awaited message (route.refused refusal) = refused at awaited refusal (is_head message)
+asked_by at awaited message (asks asked) = requests at awaited asked message.content_md5 message.body
 
 -- what the reading of a string of bytes asks at a moment
 abbrev pub ask_of : ℕ → Reading → Ask
 ask_of at unfinished = silent
 ask_of at (wire.refused refusal head) = refused at false refusal head
-ask_of at (whole message due) = asked_by at due message (asked_of message)
+ask_of at (whole message awaited) = asked_by at awaited message (asked_of message)
 
 -- what the bytes of a connection ask at a moment
 pub record Asks (at : ℕ) (bytes : List ℕ) (ask : Ask) : Type 0 where
@@ -58,7 +58,7 @@ admin_text Absent = codes "refused absent\n"
 -- the text of what is said
 abbrev pub IsText : Said → List ℕ → Type 0
 IsText nothing text = text ≡ []
-IsText (replies due at answer) text = (reply : List ℕ) × IsReplyText answer at reply × (text ≡ continue_if due ++ reply)
+IsText (replies awaited at answer) text = (reply : List ℕ) × IsReplyText answer at reply × (text ≡ continue_if awaited ++ reply)
 IsText (tells answer) text = text ≡ admin_text answer
 
 abbrev pub AreTexts : List Said → List (List ℕ) → Type 0
@@ -70,13 +70,13 @@ AreTexts (s ∷ said) (t ∷ ts) = IsText s t × AreTexts said ts
 -- the same owner
 abbrev pub same_owner : Owner → Owner → Bool
 same_owner (organization a) (organization b) = bytes_eq a b
-same_owner (organization a) nobody = false
+same_owner (organization a) unattributed = false
 same_owner (organization a) operator = false
-same_owner nobody (organization b) = false
-same_owner nobody nobody = true
-same_owner nobody operator = false
+same_owner unattributed (organization b) = false
+same_owner unattributed unattributed = true
+same_owner unattributed operator = false
 same_owner operator (organization b) = false
-same_owner operator nobody = false
+same_owner operator unattributed = false
 same_owner operator operator = true
 
 abbrev pub is_own : Owner → Ask → Bool
@@ -87,7 +87,7 @@ abbrev pub with_own : {A : Type 0} → Bool → A → List A → List A
 with_own true a rest = a ∷ rest
 with_own false a rest = rest
 
--- what is asked of one organization, or of nobody, in the order of the steps
+-- what is asked of one organization, or of unattributed, in the order of the steps
 abbrev pub own_asks : Owner → List Ask → List Ask
 own_asks owner [] = []
 own_asks owner (a ∷ asked) = with_own (is_own owner a) a (own_asks owner asked)
@@ -101,7 +101,7 @@ replies_at owner (a ∷ asked) (t ∷ ts) = with_own (is_own owner a) t (replies
 -- the record that a step reads: that of its organization, and none where it is of no organization
 abbrev pub record_for : (List ℕ → Option Organization) → Owner → Option Organization
 record_for rows (organization org) = rows org
-record_for rows nobody = None
+record_for rows unattributed = None
 record_for rows operator = None
 
 -- the record of an organization after what is asked: only its own steps change it

@@ -12,7 +12,7 @@ use Rattle.machine.specs.Tokens.{Managed, org_added, token_added, token_of}
 use Rattle.machine.specs.declared.acts.Shown.{Shown}
 use Rattle.machine.specs.declared.keeps.AdminAnswer.{AdminAnswer}
 use Rattle.machine.specs.declared.records.Holder.{Holder}
-use Rattle.machine.specs.declared.records.Holder.TheVariants.{Nobody, Lock as LockHolder, Run as RunHolder}
+use Rattle.machine.specs.declared.records.Holder.TheVariants.{Nobody, Lock as HeldLock, Run as HeldRun}
 use Rattle.machine.specs.declared.records.Organization.{Organization}
 use Rattle.route.specs.declared.acts.Asked.{Asked}
 use Rattle.wire.specs.Replies.{Answer, empty_answer, no_content_answer, document_answer, refused_answer}
@@ -27,7 +27,7 @@ use Rattle.serve.specs.declared.prepared.Order.{Order}
 pub data Said : Type 0 where
   -- nothing
   nothing : Said
-  -- a reply: an answer at a moment, after the 100 line where it is due
+  -- a reply: an answer at a moment, after `100 Continue` where it is awaited
   replies : Bool → ℕ → Answer → Said
   -- the word that answers an operator's command
   tells : AdminAnswer → Said
@@ -43,8 +43,8 @@ refusing refusal r = effect (refused_answer refusal (error_text refusal) false) 
 -- the body that tells who holds: the text that took the lock, byte for byte, or that of the run
 abbrev pub holder_text : List ℕ → List ℕ → Holder → List ℕ
 holder_text org ws Nobody = []
-holder_text org ws (LockHolder id text) = text
-holder_text org ws (RunHolder n) = run_holder_text org ws n
+holder_text org ws (HeldLock id text) = text
+holder_text org ws (HeldRun n) = run_holder_text org ws n
 
 -- the workspace of a name, as it is shown
 abbrev pub row_of : List ℕ → Shown → WsRow
@@ -75,19 +75,19 @@ carried org now r (Ok order) = ruled_in org order.ws r (rules order.act now (see
 
 -- what a request of an organization is answered at a moment
 abbrev pub request_step : Option Organization → ℕ → Asked → Option (List ℕ) → List ℕ → Answered
-request_step r now asked digest body = carried asked.caller now r (checked r asked digest body)
+request_step r now asked content_md5 body = carried asked.caller now r (checked r asked content_md5 body)
 
 -- what an operator's command is answered
 abbrev pub command_step : Option Organization → Admin → Managed
 command_step r (OrgAdd org limit) = org_added limit r
 command_step r (TokenAdd org name role secret) = token_added name (token_of (sha256 secret) role) r
 
--- the step of an organization's machine: what is said, and the record afterwards; a step of nobody changes no record and reads none
+-- the step of an organization's machine: what is said, and the record afterwards; a step of unattributed changes no record and reads none
 abbrev pub step : Option Organization → Ask → Effect Said (Option Organization)
 step r silent = effect nothing r
-step r (ask.refused at due refusal is_head) = effect (replies due at (refused_answer refusal (error_text refusal) is_head)) r
-step r (requests at due asked digest body) =
-    let done = request_step r at asked digest body in effect (replies due at done.answer) done.left
+step r (ask.refused at awaited refusal is_head) = effect (replies awaited at (refused_answer refusal (error_text refusal) is_head)) r
+step r (requests at awaited asked content_md5 body) =
+    let done = request_step r at asked content_md5 body in effect (replies awaited at done.answer) done.left
 step r (commands at command) =
     let done = command_step r command in effect (tells done.answer) done.left
 

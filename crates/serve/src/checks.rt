@@ -142,20 +142,20 @@ pub fn found<K: Keep>(
     }
 }
 
-fn fits(digest: &Option<Bytes>, body: &Bytes) -> bool
-    ensures { result ≡ fits digest.now body.now }
+fn fits(content_md5: &Option<Bytes>, body: &Bytes) -> bool
+    ensures { result ≡ fits content_md5.now body.now }
 {
-    match digest {
+    match content_md5 {
         None => true,
         Some(field) => digest_fits(field.as_slice(), body.as_slice()),
     }
 }
 
-/// Whether Content-MD5, where it is sent, is the digest of the body (RFC 1864).
-pub fn digest_checked(digest: &Option<Bytes>, body: &Bytes) -> Result<(), Refusal>
-    ensures { result ≡ digest_checked digest.now body.now }
+/// Whether Content-MD5, where it is sent, is the content_md5 of the body (RFC 1864).
+pub fn digest_checked(content_md5: &Option<Bytes>, body: &Bytes) -> Result<(), Refusal>
+    ensures { result ≡ digest_checked content_md5.now body.now }
 {
-    let is_fit = fits(digest, body);
+    let is_fit = fits(content_md5, body);
     require(is_fit, Refusal::BadDigest)
 }
 

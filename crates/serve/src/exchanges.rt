@@ -9,7 +9,7 @@ ghost use Rattle.std.specs.Io.KnownBytes.{Consumes};
 ghost use Rattle.serve.specs.Exchanges.{Exchanges, ChangesAtMostOne};
 ghost use Rattle.serve.specs.Inner.Replying.{RepliesTo};
 
-use crate::messages::{carry, is_head, prepare, refused_reply};
+use crate::messages::{commit, is_head, prepare, refused_reply};
 use basis::{Down, Moment};
 use machine::Keep;
 use route::Routes;
@@ -23,7 +23,7 @@ pub enum LinkFault {
     Ended,
     /// A read failed.
     Read,
-    /// Writing the 100 line failed.
+    /// Writing `100 Continue` failed.
     Continue,
     /// Writing the reply failed: a front of it is written, and the step is taken.
     Write,
@@ -39,13 +39,13 @@ fn answer<K: Keep>(
 ) -> Result<Reply, Down>
     ensures so_far { K.clean keep.new → K.clean keep.old }
     ensures kept { K.clean keep.new → K.sound keep.old → K.sound keep.new }
-    ensures ok { K.clean keep.new → K.sound keep.old → IfOk result (λ reply. (due : Bool)
-        → Carries (asked_by now due message (asked_of message)) (K.rows keep.old) (K.rows keep.new)
-        × (said_to (K.rows keep.old) (asked_by now due message (asked_of message)) ≡ replies due now reply)) }
+    ensures ok { K.clean keep.new → K.sound keep.old → IfOk result (λ reply. (awaited : Bool)
+        → Carries (asked_by now awaited message (asked_of message)) (K.rows keep.old) (K.rows keep.new)
+        × (said_to (K.rows keep.old) (asked_by now awaited message (asked_of message)) ≡ replies awaited now reply)) }
     ensures err { K.clean keep.new → OnErr result (Stays (K.rows keep.old) (K.rows keep.new)) }
 {
     let prepared = prepare(alloc, keep, routes, now, message)?;
-    carry(alloc, keep, &prepared)?;
+    commit(alloc, keep, &prepared)?;
     Ok(prepared.reply)
 }
 
@@ -112,8 +112,8 @@ pub fn exchange<K: Keep, I: Inlet, O: Outlet>(
     requires writes { O.broken outlet.old ≡ false }
     ensures so_far { K.clean keep.new → K.clean keep.old }
     ensures kept { K.clean keep.new → K.sound keep.old → K.sound keep.new }
-    ensures told { K.clean keep.new → K.sound keep.old → (came : List ℕ) × Consumes (I.left inlet.old) (I.left inlet.new) came
-        × Exchanges now came (I.left inlet.new) (K.rows keep.old) (K.rows keep.new) (O.written outlet.old) (O.written outlet.new) result }
+    ensures told { K.clean keep.new → K.sound keep.old → (received : List ℕ) × Consumes (I.left inlet.old) (I.left inlet.new) received
+        × Exchanges now received (I.left inlet.new) (K.rows keep.old) (K.rows keep.new) (O.written outlet.old) (O.written outlet.new) result }
     ensures stays { K.clean keep.new → (IsErrOf result LinkFault.Ended ⊎ (IsErrOf result LinkFault.Read ⊎ IsErrOf result LinkFault.Continue))
         → Stays (K.rows keep.old) (K.rows keep.new) }
     ensures others { K.clean keep.new → K.sound keep.old → ChangesAtMostOne (K.rows keep.old) (K.rows keep.new) }

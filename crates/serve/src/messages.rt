@@ -7,10 +7,10 @@ ghost use Rattle.wire.specs.Links.{continue_if};
 ghost use Rattle.route.specs.Asks.{asked_of};
 ghost use Rattle.serve.specs.Asks.{Ask};
 ghost use Rattle.machine.specs.Keeping.{Looks};
-ghost use Rattle.serve.specs.Inner.Prepared.{IsPrepared, IsCome};
+ghost use Rattle.serve.specs.Inner.Prepared.{IsPrepared, IsReceived};
 ghost use Rattle.serve.specs.Service.{is_head, asked_by, Asks, Carries, Stays, said_to, IsText};
 
-use crate::prepared::{Came, Prepared};
+use crate::prepared::{Prepared, Received};
 use crate::requests::request;
 use basis::{Bytes, Down, Moment, Refusal};
 use docs::write_error;
@@ -41,15 +41,15 @@ pub fn prepare<K: Keep>(
     message: Message,
 ) -> Result<Prepared, Down>
     ensures looks { Looks K.rows K.clean K.sound keep.old keep.new }
-    ensures ok { K.clean keep.new → K.sound keep.old → IfOk result (λ p. (due : Bool)
-        → IsPrepared (K.rows keep.old) (asked_by at due message (asked_of message)) p) }
+    ensures ok { K.clean keep.new → K.sound keep.old → IfOk result (λ p. (awaited : Bool)
+        → IsPrepared (K.rows keep.old) (asked_by at awaited message (asked_of message)) p) }
 {
     let found = asked(alloc, routes, &message);
     let is_head = is_head(&message);
-    let digest = message.content_md5;
+    let content_md5 = message.content_md5;
     let body = message.body;
     match found {
-        Ok(asked) => request(alloc, keep, at, &asked, &digest, body),
+        Ok(asked) => request(alloc, keep, at, &asked, &content_md5, body),
         Err(Refusal::Unavailable) => Err(Down),
         Err(refusal) => Ok(Prepared {
             reply: refused_reply(alloc, refusal, is_head)?,
@@ -59,7 +59,7 @@ pub fn prepare<K: Keep>(
 }
 
 /// Makes the change that was prepared.
-pub fn carry<K: Keep>(alloc: Global, keep: &mut K, prepared: &Prepared) -> Result<(), Down>
+pub fn commit<K: Keep>(alloc: Global, keep: &mut K, prepared: &Prepared) -> Result<(), Down>
     ensures so_far { K.clean keep.new → K.clean keep.old }
     ensures kept { K.clean keep.new → K.sound keep.old → (ask : Ask) → IsPrepared (K.rows keep.old) ask prepared.now → K.sound keep.new }
     ensures ok { K.clean keep.new → K.sound keep.old → OnOk result ((ask : Ask) → IsPrepared (K.rows keep.old) ask prepared.now
@@ -72,11 +72,11 @@ pub fn carry<K: Keep>(alloc: Global, keep: &mut K, prepared: &Prepared) -> Resul
     }
 }
 
-/// The text of a reply, after what stands in front of it.
-pub fn reply_bytes(reply: &Reply, at: Moment, front: Vec<u8>) -> Result<Bytes, Down>
-    ensures { IfOk result (λ bytes. (text : List ℕ) × IsReplyText reply.now at text × (bytes ≡ front.items ++ text)) }
+/// The text of a reply, after what stands in interim of it.
+pub fn reply_bytes(reply: &Reply, at: Moment, interim: Vec<u8>) -> Result<Bytes, Down>
+    ensures { IfOk result (λ bytes. (text : List ℕ) × IsReplyText reply.now at text × (bytes ≡ interim.items ++ text)) }
 {
-    let mut outlet = ToWrite::new(front);
+    let mut outlet = ToWrite::new(interim);
     if write_reply(reply, at, &mut outlet).is_err() {
         return Err(Down);
     }
@@ -84,18 +84,18 @@ pub fn reply_bytes(reply: &Reply, at: Moment, front: Vec<u8>) -> Result<Bytes, D
 }
 
 /// What the bytes of a connection are.
-pub fn read_bytes(alloc: Global, bytes: &[u8]) -> Result<Came, Down>
-    ensures { IfOk result (IsCome bytes.now) }
+pub fn read_bytes(alloc: Global, bytes: &[u8]) -> Result<Received, Down>
+    ensures { IfOk result (IsReceived bytes.now) }
 {
     let mut inlet = FromRead::new(bytes);
     let mut outlet = ToWrite::new(Vec::new(alloc));
     match read_message(alloc, &mut inlet, &mut outlet) {
-        Ok(message) => Ok(Came::Whole {
+        Ok(message) => Ok(Received::Whole {
             message,
-            front: outlet.into_inner(),
+            interim: outlet.into_inner(),
         }),
-        Err(WireFault::Refused(refusal, is_head)) => Ok(Came::Refused(refusal, is_head)),
-        Err(WireFault::Ended) => Ok(Came::Unfinished),
+        Err(WireFault::Refused(refusal, is_head)) => Ok(Received::Refused(refusal, is_head)),
+        Err(WireFault::Ended) => Ok(Received::Unfinished),
         Err(WireFault::Read | WireFault::Continue | WireFault::Down) => Err(Down),
     }
 }
@@ -107,18 +107,18 @@ fn take_message<K: Keep>(
     routes: &Routes,
     at: Moment,
     message: Message,
-    front: Vec<u8>,
+    interim: Vec<u8>,
 ) -> Result<Bytes, Down>
     ensures so_far { K.clean keep.new → K.clean keep.old }
     ensures kept { K.clean keep.new → K.sound keep.old → K.sound keep.new }
-    ensures ok { K.clean keep.new → K.sound keep.old → IfOk result (λ text. (due : Bool) → front.items ≡ continue_if due
-        → Carries (asked_by at due message (asked_of message)) (K.rows keep.old) (K.rows keep.new)
-        × IsText (said_to (K.rows keep.old) (asked_by at due message (asked_of message))) text) }
+    ensures ok { K.clean keep.new → K.sound keep.old → IfOk result (λ text. (awaited : Bool) → interim.items ≡ continue_if awaited
+        → Carries (asked_by at awaited message (asked_of message)) (K.rows keep.old) (K.rows keep.new)
+        × IsText (said_to (K.rows keep.old) (asked_by at awaited message (asked_of message))) text) }
     ensures err { K.clean keep.new → OnErr result (Stays (K.rows keep.old) (K.rows keep.new)) }
 {
     let prepared = prepare(alloc, keep, routes, at, message)?;
-    let text = reply_bytes(&prepared.reply, at, front)?;
-    carry(alloc, keep, &prepared)?;
+    let text = reply_bytes(&prepared.reply, at, interim)?;
+    commit(alloc, keep, &prepared)?;
     Ok(text)
 }
 
@@ -137,11 +137,13 @@ pub fn take_request<K: Keep>(
     ensures err { K.clean keep.new → OnErr result (Stays (K.rows keep.old) (K.rows keep.new)) }
 {
     match read_bytes(alloc, bytes)? {
-        Came::Whole { message, front } => take_message(alloc, keep, routes, at, message, front),
-        Came::Refused(refusal, is_head) => {
+        Received::Whole { message, interim } => take_message(
+            alloc, keep, routes, at, message, interim,
+        ),
+        Received::Refused(refusal, is_head) => {
             let reply = refused_reply(alloc, refusal, is_head)?;
             reply_bytes(&reply, at, Vec::new(alloc))
         }
-        Came::Unfinished => Ok(Bytes::new(Vec::new(alloc))),
+        Received::Unfinished => Ok(Bytes::new(Vec::new(alloc))),
     }
 }

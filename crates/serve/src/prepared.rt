@@ -34,10 +34,10 @@ pub struct Prepared {
     pub pending: Option<Pending>,
 }
 
-/// What came on a connection: a message, with the 100 line where it was written, or why there is none.
+/// What came on a connection: a message, with `100 Continue` where it was written, or why there is none.
 #[derive(Drop)]
-pub enum Came {
-    Whole { message: Message, front: Vec<u8> },
+pub enum Received {
+    Whole { message: Message, interim: Vec<u8> },
     Refused(Refusal, bool),
     Unfinished,
 }

@@ -32,14 +32,14 @@ pub fn request<K: Keep>(
     keep: &mut K,
     at: Moment,
     asked: &Asked,
-    digest: &Option<Bytes>,
+    content_md5: &Option<Bytes>,
     body: Bytes,
 ) -> Result<Prepared, Down>
     ensures looks { Looks K.rows K.clean K.sound keep.old keep.new }
     ensures ok { K.clean keep.new → K.sound keep.old → IfOk result (Foresees (K.rows keep.old asked.now.caller) asked.now.caller
-        (request_step (K.rows keep.old asked.now.caller) at asked.now digest.now body)) }
+        (request_step (K.rows keep.old asked.now.caller) at asked.now content_md5.now body)) }
 {
-    match checked(alloc, keep, asked, digest, body) {
+    match checked(alloc, keep, asked, content_md5, body) {
         Ok(order) => rule(alloc, keep, at, &asked.caller, &order),
         Err(refusal) => refuse_unless_down(alloc, refusal),
     }
@@ -51,11 +51,11 @@ fn checked<K: Keep>(
     alloc: Global,
     keep: &mut K,
     asked: &Asked,
-    digest: &Option<Bytes>,
+    content_md5: &Option<Bytes>,
     body: Bytes,
 ) -> Result<Order, Refusal>
     ensures looks { Looks K.rows K.clean K.sound keep.old keep.new }
-    ensures ok { K.clean keep.new → K.sound keep.old → Follows result (checked (K.rows keep.old asked.now.caller) asked.now digest.now body) }
+    ensures ok { K.clean keep.new → K.sound keep.old → Follows result (checked (K.rows keep.old asked.now.caller) asked.now content_md5.now body) }
     ensures range { IfOk result (λ order. IsInRange order.act) }
     ensures there { K.clean keep.new → K.sound keep.old → OnOk result (IsSome (K.rows keep.old asked.now.caller)) }
 {
@@ -73,7 +73,7 @@ fn checked<K: Keep>(
         Ok(place) => place,
         Err(refusal) => return Err(refusal),
     };
-    if let Err(refusal) = digest_checked(digest, &body) {
+    if let Err(refusal) = digest_checked(content_md5, &body) {
         return Err(refusal);
     }
     match act_of(alloc, place.act, &asked.lock_id, body) {
@@ -205,7 +205,7 @@ fn accept<K: Keep>(
 }
 
 /// What a decision is answered, and its change.
-fn carry_out<K: Keep>(
+fn answer_decision<K: Keep>(
     alloc: Global,
     keep: &mut K,
     org: &OrgName,
@@ -249,5 +249,5 @@ fn rule<K: Keep>(
     prove!(at.seconds() <= MAX_MOMENT);
     let unit = keep.unit(alloc, org, &order.ws, &order.act)?;
     let decision = decide(&unit, &order.act, at)?;
-    carry_out(alloc, keep, org, &order.ws, &unit, decision)
+    answer_decision(alloc, keep, org, &order.ws, &unit, decision)
 }

@@ -4,8 +4,8 @@ ghost use Rattle.machine.specs.declared.records.Organization.{Organization};
 ghost use Rattle.std.specs.Io.KnownBytes.{Consumes};
 ghost use Rattle.serve.specs.Exchanges.{Exchanges, ChangesAtMostOne};
 ghost use Rattle.serve.specs.Inner.Replying.{ended_of};
-ghost use Rattle.serve.specs.Inner.Taking.{Takes, RunsTo};
-ghost use Rattle.serve.specs.Asks.{Ask, commands, nobody};
+ghost use Rattle.serve.specs.Inner.Taking.{IsTaken, RunsTo};
+ghost use Rattle.serve.specs.Asks.{Ask, commands, unattributed};
 ghost use Rattle.serve.specs.Steps.{tells};
 ghost use Rattle.serve.specs.Service.{IsText, Stays, Carries, said_to, AreAsked};
 ghost use Rattle.serve.specs.Runs.{IsOwnMachine, IsOwnRecord, AreOwnReplies};
@@ -46,7 +46,7 @@ fn take_step<K: Keep>(
 ) -> Result<Bytes, Down>
     ensures so_far { K.clean keep.new → K.clean keep.old }
     ensures kept { K.clean keep.new → K.sound keep.old → K.sound keep.new }
-    ensures ok { K.clean keep.new → K.sound keep.old → IfOk result (λ text. Takes step.now text (K.rows keep.old) (K.rows keep.new)) }
+    ensures ok { K.clean keep.new → K.sound keep.old → IfOk result (λ text. IsTaken step.now text (K.rows keep.old) (K.rows keep.new)) }
     ensures err { K.clean keep.new → OnErr result (Stays (K.rows keep.old) (K.rows keep.new)) }
 {
     match step {
@@ -170,10 +170,10 @@ impl<K: Keep> Service<K> {
         requires writes { O.broken outlet.old ≡ false }
         ensures so_far { K.clean self.new.keep → K.clean self.old.keep }
         ensures kept { K.clean self.new.keep → K.sound self.old.keep → K.sound self.new.keep }
-        ensures told { K.clean self.new.keep → K.sound self.old.keep → (came : List ℕ) × Consumes (I.left inlet.old) (I.left inlet.new) came
-            × Exchanges now came (I.left inlet.new) (K.rows self.old.keep) (K.rows self.new.keep) (O.written outlet.old) (O.written outlet.new) result }
+        ensures told { K.clean self.new.keep → K.sound self.old.keep → (received : List ℕ) × Consumes (I.left inlet.old) (I.left inlet.new) received
+            × Exchanges now received (I.left inlet.new) (K.rows self.old.keep) (K.rows self.new.keep) (O.written outlet.old) (O.written outlet.new) result }
 
-        // What needs no bytes: where no whole message came no record changes, and never more than one does.
+        // What needs no bytes: where no whole message received no record changes, and never more than one does.
         ensures stays { K.clean self.new.keep → (IsErrOf result LinkFault.Ended ⊎ (IsErrOf result LinkFault.Read ⊎ IsErrOf result LinkFault.Continue))
             → Stays (K.rows self.old.keep) (K.rows self.new.keep) }
         ensures others { K.clean self.new.keep → K.sound self.old.keep → ChangesAtMostOne (K.rows self.old.keep) (K.rows self.new.keep) }
@@ -225,7 +225,7 @@ impl<K: Keep> Service<K> {
         result
     }
 
-    /// Takes steps in turn, each answered in full before it changes anything, and gives one reply for
+    /// IsTaken steps in turn, each answered in full before it changes anything, and gives one reply for
     /// each: empty for an unfinished message. The step that memory or the store refuses ends it with
     /// `Down`: it isn't taken, nor is any after it.
     pub fn replay(&mut self, alloc: Global, steps: &[Step]) -> Result<Vec<Bytes>, Down>
@@ -240,9 +240,9 @@ impl<K: Keep> Service<K> {
         ensures isolation { K.clean self.new.keep → K.sound self.old.keep → IfOk result (λ replies. (asked : List Ask) → AreAsked steps.now asked
             → (org : List ℕ) → IsOwnMachine org asked (K.rows self.old.keep) (K.rows self.new.keep) replies.items) }
 
-        // The replies to nobody's steps follow from their bytes and moments alone.
+        // The replies to unattributed's steps follow from their bytes and moments alone.
         ensures unattributed { K.clean self.new.keep → K.sound self.old.keep → IfOk result (λ replies. (asked : List Ask) → AreAsked steps.now asked
-            → AreOwnReplies asked (K.rows self.old.keep) replies.items nobody) }
+            → AreOwnReplies asked (K.rows self.old.keep) replies.items unattributed) }
 
         // Also after `Down`, each organization's record is that of its own machine, run over its own steps of those taken.
         ensures rows { K.clean self.new.keep → K.sound self.old.keep → (asked : List Ask) → AreAsked (take self.new.taken steps.now) asked

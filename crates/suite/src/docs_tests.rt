@@ -102,7 +102,7 @@ const MESSAGE: &[u8] = b"{\"message\":\"";
 
 const BESIDE: &[u8] = b"{\"serial\":1,\"x\":";
 
-// A front, a piece so many times and an end, and whether that is a document of the kind.
+// A prefix, a piece so many times and an end, and whether that is a document of the kind.
 const LONG: &[(Kind, &[u8], &[u8], usize, &[u8], bool)] = &[
     (Kind::State, LINEAGE, b"a", 256, b"\"}", true),
     (Kind::State, LINEAGE, b"a", 257, b"\"}", false),
@@ -162,8 +162,8 @@ const LONG: &[(Kind, &[u8], &[u8], usize, &[u8], bool)] = &[
 
 #[test]
 fn documents_have_bounds(rt: HostRuntime) -> Result<(), Fail> {
-    for (kind, front, piece, times, end, reads) in LONG {
-        let bytes = repeated(rt.alloc(), front, piece, *times, end)?;
+    for (kind, prefix, piece, times, end, reads) in LONG {
+        let bytes = repeated(rt.alloc(), prefix, piece, *times, end)?;
         assert!(rt;
             is_read(rt.alloc(), *kind, bytes.as_slice())? == *reads,
             "{kind:?} of {piece:?} {times} times"

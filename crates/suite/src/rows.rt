@@ -775,7 +775,7 @@ pub const MESSAGE_ROWS: &[Row] = &[
             ),
         ],
     },
-    // Messages that are cut, too large, without a length or without Host; the 100 line.
+    // Messages that are cut, too large, without a length or without Host; `100 Continue`.
     Row {
         name: "messages",
         steps: &[

@@ -195,8 +195,8 @@ fn heads_have_limits(rt: HostRuntime) -> Result<(), Fail> {
     let alloc = rt.alloc();
     let now = now()?;
     let mut service = set_up(&rt, alloc)?;
-    for (front, piece, times, end, reply) in HEADS {
-        let request = repeated(alloc, front, piece, *times, end).expect(&rt, "room");
+    for (prefix, piece, times, end, reply) in HEADS {
+        let request = repeated(alloc, prefix, piece, *times, end).expect(&rt, "room");
         let found = written(&rt, alloc, &mut service, now, request.as_slice());
         assert!(rt;
             found.as_slice() == reply.as_bytes(),
@@ -213,7 +213,7 @@ const POST: &[u8] =
 const TAKEN: &str =
     "HTTP/1.1 200 OK\r\nDate: Tue, 14 Nov 2023 22:13:20 GMT\r\nConnection: close\r\nCache-Control: private, no-store\r\nContent-Length: 0\r\n\r\n";
 
-// The reply is the same however the request is cut into reads, and a front of it has none.
+// The reply is the same however the request is cut into reads, and a prefix of it has none.
 #[test]
 fn requests_may_be_cut_anywhere(rt: HostRuntime) -> Result<(), Fail> {
     let alloc = rt.alloc();

@@ -1,15 +1,15 @@
 //! Long texts.
 use std::alloc::{AllocError, Global};
 
-/// A front, a piece so many times, and an end.
+/// A prefix, a piece so many times, and an end.
 pub fn repeated(
     alloc: Global,
-    front: &[u8],
+    prefix: &[u8],
     piece: &[u8],
     times: usize,
     end: &[u8],
 ) -> Result<Vec<u8>, AllocError> {
-    let mut bytes = Vec::from_slice(alloc, front)?;
+    let mut bytes = Vec::from_slice(alloc, prefix)?;
     for _ in 0..times {
         bytes.extend_from_slice(piece)?;
     }

@@ -118,7 +118,7 @@ fn each_rule_of_a_head_refuses(rt: HostRuntime) {
     }
 }
 
-// A front of a head, a piece so many times, and what comes of it once the head has ended.
+// A prefix of a head, a piece so many times, and what comes of it once the head has ended.
 const LONG_HEADS: &[(&str, &str, usize, Result<(), WireFault>)] = &[
     (GET, "X: 1\r\n", 62, Ok(())),
     (GET, "X: 1\r\n", 63, HEAD_TOO_LARGE),
@@ -136,9 +136,9 @@ const LONG_HEADS: &[(&str, &str, usize, Result<(), WireFault>)] = &[
 
 #[test]
 fn a_head_has_limits(rt: HostRuntime) -> Result<(), Fail> {
-    for (front, piece, times, want) in LONG_HEADS {
-        let (front, end) = (front.as_bytes(), b"\r\n\r\n");
-        let bytes = repeated(rt.alloc(), front, piece.as_bytes(), *times, end)?;
+    for (prefix, piece, times, want) in LONG_HEADS {
+        let (prefix, end) = (prefix.as_bytes(), b"\r\n\r\n");
+        let bytes = repeated(rt.alloc(), prefix, piece.as_bytes(), *times, end)?;
         let found = verdict(rt.alloc(), bytes.as_slice());
         assert_eq!(rt; found, *want, "at {piece} {times} times");
     }
@@ -486,7 +486,7 @@ fn replies_have_their_texts(rt: HostRuntime) -> Result<(), Fail> {
 }
 
 #[test]
-fn a_front_stands_after_a_failed_write(rt: HostRuntime) -> Result<(), Fail> {
+fn a_prefix_stands_after_a_failed_write(rt: HostRuntime) -> Result<(), Fail> {
     let now = now()?;
     for fails_at in 1..=128 {
         let mut outlet = make_sips(fails_at);

@@ -17,8 +17,8 @@ use Rattle.serve.specs.Asks.{Ask, silent, requests, commands}
 use Rattle.serve.specs.Asks as ask
 use Rattle.serve.specs.Checks.{known_caller}
 use Rattle.serve.specs.Steps.{Answered, request_step}
-use Rattle.serve.specs.declared.prepared.Came.{Came}
-use Rattle.serve.specs.declared.prepared.Came.TheVariants.{Whole, Refused, Unfinished}
+use Rattle.serve.specs.declared.prepared.Received.{Received}
+use Rattle.serve.specs.declared.prepared.Received.TheVariants.{Whole, Refused, Unfinished}
 use Rattle.serve.specs.declared.prepared.Pending.{Pending}
 use Rattle.serve.specs.declared.prepared.Prepared.{Prepared}
 
@@ -41,12 +41,12 @@ pub record Foresees (r : Option Organization) (org : List ℕ) (want : Answered)
 -- what is prepared is what is to be said, by the records as they stand
 abbrev pub IsPrepared : (List ℕ → Option Organization) → Ask → Prepared → Type 0
 IsPrepared rows silent p = ⊥
-IsPrepared rows (ask.refused at due refusal is_head) p = (p.reply ≡ refused_answer refusal (error_text refusal) is_head) × (p.pending ≡ None)
-IsPrepared rows (requests at due asked digest body) p = Foresees (rows asked.caller) asked.caller (request_step (rows asked.caller) at asked digest body) p
+IsPrepared rows (ask.refused at awaited refusal is_head) p = (p.reply ≡ refused_answer refusal (error_text refusal) is_head) × (p.pending ≡ None)
+IsPrepared rows (requests at awaited asked content_md5 body) p = Foresees (rows asked.caller) asked.caller (request_step (rows asked.caller) at asked content_md5 body) p
 IsPrepared rows (commands at command) p = ⊥
 
--- what came on a connection: a message and the 100 line that was written, or why there is none
-abbrev pub IsCome : List ℕ → Came → Type 0
-IsCome bytes (Whole message front) = (due : Bool) × Reads bytes (whole message due) × (front.items ≡ continue_if due)
-IsCome bytes (Refused refusal is_head) = Reads bytes (wire.refused refusal is_head)
-IsCome bytes Unfinished = Reads bytes unfinished
+-- what came on a connection: a message and `100 Continue` that was written, or why there is none
+abbrev pub IsReceived : List ℕ → Received → Type 0
+IsReceived bytes (Whole message interim) = (awaited : Bool) × Reads bytes (whole message awaited) × (interim.items ≡ continue_if awaited)
+IsReceived bytes (Refused refusal is_head) = Reads bytes (wire.refused refusal is_head)
+IsReceived bytes Unfinished = Reads bytes unfinished

@@ -12,8 +12,8 @@ use Rattle.serve.specs.declared.exchanges.LinkFault.TheVariants.{Write}
 
 -- the reply to what was read
 abbrev pub RepliesTo : ℕ → Result Message WireFault → (List ℕ → Option Organization) → (List ℕ → Option Organization) → Answer → Type 0
-RepliesTo now read old new reply = (came : List ℕ) (left before after : Option (List ℕ)) → ReportsReceived came left before after read
-    → (due : Bool) × Appends before after (continue_if due) × ((text : List ℕ) → IsReplyText reply now text → IsAnswered now came old new due text)
+RepliesTo now read old new reply = (received : List ℕ) (left before after : Option (List ℕ)) → ReportsReceived received left before after read
+    → (awaited : Bool) × Appends before after (continue_if awaited) × ((text : List ℕ) → IsReplyText reply now text → IsAnswered now received old new awaited text)
 
 -- a reply that was written, or not whole
 abbrev pub ended_of : {T E : Type 0} → Result T E → Result T LinkFault

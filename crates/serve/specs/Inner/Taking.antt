@@ -7,7 +7,7 @@ use Rattle.serve.specs.Service.{IsAsked, AreAsked, Carries, said_to, IsText}
 use Rattle.serve.specs.Runs.{IsOwnRecord, AreOwnReplies}
 
 -- one step taken: what it asks is carried out, and this is the text of what is said
-pub record Takes (s : Step) (text : List ℕ) (old new : List ℕ → Option Organization) : Type 0 where
+pub record IsTaken (s : Step) (text : List ℕ) (old new : List ℕ → Option Organization) : Type 0 where
   pub ask : Ask
   pub is : IsAsked s ask
   pub carries : Carries ask old new

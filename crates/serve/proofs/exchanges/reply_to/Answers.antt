@@ -7,16 +7,16 @@ use Rattle.serve.proofs.ExchangeLemmas.{served_reply, unavailable_message, answe
 use Rattle.serve.proofs.exchanges.reply_to.Goals as goal
 
 pub returns-in-Ok-answer-clause-ok : goal.returns-in-Ok-answer-clause-ok
-returns-in-Ok-answer-clause-ok g c = λ clean sound came left before after.
-    served_reply c.args.now came left before after c.in-Ok.message c.args.read (g.K.Keep.rows c.args.keep.now) (g.K.Keep.rows c.answer.new.keep) c.in-Ok-answer.reply c.in-Ok.is (c.in-Ok-answer.ensures.ok clean sound)
+returns-in-Ok-answer-clause-ok g c = λ clean sound received left before after.
+    served_reply c.args.now received left before after c.in-Ok.message c.args.read (g.K.Keep.rows c.args.keep.now) (g.K.Keep.rows c.answer.new.keep) c.in-Ok-answer.reply c.in-Ok.is (c.in-Ok-answer.ensures.ok clean sound)
 
 pub returns-in-Ok-answer-clause-others : goal.returns-in-Ok-answer-clause-others
 returns-in-Ok-answer-clause-others g c = λ clean sound.
     answered_one c.args.now c.in-Ok.message (g.K.Keep.rows c.args.keep.now) (g.K.Keep.rows c.answer.new.keep) c.in-Ok-answer.reply (c.in-Ok-answer.ensures.ok clean sound)
 
 pub returns-in-Err-answer-clause-ok : goal.returns-in-Err-answer-clause-ok
-returns-in-Err-answer-clause-ok g c = λ clean sound came left before after.
-    unavailable_message c.args.now came left before after c.in-Ok.message c.args.read c.is_head-is_head.result (g.K.Keep.rows c.args.keep.now) (g.K.Keep.rows c.answer.new.keep) c.unavailable.result c.in-Ok.is
+returns-in-Err-answer-clause-ok g c = λ clean sound received left before after.
+    unavailable_message c.args.now received left before after c.in-Ok.message c.args.read c.is_head-is_head.result (g.K.Keep.rows c.args.keep.now) (g.K.Keep.rows c.answer.new.keep) c.unavailable.result c.in-Ok.is
     c.is_head-is_head.ensures (c.in-Err-answer.ensures.err clean) c.unavailable.ensures
 
 pub returns-in-Err-answer-clause-others : goal.returns-in-Err-answer-clause-others

@@ -14,8 +14,8 @@ returns-in-Err-found-clause-ok g c = λ clean sound apart.
     let same : g.K.Keep.rows c.known_caller.new.keep asked.caller ≡ r = c.known_caller.ensures.looks.same before asked.caller in
     let some : IsSome (g.K.Keep.rows c.known_caller.new.keep asked.caller) = subst IsSome (sym same) (role_there r asked c.in-Ok.role known) in
     let missed = c.in-Err-found.ensures.ok clean (c.known_caller.ensures.looks.kept before sound) some apart in
-    past_reach r asked c.args.digest.now c.args.body c.in-Ok.role (Err c.in-Err-found.refusal) known (sym c.allowed.ensures ∙ c.in_default.is) (sym c.in_reach.ensures ∙ c.in_default-in_reach.is)
-    (after_err (found r asked.act) (after_names asked c.args.digest.now c.args.body) c.in-Err-found.refusal (subst (λ (x : Option Organization). found x asked.act ≡ Err c.in-Err-found.refusal) same missed))
+    past_reach r asked c.args.content_md5.now c.args.body c.in-Ok.role (Err c.in-Err-found.refusal) known (sym c.allowed.ensures ∙ c.in_default.is) (sym c.in_reach.ensures ∙ c.in_default-in_reach.is)
+    (after_err (found r asked.act) (after_names asked c.args.content_md5.now c.args.body) c.in-Err-found.refusal (subst (λ (x : Option Organization). found x asked.act ≡ Err c.in-Err-found.refusal) same missed))
 
 pub returns-in-Err-digest_checked-clause-ok : goal.returns-in-Err-digest_checked-clause-ok
 returns-in-Err-digest_checked-clause-ok g c = λ clean sound apart.
@@ -26,10 +26,10 @@ returns-in-Err-digest_checked-clause-ok g c = λ clean sound apart.
     let same : g.K.Keep.rows c.known_caller.new.keep asked.caller ≡ r = c.known_caller.ensures.looks.same before asked.caller in
     let some : IsSome (g.K.Keep.rows c.known_caller.new.keep asked.caller) = subst IsSome (sym same) (role_there r asked c.in-Ok.role known) in
     let met = c.in-Ok-found.ensures.ok clean (c.known_caller.ensures.looks.kept before sound) some in
-    past_reach r asked c.args.digest.now c.args.body c.in-Ok.role (Err c.in-Err-digest_checked.refusal) known (sym c.allowed.ensures ∙ c.in_default.is) (sym c.in_reach.ensures ∙ c.in_default-in_reach.is)
-    (after_ok (found r asked.act) (after_names asked c.args.digest.now c.args.body) c.in-Ok-found.place (Err c.in-Err-digest_checked.refusal)
+    past_reach r asked c.args.content_md5.now c.args.body c.in-Ok.role (Err c.in-Err-digest_checked.refusal) known (sym c.allowed.ensures ∙ c.in_default.is) (sym c.in_reach.ensures ∙ c.in_default-in_reach.is)
+    (after_ok (found r asked.act) (after_names asked c.args.content_md5.now c.args.body) c.in-Ok-found.place (Err c.in-Err-digest_checked.refusal)
     (subst (λ (x : Option Organization). found x asked.act ≡ Ok c.in-Ok-found.place) same met)
-    (after_err (digest_checked c.args.digest.now c.args.body) _ c.in-Err-digest_checked.refusal (sym c.digest_checked.ensures ∙ c.in-Err-digest_checked.is)))
+    (after_err (digest_checked c.args.content_md5.now c.args.body) _ c.in-Err-digest_checked.refusal (sym c.digest_checked.ensures ∙ c.in-Err-digest_checked.is)))
 
 pub returns-in-Ok-act_of-clause-ok : goal.returns-in-Ok-act_of-clause-ok
 returns-in-Ok-act_of-clause-ok g c = λ clean sound.
@@ -41,10 +41,10 @@ returns-in-Ok-act_of-clause-ok g c = λ clean sound.
     let some : IsSome (g.K.Keep.rows c.known_caller.new.keep asked.caller) = subst IsSome (sym same) (role_there r asked c.in-Ok.role known) in
     let met = c.in-Ok-found.ensures.ok clean (c.known_caller.ensures.looks.kept before sound) some in
     let made = Ok (order c.in-Ok-found.place.ws c.in-Ok-act_of.act) in
-    past_reach r asked c.args.digest.now c.args.body c.in-Ok.role made known (sym c.allowed.ensures ∙ c.in_default.is) (sym c.in_reach.ensures ∙ c.in_default-in_reach.is)
-    (after_ok (found r asked.act) (after_names asked c.args.digest.now c.args.body) c.in-Ok-found.place made
+    past_reach r asked c.args.content_md5.now c.args.body c.in-Ok.role made known (sym c.allowed.ensures ∙ c.in_default.is) (sym c.in_reach.ensures ∙ c.in_default-in_reach.is)
+    (after_ok (found r asked.act) (after_names asked c.args.content_md5.now c.args.body) c.in-Ok-found.place made
     (subst (λ (x : Option Organization). found x asked.act ≡ Ok c.in-Ok-found.place) same met)
-    (after_ok (digest_checked c.args.digest.now c.args.body) _ tt made (sym c.digest_checked.ensures ∙ c.in_default-digest_checked.is)
+    (after_ok (digest_checked c.args.content_md5.now c.args.body) _ tt made (sym c.digest_checked.ensures ∙ c.in_default-digest_checked.is)
     (after_ok (act_of c.in-Ok-found.place.act asked.lock_id c.args.body) (λ (a : Act). Ok (order c.in-Ok-found.place.ws a)) c.in-Ok-act_of.act made c.in-Ok-act_of.ensures refl)))
 
 pub returns-in-Ok-act_of-clause-range : goal.returns-in-Ok-act_of-clause-range

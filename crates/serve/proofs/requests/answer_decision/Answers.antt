@@ -2,7 +2,7 @@ use Rattle.std.proofs.Common.{subst}
 use Rattle.machine.specs.Records.{seen_in}
 use Rattle.machine.specs.Inner.Decisions.{ChangeIsDue}
 use Rattle.serve.proofs.RecordLemmas.{if_ok, refusal_foreseen}
-use Rattle.serve.proofs.requests.carry_out.Goals as goal
+use Rattle.serve.proofs.requests.answer_decision.Goals as goal
 
 pub returns-in_ok-reply-in-Refused-clause-ok : goal.returns-in_ok-reply-in-Refused-clause-ok
 returns-in_ok-reply-in-Refused-clause-ok g c = λ clean sound some seen due.
