@@ -1,0 +1,12 @@
+pub mod Casts
+pub mod Edits
+pub mod Frames
+pub mod KeyedLists
+pub mod Lead
+pub mod Meaning
+pub mod Own
+pub mod Tests
+pub mod Transactions
+pub mod Writes
+pub mod WsTexts
+pub mod WsWrites
