@@ -1,3 +1,5 @@
+pub mod Answered
+pub mod Calm
 pub mod Casts
 pub mod Edits
 pub mod Frames
@@ -5,6 +7,7 @@ pub mod KeyedLists
 pub mod Lead
 pub mod Meaning
 pub mod Own
+pub mod Reading
 pub mod Tests
 pub mod Transactions
 pub mod Writes

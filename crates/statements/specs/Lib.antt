@@ -1,5 +1,7 @@
 pub mod Changes
+pub mod Finds
 pub mod Place
+pub mod Queries
 pub mod Rows
 pub mod Schema
 pub mod Statements
