@@ -94,14 +94,13 @@ module _ (text : List ℕ) (is : IsQuery text) where
   none_shown params old new (inl failed) = absurd (not_failed params old new failed)
   none_shown params old new (inr h) = h.1
 
+  pub none_calm : (params : Row) (old new : State) → QueriesRow text params old new (Err QueryReturnedNoRows) → IsUnchanged old new
+  none_calm params old new h = shown_calm params old new [] (none_shown params old new h)
+
   pub error_calm : (params : Row) (old new : State) (e : Error) → QueriesRow text params old new (Err e) → IsUnchanged old new ⊎ IsRolledBack old new
   unfolding QueriesRow
   error_calm params old new e (inl failed) = failed_calm params old new e failed
   error_calm params old new e (inr h) = inl (shown_calm params old new [] h.1)
-
-  pub first_calm : (params : Row) (old new : State) (row : Option Row) → FirstRow text params old new row → IsUnchanged old new
-  first_calm params old new None h = shown_calm params old new [] h
-  first_calm params old new (Some row) h = row_calm params old new row h
 
   commits_none : (params : Row) (s : State) (db : Trees) → CommitsShowing text params s db → ⊥
   unfolding CommitsShowing

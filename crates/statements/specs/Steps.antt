@@ -1,6 +1,7 @@
 -- What a statement does: it changes the rows of our tables by a function, or reads a value of them.
-use Rattle.std.specs.Prelude.{◌≡◌, ◌⊎◌, true, IsTrue, Result, Ok, Err, IfOk, OnOk, OnErr}
-use Rattle.sqlite.specs.State.{State, HasCleanDisk, IsUnchanged, IsRolledBack, KeepsCommit}
+use Rattle.std.specs.Prelude.{◌≡◌, ◌⊎◌, ℕ, List, true, IsTrue, Result, Ok, Err, IfOk, OnOk, OnErr}
+use Rattle.sqlite_value.specs.Order.{Row}
+use Rattle.sqlite.specs.State.{State, HasCleanDisk, IsUnchanged, IsRolledBack, KeepsCommit, ExecutesInside}
 use Rattle.statements.specs.Tables.{Tables, Holds}
 
 -- The rows change by the function, inside the transaction, which goes on.
@@ -19,3 +20,7 @@ ChangesBy change old new result = HasCleanDisk new → IsTrue old.in_transaction
 abbrev pub ReadsBy : {X E : Type 0} → (Tables → X) → State → State → Result X E → Type 0
 ReadsBy read old new result =
     HasCleanDisk new → IfOk result (λ x. (t : Tables) → Holds old.now t → x ≡ read t) × (OnOk result (IsUnchanged old new) × OnErr result (IsUnchanged old new ⊎ IsRolledBack old new))
+
+-- a text that was run in a transaction
+abbrev pub Wrote : {X E : Type 0} → List ℕ → Row → State → State → Result X E → Type 0
+Wrote text params old new result = OnOk result ((count : ℕ) × ExecutesInside 0 text params old new (Ok count)) × OnErr result (KeepsCommit old new)
