@@ -24,6 +24,8 @@ use Rattle.sqlite.specs.Rows.{stamped}
 use Rattle.sqlite.specs.State.{State, Executes}
 use Rattle.sqlite_keyed.specs.Keyed.{IsKeyedBy, next_key}
 use Rattle.sqlite_keyed.specs.Lists.{update_where, delete_where}
+use Rattle.sqlite_keyed.proofs.SliceLemmas.{insert_next}
+use Rattle.sqlite_keyed.proofs.KeyedLemmas.{IsKeyedBy-insert_by}
 use Rattle.statements.specs.Place.{at_of, tree_of, IsAt, IsOwn}
 use Rattle.statements.specs.Rows.{Kept, id_of, stored}
 use Rattle.statements.proofs.Meaning.{Means}
@@ -123,3 +125,7 @@ module _ {R : Type 0} (cells : R → Row) (table : Table) (casts : (r : R) → c
       let one : made.0 ≡ (Null ∷ cells new_row) ∷ [] = made.1.1 ∙ given in
       let rows = inserted_rows cells old.now.trees here xs held keyed (record table { tree = here }) refl (Null ∷ cells new_row) new_row (ap₂ ◌∷◌ cast_null (casts new_row)) in
       (record { rows = went.rows ∙ ap (λ l. edited old.now.trees (Rattle.sqlite_rules.specs.Edit.edit_of old.now.trees (record table { tree = here }) [] Rattle.sqlite_rules.specs.declared.error.Rowids.TheVariants.Chosen 0 l)) one ∙ rows; others = went.others }, made.3)
+
+-- a new row keeps the rowids rising
+pub keyed_next : {R : Type 0} (xs : List (Kept R)) (r : R) → IsKeyedBy id_of xs → IsKeyedBy id_of (xs ++ (next_key id_of xs, r) ∷ [])
+keyed_next xs r keyed = subst (IsKeyedBy id_of) (insert_next id_of xs (next_key id_of xs, r) keyed refl) (IsKeyedBy-insert_by id_of xs (next_key id_of xs, r) keyed)

@@ -1,4 +1,5 @@
 pub mod Changes
+pub mod Decode
 pub mod Finds
 pub mod Place
 pub mod Queries

@@ -3,6 +3,11 @@
 #![tactic(auto)]
 
 mod calls;
+pub mod organizations;
 pub mod rows;
+pub mod runs;
+pub mod tokens;
+pub mod versions;
+pub mod workspaces;
 
 pub use rows::{Head, Holder, Run, Token, Version, Workspace};
