@@ -35,26 +35,32 @@ token_back : (x : Kept TokenRow) → kept_by token_at (stored token_cells x) ≡
 token_back x = λ i. (x.0, record { org = x.1.org; name = x.1.name; it = record { digest = x.1.it.digest; role = role_back x.1.it.role i } })
 
 ws_back : (x : Kept WsRow) → kept_by ws_at (stored ws_cells x) ≡ x
-ws_back x = λ i. (x.0, record {
-  org = x.1.org;
-  name = x.1.name;
-  it = record { auto = flag_back x.1.it.auto i; holder = holder_back x.1.it.holder i; released = text_back x.1.it.released i; next_version = x.1.it.next_version; next_run = x.1.it.next_run };
-})
+ws_back x = λ i. (
+  x.0,
+  record {
+    org = x.1.org;
+    name = x.1.name;
+    it = record { auto = flag_back x.1.it.auto i; holder = holder_back x.1.it.holder i; released = text_back x.1.it.released i; next_version = x.1.it.next_version; next_run = x.1.it.next_run };
+  },
+)
 
 run_back : (x : Kept RunRow) → kept_by run_at (stored run_cells x) ≡ x
-run_back x = λ i. (x.0, record {
-  org = x.1.org;
-  ws = x.1.ws;
-  it = record {
-    number = x.1.it.number;
-    plan_only = flag_back x.1.it.plan_only i;
-    key = text_back x.1.it.key i;
-    message = x.1.it.message;
-    created = x.1.it.created;
-    status = status_back x.1.it.status i;
-    action = action_cell_back x.1.it.action i;
-  };
-})
+run_back x = λ i. (
+  x.0,
+  record {
+    org = x.1.org;
+    ws = x.1.ws;
+    it = record {
+      number = x.1.it.number;
+      plan_only = flag_back x.1.it.plan_only i;
+      key = text_back x.1.it.key i;
+      message = x.1.it.message;
+      created = x.1.it.created;
+      status = status_back x.1.it.status i;
+      action = action_cell_back x.1.it.action i;
+    };
+  },
+)
 
 -- a database holds the rows of one `Tables` at most, and these are they
 pub tables-held : (db : Database) (t : Tables) → Holds db t → tables_of db ≡ t

@@ -84,3 +84,10 @@ IsCount row (Err f) = ⊤
 IsCount (Err e) (Ok n) = ⊥
 IsCount (Ok None) (Ok n) = n ≡ 0
 IsCount (Ok (Some row)) (Ok n) = IsNumber row n
+
+-- A row is read as this value and no other, and no row as none.
+abbrev pub Pins : {X : Type 0} → (Row → X → Type 0) → Option Row → Option X → Type 0
+Pins Is None None = ⊤
+Pins Is None (Some x) = ⊥
+Pins Is (Some row) None = ⊥
+Pins {X} Is (Some row) (Some x) = (y : X) → Is row y → y ≡ x

@@ -17,9 +17,11 @@ returns-in-Err-QueryReturnedNoRows-clause-row g c is clean =
     (rw c.in-Err-QueryReturnedNoRows.field-0-is at (c.in-Err-QueryReturnedNoRows.ensures.row clean))
 
 pub returns-in-Err-QueryReturnedNoRows-clause-calm : goal.returns-in-Err-QueryReturnedNoRows-clause-calm
-returns-in-Err-QueryReturnedNoRows-clause-calm g c is clean =
-    (none_calm c.args.sql.now is _ (state g.S.Store c.args.conn.now) (state g.S.Store c.query_row.new.self)
-    (rw c.in-Err-QueryReturnedNoRows.field-0-is at (c.in-Err-QueryReturnedNoRows.ensures.row clean)), tt)
+returns-in-Err-QueryReturnedNoRows-clause-calm g c is clean = (
+  none_calm c.args.sql.now is _ (state g.S.Store c.args.conn.now) (state g.S.Store c.query_row.new.self)
+      (rw c.in-Err-QueryReturnedNoRows.field-0-is at (c.in-Err-QueryReturnedNoRows.ensures.row clean)),
+  tt,
+)
 
 pub returns-in-Err-QueryReturnedNoRows-clause-survives : goal.returns-in-Err-QueryReturnedNoRows-clause-survives
 returns-in-Err-QueryReturnedNoRows-clause-survives g c is =
