@@ -6,8 +6,10 @@ pub mod Commands
 pub mod Decoding
 pub mod Edits
 pub mod Frames
+pub mod Grown
 pub mod KeyedLists
 pub mod Lead
+pub mod Makes
 pub mod Meaning
 pub mod OrgReads
 pub mod OrgTexts
@@ -19,6 +21,7 @@ pub mod PointReads
 pub mod RunReads
 pub mod RunTexts
 pub mod RunWrites
+pub mod SchemaTexts
 pub mod Tests
 pub mod TokenReads
 pub mod TokenTexts
