@@ -8,8 +8,8 @@ use Rattle.sqlite_rules.specs.Cast.{cast, cast_all}
 use Rattle.sqlite_typed.specs.Columns.{or_null}
 use Rattle.statements.specs.declared.rows.Holder.{Holder}
 use Rattle.statements.specs.declared.rows.Holder.TheVariants.{Nobody, Lock, Run as HeldByRun}
-use Rattle.statements.specs.Schema.{org_table, token_table, ws_table, version_table, run_table}
-use Rattle.statements.specs.Rows.{OrgRow, TokenRow, WsRow, VersionRow, RunRow, kind_cell, lock_id_cell, run_cell, org_cells, token_cells, ws_cells, version_cells, run_cells, number, action_code}
+use Rattle.statements.specs.Schema.{meta_table, org_table, token_table, ws_table, version_table, run_table}
+use Rattle.statements.specs.Rows.{OrgRow, TokenRow, WsRow, VersionRow, RunRow, kind_cell, lock_id_cell, run_cell, meta_cells, org_cells, token_cells, ws_cells, version_cells, run_cells, number, action_code}
 use Rattle.basis.specs.declared.runs.RunAction.{RunAction}
 use Rattle.statements.proofs.Own.{cast_int, cast_null}
 
@@ -38,6 +38,9 @@ cast_action (Some a) = cast_int (pos (action_code a))
 
 then_cell : {a b : Value} {xs ys : Row} → a ≡ b → xs ≡ ys → a ∷ xs ≡ b ∷ ys
 then_cell = ap₂ ◌∷◌
+
+pub meta_casts : (version : ℕ) → cast_all meta_table.columns (meta_cells version) ≡ meta_cells version
+meta_casts version = then_cell cast_null (then_cell (cast_int _) refl)
 
 pub org_casts : (r : OrgRow) → cast_all org_table.columns (org_cells r) ≡ org_cells r
 org_casts r = then_cell refl (then_cell (cast_int _) refl)

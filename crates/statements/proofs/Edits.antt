@@ -113,3 +113,10 @@ module _ {R : Type 0} (cells : R → Row) (db : Trees) (tree : ℕ) (xs : List (
         ∙ ap (put_all (map (stored cells) xs)) made
         ∙ puts-map id_of (stored cells) (λ x. refl) ((next_key id_of xs, new) ∷ []) xs
         ∙ ap (map (stored cells)) (insert_next id_of xs (next_key id_of xs, new) keyed refl)
+
+    -- a row that has its rowid already stands in its place
+    pub put_rows : (source : Row) (new : Kept R) → cast_row table source ≡ stored cells new → edited db (edit_of db table [] Chosen 0 (source ∷ [])) ≡ map (stored cells) (insert_by id_of xs new)
+    put_rows source new casts =
+        ap (λ l. put_all l (numbered Chosen l (cast_row table source ∷ []))) (ap db placed ∙ held)
+        ∙ ap (λ r. put_all (map (stored cells) xs) (numbered Chosen (map (stored cells) xs) (r ∷ []))) casts
+        ∙ puts-map id_of (stored cells) (λ x. refl) (new ∷ []) xs

@@ -1,4 +1,5 @@
 pub mod Answered
+pub mod Begin
 pub mod Calm
 pub mod Casts
 pub mod Codes
@@ -11,13 +12,14 @@ pub mod KeyedLists
 pub mod Lead
 pub mod Makes
 pub mod Meaning
+pub mod MetaTexts
 pub mod OrgReads
 pub mod OrgTexts
 pub mod OrgWrites
 pub mod Own
+pub mod PointReads
 pub mod ReadBack
 pub mod Reading
-pub mod PointReads
 pub mod RunReads
 pub mod RunTexts
 pub mod RunWrites

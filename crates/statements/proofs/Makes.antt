@@ -35,7 +35,7 @@ use Rattle.sqlite.specs.Does.{Tally, AtPlace, Defines, MakesIndex, MakesSequence
 use Rattle.sqlite.specs.Listing.{understood, reads_listing, if_select, is_select, listing_schema}
 use Rattle.sqlite.specs.State.{State, mode_of, Executes, ExecutesIn, Runs, Writes, shows_rows, is_pragma, text_of}
 use Rattle.sqlite_keyed.proofs.ListLemmas.{all-slice_get, ascending_weaker}
-use Rattle.statements.specs.Making.{AreMade, Makes, Indexes, GoesOn}
+use Rattle.statements.specs.Making.{AreMade, GrowsBy, KeepsMade}
 use Rattle.statements.specs.Place.{IsOwn, at_of, tree_of}
 use Rattle.statements.proofs.Meaning.{as_read}
 use Rattle.statements.proofs.Grown.{Grown, made_grown}
@@ -232,8 +232,7 @@ module _ (table : Table) (loose : table.references ≡ []) (def : TableText) (te
       let now : new.now ≡ done.0 = ap (λ (q : Tally × Database). q.1) (same_value done.2) in
       grown table text defines old.now new.now made.0 made.1 w.sound (subst (λ d. MakesSequence made.0 (Ok d)) (sym now) made.2)
 
-  pub makes_behind : (old new : State) (params : Row) (count : ℕ) → Executes text params old new (Ok count)
-      → ((tables : List Table) → AreMade tables old.now → AreMade (tables ++ table ∷ []) new.now) × KeepsRows old.now.schema.tables old.now.trees new.now.trees
+  pub makes_behind : (old new : State) (params : Row) (count : ℕ) → Executes text params old new (Ok count) → GrowsBy table old.now new.now
   makes_behind old new params count h = let g = makes_table old new params count h in (made_grown table loose old.now new.now g, g.others)
 
 -- ---- CREATE INDEX
@@ -307,7 +306,7 @@ module _ (old new : Database) (is : new.schema.tables ≡ old.schema.tables) (ro
 
 indexes_at : (old new : State) (text : List ℕ) (place : Option Table) (tally : Tally)
     → AtPlace (λ table. Defines (mode_of old) (MakesIndex text old.now table)) place (Ok (tally, new.now))
-    → ((tables : List Table) → AreMade tables old.now → AreMade tables new.now) × KeepsRows old.now.schema.tables old.now.trees new.now.trees
+    → KeepsMade old.now new.now
 indexes_at old new text None tally e = absurd (cc)
 indexes_at old new text (Some table) tally e =
     let done = went e in
@@ -325,8 +324,7 @@ module _ (def : IndexText) (text : List ℕ) (p : Parsed) (reads : first text �
   unfolding timed
   timeless_index s = refl
 
-  pub makes_index : (old new : State) (params : Row) (count : ℕ) → Executes text params old new (Ok count)
-      → ((tables : List Table) → AreMade tables old.now → AreMade tables new.now) × KeepsRows old.now.schema.tables old.now.trees new.now.trees
+  pub makes_index : (old new : State) (params : Row) (count : ℕ) → Executes text params old new (Ok count) → KeepsMade old.now new.now
   makes_index old new params count h =
       let ran = ran_as IsIndexMaking no_select_index text (written.CreateIndex (fresh_index def)) p reads whole timeless_index quiet_index (makes_an_index def) old new params count no_rows_index h in
       let w : Writes old new None (CreateIndex ran.1.0) text ran.2 count = subst (λ k. Runs old new None k text ran.2 count) ran.1.1 ran.3 in

@@ -17,12 +17,13 @@ use Rattle.sqlite_schema.specs.declared.schema.Keys.TheVariants.{Enforced}
 use Rattle.sqlite_schema.specs.declared.command.Command.TheVariants.{Insert, Update, Delete}
 use Rattle.sqlite_schema.specs.declared.command.Source.TheVariants.{Values}
 use Rattle.sqlite_rules.specs.Cast.{cast, cast_all, cast_row}
-use Rattle.sqlite_rules.specs.Edit.{Edit, edited}
+use Rattle.sqlite_rules.specs.declared.error.Rowids.TheVariants.{Chosen}
+use Rattle.sqlite_rules.specs.Edit.{Edit, edited, edit_of}
 use Rattle.sqlite_rules.specs.Action.{Writes}
 use Rattle.sqlite.specs.Effect.{value_rows}
 use Rattle.sqlite.specs.Rows.{stamped}
 use Rattle.sqlite.specs.State.{State, Executes}
-use Rattle.sqlite_keyed.specs.Keyed.{IsKeyedBy, next_key}
+use Rattle.sqlite_keyed.specs.Keyed.{IsKeyedBy, insert_by, next_key}
 use Rattle.sqlite_keyed.specs.Lists.{update_where, delete_where}
 use Rattle.sqlite_keyed.proofs.SliceLemmas.{insert_next}
 use Rattle.sqlite_keyed.proofs.KeyedLemmas.{IsKeyedBy-insert_by}
@@ -31,7 +32,7 @@ use Rattle.statements.specs.Rows.{Kept, id_of, stored}
 use Rattle.statements.proofs.Meaning.{Means}
 use Rattle.statements.proofs.Lead.{applied_keeps, write_keeps}
 use Rattle.statements.proofs.Writes.{plain_program, updates, deletes, inserts}
-use Rattle.statements.proofs.Edits.{all_shown, updated_rows, deleted_rows, inserted_rows}
+use Rattle.statements.proofs.Edits.{all_shown, updated_rows, deleted_rows, inserted_rows, put_rows}
 
 -- each of our tables but the one with this tree has the rows that it had
 abbrev pub Leaves : Schema → ℕ → Trees → Trees → Type 0
@@ -124,7 +125,16 @@ module _ {R : Type 0} (cells : R → Row) (table : Table) (casts : (r : R) → c
       let went = written s table own old.now.trees new.now.trees _ refl made.2 in
       let one : made.0 ≡ (Null ∷ cells new_row) ∷ [] = made.1.1 ∙ given in
       let rows = inserted_rows cells old.now.trees here xs held keyed (record table { tree = here }) refl (Null ∷ cells new_row) new_row (ap₂ ◌∷◌ cast_null (casts new_row)) in
-      (record { rows = went.rows ∙ ap (λ l. edited old.now.trees (Rattle.sqlite_rules.specs.Edit.edit_of old.now.trees (record table { tree = here }) [] Rattle.sqlite_rules.specs.declared.error.Rowids.TheVariants.Chosen 0 l)) one ∙ rows; others = went.others }, made.3)
+      (record { rows = went.rows ∙ ap (λ l. edited old.now.trees (edit_of old.now.trees (record table { tree = here }) [] Chosen 0 l)) one ∙ rows; others = went.others }, made.3)
+
+  pub put_own : (terms : List Term) (width : ℕ) → Means s (Insert (at_of s table.name) (Values terms width)) text → table.is_counted ≡ false → stamped table params ≡ params
+      → (new_row : Kept R) → value_rows params width (length terms / width) terms ≡ stored cells new_row ∷ [] → Left (insert_by id_of xs new_row)
+  put_own terms width means uncounted unstamped new_row given =
+      let made = inserts old new text params (at_of s table.name) (record table { tree = here }) own.place.found (Values terms width) uncounted unstamped means count ran in
+      let went = written s table own old.now.trees new.now.trees _ refl made.2 in
+      let one : made.0 ≡ stored cells new_row ∷ [] = made.1.1 ∙ given in
+      let rows = put_rows cells old.now.trees here xs held keyed (record table { tree = here }) refl (stored cells new_row) new_row (stored_casts new_row) in
+      (record { rows = went.rows ∙ ap (λ l. edited old.now.trees (edit_of old.now.trees (record table { tree = here }) [] Chosen 0 l)) one ∙ rows; others = went.others }, made.3)
 
 -- a new row keeps the rowids rising
 pub keyed_next : {R : Type 0} (xs : List (Kept R)) (r : R) → IsKeyedBy id_of xs → IsKeyedBy id_of (xs ++ (next_key id_of xs, r) ∷ [])

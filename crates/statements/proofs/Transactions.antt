@@ -5,6 +5,8 @@ use Rattle.sqlite.specs.State.{State, Executes, KeepsCommit, IsUnchanged, IsRoll
 use Rattle.sqlite.specs.declared.error.Error.{Error}
 use Rattle.statements.specs.Queries.{FirstRow, IsCalm, IsRead, IsCount, IsNumber, Pins}
 use Rattle.statements.specs.Rows.{number}
+use Rattle.sqlite.specs.Effect.{Database}
+use Rattle.statements.specs.Making.{Alters}
 use Rattle.statements.specs.Steps.{Moves, Wrote}
 use Rattle.statements.specs.Tables.{Tables, Holds}
 
@@ -14,6 +16,13 @@ moves_by change old new text params (Ok x) wrote does =
     let ran = wrote.0.1 in
     (record { rows = λ t h. does wrote.0.0 t h ran.0; was_open = ran.1.was_open; is_open = ran.1.is_open; committed = ran.1.committed_is; inside = ran.1.mode }, tt)
 moves_by change old new text params (Err e) wrote does = (tt, wrote.1)
+
+pub alters_by : {X E : Type 0} (Change : Database → Database → Type 0) (old new : State) (text : List ℕ) (params : Row) (result : Result X E) → Wrote text params old new result
+    → ((count : ℕ) → Executes text params old new (Ok count) → Change old.now new.now) → OnOk result (Alters Change old new) × OnErr result (KeepsCommit old new)
+alters_by Change old new text params (Ok x) wrote does =
+    let ran = wrote.0.1 in
+    (record { change = does wrote.0.0 ran.0; was_open = ran.1.was_open; is_open = ran.1.is_open; committed = ran.1.committed_is; inside = ran.1.mode }, tt)
+alters_by Change old new text params (Err e) wrote does = (tt, wrote.1)
 
 -- a query of one row, whose row is read as a value
 pub reads_by : {X E F : Type 0} (read : Tables → Option X) (Is : Row → X → Type 0) (old new : State) (text : List ℕ) (params : Row) (row : Result (Option Row) E) (result : Result (Option X) F)
