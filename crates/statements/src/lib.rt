@@ -3,6 +3,7 @@
 #![tactic(auto)]
 
 mod calls;
+pub mod making;
 pub mod organizations;
 pub mod rows;
 pub mod runs;
