@@ -1,5 +1,8 @@
 -- The numbers by which SQL keeps a role, a status or an action: each fits, and means one.
-use Rattle.std.proofs.Common.{◌≡◌, ℕ, zero, suc, pos, ◌<◌, SFits, w64, arith, refl, sym, ap, ◌∙◌}
+use Rattle.std.proofs.Common.{◌≡◌, ℕ, zero, suc, pos, ◌<◌, SFits, w64, arith, refl, sym, ap, ◌∙◌, List, Option, Some, None, option_map, Bor}
+use Rattle.sqlite_value.specs.declared.value.Value.TheVariants.{Text}
+use Rattle.sqlite.specs.Values.{or_null, bound_value}
+use Rattle.sqlite_typed.specs.Columns.{or_null as typed_null}
 use Rattle.basis.specs.declared.roles.Role.{Role}
 use Rattle.basis.specs.declared.roles.Role.TheVariants.{Read, Write, Admin}
 use Rattle.basis.specs.declared.runs.RunStatus.{RunStatus}
@@ -24,6 +27,24 @@ status_fits PlannedAndFinished = record { sfits = omega arith }
 status_fits Errored = record { sfits = omega arith }
 status_fits Discarded = record { sfits = omega arith }
 status_fits Canceled = record { sfits = omega arith }
+
+pub action_fits : (a : RunAction) → SFits w64 (pos (action_code a))
+action_fits ReportPlanned = record { sfits = omega arith }
+action_fits ReportUnchanged = record { sfits = omega arith }
+action_fits Fail = record { sfits = omega arith }
+action_fits Confirm = record { sfits = omega arith }
+action_fits ReportApplied = record { sfits = omega arith }
+action_fits Discard = record { sfits = omega arith }
+action_fits Cancel = record { sfits = omega arith }
+
+-- a text that may be absent, as SQL takes it
+pub optional_text : (o : Option (Bor (List ℕ))) → or_null (λ s. Text s.now) o ≡ typed_null Text (option_map (λ s. s.now) o)
+optional_text None = refl
+optional_text (Some s) = refl
+
+pub bound_text : (o : Option (List ℕ)) → bound_value (typed_null Text o) ≡ typed_null Text o
+bound_text None = refl
+bound_text (Some t) = refl
 
 pub role_back : (r : Role) → role_at (role_code r) ≡ r
 role_back Read = refl

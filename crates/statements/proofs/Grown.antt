@@ -151,8 +151,8 @@ module _ (table : Table) (loose : table.references ≡ []) (old new : Database) 
     named = ap (position_from (λ (t : Table). same_name t.name table.name) 0) g.tables ∙ position_behind _ 0 old.schema.tables added g.more g.free (same_itself table.name) ∙ ap Some (plus_none (length old.schema.tables));
     found = ap (λ l. slice_get l (length old.schema.tables)) g.tables ∙ get_behind old.schema.tables added g.more;
     treed = ap (find (λ (t : Table). t.tree == next_tree old.schema)) g.tables
-    ∙ find_behind _ old.schema.tables added g.more (all_weaker (λ (t : Table). t.tree < next_tree old.schema) (λ (t : Table). (t.tree == next_tree old.schema) ≡ false) apart_from old.schema.tables (trees_below old.schema))
-    (eq_itself (next_tree old.schema));
+        ∙ find_behind _ old.schema.tables added g.more (all_weaker (λ (t : Table). t.tree < next_tree old.schema) (λ (t : Table). (t.tree == next_tree old.schema) ≡ false) apart_from old.schema.tables (trees_below old.schema))
+        (eq_itself (next_tree old.schema));
     low = let l = g.low in grind (arith, nat_tests);
     small = let l = g.low in grind (arith, nat_tests);
   }

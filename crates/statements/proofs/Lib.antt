@@ -4,6 +4,7 @@ pub mod Calm
 pub mod Casts
 pub mod Codes
 pub mod Commands
+pub mod Conditions
 pub mod Decoding
 pub mod Edits
 pub mod Frames
@@ -24,7 +25,6 @@ pub mod RunReads
 pub mod RunTexts
 pub mod RunWrites
 pub mod SchemaTexts
-pub mod Tests
 pub mod TokenReads
 pub mod TokenTexts
 pub mod TokenWrites

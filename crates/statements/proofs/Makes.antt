@@ -80,9 +80,12 @@ module _ (Kind : Command → Type 0) (no_select : (k : Command) → Kind k → i
   ran_as old new params count plain h =
       let is = making old.now.schema h.0 h.1.is in
       let flat : shows_rows false h.0 ≡ false = flat_for h.0.command h.0.returning (plain h.0.command is.kind) is.silent in
-      let ran : Runs old new h.0.returning h.0.command (text_of text h.0) (clock.timed params h.0.formats h.1.now) count = rw flat at h.2 in
-      (h.0.command, is.kind, clock.timed params h.0.formats h.1.now,
-      subst (λ t. Runs old new None h.0.command t (clock.timed params h.0.formats h.1.now) count) is.whole (subst (λ r. Runs old new r h.0.command (text_of text h.0) (clock.timed params h.0.formats h.1.now) count) is.silent ran))
+      let ran : Runs old new h.0.returning h.0.command (text_of text h.0) (clock.timed params h.0.formats h.1.now) count = rw flat at h.2 in (
+        h.0.command,
+        is.kind,
+        clock.timed params h.0.formats h.1.now,
+        subst (λ t. Runs old new None h.0.command t (clock.timed params h.0.formats h.1.now) count) is.whole (subst (λ r. Runs old new r h.0.command (text_of text h.0) (clock.timed params h.0.formats h.1.now) count) is.silent ran),
+      )
     where
       flat_for : (k : Command) (r : Option Returning) → is_query k || is_pragma k ≡ false → r ≡ None → is_query k || (true && (is_pragma k || is_some r)) ≡ false
       flat_for k r none is = let parts = or_parts (is_query k) (is_pragma k) none in rw (parts.0, parts.1, is) refl
@@ -293,9 +296,10 @@ module _ (old new : Database) (is : new.schema.tables ≡ old.schema.tables) (ro
   empty_same : (ts : List Table) → AllByRecursion (IsOwn old.schema) ts → AllByRecursion (λ (t : Table). old.trees (tree_of old.schema t.name) ≡ []) ts
       → AllByRecursion (λ (t : Table). new.trees (tree_of new.schema t.name) ≡ []) ts
   empty_same [] h k = tt
-  empty_same (t ∷ ts) h k =
-      (ap new.trees (same_tree t old.schema new.schema is) ∙ all-slice_get (λ (u : Table). new.trees u.tree ≡ old.trees u.tree) old.schema.tables (at_of old.schema t.name) _ h.0.place.found rows ∙ k.0,
-      empty_same ts h.1 k.1)
+  empty_same (t ∷ ts) h k = (
+    ap new.trees (same_tree t old.schema new.schema is) ∙ all-slice_get (λ (u : Table). new.trees u.tree ≡ old.trees u.tree) old.schema.tables (at_of old.schema t.name) _ h.0.place.found rows ∙ k.0,
+    empty_same ts h.1 k.1,
+  )
 
   order_same : (ts : List Table) → IsAscending (λ (a b : Table). tree_of old.schema a.name < tree_of old.schema b.name) ts → IsAscending (λ (a b : Table). tree_of new.schema a.name < tree_of new.schema b.name) ts
   order_same ts h = ascending_weaker _ (λ (a b : Table). tree_of new.schema a.name < tree_of new.schema b.name)

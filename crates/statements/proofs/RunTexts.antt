@@ -66,6 +66,26 @@ set_run_status_reads = refl
 abbrev pub set_run_status_query : ℕ → Query
 set_run_status_query tree = update_query tree (is_at 1 0 ∷ is_at 2 1 ∷ is_at 3 2 ∷ []) (col 1 1 ∷ col 1 2 ∷ col 1 3 ∷ col 1 4 ∷ col 1 5 ∷ col 1 6 ∷ col 1 7 ∷ col 0 3 ∷ col 1 9 ∷ [])
 
+abbrev pub record_action_text : List ℕ
+record_action_text = codes "UPDATE run SET status = ?4, action = ?5 WHERE org = ?1 AND ws = ?2 AND number = ?3"
+
+record_action_reads : first record_action_text ≡ Ok (as_read (some_parsed (first record_action_text)) st.record_action)
+unfolding everything
+record_action_reads = refl
+
+abbrev pub record_action_query : ℕ → Query
+record_action_query tree = update_query tree (is_at 1 0 ∷ is_at 2 1 ∷ is_at 3 2 ∷ []) (col 1 1 ∷ col 1 2 ∷ col 1 3 ∷ col 1 4 ∷ col 1 5 ∷ col 1 6 ∷ col 1 7 ∷ col 0 3 ∷ col 0 4 ∷ [])
+
+abbrev pub add_run_text : List ℕ
+add_run_text = codes "INSERT INTO run (org, ws, number, plan_only, rkey, message, created, status) VALUES (?1, ?2, ?3, ?4, ?5, ?6, ?7, ?8)"
+
+add_run_reads : first add_run_text ≡ Ok (as_read (some_parsed (first add_run_text)) st.add_run)
+unfolding everything
+add_run_reads = refl
+
+abbrev pub add_run_terms : List Term
+add_run_terms = lit Null ∷ col 0 0 ∷ col 0 1 ∷ col 0 2 ∷ col 0 3 ∷ col 0 4 ∷ col 0 5 ∷ col 0 6 ∷ col 0 7 ∷ lit Null ∷ []
+
 abbrev pub remove_runs_text : List ℕ
 remove_runs_text = codes "DELETE FROM run WHERE org = ?1 AND ws = ?2"
 
@@ -118,6 +138,22 @@ module _ (s : Schema) (at tree : ℕ) (h : IsAt s (codes "run") run_table at tre
   pub set_run_status_means : Means s (Update at (plain_program (set_run_status_query tree))) set_run_status_text
   unfolding everything
   set_run_status_means = means s st.set_run_status _ refl (λ _. refl) set_run_status_is set_run_status_text (some_parsed (first set_run_status_text)) set_run_status_reads
+
+  record_action_is : (base : ℕ) → command s [] base st.record_action ≡ Ok (Update at (plain_program (record_action_query tree)))
+  unfolding everything
+  record_action_is base = rw (h.named, h.found, h.found, h.found, h.treed, h.low) refl
+
+  pub record_action_means : Means s (Update at (plain_program (record_action_query tree))) record_action_text
+  unfolding everything
+  record_action_means = means s st.record_action _ refl (λ _. refl) record_action_is record_action_text (some_parsed (first record_action_text)) record_action_reads
+
+  add_run_is : (base : ℕ) → command s [] base st.add_run ≡ Ok (Insert at (Values add_run_terms 10))
+  unfolding everything
+  add_run_is base = rw (h.named, h.found) refl
+
+  pub add_run_means : Means s (Insert at (Values add_run_terms 10)) add_run_text
+  unfolding everything
+  add_run_means = means s st.add_run _ (rw (h.named, h.found) refl) (λ _. refl) add_run_is add_run_text (some_parsed (first add_run_text)) add_run_reads
 
   remove_runs_is : (base : ℕ) → command s [] base st.remove_runs ≡ Ok (Delete at (plain_program (remove_runs_query tree)))
   unfolding everything

@@ -8,18 +8,23 @@ use Rattle.statements.specs.Schema.{version_table}
 use Rattle.statements.specs.Rows.{version_cells, number}
 use Rattle.statements.specs.Tables.{Tables, Holds}
 use Rattle.statements.specs.Changes.{is_org, is_token, has_digest, is_ws, is_ws_of, is_version, is_version_of, is_run}
-use Rattle.statements.specs.Finds.{cap_of, role_of_digest, role_of_name, workspace_of, workspaces_of, head_of, newest_of, body_of, versions_of, is_waiting, first_waiting_of, status_of}
+use Rattle.statements.specs.Finds.{cap_of, role_of_digest, role_of_name, workspace_of, workspaces_of, head_of, newest_of, oldest_of, body_of, versions_of, is_waiting, first_waiting_of, status_of}
 use Rattle.statements.specs.Queries.{FirstRow, Pins, IsWorkspace, IsHead, IsBody, IsNumber, IsRole, IsStatus}
 use Rattle.statements.proofs.PointReads.{first_own, last_own, count_own}
 use Rattle.statements.proofs.ReadBack.{number_read, blob_read, role_read, status_read, workspace_read, head_read}
-use Rattle.statements.proofs.Tests.{one_text, two_texts, two_texts_number, text_blob, waits}
-use Rattle.statements.proofs.VersionTexts.{newest_version_text, newest_version_means, newest_version_rest, version_body_text, version_body_means, version_body_rest, count_versions_text, count_versions_means, count_versions_rest}
+use Rattle.statements.proofs.Conditions.{one_text, two_texts, two_texts_number, text_blob, waits}
+use Rattle.statements.proofs.VersionTexts.{newest_version_text, newest_version_means, newest_version_rest, oldest_version_text, oldest_version_means, oldest_version_rest, version_body_text, version_body_means, version_body_rest, count_versions_text, count_versions_means, count_versions_rest}
 
 module _ (old new : State) (t : Tables) (h : Holds old.now t) where
   pub newest_version_shows : (org ws : List ℕ) (row : Option Row) → FirstRow newest_version_text (Text org ∷ Text ws ∷ []) old new row → Pins IsHead row (newest_of org ws t)
   newest_version_shows org ws row first =
       last_own version_cells version_table old new h.ours.version t.versions h.versions h.versions_keyed newest_version_text (Text org ∷ Text ws ∷ []) row first newest_version_rest (codes "number" ∷ codes "serial" ∷ codes "lineage" ∷ codes "size" ∷ [])
       (is_version_of org ws) (λ x. two_texts x.1.org org x.1.ws ws) IsHead (λ x. head_of x.1.it) (λ x y told. head_read x.1.it y told) (newest_version_means old.now.schema _ _ h.ours.version.place) first_taken
+
+  pub oldest_version_shows : (org ws : List ℕ) (row : Option Row) → FirstRow oldest_version_text (Text org ∷ Text ws ∷ []) old new row → Pins IsNumber row (oldest_of org ws t)
+  oldest_version_shows org ws row first =
+      first_own version_cells version_table old new h.ours.version t.versions h.versions h.versions_keyed oldest_version_text (Text org ∷ Text ws ∷ []) row first oldest_version_rest (codes "number" ∷ [])
+      (is_version_of org ws) (λ x. two_texts x.1.org org x.1.ws ws) IsNumber (λ x. x.1.it.number) (λ x y told. number_read x.1.it.number y told) (oldest_version_means old.now.schema _ _ h.ours.version.place) first_taken
 
   pub version_body_shows : (org ws : List ℕ) (n : ℕ) (row : Option Row) → FirstRow version_body_text (Text org ∷ Text ws ∷ number n ∷ []) old new row → Pins IsBody row (body_of org ws n t)
   version_body_shows org ws n row first =

@@ -40,6 +40,22 @@ newest_version_is_query = (newest_version_select, some_parsed (first newest_vers
 abbrev pub newest_version_rest : Query
 newest_version_rest = point_rest (is_at 1 0 ∷ is_at 2 1 ∷ []) (col 1 3 ∷ col 1 4 ∷ col 1 5 ∷ col 1 7 ∷ []) one_page
 
+abbrev pub oldest_version_text : List ℕ
+oldest_version_text = codes "SELECT number FROM version WHERE org = ?1 AND ws = ?2 ORDER BY rowid LIMIT 1"
+
+abbrev pub oldest_version_select : ast.Select
+oldest_version_select = st.select st.oldest_version_core (st.by_rowid false) (Some (Integer (codes "1")))
+
+oldest_version_reads : first oldest_version_text ≡ Ok (as_read (some_parsed (first oldest_version_text)) (written.Select oldest_version_select))
+unfolding everything
+oldest_version_reads = refl
+
+pub oldest_version_is_query : IsQuery oldest_version_text
+oldest_version_is_query = (oldest_version_select, some_parsed (first oldest_version_text), oldest_version_reads)
+
+abbrev pub oldest_version_rest : Query
+oldest_version_rest = point_rest (is_at 1 0 ∷ is_at 2 1 ∷ []) (col 1 3 ∷ []) one_page
+
 abbrev pub version_body_text : List ℕ
 version_body_text = codes "SELECT body FROM version WHERE org = ?1 AND ws = ?2 AND number = ?3 ORDER BY rowid"
 
@@ -119,6 +135,23 @@ module _ (s : Schema) (at tree : ℕ) (h : IsAt s (codes "version") version_tabl
   pub newest_version_means : Means s (Select (plain_program (point newest_version_rest tree true)) (codes "number" ∷ codes "serial" ∷ codes "lineage" ∷ codes "size" ∷ [])) newest_version_text
   unfolding timed returning
   newest_version_means = means s (written.Select newest_version_select) _ refl (λ _. refl) newest_version_is newest_version_text (some_parsed (first newest_version_text)) newest_version_reads
+
+  oldest_version_named : named s st.oldest_version_core (st.by_rowid false) one_page ≡ Ok ((point_draft oldest_version_rest tree false), (codes "number" ∷ []), (Some Binary ∷ []))
+  unfolding everything
+  oldest_version_named = rw (h.named, h.found, h.found, h.found, h.small) refl
+
+  oldest_version_fits : program s [] (point_draft oldest_version_rest tree false) ≡ Ok (plain_program (point oldest_version_rest tree false))
+  unfolding everything
+  oldest_version_fits = rw (h.low, h.treed) refl
+
+  oldest_version_is : (base : ℕ) → command s [] base (written.Select oldest_version_select) ≡ Ok (Select (plain_program (point oldest_version_rest tree false)) (codes "number" ∷ []))
+  unfolding everything
+  oldest_version_is base =
+      read_is s oldest_version_select st.oldest_version_core (st.by_rowid false) one_page ((point_draft oldest_version_rest tree false), (codes "number" ∷ []), (Some Binary ∷ [])) refl refl refl refl refl (λ again. refl) oldest_version_named (plain_program (point oldest_version_rest tree false)) oldest_version_fits base
+
+  pub oldest_version_means : Means s (Select (plain_program (point oldest_version_rest tree false)) (codes "number" ∷ [])) oldest_version_text
+  unfolding timed returning
+  oldest_version_means = means s (written.Select oldest_version_select) _ refl (λ _. refl) oldest_version_is oldest_version_text (some_parsed (first oldest_version_text)) oldest_version_reads
 
   version_body_named : named s st.version_body_core (st.by_rowid false) no_page ≡ Ok ((point_draft version_body_rest tree false), (codes "body" ∷ []), (Some Binary ∷ []))
   unfolding everything

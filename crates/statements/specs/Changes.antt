@@ -5,10 +5,12 @@ use Rattle.sqlite_keyed.specs.Keyed.{next_key}
 use Rattle.sqlite_keyed.specs.Lists.{update_where, delete_where}
 use Rattle.basis.specs.declared.roles.Role.{Role}
 use Rattle.basis.specs.declared.runs.RunStatus.{RunStatus}
+use Rattle.basis.specs.declared.runs.RunAction.{RunAction}
 use Rattle.statements.specs.declared.rows.Holder.{Holder}
 use Rattle.statements.specs.declared.rows.Holder.TheVariants.{Nobody}
 use Rattle.statements.specs.declared.rows.Workspace.{Workspace}
 use Rattle.statements.specs.declared.rows.Version.{Version}
+use Rattle.statements.specs.declared.rows.Run.{Run}
 use Rattle.statements.specs.Rows.{Kept, id_of, OrgRow, TokenRow, WsRow, VersionRow, RunRow}
 use Rattle.statements.specs.Tables.{Tables}
 
@@ -109,6 +111,17 @@ is_run org ws n x = bytes_eq x.1.org org && (bytes_eq x.1.ws ws && x.1.it.number
 
 abbrev pub run_changed_to : RunStatus → List ℕ → List ℕ → ℕ → Tables → Tables
 run_changed_to status org ws n t = record t { runs = update_where (is_run org ws n) (λ x. (x.0, record x.1 { it = record x.1.it { status = status } })) t.runs }
+
+-- the run took this action last, and it left the run in this status
+abbrev pub run_acted : RunStatus → RunAction → List ℕ → List ℕ → ℕ → Tables → Tables
+run_acted status action org ws n t = record t { runs = update_where (is_run org ws n) (λ x. (x.0, record x.1 { it = record x.1.it { status = status; action = Some action } })) t.runs }
+
+-- a run on which nothing has acted
+abbrev pub new_run : ℕ → Bool → Option (List ℕ) → List ℕ → ℕ → RunStatus → Run
+new_run number plan_only key message created status = record { number = number; plan_only = plan_only; key = key; message = message; created = created; status = status; action = None }
+
+abbrev pub run_added : List ℕ → List ℕ → Run → Tables → Tables
+run_added org ws it t = record t { runs = with_next (record { org = org; ws = ws; it = it }) t.runs }
 
 abbrev pub runs_removed : List ℕ → List ℕ → Tables → Tables
 runs_removed org ws t = record t { runs = delete_where (is_run_of org ws) t.runs }

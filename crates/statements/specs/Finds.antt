@@ -43,6 +43,10 @@ head_of v = record { number = v.number; serial = v.serial; lineage = v.lineage; 
 abbrev pub newest_of : List ℕ → List ℕ → Tables → Option Head
 newest_of org ws t = option_map (λ x. head_of x.1.it) (last_in (filter (is_version_of org ws) t.versions))
 
+-- the number of the version that was added first
+abbrev pub oldest_of : List ℕ → List ℕ → Tables → Option ℕ
+oldest_of org ws t = option_map (λ x. x.1.it.number) (find (is_version_of org ws) t.versions)
+
 abbrev pub body_of : List ℕ → List ℕ → ℕ → Tables → Option (List ℕ)
 body_of org ws n t = option_map (λ x. x.1.it.body) (find (is_version org ws n) t.versions)
 

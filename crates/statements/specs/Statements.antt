@@ -96,6 +96,9 @@ count_ws_core = from_table (One (CallStar (codes "count")) None (codes "count(*)
 abbrev pub newest_version_core : Core
 newest_version_core = from_table (shown_columns (codes "number" ∷ codes "serial" ∷ codes "lineage" ∷ codes "size" ∷ [])) (codes "version") (at_key (codes "org") (codes "ws"))
 
+abbrev pub oldest_version_core : Core
+oldest_version_core = from_table (shown_columns (codes "number" ∷ [])) (codes "version") (at_key (codes "org") (codes "ws"))
+
 abbrev pub version_body_core : Core
 version_body_core = from_table (shown_columns (codes "body" ∷ [])) (codes "version") (also (at_key (codes "org") (codes "ws")) (is_given (codes "number") 3))
 
@@ -137,6 +140,12 @@ run_status_core = from_table (shown_columns (codes "status" ∷ [])) (codes "run
 
 abbrev pub set_run_status : Statement
 set_run_status = update (codes "run") ((codes "status", Parameter 4) ∷ []) (also (at_key (codes "org") (codes "ws")) (is_given (codes "number") 3))
+
+abbrev pub record_action : Statement
+record_action = update (codes "run") ((codes "status", Parameter 4) ∷ (codes "action", Parameter 5) ∷ []) (also (at_key (codes "org") (codes "ws")) (is_given (codes "number") 3))
+
+abbrev pub add_run : Statement
+add_run = insert (codes "run") (codes "org" ∷ codes "ws" ∷ codes "number" ∷ codes "plan_only" ∷ codes "rkey" ∷ codes "message" ∷ codes "created" ∷ codes "status" ∷ []) (Parameter 1 ∷ Parameter 2 ∷ Parameter 3 ∷ Parameter 4 ∷ Parameter 5 ∷ Parameter 6 ∷ Parameter 7 ∷ Parameter 8 ∷ [])
 
 abbrev pub remove_runs : Statement
 remove_runs = delete (codes "run") (at_key (codes "org") (codes "ws"))

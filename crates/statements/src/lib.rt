@@ -12,3 +12,6 @@ pub mod versions;
 pub mod workspaces;
 
 pub use rows::{Head, Holder, Run, Token, Version, Workspace};
+
+#[cfg(test)]
+mod tests;

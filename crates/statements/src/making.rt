@@ -9,7 +9,8 @@ ghost use Rattle.statements.specs.Making.{AltersBy, GrowsBy, KeepsMade, version_
 use crate::calls::{first_row, number_of, write};
 use sqlite::{Alter, Connection, Error, Transaction};
 
-const MAKE_META: &str = "CREATE TABLE meta (one INTEGER PRIMARY KEY CHECK (one = 1), version INTEGER NOT NULL CHECK (version = 1)) STRICT";
+const MAKE_META: &str =
+    "CREATE TABLE meta (one INTEGER PRIMARY KEY CHECK (one = 1), version INTEGER NOT NULL CHECK (version = 1)) STRICT";
 
 /// Makes the table of the version of the schema.
 pub fn make_meta<S: Alter>(tx: &mut Transaction<'_, S>) -> Result<(), Error>
@@ -20,7 +21,8 @@ pub fn make_meta<S: Alter>(tx: &mut Transaction<'_, S>) -> Result<(), Error>
     write(tx, MAKE_META, &[])
 }
 
-const MAKE_ORG: &str = "CREATE TABLE org (name TEXT NOT NULL PRIMARY KEY, cap INTEGER NOT NULL CHECK (cap BETWEEN 0 AND 100000)) STRICT";
+const MAKE_ORG: &str =
+    "CREATE TABLE org (name TEXT NOT NULL PRIMARY KEY, cap INTEGER NOT NULL CHECK (cap BETWEEN 0 AND 100000)) STRICT";
 
 /// Makes the table of organizations.
 pub fn make_org<S: Alter>(tx: &mut Transaction<'_, S>) -> Result<(), Error>
@@ -31,7 +33,8 @@ pub fn make_org<S: Alter>(tx: &mut Transaction<'_, S>) -> Result<(), Error>
     write(tx, MAKE_ORG, &[])
 }
 
-const MAKE_TOKEN: &str = "CREATE TABLE token (org TEXT NOT NULL, name TEXT NOT NULL, digest BLOB NOT NULL, role INTEGER NOT NULL CHECK (role BETWEEN 0 AND 2), PRIMARY KEY (org, name), UNIQUE (org, digest)) STRICT";
+const MAKE_TOKEN: &str =
+    "CREATE TABLE token (org TEXT NOT NULL, name TEXT NOT NULL, digest BLOB NOT NULL, role INTEGER NOT NULL CHECK (role BETWEEN 0 AND 2), PRIMARY KEY (org, name), UNIQUE (org, digest)) STRICT";
 
 /// Makes the table of tokens.
 pub fn make_token<S: Alter>(tx: &mut Transaction<'_, S>) -> Result<(), Error>
@@ -42,7 +45,8 @@ pub fn make_token<S: Alter>(tx: &mut Transaction<'_, S>) -> Result<(), Error>
     write(tx, MAKE_TOKEN, &[])
 }
 
-const MAKE_WS: &str = "CREATE TABLE ws (org TEXT NOT NULL, name TEXT NOT NULL, auto INTEGER NOT NULL, kind INTEGER NOT NULL CHECK (kind BETWEEN 0 AND 2), lock_id TEXT CHECK ((lock_id IS NOT NULL) = (kind = 1)), lock_text BLOB CHECK ((lock_text IS NOT NULL) = (kind = 1)), run INTEGER CHECK ((run IS NOT NULL) = (kind = 2)), released TEXT, next_version INTEGER NOT NULL, next_run INTEGER NOT NULL, PRIMARY KEY (org, name)) STRICT";
+const MAKE_WS: &str =
+    "CREATE TABLE ws (org TEXT NOT NULL, name TEXT NOT NULL, auto INTEGER NOT NULL, kind INTEGER NOT NULL CHECK (kind BETWEEN 0 AND 2), lock_id TEXT CHECK ((lock_id IS NOT NULL) = (kind = 1)), lock_text BLOB CHECK ((lock_text IS NOT NULL) = (kind = 1)), run INTEGER CHECK ((run IS NOT NULL) = (kind = 2)), released TEXT, next_version INTEGER NOT NULL, next_run INTEGER NOT NULL, PRIMARY KEY (org, name)) STRICT";
 
 /// Makes the table of workspaces.
 pub fn make_ws<S: Alter>(tx: &mut Transaction<'_, S>) -> Result<(), Error>
@@ -53,7 +57,8 @@ pub fn make_ws<S: Alter>(tx: &mut Transaction<'_, S>) -> Result<(), Error>
     write(tx, MAKE_WS, &[])
 }
 
-const MAKE_VERSION: &str = "CREATE TABLE version (org TEXT NOT NULL, ws TEXT NOT NULL, number INTEGER NOT NULL, serial INTEGER NOT NULL, lineage TEXT NOT NULL, created INTEGER NOT NULL, size INTEGER NOT NULL, body BLOB NOT NULL, PRIMARY KEY (org, ws, number)) STRICT";
+const MAKE_VERSION: &str =
+    "CREATE TABLE version (org TEXT NOT NULL, ws TEXT NOT NULL, number INTEGER NOT NULL, serial INTEGER NOT NULL, lineage TEXT NOT NULL, created INTEGER NOT NULL, size INTEGER NOT NULL, body BLOB NOT NULL, PRIMARY KEY (org, ws, number)) STRICT";
 
 /// Makes the table of versions of states.
 pub fn make_version<S: Alter>(tx: &mut Transaction<'_, S>) -> Result<(), Error>
@@ -64,7 +69,8 @@ pub fn make_version<S: Alter>(tx: &mut Transaction<'_, S>) -> Result<(), Error>
     write(tx, MAKE_VERSION, &[])
 }
 
-const MAKE_RUN: &str = "CREATE TABLE run (org TEXT NOT NULL, ws TEXT NOT NULL, number INTEGER NOT NULL, plan_only INTEGER NOT NULL, rkey TEXT, message TEXT NOT NULL, created INTEGER NOT NULL, status INTEGER NOT NULL CHECK (status BETWEEN 0 AND 8), action INTEGER CHECK (action BETWEEN 0 AND 6), PRIMARY KEY (org, ws, number), UNIQUE (org, ws, rkey)) STRICT";
+const MAKE_RUN: &str =
+    "CREATE TABLE run (org TEXT NOT NULL, ws TEXT NOT NULL, number INTEGER NOT NULL, plan_only INTEGER NOT NULL, rkey TEXT, message TEXT NOT NULL, created INTEGER NOT NULL, status INTEGER NOT NULL CHECK (status BETWEEN 0 AND 8), action INTEGER CHECK (action BETWEEN 0 AND 6), PRIMARY KEY (org, ws, number), UNIQUE (org, ws, rkey)) STRICT";
 
 /// Makes the table of runs.
 pub fn make_run<S: Alter>(tx: &mut Transaction<'_, S>) -> Result<(), Error>

@@ -4,9 +4,9 @@ ghost use Rattle.sqlite.specs.Held.{state};
 ghost use Rattle.sqlite.specs.State.{Survives};
 ghost use Rattle.statements.specs.Steps.{ChangesBy, ReadsBy};
 ghost use Rattle.statements.specs.Changes.{new_version, version_added, versions_removed, versions_removed_below};
-ghost use Rattle.statements.specs.Finds.{newest_of, body_of, versions_of};
+ghost use Rattle.statements.specs.Finds.{newest_of, oldest_of, body_of, versions_of};
 
-use crate::calls::{body_of, count_of, first_row, head_of, signed, write};
+use crate::calls::{body_of, count_of, first_row, head_of, number_of, signed, write};
 use crate::rows::Head;
 use basis::Bytes;
 use sqlite::{Alter, Connection, Error, Transaction, params};
@@ -26,6 +26,19 @@ pub fn newest<S: Alter>(
 {
     let row = first_row(conn, NEWEST_VERSION, params![org, ws]);
     head_of(row)
+}
+
+const OLDEST_VERSION: &str =
+    "SELECT number FROM version WHERE org = ?1 AND ws = ?2 ORDER BY rowid LIMIT 1";
+
+/// The number of the version of a workspace that was added first.
+pub fn oldest<S: Alter>(conn: &mut Connection<S>, org: &str, ws: &str) -> Result<Option<u64>, Error>
+    ensures mode { conn.old.in_transaction ≡ false → conn.new.in_transaction ≡ false }
+    ensures read { ReadsBy (oldest_of org.now ws.now) (state S.Store conn.old) (state S.Store conn.new) result }
+    ensures survives { Survives (state S.Store conn.old) (state S.Store conn.new) (λ _. ⊥) }
+{
+    let row = first_row(conn, OLDEST_VERSION, params![org, ws]);
+    number_of(row)
 }
 
 const VERSION_BODY: &str =
