@@ -1,5 +1,5 @@
 -- The first row of an answer, as a function of typed rows.
-use Rattle.std.proofs.Common.{◌≡◌, inl, inr, ℕ, ℤ, pos, ◌<ℤ◌, min, Bool, true, false, cond, List, [], ◌∷◌, ◌++◌, map, filter, find, length, slice_get, Option, Some, None, Ok, Err, option_map, refl, sym, ap, ap₂, ◌∙◌, subst, arith, Ordering, Less, Equal, Greater, int_cmp, is_gt, is_eq, map-id, All, is_some}
+use Rattle.std.proofs.Common.{◌≡◌, ℕ, ℤ, ◌<ℤ◌, Bool, true, false, List, [], ◌∷◌, map, filter, find, length, slice_get, Option, Some, None, option_map, refl, sym, ap, ◌∙◌, subst, arith, Less, Equal, Greater, int_cmp, is_eq, map-id, is_some}
 use Rattle.std.specs.List.{AllByRecursion, list_all, AllZip}
 use Rattle.std.specs.Option.{option_or}
 use Rattle.std.specs.Ordering.{ordering_then}
@@ -32,7 +32,7 @@ use Rattle.sqlite_keyed.specs.Keyed.{IsKeyedBy}
 use Rattle.sqlite_keyed.specs.Lists.{sort_by, insert_sorted}
 use Rattle.sqlite_keyed.proofs.ListLemmas.{ascending-filter, slice_get-filter}
 use Rattle.sqlite_keyed.proofs.SortLemmas.{IsPermutation-sort_by}
-use Rattle.sqlite_typed.proofs.AnswerLemmas.{Source, last_table, at_end, answer_by_keys, answer_sorted, no_tie, IsNoTie, count_is}
+use Rattle.sqlite_typed.proofs.AnswerLemmas.{Source, last_table, at_end, answer_by_keys, answer_sorted, IsNoTie, count_is}
 use Rattle.statements.specs.Rows.{Kept, id_of, stored}
 use Rattle.statements.specs.Queries.{FirstRow}
 use Rattle.statements.specs.Finds.{last_in}

@@ -1,5 +1,5 @@
 -- The tables that were just made have no rows, and those are all of ours.
-use Rattle.std.proofs.Common.{◌≡◌, []}
+use Rattle.std.proofs.Common.{[]}
 use Rattle.sqlite.specs.Effect.{Database}
 use Rattle.statements.specs.Tables.{Holds}
 use Rattle.statements.specs.Making.{AreMade, our_tables, no_rows}

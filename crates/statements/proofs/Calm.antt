@@ -1,5 +1,5 @@
 -- A query changes nothing, whatever the schema is.
-use Rattle.std.proofs.Common.{◌≡◌, ◌⊎◌, inl, inr, ℕ, ◌+◌, Bool, true, false, cond, List, [], Option, Some, None, Result, Ok, Err, IsSome, OnOk, OnErr, refl, sym, ap, ◌∙◌, subst}
+use Rattle.std.proofs.Common.{◌≡◌, ◌⊎◌, inl, inr, ℕ, ◌+◌, Bool, true, false, cond, List, [], Option, None, Result, Ok, Err, IsSome, refl, ap, subst}
 use Rattle.sqlite_value.specs.Order.{Row}
 use Rattle.sqlite_trees.specs.Tree.{Trees}
 use Rattle.sqlite_trees.specs.declared.error.StoreError.{StoreError}
@@ -10,14 +10,14 @@ use Rattle.sqlite_schema.specs.declared.command.Command.TheVariants.{Select, Row
 use Rattle.sqlite_resolve.specs.Lowering.{Checked, and_then}
 use Rattle.sqlite_resolve.specs.declared.compiled.Compiled.{Compiled}
 use Rattle.sqlite_resolve.specs.declared.error.CompileError.{CompileError}
-use Rattle.sqlite_resolve.specs.Compile.{first, command, returning, timed, small, meaning, planned, compiled, with_command}
+use Rattle.sqlite_resolve.specs.Compile.{command, returning, timed, small, meaning, planned, compiled, with_command}
 use Rattle.sqlite.specs.declared.error.Error.{Error}
 use Rattle.sqlite.specs.declared.error.Error.TheVariants.{QueryReturnedNoRows}
 use Rattle.sqlite.specs.Effect.{Database, RefusesToRead}
 use Rattle.sqlite.specs.Listing.{understood, reads_listing, if_select, is_select, listing_schema}
 use Rattle.sqlite.specs.State.{State, IsUnchanged, IsRolledBack, QueriesRow, Shown, ShowsRows, FailsToQuery, FailsToShow, IsNotRun, CommitsShowing, store_error, Survives}
 use Rattle.sqlite_ast.specs.declared.Statement.TheVariants as written
-use Rattle.statements.specs.Queries.{IsQuery, FirstRow, IsCalm}
+use Rattle.statements.specs.Queries.{IsQuery}
 
 module _ (text : List ℕ) (is : IsQuery text) where
   compiled_silent : (s : Schema) (c : Compiled) → compiled s text ≡ Ok c → c.returning ≡ None

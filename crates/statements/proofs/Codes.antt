@@ -1,5 +1,5 @@
 -- The numbers by which SQL keeps a role, a status or an action: each fits, and means one.
-use Rattle.std.proofs.Common.{◌≡◌, ℕ, zero, suc, pos, ◌<◌, SFits, w64, arith, refl, sym, ap, ◌∙◌, List, Option, Some, None, option_map, Bor}
+use Rattle.std.proofs.Common.{◌≡◌, ℕ, pos, SFits, w64, arith, refl, sym, ap, ◌∙◌, List, Option, Some, None, option_map, Bor}
 use Rattle.sqlite_value.specs.declared.value.Value.TheVariants.{Text}
 use Rattle.sqlite.specs.Values.{or_null, bound_value}
 use Rattle.sqlite_typed.specs.Columns.{or_null as typed_null}

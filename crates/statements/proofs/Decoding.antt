@@ -1,15 +1,13 @@
 -- The typed rows of a database are those that it holds.
-use Rattle.std.proofs.Common.{◌≡◌, ℕ, ℤ, pos, Bool, true, false, not, cond, unsigned_abs, List, map, Option, Some, None, refl, sym, ap, ◌∙◌, int_eq}
-use Rattle.sqlite_value.specs.declared.value.Value.{Value}
+use Rattle.std.proofs.Common.{◌≡◌, ℕ, pos, Bool, true, false, not, cond, unsigned_abs, List, map, Option, Some, None, refl, ap, ◌∙◌, int_eq}
 use Rattle.sqlite_value.specs.declared.value.Value.TheVariants as cell
-use Rattle.sqlite_value.specs.Order.{Row}
 use Rattle.sqlite_typed.specs.Columns.{or_null, bytes_of, int_of, unless_null}
 use Rattle.sqlite_keyed.proofs.ListLemmas.{map_back}
 use Rattle.sqlite.specs.Effect.{Database}
 use Rattle.basis.specs.declared.runs.RunAction.{RunAction}
 use Rattle.statements.specs.declared.rows.Holder.{Holder}
 use Rattle.statements.specs.declared.rows.Holder.TheVariants.{Nobody, Lock, Run as HeldByRun}
-use Rattle.statements.specs.Rows.{Kept, OrgRow, TokenRow, WsRow, VersionRow, RunRow, stored, meta_cells, org_cells, token_cells, ws_cells, version_cells, run_cells, number, action_code, kind_cell, lock_id_cell, lock_text_cell, run_cell}
+use Rattle.statements.specs.Rows.{Kept, TokenRow, WsRow, RunRow, stored, meta_cells, org_cells, token_cells, ws_cells, version_cells, run_cells, number, action_code, kind_cell, lock_id_cell, lock_text_cell, run_cell}
 use Rattle.statements.specs.Tables.{Tables, Holds}
 use Rattle.statements.specs.Decode.{kept_by, meta_at, org_at, token_at, ws_at, version_at, run_at, tables_of, holder_at, action_at}
 use Rattle.statements.proofs.Codes.{role_back, status_back, action_back}

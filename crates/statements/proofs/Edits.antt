@@ -1,10 +1,10 @@
 -- What an edit makes of a table, as a function of its typed rows.
-use Rattle.std.proofs.Common.{◌≡◌, ℕ, ℤ, pos, ◌+ℤ◌, Bool, true, false, None, List, [], ◌∷◌, ◌++◌, map, filter, fold, drop, length, refl, sym, ap, ap₂, ◌∙◌, subst, IsPermutation}
+use Rattle.std.proofs.Common.{◌≡◌, ℕ, ℤ, pos, ◌+ℤ◌, Bool, false, None, List, [], ◌∷◌, ◌++◌, map, filter, fold, drop, refl, sym, ap, ap₂, ◌∙◌, subst, IsPermutation}
 use Rattle.std.specs.List.{list_all}
 use Rattle.std.proofs.lemmas.List.Sorted.{IsPermutation-refl, IsPermutation-trans, IsPermutation-cons, IsPermutation-middle}
 use Rattle.sqlite_value.specs.declared.value.Value.TheVariants.{Null, Int}
 use Rattle.sqlite_value.specs.Order.{Row}
-use Rattle.sqlite_trees.specs.Tree.{Trees, rowid, put_row, without_rowid}
+use Rattle.sqlite_trees.specs.Tree.{Trees, rowid, put_row}
 use Rattle.sqlite_sql.specs.Term.{holds, eval_all}
 use Rattle.sqlite_sql.specs.Query.{Query, Output, output, inner, end, matches, page, IsKept, IsAnswer}
 use Rattle.sqlite_sql.specs.Group.{IsGrouped}
@@ -17,7 +17,7 @@ use Rattle.sqlite_keyed.specs.Keyed.{IsKeyedBy, insert_by, next_key}
 use Rattle.sqlite_keyed.specs.Lists.{update_where, delete_where, without_key}
 use Rattle.sqlite_keyed.proofs.ListLemmas.{along_permutation, map-map, map_same}
 use Rattle.sqlite_keyed.proofs.SliceLemmas.{insert_next}
-use Rattle.sqlite_typed.proofs.AnswerLemmas.{last_table, at_end, matches_are}
+use Rattle.sqlite_typed.proofs.AnswerLemmas.{last_table, at_end}
 use Rattle.sqlite_typed.proofs.RowLemmas.{puts-map, deletes-map}
 use Rattle.statements.specs.Rows.{Kept, id_of, stored}
 use Rattle.statements.proofs.KeyedLists.{updated, deleted}

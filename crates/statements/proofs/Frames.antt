@@ -1,9 +1,6 @@
 -- A database holds the rows of our tables after one of the tables has got other rows.
-use Rattle.std.proofs.Common.{◌≡◌, ◌≢◌, ◌<◌, ℕ, List, map, arith, sym, ◌∙◌, subst}
-use Rattle.sqlite_value.specs.Order.{Row}
-use Rattle.sqlite_trees.specs.Tree.{Trees}
+use Rattle.std.proofs.Common.{◌≡◌, ℕ, List, map, arith, sym, ◌∙◌, subst}
 use Rattle.sqlite_schema.specs.declared.schema.Schema.{Schema}
-use Rattle.sqlite_schema.specs.declared.schema.Table.{Table}
 use Rattle.sqlite_keyed.specs.Keyed.{IsKeyedBy}
 use Rattle.sqlite.specs.Effect.{Database}
 use Rattle.statements.specs.Schema.{meta_table, org_table, token_table, ws_table, version_table, run_table}

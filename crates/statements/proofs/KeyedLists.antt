@@ -1,5 +1,5 @@
 -- Rows under rising keys, taken out and put in again in whatever order a statement comes to them.
-use Rattle.std.proofs.Common.{◌≡◌, ℤ, ◌<ℤ◌, Bool, true, false, not, ◌&&◌, cond, List, [], ◌∷◌, map, filter, fold, refl, sym, ap, ap₂, ◌∙◌, subst, arith, Ordering, Less, Equal, Greater, int_cmp, int_eq, IsPermutation, All}
+use Rattle.std.proofs.Common.{◌≡◌, ℤ, ◌<ℤ◌, Bool, true, false, not, cond, List, [], ◌∷◌, map, filter, fold, refl, sym, ap, ◌∙◌, arith, Ordering, Less, Equal, Greater, int_cmp, int_eq, IsPermutation}
 use Rattle.std.specs.List.{AllByRecursion}
 use Rattle.std.specs.Ordering.{match_ordering}
 use Rattle.std.proofs.lemmas.Int.{ints}
@@ -8,7 +8,7 @@ use Rattle.std.proofs.lemmas.List.Sorted.{All-permutation, IsPermutation-refl, I
 use Rattle.sqlite_trees.specs.Tree.{IsAscending}
 use Rattle.sqlite_keyed.specs.Keyed.{IsKeyedBy, insert_by}
 use Rattle.sqlite_keyed.specs.Lists.{update_where, delete_where, without_key}
-use Rattle.sqlite_keyed.proofs.ListLemmas.{all-filter, all_map, all_weaker, filter_all, along_permutation, ascending-filter, ascending-map, ascending_weaker}
+use Rattle.sqlite_keyed.proofs.ListLemmas.{all-filter, all_map, all_weaker, along_permutation, ascending-filter, ascending-map, ascending_weaker}
 use Rattle.sqlite_keyed.proofs.KeyedLemmas.{Less-from_lt, int_eq_apart}
 use Rattle.sqlite_keyed.proofs.WriteLemmas.{removes_delete}
 

@@ -1,5 +1,5 @@
 -- A table that refers to no other keeps its rows, whatever actions of foreign keys of other tables a write sets off.
-use Rattle.std.proofs.Common.{◌≡◌, ◌≢◌, ◌⊎◌, inl, inr, ℕ, zero, suc, ◌+◌, ℤ, Bool, true, false, cond, List, [], ◌∷◌, ◌++◌, Option, Some, None, Ok, Err, slice_get, refl, sym, ap, ◌∙◌, subst}
+use Rattle.std.proofs.Common.{◌≡◌, ◌≢◌, inl, inr, ℕ, zero, suc, ◌+◌, ℤ, Bool, true, false, cond, List, [], ◌∷◌, ◌++◌, Option, Some, None, Ok, slice_get, refl, sym, ap, ◌∙◌, subst}
 use Rattle.std.specs.Prelude.{nat_lt}
 use Rattle.std.specs.List.{AllByRecursion, flat_map, filter_map}
 use Rattle.std.proofs.lemmas.Bool.{cases_Bool}
@@ -11,8 +11,8 @@ use Rattle.sqlite_schema.specs.declared.schema.Table.{Table}
 use Rattle.sqlite_schema.specs.declared.schema.Schema.{Schema}
 use Rattle.sqlite_schema.specs.Rules.{ParentKey, parent_key}
 use Rattle.sqlite_rules.specs.declared.action.Deed.{Deed}
-use Rattle.sqlite_rules.specs.Edit.{Edit, taken_by, Applies}
-use Rattle.sqlite_rules.specs.Action.{Work, work_by, work_for, works, refuses, max_depth, action_edit, Acts, ActsOn, Goes, Leads, Settles, Writes, deed_for, pairs}
+use Rattle.sqlite_rules.specs.Edit.{Edit, Applies}
+use Rattle.sqlite_rules.specs.Action.{Work, work_by, work_for, refuses, max_depth, action_edit, Acts, ActsOn, Goes, Leads, Writes}
 use Rattle.sqlite_keyed.proofs.ListLemmas.{all-append, all-slice_get}
 
 module _ (schema : Schema) (keys : Keys) (table : Table) (at tree : ℕ) (found : slice_get schema.tables at ≡ Some (record table { tree = tree }))

@@ -1,5 +1,5 @@
 -- What a CREATE TABLE and a CREATE INDEX do, in a database with whatever schema.
-use Rattle.std.proofs.Common.{◌≡◌, ◌⊎◌, inl, inr, ℕ, ◌+◌, ◌<◌, pos, Bool, true, false, cond, ◌||◌, ◌&&◌, MatchBool, List, [], ◌∷◌, ◌++◌, length, filter, slice_get, slice_range, Option, Some, None, is_some, Result, Ok, Err, OnOk, OnErr, refl, sym, ap, ◌∙◌, subst, arith, append_assoc}
+use Rattle.std.proofs.Common.{◌≡◌, ◌⊎◌, inl, inr, ℕ, ◌+◌, ◌<◌, Bool, true, false, cond, ◌||◌, ◌&&◌, List, [], ◌∷◌, ◌++◌, slice_get, slice_range, Option, Some, None, is_some, Result, Ok, Err, refl, sym, ap, ◌∙◌, subst, arith, append_assoc}
 use Rattle.std.specs.List.{AllByRecursion, AllZip}
 use Rattle.std.proofs.lemmas.Bool.{cases_Bool, or_parts}
 use Rattle.sqlite_value.specs.Order.{Row}
@@ -17,17 +17,16 @@ use Rattle.sqlite_schema.specs.declared.command.Command.{Command}
 use Rattle.sqlite_schema.specs.declared.command.Command.TheVariants.{CreateTable, CreateIndex, Nothing}
 use Rattle.sqlite_schema.specs.declared.command.Returning.{Returning}
 use Rattle.sqlite_schema.specs.Names.{table_named, index_named, view_named}
-use Rattle.sqlite_resolve.specs.Lowering.{Checked, and_then, or_else}
+use Rattle.sqlite_resolve.specs.Lowering.{Checked, and_then}
 use Rattle.sqlite_resolve.specs.declared.compiled.Compiled.{Compiled}
 use Rattle.sqlite_resolve.specs.declared.error.CompileError.{CompileError}
-use Rattle.sqlite_resolve.specs.declared.error.CompileError.TheVariants.{Misuse, Exists, Unsupported, NoSuchTable}
+use Rattle.sqlite_resolve.specs.declared.error.CompileError.TheVariants.{Misuse, Exists, Unsupported}
 use Rattle.sqlite_resolve.specs.Body.{table_at}
 use Rattle.sqlite_resolve.specs.Define as define
 use Rattle.sqlite_resolve.specs.Compile.{first, command, create_table, create_index, creates, returning, timed, small, meaning, planned, compiled, with_command, table_defined_by}
-use Rattle.sqlite_catalog.specs.Change.{next_tree, created, is_used, KeepsRows}
-use Rattle.sqlite_catalog.specs.Calls.{CreatesTable, CreatesIndex}
-use Rattle.sqlite_catalog.specs.Listing.{IsTableRow, IsSound, is_table_row}
-use Rattle.sqlite_rules.specs.Lists.{Has}
+use Rattle.sqlite_catalog.specs.Change.{next_tree, is_used, KeepsRows}
+use Rattle.sqlite_catalog.specs.Calls.{CreatesTable}
+use Rattle.sqlite_catalog.specs.Listing.{IsTableRow}
 use Rattle.sqlite_tied.specs.Compute.{everything}
 use Rattle.sqlite.specs.Clock as clock
 use Rattle.sqlite.specs.Effect.{Database, IsDatabase, is_query}

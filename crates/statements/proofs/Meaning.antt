@@ -1,5 +1,5 @@
 -- What a text means, from what its syntax tree means.
-use Rattle.std.proofs.Common.{◌≡◌, ℕ, false, List, [], None, Some, Ok, Err, refl}
+use Rattle.std.proofs.Common.{◌≡◌, ℕ, false, List, [], None, Ok, Err, refl}
 use Rattle.sqlite_ast.specs.declared.Statement.{Statement}
 use Rattle.sqlite_ast.specs.declared.Statement.TheVariants.{Empty}
 use Rattle.sqlite_syntax.specs.declared.statement.Parsed.{Parsed}

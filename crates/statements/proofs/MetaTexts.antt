@@ -1,5 +1,5 @@
 -- What the texts on the table meta mean and do, in each schema that has it.
-use Rattle.std.proofs.Common.{◌≡◌, ℕ, pos, false, Bool, List, [], ◌∷◌, codes, find, Option, Some, None, Ok, int_eq, refl, ◌∙◌}
+use Rattle.std.proofs.Common.{◌≡◌, ℕ, pos, false, List, [], ◌∷◌, codes, Option, Some, None, Ok, int_eq, refl}
 use Rattle.sqlite_value.specs.declared.value.Value.TheVariants.{Null, Int}
 use Rattle.sqlite_value.specs.declared.keys.Collation.TheVariants.{Binary}
 use Rattle.sqlite_value.specs.Order.{Row}
@@ -19,14 +19,13 @@ use Rattle.sqlite_resolve.specs.Select.{named}
 use Rattle.sqlite_resolve.specs.Program.{program}
 use Rattle.sqlite_tied.specs.Compute.{everything}
 use Rattle.sqlite.specs.State.{State, Executes}
-use Rattle.sqlite_keyed.specs.Keyed.{insert_by}
 use Rattle.sqlite_keyed.proofs.KeyedLemmas.{IsKeyedBy-insert_by}
 use Rattle.sqlite_typed.proofs.TestLemmas.{at_ints, last_term}
 use Rattle.sqlite_sql.specs.declared.ops.CompareOp.TheVariants as compare
 use Rattle.statements.specs.Place.{IsAt}
 use Rattle.statements.specs.Schema.{meta_table}
-use Rattle.statements.specs.Rows.{Kept, id_of, meta_cells, number}
-use Rattle.statements.specs.Tables.{Tables, Holds, meta_tree}
+use Rattle.statements.specs.Rows.{id_of, meta_cells}
+use Rattle.statements.specs.Tables.{Tables, Holds}
 use Rattle.statements.specs.Making.{version_set, version_in}
 use Rattle.statements.specs.Queries.{IsQuery, FirstRow, Pins, IsNumber}
 use Rattle.statements.specs.Statements as st

@@ -1,15 +1,14 @@
 -- What the texts on the table org mean, in each schema that has it.
-use Rattle.std.proofs.Common.{◌≡◌, ℕ, pos, negsuc, true, false, List, [], ◌∷◌, codes, Some, None, Ok, refl}
-use Rattle.sqlite_value.specs.declared.value.Value.TheVariants.{Null, Int}
+use Rattle.std.proofs.Common.{◌≡◌, ℕ, false, List, [], ◌∷◌, codes, Some, None, Ok, refl}
+use Rattle.sqlite_value.specs.declared.value.Value.TheVariants.{Null}
 use Rattle.sqlite_value.specs.declared.keys.Collation.TheVariants.{Binary}
 use Rattle.sqlite_sql.specs.Term.{Term, lit, col}
 use Rattle.sqlite_sql.specs.Query.{Query}
 use Rattle.sqlite_schema.specs.declared.schema.Schema.{Schema}
 use Rattle.sqlite_schema.specs.declared.command.Source.TheVariants.{Values}
-use Rattle.sqlite_schema.specs.declared.command.Command.TheVariants.{Select, Insert, Update, Delete}
+use Rattle.sqlite_schema.specs.declared.command.Command.TheVariants.{Select, Insert}
 use Rattle.sqlite_ast.specs.declared.Statement.TheVariants as written
 use Rattle.sqlite_ast.specs.declared.Select as ast
-use Rattle.sqlite_ast.specs.declared.Expr.TheVariants.{Integer}
 use Rattle.sqlite_resolve.specs.Compile.{first, command, timed, returning}
 use Rattle.sqlite_resolve.specs.Select.{named}
 use Rattle.sqlite_resolve.specs.Program.{program}
@@ -21,8 +20,8 @@ use Rattle.statements.specs.Statements as st
 use Rattle.statements.proofs.Meaning.{Means, means, some_parsed, as_read}
 use Rattle.statements.proofs.Reading.{read_is}
 use Rattle.statements.proofs.Writes.{plain_program}
-use Rattle.statements.proofs.Answered.{point, tally}
-use Rattle.statements.proofs.Commands.{is_at, is_below, is_number, update_query, delete_query, point_rest, point_draft, tally_draft, no_page, one_page}
+use Rattle.statements.proofs.Answered.{point}
+use Rattle.statements.proofs.Commands.{is_at, point_rest, point_draft, no_page}
 
 abbrev pub add_org_text : List ℕ
 add_org_text = codes "INSERT INTO org (name, cap) VALUES (?1, ?2)"

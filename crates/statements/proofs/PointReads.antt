@@ -1,5 +1,5 @@
 -- What a query over one of our tables reads of its rows, whatever else stands in the database.
-use Rattle.std.proofs.Common.{◌≡◌, ℕ, Bool, true, false, List, [], ◌∷◌, map, filter, find, length, slice_get, Option, Some, None, option_map, refl, sym, ap, ◌∙◌, subst}
+use Rattle.std.proofs.Common.{◌≡◌, ℕ, Bool, true, false, List, [], ◌∷◌, map, filter, find, length, slice_get, Option, Some, None, option_map, ap, ◌∙◌, subst}
 use Rattle.std.specs.List.{list_all}
 use Rattle.sqlite_value.specs.declared.keys.Collation.TheVariants.{Binary}
 use Rattle.sqlite_value.specs.declared.value.Value.TheVariants.{Null}

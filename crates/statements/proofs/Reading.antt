@@ -1,5 +1,5 @@
 -- What a SELECT from one table means, from what its parts mean.
-use Rattle.std.proofs.Common.{◌≡◌, ℕ, suc, List, [], ◌∷◌, None, Some, Ok, refl}
+use Rattle.std.proofs.Common.{◌≡◌, ℕ, suc, List, [], Ok, refl}
 use Rattle.sqlite_ast.specs.declared.Core.{Core, out-Core}
 use Rattle.sqlite_ast.specs.declared.Sort.{Sort}
 use Rattle.sqlite_ast.specs.declared.Select.{Select, out-Select}
@@ -8,7 +8,6 @@ use Rattle.sqlite_sql.specs.Term.{Term}
 use Rattle.sqlite_schema.specs.declared.schema.Schema.{Schema}
 use Rattle.sqlite_schema.specs.declared.program.Program.{Program}
 use Rattle.sqlite_schema.specs.declared.command.Command.TheVariants as made
-use Rattle.sqlite_resolve.specs.Lowering.{Checked}
 use Rattle.sqlite_resolve.specs.Select.{named, paging}
 use Rattle.sqlite_resolve.specs.Program.{Shown, Building, viewing, single, alone, whole, level, with, query_to, query, sources, program}
 use Rattle.sqlite_resolve.specs.Compile.{command, read}

@@ -1,6 +1,6 @@
 -- What the texts on the table run mean, in each schema that has it.
-use Rattle.std.proofs.Common.{◌≡◌, ℕ, pos, negsuc, true, false, List, [], ◌∷◌, codes, Some, None, Ok, refl}
-use Rattle.sqlite_value.specs.declared.value.Value.TheVariants.{Null, Int}
+use Rattle.std.proofs.Common.{◌≡◌, ℕ, false, List, [], ◌∷◌, codes, Some, None, Ok, refl}
+use Rattle.sqlite_value.specs.declared.value.Value.TheVariants.{Null}
 use Rattle.sqlite_value.specs.declared.keys.Collation.TheVariants.{Binary}
 use Rattle.sqlite_sql.specs.Term.{Term, lit, col}
 use Rattle.sqlite_sql.specs.Query.{Query}
@@ -21,8 +21,8 @@ use Rattle.statements.specs.Statements as st
 use Rattle.statements.proofs.Meaning.{Means, means, some_parsed, as_read}
 use Rattle.statements.proofs.Reading.{read_is}
 use Rattle.statements.proofs.Writes.{plain_program}
-use Rattle.statements.proofs.Answered.{point, tally}
-use Rattle.statements.proofs.Commands.{is_at, is_below, is_number, update_query, delete_query, point_rest, point_draft, tally_draft, no_page, one_page}
+use Rattle.statements.proofs.Answered.{point}
+use Rattle.statements.proofs.Commands.{is_at, is_number, update_query, delete_query, point_rest, point_draft, no_page, one_page}
 
 abbrev pub first_waiting_text : List ℕ
 first_waiting_text = codes "SELECT number FROM run WHERE org = ?1 AND ws = ?2 AND status = 0 AND plan_only = 0 ORDER BY rowid LIMIT 1"

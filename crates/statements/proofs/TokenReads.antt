@@ -1,18 +1,17 @@
 -- What the queries on the table token read of its rows.
-use Rattle.std.proofs.Common.{◌≡◌, ℕ, List, [], ◌∷◌, Option, Some, None, codes, refl}
+use Rattle.std.proofs.Common.{ℕ, List, [], ◌∷◌, Option, codes, refl}
 use Rattle.sqlite_value.specs.declared.value.Value.TheVariants.{Text, Blob}
 use Rattle.sqlite_value.specs.Order.{Row}
-use Rattle.sqlite_keyed.proofs.ListLemmas.{first_taken}
 use Rattle.sqlite.specs.State.{State}
 use Rattle.statements.specs.Schema.{token_table}
-use Rattle.statements.specs.Rows.{token_cells, number}
+use Rattle.statements.specs.Rows.{token_cells}
 use Rattle.statements.specs.Tables.{Tables, Holds}
-use Rattle.statements.specs.Changes.{is_org, is_token, has_digest, is_ws, is_ws_of, is_version, is_version_of, is_run}
-use Rattle.statements.specs.Finds.{cap_of, role_of_digest, role_of_name, workspace_of, workspaces_of, head_of, newest_of, oldest_of, body_of, versions_of, is_waiting, first_waiting_of, status_of}
-use Rattle.statements.specs.Queries.{FirstRow, Pins, IsWorkspace, IsHead, IsBody, IsNumber, IsRole, IsStatus}
-use Rattle.statements.proofs.PointReads.{first_own, last_own, count_own}
-use Rattle.statements.proofs.ReadBack.{number_read, blob_read, role_read, status_read, workspace_read, head_read}
-use Rattle.statements.proofs.Conditions.{one_text, two_texts, two_texts_number, text_blob, waits}
+use Rattle.statements.specs.Changes.{is_token, has_digest}
+use Rattle.statements.specs.Finds.{role_of_digest, role_of_name}
+use Rattle.statements.specs.Queries.{FirstRow, Pins, IsRole}
+use Rattle.statements.proofs.PointReads.{first_own}
+use Rattle.statements.proofs.ReadBack.{role_read}
+use Rattle.statements.proofs.Conditions.{two_texts, text_blob}
 use Rattle.statements.proofs.TokenTexts.{token_role_text, token_role_means, token_role_rest, named_token_role_text, named_token_role_means, named_token_role_rest}
 
 module _ (old new : State) (t : Tables) (h : Holds old.now t) where

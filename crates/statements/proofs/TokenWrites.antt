@@ -1,22 +1,17 @@
 -- What the writes to the table token do to its rows.
-use Rattle.std.proofs.Common.{◌≡◌, ℕ, Bool, List, [], ◌∷◌, length, Option, Some, None, Ok, refl}
-use Rattle.sqlite_typed.specs.Columns.{or_null}
-use Rattle.sqlite_value.specs.declared.value.Value.TheVariants.{Null, Int, Text, Blob}
-use Rattle.sqlite_value.specs.Order.{Row}
+use Rattle.std.proofs.Common.{ℕ, List, [], ◌∷◌, Ok, refl}
+use Rattle.sqlite_value.specs.declared.value.Value.TheVariants.{Text, Blob}
 use Rattle.sqlite.specs.State.{State, Executes}
-use Rattle.sqlite_keyed.proofs.KeyedLemmas.{IsKeyedBy-update_where, IsKeyedBy-delete_where}
+use Rattle.sqlite_keyed.proofs.KeyedLemmas.{IsKeyedBy-delete_where}
 use Rattle.basis.specs.declared.roles.Role.{Role}
-use Rattle.basis.specs.declared.runs.RunStatus.{RunStatus}
-use Rattle.basis.specs.declared.runs.RunAction.{RunAction}
-use Rattle.statements.specs.declared.rows.Holder.TheVariants.{Nobody, Lock, Run as HeldByRun}
 use Rattle.statements.specs.Schema.{token_table}
-use Rattle.statements.specs.Rows.{Kept, id_of, TokenRow, token_cells, flag, number, role_code, status_code, action_code}
+use Rattle.statements.specs.Rows.{id_of, TokenRow, token_cells, number, role_code}
 use Rattle.statements.specs.Tables.{Tables, Holds, token_tree}
-use Rattle.statements.specs.Changes.{is_org, is_token, is_ws, is_version, is_version_of, is_version_below, is_run, is_run_of, with_auto, held_by, released_from, with_next_version, with_next_run, new_workspace, new_version, ws_changed, ws_added, ws_removed, version_added, versions_removed, versions_removed_below, token_added, token_removed, org_added, run_changed_to, run_acted, run_added, new_run, runs_removed}
-use Rattle.statements.proofs.Own.{update_own, delete_own, insert_own, keyed_next}
+use Rattle.statements.specs.Changes.{is_token, token_added, token_removed}
+use Rattle.statements.proofs.Own.{delete_own, insert_own, keyed_next}
 use Rattle.statements.proofs.Casts.{token_casts}
 use Rattle.statements.proofs.Frames.{tokens_written}
-use Rattle.statements.proofs.Conditions.{one_text, two_texts, two_texts_number, two_texts_below, text_blob}
+use Rattle.statements.proofs.Conditions.{two_texts}
 use Rattle.statements.proofs.TokenTexts.{add_token_text, add_token_means, add_token_terms, remove_token_text, remove_token_means, remove_token_query}
 
 module _ (old new : State) (count : ℕ) (t : Tables) (h : Holds old.now t) where

@@ -1,18 +1,18 @@
 -- What the queries on the table version read of its rows.
-use Rattle.std.proofs.Common.{◌≡◌, ℕ, List, [], ◌∷◌, Option, Some, None, codes, refl}
-use Rattle.sqlite_value.specs.declared.value.Value.TheVariants.{Text, Blob}
+use Rattle.std.proofs.Common.{◌≡◌, ℕ, List, [], ◌∷◌, Option, Some, codes, refl}
+use Rattle.sqlite_value.specs.declared.value.Value.TheVariants.{Text}
 use Rattle.sqlite_value.specs.Order.{Row}
 use Rattle.sqlite_keyed.proofs.ListLemmas.{first_taken}
 use Rattle.sqlite.specs.State.{State}
 use Rattle.statements.specs.Schema.{version_table}
 use Rattle.statements.specs.Rows.{version_cells, number}
 use Rattle.statements.specs.Tables.{Tables, Holds}
-use Rattle.statements.specs.Changes.{is_org, is_token, has_digest, is_ws, is_ws_of, is_version, is_version_of, is_run}
-use Rattle.statements.specs.Finds.{cap_of, role_of_digest, role_of_name, workspace_of, workspaces_of, head_of, newest_of, oldest_of, body_of, versions_of, is_waiting, first_waiting_of, status_of}
-use Rattle.statements.specs.Queries.{FirstRow, Pins, IsWorkspace, IsHead, IsBody, IsNumber, IsRole, IsStatus}
+use Rattle.statements.specs.Changes.{is_version, is_version_of}
+use Rattle.statements.specs.Finds.{head_of, newest_of, oldest_of, body_of, versions_of}
+use Rattle.statements.specs.Queries.{FirstRow, Pins, IsHead, IsBody, IsNumber}
 use Rattle.statements.proofs.PointReads.{first_own, last_own, count_own}
-use Rattle.statements.proofs.ReadBack.{number_read, blob_read, role_read, status_read, workspace_read, head_read}
-use Rattle.statements.proofs.Conditions.{one_text, two_texts, two_texts_number, text_blob, waits}
+use Rattle.statements.proofs.ReadBack.{number_read, blob_read, head_read}
+use Rattle.statements.proofs.Conditions.{two_texts, two_texts_number}
 use Rattle.statements.proofs.VersionTexts.{newest_version_text, newest_version_means, newest_version_rest, oldest_version_text, oldest_version_means, oldest_version_rest, version_body_text, version_body_means, version_body_rest, count_versions_text, count_versions_means, count_versions_rest}
 
 module _ (old new : State) (t : Tables) (h : Holds old.now t) where

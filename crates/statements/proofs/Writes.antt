@@ -1,15 +1,12 @@
 -- What a text that was run has done, in terms of the rows that its query answers.
-use Rattle.std.proofs.Common.{◌≡◌, ◌⊎◌, inl, inr, ℕ, ℤ, Bool, true, false, cond, MatchBool, List, [], ◌∷◌, ◌++◌, length, slice_get, Option, Some, None, Ok, Err, Result, refl, sym, ap, subst, ◌∙◌}
+use Rattle.std.proofs.Common.{◌≡◌, ◌⊎◌, inl, inr, ℕ, ℤ, Bool, true, false, cond, MatchBool, List, [], slice_get, Some, None, Ok, Err, Result, refl, sym, ap, subst, ◌∙◌}
 use Rattle.sqlite_value.specs.declared.value.Value.TheVariants.{Null}
 use Rattle.sqlite_value.specs.Order.{Row}
-use Rattle.sqlite_trees.specs.Tree.{Trees}
 use Rattle.sqlite_sql.specs.Query.{Query, IsAnswer}
 use Rattle.sqlite_sql.specs.Program.{overlay}
 use Rattle.sqlite_schema.specs.declared.program.Program.{Program}
-use Rattle.sqlite_schema.specs.declared.schema.Schema.{Schema}
 use Rattle.sqlite_schema.specs.declared.schema.Table.{Table}
 use Rattle.sqlite_schema.specs.declared.schema.Keys.TheVariants.{Enforced}
-use Rattle.sqlite_schema.specs.declared.command.Command.{Command}
 use Rattle.sqlite_schema.specs.declared.command.Command.TheVariants.{Insert, Update, Delete}
 use Rattle.sqlite_schema.specs.declared.command.Source.{Source}
 use Rattle.sqlite_rules.specs.declared.error.Rowids.TheVariants.{Above, Chosen, Given}
@@ -20,9 +17,7 @@ use Rattle.sqlite.specs.Effect.{Database, IsSource}
 use Rattle.sqlite.specs.Rows.{Task, Written, stamped}
 use Rattle.sqlite.specs.Does.{Tally, Concludes}
 use Rattle.sqlite.specs.State.{State, mode_of, Executes}
-use Rattle.sqlite.specs.State as state
-use Rattle.sqlite.proofs.Callers.{runs_as, statement_of}
-use Rattle.sqlite.specs.Listing.{understood}
+use Rattle.sqlite.proofs.Callers.{runs_as}
 use Rattle.statements.proofs.Meaning.{Means}
 
 -- a part that gave a value did not stop on the way

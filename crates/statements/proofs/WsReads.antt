@@ -1,18 +1,17 @@
 -- What the queries on the table ws read of its rows.
-use Rattle.std.proofs.Common.{◌≡◌, ℕ, List, [], ◌∷◌, Option, Some, None, codes, refl}
-use Rattle.sqlite_value.specs.declared.value.Value.TheVariants.{Text, Blob}
+use Rattle.std.proofs.Common.{◌≡◌, ℕ, List, [], ◌∷◌, Option, Some, codes, refl}
+use Rattle.sqlite_value.specs.declared.value.Value.TheVariants.{Text}
 use Rattle.sqlite_value.specs.Order.{Row}
-use Rattle.sqlite_keyed.proofs.ListLemmas.{first_taken}
 use Rattle.sqlite.specs.State.{State}
 use Rattle.statements.specs.Schema.{ws_table}
 use Rattle.statements.specs.Rows.{ws_cells, number}
 use Rattle.statements.specs.Tables.{Tables, Holds}
-use Rattle.statements.specs.Changes.{is_org, is_token, has_digest, is_ws, is_ws_of, is_version, is_version_of, is_run}
-use Rattle.statements.specs.Finds.{cap_of, role_of_digest, role_of_name, workspace_of, workspaces_of, head_of, newest_of, oldest_of, body_of, versions_of, is_waiting, first_waiting_of, status_of}
-use Rattle.statements.specs.Queries.{FirstRow, Pins, IsWorkspace, IsHead, IsBody, IsNumber, IsRole, IsStatus}
-use Rattle.statements.proofs.PointReads.{first_own, last_own, count_own}
-use Rattle.statements.proofs.ReadBack.{number_read, blob_read, role_read, status_read, workspace_read, head_read}
-use Rattle.statements.proofs.Conditions.{one_text, two_texts, two_texts_number, text_blob, waits}
+use Rattle.statements.specs.Changes.{is_ws, is_ws_of}
+use Rattle.statements.specs.Finds.{workspace_of, workspaces_of}
+use Rattle.statements.specs.Queries.{FirstRow, Pins, IsWorkspace}
+use Rattle.statements.proofs.PointReads.{first_own, count_own}
+use Rattle.statements.proofs.ReadBack.{workspace_read}
+use Rattle.statements.proofs.Conditions.{one_text, two_texts}
 use Rattle.statements.proofs.WsTexts.{find_ws_text, find_ws_means, find_ws_rest, count_ws_text, count_ws_means, count_ws_rest}
 
 module _ (old new : State) (t : Tables) (h : Holds old.now t) where

@@ -1,5 +1,5 @@
 -- What the texts on the table ws mean, in each schema that has it.
-use Rattle.std.proofs.Common.{◌≡◌, ℕ, pos, negsuc, true, false, List, [], ◌∷◌, codes, Some, None, Ok, refl}
+use Rattle.std.proofs.Common.{◌≡◌, ℕ, pos, false, List, [], ◌∷◌, codes, Some, None, Ok, refl}
 use Rattle.sqlite_value.specs.declared.value.Value.TheVariants.{Null, Int}
 use Rattle.sqlite_value.specs.declared.keys.Collation.TheVariants.{Binary}
 use Rattle.sqlite_sql.specs.Term.{Term, lit, col}
@@ -9,7 +9,6 @@ use Rattle.sqlite_schema.specs.declared.command.Source.TheVariants.{Values}
 use Rattle.sqlite_schema.specs.declared.command.Command.TheVariants.{Select, Insert, Update, Delete}
 use Rattle.sqlite_ast.specs.declared.Statement.TheVariants as written
 use Rattle.sqlite_ast.specs.declared.Select as ast
-use Rattle.sqlite_ast.specs.declared.Expr.TheVariants.{Integer}
 use Rattle.sqlite_resolve.specs.Compile.{first, command, timed, returning}
 use Rattle.sqlite_resolve.specs.Select.{named}
 use Rattle.sqlite_resolve.specs.Program.{program}
@@ -22,7 +21,7 @@ use Rattle.statements.proofs.Meaning.{Means, means, some_parsed, as_read}
 use Rattle.statements.proofs.Reading.{read_is}
 use Rattle.statements.proofs.Writes.{plain_program}
 use Rattle.statements.proofs.Answered.{point, tally}
-use Rattle.statements.proofs.Commands.{is_at, is_below, is_number, update_query, delete_query, point_rest, point_draft, tally_draft, no_page, one_page}
+use Rattle.statements.proofs.Commands.{is_at, update_query, delete_query, point_rest, point_draft, tally_draft, no_page}
 
 abbrev pub find_ws_text : List ℕ
 find_ws_text = codes "SELECT auto, kind, lock_id, lock_text, run, released, next_version, next_run FROM ws WHERE org = ?1 AND name = ?2 ORDER BY rowid"

@@ -1,22 +1,17 @@
 -- What the writes to the table ws do to its rows.
-use Rattle.std.proofs.Common.{◌≡◌, ℕ, Bool, List, [], ◌∷◌, length, Option, Some, None, Ok, refl}
-use Rattle.sqlite_typed.specs.Columns.{or_null}
-use Rattle.sqlite_value.specs.declared.value.Value.TheVariants.{Null, Int, Text, Blob}
-use Rattle.sqlite_value.specs.Order.{Row}
+use Rattle.std.proofs.Common.{ℕ, Bool, List, [], ◌∷◌, Ok, refl}
+use Rattle.sqlite_value.specs.declared.value.Value.TheVariants.{Text, Blob}
 use Rattle.sqlite.specs.State.{State, Executes}
 use Rattle.sqlite_keyed.proofs.KeyedLemmas.{IsKeyedBy-update_where, IsKeyedBy-delete_where}
-use Rattle.basis.specs.declared.roles.Role.{Role}
-use Rattle.basis.specs.declared.runs.RunStatus.{RunStatus}
-use Rattle.basis.specs.declared.runs.RunAction.{RunAction}
 use Rattle.statements.specs.declared.rows.Holder.TheVariants.{Nobody, Lock, Run as HeldByRun}
 use Rattle.statements.specs.Schema.{ws_table}
-use Rattle.statements.specs.Rows.{Kept, id_of, WsRow, ws_cells, flag, number, role_code, status_code, action_code}
+use Rattle.statements.specs.Rows.{Kept, id_of, WsRow, ws_cells, flag, number}
 use Rattle.statements.specs.Tables.{Tables, Holds, ws_tree}
-use Rattle.statements.specs.Changes.{is_org, is_token, is_ws, is_version, is_version_of, is_version_below, is_run, is_run_of, with_auto, held_by, released_from, with_next_version, with_next_run, new_workspace, new_version, ws_changed, ws_added, ws_removed, version_added, versions_removed, versions_removed_below, token_added, token_removed, org_added, run_changed_to, run_acted, run_added, new_run, runs_removed}
+use Rattle.statements.specs.Changes.{is_ws, with_auto, held_by, released_from, with_next_version, with_next_run, new_workspace, ws_changed, ws_added, ws_removed}
 use Rattle.statements.proofs.Own.{update_own, delete_own, insert_own, keyed_next}
 use Rattle.statements.proofs.Casts.{ws_casts}
 use Rattle.statements.proofs.Frames.{wss_written}
-use Rattle.statements.proofs.Conditions.{one_text, two_texts, two_texts_number, two_texts_below, text_blob}
+use Rattle.statements.proofs.Conditions.{two_texts}
 use Rattle.statements.proofs.WsTexts.{add_ws_text, add_ws_means, add_ws_terms, set_auto_text, set_auto_means, set_auto_query, hold_by_lock_text, hold_by_lock_means, hold_by_lock_query, hold_by_run_text, hold_by_run_means, hold_by_run_query, release_lock_text, release_lock_means, release_lock_query, release_run_text, release_run_means, release_run_query, set_next_version_text, set_next_version_means, set_next_version_query, set_next_run_text, set_next_run_means, set_next_run_query, remove_ws_text, remove_ws_means, remove_ws_query}
 
 module _ (old new : State) (count : ℕ) (t : Tables) (h : Holds old.now t) where

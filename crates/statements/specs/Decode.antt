@@ -1,10 +1,7 @@
 -- The typed rows that trees have: `tables_of` is theirs for every database that holds any.
-use Rattle.std.specs.Prelude.{ℕ, zero, suc, ℤ, pos, Bool, not, List, [], ◌∷◌, map, Option, Some, None, unsigned_abs, ◌==◌, if◌then◌else◌}
+use Rattle.std.specs.Prelude.{ℕ, zero, suc, pos, Bool, not, List, map, unsigned_abs, ◌==◌, if◌then◌else◌}
 use Rattle.std.specs.Ordering.{int_eq}
-use Rattle.sqlite_value.specs.declared.value.Value.{Value}
-use Rattle.sqlite_value.specs.declared.value.Value.TheVariants as cell
 use Rattle.sqlite_value.specs.Order.{Row, column}
-use Rattle.sqlite_trees.specs.Tree.{Trees}
 use Rattle.sqlite_typed.specs.Columns.{int_of, bytes_of, unless_null}
 use Rattle.sqlite.specs.Effect.{Database}
 use Rattle.basis.specs.declared.roles.Role.{Role}

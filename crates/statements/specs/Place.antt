@@ -1,5 +1,5 @@
 -- Where a table stands in a schema, whatever other tables, indexes and views stand there too.
-use Rattle.std.specs.Prelude.{◌≡◌, ◌^◌, ℕ, nat_le, nat_lt, Bool, true, false, List, [], ◌==◌, find, slice_get, Option, Some, option_map, unwrap_or}
+use Rattle.std.specs.Prelude.{◌≡◌, ◌^◌, ℕ, nat_le, nat_lt, true, false, List, [], ◌==◌, find, slice_get, Some, option_map, unwrap_or}
 use Rattle.std.specs.List.{AllByRecursion}
 use Rattle.sqlite_schema.specs.declared.schema.Schema.{Schema}
 use Rattle.sqlite_schema.specs.declared.schema.Table.{Table}

@@ -1,5 +1,5 @@
 -- What a statement does: it changes the rows of our tables by a function, or reads a value of them.
-use Rattle.std.specs.Prelude.{◌≡◌, ◌⊎◌, ℕ, List, true, IsTrue, Result, Ok, Err, IfOk, OnOk, OnErr}
+use Rattle.std.specs.Prelude.{◌≡◌, ◌⊎◌, ℕ, List, IsTrue, Result, Ok, IfOk, OnOk, OnErr}
 use Rattle.sqlite_value.specs.Order.{Row}
 use Rattle.sqlite.specs.State.{State, HasCleanDisk, IsUnchanged, IsRolledBack, KeepsCommit, ExecutesInside}
 use Rattle.statements.specs.Tables.{Tables, Holds}

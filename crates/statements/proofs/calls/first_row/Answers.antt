@@ -1,4 +1,3 @@
-use Rattle.std.proofs.Common.{refl}
 use Rattle.sqlite.specs.Held.{state}
 use Rattle.statements.proofs.Calm.{row_calm, error_calm, none_shown, none_calm, survives_query}
 use Rattle.statements.proofs.calls.first_row.Goals as goal

@@ -1,7 +1,7 @@
-use Rattle.std.proofs.Common.{pos, length, w64, arith, option_map}
+use Rattle.std.proofs.Common.{pos, w64}
 use Rattle.std.proofs.lemmas.Int.{to_z-of_z}
-use Rattle.statements.specs.Rows.{role_code, status_code, action_code}
-use Rattle.statements.proofs.Codes.{role_fits, status_fits, action_fits, optional_text, bound_text}
+use Rattle.statements.specs.Rows.{status_code}
+use Rattle.statements.proofs.Codes.{status_fits}
 use Rattle.sqlite.specs.Held.{state}
 use Rattle.statements.specs.Changes.{run_changed_to}
 use Rattle.statements.proofs.Transactions.{moves_by}

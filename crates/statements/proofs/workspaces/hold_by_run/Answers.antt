@@ -1,8 +1,6 @@
 use Rattle.statements.specs.declared.rows.Holder.TheVariants.{Run as HeldByRun}
-use Rattle.std.proofs.Common.{pos, length, w64, arith, option_map}
+use Rattle.std.proofs.Common.{pos, w64}
 use Rattle.std.proofs.lemmas.Int.{to_z-of_z}
-use Rattle.statements.specs.Rows.{role_code, status_code, action_code}
-use Rattle.statements.proofs.Codes.{role_fits, status_fits, action_fits, optional_text, bound_text}
 use Rattle.sqlite.specs.Held.{state}
 use Rattle.statements.specs.Changes.{held_by, ws_changed}
 use Rattle.statements.proofs.Transactions.{moves_by}
