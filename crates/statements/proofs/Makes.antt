@@ -1,5 +1,5 @@
 -- What a CREATE TABLE and a CREATE INDEX do, in a database with whatever schema.
-use Rattle.std.proofs.Common.{◌≡◌, ◌⊎◌, inl, inr, ℕ, ◌+◌, ◌<◌, Bool, true, false, cond, ◌||◌, ◌&&◌, List, [], ◌∷◌, ◌++◌, slice_get, slice_range, Option, Some, None, is_some, Result, Ok, Err, refl, sym, ap, ◌∙◌, subst, arith, append_assoc}
+use Rattle.std.proofs.Common.{◌≡◌, ◌⊎◌, inl, inr, ℕ, ◌+◌, ◌<◌, Bool, true, false, cond, ◌||◌, ◌&&◌, List, [], ◌∷◌, ◌++◌, slice_get, slice_range, Option, Some, None, is_some, Result, Ok, Err, refl, sym, ap, ◌∙◌, subst, arith, append_assoc, append-nil}
 use Rattle.std.specs.List.{AllByRecursion, AllZip}
 use Rattle.std.proofs.lemmas.Bool.{cases_Bool, or_parts}
 use Rattle.sqlite_value.specs.Order.{Row}
@@ -34,7 +34,7 @@ use Rattle.sqlite.specs.Does.{Tally, AtPlace, Defines, MakesIndex, MakesSequence
 use Rattle.sqlite.specs.Listing.{understood, reads_listing, if_select, is_select, listing_schema}
 use Rattle.sqlite.specs.State.{State, mode_of, Executes, ExecutesIn, Runs, Writes, shows_rows, is_pragma, text_of}
 use Rattle.sqlite_keyed.proofs.ListLemmas.{all-slice_get, ascending_weaker}
-use Rattle.statements.specs.Making.{AreMade, GrowsBy, KeepsMade}
+use Rattle.statements.specs.Making.{AreMade, KeepsTables, GrowsBy, KeepsMade}
 use Rattle.statements.specs.Place.{IsOwn, at_of, tree_of}
 use Rattle.statements.proofs.Meaning.{as_read}
 use Rattle.statements.proofs.Grown.{Grown, made_grown}
@@ -235,7 +235,7 @@ module _ (table : Table) (loose : table.references ≡ []) (def : TableText) (te
       grown table text defines old.now new.now made.0 made.1 w.sound (subst (λ d. MakesSequence made.0 (Ok d)) (sym now) made.2)
 
   pub makes_behind : (old new : State) (params : Row) (count : ℕ) → Executes text params old new (Ok count) → GrowsBy table old.now new.now
-  makes_behind old new params count h = let g = makes_table old new params count h in (made_grown table loose old.now new.now g, g.others)
+  makes_behind old new params count h = let g = makes_table old new params count h in (made_grown table loose old.now new.now g, record { more = record table { tree = next_tree old.now.schema } ∷ g.more; tables = g.tables; rows = g.others })
 
 -- ---- CREATE INDEX
 
@@ -316,7 +316,7 @@ indexes_at old new text (Some table) tally e =
     let now : new.now ≡ done.0 = ap (λ (q : Tally × Database). q.1) (same_value done.2) in
     let is : new.now.schema.tables ≡ old.now.schema.tables = ap (λ (d : Database). d.schema.tables) now ∙ ap (λ (s : Schema). s.tables) done.1.is in
     let rows : KeepsRows old.now.schema.tables old.now.trees new.now.trees = subst (λ (d : Database). KeepsRows old.now.schema.tables old.now.trees d.trees) (sym now) done.1.rows in
-    (made_same old.now new.now is rows, rows)
+    (made_same old.now new.now is rows, record { more = []; tables = is ∙ sym (append-nil old.now.schema.tables); rows = rows })
 
 module _ (def : IndexText) (text : List ℕ) (p : Parsed) (reads : first text ≡ Ok (as_read p (written.CreateIndex (fresh_index def)))) (whole : slice_range text p.start p.end ≡ text) where
   quiet_index : (s : Schema) (base : ℕ) → returning s base (written.CreateIndex (fresh_index def)) ≡ Ok None
@@ -332,3 +332,12 @@ module _ (def : IndexText) (text : List ℕ) (p : Parsed) (reads : first text �
       let ran = ran_as IsIndexMaking no_select_index text (written.CreateIndex (fresh_index def)) p reads whole timeless_index quiet_index (makes_an_index def) old new params count no_rows_index h in
       let w : Writes old new None (CreateIndex ran.1.0) text ran.2 count = subst (λ k. Runs old new None k text ran.2 count) ran.1.1 ran.3 in
       indexes_at old new text (slice_get old.now.schema.tables ran.1.0) w.tally w.changed
+
+-- ---- one after another
+
+pub tables_kept_then : (a b c : Database) → KeepsTables a b → KeepsTables b c → KeepsTables a c
+tables_kept_then a b c h k = record {
+  more = h.more ++ k.more;
+  tables = k.tables ∙ ap (λ l. l ++ k.more) h.tables ∙ append_assoc a.schema.tables h.more k.more;
+  rows = kept_then a.schema.tables a.trees b.trees c.trees h.rows (front (λ (t : Table). c.trees t.tree ≡ b.trees t.tree) a.schema.tables h.more (subst (λ l. KeepsRows l b.trees c.trees) h.tables k.rows)).0;
+}

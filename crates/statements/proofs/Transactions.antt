@@ -1,5 +1,5 @@
 -- From what a text does to what a function of it promises.
-use Rattle.std.proofs.Common.{◌≡◌, ◌⊎◌, inl, ℕ, List, [], ◌∷◌, Option, Some, None, Result, Ok, Err, IfOk, OnOk, OnErr, refl, ap, subst}
+use Rattle.std.proofs.Common.{◌≡◌, ◌⊎◌, inl, ℕ, List, [], ◌∷◌, Option, Some, None, Result, Ok, Err, IfOk, OnOk, OnErr, refl, ap, subst, ◌∙◌}
 use Rattle.sqlite_value.specs.Order.{Row}
 use Rattle.sqlite.specs.State.{State, Executes, KeepsCommit, IsUnchanged, IsRolledBack}
 use Rattle.sqlite.specs.declared.error.Error.{Error}
@@ -57,3 +57,13 @@ counts_by read old new text params (Ok r) (Ok n) first calm is shows = (λ t h. 
         let shown : row ≡ number m ∷ [] = cc in
         let told : number m ≡ number n = subst (λ (l : Row). IsNumber l n) shown is in
         cc
+
+-- ---- one after another
+
+pub moves_then : (f g : Tables → Tables) (a b c : State) → Moves f a b → Moves g b c → Moves (λ t. g (f t)) a c
+moves_then f g a b c one two =
+    record { rows = λ t h. two.rows (f t) (one.rows t h); was_open = one.was_open; is_open = two.is_open; committed = two.committed ∙ one.committed; inside = two.inside }
+
+pub alters_then : (F G : Database → Database → Type 0) (a b c : State) → Alters F a b → Alters G b c → Alters (λ x y. (z : Database) × F x z × G z y) a c
+alters_then F G a b c one two =
+    record { change = (b.now, one.change, two.change); was_open = one.was_open; is_open = two.is_open; committed = two.committed ∙ one.committed; inside = two.inside }

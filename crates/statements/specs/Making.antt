@@ -18,13 +18,19 @@ pub record AreMade (tables : List Table) (db : Database) : Type 0 where
   pub empty : AllByRecursion (λ (t : Table). db.trees (tree_of db.schema t.name) ≡ []) tables
   pub order : IsAscending (λ (a b : Table). tree_of db.schema a.name < tree_of db.schema b.name) tables
 
--- The table stands behind those of ours that were made before, with no row, and each table that was there keeps its rows.
+-- Each table that was there stands where it stood, and keeps its rows.
+pub record KeepsTables (old new : Database) : Type 0 where
+  pub more : List Table
+  pub tables : new.schema.tables ≡ old.schema.tables ++ more
+  pub rows : KeepsRows old.schema.tables old.trees new.trees
+
+-- The table stands behind those of ours that were made before, with no row, and each table that was there is kept.
 abbrev pub GrowsBy : Table → Database → Database → Type 0
-GrowsBy table old new = ((tables : List Table) → AreMade tables old → AreMade (tables ++ table ∷ []) new) × KeepsRows old.schema.tables old.trees new.trees
+GrowsBy table old new = ((tables : List Table) → AreMade tables old → AreMade (tables ++ table ∷ []) new) × KeepsTables old new
 
 -- what was made stays
 abbrev pub KeepsMade : Database → Database → Type 0
-KeepsMade old new = ((tables : List Table) → AreMade tables old → AreMade tables new) × KeepsRows old.schema.tables old.trees new.trees
+KeepsMade old new = ((tables : List Table) → AreMade tables old → AreMade tables new) × KeepsTables old new
 
 -- the schema changes inside the transaction, which goes on
 pub record Alters (Change : Database → Database → Type 0) (old new : State) : Type 0 where
