@@ -1,6 +1,6 @@
 -- A table that refers to no other keeps its rows, whatever actions of foreign keys of other tables a write sets off.
-use Rattle.std.proofs.Common.{◌≡◌, ◌≢◌, inl, inr, ℕ, zero, suc, ◌+◌, ℤ, Bool, true, false, cond, List, [], ◌∷◌, ◌++◌, Option, Some, None, Ok, slice_get, refl, sym, ap, ◌∙◌, subst}
-use Rattle.std.specs.Prelude.{nat_lt}
+use Rattle.std.proofs.Common.{◌≡◌, ◌≢◌, inl, inr, ℕ, zero, suc, ◌+◌, ℤ, Bool, true, false, cond, List, [], ◌∷◌, ◌++◌, Option, Some, None, Ok, slice_get, refl, sym, ap, ◌∙◌, subst, ◌&&◌, length}
+use Rattle.std.specs.Prelude.{nat_lt, ◌==◌}
 use Rattle.std.specs.List.{AllByRecursion, flat_map, filter_map}
 use Rattle.std.proofs.lemmas.Bool.{cases_Bool}
 use Rattle.sqlite_value.specs.Order.{Row}
@@ -12,8 +12,8 @@ use Rattle.sqlite_schema.specs.declared.schema.Schema.{Schema}
 use Rattle.sqlite_schema.specs.Rules.{ParentKey, parent_key}
 use Rattle.sqlite_rules.specs.declared.action.Deed.{Deed}
 use Rattle.sqlite_rules.specs.Edit.{Edit, Applies}
-use Rattle.sqlite_rules.specs.Action.{Work, work_by, work_for, refuses, max_depth, action_edit, Acts, ActsOn, Goes, Leads, Writes}
-use Rattle.sqlite_keyed.proofs.ListLemmas.{all-append, all-slice_get}
+use Rattle.sqlite_rules.specs.Action.{works, Work, work_by, work_for, refuses, max_depth, action_edit, Acts, ActsOn, Goes, Leads, Writes, deed_for}
+use Rattle.sqlite_keyed.proofs.ListLemmas.{all-append, all-slice_get, flat_map_none}
 
 module _ (schema : Schema) (keys : Keys) (table : Table) (at tree : ℕ) (found : slice_get schema.tables at ≡ Some (record table { tree = tree }))
     (bare : AllByRecursion (λ (t : Table). t.tree ≡ tree → t.references ≡ []) schema.tables) where
@@ -86,3 +86,24 @@ module _ (schema : Schema) (keys : Keys) (table : Table) (at tree : ℕ) (found 
   write_keeps db next edit (inl refused) = absurd (let e = refused.2 in cc)
   write_keeps db next edit (inr (inl big)) = absurd (let e = big.2 in cc)
   write_keeps db next edit (inr (inr went)) = (went.0, went.1, lead_keeps went.2.0 went.0 next _ (all_works _ _ _ _ schema.tables bare) went.2.1)
+
+no_work : (depth tree : ℕ) (child : Table) (ref : Reference) (deed : Option Deed) (key : Option ParentKey) → work_by depth tree [] child ref deed key ≡ None
+no_work depth tree child ref None key = refl
+no_work depth tree child ref (Some deed) None = refl
+no_work depth tree child ref (Some deed) (Some key) = go (key.0 == tree)
+  where
+    some_work : ParentKey → Work
+    some_work key = record { depth = depth; child = child; ref = ref; places = key.1; order = key.2; deed = deed; moves = [] }
+
+    go : (b : Bool) → cond (b && false) (Some (some_work key)) None ≡ None
+    go true = refl
+    go false = refl
+
+none_mapped : {X Y : Type 0} (f : X → Option Y) → ((x : X) → f x ≡ None) → (xs : List X) → filter_map f xs ≡ []
+none_mapped f none [] = refl
+none_mapped f none (x ∷ xs) = rw (none x) (none_mapped f none xs)
+
+-- where no row goes, nothing is set off
+pub no_works_if_none : (schema : Schema) (keys : Keys) (depth tree : ℕ) (news : List Row) → works schema keys depth tree [] news ≡ []
+no_works_if_none schema keys depth tree news =
+    flat_map_none _ (λ child. none_mapped (work_for schema keys depth tree [] news child) (λ ref. no_work depth tree child ref (deed_for keys (length news == 0) ref) (parent_key schema.tables ref)) child.references) schema.tables

@@ -26,7 +26,7 @@ use Rattle.statements.specs.Place.{IsAt}
 use Rattle.statements.specs.Schema.{meta_table}
 use Rattle.statements.specs.Rows.{id_of, meta_cells}
 use Rattle.statements.specs.Tables.{Tables, Holds}
-use Rattle.statements.specs.Making.{version_set, version_in}
+use Rattle.statements.specs.Making.{LeavesOthers, version_set, version_in}
 use Rattle.statements.specs.Queries.{IsQuery, FirstRow, Pins, IsNumber}
 use Rattle.statements.specs.Statements as st
 use Rattle.statements.proofs.Meaning.{Means, means, some_parsed, as_read}
@@ -34,7 +34,7 @@ use Rattle.statements.proofs.Reading.{read_is}
 use Rattle.statements.proofs.Writes.{plain_program}
 use Rattle.statements.proofs.Answered.{point}
 use Rattle.statements.proofs.Commands.{is_number, point_rest, point_draft, no_page}
-use Rattle.statements.proofs.Own.{put_own}
+use Rattle.statements.proofs.Own.{put_own, insert_others}
 use Rattle.statements.proofs.Casts.{meta_casts}
 use Rattle.statements.proofs.Frames.{metas_written}
 use Rattle.statements.proofs.PointReads.{first_own}
@@ -109,3 +109,7 @@ module _ (old new : State) (t : Tables) (h : Holds old.now t) where
   version_shows row first =
       first_own meta_cells meta_table old new h.ours.meta t.metas h.metas h.metas_keyed version_text [] row first version_rest (codes "version" ∷ [])
       (λ x. int_eq (id_of x) (pos 1)) (λ x. last_term (at_ints _ compare.Eq (id_of x) (pos 1))) IsNumber (λ x. x.1) (λ x y told. number_read x.1 y told) (version_means old.now.schema _ _ h.ours.meta.place) (λ l. refl)
+
+pub set_version_leaves : (old new : State) (count : ℕ) → Executes set_version_text [] old new (Ok count) → LeavesOthers meta_table old.now new.now
+set_version_leaves old new count ran own =
+    insert_others meta_table old new own set_version_text [] count ran set_version_terms 3 (set_version_means old.now.schema _ _ own.place) refl refl

@@ -1,7 +1,7 @@
 -- What a write to one of our tables leaves, whatever else stands in the database.
 use Rattle.std.proofs.Common.{◌≡◌, ◌≢◌, ◌^◌, ℕ, ℤ, Bool, true, false, List, [], ◌∷◌, ◌++◌, ◌/◌, map, drop, length, None, Ok, refl, sym, ap, ap₂, ◌∙◌, subst}
 use Rattle.std.specs.Prelude.{nat_le}
-use Rattle.std.specs.List.{list_all}
+use Rattle.std.specs.List.{AllByRecursion, list_all}
 use Rattle.sqlite_value.specs.declared.value.Value.{Value}
 use Rattle.sqlite_value.specs.declared.value.Value.TheVariants.{Null, Int}
 use Rattle.sqlite_value.specs.Order.{Row}
@@ -22,6 +22,7 @@ use Rattle.sqlite_rules.specs.Edit.{Edit, edited, edit_of}
 use Rattle.sqlite_rules.specs.Action.{Writes}
 use Rattle.sqlite.specs.Effect.{value_rows}
 use Rattle.sqlite.specs.Rows.{stamped}
+use Rattle.sqlite.proofs.Callers.{one_step}
 use Rattle.sqlite.specs.State.{State, Executes}
 use Rattle.sqlite_keyed.specs.Keyed.{IsKeyedBy, insert_by, next_key}
 use Rattle.sqlite_keyed.specs.Lists.{update_where, delete_where}
@@ -30,7 +31,7 @@ use Rattle.sqlite_keyed.proofs.KeyedLemmas.{IsKeyedBy-insert_by}
 use Rattle.statements.specs.Place.{at_of, tree_of, IsOwn}
 use Rattle.statements.specs.Rows.{Kept, id_of, stored}
 use Rattle.statements.proofs.Meaning.{Means}
-use Rattle.statements.proofs.Lead.{applied_keeps, write_keeps}
+use Rattle.statements.proofs.Lead.{applied_keeps, write_keeps, no_works_if_none}
 use Rattle.statements.proofs.Writes.{plain_program, updates, deletes, inserts}
 use Rattle.statements.proofs.Edits.{all_shown, updated_rows, deleted_rows, inserted_rows, put_rows}
 
@@ -135,6 +136,15 @@ module _ {R : Type 0} (cells : R → Row) (table : Table) (casts : (r : R) → c
       let one : made.0 ≡ stored cells new_row ∷ [] = made.1.1 ∙ given in
       let rows = put_rows cells old.now.trees here xs held keyed (record table { tree = here }) refl (stored cells new_row) new_row (stored_casts new_row) in
       (record { rows = went.rows ∙ ap (λ l. edited old.now.trees (edit_of old.now.trees (record table { tree = here }) [] Chosen 0 l)) one ∙ rows; others = went.others }, made.3)
+
+-- an INSERT sets nothing off, so that each other table keeps its rows, also those of others
+pub insert_others : (table : Table) (old new : State) → IsOwn old.now.schema table → (text : List ℕ) (params : Row) (count : ℕ) → Executes text params old new (Ok count) → (terms : List Term) (width : ℕ)
+    → Means old.now.schema (Insert (at_of old.now.schema table.name) (Values terms width)) text → table.is_counted ≡ false → stamped table params ≡ params
+    → (new.now.schema ≡ old.now.schema) × AllByRecursion (λ (t : Table). t.tree ≢ tree_of old.now.schema table.name → new.now.trees t.tree ≡ old.now.trees t.tree) old.now.schema.tables
+insert_others table old new own text params count ran terms width means uncounted unstamped =
+    let here = tree_of old.now.schema table.name in
+    let made = inserts old new text params (at_of old.now.schema table.name) (record table { tree = here }) own.place.found (Values terms width) uncounted unstamped means count ran in
+    (made.3, (one_step old.now.schema Enforced old.now.trees new.now.trees _ (no_works_if_none old.now.schema Enforced 0 here _) made.2).tables)
 
 -- a new row keeps the rowids rising
 pub keyed_next : {R : Type 0} (xs : List (Kept R)) (r : R) → IsKeyedBy id_of xs → IsKeyedBy id_of (xs ++ (next_key id_of xs, r) ∷ [])

@@ -17,6 +17,10 @@ moves_by change old new text params (Ok x) wrote does =
     (record { rows = λ t h. does wrote.0.0 t h ran.0; was_open = ran.1.was_open; is_open = ran.1.is_open; committed = ran.1.committed_is; inside = ran.1.mode }, tt)
 moves_by change old new text params (Err e) wrote does = (tt, wrote.1)
 
+pub ok_by : {X E : Type 0} (P : Type 0) (old new : State) (text : List ℕ) (params : Row) (result : Result X E) → Wrote text params old new result → ((count : ℕ) → Executes text params old new (Ok count) → P) → OnOk result P
+ok_by P old new text params (Ok x) wrote does = does wrote.0.0 wrote.0.1.0
+ok_by P old new text params (Err e) wrote does = tt
+
 pub alters_by : {X E : Type 0} (Change : Database → Database → Type 0) (old new : State) (text : List ℕ) (params : Row) (result : Result X E) → Wrote text params old new result
     → ((count : ℕ) → Executes text params old new (Ok count) → Change old.now new.now) → OnOk result (Alters Change old new) × OnErr result (KeepsCommit old new)
 alters_by Change old new text params (Ok x) wrote does =

@@ -1,5 +1,5 @@
 -- How the tables are made, in a database that may hold tables of others.
-use Rattle.std.specs.Prelude.{◌≡◌, ◌<◌, ℕ, pos, List, [], ◌∷◌, ◌++◌, IsTrue, Result, OnOk, OnErr, Option, option_map}
+use Rattle.std.specs.Prelude.{◌≡◌, ◌≢◌, ◌<◌, ℕ, pos, List, [], ◌∷◌, ◌++◌, IsTrue, Result, OnOk, OnErr, Option, option_map}
 use Rattle.std.specs.List.{AllByRecursion}
 use Rattle.sqlite_trees.specs.Tree.{IsAscending}
 use Rattle.sqlite_schema.specs.declared.schema.Table.{Table}
@@ -43,6 +43,11 @@ pub record Alters (Change : Database → Database → Type 0) (old new : State) 
 -- after a failure nothing is committed
 abbrev pub AltersBy : {X E : Type 0} → (Database → Database → Type 0) → State → State → Result X E → Type 0
 AltersBy Change old new result = HasCleanDisk new → IsTrue old.in_transaction → OnOk result (Alters Change old new) × OnErr result (KeepsCommit old new)
+
+-- Only the rows of the table differ, if it is one of ours.
+abbrev pub LeavesOthers : Table → Database → Database → Type 0
+LeavesOthers table old new =
+    IsOwn old.schema table → (new.schema ≡ old.schema) × AllByRecursion (λ (t : Table). t.tree ≢ tree_of old.schema table.name → new.trees t.tree ≡ old.trees t.tree) old.schema.tables
 
 -- the tables of schema 1, in the order in which they are made
 abbrev pub our_tables : List Table

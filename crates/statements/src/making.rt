@@ -1,10 +1,10 @@
 //! Statements that make the tables of schema 1, and those on the table meta, which tells the version.
-ghost use Rattle.std.specs.Prelude.{◌≡◌, false};
+ghost use Rattle.std.specs.Prelude.{◌≡◌, false, IsTrue, OnOk};
 ghost use Rattle.sqlite.specs.Held.{state};
-ghost use Rattle.sqlite.specs.State.{Survives};
+ghost use Rattle.sqlite.specs.State.{HasCleanDisk, Survives};
 ghost use Rattle.statements.specs.Steps.{ChangesBy, ReadsBy};
 ghost use Rattle.statements.specs.Schema.{meta_table, org_table, token_table, ws_table, version_table, run_table};
-ghost use Rattle.statements.specs.Making.{AltersBy, GrowsBy, KeepsMade, version_set, version_in};
+ghost use Rattle.statements.specs.Making.{AltersBy, GrowsBy, KeepsMade, LeavesOthers, version_set, version_in};
 
 use crate::calls::{first_row, number_of, write};
 use sqlite::{Alter, Connection, Error, Transaction};
@@ -98,6 +98,7 @@ const SET_VERSION: &str = "INSERT INTO meta (one, version) VALUES (1, 1)";
 pub fn set_version<S: Alter>(tx: &mut Transaction<'_, S>) -> Result<(), Error>
     ensures same_reference { tx.new.conn.ghost_name ≡ tx.old.conn.ghost_name }
     ensures changed { ChangesBy version_set (state S.Store tx.old.conn.now) (state S.Store tx.new.conn.now) result }
+    ensures others { HasCleanDisk (state S.Store tx.new.conn.now) → IsTrue (state S.Store tx.old.conn.now).in_transaction → OnOk result (LeavesOthers meta_table (state S.Store tx.old.conn.now).now (state S.Store tx.new.conn.now).now) }
     ensures survives { Survives (state S.Store tx.old.conn.now) (state S.Store tx.new.conn.now) (λ _. ⊥) }
 {
     write(tx, SET_VERSION, &[])
