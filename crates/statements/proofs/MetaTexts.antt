@@ -28,7 +28,7 @@ use Rattle.statements.specs.Rows.{id_of, meta_cells}
 use Rattle.statements.specs.Tables.{Tables, Holds}
 use Rattle.statements.specs.Making.{LeavesOthers, version_set, version_in}
 use Rattle.statements.specs.Queries.{IsQuery, FirstRow, Pins, IsNumber}
-use Rattle.statements.specs.Statements as st
+use Rattle.statements.proofs.SyntaxTrees as st
 use Rattle.statements.proofs.Meaning.{Means, means, some_parsed, as_read}
 use Rattle.statements.proofs.Reading.{read_is}
 use Rattle.statements.proofs.Writes.{plain_program}

@@ -16,7 +16,7 @@ use Rattle.sqlite_tied.specs.Compute.{everything}
 use Rattle.statements.specs.Place.{IsAt}
 use Rattle.statements.specs.Schema.{org_table}
 use Rattle.statements.specs.Queries.{IsQuery}
-use Rattle.statements.specs.Statements as st
+use Rattle.statements.proofs.SyntaxTrees as st
 use Rattle.statements.proofs.Meaning.{Means, means, some_parsed, as_read}
 use Rattle.statements.proofs.Reading.{read_is}
 use Rattle.statements.proofs.Writes.{plain_program}

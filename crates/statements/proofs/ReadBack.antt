@@ -7,9 +7,8 @@ use Rattle.basis.specs.declared.runs.RunStatus.{RunStatus}
 use Rattle.statements.specs.declared.rows.Holder.{Holder}
 use Rattle.statements.specs.declared.rows.Holder.TheVariants.{Nobody, Lock, Run as HeldByRun}
 use Rattle.statements.specs.declared.rows.Workspace.{Workspace}
-use Rattle.statements.specs.declared.rows.Version.{Version}
 use Rattle.statements.specs.declared.rows.Head.{Head}
-use Rattle.statements.specs.Rows.{number, flag, role_code, status_code, kind_cell, lock_id_cell, lock_text_cell, run_cell}
+use Rattle.statements.specs.Rows.{Version, number, flag, role_code, status_code, kind_cell, lock_id_cell, lock_text_cell, run_cell}
 use Rattle.statements.specs.Finds.{head_of}
 use Rattle.statements.specs.Queries.{IsFlag, IsTextOrNull, IsHolder, IsWorkspace, IsHead}
 use Rattle.statements.proofs.Codes.{same_role, same_status}

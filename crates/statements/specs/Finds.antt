@@ -5,9 +5,8 @@ use Rattle.basis.specs.declared.roles.Role.{Role}
 use Rattle.basis.specs.declared.runs.RunStatus.{RunStatus}
 use Rattle.basis.specs.declared.runs.RunStatus.TheVariants.{Pending}
 use Rattle.statements.specs.declared.rows.Workspace.{Workspace}
-use Rattle.statements.specs.declared.rows.Version.{Version}
 use Rattle.statements.specs.declared.rows.Head.{Head}
-use Rattle.statements.specs.Rows.{Kept, RunRow}
+use Rattle.statements.specs.Rows.{Version, Kept, RunRow}
 use Rattle.statements.specs.Tables.{Tables}
 use Rattle.statements.specs.Changes.{is_org, is_token, has_digest, is_ws_of, is_ws, is_version_of, is_version, is_run}
 

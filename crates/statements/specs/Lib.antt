@@ -6,6 +6,5 @@ pub mod Place
 pub mod Queries
 pub mod Rows
 pub mod Schema
-pub mod Statements
 pub mod Steps
 pub mod Tables

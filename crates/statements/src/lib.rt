@@ -11,7 +11,7 @@ pub mod tokens;
 pub mod versions;
 pub mod workspaces;
 
-pub use rows::{Head, Holder, Run, Token, Version, Workspace};
+pub use rows::{Head, Holder, Workspace};
 
 #[cfg(test)]
 mod tests;
