@@ -106,6 +106,13 @@ module _ {R : Type 0} (cells : R → Row) (db : Trees) (tree : ℕ) (xs : List (
       picked (filter p xs) rows false first (answer_by_keys (point rest tree false) db params source p tests (λ r. r) show (λ x. refl) refl refl (λ x y. in_order (id_of x) (id_of y)) rows a)
       ∙ ap (option_map show) (slice_get-filter p xs)
 
+  -- OFFSET passes over as many rows
+  pub nth_is : (n : ℕ) → ((l : List Row) → slice_get (page (point rest tree false) params l) 0 ≡ slice_get l n) → (rows : List Row) → IsAnswer (point rest tree false) db params rows
+      → slice_get rows 0 ≡ option_map show (slice_get (filter p xs) n)
+  nth_is n at rows a =
+      let all = answer_by_keys (point rest tree false) db params source p tests (λ r. r) show (λ x. refl) refl refl (λ x y. in_order (id_of x) (id_of y)) rows a in
+      ap (λ l. slice_get l 0) (sym (map-id rows) ∙ all) ∙ at (map show (filter p xs)) ∙ slice_get-map show (filter p xs) n
+
   pub last_is : ((l : List Row) → slice_get (page (point rest tree true) params l) 0 ≡ slice_get l 0) → (rows : List Row) → IsAnswer (point rest tree true) db params rows
       → slice_get rows 0 ≡ option_map show (last_in (filter p xs))
   last_is first rows a =

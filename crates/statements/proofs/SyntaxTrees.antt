@@ -57,8 +57,11 @@ from_table shown table test =
 abbrev pub by_rowid : Bool → List Sort
 by_rowid descending = roll-Sort (record { key = named (codes "rowid"); descending = descending; nulls_first = None }) ∷ []
 
+abbrev pub select_from : Core → List Sort → Option Expr → Option Expr → Select
+select_from core order limit offset = roll-Select (record { with = []; first = core; others = []; order = order; limit = limit; offset = offset })
+
 abbrev pub select : Core → List Sort → Option Expr → Select
-select core order limit = roll-Select (record { with = []; first = core; others = []; order = order; limit = limit; offset = None })
+select core order limit = select_from core order limit None
 
 abbrev pub find_ws_core : Core
 find_ws_core = from_table (shown_columns (codes "auto" ∷ codes "kind" ∷ codes "lock_id" ∷ codes "lock_text" ∷ codes "run" ∷ codes "released" ∷ codes "next_version" ∷ codes "next_run" ∷ [])) (codes "ws") (at_key (codes "org") (codes "name"))
@@ -96,8 +99,8 @@ count_ws_core = from_table (One (CallStar (codes "count")) None (codes "count(*)
 abbrev pub newest_version_core : Core
 newest_version_core = from_table (shown_columns (codes "number" ∷ codes "serial" ∷ codes "lineage" ∷ codes "size" ∷ [])) (codes "version") (at_key (codes "org") (codes "ws"))
 
-abbrev pub oldest_version_core : Core
-oldest_version_core = from_table (shown_columns (codes "number" ∷ [])) (codes "version") (at_key (codes "org") (codes "ws"))
+abbrev pub nth_version_core : Core
+nth_version_core = from_table (shown_columns (codes "number" ∷ [])) (codes "version") (at_key (codes "org") (codes "ws"))
 
 abbrev pub version_body_core : Core
 version_body_core = from_table (shown_columns (codes "body" ∷ [])) (codes "version") (also (at_key (codes "org") (codes "ws")) (is_given (codes "number") 3))

@@ -9,7 +9,7 @@ use Rattle.sqlite_schema.specs.declared.command.Source.TheVariants.{Values}
 use Rattle.sqlite_schema.specs.declared.command.Command.TheVariants.{Select, Insert, Delete}
 use Rattle.sqlite_ast.specs.declared.Statement.TheVariants as written
 use Rattle.sqlite_ast.specs.declared.Select as ast
-use Rattle.sqlite_ast.specs.declared.Expr.TheVariants.{Integer}
+use Rattle.sqlite_ast.specs.declared.Expr.TheVariants.{Integer, Parameter}
 use Rattle.sqlite_resolve.specs.Compile.{first, command, timed, returning}
 use Rattle.sqlite_resolve.specs.Select.{named}
 use Rattle.sqlite_resolve.specs.Program.{program}
@@ -22,7 +22,7 @@ use Rattle.statements.proofs.Meaning.{Means, means, some_parsed, as_read}
 use Rattle.statements.proofs.Reading.{read_is}
 use Rattle.statements.proofs.Writes.{plain_program}
 use Rattle.statements.proofs.Answered.{point, tally}
-use Rattle.statements.proofs.Commands.{is_at, is_below, delete_query, point_rest, point_draft, tally_draft, no_page, one_page}
+use Rattle.statements.proofs.Commands.{is_at, is_below, delete_query, point_rest, point_draft, tally_draft, no_page, one_page, one_page_at}
 
 abbrev pub newest_version_text : List ℕ
 newest_version_text = codes "SELECT number, serial, lineage, size FROM version WHERE org = ?1 AND ws = ?2 ORDER BY rowid DESC LIMIT 1"
@@ -40,21 +40,21 @@ newest_version_is_query = (newest_version_select, some_parsed (first newest_vers
 abbrev pub newest_version_rest : Query
 newest_version_rest = point_rest (is_at 1 0 ∷ is_at 2 1 ∷ []) (col 1 3 ∷ col 1 4 ∷ col 1 5 ∷ col 1 7 ∷ []) one_page
 
-abbrev pub oldest_version_text : List ℕ
-oldest_version_text = codes "SELECT number FROM version WHERE org = ?1 AND ws = ?2 ORDER BY rowid LIMIT 1"
+abbrev pub nth_version_text : List ℕ
+nth_version_text = codes "SELECT number FROM version WHERE org = ?1 AND ws = ?2 ORDER BY rowid LIMIT 1 OFFSET ?3"
 
-abbrev pub oldest_version_select : ast.Select
-oldest_version_select = st.select st.oldest_version_core (st.by_rowid false) (Some (Integer (codes "1")))
+abbrev pub nth_version_select : ast.Select
+nth_version_select = st.select_from st.nth_version_core (st.by_rowid false) (Some (Integer (codes "1"))) (Some (Parameter 3))
 
-oldest_version_reads : first oldest_version_text ≡ Ok (as_read (some_parsed (first oldest_version_text)) (written.Select oldest_version_select))
+nth_version_reads : first nth_version_text ≡ Ok (as_read (some_parsed (first nth_version_text)) (written.Select nth_version_select))
 unfolding everything
-oldest_version_reads = refl
+nth_version_reads = refl
 
-pub oldest_version_is_query : IsQuery oldest_version_text
-oldest_version_is_query = (oldest_version_select, some_parsed (first oldest_version_text), oldest_version_reads)
+pub nth_version_is_query : IsQuery nth_version_text
+nth_version_is_query = (nth_version_select, some_parsed (first nth_version_text), nth_version_reads)
 
-abbrev pub oldest_version_rest : Query
-oldest_version_rest = point_rest (is_at 1 0 ∷ is_at 2 1 ∷ []) (col 1 3 ∷ []) one_page
+abbrev pub nth_version_rest : Query
+nth_version_rest = point_rest (is_at 1 0 ∷ is_at 2 1 ∷ []) (col 1 3 ∷ []) (one_page_at 2)
 
 abbrev pub version_body_text : List ℕ
 version_body_text = codes "SELECT body FROM version WHERE org = ?1 AND ws = ?2 AND number = ?3 ORDER BY rowid"
@@ -136,22 +136,22 @@ module _ (s : Schema) (at tree : ℕ) (h : IsAt s (codes "version") version_tabl
   unfolding timed returning
   newest_version_means = means s (written.Select newest_version_select) _ refl (λ _. refl) newest_version_is newest_version_text (some_parsed (first newest_version_text)) newest_version_reads
 
-  oldest_version_named : named s st.oldest_version_core (st.by_rowid false) one_page ≡ Ok ((point_draft oldest_version_rest tree false), (codes "number" ∷ []), (Some Binary ∷ []))
+  nth_version_named : named s st.nth_version_core (st.by_rowid false) (one_page_at 2) ≡ Ok ((point_draft nth_version_rest tree false), (codes "number" ∷ []), (Some Binary ∷ []))
   unfolding everything
-  oldest_version_named = rw (h.named, h.found, h.found, h.found, h.small) refl
+  nth_version_named = rw (h.named, h.found, h.found, h.found, h.small) refl
 
-  oldest_version_fits : program s [] (point_draft oldest_version_rest tree false) ≡ Ok (plain_program (point oldest_version_rest tree false))
+  nth_version_fits : program s [] (point_draft nth_version_rest tree false) ≡ Ok (plain_program (point nth_version_rest tree false))
   unfolding everything
-  oldest_version_fits = rw (h.low, h.treed) refl
+  nth_version_fits = rw (h.low, h.treed) refl
 
-  oldest_version_is : (base : ℕ) → command s [] base (written.Select oldest_version_select) ≡ Ok (Select (plain_program (point oldest_version_rest tree false)) (codes "number" ∷ []))
+  nth_version_is : (base : ℕ) → command s [] base (written.Select nth_version_select) ≡ Ok (Select (plain_program (point nth_version_rest tree false)) (codes "number" ∷ []))
   unfolding everything
-  oldest_version_is base =
-      read_is s oldest_version_select st.oldest_version_core (st.by_rowid false) one_page ((point_draft oldest_version_rest tree false), (codes "number" ∷ []), (Some Binary ∷ [])) refl refl refl refl refl (λ again. refl) oldest_version_named (plain_program (point oldest_version_rest tree false)) oldest_version_fits base
+  nth_version_is base =
+      read_is s nth_version_select st.nth_version_core (st.by_rowid false) (one_page_at 2) ((point_draft nth_version_rest tree false), (codes "number" ∷ []), (Some Binary ∷ [])) refl refl refl refl refl (λ again. refl) nth_version_named (plain_program (point nth_version_rest tree false)) nth_version_fits base
 
-  pub oldest_version_means : Means s (Select (plain_program (point oldest_version_rest tree false)) (codes "number" ∷ [])) oldest_version_text
+  pub nth_version_means : Means s (Select (plain_program (point nth_version_rest tree false)) (codes "number" ∷ [])) nth_version_text
   unfolding timed returning
-  oldest_version_means = means s (written.Select oldest_version_select) _ refl (λ _. refl) oldest_version_is oldest_version_text (some_parsed (first oldest_version_text)) oldest_version_reads
+  nth_version_means = means s (written.Select nth_version_select) _ refl (λ _. refl) nth_version_is nth_version_text (some_parsed (first nth_version_text)) nth_version_reads
 
   version_body_named : named s st.version_body_core (st.by_rowid false) no_page ≡ Ok ((point_draft version_body_rest tree false), (codes "body" ∷ []), (Some Binary ∷ []))
   unfolding everything

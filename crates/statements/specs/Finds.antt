@@ -1,5 +1,5 @@
 -- What each query reads of the rows.
-use Rattle.std.specs.Prelude.{ℕ, Bool, true, false, not, ◌&&◌, List, [], ◌∷◌, length, filter, find, min, Option, Some, None, option_map}
+use Rattle.std.specs.Prelude.{ℕ, Bool, true, false, not, ◌&&◌, List, [], ◌∷◌, length, filter, find, slice_get, min, Option, Some, None, option_map}
 use Rattle.std.specs.Str.{bytes_eq}
 use Rattle.basis.specs.declared.roles.Role.{Role}
 use Rattle.basis.specs.declared.runs.RunStatus.{RunStatus}
@@ -42,9 +42,9 @@ head_of v = record { number = v.number; serial = v.serial; lineage = v.lineage; 
 abbrev pub newest_of : List ℕ → List ℕ → Tables → Option Head
 newest_of org ws t = option_map (λ x. head_of x.1.it) (last_in (filter (is_version_of org ws) t.versions))
 
--- the number of the version that was added first
-abbrev pub oldest_of : List ℕ → List ℕ → Tables → Option ℕ
-oldest_of org ws t = option_map (λ x. x.1.it.number) (find (is_version_of org ws) t.versions)
+-- the number of the version at a place, counted from 0 at the one that was added first
+abbrev pub number_at : List ℕ → List ℕ → ℕ → Tables → Option ℕ
+number_at org ws place t = option_map (λ x. x.1.it.number) (slice_get (filter (is_version_of org ws) t.versions) place)
 
 abbrev pub body_of : List ℕ → List ℕ → ℕ → Tables → Option (List ℕ)
 body_of org ws n t = option_map (λ x. x.1.it.body) (find (is_version org ws n) t.versions)

@@ -174,7 +174,7 @@ fn reads_what_was_written(rt: HostRuntime) -> Result<(), Fail> {
     assert_eq!(rt; workspaces::count(&mut conn, "acme")?, 1);
     let newest = versions::newest(&mut conn, "acme", "prod")?;
     assert!(rt; is_head(&newest, 2, 6));
-    assert_eq!(rt; versions::oldest(&mut conn, "acme", "prod")?, Some(1));
+    assert_eq!(rt; versions::number_at(&mut conn, "acme", "prod", 1)?, Some(2));
     assert_eq!(rt; versions::count(&mut conn, "acme", "prod")?, 2);
     let body = versions::body(&mut conn, "acme", "prod", 1)?;
     assert!(rt; matches!(&body, Some(b) if b.as_slice() == b"one".as_slice()));

@@ -4,7 +4,7 @@ ghost use Rattle.sqlite.specs.Held.{state};
 ghost use Rattle.sqlite.specs.State.{Survives};
 ghost use Rattle.statements.specs.Steps.{ChangesBy, ReadsBy};
 ghost use Rattle.statements.specs.Changes.{new_version, version_added, versions_removed, versions_removed_below};
-ghost use Rattle.statements.specs.Finds.{newest_of, oldest_of, body_of, versions_of};
+ghost use Rattle.statements.specs.Finds.{newest_of, number_at, body_of, versions_of};
 
 use crate::calls::{body_of, count_of, first_row, head_of, number_of, signed, write};
 use crate::rows::Head;
@@ -28,16 +28,23 @@ pub fn newest<S: Alter>(
     head_of(row)
 }
 
-const OLDEST_VERSION: &str =
-    "SELECT number FROM version WHERE org = ?1 AND ws = ?2 ORDER BY rowid LIMIT 1";
+const NTH_VERSION: &str =
+    "SELECT number FROM version WHERE org = ?1 AND ws = ?2 ORDER BY rowid LIMIT 1 OFFSET ?3";
 
-/// The number of the version of a workspace that was added first.
-pub fn oldest<S: Alter>(conn: &mut Connection<S>, org: &str, ws: &str) -> Result<Option<u64>, Error>
+/// The number of the version of a workspace at a place, which counts from 0 at the one that was added first.
+pub fn number_at<S: Alter>(
+    conn: &mut Connection<S>,
+    org: &str,
+    ws: &str,
+    place: u64,
+) -> Result<Option<u64>, Error>
+    requires place_fits { place < 2 ^ 63 }
     ensures mode { conn.old.in_transaction ≡ false → conn.new.in_transaction ≡ false }
-    ensures read { ReadsBy (oldest_of org.now ws.now) (state S.Store conn.old) (state S.Store conn.new) result }
+    ensures read { ReadsBy (number_at org.now ws.now place) (state S.Store conn.old) (state S.Store conn.new) result }
     ensures survives { Survives (state S.Store conn.old) (state S.Store conn.new) (λ _. ⊥) }
 {
-    let row = first_row(conn, OLDEST_VERSION, params![org, ws]);
+    let place = signed(place);
+    let row = first_row(conn, NTH_VERSION, params![org, ws, &place]);
     number_of(row)
 }
 
