@@ -1,5 +1,5 @@
 -- A schema that got one more table, and what stands in it.
-use Rattle.std.proofs.Common.{◌≡◌, ℕ, zero, suc, ◌+◌, ◌<◌, ◌≤◌, max, Bool, true, false, cond, List, [], ◌∷◌, ◌++◌, length, find, fold, map, slice_get, Some, None, option_map, unwrap_or, refl, sym, ap, ◌∙◌, subst, arith}
+use Rattle.std.proofs.Common.{◌≡◌, ◌≢◌, ℕ, zero, suc, ◌+◌, ◌<◌, ◌≤◌, max, Bool, true, false, cond, List, [], ◌∷◌, ◌++◌, length, find, fold, map, slice_get, Some, None, option_map, unwrap_or, refl, sym, ap, ◌∙◌, subst, arith}
 use Rattle.std.specs.Prelude.{◌==◌}
 use Rattle.std.specs.List.{AllByRecursion, position_from}
 use Rattle.std.proofs.lemmas.Bool.Decides.{nat_tests}
@@ -14,7 +14,7 @@ use Rattle.sqlite_catalog.specs.Change.{next_tree, past_views, KeepsRows}
 use Rattle.sqlite.specs.Effect.{Database}
 use Rattle.sqlite_keyed.proofs.ListLemmas.{all-append, all_weaker, all-slice_get}
 use Rattle.statements.specs.Place.{at_of, tree_of, IsAt, IsOwn}
-use Rattle.statements.specs.Making.{AreMade}
+use Rattle.statements.specs.Making.{AreMade, KeepsTables}
 
 -- the table stands behind those that were there, with the next tree and no row; what stands behind it refers to nothing
 pub record Grown (table : Table) (old new : Database) : Type 0 where
@@ -185,3 +185,16 @@ module _ (table : Table) (loose : table.references ≡ []) (old new : Database) 
 
   pub made_grown : (ts : List Table) → AreMade ts old → AreMade (ts ++ table ∷ []) new
   made_grown ts m = record { own = own_all ts m.own; empty = empty_all ts m.own m.empty; order = order_all ts m.own m.order }
+
+  -- the tree is none of a table that was there
+  pub added_apart : AllByRecursion (λ (t : Table). t.tree ≢ tree_of new.schema table.name) old.schema.tables
+  added_apart =
+      all_weaker (λ (t : Table). t.tree < next_tree old.schema) (λ (t : Table). t.tree ≢ tree_of new.schema table.name) (λ t low same. let is = tree_added in absurd (omega arith)) old.schema.tables (trees_below old.schema)
+
+-- a table of ours keeps its tree where the tables that were there are kept
+pub tree_stays : (old new : Database) → KeepsTables old new → (t : Table) → IsOwn old.schema t → tree_of new.schema t.name ≡ tree_of old.schema t.name
+tree_stays old new k t own =
+    let at = at_of old.schema t.name in
+    let named : table_named new.schema t.name ≡ Some at = ap (position_from (λ (u : Table). same_name u.name t.name) 0) k.tables ∙ position_front _ 0 at old.schema.tables k.more own.place.named in
+    let found : slice_get new.schema.tables at ≡ Some (record t { tree = tree_of old.schema t.name }) = ap (λ l. slice_get l at) k.tables ∙ get_front old.schema.tables k.more at _ own.place.found in
+    ap (λ o. unwrap_or (option_map (λ (u : Table). u.tree) (slice_get new.schema.tables (unwrap_or o 0))) 0) named ∙ ap (λ o. unwrap_or (option_map (λ (u : Table). u.tree) o) 0) found

@@ -37,7 +37,7 @@ use Rattle.sqlite_keyed.proofs.ListLemmas.{all-slice_get, ascending_weaker}
 use Rattle.statements.specs.Making.{AreMade, KeepsTables, GrowsBy, KeepsMade}
 use Rattle.statements.specs.Place.{IsOwn, at_of, tree_of}
 use Rattle.statements.proofs.Meaning.{as_read}
-use Rattle.statements.proofs.Grown.{Grown, made_grown}
+use Rattle.statements.proofs.Grown.{Grown, made_grown, added_apart}
 
 -- ---- what such a text compiles to, if it does
 
@@ -235,7 +235,11 @@ module _ (table : Table) (loose : table.references ≡ []) (def : TableText) (te
       grown table text defines old.now new.now made.0 made.1 w.sound (subst (λ d. MakesSequence made.0 (Ok d)) (sym now) made.2)
 
   pub makes_behind : (old new : State) (params : Row) (count : ℕ) → Executes text params old new (Ok count) → GrowsBy table old.now new.now
-  makes_behind old new params count h = let g = makes_table old new params count h in (made_grown table loose old.now new.now g, record { more = record table { tree = next_tree old.now.schema } ∷ g.more; tables = g.tables; rows = g.others })
+  makes_behind old new params count h = let g = makes_table old new params count h in record {
+    made = made_grown table loose old.now new.now g;
+    kept = record { more = record table { tree = next_tree old.now.schema } ∷ g.more; tables = g.tables; rows = g.others };
+    apart = added_apart table loose old.now new.now g;
+  }
 
 -- ---- CREATE INDEX
 
@@ -316,7 +320,7 @@ indexes_at old new text (Some table) tally e =
     let now : new.now ≡ done.0 = ap (λ (q : Tally × Database). q.1) (same_value done.2) in
     let is : new.now.schema.tables ≡ old.now.schema.tables = ap (λ (d : Database). d.schema.tables) now ∙ ap (λ (s : Schema). s.tables) done.1.is in
     let rows : KeepsRows old.now.schema.tables old.now.trees new.now.trees = subst (λ (d : Database). KeepsRows old.now.schema.tables old.now.trees d.trees) (sym now) done.1.rows in
-    (made_same old.now new.now is rows, record { more = []; tables = is ∙ sym (append-nil old.now.schema.tables); rows = rows })
+    record { made = made_same old.now new.now is rows; kept = record { more = []; tables = is ∙ sym (append-nil old.now.schema.tables); rows = rows } }
 
 module _ (def : IndexText) (text : List ℕ) (p : Parsed) (reads : first text ≡ Ok (as_read p (written.CreateIndex (fresh_index def)))) (whole : slice_range text p.start p.end ≡ text) where
   quiet_index : (s : Schema) (base : ℕ) → returning s base (written.CreateIndex (fresh_index def)) ≡ Ok None

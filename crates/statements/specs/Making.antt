@@ -24,13 +24,16 @@ pub record KeepsTables (old new : Database) : Type 0 where
   pub tables : new.schema.tables ≡ old.schema.tables ++ more
   pub rows : KeepsRows old.schema.tables old.trees new.trees
 
--- The table stands behind those of ours that were made before, with no row, and each table that was there is kept.
-abbrev pub GrowsBy : Table → Database → Database → Type 0
-GrowsBy table old new = ((tables : List Table) → AreMade tables old → AreMade (tables ++ table ∷ []) new) × KeepsTables old new
+-- The table stands behind those of ours that were made before, with no row and a tree of its own, and each table that was there is kept.
+pub record GrowsBy (table : Table) (old new : Database) : Type 0 where
+  pub made : (tables : List Table) → AreMade tables old → AreMade (tables ++ table ∷ []) new
+  pub kept : KeepsTables old new
+  pub apart : AllByRecursion (λ (t : Table). t.tree ≢ tree_of new.schema table.name) old.schema.tables
 
 -- what was made stays
-abbrev pub KeepsMade : Database → Database → Type 0
-KeepsMade old new = ((tables : List Table) → AreMade tables old → AreMade tables new) × KeepsTables old new
+pub record KeepsMade (old new : Database) : Type 0 where
+  pub made : (tables : List Table) → AreMade tables old → AreMade tables new
+  pub kept : KeepsTables old new
 
 -- the schema changes inside the transaction, which goes on
 pub record Alters (Change : Database → Database → Type 0) (old new : State) : Type 0 where
