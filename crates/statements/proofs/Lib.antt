@@ -25,6 +25,7 @@ pub mod RunReads
 pub mod RunTexts
 pub mod RunWrites
 pub mod SchemaTexts
+pub mod Schemas
 pub mod SyntaxTrees
 pub mod TokenReads
 pub mod TokenTexts

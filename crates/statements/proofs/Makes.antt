@@ -150,11 +150,11 @@ low_trees [] (t ∷ tables) h = absurd h
 low_trees (r ∷ rows) [] h = absurd h
 low_trees (r ∷ rows) (t ∷ tables) h = (h.0.described.low, low_trees rows tables h.1)
 
-front : {X : Type 0} (P : X → Type 0) (xs ys : List X) → AllByRecursion P (xs ++ ys) → AllByRecursion P xs × AllByRecursion P ys
+pub front : {X : Type 0} (P : X → Type 0) (xs ys : List X) → AllByRecursion P (xs ++ ys) → AllByRecursion P xs × AllByRecursion P ys
 front P [] ys h = (tt, h)
 front P (x ∷ xs) ys h = let more = front P xs ys h.1 in ((h.0, more.0), more.1)
 
-kept_then : (ts : List Table) (a b c : Trees) → KeepsRows ts a b → KeepsRows ts b c → KeepsRows ts a c
+pub kept_then : (ts : List Table) (a b c : Trees) → KeepsRows ts a b → KeepsRows ts b c → KeepsRows ts a c
 kept_then [] a b c h k = tt
 kept_then (t ∷ ts) a b c h k = (k.0 ∙ h.0, kept_then ts a b c h.1 k.1)
 

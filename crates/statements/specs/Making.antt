@@ -10,7 +10,7 @@ use Rattle.sqlite_keyed.specs.Keyed.{insert_by, get_by}
 use Rattle.statements.specs.Place.{tree_of, IsOwn}
 use Rattle.statements.specs.Schema.{meta_table, org_table, token_table, ws_table, version_table, run_table}
 use Rattle.statements.specs.Rows.{id_of}
-use Rattle.statements.specs.Tables.{Tables}
+use Rattle.statements.specs.Tables.{Tables, Holds}
 
 -- These tables of ours stand in the schema, made in this order, each with no row.
 pub record AreMade (tables : List Table) (db : Database) : Type 0 where
@@ -34,6 +34,12 @@ pub record GrowsBy (table : Table) (old new : Database) : Type 0 where
 pub record KeepsMade (old new : Database) : Type 0 where
   pub made : (tables : List Table) → AreMade tables old → AreMade tables new
   pub kept : KeepsTables old new
+
+-- several tables, one behind the other
+pub record GrowsByAll (added : List Table) (old new : Database) : Type 0 where
+  pub made : (tables : List Table) → AreMade tables old → AreMade (tables ++ added) new
+  pub kept : KeepsTables old new
+  pub apart : AllByRecursion (λ (a : Table). AllByRecursion (λ (t : Table). t.tree ≢ tree_of new.schema a.name) old.schema.tables) added
 
 -- the schema changes inside the transaction, which goes on
 pub record Alters (Change : Database → Database → Type 0) (old new : State) : Type 0 where
@@ -62,6 +68,11 @@ no_rows = record { metas = []; orgs = []; tokens = []; wss = []; versions = []; 
 -- the only row of meta, whose rowid is 1
 abbrev pub version_set : Tables → Tables
 version_set t = record t { metas = insert_by id_of t.metas (pos 1, 1) }
+
+-- The database has schema 1, with no row but the one that says so, and each table that was there is kept.
+pub record HasSchema (old new : Database) : Type 0 where
+  pub holds : Holds new (version_set no_rows)
+  pub kept : KeepsTables old new
 
 -- the version in meta's row 1
 abbrev pub version_in : Tables → Option ℕ
