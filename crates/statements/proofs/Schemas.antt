@@ -64,6 +64,9 @@ schema_set a b c g sets leaves =
 pub alters_as : (F G : Database → Database → Type 0) (a b : State) → (F a.now b.now → G a.now b.now) → Alters F a b → Alters G a b
 alters_as F G a b f h = record { change = f h.change; was_open = h.was_open; is_open = h.is_open; committed = h.committed; inside = h.inside }
 
+pub alters_join : (F G H : Database → Database → Type 0) (a b c : State) → (F a.now b.now → G b.now c.now → H a.now c.now) → Alters F a b → Alters G b c → Alters H a c
+alters_join F G H a b c f one two = record { change = f one.change two.change; was_open = one.was_open; is_open = two.is_open; committed = two.committed ∙ one.committed; inside = two.inside }
+
 -- one more step, which may fail
 pub alters_more : {X E : Type 0} (F G H : Database → Database → Type 0) (a b c : State) (result : Result X E) → (F a.now b.now → G b.now c.now → H a.now c.now) → Alters F a b
     → OnOk result (Alters G b c) × OnErr result (KeepsCommit b c) → OnOk result (Alters H a c) × OnErr result (KeepsCommit a c)

@@ -1,10 +1,11 @@
 //! Statements that make the tables of schema 1, and those on the table meta, which tells the version.
-ghost use Rattle.std.specs.Prelude.{◌≡◌, false, IsTrue, OnOk};
+ghost use Rattle.std.specs.Prelude.{◌≡◌, ◌≤◌, false, [], ◌∷◌, IsTrue, OnOk};
+ghost use Rattle.sqlite_trees.specs.View.{doubt};
 ghost use Rattle.sqlite.specs.Held.{state};
 ghost use Rattle.sqlite.specs.State.{HasCleanDisk, Survives};
 ghost use Rattle.statements.specs.Steps.{ChangesBy, ReadsBy};
 ghost use Rattle.statements.specs.Schema.{meta_table, org_table, token_table, ws_table, version_table, run_table};
-ghost use Rattle.statements.specs.Making.{AltersBy, GrowsBy, KeepsMade, LeavesOthers, version_set, version_in};
+ghost use Rattle.statements.specs.Making.{AltersBy, GrowsBy, GrowsByAll, KeepsMade, LeavesOthers, version_set, version_in};
 
 use crate::calls::{first_row, number_of, write};
 use sqlite::{Alter, Connection, Error, Transaction};
@@ -90,6 +91,29 @@ pub fn make_run_index<S: Alter>(tx: &mut Transaction<'_, S>) -> Result<(), Error
     ensures survives { Survives (state S.Store tx.old.conn.now) (state S.Store tx.new.conn.now) (λ _. ⊥) }
 {
     write(tx, MAKE_RUN_INDEX, &[])
+}
+
+/// Makes the tables of names: the version, organizations, tokens and workspaces.
+fn make_names<S: Alter>(tx: &mut Transaction<'_, S>) -> Result<(), Error>
+    ensures same_reference { tx.new.conn.ghost_name ≡ tx.old.conn.ghost_name }
+    ensures made { AltersBy (GrowsByAll (meta_table ∷ org_table ∷ token_table ∷ ws_table ∷ [])) (state S.Store tx.old.conn.now) (state S.Store tx.new.conn.now) result }
+    ensures clean { doubt (state S.Store tx.old.conn.now).is_clean ≤ doubt (state S.Store tx.new.conn.now).is_clean }
+{
+    make_meta(tx)?;
+    make_org(tx)?;
+    make_token(tx)?;
+    make_ws(tx)
+}
+
+/// Makes the tables of versions and runs, and the index on runs.
+fn make_states<S: Alter>(tx: &mut Transaction<'_, S>) -> Result<(), Error>
+    ensures same_reference { tx.new.conn.ghost_name ≡ tx.old.conn.ghost_name }
+    ensures made { AltersBy (GrowsByAll (version_table ∷ run_table ∷ [])) (state S.Store tx.old.conn.now) (state S.Store tx.new.conn.now) result }
+    ensures clean { doubt (state S.Store tx.old.conn.now).is_clean ≤ doubt (state S.Store tx.new.conn.now).is_clean }
+{
+    make_version(tx)?;
+    make_run(tx)?;
+    make_run_index(tx)
 }
 
 const SET_VERSION: &str = "INSERT INTO meta (one, version) VALUES (1, 1)";
