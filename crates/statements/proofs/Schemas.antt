@@ -73,3 +73,10 @@ pub alters_more : {X E : Type 0} (F G H : Database → Database → Type 0) (a b
 alters_more F G H a b c (Ok x) f one two =
     (record { change = f one.change two.0.change; was_open = one.was_open; is_open = two.0.is_open; committed = two.0.committed ∙ one.committed; inside = two.0.inside }, tt)
 alters_more F G H a b c (Err e) f one two = (tt, keeps_then a b c (record { was_open = λ _. one.was_open; committed = λ _. one.committed }) two.1)
+
+pub schema_more : {X E : Type 0} (a b c : State) (result : Result X E) → Alters (GrowsByAll our_tables) a b → OnOk result (Moves version_set b c) × OnErr result (KeepsCommit b c)
+    → OnOk result (LeavesOthers meta_table b.now c.now) → OnOk result (Alters HasSchema a c) × OnErr result (KeepsCommit a c)
+schema_more a b c (Ok x) one two leaves =
+    let moved = two.0 in
+    (record { change = schema_set a.now b.now c.now one.change moved.rows leaves; was_open = one.was_open; is_open = moved.is_open; committed = moved.committed ∙ one.committed; inside = moved.inside }, tt)
+schema_more a b c (Err e) one two leaves = (tt, keeps_then a b c (record { was_open = λ _. one.was_open; committed = λ _. one.committed }) two.1)

@@ -5,7 +5,7 @@ ghost use Rattle.sqlite.specs.Held.{state};
 ghost use Rattle.sqlite.specs.State.{HasCleanDisk, Survives};
 ghost use Rattle.statements.specs.Steps.{ChangesBy, ReadsBy};
 ghost use Rattle.statements.specs.Schema.{meta_table, org_table, token_table, ws_table, version_table, run_table};
-ghost use Rattle.statements.specs.Making.{AltersBy, GrowsBy, GrowsByAll, KeepsMade, LeavesOthers, version_set, version_in};
+ghost use Rattle.statements.specs.Making.{AltersBy, GrowsBy, GrowsByAll, HasSchema, KeepsMade, LeavesOthers, version_set, version_in};
 
 use crate::calls::{first_row, number_of, write};
 use sqlite::{Alter, Connection, Error, Transaction};
@@ -126,6 +126,17 @@ pub fn set_version<S: Alter>(tx: &mut Transaction<'_, S>) -> Result<(), Error>
     ensures survives { Survives (state S.Store tx.old.conn.now) (state S.Store tx.new.conn.now) (λ _. ⊥) }
 {
     write(tx, SET_VERSION, &[])
+}
+
+/// Makes schema 1: its tables, and the row that tells its version.
+pub fn make_schema<S: Alter>(tx: &mut Transaction<'_, S>) -> Result<(), Error>
+    ensures same_reference { tx.new.conn.ghost_name ≡ tx.old.conn.ghost_name }
+    ensures made { AltersBy HasSchema (state S.Store tx.old.conn.now) (state S.Store tx.new.conn.now) result }
+    ensures clean { doubt (state S.Store tx.old.conn.now).is_clean ≤ doubt (state S.Store tx.new.conn.now).is_clean }
+{
+    make_names(tx)?;
+    make_states(tx)?;
+    set_version(tx)
 }
 
 const VERSION: &str = "SELECT version FROM meta WHERE one = 1 ORDER BY rowid";
