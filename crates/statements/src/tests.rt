@@ -4,27 +4,12 @@ use sqlite::{Alter, Connection, Error, Transaction};
 use std::test::Fail;
 
 // These have no clause, so that the proof of a test does not carry the state of each call.
-fn make_first<S: Alter>(tx: &mut Transaction<'_, S>) -> Result<(), Error> {
-    making::make_meta(tx)?;
-    making::make_org(tx)?;
-    making::make_token(tx)?;
-    making::make_ws(tx)
-}
-
-fn make_others<S: Alter>(tx: &mut Transaction<'_, S>) -> Result<(), Error> {
-    making::make_version(tx)?;
-    making::make_run(tx)?;
-    making::make_run_index(tx)?;
-    making::set_version(tx)
-}
-
 fn make<S: Alter>(conn: &mut Connection<S>) -> Result<(), Error> {
     if !conn.is_autocommit() {
         return Err(Error::InvalidQuery);
     }
     let mut tx = conn.transaction();
-    make_first(&mut tx)?;
-    make_others(&mut tx)?;
+    making::make_schema(&mut tx)?;
     tx.commit()
 }
 
