@@ -1,0 +1,78 @@
+-- The numbers by which SQL keeps a role, a status or an action: each fits, and means one.
+use Rattle.std.proofs.Common.{◌≡◌, ℕ, pos, SFits, w64, arith, refl, sym, ap, ◌∙◌, List, Option, Some, None, option_map, Bor}
+use Rattle.sqlite_value.specs.declared.value.Value.TheVariants.{Text}
+use Rattle.sqlite.specs.Values.{or_null, bound_value}
+use Rattle.sqlite_typed.specs.Columns.{or_null as typed_null}
+use Rattle.basis.specs.declared.roles.Role.{Role}
+use Rattle.basis.specs.declared.roles.Role.TheVariants.{Read, Write, Admin}
+use Rattle.basis.specs.declared.runs.RunStatus.{RunStatus}
+use Rattle.basis.specs.declared.runs.RunStatus.TheVariants.{Pending, Planning, Planned, Applying, Applied, PlannedAndFinished, Errored, Discarded, Canceled}
+use Rattle.basis.specs.declared.runs.RunAction.{RunAction}
+use Rattle.basis.specs.declared.runs.RunAction.TheVariants.{ReportPlanned, ReportUnchanged, Fail, Confirm, ReportApplied, Discard, Cancel}
+use Rattle.statements.specs.Rows.{role_code, status_code, action_code}
+use Rattle.statements.specs.Decode.{role_at, status_at, action_at}
+
+pub role_fits : (r : Role) → SFits w64 (pos (role_code r))
+role_fits Read = record { sfits = omega arith }
+role_fits Write = record { sfits = omega arith }
+role_fits Admin = record { sfits = omega arith }
+
+pub status_fits : (s : RunStatus) → SFits w64 (pos (status_code s))
+status_fits Pending = record { sfits = omega arith }
+status_fits Planning = record { sfits = omega arith }
+status_fits Planned = record { sfits = omega arith }
+status_fits Applying = record { sfits = omega arith }
+status_fits Applied = record { sfits = omega arith }
+status_fits PlannedAndFinished = record { sfits = omega arith }
+status_fits Errored = record { sfits = omega arith }
+status_fits Discarded = record { sfits = omega arith }
+status_fits Canceled = record { sfits = omega arith }
+
+pub action_fits : (a : RunAction) → SFits w64 (pos (action_code a))
+action_fits ReportPlanned = record { sfits = omega arith }
+action_fits ReportUnchanged = record { sfits = omega arith }
+action_fits Fail = record { sfits = omega arith }
+action_fits Confirm = record { sfits = omega arith }
+action_fits ReportApplied = record { sfits = omega arith }
+action_fits Discard = record { sfits = omega arith }
+action_fits Cancel = record { sfits = omega arith }
+
+-- a text that may be absent, as SQL takes it
+pub optional_text : (o : Option (Bor (List ℕ))) → or_null (λ s. Text s.now) o ≡ typed_null Text (option_map (λ s. s.now) o)
+optional_text None = refl
+optional_text (Some s) = refl
+
+pub bound_text : (o : Option (List ℕ)) → bound_value (typed_null Text o) ≡ typed_null Text o
+bound_text None = refl
+bound_text (Some t) = refl
+
+pub role_back : (r : Role) → role_at (role_code r) ≡ r
+role_back Read = refl
+role_back Write = refl
+role_back Admin = refl
+
+pub status_back : (s : RunStatus) → status_at (status_code s) ≡ s
+status_back Pending = refl
+status_back Planning = refl
+status_back Planned = refl
+status_back Applying = refl
+status_back Applied = refl
+status_back PlannedAndFinished = refl
+status_back Errored = refl
+status_back Discarded = refl
+status_back Canceled = refl
+
+pub action_back : (a : RunAction) → action_at (action_code a) ≡ a
+action_back ReportPlanned = refl
+action_back ReportUnchanged = refl
+action_back Fail = refl
+action_back Confirm = refl
+action_back ReportApplied = refl
+action_back Discard = refl
+action_back Cancel = refl
+
+pub same_role : (a b : Role) → role_code a ≡ role_code b → a ≡ b
+same_role a b e = sym (role_back a) ∙ ap role_at e ∙ role_back b
+
+pub same_status : (a b : RunStatus) → status_code a ≡ status_code b → a ≡ b
+same_status a b e = sym (status_back a) ∙ ap status_at e ∙ status_back b

@@ -1,0 +1,20 @@
+-- What the writes to the table org do to its rows.
+use Rattle.std.proofs.Common.{ℕ, List, [], ◌∷◌, Ok, refl}
+use Rattle.sqlite_value.specs.declared.value.Value.TheVariants.{Text}
+use Rattle.sqlite.specs.State.{State, Executes}
+use Rattle.statements.specs.Schema.{org_table}
+use Rattle.statements.specs.Rows.{OrgRow, org_cells, number}
+use Rattle.statements.specs.Tables.{Tables, Holds}
+use Rattle.statements.specs.Changes.{org_added}
+use Rattle.statements.proofs.Own.{insert_own, keyed_next}
+use Rattle.statements.proofs.Casts.{org_casts}
+use Rattle.statements.proofs.Frames.{orgs_written}
+use Rattle.statements.proofs.OrgTexts.{add_org_text, add_org_means, add_org_terms}
+
+module _ (old new : State) (count : ℕ) (t : Tables) (h : Holds old.now t) where
+  pub add_org_does : (name : List ℕ) (cap : ℕ) → Executes add_org_text (Text name ∷ number cap ∷ []) old new (Ok count) → Holds new.now (org_added name cap t)
+  add_org_does name cap ran =
+      let row : OrgRow = record { name = name; cap = cap } in
+      let left = insert_own org_cells org_table org_casts old new h.ours.org t.orgs h.orgs h.orgs_keyed add_org_text (Text name ∷ number cap ∷ []) count ran
+      add_org_terms 3 (add_org_means old.now.schema _ _ h.ours.org.place) refl refl row refl in
+      orgs_written old.now new.now left.1 t h _ left.0 (keyed_next t.orgs row h.orgs_keyed)

@@ -1,0 +1,10 @@
+pub mod Changes
+pub mod Decode
+pub mod Finds
+pub mod Making
+pub mod Place
+pub mod Queries
+pub mod Rows
+pub mod Schema
+pub mod Steps
+pub mod Tables

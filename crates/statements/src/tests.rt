@@ -1,0 +1,215 @@
+use crate::{Head, Holder, Workspace, making, organizations, runs, tokens, versions, workspaces};
+use basis::{Role, RunAction, RunStatus};
+use sqlite::{Alter, Connection, Error, Transaction};
+use std::test::Fail;
+
+// These have no clause, so that the proof of a test does not carry the state of each call.
+fn make<S: Alter>(conn: &mut Connection<S>) -> Result<(), Error> {
+    if !conn.is_autocommit() {
+        return Err(Error::InvalidQuery);
+    }
+    let mut tx = conn.transaction();
+    making::make_schema(&mut tx)?;
+    tx.commit()
+}
+
+fn add_names<S: Alter>(tx: &mut Transaction<'_, S>, org: &str) -> Result<(), Error> {
+    organizations::add(tx, org, 200)?;
+    tokens::add(tx, org, "ci", org.as_bytes(), Role::Write)?;
+    workspaces::add(tx, org, "prod", true)?;
+    workspaces::hold_by_lock(tx, org, "prod", "k1", b"{}".as_slice())
+}
+
+fn add_version<S: Alter>(
+    tx: &mut Transaction<'_, S>,
+    org: &str,
+    number: u64,
+    body: &[u8],
+) -> Result<(), Error> {
+    if number >= 1_000_000_000 {
+        return Err(Error::InvalidQuery);
+    }
+    versions::add(tx, org, "prod", number, number, "a1", 1_700_000_000, body)?;
+    workspaces::set_next_version(tx, org, "prod", number + 1)
+}
+
+fn add_runs<S: Alter>(tx: &mut Transaction<'_, S>, org: &str) -> Result<(), Error> {
+    runs::add(tx, org, "prod", 1, true, None, "", 5, RunStatus::Pending)?;
+    runs::add(
+        tx,
+        org,
+        "prod",
+        2,
+        false,
+        Some("k"),
+        "m",
+        6,
+        RunStatus::Pending,
+    )?;
+    runs::add(tx, org, "prod", 3, false, None, "", 7, RunStatus::Pending)?;
+    workspaces::set_next_run(tx, org, "prod", 4)
+}
+
+fn fill<S: Alter>(conn: &mut Connection<S>, org: &str) -> Result<(), Error> {
+    if !conn.is_autocommit() {
+        return Err(Error::InvalidQuery);
+    }
+    let mut tx = conn.transaction();
+    add_names(&mut tx, org)?;
+    add_version(&mut tx, org, 1, b"one".as_slice())?;
+    add_version(&mut tx, org, 2, b"second".as_slice())?;
+    add_runs(&mut tx, org)?;
+    tx.commit()
+}
+
+fn change_names<S: Alter>(tx: &mut Transaction<'_, S>, org: &str) -> Result<(), Error> {
+    workspaces::set_auto(tx, org, "prod", false)?;
+    workspaces::release_lock(tx, org, "prod", "k1")?;
+    workspaces::hold_by_run(tx, org, "prod", 2)?;
+    tokens::remove(tx, org, "ci")
+}
+
+fn change_rows<S: Alter>(tx: &mut Transaction<'_, S>, org: &str) -> Result<(), Error> {
+    versions::remove_below(tx, org, "prod", 2)?;
+    runs::set_status(tx, org, "prod", 2, RunStatus::Planned)?;
+    runs::record_action(tx, org, "prod", 2, RunStatus::Canceled, RunAction::Cancel)?;
+    workspaces::release_run(tx, org, "prod")
+}
+
+fn change<S: Alter>(conn: &mut Connection<S>, org: &str) -> Result<(), Error> {
+    if !conn.is_autocommit() {
+        return Err(Error::InvalidQuery);
+    }
+    let mut tx = conn.transaction();
+    change_names(&mut tx, org)?;
+    change_rows(&mut tx, org)?;
+    tx.commit()
+}
+
+fn clear<S: Alter>(conn: &mut Connection<S>, org: &str) -> Result<(), Error> {
+    if !conn.is_autocommit() {
+        return Err(Error::InvalidQuery);
+    }
+    let mut tx = conn.transaction();
+    versions::remove_all(&mut tx, org, "prod")?;
+    runs::remove_all(&mut tx, org, "prod")?;
+    workspaces::remove(&mut tx, org, "prod")?;
+    tx.commit()
+}
+
+fn batch<S: Alter>(conn: &mut Connection<S>, sql: &str) -> Result<(), Error> {
+    conn.execute_batch(sql)
+}
+
+fn text<S: Alter>(conn: &mut Connection<S>, sql: &str) -> Result<String, Error> {
+    conn.query_row(sql, &[])?.get(0)
+}
+
+fn is_held_by(found: &Option<Workspace>, lock: &str) -> bool {
+    match found {
+        Some(
+            Workspace {
+                holder: Holder::Lock { id, text },
+                ..
+            },
+        ) => id.as_str() == lock && text.as_slice() == b"{}".as_slice(),
+        _ => false,
+    }
+}
+
+fn is_head(found: &Option<Head>, number: u64, size: u64) -> bool {
+    match found {
+        Some(head) => {
+            head.number == number
+                && head.serial == number
+                && head.lineage.as_str() == "a1"
+                && head.size == size
+        }
+        None => false,
+    }
+}
+
+#[test]
+fn reads_what_was_written(rt: HostRuntime) -> Result<(), Fail> {
+    let mut conn = Connection::open_in_memory(rt.alloc())?;
+    batch(
+        &mut conn,
+        "CREATE TABLE ws2 (a INTEGER) STRICT; INSERT INTO ws2 VALUES (7)",
+    )?;
+    make(&mut conn)?;
+    fill(&mut conn, "acme")?;
+    fill(&mut conn, "other")?;
+    assert_eq!(rt; making::version(&mut conn)?, Some(1));
+    assert_eq!(rt; organizations::cap(&mut conn, "acme")?, Some(200));
+    assert_eq!(rt; organizations::cap(&mut conn, "none")?, None);
+    assert_eq!(rt;
+        tokens::role_of_digest(&mut conn, "acme", b"acme".as_slice())?,
+        Some(Role::Write)
+    );
+    assert_eq!(rt;
+        tokens::role_of_digest(&mut conn, "acme", b"other".as_slice())?,
+        None
+    );
+    assert_eq!(rt;
+        tokens::role_of_name(&mut conn, "other", "ci")?,
+        Some(Role::Write)
+    );
+    let found = workspaces::find(&mut conn, "acme", "prod")?;
+    assert!(rt; is_held_by(&found, "k1"));
+    assert_eq!(rt; workspaces::count(&mut conn, "acme")?, 1);
+    let newest = versions::newest(&mut conn, "acme", "prod")?;
+    assert!(rt; is_head(&newest, 2, 6));
+    assert_eq!(rt; versions::number_at(&mut conn, "acme", "prod", 1)?, Some(2));
+    assert_eq!(rt; versions::count(&mut conn, "acme", "prod")?, 2);
+    let body = versions::body(&mut conn, "acme", "prod", 1)?;
+    assert!(rt; matches!(&body, Some(b) if b.as_slice() == b"one".as_slice()));
+    assert_eq!(rt; runs::first_waiting(&mut conn, "acme", "prod")?, Some(2));
+    assert_eq!(rt;
+        runs::status(&mut conn, "acme", "prod", 1)?,
+        Some(RunStatus::Pending)
+    );
+    Ok(())
+}
+
+#[test]
+fn leaves_the_rows_of_others(rt: HostRuntime) -> Result<(), Fail> {
+    let mut conn = Connection::open_in_memory(rt.alloc())?;
+    batch(
+        &mut conn,
+        "CREATE TABLE ws2 (a INTEGER) STRICT; INSERT INTO ws2 VALUES (7)",
+    )?;
+    make(&mut conn)?;
+    fill(&mut conn, "acme")?;
+    fill(&mut conn, "other")?;
+    change(&mut conn, "acme")?;
+    let ws =
+        "SELECT auto || '|' || kind || '|' || coalesce(lock_id, '-') || '|' || coalesce(run, '-') || '|' || coalesce(released, '-') || '|' || next_version || '|' || next_run FROM ws WHERE name = 'prod' AND org = ";
+    assert_eq!(rt;
+        text(&mut conn, format!(in rt.alloc(); "{ws}'acme'")?.as_str())?.as_str(),
+        "0|0|-|-|k1|3|4"
+    );
+    assert_eq!(rt;
+        text(&mut conn, format!(in rt.alloc(); "{ws}'other'")?.as_str())?.as_str(),
+        "1|1|k1|-|-|3|4"
+    );
+    assert_eq!(rt; versions::count(&mut conn, "acme", "prod")?, 1);
+    assert_eq!(rt; versions::count(&mut conn, "other", "prod")?, 2);
+    assert_eq!(rt;
+        runs::status(&mut conn, "acme", "prod", 2)?,
+        Some(RunStatus::Canceled)
+    );
+    assert_eq!(rt; runs::first_waiting(&mut conn, "acme", "prod")?, Some(3));
+    assert_eq!(rt; runs::first_waiting(&mut conn, "other", "prod")?, Some(2));
+    let run =
+        "SELECT plan_only || '|' || coalesce(rkey, '-') || '|' || message || '|' || created || '|' || status || '|' || coalesce(action, '-') FROM run WHERE number = 2 AND org = 'acme'";
+    assert_eq!(rt; text(&mut conn, run)?.as_str(), "0|k|m|6|8|6");
+    clear(&mut conn, "acme")?;
+    assert!(rt; workspaces::find(&mut conn, "acme", "prod")?.is_none());
+    assert_eq!(rt; versions::count(&mut conn, "other", "prod")?, 2);
+    assert_eq!(rt;
+        runs::status(&mut conn, "other", "prod", 2)?,
+        Some(RunStatus::Pending)
+    );
+    assert_eq!(rt; text(&mut conn, "SELECT '' || a FROM ws2")?.as_str(), "7");
+    Ok(())
+}
