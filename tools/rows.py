@@ -1,5 +1,5 @@
 #!/usr/bin/env python3
-"""Worked rows: what is sent, and what is answered to it, step by step.
+"""Example rows: what is sent, and what is answered to it, step by step.
 
 Each row is a list of steps with the answer that the documentation of the backend and the rules of
 custody give it: a status, and a body where there is one. Nothing here is read off the program.
@@ -171,6 +171,8 @@ ROWS = [
             post(R, state(1), (403, "need-write"), "/v1/beta/state/x"),
             request(W, "PUT", "workspaces/two", None, (403, "need-admin")),
             request(R, "GET", "runs/net", None, NOT_FOUND),
+            request(R, "GET", "workspaces/net", None, (200, '{"auto_apply":false,"holder":null,"name":"net","version":null}')),
+            request(R, "GET", "workspaces/none", None, NOT_FOUND),
         ],
     ),
     (
@@ -186,6 +188,7 @@ ROWS = [
                 request(B, "UNLOCK", path, None, NOT_FOUND),
                 request(B, "POST", path, state(1), NOT_FOUND),
                 request(B, "DELETE", path, None, NOT_FOUND),
+                request(B, "GET", path.replace("state", "workspaces"), None, NOT_FOUND),
             ]
         ],
     ),
@@ -248,6 +251,7 @@ ROWS = [
             request(A, "PUT", "workspaces/net", None, (200, '{"auto_apply":false,"holder":null,"name":"net","version":3}')),
             request(W, "LOCK", "state/net", '{"ID":"x3"}', OK),
             request(A, "PUT", "workspaces/net", None, (200, '{"auto_apply":false,"holder":"x3","name":"net","version":3}')),
+            request(R, "GET", "workspaces/net", None, (200, '{"auto_apply":false,"holder":"x3","name":"net","version":3}')),
         ],
     ),
     (
@@ -300,6 +304,7 @@ ROWS = [
             request(A, "PUT", "workspaces/net", '{"auto_apply":1}', (400, "bad-body")),
             post(W, state(1), OK),
             request(A, "PUT", "workspaces/net", '{"auto_apply":true,"x":2}', (200, '{"auto_apply":true,"holder":null,"name":"net","version":1}')),
+            request(R, "GET", "workspaces/net", None, (200, '{"auto_apply":true,"holder":null,"name":"net","version":1}')),
             request(A, "PUT", "workspaces/net", "", (200, '{"auto_apply":false,"holder":null,"name":"net","version":1}')),
         ],
     ),
