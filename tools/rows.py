@@ -456,11 +456,13 @@ def row_written(name, says, steps):
 
 # A table of more than some 60 steps is past what one check of a test can take.
 LOCKS = ["stock_client", "holder_told", "forced_release", "first_text_stays", "purge"]
-STATES = ["absent_and_foreign", "digests", "succession", "states", "settings"]
+STATES = ["digests", "succession", "states", "settings"]
+NAMES = ["roles", "absent_and_foreign"]
 TABLES = [
     ("LOCK_ROWS", "Locks, and what they bind.", [row for row in ROWS if row[0] in LOCKS]),
     ("STATE_ROWS", "States and settings.", [row for row in ROWS if row[0] in STATES]),
-    ("MESSAGE_ROWS", "Messages, tokens, roles and routes.", [row for row in ROWS if row[0] not in LOCKS + STATES]),
+    ("NAME_ROWS", "Roles, and workspaces that aren't there or are another organization's.", [row for row in ROWS if row[0] in NAMES]),
+    ("MESSAGE_ROWS", "Messages, tokens and routes.", [row for row in ROWS if row[0] not in LOCKS + STATES + NAMES]),
 ]
 
 

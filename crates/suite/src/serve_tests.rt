@@ -1,6 +1,6 @@
 //! Worked exchanges, each with its whole reply.
 use crate::devices::make_cuts;
-use crate::rows::{ACME, BETA, LOCK_ROWS, MESSAGE_ROWS, RESENT, SET_UP, STATE_ROWS};
+use crate::rows::{ACME, BETA, LOCK_ROWS, MESSAGE_ROWS, NAME_ROWS, RESENT, SET_UP, STATE_ROWS};
 use crate::steps::{Row, Sent, Story, expect_replies, now, replayed};
 use crate::texts::repeated;
 use basis::{Bytes, Down, Moment};
@@ -78,6 +78,11 @@ fn rows_of_locks_are_answered(rt: HostRuntime) -> Result<(), Fail> {
 #[test]
 fn rows_of_states_are_answered(rt: HostRuntime) -> Result<(), Fail> {
     expect_rows(&rt, rt.alloc(), STATE_ROWS)
+}
+
+#[test]
+fn rows_of_names_are_answered(rt: HostRuntime) -> Result<(), Fail> {
+    expect_rows(&rt, rt.alloc(), NAME_ROWS)
 }
 
 #[test]
