@@ -1,57 +1,15 @@
 //! Worked exchanges, each with its whole reply.
 use crate::devices::make_cuts;
 use crate::rows::{ACME, BETA, LOCK_ROWS, MESSAGE_ROWS, NAME_ROWS, RESENT, SET_UP, STATE_ROWS};
-use crate::steps::{Row, Sent, Story, expect_replies, now, replayed};
+use crate::steps::{Row, Sent, Story, expect_replies, expect_story, now, written};
 use crate::texts::repeated;
 use basis::{Bytes, Down, Moment};
-use machine::{AdminAnswer, PlainKeep};
+use machine::PlainKeep;
 use serve::{LinkFault, Service, Step};
 use std::alloc::Global;
 use std::process::Abort;
 use std::test::Fail;
 use wire::{FromRead, ToWrite};
-
-// What an exchange writes; nothing where the input ended inside the message.
-fn written(
-    rt: &impl Abort,
-    alloc: Global,
-    service: &mut Service<PlainKeep>,
-    at: Moment,
-    bytes: &[u8],
-) -> Bytes {
-    let mut inlet = FromRead::new(bytes);
-    let mut outlet = ToWrite::new(Vec::new(alloc));
-    let ended = service.exchange(alloc, at, &mut inlet, &mut outlet);
-    assert!(rt; ended == Ok(()) || ended == Err(LinkFault::Ended));
-    Bytes::new(outlet.into_inner())
-}
-
-// The replies to steps over an empty store, one exchange or command after the other.
-fn exchanged(rt: &impl Abort, alloc: Global, steps: &[Step]) -> Vec<Bytes> {
-    let mut service = Service::new(PlainKeep::new(alloc));
-    let mut replies = Vec::new(alloc);
-    for step in steps {
-        let reply = match step {
-            Step::Request { at, bytes } => written(rt, alloc, &mut service, *at, bytes.as_slice()),
-            Step::Command { at, command } => {
-                let answer = service.admin(alloc, *at, command).expect(rt, "an answer");
-                assert!(rt; answer == AdminAnswer::Done);
-                Bytes::copy_of(alloc, b"ok\n").expect(rt, "room")
-            }
-        };
-        replies.push(reply).expect(rt, "room");
-    }
-    drop(service.into_keep());
-    replies
-}
-
-// Taken in turn and exchanged one by one, the steps of a story are answered by what is due.
-fn expect_story(rt: &impl Abort, alloc: Global, story: &Story, name: &str) -> Result<(), Fail> {
-    let (steps, due) = (story.steps.as_slice(), story.due.as_slice());
-    expect_replies(rt, replayed(alloc, steps)?.as_slice(), due, name);
-    expect_replies(rt, exchanged(rt, alloc, steps).as_slice(), due, name);
-    Ok(())
-}
 
 // The steps of a table, behind those of another.
 fn story_of(alloc: Global, before: &[(Sent, &str)], steps: &[(Sent, &str)]) -> Result<Story, Fail> {

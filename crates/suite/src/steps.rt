@@ -1,11 +1,12 @@
 //! Steps as tables have them, and a service that takes them.
 use basis::numbers::FIRST_LIMIT;
-use basis::{Bytes, Down, Limit, Moment, OrgName, Role, Secret};
-use machine::PlainKeep;
-use serve::{Admin, Service, Step};
+use basis::{Bytes, Limit, Moment, OrgName, Role, Secret};
+use machine::{AdminAnswer, Keep, PlainKeep};
+use serve::{Admin, LinkFault, Service, Step};
 use std::alloc::Global;
 use std::process::Abort;
 use std::test::Fail;
+use wire::{FromRead, ToWrite};
 
 /// Tue, 14 Nov 2023 22:13:20 GMT, the moment of all steps.
 pub const NOW: u64 = 1_700_000_000;
@@ -96,10 +97,82 @@ pub fn expect_replies(rt: &impl Abort, replies: &[Bytes], due: &[Bytes], name: &
     }
 }
 
-/// The replies to steps over an empty store.
-pub fn replayed(alloc: Global, steps: &[Step]) -> Result<Vec<Bytes>, Down> {
-    let mut service = Service::new(PlainKeep::new(alloc));
-    let replies = service.replay(alloc, steps);
-    drop(service.into_keep());
+/// What an exchange writes; nothing where the input ended inside the message.
+pub fn written<K: Keep>(
+    rt: &impl Abort,
+    alloc: Global,
+    service: &mut Service<K>,
+    at: Moment,
+    bytes: &[u8],
+) -> Bytes {
+    let mut inlet = FromRead::new(bytes);
+    let mut outlet = ToWrite::new(Vec::new(alloc));
+    let ended = service.exchange(alloc, at, &mut inlet, &mut outlet);
+    assert!(rt; ended == Ok(()) || ended == Err(LinkFault::Ended));
+    Bytes::new(outlet.into_inner())
+}
+
+// The replies to steps, one exchange or command after the other.
+fn exchanged<K: Keep>(
+    rt: &impl Abort,
+    alloc: Global,
+    service: &mut Service<K>,
+    steps: &[Step],
+) -> Vec<Bytes> {
+    let mut replies = Vec::new(alloc);
+    for step in steps {
+        let reply = match step {
+            Step::Request { at, bytes } => written(rt, alloc, service, *at, bytes.as_slice()),
+            Step::Command { at, command } => {
+                let answer = service.admin(alloc, *at, command).expect(rt, "an answer");
+                assert!(rt; answer == AdminAnswer::Done);
+                Bytes::copy_of(alloc, b"ok\n").expect(rt, "room")
+            }
+        };
+        replies.push(reply).expect(rt, "room");
+    }
     replies
+}
+
+// Taken in turn, the steps of a story are answered by what is due.
+fn expect_replay<K: Keep>(
+    rt: &impl Abort,
+    alloc: Global,
+    service: &mut Service<K>,
+    story: &Story,
+    name: &str,
+) -> Result<(), Fail> {
+    let replies = service.replay(alloc, story.steps.as_slice())?;
+    expect_replies(rt, replies.as_slice(), story.due.as_slice(), name);
+    Ok(())
+}
+
+// Exchanged one by one, the steps of a story are answered by what is due.
+fn expect_exchanges<K: Keep>(
+    rt: &impl Abort,
+    alloc: Global,
+    service: &mut Service<K>,
+    story: &Story,
+    name: &str,
+) {
+    let replies = exchanged(rt, alloc, service, story.steps.as_slice());
+    expect_replies(rt, replies.as_slice(), story.due.as_slice(), name);
+}
+
+// Over the store in memory, taken in turn and exchanged.
+fn expect_in_memory(rt: &impl Abort, alloc: Global, story: &Story, name: &str) -> Result<(), Fail> {
+    let mut service = Service::new(PlainKeep::new(alloc));
+    let replayed = expect_replay(rt, alloc, &mut service, story, name);
+    drop(service.into_keep());
+    replayed?;
+    let mut service = Service::new(PlainKeep::new(alloc));
+    expect_exchanges(rt, alloc, &mut service, story, name);
+    drop(service.into_keep());
+    Ok(())
+}
+
+/// The steps of a story are answered by what is due, taken in turn and exchanged one by one, over
+/// each store.
+pub fn expect_story(rt: &impl Abort, alloc: Global, story: &Story, name: &str) -> Result<(), Fail> {
+    expect_in_memory(rt, alloc, story, name)
 }

@@ -1,6 +1,6 @@
 //! Requests of a real Terraform (1.11.4, its backend `http`), byte for byte as it sent them.
 use crate::requests::{Meant, misread};
-use crate::steps::{Sent, Story, expect_replies, now, replayed};
+use crate::steps::{Sent, Story, expect_story, now};
 use basis::{Bytes, Role};
 use serve::Step;
 use std::alloc::Global;
@@ -341,9 +341,7 @@ fn expect_all(
         story.steps.push(Step::Request { at, bytes })?;
         story.due.push(Bytes::new(joined(alloc, reply, document)?))?;
     }
-    let replies = replayed(alloc, story.steps.as_slice())?;
-    expect_replies(rt, replies.as_slice(), story.due.as_slice(), "Terraform");
-    Ok(())
+    expect_story(rt, alloc, &story, "Terraform")
 }
 
 #[test]
