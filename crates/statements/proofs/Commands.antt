@@ -1,0 +1,78 @@
+-- The queries that the texts stand for.
+use Rattle.std.proofs.Common.{ℕ, pos, negsuc, Bool, true, false, List, [], ◌∷◌, Some, None}
+use Rattle.sqlite_value.specs.declared.value.Value.TheVariants.{Null, Int}
+use Rattle.sqlite_value.specs.declared.keys.Collation.{Collation}
+use Rattle.sqlite_value.specs.declared.keys.Collation.TheVariants.{Binary}
+use Rattle.sqlite_sql.specs.Term.{Term, lit, col, op2}
+use Rattle.sqlite_sql.specs.Query.{Query, inner, end}
+use Rattle.sqlite_sql.specs.declared.aggregate.AggregateOp.TheVariants.{CountRows}
+use Rattle.sqlite_sql.specs.declared.ops.CompareOp.TheVariants.{Eq, Lt}
+use Rattle.sqlite_sql.specs.declared.ops.BinaryOp.TheVariants.{Compare}
+use Rattle.sqlite_draft.specs.declared.query.Draft.{Draft}
+use Rattle.statements.proofs.Answered.{by_rowid}
+
+-- a column is a parameter, each by its place
+abbrev pub is_at : ℕ → ℕ → Term
+is_at column parameter = op2 (Compare Eq Binary) (col 1 column) (col 0 parameter)
+
+abbrev pub is_below : ℕ → ℕ → Term
+is_below column parameter = op2 (Compare Lt Binary) (col 1 column) (col 0 parameter)
+
+abbrev pub is_number : ℕ → ℕ → Term
+is_number column n = op2 (Compare Eq Binary) (col 1 column) (lit (Int (pos n)))
+
+abbrev pub simple_query : ℕ → List Term → List Term → Query
+simple_query tree filter project = record {
+  from = inner tree end;
+  filter = filter;
+  group = None;
+  project = project;
+  distinct = false;
+  collations = [];
+  order = [];
+  limit = lit (Int (negsuc 0));
+  offset = lit (Int (pos 0));
+}
+
+abbrev pub update_query : ℕ → List Term → List Term → Query
+update_query tree filter cells = simple_query tree filter (col 1 0 ∷ col 1 0 ∷ cells)
+
+abbrev pub delete_query : ℕ → List Term → Query
+delete_query tree filter = simple_query tree filter (col 1 0 ∷ [])
+
+-- LIMIT and OFFSET
+abbrev pub no_page : Term × Term
+no_page = (lit (Int (negsuc 0)), lit (Int (pos 0)))
+
+abbrev pub one_page : Term × Term
+one_page = (lit (Int (pos 1)), lit (Int (pos 0)))
+
+-- WHERE, the columns that are shown, and the page
+abbrev pub point_rest : List Term → List Term → Term × Term → Query
+point_rest filter project page = record (simple_query 0 filter project) { limit = page.0; offset = page.1 }
+
+abbrev pub point_draft : Query → ℕ → Bool → Draft
+point_draft rest tree descending = record {
+  from = inner tree end;
+  filter = rest.filter;
+  group = None;
+  project = rest.project;
+  distinct = false;
+  collations = [];
+  order = by_rowid descending;
+  limit = rest.limit;
+  offset = rest.offset;
+}
+
+abbrev pub tally_draft : Query → ℕ → Collation → Term → Draft
+tally_draft rest tree collation argument = record {
+  from = inner tree end;
+  filter = rest.filter;
+  group = Some (record { keys = []; collations = []; aggregates = record { op = CountRows; distinct = false; collation = collation; argument = argument } ∷ []; having = [] });
+  project = col 1 0 ∷ [];
+  distinct = false;
+  collations = [];
+  order = [];
+  limit = rest.limit;
+  offset = rest.offset;
+}

@@ -1,0 +1,187 @@
+-- A schema that got one more table, and what stands in it.
+use Rattle.std.proofs.Common.{◌≡◌, ◌⊎◌, inl, inr, ℕ, zero, suc, ◌+◌, ◌<◌, ◌≤◌, ◌^◌, max, Bool, true, false, cond, List, [], ◌∷◌, ◌++◌, length, find, fold, map, slice_get, Option, Some, None, option_map, unwrap_or, refl, sym, ap, ap₂, ◌∙◌, subst, arith, is_some, eqb}
+use Rattle.std.specs.Prelude.{nat_le, nat_lt, ◌==◌}
+use Rattle.std.specs.List.{AllByRecursion, position_from}
+use Rattle.std.proofs.lemmas.Bool.Decides.{nat_tests}
+use Rattle.std.proofs.lemmas.Cmp.{nat_list_cmp_total, tied_itself}
+use Rattle.std.specs.Ordering.{is_eq}
+use Rattle.sqlite_trees.specs.Tree.{Trees, IsAscending}
+use Rattle.sqlite_schema.specs.declared.schema.Schema.{Schema}
+use Rattle.sqlite_schema.specs.declared.schema.Table.{Table}
+use Rattle.sqlite_schema.specs.declared.schema.Index.{Index}
+use Rattle.sqlite_schema.specs.Names.{same_name, table_named}
+use Rattle.sqlite_catalog.specs.Change.{next_tree, past_views, KeepsRows}
+use Rattle.sqlite.specs.Effect.{Database}
+use Rattle.sqlite_keyed.proofs.ListLemmas.{all-append, all_weaker, all-slice_get, ascending-append}
+use Rattle.statements.specs.Place.{at_of, tree_of, IsAt, IsOwn}
+use Rattle.statements.specs.Making.{AreMade}
+
+-- the table stands behind those that were there, with the next tree and no row; what stands behind it refers to nothing
+pub record Grown (table : Table) (old new : Database) : Type 0 where
+  pub more : List Table
+  pub tables : new.schema.tables ≡ old.schema.tables ++ (record table { tree = next_tree old.schema } ∷ more)
+  pub loose : AllByRecursion (λ (t : Table). t.references ≡ []) more
+  pub empty : new.trees (next_tree old.schema) ≡ []
+  pub others : KeepsRows old.schema.tables old.trees new.trees
+  pub free : table_named old.schema table.name ≡ None
+  pub low : next_tree old.schema < 65536
+
+module _ {X : Type 0} where
+  position_front : (p : X → Bool) (n i : ℕ) (xs ys : List X) → position_from p n xs ≡ Some i → position_from p n (xs ++ ys) ≡ Some i
+  position_front p n i [] ys h = absurd (cc)
+  position_front p n i (x ∷ xs) ys h = go (p x) h (position_front p (n + 1) i xs ys)
+    where
+      go : (b : Bool) → cond b (Some n) (position_from p (n + 1) xs) ≡ Some i → (position_from p (n + 1) xs ≡ Some i → position_from p (n + 1) (xs ++ ys) ≡ Some i)
+          → cond b (Some n) (position_from p (n + 1) (xs ++ ys)) ≡ Some i
+      go true e more = e
+      go false e more = more e
+
+  position_behind : (p : X → Bool) (n : ℕ) (xs : List X) (y : X) (ys : List X) → position_from p n xs ≡ None → p y ≡ true → position_from p n (xs ++ y ∷ ys) ≡ Some (n + length xs)
+  position_behind p n [] y ys none is = rw is (ap Some (omega arith))
+  position_behind p n (x ∷ xs) y ys none is = go (p x) none (λ h. position_behind p (n + 1) xs y ys h is)
+    where
+      go : (b : Bool) → cond b (Some n) (position_from p (n + 1) xs) ≡ None → (position_from p (n + 1) xs ≡ None → position_from p (n + 1) (xs ++ y ∷ ys) ≡ Some (n + 1 + length xs))
+          → cond b (Some n) (position_from p (n + 1) (xs ++ y ∷ ys)) ≡ Some (n + length (x ∷ xs))
+      go true e more = absurd (cc)
+      go false e more = more e ∙ ap Some (omega arith)
+
+  get_front : (xs ys : List X) (i : ℕ) (x : X) → slice_get xs i ≡ Some x → slice_get (xs ++ ys) i ≡ Some x
+  get_front [] ys i x h = absurd (cc)
+  get_front (y ∷ xs) ys zero x h = h
+  get_front (y ∷ xs) ys (suc i) x h = get_front xs ys i x h
+
+  get_behind : (xs : List X) (y : X) (ys : List X) → slice_get (xs ++ y ∷ ys) (length xs) ≡ Some y
+  get_behind [] y ys = refl
+  get_behind (x ∷ xs) y ys = get_behind xs y ys
+
+  find_front : (p : X → Bool) (xs ys : List X) (x : X) → find p xs ≡ Some x → find p (xs ++ ys) ≡ Some x
+  find_front p [] ys x h = absurd (cc)
+  find_front p (y ∷ xs) ys x h = go (p y) h (find_front p xs ys x)
+    where
+      go : (b : Bool) → cond b (Some y) (find p xs) ≡ Some x → (find p xs ≡ Some x → find p (xs ++ ys) ≡ Some x) → cond b (Some y) (find p (xs ++ ys)) ≡ Some x
+      go true e more = e
+      go false e more = more e
+
+  find_behind : (p : X → Bool) (xs : List X) (y : X) (ys : List X) → AllByRecursion (λ x. p x ≡ false) xs → p y ≡ true → find p (xs ++ y ∷ ys) ≡ Some y
+  find_behind p [] y ys none is = rw is refl
+  find_behind p (x ∷ xs) y ys none is = rw none.0 (find_behind p xs y ys none.1 is)
+
+  top_grows : (f : X → ℕ) (n : ℕ) (xs : List X) → n ≤ fold (λ m x. max m (f x + 1)) n xs
+  top_grows f n [] = omega arith
+  top_grows f n (x ∷ xs) = let more = top_grows f (max n (f x + 1)) xs in omega arith
+
+  all_below : (f : X → ℕ) (n : ℕ) (xs : List X) → AllByRecursion (λ x. f x < fold (λ m y. max m (f y + 1)) n xs) xs
+  all_below f n [] = tt
+  all_below f n (x ∷ xs) = let more = top_grows f (max n (f x + 1)) xs in (omega arith, all_below f (max n (f x + 1)) xs)
+
+plus_none : (n : ℕ) → 0 + n ≡ n
+plus_none n = omega arith
+
+eq_itself : (n : ℕ) → (n == n) ≡ true
+eq_itself n = grind (arith, nat_tests)
+
+-- the next tree is above each table's
+trees_below : (s : Schema) → AllByRecursion (λ (t : Table). t.tree < next_tree s) s.tables
+trees_below s =
+    let top = fold (λ n (t : Table). max n (t.tree + 1)) (past_views s) s.tables in
+    let rest = top_grows (λ (i : Index). i.tree) top s.indexes in
+    all_weaker (λ (t : Table). t.tree < top) (λ (t : Table). t.tree < next_tree s) (λ t h. omega arith) s.tables (all_below (λ (t : Table). t.tree) (past_views s) s.tables)
+
+same_itself : (name : List ℕ) → same_name name name ≡ true
+unfolding same_name
+same_itself name = ap is_eq (tied_itself nat_list_cmp_total (map Rattle.std.specs.Char.to_ascii_lowercase name))
+
+module _ (s : Schema) (name : List ℕ) (table : Table) (at tree : ℕ) (h : IsAt s name table at tree) where
+  pub at_is : at_of s name ≡ at
+  at_is = ap (λ o. unwrap_or o 0) h.named
+
+  pub tree_is : tree_of s name ≡ tree
+  tree_is = ap (λ n. unwrap_or (option_map (λ (t : Table). t.tree) (slice_get s.tables n)) 0) at_is ∙ ap (λ o. unwrap_or (option_map (λ (t : Table). t.tree) o) 0) h.found
+
+-- a table that stands somewhere, and refers to nothing there, is one of ours
+own_at : (s : Schema) (table : Table) (at tree : ℕ) → IsAt s table.name table at tree → AllByRecursion (λ (t : Table). t.tree ≡ tree → t.references ≡ []) s.tables → IsOwn s table
+own_at s table at tree h bare = record {
+  place = subst (λ n. IsAt s table.name table n (tree_of s table.name)) (sym (at_is s table.name table at tree h)) (subst (λ n. IsAt s table.name table at n) (sym (tree_is s table.name table at tree h)) h);
+  bare = subst (λ n. AllByRecursion (λ (t : Table). t.tree ≡ n → t.references ≡ []) s.tables) (sym (tree_is s table.name table at tree h)) bare;
+}
+
+module _ (table : Table) (loose : table.references ≡ []) (old new : Database) (g : Grown table old new) where
+  abbrev added : Table
+  added = record table { tree = next_tree old.schema }
+
+  behind_loose : (tree : ℕ) → AllByRecursion (λ (t : Table). t.tree ≡ tree → t.references ≡ []) (added ∷ g.more)
+  behind_loose tree = (λ _. loose, all_weaker (λ (t : Table). t.references ≡ []) (λ (t : Table). t.tree ≡ tree → t.references ≡ []) (λ t h _. h) g.more g.loose)
+
+  whole_bare : (tree : ℕ) → AllByRecursion (λ (t : Table). t.tree ≡ tree → t.references ≡ []) old.schema.tables → AllByRecursion (λ (t : Table). t.tree ≡ tree → t.references ≡ []) new.schema.tables
+  whole_bare tree h = subst (AllByRecursion (λ (t : Table). t.tree ≡ tree → t.references ≡ [])) (sym g.tables) (all-append _ old.schema.tables (added ∷ g.more) h (behind_loose tree))
+
+  module _ (other : Table) (own : IsOwn old.schema other) where
+    abbrev at : ℕ
+    at = at_of old.schema other.name
+
+    abbrev tree : ℕ
+    tree = tree_of old.schema other.name
+
+    stays_at : IsAt new.schema other.name other at tree
+    stays_at = record {
+      named = ap (position_from (λ (t : Table). same_name t.name other.name) 0) g.tables ∙ position_front _ 0 at old.schema.tables (added ∷ g.more) own.place.named;
+      found = ap (λ l. slice_get l at) g.tables ∙ get_front old.schema.tables (added ∷ g.more) at _ own.place.found;
+      treed = ap (find (λ (t : Table). t.tree == tree)) g.tables ∙ find_front _ old.schema.tables (added ∷ g.more) _ own.place.treed;
+      low = own.place.low;
+      small = own.place.small;
+    }
+
+    own_kept : IsOwn new.schema other
+    own_kept = own_at new.schema other at tree stays_at (whole_bare tree own.bare)
+
+    tree_kept : tree_of new.schema other.name ≡ tree
+    tree_kept = tree_is new.schema other.name other at tree stays_at
+
+    tree_below : tree < next_tree old.schema
+    tree_below = all-slice_get (λ (t : Table). t.tree < next_tree old.schema) old.schema.tables at _ own.place.found (trees_below old.schema)
+
+    rows_kept : new.trees tree ≡ old.trees tree
+    rows_kept = all-slice_get (λ (t : Table). new.trees t.tree ≡ old.trees t.tree) old.schema.tables at _ own.place.found g.others
+
+  apart_from : (t : Table) → t.tree < next_tree old.schema → (t.tree == next_tree old.schema) ≡ false
+  apart_from t low = grind (arith, nat_tests)
+
+  added_at : IsAt new.schema table.name table (length old.schema.tables) (next_tree old.schema)
+  added_at = record {
+    named = ap (position_from (λ (t : Table). same_name t.name table.name) 0) g.tables ∙ position_behind _ 0 old.schema.tables added g.more g.free (same_itself table.name) ∙ ap Some (plus_none (length old.schema.tables));
+    found = ap (λ l. slice_get l (length old.schema.tables)) g.tables ∙ get_behind old.schema.tables added g.more;
+    treed = ap (find (λ (t : Table). t.tree == next_tree old.schema)) g.tables
+    ∙ find_behind _ old.schema.tables added g.more (all_weaker (λ (t : Table). t.tree < next_tree old.schema) (λ (t : Table). (t.tree == next_tree old.schema) ≡ false) apart_from old.schema.tables (trees_below old.schema))
+    (eq_itself (next_tree old.schema));
+    low = let l = g.low in grind (arith, nat_tests);
+    small = let l = g.low in grind (arith, nat_tests);
+  }
+
+  own_added : IsOwn new.schema table
+  own_added = own_at new.schema table _ _ added_at
+      (whole_bare (next_tree old.schema) (all_weaker (λ (t : Table). t.tree < next_tree old.schema) (λ (t : Table). t.tree ≡ next_tree old.schema → t.references ≡ []) (λ t low same. absurd (omega arith)) old.schema.tables (trees_below old.schema)))
+
+  tree_added : tree_of new.schema table.name ≡ next_tree old.schema
+  tree_added = tree_is new.schema table.name table _ _ added_at
+
+  own_all : (ts : List Table) → AllByRecursion (IsOwn old.schema) ts → AllByRecursion (IsOwn new.schema) (ts ++ table ∷ [])
+  own_all [] h = (own_added, tt)
+  own_all (t ∷ ts) h = (own_kept t h.0, own_all ts h.1)
+
+  empty_all : (ts : List Table) → AllByRecursion (IsOwn old.schema) ts → AllByRecursion (λ (t : Table). old.trees (tree_of old.schema t.name) ≡ []) ts
+      → AllByRecursion (λ (t : Table). new.trees (tree_of new.schema t.name) ≡ []) (ts ++ table ∷ [])
+  empty_all [] h k = (ap new.trees tree_added ∙ g.empty, tt)
+  empty_all (t ∷ ts) h k = (ap new.trees (tree_kept t h.0) ∙ rows_kept t h.0 ∙ k.0, empty_all ts h.1 k.1)
+
+  above_one : (t : Table) → IsOwn old.schema t → (ts : List Table) → AllByRecursion (IsOwn old.schema) ts → AllByRecursion (λ (b : Table). tree_of old.schema t.name < tree_of old.schema b.name) ts
+      → AllByRecursion (λ (b : Table). tree_of new.schema t.name < tree_of new.schema b.name) (ts ++ table ∷ [])
+  above_one t own [] h k = let a = tree_kept t own in let b = tree_added in let c = tree_below t own in (omega arith, tt)
+  above_one t own (u ∷ ts) h k = let a = tree_kept t own in let b = tree_kept u h.0 in let c = k.0 in (omega arith, above_one t own ts h.1 k.1)
+
+  order_all : (ts : List Table) → AllByRecursion (IsOwn old.schema) ts → IsAscending (λ (a b : Table). tree_of old.schema a.name < tree_of old.schema b.name) ts
+      → IsAscending (λ (a b : Table). tree_of new.schema a.name < tree_of new.schema b.name) (ts ++ table ∷ [])
+  order_all [] h k = (tt, tt)
+  order_all (t ∷ ts) h k = (above_one t h.0 ts h.1 k.0, order_all ts h.1 k.1)
+
+  pub made_grown : (ts : List Table) → AreMade ts old → AreMade (ts ++ table ∷ []) new
+  made_grown ts m = record { own = own_all ts m.own; empty = empty_all ts m.own m.empty; order = order_all ts m.own m.order }

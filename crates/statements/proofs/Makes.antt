@@ -1,0 +1,331 @@
+-- What a CREATE TABLE and a CREATE INDEX do, in a database with whatever schema.
+use Rattle.std.proofs.Common.{◌≡◌, ◌⊎◌, inl, inr, ℕ, ◌+◌, ◌<◌, pos, Bool, true, false, cond, ◌||◌, ◌&&◌, MatchBool, List, [], ◌∷◌, ◌++◌, length, filter, slice_get, slice_range, Option, Some, None, is_some, Result, Ok, Err, OnOk, OnErr, refl, sym, ap, ◌∙◌, subst, arith, append_assoc}
+use Rattle.std.specs.List.{AllByRecursion, AllZip}
+use Rattle.std.proofs.lemmas.Bool.{cases_Bool, or_parts}
+use Rattle.sqlite_value.specs.Order.{Row}
+use Rattle.sqlite_trees.specs.Tree.{Trees, IsAscending}
+use Rattle.sqlite_ast.specs.declared.CreateTable.{CreateTable as TableText}
+use Rattle.sqlite_ast.specs.declared.CreateIndex.{CreateIndex as IndexText}
+use Rattle.sqlite_ast.specs.declared.Statement.{Statement}
+use Rattle.sqlite_ast.specs.declared.Statement.TheVariants as written
+use Rattle.sqlite_syntax.specs.declared.statement.Parsed.{Parsed}
+use Rattle.sqlite_schema.specs.declared.schema.Reference.{Reference}
+use Rattle.sqlite_schema.specs.declared.schema.Schema.{Schema}
+use Rattle.sqlite_schema.specs.declared.schema.Table.{Table}
+use Rattle.sqlite_schema.specs.declared.schema.Index.{Index}
+use Rattle.sqlite_schema.specs.declared.command.Command.{Command}
+use Rattle.sqlite_schema.specs.declared.command.Command.TheVariants.{CreateTable, CreateIndex, Nothing}
+use Rattle.sqlite_schema.specs.declared.command.Returning.{Returning}
+use Rattle.sqlite_schema.specs.Names.{table_named, index_named, view_named}
+use Rattle.sqlite_resolve.specs.Lowering.{Checked, and_then, or_else}
+use Rattle.sqlite_resolve.specs.declared.compiled.Compiled.{Compiled}
+use Rattle.sqlite_resolve.specs.declared.error.CompileError.{CompileError}
+use Rattle.sqlite_resolve.specs.declared.error.CompileError.TheVariants.{Misuse, Exists, Unsupported, NoSuchTable}
+use Rattle.sqlite_resolve.specs.Body.{table_at}
+use Rattle.sqlite_resolve.specs.Define as define
+use Rattle.sqlite_resolve.specs.Compile.{first, command, create_table, create_index, creates, returning, timed, small, meaning, planned, compiled, with_command, table_defined_by}
+use Rattle.sqlite_catalog.specs.Change.{next_tree, created, is_used, KeepsRows}
+use Rattle.sqlite_catalog.specs.Calls.{CreatesTable, CreatesIndex}
+use Rattle.sqlite_catalog.specs.Listing.{IsTableRow, IsSound, is_table_row}
+use Rattle.sqlite_rules.specs.Lists.{Has}
+use Rattle.sqlite_tied.specs.Compute.{everything}
+use Rattle.sqlite.specs.Clock as clock
+use Rattle.sqlite.specs.Effect.{Database, IsDatabase, is_query}
+use Rattle.sqlite.specs.Does.{Tally, AtPlace, Defines, MakesIndex, MakesSequence, lacks_sequence, sequence_text}
+use Rattle.sqlite.specs.Listing.{understood, reads_listing, if_select, is_select, listing_schema}
+use Rattle.sqlite.specs.State.{State, mode_of, Executes, ExecutesIn, Runs, Writes, shows_rows, is_pragma, text_of}
+use Rattle.sqlite_keyed.proofs.ListLemmas.{all-slice_get, ascending_weaker}
+use Rattle.statements.specs.Making.{AreMade, GrowsBy, KeepsMade}
+use Rattle.statements.specs.Place.{IsOwn, at_of, tree_of}
+use Rattle.statements.proofs.Meaning.{as_read}
+use Rattle.statements.proofs.Grown.{Grown, made_grown}
+
+-- ---- what such a text compiles to, if it does
+
+-- the command is of this kind, and shows no rows
+pub record IsMaking (Kind : Command → Type 0) (text : List ℕ) (c : Compiled) : Type 0 where
+  pub kind : Kind c.command
+  pub silent : c.returning ≡ None
+  pub timeless : c.formats ≡ []
+  pub whole : text_of text c ≡ text
+
+module _ (Kind : Command → Type 0) (no_select : (k : Command) → Kind k → is_select k ≡ false) (text : List ℕ) (st : Statement) (p : Parsed) (reads : first text ≡ Ok (as_read p st)) (whole : slice_range text p.start p.end ≡ text)
+    (timeless : (s : Schema) → timed s [] st ≡ []) (quiet : (s : Schema) (base : ℕ) → returning s base st ≡ Ok None) (kinds : (s : Schema) (base : ℕ) (k : Command) → command s [] base st ≡ Ok k → Kind k) where
+  compiled_making : (s : Schema) (c : Compiled) → compiled s text ≡ Ok c → IsMaking Kind text c
+  unfolding compiled planned meaning
+  compiled_making s c h = go (command s [] (small p.names + small []) st) refl (rw (reads, timeless s, quiet s) at h)
+    where
+      go : (r : Checked Command) → command s [] (small p.names + small []) st ≡ r → and_then (and_then (and_then r (λ k. Ok (k, None))) (λ found. Ok ([], found))) (λ plan. Ok (with_command (as_read p st) plan)) ≡ Ok c → IsMaking Kind text c
+      go (Ok k) e f =
+          let same : with_command (as_read p st) ([], (k, None)) ≡ c = cc in
+          subst (IsMaking Kind text) same (record { kind = kinds s _ k e; silent = refl; timeless = refl; whole = whole })
+      go (Err e) f g = absurd (cc)
+
+  making : (s : Schema) (c : Compiled) → understood s text ≡ Ok c → IsMaking Kind text c
+  unfolding understood
+  making s c h = go (reads_listing s text) h
+    where
+      kept : (r : Result Compiled CompileError) → ((d : Compiled) → r ≡ Ok d → is_select d.command ≡ false) → if_select r ≡ Ok c → IsMaking Kind text c
+      kept (Ok d) none e = absurd (let f = rw (none d refl) at e in cc)
+      kept (Err x) none e = absurd (cc)
+
+      go : (b : Bool) → cond b (if_select (compiled listing_schema text)) (compiled s text) ≡ Ok c → IsMaking Kind text c
+      go true e = kept (compiled listing_schema text) (λ d is. no_select d.command (compiled_making listing_schema d is).kind) e
+      go false e = compiled_making s c e
+
+  -- the command ran as a write
+  pub ran_as : (old new : State) (params : Row) (count : ℕ) → ((k : Command) → Kind k → is_query k || is_pragma k ≡ false) → Executes text params old new (Ok count)
+      → (k : Command) × Kind k × (full : Row) × Runs old new None k text full count
+  unfolding ExecutesIn
+  ran_as old new params count plain h =
+      let is = making old.now.schema h.0 h.1.is in
+      let flat : shows_rows false h.0 ≡ false = flat_for h.0.command h.0.returning (plain h.0.command is.kind) is.silent in
+      let ran : Runs old new h.0.returning h.0.command (text_of text h.0) (clock.timed params h.0.formats h.1.now) count = rw flat at h.2 in
+      (h.0.command, is.kind, clock.timed params h.0.formats h.1.now,
+      subst (λ t. Runs old new None h.0.command t (clock.timed params h.0.formats h.1.now) count) is.whole (subst (λ r. Runs old new r h.0.command (text_of text h.0) (clock.timed params h.0.formats h.1.now) count) is.silent ran))
+    where
+      flat_for : (k : Command) (r : Option Returning) → is_query k || is_pragma k ≡ false → r ≡ None → is_query k || (true && (is_pragma k || is_some r)) ≡ false
+      flat_for k r none is = let parts = or_parts (is_query k) (is_pragma k) none in rw (parts.0, parts.1, is) refl
+
+-- ---- CREATE TABLE
+
+abbrev IsTableMaking : Command → Type 0
+IsTableMaking k = k ≡ CreateTable
+
+module _ (def : TableText) where
+  abbrev pub fresh_table : TableText
+  fresh_table = record def { if_missing = false }
+
+  only_new : (a b c : Bool) (body : Checked Command) (k : Command)
+      → and_then (cond a (Err Misuse) (cond b (Err Exists) (cond c (Err Exists) (Ok true)))) (λ is_new. cond is_new body (Ok Nothing)) ≡ Ok k → body ≡ Ok k
+  only_new true b c body k h = absurd (cc)
+  only_new false true c body k h = absurd (cc)
+  only_new false false true body k h = absurd (cc)
+  only_new false false false body k h = h
+
+  defined_only : (r : Checked Table) (f : Table → Bool) (k : Command) → and_then r (λ t. cond (f t) (Ok CreateTable) (Err Unsupported)) ≡ Ok k → k ≡ CreateTable
+  defined_only (Err e) f k h = absurd (cc)
+  defined_only (Ok t) f k h = go (f t) h
+    where
+      go : (b : Bool) → cond b (Ok CreateTable) (Err Unsupported) ≡ Ok k → k ≡ CreateTable
+      go true e = cc
+      go false e = absurd (cc)
+
+  unattached : (b : Bool) (body : Checked Command) (k : Command) → cond b (Err Unsupported) body ≡ Ok k → body ≡ Ok k
+  unattached true body k h = absurd (cc)
+  unattached false body k h = h
+
+  makes_a_table : (s : Schema) (base : ℕ) (k : Command) → command s [] base (written.CreateTable fresh_table) ≡ Ok k → IsTableMaking k
+  unfolding command create_table creates
+  makes_a_table s base k h = defined_only (define.table [] fresh_table) _ k (only_new _ _ _ _ k (unattached _ _ k h))
+
+no_selecting : (k : Command) → IsTableMaking k → is_select k ≡ false
+no_selecting k is = ap is_select is
+
+no_showing : (k : Command) → IsTableMaking k → is_query k || is_pragma k ≡ false
+no_showing k is = ap (λ m. is_query m || is_pragma m) is
+
+-- a part that gave a value did not stop on the way
+went : {B E R : Type 0} {b : B} {Stops : E → Type 0} → ((stop : E) × Stops stop × (Ok b ≡ Err stop)) ⊎ R → R
+went (inl stopped) = absurd (let e = stopped.2 in cc)
+went (inr on) = on
+
+same_value : {B E : Type 0} {a b : B} → ◌≡◌ {A = Result B E} (Ok a) (Ok b) → a ≡ b
+same_value e = cc
+
+abbrev refs_of : Checked Table → List Reference
+refs_of (Ok t) = t.references
+refs_of (Err e) = []
+
+sequence_refs : refs_of (table_defined_by sequence_text) ≡ []
+unfolding everything
+sequence_refs = refl
+
+-- every table of a database has a tree below 65,536
+low_trees : (rows : List Row) (tables : List Table) → AllZip IsTableRow rows tables → AllByRecursion (λ (t : Table). t.tree < 65536) tables
+low_trees [] [] h = tt
+low_trees [] (t ∷ tables) h = absurd h
+low_trees (r ∷ rows) [] h = absurd h
+low_trees (r ∷ rows) (t ∷ tables) h = (h.0.described.low, low_trees rows tables h.1)
+
+front : {X : Type 0} (P : X → Type 0) (xs ys : List X) → AllByRecursion P (xs ++ ys) → AllByRecursion P xs × AllByRecursion P ys
+front P [] ys h = (tt, h)
+front P (x ∷ xs) ys h = let more = front P xs ys h.1 in ((h.0, more.0), more.1)
+
+kept_then : (ts : List Table) (a b c : Trees) → KeepsRows ts a b → KeepsRows ts b c → KeepsRows ts a c
+kept_then [] a b c h k = tt
+kept_then (t ∷ ts) a b c h k = (k.0 ∙ h.0, kept_then ts a b c h.1 k.1)
+
+unused_name : (s : Schema) (name : List ℕ) → is_used s name ≡ false → table_named s name ≡ None
+unused_name s name h = go (table_named s name) (or_parts (is_some (table_named s name)) (is_some (index_named s name)) (or_parts (is_some (table_named s name) || is_some (index_named s name)) (is_some (view_named s name)) h).0).0
+  where
+    go : (o : Option ℕ) → is_some o ≡ false → o ≡ None
+    go None e = refl
+    go (Some n) e = absurd (cc)
+
+module _ (table : Table) (text : List ℕ) (defines : table_defined_by text ≡ Ok table) (old new made : Database) (one : CreatesTable old.schema text old.trees made.schema made.trees)
+    (sound : IsDatabase new) where
+  same_table : one.table ≡ table
+  same_table = same_value (sym one.defined ∙ defines)
+
+  abbrev added : Table
+  added = record table { tree = next_tree old.schema }
+
+  tables_are : made.schema.tables ≡ old.schema.tables ++ added ∷ []
+  tables_are = ap (λ (s : Schema). s.tables) one.is ∙ ap (λ (t : Table). old.schema.tables ++ (record t { tree = next_tree old.schema }) ∷ []) same_table
+
+  low_in : (more : List Table) → new.schema.tables ≡ old.schema.tables ++ (added ∷ more) → next_tree old.schema < 65536
+  low_in more is =
+      let all = subst (AllByRecursion (λ (t : Table). t.tree < 65536)) is (low_trees _ new.schema.tables sound.lists.listed.tables) in
+      (front (λ (t : Table). t.tree < 65536) old.schema.tables (added ∷ more) all).1.0
+
+  free_is : table_named old.schema table.name ≡ None
+  free_is = ap (λ (t : Table). table_named old.schema t.name) (sym same_table) ∙ unused_name old.schema one.table.name one.free
+
+  pub grown : MakesSequence made (Ok new) → Grown table old new
+  grown more = elim (cases_Bool (lacks_sequence made.schema)) [
+    | inl lacks ↦
+        let two : CreatesTable made.schema sequence_text made.trees new.schema new.trees = rw lacks at more in
+        let last : Table = record two.table { tree = next_tree made.schema } in
+        let is : new.schema.tables ≡ old.schema.tables ++ (added ∷ last ∷ []) =
+        ap (λ (s : Schema). s.tables) two.is ∙ ap (λ l. l ++ last ∷ []) tables_are ∙ append_assoc old.schema.tables (added ∷ []) (last ∷ []) in
+        let kept = front (λ (t : Table). new.trees t.tree ≡ made.trees t.tree) old.schema.tables (added ∷ []) (subst (λ ts. KeepsRows ts made.trees new.trees) tables_are two.others) in
+        record {
+          more = last ∷ [];
+          tables = is;
+          loose = (ap refs_of (sym two.defined) ∙ sequence_refs, tt);
+          empty = kept.1.0 ∙ one.empty;
+          others = kept_then old.schema.tables old.trees made.trees new.trees one.others kept.0;
+          free = free_is;
+          low = low_in (last ∷ []) is;
+        }
+    | inr has ↦
+        let same : new ≡ made = same_value (rw has at more) in
+        let is : new.schema.tables ≡ old.schema.tables ++ added ∷ [] = ap (λ (d : Database). d.schema.tables) same ∙ tables_are in
+        record {
+          more = [];
+          tables = is;
+          loose = tt;
+          empty = ap (λ (d : Database). d.trees (next_tree old.schema)) same ∙ one.empty;
+          others = subst (λ (d : Database). KeepsRows old.schema.tables old.trees d.trees) (sym same) one.others;
+          free = free_is;
+          low = low_in [] is;
+        }
+  ]
+
+module _ (table : Table) (loose : table.references ≡ []) (def : TableText) (text : List ℕ) (p : Parsed) (reads : first text ≡ Ok (as_read p (written.CreateTable (fresh_table def))))
+    (whole : slice_range text p.start p.end ≡ text) (defines : table_defined_by text ≡ Ok table) where
+  quiet : (s : Schema) (base : ℕ) → returning s base (written.CreateTable (fresh_table def)) ≡ Ok None
+  unfolding returning
+  quiet s base = refl
+
+  timeless : (s : Schema) → timed s [] (written.CreateTable (fresh_table def)) ≡ []
+  unfolding timed
+  timeless s = refl
+
+  pub makes_table : (old new : State) (params : Row) (count : ℕ) → Executes text params old new (Ok count) → Grown table old.now new.now
+  makes_table old new params count h =
+      let ran = ran_as IsTableMaking no_selecting text (written.CreateTable (fresh_table def)) p reads whole timeless quiet (makes_a_table def) old new params count no_showing h in
+      let w : Writes old new None CreateTable text ran.2 count = subst (λ k. Runs old new None k text ran.2 count) ran.1 ran.3 in
+      let done = went w.changed in
+      let made = went done.1 in
+      let now : new.now ≡ done.0 = ap (λ (q : Tally × Database). q.1) (same_value done.2) in
+      grown table text defines old.now new.now made.0 made.1 w.sound (subst (λ d. MakesSequence made.0 (Ok d)) (sym now) made.2)
+
+  pub makes_behind : (old new : State) (params : Row) (count : ℕ) → Executes text params old new (Ok count) → GrowsBy table old.now new.now
+  makes_behind old new params count h = let g = makes_table old new params count h in (made_grown table loose old.now new.now g, g.others)
+
+-- ---- CREATE INDEX
+
+abbrev IsIndexMaking : Command → Type 0
+IsIndexMaking k = (at : ℕ) × (k ≡ CreateIndex at)
+
+module _ (def : IndexText) where
+  abbrev pub fresh_index : IndexText
+  fresh_index = record def { if_missing = false }
+
+  an_index : (at : ℕ) (a b c : Bool) (r : Checked Index) (k : Command)
+      → and_then (cond a (Err Misuse) (cond b (Err Exists) (cond c (Err Exists) (Ok true)))) (λ is_new. cond is_new (and_then r (λ _. Ok (CreateIndex at))) (Ok Nothing)) ≡ Ok k → IsIndexMaking k
+  an_index at true b c r k h = absurd (cc)
+  an_index at false true c r k h = absurd (cc)
+  an_index at false false true r k h = absurd (cc)
+  an_index at false false false (Err e) k h = absurd (cc)
+  an_index at false false false (Ok i) k h = (at, same_value (sym h))
+
+  on_its_table : (r : Checked ℕ) (table_for : ℕ → Checked Table) (body : ℕ → Table → Checked Command) (k : Command) → ((at : ℕ) (t : Table) → body at t ≡ Ok k → IsIndexMaking k)
+      → and_then r (λ at. and_then (table_for at) (body at)) ≡ Ok k → IsIndexMaking k
+  on_its_table (Err e) table_for body k each h = absurd (cc)
+  on_its_table (Ok at) table_for body k each h = go (table_for at) h
+    where
+      go : (r : Checked Table) → and_then r (body at) ≡ Ok k → IsIndexMaking k
+      go (Err e) f = absurd (cc)
+      go (Ok t) f = each at t f
+
+  unreserved : (b : Bool) (body : Checked Command) (k : Command) → cond b (Err Misuse) body ≡ Ok k → body ≡ Ok k
+  unreserved true body k h = absurd (cc)
+  unreserved false body k h = h
+
+  makes_an_index : (s : Schema) (base : ℕ) (k : Command) → command s [] base (written.CreateIndex fresh_index) ≡ Ok k → IsIndexMaking k
+  unfolding command create_index creates
+  makes_an_index s base k h = on_its_table _ (table_at s) _ k (λ at t f. an_index at _ _ _ (define.index t fresh_index) k f) (unreserved _ _ k h)
+
+no_select_index : (k : Command) → IsIndexMaking k → is_select k ≡ false
+no_select_index k is = ap is_select is.1
+
+no_rows_index : (k : Command) → IsIndexMaking k → is_query k || is_pragma k ≡ false
+no_rows_index k is = ap (λ m. is_query m || is_pragma m) is.1
+
+-- what stands in a schema hangs on its tables alone
+same_tables : (t : Table) (s r : Schema) → r.tables ≡ s.tables → IsOwn s t → IsOwn r t
+same_tables t s r is own = subst (λ l. IsOwn (record r { tables = l }) t) (sym is) (record {
+  place = record { named = own.place.named; found = own.place.found; treed = own.place.treed; low = own.place.low; small = own.place.small };
+  bare = own.bare;
+})
+
+same_tree : (t : Table) (s r : Schema) → r.tables ≡ s.tables → tree_of r t.name ≡ tree_of s t.name
+same_tree t s r is = ap (λ l. tree_of (record r { tables = l }) t.name) is
+
+module _ (old new : Database) (is : new.schema.tables ≡ old.schema.tables) (rows : KeepsRows old.schema.tables old.trees new.trees) where
+  own_same : (ts : List Table) → AllByRecursion (IsOwn old.schema) ts → AllByRecursion (IsOwn new.schema) ts
+  own_same [] h = tt
+  own_same (t ∷ ts) h = (same_tables t old.schema new.schema is h.0, own_same ts h.1)
+
+  empty_same : (ts : List Table) → AllByRecursion (IsOwn old.schema) ts → AllByRecursion (λ (t : Table). old.trees (tree_of old.schema t.name) ≡ []) ts
+      → AllByRecursion (λ (t : Table). new.trees (tree_of new.schema t.name) ≡ []) ts
+  empty_same [] h k = tt
+  empty_same (t ∷ ts) h k =
+      (ap new.trees (same_tree t old.schema new.schema is) ∙ all-slice_get (λ (u : Table). new.trees u.tree ≡ old.trees u.tree) old.schema.tables (at_of old.schema t.name) _ h.0.place.found rows ∙ k.0,
+      empty_same ts h.1 k.1)
+
+  order_same : (ts : List Table) → IsAscending (λ (a b : Table). tree_of old.schema a.name < tree_of old.schema b.name) ts → IsAscending (λ (a b : Table). tree_of new.schema a.name < tree_of new.schema b.name) ts
+  order_same ts h = ascending_weaker _ (λ (a b : Table). tree_of new.schema a.name < tree_of new.schema b.name)
+      (λ a b low. let x = same_tree a old.schema new.schema is in let y = same_tree b old.schema new.schema is in omega arith) ts h
+
+  made_same : (ts : List Table) → AreMade ts old → AreMade ts new
+  made_same ts m = record { own = own_same ts m.own; empty = empty_same ts m.own m.empty; order = order_same ts m.order }
+
+indexes_at : (old new : State) (text : List ℕ) (place : Option Table) (tally : Tally)
+    → AtPlace (λ table. Defines (mode_of old) (MakesIndex text old.now table)) place (Ok (tally, new.now))
+    → KeepsMade old.now new.now
+indexes_at old new text None tally e = absurd (cc)
+indexes_at old new text (Some table) tally e =
+    let done = went e in
+    let now : new.now ≡ done.0 = ap (λ (q : Tally × Database). q.1) (same_value done.2) in
+    let is : new.now.schema.tables ≡ old.now.schema.tables = ap (λ (d : Database). d.schema.tables) now ∙ ap (λ (s : Schema). s.tables) done.1.is in
+    let rows : KeepsRows old.now.schema.tables old.now.trees new.now.trees = subst (λ (d : Database). KeepsRows old.now.schema.tables old.now.trees d.trees) (sym now) done.1.rows in
+    (made_same old.now new.now is rows, rows)
+
+module _ (def : IndexText) (text : List ℕ) (p : Parsed) (reads : first text ≡ Ok (as_read p (written.CreateIndex (fresh_index def)))) (whole : slice_range text p.start p.end ≡ text) where
+  quiet_index : (s : Schema) (base : ℕ) → returning s base (written.CreateIndex (fresh_index def)) ≡ Ok None
+  unfolding returning
+  quiet_index s base = refl
+
+  timeless_index : (s : Schema) → timed s [] (written.CreateIndex (fresh_index def)) ≡ []
+  unfolding timed
+  timeless_index s = refl
+
+  pub makes_index : (old new : State) (params : Row) (count : ℕ) → Executes text params old new (Ok count) → KeepsMade old.now new.now
+  makes_index old new params count h =
+      let ran = ran_as IsIndexMaking no_select_index text (written.CreateIndex (fresh_index def)) p reads whole timeless_index quiet_index (makes_an_index def) old new params count no_rows_index h in
+      let w : Writes old new None (CreateIndex ran.1.0) text ran.2 count = subst (λ k. Runs old new None k text ran.2 count) ran.1.1 ran.3 in
+      indexes_at old new text (slice_get old.now.schema.tables ran.1.0) w.tally w.changed

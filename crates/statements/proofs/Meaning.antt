@@ -1,0 +1,35 @@
+-- What a text means, from what its syntax tree means.
+use Rattle.std.proofs.Common.{◌≡◌, ℕ, false, List, [], None, Some, Ok, Err, refl}
+use Rattle.sqlite_ast.specs.declared.Statement.{Statement}
+use Rattle.sqlite_ast.specs.declared.Statement.TheVariants.{Empty}
+use Rattle.sqlite_syntax.specs.declared.statement.Parsed.{Parsed}
+use Rattle.sqlite_schema.specs.declared.schema.Schema.{Schema}
+use Rattle.sqlite_schema.specs.declared.command.Command.{Command}
+use Rattle.sqlite_resolve.specs.Lowering.{Checked}
+use Rattle.sqlite_resolve.specs.Compile.{first, command, returning, timed, meaning, planned, compiled, with_command}
+use Rattle.sqlite.specs.Listing.{understood, reads_listing}
+use Rattle.sqlite.proofs.Callers.{IsPlain, command_of}
+
+-- The text is this command, it shows no row of a write and reads no clock, and it is no query on the list of tables.
+abbrev pub Means : Schema → Command → List ℕ → Type 0
+Means s c text = (command_of (understood s text) ≡ c) × IsPlain (understood s text) × (reads_listing s text ≡ false)
+
+abbrev pub no_parsed : Parsed
+no_parsed = record { statement = Empty; names = []; formats = []; start = 0; end = 0; tail = 0 }
+
+abbrev pub some_parsed : Checked Parsed → Parsed
+some_parsed (Ok p) = p
+some_parsed (Err e) = no_parsed
+
+abbrev pub as_read : Parsed → Statement → Parsed
+as_read p st = record p { statement = st; formats = [] }
+
+module _ (s : Schema) (st : Statement) (c : Command) (timeless : timed s [] st ≡ []) (silent : (base : ℕ) → returning s base st ≡ Ok None) (is : (base : ℕ) → command s [] base st ≡ Ok c)
+    (text : List ℕ) (p : Parsed) (reads : first text ≡ Ok (as_read p st)) where
+  whole : compiled s text ≡ Ok (with_command (as_read p st) ([], (c, None)))
+  unfolding compiled planned meaning
+  whole = rw (reads, timeless, silent, is) refl
+
+  pub means : Means s c text
+  unfolding understood
+  means = rw whole (refl, (refl, refl), refl)

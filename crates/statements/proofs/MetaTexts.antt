@@ -1,0 +1,112 @@
+-- What the texts on the table meta mean and do, in each schema that has it.
+use Rattle.std.proofs.Common.{◌≡◌, ℕ, pos, false, Bool, List, [], ◌∷◌, codes, find, Option, Some, None, Ok, int_eq, refl, ◌∙◌}
+use Rattle.sqlite_value.specs.declared.value.Value.TheVariants.{Null, Int}
+use Rattle.sqlite_value.specs.declared.keys.Collation.TheVariants.{Binary}
+use Rattle.sqlite_value.specs.Order.{Row}
+use Rattle.sqlite_sql.specs.Term.{Term, lit, col}
+use Rattle.sqlite_sql.specs.Query.{Query}
+use Rattle.sqlite_schema.specs.declared.schema.Schema.{Schema}
+use Rattle.sqlite_schema.specs.declared.command.Source.TheVariants.{Values}
+use Rattle.sqlite_schema.specs.declared.command.Command.TheVariants.{Select, Insert}
+use Rattle.sqlite_ast.specs.declared.Statement.{Statement}
+use Rattle.sqlite_ast.specs.declared.Statement.TheVariants as written
+use Rattle.sqlite_ast.specs.declared.Select as ast
+use Rattle.sqlite_ast.specs.declared.Core.{Core}
+use Rattle.sqlite_ast.specs.declared.Expr.TheVariants.{Binary as Two}
+use Rattle.sqlite_ast.specs.declared.Binary.TheVariants.{Eq}
+use Rattle.sqlite_resolve.specs.Compile.{first, command, timed, returning}
+use Rattle.sqlite_resolve.specs.Select.{named}
+use Rattle.sqlite_resolve.specs.Program.{program}
+use Rattle.sqlite_tied.specs.Compute.{everything}
+use Rattle.sqlite.specs.State.{State, Executes}
+use Rattle.sqlite_keyed.specs.Keyed.{insert_by}
+use Rattle.sqlite_keyed.proofs.KeyedLemmas.{IsKeyedBy-insert_by}
+use Rattle.sqlite_typed.proofs.TestLemmas.{at_ints, last_term}
+use Rattle.sqlite_sql.specs.declared.ops.CompareOp.TheVariants as compare
+use Rattle.statements.specs.Place.{IsAt}
+use Rattle.statements.specs.Schema.{meta_table}
+use Rattle.statements.specs.Rows.{Kept, id_of, meta_cells, number}
+use Rattle.statements.specs.Tables.{Tables, Holds, meta_tree}
+use Rattle.statements.specs.Making.{version_set, version_in}
+use Rattle.statements.specs.Queries.{IsQuery, FirstRow, Pins, IsNumber}
+use Rattle.statements.specs.Statements as st
+use Rattle.statements.proofs.Meaning.{Means, means, some_parsed, as_read}
+use Rattle.statements.proofs.Reading.{read_is}
+use Rattle.statements.proofs.Writes.{plain_program}
+use Rattle.statements.proofs.Answered.{point}
+use Rattle.statements.proofs.Commands.{is_number, point_rest, point_draft, no_page}
+use Rattle.statements.proofs.Own.{put_own}
+use Rattle.statements.proofs.Casts.{meta_casts}
+use Rattle.statements.proofs.Frames.{metas_written}
+use Rattle.statements.proofs.PointReads.{first_own}
+use Rattle.statements.proofs.ReadBack.{number_read}
+
+abbrev pub set_version_text : List ℕ
+set_version_text = codes "INSERT INTO meta (one, version) VALUES (1, 1)"
+
+abbrev set_version : Statement
+set_version = st.insert (codes "meta") (codes "one" ∷ codes "version" ∷ []) (st.one ∷ st.one ∷ [])
+
+set_version_reads : first set_version_text ≡ Ok (as_read (some_parsed (first set_version_text)) set_version)
+unfolding everything
+set_version_reads = refl
+
+abbrev set_version_terms : List Term
+set_version_terms = lit (Int (pos 1)) ∷ lit Null ∷ lit (Int (pos 1)) ∷ []
+
+abbrev pub version_text : List ℕ
+version_text = codes "SELECT version FROM meta WHERE one = 1 ORDER BY rowid"
+
+abbrev version_core : Core
+version_core = st.from_table (st.shown_columns (codes "version" ∷ [])) (codes "meta") (Two Eq (st.named (codes "one")) st.one)
+
+abbrev version_select : ast.Select
+version_select = st.select version_core (st.by_rowid false) None
+
+version_reads : first version_text ≡ Ok (as_read (some_parsed (first version_text)) (written.Select version_select))
+unfolding everything
+version_reads = refl
+
+pub version_is_query : IsQuery version_text
+version_is_query = (version_select, some_parsed (first version_text), version_reads)
+
+abbrev version_rest : Query
+version_rest = point_rest (is_number 0 1 ∷ []) (col 1 2 ∷ []) no_page
+
+module _ (s : Schema) (at tree : ℕ) (h : IsAt s (codes "meta") meta_table at tree) where
+  set_version_is : (base : ℕ) → command s [] base set_version ≡ Ok (Insert at (Values set_version_terms 3))
+  unfolding everything
+  set_version_is base = rw (h.named, h.found) refl
+
+  set_version_means : Means s (Insert at (Values set_version_terms 3)) set_version_text
+  unfolding everything
+  set_version_means = means s set_version _ (rw (h.named, h.found) refl) (λ _. refl) set_version_is set_version_text (some_parsed (first set_version_text)) set_version_reads
+
+  version_named : named s version_core (st.by_rowid false) no_page ≡ Ok (point_draft version_rest tree false, (codes "version" ∷ []), (Some Binary ∷ []))
+  unfolding everything
+  version_named = rw (h.named, h.found, h.found, h.found, h.small) refl
+
+  version_fits : program s [] (point_draft version_rest tree false) ≡ Ok (plain_program (point version_rest tree false))
+  unfolding everything
+  version_fits = rw (h.low, h.treed) refl
+
+  version_is : (base : ℕ) → command s [] base (written.Select version_select) ≡ Ok (Select (plain_program (point version_rest tree false)) (codes "version" ∷ []))
+  unfolding everything
+  version_is base =
+      read_is s version_select version_core (st.by_rowid false) no_page (point_draft version_rest tree false, (codes "version" ∷ []), (Some Binary ∷ [])) refl refl refl refl refl (λ again. refl) version_named (plain_program (point version_rest tree false)) version_fits base
+
+  version_means : Means s (Select (plain_program (point version_rest tree false)) (codes "version" ∷ [])) version_text
+  unfolding timed returning
+  version_means = means s (written.Select version_select) _ refl (λ _. refl) version_is version_text (some_parsed (first version_text)) version_reads
+
+module _ (old new : State) (t : Tables) (h : Holds old.now t) where
+  pub set_version_does : (count : ℕ) → Executes set_version_text [] old new (Ok count) → Holds new.now (version_set t)
+  set_version_does count ran =
+      let left = put_own meta_cells meta_table meta_casts old new h.ours.meta t.metas h.metas h.metas_keyed set_version_text [] count ran
+      set_version_terms 3 (set_version_means old.now.schema _ _ h.ours.meta.place) refl refl (pos 1, 1) refl in
+      metas_written old.now new.now left.1 t h _ left.0 (IsKeyedBy-insert_by id_of t.metas (pos 1, 1) h.metas_keyed)
+
+  pub version_shows : (row : Option Row) → FirstRow version_text [] old new row → Pins IsNumber row (version_in t)
+  version_shows row first =
+      first_own meta_cells meta_table old new h.ours.meta t.metas h.metas h.metas_keyed version_text [] row first version_rest (codes "version" ∷ [])
+      (λ x. int_eq (id_of x) (pos 1)) (λ x. last_term (at_ints _ compare.Eq (id_of x) (pos 1))) IsNumber (λ x. x.1) (λ x y told. number_read x.1 y told) (version_means old.now.schema _ _ h.ours.meta.place) (λ l. refl)

@@ -1,0 +1,77 @@
+-- What the texts on the table org mean, in each schema that has it.
+use Rattle.std.proofs.Common.{◌≡◌, ℕ, pos, negsuc, true, false, List, [], ◌∷◌, codes, Some, None, Ok, refl}
+use Rattle.sqlite_value.specs.declared.value.Value.TheVariants.{Null, Int}
+use Rattle.sqlite_value.specs.declared.keys.Collation.TheVariants.{Binary}
+use Rattle.sqlite_sql.specs.Term.{Term, lit, col}
+use Rattle.sqlite_sql.specs.Query.{Query}
+use Rattle.sqlite_schema.specs.declared.schema.Schema.{Schema}
+use Rattle.sqlite_schema.specs.declared.command.Source.TheVariants.{Values}
+use Rattle.sqlite_schema.specs.declared.command.Command.TheVariants.{Select, Insert, Update, Delete}
+use Rattle.sqlite_ast.specs.declared.Statement.TheVariants as written
+use Rattle.sqlite_ast.specs.declared.Select as ast
+use Rattle.sqlite_ast.specs.declared.Expr.TheVariants.{Integer}
+use Rattle.sqlite_resolve.specs.Compile.{first, command, timed, returning}
+use Rattle.sqlite_resolve.specs.Select.{named}
+use Rattle.sqlite_resolve.specs.Program.{program}
+use Rattle.sqlite_tied.specs.Compute.{everything}
+use Rattle.statements.specs.Place.{IsAt}
+use Rattle.statements.specs.Schema.{org_table}
+use Rattle.statements.specs.Queries.{IsQuery}
+use Rattle.statements.specs.Statements as st
+use Rattle.statements.proofs.Meaning.{Means, means, some_parsed, as_read}
+use Rattle.statements.proofs.Reading.{read_is}
+use Rattle.statements.proofs.Writes.{plain_program}
+use Rattle.statements.proofs.Answered.{point, tally}
+use Rattle.statements.proofs.Commands.{is_at, is_below, is_number, update_query, delete_query, point_rest, point_draft, tally_draft, no_page, one_page}
+
+abbrev pub add_org_text : List ℕ
+add_org_text = codes "INSERT INTO org (name, cap) VALUES (?1, ?2)"
+
+add_org_reads : first add_org_text ≡ Ok (as_read (some_parsed (first add_org_text)) st.add_org)
+unfolding everything
+add_org_reads = refl
+
+abbrev pub add_org_terms : List Term
+add_org_terms = lit Null ∷ col 0 0 ∷ col 0 1 ∷ []
+
+abbrev pub org_cap_text : List ℕ
+org_cap_text = codes "SELECT cap FROM org WHERE name = ?1 ORDER BY rowid"
+
+abbrev pub org_cap_select : ast.Select
+org_cap_select = st.select st.org_cap_core (st.by_rowid false) None
+
+org_cap_reads : first org_cap_text ≡ Ok (as_read (some_parsed (first org_cap_text)) (written.Select org_cap_select))
+unfolding everything
+org_cap_reads = refl
+
+pub org_cap_is_query : IsQuery org_cap_text
+org_cap_is_query = (org_cap_select, some_parsed (first org_cap_text), org_cap_reads)
+
+abbrev pub org_cap_rest : Query
+org_cap_rest = point_rest (is_at 1 0 ∷ []) (col 1 2 ∷ []) no_page
+
+module _ (s : Schema) (at tree : ℕ) (h : IsAt s (codes "org") org_table at tree) where
+  add_org_is : (base : ℕ) → command s [] base st.add_org ≡ Ok (Insert at (Values add_org_terms 3))
+  unfolding everything
+  add_org_is base = rw (h.named, h.found) refl
+
+  pub add_org_means : Means s (Insert at (Values add_org_terms 3)) add_org_text
+  unfolding everything
+  add_org_means = means s st.add_org _ (rw (h.named, h.found) refl) (λ _. refl) add_org_is add_org_text (some_parsed (first add_org_text)) add_org_reads
+
+  org_cap_named : named s st.org_cap_core (st.by_rowid false) no_page ≡ Ok ((point_draft org_cap_rest tree false), (codes "cap" ∷ []), (Some Binary ∷ []))
+  unfolding everything
+  org_cap_named = rw (h.named, h.found, h.found, h.found, h.small) refl
+
+  org_cap_fits : program s [] (point_draft org_cap_rest tree false) ≡ Ok (plain_program (point org_cap_rest tree false))
+  unfolding everything
+  org_cap_fits = rw (h.low, h.treed) refl
+
+  org_cap_is : (base : ℕ) → command s [] base (written.Select org_cap_select) ≡ Ok (Select (plain_program (point org_cap_rest tree false)) (codes "cap" ∷ []))
+  unfolding everything
+  org_cap_is base =
+      read_is s org_cap_select st.org_cap_core (st.by_rowid false) no_page ((point_draft org_cap_rest tree false), (codes "cap" ∷ []), (Some Binary ∷ [])) refl refl refl refl refl (λ again. refl) org_cap_named (plain_program (point org_cap_rest tree false)) org_cap_fits base
+
+  pub org_cap_means : Means s (Select (plain_program (point org_cap_rest tree false)) (codes "cap" ∷ [])) org_cap_text
+  unfolding timed returning
+  org_cap_means = means s (written.Select org_cap_select) _ refl (λ _. refl) org_cap_is org_cap_text (some_parsed (first org_cap_text)) org_cap_reads

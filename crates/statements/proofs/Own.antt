@@ -1,0 +1,141 @@
+-- What a write to one of our tables leaves, whatever else stands in the database.
+use Rattle.std.proofs.Common.{◌≡◌, ◌≢◌, ◌^◌, ℕ, ℤ, Bool, true, false, List, [], ◌∷◌, ◌++◌, ◌/◌, map, drop, length, None, Ok, refl, sym, ap, ap₂, ◌∙◌, subst}
+use Rattle.std.specs.Prelude.{nat_le}
+use Rattle.std.specs.List.{list_all}
+use Rattle.sqlite_value.specs.declared.value.Value.{Value}
+use Rattle.sqlite_value.specs.declared.value.Value.TheVariants.{Null, Int}
+use Rattle.sqlite_value.specs.Order.{Row}
+use Rattle.sqlite_trees.specs.Tree.{Trees}
+use Rattle.sqlite_sql.specs.Ops.{unary}
+use Rattle.sqlite_sql.specs.Term.{Term, holds, eval_all}
+use Rattle.sqlite_sql.specs.Query.{Query, inner, end, page}
+use Rattle.sqlite_sql.specs.Program.{overlay}
+use Rattle.sqlite_schema.specs.declared.schema.Kind.TheVariants.{Integer}
+use Rattle.sqlite_schema.specs.declared.schema.Schema.{Schema}
+use Rattle.sqlite_schema.specs.declared.schema.Table.{Table}
+use Rattle.sqlite_schema.specs.declared.schema.Keys.TheVariants.{Enforced}
+use Rattle.sqlite_schema.specs.declared.command.Command.TheVariants.{Insert, Update, Delete}
+use Rattle.sqlite_schema.specs.declared.command.Source.TheVariants.{Values}
+use Rattle.sqlite_rules.specs.Cast.{cast, cast_all, cast_row}
+use Rattle.sqlite_rules.specs.declared.error.Rowids.TheVariants.{Chosen}
+use Rattle.sqlite_rules.specs.Edit.{Edit, edited, edit_of}
+use Rattle.sqlite_rules.specs.Action.{Writes}
+use Rattle.sqlite.specs.Effect.{value_rows}
+use Rattle.sqlite.specs.Rows.{stamped}
+use Rattle.sqlite.specs.State.{State, Executes}
+use Rattle.sqlite_keyed.specs.Keyed.{IsKeyedBy, insert_by, next_key}
+use Rattle.sqlite_keyed.specs.Lists.{update_where, delete_where}
+use Rattle.sqlite_keyed.proofs.SliceLemmas.{insert_next}
+use Rattle.sqlite_keyed.proofs.KeyedLemmas.{IsKeyedBy-insert_by}
+use Rattle.statements.specs.Place.{at_of, tree_of, IsAt, IsOwn}
+use Rattle.statements.specs.Rows.{Kept, id_of, stored}
+use Rattle.statements.proofs.Meaning.{Means}
+use Rattle.statements.proofs.Lead.{applied_keeps, write_keeps}
+use Rattle.statements.proofs.Writes.{plain_program, updates, deletes, inserts}
+use Rattle.statements.proofs.Edits.{all_shown, updated_rows, deleted_rows, inserted_rows, put_rows}
+
+-- each of our tables but the one with this tree has the rows that it had
+abbrev pub Leaves : Schema → ℕ → Trees → Trees → Type 0
+Leaves s tree old new = (other : Table) → IsOwn s other → tree_of s other.name ≢ tree → new (tree_of s other.name) ≡ old (tree_of s other.name)
+
+-- a write to the table at this tree, and what its own rows are then
+pub record Leads (s : Schema) (tree : ℕ) (left : List Row) (old new : Trees) : Type 0 where
+  pub rows : new tree ≡ left
+  pub others : Leaves s tree old new
+
+pub stored_tree : (db : Trees) (tree : ℕ) → nat_le (2 ^ 31) tree ≡ false → overlay db [] tree ≡ db tree
+stored_tree db tree low = rw low refl
+
+either : (b : Bool) (v : Value) → Rattle.std.proofs.Common.cond b v v ≡ v
+either true v = refl
+either false v = refl
+
+pub cast_int : (n : ℤ) → cast Integer (Int n) ≡ Int n
+unfolding unary
+cast_int n = either _ (Int n)
+
+pub cast_null : cast Integer Null ≡ Null
+unfolding unary
+cast_null = either _ Null
+
+module _ (s : Schema) (table : Table) (own : IsOwn s table) where
+  abbrev tree : ℕ
+  tree = tree_of s table.name
+
+  abbrev placed : Table
+  placed = record table { tree = tree }
+
+  pub written : (db next : Trees) (edit : Edit) → edit.table ≡ placed → Writes s Enforced db edit (Ok next) → Leads s tree (edited db edit) db next
+  written db next edit on w =
+      let tree_is : edit.table.tree ≡ tree = ap (λ (t : Table). t.tree) on in
+      let mine = write_keeps s Enforced table (at_of s table.name) tree own.place.found own.bare db next edit w in
+      record {
+        rows = mine.2 ∙ subst (λ t. mine.0 t ≡ edited db edit) tree_is mine.1.rows;
+        others = λ other is apart.
+            let keeps = write_keeps s Enforced other (at_of s other.name) (tree_of s other.name) is.place.found is.bare db next edit w in
+            keeps.2 ∙ applied_keeps s Enforced other (at_of s other.name) (tree_of s other.name) is.place.found is.bare db keeps.0 edit keeps.1 (λ same. apart (same ∙ tree_is));
+      }
+
+module _ {R : Type 0} (cells : R → Row) (table : Table) (casts : (r : R) → cast_all table.columns (cells r) ≡ cells r) (old new : State) (own : IsOwn old.now.schema table)
+    (xs : List (Kept R)) (held : old.now.trees (tree_of old.now.schema table.name) ≡ map (stored cells) xs) (keyed : IsKeyedBy id_of xs) (text : List ℕ) (params : Row) (count : ℕ)
+    (ran : Executes text params old new (Ok count)) where
+  abbrev s : Schema
+  s = old.now.schema
+
+  abbrev here : ℕ
+  here = tree_of s table.name
+
+  abbrev seen : overlay old.now.trees [] here ≡ map (stored cells) xs
+  seen = stored_tree old.now.trees here own.place.low ∙ held
+
+  stored_casts : (x : Kept R) → cast_row table (stored cells x) ≡ stored cells x
+  stored_casts x = ap₂ ◌∷◌ (cast_int (id_of x)) (casts x.1)
+
+  -- the write has left these rows in the table, and the other tables of ours as they were
+  abbrev pub Left : List (Kept R) → Type 0
+  Left ys = Leads s here (map (stored cells) ys) old.now.trees new.now.trees × (new.now.schema ≡ s)
+
+  pub update_own : (q : Query) → Means s (Update (at_of s table.name) (plain_program q)) text → q.from ≡ inner here end → q.group ≡ None → q.distinct ≡ false → ((rows : List Row) → page q params rows ≡ rows)
+      → (p : Kept R → Bool) → ((x : Kept R) → list_all (holds (params ∷ stored cells x ∷ [])) q.filter ≡ p x)
+      → (f : Kept R → Kept R) → ((x : Kept R) → id_of (f x) ≡ id_of x) → ((x : Kept R) → eval_all q.project (params ∷ stored cells x ∷ []) ≡ Int (id_of x) ∷ stored cells (f x)) → Left (update_where p f xs)
+  update_own q means from none all whole p tests f keeps shows =
+      let made = updates old new text params (at_of s table.name) (record table { tree = here }) own.place.found q means count ran in
+      let show = λ (x : Kept R). eval_all q.project (params ∷ stored cells x ∷ []) in
+      let some = all_shown cells (overlay old.now.trees []) here xs seen keyed q from none all params p tests whole made.0 made.1 in
+      let rows = updated_rows cells old.now.trees here xs held keyed (record table { tree = here }) refl p f keeps show (λ x. ap Rattle.sqlite_trees.specs.Tree.rowid (shows x))
+      (λ x. ap (λ r. cast_row table (drop 1 r)) (shows x) ∙ stored_casts (f x)) made.0 some.0 some.1 some.2 in
+      let went = written s table own old.now.trees new.now.trees _ refl made.2 in
+      (record { rows = went.rows ∙ rows; others = went.others }, made.3)
+
+  pub delete_own : (q : Query) → Means s (Delete (at_of s table.name) (plain_program q)) text → q.from ≡ inner here end → q.group ≡ None → q.distinct ≡ false → ((rows : List Row) → page q params rows ≡ rows)
+      → (p : Kept R → Bool) → ((x : Kept R) → list_all (holds (params ∷ stored cells x ∷ [])) q.filter ≡ p x)
+      → ((x : Kept R) → eval_all q.project (params ∷ stored cells x ∷ []) ≡ Int (id_of x) ∷ []) → Left (delete_where p xs)
+  delete_own q means from none all whole p tests shows =
+      let made = deletes old new text params (at_of s table.name) (record table { tree = here }) own.place.found q means count ran in
+      let show = λ (x : Kept R). eval_all q.project (params ∷ stored cells x ∷ []) in
+      let some = all_shown cells (overlay old.now.trees []) here xs seen keyed q from none all params p tests whole made.0 made.1 in
+      let rows = deleted_rows cells old.now.trees here xs held keyed (record table { tree = here }) refl p show (λ x. ap Rattle.sqlite_trees.specs.Tree.rowid (shows x)) made.0 some.0 some.1 some.2 in
+      let went = written s table own old.now.trees new.now.trees _ refl made.2 in
+      (record { rows = went.rows ∙ rows; others = went.others }, made.3)
+
+  pub insert_own : (terms : List Term) (width : ℕ) → Means s (Insert (at_of s table.name) (Values terms width)) text → table.is_counted ≡ false → stamped table params ≡ params
+      → (new_row : R) → value_rows params width (length terms / width) terms ≡ (Null ∷ cells new_row) ∷ [] → Left (xs ++ (next_key id_of xs, new_row) ∷ [])
+  insert_own terms width means uncounted unstamped new_row given =
+      let made = inserts old new text params (at_of s table.name) (record table { tree = here }) own.place.found (Values terms width) uncounted unstamped means count ran in
+      let went = written s table own old.now.trees new.now.trees _ refl made.2 in
+      let one : made.0 ≡ (Null ∷ cells new_row) ∷ [] = made.1.1 ∙ given in
+      let rows = inserted_rows cells old.now.trees here xs held keyed (record table { tree = here }) refl (Null ∷ cells new_row) new_row (ap₂ ◌∷◌ cast_null (casts new_row)) in
+      (record { rows = went.rows ∙ ap (λ l. edited old.now.trees (edit_of old.now.trees (record table { tree = here }) [] Chosen 0 l)) one ∙ rows; others = went.others }, made.3)
+
+  pub put_own : (terms : List Term) (width : ℕ) → Means s (Insert (at_of s table.name) (Values terms width)) text → table.is_counted ≡ false → stamped table params ≡ params
+      → (new_row : Kept R) → value_rows params width (length terms / width) terms ≡ stored cells new_row ∷ [] → Left (insert_by id_of xs new_row)
+  put_own terms width means uncounted unstamped new_row given =
+      let made = inserts old new text params (at_of s table.name) (record table { tree = here }) own.place.found (Values terms width) uncounted unstamped means count ran in
+      let went = written s table own old.now.trees new.now.trees _ refl made.2 in
+      let one : made.0 ≡ stored cells new_row ∷ [] = made.1.1 ∙ given in
+      let rows = put_rows cells old.now.trees here xs held keyed (record table { tree = here }) refl (stored cells new_row) new_row (stored_casts new_row) in
+      (record { rows = went.rows ∙ ap (λ l. edited old.now.trees (edit_of old.now.trees (record table { tree = here }) [] Chosen 0 l)) one ∙ rows; others = went.others }, made.3)
+
+-- a new row keeps the rowids rising
+pub keyed_next : {R : Type 0} (xs : List (Kept R)) (r : R) → IsKeyedBy id_of xs → IsKeyedBy id_of (xs ++ (next_key id_of xs, r) ∷ [])
+keyed_next xs r keyed = subst (IsKeyedBy id_of) (insert_next id_of xs (next_key id_of xs, r) keyed refl) (IsKeyedBy-insert_by id_of xs (next_key id_of xs, r) keyed)

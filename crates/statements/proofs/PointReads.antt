@@ -1,0 +1,66 @@
+-- What a query over one of our tables reads of its rows, whatever else stands in the database.
+use Rattle.std.proofs.Common.{◌≡◌, ℕ, Bool, true, false, List, [], ◌∷◌, map, filter, find, length, slice_get, Option, Some, None, option_map, refl, sym, ap, ◌∙◌, subst}
+use Rattle.std.specs.List.{list_all}
+use Rattle.sqlite_value.specs.declared.keys.Collation.TheVariants.{Binary}
+use Rattle.sqlite_value.specs.declared.value.Value.TheVariants.{Null}
+use Rattle.sqlite_value.specs.Order.{Row}
+use Rattle.sqlite_sql.specs.Aggregate.{count}
+use Rattle.sqlite_sql.specs.Term.{lit, holds, eval_all}
+use Rattle.sqlite_sql.specs.Query.{Query, page}
+use Rattle.sqlite_sql.specs.Program.{overlay}
+use Rattle.sqlite_schema.specs.declared.schema.Schema.{Schema}
+use Rattle.sqlite_schema.specs.declared.schema.Table.{Table}
+use Rattle.sqlite_schema.specs.declared.command.Command.TheVariants.{Select}
+use Rattle.sqlite.specs.State.{State}
+use Rattle.sqlite_keyed.specs.Keyed.{IsKeyedBy}
+use Rattle.statements.specs.Place.{tree_of, IsOwn}
+use Rattle.statements.specs.Rows.{Kept, id_of, stored}
+use Rattle.statements.specs.Finds.{last_in}
+use Rattle.statements.specs.Queries.{FirstRow, Pins}
+use Rattle.statements.proofs.Meaning.{Means}
+use Rattle.statements.proofs.Writes.{plain_program}
+use Rattle.statements.proofs.Own.{stored_tree}
+use Rattle.statements.proofs.Answered.{answered, point, tally, first_is, last_is, count_answer}
+
+pinned : {A X : Type 0} (Is : Row → X → Type 0) (show : A → Row) (val : A → X) → ((x : A) (y : X) → Is (show x) y → y ≡ val x) → (row : Option Row) (o : Option A) → row ≡ option_map show o
+    → Pins Is row (option_map val o)
+pinned Is show val back None None is = tt
+pinned Is show val back None (Some x) is = absurd (cc)
+pinned Is show val back (Some row) None is = absurd (cc)
+pinned Is show val back (Some row) (Some x) is = λ y told. let same : row ≡ show x = cc in back x y (subst (λ r. Is r y) same told)
+
+module _ {R : Type 0} (cells : R → Row) (table : Table) (old new : State) (own : IsOwn old.now.schema table)
+    (xs : List (Kept R)) (held : old.now.trees (tree_of old.now.schema table.name) ≡ map (stored cells) xs) (keyed : IsKeyedBy id_of xs) (text : List ℕ) (params : Row)
+    (row : Option Row) (first : FirstRow text params old new row) (rest : Query) (names : List (List ℕ))
+    (p : Kept R → Bool) (tests : (x : Kept R) → list_all (holds (params ∷ stored cells x ∷ [])) rest.filter ≡ p x) where
+  abbrev s : Schema
+  s = old.now.schema
+
+  abbrev here : ℕ
+  here = tree_of s table.name
+
+  abbrev seen : overlay old.now.trees [] here ≡ map (stored cells) xs
+  seen = stored_tree old.now.trees here own.place.low ∙ held
+
+  abbrev show : Kept R → Row
+  show x = eval_all rest.project (params ∷ stored cells x ∷ [])
+
+  module _ {X : Type 0} (Is : Row → X → Type 0) (val : Kept R → X) (back : (x : Kept R) (y : X) → Is (show x) y → y ≡ val x) where
+    pub first_own : Means s (Select (plain_program (point rest here false)) names) text → ((l : List Row) → slice_get (page (point rest here false) params l) 0 ≡ slice_get l 0)
+        → Pins Is row (option_map val (find p xs))
+    first_own means whole =
+        let got = answered text params old new (point rest here false) names means row first in
+        pinned Is show val back row (find p xs) (got.2 ∙ first_is cells (overlay old.now.trees []) here xs seen keyed rest params p tests whole got.0 got.1)
+
+    pub last_own : Means s (Select (plain_program (point rest here true)) names) text → ((l : List Row) → slice_get (page (point rest here true) params l) 0 ≡ slice_get l 0)
+        → Pins Is row (option_map val (last_in (filter p xs)))
+    last_own means whole =
+        let got = answered text params old new (point rest here true) names means row first in
+        pinned Is show val back row (last_in (filter p xs)) (got.2 ∙ last_is cells (overlay old.now.trees []) here xs seen keyed rest params p tests whole got.0 got.1)
+
+  pub count_own : Means s (Select (plain_program (tally rest here Binary (lit Null))) names) text
+      → ((l : List Row) → page (tally rest here Binary (lit Null)) params l ≡ l) → row ≡ Some (count (length (filter p xs)) ∷ [])
+  count_own means whole =
+      let got = answered text params old new (tally rest here Binary (lit Null)) names means row first in
+      let rows = count_answer cells (overlay old.now.trees []) here xs seen keyed rest params p tests Binary (lit Null) got.0 got.1 in
+      got.2 ∙ ap (λ l. slice_get l 0) (rows ∙ whole _)

@@ -1,0 +1,80 @@
+-- A row that was read as a value is the row of that value alone.
+use Rattle.std.proofs.Common.{◌≡◌, ℕ, ℤ, pos, Bool, true, false, not, List, [], ◌∷◌, Option, Some, None, refl, sym, ap, ◌∙◌, int_eq, length}
+use Rattle.sqlite_value.specs.declared.value.Value.{Value}
+use Rattle.sqlite_value.specs.declared.value.Value.TheVariants as cell
+use Rattle.sqlite_value.specs.Order.{Row}
+use Rattle.sqlite_typed.specs.Columns.{or_null}
+use Rattle.basis.specs.declared.roles.Role.{Role}
+use Rattle.basis.specs.declared.runs.RunStatus.{RunStatus}
+use Rattle.statements.specs.declared.rows.Holder.{Holder}
+use Rattle.statements.specs.declared.rows.Holder.TheVariants.{Nobody, Lock, Run as HeldByRun}
+use Rattle.statements.specs.declared.rows.Workspace.{Workspace}
+use Rattle.statements.specs.declared.rows.Version.{Version}
+use Rattle.statements.specs.declared.rows.Head.{Head}
+use Rattle.statements.specs.Rows.{number, flag, role_code, status_code, kind_cell, lock_id_cell, lock_text_cell, run_cell}
+use Rattle.statements.specs.Finds.{head_of}
+use Rattle.statements.specs.Queries.{IsFlag, IsTextOrNull, IsHolder, IsWorkspace, IsHead}
+use Rattle.statements.proofs.Codes.{same_role, same_status}
+
+same_code : (m n : ℕ) → number m ≡ number n → m ≡ n
+same_code m n e = cc
+
+pub number_read : (m n : ℕ) → number m ≡ number n → n ≡ m
+number_read m n e = sym (same_code m n e)
+
+pub blob_read : (a b : List ℕ) → cell.Blob a ≡ cell.Blob b → b ≡ a
+blob_read a b e = cc
+
+text_read : (a b : List ℕ) → cell.Text a ≡ cell.Text b → b ≡ a
+text_read a b e = cc
+
+pub role_read : (a b : Role) → number (role_code a) ≡ number (role_code b) → b ≡ a
+role_read a b e = sym (same_role a b (same_code _ _ e))
+
+pub status_read : (a b : RunStatus) → number (status_code a) ≡ number (status_code b) → b ≡ a
+status_read a b e = sym (same_status a b (same_code _ _ e))
+
+flag_read : (b c : Bool) → IsFlag (flag b) c → c ≡ b
+flag_read true c told = let same : told.0 ≡ pos 1 = let e = told.1 in cc in told.2 ∙ ap (λ n. not (int_eq n (pos 0))) same
+flag_read false c told = let same : told.0 ≡ pos 0 = let e = told.1 in cc in told.2 ∙ ap (λ n. not (int_eq n (pos 0))) same
+
+optional_read : (o p : Option (List ℕ)) → IsTextOrNull (or_null cell.Text o) p → p ≡ o
+optional_read None None told = refl
+optional_read None (Some t) told = absurd (cc)
+optional_read (Some t) None told = absurd (cc)
+optional_read (Some t) (Some u) told = ap Some (text_read t u told)
+
+other_code : (m n : ℕ) → number m ≡ number n → (m ≡ n → ⊥) → ⊥
+other_code m n e apart = apart (same_code m n e)
+
+zero_one : (A : Type 0) → number 0 ≡ number 1 → A
+zero_one A e = absurd (let f = same_code 0 1 e in cc)
+
+holder_read : (h g : Holder) → IsHolder (kind_cell h) (lock_id_cell h) (lock_text_cell h) (run_cell h) g → g ≡ h
+holder_read Nobody Nobody told = refl
+holder_read Nobody (Lock i t) told = absurd (let f = same_code 0 1 told.0 in cc)
+holder_read Nobody (HeldByRun n) told = absurd (let f = same_code 0 2 told.0 in cc)
+holder_read (Lock id text) Nobody told = absurd (let f = same_code 1 0 told in cc)
+holder_read (Lock id text) (Lock i t) told = λ k. Lock (text_read id i told.1 k) (blob_read text t told.2 k)
+holder_read (Lock id text) (HeldByRun n) told = absurd (let f = same_code 1 2 told.0 in cc)
+holder_read (HeldByRun n) Nobody told = absurd (let f = same_code 2 0 told in cc)
+holder_read (HeldByRun n) (Lock i t) told = absurd (let f = same_code 2 1 told.0 in cc)
+holder_read (HeldByRun n) (HeldByRun m) told = ap HeldByRun (number_read n m told.1)
+
+pub workspace_read : (w v : Workspace)
+    → IsWorkspace (flag w.auto ∷ kind_cell w.holder ∷ lock_id_cell w.holder ∷ lock_text_cell w.holder ∷ run_cell w.holder ∷ or_null cell.Text w.released ∷ number w.next_version ∷ number w.next_run ∷ []) v → v ≡ w
+workspace_read w v told = λ i. record {
+  auto = flag_read w.auto v.auto told.auto i;
+  holder = holder_read w.holder v.holder told.holder i;
+  released = optional_read w.released v.released told.released i;
+  next_version = number_read w.next_version v.next_version told.next_version i;
+  next_run = number_read w.next_run v.next_run told.next_run i;
+}
+
+pub head_read : (v : Version) (h : Head) → IsHead (number v.number ∷ number v.serial ∷ cell.Text v.lineage ∷ number (length v.body) ∷ []) h → h ≡ head_of v
+head_read v h told = λ i. record {
+  number = number_read v.number h.number told.number_is i;
+  serial = number_read v.serial h.serial told.serial i;
+  lineage = text_read v.lineage h.lineage told.lineage i;
+  size = number_read (length v.body) h.size told.size i;
+}

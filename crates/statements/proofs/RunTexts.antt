@@ -1,0 +1,128 @@
+-- What the texts on the table run mean, in each schema that has it.
+use Rattle.std.proofs.Common.{◌≡◌, ℕ, pos, negsuc, true, false, List, [], ◌∷◌, codes, Some, None, Ok, refl}
+use Rattle.sqlite_value.specs.declared.value.Value.TheVariants.{Null, Int}
+use Rattle.sqlite_value.specs.declared.keys.Collation.TheVariants.{Binary}
+use Rattle.sqlite_sql.specs.Term.{Term, lit, col}
+use Rattle.sqlite_sql.specs.Query.{Query}
+use Rattle.sqlite_schema.specs.declared.schema.Schema.{Schema}
+use Rattle.sqlite_schema.specs.declared.command.Source.TheVariants.{Values}
+use Rattle.sqlite_schema.specs.declared.command.Command.TheVariants.{Select, Insert, Update, Delete}
+use Rattle.sqlite_ast.specs.declared.Statement.TheVariants as written
+use Rattle.sqlite_ast.specs.declared.Select as ast
+use Rattle.sqlite_ast.specs.declared.Expr.TheVariants.{Integer}
+use Rattle.sqlite_resolve.specs.Compile.{first, command, timed, returning}
+use Rattle.sqlite_resolve.specs.Select.{named}
+use Rattle.sqlite_resolve.specs.Program.{program}
+use Rattle.sqlite_tied.specs.Compute.{everything}
+use Rattle.statements.specs.Place.{IsAt}
+use Rattle.statements.specs.Schema.{run_table}
+use Rattle.statements.specs.Queries.{IsQuery}
+use Rattle.statements.specs.Statements as st
+use Rattle.statements.proofs.Meaning.{Means, means, some_parsed, as_read}
+use Rattle.statements.proofs.Reading.{read_is}
+use Rattle.statements.proofs.Writes.{plain_program}
+use Rattle.statements.proofs.Answered.{point, tally}
+use Rattle.statements.proofs.Commands.{is_at, is_below, is_number, update_query, delete_query, point_rest, point_draft, tally_draft, no_page, one_page}
+
+abbrev pub first_waiting_text : List ℕ
+first_waiting_text = codes "SELECT number FROM run WHERE org = ?1 AND ws = ?2 AND status = 0 AND plan_only = 0 ORDER BY rowid LIMIT 1"
+
+abbrev pub first_waiting_select : ast.Select
+first_waiting_select = st.select st.first_waiting_core (st.by_rowid false) (Some (Integer (codes "1")))
+
+first_waiting_reads : first first_waiting_text ≡ Ok (as_read (some_parsed (first first_waiting_text)) (written.Select first_waiting_select))
+unfolding everything
+first_waiting_reads = refl
+
+pub first_waiting_is_query : IsQuery first_waiting_text
+first_waiting_is_query = (first_waiting_select, some_parsed (first first_waiting_text), first_waiting_reads)
+
+abbrev pub first_waiting_rest : Query
+first_waiting_rest = point_rest (is_at 1 0 ∷ is_at 2 1 ∷ is_number 8 0 ∷ is_number 4 0 ∷ []) (col 1 3 ∷ []) one_page
+
+abbrev pub run_status_text : List ℕ
+run_status_text = codes "SELECT status FROM run WHERE org = ?1 AND ws = ?2 AND number = ?3 ORDER BY rowid"
+
+abbrev pub run_status_select : ast.Select
+run_status_select = st.select st.run_status_core (st.by_rowid false) None
+
+run_status_reads : first run_status_text ≡ Ok (as_read (some_parsed (first run_status_text)) (written.Select run_status_select))
+unfolding everything
+run_status_reads = refl
+
+pub run_status_is_query : IsQuery run_status_text
+run_status_is_query = (run_status_select, some_parsed (first run_status_text), run_status_reads)
+
+abbrev pub run_status_rest : Query
+run_status_rest = point_rest (is_at 1 0 ∷ is_at 2 1 ∷ is_at 3 2 ∷ []) (col 1 8 ∷ []) no_page
+
+abbrev pub set_run_status_text : List ℕ
+set_run_status_text = codes "UPDATE run SET status = ?4 WHERE org = ?1 AND ws = ?2 AND number = ?3"
+
+set_run_status_reads : first set_run_status_text ≡ Ok (as_read (some_parsed (first set_run_status_text)) st.set_run_status)
+unfolding everything
+set_run_status_reads = refl
+
+abbrev pub set_run_status_query : ℕ → Query
+set_run_status_query tree = update_query tree (is_at 1 0 ∷ is_at 2 1 ∷ is_at 3 2 ∷ []) (col 1 1 ∷ col 1 2 ∷ col 1 3 ∷ col 1 4 ∷ col 1 5 ∷ col 1 6 ∷ col 1 7 ∷ col 0 3 ∷ col 1 9 ∷ [])
+
+abbrev pub remove_runs_text : List ℕ
+remove_runs_text = codes "DELETE FROM run WHERE org = ?1 AND ws = ?2"
+
+remove_runs_reads : first remove_runs_text ≡ Ok (as_read (some_parsed (first remove_runs_text)) st.remove_runs)
+unfolding everything
+remove_runs_reads = refl
+
+abbrev pub remove_runs_query : ℕ → Query
+remove_runs_query tree = delete_query tree (is_at 1 0 ∷ is_at 2 1 ∷ [])
+
+module _ (s : Schema) (at tree : ℕ) (h : IsAt s (codes "run") run_table at tree) where
+  first_waiting_named : named s st.first_waiting_core (st.by_rowid false) one_page ≡ Ok ((point_draft first_waiting_rest tree false), (codes "number" ∷ []), (Some Binary ∷ []))
+  unfolding everything
+  first_waiting_named = rw (h.named, h.found, h.found, h.found, h.small) refl
+
+  first_waiting_fits : program s [] (point_draft first_waiting_rest tree false) ≡ Ok (plain_program (point first_waiting_rest tree false))
+  unfolding everything
+  first_waiting_fits = rw (h.low, h.treed) refl
+
+  first_waiting_is : (base : ℕ) → command s [] base (written.Select first_waiting_select) ≡ Ok (Select (plain_program (point first_waiting_rest tree false)) (codes "number" ∷ []))
+  unfolding everything
+  first_waiting_is base =
+      read_is s first_waiting_select st.first_waiting_core (st.by_rowid false) one_page ((point_draft first_waiting_rest tree false), (codes "number" ∷ []), (Some Binary ∷ [])) refl refl refl refl refl (λ again. refl) first_waiting_named (plain_program (point first_waiting_rest tree false)) first_waiting_fits base
+
+  pub first_waiting_means : Means s (Select (plain_program (point first_waiting_rest tree false)) (codes "number" ∷ [])) first_waiting_text
+  unfolding timed returning
+  first_waiting_means = means s (written.Select first_waiting_select) _ refl (λ _. refl) first_waiting_is first_waiting_text (some_parsed (first first_waiting_text)) first_waiting_reads
+
+  run_status_named : named s st.run_status_core (st.by_rowid false) no_page ≡ Ok ((point_draft run_status_rest tree false), (codes "status" ∷ []), (Some Binary ∷ []))
+  unfolding everything
+  run_status_named = rw (h.named, h.found, h.found, h.found, h.small) refl
+
+  run_status_fits : program s [] (point_draft run_status_rest tree false) ≡ Ok (plain_program (point run_status_rest tree false))
+  unfolding everything
+  run_status_fits = rw (h.low, h.treed) refl
+
+  run_status_is : (base : ℕ) → command s [] base (written.Select run_status_select) ≡ Ok (Select (plain_program (point run_status_rest tree false)) (codes "status" ∷ []))
+  unfolding everything
+  run_status_is base =
+      read_is s run_status_select st.run_status_core (st.by_rowid false) no_page ((point_draft run_status_rest tree false), (codes "status" ∷ []), (Some Binary ∷ [])) refl refl refl refl refl (λ again. refl) run_status_named (plain_program (point run_status_rest tree false)) run_status_fits base
+
+  pub run_status_means : Means s (Select (plain_program (point run_status_rest tree false)) (codes "status" ∷ [])) run_status_text
+  unfolding timed returning
+  run_status_means = means s (written.Select run_status_select) _ refl (λ _. refl) run_status_is run_status_text (some_parsed (first run_status_text)) run_status_reads
+
+  set_run_status_is : (base : ℕ) → command s [] base st.set_run_status ≡ Ok (Update at (plain_program (set_run_status_query tree)))
+  unfolding everything
+  set_run_status_is base = rw (h.named, h.found, h.found, h.found, h.treed, h.low) refl
+
+  pub set_run_status_means : Means s (Update at (plain_program (set_run_status_query tree))) set_run_status_text
+  unfolding everything
+  set_run_status_means = means s st.set_run_status _ refl (λ _. refl) set_run_status_is set_run_status_text (some_parsed (first set_run_status_text)) set_run_status_reads
+
+  remove_runs_is : (base : ℕ) → command s [] base st.remove_runs ≡ Ok (Delete at (plain_program (remove_runs_query tree)))
+  unfolding everything
+  remove_runs_is base = rw (h.named, h.found, h.found, h.found, h.treed, h.low) refl
+
+  pub remove_runs_means : Means s (Delete at (plain_program (remove_runs_query tree))) remove_runs_text
+  unfolding everything
+  remove_runs_means = means s st.remove_runs _ refl (λ _. refl) remove_runs_is remove_runs_text (some_parsed (first remove_runs_text)) remove_runs_reads

@@ -1,0 +1,75 @@
+-- Terms of WHERE at typed values.
+use Rattle.std.proofs.Common.{◌≡◌, ℕ, ℤ, pos, Bool, true, false, not, ◌&&◌, if◌then◌else◌, List, Option, Some, None, refl, sym, ap, ap₂, ◌∙◌, int_eq, int_lt, eqb, arith}
+use Rattle.std.specs.Prelude.{nat_lt}
+use Rattle.std.specs.Str.{bytes_eq}
+use Rattle.std.proofs.lemmas.Map.Text.{is_eq-slice_cmp}
+use Rattle.std.proofs.lemmas.Int.{ints}
+use Rattle.std.proofs.lemmas.Bool.Decides.{nat_tests}
+use Rattle.sqlite_value.specs.declared.keys.Collation.TheVariants.{Binary}
+use Rattle.sqlite_value.specs.declared.value.Value.TheVariants.{Null, Int, Text, Blob}
+use Rattle.sqlite_sql.specs.declared.ops.CompareOp.TheVariants.{Eq, Lt}
+use Rattle.sqlite_sql.specs.declared.ops.BinaryOp.TheVariants.{Compare}
+use Rattle.sqlite_sql.specs.Ops.{is_true, binary}
+use Rattle.basis.specs.declared.runs.RunStatus.{RunStatus}
+use Rattle.basis.specs.declared.runs.RunStatus.TheVariants.{Pending, Planning, Planned, Applying, Applied, PlannedAndFinished, Errored, Discarded, Canceled}
+use Rattle.statements.specs.Rows.{flag, status_code}
+use Rattle.statements.specs.Finds.{is_pending}
+use Rattle.sqlite_typed.proofs.TestLemmas.{at_texts, at_blobs, at_ints, then_term, last_term}
+
+pub same_text : (a b : List ℕ) → is_true (binary (Compare Eq Binary) (Text a) (Text b)) ≡ bytes_eq a b
+same_text a b = at_texts _ Eq a b ∙ is_eq-slice_cmp a b
+
+pub same_blob : (a b : List ℕ) → is_true (binary (Compare Eq Binary) (Blob a) (Blob b)) ≡ bytes_eq a b
+same_blob a b = at_blobs _ Eq a b ∙ is_eq-slice_cmp a b
+
+same_int : (a b : ℕ) → int_eq (pos a) (pos b) ≡ eqb a b
+same_int a b = grind (arith, ints, nat_tests)
+
+pub same_number : (a b : ℕ) → is_true (binary (Compare Eq Binary) (Int (pos a)) (Int (pos b))) ≡ eqb a b
+same_number a b = at_ints _ Eq (pos a) (pos b) ∙ same_int a b
+
+-- WHERE of two and of three texts
+pub two_texts : (a b c d : List ℕ) → (is_true (binary (Compare Eq Binary) (Text a) (Text b)) && (is_true (binary (Compare Eq Binary) (Text c) (Text d)) && true)) ≡ (bytes_eq a b && bytes_eq c d)
+two_texts a b c d = then_term (same_text a b) (last_term (same_text c d))
+
+-- and of a number, a bound, or a role behind two texts
+pub two_texts_number : (a b c d : List ℕ) (m n : ℕ)
+    → (is_true (binary (Compare Eq Binary) (Text a) (Text b)) && (is_true (binary (Compare Eq Binary) (Text c) (Text d)) && (is_true (binary (Compare Eq Binary) (Int (pos m)) (Int (pos n))) && true)))
+    ≡ (bytes_eq a b && (bytes_eq c d && eqb m n))
+two_texts_number a b c d m n = then_term (same_text a b) (then_term (same_text c d) (last_term (same_number m n)))
+
+below_is : (a b : ℕ) → int_lt (pos a) (pos b) ≡ nat_lt a b
+below_is a b = grind (arith, ints, nat_tests)
+
+pub two_texts_below : (a b c d : List ℕ) (m n : ℕ)
+    → (is_true (binary (Compare Eq Binary) (Text a) (Text b)) && (is_true (binary (Compare Eq Binary) (Text c) (Text d)) && (is_true (binary (Compare Lt Binary) (Int (pos m)) (Int (pos n))) && true)))
+    ≡ (bytes_eq a b && (bytes_eq c d && nat_lt m n))
+two_texts_below a b c d m n = then_term (same_text a b) (then_term (same_text c d) (last_term (at_ints _ Lt (pos m) (pos n) ∙ below_is m n)))
+
+pub text_blob : (a b c d : List ℕ) → (is_true (binary (Compare Eq Binary) (Text a) (Text b)) && (is_true (binary (Compare Eq Binary) (Blob c) (Blob d)) && true)) ≡ (bytes_eq a b && bytes_eq c d)
+text_blob a b c d = then_term (same_text a b) (last_term (same_blob c d))
+
+pub one_text : (a b : List ℕ) → (is_true (binary (Compare Eq Binary) (Text a) (Text b)) && true) ≡ bytes_eq a b
+one_text a b = last_term (same_text a b)
+
+pending_is : (s : RunStatus) → eqb (status_code s) 0 ≡ is_pending s
+pending_is Pending = refl
+pending_is Planning = refl
+pending_is Planned = refl
+pending_is Applying = refl
+pending_is Applied = refl
+pending_is PlannedAndFinished = refl
+pending_is Errored = refl
+pending_is Discarded = refl
+pending_is Canceled = refl
+
+unset_is : (b : Bool) → int_eq (if b then pos 1 else pos 0) (pos 0) ≡ not b
+unset_is true = refl
+unset_is false = refl
+
+pub waits : (a b c d : List ℕ) (s : RunStatus) (planned : Bool)
+    → (is_true (binary (Compare Eq Binary) (Text a) (Text b)) && (is_true (binary (Compare Eq Binary) (Text c) (Text d))
+    && (is_true (binary (Compare Eq Binary) (Int (pos (status_code s))) (Int (pos 0))) && (is_true (binary (Compare Eq Binary) (flag planned) (Int (pos 0))) && true))))
+    ≡ (bytes_eq a b && (bytes_eq c d && (is_pending s && not planned)))
+waits a b c d s planned =
+    then_term (same_text a b) (then_term (same_text c d) (then_term (same_number (status_code s) 0 ∙ pending_is s) (last_term (at_ints _ Eq (if planned then pos 1 else pos 0) (pos 0) ∙ unset_is planned))))

@@ -1,0 +1,59 @@
+-- From what a text does to what a function of it promises.
+use Rattle.std.proofs.Common.{◌≡◌, ◌⊎◌, inl, inr, ℕ, List, [], ◌∷◌, Option, Some, None, Result, Ok, Err, IfOk, OnOk, OnErr, refl, ap, subst}
+use Rattle.sqlite_value.specs.Order.{Row}
+use Rattle.sqlite.specs.State.{State, Executes, KeepsCommit, IsUnchanged, IsRolledBack}
+use Rattle.sqlite.specs.declared.error.Error.{Error}
+use Rattle.statements.specs.Queries.{FirstRow, IsCalm, IsRead, IsCount, IsNumber, Pins}
+use Rattle.statements.specs.Rows.{number}
+use Rattle.sqlite.specs.Effect.{Database}
+use Rattle.statements.specs.Making.{Alters}
+use Rattle.statements.specs.Steps.{Moves, Wrote}
+use Rattle.statements.specs.Tables.{Tables, Holds}
+
+pub moves_by : {X E : Type 0} (change : Tables → Tables) (old new : State) (text : List ℕ) (params : Row) (result : Result X E) → Wrote text params old new result
+    → ((count : ℕ) (t : Tables) → Holds old.now t → Executes text params old new (Ok count) → Holds new.now (change t)) → OnOk result (Moves change old new) × OnErr result (KeepsCommit old new)
+moves_by change old new text params (Ok x) wrote does =
+    let ran = wrote.0.1 in
+    (record { rows = λ t h. does wrote.0.0 t h ran.0; was_open = ran.1.was_open; is_open = ran.1.is_open; committed = ran.1.committed_is; inside = ran.1.mode }, tt)
+moves_by change old new text params (Err e) wrote does = (tt, wrote.1)
+
+pub alters_by : {X E : Type 0} (Change : Database → Database → Type 0) (old new : State) (text : List ℕ) (params : Row) (result : Result X E) → Wrote text params old new result
+    → ((count : ℕ) → Executes text params old new (Ok count) → Change old.now new.now) → OnOk result (Alters Change old new) × OnErr result (KeepsCommit old new)
+alters_by Change old new text params (Ok x) wrote does =
+    let ran = wrote.0.1 in
+    (record { change = does wrote.0.0 ran.0; was_open = ran.1.was_open; is_open = ran.1.is_open; committed = ran.1.committed_is; inside = ran.1.mode }, tt)
+alters_by Change old new text params (Err e) wrote does = (tt, wrote.1)
+
+-- a query of one row, whose row is read as a value
+pub reads_by : {X E F : Type 0} (read : Tables → Option X) (Is : Row → X → Type 0) (old new : State) (text : List ℕ) (params : Row) (row : Result (Option Row) E) (result : Result (Option X) F)
+    → IfOk row (FirstRow text params old new) → IsCalm old new row → IsRead Is row result
+    → ((t : Tables) → Holds old.now t → (r : Option Row) → FirstRow text params old new r → Pins Is r (read t))
+    → IfOk result (λ x. (t : Tables) → Holds old.now t → x ≡ read t) × (OnOk result (IsUnchanged old new) × OnErr result (IsUnchanged old new ⊎ IsRolledBack old new))
+reads_by read Is old new text params (Ok r) (Err f) first calm is pins = (tt, (tt, inl calm.0))
+reads_by read Is old new text params (Err e) (Err f) first calm is pins = (tt, (tt, calm.1))
+reads_by read Is old new text params (Err e) (Ok o) first calm is pins = absurd is
+reads_by {X} read Is old new text params (Ok r) (Ok o) first calm is pins = (λ t h. same r o (read t) is (pins t h r first), (calm.0, tt))
+  where
+    same : (r : Option Row) (o p : Option X) → IsRead {E = Error} {F = Error} Is (Ok r) (Ok o) → Pins Is r p → o ≡ p
+    same None None None is pin = refl
+    same None None (Some x) is pin = absurd pin
+    same None (Some y) p is pin = absurd is
+    same (Some row) None p is pin = absurd is
+    same (Some row) (Some y) None is pin = absurd pin
+    same (Some row) (Some y) (Some x) is pin = ap Some (pin y is)
+
+pub counts_by : {E F : Type 0} (read : Tables → ℕ) (old new : State) (text : List ℕ) (params : Row) (row : Result (Option Row) E) (result : Result ℕ F)
+    → IfOk row (FirstRow text params old new) → IsCalm old new row → IsCount row result
+    → ((t : Tables) → Holds old.now t → (r : Option Row) → FirstRow text params old new r → r ≡ Some (number (read t) ∷ []))
+    → IfOk result (λ x. (t : Tables) → Holds old.now t → x ≡ read t) × (OnOk result (IsUnchanged old new) × OnErr result (IsUnchanged old new ⊎ IsRolledBack old new))
+counts_by read old new text params (Ok r) (Err f) first calm is shows = (tt, (tt, inl calm.0))
+counts_by read old new text params (Err e) (Err f) first calm is shows = (tt, (tt, calm.1))
+counts_by read old new text params (Err e) (Ok n) first calm is shows = absurd is
+counts_by read old new text params (Ok r) (Ok n) first calm is shows = (λ t h. same r (read t) is (shows t h r first), (calm.0, tt))
+  where
+    same : (r : Option Row) (m : ℕ) → IsCount {E = Error} {F = Error} (Ok r) (Ok n) → r ≡ Some (number m ∷ []) → n ≡ m
+    same None m is e = absurd (cc)
+    same (Some row) m is e =
+        let shown : row ≡ number m ∷ [] = cc in
+        let told : number m ≡ number n = subst (λ (l : Row). IsNumber l n) shown is in
+        cc

@@ -1,0 +1,179 @@
+-- What the texts on the table version mean, in each schema that has it.
+use Rattle.std.proofs.Common.{◌≡◌, ℕ, pos, negsuc, true, false, List, [], ◌∷◌, codes, Some, None, Ok, refl}
+use Rattle.sqlite_value.specs.declared.value.Value.TheVariants.{Null, Int}
+use Rattle.sqlite_value.specs.declared.keys.Collation.TheVariants.{Binary}
+use Rattle.sqlite_sql.specs.Term.{Term, lit, col}
+use Rattle.sqlite_sql.specs.Query.{Query}
+use Rattle.sqlite_schema.specs.declared.schema.Schema.{Schema}
+use Rattle.sqlite_schema.specs.declared.command.Source.TheVariants.{Values}
+use Rattle.sqlite_schema.specs.declared.command.Command.TheVariants.{Select, Insert, Update, Delete}
+use Rattle.sqlite_ast.specs.declared.Statement.TheVariants as written
+use Rattle.sqlite_ast.specs.declared.Select as ast
+use Rattle.sqlite_ast.specs.declared.Expr.TheVariants.{Integer}
+use Rattle.sqlite_resolve.specs.Compile.{first, command, timed, returning}
+use Rattle.sqlite_resolve.specs.Select.{named}
+use Rattle.sqlite_resolve.specs.Program.{program}
+use Rattle.sqlite_tied.specs.Compute.{everything}
+use Rattle.statements.specs.Place.{IsAt}
+use Rattle.statements.specs.Schema.{version_table}
+use Rattle.statements.specs.Queries.{IsQuery}
+use Rattle.statements.specs.Statements as st
+use Rattle.statements.proofs.Meaning.{Means, means, some_parsed, as_read}
+use Rattle.statements.proofs.Reading.{read_is}
+use Rattle.statements.proofs.Writes.{plain_program}
+use Rattle.statements.proofs.Answered.{point, tally}
+use Rattle.statements.proofs.Commands.{is_at, is_below, is_number, update_query, delete_query, point_rest, point_draft, tally_draft, no_page, one_page}
+
+abbrev pub newest_version_text : List ℕ
+newest_version_text = codes "SELECT number, serial, lineage, size FROM version WHERE org = ?1 AND ws = ?2 ORDER BY rowid DESC LIMIT 1"
+
+abbrev pub newest_version_select : ast.Select
+newest_version_select = st.select st.newest_version_core (st.by_rowid true) (Some (Integer (codes "1")))
+
+newest_version_reads : first newest_version_text ≡ Ok (as_read (some_parsed (first newest_version_text)) (written.Select newest_version_select))
+unfolding everything
+newest_version_reads = refl
+
+pub newest_version_is_query : IsQuery newest_version_text
+newest_version_is_query = (newest_version_select, some_parsed (first newest_version_text), newest_version_reads)
+
+abbrev pub newest_version_rest : Query
+newest_version_rest = point_rest (is_at 1 0 ∷ is_at 2 1 ∷ []) (col 1 3 ∷ col 1 4 ∷ col 1 5 ∷ col 1 7 ∷ []) one_page
+
+abbrev pub version_body_text : List ℕ
+version_body_text = codes "SELECT body FROM version WHERE org = ?1 AND ws = ?2 AND number = ?3 ORDER BY rowid"
+
+abbrev pub version_body_select : ast.Select
+version_body_select = st.select st.version_body_core (st.by_rowid false) None
+
+version_body_reads : first version_body_text ≡ Ok (as_read (some_parsed (first version_body_text)) (written.Select version_body_select))
+unfolding everything
+version_body_reads = refl
+
+pub version_body_is_query : IsQuery version_body_text
+version_body_is_query = (version_body_select, some_parsed (first version_body_text), version_body_reads)
+
+abbrev pub version_body_rest : Query
+version_body_rest = point_rest (is_at 1 0 ∷ is_at 2 1 ∷ is_at 3 2 ∷ []) (col 1 8 ∷ []) no_page
+
+abbrev pub count_versions_text : List ℕ
+count_versions_text = codes "SELECT count(*) FROM version WHERE org = ?1 AND ws = ?2"
+
+abbrev pub count_versions_select : ast.Select
+count_versions_select = st.select st.count_versions_core [] None
+
+count_versions_reads : first count_versions_text ≡ Ok (as_read (some_parsed (first count_versions_text)) (written.Select count_versions_select))
+unfolding everything
+count_versions_reads = refl
+
+pub count_versions_is_query : IsQuery count_versions_text
+count_versions_is_query = (count_versions_select, some_parsed (first count_versions_text), count_versions_reads)
+
+abbrev pub count_versions_rest : Query
+count_versions_rest = point_rest (is_at 1 0 ∷ is_at 2 1 ∷ []) [] no_page
+
+abbrev pub add_version_text : List ℕ
+add_version_text = codes "INSERT INTO version (org, ws, number, serial, lineage, created, size, body) VALUES (?1, ?2, ?3, ?4, ?5, ?6, ?7, ?8)"
+
+add_version_reads : first add_version_text ≡ Ok (as_read (some_parsed (first add_version_text)) st.add_version)
+unfolding everything
+add_version_reads = refl
+
+abbrev pub add_version_terms : List Term
+add_version_terms = lit Null ∷ col 0 0 ∷ col 0 1 ∷ col 0 2 ∷ col 0 3 ∷ col 0 4 ∷ col 0 5 ∷ col 0 6 ∷ col 0 7 ∷ []
+
+abbrev pub remove_versions_below_text : List ℕ
+remove_versions_below_text = codes "DELETE FROM version WHERE org = ?1 AND ws = ?2 AND number < ?3"
+
+remove_versions_below_reads : first remove_versions_below_text ≡ Ok (as_read (some_parsed (first remove_versions_below_text)) st.remove_versions_below)
+unfolding everything
+remove_versions_below_reads = refl
+
+abbrev pub remove_versions_below_query : ℕ → Query
+remove_versions_below_query tree = delete_query tree (is_at 1 0 ∷ is_at 2 1 ∷ is_below 3 2 ∷ [])
+
+abbrev pub remove_versions_text : List ℕ
+remove_versions_text = codes "DELETE FROM version WHERE org = ?1 AND ws = ?2"
+
+remove_versions_reads : first remove_versions_text ≡ Ok (as_read (some_parsed (first remove_versions_text)) st.remove_versions)
+unfolding everything
+remove_versions_reads = refl
+
+abbrev pub remove_versions_query : ℕ → Query
+remove_versions_query tree = delete_query tree (is_at 1 0 ∷ is_at 2 1 ∷ [])
+
+module _ (s : Schema) (at tree : ℕ) (h : IsAt s (codes "version") version_table at tree) where
+  newest_version_named : named s st.newest_version_core (st.by_rowid true) one_page ≡ Ok ((point_draft newest_version_rest tree true), (codes "number" ∷ codes "serial" ∷ codes "lineage" ∷ codes "size" ∷ []), (Some Binary ∷ Some Binary ∷ Some Binary ∷ Some Binary ∷ []))
+  unfolding everything
+  newest_version_named = rw (h.named, h.found, h.found, h.found, h.small) refl
+
+  newest_version_fits : program s [] (point_draft newest_version_rest tree true) ≡ Ok (plain_program (point newest_version_rest tree true))
+  unfolding everything
+  newest_version_fits = rw (h.low, h.treed) refl
+
+  newest_version_is : (base : ℕ) → command s [] base (written.Select newest_version_select) ≡ Ok (Select (plain_program (point newest_version_rest tree true)) (codes "number" ∷ codes "serial" ∷ codes "lineage" ∷ codes "size" ∷ []))
+  unfolding everything
+  newest_version_is base =
+      read_is s newest_version_select st.newest_version_core (st.by_rowid true) one_page ((point_draft newest_version_rest tree true), (codes "number" ∷ codes "serial" ∷ codes "lineage" ∷ codes "size" ∷ []), (Some Binary ∷ Some Binary ∷ Some Binary ∷ Some Binary ∷ [])) refl refl refl refl refl (λ again. refl) newest_version_named (plain_program (point newest_version_rest tree true)) newest_version_fits base
+
+  pub newest_version_means : Means s (Select (plain_program (point newest_version_rest tree true)) (codes "number" ∷ codes "serial" ∷ codes "lineage" ∷ codes "size" ∷ [])) newest_version_text
+  unfolding timed returning
+  newest_version_means = means s (written.Select newest_version_select) _ refl (λ _. refl) newest_version_is newest_version_text (some_parsed (first newest_version_text)) newest_version_reads
+
+  version_body_named : named s st.version_body_core (st.by_rowid false) no_page ≡ Ok ((point_draft version_body_rest tree false), (codes "body" ∷ []), (Some Binary ∷ []))
+  unfolding everything
+  version_body_named = rw (h.named, h.found, h.found, h.found, h.small) refl
+
+  version_body_fits : program s [] (point_draft version_body_rest tree false) ≡ Ok (plain_program (point version_body_rest tree false))
+  unfolding everything
+  version_body_fits = rw (h.low, h.treed) refl
+
+  version_body_is : (base : ℕ) → command s [] base (written.Select version_body_select) ≡ Ok (Select (plain_program (point version_body_rest tree false)) (codes "body" ∷ []))
+  unfolding everything
+  version_body_is base =
+      read_is s version_body_select st.version_body_core (st.by_rowid false) no_page ((point_draft version_body_rest tree false), (codes "body" ∷ []), (Some Binary ∷ [])) refl refl refl refl refl (λ again. refl) version_body_named (plain_program (point version_body_rest tree false)) version_body_fits base
+
+  pub version_body_means : Means s (Select (plain_program (point version_body_rest tree false)) (codes "body" ∷ [])) version_body_text
+  unfolding timed returning
+  version_body_means = means s (written.Select version_body_select) _ refl (λ _. refl) version_body_is version_body_text (some_parsed (first version_body_text)) version_body_reads
+
+  count_versions_named : named s st.count_versions_core [] no_page ≡ Ok ((tally_draft count_versions_rest tree Binary (lit Null)), (codes "count(*)" ∷ []), (None ∷ []))
+  unfolding everything
+  count_versions_named = rw (h.named, h.found, h.found, h.found) refl
+
+  count_versions_fits : program s [] (tally_draft count_versions_rest tree Binary (lit Null)) ≡ Ok (plain_program (tally count_versions_rest tree Binary (lit Null)))
+  unfolding everything
+  count_versions_fits = rw (h.low, h.treed) refl
+
+  count_versions_is : (base : ℕ) → command s [] base (written.Select count_versions_select) ≡ Ok (Select (plain_program (tally count_versions_rest tree Binary (lit Null))) (codes "count(*)" ∷ []))
+  unfolding everything
+  count_versions_is base =
+      read_is s count_versions_select st.count_versions_core [] no_page ((tally_draft count_versions_rest tree Binary (lit Null)), (codes "count(*)" ∷ []), (None ∷ [])) refl refl refl refl refl (λ again. refl) count_versions_named (plain_program (tally count_versions_rest tree Binary (lit Null))) count_versions_fits base
+
+  pub count_versions_means : Means s (Select (plain_program (tally count_versions_rest tree Binary (lit Null))) (codes "count(*)" ∷ [])) count_versions_text
+  unfolding timed returning
+  count_versions_means = means s (written.Select count_versions_select) _ refl (λ _. refl) count_versions_is count_versions_text (some_parsed (first count_versions_text)) count_versions_reads
+
+  add_version_is : (base : ℕ) → command s [] base st.add_version ≡ Ok (Insert at (Values add_version_terms 9))
+  unfolding everything
+  add_version_is base = rw (h.named, h.found) refl
+
+  pub add_version_means : Means s (Insert at (Values add_version_terms 9)) add_version_text
+  unfolding everything
+  add_version_means = means s st.add_version _ (rw (h.named, h.found) refl) (λ _. refl) add_version_is add_version_text (some_parsed (first add_version_text)) add_version_reads
+
+  remove_versions_below_is : (base : ℕ) → command s [] base st.remove_versions_below ≡ Ok (Delete at (plain_program (remove_versions_below_query tree)))
+  unfolding everything
+  remove_versions_below_is base = rw (h.named, h.found, h.found, h.found, h.treed, h.low) refl
+
+  pub remove_versions_below_means : Means s (Delete at (plain_program (remove_versions_below_query tree))) remove_versions_below_text
+  unfolding everything
+  remove_versions_below_means = means s st.remove_versions_below _ refl (λ _. refl) remove_versions_below_is remove_versions_below_text (some_parsed (first remove_versions_below_text)) remove_versions_below_reads
+
+  remove_versions_is : (base : ℕ) → command s [] base st.remove_versions ≡ Ok (Delete at (plain_program (remove_versions_query tree)))
+  unfolding everything
+  remove_versions_is base = rw (h.named, h.found, h.found, h.found, h.treed, h.low) refl
+
+  pub remove_versions_means : Means s (Delete at (plain_program (remove_versions_query tree))) remove_versions_text
+  unfolding everything
+  remove_versions_means = means s st.remove_versions _ refl (λ _. refl) remove_versions_is remove_versions_text (some_parsed (first remove_versions_text)) remove_versions_reads

@@ -1,0 +1,101 @@
+-- What a text that was run has done, in terms of the rows that its query answers.
+use Rattle.std.proofs.Common.{◌≡◌, ◌⊎◌, inl, inr, ℕ, ℤ, Bool, true, false, cond, MatchBool, List, [], ◌∷◌, ◌++◌, length, slice_get, Option, Some, None, Ok, Err, Result, refl, sym, ap, subst, ◌∙◌}
+use Rattle.sqlite_value.specs.declared.value.Value.TheVariants.{Null}
+use Rattle.sqlite_value.specs.Order.{Row}
+use Rattle.sqlite_trees.specs.Tree.{Trees}
+use Rattle.sqlite_sql.specs.Query.{Query, IsAnswer}
+use Rattle.sqlite_sql.specs.Program.{overlay}
+use Rattle.sqlite_schema.specs.declared.program.Program.{Program}
+use Rattle.sqlite_schema.specs.declared.schema.Schema.{Schema}
+use Rattle.sqlite_schema.specs.declared.schema.Table.{Table}
+use Rattle.sqlite_schema.specs.declared.schema.Keys.TheVariants.{Enforced}
+use Rattle.sqlite_schema.specs.declared.command.Command.{Command}
+use Rattle.sqlite_schema.specs.declared.command.Command.TheVariants.{Insert, Update, Delete}
+use Rattle.sqlite_schema.specs.declared.command.Source.{Source}
+use Rattle.sqlite_rules.specs.declared.error.Rowids.TheVariants.{Above, Chosen, Given}
+use Rattle.sqlite_rules.specs.Edit.{edit_of}
+use Rattle.sqlite_rules.specs.Calls.{ids_of}
+use Rattle.sqlite_rules.specs.Action.{Writes}
+use Rattle.sqlite.specs.Effect.{Database, IsSource}
+use Rattle.sqlite.specs.Rows.{Task, Written, stamped}
+use Rattle.sqlite.specs.Does.{Tally, Concludes}
+use Rattle.sqlite.specs.State.{State, mode_of, Executes}
+use Rattle.sqlite.specs.State as state
+use Rattle.sqlite.proofs.Callers.{runs_as, statement_of}
+use Rattle.sqlite.specs.Listing.{understood}
+use Rattle.statements.proofs.Meaning.{Means}
+
+-- a part that gave a value did not stop on the way
+went : {B E R : Type 0} {b : B} {Stops : E → Type 0} → ((stop : E) × Stops stop × (Ok b ≡ Err stop)) ⊎ R → R
+went (inl stopped) = absurd (let e = stopped.2 in cc)
+went (inr on) = on
+
+same_value : {B E : Type 0} {a b : B} → ◌≡◌ {A = Result B E} (Ok a) (Ok b) → a ≡ b
+same_value e = cc
+
+uncounted_part : (b c : Bool) (P Q : Type 0) → b ≡ false → MatchBool (cond b c false) P Q → Q
+uncounted_part true c P Q is h = absurd (let e = is in cc)
+uncounted_part false c P Q is h = h
+
+chosen_rowids : (b : Bool) (n : ℤ) → b ≡ false → cond b (Above n) Chosen ≡ Chosen
+chosen_rowids true n is = absurd (let e = is in cc)
+chosen_rowids false n is = refl
+
+abbrev pub plain_program : Query → Program
+plain_program q = record { lets = []; body = q }
+
+module _ (old new : State) (text : List ℕ) (params : Row) (at : ℕ) (table : Table) (found : slice_get old.now.schema.tables at ≡ Some table) where
+  abbrev task : Task
+  task = record { limit = old.step_limit; keys = Enforced; schema = old.now.schema; table = table; params = params }
+
+  ends : (w : Written) (tally : Tally) → Concludes task (mode_of old) None w (Ok (tally, new.now)) → new.now ≡ record { schema = old.now.schema; trees = w.trees }
+  ends w tally h = ap (λ (p : Tally × Database). p.1) (same_value (went (went h).2).2)
+
+  pub updates : (q : Query) → Means old.now.schema (Update at (plain_program q)) text → (count : ℕ) → Executes text params old new (Ok count)
+      → (rows : List Row) × IsAnswer q (overlay old.now.trees []) params rows
+      × Writes old.now.schema Enforced old.now.trees (edit_of old.now.trees table (ids_of rows) Given 1 rows) (Ok new.now.trees) × (new.now.schema ≡ old.now.schema)
+  updates q m count ran =
+      let w = runs_as text params old new old.now.schema refl (Update at (plain_program q)) m.0 m.1 count ran in
+      let done = went (rw found at w.changed) in
+      let shown = went done.1 in
+      let edit = went shown.2 in
+      let now = ends done.0 w.tally done.2 in
+      let trees : done.0.trees ≡ edit.0 = ap (λ (it : Written). it.trees) (same_value edit.2) in
+      let last : new.now.trees ≡ edit.0 = ap (λ (d : Database). d.trees) now ∙ trees in
+      (shown.0, shown.1.answer Null, subst (λ t. Writes old.now.schema Enforced old.now.trees (edit_of old.now.trees table (ids_of shown.0) Given 1 shown.0) (Ok t)) (sym last) edit.1, ap (λ (d : Database). d.schema) now)
+
+  pub deletes : (q : Query) → Means old.now.schema (Delete at (plain_program q)) text → (count : ℕ) → Executes text params old new (Ok count)
+      → (rows : List Row) × IsAnswer q (overlay old.now.trees []) params rows
+      × Writes old.now.schema Enforced old.now.trees (edit_of old.now.trees table (ids_of rows) Given 0 []) (Ok new.now.trees) × (new.now.schema ≡ old.now.schema)
+  deletes q m count ran =
+      let w = runs_as text params old new old.now.schema refl (Delete at (plain_program q)) m.0 m.1 count ran in
+      let done = went (rw found at w.changed) in
+      let shown = went done.1 in
+      let edit = went shown.2 in
+      let now = ends done.0 w.tally done.2 in
+      let trees : done.0.trees ≡ edit.0 = ap (λ (it : Written). it.trees) (same_value edit.2) in
+      let last : new.now.trees ≡ edit.0 = ap (λ (d : Database). d.trees) now ∙ trees in
+      (shown.0, shown.1.answer Null, subst (λ t. Writes old.now.schema Enforced old.now.trees (edit_of old.now.trees table (ids_of shown.0) Given 0 []) (Ok t)) (sym last) edit.1, ap (λ (d : Database). d.schema) now)
+
+  -- of a table without AUTOINCREMENT, and with no default that reads the time
+  pub inserts : (from : Source) → table.is_counted ≡ false → stamped table params ≡ params → Means old.now.schema (Insert at from) text → (count : ℕ) → Executes text params old new (Ok count)
+      → (rows : List Row) × IsSource old.now params from rows
+      × Writes old.now.schema Enforced old.now.trees (edit_of old.now.trees table [] Chosen 0 rows) (Ok new.now.trees) × (new.now.schema ≡ old.now.schema)
+  inserts from uncounted unstamped m count ran =
+      let w = runs_as text params old new old.now.schema refl (Insert at from) m.0 m.1 count ran in
+      let done = went (rw found at w.changed) in
+      let given = went done.1 in
+      let counter = went given.2 in
+      let edit = went counter.2 in
+      let counted = went edit.2 in
+      let now = ends done.0 w.tally done.2 in
+      let after : counted.0 ≡ edit.0 = same_value (uncounted_part table.is_counted _ _ _ uncounted counted.1) in
+      let trees : done.0.trees ≡ edit.0 = ap (λ (it : Written). it.trees) (same_value counted.2) ∙ after in
+      let last : new.now.trees ≡ edit.0 = ap (λ (d : Database). d.trees) now ∙ trees in
+      let wrote : Writes old.now.schema Enforced old.now.trees (edit_of old.now.trees table [] Chosen 0 given.0) (Ok edit.0) =
+      subst (λ r. Writes old.now.schema Enforced old.now.trees (edit_of old.now.trees table [] r 0 given.0) (Ok edit.0)) (chosen_rowids table.is_counted _ uncounted) edit.1 in (
+        given.0,
+        subst (λ p. IsSource old.now p from given.0) unstamped given.1,
+        subst (λ t. Writes old.now.schema Enforced old.now.trees (edit_of old.now.trees table [] Chosen 0 given.0) (Ok t)) (sym last) wrote,
+        ap (λ (d : Database). d.schema) now,
+      )

@@ -1,0 +1,254 @@
+-- What the texts on the table ws mean, in each schema that has it.
+use Rattle.std.proofs.Common.{◌≡◌, ℕ, pos, negsuc, true, false, List, [], ◌∷◌, codes, Some, None, Ok, refl}
+use Rattle.sqlite_value.specs.declared.value.Value.TheVariants.{Null, Int}
+use Rattle.sqlite_value.specs.declared.keys.Collation.TheVariants.{Binary}
+use Rattle.sqlite_sql.specs.Term.{Term, lit, col}
+use Rattle.sqlite_sql.specs.Query.{Query}
+use Rattle.sqlite_schema.specs.declared.schema.Schema.{Schema}
+use Rattle.sqlite_schema.specs.declared.command.Source.TheVariants.{Values}
+use Rattle.sqlite_schema.specs.declared.command.Command.TheVariants.{Select, Insert, Update, Delete}
+use Rattle.sqlite_ast.specs.declared.Statement.TheVariants as written
+use Rattle.sqlite_ast.specs.declared.Select as ast
+use Rattle.sqlite_ast.specs.declared.Expr.TheVariants.{Integer}
+use Rattle.sqlite_resolve.specs.Compile.{first, command, timed, returning}
+use Rattle.sqlite_resolve.specs.Select.{named}
+use Rattle.sqlite_resolve.specs.Program.{program}
+use Rattle.sqlite_tied.specs.Compute.{everything}
+use Rattle.statements.specs.Place.{IsAt}
+use Rattle.statements.specs.Schema.{ws_table}
+use Rattle.statements.specs.Queries.{IsQuery}
+use Rattle.statements.specs.Statements as st
+use Rattle.statements.proofs.Meaning.{Means, means, some_parsed, as_read}
+use Rattle.statements.proofs.Reading.{read_is}
+use Rattle.statements.proofs.Writes.{plain_program}
+use Rattle.statements.proofs.Answered.{point, tally}
+use Rattle.statements.proofs.Commands.{is_at, is_below, is_number, update_query, delete_query, point_rest, point_draft, tally_draft, no_page, one_page}
+
+abbrev pub find_ws_text : List ℕ
+find_ws_text = codes "SELECT auto, kind, lock_id, lock_text, run, released, next_version, next_run FROM ws WHERE org = ?1 AND name = ?2 ORDER BY rowid"
+
+abbrev pub find_ws_select : ast.Select
+find_ws_select = st.select st.find_ws_core (st.by_rowid false) None
+
+find_ws_reads : first find_ws_text ≡ Ok (as_read (some_parsed (first find_ws_text)) (written.Select find_ws_select))
+unfolding everything
+find_ws_reads = refl
+
+pub find_ws_is_query : IsQuery find_ws_text
+find_ws_is_query = (find_ws_select, some_parsed (first find_ws_text), find_ws_reads)
+
+abbrev pub find_ws_rest : Query
+find_ws_rest = point_rest (is_at 1 0 ∷ is_at 2 1 ∷ []) (col 1 3 ∷ col 1 4 ∷ col 1 5 ∷ col 1 6 ∷ col 1 7 ∷ col 1 8 ∷ col 1 9 ∷ col 1 10 ∷ []) no_page
+
+abbrev pub add_ws_text : List ℕ
+add_ws_text = codes "INSERT INTO ws (org, name, auto, kind, next_version, next_run) VALUES (?1, ?2, ?3, 0, 1, 1)"
+
+add_ws_reads : first add_ws_text ≡ Ok (as_read (some_parsed (first add_ws_text)) st.add_ws)
+unfolding everything
+add_ws_reads = refl
+
+abbrev pub add_ws_terms : List Term
+add_ws_terms = lit Null ∷ col 0 0 ∷ col 0 1 ∷ col 0 2 ∷ lit (Int (pos 0)) ∷ lit Null ∷ lit Null ∷ lit Null ∷ lit Null ∷ lit (Int (pos 1)) ∷ lit (Int (pos 1)) ∷ []
+
+abbrev pub set_auto_text : List ℕ
+set_auto_text = codes "UPDATE ws SET auto = ?3 WHERE org = ?1 AND name = ?2"
+
+set_auto_reads : first set_auto_text ≡ Ok (as_read (some_parsed (first set_auto_text)) st.set_auto)
+unfolding everything
+set_auto_reads = refl
+
+abbrev pub set_auto_query : ℕ → Query
+set_auto_query tree = update_query tree (is_at 1 0 ∷ is_at 2 1 ∷ []) (col 1 1 ∷ col 1 2 ∷ col 0 2 ∷ col 1 4 ∷ col 1 5 ∷ col 1 6 ∷ col 1 7 ∷ col 1 8 ∷ col 1 9 ∷ col 1 10 ∷ [])
+
+abbrev pub hold_by_lock_text : List ℕ
+hold_by_lock_text = codes "UPDATE ws SET kind = 1, lock_id = ?3, lock_text = ?4, run = NULL WHERE org = ?1 AND name = ?2"
+
+hold_by_lock_reads : first hold_by_lock_text ≡ Ok (as_read (some_parsed (first hold_by_lock_text)) st.hold_by_lock)
+unfolding everything
+hold_by_lock_reads = refl
+
+abbrev pub hold_by_lock_query : ℕ → Query
+hold_by_lock_query tree = update_query tree (is_at 1 0 ∷ is_at 2 1 ∷ []) (col 1 1 ∷ col 1 2 ∷ col 1 3 ∷ lit (Int (pos 1)) ∷ col 0 2 ∷ col 0 3 ∷ lit Null ∷ col 1 8 ∷ col 1 9 ∷ col 1 10 ∷ [])
+
+abbrev pub hold_by_run_text : List ℕ
+hold_by_run_text = codes "UPDATE ws SET kind = 2, lock_id = NULL, lock_text = NULL, run = ?3 WHERE org = ?1 AND name = ?2"
+
+hold_by_run_reads : first hold_by_run_text ≡ Ok (as_read (some_parsed (first hold_by_run_text)) st.hold_by_run)
+unfolding everything
+hold_by_run_reads = refl
+
+abbrev pub hold_by_run_query : ℕ → Query
+hold_by_run_query tree = update_query tree (is_at 1 0 ∷ is_at 2 1 ∷ []) (col 1 1 ∷ col 1 2 ∷ col 1 3 ∷ lit (Int (pos 2)) ∷ lit Null ∷ lit Null ∷ col 0 2 ∷ col 1 8 ∷ col 1 9 ∷ col 1 10 ∷ [])
+
+abbrev pub release_lock_text : List ℕ
+release_lock_text = codes "UPDATE ws SET kind = 0, lock_id = NULL, lock_text = NULL, run = NULL, released = ?3 WHERE org = ?1 AND name = ?2"
+
+release_lock_reads : first release_lock_text ≡ Ok (as_read (some_parsed (first release_lock_text)) st.release_lock)
+unfolding everything
+release_lock_reads = refl
+
+abbrev pub release_lock_query : ℕ → Query
+release_lock_query tree = update_query tree (is_at 1 0 ∷ is_at 2 1 ∷ []) (col 1 1 ∷ col 1 2 ∷ col 1 3 ∷ lit (Int (pos 0)) ∷ lit Null ∷ lit Null ∷ lit Null ∷ col 0 2 ∷ col 1 9 ∷ col 1 10 ∷ [])
+
+abbrev pub release_run_text : List ℕ
+release_run_text = codes "UPDATE ws SET kind = 0, lock_id = NULL, lock_text = NULL, run = NULL WHERE org = ?1 AND name = ?2"
+
+release_run_reads : first release_run_text ≡ Ok (as_read (some_parsed (first release_run_text)) st.release_run)
+unfolding everything
+release_run_reads = refl
+
+abbrev pub release_run_query : ℕ → Query
+release_run_query tree = update_query tree (is_at 1 0 ∷ is_at 2 1 ∷ []) (col 1 1 ∷ col 1 2 ∷ col 1 3 ∷ lit (Int (pos 0)) ∷ lit Null ∷ lit Null ∷ lit Null ∷ col 1 8 ∷ col 1 9 ∷ col 1 10 ∷ [])
+
+abbrev pub set_next_version_text : List ℕ
+set_next_version_text = codes "UPDATE ws SET next_version = ?3 WHERE org = ?1 AND name = ?2"
+
+set_next_version_reads : first set_next_version_text ≡ Ok (as_read (some_parsed (first set_next_version_text)) st.set_next_version)
+unfolding everything
+set_next_version_reads = refl
+
+abbrev pub set_next_version_query : ℕ → Query
+set_next_version_query tree = update_query tree (is_at 1 0 ∷ is_at 2 1 ∷ []) (col 1 1 ∷ col 1 2 ∷ col 1 3 ∷ col 1 4 ∷ col 1 5 ∷ col 1 6 ∷ col 1 7 ∷ col 1 8 ∷ col 0 2 ∷ col 1 10 ∷ [])
+
+abbrev pub set_next_run_text : List ℕ
+set_next_run_text = codes "UPDATE ws SET next_run = ?3 WHERE org = ?1 AND name = ?2"
+
+set_next_run_reads : first set_next_run_text ≡ Ok (as_read (some_parsed (first set_next_run_text)) st.set_next_run)
+unfolding everything
+set_next_run_reads = refl
+
+abbrev pub set_next_run_query : ℕ → Query
+set_next_run_query tree = update_query tree (is_at 1 0 ∷ is_at 2 1 ∷ []) (col 1 1 ∷ col 1 2 ∷ col 1 3 ∷ col 1 4 ∷ col 1 5 ∷ col 1 6 ∷ col 1 7 ∷ col 1 8 ∷ col 1 9 ∷ col 0 2 ∷ [])
+
+abbrev pub remove_ws_text : List ℕ
+remove_ws_text = codes "DELETE FROM ws WHERE org = ?1 AND name = ?2"
+
+remove_ws_reads : first remove_ws_text ≡ Ok (as_read (some_parsed (first remove_ws_text)) st.remove_ws)
+unfolding everything
+remove_ws_reads = refl
+
+abbrev pub remove_ws_query : ℕ → Query
+remove_ws_query tree = delete_query tree (is_at 1 0 ∷ is_at 2 1 ∷ [])
+
+abbrev pub count_ws_text : List ℕ
+count_ws_text = codes "SELECT count(*) FROM ws WHERE org = ?1"
+
+abbrev pub count_ws_select : ast.Select
+count_ws_select = st.select st.count_ws_core [] None
+
+count_ws_reads : first count_ws_text ≡ Ok (as_read (some_parsed (first count_ws_text)) (written.Select count_ws_select))
+unfolding everything
+count_ws_reads = refl
+
+pub count_ws_is_query : IsQuery count_ws_text
+count_ws_is_query = (count_ws_select, some_parsed (first count_ws_text), count_ws_reads)
+
+abbrev pub count_ws_rest : Query
+count_ws_rest = point_rest (is_at 1 0 ∷ []) [] no_page
+
+module _ (s : Schema) (at tree : ℕ) (h : IsAt s (codes "ws") ws_table at tree) where
+  find_ws_named : named s st.find_ws_core (st.by_rowid false) no_page ≡ Ok ((point_draft find_ws_rest tree false), (codes "auto" ∷ codes "kind" ∷ codes "lock_id" ∷ codes "lock_text" ∷ codes "run" ∷ codes "released" ∷ codes "next_version" ∷ codes "next_run" ∷ []), (Some Binary ∷ Some Binary ∷ Some Binary ∷ Some Binary ∷ Some Binary ∷ Some Binary ∷ Some Binary ∷ Some Binary ∷ []))
+  unfolding everything
+  find_ws_named = rw (h.named, h.found, h.found, h.found, h.small) refl
+
+  find_ws_fits : program s [] (point_draft find_ws_rest tree false) ≡ Ok (plain_program (point find_ws_rest tree false))
+  unfolding everything
+  find_ws_fits = rw (h.low, h.treed) refl
+
+  find_ws_is : (base : ℕ) → command s [] base (written.Select find_ws_select) ≡ Ok (Select (plain_program (point find_ws_rest tree false)) (codes "auto" ∷ codes "kind" ∷ codes "lock_id" ∷ codes "lock_text" ∷ codes "run" ∷ codes "released" ∷ codes "next_version" ∷ codes "next_run" ∷ []))
+  unfolding everything
+  find_ws_is base =
+      read_is s find_ws_select st.find_ws_core (st.by_rowid false) no_page ((point_draft find_ws_rest tree false), (codes "auto" ∷ codes "kind" ∷ codes "lock_id" ∷ codes "lock_text" ∷ codes "run" ∷ codes "released" ∷ codes "next_version" ∷ codes "next_run" ∷ []), (Some Binary ∷ Some Binary ∷ Some Binary ∷ Some Binary ∷ Some Binary ∷ Some Binary ∷ Some Binary ∷ Some Binary ∷ [])) refl refl refl refl refl (λ again. refl) find_ws_named (plain_program (point find_ws_rest tree false)) find_ws_fits base
+
+  pub find_ws_means : Means s (Select (plain_program (point find_ws_rest tree false)) (codes "auto" ∷ codes "kind" ∷ codes "lock_id" ∷ codes "lock_text" ∷ codes "run" ∷ codes "released" ∷ codes "next_version" ∷ codes "next_run" ∷ [])) find_ws_text
+  unfolding timed returning
+  find_ws_means = means s (written.Select find_ws_select) _ refl (λ _. refl) find_ws_is find_ws_text (some_parsed (first find_ws_text)) find_ws_reads
+
+  add_ws_is : (base : ℕ) → command s [] base st.add_ws ≡ Ok (Insert at (Values add_ws_terms 11))
+  unfolding everything
+  add_ws_is base = rw (h.named, h.found) refl
+
+  pub add_ws_means : Means s (Insert at (Values add_ws_terms 11)) add_ws_text
+  unfolding everything
+  add_ws_means = means s st.add_ws _ (rw (h.named, h.found) refl) (λ _. refl) add_ws_is add_ws_text (some_parsed (first add_ws_text)) add_ws_reads
+
+  set_auto_is : (base : ℕ) → command s [] base st.set_auto ≡ Ok (Update at (plain_program (set_auto_query tree)))
+  unfolding everything
+  set_auto_is base = rw (h.named, h.found, h.found, h.found, h.treed, h.low) refl
+
+  pub set_auto_means : Means s (Update at (plain_program (set_auto_query tree))) set_auto_text
+  unfolding everything
+  set_auto_means = means s st.set_auto _ refl (λ _. refl) set_auto_is set_auto_text (some_parsed (first set_auto_text)) set_auto_reads
+
+  hold_by_lock_is : (base : ℕ) → command s [] base st.hold_by_lock ≡ Ok (Update at (plain_program (hold_by_lock_query tree)))
+  unfolding everything
+  hold_by_lock_is base = rw (h.named, h.found, h.found, h.found, h.treed, h.low) refl
+
+  pub hold_by_lock_means : Means s (Update at (plain_program (hold_by_lock_query tree))) hold_by_lock_text
+  unfolding everything
+  hold_by_lock_means = means s st.hold_by_lock _ refl (λ _. refl) hold_by_lock_is hold_by_lock_text (some_parsed (first hold_by_lock_text)) hold_by_lock_reads
+
+  hold_by_run_is : (base : ℕ) → command s [] base st.hold_by_run ≡ Ok (Update at (plain_program (hold_by_run_query tree)))
+  unfolding everything
+  hold_by_run_is base = rw (h.named, h.found, h.found, h.found, h.treed, h.low) refl
+
+  pub hold_by_run_means : Means s (Update at (plain_program (hold_by_run_query tree))) hold_by_run_text
+  unfolding everything
+  hold_by_run_means = means s st.hold_by_run _ refl (λ _. refl) hold_by_run_is hold_by_run_text (some_parsed (first hold_by_run_text)) hold_by_run_reads
+
+  release_lock_is : (base : ℕ) → command s [] base st.release_lock ≡ Ok (Update at (plain_program (release_lock_query tree)))
+  unfolding everything
+  release_lock_is base = rw (h.named, h.found, h.found, h.found, h.treed, h.low) refl
+
+  pub release_lock_means : Means s (Update at (plain_program (release_lock_query tree))) release_lock_text
+  unfolding everything
+  release_lock_means = means s st.release_lock _ refl (λ _. refl) release_lock_is release_lock_text (some_parsed (first release_lock_text)) release_lock_reads
+
+  release_run_is : (base : ℕ) → command s [] base st.release_run ≡ Ok (Update at (plain_program (release_run_query tree)))
+  unfolding everything
+  release_run_is base = rw (h.named, h.found, h.found, h.found, h.treed, h.low) refl
+
+  pub release_run_means : Means s (Update at (plain_program (release_run_query tree))) release_run_text
+  unfolding everything
+  release_run_means = means s st.release_run _ refl (λ _. refl) release_run_is release_run_text (some_parsed (first release_run_text)) release_run_reads
+
+  set_next_version_is : (base : ℕ) → command s [] base st.set_next_version ≡ Ok (Update at (plain_program (set_next_version_query tree)))
+  unfolding everything
+  set_next_version_is base = rw (h.named, h.found, h.found, h.found, h.treed, h.low) refl
+
+  pub set_next_version_means : Means s (Update at (plain_program (set_next_version_query tree))) set_next_version_text
+  unfolding everything
+  set_next_version_means = means s st.set_next_version _ refl (λ _. refl) set_next_version_is set_next_version_text (some_parsed (first set_next_version_text)) set_next_version_reads
+
+  set_next_run_is : (base : ℕ) → command s [] base st.set_next_run ≡ Ok (Update at (plain_program (set_next_run_query tree)))
+  unfolding everything
+  set_next_run_is base = rw (h.named, h.found, h.found, h.found, h.treed, h.low) refl
+
+  pub set_next_run_means : Means s (Update at (plain_program (set_next_run_query tree))) set_next_run_text
+  unfolding everything
+  set_next_run_means = means s st.set_next_run _ refl (λ _. refl) set_next_run_is set_next_run_text (some_parsed (first set_next_run_text)) set_next_run_reads
+
+  remove_ws_is : (base : ℕ) → command s [] base st.remove_ws ≡ Ok (Delete at (plain_program (remove_ws_query tree)))
+  unfolding everything
+  remove_ws_is base = rw (h.named, h.found, h.found, h.found, h.treed, h.low) refl
+
+  pub remove_ws_means : Means s (Delete at (plain_program (remove_ws_query tree))) remove_ws_text
+  unfolding everything
+  remove_ws_means = means s st.remove_ws _ refl (λ _. refl) remove_ws_is remove_ws_text (some_parsed (first remove_ws_text)) remove_ws_reads
+
+  count_ws_named : named s st.count_ws_core [] no_page ≡ Ok ((tally_draft count_ws_rest tree Binary (lit Null)), (codes "count(*)" ∷ []), (None ∷ []))
+  unfolding everything
+  count_ws_named = rw (h.named, h.found, h.found, h.found) refl
+
+  count_ws_fits : program s [] (tally_draft count_ws_rest tree Binary (lit Null)) ≡ Ok (plain_program (tally count_ws_rest tree Binary (lit Null)))
+  unfolding everything
+  count_ws_fits = rw (h.low, h.treed) refl
+
+  count_ws_is : (base : ℕ) → command s [] base (written.Select count_ws_select) ≡ Ok (Select (plain_program (tally count_ws_rest tree Binary (lit Null))) (codes "count(*)" ∷ []))
+  unfolding everything
+  count_ws_is base =
+      read_is s count_ws_select st.count_ws_core [] no_page ((tally_draft count_ws_rest tree Binary (lit Null)), (codes "count(*)" ∷ []), (None ∷ [])) refl refl refl refl refl (λ again. refl) count_ws_named (plain_program (tally count_ws_rest tree Binary (lit Null))) count_ws_fits base
+
+  pub count_ws_means : Means s (Select (plain_program (tally count_ws_rest tree Binary (lit Null))) (codes "count(*)" ∷ [])) count_ws_text
+  unfolding timed returning
+  count_ws_means = means s (written.Select count_ws_select) _ refl (λ _. refl) count_ws_is count_ws_text (some_parsed (first count_ws_text)) count_ws_reads

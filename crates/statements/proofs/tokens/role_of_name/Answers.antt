@@ -1,0 +1,18 @@
+use Rattle.sqlite.specs.Held.{state}
+use Rattle.statements.specs.Finds.{role_of_name}
+use Rattle.statements.specs.Queries.{IsRole}
+use Rattle.statements.proofs.Transactions.{reads_by}
+use Rattle.statements.proofs.TokenTexts.{named_token_role_text, named_token_role_is_query}
+use Rattle.statements.proofs.TokenReads.{named_token_role_shows}
+use Rattle.statements.proofs.tokens.role_of_name.Goals as goal
+
+pub returns-clause-read : goal.returns-clause-read
+returns-clause-read g c clean =
+    let old = state g.S.Store c.args.conn.now in
+    let new = state g.S.Store c.first_row-row.new.conn in
+    reads_by (role_of_name c.args.org.now c.args.name.now) IsRole old new named_token_role_text _ c.first_row-row.result c.role_of.result
+    (rw (c.params-to_sql.ensures, c.params-to_sql-2.ensures) at (c.first_row-row.ensures.row named_token_role_is_query clean)) (c.first_row-row.ensures.calm named_token_role_is_query clean) c.role_of.ensures
+    (λ t holds row first. named_token_role_shows old new t holds c.args.org.now c.args.name.now row first)
+
+pub returns-clause-survives : goal.returns-clause-survives
+returns-clause-survives g c = c.first_row-row.ensures.survives named_token_role_is_query

@@ -1,0 +1,15 @@
+use Rattle.statements.specs.declared.rows.Holder.TheVariants.{Lock}
+use Rattle.sqlite.specs.Held.{state}
+use Rattle.statements.specs.Changes.{held_by, ws_changed}
+use Rattle.statements.proofs.Transactions.{moves_by}
+use Rattle.statements.proofs.WsTexts.{hold_by_lock_text}
+use Rattle.statements.proofs.WsWrites.{hold_by_lock_does}
+use Rattle.statements.proofs.workspaces.hold_by_lock.Goals as goal
+
+pub returns-clause-changed : goal.returns-clause-changed
+returns-clause-changed g c clean inside =
+    let old = state g.S.Store c.args.tx.now.conn.now in
+    let new = state g.S.Store c.write.new.tx.conn.now in
+    moves_by (ws_changed (held_by (Lock c.args.id.now c.args.text.now)) c.args.org.now c.args.name.now) old new hold_by_lock_text _ c.write.result
+    (rw (c.params-to_sql.ensures, c.params-to_sql-2.ensures, c.params-to_sql-3.ensures, c.params-to_sql-4.ensures) at (c.write.ensures.runs clean inside))
+    (λ count t holds ran. hold_by_lock_does old new count t holds c.args.org.now c.args.name.now c.args.id.now c.args.text.now ran)

@@ -1,0 +1,114 @@
+-- What each write does to the rows.
+use Rattle.std.specs.Prelude.{ℕ, ℤ, Bool, true, false, not, List, [], ◌∷◌, ◌++◌, ◌&&◌, ◌==◌, nat_lt, Option, Some, None}
+use Rattle.std.specs.Str.{bytes_eq}
+use Rattle.sqlite_keyed.specs.Keyed.{next_key}
+use Rattle.sqlite_keyed.specs.Lists.{update_where, delete_where}
+use Rattle.basis.specs.declared.roles.Role.{Role}
+use Rattle.basis.specs.declared.runs.RunStatus.{RunStatus}
+use Rattle.statements.specs.declared.rows.Holder.{Holder}
+use Rattle.statements.specs.declared.rows.Holder.TheVariants.{Nobody}
+use Rattle.statements.specs.declared.rows.Workspace.{Workspace}
+use Rattle.statements.specs.declared.rows.Version.{Version}
+use Rattle.statements.specs.Rows.{Kept, id_of, OrgRow, TokenRow, WsRow, VersionRow, RunRow}
+use Rattle.statements.specs.Tables.{Tables}
+
+-- one more row, behind the others and with the next rowid
+abbrev pub with_next : {R : Type 0} → R → List (Kept R) → List (Kept R)
+with_next r xs = xs ++ (next_key id_of xs, r) ∷ []
+
+-- ---- organizations
+
+abbrev pub is_org : List ℕ → Kept OrgRow → Bool
+is_org name x = bytes_eq x.1.name name
+
+abbrev pub org_added : List ℕ → ℕ → Tables → Tables
+org_added name cap t = record t { orgs = with_next (record { name = name; cap = cap }) t.orgs }
+
+-- ---- tokens
+
+abbrev pub is_token : List ℕ → List ℕ → Kept TokenRow → Bool
+is_token org name x = bytes_eq x.1.org org && bytes_eq x.1.name name
+
+abbrev pub has_digest : List ℕ → List ℕ → Kept TokenRow → Bool
+has_digest org digest x = bytes_eq x.1.org org && bytes_eq x.1.it.digest digest
+
+abbrev pub token_added : List ℕ → List ℕ → List ℕ → Role → Tables → Tables
+token_added org name digest role t = record t { tokens = with_next (record { org = org; name = name; it = record { digest = digest; role = role } }) t.tokens }
+
+abbrev pub token_removed : List ℕ → List ℕ → Tables → Tables
+token_removed org name t = record t { tokens = delete_where (is_token org name) t.tokens }
+
+-- ---- workspaces
+
+abbrev pub is_ws_of : List ℕ → Kept WsRow → Bool
+is_ws_of org x = bytes_eq x.1.org org
+
+abbrev pub is_ws : List ℕ → List ℕ → Kept WsRow → Bool
+is_ws org name x = bytes_eq x.1.org org && bytes_eq x.1.name name
+
+-- one function over what the row of a workspace holds
+abbrev pub ws_changed : (Workspace → Workspace) → List ℕ → List ℕ → Tables → Tables
+ws_changed f org name t = record t { wss = update_where (is_ws org name) (λ x. (x.0, record x.1 { it = f x.1.it })) t.wss }
+
+abbrev pub with_auto : Bool → Workspace → Workspace
+with_auto auto w = record w { auto = auto }
+
+abbrev pub held_by : Holder → Workspace → Workspace
+held_by holder w = record w { holder = holder }
+
+-- nobody holds it, and this is the ID released last
+abbrev pub released_from : List ℕ → Workspace → Workspace
+released_from id w = record w { holder = Nobody; released = Some id }
+
+abbrev pub with_next_version : ℕ → Workspace → Workspace
+with_next_version n w = record w { next_version = n }
+
+abbrev pub with_next_run : ℕ → Workspace → Workspace
+with_next_run n w = record w { next_run = n }
+
+-- a workspace that nobody holds or held, whose versions and runs begin at 1
+abbrev pub new_workspace : Bool → Workspace
+new_workspace auto = record { auto = auto; holder = Nobody; released = None; next_version = 1; next_run = 1 }
+
+abbrev pub ws_added : List ℕ → List ℕ → Bool → Tables → Tables
+ws_added org name auto t = record t { wss = with_next (record { org = org; name = name; it = new_workspace auto }) t.wss }
+
+abbrev pub ws_removed : List ℕ → List ℕ → Tables → Tables
+ws_removed org name t = record t { wss = delete_where (is_ws org name) t.wss }
+
+-- ---- versions
+
+abbrev pub is_version_of : List ℕ → List ℕ → Kept VersionRow → Bool
+is_version_of org ws x = bytes_eq x.1.org org && bytes_eq x.1.ws ws
+
+abbrev pub is_version : List ℕ → List ℕ → ℕ → Kept VersionRow → Bool
+is_version org ws n x = bytes_eq x.1.org org && (bytes_eq x.1.ws ws && x.1.it.number == n)
+
+abbrev pub is_version_below : List ℕ → List ℕ → ℕ → Kept VersionRow → Bool
+is_version_below org ws n x = bytes_eq x.1.org org && (bytes_eq x.1.ws ws && nat_lt x.1.it.number n)
+
+abbrev pub new_version : ℕ → ℕ → List ℕ → ℕ → List ℕ → Version
+new_version number serial lineage created body = record { number = number; serial = serial; lineage = lineage; created = created; body = body }
+
+abbrev pub version_added : List ℕ → List ℕ → Version → Tables → Tables
+version_added org ws it t = record t { versions = with_next (record { org = org; ws = ws; it = it }) t.versions }
+
+abbrev pub versions_removed_below : List ℕ → List ℕ → ℕ → Tables → Tables
+versions_removed_below org ws n t = record t { versions = delete_where (is_version_below org ws n) t.versions }
+
+abbrev pub versions_removed : List ℕ → List ℕ → Tables → Tables
+versions_removed org ws t = record t { versions = delete_where (is_version_of org ws) t.versions }
+
+-- ---- runs
+
+abbrev pub is_run_of : List ℕ → List ℕ → Kept RunRow → Bool
+is_run_of org ws x = bytes_eq x.1.org org && bytes_eq x.1.ws ws
+
+abbrev pub is_run : List ℕ → List ℕ → ℕ → Kept RunRow → Bool
+is_run org ws n x = bytes_eq x.1.org org && (bytes_eq x.1.ws ws && x.1.it.number == n)
+
+abbrev pub run_changed_to : RunStatus → List ℕ → List ℕ → ℕ → Tables → Tables
+run_changed_to status org ws n t = record t { runs = update_where (is_run org ws n) (λ x. (x.0, record x.1 { it = record x.1.it { status = status } })) t.runs }
+
+abbrev pub runs_removed : List ℕ → List ℕ → Tables → Tables
+runs_removed org ws t = record t { runs = delete_where (is_run_of org ws) t.runs }

@@ -1,0 +1,65 @@
+-- What each query reads of the rows.
+use Rattle.std.specs.Prelude.{ℕ, Bool, true, false, not, ◌&&◌, List, [], ◌∷◌, length, filter, find, min, Option, Some, None, option_map}
+use Rattle.std.specs.Str.{bytes_eq}
+use Rattle.basis.specs.declared.roles.Role.{Role}
+use Rattle.basis.specs.declared.runs.RunStatus.{RunStatus}
+use Rattle.basis.specs.declared.runs.RunStatus.TheVariants.{Pending}
+use Rattle.statements.specs.declared.rows.Workspace.{Workspace}
+use Rattle.statements.specs.declared.rows.Version.{Version}
+use Rattle.statements.specs.declared.rows.Head.{Head}
+use Rattle.statements.specs.Rows.{Kept, RunRow}
+use Rattle.statements.specs.Tables.{Tables}
+use Rattle.statements.specs.Changes.{is_org, is_token, has_digest, is_ws_of, is_ws, is_version_of, is_version, is_run}
+
+-- the last of a list
+abbrev pub last_in : {X : Type 0} → List X → Option X
+last_in [] = None
+last_in (x ∷ []) = Some x
+last_in (x ∷ y ∷ xs) = last_in (y ∷ xs)
+
+-- SQL counts no further than the greatest integer that it has
+abbrev pub counted : {X : Type 0} → List X → ℕ
+counted xs = min (length xs) 9_223_372_036_854_775_807
+
+abbrev pub cap_of : List ℕ → Tables → Option ℕ
+cap_of org t = option_map (λ x. x.1.cap) (find (is_org org) t.orgs)
+
+abbrev pub role_of_digest : List ℕ → List ℕ → Tables → Option Role
+role_of_digest org digest t = option_map (λ x. x.1.it.role) (find (has_digest org digest) t.tokens)
+
+abbrev pub role_of_name : List ℕ → List ℕ → Tables → Option Role
+role_of_name org name t = option_map (λ x. x.1.it.role) (find (is_token org name) t.tokens)
+
+abbrev pub workspace_of : List ℕ → List ℕ → Tables → Option Workspace
+workspace_of org name t = option_map (λ x. x.1.it) (find (is_ws org name) t.wss)
+
+abbrev pub workspaces_of : List ℕ → Tables → ℕ
+workspaces_of org t = counted (filter (is_ws_of org) t.wss)
+
+abbrev pub head_of : Version → Head
+head_of v = record { number = v.number; serial = v.serial; lineage = v.lineage; size = length v.body }
+
+-- the version that was added last
+abbrev pub newest_of : List ℕ → List ℕ → Tables → Option Head
+newest_of org ws t = option_map (λ x. head_of x.1.it) (last_in (filter (is_version_of org ws) t.versions))
+
+abbrev pub body_of : List ℕ → List ℕ → ℕ → Tables → Option (List ℕ)
+body_of org ws n t = option_map (λ x. x.1.it.body) (find (is_version org ws n) t.versions)
+
+abbrev pub versions_of : List ℕ → List ℕ → Tables → ℕ
+versions_of org ws t = counted (filter (is_version_of org ws) t.versions)
+
+abbrev pub is_pending : RunStatus → Bool
+is_pending Pending = true
+is_pending _ = false
+
+-- a queued run that is pending
+abbrev pub is_waiting : List ℕ → List ℕ → Kept RunRow → Bool
+is_waiting org ws x = bytes_eq x.1.org org && (bytes_eq x.1.ws ws && (is_pending x.1.it.status && not x.1.it.plan_only))
+
+-- the number of the waiting run that was added first
+abbrev pub first_waiting_of : List ℕ → List ℕ → Tables → Option ℕ
+first_waiting_of org ws t = option_map (λ x. x.1.it.number) (find (is_waiting org ws) t.runs)
+
+abbrev pub status_of : List ℕ → List ℕ → ℕ → Tables → Option RunStatus
+status_of org ws n t = option_map (λ x. x.1.it.status) (find (is_run org ws n) t.runs)

@@ -1,0 +1,11 @@
+pub mod Changes
+pub mod Decode
+pub mod Finds
+pub mod Making
+pub mod Place
+pub mod Queries
+pub mod Rows
+pub mod Schema
+pub mod Statements
+pub mod Steps
+pub mod Tables

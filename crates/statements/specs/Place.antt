@@ -1,0 +1,27 @@
+-- Where a table stands in a schema, whatever other tables, indexes and views stand there too.
+use Rattle.std.specs.Prelude.{◌≡◌, ◌^◌, ℕ, nat_le, nat_lt, Bool, true, false, List, [], ◌==◌, find, slice_get, Option, Some, option_map, unwrap_or}
+use Rattle.std.specs.List.{AllByRecursion}
+use Rattle.sqlite_schema.specs.declared.schema.Schema.{Schema}
+use Rattle.sqlite_schema.specs.declared.schema.Table.{Table}
+use Rattle.sqlite_schema.specs.Names.{table_named}
+
+-- the place of the table that a name means
+abbrev pub at_of : Schema → List ℕ → ℕ
+at_of s name = unwrap_or (table_named s name) 0
+
+-- the tree that keeps the rows of that table
+abbrev pub tree_of : Schema → List ℕ → ℕ
+tree_of s name = unwrap_or (option_map (λ (t : Table). t.tree) (slice_get s.tables (at_of s name))) 0
+
+-- The name means the table at this place, which has this tree. A tree stands below those of computed tables.
+pub record IsAt (s : Schema) (name : List ℕ) (table : Table) (at tree : ℕ) : Type 0 where
+  pub named : table_named s name ≡ Some at
+  pub found : slice_get s.tables at ≡ Some (record table { tree = tree })
+  pub treed : find (λ (t : Table). t.tree == tree) s.tables ≡ Some (record table { tree = tree })
+  pub low : nat_le (2 ^ 31) tree ≡ false
+  pub small : nat_lt tree (2 ^ 31) ≡ true
+
+-- The schema has the table under its name, and it refers to no other.
+pub record IsOwn (s : Schema) (table : Table) : Type 0 where
+  pub place : IsAt s table.name table (at_of s table.name) (tree_of s table.name)
+  pub bare : AllByRecursion (λ (t : Table). t.tree ≡ tree_of s table.name → t.references ≡ []) s.tables

@@ -1,0 +1,93 @@
+-- What a query gives: the first row of its answer, or none, and the value that this row is read as.
+use Rattle.std.specs.Prelude.{◌≡◌, ◌⊎◌, ⊤, ℕ, ℤ, pos, Bool, not, List, [], Option, Some, None, Result, Ok, Err, OnOk, OnErr}
+use Rattle.std.specs.Ordering.{int_eq}
+use Rattle.sqlite_ast.specs.declared.Select.{Select}
+use Rattle.sqlite_ast.specs.declared.Statement.TheVariants as written
+use Rattle.sqlite_syntax.specs.declared.statement.Parsed.{Parsed}
+use Rattle.sqlite_resolve.specs.Compile.{first}
+use Rattle.sqlite_value.specs.declared.value.Value.{Value}
+use Rattle.sqlite_value.specs.declared.value.Value.TheVariants as cell
+use Rattle.sqlite_value.specs.Order.{Row, column}
+use Rattle.basis.specs.declared.roles.Role.{Role}
+use Rattle.basis.specs.declared.runs.RunStatus.{RunStatus}
+use Rattle.statements.specs.declared.rows.Holder.{Holder}
+use Rattle.statements.specs.declared.rows.Holder.TheVariants.{Nobody, Lock, Run as HeldByRun}
+use Rattle.statements.specs.declared.rows.Workspace.{Workspace}
+use Rattle.statements.specs.declared.rows.Head.{Head}
+use Rattle.statements.specs.Rows.{number, role_code, status_code}
+use Rattle.sqlite.specs.State.{State, IsUnchanged, IsRolledBack, QueriesRow, Shown}
+
+-- the text is a SELECT, in each schema
+abbrev pub IsQuery : List ℕ → Type 0
+IsQuery text = (q : Select) × (p : Parsed) × (first text ≡ Ok (record p { statement = written.Select q; formats = [] }))
+
+abbrev pub FirstRow : List ℕ → Row → State → State → Option Row → Type 0
+FirstRow text params old new None = Shown text params old new []
+FirstRow text params old new (Some row) = QueriesRow text params old new (Ok row)
+
+-- A query leaves what it reads as it was; where it fails, a transaction may be rolled back.
+abbrev pub IsCalm : {X E : Type 0} → State → State → Result X E → Type 0
+IsCalm old new result = OnOk result (IsUnchanged old new) × OnErr result (IsUnchanged old new ⊎ IsRolledBack old new)
+
+-- the row that a query gave is read as a value, and no row as none
+abbrev pub IsRead : {X E F : Type 0} → (Row → X → Type 0) → Result (Option Row) E → Result (Option X) F → Type 0
+IsRead Is row (Err f) = ⊤
+IsRead Is (Err e) (Ok found) = ⊥
+IsRead Is (Ok None) (Ok None) = ⊤
+IsRead Is (Ok None) (Ok (Some x)) = ⊥
+IsRead Is (Ok (Some row)) (Ok None) = ⊥
+IsRead Is (Ok (Some row)) (Ok (Some x)) = Is row x
+
+-- ---- how a row is read
+
+abbrev pub IsFlag : Value → Bool → Type 0
+IsFlag v b = (n : ℤ) × (v ≡ cell.Int n) × (b ≡ not (int_eq n (pos 0)))
+
+abbrev pub IsTextOrNull : Value → Option (List ℕ) → Type 0
+IsTextOrNull v None = v ≡ cell.Null
+IsTextOrNull v (Some t) = v ≡ cell.Text t
+
+-- the columns are kind, lock_id, lock_text and run
+abbrev pub IsHolder : Value → Value → Value → Value → Holder → Type 0
+IsHolder kind id text run Nobody = kind ≡ number 0
+IsHolder kind id text run (Lock i t) = (kind ≡ number 1) × (id ≡ cell.Text i) × (text ≡ cell.Blob t)
+IsHolder kind id text run (HeldByRun n) = (kind ≡ number 2) × (run ≡ number n)
+
+pub record IsWorkspace (row : Row) (w : Workspace) : Type 0 where
+  pub auto : IsFlag (column row 0) w.auto
+  pub holder : IsHolder (column row 1) (column row 2) (column row 3) (column row 4) w.holder
+  pub released : IsTextOrNull (column row 5) w.released
+  pub next_version : column row 6 ≡ number w.next_version
+  pub next_run : column row 7 ≡ number w.next_run
+
+pub record IsHead (row : Row) (h : Head) : Type 0 where
+  pub number_is : column row 0 ≡ number h.number
+  pub serial : column row 1 ≡ number h.serial
+  pub lineage : column row 2 ≡ cell.Text h.lineage
+  pub size : column row 3 ≡ number h.size
+
+abbrev pub IsBody : Row → List ℕ → Type 0
+IsBody row body = column row 0 ≡ cell.Blob body
+
+abbrev pub IsNumber : Row → ℕ → Type 0
+IsNumber row n = column row 0 ≡ number n
+
+abbrev pub IsRole : Row → Role → Type 0
+IsRole row role = column row 0 ≡ number (role_code role)
+
+abbrev pub IsStatus : Row → RunStatus → Type 0
+IsStatus row status = column row 0 ≡ number (status_code status)
+
+-- the number in the row that a count gives
+abbrev pub IsCount : {E F : Type 0} → Result (Option Row) E → Result ℕ F → Type 0
+IsCount row (Err f) = ⊤
+IsCount (Err e) (Ok n) = ⊥
+IsCount (Ok None) (Ok n) = n ≡ 0
+IsCount (Ok (Some row)) (Ok n) = IsNumber row n
+
+-- A row is read as this value and no other, and no row as none.
+abbrev pub Pins : {X : Type 0} → (Row → X → Type 0) → Option Row → Option X → Type 0
+Pins Is None None = ⊤
+Pins Is None (Some x) = ⊥
+Pins Is (Some row) None = ⊥
+Pins {X} Is (Some row) (Some x) = (y : X) → Is row y → y ≡ x

@@ -1,0 +1,91 @@
+-- The tables of schema 1, as their texts define them.
+use Rattle.std.specs.Prelude.{ℕ, pos, Bool, true, false, List, [], ◌∷◌, codes, Option, Some, None}
+use Rattle.sqlite_value.specs.declared.keys.Collation.TheVariants.{Binary}
+use Rattle.sqlite_value.specs.declared.keys.Order.{Order}
+use Rattle.sqlite_value.specs.declared.value.Value.TheVariants.{Null, Int}
+use Rattle.sqlite_value.specs.Keys.{plain}
+use Rattle.sqlite_sql.specs.Term.{Term, lit, col, op1, op2}
+use Rattle.sqlite_sql.specs.declared.ops.CompareOp.TheVariants.{Eq, Le, Ge}
+use Rattle.sqlite_sql.specs.declared.ops.BinaryOp.TheVariants.{Compare, And, Is}
+use Rattle.sqlite_sql.specs.declared.ops.UnaryOp.TheVariants.{Not}
+use Rattle.sqlite_schema.specs.declared.schema.Column.{Column}
+use Rattle.sqlite_schema.specs.declared.schema.Kind.{Kind}
+use Rattle.sqlite_schema.specs.declared.schema.Kind.TheVariants.{Integer, Text, Blob}
+use Rattle.sqlite_schema.specs.declared.schema.Table.{Table}
+
+abbrev pub column : List ℕ → Kind → Bool → Column
+column name kind not_null = record { name = name; kind = kind; is_strict = true; not_null = not_null; default = Null; collation = Binary }
+
+-- a table with these unique keys, the first of which is its primary key
+abbrev pub keyed_table : List ℕ → List Column → List ℕ → List (List ℕ) → List Order → List Term → Table
+keyed_table name columns primary uniques orders checks = record {
+  name = name;
+  tree = 0;
+  columns = columns;
+  key = None;
+  primary = primary;
+  uniques = uniques;
+  orders = orders;
+  checks = checks;
+  references = [];
+  computed = [];
+  stamps = record { places = []; terms = []; formats = [] };
+  is_counted = false;
+}
+
+-- the column at a place lies between two numbers
+abbrev pub is_between : ℕ → ℕ → ℕ → Term
+is_between place least most = op2 And (op2 (Compare Ge Binary) (col 1 place) (lit (Int (pos least)))) (op2 (Compare Le Binary) (col 1 place) (lit (Int (pos most))))
+
+-- the column at a place is not null exactly where `kind`, at place 4, is the number
+abbrev pub is_given_for : ℕ → ℕ → Term
+is_given_for place kind = op2 (Compare Eq Binary) (op1 Not (op2 (Is Binary) (col 1 place) (lit Null))) (op2 (Compare Eq Binary) (col 1 4) (lit (Int (pos kind))))
+
+abbrev pub org_table : Table
+org_table = keyed_table (codes "org")
+    (column (codes "name") Text true ∷ column (codes "cap") Integer true ∷ [])
+    (1 ∷ []) ((1 ∷ []) ∷ []) (plain ∷ []) (is_between 2 0 100_000 ∷ [])
+
+abbrev pub token_table : Table
+token_table = keyed_table (codes "token")
+    (column (codes "org") Text true ∷ column (codes "name") Text true ∷ column (codes "digest") Blob true ∷ column (codes "role") Integer true ∷ [])
+    (1 ∷ 2 ∷ []) ((1 ∷ 2 ∷ []) ∷ (1 ∷ 3 ∷ []) ∷ []) (plain ∷ plain ∷ []) (is_between 4 0 2 ∷ [])
+
+abbrev pub ws_table : Table
+ws_table = keyed_table (codes "ws")
+    (column (codes "org") Text true ∷ column (codes "name") Text true ∷ column (codes "auto") Integer true ∷ column (codes "kind") Integer true
+    ∷ column (codes "lock_id") Text false ∷ column (codes "lock_text") Blob false ∷ column (codes "run") Integer false ∷ column (codes "released") Text false
+    ∷ column (codes "next_version") Integer true ∷ column (codes "next_run") Integer true ∷ [])
+    (1 ∷ 2 ∷ []) ((1 ∷ 2 ∷ []) ∷ []) (plain ∷ [])
+    (is_between 4 0 2 ∷ is_given_for 5 1 ∷ is_given_for 6 1 ∷ is_given_for 7 2 ∷ [])
+
+abbrev pub version_table : Table
+version_table = keyed_table (codes "version")
+    (column (codes "org") Text true ∷ column (codes "ws") Text true ∷ column (codes "number") Integer true ∷ column (codes "serial") Integer true
+    ∷ column (codes "lineage") Text true ∷ column (codes "created") Integer true ∷ column (codes "size") Integer true ∷ column (codes "body") Blob true ∷ [])
+    (1 ∷ 2 ∷ 3 ∷ []) ((1 ∷ 2 ∷ 3 ∷ []) ∷ []) (plain ∷ []) []
+
+abbrev pub run_table : Table
+run_table = keyed_table (codes "run")
+    (column (codes "org") Text true ∷ column (codes "ws") Text true ∷ column (codes "number") Integer true ∷ column (codes "plan_only") Integer true
+    ∷ column (codes "rkey") Text false ∷ column (codes "message") Text true ∷ column (codes "created") Integer true ∷ column (codes "status") Integer true
+    ∷ column (codes "action") Integer false ∷ [])
+    (1 ∷ 2 ∷ 3 ∷ []) ((1 ∷ 2 ∷ 3 ∷ []) ∷ (1 ∷ 2 ∷ 5 ∷ []) ∷ []) (plain ∷ plain ∷ [])
+    (is_between 8 0 8 ∷ is_between 9 0 6 ∷ [])
+
+-- the one row of meta has 1 in the column `one`, which is the rowid
+abbrev pub meta_table : Table
+meta_table = record {
+  name = codes "meta";
+  tree = 0;
+  columns = column (codes "one") Integer false ∷ column (codes "version") Integer true ∷ [];
+  key = Some 0;
+  primary = 0 ∷ [];
+  uniques = [];
+  orders = [];
+  checks = op2 (Compare Eq Binary) (col 1 0) (lit (Int (pos 1))) ∷ op2 (Compare Eq Binary) (col 1 2) (lit (Int (pos 1))) ∷ [];
+  references = [];
+  computed = [];
+  stamps = record { places = []; terms = []; formats = [] };
+  is_counted = false;
+}

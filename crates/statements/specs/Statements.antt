@@ -1,0 +1,142 @@
+-- The statements as they are written, without the blanks of their texts.
+use Rattle.std.specs.Prelude.{ℕ, Bool, false, List, [], ◌∷◌, map, codes, Option, Some, None}
+use Rattle.sqlite_ast.specs.declared.Expr.{Expr}
+use Rattle.sqlite_ast.specs.declared.Expr.TheVariants.{Column, Parameter, Integer, Null, CallStar, Binary as Two}
+use Rattle.sqlite_ast.specs.declared.Binary.TheVariants.{And, Eq, Lt}
+use Rattle.sqlite_ast.specs.declared.Conflict.TheVariants.{Abort}
+use Rattle.sqlite_ast.specs.declared.Rows.TheVariants.{Values}
+use Rattle.sqlite_ast.specs.declared.Origin.TheVariants.{Table}
+use Rattle.sqlite_ast.specs.declared.Source.{roll-Source}
+use Rattle.sqlite_ast.specs.declared.Shown.{Shown}
+use Rattle.sqlite_ast.specs.declared.Shown.TheVariants.{One}
+use Rattle.sqlite_ast.specs.declared.Core.{Core, roll-Core}
+use Rattle.sqlite_ast.specs.declared.Sort.{Sort, roll-Sort}
+use Rattle.sqlite_ast.specs.declared.Select.{Select, roll-Select}
+use Rattle.sqlite_ast.specs.declared.Statement.{Statement}
+use Rattle.sqlite_ast.specs.declared.Statement.TheVariants as written
+
+abbrev pub named : List ℕ → Expr
+named column = Column None column
+
+-- a column is the parameter of this number
+abbrev pub is_given : List ℕ → ℕ → Expr
+is_given column n = Two Eq (named column) (Parameter n)
+
+abbrev pub also : Expr → Expr → Expr
+also = Two And
+
+-- the two columns are the first two parameters
+abbrev pub at_key : List ℕ → List ℕ → Expr
+at_key a b = also (is_given a 1) (is_given b 2)
+
+abbrev pub zero : Expr
+zero = Integer (codes "0")
+
+abbrev pub one : Expr
+one = Integer (codes "1")
+
+abbrev pub two : Expr
+two = Integer (codes "2")
+
+abbrev pub update : List ℕ → List (List ℕ × Expr) → Expr → Statement
+update table sets test = written.Update table sets (Some test) []
+
+abbrev pub delete : List ℕ → Expr → Statement
+delete table test = written.Delete table (Some test) []
+
+abbrev pub insert : List ℕ → List (List ℕ) → List Expr → Statement
+insert table columns values = written.Insert Abort table columns (Values (values ∷ [])) [] []
+
+abbrev pub shown_columns : List (List ℕ) → List Shown
+shown_columns = map (λ name. One (named name) None name)
+
+abbrev pub from_table : List Shown → List ℕ → Expr → Core
+from_table shown table test =
+    roll-Core (record { distinct = false; shown = shown; from = roll-Source (record { is_left = false; origin = Table table; alias = None; on = None; using = [] }) ∷ []; filter = Some test; group = []; having = None })
+
+abbrev pub by_rowid : Bool → List Sort
+by_rowid descending = roll-Sort (record { key = named (codes "rowid"); descending = descending; nulls_first = None }) ∷ []
+
+abbrev pub select : Core → List Sort → Option Expr → Select
+select core order limit = roll-Select (record { with = []; first = core; others = []; order = order; limit = limit; offset = None })
+
+abbrev pub find_ws_core : Core
+find_ws_core = from_table (shown_columns (codes "auto" ∷ codes "kind" ∷ codes "lock_id" ∷ codes "lock_text" ∷ codes "run" ∷ codes "released" ∷ codes "next_version" ∷ codes "next_run" ∷ [])) (codes "ws") (at_key (codes "org") (codes "name"))
+
+abbrev pub add_ws : Statement
+add_ws = insert (codes "ws") (codes "org" ∷ codes "name" ∷ codes "auto" ∷ codes "kind" ∷ codes "next_version" ∷ codes "next_run" ∷ []) (Parameter 1 ∷ Parameter 2 ∷ Parameter 3 ∷ zero ∷ one ∷ one ∷ [])
+
+abbrev pub set_auto : Statement
+set_auto = update (codes "ws") ((codes "auto", Parameter 3) ∷ []) (at_key (codes "org") (codes "name"))
+
+abbrev pub hold_by_lock : Statement
+hold_by_lock = update (codes "ws") ((codes "kind", one) ∷ (codes "lock_id", Parameter 3) ∷ (codes "lock_text", Parameter 4) ∷ (codes "run", Null) ∷ []) (at_key (codes "org") (codes "name"))
+
+abbrev pub hold_by_run : Statement
+hold_by_run = update (codes "ws") ((codes "kind", two) ∷ (codes "lock_id", Null) ∷ (codes "lock_text", Null) ∷ (codes "run", Parameter 3) ∷ []) (at_key (codes "org") (codes "name"))
+
+abbrev pub release_lock : Statement
+release_lock = update (codes "ws") ((codes "kind", zero) ∷ (codes "lock_id", Null) ∷ (codes "lock_text", Null) ∷ (codes "run", Null) ∷ (codes "released", Parameter 3) ∷ []) (at_key (codes "org") (codes "name"))
+
+abbrev pub release_run : Statement
+release_run = update (codes "ws") ((codes "kind", zero) ∷ (codes "lock_id", Null) ∷ (codes "lock_text", Null) ∷ (codes "run", Null) ∷ []) (at_key (codes "org") (codes "name"))
+
+abbrev pub set_next_version : Statement
+set_next_version = update (codes "ws") ((codes "next_version", Parameter 3) ∷ []) (at_key (codes "org") (codes "name"))
+
+abbrev pub set_next_run : Statement
+set_next_run = update (codes "ws") ((codes "next_run", Parameter 3) ∷ []) (at_key (codes "org") (codes "name"))
+
+abbrev pub remove_ws : Statement
+remove_ws = delete (codes "ws") (at_key (codes "org") (codes "name"))
+
+abbrev pub count_ws_core : Core
+count_ws_core = from_table (One (CallStar (codes "count")) None (codes "count(*)") ∷ []) (codes "ws") (is_given (codes "org") 1)
+
+abbrev pub newest_version_core : Core
+newest_version_core = from_table (shown_columns (codes "number" ∷ codes "serial" ∷ codes "lineage" ∷ codes "size" ∷ [])) (codes "version") (at_key (codes "org") (codes "ws"))
+
+abbrev pub version_body_core : Core
+version_body_core = from_table (shown_columns (codes "body" ∷ [])) (codes "version") (also (at_key (codes "org") (codes "ws")) (is_given (codes "number") 3))
+
+abbrev pub count_versions_core : Core
+count_versions_core = from_table (One (CallStar (codes "count")) None (codes "count(*)") ∷ []) (codes "version") (at_key (codes "org") (codes "ws"))
+
+abbrev pub add_version : Statement
+add_version = insert (codes "version") (codes "org" ∷ codes "ws" ∷ codes "number" ∷ codes "serial" ∷ codes "lineage" ∷ codes "created" ∷ codes "size" ∷ codes "body" ∷ []) (Parameter 1 ∷ Parameter 2 ∷ Parameter 3 ∷ Parameter 4 ∷ Parameter 5 ∷ Parameter 6 ∷ Parameter 7 ∷ Parameter 8 ∷ [])
+
+abbrev pub remove_versions_below : Statement
+remove_versions_below = delete (codes "version") (also (at_key (codes "org") (codes "ws")) (Two Lt (named (codes "number")) (Parameter 3)))
+
+abbrev pub remove_versions : Statement
+remove_versions = delete (codes "version") (at_key (codes "org") (codes "ws"))
+
+abbrev pub add_token : Statement
+add_token = insert (codes "token") (codes "org" ∷ codes "name" ∷ codes "digest" ∷ codes "role" ∷ []) (Parameter 1 ∷ Parameter 2 ∷ Parameter 3 ∷ Parameter 4 ∷ [])
+
+abbrev pub token_role_core : Core
+token_role_core = from_table (shown_columns (codes "role" ∷ [])) (codes "token") (also (is_given (codes "org") 1) (is_given (codes "digest") 2))
+
+abbrev pub named_token_role_core : Core
+named_token_role_core = from_table (shown_columns (codes "role" ∷ [])) (codes "token") (at_key (codes "org") (codes "name"))
+
+abbrev pub remove_token : Statement
+remove_token = delete (codes "token") (at_key (codes "org") (codes "name"))
+
+abbrev pub add_org : Statement
+add_org = insert (codes "org") (codes "name" ∷ codes "cap" ∷ []) (Parameter 1 ∷ Parameter 2 ∷ [])
+
+abbrev pub org_cap_core : Core
+org_cap_core = from_table (shown_columns (codes "cap" ∷ [])) (codes "org") (is_given (codes "name") 1)
+
+abbrev pub first_waiting_core : Core
+first_waiting_core = from_table (shown_columns (codes "number" ∷ [])) (codes "run") (also (also (at_key (codes "org") (codes "ws")) (Two Eq (named (codes "status")) zero)) (Two Eq (named (codes "plan_only")) zero))
+
+abbrev pub run_status_core : Core
+run_status_core = from_table (shown_columns (codes "status" ∷ [])) (codes "run") (also (at_key (codes "org") (codes "ws")) (is_given (codes "number") 3))
+
+abbrev pub set_run_status : Statement
+set_run_status = update (codes "run") ((codes "status", Parameter 4) ∷ []) (also (at_key (codes "org") (codes "ws")) (is_given (codes "number") 3))
+
+abbrev pub remove_runs : Statement
+remove_runs = delete (codes "run") (at_key (codes "org") (codes "ws"))

@@ -1,0 +1,26 @@
+-- What a statement does: it changes the rows of our tables by a function, or reads a value of them.
+use Rattle.std.specs.Prelude.{◌≡◌, ◌⊎◌, ℕ, List, true, IsTrue, Result, Ok, Err, IfOk, OnOk, OnErr}
+use Rattle.sqlite_value.specs.Order.{Row}
+use Rattle.sqlite.specs.State.{State, HasCleanDisk, IsUnchanged, IsRolledBack, KeepsCommit, ExecutesInside}
+use Rattle.statements.specs.Tables.{Tables, Holds}
+
+-- The rows change by the function, inside the transaction, which goes on.
+pub record Moves (change : Tables → Tables) (old new : State) : Type 0 where
+  pub rows : (t : Tables) → Holds old.now t → Holds new.now (change t)
+  pub was_open : IsTrue old.is_open
+  pub is_open : IsTrue new.is_open
+  pub committed : new.committed ≡ old.committed
+  pub inside : IsTrue new.in_transaction
+
+-- a write: after a failure nothing is committed
+abbrev pub ChangesBy : {X E : Type 0} → (Tables → Tables) → State → State → Result X E → Type 0
+ChangesBy change old new result = HasCleanDisk new → IsTrue old.in_transaction → OnOk result (Moves change old new) × OnErr result (KeepsCommit old new)
+
+-- a read outside a transaction: nothing changes, and the value is that of the rows
+abbrev pub ReadsBy : {X E : Type 0} → (Tables → X) → State → State → Result X E → Type 0
+ReadsBy read old new result =
+    HasCleanDisk new → IfOk result (λ x. (t : Tables) → Holds old.now t → x ≡ read t) × (OnOk result (IsUnchanged old new) × OnErr result (IsUnchanged old new ⊎ IsRolledBack old new))
+
+-- a text that was run in a transaction
+abbrev pub Wrote : {X E : Type 0} → List ℕ → Row → State → State → Result X E → Type 0
+Wrote text params old new result = OnOk result ((count : ℕ) × ExecutesInside 0 text params old new (Ok count)) × OnErr result (KeepsCommit old new)

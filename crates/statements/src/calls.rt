@@ -1,0 +1,235 @@
+//! How a text is run, and how the row that it gives is read.
+ghost use Rattle.std.specs.Prelude.{◌≡◌, false, ◌^◌, ◌<◌, pos, IsTrue, IfOk};
+ghost use Rattle.sqlite_value.specs.Order.{column};
+ghost use Rattle.sqlite.specs.Values.{bound};
+ghost use Rattle.sqlite.specs.Held.{state};
+ghost use Rattle.sqlite.specs.State.{HasCleanDisk, Survives};
+ghost use Rattle.statements.specs.Rows.{role_code, status_code, action_code, flag};
+ghost use Rattle.statements.specs.Steps.{Wrote};
+ghost use Rattle.statements.specs.Queries.{IsQuery, FirstRow, IsCalm, IsRead, IsFlag, IsTextOrNull, IsHolder, IsWorkspace, IsHead, IsBody, IsNumber, IsRole, IsStatus, IsCount};
+
+use crate::rows::{Head, Holder, Workspace};
+use basis::{Bytes, Role, RunAction, RunStatus, Text};
+use sqlite::types::ValueRef;
+use sqlite::{Alter, Connection, Error, Row, Transaction};
+
+/// Runs a write in a transaction.
+pub(crate) fn write<S: Alter>(
+    tx: &mut Transaction<'_, S>,
+    sql: &str,
+    params: &[ValueRef<'_>],
+) -> Result<(), Error>
+    ensures same_reference { tx.new.conn.ghost_name ≡ tx.old.conn.ghost_name }
+    ensures runs { HasCleanDisk (state S.Store tx.new.conn.now) → IsTrue (state S.Store tx.old.conn.now).in_transaction → Wrote sql.now (bound params.now) (state S.Store tx.old.conn.now) (state S.Store tx.new.conn.now) result }
+    ensures survives { Survives (state S.Store tx.old.conn.now) (state S.Store tx.new.conn.now) (λ _. ⊥) }
+{
+    tx.execute(sql, params)?;
+    Ok(())
+}
+
+/// The first row of a query's answer, or none.
+pub(crate) fn first_row<S: Alter>(
+    conn: &mut Connection<S>,
+    sql: &str,
+    params: &[ValueRef<'_>],
+) -> Result<Option<Row>, Error>
+    ensures mode { conn.old.in_transaction ≡ false → conn.new.in_transaction ≡ false }
+    ensures row { IsQuery sql.now → HasCleanDisk (state S.Store conn.new) → IfOk result (FirstRow sql.now (bound params.now) (state S.Store conn.old) (state S.Store conn.new)) }
+    ensures calm { IsQuery sql.now → HasCleanDisk (state S.Store conn.new) → IsCalm (state S.Store conn.old) (state S.Store conn.new) result }
+    ensures survives { IsQuery sql.now → Survives (state S.Store conn.old) (state S.Store conn.new) (λ _. ⊥) }
+{
+    match conn.query_row(sql, params) {
+        Ok(row) => Ok(Some(row)),
+        Err(Error::QueryReturnedNoRows) => Ok(None),
+        Err(error) => Err(error),
+    }
+}
+
+/// A number as SQL has it.
+pub(crate) fn signed(n: u64) -> i64
+    requires { n < 2 ^ 63 }
+    ensures { result ≡ pos n }
+{
+    n as i64
+}
+
+fn optional_text(row: &Row, at: usize) -> Result<Option<Text>, Error>
+    ensures { IfOk result (IsTextOrNull (column row.now at)) }
+{
+    match row.get::<Option<String>>(at)? {
+        Some(text) => Ok(Some(Text::new(text))),
+        None => Ok(None),
+    }
+}
+
+fn holder_in(row: &Row) -> Result<Holder, Error>
+    ensures { IfOk result (IsHolder (column row.now 1) (column row.now 2) (column row.now 3) (column row.now 4)) }
+{
+    match row.get::<u64>(1)? {
+        0 => Ok(Holder::Nobody),
+        1 => Ok(Holder::Lock {
+            id: Text::new(row.get(2)?),
+            text: Bytes::new(row.get(3)?),
+        }),
+        2 => Ok(Holder::Run(row.get(4)?)),
+        _ => Err(Error::IntegralValueOutOfRange(1)),
+    }
+}
+
+fn workspace_in(row: &Row) -> Result<Workspace, Error>
+    ensures { IfOk result (IsWorkspace row.now) }
+{
+    Ok(Workspace {
+        auto: row.get(0)?,
+        holder: holder_in(row)?,
+        released: optional_text(row, 5)?,
+        next_version: row.get(6)?,
+        next_run: row.get(7)?,
+    })
+}
+
+fn head_in(row: &Row) -> Result<Head, Error>
+    ensures { IfOk result (IsHead row.now) }
+{
+    Ok(Head {
+        number: row.get(0)?,
+        serial: row.get(1)?,
+        lineage: Text::new(row.get(2)?),
+        size: row.get(3)?,
+    })
+}
+
+fn role_in(row: &Row) -> Result<Role, Error>
+    ensures { IfOk result (IsRole row.now) }
+{
+    match row.get::<u64>(0)? {
+        0 => Ok(Role::Read),
+        1 => Ok(Role::Write),
+        2 => Ok(Role::Admin),
+        _ => Err(Error::IntegralValueOutOfRange(0)),
+    }
+}
+
+fn status_in(row: &Row) -> Result<RunStatus, Error>
+    ensures { IfOk result (IsStatus row.now) }
+{
+    match row.get::<u64>(0)? {
+        0 => Ok(RunStatus::Pending),
+        1 => Ok(RunStatus::Planning),
+        2 => Ok(RunStatus::Planned),
+        3 => Ok(RunStatus::Applying),
+        4 => Ok(RunStatus::Applied),
+        5 => Ok(RunStatus::PlannedAndFinished),
+        6 => Ok(RunStatus::Errored),
+        7 => Ok(RunStatus::Discarded),
+        8 => Ok(RunStatus::Canceled),
+        _ => Err(Error::IntegralValueOutOfRange(0)),
+    }
+}
+
+pub(crate) fn workspace_of(row: Result<Option<Row>, Error>) -> Result<Option<Workspace>, Error>
+    ensures { IsRead IsWorkspace row result }
+{
+    match row? {
+        Some(row) => Ok(Some(workspace_in(&row)?)),
+        None => Ok(None),
+    }
+}
+
+pub(crate) fn head_of(row: Result<Option<Row>, Error>) -> Result<Option<Head>, Error>
+    ensures { IsRead IsHead row result }
+{
+    match row? {
+        Some(row) => Ok(Some(head_in(&row)?)),
+        None => Ok(None),
+    }
+}
+
+pub(crate) fn body_of(row: Result<Option<Row>, Error>) -> Result<Option<Bytes>, Error>
+    ensures { IsRead IsBody row result }
+{
+    match row? {
+        Some(row) => Ok(Some(Bytes::new(row.get(0)?))),
+        None => Ok(None),
+    }
+}
+
+pub(crate) fn number_of(row: Result<Option<Row>, Error>) -> Result<Option<u64>, Error>
+    ensures { IsRead IsNumber row result }
+{
+    match row? {
+        Some(row) => Ok(Some(row.get(0)?)),
+        None => Ok(None),
+    }
+}
+
+pub(crate) fn role_of(row: Result<Option<Row>, Error>) -> Result<Option<Role>, Error>
+    ensures { IsRead IsRole row result }
+{
+    match row? {
+        Some(row) => Ok(Some(role_in(&row)?)),
+        None => Ok(None),
+    }
+}
+
+pub(crate) fn status_of(row: Result<Option<Row>, Error>) -> Result<Option<RunStatus>, Error>
+    ensures { IsRead IsStatus row result }
+{
+    match row? {
+        Some(row) => Ok(Some(status_in(&row)?)),
+        None => Ok(None),
+    }
+}
+
+/// Zero stands for no row, which a count never gives.
+pub(crate) fn count_of(row: Result<Option<Row>, Error>) -> Result<u64, Error>
+    ensures { IsCount row result }
+{
+    match row? {
+        Some(row) => row.get(0),
+        None => Ok(0),
+    }
+}
+
+/// The number by which SQL keeps a role.
+pub(crate) fn role_number(role: Role) -> i64
+    ensures { result ≡ pos (role_code role) }
+{
+    match role {
+        Role::Read => 0,
+        Role::Write => 1,
+        Role::Admin => 2,
+    }
+}
+
+/// The number by which SQL keeps a status.
+pub(crate) fn status_number(status: RunStatus) -> i64
+    ensures { result ≡ pos (status_code status) }
+{
+    match status {
+        RunStatus::Pending => 0,
+        RunStatus::Planning => 1,
+        RunStatus::Planned => 2,
+        RunStatus::Applying => 3,
+        RunStatus::Applied => 4,
+        RunStatus::PlannedAndFinished => 5,
+        RunStatus::Errored => 6,
+        RunStatus::Discarded => 7,
+        RunStatus::Canceled => 8,
+    }
+}
+
+/// The number by which SQL keeps an action.
+pub(crate) fn action_number(action: RunAction) -> i64
+    ensures { result ≡ pos (action_code action) }
+{
+    match action {
+        RunAction::ReportPlanned => 0,
+        RunAction::ReportUnchanged => 1,
+        RunAction::Fail => 2,
+        RunAction::Confirm => 3,
+        RunAction::ReportApplied => 4,
+        RunAction::Discard => 5,
+        RunAction::Cancel => 6,
+    }
+}

@@ -1,0 +1,35 @@
+//! Statements on the table org.
+ghost use Rattle.std.specs.Prelude.{◌≡◌, false, ◌<◌, ◌^◌};
+ghost use Rattle.sqlite.specs.Held.{state};
+ghost use Rattle.sqlite.specs.State.{Survives};
+ghost use Rattle.statements.specs.Steps.{ChangesBy, ReadsBy};
+ghost use Rattle.statements.specs.Changes.{org_added};
+ghost use Rattle.statements.specs.Finds.{cap_of};
+
+use crate::calls::{first_row, number_of, signed, write};
+use sqlite::{Alter, Connection, Error, Transaction, params};
+
+const ORG_CAP: &str = "SELECT cap FROM org WHERE name = ?1 ORDER BY rowid";
+
+/// How many workspaces an organization may have, if there is one of the name.
+pub fn cap<S: Alter>(conn: &mut Connection<S>, name: &str) -> Result<Option<u64>, Error>
+    ensures mode { conn.old.in_transaction ≡ false → conn.new.in_transaction ≡ false }
+    ensures read { ReadsBy (cap_of name.now) (state S.Store conn.old) (state S.Store conn.new) result }
+    ensures survives { Survives (state S.Store conn.old) (state S.Store conn.new) (λ _. ⊥) }
+{
+    let row = first_row(conn, ORG_CAP, params![name]);
+    number_of(row)
+}
+
+const ADD_ORG: &str = "INSERT INTO org (name, cap) VALUES (?1, ?2)";
+
+/// Adds an organization, and how many workspaces it may have.
+pub fn add<S: Alter>(tx: &mut Transaction<'_, S>, name: &str, cap: u64) -> Result<(), Error>
+    requires cap_fits { cap < 2 ^ 63 }
+    ensures same_reference { tx.new.conn.ghost_name ≡ tx.old.conn.ghost_name }
+    ensures changed { ChangesBy (org_added name.now cap) (state S.Store tx.old.conn.now) (state S.Store tx.new.conn.now) result }
+    ensures survives { Survives (state S.Store tx.old.conn.now) (state S.Store tx.new.conn.now) (λ _. ⊥) }
+{
+    let cap = signed(cap);
+    write(tx, ADD_ORG, params![name, &cap])
+}

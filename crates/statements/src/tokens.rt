@@ -1,0 +1,72 @@
+//! Statements on the table token.
+ghost use Rattle.std.specs.Prelude.{◌≡◌, false};
+ghost use Rattle.sqlite.specs.Held.{state};
+ghost use Rattle.sqlite.specs.State.{Survives};
+ghost use Rattle.statements.specs.Steps.{ChangesBy, ReadsBy};
+ghost use Rattle.statements.specs.Changes.{token_added, token_removed};
+ghost use Rattle.statements.specs.Finds.{role_of_digest, role_of_name};
+
+use crate::calls::{first_row, role_number, role_of, write};
+use basis::Role;
+use sqlite::{Alter, Connection, Error, Transaction, params};
+
+const TOKEN_ROLE: &str = "SELECT role FROM token WHERE org = ?1 AND digest = ?2 ORDER BY rowid";
+
+/// The role of the token of an organization that has this digest.
+pub fn role_of_digest<S: Alter>(
+    conn: &mut Connection<S>,
+    org: &str,
+    digest: &[u8],
+) -> Result<Option<Role>, Error>
+    ensures mode { conn.old.in_transaction ≡ false → conn.new.in_transaction ≡ false }
+    ensures read { ReadsBy (role_of_digest org.now digest.now) (state S.Store conn.old) (state S.Store conn.new) result }
+    ensures survives { Survives (state S.Store conn.old) (state S.Store conn.new) (λ _. ⊥) }
+{
+    let row = first_row(conn, TOKEN_ROLE, params![org, digest]);
+    role_of(row)
+}
+
+const NAMED_TOKEN_ROLE: &str = "SELECT role FROM token WHERE org = ?1 AND name = ?2 ORDER BY rowid";
+
+/// The role of the token of an organization that has this name.
+pub fn role_of_name<S: Alter>(
+    conn: &mut Connection<S>,
+    org: &str,
+    name: &str,
+) -> Result<Option<Role>, Error>
+    ensures mode { conn.old.in_transaction ≡ false → conn.new.in_transaction ≡ false }
+    ensures read { ReadsBy (role_of_name org.now name.now) (state S.Store conn.old) (state S.Store conn.new) result }
+    ensures survives { Survives (state S.Store conn.old) (state S.Store conn.new) (λ _. ⊥) }
+{
+    let row = first_row(conn, NAMED_TOKEN_ROLE, params![org, name]);
+    role_of(row)
+}
+
+const ADD_TOKEN: &str = "INSERT INTO token (org, name, digest, role) VALUES (?1, ?2, ?3, ?4)";
+
+/// Adds a token, of which only the digest is kept.
+pub fn add<'v, S: Alter>(
+    tx: &mut Transaction<'_, S>,
+    org: &'v str,
+    name: &'v str,
+    digest: &'v [u8],
+    role: Role,
+) -> Result<(), Error>
+    ensures same_reference { tx.new.conn.ghost_name ≡ tx.old.conn.ghost_name }
+    ensures changed { ChangesBy (token_added org.now name.now digest.now role) (state S.Store tx.old.conn.now) (state S.Store tx.new.conn.now) result }
+    ensures survives { Survives (state S.Store tx.old.conn.now) (state S.Store tx.new.conn.now) (λ _. ⊥) }
+{
+    let role = role_number(role);
+    write(tx, ADD_TOKEN, params![org, name, digest, &role])
+}
+
+const REMOVE_TOKEN: &str = "DELETE FROM token WHERE org = ?1 AND name = ?2";
+
+/// Removes a token.
+pub fn remove<S: Alter>(tx: &mut Transaction<'_, S>, org: &str, name: &str) -> Result<(), Error>
+    ensures same_reference { tx.new.conn.ghost_name ≡ tx.old.conn.ghost_name }
+    ensures changed { ChangesBy (token_removed org.now name.now) (state S.Store tx.old.conn.now) (state S.Store tx.new.conn.now) result }
+    ensures survives { Survives (state S.Store tx.old.conn.now) (state S.Store tx.new.conn.now) (λ _. ⊥) }
+{
+    write(tx, REMOVE_TOKEN, params![org, name])
+}

@@ -1,0 +1,123 @@
+//! Statements on the table version.
+ghost use Rattle.std.specs.Prelude.{◌≡◌, false, ◌<◌, ◌^◌};
+ghost use Rattle.sqlite.specs.Held.{state};
+ghost use Rattle.sqlite.specs.State.{Survives};
+ghost use Rattle.statements.specs.Steps.{ChangesBy, ReadsBy};
+ghost use Rattle.statements.specs.Changes.{new_version, version_added, versions_removed, versions_removed_below};
+ghost use Rattle.statements.specs.Finds.{newest_of, body_of, versions_of};
+
+use crate::calls::{body_of, count_of, first_row, head_of, signed, write};
+use crate::rows::Head;
+use basis::Bytes;
+use sqlite::{Alter, Connection, Error, Transaction, params};
+
+const NEWEST_VERSION: &str =
+    "SELECT number, serial, lineage, size FROM version WHERE org = ?1 AND ws = ?2 ORDER BY rowid DESC LIMIT 1";
+
+/// The version of a workspace that was added last, without its text.
+pub fn newest<S: Alter>(
+    conn: &mut Connection<S>,
+    org: &str,
+    ws: &str,
+) -> Result<Option<Head>, Error>
+    ensures mode { conn.old.in_transaction ≡ false → conn.new.in_transaction ≡ false }
+    ensures read { ReadsBy (newest_of org.now ws.now) (state S.Store conn.old) (state S.Store conn.new) result }
+    ensures survives { Survives (state S.Store conn.old) (state S.Store conn.new) (λ _. ⊥) }
+{
+    let row = first_row(conn, NEWEST_VERSION, params![org, ws]);
+    head_of(row)
+}
+
+const VERSION_BODY: &str =
+    "SELECT body FROM version WHERE org = ?1 AND ws = ?2 AND number = ?3 ORDER BY rowid";
+
+/// The text of a version.
+pub fn body<S: Alter>(
+    conn: &mut Connection<S>,
+    org: &str,
+    ws: &str,
+    number: u64,
+) -> Result<Option<Bytes>, Error>
+    requires number_fits { number < 2 ^ 63 }
+    ensures mode { conn.old.in_transaction ≡ false → conn.new.in_transaction ≡ false }
+    ensures read { ReadsBy (body_of org.now ws.now number) (state S.Store conn.old) (state S.Store conn.new) result }
+    ensures survives { Survives (state S.Store conn.old) (state S.Store conn.new) (λ _. ⊥) }
+{
+    let number = signed(number);
+    let row = first_row(conn, VERSION_BODY, params![org, ws, &number]);
+    body_of(row)
+}
+
+const COUNT_VERSIONS: &str = "SELECT count(*) FROM version WHERE org = ?1 AND ws = ?2";
+
+/// How many versions a workspace has.
+pub fn count<S: Alter>(conn: &mut Connection<S>, org: &str, ws: &str) -> Result<u64, Error>
+    ensures mode { conn.old.in_transaction ≡ false → conn.new.in_transaction ≡ false }
+    ensures read { ReadsBy (versions_of org.now ws.now) (state S.Store conn.old) (state S.Store conn.new) result }
+    ensures survives { Survives (state S.Store conn.old) (state S.Store conn.new) (λ _. ⊥) }
+{
+    let row = first_row(conn, COUNT_VERSIONS, params![org, ws]);
+    count_of(row)
+}
+
+const ADD_VERSION: &str =
+    "INSERT INTO version (org, ws, number, serial, lineage, created, size, body) VALUES (?1, ?2, ?3, ?4, ?5, ?6, ?7, ?8)";
+
+/// Adds a version with its text. `created` is in seconds since 1970 (UTC).
+pub fn add<'v, S: Alter>(
+    tx: &mut Transaction<'_, S>,
+    org: &'v str,
+    ws: &'v str,
+    number: u64,
+    serial: u64,
+    lineage: &'v str,
+    created: u64,
+    body: &'v [u8],
+) -> Result<(), Error>
+    requires number_fits { number < 2 ^ 63 }
+    requires serial_fits { serial < 2 ^ 63 }
+    requires created_fits { created < 2 ^ 63 }
+    ensures same_reference { tx.new.conn.ghost_name ≡ tx.old.conn.ghost_name }
+    ensures changed { ChangesBy (version_added org.now ws.now (new_version number serial lineage.now created body.now)) (state S.Store tx.old.conn.now) (state S.Store tx.new.conn.now) result }
+    ensures survives { Survives (state S.Store tx.old.conn.now) (state S.Store tx.new.conn.now) (λ _. ⊥) }
+{
+    let number = signed(number);
+    let serial = signed(serial);
+    let created = signed(created);
+    let size = signed(body.len() as u64);
+    write(
+        tx,
+        ADD_VERSION,
+        params![org, ws, &number, &serial, lineage, &created, &size, body],
+    )
+}
+
+const REMOVE_VERSIONS_BELOW: &str =
+    "DELETE FROM version WHERE org = ?1 AND ws = ?2 AND number < ?3";
+
+/// Removes the versions of a workspace with numbers below this one.
+pub fn remove_below<S: Alter>(
+    tx: &mut Transaction<'_, S>,
+    org: &str,
+    ws: &str,
+    least: u64,
+) -> Result<(), Error>
+    requires least_fits { least < 2 ^ 63 }
+    ensures same_reference { tx.new.conn.ghost_name ≡ tx.old.conn.ghost_name }
+    ensures changed { ChangesBy (versions_removed_below org.now ws.now least) (state S.Store tx.old.conn.now) (state S.Store tx.new.conn.now) result }
+    ensures survives { Survives (state S.Store tx.old.conn.now) (state S.Store tx.new.conn.now) (λ _. ⊥) }
+{
+    let least = signed(least);
+    write(tx, REMOVE_VERSIONS_BELOW, params![org, ws, &least])
+}
+
+const REMOVE_VERSIONS: &str = "DELETE FROM version WHERE org = ?1 AND ws = ?2";
+
+/// Removes the versions of a workspace.
+pub fn remove_all<S: Alter>(tx: &mut Transaction<'_, S>, org: &str, ws: &str) -> Result<(), Error>
+    ensures same_reference { tx.new.conn.ghost_name ≡ tx.old.conn.ghost_name }
+    ensures changed { ChangesBy (versions_removed org.now ws.now) (state S.Store tx.old.conn.now) (state S.Store tx.new.conn.now) result }
+    ensures survives { Survives (state S.Store tx.old.conn.now) (state S.Store tx.new.conn.now) (λ _. ⊥) }
+{
+    write(tx, REMOVE_VERSIONS, params![org, ws])
+}

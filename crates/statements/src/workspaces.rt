@@ -1,0 +1,191 @@
+//! Statements on the table ws.
+ghost use Rattle.std.specs.Prelude.{◌≡◌, false, ◌<◌, ◌^◌};
+ghost use Rattle.sqlite.specs.Held.{state};
+ghost use Rattle.sqlite.specs.State.{Survives};
+ghost use Rattle.statements.specs.Steps.{ChangesBy, ReadsBy};
+ghost use Rattle.statements.specs.Changes.{with_auto, held_by, released_from, with_next_version, with_next_run, ws_changed, ws_added, ws_removed};
+ghost use Rattle.statements.specs.Finds.{workspace_of, workspaces_of};
+ghost use Rattle.statements.specs.declared.rows.Holder.TheVariants.{Nobody, Lock, Run as HeldByRun};
+
+use crate::calls::{count_of, first_row, signed, workspace_of, write};
+use crate::rows::Workspace;
+use sqlite::{Alter, Connection, Error, Transaction, params};
+
+const FIND_WS: &str =
+    "SELECT auto, kind, lock_id, lock_text, run, released, next_version, next_run FROM ws WHERE org = ?1 AND name = ?2 ORDER BY rowid";
+
+/// What a workspace of an organization holds, if there is one of the name.
+pub fn find<S: Alter>(
+    conn: &mut Connection<S>,
+    org: &str,
+    name: &str,
+) -> Result<Option<Workspace>, Error>
+    ensures mode { conn.old.in_transaction ≡ false → conn.new.in_transaction ≡ false }
+    ensures read { ReadsBy (workspace_of org.now name.now) (state S.Store conn.old) (state S.Store conn.new) result }
+    ensures survives { Survives (state S.Store conn.old) (state S.Store conn.new) (λ _. ⊥) }
+{
+    let row = first_row(conn, FIND_WS, params![org, name]);
+    workspace_of(row)
+}
+
+const COUNT_WS: &str = "SELECT count(*) FROM ws WHERE org = ?1";
+
+/// How many workspaces an organization has.
+pub fn count<S: Alter>(conn: &mut Connection<S>, org: &str) -> Result<u64, Error>
+    ensures mode { conn.old.in_transaction ≡ false → conn.new.in_transaction ≡ false }
+    ensures read { ReadsBy (workspaces_of org.now) (state S.Store conn.old) (state S.Store conn.new) result }
+    ensures survives { Survives (state S.Store conn.old) (state S.Store conn.new) (λ _. ⊥) }
+{
+    let row = first_row(conn, COUNT_WS, params![org]);
+    count_of(row)
+}
+
+const ADD_WS: &str =
+    "INSERT INTO ws (org, name, auto, kind, next_version, next_run) VALUES (?1, ?2, ?3, 0, 1, 1)";
+
+/// Adds a workspace that nobody holds, whose versions and runs begin at 1.
+pub fn add<S: Alter>(
+    tx: &mut Transaction<'_, S>,
+    org: &str,
+    name: &str,
+    auto: bool,
+) -> Result<(), Error>
+    ensures same_reference { tx.new.conn.ghost_name ≡ tx.old.conn.ghost_name }
+    ensures changed { ChangesBy (ws_added org.now name.now auto) (state S.Store tx.old.conn.now) (state S.Store tx.new.conn.now) result }
+    ensures survives { Survives (state S.Store tx.old.conn.now) (state S.Store tx.new.conn.now) (λ _. ⊥) }
+{
+    write(tx, ADD_WS, params![org, name, auto])
+}
+
+const SET_AUTO: &str = "UPDATE ws SET auto = ?3 WHERE org = ?1 AND name = ?2";
+
+/// Sets whether the plans of a workspace are applied without being asked for.
+pub fn set_auto<S: Alter>(
+    tx: &mut Transaction<'_, S>,
+    org: &str,
+    name: &str,
+    auto: bool,
+) -> Result<(), Error>
+    ensures same_reference { tx.new.conn.ghost_name ≡ tx.old.conn.ghost_name }
+    ensures changed { ChangesBy (ws_changed (with_auto auto) org.now name.now) (state S.Store tx.old.conn.now) (state S.Store tx.new.conn.now) result }
+    ensures survives { Survives (state S.Store tx.old.conn.now) (state S.Store tx.new.conn.now) (λ _. ⊥) }
+{
+    write(tx, SET_AUTO, params![org, name, auto])
+}
+
+const HOLD_BY_LOCK: &str =
+    "UPDATE ws SET kind = 1, lock_id = ?3, lock_text = ?4, run = NULL WHERE org = ?1 AND name = ?2";
+
+/// Lets a lock hold a workspace, with the text that took it.
+pub fn hold_by_lock<S: Alter>(
+    tx: &mut Transaction<'_, S>,
+    org: &str,
+    name: &str,
+    id: &str,
+    text: &[u8],
+) -> Result<(), Error>
+    ensures same_reference { tx.new.conn.ghost_name ≡ tx.old.conn.ghost_name }
+    ensures changed { ChangesBy (ws_changed (held_by (Lock id.now text.now)) org.now name.now) (state S.Store tx.old.conn.now) (state S.Store tx.new.conn.now) result }
+    ensures survives { Survives (state S.Store tx.old.conn.now) (state S.Store tx.new.conn.now) (λ _. ⊥) }
+{
+    write(tx, HOLD_BY_LOCK, params![org, name, id, text])
+}
+
+const HOLD_BY_RUN: &str =
+    "UPDATE ws SET kind = 2, lock_id = NULL, lock_text = NULL, run = ?3 WHERE org = ?1 AND name = ?2";
+
+/// Lets a run hold a workspace.
+pub fn hold_by_run<S: Alter>(
+    tx: &mut Transaction<'_, S>,
+    org: &str,
+    name: &str,
+    run: u64,
+) -> Result<(), Error>
+    requires run_fits { run < 2 ^ 63 }
+    ensures same_reference { tx.new.conn.ghost_name ≡ tx.old.conn.ghost_name }
+    ensures changed { ChangesBy (ws_changed (held_by (HeldByRun run)) org.now name.now) (state S.Store tx.old.conn.now) (state S.Store tx.new.conn.now) result }
+    ensures survives { Survives (state S.Store tx.old.conn.now) (state S.Store tx.new.conn.now) (λ _. ⊥) }
+{
+    let run = signed(run);
+    write(tx, HOLD_BY_RUN, params![org, name, &run])
+}
+
+const RELEASE_LOCK: &str =
+    "UPDATE ws SET kind = 0, lock_id = NULL, lock_text = NULL, run = NULL, released = ?3 WHERE org = ?1 AND name = ?2";
+
+/// Lets nobody hold a workspace, and keeps the ID of the lock that was released.
+pub fn release_lock<S: Alter>(
+    tx: &mut Transaction<'_, S>,
+    org: &str,
+    name: &str,
+    id: &str,
+) -> Result<(), Error>
+    ensures same_reference { tx.new.conn.ghost_name ≡ tx.old.conn.ghost_name }
+    ensures changed { ChangesBy (ws_changed (released_from id.now) org.now name.now) (state S.Store tx.old.conn.now) (state S.Store tx.new.conn.now) result }
+    ensures survives { Survives (state S.Store tx.old.conn.now) (state S.Store tx.new.conn.now) (λ _. ⊥) }
+{
+    write(tx, RELEASE_LOCK, params![org, name, id])
+}
+
+const RELEASE_RUN: &str =
+    "UPDATE ws SET kind = 0, lock_id = NULL, lock_text = NULL, run = NULL WHERE org = ?1 AND name = ?2";
+
+/// Lets nobody hold a workspace. The ID released last stays.
+pub fn release_run<S: Alter>(
+    tx: &mut Transaction<'_, S>,
+    org: &str,
+    name: &str,
+) -> Result<(), Error>
+    ensures same_reference { tx.new.conn.ghost_name ≡ tx.old.conn.ghost_name }
+    ensures changed { ChangesBy (ws_changed (held_by Nobody) org.now name.now) (state S.Store tx.old.conn.now) (state S.Store tx.new.conn.now) result }
+    ensures survives { Survives (state S.Store tx.old.conn.now) (state S.Store tx.new.conn.now) (λ _. ⊥) }
+{
+    write(tx, RELEASE_RUN, params![org, name])
+}
+
+const SET_NEXT_VERSION: &str = "UPDATE ws SET next_version = ?3 WHERE org = ?1 AND name = ?2";
+
+/// Sets the number of the next version of a workspace.
+pub fn set_next_version<S: Alter>(
+    tx: &mut Transaction<'_, S>,
+    org: &str,
+    name: &str,
+    next: u64,
+) -> Result<(), Error>
+    requires next_fits { next < 2 ^ 63 }
+    ensures same_reference { tx.new.conn.ghost_name ≡ tx.old.conn.ghost_name }
+    ensures changed { ChangesBy (ws_changed (with_next_version next) org.now name.now) (state S.Store tx.old.conn.now) (state S.Store tx.new.conn.now) result }
+    ensures survives { Survives (state S.Store tx.old.conn.now) (state S.Store tx.new.conn.now) (λ _. ⊥) }
+{
+    let next = signed(next);
+    write(tx, SET_NEXT_VERSION, params![org, name, &next])
+}
+
+const SET_NEXT_RUN: &str = "UPDATE ws SET next_run = ?3 WHERE org = ?1 AND name = ?2";
+
+/// Sets the number of the next run of a workspace.
+pub fn set_next_run<S: Alter>(
+    tx: &mut Transaction<'_, S>,
+    org: &str,
+    name: &str,
+    next: u64,
+) -> Result<(), Error>
+    requires next_fits { next < 2 ^ 63 }
+    ensures same_reference { tx.new.conn.ghost_name ≡ tx.old.conn.ghost_name }
+    ensures changed { ChangesBy (ws_changed (with_next_run next) org.now name.now) (state S.Store tx.old.conn.now) (state S.Store tx.new.conn.now) result }
+    ensures survives { Survives (state S.Store tx.old.conn.now) (state S.Store tx.new.conn.now) (λ _. ⊥) }
+{
+    let next = signed(next);
+    write(tx, SET_NEXT_RUN, params![org, name, &next])
+}
+
+const REMOVE_WS: &str = "DELETE FROM ws WHERE org = ?1 AND name = ?2";
+
+/// Removes a workspace. Its versions and runs have rows of their own.
+pub fn remove<S: Alter>(tx: &mut Transaction<'_, S>, org: &str, name: &str) -> Result<(), Error>
+    ensures same_reference { tx.new.conn.ghost_name ≡ tx.old.conn.ghost_name }
+    ensures changed { ChangesBy (ws_removed org.now name.now) (state S.Store tx.old.conn.now) (state S.Store tx.new.conn.now) result }
+    ensures survives { Survives (state S.Store tx.old.conn.now) (state S.Store tx.new.conn.now) (λ _. ⊥) }
+{
+    write(tx, REMOVE_WS, params![org, name])
+}
