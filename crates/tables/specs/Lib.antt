@@ -1,0 +1,3 @@
+pub mod KeepSteps
+pub mod KeepEdits
+pub mod KeepMaking
