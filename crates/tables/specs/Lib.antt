@@ -1,0 +1,5 @@
+pub mod Edits
+pub mod Laws
+pub mod Records
+pub mod Sound
+pub mod Units

@@ -1,0 +1,2 @@
+//! The store of all organizations in tables: what the rows denote, and when tables are sound.
+#![tactic(auto)]
