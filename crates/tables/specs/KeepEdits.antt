@@ -1,35 +1,51 @@
--- What a change of a workspace does to the rows of the tables.
-use Rattle.std.specs.Prelude.{ℕ, ◌+◌, List, Option, Some, None}
-use Rattle.basis.specs.declared.runs.RunStatus.TheVariants.{Planning}
-use Rattle.statements.specs.declared.rows.Holder.TheVariants.{Lock, Run as HeldByRun}
-use Rattle.statements.specs.Changes.{with_auto, held_by, released_from, with_next_version, ws_changed, ws_added, new_version, version_added, versions_removed, versions_removed_below, run_changed_to}
+-- What a change of a workspace does to the rows, once it is known which versions go.
+use Rattle.std.specs.Prelude.{ℕ, ◌-◌, nat_le, cond, List, Option, Some, None}
+use Rattle.statements.specs.declared.rows.Workspace.{Workspace as WorkspaceCells}
+use Rattle.statements.specs.declared.rows.Holder.TheVariants.{Run as HeldByRun}
+use Rattle.statements.specs.Changes.{held_by, ws_changed, run_changed_to, new_version, version_added, versions_removed_below}
+use Rattle.statements.specs.Finds.{workspace_of, versions_of}
 use Rattle.statements.specs.Tables.{Tables}
+use Rattle.basis.specs.declared.runs.RunStatus.TheVariants.{Planning}
 use Rattle.machine.specs.declared.acts.Edit.{Edit}
 use Rattle.machine.specs.declared.acts.Edit.TheVariants.{Make, Configure, AddVersion, Purge, Hold, Release}
 use Rattle.machine.specs.declared.acts.Change.{Change}
 use Rattle.machine.specs.declared.records.Version.{Version}
+use Rattle.tables.specs.Edits.{edited_rows, emptied_rows, numbered_rows, started_rows}
+use Rattle.tables.specs.declared.edits.Outgoing.{Outgoing}
+use Rattle.tables.specs.declared.edits.Outgoing.TheVariants.{Missing, Below, All}
 
--- a version is put behind the others, those with numbers below the least go, and the next one has the next number
-abbrev pub version_put : List ℕ → List ℕ → Version → ℕ → Tables → Tables
-version_put org ws v least t =
-    ws_changed (with_next_version (v.number + 1)) org ws (versions_removed_below org ws least (version_added org ws (new_version v.number v.serial v.lineage v.created v.text) t))
+-- which versions go, where the oldest `gone` of so many are to go
+abbrev pub outgoing_of : ℕ → Option WorkspaceCells → ℕ → Outgoing
+outgoing_of gone None count = Missing
+outgoing_of gone (Some w) count = cond (nat_le gone count) (Below (w.next_version - (count - gone))) All
 
--- the rows after an edit, where the least number of a version that stays is given
-abbrev pub edited_rows : List ℕ → List ℕ → ℕ → Edit → Tables → Tables
-edited_rows org ws least (Make settings) t = ws_added org ws settings.auto_apply t
-edited_rows org ws least (Configure settings) t = ws_changed (with_auto settings.auto_apply) org ws t
-edited_rows org ws least (AddVersion version gone) t = version_put org ws version least t
-edited_rows org ws least Purge t = versions_removed org ws t
-edited_rows org ws least (Hold id text) t = ws_changed (held_by (Lock id text)) org ws t
-edited_rows org ws least (Release id) t = ws_changed (released_from id) org ws t
+abbrev pub outgoing_in : List ℕ → List ℕ → ℕ → Tables → Outgoing
+outgoing_in org ws gone t = outgoing_of gone (workspace_of org ws t) (versions_of org ws t)
 
--- the run is planning, and it holds
+-- a version comes behind the others
+abbrev pub added_rows : List ℕ → List ℕ → Version → Tables → Tables
+added_rows org ws v t = version_added org ws (new_version v.number v.serial v.lineage v.created v.text) t
+
+-- those with numbers below the least go, and a version comes behind the others
+abbrev pub put_above : List ℕ → List ℕ → Version → ℕ → Tables → Tables
+put_above org ws v least t = numbered_rows org ws v (added_rows org ws v (versions_removed_below org ws least t))
+
+abbrev pub put_by : Outgoing → List ℕ → List ℕ → Version → Tables → Tables
+put_by Missing org ws v t = versions_removed_below org ws 0 t
+put_by (Below least) org ws v t = put_above org ws v least t
+put_by All org ws v t = emptied_rows org ws v t
+
+abbrev pub edited_by : Outgoing → List ℕ → List ℕ → Edit → Tables → Tables
+edited_by out org ws (Make settings) t = edited_rows org ws (Make settings) t
+edited_by out org ws (Configure settings) t = edited_rows org ws (Configure settings) t
+edited_by out org ws (AddVersion version gone) t = put_by out org ws version t
+edited_by out org ws Purge t = edited_rows org ws Purge t
+edited_by out org ws (Hold id text) t = edited_rows org ws (Hold id text) t
+edited_by out org ws (Release id) t = edited_rows org ws (Release id) t
+
+-- the run holds, and is planning
 abbrev pub begun_rows : List ℕ → List ℕ → ℕ → Tables → Tables
-begun_rows org ws n t = ws_changed (held_by (HeldByRun n)) org ws (run_changed_to Planning org ws n t)
+begun_rows org ws n t = run_changed_to Planning org ws n (ws_changed (held_by (HeldByRun n)) org ws t)
 
-abbrev pub started_rows : List ℕ → List ℕ → Option ℕ → Tables → Tables
-started_rows org ws None t = t
-started_rows org ws (Some n) t = begun_rows org ws n t
-
-abbrev pub changed_rows : List ℕ → List ℕ → ℕ → Change → Tables → Tables
-changed_rows org ws least change t = started_rows org ws change.start (edited_rows org ws least change.edit t)
+abbrev pub changed_by : Outgoing → List ℕ → List ℕ → Change → Tables → Tables
+changed_by out org ws change t = started_rows org ws change.start (edited_by out org ws change.edit t)

@@ -1,4 +1,4 @@
-//! The store of all organizations in tables of a database of SQLite.
+//! The store of all organizations in tables: what the rows denote, and when tables are sound.
 #![tactic(auto)]
 
 mod edits;

@@ -26,8 +26,7 @@ fn make_rest<S: Alter>(tx: &mut Transaction<'_, S>) -> Result<(), Error>
 {
     making::make_ws(tx)?;
     making::make_version(tx)?;
-    making::make_run(tx)?;
-    making::make_run_index(tx)
+    making::make_run(tx)
 }
 
 /// Makes all tables, and says that the database has schema 1.
@@ -38,5 +37,6 @@ fn make_all<S: Alter>(tx: &mut Transaction<'_, S>) -> Result<(), Error>
 {
     make_half(tx)?;
     make_rest(tx)?;
+    making::make_run_index(tx)?;
     making::set_version(tx)
 }
