@@ -2,3 +2,4 @@ pub mod Lists
 pub mod Names
 pub mod Parts
 pub mod Sets
+pub mod Edits
