@@ -3,3 +3,4 @@ pub mod Names
 pub mod Parts
 pub mod Sets
 pub mod Edits
+pub mod Changes

@@ -52,6 +52,17 @@ module _ (t : Tables) (org name : List ℕ) where
       get-from_entries names_total (map (λ (x : Kept TokenRow). (x.1.name, token_in x.1.it)) (filter (is_token_of org) t.tokens)) name
       ∙ entry_found (is_token_of org) (λ (x : Kept TokenRow). x.1.name) (λ (x : Kept TokenRow). token_in x.1.it) name t.tokens
 
+one_of : (a b : Organization) → Some a ≡ Some b → a ≡ b
+one_of a b e = cc
+
+-- the workspaces of a record are those that have rows
+pub workspace_there : (t : Tables) (org name : List ℕ) (o : Organization) → record_of t org ≡ Some o → get o.workspaces name ≡ workspace_by t org name
+workspace_there t org name o e = by_limit (cap_of org t) e
+  where
+    by_limit : (cap : Option ℕ) → option_map (organization_at t org) cap ≡ Some o → get o.workspaces name ≡ workspace_by t org name
+    by_limit None e = absurd (let none : ⊥ = cc in none)
+    by_limit (Some cap) e = subst (λ (p : Organization). get p.workspaces name ≡ workspace_by t org name) (one_of (organization_at t org cap) o e) (got_workspace t org name)
+
 -- ---- a workspace from its parts
 
 abbrev by_parts : Option WorkspaceCells → List Version → List Run → Option Workspace
@@ -104,8 +115,7 @@ module _ (org ws : List ℕ) (w : Option Workspace) (t u : Tables) (puts : Puts 
   put_organization : (cap : Option ℕ) (o : Organization) → option_map (organization_at t org) cap ≡ Some o → option_map (organization_at u org) cap ≡ Some (placed o ws w)
   put_organization None o e = absurd (let none : ⊥ = cc in none)
   put_organization (Some cap) o e =
-      let is : organization_at t org cap ≡ o = cc in
-      ap Some ((λ i. record { limit = cap; tokens = same_tokens org i; workspaces = put_workspaces i }) ∙ ap (λ (p : Organization). placed p ws w) is)
+      subst (λ (p : Organization). Some (organization_at u org cap) ≡ Some (placed p ws w)) (one_of (organization_at t org cap) o e) (λ i. Some (record { limit = cap; tokens = same_tokens org i; workspaces = put_workspaces i }))
 
   pub put_own : (o : Organization) → record_of t org ≡ Some o → record_of u org ≡ Some (placed o ws w)
   put_own o e = ap (option_map (organization_at u org)) (same_orgs org) ∙ put_organization (cap_of org t) o e
