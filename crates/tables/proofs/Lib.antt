@@ -1,1 +1,7 @@
 pub mod KeepMoves
+pub mod Lists
+pub mod Names
+pub mod Parts
+pub mod Sets
+pub mod Edits
+pub mod Changes
