@@ -11,8 +11,8 @@ use Rattle.machine.specs.declared.acts.Edit.TheVariants.{Make, Configure, AddVer
 use Rattle.machine.specs.declared.acts.Change.{Change}
 use Rattle.machine.specs.declared.records.Version.{Version}
 use Rattle.tables.specs.Edits.{edited_rows, emptied_rows, numbered_rows, started_rows}
-use Rattle.tables.specs.declared.edits.Outgoing.{Outgoing}
-use Rattle.tables.specs.declared.edits.Outgoing.TheVariants.{Missing, Below, All}
+use Rattle.tables.specs.declared.steps.Outgoing.{Outgoing}
+use Rattle.tables.specs.declared.steps.Outgoing.TheVariants.{Missing, Below, All}
 
 -- which versions go, where the oldest `gone` of so many are to go
 abbrev pub outgoing_of : ℕ → Option WorkspaceCells → ℕ → Outgoing

@@ -1,7 +1,8 @@
 -- How all tables of schema 1 are made.
-use Rattle.std.specs.Prelude.{List, ◌++◌}
+use Rattle.std.specs.Prelude.{IsTrue, List, ◌++◌}
 use Rattle.sqlite_schema.specs.declared.schema.Table.{Table}
 use Rattle.sqlite.specs.Effect.{Database}
+use Rattle.sqlite.specs.State.{State}
 use Rattle.statements.specs.Tables.{Tables, Holds}
 use Rattle.statements.specs.Making.{AreMade, no_rows, version_set}
 
@@ -15,3 +16,9 @@ first_rows = version_set no_rows
 
 abbrev pub HoldsFirst : Database → Database → Type 0
 HoldsFirst old new = Holds new first_rows
+
+-- all tables were made, and that is committed
+pub record IsMade (old new : State) : Type 0 where
+  pub rows : Holds new.committed first_rows
+  pub was_open : IsTrue old.is_open
+  pub is_open : IsTrue new.is_open

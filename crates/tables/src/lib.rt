@@ -1,5 +1,6 @@
 //! The store of all organizations in tables: what the rows denote, and when tables are sound.
 #![tactic(auto)]
 
-mod edits;
+mod steps;
 mod making;
+mod transactions;

@@ -6,7 +6,7 @@ ghost use Rattle.statements.specs.Making.{AltersBy, our_tables};
 ghost use Rattle.statements.specs.Schema.{meta_table, org_table, token_table, ws_table, version_table, run_table};
 ghost use Rattle.tables.specs.KeepMaking.{Makes, HoldsFirst};
 
-use sqlite::{Alter, Connection, Error, Transaction};
+use sqlite::{Alter, Error, Transaction};
 use statements::making;
 
 fn make_half<S: Alter>(tx: &mut Transaction<'_, S>) -> Result<(), Error>
@@ -30,7 +30,7 @@ fn make_rest<S: Alter>(tx: &mut Transaction<'_, S>) -> Result<(), Error>
 }
 
 /// Makes all tables, and says that the database has schema 1.
-fn make_all<S: Alter>(tx: &mut Transaction<'_, S>) -> Result<(), Error>
+pub(crate) fn make_all<S: Alter>(tx: &mut Transaction<'_, S>) -> Result<(), Error>
     ensures same_reference { tx.new.conn.ghost_name ≡ tx.old.conn.ghost_name }
     ensures made { AltersBy HoldsFirst (state S.Store tx.old.conn.now) (state S.Store tx.new.conn.now) result }
     ensures so_far { HasCleanDisk (state S.Store tx.new.conn.now) → HasCleanDisk (state S.Store tx.old.conn.now) }

@@ -1,4 +1,4 @@
-use Rattle.tables.proofs.edits.put.Goals as goal
+use Rattle.tables.proofs.steps.put.Goals as goal
 
 pub returns-in-Missing-clause-changed : goal.returns-in-Missing-clause-changed
 returns-in-Missing-clause-changed g c = rw c.in-Missing.is c.forget.ensures.changed

@@ -3,7 +3,7 @@ use Rattle.sqlite.specs.Held.{state}
 use Rattle.statements.specs.declared.rows.Holder.TheVariants.{Run as HeldByRun}
 use Rattle.statements.specs.Changes.{held_by, ws_changed, run_changed_to}
 use Rattle.tables.proofs.KeepMoves.{clean_before, moves_then}
-use Rattle.tables.proofs.edits.start.Goals as goal
+use Rattle.tables.proofs.steps.start.Goals as goal
 
 pub returns-clause-changed : goal.returns-clause-changed
 returns-clause-changed g c clean inside =

@@ -1,7 +1,7 @@
 use Rattle.sqlite.specs.Held.{state}
 use Rattle.tables.specs.KeepEdits.{edited_by, begun_rows}
 use Rattle.tables.proofs.KeepMoves.{moves_then}
-use Rattle.tables.proofs.edits.change.Goals as goal
+use Rattle.tables.proofs.steps.change.Goals as goal
 
 pub returns-in-None-clause-changed : goal.returns-in-None-clause-changed
 returns-in-None-clause-changed g c = rw c.in-None.is c.in_ok-edit.ensures.changed

@@ -3,7 +3,7 @@ use Rattle.statements.specs.Changes.{versions_removed_below}
 use Rattle.tables.specs.Edits.{numbered_rows}
 use Rattle.tables.specs.KeepEdits.{added_rows}
 use Rattle.tables.proofs.KeepMoves.{moves_then}
-use Rattle.tables.proofs.edits.put_above.Goals as goal
+use Rattle.tables.proofs.steps.put_above.Goals as goal
 
 pub returns-clause-changed : goal.returns-clause-changed
 returns-clause-changed g c clean inside =

@@ -2,7 +2,7 @@ use Rattle.sqlite.specs.Held.{state}
 use Rattle.statements.specs.Changes.{ws_added, ws_removed, versions_removed, runs_removed}
 use Rattle.statements.specs.Tables.{Tables}
 use Rattle.tables.proofs.KeepMoves.{clean_before, moves_then}
-use Rattle.tables.proofs.edits.make.Goals as goal
+use Rattle.tables.proofs.steps.make.Goals as goal
 
 pub returns-clause-changed : goal.returns-clause-changed
 returns-clause-changed g c clean inside =

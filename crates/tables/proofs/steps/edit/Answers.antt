@@ -1,4 +1,4 @@
-use Rattle.tables.proofs.edits.edit.Goals as goal
+use Rattle.tables.proofs.steps.edit.Goals as goal
 
 pub returns-in-Make-clause-changed : goal.returns-in-Make-clause-changed
 returns-in-Make-clause-changed g c = rw c.in-Make.is c.make.ensures.changed

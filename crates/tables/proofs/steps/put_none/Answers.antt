@@ -2,7 +2,7 @@ use Rattle.sqlite.specs.Held.{state}
 use Rattle.statements.specs.Changes.{versions_removed}
 use Rattle.tables.specs.Edits.{numbered_rows}
 use Rattle.tables.proofs.KeepMoves.{moves_then}
-use Rattle.tables.proofs.edits.put_none.Goals as goal
+use Rattle.tables.proofs.steps.put_none.Goals as goal
 
 pub returns-clause-changed : goal.returns-clause-changed
 returns-clause-changed g c clean inside =
