@@ -1,5 +1,5 @@
 -- From steps inside a transaction to the transaction, which a commit ends.
-use Rattle.std.proofs.Common.{◌≡◌, inl, inr, true, false, [], IsTrue, Result, Ok, Err, IfErr, OnOk, OnErr, sym, ◌∙◌, subst}
+use Rattle.std.proofs.Common.{◌≡◌, inl, inr, Bool, true, false, not, [], IsTrue, Result, Ok, Err, IfErr, OnOk, OnErr, refl, sym, ap, ◌∙◌, subst}
 use Rattle.sqlite_trees.specs.declared.store.Store.{Ghosts}
 use Rattle.sqlite.specs.Effect.{Database}
 use Rattle.sqlite.specs.Held.{Held, state}
@@ -21,6 +21,12 @@ failed a c d e was same (inl fails) =
     let back = fails.3 in record { was_open = λ is. was (back.was_open is); committed = λ is. (back.undone is).1 ∙ same (back.was_open is) }
 failed a c d e was same (inr late) =
     let kept = late.2.0 in record { was_open = λ _. was kept.was_open; committed = λ _. kept.committed_is ∙ same kept.was_open }
+
+pub settled_by : {S : Type 0} (g : Ghosts S) (h : Held S) (told : Bool) → told ≡ not h.in_transaction → (IsTrue told → IsSettled (state g h)) → h.in_transaction ≡ false → IsSettled (state g h)
+settled_by g h told value settles idle = settles (subst IsTrue (sym (value ∙ ap not idle)) refl)
+
+pub inside_by : {S : Type 0} (h k : Held S) → k ≡ record h { in_transaction = true } → IsTrue k.in_transaction
+inside_by h k begun = subst (λ x. IsTrue x.in_transaction) (sym begun) refl
 
 module _ {S : Type 0} (g : Ghosts S) (h k l m : Held S) (settled : IsSettled (state g h)) (begun : k ≡ record h { in_transaction = true }) where
   pub commits_by : {X : Type 0} (f : Tables → Tables) (result : Result X Error) → Moves f (state g k) (state g l) → OnOk result (Ends (state g l) (state g m)) → IfErr result (FailsToCommit (state g l) (state g m))

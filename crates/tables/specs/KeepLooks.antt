@@ -1,5 +1,6 @@
 -- What looks at a store leave and give.
-use Rattle.std.specs.Prelude.{◌≡◌, IsTrue, Result, IfOk, OnOk, OnErr}
+use Rattle.std.specs.Prelude.{◌≡◌, ℕ, Bool, false, List, Option, Some, None, IsTrue, Result, IfOk, OnOk, OnErr}
+use Rattle.std.specs.Str.{bytes_eq}
 use Rattle.sqlite.specs.State.{State, HasCleanDisk, KeepsCommit}
 use Rattle.statements.specs.Tables.{Tables, Holds}
 
@@ -13,3 +14,8 @@ pub record Stays (old new : State) : Type 0 where
 abbrev pub SeesBy : {X E : Type 0} → (Tables → X) → State → State → Result X E → Type 0
 SeesBy read old new result =
     HasCleanDisk new → IfOk result (λ x. IsTrue new.is_open → (t : Tables) → Holds old.now t → x ≡ read t) × (OnOk result (Stays old new) × OnErr result (KeepsCommit old new))
+
+-- whether the text that was found is this one
+abbrev pub is_body : List ℕ → Option (List ℕ) → Bool
+is_body text None = false
+is_body text (Some found) = bytes_eq found text

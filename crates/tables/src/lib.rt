@@ -2,5 +2,6 @@
 #![tactic(auto)]
 
 mod steps;
+mod looks;
 mod making;
 mod transactions;
