@@ -6,3 +6,4 @@ pub mod Sets
 pub mod Edits
 pub mod Changes
 pub mod KeepCommits
+pub mod KeepFound
