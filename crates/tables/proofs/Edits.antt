@@ -96,6 +96,17 @@ module _ (org ws : List ℕ) (t : Tables) where
   abbrev one_more : Version → ℕ → Workspace → Workspace
   one_more v gone w = record w { next_version = v.number + 1; versions = drop gone (w.versions ++ v ∷ []) }
 
+  -- what is counted is how many versions there are
+  pub count_is : IsSound t → (w : WorkspaceCells) → workspace_of org ws t ≡ Some w → versions_of org ws t ≡ length (versions_at t org ws)
+  count_is sound w e =
+      let is : workspace_by t org ws ≡ Some (workspace_in w (versions_at t org ws) (runs_at t org ws)) = ap (option_map (λ (c : WorkspaceCells). workspace_in c (versions_at t org ws) (runs_at t org ws))) e in
+      let most : length (versions_at t org ws) ≤ 100 = (sound.workspaces org ws _ is).lawful.versions.kept in
+      let same : length (versions_at t org ws) ≡ length (filter (is_version_of org ws) t.versions) = length-map (filter (is_version_of org ws) t.versions) (λ (x : Kept VersionRow). version_in x.1.it) in
+      least (length (filter (is_version_of org ws) t.versions)) (length (versions_at t org ws)) same most
+    where
+      least : (n m : ℕ) → m ≡ n → m ≤ 100 → min n 9_223_372_036_854_775_807 ≡ m
+      least n m e h = omega arith
+
   module _ (v : Version) (gone : ℕ) where
     put_puts : (next most : ℕ) → delete_where (λ (u : Version). nat_lt u.number (next - most)) (versions_at t org ws) ++ v ∷ [] ≡ drop gone (versions_at t org ws ++ v ∷ [])
         → Puts org ws (option_map (one_more v gone) (workspace_by t org ws)) t (put_rows org ws v next most t)
@@ -122,16 +133,6 @@ module _ (org ws : List ℕ) (t : Tables) where
     }
 
     module _ (sound : IsSound t) where
-      count_is : (w : WorkspaceCells) → workspace_of org ws t ≡ Some w → versions_of org ws t ≡ length (versions_at t org ws)
-      count_is w e =
-          let is : workspace_by t org ws ≡ Some (workspace_in w (versions_at t org ws) (runs_at t org ws)) = ap (option_map (λ (c : WorkspaceCells). workspace_in c (versions_at t org ws) (runs_at t org ws))) e in
-          let most : length (versions_at t org ws) ≤ 100 = (sound.workspaces org ws _ is).lawful.versions.kept in
-          let same : length (versions_at t org ws) ≡ length (filter (is_version_of org ws) t.versions) = length-map (filter (is_version_of org ws) t.versions) (λ (x : Kept VersionRow). version_in x.1.it) in
-          least (length (filter (is_version_of org ws) t.versions)) (length (versions_at t org ws)) same most
-        where
-          least : (n m : ℕ) → m ≡ n → m ≤ 100 → min n 9_223_372_036_854_775_807 ≡ m
-          least n m e h = omega arith
-
       versioned_puts : (r : Option WorkspaceCells) (count : ℕ) → workspace_of org ws t ≡ r → ((w : WorkspaceCells) → r ≡ Some w → count ≡ length (versions_at t org ws))
           → Puts org ws (option_map (one_more v gone) (workspace_by t org ws)) t (versioned_rows org ws v gone r count t)
       versioned_puts None count e counts = record {
@@ -173,7 +174,7 @@ module _ (org ws : List ℕ) (t : Tables) where
     pub edited_puts : (edit : Edit) → Puts org ws (edited edit (workspace_by t org ws)) t (edited_rows org ws edit t)
     edited_puts (Make settings) = made_puts settings
     edited_puts (Configure settings) = row_puts (with_auto settings.auto_apply) (λ (w : Workspace). with_settings w settings) (λ c vs rs. refl)
-    edited_puts (AddVersion v gone) = versioned_puts v gone sound (workspace_of org ws t) (versions_of org ws t) refl (λ w e. count_is v gone sound w e)
+    edited_puts (AddVersion v gone) = versioned_puts v gone sound (workspace_of org ws t) (versions_of org ws t) refl (λ w e. count_is sound w e)
     edited_puts Purge = purge_puts
     edited_puts (Hold id text) = row_puts (held_by (Lock id text)) (locked id text) (λ c vs rs. refl)
     edited_puts (Release id) = row_puts (released_from id) (released id) (λ c vs rs. refl)

@@ -4,3 +4,4 @@ pub mod Parts
 pub mod Sets
 pub mod Edits
 pub mod Changes
+pub mod Lawful

@@ -52,7 +52,7 @@ module _ (t : Tables) (org name : List ℕ) where
       get-from_entries names_total (map (λ (x : Kept TokenRow). (x.1.name, token_in x.1.it)) (filter (is_token_of org) t.tokens)) name
       ∙ entry_found (is_token_of org) (λ (x : Kept TokenRow). x.1.name) (λ (x : Kept TokenRow). token_in x.1.it) name t.tokens
 
-one_of : (a b : Organization) → Some a ≡ Some b → a ≡ b
+pub one_of : (a b : Organization) → Some a ≡ Some b → a ≡ b
 one_of a b e = cc
 
 -- the workspaces of a record are those that have rows
