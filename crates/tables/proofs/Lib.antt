@@ -5,3 +5,4 @@ pub mod Sets
 pub mod Edits
 pub mod Changes
 pub mod Lawful
+pub mod Finding

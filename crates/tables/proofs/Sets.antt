@@ -25,7 +25,7 @@ use Rattle.tables.proofs.Names.{same_name, name_is, apart_name, names_apart, is_
 -- ---- what a name gives
 
 module _ {X V : Type 0} (mine : X → Bool) (key : X → List ℕ) (value : X → V) (q : List ℕ) where
-  entry_found : (xs : List X) → find_entry name_cmp q (map (λ x. (key x, value x)) (filter mine xs)) ≡ option_map value (find (λ x. mine x && bytes_eq (key x) q) xs)
+  pub entry_found : (xs : List X) → find_entry name_cmp q (map (λ x. (key x, value x)) (filter mine xs)) ≡ option_map value (find (λ x. mine x && bytes_eq (key x) q) xs)
   entry_found [] = refl
   entry_found (x ∷ xs) = go (mine x) (bytes_eq (key x) q) refl (entry_found xs)
     where
