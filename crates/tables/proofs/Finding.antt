@@ -1,5 +1,5 @@
 -- What the queries find is the part of the record that it stands for.
-use Rattle.std.proofs.Common.{◌≡◌, ℕ, zero, suc, ◌+◌, ◌<◌, ◌≤◌, Bool, true, false, not, ◌&&◌, ◌==◌, cond, List, [], ◌∷◌, map, filter, find, length, min, is_some, Option, Some, None, option_map, refl, sym, ap, subst, ◌∙◌, arith}
+use Rattle.std.proofs.Common.{◌≡◌, ℕ, zero, suc, ◌+◌, ◌<◌, ◌≤◌, Bool, true, false, not, ◌&&◌, ◌==◌, cond, List, [], ◌∷◌, map, filter, find, length, min, is_some, Option, Some, None, option_map, refl, sym, ap, subst, ap₂, ◌∙◌, arith}
 use Rattle.std.specs.Str.{bytes_eq}
 use Rattle.std.specs.Option.{unwrap_or, option_or}
 use Rattle.std.specs.List.{AllByRecursion, list_any}
@@ -9,14 +9,14 @@ use Rattle.std.proofs.lemmas.List.{length-map}
 use Rattle.sqlite_trees.specs.Tree.{IsAscending}
 use Rattle.sqlite_keyed.specs.Rules.{AreApart}
 use Rattle.sqlite_keyed.proofs.ListLemmas.{filter_same}
-use Rattle.sqlite_keyed.proofs.SliceLemmas.{find-slice}
+use Rattle.sqlite_keyed.proofs.SliceLemmas.{find-slice, any_is_found}
 use Rattle.basis.specs.declared.runs.RunStatus.{RunStatus}
 use Rattle.basis.specs.declared.runs.RunStatus.TheVariants.{Pending, Planning, Planned, Applying, Applied, PlannedAndFinished, Errored, Discarded, Canceled}
 use Rattle.machine.specs.Order.{name_cmp}
 use Rattle.machine.specs.Laws.{Rises, is_pending}
 use Rattle.machine.specs.Settling.{first_waiting, is_waiting}
 use Rattle.machine.specs.Workspaces.{newest, run_of, holder_status}
-use Rattle.machine.specs.Records.{count_of}
+use Rattle.machine.specs.Records.{count_of, workspace_in as seen_workspace}
 use Rattle.machine.specs.Units.{find_last, version_of, text_of, is_text_of, newest_unit, workspace_unit, unit_by, unit_of}
 use Rattle.machine.specs.declared.acts.Act.{Act}
 use Rattle.machine.specs.declared.acts.Newest.{Newest}
@@ -31,15 +31,17 @@ use Rattle.statements.specs.declared.rows.Head.{Head}
 use Rattle.statements.specs.declared.rows.Holder.{Holder as HolderCells}
 use Rattle.statements.specs.declared.rows.Holder.TheVariants as cells
 use Rattle.statements.specs.declared.rows.Workspace.{Workspace as WorkspaceCells}
-use Rattle.statements.specs.Rows.{Kept, WsRow, VersionRow, RunRow}
+use Rattle.statements.specs.Rows.{Kept, OrgRow, WsRow, VersionRow, RunRow}
 use Rattle.statements.specs.Tables.{Tables}
-use Rattle.statements.specs.Changes.{is_version_of, is_version, is_run_of, is_run, is_ws, is_ws_of}
+use Rattle.statements.specs.Changes.{is_org, is_version_of, is_version, is_run_of, is_run, is_ws, is_ws_of}
 use Rattle.statements.specs.Finds.{last_in, counted, head_of, newest_of, body_of, versions_of, first_waiting_of, status_of, workspace_of, workspaces_of, cap_of}
 use Rattle.statements.specs.Finds as finds
 use Rattle.tables.specs.Records.{version_in, run_in, holder_in, versions_at, runs_at, workspace_in, workspace_at, workspace_by, workspaces_at, organization_at, record_of}
 use Rattle.tables.specs.Sound.{IsSound}
 use Rattle.tables.proofs.Names.{same_name, pair_first, pair_second, name_is}
-use Rattle.tables.proofs.Sets.{entry_found, workspace_there}
+use Rattle.tables.proofs.Lists.{found_passes}
+use Rattle.tables.proofs.Parts.{none_mapped}
+use Rattle.tables.proofs.Sets.{entry_found, got_workspace, workspace_there, one_of}
 use Rattle.tables.proofs.Edits.{count_is}
 use Rattle.tables.proofs.Lawful.{limit_there, limit_is, found_holds}
 use Rattle.tables.specs.Units.{holder_status_in, is_found_text, newest_by, newest_in, unit_at, unit_in}
@@ -177,9 +179,6 @@ one_longer n None e = omega arith
 one_longer n (Some w) e = absurd (let none : ⊥ = cc in none)
 
 module _ (org : List ℕ) (value : Kept WsRow → Workspace) where
-  rows_of : List (Kept WsRow) → List (List ℕ × Workspace)
-  rows_of xs = map (λ (x : Kept WsRow). (x.1.name, value x)) (filter (is_ws_of org) xs)
-
   entries_counted : (xs : List (Kept WsRow)) → AreApart (λ a b. is_ws a.1.org a.1.name b) xs → len (from_entries {R = name_cmp} (map (λ (x : Kept WsRow). (x.1.name, value x)) (filter (is_ws_of org) xs))) ≡ length (filter (is_ws_of org) xs)
   entries_counted [] apart = len-empty name_cmp Workspace
   entries_counted (x ∷ xs) apart = go (is_ws_of org x) refl (entries_counted xs apart.1)
@@ -193,3 +192,87 @@ module _ (org : List ℕ) (value : Kept WsRow → Workspace) where
                 none_found (λ y. is_ws_of org y && bytes_eq y.1.name x.1.name) xs (subst (λ (n : List ℕ). AllByRecursion (λ y. is_ws n x.1.name y ≡ false) xs) (same_name x.1.org org e) apart.0) in
           let missing : get rest x.1.name ≡ None = get-from_entries names_total (map (λ (y : Kept WsRow). (y.1.name, value y)) (filter (is_ws_of org) xs)) x.1.name ∙ entry_found (is_ws_of org) (λ (y : Kept WsRow). y.1.name) value x.1.name xs ∙ ap (option_map value) none in
           len-insert names_total rest x.1.name (value x) ∙ one_longer (len rest) (get rest x.1.name) missing ∙ ap suc more
+
+-- the workspaces of a record are those of its rows
+workspaces_there : (t : Tables) (org : List ℕ) (o : Organization) → record_of t org ≡ Some o → o.workspaces ≡ workspaces_at t org
+workspaces_there t org o e = by_limit (cap_of org t) e
+  where
+    by_limit : (cap : Option ℕ) → option_map (organization_at t org) cap ≡ Some o → o.workspaces ≡ workspaces_at t org
+    by_limit None e = absurd (let none : ⊥ = cc in none)
+    by_limit (Some cap) e = sym (ap (λ (p : Organization). p.workspaces) (one_of (organization_at t org cap) o e))
+
+module _ (t : Tables) (sound : IsSound t) (org : List ℕ) where
+  -- as many rows as workspaces
+  pub rows_counted : (o : Organization) → record_of t org ≡ Some o → length (filter (is_ws_of org) t.wss) ≡ count_of o
+  rows_counted o e =
+      sym (entries_counted org (λ (x : Kept WsRow). workspace_at t org x.1.name x.1.it) t.wss sound.wss_apart)
+      ∙ len-entries (workspaces_at t org) ∙ ap (λ m. length (entries m)) (sym (workspaces_there t org o e))
+
+  -- the count of workspaces is exact, since there are no more than the limit
+  pub count_found : (o : Organization) → record_of t org ≡ Some o → workspaces_of org t ≡ count_of o
+  count_found o e = least (length (filter (is_ws_of org) t.wss)) (count_of o) o.limit (rows_counted o e) (sound.limits org o e) (limit_is t sound org o e)
+    where
+      least : (n m k : ℕ) → n ≡ m → m ≤ k → k ≤ 100_000 → min n 9_223_372_036_854_775_807 ≡ m
+      least n m k e h l = omega arith
+
+  -- what a decision sees of a workspace is what the point queries find
+  pub unit_found : (o : Organization) (ws : List ℕ) (act : Act) → record_of t org ≡ Some o → unit_in act org ws t ≡ unit_of o ws act
+  unit_found o ws act e = by_row (workspace_of org ws t) refl ∙ ap (unit_by o act) (sym (workspace_there t org ws o e))
+    where
+      by_row : (r : Option WorkspaceCells) → workspace_of org ws t ≡ r → unit_at act org ws t r ≡ unit_by o act (option_map (workspace_at t org ws) r)
+      by_row None f = λ i. Absent (count_found o e i) (unwrap_or (limit_there t org o e i) 0)
+      by_row (Some w) f =
+          let stands : workspace_by t org ws ≡ Some (workspace_at t org ws w) = ap (option_map (workspace_at t org ws)) f in
+          let lawful = (sound.workspaces org ws _ stands).lawful in
+          λ i. Present (record {
+            auto_apply = w.auto;
+            holder = holder_in w.holder;
+            holder_status = holder_status_found t org ws w.holder i;
+            released = w.released;
+            next_version = w.next_version;
+            next_run = w.next_run;
+            newest = newest_unit_found t org ws w.next_version act lawful.versions.rise i;
+            versions = count_is org ws t sound w f i;
+            first_waiting = first_waiting_found t org ws i;
+          })
+
+  -- ---- the text of a version
+
+  none_there : cap_of org t ≡ None → list_any (is_org org) t.orgs ≡ false
+  none_there e = any_is_found (is_org org) t.orgs ∙ ap is_some (none_mapped (λ (x : Kept OrgRow). x.1.cap) (find (is_org org) t.orgs) e)
+
+  -- an organization that isn't there has no workspace
+  no_workspace : (ws : List ℕ) → cap_of org t ≡ None → workspace_of org ws t ≡ None
+  no_workspace ws e = by_row (find (is_ws org ws) t.wss) refl
+    where
+      by_row : (r : Option (Kept WsRow)) → find (is_ws org ws) t.wss ≡ r → option_map (λ (x : Kept WsRow). x.1.it) r ≡ None
+      by_row None f = refl
+      by_row (Some x) f =
+          let owned : list_any (is_org x.1.org) t.orgs ≡ true = found_holds (λ (y : Kept WsRow). list_any (is_org y.1.org) t.orgs ≡ true) (is_ws org ws) t.wss x sound.wss_owned f in
+          let own : x.1.org ≡ org = pair_first org ws x.1.org x.1.name (found_passes (is_ws org ws) t.wss x f) in
+          let there : list_any (is_org org) t.orgs ≡ true = subst (λ (n : List ℕ). list_any (is_org n) t.orgs ≡ true) own owned in
+          absurd (let no_one : ⊥ = cc (sym there ∙ none_there e) in no_one)
+
+  -- a workspace that isn't there has no version and no run
+  none_is : (ws : List ℕ) → workspace_of org ws t ≡ None → list_any (is_ws org ws) t.wss ≡ false
+  none_is ws e = any_is_found (is_ws org ws) t.wss ∙ ap is_some (none_mapped (λ (x : Kept WsRow). x.1.it) (find (is_ws org ws) t.wss) e)
+
+  pub no_versions : (ws : List ℕ) → workspace_of org ws t ≡ None → versions_at t org ws ≡ []
+  no_versions ws e = ap (map (λ (x : Kept VersionRow). version_in x.1.it)) (no_orphans (is_version_of org ws) (λ x. is_ws x.1.org x.1.ws) t.wss
+      (λ x f. ap₂ (λ (a b : List ℕ). list_any (is_ws a b) t.wss) (pair_first org ws x.1.org x.1.ws f) (pair_second org ws x.1.org x.1.ws f) ∙ none_is ws e) t.versions sound.versions_owned)
+
+  pub seen_in_rows : (ws : List ℕ) → seen_workspace (record_of t org) ws ≡ workspace_by t org ws
+  seen_in_rows ws = by_limit (cap_of org t) refl
+    where
+      by_limit : (cap : Option ℕ) → cap_of org t ≡ cap → seen_workspace (option_map (organization_at t org) cap) ws ≡ workspace_by t org ws
+      by_limit None e = sym (ap (option_map (workspace_at t org ws)) (no_workspace ws e))
+      by_limit (Some cap) e = got_workspace t org ws
+
+  pub text_found : (ws : List ℕ) (n : ℕ) → body_of org ws n t ≡ text_of n (seen_workspace (record_of t org) ws)
+  text_found ws n = body_found t org ws n ∙ by_row (workspace_of org ws t) refl ∙ ap (text_of n) (sym (seen_in_rows ws))
+    where
+      by_row : (r : Option WorkspaceCells) → workspace_of org ws t ≡ r → option_map (λ (v : Version). v.text) (find (numbered n) (versions_at t org ws)) ≡ text_of n (option_map (workspace_at t org ws) r)
+      by_row None e = ap (λ (vs : List Version). option_map (λ (v : Version). v.text) (find (numbered n) vs)) (no_versions ws e)
+      by_row (Some w) e =
+          let stands : workspace_by t org ws ≡ Some (workspace_at t org ws w) = ap (option_map (workspace_at t org ws)) e in
+          ap (option_map (λ (v : Version). v.text)) (first_is_last 0 w.next_version n (versions_at t org ws) (sound.workspaces org ws _ stands).lawful.versions.rise)

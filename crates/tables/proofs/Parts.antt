@@ -23,7 +23,7 @@ map_map : {A B C D : Type 0} (f : A → B) (g : B → C) (h : A → D) (k : D �
 map_map f g h k same None = refl
 map_map f g h k same (Some a) = ap Some (same a)
 
-none_mapped : {A B : Type 0} (f : A → B) (o : Option A) → option_map f o ≡ None → o ≡ None
+pub none_mapped : {A B : Type 0} (f : A → B) (o : Option A) → option_map f o ≡ None → o ≡ None
 none_mapped f None e = refl
 none_mapped f (Some a) e = absurd (let none : ⊥ = cc in none)
 
