@@ -60,7 +60,7 @@ three : (a b c : Bool) → (a && (b && c)) ≡ ((a && b) && c)
 three true b c = refl
 three false b c = refl
 
-none_found : {X : Type 0} (p : X → Bool) (xs : List X) → AllByRecursion (λ x. p x ≡ false) xs → find p xs ≡ None
+pub none_found : {X : Type 0} (p : X → Bool) (xs : List X) → AllByRecursion (λ x. p x ≡ false) xs → find p xs ≡ None
 none_found p [] all = refl
 none_found p (x ∷ xs) all = rw all.0 (none_found p xs all.1)
 
@@ -74,7 +74,7 @@ newest-shown show (y ∷ []) = refl
 newest-shown show (y ∷ z ∷ ys) = newest-shown show (z ∷ ys)
 
 -- no row belongs to one that isn't there
-no_orphans : {A B : Type 0} (mine : A → Bool) (parent : A → B → Bool) (ps : List B) → ((x : A) → mine x ≡ true → list_any (parent x) ps ≡ false) → (xs : List A)
+pub no_orphans : {A B : Type 0} (mine : A → Bool) (parent : A → B → Bool) (ps : List B) → ((x : A) → mine x ≡ true → list_any (parent x) ps ≡ false) → (xs : List A)
     → AllByRecursion (λ x. list_any (parent x) ps ≡ true) xs → filter mine xs ≡ []
 no_orphans mine parent ps none [] all = refl
 no_orphans mine parent ps none (x ∷ xs) all = go (mine x) refl (no_orphans mine parent ps none xs all.1)
@@ -238,7 +238,7 @@ module _ (t : Tables) (sound : IsSound t) (org : List ℕ) where
 
   -- ---- the text of a version
 
-  none_there : cap_of org t ≡ None → list_any (is_org org) t.orgs ≡ false
+  pub none_there : cap_of org t ≡ None → list_any (is_org org) t.orgs ≡ false
   none_there e = any_is_found (is_org org) t.orgs ∙ ap is_some (none_mapped (λ (x : Kept OrgRow). x.1.cap) (find (is_org org) t.orgs) e)
 
   -- an organization that isn't there has no workspace

@@ -6,3 +6,4 @@ pub mod Edits
 pub mod Changes
 pub mod Lawful
 pub mod Finding
+pub mod Operators
