@@ -101,3 +101,148 @@ module _ (digest : List ℕ) where
             inside false f =
                 ap with_it (entries-insert names_total (made xs) x.1.name (token_in x.1.it))
                 ∙ put_away x.1.name (token_in x.1.it) f (entries (made xs)) name_free ∙ more
+
+-- ---- callers
+
+module _ (t : Tables) (sound : IsSound t) (org : List ℕ) where
+  no_tokens : cap_of org t ≡ None → filter (is_token_of org) t.tokens ≡ []
+  no_tokens e = no_orphans (is_token_of org) (λ x. is_org x.1.org) t.orgs
+      (λ x f. ap (λ (n : List ℕ). list_any (is_org n) t.orgs) (same_name x.1.org org f) ∙ none_there t sound org e) t.tokens sound.tokens_owned
+
+  no_workspaces : cap_of org t ≡ None → filter (is_ws_of org) t.wss ≡ []
+  no_workspaces e = no_orphans (is_ws_of org) (λ x. is_org x.1.org) t.orgs
+      (λ x f. ap (λ (n : List ℕ). list_any (is_org n) t.orgs) (same_name x.1.org org f) ∙ none_there t sound org e) t.wss sound.wss_owned
+
+  pub caller_is : (digest : List ℕ) → option_map (λ (x : Kept TokenRow). token_in x.1.it) (find (has_digest org digest) t.tokens) ≡ caller_of (record_of t org) digest
+  caller_is digest = by_limit (cap_of org t) refl
+    where
+      none_found_there : (o : Option (Kept TokenRow)) → find (has_digest org digest) t.tokens ≡ o → cap_of org t ≡ None → option_map (λ (x : Kept TokenRow). token_in x.1.it) o ≡ None
+      none_found_there None f e = refl
+      none_found_there (Some x) f e =
+          let own : x.1.org ≡ org = pair_first org digest x.1.org x.1.it.digest (found_passes (has_digest org digest) t.tokens x f) in
+          let owned : list_any (is_org x.1.org) t.orgs ≡ true = found_holds (λ (y : Kept TokenRow). list_any (is_org y.1.org) t.orgs ≡ true) (has_digest org digest) t.tokens x sound.tokens_owned f in
+          let there : list_any (is_org org) t.orgs ≡ true = subst (λ (n : List ℕ). list_any (is_org n) t.orgs ≡ true) own owned in
+          absurd (let no_one : ⊥ = cc (sym there ∙ none_there t sound org e) in no_one)
+
+      by_limit : (cap : Option ℕ) → cap_of org t ≡ cap → option_map (λ (x : Kept TokenRow). token_in x.1.it) (find (has_digest org digest) t.tokens) ≡ caller_of (option_map (organization_at t org) cap) digest
+      by_limit None e = none_found_there (find (has_digest org digest) t.tokens) refl e
+      by_limit (Some cap) e = sym (digest_found digest org t.tokens sound.tokens_apart sound.digests_apart)
+
+  -- the role of a caller is that of the row with its digest
+  pub caller_found : (digest : List ℕ) → role_of_digest org digest t ≡ option_map (λ (token : Token). token.role) (caller_of (record_of t org) digest)
+  caller_found digest = mapped (find (has_digest org digest) t.tokens) ∙ ap (option_map (λ (token : Token). token.role)) (caller_is digest)
+    where
+      mapped : (o : Option (Kept TokenRow)) → option_map (λ (x : Kept TokenRow). x.1.it.role) o ≡ option_map (λ (token : Token). token.role) (option_map (λ (x : Kept TokenRow). token_in x.1.it) o)
+      mapped None = refl
+      mapped (Some x) = refl
+
+-- ---- an organization more
+
+record_there : (t : Tables) (org : List ℕ) (cap : ℕ) → cap_of org t ≡ Some cap → record_of t org ≡ Some (organization_at t org cap)
+record_there t org cap e = ap (option_map (organization_at t org)) e
+
+record_missing : (t : Tables) (org : List ℕ) → cap_of org t ≡ None → record_of t org ≡ None
+record_missing t org e = ap (option_map (organization_at t org)) e
+
+module _ (t : Tables) (sound : IsSound t) (org : List ℕ) (limit : ℕ) where
+  pub org_exists : (cap : ℕ) → cap_of org t ≡ Some cap → effect Exists (record_of t org) ≡ org_added limit (record_of t org)
+  org_exists cap e = subst (λ (r : Option Organization). effect Exists r ≡ org_added limit r) (sym (record_there t org cap e)) refl
+
+  pub org_own : cap_of org t ≡ None → record_of (rows.org_added org limit t) org ≡ Some (new_organization limit)
+  org_own e =
+      ap (λ (o : Option (Kept OrgRow)). option_map (organization_at t org) (option_map (λ (x : Kept OrgRow). x.1.cap) o))
+        (find_pushed (is_org org) t.orgs (next_key id_of t.orgs, record { name = org; cap = limit }) (none_mapped (λ (x : Kept OrgRow). x.1.cap) _ e) (name_is org))
+      ∙ (λ i. Some (record {
+        limit = limit;
+        tokens = from_entries {R = name_cmp} (map (λ (x : Kept TokenRow). (x.1.name, token_in x.1.it)) (no_tokens t sound org e i));
+        workspaces = from_entries {R = name_cmp} (map (λ (x : Kept WsRow). (x.1.name, workspace_at t org x.1.name x.1.it)) (no_workspaces t sound org e i));
+      }))
+
+  -- where no organization has the name, the new one is there
+  pub org_done : cap_of org t ≡ None → effect Done (record_of (rows.org_added org limit t) org) ≡ org_added limit (record_of t org)
+  org_done e = ap (effect Done) (org_own e) ∙ sym (ap (org_added limit) (record_missing t org e))
+
+  pub org_other : (q : List ℕ) → q ≢ org → record_of (rows.org_added org limit t) q ≡ record_of t q
+  org_other q apart =
+      ap (λ (o : Option (Kept OrgRow)). option_map (organization_at t q) (option_map (λ (x : Kept OrgRow). x.1.cap) o))
+      (find_pushed_other (is_org q) t.orgs (next_key id_of t.orgs, record { name = org; cap = limit }) (apart_name org q (λ same. apart (sym same))))
+
+-- ---- a token more
+
+found_same : {A B : Type 0} (f : A → B) (o : Option A) → is_some (option_map f o) ≡ is_some o
+found_same f None = refl
+found_same f (Some a) = refl
+
+module _ (t : Tables) (sound : IsSound t) (org name digest : List ℕ) (role : Role) where
+  abbrev new_token : Token
+  new_token = token_of digest role
+
+  abbrev added : Tables
+  added = rows.token_added org name digest role t
+
+  new_row : Kept TokenRow
+  new_row = (next_key id_of t.tokens, record { org = org; name = name; it = record { digest = digest; role = role } })
+
+  pub token_absent : cap_of org t ≡ None → effect Absent (record_of t org) ≡ token_added name new_token (record_of t org)
+  token_absent e = subst (λ (r : Option Organization). effect Absent r ≡ token_added name new_token r) (sym (record_missing t org e)) refl
+
+  module _ (cap : ℕ) (there : cap_of org t ≡ Some cap) where
+    abbrev before : Organization
+    before = organization_at t org cap
+
+    named_is : is_some (get (tokens_at t org) name) ≡ is_some (role_of_name org name t)
+    named_is = ap is_some (got_token t org name) ∙ found_same (λ (x : Kept TokenRow). token_in x.1.it) (find (is_token org name) t.tokens) ∙ sym (found_same (λ (x : Kept TokenRow). x.1.it.role) (find (is_token org name) t.tokens))
+
+    digest_is : is_some (token_with digest (entries (tokens_at t org))) ≡ is_some (role_of_digest org digest t)
+    digest_is =
+        ap is_some (digest_found digest org t.tokens sound.tokens_apart sound.digests_apart)
+        ∙ found_same (λ (x : Kept TokenRow). token_in x.1.it) (find (has_digest org digest) t.tokens) ∙ sym (found_same (λ (x : Kept TokenRow). x.1.it.role) (find (has_digest org digest) t.tokens))
+
+    by_tests : (a b : Bool) → is_some (role_of_name org name t) ≡ a → is_some (role_of_digest org digest t) ≡ b
+        → token_added name new_token (record_of t org) ≡ cond (a || b) (effect Exists (Some before)) (effect Done (Some (with_token before name new_token)))
+    by_tests a b e f =
+        ap (token_added name new_token) (record_there t org cap there)
+        ∙ ap₂ (λ (x y : Bool). cond (x || y) (effect Exists (Some before)) (effect Done (Some (with_token before name new_token)))) (named_is ∙ e) (digest_is ∙ f)
+
+    -- the name is taken
+    pub token_named : (r : Role) → role_of_name org name t ≡ Some r → effect Exists (record_of t org) ≡ token_added name new_token (record_of t org)
+    token_named r e = ap (effect Exists) (record_there t org cap there) ∙ sym (by_tests true (is_some (role_of_digest org digest t)) (ap is_some e) refl)
+
+    -- the digest is that of another token
+    pub token_known : (r : Role) → role_of_digest org digest t ≡ Some r → effect Exists (record_of t org) ≡ token_added name new_token (record_of t org)
+    token_known r e = ap (effect Exists) (record_there t org cap there) ∙ sym (by_tests (is_some (role_of_name org name t)) true refl (ap is_some e) ∙ either (is_some (role_of_name org name t)))
+      where
+        either : (a : Bool) → cond (a || true) (effect Exists (Some before)) (effect Done (Some (with_token before name new_token))) ≡ effect Exists (Some before)
+        either true = refl
+        either false = refl
+
+    module _ (unnamed : role_of_name org name t ≡ None) where
+      put_tokens : tokens_at added org ≡ insert (tokens_at t org) name new_token
+      put_tokens = same_map names_total names_same _ _ (λ q. by_name q (bytes_eq q name) refl)
+        where
+          by_name : (q : List ℕ) (b : Bool) → bytes_eq q name ≡ b → get (tokens_at added org) q ≡ get (insert (tokens_at t org) name new_token) q
+          by_name q true e = subst (λ (n : List ℕ). get (tokens_at added org) n ≡ get (insert (tokens_at t org) name new_token) n) (sym (same_name q name e))
+              (got_token added org name
+              ∙ ap (option_map (λ (x : Kept TokenRow). token_in x.1.it)) (find_pushed (is_token org name) t.tokens _ (none_mapped (λ (x : Kept TokenRow). x.1.it.role) _ unnamed) (pair_is org name))
+              ∙ sym (get_own (tokens_at t org) name new_token))
+          by_name q false e =
+              got_token added org q
+              ∙ ap (option_map (λ (x : Kept TokenRow). token_in x.1.it)) (find_pushed_other (is_token org q) t.tokens _ (ap₂ ◌&&◌ (name_is org) (apart_name name q (λ same. names_apart q name e (sym same)))))
+              ∙ sym (got_token t org q) ∙ sym (get_other (tokens_at t org) name new_token q (names_apart q name e))
+
+      pub token_own : record_of added org ≡ Some (with_token before name new_token)
+      token_own = ap (option_map (organization_at added org)) there ∙ (λ i. Some (record { limit = cap; tokens = put_tokens i; workspaces = workspaces_at t org }))
+
+      -- where neither its name nor its digest is there, the new one is
+      pub token_done : role_of_digest org digest t ≡ None → effect Done (record_of added org) ≡ token_added name new_token (record_of t org)
+      token_done unknown = ap (effect Done) token_own ∙ sym (by_tests false false (ap is_some unnamed) (ap is_some unknown))
+
+  pub token_other : (q : List ℕ) → q ≢ org → record_of added q ≡ record_of t q
+  token_other q apart = by_limit (cap_of q t)
+    where
+      same_tokens : tokens_at added q ≡ tokens_at t q
+      same_tokens = ap (λ es. from_entries {R = name_cmp} es) (slice-push_other (is_token_of q) (λ (x : Kept TokenRow). (x.1.name, token_in x.1.it)) t.tokens _ (apart_name org q (λ same. apart (sym same))))
+
+      by_limit : (c : Option ℕ) → option_map (organization_at added q) c ≡ option_map (organization_at t q) c
+      by_limit None = refl
+      by_limit (Some c) = λ i. Some (record { limit = c; tokens = same_tokens i; workspaces = workspaces_at t q })
