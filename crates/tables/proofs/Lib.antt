@@ -7,3 +7,4 @@ pub mod Changes
 pub mod Lawful
 pub mod Finding
 pub mod Operators
+pub mod Following
