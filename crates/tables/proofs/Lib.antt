@@ -8,3 +8,4 @@ pub mod Lawful
 pub mod Finding
 pub mod Operators
 pub mod Following
+pub mod Owned
