@@ -9,3 +9,4 @@ pub mod Finding
 pub mod Operators
 pub mod Following
 pub mod Owned
+pub mod Kept
