@@ -1,14 +1,11 @@
 -- What the queries find is the part of the record that it stands for.
-use Rattle.std.proofs.Common.{◌≡◌, ℕ, zero, suc, ◌+◌, ◌<◌, ◌≤◌, Bool, true, false, not, ◌&&◌, ◌==◌, cond, List, [], ◌∷◌, map, filter, find, length, min, is_some, Option, Some, None, option_map, refl, sym, ap, subst, ap₂, ◌∙◌, arith}
+use Rattle.std.proofs.Common.{◌≡◌, ℕ, suc, ◌+◌, ◌≤◌, Bool, true, false, not, ◌&&◌, ◌==◌, cond, List, [], ◌∷◌, map, filter, find, length, min, is_some, Option, Some, None, option_map, refl, sym, ap, subst, ap₂, ◌∙◌, arith}
 use Rattle.std.specs.Str.{bytes_eq}
 use Rattle.std.specs.Option.{unwrap_or, option_or}
 use Rattle.std.specs.List.{AllByRecursion, list_any}
-use Rattle.std.specs.FinMap.{FinMap, from_entries, entries, get, get-from_entries, len-insert, len-entries, len-empty, len, insert}
-use Rattle.std.proofs.lemmas.Bool.{eqb-true, eqb-false, eq-eqb, ne_eqb}
-use Rattle.std.proofs.lemmas.List.{length-map}
-use Rattle.sqlite_trees.specs.Tree.{IsAscending}
+use Rattle.std.specs.FinMap.{from_entries, entries, get, get-from_entries, len-insert, len-entries, len-empty, len}
+use Rattle.std.proofs.lemmas.Bool.{eqb-true, eq-eqb, ne_eqb}
 use Rattle.sqlite_keyed.specs.Rules.{AreApart}
-use Rattle.sqlite_keyed.proofs.ListLemmas.{filter_same}
 use Rattle.sqlite_keyed.proofs.SliceLemmas.{find-slice, any_is_found}
 use Rattle.basis.specs.declared.runs.RunStatus.{RunStatus}
 use Rattle.basis.specs.declared.runs.RunStatus.TheVariants.{Pending, Planning, Planned, Applying, Applied, PlannedAndFinished, Errored, Discarded, Canceled}
@@ -17,10 +14,8 @@ use Rattle.machine.specs.Laws.{Rises, is_pending}
 use Rattle.machine.specs.Settling.{first_waiting, is_waiting}
 use Rattle.machine.specs.Workspaces.{newest, run_of, holder_status}
 use Rattle.machine.specs.Records.{count_of, workspace_in as seen_workspace}
-use Rattle.machine.specs.Units.{find_last, version_of, text_of, is_text_of, newest_unit, workspace_unit, unit_by, unit_of}
+use Rattle.machine.specs.Units.{find_last, version_of, text_of, newest_unit, unit_by, unit_of}
 use Rattle.machine.specs.declared.acts.Act.{Act}
-use Rattle.machine.specs.declared.acts.Newest.{Newest}
-use Rattle.machine.specs.declared.acts.Unit.{Unit as AnyUnit}
 use Rattle.machine.specs.declared.acts.Unit.TheVariants.{Absent, Present}
 use Rattle.machine.specs.declared.records.Version.{Version}
 use Rattle.machine.specs.declared.records.Run.{Run}
@@ -36,9 +31,9 @@ use Rattle.statements.specs.Tables.{Tables}
 use Rattle.statements.specs.Changes.{is_org, is_version_of, is_version, is_run_of, is_run, is_ws, is_ws_of}
 use Rattle.statements.specs.Finds.{last_in, counted, head_of, newest_of, body_of, versions_of, first_waiting_of, status_of, workspace_of, workspaces_of, cap_of}
 use Rattle.statements.specs.Finds as finds
-use Rattle.tables.specs.Records.{version_in, run_in, holder_in, versions_at, runs_at, workspace_in, workspace_at, workspace_by, workspaces_at, organization_at, record_of}
+use Rattle.tables.specs.Records.{version_in, run_in, holder_in, versions_at, runs_at, workspace_at, workspace_by, workspaces_at, organization_at, record_of}
 use Rattle.tables.specs.Sound.{IsSound}
-use Rattle.tables.proofs.Names.{same_name, pair_first, pair_second, name_is}
+use Rattle.tables.proofs.Names.{same_name, pair_first, pair_second}
 use Rattle.tables.proofs.Lists.{found_passes}
 use Rattle.tables.proofs.Parts.{none_mapped}
 use Rattle.tables.proofs.Sets.{entry_found, got_workspace, workspace_there, one_of}
@@ -145,8 +140,8 @@ module _ (t : Tables) (org ws : List ℕ) where
   pub first_waiting_found : first_waiting_of org ws t ≡ first_waiting (runs_at t org ws)
   first_waiting_found =
       ap (option_map (λ (x : Kept RunRow). x.1.it.number)) (find_same (finds.is_waiting org ws) (λ x. is_run_of org ws x && is_waiting (run_in x.1.it))
-        (λ x. three (bytes_eq x.1.org org) (bytes_eq x.1.ws ws) (finds.is_pending x.1.it.status && not x.1.it.plan_only)
-          ∙ ap (λ (b : Bool). (bytes_eq x.1.org org && bytes_eq x.1.ws ws) && (b && not x.1.it.plan_only)) (pending_same x.1.it.status)) t.runs)
+      (λ x. three (bytes_eq x.1.org org) (bytes_eq x.1.ws ws) (finds.is_pending x.1.it.status && not x.1.it.plan_only)
+      ∙ ap (λ (b : Bool). (bytes_eq x.1.org org && bytes_eq x.1.ws ws) && (b && not x.1.it.plan_only)) (pending_same x.1.it.status)) t.runs)
       ∙ mapped (λ (x : Kept RunRow). run_in x.1.it) (λ (r : Run). r.number) (find (λ x. is_run_of org ws x && is_waiting (run_in x.1.it)) t.runs)
       ∙ ap (option_map (λ (r : Run). r.number)) (find-slice (is_run_of org ws) (λ (x : Kept RunRow). run_in x.1.it) is_waiting t.runs)
 
@@ -169,7 +164,7 @@ module _ (t : Tables) (org ws : List ℕ) where
       by_newest None e = refl
       by_newest (Some v) e =
           let body : body_of org ws v.number t ≡ Some v.text =
-                body_found v.number ∙ ap (option_map (λ (u : Version). u.text)) (first_is_last 0 next v.number (versions_at t org ws) rise ∙ newest_is_last (versions_at t org ws) v e) in
+          body_found v.number ∙ ap (option_map (λ (u : Version). u.text)) (first_is_last 0 next v.number (versions_at t org ws) rise ∙ newest_is_last (versions_at t org ws) v e) in
           ap (λ (text : Option (List ℕ)). Some (record { number = v.number; serial = v.serial; lineage = v.lineage; is_same = is_found_text act text })) body
 
 -- ---- counts
@@ -189,7 +184,7 @@ module _ (org : List ℕ) (value : Kept WsRow → Workspace) where
       go true e more =
           let rest = from_entries {R = name_cmp} (map (λ (y : Kept WsRow). (y.1.name, value y)) (filter (is_ws_of org) xs)) in
           let none : find (λ y. is_ws_of org y && bytes_eq y.1.name x.1.name) xs ≡ None =
-                none_found (λ y. is_ws_of org y && bytes_eq y.1.name x.1.name) xs (subst (λ (n : List ℕ). AllByRecursion (λ y. is_ws n x.1.name y ≡ false) xs) (same_name x.1.org org e) apart.0) in
+          none_found (λ y. is_ws_of org y && bytes_eq y.1.name x.1.name) xs (subst (λ (n : List ℕ). AllByRecursion (λ y. is_ws n x.1.name y ≡ false) xs) (same_name x.1.org org e) apart.0) in
           let missing : get rest x.1.name ≡ None = get-from_entries names_total (map (λ (y : Kept WsRow). (y.1.name, value y)) (filter (is_ws_of org) xs)) x.1.name ∙ entry_found (is_ws_of org) (λ (y : Kept WsRow). y.1.name) value x.1.name xs ∙ ap (option_map value) none in
           len-insert names_total rest x.1.name (value x) ∙ one_longer (len rest) (get rest x.1.name) missing ∙ ap suc more
 

@@ -1,7 +1,7 @@
 -- The rules keep the numbers of a workspace's versions one after another, and the count of workspaces within the limit.
 use Rattle.std.proofs.Common.{◌≡◌, ℕ, zero, suc, ◌+◌, ◌-◌, ◌<◌, ◌≤◌, nat_lt, Bool, true, false, cond, List, [], ◌∷◌, ◌++◌, length, drop, map, is_some, Option, Some, None, IfSome, refl, sym, ap, subst, ◌∙◌, arith}
 use Rattle.std.specs.Str.{bytes_eq}
-use Rattle.std.specs.FinMap.{FinMap, entries, get, insert, remove, len, len-insert, len-remove, len-entries}
+use Rattle.std.specs.FinMap.{FinMap, get, len, len-insert, len-remove, len-entries}
 use Rattle.std.proofs.lemmas.Bool.{ltb-true}
 use Rattle.basis.specs.declared.refusals.Refusal.{Refusal}
 use Rattle.basis.specs.declared.rows.StateHead.{StateHead}

@@ -1,8 +1,8 @@
 -- Sound tables stay sound.
-use Rattle.std.proofs.Common.{◌≡◌, ◌≢◌, ℕ, ◌≤◌, nat_lt, Bool, true, false, ◌&&◌, cond, List, [], ◌∷◌, ◌++◌, find, length, is_some, Option, Some, None, IfSome, IsTrue, option_map, refl, sym, ap, subst, ◌∙◌, arith}
+use Rattle.std.proofs.Common.{◌≡◌, ℕ, ◌≤◌, nat_lt, Bool, true, false, List, [], ◌∷◌, ◌++◌, find, length, is_some, Option, Some, None, IfSome, IsTrue, option_map, refl, sym, ap, subst, ◌∙◌, arith}
 use Rattle.std.specs.Str.{bytes_eq}
 use Rattle.std.specs.List.{AllByRecursion, list_any}
-use Rattle.std.specs.FinMap.{entries, get, empty, len-entries, len-empty}
+use Rattle.std.specs.FinMap.{get, empty, len-entries, len-empty}
 use Rattle.sqlite_keyed.specs.Keyed.{next_key}
 use Rattle.sqlite_keyed.specs.Rules.{AreApart}
 use Rattle.sqlite_keyed.proofs.ListLemmas.{all_weaker, all-append, none_from_any}
@@ -28,7 +28,7 @@ use Rattle.statements.specs.Making.{no_rows}
 use Rattle.tables.specs.Records.{workspace_by, organization_at, record_of}
 use Rattle.tables.specs.Sound.{KeepsTheLast, IsOrgRow, IsTokenRow, IsSound}
 use Rattle.tables.specs.Edits.{changed_rows}
-use Rattle.tables.proofs.Names.{same_name, name_is, apart_name, names_apart, is_pair, pair_first, pair_second}
+use Rattle.tables.proofs.Names.{same_name, apart_name, names_apart, is_pair, pair_first, pair_second}
 use Rattle.tables.proofs.Parts.{none_mapped}
 use Rattle.tables.proofs.Sets.{Puts, workspace_there, one_of, put_own, put_other}
 use Rattle.tables.proofs.Edits.{changed_puts}

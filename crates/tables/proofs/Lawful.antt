@@ -1,21 +1,18 @@
 -- Sound tables denote lawful records.
-use Rattle.std.proofs.Common.{◌≡◌, ◌≢◌, ℕ, ◌≤◌, Bool, true, false, ◌&&◌, cond, List, [], ◌∷◌, find, filter, length, Option, Some, None, option_map, IsTrue, refl, sym, ap, subst, ◌∙◌, arith}
+use Rattle.std.proofs.Common.{◌≡◌, ℕ, ◌≤◌, Bool, true, false, cond, List, [], ◌∷◌, find, length, Option, Some, None, option_map, IsTrue, refl, sym, ap, subst, ◌∙◌}
 use Rattle.std.specs.Str.{bytes_eq}
-use Rattle.std.specs.List.{AllByRecursion, list_any}
+use Rattle.std.specs.List.{AllByRecursion}
 use Rattle.std.specs.FinMap.{get}
 use Rattle.std.proofs.lemmas.Bool.{and_from}
 use Rattle.sqlite_keyed.specs.Rules.{AreApart}
-use Rattle.sqlite_keyed.proofs.SliceLemmas.{any_is_found}
 use Rattle.basis.specs.Names.{is_org_name}
-use Rattle.machine.specs.Laws.{IsToken, IsNamedWorkspace, IsLawfulOrganization}
 use Rattle.machine.specs.declared.records.Token.{Token}
-use Rattle.machine.specs.declared.records.Workspace.{Workspace}
 use Rattle.machine.specs.declared.records.Organization.{Organization}
-use Rattle.statements.specs.Rows.{Kept, OrgRow, TokenRow, WsRow}
+use Rattle.statements.specs.Rows.{Kept, OrgRow, TokenRow}
 use Rattle.statements.specs.Tables.{Tables}
 use Rattle.statements.specs.Changes.{is_org, is_token, has_digest}
 use Rattle.statements.specs.Finds.{cap_of}
-use Rattle.tables.specs.Records.{token_in, tokens_at, organization_at, record_of, workspace_by}
+use Rattle.tables.specs.Records.{token_in, organization_at, record_of}
 use Rattle.tables.specs.Sound.{IsOrgRow, IsTokenRow, IsSound}
 use Rattle.tables.specs.Laws.{SoundTablesAreLawful}
 use Rattle.tables.proofs.Lists.{found_passes}
@@ -103,8 +100,8 @@ sound_is_lawful t sound org o e = record {
       let orgs : y.row.1.org ≡ x.row.1.org = pair_first org other y.row.1.org y.row.1.name q ∙ sym (pair_first org name x.row.1.org x.row.1.name p) in
       let digests : y.row.1.it.digest ≡ x.row.1.it.digest = ap (λ (u : Token). u.digest) y.is ∙ sym same ∙ sym (ap (λ (u : Token). u.digest) x.is) in
       let rows : x.row ≡ y.row = apart_one (λ a b. has_digest a.1.org a.1.it.digest b) (is_token org name) (is_token org other) t.tokens x.row y.row sound.digests_apart x.found y.found
-              (and_from _ _ (subst (λ (n : List ℕ). bytes_eq n x.row.1.org ≡ true) (sym orgs) (name_is x.row.1.org)) (subst (λ (n : List ℕ). bytes_eq n x.row.1.it.digest ≡ true) (sym digests) (name_is x.row.1.it.digest)))
-              (and_from _ _ (subst (λ (n : List ℕ). bytes_eq x.row.1.org n ≡ true) (sym orgs) (name_is x.row.1.org)) (subst (λ (n : List ℕ). bytes_eq x.row.1.it.digest n ≡ true) (sym digests) (name_is x.row.1.it.digest))) in
+      (and_from _ _ (subst (λ (n : List ℕ). bytes_eq n x.row.1.org ≡ true) (sym orgs) (name_is x.row.1.org)) (subst (λ (n : List ℕ). bytes_eq n x.row.1.it.digest ≡ true) (sym digests) (name_is x.row.1.it.digest)))
+      (and_from _ _ (subst (λ (n : List ℕ). bytes_eq x.row.1.org n ≡ true) (sym orgs) (name_is x.row.1.org)) (subst (λ (n : List ℕ). bytes_eq x.row.1.it.digest n ≡ true) (sym digests) (name_is x.row.1.it.digest))) in
       sym (pair_second org name x.row.1.org x.row.1.name p) ∙ ap (λ (r : Kept TokenRow). r.1.name) rows ∙ pair_second org other y.row.1.org y.row.1.name q;
   workspaces = λ name w f. sound.workspaces org name w (sym (workspace_there t org name o e) ∙ f);
 }

@@ -1,23 +1,21 @@
 -- The records after an operator's command, and the tokens of an organization by their digests.
-use Rattle.std.proofs.Common.{◌≡◌, ◌≢◌, ℕ, Bool, true, false, ◌&&◌, ◌||◌, cond, List, [], ◌∷◌, ◌++◌, map, filter, find, is_some, Option, Some, None, option_map, refl, sym, ap, ap₂, subst, ◌∙◌, arith, length}
+use Rattle.std.proofs.Common.{◌≡◌, ◌≢◌, ℕ, Bool, true, false, ◌&&◌, ◌||◌, cond, List, [], ◌∷◌, map, filter, find, is_some, Option, Some, None, option_map, refl, sym, ap, ap₂, subst, ◌∙◌, arith, length}
 use Rattle.std.specs.Str.{bytes_eq}
 use Rattle.std.specs.List.{AllByRecursion, list_any}
 use Rattle.std.specs.Ordering.{is_eq}
 use Rattle.std.specs.declared.cmp.Ordering.{Ordering}
 use Rattle.std.specs.declared.cmp.Ordering.TheVariants.{Less, Equal, Greater}
-use Rattle.std.specs.FinMap.{FinMap, from_entries, entries, get, insert, empty, entries-insert, get-entries, get-from_entries, same_map, same_entries_map, len-entries, len-empty, empty_of_len}
+use Rattle.std.specs.FinMap.{FinMap, from_entries, entries, get, insert, empty, entries-insert, get-entries, get-from_entries, same_map, len-entries, len-empty}
 use Rattle.std.specs.FinMap.Entries.{find as find_entry, put, by_order}
 use Rattle.sqlite_keyed.specs.Keyed.{next_key}
 use Rattle.sqlite_keyed.specs.Rules.{AreApart}
-use Rattle.sqlite_keyed.proofs.SliceLemmas.{any_is_found, slice-push_other}
+use Rattle.sqlite_keyed.proofs.SliceLemmas.{slice-push_other}
 use Rattle.basis.specs.declared.roles.Role.{Role}
 use Rattle.machine.specs.Order.{name_cmp}
 use Rattle.machine.specs.Effects.{effect}
 use Rattle.machine.specs.Tokens.{token_with, caller_of, new_organization, org_added, token_of, with_token, token_added}
-use Rattle.machine.specs.declared.keeps.AdminAnswer.{AdminAnswer}
 use Rattle.machine.specs.declared.keeps.AdminAnswer.TheVariants.{Done, Exists, Absent}
 use Rattle.machine.specs.declared.records.Token.{Token}
-use Rattle.machine.specs.declared.records.Workspace.{Workspace}
 use Rattle.machine.specs.declared.records.Organization.{Organization}
 use Rattle.machine.proofs.MapLemmas.{names_total, names_same, get_own, get_other}
 use Rattle.statements.specs.Rows.{Kept, id_of, OrgRow, TokenRow, WsRow}
@@ -28,9 +26,9 @@ use Rattle.statements.specs.Finds.{cap_of, role_of_digest, role_of_name}
 use Rattle.tables.specs.Records.{token_in, is_token_of, tokens_at, workspace_at, workspaces_at, organization_at, record_of}
 use Rattle.tables.specs.Sound.{IsSound}
 use Rattle.tables.proofs.Lists.{found_passes, find_pushed, find_pushed_other}
-use Rattle.tables.proofs.Names.{same_name, name_is, apart_name, names_apart, pair_first, pair_is, tied}
+use Rattle.tables.proofs.Names.{same_name, name_is, apart_name, names_apart, pair_first, pair_is}
 use Rattle.tables.proofs.Parts.{none_mapped}
-use Rattle.tables.proofs.Sets.{entry_found, got_token, one_of}
+use Rattle.tables.proofs.Sets.{entry_found, got_token}
 use Rattle.tables.proofs.Lawful.{found_holds}
 use Rattle.tables.proofs.Finding.{none_found, no_orphans, none_there}
 
@@ -81,7 +79,7 @@ module _ (digest : List ℕ) where
         go : (a b : Bool) → is_token_of org x ≡ a → bytes_eq x.1.it.digest digest ≡ b
             → with_it (entries (made xs)) ≡ option_map (λ (y : Kept TokenRow). token_in y.1.it) (find (has_digest org digest) xs)
             → with_it (entries (from_entries {R = name_cmp} (map (λ (y : Kept TokenRow). (y.1.name, token_in y.1.it)) (cond a (x ∷ filter (is_token_of org) xs) (filter (is_token_of org) xs)))))
-              ≡ option_map (λ (y : Kept TokenRow). token_in y.1.it) (cond (a && b) (Some x) (find (has_digest org digest) xs))
+            ≡ option_map (λ (y : Kept TokenRow). token_in y.1.it) (cond (a && b) (Some x) (find (has_digest org digest) xs))
         go false b d e more = more
         go true b d e more = inside b e
           where
@@ -95,7 +93,7 @@ module _ (digest : List ℕ) where
             inside : (c : Bool) → bytes_eq x.1.it.digest digest ≡ c → with_it (entries (insert (made xs) x.1.name (token_in x.1.it))) ≡ option_map (λ (y : Kept TokenRow). token_in y.1.it) (cond c (Some x) (find (has_digest org digest) xs))
             inside true f =
                 let alone : find (has_digest org digest) xs ≡ None =
-                      none_found (has_digest org digest) xs (subst (λ (n : List ℕ). AllByRecursion (λ y. has_digest org n y ≡ false) xs) (same_name x.1.it.digest digest f) (subst (λ (n : List ℕ). AllByRecursion (λ y. has_digest n x.1.it.digest y ≡ false) xs) (same_name x.1.org org d) digests.0)) in
+                none_found (has_digest org digest) xs (subst (λ (n : List ℕ). AllByRecursion (λ y. has_digest org n y ≡ false) xs) (same_name x.1.it.digest digest f) (subst (λ (n : List ℕ). AllByRecursion (λ y. has_digest n x.1.it.digest y ≡ false) xs) (same_name x.1.org org d) digests.0)) in
                 ap with_it (entries-insert names_total (made xs) x.1.name (token_in x.1.it))
                 ∙ put_there x.1.name (token_in x.1.it) f (entries (made xs)) name_free (more ∙ ap (option_map (λ (y : Kept TokenRow). token_in y.1.it)) alone)
             inside false f =
@@ -151,7 +149,7 @@ module _ (t : Tables) (sound : IsSound t) (org : List ℕ) (limit : ℕ) where
   pub org_own : cap_of org t ≡ None → record_of (rows.org_added org limit t) org ≡ Some (new_organization limit)
   org_own e =
       ap (λ (o : Option (Kept OrgRow)). option_map (organization_at t org) (option_map (λ (x : Kept OrgRow). x.1.cap) o))
-        (find_pushed (is_org org) t.orgs (next_key id_of t.orgs, record { name = org; cap = limit }) (none_mapped (λ (x : Kept OrgRow). x.1.cap) _ e) (name_is org))
+      (find_pushed (is_org org) t.orgs (next_key id_of t.orgs, record { name = org; cap = limit }) (none_mapped (λ (x : Kept OrgRow). x.1.cap) _ e) (name_is org))
       ∙ (λ i. Some (record {
         limit = limit;
         tokens = from_entries {R = name_cmp} (map (λ (x : Kept TokenRow). (x.1.name, token_in x.1.it)) (no_tokens t sound org e i));

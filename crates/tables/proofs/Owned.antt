@@ -1,6 +1,5 @@
 -- Which rows stand apart, and which belong to a row that is there, after a change of a workspace.
-use Rattle.std.proofs.Common.{◌≡◌, ℕ, ◌+◌, ◌-◌, nat_le, nat_lt, Bool, true, false, not, ◌&&◌, ◌||◌, cond, List, [], ◌∷◌, ◌++◌, filter, find, is_some, Option, Some, None, option_map, refl, sym, ap, subst, ◌∙◌}
-use Rattle.std.specs.Str.{bytes_eq}
+use Rattle.std.proofs.Common.{◌≡◌, ℕ, ◌+◌, ◌-◌, nat_le, Bool, true, false, not, ◌||◌, cond, List, [], ◌∷◌, ◌++◌, find, is_some, Option, Some, None, option_map, refl, sym, ap, subst, ◌∙◌}
 use Rattle.std.specs.List.{AllByRecursion, list_any}
 use Rattle.std.proofs.lemmas.Bool.{false_from_ne_true}
 use Rattle.sqlite_keyed.specs.Keyed.{next_key}
@@ -17,13 +16,13 @@ use Rattle.machine.specs.declared.records.Version.{Version}
 use Rattle.statements.specs.declared.rows.Holder.TheVariants.{Lock, Run as HeldByRun}
 use Rattle.statements.specs.declared.rows.Workspace.{Workspace as WorkspaceCells}
 use Rattle.statements.specs.declared.rows.Version.{Version as VersionCells}
-use Rattle.statements.specs.Rows.{Kept, id_of, OrgRow, TokenRow, WsRow, VersionRow, RunRow}
+use Rattle.statements.specs.Rows.{Kept, id_of, WsRow}
 use Rattle.statements.specs.Tables.{Tables}
-use Rattle.statements.specs.Changes.{is_org, is_ws, is_version_of, is_version_below, is_run_of, is_run, with_auto, held_by, released_from, with_next_version, ws_changed, ws_added, ws_removed, new_workspace, new_version, version_added, versions_removed, versions_removed_below, runs_removed, run_changed_to}
+use Rattle.statements.specs.Changes.{is_org, is_ws, is_version_of, is_version_below, is_run_of, is_run, with_auto, held_by, released_from, with_next_version, ws_changed, new_workspace, new_version, version_added, versions_removed, versions_removed_below, run_changed_to}
 use Rattle.statements.specs.Finds.{workspace_of, versions_of}
 use Rattle.tables.specs.Sound.{IsSound}
 use Rattle.tables.specs.Edits.{made_rows, put_rows, emptied_rows, versioned_rows, edited_rows, started_rows, changed_rows}
-use Rattle.tables.proofs.Names.{same_name, name_is, is_pair, pair_is, pair_first, pair_second, pair_apart}
+use Rattle.tables.proofs.Names.{is_pair, pair_is, pair_first, pair_second, pair_apart}
 
 module _ {X : Type 0} where
   all_updated : (P : X → Type 0) (p : X → Bool) (f : X → X) → ((x : X) → P x → P (f x)) → (xs : List X) → AllByRecursion P xs → AllByRecursion P (update_where p f xs)

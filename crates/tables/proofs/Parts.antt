@@ -1,7 +1,7 @@
 -- What each write does to the row, the versions and the runs of a workspace.
-use Rattle.std.proofs.Common.{◌≡◌, ℕ, nat_lt, Bool, true, false, not, ◌&&◌, ◌==◌, cond, List, [], ◌∷◌, ◌++◌, map, filter, find, Option, Some, None, option_map, refl, sym, ap, subst, ◌∙◌}
+use Rattle.std.proofs.Common.{◌≡◌, ℕ, nat_lt, Bool, true, false, not, ◌&&◌, ◌==◌, cond, List, [], ◌∷◌, ◌++◌, map, filter, find, Option, Some, None, option_map, refl, ap, ◌∙◌}
 use Rattle.std.specs.Str.{bytes_eq}
-use Rattle.sqlite_keyed.specs.Lists.{update_where, delete_where}
+use Rattle.sqlite_keyed.specs.Lists.{delete_where}
 use Rattle.sqlite_keyed.specs.Keyed.{next_key}
 use Rattle.sqlite_keyed.proofs.ListLemmas.{filter_same, map_same}
 use Rattle.sqlite_keyed.proofs.SliceLemmas.{slice-push_mine, slice-push_other, slice-delete_mine, slice-delete_other, slice-update_mine, slice-update_other}
