@@ -1,5 +1,5 @@
 -- The records after a change of a workspace.
-use Rattle.std.proofs.Common.{◌≡◌, ◌≢◌, ℕ, List, Option, Some, None, refl, sym, ap, subst, ◌∙◌}
+use Rattle.std.proofs.Common.{◌≡◌, ◌≢◌, ℕ, List, Option, Some, sym, subst}
 use Rattle.std.specs.FinMap.{get}
 use Rattle.machine.specs.Changes.{changed_by}
 use Rattle.machine.specs.Records.{placed}

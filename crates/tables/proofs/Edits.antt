@@ -1,10 +1,9 @@
 -- What the rows denote after a change of a workspace.
-use Rattle.std.proofs.Common.{◌≡◌, ◌≢◌, ℕ, ◌+◌, ◌-◌, ◌<◌, ◌≤◌, nat_le, nat_lt, Bool, true, false, not, cond, List, [], ◌∷◌, ◌++◌, map, filter, length, drop, min, Option, Some, None, option_map, refl, sym, ap, subst, ◌∙◌, arith}
+use Rattle.std.proofs.Common.{◌≡◌, ℕ, ◌+◌, ◌-◌, ◌<◌, ◌≤◌, nat_le, nat_lt, Bool, true, false, cond, List, [], ◌∷◌, ◌++◌, map, filter, length, drop, min, Option, Some, None, option_map, refl, sym, ap, subst, ◌∙◌, arith}
 use Rattle.std.proofs.lemmas.Bool.{leb-true, leb-false}
 use Rattle.std.proofs.lemmas.List.{length-map}
 use Rattle.sqlite_keyed.specs.Lists.{delete_where}
 use Rattle.basis.specs.declared.rows.Settings.{Settings}
-use Rattle.basis.specs.declared.runs.RunStatus.TheVariants.{Planning}
 use Rattle.machine.specs.Settling.{begun, started, started_if}
 use Rattle.machine.specs.Changes.{edited, changed_by}
 use Rattle.machine.specs.Rules.{with_settings, purged, locked, released}
@@ -15,18 +14,16 @@ use Rattle.machine.specs.declared.acts.Change.{Change}
 use Rattle.machine.specs.declared.records.Version.{Version}
 use Rattle.machine.specs.declared.records.Run.{Run}
 use Rattle.machine.specs.declared.records.Workspace.{Workspace}
-use Rattle.machine.specs.declared.records.Organization.{Organization}
 use Rattle.statements.specs.declared.rows.Holder.TheVariants.{Lock, Run as HeldByRun}
 use Rattle.statements.specs.declared.rows.Workspace.{Workspace as WorkspaceCells}
 use Rattle.statements.specs.Rows.{Kept, VersionRow}
 use Rattle.statements.specs.Tables.{Tables}
-use Rattle.statements.specs.Changes.{with_auto, held_by, released_from, with_next_version, ws_changed, ws_added, ws_removed, new_version, version_added, versions_removed, versions_removed_below, runs_removed, run_changed_to, is_version_of}
-use Rattle.statements.specs.Finds.{workspace_of, versions_of, counted}
+use Rattle.statements.specs.Changes.{with_auto, held_by, released_from, with_next_version, ws_changed, ws_removed, new_version, versions_removed, versions_removed_below, runs_removed, is_version_of}
+use Rattle.statements.specs.Finds.{workspace_of, versions_of}
 use Rattle.tables.specs.Records.{version_in, workspace_in, versions_at, runs_at, workspace_by}
 use Rattle.tables.specs.Sound.{KeepsTheLast, IsSound}
 use Rattle.tables.specs.Edits.{made_rows, put_rows, emptied_rows, versioned_rows, edited_rows, started_rows, changed_rows}
 use Rattle.tables.proofs.Lists.{drop_push, drop_beyond, cut_is}
-use Rattle.tables.proofs.Names.{is_pair}
 use Rattle.tables.proofs.Parts.{row_changed, row_unchanged, row_removed, row_left, row_added, row_added_other, versions_pushed, versions_pushed_other, versions_cut, versions_cut_other, versions_gone, versions_gone_other, runs_begun, runs_begun_other, runs_gone, runs_gone_other}
 use Rattle.tables.proofs.Sets.{Puts, puts_then, same_parts}
 
@@ -96,6 +93,17 @@ module _ (org ws : List ℕ) (t : Tables) where
   abbrev one_more : Version → ℕ → Workspace → Workspace
   one_more v gone w = record w { next_version = v.number + 1; versions = drop gone (w.versions ++ v ∷ []) }
 
+  -- what is counted is how many versions there are
+  pub count_is : IsSound t → (w : WorkspaceCells) → workspace_of org ws t ≡ Some w → versions_of org ws t ≡ length (versions_at t org ws)
+  count_is sound w e =
+      let is : workspace_by t org ws ≡ Some (workspace_in w (versions_at t org ws) (runs_at t org ws)) = ap (option_map (λ (c : WorkspaceCells). workspace_in c (versions_at t org ws) (runs_at t org ws))) e in
+      let most : length (versions_at t org ws) ≤ 100 = (sound.workspaces org ws _ is).lawful.versions.kept in
+      let same : length (versions_at t org ws) ≡ length (filter (is_version_of org ws) t.versions) = length-map (filter (is_version_of org ws) t.versions) (λ (x : Kept VersionRow). version_in x.1.it) in
+      least (length (filter (is_version_of org ws) t.versions)) (length (versions_at t org ws)) same most
+    where
+      least : (n m : ℕ) → m ≡ n → m ≤ 100 → min n 9_223_372_036_854_775_807 ≡ m
+      least n m e h = omega arith
+
   module _ (v : Version) (gone : ℕ) where
     put_puts : (next most : ℕ) → delete_where (λ (u : Version). nat_lt u.number (next - most)) (versions_at t org ws) ++ v ∷ [] ≡ drop gone (versions_at t org ws ++ v ∷ [])
         → Puts org ws (option_map (one_more v gone) (workspace_by t org ws)) t (put_rows org ws v next most t)
@@ -106,10 +114,10 @@ module _ (org ws : List ℕ) (t : Tables) where
           orgs = refl;
           tokens = refl;
           own = same_parts _ _ _ _ _ _ (row_changed org ws (with_next_version (v.number + 1)) t)
-                (versions_pushed org ws u new ∙ ap (λ (vs : List Version). vs ++ v ∷ []) (versions_cut org ws t (next - most)) ∙ cut) refl
+              (versions_pushed org ws u new ∙ ap (λ (vs : List Version). vs ++ v ∷ []) (versions_cut org ws t (next - most)) ∙ cut) refl
               ∙ changed_row (with_next_version (v.number + 1)) (one_more v gone) (versions_at t org ws) (drop gone (versions_at t org ws ++ v ∷ [])) (runs_at t org ws) (runs_at t org ws) (λ c. refl) (workspace_of org ws t);
           others = λ a b other. same_parts _ _ _ _ _ _ (row_unchanged org ws (with_next_version (v.number + 1)) t a b other)
-                (versions_pushed_other org ws u new a b other ∙ versions_cut_other org ws t (next - most) a b other) refl;
+              (versions_pushed_other org ws u new a b other ∙ versions_cut_other org ws t (next - most) a b other) refl;
         }
 
     emptied_puts : [] ≡ drop gone (versions_at t org ws ++ v ∷ []) → Puts org ws (option_map (one_more v gone) (workspace_by t org ws)) t (emptied_rows org ws v t)
@@ -122,16 +130,6 @@ module _ (org ws : List ℕ) (t : Tables) where
     }
 
     module _ (sound : IsSound t) where
-      count_is : (w : WorkspaceCells) → workspace_of org ws t ≡ Some w → versions_of org ws t ≡ length (versions_at t org ws)
-      count_is w e =
-          let is : workspace_by t org ws ≡ Some (workspace_in w (versions_at t org ws) (runs_at t org ws)) = ap (option_map (λ (c : WorkspaceCells). workspace_in c (versions_at t org ws) (runs_at t org ws))) e in
-          let most : length (versions_at t org ws) ≤ 100 = (sound.workspaces org ws _ is).lawful.versions.kept in
-          let same : length (versions_at t org ws) ≡ length (filter (is_version_of org ws) t.versions) = length-map (filter (is_version_of org ws) t.versions) (λ (x : Kept VersionRow). version_in x.1.it) in
-          least (length (filter (is_version_of org ws) t.versions)) (length (versions_at t org ws)) same most
-        where
-          least : (n m : ℕ) → m ≡ n → m ≤ 100 → min n 9_223_372_036_854_775_807 ≡ m
-          least n m e h = omega arith
-
       versioned_puts : (r : Option WorkspaceCells) (count : ℕ) → workspace_of org ws t ≡ r → ((w : WorkspaceCells) → r ≡ Some w → count ≡ length (versions_at t org ws))
           → Puts org ws (option_map (one_more v gone) (workspace_by t org ws)) t (versioned_rows org ws v gone r count t)
       versioned_puts None count e counts = record {
@@ -173,7 +171,7 @@ module _ (org ws : List ℕ) (t : Tables) where
     pub edited_puts : (edit : Edit) → Puts org ws (edited edit (workspace_by t org ws)) t (edited_rows org ws edit t)
     edited_puts (Make settings) = made_puts settings
     edited_puts (Configure settings) = row_puts (with_auto settings.auto_apply) (λ (w : Workspace). with_settings w settings) (λ c vs rs. refl)
-    edited_puts (AddVersion v gone) = versioned_puts v gone sound (workspace_of org ws t) (versions_of org ws t) refl (λ w e. count_is v gone sound w e)
+    edited_puts (AddVersion v gone) = versioned_puts v gone sound (workspace_of org ws t) (versions_of org ws t) refl (λ w e. count_is sound w e)
     edited_puts Purge = purge_puts
     edited_puts (Hold id text) = row_puts (held_by (Lock id text)) (locked id text) (λ c vs rs. refl)
     edited_puts (Release id) = row_puts (released_from id) (released id) (λ c vs rs. refl)

@@ -7,3 +7,9 @@ pub mod Edits
 pub mod Changes
 pub mod KeepCommits
 pub mod KeepFound
+pub mod Lawful
+pub mod Finding
+pub mod Operators
+pub mod Following
+pub mod Owned
+pub mod Kept

@@ -1,14 +1,12 @@
 -- From the rows of a workspace to the record of its organization.
 use Rattle.std.proofs.Common.{◌≡◌, ◌≢◌, ℕ, Bool, true, false, ◌&&◌, cond, List, [], ◌∷◌, map, filter, find, Option, Some, None, option_map, refl, sym, ap, subst, ◌∙◌}
 use Rattle.std.specs.Str.{bytes_eq}
-use Rattle.std.specs.Ordering.{eq_by_cmp}
-use Rattle.std.specs.FinMap.{FinMap, from_entries, get, same_map, get-from_entries}
+use Rattle.std.specs.FinMap.{from_entries, get, same_map, get-from_entries}
 use Rattle.std.specs.FinMap.Entries.{find as find_entry}
 use Rattle.machine.specs.Order.{name_cmp}
 use Rattle.machine.specs.Records.{with_workspace, placed}
 use Rattle.machine.specs.declared.records.Version.{Version}
 use Rattle.machine.specs.declared.records.Run.{Run}
-use Rattle.machine.specs.declared.records.Token.{Token}
 use Rattle.machine.specs.declared.records.Workspace.{Workspace}
 use Rattle.machine.specs.declared.records.Organization.{Organization}
 use Rattle.machine.proofs.MapLemmas.{names_total, names_same}
@@ -17,15 +15,15 @@ use Rattle.statements.specs.declared.rows.Workspace.{Workspace as WorkspaceCells
 use Rattle.statements.specs.Rows.{Kept, OrgRow, TokenRow, WsRow}
 use Rattle.statements.specs.Tables.{Tables}
 use Rattle.statements.specs.Changes.{is_org, is_token, is_ws, is_ws_of}
-use Rattle.statements.specs.Finds.{cap_of, workspace_of}
-use Rattle.tables.specs.Records.{workspace_in, versions_at, runs_at, workspace_at, workspace_by, is_token_of, token_in, tokens_at, workspaces_at, organization_at, record_of}
+use Rattle.statements.specs.Finds.{cap_of}
+use Rattle.tables.specs.Records.{workspace_in, workspace_at, workspace_by, is_token_of, token_in, tokens_at, workspaces_at, organization_at, record_of}
 use Rattle.tables.proofs.Lists.{found_passes}
 use Rattle.tables.proofs.Names.{same_name, name_is, apart_name, names_apart, is_pair, pair_second, tied}
 
 -- ---- what a name gives
 
 module _ {X V : Type 0} (mine : X → Bool) (key : X → List ℕ) (value : X → V) (q : List ℕ) where
-  entry_found : (xs : List X) → find_entry name_cmp q (map (λ x. (key x, value x)) (filter mine xs)) ≡ option_map value (find (λ x. mine x && bytes_eq (key x) q) xs)
+  pub entry_found : (xs : List X) → find_entry name_cmp q (map (λ x. (key x, value x)) (filter mine xs)) ≡ option_map value (find (λ x. mine x && bytes_eq (key x) q) xs)
   entry_found [] = refl
   entry_found (x ∷ xs) = go (mine x) (bytes_eq (key x) q) refl (entry_found xs)
     where
@@ -52,7 +50,7 @@ module _ (t : Tables) (org name : List ℕ) where
       get-from_entries names_total (map (λ (x : Kept TokenRow). (x.1.name, token_in x.1.it)) (filter (is_token_of org) t.tokens)) name
       ∙ entry_found (is_token_of org) (λ (x : Kept TokenRow). x.1.name) (λ (x : Kept TokenRow). token_in x.1.it) name t.tokens
 
-one_of : (a b : Organization) → Some a ≡ Some b → a ≡ b
+pub one_of : (a b : Organization) → Some a ≡ Some b → a ≡ b
 one_of a b e = cc
 
 -- the workspaces of a record are those that have rows

@@ -1,6 +1,5 @@
 -- What a change does to the rows, by the changes that statements make.
 use Rattle.std.specs.Prelude.{ℕ, ◌+◌, ◌-◌, nat_le, Bool, cond, List, Option, Some, None}
-use Rattle.basis.specs.declared.roles.Role.{Role}
 use Rattle.basis.specs.declared.runs.RunStatus.TheVariants.{Planning}
 use Rattle.machine.specs.declared.acts.Edit.{Edit}
 use Rattle.machine.specs.declared.acts.Edit.TheVariants.{Make, Configure, AddVersion, Purge, Hold, Release}
@@ -9,7 +8,7 @@ use Rattle.machine.specs.declared.records.Version.{Version}
 use Rattle.statements.specs.declared.rows.Holder.TheVariants.{Lock, Run as HeldByRun}
 use Rattle.statements.specs.declared.rows.Workspace.{Workspace as WorkspaceCells}
 use Rattle.statements.specs.Tables.{Tables}
-use Rattle.statements.specs.Changes.{org_added, token_added, with_auto, held_by, released_from, with_next_version, ws_changed, ws_added, ws_removed, new_version, version_added, versions_removed, versions_removed_below, runs_removed, run_changed_to}
+use Rattle.statements.specs.Changes.{with_auto, held_by, released_from, with_next_version, ws_changed, ws_added, ws_removed, new_version, version_added, versions_removed, versions_removed_below, runs_removed, run_changed_to}
 use Rattle.statements.specs.Finds.{workspace_of, versions_of}
 
 -- A new workspace has no versions and no runs: whatever rows of its name there are go first, children before it.

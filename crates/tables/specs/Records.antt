@@ -1,5 +1,5 @@
 -- The record of an organization that the rows of the tables denote.
-use Rattle.std.specs.Prelude.{ℕ, Bool, List, map, filter, find, Option, option_map}
+use Rattle.std.specs.Prelude.{ℕ, Bool, List, map, filter, Option, option_map}
 use Rattle.std.specs.Str.{bytes_eq}
 use Rattle.std.specs.FinMap.{FinMap, from_entries}
 use Rattle.machine.specs.Order.{name_cmp}
@@ -16,7 +16,7 @@ use Rattle.statements.specs.declared.rows.Version.{Version as VersionCells}
 use Rattle.statements.specs.declared.rows.Run.{Run as RunCells}
 use Rattle.statements.specs.declared.rows.Token.{Token as TokenCells}
 use Rattle.statements.specs.declared.rows.Workspace.{Workspace as WorkspaceCells}
-use Rattle.statements.specs.Rows.{Kept, TokenRow, WsRow}
+use Rattle.statements.specs.Rows.{Kept, TokenRow}
 use Rattle.statements.specs.Tables.{Tables}
 use Rattle.statements.specs.Changes.{is_ws_of, is_version_of, is_run_of}
 use Rattle.statements.specs.Finds.{cap_of, workspace_of}

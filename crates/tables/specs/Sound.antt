@@ -1,21 +1,17 @@
 -- When tables are sound.
-use Rattle.std.specs.Prelude.{◌≡◌, ◌≤◌, ◌+◌, ℕ, Bool, true, false, List, [], ◌∷◌, length, map, Option, Some, IsTrue, ⊤}
+use Rattle.std.specs.Prelude.{◌≡◌, ◌≤◌, ◌+◌, ℕ, true, List, [], ◌∷◌, length, map, Some, IsTrue, ⊤}
 use Rattle.std.specs.List.{AllByRecursion, list_any}
-use Rattle.sqlite_trees.specs.Tree.{IsAscending}
+use Rattle.sqlite_keyed.specs.Rules.{AreApart}
 use Rattle.basis.specs.Names.{is_org_name}
 use Rattle.machine.specs.Laws.{IsNamedWorkspace}
 use Rattle.machine.specs.Records.{count_of}
 use Rattle.machine.specs.declared.records.Version.{Version}
 use Rattle.machine.specs.declared.records.Workspace.{Workspace}
 use Rattle.machine.specs.declared.records.Organization.{Organization}
-use Rattle.statements.specs.Rows.{Kept, OrgRow, TokenRow, VersionRow, RunRow, WsRow}
+use Rattle.statements.specs.Rows.{Kept, OrgRow, TokenRow}
 use Rattle.statements.specs.Tables.{Tables}
 use Rattle.statements.specs.Changes.{is_org, is_token, has_digest, is_ws}
 use Rattle.tables.specs.Records.{workspace_by, record_of}
-
--- no row has what an earlier one has
-abbrev pub AreApart : {R : Type 0} → (R → R → Bool) → List R → Type 0
-AreApart same rows = IsAscending (λ a b. same a b ≡ false) rows
 
 -- the numbers follow one another, up to the next one
 abbrev pub Follow : List ℕ → ℕ → Type 0

@@ -1,5 +1,5 @@
 -- What a decision sees of a workspace, from what the queries find.
-use Rattle.std.specs.Prelude.{ℕ, Bool, false, List, Option, Some, None, option_map, option_and_then}
+use Rattle.std.specs.Prelude.{ℕ, Bool, false, List, Option, Some, None, option_map}
 use Rattle.std.specs.Option.{unwrap_or}
 use Rattle.basis.specs.declared.runs.RunStatus.{RunStatus}
 use Rattle.machine.specs.Units.{is_text_of}
