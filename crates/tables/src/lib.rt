@@ -2,6 +2,7 @@
 #![tactic(auto)]
 
 mod steps;
+mod commands;
 mod looks;
 mod making;
 mod transactions;
