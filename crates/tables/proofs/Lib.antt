@@ -10,3 +10,4 @@ pub mod Operators
 pub mod Following
 pub mod Owned
 pub mod Kept
+pub mod Examples
