@@ -11,3 +11,4 @@ pub mod Following
 pub mod Owned
 pub mod Kept
 pub mod Examples
+pub mod Stores
