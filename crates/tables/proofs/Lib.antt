@@ -14,3 +14,5 @@ pub mod Following
 pub mod Owned
 pub mod Kept
 pub mod KeepManaged
+pub mod Examples
+pub mod Stores

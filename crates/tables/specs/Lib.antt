@@ -6,4 +6,5 @@ pub mod KeepSteps
 pub mod Laws
 pub mod Records
 pub mod Sound
+pub mod Stores
 pub mod Units
