@@ -3,6 +3,7 @@ pub mod KeepEdits
 pub mod KeepLooks
 pub mod KeepMaking
 pub mod KeepSteps
+pub mod KeepStores
 pub mod Laws
 pub mod Records
 pub mod Sound

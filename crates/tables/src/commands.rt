@@ -1,17 +1,21 @@
-//! The calls of a store that change it, each with what it has to look at first.
+//! The calls of a store, over its connection: each with what it has to look at first.
 ghost use Rattle.std.specs.Prelude.{◌≡◌, false, IsTrue, OnOk};
 ghost use Rattle.sqlite.specs.Held.{state};
 ghost use Rattle.sqlite.specs.State.{HasCleanDisk};
+ghost use Rattle.statements.specs.Finds.{body_of, role_of_digest};
 ghost use Rattle.tables.specs.Edits.{changed_rows};
+ghost use Rattle.tables.specs.Units.{unit_in};
+ghost use Rattle.tables.specs.KeepStores.{LooksBy};
 ghost use Rattle.tables.specs.KeepLooks.{SeesBy};
 ghost use Rattle.tables.specs.KeepSteps.{TransactsBy, ManagesBy, org_managed, token_managed, is_taken};
 
 use crate::looks;
 use crate::transactions;
-use basis::{Limit, Role};
-use machine::{AdminAnswer, Change};
+use basis::{Bytes, Limit, Number, Role};
+use machine::{Act, AdminAnswer, Change, Unit};
 use sqlite::{Alter, Connection, Error};
 use statements::{organizations, tokens};
+use std::alloc::Global;
 
 /// Changes a workspace.
 pub(crate) fn apply<S: Alter>(
@@ -93,4 +97,56 @@ pub(crate) fn token_add<S: Alter>(
     }
     transactions::add_token(conn, org, name, role, digest)?;
     Ok(AdminAnswer::Done)
+}
+
+/// The role of the organization's token with this digest.
+pub(crate) fn caller<S: Alter>(
+    conn: &mut Connection<S>,
+    org: &str,
+    digest: &[u8],
+) -> Result<Option<Role>, Error>
+    requires idle { conn.old.in_transaction ≡ false }
+    ensures idle { conn.new.in_transaction ≡ false }
+    ensures so_far { HasCleanDisk (state S.Store conn.new) → HasCleanDisk (state S.Store conn.old) }
+    ensures looks { LooksBy (role_of_digest org.now digest.now) (state S.Store conn.old) (state S.Store conn.new) result }
+{
+    let idle = conn.is_autocommit();
+    prove!(idle);
+    tokens::role_of_digest(conn, org, digest)
+}
+
+/// What a decision on an act needs of a workspace.
+pub(crate) fn unit<S: Alter>(
+    conn: &mut Connection<S>,
+    alloc: Global,
+    org: &str,
+    ws: &str,
+    act: &Act,
+) -> Result<Unit, Error>
+    requires idle { conn.old.in_transaction ≡ false }
+    ensures idle { conn.new.in_transaction ≡ false }
+    ensures so_far { HasCleanDisk (state S.Store conn.new) → HasCleanDisk (state S.Store conn.old) }
+    ensures looks { LooksBy (unit_in act.now org.now ws.now) (state S.Store conn.old) (state S.Store conn.new) result }
+{
+    let idle = conn.is_autocommit();
+    prove!(idle);
+    looks::unit(conn, alloc, org, ws, act)
+}
+
+/// The text of a version, if it is kept.
+pub(crate) fn text<S: Alter>(
+    conn: &mut Connection<S>,
+    org: &str,
+    ws: &str,
+    number: Number,
+) -> Result<Option<Bytes>, Error>
+    requires idle { conn.old.in_transaction ≡ false }
+    ensures idle { conn.new.in_transaction ≡ false }
+    ensures so_far { HasCleanDisk (state S.Store conn.new) → HasCleanDisk (state S.Store conn.old) }
+    ensures looks { LooksBy (body_of org.now ws.now number) (state S.Store conn.old) (state S.Store conn.new) result }
+{
+    let number = number.get() as u64;
+    let idle = conn.is_autocommit();
+    prove!(idle);
+    looks::body(conn, org, ws, number)
 }

@@ -5,4 +5,7 @@ mod steps;
 mod commands;
 mod looks;
 mod making;
+mod store;
 mod transactions;
+
+pub use store::SqlKeep;

@@ -1,5 +1,5 @@
 //! What is asked of the tables outside a transaction, by queries of one row each.
-ghost use Rattle.std.specs.Prelude.{◌≡◌, false, IfOk, ◌^◌, ◌<◌, unwrap_or};
+ghost use Rattle.std.specs.Prelude.{◌≡◌, false, IsTrue, IfOk, OnOk, ◌^◌, ◌<◌, unwrap_or};
 ghost use Rattle.sqlite.specs.Held.{state};
 ghost use Rattle.sqlite.specs.State.{HasCleanDisk};
 ghost use Rattle.statements.specs.Finds.{body_of, status_of, first_waiting_of};
@@ -35,6 +35,7 @@ pub(crate) fn body<S: Alter>(
     ensures mode { conn.old.in_transaction ≡ false → conn.new.in_transaction ≡ false }
     ensures so_far { HasCleanDisk (state S.Store conn.new) → HasCleanDisk (state S.Store conn.old) }
     ensures sees { SeesBy (body_of org.now ws.now number) (state S.Store conn.old) (state S.Store conn.new) result }
+    ensures is_open { HasCleanDisk (state S.Store conn.new) → OnOk result (IsTrue (state S.Store conn.new).is_open) }
 {
     if number > i64::MAX as u64 {
         return Err(Error::IntegralValueOutOfRange(0));
@@ -224,6 +225,7 @@ fn absent<S: Alter>(conn: &mut Connection<S>, org: &str) -> Result<Unit, Error>
     ensures mode { conn.old.in_transaction ≡ false → conn.new.in_transaction ≡ false }
     ensures so_far { HasCleanDisk (state S.Store conn.new) → HasCleanDisk (state S.Store conn.old) }
     ensures sees { SeesBy (absent_in org.now) (state S.Store conn.old) (state S.Store conn.new) result }
+    ensures is_open { HasCleanDisk (state S.Store conn.new) → OnOk result (IsTrue (state S.Store conn.new).is_open) }
 {
     let count = workspaces::count(conn, org)?;
     let cap = organizations::cap(conn, org)?;
@@ -245,6 +247,7 @@ fn around<S: Alter>(
     ensures mode { conn.old.in_transaction ≡ false → conn.new.in_transaction ≡ false }
     ensures so_far { HasCleanDisk (state S.Store conn.new) → HasCleanDisk (state S.Store conn.old) }
     ensures sees { SeesBy (around_in act.now org.now ws.now holder.now) (state S.Store conn.old) (state S.Store conn.new) result }
+    ensures is_open { HasCleanDisk (state S.Store conn.new) → OnOk result (IsTrue (state S.Store conn.new).is_open) }
 {
     let holder_status = holder_status(conn, org, ws, holder)?;
     let newest = newest(conn, org, ws, act)?;
@@ -288,6 +291,7 @@ fn present<S: Alter>(
     ensures mode { conn.old.in_transaction ≡ false → conn.new.in_transaction ≡ false }
     ensures so_far { HasCleanDisk (state S.Store conn.new) → HasCleanDisk (state S.Store conn.old) }
     ensures sees { SeesBy (present_in act.now org.now ws.now workspace) (state S.Store conn.old) (state S.Store conn.new) result }
+    ensures is_open { HasCleanDisk (state S.Store conn.new) → OnOk result (IsTrue (state S.Store conn.new).is_open) }
 {
     let around = around(conn, org, ws, act, &workspace.holder)?;
     let unit = unit_by(alloc, workspace, around)?;
@@ -305,6 +309,7 @@ pub(crate) fn unit<S: Alter>(
     ensures mode { conn.old.in_transaction ≡ false → conn.new.in_transaction ≡ false }
     ensures so_far { HasCleanDisk (state S.Store conn.new) → HasCleanDisk (state S.Store conn.old) }
     ensures sees { SeesBy (unit_in act.now org.now ws.now) (state S.Store conn.old) (state S.Store conn.new) result }
+    ensures is_open { HasCleanDisk (state S.Store conn.new) → OnOk result (IsTrue (state S.Store conn.new).is_open) }
 {
     match workspaces::find(conn, org, ws)? {
         None => absent(conn, org),
