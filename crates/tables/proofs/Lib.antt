@@ -16,3 +16,4 @@ pub mod Kept
 pub mod KeepManaged
 pub mod Examples
 pub mod Stores
+pub mod KeepShown

@@ -6,6 +6,7 @@ ghost use Rattle.tables.specs.Stores.{records_of, IsSoundStore};
 ghost use Rattle.tables.specs.KeepStores.{IsSoundKeep};
 
 use crate::commands;
+use basis::numbers::MAX_LIMIT;
 use basis::{Bytes, Down, Limit, Number, OrgName, Role, WsName};
 use machine::{Act, AdminAnswer, Change, Keep, Unit};
 use sqlite::{Alter, Connection};
@@ -95,6 +96,7 @@ impl<S: Alter> Keep for SqlKeep<S> {
     }
 
     fn org_add(&mut self, _alloc: Global, org: &OrgName, limit: Limit) -> Result<AdminAnswer, Down> {
+        prove!(limit.get() <= MAX_LIMIT);
         match commands::org_add(&mut self.conn, org.as_str(), limit) {
             Ok(answer) => {
                 self.seen = Snapshot::of(&self.conn);
