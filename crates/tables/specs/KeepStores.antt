@@ -1,11 +1,12 @@
 -- When a store is sound, and which of our tables a database has.
-use Rattle.std.specs.Prelude.{◌≡◌, Bool, ◌&&◌, ◌||◌, List, is_some, IsTrue, Result, IfOk}
+use Rattle.std.specs.Prelude.{◌≡◌, ◌≢◌, ◌==◌, ℕ, Bool, false, ◌&&◌, ◌||◌, List, is_some, Option, Some, None, IsTrue, Result, IfOk}
 use Rattle.sqlite_schema.specs.declared.schema.Schema.{Schema}
 use Rattle.sqlite_schema.specs.declared.schema.Table.{Table}
 use Rattle.sqlite_schema.specs.Names.{table_named}
 use Rattle.sqlite.specs.Effect.{Database}
 use Rattle.sqlite.specs.State.{State, HasCleanDisk, KeepsCommit}
 use Rattle.statements.specs.Schema.{meta_table, org_table, token_table, ws_table, version_table, run_table}
+use Rattle.statements.specs.Making.{version_in}
 use Rattle.statements.specs.Tables.{Tables, Holds}
 use Rattle.tables.specs.Stores.{IsSoundStore}
 
@@ -27,3 +28,18 @@ any_there s = is_there s meta_table || is_there s org_table || is_there s token_
 
 abbrev pub all_there : Schema → Bool
 all_there s = is_there s meta_table && is_there s org_table && is_there s token_table && is_there s ws_table && is_there s version_table && is_there s run_table
+
+abbrev pub is_first : Option ℕ → Bool
+is_first None = false
+is_first (Some version) = version == 1
+
+-- meta tells the version 1, and no row changes
+pub record IsTold (old new : State) : Type 0 where
+  pub version : (t : Tables) → Holds old.now t → version_in t ≡ Some 1
+  pub was_open : IsTrue old.is_open
+  pub is_open : IsTrue new.is_open
+  pub same : new.committed ≡ old.now
+
+-- the database isn't one of this version
+abbrev pub IsOther : State → Type 0
+IsOther s = (t : Tables) → Holds s.now t → version_in t ≢ Some 1

@@ -3,9 +3,12 @@ ghost use Rattle.std.specs.Prelude.{◌≡◌, ◌≢◌, true, false, ℕ, List
 ghost use Rattle.sqlite.specs.Held.{state};
 ghost use Rattle.sqlite.specs.State.{HasCleanDisk, KeepsCommit};
 ghost use Rattle.tables.specs.Stores.{records_of, IsSoundStore};
-ghost use Rattle.tables.specs.KeepStores.{IsSoundKeep};
+ghost use Rattle.statements.specs.Making.{version_in};
+ghost use Rattle.statements.specs.Tables.{Tables, Holds};
+ghost use Rattle.tables.specs.KeepStores.{IsSoundKeep, any_there, IsOther};
 
 use crate::commands;
+use crate::opening::{Fault, ready};
 use basis::numbers::MAX_LIMIT;
 use basis::{Bytes, Down, Limit, Number, OrgName, Role, WsName};
 use machine::{Act, AdminAnswer, Change, Keep, Unit};
@@ -21,7 +24,39 @@ pub struct SqlKeep<S: Alter> {
     ghost idle: { conn.in_transaction ≡ false },
 }
 
+/// A database that wasn't opened, and why.
+#[derive(Drop)]
+pub struct Unopened<S: Alter> {
+    pub fault: Fault,
+    pub conn: Connection<S>,
+}
+
 impl<S: Alter> SqlKeep<S> {
+    /// Opens a database. One that has none of the tables gets them all, in one transaction, whatever
+    /// else it holds.
+    pub fn open(mut conn: Connection<S>) -> Result<SqlKeep<S>, Unopened<S>>
+        requires idle { conn.in_transaction ≡ false }
+        ensures so_far { IfOk result (λ keep. ⟦<SqlKeep<S> as Keep>⟧.clean keep → HasCleanDisk (state S.Store conn)) }
+        ensures fresh { IfOk result (λ keep. ⟦<SqlKeep<S> as Keep>⟧.clean keep → any_there (state S.Store conn).now.schema ≡ false
+            → ⟦<SqlKeep<S> as Keep>⟧.sound keep × ((o : List ℕ) → ⟦<SqlKeep<S> as Keep>⟧.rows keep o ≡ None)) }
+        ensures held { IfOk result (λ keep. ⟦<SqlKeep<S> as Keep>⟧.clean keep → any_there (state S.Store conn).now.schema ≡ true
+            → (IsSoundStore (state S.Store conn).now → ⟦<SqlKeep<S> as Keep>⟧.sound keep) × ((o : List ℕ) → ⟦<SqlKeep<S> as Keep>⟧.rows keep o ≡ records_of (state S.Store conn).now o)) }
+        ensures version { IfOk result (λ keep. ⟦<SqlKeep<S> as Keep>⟧.clean keep → any_there (state S.Store conn).now.schema ≡ true
+            → (t : Tables) → Holds (state S.Store conn).now t → version_in t ≡ Some 1) }
+        ensures back { IfErr result (λ unopened. HasCleanDisk (state S.Store unopened.conn) → KeepsCommit (state S.Store conn) (state S.Store unopened.conn)) }
+        ensures other { IfErr result (λ unopened. HasCleanDisk (state S.Store unopened.conn) → unopened.fault ≡ Fault.Schema
+            → (any_there (state S.Store conn).now.schema ≡ true) × IsOther (state S.Store conn)) }
+        ensures idle { IfErr result (λ unopened. unopened.conn.in_transaction ≡ false) }
+    {
+        match ready(&mut conn) {
+            Ok(()) => {
+                let seen = Snapshot::of(&conn);
+                Ok(SqlKeep { conn, seen })
+            }
+            Err(fault) => Err(Unopened { fault, conn }),
+        }
+    }
+
     /// Gives the connection back.
     pub fn close(self) -> Connection<S>
         ensures same { result ≡ self.conn }
