@@ -12,7 +12,7 @@ use crate::opening::{Fault, ready};
 use basis::numbers::MAX_LIMIT;
 use basis::{Bytes, Down, Limit, Number, OrgName, Role, WsName};
 use machine::{Act, AdminAnswer, Change, Keep, Unit};
-use sqlite::{Alter, Connection};
+use sqlite::{Alter, Connection, MemStore};
 use std::alloc::Global;
 use std::snapshot::Snapshot;
 
@@ -22,6 +22,25 @@ pub struct SqlKeep<S: Alter> {
     // The connection when its rows were seen last. A store that a fault of the disk has shut stands for those.
     seen: Snapshot<Connection<S>>,
     ghost idle: { conn.in_transaction ≡ false },
+}
+
+impl SqlKeep<MemStore> {
+    /// What is promised of a store in memory always holds.
+    pub fn is_always_clean(&self)
+        ensures { ⟦<SqlKeep<MemStore> as Keep>⟧.clean self.now }
+    {}
+
+    /// The store with no organization, in memory.
+    pub fn in_memory(alloc: Global) -> Result<SqlKeep<MemStore>, Down>
+        ensures empty { IfOk result (λ keep. (o : List ℕ) → ⟦<SqlKeep<MemStore> as Keep>⟧.rows keep o ≡ None) }
+        ensures sound { IfOk result (λ keep. ⟦<SqlKeep<MemStore> as Keep>⟧.sound keep) }
+    {
+        let conn = Connection::open_in_memory(alloc)?;
+        match SqlKeep::open(conn) {
+            Ok(keep) => Ok(keep),
+            Err(_) => Err(Down),
+        }
+    }
 }
 
 /// A database that wasn't opened, and why.
