@@ -6,11 +6,11 @@ ghost use Rattle.custody.specs.Replies.{printed, answer_line, AreReplies, Answer
 use crate::frames::read_frames;
 use crate::replies::{print_answer, print_bad_frame, print_replies};
 use basis::{Bytes, Down};
-use machine::PlainKeep;
 use serve::{Service, Step};
 use std::alloc::Global;
 use std::io;
 use std::io::{Read, Write};
+use tables::SqlKeep;
 
 /// The exit status of a replay to its last frame.
 pub const DONE: u8 = 0;
@@ -34,9 +34,11 @@ struct Replay {
 fn replayed(alloc: Global, steps: &[Step]) -> Result<Vec<Bytes>, Down>
     ensures { IfOk result (λ replies. AreReplies steps.now replies.items) }
 {
-    let mut service = Service::new(PlainKeep::new(alloc));
+    let mut service = Service::new(SqlKeep::in_memory(alloc)?);
     let replies = service.replay(alloc, steps);
-    drop(service.into_keep());
+    let keep = service.into_keep();
+    keep.is_always_clean();
+    drop(keep.close());
     replies
 }
 

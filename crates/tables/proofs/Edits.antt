@@ -1,0 +1,184 @@
+-- What the rows denote after a change of a workspace.
+use Rattle.std.proofs.Common.{◌≡◌, ℕ, ◌+◌, ◌-◌, ◌<◌, ◌≤◌, nat_le, nat_lt, Bool, true, false, cond, List, [], ◌∷◌, ◌++◌, map, filter, length, drop, min, Option, Some, None, option_map, refl, sym, ap, subst, ◌∙◌, arith}
+use Rattle.std.proofs.lemmas.Bool.{leb-true, leb-false}
+use Rattle.std.proofs.lemmas.List.{length-map}
+use Rattle.sqlite_keyed.specs.Lists.{delete_where}
+use Rattle.basis.specs.declared.rows.Settings.{Settings}
+use Rattle.machine.specs.Settling.{begun, started, started_if}
+use Rattle.machine.specs.Changes.{edited, changed_by}
+use Rattle.machine.specs.Rules.{with_settings, purged, locked, released}
+use Rattle.machine.specs.Workspaces.{new_workspace}
+use Rattle.machine.specs.declared.acts.Edit.{Edit}
+use Rattle.machine.specs.declared.acts.Edit.TheVariants.{Make, Configure, AddVersion, Purge, Hold, Release}
+use Rattle.machine.specs.declared.acts.Change.{Change}
+use Rattle.machine.specs.declared.records.Version.{Version}
+use Rattle.machine.specs.declared.records.Run.{Run}
+use Rattle.machine.specs.declared.records.Workspace.{Workspace}
+use Rattle.statements.specs.declared.rows.Holder.TheVariants.{Lock, Run as HeldByRun}
+use Rattle.statements.specs.declared.rows.Workspace.{Workspace as WorkspaceCells}
+use Rattle.statements.specs.Rows.{Kept, VersionRow}
+use Rattle.statements.specs.Tables.{Tables}
+use Rattle.statements.specs.Changes.{with_auto, held_by, released_from, with_next_version, ws_changed, ws_removed, new_version, versions_removed, versions_removed_below, runs_removed, is_version_of}
+use Rattle.statements.specs.Finds.{workspace_of, versions_of}
+use Rattle.tables.specs.Records.{version_in, workspace_in, versions_at, runs_at, workspace_by}
+use Rattle.tables.specs.Sound.{KeepsTheLast, IsSound}
+use Rattle.tables.specs.Edits.{made_rows, put_rows, emptied_rows, versioned_rows, edited_rows, started_rows, changed_rows}
+use Rattle.tables.proofs.Lists.{drop_push, drop_beyond, cut_is}
+use Rattle.tables.proofs.Parts.{row_changed, row_unchanged, row_removed, row_left, row_added, row_added_other, versions_pushed, versions_pushed_other, versions_cut, versions_cut_other, versions_gone, versions_gone_other, runs_begun, runs_begun_other, runs_gone, runs_gone_other}
+use Rattle.tables.proofs.Sets.{Puts, puts_then, same_parts}
+
+-- ---- the parts of a workspace that is changed
+
+changed_row : (g : WorkspaceCells → WorkspaceCells) (f : Workspace → Workspace) (vs us : List Version) (rs ss : List Run)
+    → ((c : WorkspaceCells) → workspace_in (g c) us ss ≡ f (workspace_in c vs rs)) → (row : Option WorkspaceCells)
+    → option_map (λ (c : WorkspaceCells). workspace_in c us ss) (option_map g row) ≡ option_map f (option_map (λ (c : WorkspaceCells). workspace_in c vs rs) row)
+changed_row g f vs us rs ss same None = refl
+changed_row g f vs us rs ss same (Some c) = ap Some (same c)
+
+kept_row : (row : Option WorkspaceCells) → option_map (λ (c : WorkspaceCells). c) row ≡ row
+kept_row None = refl
+kept_row (Some c) = refl
+
+module _ (org ws : List ℕ) (t : Tables) where
+  row : Option WorkspaceCells
+  row = workspace_of org ws t
+
+  -- what the row holds, and nothing else
+  row_puts : (g : WorkspaceCells → WorkspaceCells) (f : Workspace → Workspace) → ((c : WorkspaceCells) (vs : List Version) (rs : List Run) → workspace_in (g c) vs rs ≡ f (workspace_in c vs rs))
+      → Puts org ws (option_map f (workspace_by t org ws)) t (ws_changed g org ws t)
+  row_puts g f same = record {
+    orgs = refl;
+    tokens = refl;
+    own = same_parts _ _ _ _ _ _ (row_changed org ws g t) refl refl ∙ changed_row g f (versions_at t org ws) (versions_at t org ws) (runs_at t org ws) (runs_at t org ws) (λ c. same c (versions_at t org ws) (runs_at t org ws)) (workspace_of org ws t);
+    others = λ a b other. same_parts _ _ _ _ _ _ (row_unchanged org ws g t a b other) refl refl;
+  }
+
+  made_puts : (settings : Settings) → Puts org ws (Some (new_workspace settings)) t (made_rows org ws settings.auto_apply t)
+  made_puts settings =
+      let u : Tables = runs_removed org ws (versions_removed org ws t) in
+      record {
+        orgs = refl;
+        tokens = refl;
+        own = same_parts _ _ _ _ _ _ (row_added org ws (ws_removed org ws u) settings.auto_apply (row_removed org ws u)) (versions_gone org ws t) (runs_gone org ws t);
+        others = λ a b other. same_parts _ _ _ _ _ _ (row_added_other org ws (ws_removed org ws u) settings.auto_apply a b other ∙ row_left org ws t a b other) (versions_gone_other org ws t a b other) (runs_gone_other org ws t a b other);
+      }
+
+  purge_puts : Puts org ws (option_map purged (workspace_by t org ws)) t (versions_removed org ws t)
+  purge_puts = record {
+    orgs = refl;
+    tokens = refl;
+    own = same_parts _ _ _ _ _ _ (sym (kept_row (workspace_of org ws t))) (versions_gone org ws t) refl
+        ∙ changed_row (λ c. c) purged (versions_at t org ws) [] (runs_at t org ws) (runs_at t org ws) (λ c. refl) (workspace_of org ws t);
+    others = λ a b other. same_parts _ _ _ _ _ _ refl (versions_gone_other org ws t a b other) refl;
+  }
+
+  started_puts : (start : Option ℕ) → Puts org ws (option_map (started_if start) (workspace_by t org ws)) t (started_rows org ws start t)
+  started_puts None = record { orgs = refl; tokens = refl; own = kept (workspace_by t org ws); others = λ a b other. refl }
+    where
+      kept : (w : Option Workspace) → w ≡ option_map (started_if None) w
+      kept None = refl
+      kept (Some w) = refl
+  started_puts (Some n) =
+      let g : WorkspaceCells → WorkspaceCells = held_by (HeldByRun n) in
+      record {
+        orgs = refl;
+        tokens = refl;
+        own = same_parts _ _ _ _ _ _ (row_changed org ws g t) refl (runs_begun org ws t n)
+            ∙ changed_row (held_by (HeldByRun n)) (started n) (versions_at t org ws) (versions_at t org ws) (runs_at t org ws) (map (begun n) (runs_at t org ws)) (λ c. refl) (workspace_of org ws t);
+        others = λ a b other. same_parts _ _ _ _ _ _ (row_unchanged org ws g t a b other) refl (runs_begun_other org ws t n a b other);
+      }
+
+  -- ---- a version more
+
+  abbrev one_more : Version → ℕ → Workspace → Workspace
+  one_more v gone w = record w { next_version = v.number + 1; versions = drop gone (w.versions ++ v ∷ []) }
+
+  -- what is counted is how many versions there are
+  pub count_is : IsSound t → (w : WorkspaceCells) → workspace_of org ws t ≡ Some w → versions_of org ws t ≡ length (versions_at t org ws)
+  count_is sound w e =
+      let is : workspace_by t org ws ≡ Some (workspace_in w (versions_at t org ws) (runs_at t org ws)) = ap (option_map (λ (c : WorkspaceCells). workspace_in c (versions_at t org ws) (runs_at t org ws))) e in
+      let most : length (versions_at t org ws) ≤ 100 = (sound.workspaces org ws _ is).lawful.versions.kept in
+      let same : length (versions_at t org ws) ≡ length (filter (is_version_of org ws) t.versions) = length-map (filter (is_version_of org ws) t.versions) (λ (x : Kept VersionRow). version_in x.1.it) in
+      least (length (filter (is_version_of org ws) t.versions)) (length (versions_at t org ws)) same most
+    where
+      least : (n m : ℕ) → m ≡ n → m ≤ 100 → min n 9_223_372_036_854_775_807 ≡ m
+      least n m e h = omega arith
+
+  module _ (v : Version) (gone : ℕ) where
+    put_puts : (next most : ℕ) → delete_where (λ (u : Version). nat_lt u.number (next - most)) (versions_at t org ws) ++ v ∷ [] ≡ drop gone (versions_at t org ws ++ v ∷ [])
+        → Puts org ws (option_map (one_more v gone) (workspace_by t org ws)) t (put_rows org ws v next most t)
+    put_puts next most cut =
+        let u : Tables = versions_removed_below org ws (next - most) t in
+        let new = new_version v.number v.serial v.lineage v.created v.text in
+        record {
+          orgs = refl;
+          tokens = refl;
+          own = same_parts _ _ _ _ _ _ (row_changed org ws (with_next_version (v.number + 1)) t)
+              (versions_pushed org ws u new ∙ ap (λ (vs : List Version). vs ++ v ∷ []) (versions_cut org ws t (next - most)) ∙ cut) refl
+              ∙ changed_row (with_next_version (v.number + 1)) (one_more v gone) (versions_at t org ws) (drop gone (versions_at t org ws ++ v ∷ [])) (runs_at t org ws) (runs_at t org ws) (λ c. refl) (workspace_of org ws t);
+          others = λ a b other. same_parts _ _ _ _ _ _ (row_unchanged org ws (with_next_version (v.number + 1)) t a b other)
+              (versions_pushed_other org ws u new a b other ∙ versions_cut_other org ws t (next - most) a b other) refl;
+        }
+
+    emptied_puts : [] ≡ drop gone (versions_at t org ws ++ v ∷ []) → Puts org ws (option_map (one_more v gone) (workspace_by t org ws)) t (emptied_rows org ws v t)
+    emptied_puts none = record {
+      orgs = refl;
+      tokens = refl;
+      own = same_parts _ _ _ _ _ _ (row_changed org ws (with_next_version (v.number + 1)) t) (versions_gone org ws t ∙ none) refl
+          ∙ changed_row (with_next_version (v.number + 1)) (one_more v gone) (versions_at t org ws) (drop gone (versions_at t org ws ++ v ∷ [])) (runs_at t org ws) (runs_at t org ws) (λ c. refl) (workspace_of org ws t);
+      others = λ a b other. same_parts _ _ _ _ _ _ (row_unchanged org ws (with_next_version (v.number + 1)) t a b other) (versions_gone_other org ws t a b other) refl;
+    }
+
+    module _ (sound : IsSound t) where
+      versioned_puts : (r : Option WorkspaceCells) (count : ℕ) → workspace_of org ws t ≡ r → ((w : WorkspaceCells) → r ≡ Some w → count ≡ length (versions_at t org ws))
+          → Puts org ws (option_map (one_more v gone) (workspace_by t org ws)) t (versioned_rows org ws v gone r count t)
+      versioned_puts None count e counts = record {
+        orgs = refl;
+        tokens = refl;
+        own = none (workspace_of org ws t) e;
+        others = λ a b other. refl;
+      }
+        where
+          none : (r : Option WorkspaceCells) → r ≡ None → option_map (λ (c : WorkspaceCells). workspace_in c (versions_at t org ws) (runs_at t org ws)) r
+              ≡ option_map (one_more v gone) (option_map (λ (c : WorkspaceCells). workspace_in c (versions_at t org ws) (runs_at t org ws)) r)
+          none None e = refl
+          none (Some c) e = absurd (let no_one : ⊥ = cc in no_one)
+      versioned_puts (Some w) count e counts = by_test (nat_le gone count) refl
+        where
+          stands : workspace_by t org ws ≡ Some (workspace_in w (versions_at t org ws) (runs_at t org ws))
+          stands = ap (option_map (λ (c : WorkspaceCells). workspace_in c (versions_at t org ws) (runs_at t org ws))) e
+
+          counted_as : count ≡ length (versions_at t org ws)
+          counted_as = counts w refl
+
+          follow : KeepsTheLast (workspace_in w (versions_at t org ws) (runs_at t org ws))
+          follow = sound.versions org ws _ stands
+
+          by_test : (b : Bool) → nat_le gone count ≡ b → Puts org ws (option_map (one_more v gone) (workspace_by t org ws)) t (cond b (put_rows org ws v w.next_version (count - gone) t) (emptied_rows org ws v t))
+          by_test true test =
+              let within : gone ≤ length (versions_at t org ws) = omega (arith, leb-true gone count test, counted_as) in
+              put_puts w.next_version (count - gone)
+              (ap (λ (n : ℕ). delete_where (λ (u : Version). nat_lt u.number (w.next_version - (n - gone))) (versions_at t org ws) ++ v ∷ []) counted_as
+              ∙ ap (λ (vs : List Version). vs ++ v ∷ []) (cut_is w.next_version gone (versions_at t org ws) follow within)
+              ∙ sym (drop_push gone (versions_at t org ws) v within))
+          by_test false test =
+              let over : length (versions_at t org ws) < gone = omega (arith, leb-false gone count test, counted_as) in
+              emptied_puts (sym (drop_beyond gone (versions_at t org ws) v over))
+
+  -- ---- an edit
+
+  module _ (sound : IsSound t) where
+    pub edited_puts : (edit : Edit) → Puts org ws (edited edit (workspace_by t org ws)) t (edited_rows org ws edit t)
+    edited_puts (Make settings) = made_puts settings
+    edited_puts (Configure settings) = row_puts (with_auto settings.auto_apply) (λ (w : Workspace). with_settings w settings) (λ c vs rs. refl)
+    edited_puts (AddVersion v gone) = versioned_puts v gone sound (workspace_of org ws t) (versions_of org ws t) refl (λ w e. count_is sound w e)
+    edited_puts Purge = purge_puts
+    edited_puts (Hold id text) = row_puts (held_by (Lock id text)) (locked id text) (λ c vs rs. refl)
+    edited_puts (Release id) = row_puts (released_from id) (released id) (λ c vs rs. refl)
+
+pub changed_puts : (org ws : List ℕ) (t : Tables) → IsSound t → (change : Change) → Puts org ws (changed_by change (workspace_by t org ws)) t (changed_rows org ws change t)
+changed_puts org ws t sound change =
+    let u : Tables = edited_rows org ws change.edit t in
+    let first : Puts org ws (edited change.edit (workspace_by t org ws)) t (edited_rows org ws change.edit t) = edited_puts org ws t sound change.edit in
+    let second : Puts org ws (option_map (started_if change.start) (workspace_by (edited_rows org ws change.edit t) org ws)) (edited_rows org ws change.edit t) (changed_rows org ws change t) = started_puts org ws (edited_rows org ws change.edit t) change.start in
+    subst (λ (w : Option Workspace). Puts org ws (option_map (started_if change.start) w) t (changed_rows org ws change t)) first.own (puts_then org ws t (edited_rows org ws change.edit t) (changed_rows org ws change t) first second)

@@ -1,0 +1,150 @@
+-- Worked rows and the records that they denote, computed by the definitions themselves.
+use Rattle.std.proofs.Common.{◌≡◌, ℕ, pos, true, false, true≢false, List, [], ◌∷◌, Option, Some, None, refl, sym}
+use Rattle.std.specs.Prelude.{codes}
+use Rattle.std.specs.FinMap.{from_entries, empty}
+use Rattle.basis.specs.declared.roles.Role.TheVariants.{Write}
+use Rattle.basis.specs.declared.runs.RunStatus.{RunStatus}
+use Rattle.basis.specs.declared.runs.RunStatus.TheVariants.{Pending, Planning}
+use Rattle.machine.specs.declared.acts.Edit.TheVariants.{Make, Configure, AddVersion, Purge, Release}
+use Rattle.machine.specs.declared.records.Holder.TheVariants.{Nobody, Lock, Run as HoldingRun}
+use Rattle.machine.specs.declared.records.Version.{Version}
+use Rattle.machine.specs.declared.records.Run.{Run}
+use Rattle.machine.specs.declared.records.Workspace.{Workspace}
+use Rattle.machine.specs.declared.records.Organization.{Organization}
+use Rattle.statements.specs.declared.rows.Holder.TheVariants as cells
+use Rattle.statements.specs.Tables.{Tables}
+use Rattle.tables.specs.Records.{record_of}
+use Rattle.tables.specs.Sound.{IsSound}
+use Rattle.tables.specs.Edits.{edited_rows, changed_rows}
+
+abbrev acme : List ℕ
+acme = codes "acme"
+
+abbrev globex : List ℕ
+globex = codes "globex"
+
+abbrev prod : List ℕ
+prod = codes "prod"
+
+abbrev x1 : List ℕ
+x1 = codes "x1"
+
+abbrev text : List ℕ
+text = codes "{\"ID\":\"x1\"}"
+
+abbrev s1 : List ℕ
+s1 = codes "{\"serial\":1}"
+
+abbrev s2 : List ℕ
+s2 = codes "{\"serial\":2}"
+
+abbrev version : ℕ → List ℕ → Version
+version n body = record { number = n; serial = n; lineage = codes "a1"; created = 1_700_000_000; text = body }
+
+abbrev run : ℕ → RunStatus → Run
+run n status = record { number = n; plan_only = false; key = None; message = codes "go"; created = 1_700_000_000; status = status; action = None }
+
+-- two organizations, each with a workspace `prod`; that of acme is under a lock, and has two versions and a run
+abbrev two : Tables
+two = record {
+  metas = (pos 1, 1) ∷ [];
+  orgs = (pos 1, record { name = acme; cap = 10 }) ∷ (pos 2, record { name = globex; cap = 1 }) ∷ [];
+  tokens = (pos 1, record { org = acme; name = codes "ci"; it = record { digest = codes "01234567890123456789012345678901"; role = Write } }) ∷ [];
+  wss =
+      (pos 1, record { org = globex; name = prod; it = record { auto = true; holder = cells.Nobody; released = None; next_version = 2; next_run = 1 } })
+      ∷ (pos 2, record { org = acme; name = prod; it = record { auto = false; holder = cells.Lock x1 text; released = None; next_version = 3; next_run = 2 } })
+      ∷ [];
+  versions =
+      (pos 1, record { org = acme; ws = prod; it = record { number = 1; serial = 1; lineage = codes "a1"; created = 1_700_000_000; body = s1 } })
+      ∷ (pos 2, record { org = globex; ws = prod; it = record { number = 1; serial = 1; lineage = codes "a1"; created = 1_700_000_000; body = s1 } })
+      ∷ (pos 3, record { org = acme; ws = prod; it = record { number = 2; serial = 2; lineage = codes "a1"; created = 1_700_000_000; body = s2 } })
+      ∷ [];
+  runs = (pos 1, record { org = acme; ws = prod; it = record { number = 1; plan_only = false; key = None; message = codes "go"; created = 1_700_000_000; status = Pending; action = None } }) ∷ [];
+}
+
+abbrev globex_has : Workspace → Option Organization
+globex_has w = Some (record { limit = 1; tokens = empty; workspaces = from_entries ((prod, w) ∷ []) })
+
+abbrev acme_has : Workspace → Option Organization
+acme_has w = Some (record {
+  limit = 10;
+  tokens = from_entries ((codes "ci", record { digest = codes "01234567890123456789012345678901"; role = Write }) ∷ []);
+  workspaces = from_entries ((prod, w) ∷ []);
+})
+
+abbrev of_globex : Workspace
+of_globex = record { auto_apply = true; holder = Nobody; released = None; next_version = 2; next_run = 1; versions = version 1 s1 ∷ []; runs = [] }
+
+abbrev of_acme : Workspace
+of_acme = record { auto_apply = false; holder = Lock x1 text; released = None; next_version = 3; next_run = 2; versions = version 1 s1 ∷ version 2 s2 ∷ []; runs = run 1 Pending ∷ [] }
+
+-- ---- records
+
+globex_record : record_of two globex ≡ globex_has of_globex
+globex_record = refl
+
+acme_record : record_of two acme ≡ acme_has of_acme
+acme_record = refl
+
+no_record : record_of two (codes "initech") ≡ None
+no_record = refl
+
+-- ---- changes: the organization's own record has it, and that of the other is as before
+
+configured : record_of (edited_rows acme prod (Configure (record { auto_apply = true })) two) acme ≡ acme_has (record of_acme { auto_apply = true })
+configured = refl
+
+configured_other : record_of (edited_rows acme prod (Configure (record { auto_apply = true })) two) globex ≡ globex_has of_globex
+configured_other = refl
+
+purged : record_of (edited_rows acme prod Purge two) acme ≡ acme_has (record of_acme { versions = [] })
+purged = refl
+
+purged_other : record_of (edited_rows acme prod Purge two) globex ≡ globex_has of_globex
+purged_other = refl
+
+-- a third version comes, and none goes; or the oldest goes; or all go, and the third with them
+version_added : record_of (edited_rows acme prod (AddVersion (version 3 s1) 0) two) acme ≡ acme_has (record of_acme { next_version = 4; versions = version 1 s1 ∷ version 2 s2 ∷ version 3 s1 ∷ [] })
+version_added = refl
+
+oldest_gone : record_of (edited_rows acme prod (AddVersion (version 3 s1) 1) two) acme ≡ acme_has (record of_acme { next_version = 4; versions = version 2 s2 ∷ version 3 s1 ∷ [] })
+oldest_gone = refl
+
+all_gone : record_of (edited_rows acme prod (AddVersion (version 3 s1) 3) two) acme ≡ acme_has (record of_acme { next_version = 4; versions = [] })
+all_gone = refl
+
+version_added_other : record_of (edited_rows acme prod (AddVersion (version 3 s1) 1) two) globex ≡ globex_has of_globex
+version_added_other = refl
+
+-- of a workspace that isn't there nothing comes
+nothing_added : edited_rows globex (codes "dev") (AddVersion (version 1 s1) 0) two ≡ two
+nothing_added = refl
+
+-- a lock is released, and then the run that waits starts
+started : record_of (changed_rows acme prod (record { edit = Release x1; start = Some 1 }) two) acme
+    ≡ acme_has (record of_acme { holder = HoldingRun 1; released = Some x1; runs = run 1 Planning ∷ [] })
+started = refl
+
+-- a workspace more, behind the other
+made : record_of (edited_rows acme (codes "dev") (Make (record { auto_apply = true })) two) acme ≡ Some (record {
+  limit = 10;
+  tokens = from_entries ((codes "ci", record { digest = codes "01234567890123456789012345678901"; role = Write }) ∷ []);
+  workspaces = from_entries ((prod, of_acme) ∷ (codes "dev", record { auto_apply = true; holder = Nobody; released = None; next_version = 1; next_run = 1; versions = []; runs = [] }) ∷ []);
+})
+made = refl
+
+-- ---- tables that aren't sound
+
+-- a version without its workspace
+abbrev orphaned : Tables
+orphaned = record two { wss = [] }
+
+orphaned_is_not : IsSound orphaned → ⊥
+orphaned_is_not sound = true≢false (sym sound.versions_owned.0)
+
+-- two rows of one organization
+abbrev doubled : Tables
+doubled = record two { orgs = (pos 1, record { name = acme; cap = 10 }) ∷ (pos 2, record { name = acme; cap = 1 }) ∷ [] }
+
+doubled_is_not : IsSound doubled → ⊥
+doubled_is_not sound = true≢false (sound.orgs_apart.0.0)

@@ -1,0 +1,273 @@
+-- What the queries find is the part of the record that it stands for.
+use Rattle.std.proofs.Common.{◌≡◌, ℕ, suc, ◌+◌, ◌≤◌, Bool, true, false, not, ◌&&◌, ◌==◌, cond, List, [], ◌∷◌, map, filter, find, length, min, is_some, Option, Some, None, option_map, refl, sym, ap, subst, ap₂, ◌∙◌, arith}
+use Rattle.std.specs.Str.{bytes_eq}
+use Rattle.std.specs.Option.{unwrap_or, option_or}
+use Rattle.std.specs.List.{AllByRecursion, list_any}
+use Rattle.std.specs.FinMap.{from_entries, entries, get, get-from_entries, len-insert, len-entries, len-empty, len}
+use Rattle.std.proofs.lemmas.Bool.{eqb-true, eq-eqb, ne_eqb}
+use Rattle.sqlite_keyed.specs.Rules.{AreApart}
+use Rattle.sqlite_keyed.proofs.SliceLemmas.{find-slice, any_is_found}
+use Rattle.basis.specs.declared.runs.RunStatus.{RunStatus}
+use Rattle.basis.specs.declared.runs.RunStatus.TheVariants.{Pending, Planning, Planned, Applying, Applied, PlannedAndFinished, Errored, Discarded, Canceled}
+use Rattle.machine.specs.Order.{name_cmp}
+use Rattle.machine.specs.Laws.{Rises, is_pending}
+use Rattle.machine.specs.Settling.{first_waiting, is_waiting}
+use Rattle.machine.specs.Workspaces.{newest, run_of, holder_status}
+use Rattle.machine.specs.Records.{count_of, workspace_in as seen_workspace}
+use Rattle.machine.specs.Units.{find_last, version_of, text_of, newest_unit, unit_by, unit_of}
+use Rattle.machine.specs.declared.acts.Act.{Act}
+use Rattle.machine.specs.declared.acts.Unit.TheVariants.{Absent, Present}
+use Rattle.machine.specs.declared.records.Version.{Version}
+use Rattle.machine.specs.declared.records.Run.{Run}
+use Rattle.machine.specs.declared.records.Workspace.{Workspace}
+use Rattle.machine.specs.declared.records.Organization.{Organization}
+use Rattle.machine.proofs.MapLemmas.{names_total}
+use Rattle.statements.specs.declared.rows.Head.{Head}
+use Rattle.statements.specs.declared.rows.Holder.{Holder as HolderCells}
+use Rattle.statements.specs.declared.rows.Holder.TheVariants as cells
+use Rattle.statements.specs.declared.rows.Workspace.{Workspace as WorkspaceCells}
+use Rattle.statements.specs.Rows.{Kept, OrgRow, WsRow, VersionRow, RunRow}
+use Rattle.statements.specs.Tables.{Tables}
+use Rattle.statements.specs.Changes.{is_org, is_version_of, is_version, is_run_of, is_run, is_ws, is_ws_of}
+use Rattle.statements.specs.Finds.{last_in, counted, head_of, newest_of, body_of, versions_of, first_waiting_of, status_of, workspace_of, workspaces_of, cap_of}
+use Rattle.statements.specs.Finds as finds
+use Rattle.tables.specs.Records.{version_in, run_in, holder_in, versions_at, runs_at, workspace_at, workspace_by, workspaces_at, organization_at, record_of}
+use Rattle.tables.specs.Sound.{IsSound}
+use Rattle.tables.proofs.Names.{same_name, pair_first, pair_second}
+use Rattle.tables.proofs.Lists.{found_passes}
+use Rattle.tables.proofs.Parts.{none_mapped}
+use Rattle.tables.proofs.Sets.{entry_found, got_workspace, workspace_there, one_of}
+use Rattle.tables.proofs.Edits.{count_is}
+use Rattle.tables.proofs.Lawful.{limit_there, limit_is, found_holds}
+use Rattle.tables.specs.Units.{holder_status_in, is_found_text, newest_by, newest_in, unit_at, unit_in}
+
+-- ---- lists
+
+find_same : {X : Type 0} (p q : X → Bool) → ((x : X) → p x ≡ q x) → (xs : List X) → find p xs ≡ find q xs
+find_same p q same [] = refl
+find_same p q same (x ∷ xs) = λ i. cond (same x i) (Some x) (find_same p q same xs i)
+
+mapped : {A B C : Type 0} (f : A → B) (g : B → C) (o : Option A) → option_map (λ a. g (f a)) o ≡ option_map g (option_map f o)
+mapped f g None = refl
+mapped f g (Some a) = refl
+
+three : (a b c : Bool) → (a && (b && c)) ≡ ((a && b) && c)
+three true b c = refl
+three false b c = refl
+
+pub none_found : {X : Type 0} (p : X → Bool) (xs : List X) → AllByRecursion (λ x. p x ≡ false) xs → find p xs ≡ None
+none_found p [] all = refl
+none_found p (x ∷ xs) all = rw all.0 (none_found p xs all.1)
+
+either_none : {X : Type 0} (o : Option X) → option_or o None ≡ o
+either_none None = refl
+either_none (Some x) = refl
+
+newest-shown : {X : Type 0} (show : X → Version) (ys : List X) → option_map show (last_in ys) ≡ newest (map show ys)
+newest-shown show [] = refl
+newest-shown show (y ∷ []) = refl
+newest-shown show (y ∷ z ∷ ys) = newest-shown show (z ∷ ys)
+
+-- no row belongs to one that isn't there
+pub no_orphans : {A B : Type 0} (mine : A → Bool) (parent : A → B → Bool) (ps : List B) → ((x : A) → mine x ≡ true → list_any (parent x) ps ≡ false) → (xs : List A)
+    → AllByRecursion (λ x. list_any (parent x) ps ≡ true) xs → filter mine xs ≡ []
+no_orphans mine parent ps none [] all = refl
+no_orphans mine parent ps none (x ∷ xs) all = go (mine x) refl (no_orphans mine parent ps none xs all.1)
+  where
+    go : (b : Bool) → mine x ≡ b → filter mine xs ≡ [] → cond b (x ∷ filter mine xs) (filter mine xs) ≡ []
+    go true e more = absurd (let no_one : ⊥ = cc (sym all.0 ∙ none x e) in no_one)
+    go false e more = more
+
+-- ---- versions
+
+abbrev numbered : ℕ → Version → Bool
+numbered n v = v.number == n
+
+abbrev numbers : List Version → List ℕ
+numbers vs = map (λ (v : Version). v.number) vs
+
+last_above : (low next n : ℕ) (vs : List Version) → Rises low (numbers vs) next → n ≤ low → find_last (numbered n) vs ≡ None
+last_above low next n [] rise h = refl
+last_above low next n (v ∷ vs) rise h =
+    let apart : (v.number ≡ n) → ⊥ = λ e. omega (arith, rise.0) in
+    ap (λ (o : Option Version). option_or o (cond (v.number == n) (Some v) None)) (last_above v.number next n vs rise.2 (omega (arith, rise.0)))
+    ∙ ap (λ (b : Bool). option_or None (cond b (Some v) None)) (ne_eqb v.number n apart)
+
+-- where numbers rise, the first of a number is the last
+first_is_last : (low next n : ℕ) (vs : List Version) → Rises low (numbers vs) next → find (numbered n) vs ≡ version_of n vs
+first_is_last low next n [] rise = refl
+first_is_last low next n (v ∷ vs) rise = go (v.number == n) refl (first_is_last v.number next n vs rise.2)
+  where
+    go : (b : Bool) → (v.number == n) ≡ b → find (numbered n) vs ≡ find_last (numbered n) vs → cond b (Some v) (find (numbered n) vs) ≡ option_or (find_last (numbered n) vs) (cond b (Some v) None)
+    go true e more = sym (ap (λ (o : Option Version). option_or o (Some v)) (last_above v.number next n vs rise.2 (omega (arith, eqb-true v.number n e))))
+    go false e more = more ∙ sym (either_none (find_last (numbered n) vs))
+
+-- the newest version is the last of its number
+newest_is_last : (vs : List Version) (v : Version) → newest vs ≡ Some v → version_of v.number vs ≡ Some v
+newest_is_last [] v e = absurd (let none : ⊥ = cc in none)
+newest_is_last (u ∷ []) v e =
+    let same : u ≡ v = cc in
+    subst (λ (w : Version). option_or None (cond (u.number == w.number) (Some u) None) ≡ Some w) same (ap (λ (b : Bool). cond b (Some u) None) (eq-eqb u.number u.number refl))
+newest_is_last (u ∷ w ∷ vs) v e = ap (λ (o : Option Version). option_or o (cond (u.number == v.number) (Some u) None)) (newest_is_last (w ∷ vs) v e)
+
+abbrev head_in : Version → Head
+head_in v = record { number = v.number; serial = v.serial; lineage = v.lineage; size = length v.text }
+
+pending_same : (s : RunStatus) → finds.is_pending s ≡ is_pending s
+pending_same Pending = refl
+pending_same Planning = refl
+pending_same Planned = refl
+pending_same Applying = refl
+pending_same Applied = refl
+pending_same PlannedAndFinished = refl
+pending_same Errored = refl
+pending_same Discarded = refl
+pending_same Canceled = refl
+
+-- ---- what each query finds
+
+module _ (t : Tables) (org ws : List ℕ) where
+  pub newest_found : newest_of org ws t ≡ option_map head_in (newest (versions_at t org ws))
+  newest_found = mapped (λ (x : Kept VersionRow). version_in x.1.it) head_in (last_in (filter (is_version_of org ws) t.versions))
+      ∙ ap (option_map head_in) (newest-shown (λ (x : Kept VersionRow). version_in x.1.it) (filter (is_version_of org ws) t.versions))
+
+  pub body_found : (n : ℕ) → body_of org ws n t ≡ option_map (λ (v : Version). v.text) (find (numbered n) (versions_at t org ws))
+  body_found n =
+      ap (option_map (λ (x : Kept VersionRow). x.1.it.body)) (find_same (is_version org ws n) (λ x. is_version_of org ws x && numbered n (version_in x.1.it)) (λ x. three (bytes_eq x.1.org org) (bytes_eq x.1.ws ws) (x.1.it.number == n)) t.versions)
+      ∙ mapped (λ (x : Kept VersionRow). version_in x.1.it) (λ (v : Version). v.text) (find (λ x. is_version_of org ws x && numbered n (version_in x.1.it)) t.versions)
+      ∙ ap (option_map (λ (v : Version). v.text)) (find-slice (is_version_of org ws) (λ (x : Kept VersionRow). version_in x.1.it) (numbered n) t.versions)
+
+  pub first_waiting_found : first_waiting_of org ws t ≡ first_waiting (runs_at t org ws)
+  first_waiting_found =
+      ap (option_map (λ (x : Kept RunRow). x.1.it.number)) (find_same (finds.is_waiting org ws) (λ x. is_run_of org ws x && is_waiting (run_in x.1.it))
+      (λ x. three (bytes_eq x.1.org org) (bytes_eq x.1.ws ws) (finds.is_pending x.1.it.status && not x.1.it.plan_only)
+      ∙ ap (λ (b : Bool). (bytes_eq x.1.org org && bytes_eq x.1.ws ws) && (b && not x.1.it.plan_only)) (pending_same x.1.it.status)) t.runs)
+      ∙ mapped (λ (x : Kept RunRow). run_in x.1.it) (λ (r : Run). r.number) (find (λ x. is_run_of org ws x && is_waiting (run_in x.1.it)) t.runs)
+      ∙ ap (option_map (λ (r : Run). r.number)) (find-slice (is_run_of org ws) (λ (x : Kept RunRow). run_in x.1.it) is_waiting t.runs)
+
+  pub status_found : (n : ℕ) → status_of org ws n t ≡ option_map (λ (r : Run). r.status) (run_of n (runs_at t org ws))
+  status_found n =
+      ap (option_map (λ (x : Kept RunRow). x.1.it.status)) (find_same (is_run org ws n) (λ x. is_run_of org ws x && (run_in x.1.it).number == n) (λ x. three (bytes_eq x.1.org org) (bytes_eq x.1.ws ws) (x.1.it.number == n)) t.runs)
+      ∙ mapped (λ (x : Kept RunRow). run_in x.1.it) (λ (r : Run). r.status) (find (λ x. is_run_of org ws x && (run_in x.1.it).number == n) t.runs)
+      ∙ ap (option_map (λ (r : Run). r.status)) (find-slice (is_run_of org ws) (λ (x : Kept RunRow). run_in x.1.it) (λ (r : Run). r.number == n) t.runs)
+
+  pub holder_status_found : (holder : HolderCells) → holder_status_in org ws holder t ≡ holder_status (holder_in holder) (runs_at t org ws)
+  holder_status_found cells.Nobody = refl
+  holder_status_found (cells.Lock id text) = refl
+  holder_status_found (cells.Run n) = status_found n
+
+  -- the text of the newest version is found by its number
+  pub newest_unit_found : (next : ℕ) (act : Act) → Rises 0 (numbers (versions_at t org ws)) next → newest_in act org ws t ≡ option_map (newest_unit act) (newest (versions_at t org ws))
+  newest_unit_found next act rise = ap (option_map (newest_by act org ws t)) newest_found ∙ by_newest (newest (versions_at t org ws)) refl
+    where
+      by_newest : (o : Option Version) → newest (versions_at t org ws) ≡ o → option_map (newest_by act org ws t) (option_map head_in o) ≡ option_map (newest_unit act) o
+      by_newest None e = refl
+      by_newest (Some v) e =
+          let body : body_of org ws v.number t ≡ Some v.text =
+          body_found v.number ∙ ap (option_map (λ (u : Version). u.text)) (first_is_last 0 next v.number (versions_at t org ws) rise ∙ newest_is_last (versions_at t org ws) v e) in
+          ap (λ (text : Option (List ℕ)). Some (record { number = v.number; serial = v.serial; lineage = v.lineage; is_same = is_found_text act text })) body
+
+-- ---- counts
+
+one_longer : (n : ℕ) (o : Option Workspace) → o ≡ None → cond (is_some o) n (n + 1) ≡ suc n
+one_longer n None e = omega arith
+one_longer n (Some w) e = absurd (let none : ⊥ = cc in none)
+
+module _ (org : List ℕ) (value : Kept WsRow → Workspace) where
+  entries_counted : (xs : List (Kept WsRow)) → AreApart (λ a b. is_ws a.1.org a.1.name b) xs → len (from_entries {R = name_cmp} (map (λ (x : Kept WsRow). (x.1.name, value x)) (filter (is_ws_of org) xs))) ≡ length (filter (is_ws_of org) xs)
+  entries_counted [] apart = len-empty name_cmp Workspace
+  entries_counted (x ∷ xs) apart = go (is_ws_of org x) refl (entries_counted xs apart.1)
+    where
+      go : (b : Bool) → is_ws_of org x ≡ b → len (from_entries {R = name_cmp} (map (λ (y : Kept WsRow). (y.1.name, value y)) (filter (is_ws_of org) xs))) ≡ length (filter (is_ws_of org) xs)
+          → len (from_entries {R = name_cmp} (map (λ (y : Kept WsRow). (y.1.name, value y)) (cond b (x ∷ filter (is_ws_of org) xs) (filter (is_ws_of org) xs)))) ≡ length (cond b (x ∷ filter (is_ws_of org) xs) (filter (is_ws_of org) xs))
+      go false e more = more
+      go true e more =
+          let rest = from_entries {R = name_cmp} (map (λ (y : Kept WsRow). (y.1.name, value y)) (filter (is_ws_of org) xs)) in
+          let none : find (λ y. is_ws_of org y && bytes_eq y.1.name x.1.name) xs ≡ None =
+          none_found (λ y. is_ws_of org y && bytes_eq y.1.name x.1.name) xs (subst (λ (n : List ℕ). AllByRecursion (λ y. is_ws n x.1.name y ≡ false) xs) (same_name x.1.org org e) apart.0) in
+          let missing : get rest x.1.name ≡ None = get-from_entries names_total (map (λ (y : Kept WsRow). (y.1.name, value y)) (filter (is_ws_of org) xs)) x.1.name ∙ entry_found (is_ws_of org) (λ (y : Kept WsRow). y.1.name) value x.1.name xs ∙ ap (option_map value) none in
+          len-insert names_total rest x.1.name (value x) ∙ one_longer (len rest) (get rest x.1.name) missing ∙ ap suc more
+
+-- the workspaces of a record are those of its rows
+workspaces_there : (t : Tables) (org : List ℕ) (o : Organization) → record_of t org ≡ Some o → o.workspaces ≡ workspaces_at t org
+workspaces_there t org o e = by_limit (cap_of org t) e
+  where
+    by_limit : (cap : Option ℕ) → option_map (organization_at t org) cap ≡ Some o → o.workspaces ≡ workspaces_at t org
+    by_limit None e = absurd (let none : ⊥ = cc in none)
+    by_limit (Some cap) e = sym (ap (λ (p : Organization). p.workspaces) (one_of (organization_at t org cap) o e))
+
+module _ (t : Tables) (sound : IsSound t) (org : List ℕ) where
+  -- as many rows as workspaces
+  pub rows_counted : (o : Organization) → record_of t org ≡ Some o → length (filter (is_ws_of org) t.wss) ≡ count_of o
+  rows_counted o e =
+      sym (entries_counted org (λ (x : Kept WsRow). workspace_at t org x.1.name x.1.it) t.wss sound.wss_apart)
+      ∙ len-entries (workspaces_at t org) ∙ ap (λ m. length (entries m)) (sym (workspaces_there t org o e))
+
+  -- the count of workspaces is exact, since there are no more than the limit
+  pub count_found : (o : Organization) → record_of t org ≡ Some o → workspaces_of org t ≡ count_of o
+  count_found o e = least (length (filter (is_ws_of org) t.wss)) (count_of o) o.limit (rows_counted o e) (sound.limits org o e) (limit_is t sound org o e)
+    where
+      least : (n m k : ℕ) → n ≡ m → m ≤ k → k ≤ 100_000 → min n 9_223_372_036_854_775_807 ≡ m
+      least n m k e h l = omega arith
+
+  -- what a decision sees of a workspace is what the point queries find
+  pub unit_found : (o : Organization) (ws : List ℕ) (act : Act) → record_of t org ≡ Some o → unit_in act org ws t ≡ unit_of o ws act
+  unit_found o ws act e = by_row (workspace_of org ws t) refl ∙ ap (unit_by o act) (sym (workspace_there t org ws o e))
+    where
+      by_row : (r : Option WorkspaceCells) → workspace_of org ws t ≡ r → unit_at act org ws t r ≡ unit_by o act (option_map (workspace_at t org ws) r)
+      by_row None f = λ i. Absent (count_found o e i) (unwrap_or (limit_there t org o e i) 0)
+      by_row (Some w) f =
+          let stands : workspace_by t org ws ≡ Some (workspace_at t org ws w) = ap (option_map (workspace_at t org ws)) f in
+          let lawful = (sound.workspaces org ws _ stands).lawful in
+          λ i. Present (record {
+            auto_apply = w.auto;
+            holder = holder_in w.holder;
+            holder_status = holder_status_found t org ws w.holder i;
+            released = w.released;
+            next_version = w.next_version;
+            next_run = w.next_run;
+            newest = newest_unit_found t org ws w.next_version act lawful.versions.rise i;
+            versions = count_is org ws t sound w f i;
+            first_waiting = first_waiting_found t org ws i;
+          })
+
+  -- ---- the text of a version
+
+  pub none_there : cap_of org t ≡ None → list_any (is_org org) t.orgs ≡ false
+  none_there e = any_is_found (is_org org) t.orgs ∙ ap is_some (none_mapped (λ (x : Kept OrgRow). x.1.cap) (find (is_org org) t.orgs) e)
+
+  -- an organization that isn't there has no workspace
+  no_workspace : (ws : List ℕ) → cap_of org t ≡ None → workspace_of org ws t ≡ None
+  no_workspace ws e = by_row (find (is_ws org ws) t.wss) refl
+    where
+      by_row : (r : Option (Kept WsRow)) → find (is_ws org ws) t.wss ≡ r → option_map (λ (x : Kept WsRow). x.1.it) r ≡ None
+      by_row None f = refl
+      by_row (Some x) f =
+          let owned : list_any (is_org x.1.org) t.orgs ≡ true = found_holds (λ (y : Kept WsRow). list_any (is_org y.1.org) t.orgs ≡ true) (is_ws org ws) t.wss x sound.wss_owned f in
+          let own : x.1.org ≡ org = pair_first org ws x.1.org x.1.name (found_passes (is_ws org ws) t.wss x f) in
+          let there : list_any (is_org org) t.orgs ≡ true = subst (λ (n : List ℕ). list_any (is_org n) t.orgs ≡ true) own owned in
+          absurd (let no_one : ⊥ = cc (sym there ∙ none_there e) in no_one)
+
+  -- a workspace that isn't there has no version and no run
+  none_is : (ws : List ℕ) → workspace_of org ws t ≡ None → list_any (is_ws org ws) t.wss ≡ false
+  none_is ws e = any_is_found (is_ws org ws) t.wss ∙ ap is_some (none_mapped (λ (x : Kept WsRow). x.1.it) (find (is_ws org ws) t.wss) e)
+
+  pub no_versions : (ws : List ℕ) → workspace_of org ws t ≡ None → versions_at t org ws ≡ []
+  no_versions ws e = ap (map (λ (x : Kept VersionRow). version_in x.1.it)) (no_orphans (is_version_of org ws) (λ x. is_ws x.1.org x.1.ws) t.wss
+      (λ x f. ap₂ (λ (a b : List ℕ). list_any (is_ws a b) t.wss) (pair_first org ws x.1.org x.1.ws f) (pair_second org ws x.1.org x.1.ws f) ∙ none_is ws e) t.versions sound.versions_owned)
+
+  pub seen_in_rows : (ws : List ℕ) → seen_workspace (record_of t org) ws ≡ workspace_by t org ws
+  seen_in_rows ws = by_limit (cap_of org t) refl
+    where
+      by_limit : (cap : Option ℕ) → cap_of org t ≡ cap → seen_workspace (option_map (organization_at t org) cap) ws ≡ workspace_by t org ws
+      by_limit None e = sym (ap (option_map (workspace_at t org ws)) (no_workspace ws e))
+      by_limit (Some cap) e = got_workspace t org ws
+
+  pub text_found : (ws : List ℕ) (n : ℕ) → body_of org ws n t ≡ text_of n (seen_workspace (record_of t org) ws)
+  text_found ws n = body_found t org ws n ∙ by_row (workspace_of org ws t) refl ∙ ap (text_of n) (sym (seen_in_rows ws))
+    where
+      by_row : (r : Option WorkspaceCells) → workspace_of org ws t ≡ r → option_map (λ (v : Version). v.text) (find (numbered n) (versions_at t org ws)) ≡ text_of n (option_map (workspace_at t org ws) r)
+      by_row None e = ap (λ (vs : List Version). option_map (λ (v : Version). v.text) (find (numbered n) vs)) (no_versions ws e)
+      by_row (Some w) e =
+          let stands : workspace_by t org ws ≡ Some (workspace_at t org ws w) = ap (option_map (workspace_at t org ws)) e in
+          ap (option_map (λ (v : Version). v.text)) (first_is_last 0 w.next_version n (versions_at t org ws) (sound.workspaces org ws _ stands).lawful.versions.rise)

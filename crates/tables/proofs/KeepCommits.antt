@@ -1,0 +1,52 @@
+-- From steps inside a transaction to the transaction, which a commit ends.
+use Rattle.std.proofs.Common.{◌≡◌, inl, inr, Bool, true, false, not, [], IsTrue, Result, Ok, Err, IfErr, OnOk, OnErr, refl, sym, ap, ◌∙◌, subst}
+use Rattle.sqlite_trees.specs.declared.store.Store.{Ghosts}
+use Rattle.sqlite.specs.Effect.{Database}
+use Rattle.sqlite.specs.Held.{Held, state}
+use Rattle.sqlite.specs.Steps.{FailsToCommit}
+use Rattle.sqlite.specs.State.{State, Shows, KeepsCounts, KeepsCommit}
+use Rattle.sqlite.specs.declared.error.Error.{Error}
+use Rattle.statements.specs.Steps.{Moves}
+use Rattle.statements.specs.Making.{Alters}
+use Rattle.statements.specs.Tables.{Tables, Holds}
+use Rattle.tables.specs.KeepSteps.{IsSettled, Commits}
+use Rattle.tables.specs.KeepMaking.{HoldsFirst, IsMade}
+
+-- what a commit promises where it is done
+abbrev pub Ends : State → State → Type 0
+Ends old new = IsTrue old.in_transaction × Shows old new old.now old.now false × KeepsCounts old new × (new.marks ≡ [])
+
+failed : (a c d : State) (e : Error) → (IsTrue c.is_open → IsTrue a.is_open) → (IsTrue c.is_open → c.committed ≡ a.committed) → FailsToCommit c d e → KeepsCommit a d
+failed a c d e was same (inl fails) =
+    let back = fails.3 in record { was_open = λ is. was (back.was_open is); committed = λ is. (back.undone is).1 ∙ same (back.was_open is) }
+failed a c d e was same (inr late) =
+    let kept = late.2.0 in record { was_open = λ _. was kept.was_open; committed = λ _. kept.committed_is ∙ same kept.was_open }
+
+pub settled_by : {S : Type 0} (g : Ghosts S) (h : Held S) (told : Bool) → told ≡ not h.in_transaction → (IsTrue told → IsSettled (state g h)) → h.in_transaction ≡ false → IsSettled (state g h)
+settled_by g h told value settles idle = settles (subst IsTrue (sym (value ∙ ap not idle)) refl)
+
+pub inside_by : {S : Type 0} (h k : Held S) → k ≡ record h { in_transaction = true } → IsTrue k.in_transaction
+inside_by h k begun = subst (λ x. IsTrue x.in_transaction) (sym begun) refl
+
+module _ {S : Type 0} (g : Ghosts S) (h k l m : Held S) (settled : IsSettled (state g h)) (begun : k ≡ record h { in_transaction = true }) where
+  pub commits_by : {X : Type 0} (f : Tables → Tables) (result : Result X Error) → Moves f (state g k) (state g l) → OnOk result (Ends (state g l) (state g m)) → IfErr result (FailsToCommit (state g l) (state g m))
+      → OnOk result (Commits f (state g h) (state g m)) × OnErr result (KeepsCommit (state g h) (state g m))
+  commits_by f (Ok x) moved ends fails =
+      let from : Moves f (state g (record h { in_transaction = true })) (state g l) = subst (λ x. Moves f (state g x) (state g l)) begun moved in
+      (record {
+        rows = λ t held. subst (λ (d : Database). Holds d (f t)) (sym ends.1.committed_is) (from.rows t (subst (λ (d : Database). Holds d t) (sym (settled from.was_open)) held));
+        was_open = from.was_open;
+        is_open = ends.1.is_open;
+      }, tt)
+  commits_by f (Err e) moved ends fails =
+      let from : Moves f (state g (record h { in_transaction = true })) (state g l) = subst (λ x. Moves f (state g x) (state g l)) begun moved in
+      (tt, failed (state g h) (state g l) (state g m) e (λ _. from.was_open) (λ _. from.committed) fails)
+
+  pub made_by : {X : Type 0} (result : Result X Error) → Alters HoldsFirst (state g k) (state g l) → OnOk result (Ends (state g l) (state g m)) → IfErr result (FailsToCommit (state g l) (state g m))
+      → OnOk result (IsMade (state g h) (state g m)) × OnErr result (KeepsCommit (state g h) (state g m))
+  made_by (Ok x) made ends fails =
+      let from : Alters HoldsFirst (state g (record h { in_transaction = true })) (state g l) = subst (λ x. Alters HoldsFirst (state g x) (state g l)) begun made in
+      (record { rows = subst (λ (d : Database). HoldsFirst (state g h).now d) (sym ends.1.committed_is) from.change; was_open = from.was_open; is_open = ends.1.is_open }, tt)
+  made_by (Err e) made ends fails =
+      let from : Alters HoldsFirst (state g (record h { in_transaction = true })) (state g l) = subst (λ x. Alters HoldsFirst (state g x) (state g l)) begun made in
+      (tt, failed (state g h) (state g l) (state g m) e (λ _. from.was_open) (λ _. from.committed) fails)

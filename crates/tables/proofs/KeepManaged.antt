@@ -1,0 +1,95 @@
+-- From what was looked at and one transaction to a command.
+use Rattle.std.proofs.Common.{◌≡◌, ℕ, Bool, true, false, cond, List, is_some, is_none, Option, Some, None, IsTrue, Result, Ok, Err, IfOk, OnOk, OnErr, refl, sym, ap, ◌∙◌, subst}
+use Rattle.sqlite.specs.Effect.{Database}
+use Rattle.sqlite.specs.State.{State, IsUnchanged, KeepsCommit}
+use Rattle.basis.specs.declared.roles.Role.{Role}
+use Rattle.machine.specs.Effects.{Effect, effect}
+use Rattle.machine.specs.declared.acts.Change.{Change}
+use Rattle.machine.specs.declared.keeps.AdminAnswer.{AdminAnswer}
+use Rattle.machine.specs.declared.keeps.AdminAnswer.TheVariants.{Done, Exists, Absent}
+use Rattle.statements.specs.Changes.{org_added, token_added}
+use Rattle.statements.specs.Finds.{cap_of}
+use Rattle.statements.specs.Tables.{Tables, Holds}
+use Rattle.tables.specs.Edits.{edited_rows, changed_rows, started_rows}
+use Rattle.tables.specs.KeepEdits.{edited_by, changed_by}
+use Rattle.tables.specs.KeepLooks.{Stays}
+use Rattle.tables.specs.KeepSteps.{IsSettled, Commits, Manages, org_managed_by, org_managed, is_taken, token_managed_by, token_managed}
+use Rattle.tables.specs.declared.steps.Outgoing.{Outgoing}
+
+-- rows that were looked at are those that are then changed
+pub change_goes : {X E : Type 0} (org ws : List ℕ) (change : Change) (out : Outgoing) (a b d : State) (result : Result X E) → IsSettled a → Stays a b
+    → (IsTrue b.is_open → (t : Tables) → Holds a.now t → edited_by out org ws change.edit t ≡ edited_rows org ws change.edit t)
+    → OnOk result (Commits (changed_by out org ws change) b d) × OnErr result (KeepsCommit b d) → OnOk result (Commits (changed_rows org ws change) a d) × OnErr result (KeepsCommit a d)
+change_goes org ws change out a b d (Ok x) settled stays means last =
+    let done = last.0 in
+    (record {
+      rows = λ t held.
+          let now : Holds a.now t = subst (λ (db : Database). Holds db t) (sym (settled (stays.was_open done.was_open))) held in
+          subst (Holds d.committed) (ap (started_rows org ws change.start) (means done.was_open t now))
+          (done.rows t (subst (λ (db : Database). Holds db t) (sym (stays.committed done.was_open)) held));
+      was_open = stays.was_open done.was_open;
+      is_open = done.is_open;
+    }, tt)
+change_goes org ws change out a b d (Err e) settled stays means last =
+    (tt, record { was_open = λ is. stays.was_open (last.1.was_open is); committed = λ is. last.1.committed is ∙ stays.committed (last.1.was_open is) })
+
+module _ (command : Tables → Effect AdminAnswer Tables) (a b d : State) (settled : IsSettled a) where
+  -- nothing was changed
+  pub manages_none : (answer : AdminAnswer) → IsTrue a.is_open → IsTrue b.is_open → Stays a b → ((t : Tables) → Holds a.now t → command t ≡ effect answer t) → Manages command a b answer
+  manages_none answer was is stays means = record {
+    answer_is = λ t held. sym (ap (λ (m : Effect AdminAnswer Tables). m.answer) (means t (subst (λ (db : Database). Holds db t) (sym (settled was)) held)));
+    rows = λ t held.
+        subst (Holds b.committed) (sym (ap (λ (m : Effect AdminAnswer Tables). m.left) (means t (subst (λ (db : Database). Holds db t) (sym (settled was)) held))))
+        (subst (λ (db : Database). Holds db t) (sym (stays.committed is)) held);
+    was_open = was;
+    is_open = is;
+  }
+
+  -- the change was made
+  pub manages_one : (f : Tables → Tables) (answer : AdminAnswer) → Stays a b → Commits f b d → ((t : Tables) → Holds a.now t → command t ≡ effect answer (f t)) → Manages command a d answer
+  manages_one f answer stays done means =
+      let was = stays.was_open done.was_open in
+      record {
+        answer_is = λ t held. sym (ap (λ (m : Effect AdminAnswer Tables). m.answer) (means t (subst (λ (db : Database). Holds db t) (sym (settled was)) held)));
+        rows = λ t held.
+            subst (Holds d.committed) (sym (ap (λ (m : Effect AdminAnswer Tables). m.left) (means t (subst (λ (db : Database). Holds db t) (sym (settled was)) held))))
+            (done.rows t (subst (λ (db : Database). Holds db t) (sym (stays.committed done.was_open)) held));
+        was_open = was;
+        is_open = done.is_open;
+      }
+
+pub unchanged_stays : (a b : State) → IsUnchanged a b → Stays a b
+unchanged_stays a b u = record { was_open = λ _. u.0.was_open; now = λ _. u.0.now_is; committed = λ _. u.0.committed_is }
+
+pub stays_then : (a b d : State) → Stays a b → Stays b d → Stays a d
+stays_then a b d p q = record {
+  was_open = λ is. p.was_open (q.was_open is);
+  now = λ is. q.now is ∙ p.now (q.was_open is);
+  committed = λ is. q.committed is ∙ p.committed (q.was_open is);
+}
+
+pub none_is : {X : Type 0} (o : Option X) → is_some o ≡ false → o ≡ None
+none_is None e = refl
+none_is (Some x) e = absurd (cc)
+
+-- ---- an organization
+
+pub org_there : (org : List ℕ) (limit : ℕ) (t : Tables) (o : Option ℕ) → is_some o ≡ true → o ≡ cap_of org t → org_managed org limit t ≡ effect Exists t
+org_there org limit t None is e = absurd (cc)
+org_there org limit t (Some cap) is e = ap (λ c. org_managed_by c org limit t) (sym e)
+
+pub org_missing : (org : List ℕ) (limit : ℕ) (t : Tables) (o : Option ℕ) → is_some o ≡ false → o ≡ cap_of org t → org_managed org limit t ≡ effect Done (org_added org limit t)
+org_missing org limit t None is e = ap (λ c. org_managed_by c org limit t) (sym e)
+org_missing org limit t (Some cap) is e = absurd (cc)
+
+-- ---- a token
+
+module _ (org name digest : List ℕ) (role : Role) (t : Tables) where
+  pub token_nowhere : (o : Option ℕ) → is_none o ≡ true → o ≡ cap_of org t → token_managed org name digest role t ≡ effect Absent t
+  token_nowhere None is e = ap (λ c. token_managed_by c (is_taken org name digest t) org name digest role t) (sym e)
+  token_nowhere (Some cap) is e = absurd (cc)
+
+  pub token_there : (o : Option ℕ) (taken : Bool) → is_none o ≡ false → o ≡ cap_of org t → taken ≡ is_taken org name digest t
+      → token_managed org name digest role t ≡ cond taken (effect Exists t) (effect Done (token_added org name digest role t))
+  token_there None taken is e f = absurd (cc)
+  token_there (Some cap) taken is e f = λ i. token_managed_by (sym e i) (sym f i) org name digest role t

@@ -1,0 +1,239 @@
+-- Sound tables stay sound.
+use Rattle.std.proofs.Common.{◌≡◌, ℕ, ◌≤◌, nat_lt, Bool, true, false, List, [], ◌∷◌, ◌++◌, find, length, is_some, Option, Some, None, IfSome, IsTrue, option_map, refl, sym, ap, subst, ◌∙◌, arith}
+use Rattle.std.specs.Str.{bytes_eq}
+use Rattle.std.specs.List.{AllByRecursion, list_any}
+use Rattle.std.specs.FinMap.{get, empty, len-entries, len-empty}
+use Rattle.sqlite_keyed.specs.Keyed.{next_key}
+use Rattle.sqlite_keyed.specs.Rules.{AreApart}
+use Rattle.sqlite_keyed.proofs.ListLemmas.{all_weaker, all-append, none_from_any}
+use Rattle.sqlite_keyed.proofs.SliceLemmas.{any_is_found}
+use Rattle.basis.specs.Names.{is_org_name, is_ws_name}
+use Rattle.basis.specs.declared.roles.Role.{Role}
+use Rattle.machine.specs.Order.{name_cmp}
+use Rattle.machine.specs.Laws.{IsLawful, IsLawfulIfThere, IsNamedWorkspace}
+use Rattle.machine.specs.Records.{seen_in, standing, count_of, placed}
+use Rattle.machine.specs.Changes.{changed_by, IsDue}
+use Rattle.machine.specs.Rules.{rules}
+use Rattle.machine.specs.Tokens.{new_organization}
+use Rattle.machine.specs.declared.acts.Change.{Change}
+use Rattle.machine.specs.declared.records.Workspace.{Workspace}
+use Rattle.machine.specs.declared.records.Organization.{Organization}
+use Rattle.machine.proofs.LawLemmas.{rules_are_lawful}
+use Rattle.machine.proofs.KeepLemmas.{standing_is}
+use Rattle.statements.specs.Rows.{Kept, id_of, OrgRow, TokenRow}
+use Rattle.statements.specs.Tables.{Tables}
+use Rattle.statements.specs.Changes.{is_org, is_token, has_digest, org_added, token_added}
+use Rattle.statements.specs.Finds.{cap_of, role_of_name, role_of_digest}
+use Rattle.statements.specs.Making.{no_rows}
+use Rattle.tables.specs.Records.{workspace_by, organization_at, record_of}
+use Rattle.tables.specs.Sound.{KeepsTheLast, IsOrgRow, IsTokenRow, IsSound}
+use Rattle.tables.specs.Edits.{changed_rows}
+use Rattle.tables.proofs.Names.{same_name, apart_name, names_apart, is_pair, pair_first, pair_second}
+use Rattle.tables.proofs.Parts.{none_mapped}
+use Rattle.tables.proofs.Sets.{Puts, workspace_there, one_of, put_own, put_other}
+use Rattle.tables.proofs.Edits.{changed_puts}
+use Rattle.tables.proofs.Lawful.{limit_there}
+use Rattle.tables.proofs.Following.{rules_keep_the_last, count_within}
+use Rattle.tables.proofs.Owned.{AreOwned, sound_are_owned, changed_are_owned, any_pushed, apart_pushed, pair_turned}
+use Rattle.tables.proofs.Operators.{org_own, org_other}
+
+-- the laws of organizations' and tokens' rows alone
+record AreInOrder (orgs : List (Kept OrgRow)) (tokens : List (Kept TokenRow)) : Type 0 where
+  orgs_apart : AreApart (λ a b. is_org a.1.name b) orgs
+  tokens_apart : AreApart (λ a b. is_token a.1.org a.1.name b) tokens
+  digests_apart : AreApart (λ a b. has_digest a.1.org a.1.it.digest b) tokens
+  tokens_owned : AllByRecursion (λ x. list_any (is_org x.1.org) orgs ≡ true) tokens
+  org_rows : AllByRecursion IsOrgRow orgs
+  token_rows : AllByRecursion IsTokenRow tokens
+
+sound_in_order : (t : Tables) → IsSound t → AreInOrder t.orgs t.tokens
+sound_in_order t sound = record {
+  orgs_apart = sound.orgs_apart;
+  tokens_apart = sound.tokens_apart;
+  digests_apart = sound.digests_apart;
+  tokens_owned = sound.tokens_owned;
+  org_rows = sound.org_rows;
+  token_rows = sound.token_rows;
+}
+
+one_workspace : (a b : Workspace) → Some a ≡ Some b → a ≡ b
+one_workspace a b e = cc
+
+if_there : (P : Workspace → Type 0) (o : Option Workspace) (w : Workspace) → IfSome o P → o ≡ Some w → P w
+if_there P None w h e = absurd (let none : ⊥ = cc in none)
+if_there P (Some v) w h e = subst P (one_workspace v w e) h
+
+there_if : (P : Workspace → Type 0) (o : Option Workspace) → ((w : Workspace) → o ≡ Some w → P w) → IfSome o P
+there_if P None h = tt
+there_if P (Some w) h = h w refl
+
+pub org_there : (t : Tables) (org : List ℕ) (cap : ℕ) → cap_of org t ≡ Some cap → list_any (is_org org) t.orgs ≡ true
+org_there t org cap e = any_is_found (is_org org) t.orgs ∙ sym (some_mapped (find (is_org org) t.orgs)) ∙ ap is_some e
+  where
+    some_mapped : (o : Option (Kept OrgRow)) → is_some (option_map (λ (x : Kept OrgRow). x.1.cap) o) ≡ is_some o
+    some_mapped None = refl
+    some_mapped (Some x) = refl
+
+-- ---- a change of a workspace
+
+-- a due change of a workspace of sound tables leaves them sound
+pub changed_keeps : (org ws : List ℕ) (t : Tables) → IsSound t → (change : Change) (o : Organization) → IsTrue (is_ws_name ws) → record_of t org ≡ Some o → IsDue (seen_in o ws) change
+    → IsSound (changed_rows org ws change t)
+changed_keeps org ws t sound change o named there due = record {
+  orgs_apart = order.orgs_apart;
+  tokens_apart = order.tokens_apart;
+  digests_apart = order.digests_apart;
+  wss_apart = owned.wss_apart;
+  tokens_owned = order.tokens_owned;
+  wss_owned = owned.wss_owned;
+  versions_owned = owned.versions_owned;
+  runs_owned = owned.runs_owned;
+  org_rows = order.org_rows;
+  token_rows = order.token_rows;
+  limits = λ q p e. within q p e (bytes_eq q org) refl;
+  workspaces = λ a b w e. named_there a b w e (is_pair org ws a b) refl;
+  versions = λ a b w e. kept_there a b w e (is_pair org ws a b) refl;
+}
+  where
+    u : Tables
+    u = changed_rows org ws change t
+
+    after : Option Workspace
+    after = changed_by change (workspace_by t org ws)
+
+    puts : Puts org ws after t u
+    puts = changed_puts org ws t sound change
+
+    order : AreInOrder u.orgs u.tokens
+    order = subst (λ os. AreInOrder os u.tokens) (sym puts.orgs) (subst (λ ts. AreInOrder t.orgs ts) (sym puts.tokens) (sound_in_order t sound))
+
+    owned : AreOwned u
+    owned = changed_are_owned org ws t (sound_are_owned t sound) (org_there t org o.limit (limit_there t org o there)) change
+
+    seen : standing (seen_in o ws) ≡ workspace_by t org ws
+    seen = standing_is (nat_lt (count_of o) o.limit) (get o.workspaces ws) ∙ workspace_there t org ws o there
+
+    ruled : after ≡ (rules due.act due.now (seen_in o ws)).left
+    ruled = ap (changed_by change) (sym seen) ∙ due.is
+
+    lawful_after : IsLawfulIfThere after
+    lawful_after = subst IsLawfulIfThere (sym ruled) (rules_are_lawful due.act due.now (seen_in o ws) due.range due.moment
+        (subst IsLawfulIfThere (sym seen) (there_if IsLawful (workspace_by t org ws) (λ w e. (sound.workspaces org ws w e).lawful))))
+
+    kept_after : IfSome after KeepsTheLast
+    kept_after = subst (λ (w : Option Workspace). IfSome w KeepsTheLast) (sym ruled) (rules_keep_the_last due.act due.now (seen_in o ws)
+        (subst (λ (w : Option Workspace). IfSome w KeepsTheLast) (sym seen) (there_if KeepsTheLast (workspace_by t org ws) (sound.versions org ws))))
+
+    own : (a b : List ℕ) (w : Workspace) → workspace_by u a b ≡ Some w → is_pair org ws a b ≡ true → after ≡ Some w
+    own a b w e same = sym puts.own ∙ subst (λ (x : List ℕ). workspace_by u x ws ≡ Some w) (pair_first org ws a b same) (subst (λ (y : List ℕ). workspace_by u a y ≡ Some w) (pair_second org ws a b same) e)
+
+    named_there : (a b : List ℕ) (w : Workspace) → workspace_by u a b ≡ Some w → (c : Bool) → is_pair org ws a b ≡ c → IsNamedWorkspace b w
+    named_there a b w e true same = record {
+      named = subst (λ (n : List ℕ). IsTrue (is_ws_name n)) (sym (pair_second org ws a b same)) named;
+      lawful = if_there IsLawful after w lawful_after (own a b w e same);
+    }
+    named_there a b w e false other = sound.workspaces a b w (sym (puts.others a b other) ∙ e)
+
+    kept_there : (a b : List ℕ) (w : Workspace) → workspace_by u a b ≡ Some w → (c : Bool) → is_pair org ws a b ≡ c → KeepsTheLast w
+    kept_there a b w e true same = if_there KeepsTheLast after w kept_after (own a b w e same)
+    kept_there a b w e false other = sound.versions a b w (sym (puts.others a b other) ∙ e)
+
+    within : (q : List ℕ) (p : Organization) → record_of u q ≡ Some p → (c : Bool) → bytes_eq q org ≡ c → count_of p ≤ p.limit
+    within q p e true same =
+        let here : record_of u org ≡ Some p = subst (λ (x : List ℕ). record_of u x ≡ Some p) (same_name q org same) e in
+        let is : placed o ws after ≡ p = one_of (placed o ws after) p (sym (put_own org ws after t u puts o there) ∙ here) in
+        let counted : count_of (placed o ws (changed_by change (get o.workspaces ws))) ≤ o.limit = count_within o ws change due (sound.limits org o there) in
+        let counted_too : count_of (placed o ws after) ≤ o.limit = subst (λ (w : Option Workspace). count_of (placed o ws (changed_by change w)) ≤ o.limit) (workspace_there t org ws o there) counted in
+        subst (λ (r : Organization). count_of r ≤ r.limit) is counted_too
+    within q p e false other = sound.limits q p (sym (put_other org ws after t u puts q (names_apart q org other)) ∙ e)
+
+-- ---- an operator's command
+
+no_row : (t : Tables) (org : List ℕ) → cap_of org t ≡ None → AllByRecursion (λ x. is_org org x ≡ false) t.orgs
+no_row t org e = none_from_any (is_org org) t.orgs (any_is_found (is_org org) t.orgs ∙ ap is_some (none_mapped (λ (x : Kept OrgRow). x.1.cap) (find (is_org org) t.orgs) e))
+
+turned : (a b : List ℕ) → bytes_eq a b ≡ false → bytes_eq b a ≡ false
+turned a b e = apart_name b a (λ same. names_apart a b e (sym same))
+
+-- an organization more leaves sound tables sound
+pub org_added_keeps : (org : List ℕ) (limit : ℕ) (t : Tables) → IsSound t → IsTrue (is_org_name org) → limit ≤ 100_000 → cap_of org t ≡ None → IsSound (org_added org limit t)
+org_added_keeps org limit t sound named most none = record {
+  orgs_apart = apart_pushed (λ a b. is_org a.1.name b) t.orgs new sound.orgs_apart (all_weaker (λ x. is_org org x ≡ false) (λ x. is_org x.1.name new ≡ false) (λ x e. turned x.1.name org e) t.orgs (no_row t org none));
+  tokens_apart = sound.tokens_apart;
+  digests_apart = sound.digests_apart;
+  wss_apart = sound.wss_apart;
+  tokens_owned = all_weaker (λ x. list_any (is_org x.1.org) t.orgs ≡ true) (λ x. list_any (is_org x.1.org) (t.orgs ++ new ∷ []) ≡ true) (λ x e. any_pushed (is_org x.1.org) t.orgs new e) t.tokens sound.tokens_owned;
+  wss_owned = all_weaker (λ x. list_any (is_org x.1.org) t.orgs ≡ true) (λ x. list_any (is_org x.1.org) (t.orgs ++ new ∷ []) ≡ true) (λ x e. any_pushed (is_org x.1.org) t.orgs new e) t.wss sound.wss_owned;
+  versions_owned = sound.versions_owned;
+  runs_owned = sound.runs_owned;
+  org_rows = all-append IsOrgRow t.orgs (new ∷ []) sound.org_rows (record { named = named; limit = most }, tt);
+  token_rows = sound.token_rows;
+  limits = λ q o e. within q o e (bytes_eq q org) refl;
+  workspaces = sound.workspaces;
+  versions = sound.versions;
+}
+  where
+    new : Kept OrgRow
+    new = (next_key id_of t.orgs, record { name = org; cap = limit })
+
+    none_yet : count_of (new_organization limit) ≡ 0
+    none_yet = sym (len-entries (empty {X = Workspace} {R = name_cmp})) ∙ len-empty name_cmp Workspace
+
+    within : (q : List ℕ) (o : Organization) → record_of (org_added org limit t) q ≡ Some o → (c : Bool) → bytes_eq q org ≡ c → count_of o ≤ o.limit
+    within q o e true same =
+        let here : record_of (org_added org limit t) org ≡ Some o = subst (λ (x : List ℕ). record_of (org_added org limit t) x ≡ Some o) (same_name q org same) e in
+        subst (λ (r : Organization). count_of r ≤ r.limit) (one_of (new_organization limit) o (sym (org_own t sound org limit none) ∙ here)) (subst (λ (n : ℕ). n ≤ limit) (sym none_yet) (omega arith))
+    within q o e false other = sound.limits q o (sym (org_other t sound org limit q (names_apart q org other)) ∙ e)
+
+-- a token more leaves sound tables sound
+pub token_added_keeps : (org name digest : List ℕ) (role : Role) (t : Tables) → IsSound t → IsTrue (is_org_name name) → length digest ≡ 32 → (cap : ℕ) → cap_of org t ≡ Some cap
+    → role_of_name org name t ≡ None → role_of_digest org digest t ≡ None → IsSound (token_added org name digest role t)
+token_added_keeps org name digest role t sound named long cap there unnamed unknown = record {
+  orgs_apart = sound.orgs_apart;
+  tokens_apart = apart_pushed (λ a b. is_token a.1.org a.1.name b) t.tokens new sound.tokens_apart
+      (all_weaker (λ x. is_token org name x ≡ false) (λ x. is_token x.1.org x.1.name new ≡ false) (λ x e. pair_turned org name x.1.org x.1.name e) t.tokens
+      (none_from_any (is_token org name) t.tokens (any_is_found (is_token org name) t.tokens ∙ ap is_some (none_mapped (λ (x : Kept TokenRow). x.1.it.role) (find (is_token org name) t.tokens) unnamed))));
+  digests_apart = apart_pushed (λ a b. has_digest a.1.org a.1.it.digest b) t.tokens new sound.digests_apart
+      (all_weaker (λ x. has_digest org digest x ≡ false) (λ x. has_digest x.1.org x.1.it.digest new ≡ false) (λ x e. pair_turned org digest x.1.org x.1.it.digest e) t.tokens
+      (none_from_any (has_digest org digest) t.tokens (any_is_found (has_digest org digest) t.tokens ∙ ap is_some (none_mapped (λ (x : Kept TokenRow). x.1.it.role) (find (has_digest org digest) t.tokens) unknown))));
+  wss_apart = sound.wss_apart;
+  tokens_owned = all-append (λ x. list_any (is_org x.1.org) t.orgs ≡ true) t.tokens (new ∷ []) sound.tokens_owned (org_there t org cap there, tt);
+  wss_owned = sound.wss_owned;
+  versions_owned = sound.versions_owned;
+  runs_owned = sound.runs_owned;
+  org_rows = sound.org_rows;
+  token_rows = all-append IsTokenRow t.tokens (new ∷ []) sound.token_rows (record { named = named; digest = long }, tt);
+  limits = λ q o e. within q o (cap_of q t) refl e;
+  workspaces = sound.workspaces;
+  versions = sound.versions;
+}
+  where
+    new : Kept TokenRow
+    new = (next_key id_of t.tokens, record { org = org; name = name; it = record { digest = digest; role = role } })
+
+    within : (q : List ℕ) (o : Organization) (c : Option ℕ) → cap_of q t ≡ c → option_map (organization_at (token_added org name digest role t) q) c ≡ Some o → count_of o ≤ o.limit
+    within q o None f e = absurd (let none : ⊥ = cc in none)
+    within q o (Some c) f e =
+        subst (λ (r : Organization). count_of r ≤ r.limit) (one_of (organization_at (token_added org name digest role t) q c) o e) (sound.limits q (organization_at t q c) (ap (option_map (organization_at t q)) f))
+
+-- ---- tables with no row
+
+pub no_record : (metas : List (Kept ℕ)) (org : List ℕ) → record_of (record no_rows { metas = metas }) org ≡ None
+no_record metas org = refl
+
+pub no_rows_are_sound : (metas : List (Kept ℕ)) → IsSound (record no_rows { metas = metas })
+no_rows_are_sound metas = record {
+  orgs_apart = tt;
+  tokens_apart = tt;
+  digests_apart = tt;
+  wss_apart = tt;
+  tokens_owned = tt;
+  wss_owned = tt;
+  versions_owned = tt;
+  runs_owned = tt;
+  org_rows = tt;
+  token_rows = tt;
+  limits = λ org o e. absurd (let none : ⊥ = cc in none);
+  workspaces = λ org name w e. absurd (let none : ⊥ = cc in none);
+  versions = λ org name w e. absurd (let none : ⊥ = cc in none);
+}

@@ -1,0 +1,107 @@
+-- Sound tables denote lawful records.
+use Rattle.std.proofs.Common.{◌≡◌, ℕ, ◌≤◌, Bool, true, false, cond, List, [], ◌∷◌, find, length, Option, Some, None, option_map, IsTrue, refl, sym, ap, subst, ◌∙◌}
+use Rattle.std.specs.Str.{bytes_eq}
+use Rattle.std.specs.List.{AllByRecursion}
+use Rattle.std.specs.FinMap.{get}
+use Rattle.std.proofs.lemmas.Bool.{and_from}
+use Rattle.sqlite_keyed.specs.Rules.{AreApart}
+use Rattle.basis.specs.Names.{is_org_name}
+use Rattle.machine.specs.declared.records.Token.{Token}
+use Rattle.machine.specs.declared.records.Organization.{Organization}
+use Rattle.statements.specs.Rows.{Kept, OrgRow, TokenRow}
+use Rattle.statements.specs.Tables.{Tables}
+use Rattle.statements.specs.Changes.{is_org, is_token, has_digest}
+use Rattle.statements.specs.Finds.{cap_of}
+use Rattle.tables.specs.Records.{token_in, organization_at, record_of}
+use Rattle.tables.specs.Sound.{IsOrgRow, IsTokenRow, IsSound}
+use Rattle.tables.specs.Laws.{SoundTablesAreLawful}
+use Rattle.tables.proofs.Lists.{found_passes}
+use Rattle.tables.proofs.Names.{name_is, pair_first, pair_second}
+use Rattle.tables.proofs.Sets.{got_token, workspace_there, one_of}
+
+module _ {X : Type 0} where
+  pub found_holds : (P : X → Type 0) (p : X → Bool) (xs : List X) (x : X) → AllByRecursion P xs → find p xs ≡ Some x → P x
+  found_holds P p [] x all e = absurd (let none : ⊥ = cc in none)
+  found_holds P p (y ∷ ys) x all e = go (p y) e (found_holds P p ys x all.1)
+    where
+      go : (b : Bool) → cond b (Some y) (find p ys) ≡ Some x → (find p ys ≡ Some x → P x) → P x
+      go true e more = let same : y ≡ x = cc in subst P same all.0
+      go false e more = more e
+
+  -- of rows that are apart, two that clash are one
+  pub apart_one : (clash : X → X → Bool) (p q : X → Bool) (xs : List X) (x y : X) → AreApart clash xs → find p xs ≡ Some x → find q xs ≡ Some y → clash x y ≡ true → clash y x ≡ true → x ≡ y
+  apart_one clash p q [] x y apart e f c d = absurd (let none : ⊥ = cc in none)
+  apart_one clash p q (z ∷ zs) x y apart e f c d = go (p z) (q z) e f (λ e f. apart_one clash p q zs x y apart.1 e f c d)
+    where
+      go : (a b : Bool) → cond a (Some z) (find p zs) ≡ Some x → cond b (Some z) (find q zs) ≡ Some y → (find p zs ≡ Some x → find q zs ≡ Some y → x ≡ y) → x ≡ y
+      go true true e f more = cc
+      go true false e f more =
+          let same : z ≡ x = cc in
+          let none : clash z y ≡ false = found_holds (λ w. clash z w ≡ false) q zs y apart.0 f in
+          absurd (let no_one : ⊥ = cc (sym (subst (λ (w : X). clash w y ≡ false) same none) ∙ c) in no_one)
+      go false true e f more =
+          let same : z ≡ y = cc in
+          let none : clash z x ≡ false = found_holds (λ w. clash z w ≡ false) p zs x apart.0 e in
+          absurd (let no_one : ⊥ = cc (sym (subst (λ (w : X). clash w x ≡ false) same none) ∙ d) in no_one)
+      go false false e f more = more e f
+
+-- the limit of a record is in the organization's row
+pub limit_there : (t : Tables) (org : List ℕ) (o : Organization) → record_of t org ≡ Some o → cap_of org t ≡ Some o.limit
+limit_there t org o e = by_limit (cap_of org t) e
+  where
+    by_limit : (cap : Option ℕ) → option_map (organization_at t org) cap ≡ Some o → cap ≡ Some o.limit
+    by_limit None e = absurd (let none : ⊥ = cc in none)
+    by_limit (Some cap) e = ap (λ (p : Organization). Some p.limit) (one_of (organization_at t org cap) o e)
+
+pub limit_is : (t : Tables) → IsSound t → (org : List ℕ) (o : Organization) → record_of t org ≡ Some o → o.limit ≤ 100_000
+limit_is t sound org o e = by_row (find (is_org org) t.orgs) refl (limit_there t org o e)
+  where
+    by_row : (row : Option (Kept OrgRow)) → find (is_org org) t.orgs ≡ row → option_map (λ (x : Kept OrgRow). x.1.cap) row ≡ Some o.limit → o.limit ≤ 100_000
+    by_row None f e = absurd (let none : ⊥ = cc in none)
+    by_row (Some x) f e =
+        let same : x.1.cap ≡ o.limit = cc in
+        subst (λ (n : ℕ). n ≤ 100_000) same (found_holds IsOrgRow (is_org org) t.orgs x sound.org_rows f).limit
+
+pub token_there : (t : Tables) (org name : List ℕ) (o : Organization) → record_of t org ≡ Some o → get o.tokens name ≡ option_map (λ (x : Kept TokenRow). token_in x.1.it) (find (is_token org name) t.tokens)
+token_there t org name o e = by_limit (cap_of org t) e
+  where
+    by_limit : (cap : Option ℕ) → option_map (organization_at t org) cap ≡ Some o → get o.tokens name ≡ option_map (λ (x : Kept TokenRow). token_in x.1.it) (find (is_token org name) t.tokens)
+    by_limit None e = absurd (let none : ⊥ = cc in none)
+    by_limit (Some cap) e = subst (λ (p : Organization). get p.tokens name ≡ option_map (λ (x : Kept TokenRow). token_in x.1.it) (find (is_token org name) t.tokens)) (one_of (organization_at t org cap) o e) (got_token t org name)
+
+-- a token of a record has a row
+record Found (t : Tables) (org name : List ℕ) (token : Token) : Type 0 where
+  row : Kept TokenRow
+  found : find (is_token org name) t.tokens ≡ Some row
+  is : token_in row.1.it ≡ token
+
+found_token : (t : Tables) (org name : List ℕ) (token : Token) → option_map (λ (x : Kept TokenRow). token_in x.1.it) (find (is_token org name) t.tokens) ≡ Some token → Found t org name token
+found_token t org name token e = by_row (find (is_token org name) t.tokens) refl e
+  where
+    by_row : (row : Option (Kept TokenRow)) → find (is_token org name) t.tokens ≡ row → option_map (λ (x : Kept TokenRow). token_in x.1.it) row ≡ Some token → Found t org name token
+    by_row None f e = absurd (let none : ⊥ = cc in none)
+    by_row (Some x) f e = record { row = x; found = f; is = cc }
+
+pub sound_is_lawful : SoundTablesAreLawful
+sound_is_lawful t sound org o e = record {
+  limit = limit_is t sound org o e;
+  tokens = λ name token f.
+      let x = found_token t org name token (sym (token_there t org name o e) ∙ f) in
+      let is = found_holds IsTokenRow (is_token org name) t.tokens x.row sound.token_rows x.found in
+      record {
+        named = subst (λ (n : List ℕ). IsTrue (is_org_name n)) (pair_second org name x.row.1.org x.row.1.name (found_passes (is_token org name) t.tokens x.row x.found)) is.named;
+        digest = ap (λ (u : Token). length u.digest) (sym x.is) ∙ is.digest;
+      };
+  digests = λ name other token_a token_b f g same.
+      let x = found_token t org name token_a (sym (token_there t org name o e) ∙ f) in
+      let y = found_token t org other token_b (sym (token_there t org other o e) ∙ g) in
+      let p = found_passes (is_token org name) t.tokens x.row x.found in
+      let q = found_passes (is_token org other) t.tokens y.row y.found in
+      let orgs : y.row.1.org ≡ x.row.1.org = pair_first org other y.row.1.org y.row.1.name q ∙ sym (pair_first org name x.row.1.org x.row.1.name p) in
+      let digests : y.row.1.it.digest ≡ x.row.1.it.digest = ap (λ (u : Token). u.digest) y.is ∙ sym same ∙ sym (ap (λ (u : Token). u.digest) x.is) in
+      let rows : x.row ≡ y.row = apart_one (λ a b. has_digest a.1.org a.1.it.digest b) (is_token org name) (is_token org other) t.tokens x.row y.row sound.digests_apart x.found y.found
+      (and_from _ _ (subst (λ (n : List ℕ). bytes_eq n x.row.1.org ≡ true) (sym orgs) (name_is x.row.1.org)) (subst (λ (n : List ℕ). bytes_eq n x.row.1.it.digest ≡ true) (sym digests) (name_is x.row.1.it.digest)))
+      (and_from _ _ (subst (λ (n : List ℕ). bytes_eq x.row.1.org n ≡ true) (sym orgs) (name_is x.row.1.org)) (subst (λ (n : List ℕ). bytes_eq x.row.1.it.digest n ≡ true) (sym digests) (name_is x.row.1.it.digest))) in
+      sym (pair_second org name x.row.1.org x.row.1.name p) ∙ ap (λ (r : Kept TokenRow). r.1.name) rows ∙ pair_second org other y.row.1.org y.row.1.name q;
+  workspaces = λ name w f. sound.workspaces org name w (sym (workspace_there t org name o e) ∙ f);
+}

@@ -1,0 +1,246 @@
+-- The records after an operator's command, and the tokens of an organization by their digests.
+use Rattle.std.proofs.Common.{◌≡◌, ◌≢◌, ℕ, Bool, true, false, ◌&&◌, ◌||◌, cond, List, [], ◌∷◌, map, filter, find, is_some, Option, Some, None, option_map, refl, sym, ap, ap₂, subst, ◌∙◌, arith, length}
+use Rattle.std.specs.Str.{bytes_eq}
+use Rattle.std.specs.List.{AllByRecursion, list_any}
+use Rattle.std.specs.Ordering.{is_eq}
+use Rattle.std.specs.declared.cmp.Ordering.{Ordering}
+use Rattle.std.specs.declared.cmp.Ordering.TheVariants.{Less, Equal, Greater}
+use Rattle.std.specs.FinMap.{FinMap, from_entries, entries, get, insert, empty, entries-insert, get-entries, get-from_entries, same_map, len-entries, len-empty}
+use Rattle.std.specs.FinMap.Entries.{find as find_entry, put, by_order}
+use Rattle.sqlite_keyed.specs.Keyed.{next_key}
+use Rattle.sqlite_keyed.specs.Rules.{AreApart}
+use Rattle.sqlite_keyed.proofs.SliceLemmas.{slice-push_other}
+use Rattle.basis.specs.declared.roles.Role.{Role}
+use Rattle.machine.specs.Order.{name_cmp}
+use Rattle.machine.specs.Effects.{effect}
+use Rattle.machine.specs.Tokens.{token_with, caller_of, new_organization, org_added, token_of, with_token, token_added}
+use Rattle.machine.specs.declared.keeps.AdminAnswer.TheVariants.{Done, Exists, Absent}
+use Rattle.machine.specs.declared.records.Token.{Token}
+use Rattle.machine.specs.declared.records.Organization.{Organization}
+use Rattle.machine.proofs.MapLemmas.{names_total, names_same, get_own, get_other}
+use Rattle.statements.specs.Rows.{Kept, id_of, OrgRow, TokenRow, WsRow}
+use Rattle.statements.specs.Tables.{Tables}
+use Rattle.statements.specs.Changes.{is_org, is_token, has_digest, is_ws_of}
+use Rattle.statements.specs.Changes as rows
+use Rattle.statements.specs.Finds.{cap_of, role_of_digest, role_of_name}
+use Rattle.tables.specs.Records.{token_in, is_token_of, tokens_at, workspace_at, workspaces_at, organization_at, record_of}
+use Rattle.tables.specs.Sound.{IsSound}
+use Rattle.tables.proofs.Lists.{found_passes, find_pushed, find_pushed_other}
+use Rattle.tables.proofs.Names.{same_name, name_is, apart_name, names_apart, pair_first, pair_is}
+use Rattle.tables.proofs.Parts.{none_mapped}
+use Rattle.tables.proofs.Sets.{entry_found, got_token}
+use Rattle.tables.proofs.Lawful.{found_holds}
+use Rattle.tables.proofs.Finding.{none_found, no_orphans, none_there}
+
+-- ---- the first token with a digest, of a map
+
+module _ (digest : List ℕ) where
+  abbrev with_it : List (List ℕ × Token) → Option Token
+  with_it es = token_with digest es
+
+  put_away : (k : List ℕ) (v : Token) → bytes_eq v.digest digest ≡ false → (es : List (List ℕ × Token)) → find_entry name_cmp k es ≡ None → with_it (put name_cmp k v es) ≡ with_it es
+  put_away k v apart [] none = rw apart refl
+  put_away k v apart (e ∷ es) none = go (name_cmp k e.0) none (λ rest. put_away k v apart es rest)
+    where
+      go : (o : Ordering) → cond (is_eq o) (Some e.1) (find_entry name_cmp k es) ≡ None → (find_entry name_cmp k es ≡ None → with_it (put name_cmp k v es) ≡ with_it es)
+          → with_it (by_order o ((k, v) ∷ e ∷ es) ((e.0, v) ∷ es) (e ∷ put name_cmp k v es)) ≡ with_it (e ∷ es)
+      go Less none more = rw apart refl
+      go Equal none more = absurd (let no_one : ⊥ = cc in no_one)
+      go Greater none more = ap (cond (bytes_eq e.1.digest digest) (Some e.1)) (more none)
+
+  put_there : (k : List ℕ) (v : Token) → bytes_eq v.digest digest ≡ true → (es : List (List ℕ × Token)) → find_entry name_cmp k es ≡ None → with_it es ≡ None → with_it (put name_cmp k v es) ≡ Some v
+  put_there k v is [] none other = rw is refl
+  put_there k v is (e ∷ es) none other = go (name_cmp k e.0) (bytes_eq e.1.digest digest) refl none other (λ rest last. put_there k v is es rest last)
+    where
+      go : (o : Ordering) (b : Bool) → bytes_eq e.1.digest digest ≡ b → cond (is_eq o) (Some e.1) (find_entry name_cmp k es) ≡ None → cond b (Some e.1) (with_it es) ≡ None
+          → (find_entry name_cmp k es ≡ None → with_it es ≡ None → with_it (put name_cmp k v es) ≡ Some v)
+          → with_it (by_order o ((k, v) ∷ e ∷ es) ((e.0, v) ∷ es) (e ∷ put name_cmp k v es)) ≡ Some v
+      go o true d none other more = absurd (let no_one : ⊥ = cc in no_one)
+      go Less false d none other more = rw is refl
+      go Equal false d none other more = absurd (let no_one : ⊥ = cc in no_one)
+      go Greater false d none other more = rw d (more none other)
+
+  module _ (org : List ℕ) where
+    abbrev made : List (Kept TokenRow) → FinMap name_cmp Token
+    made xs = from_entries (map (λ (x : Kept TokenRow). (x.1.name, token_in x.1.it)) (filter (is_token_of org) xs))
+
+    digest_found : (xs : List (Kept TokenRow)) → AreApart (λ a b. is_token a.1.org a.1.name b) xs → AreApart (λ a b. has_digest a.1.org a.1.it.digest b) xs
+        → with_it (entries (made xs)) ≡ option_map (λ (x : Kept TokenRow). token_in x.1.it) (find (has_digest org digest) xs)
+    digest_found [] names digests = ap with_it no_entries
+      where
+        no_length : (es : List (List ℕ × Token)) → 0 ≡ length es → es ≡ []
+        no_length [] e = refl
+        no_length (x ∷ es) e = absurd (omega arith)
+
+        no_entries : entries (empty {X = Token} {R = name_cmp}) ≡ []
+        no_entries = no_length _ (sym (len-empty name_cmp Token) ∙ len-entries (empty {X = Token} {R = name_cmp}))
+    digest_found (x ∷ xs) names digests = go (is_token_of org x) (bytes_eq x.1.it.digest digest) refl refl (digest_found xs names.1 digests.1)
+      where
+        go : (a b : Bool) → is_token_of org x ≡ a → bytes_eq x.1.it.digest digest ≡ b
+            → with_it (entries (made xs)) ≡ option_map (λ (y : Kept TokenRow). token_in y.1.it) (find (has_digest org digest) xs)
+            → with_it (entries (from_entries {R = name_cmp} (map (λ (y : Kept TokenRow). (y.1.name, token_in y.1.it)) (cond a (x ∷ filter (is_token_of org) xs) (filter (is_token_of org) xs)))))
+            ≡ option_map (λ (y : Kept TokenRow). token_in y.1.it) (cond (a && b) (Some x) (find (has_digest org digest) xs))
+        go false b d e more = more
+        go true b d e more = inside b e
+          where
+            name_free : find_entry name_cmp x.1.name (entries (made xs)) ≡ None
+            name_free =
+                sym (get-entries (made xs) x.1.name)
+                ∙ get-from_entries names_total (map (λ (y : Kept TokenRow). (y.1.name, token_in y.1.it)) (filter (is_token_of org) xs)) x.1.name
+                ∙ entry_found (is_token_of org) (λ (y : Kept TokenRow). y.1.name) (λ (y : Kept TokenRow). token_in y.1.it) x.1.name xs
+                ∙ ap (option_map (λ (y : Kept TokenRow). token_in y.1.it)) (none_found (is_token org x.1.name) xs (subst (λ (n : List ℕ). AllByRecursion (λ y. is_token n x.1.name y ≡ false) xs) (same_name x.1.org org d) names.0))
+
+            inside : (c : Bool) → bytes_eq x.1.it.digest digest ≡ c → with_it (entries (insert (made xs) x.1.name (token_in x.1.it))) ≡ option_map (λ (y : Kept TokenRow). token_in y.1.it) (cond c (Some x) (find (has_digest org digest) xs))
+            inside true f =
+                let alone : find (has_digest org digest) xs ≡ None =
+                none_found (has_digest org digest) xs (subst (λ (n : List ℕ). AllByRecursion (λ y. has_digest org n y ≡ false) xs) (same_name x.1.it.digest digest f) (subst (λ (n : List ℕ). AllByRecursion (λ y. has_digest n x.1.it.digest y ≡ false) xs) (same_name x.1.org org d) digests.0)) in
+                ap with_it (entries-insert names_total (made xs) x.1.name (token_in x.1.it))
+                ∙ put_there x.1.name (token_in x.1.it) f (entries (made xs)) name_free (more ∙ ap (option_map (λ (y : Kept TokenRow). token_in y.1.it)) alone)
+            inside false f =
+                ap with_it (entries-insert names_total (made xs) x.1.name (token_in x.1.it))
+                ∙ put_away x.1.name (token_in x.1.it) f (entries (made xs)) name_free ∙ more
+
+-- ---- callers
+
+module _ (t : Tables) (sound : IsSound t) (org : List ℕ) where
+  no_tokens : cap_of org t ≡ None → filter (is_token_of org) t.tokens ≡ []
+  no_tokens e = no_orphans (is_token_of org) (λ x. is_org x.1.org) t.orgs
+      (λ x f. ap (λ (n : List ℕ). list_any (is_org n) t.orgs) (same_name x.1.org org f) ∙ none_there t sound org e) t.tokens sound.tokens_owned
+
+  no_workspaces : cap_of org t ≡ None → filter (is_ws_of org) t.wss ≡ []
+  no_workspaces e = no_orphans (is_ws_of org) (λ x. is_org x.1.org) t.orgs
+      (λ x f. ap (λ (n : List ℕ). list_any (is_org n) t.orgs) (same_name x.1.org org f) ∙ none_there t sound org e) t.wss sound.wss_owned
+
+  pub caller_is : (digest : List ℕ) → option_map (λ (x : Kept TokenRow). token_in x.1.it) (find (has_digest org digest) t.tokens) ≡ caller_of (record_of t org) digest
+  caller_is digest = by_limit (cap_of org t) refl
+    where
+      none_found_there : (o : Option (Kept TokenRow)) → find (has_digest org digest) t.tokens ≡ o → cap_of org t ≡ None → option_map (λ (x : Kept TokenRow). token_in x.1.it) o ≡ None
+      none_found_there None f e = refl
+      none_found_there (Some x) f e =
+          let own : x.1.org ≡ org = pair_first org digest x.1.org x.1.it.digest (found_passes (has_digest org digest) t.tokens x f) in
+          let owned : list_any (is_org x.1.org) t.orgs ≡ true = found_holds (λ (y : Kept TokenRow). list_any (is_org y.1.org) t.orgs ≡ true) (has_digest org digest) t.tokens x sound.tokens_owned f in
+          let there : list_any (is_org org) t.orgs ≡ true = subst (λ (n : List ℕ). list_any (is_org n) t.orgs ≡ true) own owned in
+          absurd (let no_one : ⊥ = cc (sym there ∙ none_there t sound org e) in no_one)
+
+      by_limit : (cap : Option ℕ) → cap_of org t ≡ cap → option_map (λ (x : Kept TokenRow). token_in x.1.it) (find (has_digest org digest) t.tokens) ≡ caller_of (option_map (organization_at t org) cap) digest
+      by_limit None e = none_found_there (find (has_digest org digest) t.tokens) refl e
+      by_limit (Some cap) e = sym (digest_found digest org t.tokens sound.tokens_apart sound.digests_apart)
+
+  -- the role of a caller is that of the row with its digest
+  pub caller_found : (digest : List ℕ) → role_of_digest org digest t ≡ option_map (λ (token : Token). token.role) (caller_of (record_of t org) digest)
+  caller_found digest = mapped (find (has_digest org digest) t.tokens) ∙ ap (option_map (λ (token : Token). token.role)) (caller_is digest)
+    where
+      mapped : (o : Option (Kept TokenRow)) → option_map (λ (x : Kept TokenRow). x.1.it.role) o ≡ option_map (λ (token : Token). token.role) (option_map (λ (x : Kept TokenRow). token_in x.1.it) o)
+      mapped None = refl
+      mapped (Some x) = refl
+
+-- ---- an organization more
+
+record_there : (t : Tables) (org : List ℕ) (cap : ℕ) → cap_of org t ≡ Some cap → record_of t org ≡ Some (organization_at t org cap)
+record_there t org cap e = ap (option_map (organization_at t org)) e
+
+record_missing : (t : Tables) (org : List ℕ) → cap_of org t ≡ None → record_of t org ≡ None
+record_missing t org e = ap (option_map (organization_at t org)) e
+
+module _ (t : Tables) (sound : IsSound t) (org : List ℕ) (limit : ℕ) where
+  pub org_exists : (cap : ℕ) → cap_of org t ≡ Some cap → effect Exists (record_of t org) ≡ org_added limit (record_of t org)
+  org_exists cap e = subst (λ (r : Option Organization). effect Exists r ≡ org_added limit r) (sym (record_there t org cap e)) refl
+
+  pub org_own : cap_of org t ≡ None → record_of (rows.org_added org limit t) org ≡ Some (new_organization limit)
+  org_own e =
+      ap (λ (o : Option (Kept OrgRow)). option_map (organization_at t org) (option_map (λ (x : Kept OrgRow). x.1.cap) o))
+      (find_pushed (is_org org) t.orgs (next_key id_of t.orgs, record { name = org; cap = limit }) (none_mapped (λ (x : Kept OrgRow). x.1.cap) _ e) (name_is org))
+      ∙ (λ i. Some (record {
+        limit = limit;
+        tokens = from_entries {R = name_cmp} (map (λ (x : Kept TokenRow). (x.1.name, token_in x.1.it)) (no_tokens t sound org e i));
+        workspaces = from_entries {R = name_cmp} (map (λ (x : Kept WsRow). (x.1.name, workspace_at t org x.1.name x.1.it)) (no_workspaces t sound org e i));
+      }))
+
+  -- where no organization has the name, the new one is there
+  pub org_done : cap_of org t ≡ None → effect Done (record_of (rows.org_added org limit t) org) ≡ org_added limit (record_of t org)
+  org_done e = ap (effect Done) (org_own e) ∙ sym (ap (org_added limit) (record_missing t org e))
+
+  pub org_other : (q : List ℕ) → q ≢ org → record_of (rows.org_added org limit t) q ≡ record_of t q
+  org_other q apart =
+      ap (λ (o : Option (Kept OrgRow)). option_map (organization_at t q) (option_map (λ (x : Kept OrgRow). x.1.cap) o))
+      (find_pushed_other (is_org q) t.orgs (next_key id_of t.orgs, record { name = org; cap = limit }) (apart_name org q (λ same. apart (sym same))))
+
+-- ---- a token more
+
+found_same : {A B : Type 0} (f : A → B) (o : Option A) → is_some (option_map f o) ≡ is_some o
+found_same f None = refl
+found_same f (Some a) = refl
+
+module _ (t : Tables) (sound : IsSound t) (org name digest : List ℕ) (role : Role) where
+  abbrev new_token : Token
+  new_token = token_of digest role
+
+  abbrev added : Tables
+  added = rows.token_added org name digest role t
+
+  new_row : Kept TokenRow
+  new_row = (next_key id_of t.tokens, record { org = org; name = name; it = record { digest = digest; role = role } })
+
+  pub token_absent : cap_of org t ≡ None → effect Absent (record_of t org) ≡ token_added name new_token (record_of t org)
+  token_absent e = subst (λ (r : Option Organization). effect Absent r ≡ token_added name new_token r) (sym (record_missing t org e)) refl
+
+  module _ (cap : ℕ) (there : cap_of org t ≡ Some cap) where
+    abbrev before : Organization
+    before = organization_at t org cap
+
+    named_is : is_some (get (tokens_at t org) name) ≡ is_some (role_of_name org name t)
+    named_is = ap is_some (got_token t org name) ∙ found_same (λ (x : Kept TokenRow). token_in x.1.it) (find (is_token org name) t.tokens) ∙ sym (found_same (λ (x : Kept TokenRow). x.1.it.role) (find (is_token org name) t.tokens))
+
+    digest_is : is_some (token_with digest (entries (tokens_at t org))) ≡ is_some (role_of_digest org digest t)
+    digest_is =
+        ap is_some (digest_found digest org t.tokens sound.tokens_apart sound.digests_apart)
+        ∙ found_same (λ (x : Kept TokenRow). token_in x.1.it) (find (has_digest org digest) t.tokens) ∙ sym (found_same (λ (x : Kept TokenRow). x.1.it.role) (find (has_digest org digest) t.tokens))
+
+    by_tests : (a b : Bool) → is_some (role_of_name org name t) ≡ a → is_some (role_of_digest org digest t) ≡ b
+        → token_added name new_token (record_of t org) ≡ cond (a || b) (effect Exists (Some before)) (effect Done (Some (with_token before name new_token)))
+    by_tests a b e f =
+        ap (token_added name new_token) (record_there t org cap there)
+        ∙ ap₂ (λ (x y : Bool). cond (x || y) (effect Exists (Some before)) (effect Done (Some (with_token before name new_token)))) (named_is ∙ e) (digest_is ∙ f)
+
+    -- the name is taken
+    pub token_named : (r : Role) → role_of_name org name t ≡ Some r → effect Exists (record_of t org) ≡ token_added name new_token (record_of t org)
+    token_named r e = ap (effect Exists) (record_there t org cap there) ∙ sym (by_tests true (is_some (role_of_digest org digest t)) (ap is_some e) refl)
+
+    -- the digest is that of another token
+    pub token_known : (r : Role) → role_of_digest org digest t ≡ Some r → effect Exists (record_of t org) ≡ token_added name new_token (record_of t org)
+    token_known r e = ap (effect Exists) (record_there t org cap there) ∙ sym (by_tests (is_some (role_of_name org name t)) true refl (ap is_some e) ∙ either (is_some (role_of_name org name t)))
+      where
+        either : (a : Bool) → cond (a || true) (effect Exists (Some before)) (effect Done (Some (with_token before name new_token))) ≡ effect Exists (Some before)
+        either true = refl
+        either false = refl
+
+    module _ (unnamed : role_of_name org name t ≡ None) where
+      put_tokens : tokens_at added org ≡ insert (tokens_at t org) name new_token
+      put_tokens = same_map names_total names_same _ _ (λ q. by_name q (bytes_eq q name) refl)
+        where
+          by_name : (q : List ℕ) (b : Bool) → bytes_eq q name ≡ b → get (tokens_at added org) q ≡ get (insert (tokens_at t org) name new_token) q
+          by_name q true e = subst (λ (n : List ℕ). get (tokens_at added org) n ≡ get (insert (tokens_at t org) name new_token) n) (sym (same_name q name e))
+              (got_token added org name
+              ∙ ap (option_map (λ (x : Kept TokenRow). token_in x.1.it)) (find_pushed (is_token org name) t.tokens _ (none_mapped (λ (x : Kept TokenRow). x.1.it.role) _ unnamed) (pair_is org name))
+              ∙ sym (get_own (tokens_at t org) name new_token))
+          by_name q false e =
+              got_token added org q
+              ∙ ap (option_map (λ (x : Kept TokenRow). token_in x.1.it)) (find_pushed_other (is_token org q) t.tokens _ (ap₂ ◌&&◌ (name_is org) (apart_name name q (λ same. names_apart q name e (sym same)))))
+              ∙ sym (got_token t org q) ∙ sym (get_other (tokens_at t org) name new_token q (names_apart q name e))
+
+      pub token_own : record_of added org ≡ Some (with_token before name new_token)
+      token_own = ap (option_map (organization_at added org)) there ∙ (λ i. Some (record { limit = cap; tokens = put_tokens i; workspaces = workspaces_at t org }))
+
+      -- where neither its name nor its digest is there, the new one is
+      pub token_done : role_of_digest org digest t ≡ None → effect Done (record_of added org) ≡ token_added name new_token (record_of t org)
+      token_done unknown = ap (effect Done) token_own ∙ sym (by_tests false false (ap is_some unnamed) (ap is_some unknown))
+
+  pub token_other : (q : List ℕ) → q ≢ org → record_of added q ≡ record_of t q
+  token_other q apart = by_limit (cap_of q t)
+    where
+      same_tokens : tokens_at added q ≡ tokens_at t q
+      same_tokens = ap (λ es. from_entries {R = name_cmp} es) (slice-push_other (is_token_of q) (λ (x : Kept TokenRow). (x.1.name, token_in x.1.it)) t.tokens _ (apart_name org q (λ same. apart (sym same))))
+
+      by_limit : (c : Option ℕ) → option_map (organization_at added q) c ≡ option_map (organization_at t q) c
+      by_limit None = refl
+      by_limit (Some c) = λ i. Some (record { limit = c; tokens = same_tokens i; workspaces = workspaces_at t q })

@@ -1,0 +1,92 @@
+-- The records of a database, and its soundness, once its rows have changed.
+use Rattle.std.proofs.Common.{◌≡◌, ◌≢◌, ℕ, ◌≤◌, List, length, Some, None, IsTrue, sym, ap, subst, ◌∙◌}
+use Rattle.std.specs.FinMap.{get}
+use Rattle.sqlite.specs.Effect.{Database}
+use Rattle.basis.specs.Names.{is_org_name, is_ws_name}
+use Rattle.basis.specs.declared.roles.Role.{Role}
+use Rattle.machine.specs.Effects.{effect}
+use Rattle.machine.specs.Laws.{AreLawful}
+use Rattle.machine.specs.Records.{placed, seen_in}
+use Rattle.machine.specs.Changes.{changed_by, IsDue}
+use Rattle.machine.specs.Tokens.{org_added, token_of, token_added}
+use Rattle.machine.specs.declared.acts.Change.{Change}
+use Rattle.machine.specs.declared.keeps.AdminAnswer.TheVariants.{Done}
+use Rattle.machine.specs.declared.records.Organization.{Organization}
+use Rattle.statements.specs.Changes as rows
+use Rattle.statements.specs.Decode.{tables_of}
+use Rattle.statements.specs.Finds.{cap_of, role_of_name, role_of_digest}
+use Rattle.statements.specs.Making.{no_rows, version_set}
+use Rattle.statements.specs.Tables.{Tables, Holds}
+use Rattle.statements.proofs.Decoding.{tables-held}
+use Rattle.tables.specs.Edits.{changed_rows}
+use Rattle.tables.specs.Records.{record_of}
+use Rattle.tables.specs.Sound.{IsSound}
+use Rattle.tables.specs.Stores.{records_of, IsSoundStore}
+use Rattle.tables.proofs.Changes.{changed_own, changed_other}
+use Rattle.tables.proofs.Kept.{changed_keeps, org_added_keeps, token_added_keeps, no_rows_are_sound, no_record}
+use Rattle.tables.proofs.Lawful.{sound_is_lawful}
+use Rattle.tables.proofs.Operators.{org_done, org_other, token_done, token_other}
+
+pub store_is_lawful : (db : Database) → IsSoundStore db → AreLawful (records_of db)
+store_is_lawful db s = sound_is_lawful (tables_of db) s.sound
+
+-- a database that holds sound tables is sound
+pub store_by : (db : Database) (t : Tables) → Holds db t → IsSound t → IsSoundStore db
+store_by db t holds sound =
+    let is : tables_of db ≡ t = tables-held db t holds in
+    record { holds = subst (Holds db) (sym is) holds; sound = subst IsSound (sym is) sound }
+
+pub records_by : (db : Database) (t : Tables) → Holds db t → (org : List ℕ) → records_of db org ≡ record_of t org
+records_by db t holds org = ap (λ (u : Tables). record_of u org) (tables-held db t holds)
+
+-- the tables that were just made
+module _ (db : Database) (made : Holds db (version_set no_rows)) where
+  pub first_store_is_sound : IsSoundStore db
+  first_store_is_sound = store_by db (version_set no_rows) made (no_rows_are_sound (version_set no_rows).metas)
+
+  pub first_store_is_empty : (org : List ℕ) → records_of db org ≡ None
+  first_store_is_empty org = records_by db (version_set no_rows) made org ∙ no_record (version_set no_rows).metas org
+
+module _ (old new : Database) (s : IsSoundStore old) where
+  abbrev rows_before : Tables
+  rows_before = tables_of old
+
+  -- ---- a change of a workspace
+
+  module _ (org ws : List ℕ) (change : Change) (moves : (t : Tables) → Holds old t → Holds new (changed_rows org ws change t)) where
+    pub store_changed_own : (o : Organization) → records_of old org ≡ Some o → records_of new org ≡ Some (placed o ws (changed_by change (get o.workspaces ws)))
+    store_changed_own o there = records_by new _ (moves rows_before s.holds) org ∙ changed_own org ws rows_before s.sound change o there
+
+    pub store_changed_other : (q : List ℕ) → q ≢ org → records_of new q ≡ records_of old q
+    store_changed_other q apart = records_by new _ (moves rows_before s.holds) q ∙ changed_other org ws rows_before s.sound change q apart
+
+    pub store_changed_keeps : (o : Organization) → IsTrue (is_ws_name ws) → records_of old org ≡ Some o → IsDue (seen_in o ws) change → IsSoundStore new
+    store_changed_keeps o named there due = store_by new _ (moves rows_before s.holds) (changed_keeps org ws rows_before s.sound change o named there due)
+
+  -- ---- an organization more
+
+  module _ (org : List ℕ) (limit : ℕ) (moves : (t : Tables) → Holds old t → Holds new (rows.org_added org limit t)) where
+    pub store_org_done : cap_of org rows_before ≡ None → effect Done (records_of new org) ≡ org_added limit (records_of old org)
+    store_org_done none = ap (effect Done) (records_by new _ (moves rows_before s.holds) org) ∙ org_done rows_before s.sound org limit none
+
+    pub store_org_other : (q : List ℕ) → q ≢ org → records_of new q ≡ records_of old q
+    store_org_other q apart = records_by new _ (moves rows_before s.holds) q ∙ org_other rows_before s.sound org limit q apart
+
+    pub store_org_keeps : IsTrue (is_org_name org) → limit ≤ 100_000 → cap_of org rows_before ≡ None → IsSoundStore new
+    store_org_keeps named most none = store_by new _ (moves rows_before s.holds) (org_added_keeps org limit rows_before s.sound named most none)
+
+  -- ---- a token more
+
+  module _ (org name digest : List ℕ) (role : Role) (moves : (t : Tables) → Holds old t → Holds new (rows.token_added org name digest role t)) where
+    pub store_token_done : (cap : ℕ) → cap_of org rows_before ≡ Some cap → role_of_name org name rows_before ≡ None → role_of_digest org digest rows_before ≡ None
+        → effect Done (records_of new org) ≡ token_added name (token_of digest role) (records_of old org)
+    store_token_done cap there unnamed unknown =
+        ap (effect Done) (records_by new _ (moves rows_before s.holds) org) ∙ token_done rows_before s.sound org name digest role cap there unnamed unknown
+
+    pub store_token_other : (q : List ℕ) → q ≢ org → records_of new q ≡ records_of old q
+    store_token_other q apart = records_by new _ (moves rows_before s.holds) q ∙ token_other rows_before s.sound org name digest role q apart
+
+    pub store_token_keeps : (cap : ℕ) → cap_of org rows_before ≡ Some cap → IsTrue (is_org_name name) → length digest ≡ 32
+        → role_of_name org name rows_before ≡ None → role_of_digest org digest rows_before ≡ None → IsSoundStore new
+    store_token_keeps cap there named long unnamed unknown =
+        store_by new _ (moves rows_before s.holds) (token_added_keeps org name digest role rows_before s.sound named long cap there unnamed unknown)

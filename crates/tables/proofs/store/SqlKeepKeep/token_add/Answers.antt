@@ -1,0 +1,18 @@
+use Rattle.sqlite.specs.Held.{state}
+use Rattle.tables.proofs.KeepShown.{token_told, token_others, token_keeps}
+use Rattle.tables.proofs.store.SqlKeepKeep.token_add.Goals as goal
+
+pub returns-in-Ok-clause-kept : goal.returns-in-Ok-clause-kept
+returns-in-Ok-clause-kept g c = rw c.of.ensures (λ clean sound.
+    token_keeps (state g.S.Store c.args.self.now.seen.value).committed (state g.S.Store c.args.self.now.conn) sound (state g.S.Store c.token_add.new.conn) c.args.org.now c.args.name.now c.args.digest.now c.args.role c.in-Ok.answer
+    (rw (c.as_str.ensures.text, c.as_str-2.ensures.text, c.as_slice-digest.ensures) at (c.in-Ok.ensures.done clean).0) c.as_str-2.ensures.fits c.told-digest)
+
+pub returns-in-Ok-clause-own : goal.returns-in-Ok-clause-own
+returns-in-Ok-clause-own g c = rw c.of.ensures (λ clean sound.
+    token_told (state g.S.Store c.args.self.now.seen.value).committed (state g.S.Store c.args.self.now.conn) sound (state g.S.Store c.token_add.new.conn) c.args.org.now c.args.name.now c.args.digest.now c.args.role c.in-Ok.answer
+    (rw (c.as_str.ensures.text, c.as_str-2.ensures.text, c.as_slice-digest.ensures) at (c.in-Ok.ensures.done clean).0))
+
+pub returns-in-Ok-clause-others : goal.returns-in-Ok-clause-others
+returns-in-Ok-clause-others g c = rw c.of.ensures (λ clean sound q apart.
+    token_others (state g.S.Store c.args.self.now.seen.value).committed (state g.S.Store c.args.self.now.conn) sound (state g.S.Store c.token_add.new.conn) c.args.org.now c.args.name.now c.args.digest.now c.args.role c.in-Ok.answer
+    (rw (c.as_str.ensures.text, c.as_str-2.ensures.text, c.as_slice-digest.ensures) at (c.in-Ok.ensures.done clean).0) q apart)

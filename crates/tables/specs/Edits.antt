@@ -1,0 +1,52 @@
+-- What a change does to the rows, by the changes that statements make.
+use Rattle.std.specs.Prelude.{ℕ, ◌+◌, ◌-◌, nat_le, Bool, cond, List, Option, Some, None}
+use Rattle.basis.specs.declared.runs.RunStatus.TheVariants.{Planning}
+use Rattle.machine.specs.declared.acts.Edit.{Edit}
+use Rattle.machine.specs.declared.acts.Edit.TheVariants.{Make, Configure, AddVersion, Purge, Hold, Release}
+use Rattle.machine.specs.declared.acts.Change.{Change}
+use Rattle.machine.specs.declared.records.Version.{Version}
+use Rattle.statements.specs.declared.rows.Holder.TheVariants.{Lock, Run as HeldByRun}
+use Rattle.statements.specs.declared.rows.Workspace.{Workspace as WorkspaceCells}
+use Rattle.statements.specs.Tables.{Tables}
+use Rattle.statements.specs.Changes.{with_auto, held_by, released_from, with_next_version, ws_changed, ws_added, ws_removed, new_version, version_added, versions_removed, versions_removed_below, runs_removed, run_changed_to}
+use Rattle.statements.specs.Finds.{workspace_of, versions_of}
+
+-- A new workspace has no versions and no runs: whatever rows of its name there are go first, children before it.
+abbrev pub made_rows : List ℕ → List ℕ → Bool → Tables → Tables
+made_rows org ws auto t = ws_added org ws auto (ws_removed org ws (runs_removed org ws (versions_removed org ws t)))
+
+abbrev pub numbered_rows : List ℕ → List ℕ → Version → Tables → Tables
+numbered_rows org ws v t = ws_changed (with_next_version (v.number + 1)) org ws t
+
+-- the newest `most` versions stay, and one comes behind them
+abbrev pub put_rows : List ℕ → List ℕ → Version → ℕ → ℕ → Tables → Tables
+put_rows org ws v next most t =
+    numbered_rows org ws v (version_added org ws (new_version v.number v.serial v.lineage v.created v.text) (versions_removed_below org ws (next - most) t))
+
+-- every version goes, and so does the one that would come
+abbrev pub emptied_rows : List ℕ → List ℕ → Version → Tables → Tables
+emptied_rows org ws v t = numbered_rows org ws v (versions_removed org ws t)
+
+-- a version comes, and of those that there were, `count` of them below `next`, the oldest `gone` go
+abbrev pub versioned_rows : List ℕ → List ℕ → Version → ℕ → Option WorkspaceCells → ℕ → Tables → Tables
+versioned_rows org ws v gone None count t = t
+versioned_rows org ws v gone (Some w) count t =
+    cond (nat_le gone count) (put_rows org ws v w.next_version (count - gone) t) (emptied_rows org ws v t)
+
+-- after an edit
+abbrev pub edited_rows : List ℕ → List ℕ → Edit → Tables → Tables
+edited_rows org ws (Make settings) t = made_rows org ws settings.auto_apply t
+edited_rows org ws (Configure settings) t = ws_changed (with_auto settings.auto_apply) org ws t
+edited_rows org ws (AddVersion version gone) t = versioned_rows org ws version gone (workspace_of org ws t) (versions_of org ws t) t
+edited_rows org ws Purge t = versions_removed org ws t
+edited_rows org ws (Hold id text) t = ws_changed (held_by (Lock id text)) org ws t
+edited_rows org ws (Release id) t = ws_changed (released_from id) org ws t
+
+-- after a run has started, if one does: it holds, and is planning
+abbrev pub started_rows : List ℕ → List ℕ → Option ℕ → Tables → Tables
+started_rows org ws None t = t
+started_rows org ws (Some n) t = run_changed_to Planning org ws n (ws_changed (held_by (HeldByRun n)) org ws t)
+
+-- after a change
+abbrev pub changed_rows : List ℕ → List ℕ → Change → Tables → Tables
+changed_rows org ws change t = started_rows org ws change.start (edited_rows org ws change.edit t)

@@ -1,0 +1,55 @@
+-- What looks at a store leave and give.
+use Rattle.std.specs.Prelude.{◌≡◌, ℕ, Bool, false, List, Option, Some, None, IsTrue, Result, IfOk, OnOk, OnErr}
+use Rattle.std.specs.Str.{bytes_eq}
+use Rattle.sqlite.specs.State.{State, HasCleanDisk, KeepsCommit}
+use Rattle.std.specs.Option.{unwrap_or}
+use Rattle.machine.specs.declared.acts.Act.{Act}
+use Rattle.machine.specs.declared.acts.Unit.{Unit}
+use Rattle.machine.specs.declared.acts.Unit.TheVariants.{Absent, Present}
+use Rattle.machine.specs.declared.acts.WorkspaceUnit.{WorkspaceUnit}
+use Rattle.statements.specs.declared.rows.Holder.{Holder as HolderCells}
+use Rattle.statements.specs.declared.rows.Workspace.{Workspace as WorkspaceCells}
+use Rattle.statements.specs.Finds.{cap_of, workspaces_of, versions_of, first_waiting_of}
+use Rattle.statements.specs.Tables.{Tables, Holds}
+use Rattle.tables.specs.Records.{holder_in}
+use Rattle.tables.specs.Units.{holder_status_in, newest_in}
+use Rattle.tables.specs.declared.looks.Surroundings.{Surroundings}
+
+-- no row changes, as long as the store isn't shut
+pub record Stays (old new : State) : Type 0 where
+  pub was_open : IsTrue new.is_open → IsTrue old.is_open
+  pub now : IsTrue new.is_open → new.now ≡ old.now
+  pub committed : IsTrue new.is_open → new.committed ≡ old.committed
+
+-- no row changes, and the value is that of the rows; after a failure nothing is committed
+abbrev pub SeesBy : {X E : Type 0} → (Tables → X) → State → State → Result X E → Type 0
+SeesBy read old new result =
+    HasCleanDisk new → IfOk result (λ x. IsTrue new.is_open → (t : Tables) → Holds old.now t → x ≡ read t) × (OnOk result (Stays old new) × OnErr result (KeepsCommit old new))
+
+-- whether the text that was found is this one
+abbrev pub is_body : List ℕ → Option (List ℕ) → Bool
+is_body text None = false
+is_body text (Some found) = bytes_eq found text
+
+abbrev pub absent_in : List ℕ → Tables → Unit
+absent_in org t = Absent (workspaces_of org t) (unwrap_or (cap_of org t) 0)
+
+abbrev pub around_in : Act → List ℕ → List ℕ → HolderCells → Tables → Surroundings
+around_in act org ws holder t =
+    record { holder_status = holder_status_in org ws holder t; newest = newest_in act org ws t; versions = versions_of org ws t; first_waiting = first_waiting_of org ws t }
+
+abbrev pub unit_from : WorkspaceCells → Surroundings → WorkspaceUnit
+unit_from w a = record {
+  auto_apply = w.auto;
+  holder = holder_in w.holder;
+  holder_status = a.holder_status;
+  released = w.released;
+  next_version = w.next_version;
+  next_run = w.next_run;
+  newest = a.newest;
+  versions = a.versions;
+  first_waiting = a.first_waiting;
+}
+
+abbrev pub present_in : Act → List ℕ → List ℕ → WorkspaceCells → Tables → Unit
+present_in act org ws w t = Present (unit_from w (around_in act org ws w.holder t))

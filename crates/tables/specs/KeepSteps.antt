@@ -1,0 +1,54 @@
+-- What calls of a store do to the committed rows.
+use Rattle.std.specs.Prelude.{◌≡◌, ℕ, Bool, cond, ◌||◌, List, is_some, Option, Some, None, IsTrue, Result, IfOk, OnOk, OnErr}
+use Rattle.sqlite.specs.State.{State, HasCleanDisk, KeepsCommit}
+use Rattle.basis.specs.declared.roles.Role.{Role}
+use Rattle.machine.specs.Effects.{Effect, effect}
+use Rattle.machine.specs.declared.keeps.AdminAnswer.{AdminAnswer}
+use Rattle.machine.specs.declared.keeps.AdminAnswer.TheVariants.{Done, Exists, Absent}
+use Rattle.statements.specs.Changes.{org_added, token_added}
+use Rattle.statements.specs.Finds.{cap_of, role_of_name, role_of_digest}
+use Rattle.statements.specs.Tables.{Tables, Holds}
+
+-- between transactions nothing waits to be committed
+abbrev pub IsSettled : State → Type 0
+IsSettled s = IsTrue s.is_open → s.now ≡ s.committed
+
+-- The change is committed.
+pub record Commits (change : Tables → Tables) (old new : State) : Type 0 where
+  pub rows : (t : Tables) → Holds old.committed t → Holds new.committed (change t)
+  pub was_open : IsTrue old.is_open
+  pub is_open : IsTrue new.is_open
+
+-- one transaction: its change is committed, or nothing is
+abbrev pub TransactsBy : {X E : Type 0} → (Tables → Tables) → State → State → Result X E → Type 0
+TransactsBy change old new result = HasCleanDisk new → OnOk result (Commits change old new) × OnErr result (KeepsCommit old new)
+
+-- ---- an operator's commands: the answer, and the rows after it
+
+abbrev pub org_managed_by : Option ℕ → List ℕ → ℕ → Tables → Effect AdminAnswer Tables
+org_managed_by None org limit t = effect Done (org_added org limit t)
+org_managed_by (Some cap) org limit t = effect Exists t
+
+abbrev pub org_managed : List ℕ → ℕ → Tables → Effect AdminAnswer Tables
+org_managed org limit t = org_managed_by (cap_of org t) org limit t
+
+-- whether an organization has a token of the name, or one with the digest
+abbrev pub is_taken : List ℕ → List ℕ → List ℕ → Tables → Bool
+is_taken org name digest t = is_some (role_of_name org name t) || is_some (role_of_digest org digest t)
+
+abbrev pub token_managed_by : Option ℕ → Bool → List ℕ → List ℕ → List ℕ → Role → Tables → Effect AdminAnswer Tables
+token_managed_by None taken org name digest role t = effect Absent t
+token_managed_by (Some cap) taken org name digest role t = cond taken (effect Exists t) (effect Done (token_added org name digest role t))
+
+abbrev pub token_managed : List ℕ → List ℕ → List ℕ → Role → Tables → Effect AdminAnswer Tables
+token_managed org name digest role t = token_managed_by (cap_of org t) (is_taken org name digest t) org name digest role t
+
+-- the answer is that of the rows, and the rows after it are committed
+pub record Manages (command : Tables → Effect AdminAnswer Tables) (old new : State) (answer : AdminAnswer) : Type 0 where
+  pub answer_is : (t : Tables) → Holds old.committed t → answer ≡ (command t).answer
+  pub rows : (t : Tables) → Holds old.committed t → Holds new.committed (command t).left
+  pub was_open : IsTrue old.is_open
+  pub is_open : IsTrue new.is_open
+
+abbrev pub ManagesBy : {E : Type 0} → (Tables → Effect AdminAnswer Tables) → State → State → Result AdminAnswer E → Type 0
+ManagesBy command old new result = HasCleanDisk new → IfOk result (Manages command old new) × OnErr result (KeepsCommit old new)

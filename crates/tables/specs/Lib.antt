@@ -1,0 +1,11 @@
+pub mod Edits
+pub mod KeepEdits
+pub mod KeepLooks
+pub mod KeepMaking
+pub mod KeepSteps
+pub mod KeepStores
+pub mod Laws
+pub mod Records
+pub mod Sound
+pub mod Stores
+pub mod Units

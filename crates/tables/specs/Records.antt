@@ -1,0 +1,83 @@
+-- The record of an organization that the rows of the tables denote.
+use Rattle.std.specs.Prelude.{ℕ, Bool, List, map, filter, Option, option_map}
+use Rattle.std.specs.Str.{bytes_eq}
+use Rattle.std.specs.FinMap.{FinMap, from_entries}
+use Rattle.machine.specs.Order.{name_cmp}
+use Rattle.machine.specs.declared.records.Holder.{Holder}
+use Rattle.machine.specs.declared.records.Holder.TheVariants.{Nobody, Lock, Run as HoldingRun}
+use Rattle.machine.specs.declared.records.Version.{Version}
+use Rattle.machine.specs.declared.records.Run.{Run}
+use Rattle.machine.specs.declared.records.Token.{Token}
+use Rattle.machine.specs.declared.records.Workspace.{Workspace}
+use Rattle.machine.specs.declared.records.Organization.{Organization}
+use Rattle.statements.specs.declared.rows.Holder.{Holder as HolderCells}
+use Rattle.statements.specs.declared.rows.Holder.TheVariants as cells
+use Rattle.statements.specs.declared.rows.Version.{Version as VersionCells}
+use Rattle.statements.specs.declared.rows.Run.{Run as RunCells}
+use Rattle.statements.specs.declared.rows.Token.{Token as TokenCells}
+use Rattle.statements.specs.declared.rows.Workspace.{Workspace as WorkspaceCells}
+use Rattle.statements.specs.Rows.{Kept, TokenRow}
+use Rattle.statements.specs.Tables.{Tables}
+use Rattle.statements.specs.Changes.{is_ws_of, is_version_of, is_run_of}
+use Rattle.statements.specs.Finds.{cap_of, workspace_of}
+
+-- ---- what cells denote
+
+abbrev pub holder_in : HolderCells → Holder
+holder_in cells.Nobody = Nobody
+holder_in (cells.Lock id text) = Lock id text
+holder_in (cells.Run n) = HoldingRun n
+
+abbrev pub version_in : VersionCells → Version
+version_in v = record { number = v.number; serial = v.serial; lineage = v.lineage; created = v.created; text = v.body }
+
+abbrev pub run_in : RunCells → Run
+run_in r = record { number = r.number; plan_only = r.plan_only; key = r.key; message = r.message; created = r.created; status = r.status; action = r.action }
+
+abbrev pub token_in : TokenCells → Token
+token_in t = record { digest = t.digest; role = t.role }
+
+-- a workspace with its versions and runs, which have rows of their own
+abbrev pub workspace_in : WorkspaceCells → List Version → List Run → Workspace
+workspace_in w versions runs = record {
+  auto_apply = w.auto;
+  holder = holder_in w.holder;
+  released = w.released;
+  next_version = w.next_version;
+  next_run = w.next_run;
+  versions = versions;
+  runs = runs;
+}
+
+-- ---- what rows denote
+
+-- the versions of a workspace, in the order in which their rows were added
+abbrev pub versions_at : Tables → List ℕ → List ℕ → List Version
+versions_at t org ws = map (λ x. version_in x.1.it) (filter (is_version_of org ws) t.versions)
+
+abbrev pub runs_at : Tables → List ℕ → List ℕ → List Run
+runs_at t org ws = map (λ x. run_in x.1.it) (filter (is_run_of org ws) t.runs)
+
+-- the workspace that a row denotes
+abbrev pub workspace_at : Tables → List ℕ → List ℕ → WorkspaceCells → Workspace
+workspace_at t org ws cells_of = workspace_in cells_of (versions_at t org ws) (runs_at t org ws)
+
+-- the workspace of an organization and a name, if it has a row
+abbrev pub workspace_by : Tables → List ℕ → List ℕ → Option Workspace
+workspace_by t org ws = option_map (workspace_at t org ws) (workspace_of org ws t)
+
+abbrev pub is_token_of : List ℕ → Kept TokenRow → Bool
+is_token_of org x = bytes_eq x.1.org org
+
+abbrev pub tokens_at : Tables → List ℕ → FinMap name_cmp Token
+tokens_at t org = from_entries (map (λ x. (x.1.name, token_in x.1.it)) (filter (is_token_of org) t.tokens))
+
+abbrev pub workspaces_at : Tables → List ℕ → FinMap name_cmp Workspace
+workspaces_at t org = from_entries (map (λ x. (x.1.name, workspace_at t org x.1.name x.1.it)) (filter (is_ws_of org) t.wss))
+
+abbrev pub organization_at : Tables → List ℕ → ℕ → Organization
+organization_at t org cap = record { limit = cap; tokens = tokens_at t org; workspaces = workspaces_at t org }
+
+-- the record of an organization, if it has a row
+abbrev pub record_of : Tables → List ℕ → Option Organization
+record_of t org = option_map (organization_at t org) (cap_of org t)

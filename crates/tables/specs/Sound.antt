@@ -1,0 +1,52 @@
+-- When tables are sound.
+use Rattle.std.specs.Prelude.{◌≡◌, ◌≤◌, ◌+◌, ℕ, true, List, [], ◌∷◌, length, map, Some, IsTrue, ⊤}
+use Rattle.std.specs.List.{AllByRecursion, list_any}
+use Rattle.sqlite_keyed.specs.Rules.{AreApart}
+use Rattle.basis.specs.Names.{is_org_name}
+use Rattle.machine.specs.Laws.{IsNamedWorkspace}
+use Rattle.machine.specs.Records.{count_of}
+use Rattle.machine.specs.declared.records.Version.{Version}
+use Rattle.machine.specs.declared.records.Workspace.{Workspace}
+use Rattle.machine.specs.declared.records.Organization.{Organization}
+use Rattle.statements.specs.Rows.{Kept, OrgRow, TokenRow}
+use Rattle.statements.specs.Tables.{Tables}
+use Rattle.statements.specs.Changes.{is_org, is_token, has_digest, is_ws}
+use Rattle.tables.specs.Records.{workspace_by, record_of}
+
+-- the numbers follow one another, up to the next one
+abbrev pub Follow : List ℕ → ℕ → Type 0
+Follow [] next = ⊤
+Follow (n ∷ ns) next = (n + length (n ∷ ns) ≡ next) × Follow ns next
+
+-- the versions that a workspace keeps are the last ones that it got
+abbrev pub KeepsTheLast : Workspace → Type 0
+KeepsTheLast w = Follow (map (λ (v : Version). v.number) w.versions) w.next_version
+
+pub record IsOrgRow (x : Kept OrgRow) : Type 0 where
+  pub named : IsTrue (is_org_name x.1.name)
+  pub limit : x.1.cap ≤ 100_000
+
+-- a token's name is one, and its digest has 32 bytes
+pub record IsTokenRow (x : Kept TokenRow) : Type 0 where
+  pub named : IsTrue (is_org_name x.1.name)
+  pub digest : length x.1.it.digest ≡ 32
+
+pub record IsSound (t : Tables) : Type 0 where
+  -- an organization has one row, so has a token and a workspace; no two tokens of an organization have one digest
+  pub orgs_apart : AreApart (λ a b. is_org a.1.name b) t.orgs
+  pub tokens_apart : AreApart (λ a b. is_token a.1.org a.1.name b) t.tokens
+  pub digests_apart : AreApart (λ a b. has_digest a.1.org a.1.it.digest b) t.tokens
+  pub wss_apart : AreApart (λ a b. is_ws a.1.org a.1.name b) t.wss
+  -- no row lacks the one that it belongs to
+  pub tokens_owned : AllByRecursion (λ x. list_any (is_org x.1.org) t.orgs ≡ true) t.tokens
+  pub wss_owned : AllByRecursion (λ x. list_any (is_org x.1.org) t.orgs ≡ true) t.wss
+  pub versions_owned : AllByRecursion (λ x. list_any (is_ws x.1.org x.1.ws) t.wss ≡ true) t.versions
+  pub runs_owned : AllByRecursion (λ x. list_any (is_ws x.1.org x.1.ws) t.wss ≡ true) t.runs
+  -- names, limits and digests are in range
+  pub org_rows : AllByRecursion IsOrgRow t.orgs
+  pub token_rows : AllByRecursion IsTokenRow t.tokens
+  -- no organization has more workspaces than its limit
+  pub limits : (org : List ℕ) (o : Organization) → record_of t org ≡ Some o → count_of o ≤ o.limit
+  -- each workspace that the rows denote is lawful: of its versions and runs the numbers rise in the order of their rows
+  pub workspaces : (org name : List ℕ) (w : Workspace) → workspace_by t org name ≡ Some w → IsNamedWorkspace name w
+  pub versions : (org name : List ℕ) (w : Workspace) → workspace_by t org name ≡ Some w → KeepsTheLast w

@@ -1,0 +1,17 @@
+-- The records of a database that holds our tables, and when it is sound.
+use Rattle.std.specs.Prelude.{ℕ, List, Option}
+use Rattle.sqlite.specs.Effect.{Database}
+use Rattle.machine.specs.declared.records.Organization.{Organization}
+use Rattle.statements.specs.Decode.{tables_of}
+use Rattle.statements.specs.Tables.{Holds}
+use Rattle.tables.specs.Records.{record_of}
+use Rattle.tables.specs.Sound.{IsSound}
+
+-- the record of each organization, by the rows that the database has
+abbrev pub records_of : Database → List ℕ → Option Organization
+records_of db = record_of (tables_of db)
+
+-- Our tables stand in the database, each of their rows is one of its table, and together they are sound.
+pub record IsSoundStore (db : Database) : Type 0 where
+  pub holds : Holds db (tables_of db)
+  pub sound : IsSound (tables_of db)

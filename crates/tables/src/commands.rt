@@ -1,0 +1,152 @@
+//! The calls of a store, over its connection: each with what it has to look at first.
+ghost use Rattle.std.specs.Prelude.{◌≡◌, false, IsTrue, OnOk};
+ghost use Rattle.sqlite.specs.Held.{state};
+ghost use Rattle.sqlite.specs.State.{HasCleanDisk};
+ghost use Rattle.statements.specs.Finds.{body_of, role_of_digest};
+ghost use Rattle.tables.specs.Edits.{changed_rows};
+ghost use Rattle.tables.specs.Units.{unit_in};
+ghost use Rattle.tables.specs.KeepStores.{LooksBy};
+ghost use Rattle.tables.specs.KeepLooks.{SeesBy};
+ghost use Rattle.tables.specs.KeepSteps.{TransactsBy, ManagesBy, org_managed, token_managed, is_taken};
+
+use crate::looks;
+use crate::transactions;
+use basis::{Bytes, Limit, Number, Role};
+use machine::{Act, AdminAnswer, Change, Unit};
+use sqlite::{Alter, Connection, Error};
+use statements::{organizations, tokens};
+use std::alloc::Global;
+
+/// Changes a workspace.
+pub(crate) fn apply<S: Alter>(
+    conn: &mut Connection<S>,
+    org: &str,
+    ws: &str,
+    change: &Change,
+) -> Result<(), Error>
+    requires idle { conn.old.in_transaction ≡ false }
+    ensures idle { conn.new.in_transaction ≡ false }
+    ensures so_far { HasCleanDisk (state S.Store conn.new) → HasCleanDisk (state S.Store conn.old) }
+    ensures done { TransactsBy (changed_rows org.now ws.now change.now) (state S.Store conn.old) (state S.Store conn.new) result }
+{
+    let idle = conn.is_autocommit();
+    prove!(idle);
+    let outgoing = looks::outgoing(conn, org, ws, &change.edit)?;
+    transactions::change(conn, org, ws, change, outgoing)
+}
+
+/// Adds an organization.
+pub(crate) fn org_add<S: Alter>(
+    conn: &mut Connection<S>,
+    org: &str,
+    limit: Limit,
+) -> Result<AdminAnswer, Error>
+    requires idle { conn.old.in_transaction ≡ false }
+    ensures idle { conn.new.in_transaction ≡ false }
+    ensures so_far { HasCleanDisk (state S.Store conn.new) → HasCleanDisk (state S.Store conn.old) }
+    ensures done { ManagesBy (org_managed org.now limit) (state S.Store conn.old) (state S.Store conn.new) result }
+{
+    let idle = conn.is_autocommit();
+    prove!(idle);
+    let cap = organizations::cap(conn, org)?;
+    if cap.is_some() {
+        return Ok(AdminAnswer::Exists);
+    }
+    transactions::add_organization(conn, org, limit)?;
+    Ok(AdminAnswer::Done)
+}
+
+/// Whether an organization has a token of the name, or one with the digest.
+fn is_taken<S: Alter>(
+    conn: &mut Connection<S>,
+    org: &str,
+    name: &str,
+    digest: &[u8],
+) -> Result<bool, Error>
+    ensures mode { conn.old.in_transaction ≡ false → conn.new.in_transaction ≡ false }
+    ensures so_far { HasCleanDisk (state S.Store conn.new) → HasCleanDisk (state S.Store conn.old) }
+    ensures sees { SeesBy (is_taken org.now name.now digest.now) (state S.Store conn.old) (state S.Store conn.new) result }
+    ensures is_open { HasCleanDisk (state S.Store conn.new) → OnOk result (IsTrue (state S.Store conn.new).is_open) }
+{
+    let named = tokens::role_of_name(conn, org, name)?;
+    let known = tokens::role_of_digest(conn, org, digest)?;
+    Ok(named.is_some() || known.is_some())
+}
+
+/// Adds a token to an organization.
+pub(crate) fn token_add<S: Alter>(
+    conn: &mut Connection<S>,
+    org: &str,
+    name: &str,
+    role: Role,
+    digest: &[u8],
+) -> Result<AdminAnswer, Error>
+    requires idle { conn.old.in_transaction ≡ false }
+    ensures idle { conn.new.in_transaction ≡ false }
+    ensures so_far { HasCleanDisk (state S.Store conn.new) → HasCleanDisk (state S.Store conn.old) }
+    ensures done { ManagesBy (token_managed org.now name.now digest.now role) (state S.Store conn.old) (state S.Store conn.new) result }
+{
+    let idle = conn.is_autocommit();
+    prove!(idle);
+    let cap = organizations::cap(conn, org)?;
+    if cap.is_none() {
+        return Ok(AdminAnswer::Absent);
+    }
+    if is_taken(conn, org, name, digest)? {
+        return Ok(AdminAnswer::Exists);
+    }
+    transactions::add_token(conn, org, name, role, digest)?;
+    Ok(AdminAnswer::Done)
+}
+
+/// The role of the organization's token with this digest.
+pub(crate) fn caller<S: Alter>(
+    conn: &mut Connection<S>,
+    org: &str,
+    digest: &[u8],
+) -> Result<Option<Role>, Error>
+    requires idle { conn.old.in_transaction ≡ false }
+    ensures idle { conn.new.in_transaction ≡ false }
+    ensures so_far { HasCleanDisk (state S.Store conn.new) → HasCleanDisk (state S.Store conn.old) }
+    ensures looks { LooksBy (role_of_digest org.now digest.now) (state S.Store conn.old) (state S.Store conn.new) result }
+{
+    let idle = conn.is_autocommit();
+    prove!(idle);
+    tokens::role_of_digest(conn, org, digest)
+}
+
+/// What a decision on an act needs of a workspace.
+pub(crate) fn unit<S: Alter>(
+    conn: &mut Connection<S>,
+    alloc: Global,
+    org: &str,
+    ws: &str,
+    act: &Act,
+) -> Result<Unit, Error>
+    requires idle { conn.old.in_transaction ≡ false }
+    ensures idle { conn.new.in_transaction ≡ false }
+    ensures so_far { HasCleanDisk (state S.Store conn.new) → HasCleanDisk (state S.Store conn.old) }
+    ensures looks { LooksBy (unit_in act.now org.now ws.now) (state S.Store conn.old) (state S.Store conn.new) result }
+{
+    let idle = conn.is_autocommit();
+    prove!(idle);
+    looks::unit(conn, alloc, org, ws, act)
+}
+
+/// The text of a version, if it is kept.
+pub(crate) fn text<S: Alter>(
+    conn: &mut Connection<S>,
+    org: &str,
+    ws: &str,
+    number: Number,
+) -> Result<Option<Bytes>, Error>
+    requires idle { conn.old.in_transaction ≡ false }
+    ensures idle { conn.new.in_transaction ≡ false }
+    ensures so_far { HasCleanDisk (state S.Store conn.new) → HasCleanDisk (state S.Store conn.old) }
+    ensures looks { LooksBy (body_of org.now ws.now number) (state S.Store conn.old) (state S.Store conn.new) result }
+{
+    let number = number.get() as u64;
+    let idle = conn.is_autocommit();
+    prove!(idle);
+    looks::body(conn, org, ws, number)
+}

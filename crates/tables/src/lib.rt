@@ -1,0 +1,13 @@
+//! The store of all organizations in tables: what the rows denote, and when tables are sound.
+#![tactic(auto)]
+
+mod commands;
+mod looks;
+mod making;
+mod opening;
+mod steps;
+mod store;
+mod transactions;
+
+pub use opening::Fault;
+pub use store::{SqlKeep, Unopened};

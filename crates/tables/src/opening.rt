@@ -1,0 +1,95 @@
+//! How a database is made ready for a store.
+ghost use Rattle.std.specs.Prelude.{◌≡◌, true, false, OnOk, OnErr, IfErr};
+ghost use Rattle.sqlite.specs.Held.{state};
+ghost use Rattle.sqlite.specs.State.{HasCleanDisk, KeepsCommit};
+ghost use Rattle.tables.specs.KeepMaking.{IsMade};
+ghost use Rattle.tables.specs.KeepStores.{any_there, all_there, is_first, IsTold, IsOther};
+
+use crate::transactions;
+use sqlite::{Alter, Connection};
+use sqlite_schema::schema::Schema;
+use statements::making;
+
+/// Why a database wasn't opened.
+#[derive(Clone, Copy, Debug, PartialEq, Eq)]
+pub enum Fault {
+    /// Some of the tables are there, but not those of this version.
+    Schema,
+    Down,
+}
+
+fn any_there(schema: &Schema) -> bool
+    ensures { result ≡ any_there schema.now }
+{
+    schema.table_named(b"meta".as_slice()).is_some()
+        || schema.table_named(b"org".as_slice()).is_some()
+        || schema.table_named(b"token".as_slice()).is_some()
+        || schema.table_named(b"ws".as_slice()).is_some()
+        || schema.table_named(b"version".as_slice()).is_some()
+        || schema.table_named(b"run".as_slice()).is_some()
+}
+
+fn all_there(schema: &Schema) -> bool
+    ensures { result ≡ all_there schema.now }
+{
+    schema.table_named(b"meta".as_slice()).is_some()
+        && schema.table_named(b"org".as_slice()).is_some()
+        && schema.table_named(b"token".as_slice()).is_some()
+        && schema.table_named(b"ws".as_slice()).is_some()
+        && schema.table_named(b"version".as_slice()).is_some()
+        && schema.table_named(b"run".as_slice()).is_some()
+}
+
+fn is_first(version: Option<u64>) -> bool
+    ensures { result ≡ is_first version }
+{
+    match version {
+        None => false,
+        Some(version) => version == 1,
+    }
+}
+
+/// Whether the database tells the version 1.
+fn has_first<S: Alter>(conn: &mut Connection<S>) -> Result<(), Fault>
+    requires idle { conn.old.in_transaction ≡ false }
+    ensures idle { conn.new.in_transaction ≡ false }
+    ensures so_far { HasCleanDisk (state S.Store conn.new) → HasCleanDisk (state S.Store conn.old) }
+    ensures told { HasCleanDisk (state S.Store conn.new) → OnOk result (IsTold (state S.Store conn.old) (state S.Store conn.new)) }
+    ensures err { HasCleanDisk (state S.Store conn.new) → OnErr result (KeepsCommit (state S.Store conn.old) (state S.Store conn.new)) }
+    ensures other { HasCleanDisk (state S.Store conn.new) → IfErr result (λ fault. fault ≡ Fault.Schema → IsOther (state S.Store conn.old)) }
+{
+    let idle = conn.is_autocommit();
+    prove!(idle);
+    match making::version(conn) {
+        Ok(version) => {
+            if is_first(version) {
+                Ok(())
+            } else {
+                Err(Fault::Schema)
+            }
+        }
+        Err(_) => Err(Fault::Down),
+    }
+}
+
+/// Makes the tables where none of them is there, and otherwise looks whether they are those of this version.
+pub(crate) fn ready<S: Alter>(conn: &mut Connection<S>) -> Result<(), Fault>
+    requires idle { conn.old.in_transaction ≡ false }
+    ensures idle { conn.new.in_transaction ≡ false }
+    ensures so_far { HasCleanDisk (state S.Store conn.new) → HasCleanDisk (state S.Store conn.old) }
+    ensures made { HasCleanDisk (state S.Store conn.new) → OnOk result (any_there (state S.Store conn.old).now.schema ≡ false → IsMade (state S.Store conn.old) (state S.Store conn.new)) }
+    ensures told { HasCleanDisk (state S.Store conn.new) → OnOk result (any_there (state S.Store conn.old).now.schema ≡ true → IsTold (state S.Store conn.old) (state S.Store conn.new)) }
+    ensures err { HasCleanDisk (state S.Store conn.new) → OnErr result (KeepsCommit (state S.Store conn.old) (state S.Store conn.new)) }
+    ensures other { HasCleanDisk (state S.Store conn.new) → IfErr result (λ fault. fault ≡ Fault.Schema → (any_there (state S.Store conn.old).now.schema ≡ true) × IsOther (state S.Store conn.old)) }
+{
+    if !any_there(conn.schema()) {
+        return match transactions::make(conn) {
+            Ok(()) => Ok(()),
+            Err(_) => Err(Fault::Down),
+        };
+    }
+    if !all_there(conn.schema()) {
+        return Err(Fault::Schema);
+    }
+    has_first(conn)
+}

@@ -1,0 +1,180 @@
+//! The store of all organizations over one connection to a database.
+ghost use Rattle.std.specs.Prelude.{◌≡◌, ◌≢◌, true, false, ℕ, List, Option, Some, None, IfOk, IfErr};
+ghost use Rattle.sqlite.specs.Held.{state};
+ghost use Rattle.sqlite.specs.State.{HasCleanDisk, KeepsCommit};
+ghost use Rattle.tables.specs.Stores.{records_of, IsSoundStore};
+ghost use Rattle.statements.specs.Making.{version_in};
+ghost use Rattle.statements.specs.Tables.{Tables, Holds};
+ghost use Rattle.tables.specs.KeepStores.{IsSoundKeep, any_there, IsOther};
+
+use crate::commands;
+use crate::opening::{Fault, ready};
+use basis::numbers::MAX_LIMIT;
+use basis::{Bytes, Down, Limit, Number, OrgName, Role, WsName};
+use machine::{Act, AdminAnswer, Change, Keep, Unit};
+use sqlite::{Alter, Connection, MemStore};
+use std::alloc::Global;
+use std::snapshot::Snapshot;
+
+/// The store of all organizations in tables of a database.
+pub struct SqlKeep<S: Alter> {
+    conn: Connection<S>,
+    // The connection when its rows were seen last. A store that a fault of the disk has shut stands for those.
+    seen: Snapshot<Connection<S>>,
+    ghost idle: { conn.in_transaction ≡ false },
+}
+
+impl SqlKeep<MemStore> {
+    /// What is promised of a store in memory always holds.
+    pub fn is_always_clean(&self)
+        ensures { ⟦<SqlKeep<MemStore> as Keep>⟧.clean self.now }
+    {}
+
+    /// The store with no organization, in memory.
+    pub fn in_memory(alloc: Global) -> Result<SqlKeep<MemStore>, Down>
+        ensures empty { IfOk result (λ keep. (o : List ℕ) → ⟦<SqlKeep<MemStore> as Keep>⟧.rows keep o ≡ None) }
+        ensures sound { IfOk result (λ keep. ⟦<SqlKeep<MemStore> as Keep>⟧.sound keep) }
+    {
+        let conn = Connection::open_in_memory(alloc)?;
+        match SqlKeep::open(conn) {
+            Ok(keep) => Ok(keep),
+            Err(_) => Err(Down),
+        }
+    }
+}
+
+/// A database that wasn't opened, and why.
+#[derive(Drop)]
+pub struct Unopened<S: Alter> {
+    pub fault: Fault,
+    pub conn: Connection<S>,
+}
+
+impl<S: Alter> SqlKeep<S> {
+    /// Opens a database. One that has none of the tables gets them all, in one transaction, whatever
+    /// else it holds.
+    pub fn open(mut conn: Connection<S>) -> Result<SqlKeep<S>, Unopened<S>>
+        requires idle { conn.in_transaction ≡ false }
+        ensures so_far { IfOk result (λ keep. ⟦<SqlKeep<S> as Keep>⟧.clean keep → HasCleanDisk (state S.Store conn)) }
+        ensures fresh { IfOk result (λ keep. ⟦<SqlKeep<S> as Keep>⟧.clean keep → any_there (state S.Store conn).now.schema ≡ false
+            → ⟦<SqlKeep<S> as Keep>⟧.sound keep × ((o : List ℕ) → ⟦<SqlKeep<S> as Keep>⟧.rows keep o ≡ None)) }
+        ensures held { IfOk result (λ keep. ⟦<SqlKeep<S> as Keep>⟧.clean keep → any_there (state S.Store conn).now.schema ≡ true
+            → (IsSoundStore (state S.Store conn).now → ⟦<SqlKeep<S> as Keep>⟧.sound keep) × ((o : List ℕ) → ⟦<SqlKeep<S> as Keep>⟧.rows keep o ≡ records_of (state S.Store conn).now o)) }
+        ensures version { IfOk result (λ keep. ⟦<SqlKeep<S> as Keep>⟧.clean keep → any_there (state S.Store conn).now.schema ≡ true
+            → (t : Tables) → Holds (state S.Store conn).now t → version_in t ≡ Some 1) }
+        ensures back { IfErr result (λ unopened. HasCleanDisk (state S.Store unopened.conn) → KeepsCommit (state S.Store conn) (state S.Store unopened.conn)) }
+        ensures other { IfErr result (λ unopened. HasCleanDisk (state S.Store unopened.conn) → unopened.fault ≡ Fault.Schema
+            → (any_there (state S.Store conn).now.schema ≡ true) × IsOther (state S.Store conn)) }
+        ensures idle { IfErr result (λ unopened. unopened.conn.in_transaction ≡ false) }
+    {
+        match ready(&mut conn) {
+            Ok(()) => {
+                let seen = Snapshot::of(&conn);
+                Ok(SqlKeep { conn, seen })
+            }
+            Err(fault) => Err(Unopened { fault, conn }),
+        }
+    }
+
+    /// Gives the connection back.
+    pub fn close(self) -> Connection<S>
+        ensures same { result ≡ self.conn }
+        ensures idle { result.in_transaction ≡ false }
+    {
+        let SqlKeep { conn, seen: _ } = self;
+        conn
+    }
+}
+
+impl<S: Alter> Keep for SqlKeep<S> {
+    ghost rows = { λ keep. records_of (state S.Store keep.seen.value).committed };
+
+    ghost clean = { λ keep. HasCleanDisk (state S.Store keep.conn) };
+
+    ghost sound = { λ keep. IsSoundKeep (state S.Store keep.seen.value).committed (state S.Store keep.conn) };
+
+    fn records_are_lawful(&self) {}
+
+    fn caller(
+        &mut self,
+        _alloc: Global,
+        org: &OrgName,
+        digest: &[u8; 32],
+    ) -> Result<Option<Role>, Down> {
+        match commands::caller(&mut self.conn, org.as_str(), digest.as_slice()) {
+            Ok(role) => Ok(role),
+            Err(_) => Err(Down),
+        }
+    }
+
+    fn unit(
+        &mut self,
+        alloc: Global,
+        org: &OrgName,
+        ws: &WsName,
+        act: &Act,
+    ) -> Result<Unit, Down> {
+        match commands::unit(&mut self.conn, alloc, org.as_str(), ws.as_str(), act) {
+            Ok(unit) => Ok(unit),
+            Err(_) => Err(Down),
+        }
+    }
+
+    fn text(
+        &mut self,
+        _alloc: Global,
+        org: &OrgName,
+        ws: &WsName,
+        n: Number,
+    ) -> Result<Option<Bytes>, Down> {
+        match commands::text(&mut self.conn, org.as_str(), ws.as_str(), n) {
+            Ok(text) => Ok(text),
+            Err(_) => Err(Down),
+        }
+    }
+
+    fn apply(
+        &mut self,
+        _alloc: Global,
+        org: &OrgName,
+        ws: &WsName,
+        change: &Change,
+    ) -> Result<(), Down> {
+        match commands::apply(&mut self.conn, org.as_str(), ws.as_str(), change) {
+            Ok(()) => {
+                self.seen = Snapshot::of(&self.conn);
+                Ok(())
+            }
+            Err(_) => Err(Down),
+        }
+    }
+
+    fn org_add(&mut self, _alloc: Global, org: &OrgName, limit: Limit) -> Result<AdminAnswer, Down> {
+        prove!(limit.get() <= MAX_LIMIT);
+        match commands::org_add(&mut self.conn, org.as_str(), limit) {
+            Ok(answer) => {
+                self.seen = Snapshot::of(&self.conn);
+                Ok(answer)
+            }
+            Err(_) => Err(Down),
+        }
+    }
+
+    fn token_add(
+        &mut self,
+        _alloc: Global,
+        org: &OrgName,
+        name: &OrgName,
+        role: Role,
+        digest: &[u8; 32],
+    ) -> Result<AdminAnswer, Down> {
+        let digest = digest.as_slice();
+        match commands::token_add(&mut self.conn, org.as_str(), name.as_str(), role, digest) {
+            Ok(answer) => {
+                self.seen = Snapshot::of(&self.conn);
+                Ok(answer)
+            }
+            Err(_) => Err(Down),
+        }
+    }
+}

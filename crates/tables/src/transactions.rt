@@ -1,0 +1,88 @@
+//! The transactions of a store, each as one function: its change is committed, or nothing is.
+ghost use Rattle.std.specs.Prelude.{◌≡◌, false, ◌<◌, ◌^◌, OnOk, OnErr};
+ghost use Rattle.sqlite.specs.Held.{state};
+ghost use Rattle.sqlite.specs.State.{HasCleanDisk, KeepsCommit};
+ghost use Rattle.statements.specs.Changes.{org_added, token_added};
+ghost use Rattle.tables.specs.KeepEdits.{changed_by};
+ghost use Rattle.tables.specs.KeepMaking.{IsMade};
+ghost use Rattle.tables.specs.KeepSteps.{TransactsBy};
+
+use crate::steps::{self, Outgoing};
+use crate::making::make_all;
+use basis::{Limit, Role};
+use machine::Change;
+use sqlite::{Alter, Connection, Error};
+use statements::{organizations, tokens};
+
+/// Makes all tables.
+pub(crate) fn make<S: Alter>(conn: &mut Connection<S>) -> Result<(), Error>
+    requires idle { conn.old.in_transaction ≡ false }
+    ensures idle { conn.new.in_transaction ≡ false }
+    ensures so_far { HasCleanDisk (state S.Store conn.new) → HasCleanDisk (state S.Store conn.old) }
+    ensures made { HasCleanDisk (state S.Store conn.new) → OnOk result (IsMade (state S.Store conn.old) (state S.Store conn.new)) × OnErr result (KeepsCommit (state S.Store conn.old) (state S.Store conn.new)) }
+{
+    let idle = conn.is_autocommit();
+    prove!(idle);
+    let mut tx = conn.transaction();
+    make_all(&mut tx)?;
+    tx.commit()
+}
+
+/// Changes a workspace.
+pub(crate) fn change<S: Alter>(
+    conn: &mut Connection<S>,
+    org: &str,
+    ws: &str,
+    change: &Change,
+    outgoing: Outgoing,
+) -> Result<(), Error>
+    requires idle { conn.old.in_transaction ≡ false }
+    ensures idle { conn.new.in_transaction ≡ false }
+    ensures so_far { HasCleanDisk (state S.Store conn.new) → HasCleanDisk (state S.Store conn.old) }
+    ensures done { TransactsBy (changed_by outgoing org.now ws.now change.now) (state S.Store conn.old) (state S.Store conn.new) result }
+{
+    let idle = conn.is_autocommit();
+    prove!(idle);
+    let mut tx = conn.transaction();
+    steps::change(&mut tx, org, ws, change, outgoing)?;
+    tx.commit()
+}
+
+/// Adds an organization.
+pub(crate) fn add_organization<S: Alter>(
+    conn: &mut Connection<S>,
+    org: &str,
+    limit: Limit,
+) -> Result<(), Error>
+    requires idle { conn.old.in_transaction ≡ false }
+    ensures idle { conn.new.in_transaction ≡ false }
+    ensures so_far { HasCleanDisk (state S.Store conn.new) → HasCleanDisk (state S.Store conn.old) }
+    ensures done { TransactsBy (org_added org.now limit) (state S.Store conn.old) (state S.Store conn.new) result }
+{
+    let cap = limit.get() as u64;
+    let idle = conn.is_autocommit();
+    prove!(idle);
+    let mut tx = conn.transaction();
+    organizations::add(&mut tx, org, cap)?;
+    tx.commit()
+}
+
+/// Adds a token.
+pub(crate) fn add_token<S: Alter>(
+    conn: &mut Connection<S>,
+    org: &str,
+    name: &str,
+    role: Role,
+    digest: &[u8],
+) -> Result<(), Error>
+    requires idle { conn.old.in_transaction ≡ false }
+    ensures idle { conn.new.in_transaction ≡ false }
+    ensures so_far { HasCleanDisk (state S.Store conn.new) → HasCleanDisk (state S.Store conn.old) }
+    ensures done { TransactsBy (token_added org.now name.now digest.now role) (state S.Store conn.old) (state S.Store conn.new) result }
+{
+    let idle = conn.is_autocommit();
+    prove!(idle);
+    let mut tx = conn.transaction();
+    tokens::add(&mut tx, org, name, digest, role)?;
+    tx.commit()
+}
