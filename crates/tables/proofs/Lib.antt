@@ -17,3 +17,4 @@ pub mod KeepManaged
 pub mod Examples
 pub mod Stores
 pub mod KeepShown
+pub mod KeepMemory
