@@ -15,7 +15,7 @@ use Rattle.machine.specs.Succession.{Succession, first, same, other_lineage, old
 use Rattle.machine.specs.Rules.{Outcome, refused, rules, rules_missing, by_may_write, by_succession, numbered_update, number_left, with_version, with_settings, refused_by, done_with, done_already, purge, purged, lock, locked, unlock, released, is_released, force_unlock}
 use Rattle.machine.specs.Settling.{first_waiting, to_start, started_if, settled}
 use Rattle.machine.specs.declared.acts.Act.{Act}
-use Rattle.machine.specs.declared.acts.Act.TheVariants.{PutWorkspace, UpdateState, ReadState, PurgeState, Lock as LockAct, Unlock, ForceUnlock}
+use Rattle.machine.specs.declared.acts.Act.TheVariants.{PutWorkspace, ReadWorkspace, UpdateState, ReadState, PurgeState, Lock as LockAct, Unlock, ForceUnlock}
 use Rattle.machine.specs.declared.acts.Change.{Change}
 use Rattle.machine.specs.declared.records.Holder.{Holder}
 use Rattle.machine.specs.declared.records.Holder.TheVariants.{Nobody, Lock, Run as HoldingRun}
@@ -107,6 +107,7 @@ force_keeps (HoldingRun n) w keeps = keeps
 pub rules_keep_the_last : (act : Act) (now : ℕ) (s : Seen) → Keeps (standing s) → Keeps (rules act now s).left
 rules_keep_the_last (PutWorkspace settings) now (missing true) keeps = tt
 rules_keep_the_last (PutWorkspace settings) now (missing false) keeps = tt
+rules_keep_the_last ReadWorkspace now (missing room) keeps = tt
 rules_keep_the_last (UpdateState head text id) now (missing room) keeps = tt
 rules_keep_the_last ReadState now (missing room) keeps = tt
 rules_keep_the_last (PurgeState id) now (missing room) keeps = tt
@@ -114,6 +115,7 @@ rules_keep_the_last (LockAct id text) now (missing room) keeps = tt
 rules_keep_the_last (Unlock id) now (missing room) keeps = tt
 rules_keep_the_last ForceUnlock now (missing room) keeps = tt
 rules_keep_the_last (PutWorkspace settings) now (there w) keeps = settled_keeps (with_settings w settings) keeps
+rules_keep_the_last ReadWorkspace now (there w) keeps = keeps
 rules_keep_the_last (UpdateState head text id) now (there w) keeps = update_keeps w head text now (may_write w.holder (holder_status w.holder w.runs) id) keeps
 rules_keep_the_last ReadState now (there w) keeps = keeps
 rules_keep_the_last (PurgeState id) now (there w) keeps = purge_keeps (may_write w.holder (holder_status w.holder w.runs) id) w keeps
@@ -127,6 +129,7 @@ rules_keep_the_last ForceUnlock now (there w) keeps = force_keeps w.holder w kee
 made_in_room : (act : Act) (room : Bool) (w : Workspace) → Some w ≡ (rules_missing act room).left → room ≡ true
 made_in_room (PutWorkspace settings) true w e = refl
 made_in_room (PutWorkspace settings) false w e = absurd (let none : ⊥ = cc in none)
+made_in_room ReadWorkspace room w e = absurd (let none : ⊥ = cc in none)
 made_in_room (UpdateState head text id) room w e = absurd (let none : ⊥ = cc in none)
 made_in_room ReadState room w e = absurd (let none : ⊥ = cc in none)
 made_in_room (PurgeState id) room w e = absurd (let none : ⊥ = cc in none)

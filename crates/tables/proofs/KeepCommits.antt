@@ -7,10 +7,10 @@ use Rattle.sqlite.specs.Steps.{FailsToCommit}
 use Rattle.sqlite.specs.State.{State, Shows, KeepsCounts, KeepsCommit}
 use Rattle.sqlite.specs.declared.error.Error.{Error}
 use Rattle.statements.specs.Steps.{Moves}
-use Rattle.statements.specs.Making.{Alters}
+use Rattle.statements.specs.Making.{Alters, HasSchema}
 use Rattle.statements.specs.Tables.{Tables, Holds}
 use Rattle.tables.specs.KeepSteps.{IsSettled, Commits}
-use Rattle.tables.specs.KeepMaking.{HoldsFirst, IsMade}
+use Rattle.tables.specs.KeepMaking.{IsMade}
 
 -- what a commit promises where it is done
 abbrev pub Ends : State → State → Type 0
@@ -42,11 +42,11 @@ module _ {S : Type 0} (g : Ghosts S) (h k l m : Held S) (settled : IsSettled (st
       let from : Moves f (state g (record h { in_transaction = true })) (state g l) = subst (λ x. Moves f (state g x) (state g l)) begun moved in
       (tt, failed (state g h) (state g l) (state g m) e (λ _. from.was_open) (λ _. from.committed) fails)
 
-  pub made_by : {X : Type 0} (result : Result X Error) → Alters HoldsFirst (state g k) (state g l) → OnOk result (Ends (state g l) (state g m)) → IfErr result (FailsToCommit (state g l) (state g m))
+  pub made_by : {X : Type 0} (result : Result X Error) → Alters HasSchema (state g k) (state g l) → OnOk result (Ends (state g l) (state g m)) → IfErr result (FailsToCommit (state g l) (state g m))
       → OnOk result (IsMade (state g h) (state g m)) × OnErr result (KeepsCommit (state g h) (state g m))
   made_by (Ok x) made ends fails =
-      let from : Alters HoldsFirst (state g (record h { in_transaction = true })) (state g l) = subst (λ x. Alters HoldsFirst (state g x) (state g l)) begun made in
-      (record { rows = subst (λ (d : Database). HoldsFirst (state g h).now d) (sym ends.1.committed_is) from.change; was_open = from.was_open; is_open = ends.1.is_open }, tt)
+      let from : Alters HasSchema (state g (record h { in_transaction = true })) (state g l) = subst (λ x. Alters HasSchema (state g x) (state g l)) begun made in
+      (record { schema = subst (λ (d : Database). HasSchema (state g h).now d) (sym ends.1.committed_is) from.change; was_open = from.was_open; is_open = ends.1.is_open }, tt)
   made_by (Err e) made ends fails =
-      let from : Alters HoldsFirst (state g (record h { in_transaction = true })) (state g l) = subst (λ x. Alters HoldsFirst (state g x) (state g l)) begun made in
+      let from : Alters HasSchema (state g (record h { in_transaction = true })) (state g l) = subst (λ x. Alters HasSchema (state g x) (state g l)) begun made in
       (tt, failed (state g h) (state g l) (state g m) e (λ _. from.was_open) (λ _. from.committed) fails)

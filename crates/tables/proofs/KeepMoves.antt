@@ -5,9 +5,7 @@ use Rattle.sqlite_trees.specs.Tree.{Trees}
 use Rattle.sqlite.specs.Effect.{Database}
 use Rattle.sqlite.specs.State.{State, HasCleanDisk, Survives, KeepsCommit}
 use Rattle.statements.specs.Steps.{Moves}
-use Rattle.statements.specs.Making.{Alters, no_rows, version_set}
 use Rattle.statements.specs.Tables.{Tables, Holds}
-use Rattle.tables.specs.KeepMaking.{HoldsFirst}
 
 pub clean_before : (a b : State) (C : Trees → Type 0) → Survives a b C → HasCleanDisk b → HasCleanDisk a
 clean_before a b C s clean = let low : doubt a.is_clean ≤ doubt b.is_clean = s.clean in omega (arith, low, clean)
@@ -19,11 +17,3 @@ moves_then f g a b c (Ok x) one last =
     let two = last.0 in
     (record { rows = λ t h. two.rows (f t) (one.rows t h); was_open = one.was_open; is_open = two.is_open; committed = two.committed ∙ one.committed; inside = two.inside }, tt)
 moves_then f g a b c (Err e) one last = (tt, record { was_open = λ _. one.was_open; committed = λ is. last.1.committed is ∙ one.committed })
-
--- the tables stand with no rows, and then the row of the version is written
-pub made_first : {X E : Type 0} (a c d : State) (result : Result X E) → IsTrue a.is_open → c.committed ≡ a.committed → Holds c.now no_rows
-    → OnOk result (Moves version_set c d) × OnErr result (KeepsCommit c d) → OnOk result (Alters HoldsFirst a d) × OnErr result (KeepsCommit a d)
-made_first a c d (Ok x) was same made last =
-    let two = last.0 in
-    (record { change = two.rows no_rows made; was_open = was; is_open = two.is_open; committed = two.committed ∙ same; inside = two.inside }, tt)
-made_first a c d (Err e) was same made last = (tt, record { was_open = λ _. was; committed = λ is. last.1.committed is ∙ same })

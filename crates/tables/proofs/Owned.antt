@@ -15,7 +15,7 @@ use Rattle.machine.specs.declared.acts.Change.{Change}
 use Rattle.machine.specs.declared.records.Version.{Version}
 use Rattle.statements.specs.declared.rows.Holder.TheVariants.{Lock, Run as HeldByRun}
 use Rattle.statements.specs.declared.rows.Workspace.{Workspace as WorkspaceCells}
-use Rattle.statements.specs.declared.rows.Version.{Version as VersionCells}
+use Rattle.statements.specs.Rows.{Version as VersionCells}
 use Rattle.statements.specs.Rows.{Kept, id_of, WsRow}
 use Rattle.statements.specs.Tables.{Tables}
 use Rattle.statements.specs.Changes.{is_org, is_ws, is_version_of, is_version_below, is_run_of, is_run, with_auto, held_by, released_from, with_next_version, ws_changed, new_workspace, new_version, version_added, versions_removed, versions_removed_below, run_changed_to}

@@ -10,7 +10,7 @@ use Rattle.machine.specs.Settling.{begun}
 use Rattle.machine.specs.declared.records.Version.{Version}
 use Rattle.machine.specs.declared.records.Run.{Run}
 use Rattle.statements.specs.declared.rows.Workspace.{Workspace as WorkspaceCells}
-use Rattle.statements.specs.declared.rows.Version.{Version as VersionCells}
+use Rattle.statements.specs.Rows.{Version as VersionCells}
 use Rattle.statements.specs.Rows.{Kept, id_of, WsRow, VersionRow, RunRow}
 use Rattle.statements.specs.Tables.{Tables}
 use Rattle.statements.specs.Changes.{is_ws, ws_changed, ws_added, ws_removed, new_workspace, is_version_of, is_version_below, version_added, versions_removed, versions_removed_below, is_run_of, is_run, run_changed_to, runs_removed}

@@ -3,7 +3,6 @@
 
 mod commands;
 mod looks;
-mod making;
 mod opening;
 mod steps;
 mod store;

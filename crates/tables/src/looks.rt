@@ -111,6 +111,7 @@ fn is_asked_text<S: Alter>(
     match act {
         Act::UpdateState { text, .. } => is_text(conn, org, ws, number, text),
         Act::PutWorkspace(_) => Ok(false),
+        Act::ReadWorkspace => Ok(false),
         Act::ReadState => Ok(false),
         Act::PurgeState { .. } => Ok(false),
         Act::Lock { .. } => Ok(false),

@@ -8,13 +8,13 @@ ghost use Rattle.tables.specs.KeepMaking.{IsMade};
 ghost use Rattle.tables.specs.KeepSteps.{TransactsBy};
 
 use crate::steps::{self, Outgoing};
-use crate::making::make_all;
 use basis::{Limit, Role};
 use machine::Change;
 use sqlite::{Alter, Connection, Error};
+use statements::making::make_schema;
 use statements::{organizations, tokens};
 
-/// Makes all tables.
+/// Makes the tables of schema 1, and says that the database has it.
 pub(crate) fn make<S: Alter>(conn: &mut Connection<S>) -> Result<(), Error>
     requires idle { conn.old.in_transaction ≡ false }
     ensures idle { conn.new.in_transaction ≡ false }
@@ -24,7 +24,7 @@ pub(crate) fn make<S: Alter>(conn: &mut Connection<S>) -> Result<(), Error>
     let idle = conn.is_autocommit();
     prove!(idle);
     let mut tx = conn.transaction();
-    make_all(&mut tx)?;
+    make_schema(&mut tx)?;
     tx.commit()
 }
 
