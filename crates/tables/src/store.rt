@@ -17,6 +17,7 @@ use std::alloc::Global;
 use std::snapshot::Snapshot;
 
 /// The store of all organizations in tables of a database.
+#[derive(Drop)]
 pub struct SqlKeep<S: Alter> {
     conn: Connection<S>,
     // The connection when its rows were seen last. A store that a fault of the disk has shut stands for those.
