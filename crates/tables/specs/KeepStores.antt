@@ -1,5 +1,9 @@
 -- When a store is sound, and which of our tables a database has.
-use Rattle.std.specs.Prelude.{◌≡◌, ◌≢◌, ◌==◌, ℕ, Bool, false, ◌&&◌, ◌||◌, List, is_some, Option, Some, None, IsTrue, Result, IfOk}
+use Rattle.std.specs.Prelude.{◌≡◌, ◌≢◌, ◌==◌, ℕ, Bool, true, false, ◌&&◌, ◌||◌, List, [], ◌∷◌, codes, is_some, Option, Some, None, IsTrue, Result, IfOk}
+use Rattle.std.specs.Str.{bytes_eq}
+use Rattle.sqlite_schema.specs.declared.schema.Kind.{Kind}
+use Rattle.sqlite_schema.specs.declared.schema.Kind.TheVariants.{Integer, Real, Text, Blob, Any}
+use Rattle.sqlite_schema.specs.declared.schema.Column.{Column}
 use Rattle.sqlite_schema.specs.declared.schema.Schema.{Schema}
 use Rattle.sqlite_schema.specs.declared.schema.Table.{Table}
 use Rattle.sqlite_schema.specs.Names.{table_named}
@@ -28,6 +32,18 @@ any_there s = is_there s meta_table || is_there s org_table || is_there s token_
 
 abbrev pub all_there : Schema → Bool
 all_there s = is_there s meta_table && is_there s org_table && is_there s token_table && is_there s ws_table && is_there s version_table && is_there s run_table
+
+abbrev pub is_integer : Kind → Bool
+is_integer Integer = true
+is_integer Real = false
+is_integer Text = false
+is_integer Blob = false
+is_integer Any = false
+
+-- two columns, and the second is named `version` and takes integers alone
+abbrev pub tells_version : List Column → Bool
+tells_version (one ∷ version ∷ []) = (version.is_strict && is_integer version.kind) && bytes_eq version.name (codes "version")
+tells_version _ = false
 
 abbrev pub is_first : Option ℕ → Bool
 is_first None = false

@@ -8,5 +8,8 @@ mod steps;
 mod store;
 mod transactions;
 
+#[cfg(test)]
+mod tests;
+
 pub use opening::Fault;
 pub use store::{SqlKeep, Unopened};

@@ -3,11 +3,13 @@ ghost use Rattle.std.specs.Prelude.{◌≡◌, true, false, OnOk, OnErr, IfErr};
 ghost use Rattle.sqlite.specs.Held.{state};
 ghost use Rattle.sqlite.specs.State.{HasCleanDisk, KeepsCommit};
 ghost use Rattle.tables.specs.KeepMaking.{IsMade};
-ghost use Rattle.tables.specs.KeepStores.{any_there, all_there, is_first, IsTold, IsOther};
+ghost use Rattle.statements.specs.Place.{IsOwn};
+ghost use Rattle.statements.specs.Schema.{meta_table};
+ghost use Rattle.tables.specs.KeepStores.{any_there, all_there, tells_version, is_first, IsTold, IsOther};
 
 use crate::transactions;
 use sqlite::{Alter, Connection};
-use sqlite_schema::schema::Schema;
+use sqlite_schema::schema::{Column, Kind, Schema};
 use statements::making;
 
 /// Why a database wasn't opened.
@@ -38,6 +40,33 @@ fn all_there(schema: &Schema) -> bool
         && schema.table_named(b"ws".as_slice()).is_some()
         && schema.table_named(b"version".as_slice()).is_some()
         && schema.table_named(b"run".as_slice()).is_some()
+}
+
+/// Whether a table has two columns, and the second is named `version` and takes integers alone.
+fn tells_version(columns: &[Column]) -> bool
+    ensures { result ≡ tells_version columns.now }
+{
+    match columns {
+        [_, version] => {
+            version.is_strict
+                && version.kind == Kind::Integer
+                && version.name.as_slice() == b"version".as_slice()
+        }
+        _ => false,
+    }
+}
+
+/// Whether the table meta can tell a version.
+fn is_meta(schema: &Schema) -> bool
+    ensures { IsOwn schema.now meta_table → result ≡ true }
+{
+    match schema.table_named(b"meta".as_slice()) {
+        Some(at) => match schema.tables.as_slice().get(at) {
+            Some(table) => tells_version(table.columns.as_slice()),
+            None => false,
+        },
+        None => false,
+    }
 }
 
 fn is_first(version: Option<u64>) -> bool
@@ -89,6 +118,9 @@ pub(crate) fn ready<S: Alter>(conn: &mut Connection<S>) -> Result<(), Fault>
         };
     }
     if !all_there(conn.schema()) {
+        return Err(Fault::Schema);
+    }
+    if !is_meta(conn.schema()) {
         return Err(Fault::Schema);
     }
     has_first(conn)

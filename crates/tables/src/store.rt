@@ -1,5 +1,5 @@
 //! The store of all organizations over one connection to a database.
-ghost use Rattle.std.specs.Prelude.{◌≡◌, ◌≢◌, true, false, ℕ, List, Option, Some, None, IfOk, IfErr};
+ghost use Rattle.std.specs.Prelude.{◌≡◌, ◌≢◌, true, false, ℕ, List, Option, Some, None, IsTrue, IfOk, IfErr};
 ghost use Rattle.sqlite.specs.Held.{state};
 ghost use Rattle.sqlite.specs.State.{HasCleanDisk, KeepsCommit};
 ghost use Rattle.tables.specs.Stores.{records_of, IsSoundStore};
@@ -17,6 +17,7 @@ use std::alloc::Global;
 use std::snapshot::Snapshot;
 
 /// The store of all organizations in tables of a database.
+#[derive(Drop)]
 pub struct SqlKeep<S: Alter> {
     conn: Connection<S>,
     // The connection when its rows were seen last. A store that a fault of the disk has shut stands for those.
@@ -79,6 +80,8 @@ impl<S: Alter> SqlKeep<S> {
     /// Gives the connection back.
     pub fn close(self) -> Connection<S>
         ensures same { result ≡ self.conn }
+        ensures rows { ⟦<SqlKeep<S> as Keep>⟧.sound self → IsTrue (state S.Store result).is_open
+            → (o : List ℕ) → records_of (state S.Store result).committed o ≡ ⟦<SqlKeep<S> as Keep>⟧.rows self o }
         ensures idle { result.in_transaction ≡ false }
     {
         let SqlKeep { conn, seen: _ } = self;

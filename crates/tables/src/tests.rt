@@ -1,0 +1,150 @@
+use crate::{Fault, SqlKeep};
+use basis::{Bytes, Limit, LockId, Moment, Number, OrgName, Role, Settings, Text, WsName};
+use machine::{Act, AdminAnswer, Change, Edit, Holder, Keep, Unit, Version};
+use sqlite::{Connection, MemStore};
+use std::alloc::Global;
+use std::test::Fail;
+
+fn number(n: u64) -> Result<Number, Fail> {
+    Ok(Number::new(n).ok_or("a number")?)
+}
+
+fn memory(alloc: Global) -> Result<Connection<MemStore>, Fail> {
+    Ok(Connection::open_in_memory(alloc)?)
+}
+
+fn opened(conn: Connection<MemStore>) -> Result<SqlKeep<MemStore>, Fail> {
+    match SqlKeep::open(conn) {
+        Ok(keep) => Ok(keep),
+        Err(_) => Err(Fail::new("not opened")),
+    }
+}
+
+fn fault_of(conn: Connection<MemStore>) -> Option<Fault> {
+    match SqlKeep::open(conn) {
+        Ok(_) => None,
+        Err(unopened) => Some(unopened.fault),
+    }
+}
+
+fn count(conn: &mut Connection<MemStore>, sql: &str) -> Result<i64, Fail> {
+    Ok(conn.query_row(sql, &[])?.get(0)?)
+}
+
+// Adds the version of a number, whose text is that number's digits.
+fn add_version(
+    keep: &mut SqlKeep<MemStore>,
+    alloc: Global,
+    org: &OrgName,
+    ws: &WsName,
+    n: u64,
+    gone: usize,
+) -> Result<(), Fail> {
+    let version = Version {
+        number: number(n)?,
+        serial: n,
+        lineage: Text::copy_of(alloc, "one")?,
+        created: Moment::new(1_700_000_000).ok_or("a moment")?,
+        text: Bytes::copy_of(alloc, format!(in alloc; "{n}")?.as_bytes())?,
+    };
+    let edit = Edit::AddVersion { version, gone };
+    keep.apply(alloc, org, ws, &Change { edit, start: None })?;
+    Ok(())
+}
+
+fn make(
+    keep: &mut SqlKeep<MemStore>,
+    alloc: Global,
+    org: &OrgName,
+    ws: &WsName,
+) -> Result<(), Fail> {
+    let edit = Edit::Make(Settings { auto_apply: true });
+    keep.apply(alloc, org, ws, &Change { edit, start: None })?;
+    Ok(())
+}
+
+#[test]
+fn keeps_organizations_apart(rt: HostRuntime) -> Result<(), Fail> {
+    let alloc = rt.alloc();
+    let mut keep = opened(memory(alloc)?)?;
+    let acme = OrgName::read(alloc, "acme")?;
+    let other = OrgName::read(alloc, "other")?;
+    let ci = OrgName::read(alloc, "ci")?;
+    let limit = Limit::new(200).ok_or("a limit")?;
+    assert_eq!(rt; keep.org_add(alloc, &acme, limit)?, AdminAnswer::Done);
+    assert_eq!(rt; keep.org_add(alloc, &acme, limit)?, AdminAnswer::Exists);
+    assert_eq!(rt; keep.org_add(alloc, &other, limit)?, AdminAnswer::Done);
+    assert_eq!(rt; keep.token_add(alloc, &ci, &ci, Role::Read, &[1; 32])?, AdminAnswer::Absent);
+    assert_eq!(rt; keep.token_add(alloc, &acme, &ci, Role::Write, &[1; 32])?, AdminAnswer::Done);
+    assert_eq!(rt; keep.token_add(alloc, &acme, &ci, Role::Write, &[2; 32])?, AdminAnswer::Exists);
+    assert_eq!(rt; keep.token_add(alloc, &acme, &acme, Role::Write, &[1; 32])?, AdminAnswer::Exists);
+    assert_eq!(rt; keep.caller(alloc, &acme, &[1; 32])?, Some(Role::Write));
+    assert_eq!(rt; keep.caller(alloc, &other, &[1; 32])?, None);
+    let prod = WsName::read(alloc, "prod")?;
+    make(&mut keep, alloc, &acme, &prod)?;
+    make(&mut keep, alloc, &other, &prod)?;
+    add_version(&mut keep, alloc, &acme, &prod, 1, 0)?;
+    add_version(&mut keep, alloc, &acme, &prod, 2, 0)?;
+    add_version(&mut keep, alloc, &acme, &prod, 3, 1)?;
+    let id = LockId::read(alloc, "x1")?;
+    let text = Bytes::copy_of(alloc, b"held")?;
+    let edit = Edit::Hold { id, text };
+    keep.apply(alloc, &acme, &prod, &Change { edit, start: None })?;
+    let Unit::Present(unit) = keep.unit(alloc, &acme, &prod, &Act::ReadState)? else {
+        return Err(Fail::new("acme has no workspace"));
+    };
+    assert_eq!(rt; (unit.versions, unit.next_version, unit.auto_apply), (2, 4, true));
+    assert_eq!(rt; unit.newest.map(|newest| newest.number), Some(number(3)?));
+    assert!(rt; matches!(unit.holder, Holder::Lock { .. }));
+    assert!(rt; keep.text(alloc, &acme, &prod, number(1)?)?.is_none());
+    let text = keep.text(alloc, &acme, &prod, number(3)?)?;
+    assert_eq!(rt; text.as_ref().map(Bytes::as_slice), Some(b"3".as_slice()));
+    assert!(rt; keep.text(alloc, &other, &prod, number(3)?)?.is_none());
+    let Unit::Present(unit) = keep.unit(alloc, &other, &prod, &Act::ReadState)? else {
+        return Err(Fail::new("other has no workspace"));
+    };
+    assert!(rt; matches!(unit.holder, Holder::Nobody));
+    let mut conn = keep.close();
+    assert_eq!(rt; count(&mut conn, "SELECT count(*) FROM version WHERE org = 'acme'")?, 2);
+    assert_eq!(rt; count(&mut conn, "SELECT count(*) FROM ws")?, 2);
+    let mut keep = opened(conn)?;
+    assert_eq!(rt; keep.caller(alloc, &acme, &[1; 32])?, Some(Role::Write));
+    Ok(())
+}
+
+#[test]
+fn leaves_tables_of_others(rt: HostRuntime) -> Result<(), Fail> {
+    let alloc = rt.alloc();
+    let mut conn = memory(alloc)?;
+    conn.execute_batch("CREATE TABLE ws2 (a INTEGER); CREATE INDEX \"odd 'name\" ON ws2 (a); INSERT INTO ws2 (a) VALUES (7)")?;
+    let mut conn = opened(conn)?.close();
+    assert_eq!(rt; count(&mut conn, "SELECT a FROM ws2")?, 7);
+    assert_eq!(rt; count(&mut conn, "SELECT version FROM meta")?, 1);
+    assert_eq!(rt; count(&mut conn, "SELECT count(*) FROM org")?, 0);
+    Ok(())
+}
+
+#[test]
+fn refuses_other_schemas(rt: HostRuntime) -> Result<(), Fail> {
+    let alloc = rt.alloc();
+    for sql in [
+        "CREATE TABLE meta (version TEXT)",
+        "CREATE TABLE run (a INTEGER)",
+        "CREATE TABLE meta (one INTEGER PRIMARY KEY, version INTEGER NOT NULL) STRICT; INSERT INTO meta VALUES (1, 1)",
+    ] {
+        let mut conn = memory(alloc)?;
+        conn.execute_batch(sql)?;
+        assert_eq!(rt; fault_of(conn), Some(Fault::Schema));
+    }
+    for sql in [
+        "DELETE FROM meta",
+        "DROP TABLE run",
+        "DROP TABLE meta; CREATE TABLE meta (one INTEGER PRIMARY KEY, version INTEGER NOT NULL) STRICT; INSERT INTO meta VALUES (1, 2)",
+        "DROP TABLE meta; CREATE TABLE meta (one INTEGER PRIMARY KEY, version TEXT NOT NULL) STRICT; INSERT INTO meta VALUES (1, '1')",
+    ] {
+        let mut conn = opened(memory(alloc)?)?.close();
+        conn.execute_batch(sql)?;
+        assert_eq!(rt; fault_of(conn), Some(Fault::Schema));
+    }
+    Ok(())
+}
