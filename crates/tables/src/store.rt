@@ -3,7 +3,7 @@ ghost use Rattle.std.specs.Prelude.{◌≡◌, ◌≢◌, true, false, ℕ, List
 ghost use Rattle.sqlite.specs.Held.{state};
 ghost use Rattle.sqlite.specs.State.{HasCleanDisk, KeepsCommit};
 ghost use Rattle.tables.specs.Stores.{records_of, IsSoundStore};
-ghost use Rattle.statements.specs.Making.{version_in};
+ghost use Rattle.statements.specs.Making.{version_in, KeepsTables};
 ghost use Rattle.statements.specs.Tables.{Tables, Holds};
 ghost use Rattle.tables.specs.KeepStores.{IsSoundKeep, any_there, IsOther};
 
@@ -52,13 +52,15 @@ pub struct Unopened<S: Alter> {
 }
 
 impl<S: Alter> SqlKeep<S> {
-    /// Opens a database. One that has none of the tables gets them all, in one transaction, whatever
-    /// else it holds.
+    /// Opens a database. One that has none of the tables gets them all, in one transaction; each
+    /// table of others that it holds stays as it is.
     pub fn open(mut conn: Connection<S>) -> Result<SqlKeep<S>, Unopened<S>>
         requires idle { conn.in_transaction ≡ false }
         ensures so_far { IfOk result (λ keep. ⟦<SqlKeep<S> as Keep>⟧.clean keep → HasCleanDisk (state S.Store conn)) }
         ensures fresh { IfOk result (λ keep. ⟦<SqlKeep<S> as Keep>⟧.clean keep → any_there (state S.Store conn).now.schema ≡ false
             → ⟦<SqlKeep<S> as Keep>⟧.sound keep × ((o : List ℕ) → ⟦<SqlKeep<S> as Keep>⟧.rows keep o ≡ None)) }
+        ensures others { IfOk result (λ keep. ⟦<SqlKeep<S> as Keep>⟧.clean keep → any_there (state S.Store conn).now.schema ≡ false
+            → KeepsTables (state S.Store conn).now (state S.Store keep.conn).committed) }
         ensures held { IfOk result (λ keep. ⟦<SqlKeep<S> as Keep>⟧.clean keep → any_there (state S.Store conn).now.schema ≡ true
             → (IsSoundStore (state S.Store conn).now → ⟦<SqlKeep<S> as Keep>⟧.sound keep) × ((o : List ℕ) → ⟦<SqlKeep<S> as Keep>⟧.rows keep o ≡ records_of (state S.Store conn).now o)) }
         ensures version { IfOk result (λ keep. ⟦<SqlKeep<S> as Keep>⟧.clean keep → any_there (state S.Store conn).now.schema ≡ true
