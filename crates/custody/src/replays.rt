@@ -34,7 +34,8 @@ struct Replay {
 fn replayed(alloc: Global, steps: &[Step]) -> Result<Vec<Bytes>, Down>
     ensures { IfOk result (λ replies. AreReplies steps.now replies.items) }
 {
-    let mut service = Service::new(SqlKeep::in_memory(alloc)?);
+    let empty = SqlKeep::in_memory(alloc)?;
+    let mut service = Service::new(empty);
     let replies = service.replay(alloc, steps);
     let keep = service.into_keep();
     keep.is_always_clean();
