@@ -7,10 +7,9 @@ mod making;
 mod opening;
 mod steps;
 mod store;
-mod transactions;
-
 #[cfg(test)]
 mod tests;
+mod transactions;
 
 pub use opening::Fault;
 pub use store::{SqlKeep, Unopened};

@@ -7,8 +7,8 @@ ghost use Rattle.tables.specs.KeepEdits.{changed_by};
 ghost use Rattle.tables.specs.KeepMaking.{IsMade};
 ghost use Rattle.tables.specs.KeepSteps.{TransactsBy};
 
-use crate::steps::{self, Outgoing};
 use crate::making::make_all;
+use crate::steps::{self, Outgoing};
 use basis::{Limit, Role};
 use machine::Change;
 use sqlite::{Alter, Connection, Error};

@@ -1,6 +1,6 @@
 use Rattle.std.proofs.Common.{[], ◌∷◌, ◌∙◌}
 use Rattle.sqlite.specs.Held.{state}
-use Rattle.statements.specs.Making.{our_tables, no_rows}
+use Rattle.statements.specs.Making.{our_tables}
 use Rattle.statements.specs.Schema.{meta_table, org_table, token_table}
 use Rattle.statements.proofs.Begin.{none_made, holds_none}
 use Rattle.tables.proofs.KeepMoves.{clean_before, made_first}
