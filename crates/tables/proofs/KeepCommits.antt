@@ -32,12 +32,14 @@ module _ {S : Type 0} (g : Ghosts S) (h k l m : Held S) (settled : IsSettled (st
   pub commits_by : {X : Type 0} (f : Tables → Tables) (result : Result X Error) → Moves f (state g k) (state g l) → OnOk result (Ends (state g l) (state g m)) → IfErr result (FailsToCommit (state g l) (state g m))
       → OnOk result (Commits f (state g h) (state g m)) × OnErr result (KeepsCommit (state g h) (state g m))
   commits_by f (Ok x) moved ends fails =
-      let from : Moves f (state g (record h { in_transaction = true })) (state g l) = subst (λ x. Moves f (state g x) (state g l)) begun moved in
-      (record {
-        rows = λ t held. subst (λ (d : Database). Holds d (f t)) (sym ends.1.committed_is) (from.rows t (subst (λ (d : Database). Holds d t) (sym (settled from.was_open)) held));
-        was_open = from.was_open;
-        is_open = ends.1.is_open;
-      }, tt)
+      let from : Moves f (state g (record h { in_transaction = true })) (state g l) = subst (λ x. Moves f (state g x) (state g l)) begun moved in (
+        record {
+          rows = λ t held. subst (λ (d : Database). Holds d (f t)) (sym ends.1.committed_is) (from.rows t (subst (λ (d : Database). Holds d t) (sym (settled from.was_open)) held));
+          was_open = from.was_open;
+          is_open = ends.1.is_open;
+        },
+        tt,
+      )
   commits_by f (Err e) moved ends fails =
       let from : Moves f (state g (record h { in_transaction = true })) (state g l) = subst (λ x. Moves f (state g x) (state g l)) begun moved in
       (tt, failed (state g h) (state g l) (state g m) e (λ _. from.was_open) (λ _. from.committed) fails)

@@ -1,10 +1,10 @@
 -- What is found by more than one query.
-use Rattle.std.proofs.Common.{◌≡◌, ℕ, ◌-◌, nat_le, nat_lt, Bool, true, false, not, cond, ◌&&◌, List, [], ◌∷◌, Option, Some, None, IsTrue, Result, Ok, Err, IfOk, OnOk, OnErr, refl, sym, ap, ◌∙◌, subst}
+use Rattle.std.proofs.Common.{◌≡◌, ℕ, ◌-◌, nat_le, nat_lt, Bool, true, false, cond, ◌&&◌, List, [], ◌∷◌, Option, Some, None, Result, Ok, Err, refl, sym, ap, ◌∙◌, subst}
 use Rattle.std.specs.Str.{bytes_eq}
 use Prim.Native.Nat.compare
 use Rattle.sqlite_keyed.specs.Lists.{delete_where}
 use Rattle.sqlite.specs.Effect.{Database}
-use Rattle.sqlite.specs.State.{State, HasCleanDisk, IsUnchanged, KeepsCommit}
+use Rattle.sqlite.specs.State.{State, IsUnchanged}
 use Rattle.machine.specs.declared.acts.Act.{Act}
 use Rattle.machine.specs.declared.acts.Unit.{Unit}
 use Rattle.machine.specs.declared.acts.Edit.TheVariants.{AddVersion}
@@ -16,8 +16,8 @@ use Rattle.statements.specs.Finds.{workspace_of, versions_of}
 use Rattle.statements.specs.Tables.{Tables, Holds}
 use Rattle.tables.specs.Edits.{versioned_rows, put_rows, emptied_rows}
 use Rattle.tables.specs.Units.{unit_at, unit_in}
-use Rattle.tables.specs.KeepLooks.{Stays, SeesBy, present_in}
-use Rattle.tables.specs.KeepEdits.{outgoing_of, outgoing_below, outgoing_in, put_by, GoesBy}
+use Rattle.tables.specs.KeepLooks.{SeesBy, present_in}
+use Rattle.tables.specs.KeepEdits.{outgoing_of, outgoing_in, put_by, GoesBy}
 use Rattle.tables.specs.declared.steps.Outgoing.{Outgoing}
 use Rattle.tables.specs.declared.steps.Outgoing.TheVariants.{Below, All}
 
@@ -56,9 +56,10 @@ goes_by org ws v gone old new (Err e) sees clean = (tt, (sees clean).1)
 pub unit_by_row : {E : Type 0} (act : Act) (org ws : List ℕ) (w : WorkspaceCells) (a b d : State) (o : Option WorkspaceCells) (result : Result Unit E) → o ≡ Some w
     → ((t : Tables) → Holds a.now t → o ≡ workspace_of org ws t) → IsUnchanged a b → SeesBy (present_in act org ws w) b d result → SeesBy (unit_in act org ws) a d result
 unit_by_row act org ws w a b d o (Ok x) is read same sees clean =
-    let seen = sees clean in
-    (λ open_is t held. seen.0 open_is t (subst (λ (db : Database). Holds db t) (sym same.0.now_is) held) ∙ ap (unit_at act org ws t) (sym is ∙ read t held),
-    (record { was_open = λ _. same.0.was_open; now = λ open_is. seen.1.0.now open_is ∙ same.0.now_is; committed = λ open_is. seen.1.0.committed open_is ∙ same.0.committed_is }, tt))
+    let seen = sees clean in (
+      λ open_is t held. seen.0 open_is t (subst (λ (db : Database). Holds db t) (sym same.0.now_is) held) ∙ ap (unit_at act org ws t) (sym is ∙ read t held),
+      (record { was_open = λ _. same.0.was_open; now = λ open_is. seen.1.0.now open_is ∙ same.0.now_is; committed = λ open_is. seen.1.0.committed open_is ∙ same.0.committed_is }, tt),
+    )
 unit_by_row act org ws w a b d o (Err e) is read same sees clean =
     let seen = sees clean in
     (tt, (tt, record { was_open = λ _. same.0.was_open; committed = λ open_is. seen.1.1.committed open_is ∙ same.0.committed_is }))

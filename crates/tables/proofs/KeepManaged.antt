@@ -1,5 +1,5 @@
 -- From what was looked at and one transaction to a command.
-use Rattle.std.proofs.Common.{◌≡◌, ℕ, Bool, true, false, cond, List, is_some, is_none, Option, Some, None, IsTrue, Result, Ok, Err, IfOk, OnOk, OnErr, refl, sym, ap, ◌∙◌, subst}
+use Rattle.std.proofs.Common.{◌≡◌, ℕ, Bool, true, false, cond, List, is_some, is_none, Option, Some, None, IsTrue, Result, Ok, Err, OnOk, OnErr, refl, sym, ap, ◌∙◌, subst}
 use Rattle.sqlite.specs.Effect.{Database}
 use Rattle.sqlite.specs.State.{State, IsUnchanged, KeepsCommit}
 use Rattle.basis.specs.declared.roles.Role.{Role}
@@ -21,15 +21,17 @@ pub change_goes : {X E : Type 0} (org ws : List ℕ) (change : Change) (out : Ou
     → (IsTrue b.is_open → (t : Tables) → Holds a.now t → edited_by out org ws change.edit t ≡ edited_rows org ws change.edit t)
     → OnOk result (Commits (changed_by out org ws change) b d) × OnErr result (KeepsCommit b d) → OnOk result (Commits (changed_rows org ws change) a d) × OnErr result (KeepsCommit a d)
 change_goes org ws change out a b d (Ok x) settled stays means last =
-    let done = last.0 in
-    (record {
-      rows = λ t held.
-          let now : Holds a.now t = subst (λ (db : Database). Holds db t) (sym (settled (stays.was_open done.was_open))) held in
-          subst (Holds d.committed) (ap (started_rows org ws change.start) (means done.was_open t now))
-          (done.rows t (subst (λ (db : Database). Holds db t) (sym (stays.committed done.was_open)) held));
-      was_open = stays.was_open done.was_open;
-      is_open = done.is_open;
-    }, tt)
+    let done = last.0 in (
+      record {
+        rows = λ t held.
+            let now : Holds a.now t = subst (λ (db : Database). Holds db t) (sym (settled (stays.was_open done.was_open))) held in
+            subst (Holds d.committed) (ap (started_rows org ws change.start) (means done.was_open t now))
+            (done.rows t (subst (λ (db : Database). Holds db t) (sym (stays.committed done.was_open)) held));
+        was_open = stays.was_open done.was_open;
+        is_open = done.is_open;
+      },
+      tt,
+    )
 change_goes org ws change out a b d (Err e) settled stays means last =
     (tt, record { was_open = λ is. stays.was_open (last.1.was_open is); committed = λ is. last.1.committed is ∙ stays.committed (last.1.was_open is) })
 

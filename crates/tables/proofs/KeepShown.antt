@@ -1,7 +1,7 @@
 -- From the rows of a connection to the records of its store.
-use Rattle.std.proofs.Common.{◌≡◌, ◌≢◌, ℕ, ◌≤◌, Bool, true, false, ◌||◌, cond, List, length, is_some, Option, Some, None, option_map, IsTrue, refl, sym, ap, ◌∙◌, subst}
+use Rattle.std.proofs.Common.{◌≡◌, ◌≢◌, ℕ, ◌≤◌, ◌||◌, List, length, is_some, Option, Some, None, option_map, IsTrue, refl, sym, ap, ◌∙◌, subst}
 use Rattle.sqlite.specs.Effect.{Database}
-use Rattle.sqlite.specs.State.{State, KeepsCommit}
+use Rattle.sqlite.specs.State.{State}
 use Rattle.basis.specs.Names.{is_org_name, is_ws_name}
 use Rattle.basis.specs.declared.roles.Role.{Role}
 use Rattle.machine.specs.Effects.{Effect, effect}
@@ -27,7 +27,7 @@ use Rattle.tables.specs.Edits.{changed_rows}
 use Rattle.tables.specs.Units.{unit_in}
 use Rattle.tables.specs.Stores.{records_of, IsSoundStore}
 use Rattle.tables.specs.KeepStores.{IsSoundKeep}
-use Rattle.tables.specs.KeepSteps.{Commits, Manages, org_managed_by, org_managed, is_taken, token_managed_by, token_managed}
+use Rattle.tables.specs.KeepSteps.{Commits, Manages, org_managed_by, org_managed, token_managed_by, token_managed}
 use Rattle.tables.proofs.Operators.{caller_found, org_exists, token_absent, token_named, token_known}
 use Rattle.tables.proofs.Finding.{unit_found, text_found}
 use Rattle.tables.proofs.Stores.{store_by, records_by, store_changed_own, store_changed_other, store_changed_keeps, store_org_done, store_org_other, store_org_keeps, store_token_done, store_token_other, store_token_keeps}

@@ -9,8 +9,7 @@ ghost use Rattle.tables.specs.KeepStores.{LooksBy};
 ghost use Rattle.tables.specs.KeepLooks.{SeesBy};
 ghost use Rattle.tables.specs.KeepSteps.{TransactsBy, ManagesBy, org_managed, token_managed, is_taken};
 
-use crate::looks;
-use crate::transactions;
+use crate::{looks, transactions};
 use basis::{Bytes, Limit, Number, Role};
 use machine::{Act, AdminAnswer, Change, Unit};
 use sqlite::{Alter, Connection, Error};

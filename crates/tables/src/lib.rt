@@ -6,10 +6,9 @@ mod looks;
 mod opening;
 mod steps;
 mod store;
-mod transactions;
-
 #[cfg(test)]
 mod tests;
+mod transactions;
 
 pub use opening::Fault;
 pub use store::{SqlKeep, Unopened};

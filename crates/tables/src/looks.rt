@@ -8,9 +8,9 @@ ghost use Rattle.tables.specs.Units.{holder_status_in, is_found_text, newest_by,
 ghost use Rattle.tables.specs.KeepEdits.{outgoing_of, outgoing_below, outgoing_in, GoesBy};
 ghost use Rattle.tables.specs.KeepLooks.{SeesBy, is_body, absent_in, around_in, unit_from, present_in};
 
+use crate::steps::Outgoing;
 use basis::{Bytes, Limit, LockId, Number, RunStatus, Text};
 use machine::{Act, Edit, Holder, Newest, Unit, WorkspaceUnit};
-use crate::steps::Outgoing;
 use sqlite::{Alter, Connection, Error, ErrorCode};
 use statements::rows::{Head, Holder as HolderCells, Workspace as WorkspaceCells};
 use statements::{organizations, runs, versions, workspaces};
@@ -262,7 +262,11 @@ fn around<S: Alter>(
     })
 }
 
-fn unit_by(alloc: Global, workspace: WorkspaceCells, around: Surroundings) -> Result<WorkspaceUnit, Error>
+fn unit_by(
+    alloc: Global,
+    workspace: WorkspaceCells,
+    around: Surroundings,
+) -> Result<WorkspaceUnit, Error>
     ensures { IfOk result (λ unit. unit ≡ unit_from workspace around) }
 {
     let first_waiting = optional_number_of(around.first_waiting)?;

@@ -23,12 +23,7 @@ pub(crate) enum Outgoing {
 }
 
 /// Makes a workspace. It has no versions and no runs.
-fn make<S: Alter>(
-    tx: &mut Transaction<'_, S>,
-    org: &str,
-    ws: &str,
-    auto: bool,
-) -> Result<(), Error>
+fn make<S: Alter>(tx: &mut Transaction<'_, S>, org: &str, ws: &str, auto: bool) -> Result<(), Error>
     ensures same_reference { tx.new.conn.ghost_name ≡ tx.old.conn.ghost_name }
     ensures changed { ChangesBy (made_rows org.now ws.now auto) (state S.Store tx.old.conn.now) (state S.Store tx.new.conn.now) result }
     ensures so_far { HasCleanDisk (state S.Store tx.new.conn.now) → HasCleanDisk (state S.Store tx.old.conn.now) }

@@ -112,13 +112,7 @@ impl<S: Alter> Keep for SqlKeep<S> {
         }
     }
 
-    fn unit(
-        &mut self,
-        alloc: Global,
-        org: &OrgName,
-        ws: &WsName,
-        act: &Act,
-    ) -> Result<Unit, Down> {
+    fn unit(&mut self, alloc: Global, org: &OrgName, ws: &WsName, act: &Act) -> Result<Unit, Down> {
         match commands::unit(&mut self.conn, alloc, org.as_str(), ws.as_str(), act) {
             Ok(unit) => Ok(unit),
             Err(_) => Err(Down),
@@ -154,7 +148,12 @@ impl<S: Alter> Keep for SqlKeep<S> {
         }
     }
 
-    fn org_add(&mut self, _alloc: Global, org: &OrgName, limit: Limit) -> Result<AdminAnswer, Down> {
+    fn org_add(
+        &mut self,
+        _alloc: Global,
+        org: &OrgName,
+        limit: Limit,
+    ) -> Result<AdminAnswer, Down> {
         prove!(limit.get() <= MAX_LIMIT);
         match commands::org_add(&mut self.conn, org.as_str(), limit) {
             Ok(answer) => {

@@ -14,16 +14,22 @@ fn memory(alloc: Global) -> Result<Connection<MemStore>, Fail> {
 }
 
 fn opened(conn: Connection<MemStore>) -> Result<SqlKeep<MemStore>, Fail> {
+    if !conn.is_autocommit() {
+        return Err(Fail::new("a transaction is open"));
+    }
     match SqlKeep::open(conn) {
         Ok(keep) => Ok(keep),
         Err(_) => Err(Fail::new("not opened")),
     }
 }
 
-fn fault_of(conn: Connection<MemStore>) -> Option<Fault> {
+fn fault_of(conn: Connection<MemStore>) -> Result<Option<Fault>, Fail> {
+    if !conn.is_autocommit() {
+        return Err(Fail::new("a transaction is open"));
+    }
     match SqlKeep::open(conn) {
-        Ok(_) => None,
-        Err(unopened) => Some(unopened.fault),
+        Ok(_) => Ok(None),
+        Err(unopened) => Ok(Some(unopened.fault)),
     }
 }
 
@@ -63,52 +69,93 @@ fn make(
     Ok(())
 }
 
-#[test]
-fn keeps_organizations_apart(rt: HostRuntime) -> Result<(), Fail> {
-    let alloc = rt.alloc();
+// Two organizations, each with a workspace `prod`.
+fn two_organizations(alloc: Global) -> Result<SqlKeep<MemStore>, Fail> {
     let mut keep = opened(memory(alloc)?)?;
+    let prod = WsName::read(alloc, "prod")?;
+    let limit = Limit::new(200).ok_or("a limit")?;
+    for name in ["acme", "other"] {
+        let org = OrgName::read(alloc, name)?;
+        keep.org_add(alloc, &org, limit)?;
+        make(&mut keep, alloc, &org, &prod)?;
+    }
+    Ok(keep)
+}
+
+#[test]
+fn adds_organizations_and_tokens(rt: HostRuntime) -> Result<(), Fail> {
+    let alloc = rt.alloc();
+    let mut keep = two_organizations(alloc)?;
     let acme = OrgName::read(alloc, "acme")?;
     let other = OrgName::read(alloc, "other")?;
     let ci = OrgName::read(alloc, "ci")?;
     let limit = Limit::new(200).ok_or("a limit")?;
-    assert_eq!(rt; keep.org_add(alloc, &acme, limit)?, AdminAnswer::Done);
     assert_eq!(rt; keep.org_add(alloc, &acme, limit)?, AdminAnswer::Exists);
-    assert_eq!(rt; keep.org_add(alloc, &other, limit)?, AdminAnswer::Done);
-    assert_eq!(rt; keep.token_add(alloc, &ci, &ci, Role::Read, &[1; 32])?, AdminAnswer::Absent);
-    assert_eq!(rt; keep.token_add(alloc, &acme, &ci, Role::Write, &[1; 32])?, AdminAnswer::Done);
-    assert_eq!(rt; keep.token_add(alloc, &acme, &ci, Role::Write, &[2; 32])?, AdminAnswer::Exists);
-    assert_eq!(rt; keep.token_add(alloc, &acme, &acme, Role::Write, &[1; 32])?, AdminAnswer::Exists);
-    assert_eq!(rt; keep.caller(alloc, &acme, &[1; 32])?, Some(Role::Write));
+    for (org, name, digest, answer) in [
+        (&acme, &ci, [1; 32], AdminAnswer::Done),
+        (&acme, &ci, [2; 32], AdminAnswer::Exists),
+        (&acme, &acme, [1; 32], AdminAnswer::Exists),
+        (&acme, &acme, [2; 32], AdminAnswer::Done),
+        (&ci, &ci, [3; 32], AdminAnswer::Absent),
+    ] {
+        assert_eq!(rt;
+            keep.token_add(alloc, org, name, Role::Write, &digest)?,
+            answer
+        );
+    }
+    assert_eq!(rt; keep.caller(alloc, &acme, &[2; 32])?, Some(Role::Write));
     assert_eq!(rt; keep.caller(alloc, &other, &[1; 32])?, None);
+    Ok(())
+}
+
+#[test]
+fn keeps_versions_of_organizations_apart(rt: HostRuntime) -> Result<(), Fail> {
+    let alloc = rt.alloc();
+    let mut keep = two_organizations(alloc)?;
+    let acme = OrgName::read(alloc, "acme")?;
+    let other = OrgName::read(alloc, "other")?;
     let prod = WsName::read(alloc, "prod")?;
-    make(&mut keep, alloc, &acme, &prod)?;
-    make(&mut keep, alloc, &other, &prod)?;
-    add_version(&mut keep, alloc, &acme, &prod, 1, 0)?;
-    add_version(&mut keep, alloc, &acme, &prod, 2, 0)?;
-    add_version(&mut keep, alloc, &acme, &prod, 3, 1)?;
-    let id = LockId::read(alloc, "x1")?;
-    let text = Bytes::copy_of(alloc, b"held")?;
-    let edit = Edit::Hold { id, text };
+    for (n, gone) in [(1, 0), (2, 0), (3, 1)] {
+        add_version(&mut keep, alloc, &acme, &prod, n, gone)?;
+    }
+    assert!(rt; keep.text(alloc, &acme, &prod, number(1)?)?.is_none());
+    assert!(rt; keep.text(alloc, &other, &prod, number(3)?)?.is_none());
+    let text = keep.text(alloc, &acme, &prod, number(3)?)?;
+    assert_eq!(rt; text.as_ref().map(Bytes::as_slice), Some(b"3".as_slice()));
+    let mut conn = keep.close();
+    assert_eq!(rt;
+        count(&mut conn, "SELECT count(*) FROM version WHERE org = 'acme'")?,
+        2
+    );
+    assert_eq!(rt; count(&mut conn, "SELECT count(*) FROM ws")?, 2);
+    Ok(())
+}
+
+#[test]
+fn holds_one_workspace(rt: HostRuntime) -> Result<(), Fail> {
+    let alloc = rt.alloc();
+    let mut keep = two_organizations(alloc)?;
+    let acme = OrgName::read(alloc, "acme")?;
+    let other = OrgName::read(alloc, "other")?;
+    let prod = WsName::read(alloc, "prod")?;
+    let edit = Edit::Hold {
+        id: LockId::read(alloc, "x1")?,
+        text: Bytes::copy_of(alloc, b"held")?,
+    };
     keep.apply(alloc, &acme, &prod, &Change { edit, start: None })?;
     let Unit::Present(unit) = keep.unit(alloc, &acme, &prod, &Act::ReadState)? else {
         return Err(Fail::new("acme has no workspace"));
     };
-    assert_eq!(rt; (unit.versions, unit.next_version, unit.auto_apply), (2, 4, true));
-    assert_eq!(rt; unit.newest.map(|newest| newest.number), Some(number(3)?));
     assert!(rt; matches!(unit.holder, Holder::Lock { .. }));
-    assert!(rt; keep.text(alloc, &acme, &prod, number(1)?)?.is_none());
-    let text = keep.text(alloc, &acme, &prod, number(3)?)?;
-    assert_eq!(rt; text.as_ref().map(Bytes::as_slice), Some(b"3".as_slice()));
-    assert!(rt; keep.text(alloc, &other, &prod, number(3)?)?.is_none());
+    assert_eq!(rt;
+        (unit.versions, unit.next_version, unit.auto_apply),
+        (0, 1, true)
+    );
+    let mut keep = opened(keep.close())?;
     let Unit::Present(unit) = keep.unit(alloc, &other, &prod, &Act::ReadState)? else {
         return Err(Fail::new("other has no workspace"));
     };
     assert!(rt; matches!(unit.holder, Holder::Nobody));
-    let mut conn = keep.close();
-    assert_eq!(rt; count(&mut conn, "SELECT count(*) FROM version WHERE org = 'acme'")?, 2);
-    assert_eq!(rt; count(&mut conn, "SELECT count(*) FROM ws")?, 2);
-    let mut keep = opened(conn)?;
-    assert_eq!(rt; keep.caller(alloc, &acme, &[1; 32])?, Some(Role::Write));
     Ok(())
 }
 
@@ -116,7 +163,9 @@ fn keeps_organizations_apart(rt: HostRuntime) -> Result<(), Fail> {
 fn leaves_tables_of_others(rt: HostRuntime) -> Result<(), Fail> {
     let alloc = rt.alloc();
     let mut conn = memory(alloc)?;
-    conn.execute_batch("CREATE TABLE ws2 (a INTEGER); CREATE INDEX \"odd 'name\" ON ws2 (a); INSERT INTO ws2 (a) VALUES (7)")?;
+    conn.execute_batch(
+        "CREATE TABLE ws2 (a INTEGER); CREATE INDEX \"odd 'name\" ON ws2 (a); INSERT INTO ws2 (a) VALUES (7)",
+    )?;
     let mut conn = opened(conn)?.close();
     assert_eq!(rt; count(&mut conn, "SELECT a FROM ws2")?, 7);
     assert_eq!(rt; count(&mut conn, "SELECT version FROM meta")?, 1);
@@ -134,7 +183,7 @@ fn refuses_other_schemas(rt: HostRuntime) -> Result<(), Fail> {
     ] {
         let mut conn = memory(alloc)?;
         conn.execute_batch(sql)?;
-        assert_eq!(rt; fault_of(conn), Some(Fault::Schema));
+        assert_eq!(rt; fault_of(conn)?, Some(Fault::Schema));
     }
     for sql in [
         "DELETE FROM meta",
@@ -144,7 +193,7 @@ fn refuses_other_schemas(rt: HostRuntime) -> Result<(), Fail> {
     ] {
         let mut conn = opened(memory(alloc)?)?.close();
         conn.execute_batch(sql)?;
-        assert_eq!(rt; fault_of(conn), Some(Fault::Schema));
+        assert_eq!(rt; fault_of(conn)?, Some(Fault::Schema));
     }
     Ok(())
 }

@@ -1,6 +1,5 @@
 use Rattle.std.proofs.Common.{refl, sym, ap, subst}
 use Rattle.sqlite.specs.Effect.{Database}
-use Rattle.sqlite.specs.Held.{state}
 use Rattle.tables.specs.Stores.{records_of, IsSoundStore}
 use Rattle.tables.proofs.store.SqlKeep.open.Goals as goal
 
