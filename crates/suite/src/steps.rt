@@ -6,6 +6,7 @@ use serve::{Admin, LinkFault, Service, Step};
 use std::alloc::Global;
 use std::process::Abort;
 use std::test::Fail;
+use tables::SqlKeep;
 use wire::{FromRead, ToWrite};
 
 /// Tue, 14 Nov 2023 22:13:20 GMT, the moment of all steps.
@@ -171,8 +172,21 @@ fn expect_in_memory(rt: &impl Abort, alloc: Global, story: &Story, name: &str) -
     Ok(())
 }
 
+// Over the store in tables, taken in turn and exchanged.
+fn expect_in_tables(rt: &impl Abort, alloc: Global, story: &Story, name: &str) -> Result<(), Fail> {
+    let mut service = Service::new(SqlKeep::in_memory(alloc)?);
+    let replayed = expect_replay(rt, alloc, &mut service, story, name);
+    drop(service.into_keep());
+    replayed?;
+    let mut service = Service::new(SqlKeep::in_memory(alloc)?);
+    expect_exchanges(rt, alloc, &mut service, story, name);
+    drop(service.into_keep());
+    Ok(())
+}
+
 /// The steps of a story are answered by what is due, taken in turn and exchanged one by one, over
 /// each store.
 pub fn expect_story(rt: &impl Abort, alloc: Global, story: &Story, name: &str) -> Result<(), Fail> {
-    expect_in_memory(rt, alloc, story, name)
+    expect_in_memory(rt, alloc, story, name)?;
+    expect_in_tables(rt, alloc, story, name)
 }
