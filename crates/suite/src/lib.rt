@@ -21,6 +21,8 @@ mod serve_tests;
 #[cfg(test)]
 mod steps;
 #[cfg(test)]
+mod tables_tests;
+#[cfg(test)]
 mod terraform_tests;
 #[cfg(test)]
 mod texts;
