@@ -1,10 +1,10 @@
 -- Steps inside one transaction, one after the other.
-use Rattle.std.proofs.Common.{◌≡◌, ◌≤◌, IsTrue, Result, Ok, Err, OnOk, OnErr, ◌∙◌, arith}
+use Rattle.std.proofs.Common.{◌≤◌, Result, Ok, Err, OnOk, OnErr, ◌∙◌, arith}
 use Rattle.sqlite_trees.specs.View.{doubt}
 use Rattle.sqlite_trees.specs.Tree.{Trees}
 use Rattle.sqlite.specs.State.{State, HasCleanDisk, Survives, KeepsCommit}
 use Rattle.statements.specs.Steps.{Moves}
-use Rattle.statements.specs.Tables.{Tables, Holds}
+use Rattle.statements.specs.Tables.{Tables}
 
 pub clean_before : (a b : State) (C : Trees → Type 0) → Survives a b C → HasCleanDisk b → HasCleanDisk a
 clean_before a b C s clean = let low : doubt a.is_clean ≤ doubt b.is_clean = s.clean in omega (arith, low, clean)

@@ -3,6 +3,7 @@ use Rattle.std.specs.Prelude.{◌≡◌, ◌≤◌, ◌+◌, ℕ, true, List, []
 use Rattle.std.specs.List.{AllByRecursion, list_any}
 use Rattle.sqlite_keyed.specs.Rules.{AreApart}
 use Rattle.basis.specs.Names.{is_org_name}
+use Rattle.basis.specs.declared.numbers.TheConstants.{MAX_LIMIT}
 use Rattle.machine.specs.Laws.{IsNamedWorkspace}
 use Rattle.machine.specs.Records.{count_of}
 use Rattle.machine.specs.declared.records.Version.{Version}
@@ -24,7 +25,7 @@ KeepsTheLast w = Follow (map (λ (v : Version). v.number) w.versions) w.next_ver
 
 pub record IsOrgRow (x : Kept OrgRow) : Type 0 where
   pub named : IsTrue (is_org_name x.1.name)
-  pub limit : x.1.cap ≤ 100_000
+  pub limit : x.1.cap ≤ MAX_LIMIT
 
 -- a token's name is one, and its digest has 32 bytes
 pub record IsTokenRow (x : Kept TokenRow) : Type 0 where
