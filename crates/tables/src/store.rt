@@ -53,7 +53,7 @@ pub struct Unopened<S: Alter> {
 
 impl<S: Alter> SqlKeep<S> {
     /// Opens a database. One that has none of the tables gets them all, in one transaction; each
-    /// table of others that it holds stays as it is.
+    /// table of others that it holds stays as it is. One that has them stays as it is.
     pub fn open(mut conn: Connection<S>) -> Result<SqlKeep<S>, Unopened<S>>
         requires idle { conn.in_transaction ≡ false }
         ensures so_far { IfOk result (λ keep. ⟦<SqlKeep<S> as Keep>⟧.clean keep → HasCleanDisk (state S.Store conn)) }
@@ -63,6 +63,8 @@ impl<S: Alter> SqlKeep<S> {
             → KeepsTables (state S.Store conn).now (state S.Store keep.conn).committed) }
         ensures held { IfOk result (λ keep. ⟦<SqlKeep<S> as Keep>⟧.clean keep → any_there (state S.Store conn).now.schema ≡ true
             → (IsSoundStore (state S.Store conn).now → ⟦<SqlKeep<S> as Keep>⟧.sound keep) × ((o : List ℕ) → ⟦<SqlKeep<S> as Keep>⟧.rows keep o ≡ records_of (state S.Store conn).now o)) }
+        ensures stays { IfOk result (λ keep. ⟦<SqlKeep<S> as Keep>⟧.clean keep → any_there (state S.Store conn).now.schema ≡ true
+            → (state S.Store keep.conn).committed ≡ (state S.Store conn).now) }
         ensures version { IfOk result (λ keep. ⟦<SqlKeep<S> as Keep>⟧.clean keep → any_there (state S.Store conn).now.schema ≡ true
             → (t : Tables) → Holds (state S.Store conn).now t → version_in t ≡ Some 1) }
         ensures back { IfErr result (λ unopened. HasCleanDisk (state S.Store unopened.conn) → KeepsCommit (state S.Store conn) (state S.Store unopened.conn)) }
