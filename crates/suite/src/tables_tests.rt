@@ -43,8 +43,14 @@ fn expect_counts(
 const AFTER_SET_UP: &[(&str, i64)] = &[
     ("SELECT count(*) FROM meta WHERE one = 1 AND version = 1", 1),
     ("SELECT count(*) FROM org", 2),
-    ("SELECT count(*) FROM org WHERE name = 'acme' AND cap = 200", 1),
-    ("SELECT count(*) FROM org WHERE name = 'beta' AND cap = 200", 1),
+    (
+        "SELECT count(*) FROM org WHERE name = 'acme' AND cap = 200",
+        1,
+    ),
+    (
+        "SELECT count(*) FROM org WHERE name = 'beta' AND cap = 200",
+        1,
+    ),
     ("SELECT count(*) FROM token", 4),
     (
         "SELECT count(*) FROM token WHERE org = 'acme' AND name = 'root' AND role = 2 AND digest = x'9fa3b4104ae708467bac3a2016f11aa6d115fa0b8338c1d1c8ac5fc66afcaa0e'",
