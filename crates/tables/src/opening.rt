@@ -1,5 +1,5 @@
 //! How a database is made ready for a store.
-ghost use Rattle.std.specs.Prelude.{◌≡◌, true, false, OnOk, OnErr, IfErr};
+ghost use Rattle.std.specs.Prelude.{◌≡◌, true, false, OnOk, OnErr, IfOk, IfErr};
 ghost use Rattle.sqlite.specs.Held.{state};
 ghost use Rattle.sqlite.specs.State.{HasCleanDisk, KeepsCommit};
 ghost use Rattle.tables.specs.KeepMaking.{IsMade};
@@ -110,6 +110,7 @@ pub(crate) fn ready<S: Alter>(conn: &mut Connection<S>) -> Result<(), Fault>
     ensures told { HasCleanDisk (state S.Store conn.new) → OnOk result (any_there (state S.Store conn.old).now.schema ≡ true → IsTold (state S.Store conn.old) (state S.Store conn.new)) }
     ensures err { HasCleanDisk (state S.Store conn.new) → OnErr result (KeepsCommit (state S.Store conn.old) (state S.Store conn.new)) }
     ensures other { HasCleanDisk (state S.Store conn.new) → IfErr result (λ fault. fault ≡ Fault.Schema → (any_there (state S.Store conn.old).now.schema ≡ true) × IsOther (state S.Store conn.old)) }
+    ensures missing { any_there (state S.Store conn.old).now.schema ≡ true → all_there (state S.Store conn.old).now.schema ≡ false → IfErr result (λ fault. fault ≡ Fault.Schema) × IfOk result (λ _. ⊥) }
 {
     if !any_there(conn.schema()) {
         return match transactions::make(conn) {

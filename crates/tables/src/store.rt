@@ -5,7 +5,7 @@ ghost use Rattle.sqlite.specs.State.{HasCleanDisk, KeepsCommit};
 ghost use Rattle.tables.specs.Stores.{records_of, IsSoundStore};
 ghost use Rattle.statements.specs.Making.{version_in, KeepsTables};
 ghost use Rattle.statements.specs.Tables.{Tables, Holds};
-ghost use Rattle.tables.specs.KeepStores.{IsSoundKeep, any_there, IsOther};
+ghost use Rattle.tables.specs.KeepStores.{IsSoundKeep, any_there, all_there, IsOther};
 
 use crate::commands;
 use crate::opening::{Fault, ready};
@@ -70,6 +70,8 @@ impl<S: Alter> SqlKeep<S> {
         ensures back { IfErr result (λ unopened. HasCleanDisk (state S.Store unopened.conn) → KeepsCommit (state S.Store conn) (state S.Store unopened.conn)) }
         ensures other { IfErr result (λ unopened. HasCleanDisk (state S.Store unopened.conn) → unopened.fault ≡ Fault.Schema
             → (any_there (state S.Store conn).now.schema ≡ true) × IsOther (state S.Store conn)) }
+        ensures missing { any_there (state S.Store conn).now.schema ≡ true → all_there (state S.Store conn).now.schema ≡ false
+            → IfErr result (λ unopened. unopened.fault ≡ Fault.Schema) × IfOk result (λ _. ⊥) }
         ensures idle { IfErr result (λ unopened. unopened.conn.in_transaction ≡ false) }
     {
         match ready(&mut conn) {
