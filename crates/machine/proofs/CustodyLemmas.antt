@@ -1,21 +1,31 @@
 -- Custody: writes under a lock carry its ID, a lock holds until it is released, and repeats change nothing.
-use Rattle.std.proofs.Common.{◌≡◌, ◌⊎◌, inl, inr, ℕ, zero, suc, ◌-◌, ◌≤◌, Bool, true, false, cond, List, [], ◌∷◌, ◌++◌, length, drop, Option, Some, None, IsSome, refl, sym, ap, subst, ◌∙◌, arith, length-append}
+use Rattle.std.proofs.Common.{◌≡◌, ◌⊎◌, inl, inr, ℕ, zero, suc, ◌-◌, ◌≤◌, Bool, true, false, cond, List, [], ◌∷◌, ◌++◌, length, drop, Option, Some, None, option_map, is_some, IsSome, nat_lt, refl, sym, ap, subst, ◌∙◌, arith, length-append, eq-eqb}
 use Rattle.std.specs.Str.{bytes_eq}
 use Rattle.std.proofs.lemmas.Slice.Eq.{bytes_eq-Decides}
 use Rattle.basis.specs.declared.refusals.Refusal.{Refusal}
 use Rattle.basis.specs.declared.rows.Settings.{Settings}
 use Rattle.basis.specs.declared.rows.StateHead.{StateHead}
-use Rattle.machine.specs.Workspaces.{newest, new_workspace, holder_status, max_versions}
+use Rattle.machine.specs.Workspaces.{newest, new_workspace, holder_status, max_versions, max_open_runs, run_of, keyed_run, open_runs}
+use Rattle.machine.specs.RunSteps.{is_last}
+use Rattle.machine.specs.Inner.Decisions.{begun_by}
+use Rattle.machine.proofs.LawLemmas.{number_left-is}
+use Rattle.machine.proofs.StepLemmas.{same_action}
+use Rattle.machine.proofs.RunLemmas.{run_of-number, run_of-map, run_of-started, keyed-push, keyed-started}
+use Rattle.machine.proofs.RunRulings.{IsMade, IsReported, comes_to, make_comes, report_comes}
+use Rattle.basis.specs.declared.rows.RunAsk.{RunAsk}
+use Rattle.basis.specs.declared.runs.RunStatus.{RunStatus}
+use Rattle.basis.specs.declared.runs.RunAction.{RunAction}
+use Rattle.machine.specs.declared.records.Run.{Run}
 use Rattle.machine.specs.Writing.{may_write}
 use Rattle.machine.specs.Settling.{first_waiting, to_start, started, started_if, settled}
 use Rattle.machine.specs.Succession.{Succession, first, same, other_lineage, old_serial, next, succession}
-use Rattle.machine.specs.Rules.{Outcome, refused, Ruling, rules_missing, done, rules, refused_by, by_may_write, by_succession, numbered_update, number_left, with_version, with_settings, done_with, done_already, purge, purged, lock, locked, unlock, released, is_released, force_unlock}
+use Rattle.machine.specs.Rules.{Outcome, refused, Ruling, rules_missing, done, rules, refused_by, by_may_write, by_succession, numbered_update, number_left, with_version, with_settings, done_with, done_already, purge, purged, lock, locked, unlock, released, is_released, force_unlock, new_run, with_run, numbered_run, make_run, reported, frees, with_report, report}
 use Rattle.machine.specs.Custody.{VersionsChangeByTheId, HoldsUntilReleased, LockedWorkspacesStay, RepeatsChangeNothing, IsRefusal}
 use Rattle.machine.specs.Records.{Seen, missing, there}
 use Rattle.machine.specs.Effects.{effect}
 use Rattle.machine.proofs.MissingLemmas.{IsPut, Misses, put_or_missed}
 use Rattle.machine.specs.declared.acts.Act.{Act}
-use Rattle.machine.specs.declared.acts.Act.TheVariants.{PutWorkspace, ReadWorkspace, UpdateState, ReadState, PurgeState, Lock as LockAct, Unlock, ForceUnlock}
+use Rattle.machine.specs.declared.acts.Act.TheVariants.{PutWorkspace, ReadWorkspace, UpdateState, ReadState, PurgeState, Lock as LockAct, Unlock, ForceUnlock, MakeRun, ReadRun, ReportRun}
 use Rattle.machine.specs.declared.records.Holder.{Holder}
 use Rattle.machine.specs.declared.records.Holder.TheVariants.{Nobody, Lock, Run as HoldingRun}
 use Rattle.machine.specs.declared.records.Version.{Version}
@@ -197,6 +207,84 @@ force_again : (now later : ℕ) (w : Workspace) → Unlocks w (rules ForceUnlock
 force_again now later w (inl h) = again ForceUnlock now later w w h h
 force_again now later w (inr h) = again ForceUnlock now later w (settled (released h.0 w)) h.1 (forced_once w h.0 (first_waiting w.runs))
 
+-- a run that was made with a key: it is told again
+keyed_once : (ask : RunAsk) (later : ℕ) (v : Workspace) (o : Option Run) → is_some o ≡ true → (make_run o v ask later).left ≡ Some v
+keyed_once ask later v None is = absurd (let none : ⊥ = cc in none)
+keyed_once ask later v (Some r) is = refl
+
+kept_some : (start : Option ℕ) (o : Option Run) → is_some o ≡ true → is_some (option_map (begun_by start) o) ≡ true
+kept_some start None is = absurd (let none : ⊥ = cc in none)
+kept_some start (Some r) is = refl
+
+key_is_there : (key : List ℕ) (w : Workspace) (r : Run) → r.key ≡ Some key → is_some (keyed_run (Some key) (settled (with_run r w)).runs) ≡ true
+key_is_there key w r e =
+    let u : Workspace = with_run r w in
+    let start : Option ℕ = to_start u.holder (first_waiting u.runs) in
+    ap (λ (o : Option Run). is_some o) (keyed-started start key u) ∙ kept_some start (keyed_run (Some key) u.runs) (keyed-push key w.runs r e)
+
+-- nothing was made for want of room: nothing is made later
+refused_once : (ask : RunAsk) (now later : ℕ) (w : Workspace) (o : Option Run) → (make_run o w ask now).left ≡ Some w → ((n : ℕ) → number_left w.next_run ≡ Some n → (settled (with_run (new_run n ask now) w)).next_run ≡ w.next_run → ⊥)
+    → (make_run o w ask later).left ≡ Some w
+refused_once ask now later w (Some r) e grows = refl
+refused_once ask now later w None e grows = chosen (nat_lt (open_runs w.runs) max_open_runs) e
+  where
+    one_left : (u v : Workspace) → Some u ≡ Some v → u ≡ v
+    one_left u v e = cc
+
+    numbered : (m : Option ℕ) → number_left w.next_run ≡ m → (numbered_run m w ask now).left ≡ Some w → (numbered_run m w ask later).left ≡ Some w
+    numbered None left e = refl
+    numbered (Some n) left e = absurd (grows n left (ap (λ (x : Workspace). x.next_run) (one_left (settled (with_run (new_run n ask now) w)) w e)))
+
+    chosen : (b : Bool) → (cond b (numbered_run (number_left w.next_run) w ask now) (effect (refused Refusal.OverLimit) (Some w))).left ≡ Some w
+        → (cond b (numbered_run (number_left w.next_run) w ask later) (effect (refused Refusal.OverLimit) (Some w))).left ≡ Some w
+    chosen true e = numbered (number_left w.next_run) refl e
+    chosen false e = refl
+
+next_run_of : (o : Option ℕ) (u : Workspace) → (started_if o u).next_run ≡ u.next_run
+next_run_of None u = refl
+next_run_of (Some n) u = refl
+
+settled_next_run : (u : Workspace) → (settled u).next_run ≡ u.next_run
+settled_next_run u = next_run_of (to_start u.holder (first_waiting u.runs)) u
+
+make_grows : (ask : RunAsk) (now : ℕ) (w : Workspace) (n : ℕ) → number_left w.next_run ≡ Some n → (settled (with_run (new_run n ask now) w)).next_run ≡ w.next_run → ⊥
+make_grows ask now w n left stays = omega (arith, (number_left-is w.next_run n left).0, settled_next_run (with_run (new_run n ask now) w), stays)
+
+make_again : (ask : RunAsk) (key : List ℕ) (now later : ℕ) (w : Workspace) → ask.key ≡ Some key → Again (MakeRun ask) now later w
+make_again ask key now later w e = by_becoming (comes_to (make_comes w ask now))
+  where
+    by_becoming : ((rules (MakeRun ask) now (there w)).left ≡ Some w) ⊎ (v : Workspace) × IsMade w ask now v × ((rules (MakeRun ask) now (there w)).left ≡ Some (settled v)) → Again (MakeRun ask) now later w
+    by_becoming (inl h) = again (MakeRun ask) now later w w h (refused_once ask now later w (keyed_run ask.key w.runs) h (make_grows ask now w))
+    by_becoming (inr h) =
+        let u : Workspace = settled (with_run (new_run h.1.0 ask now) w) in
+        let was : settled h.0 ≡ u = ap settled h.1.2 in
+        again (MakeRun ask) now later w u (h.2 ∙ ap Some was)
+        (keyed_once ask later u (keyed_run ask.key u.runs) (subst (λ (k : Option (List ℕ)). is_some (keyed_run k u.runs) ≡ true) (sym e) (key_is_there key w (new_run h.1.0 ask now) e)))
+
+-- an action that was taken is answered again
+report_again : (n : ℕ) (action : RunAction) (now later : ℕ) (w : Workspace) → Again (ReportRun n action) now later w
+report_again n action now later w = by_becoming (comes_to (report_comes w n action))
+  where
+    taken : (start : Option ℕ) (status : RunStatus) (x : Run) → run_of n w.runs ≡ Some x → run_of n (started_if start (with_report n action status w)).runs ≡ Some (begun_by start (reported n action status x))
+    taken start status x e =
+        run_of-started start n (with_report n action status w) ∙ ap (option_map (begun_by start)) (run_of-map (reported n action status) (λ y. refl) n w.runs ∙ ap (option_map (reported n action status)) e)
+
+    last : (start : Option ℕ) (status : RunStatus) (x : Run) → run_of n w.runs ≡ Some x → is_last action (begun_by start (reported n action status x)).action ≡ true
+    last start status x e = rw (eq-eqb x.number n (run_of-number n w.runs x e)) (same_action action)
+
+    told_once : (v : Workspace) (x : Run) → run_of n v.runs ≡ Some x → is_last action x.action ≡ true → (report (run_of n v.runs) n action v).left ≡ Some v
+    told_once v x e is = rw (e, is) refl
+
+    by_becoming : ((rules (ReportRun n action) now (there w)).left ≡ Some w) ⊎ (v : Workspace) × IsReported w n action v × ((rules (ReportRun n action) now (there w)).left ≡ Some (settled v))
+        → Again (ReportRun n action) now later w
+    by_becoming (inl h) = again (ReportRun n action) now later w w h h
+    by_becoming (inr h) =
+        let is : IsReported w n action h.0 = h.1 in
+        let u : Workspace = with_report n action is.status w in
+        let start : Option ℕ = to_start u.holder (first_waiting u.runs) in
+        again (ReportRun n action) now later w (settled u) (h.2 ∙ ap Some (ap settled is.is))
+        (told_once (settled u) (begun_by start (reported n action is.status is.run)) (taken start is.status is.run is.there) (last start is.status is.run is.there))
+
 -- a workspace that was made by PUT
 made_again : (settings : Settings) (now later : ℕ) (v : Workspace) → (rules (PutWorkspace settings) now (missing true)).left ≡ Some v → (rules (PutWorkspace settings) later (there v)).left ≡ Some v
 made_again settings now later v e = let same_one : new_workspace settings ≡ v = cc e in subst (λ (x : Workspace). (rules (PutWorkspace settings) later (there x)).left ≡ Some x) same_one refl
@@ -224,6 +312,13 @@ repeats (PurgeState id) now later (there w) v may e = purge_again id now later w
 repeats (LockAct id text) now later (there w) v may e = lock_again id text now later w (lock_becomes id text w w.holder) v e
 repeats (Unlock id) now later (there w) v may e = unlock_again id now later w (unlock_becomes id w w.holder) v e
 repeats ForceUnlock now later (there w) v may e = force_again now later w (force_becomes w w.holder) v e
+repeats (MakeRun ask) now later (there w) v may e = by_key ask.key refl may
+  where
+    by_key : (k : Option (List ℕ)) → ask.key ≡ k → IsSome k → (rules (MakeRun ask) later (there v)).left ≡ Some v
+    by_key None at may = absurd (let none : ⊥ = cc in none)
+    by_key (Some key) at may = make_again ask key now later w at v e
+repeats (ReadRun n) now later (there w) v may e = refl
+repeats (ReportRun n action) now later (there w) v may e = report_again n action now later w v e
 
 -- while a lock holds, settling starts no run
 holder_stays : (u : Workspace) (held text : List ℕ) → u.holder ≡ Lock held text → (settled u).holder ≡ Lock held text
@@ -250,6 +345,11 @@ purge_held : (w v : Workspace) (held text : List ℕ) (after : Option Workspace)
 purge_held w v held text after lock (inl h) e = holder_of_same w v held text (sym h ∙ e) lock
 purge_held w v held text after lock (inr h) e = holder_of_same (settled (purged w)) v held text (sym h ∙ e) (holder_stays (purged w) held text lock)
 
+run_held : (w v : Workspace) (held text : List ℕ) (changed : Workspace → Type 0) (after : Option Workspace) → ((u : Workspace) → changed u → u.holder ≡ Lock held text)
+    → w.holder ≡ Lock held text → after ≡ Some v → (after ≡ Some w) ⊎ (u : Workspace) × changed u × (after ≡ Some (settled u)) → v.holder ≡ Lock held text
+run_held w v held text changed after keeps lock e (inl h) = holder_of_same w v held text (sym h ∙ e) lock
+run_held w v held text changed after keeps lock e (inr h) = holder_of_same (settled h.0) v held text (sym h.2 ∙ e) (holder_stays h.0 held text (keeps h.0 h.1))
+
 pub holds_until_released : HoldsUntilReleased
 holds_until_released (PutWorkspace settings) now w v held text e h =
     let u : Workspace = with_settings w settings in
@@ -266,6 +366,10 @@ holds_until_released (LockAct id t) now w v held text e h =
 holds_until_released (Unlock id) now w v held text e h =
     unlocked_or_held id w v held text (bytes_eq id held) refl e (subst (λ (x : Holder). (unlock x id w).left ≡ Some v) e h)
 holds_until_released ForceUnlock now w v held text e h = inr tt
+holds_until_released (MakeRun ask) now w v held text e h = inl (run_held w v held text (IsMade w ask now) _ (λ u is. ap (λ (x : Workspace). x.holder) is.2 ∙ e) e h (comes_to (make_comes w ask now)))
+holds_until_released (ReadRun n) now w v held text e h = inl (holder_of_same w v held text h e)
+holds_until_released (ReportRun n action) now w v held text e h =
+    inl (run_held w v held text (IsReported w n action) _ (λ u is. ap (λ (x : Workspace). x.holder) is.is ∙ ap (λ (x : Holder). cond (frees n is.status x) Nobody x) e) e h (comes_to (report_comes w n action)))
 
 -- versions of a workspace that stays, or that only settles
 versions_of_same : (u w v : Workspace) → Some u ≡ Some v → u.versions ≡ w.versions → v.versions ≡ w.versions
@@ -290,6 +394,11 @@ unlocked_versions w v held true c o e = versions_of_same (settled (released held
 unlocked_versions w v held false true o e = versions_of_same w w v e refl
 unlocked_versions w v held false false o e = versions_of_same w w v e refl
 
+run_versions : (w v : Workspace) (changed : Workspace → Type 0) (after : Option Workspace) → ((u : Workspace) → changed u → u.versions ≡ w.versions) → after ≡ Some v
+    → (after ≡ Some w) ⊎ (u : Workspace) × changed u × (after ≡ Some (settled u)) → v.versions ≡ w.versions
+run_versions w v changed after keeps e (inl h) = versions_of_same w w v (sym h ∙ e) refl
+run_versions w v changed after keeps e (inr h) = versions_of_same (settled h.0) w v (sym h.2 ∙ e) (settled_versions h.0 ∙ keeps h.0 h.1)
+
 pub versions_change_by_the_id : VersionsChangeByTheId
 versions_change_by_the_id (PutWorkspace settings) now w v held text lock e =
     inl (versions_of_same (settled (with_settings w settings)) w v e (settled_versions (with_settings w settings)))
@@ -309,6 +418,12 @@ versions_change_by_the_id (Unlock id) now w v held text e h =
 versions_change_by_the_id ForceUnlock now w v held text e h =
     inl (versions_of_same (settled (released held w)) w v (subst (λ (x : Holder). (force_unlock x w).left ≡ Some v) e h) (settled_versions (released held w)))
 
+versions_change_by_the_id (MakeRun ask) now w v held text e h =
+    inl (run_versions w v (IsMade w ask now) _ (λ u is. ap (λ (x : Workspace). x.versions) is.2) h (comes_to (make_comes w ask now)))
+versions_change_by_the_id (ReadRun n) now w v held text e h = inl (versions_of_same w w v h refl)
+versions_change_by_the_id (ReportRun n action) now w v held text e h =
+    inl (run_versions w v (IsReported w n action) _ (λ u is. ap (λ (x : Workspace). x.versions) is.is) h (comes_to (report_comes w n action)))
+
 -- no act takes a workspace away that a lock holds
 some_after : (w : Workspace) (after : ℕ → Option Workspace) (head : StateHead) (text : List ℕ) (now : ℕ) → Becomes head text w after → IsSome (after now)
 some_after w after head text now (inl h) = rw (h now) refl
@@ -322,6 +437,10 @@ some_unlocked : (w : Workspace) (after : Option Workspace) → Unlocks w after �
 some_unlocked w after (inl h) = rw h refl
 some_unlocked w after (inr h) = rw h.1 refl
 
+some_after_run : (w : Workspace) (changed : Workspace → Type 0) (after : Option Workspace) → (after ≡ Some w) ⊎ (u : Workspace) × changed u × (after ≡ Some (settled u)) → IsSome after
+some_after_run w changed after (inl h) = rw h refl
+some_after_run w changed after (inr h) = rw h.2 refl
+
 pub workspaces_stay : (act : Act) (now : ℕ) (w : Workspace) → IsSome (rules act now (there w)).left
 workspaces_stay (PutWorkspace settings) now w = refl
 workspaces_stay (UpdateState head state id) now w =
@@ -333,6 +452,9 @@ workspaces_stay (PurgeState id) now w =
 workspaces_stay (LockAct id t) now w = some_of_two w (locked id t w) (rules (LockAct id t) now (there w)).left (lock_becomes id t w w.holder)
 workspaces_stay (Unlock id) now w = some_unlocked w (rules (Unlock id) now (there w)).left (unlock_becomes id w w.holder)
 workspaces_stay ForceUnlock now w = some_unlocked w (rules ForceUnlock now (there w)).left (force_becomes w w.holder)
+workspaces_stay (MakeRun ask) now w = some_after_run w (IsMade w ask now) (rules (MakeRun ask) now (there w)).left (comes_to (make_comes w ask now))
+workspaces_stay (ReadRun n) now w = refl
+workspaces_stay (ReportRun n action) now w = some_after_run w (IsReported w n action) (rules (ReportRun n action) now (there w)).left (comes_to (report_comes w n action))
 
 pub locked_workspaces_stay : LockedWorkspacesStay
 locked_workspaces_stay act now w held text e = workspaces_stay act now w

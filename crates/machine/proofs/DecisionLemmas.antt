@@ -2,32 +2,43 @@
 use Rattle.std.specs.FinMap.{get}
 use Rattle.basis.specs.declared.rows.Settings.{Settings}
 use Rattle.machine.specs.declared.records.Organization.{Organization}
-use Rattle.std.proofs.Common.{◌≡◌, ◌⊎◌, inl, inr, ℕ, ◌+◌, ◌-◌, ◌==◌, nat_lt, Bool, true, false, cond, List, [], ◌∷◌, ◌++◌, drop, Option, Some, None, option_map, Result, Ok, Err, IfOk, refl, sym, ap, subst, ◌∙◌, length-append, eq-eqb}
+use Rattle.std.proofs.Common.{◌≡◌, ◌⊎◌, inl, inr, ℕ, ◌+◌, ◌-◌, ◌==◌, nat_lt, Bool, true, false, not, ◌&&◌, cond, List, [], ◌∷◌, ◌++◌, drop, map, Option, Some, None, option_map, Result, Ok, Err, IfOk, refl, sym, ap, subst, ◌∙◌, length-append, eq-eqb, eqb-true}
+use Rattle.std.specs.Option.{option_or}
+use Rattle.std.specs.List.{AllByRecursion}
 use Rattle.std.specs.Str.{bytes_eq}
 use Rattle.basis.specs.declared.refusals.Refusal.{Refusal}
 use Rattle.basis.specs.declared.rows.StateHead.{StateHead}
-use Rattle.machine.specs.Workspaces.{newest, holder_status}
+use Rattle.machine.specs.Workspaces.{max_open_runs, newest, holder_status, run_of, keyed_run, open_runs}
 use Rattle.machine.specs.Writing.{may_write}
 use Rattle.machine.specs.Succession.{after_newest, lineages_differ, same, other_lineage, old_serial, next}
-use Rattle.machine.specs.Rules.{holder_id, rules, done, by_may_write, by_succession, numbered_update, number_left, state_answer, workspace, with_settings, purge, lock, unlock, force_unlock, is_released, released, done_with, done_already, refused_by, shown_of, rules_there, rules_missing, Ruling}
-use Rattle.machine.specs.Settling.{first_waiting, to_start, started_if}
+use Rattle.machine.specs.Rules.{holder_id, rules, done, by_may_write, by_succession, numbered_update, number_left, state_answer, workspace, refused, the_run, run_answer, told_with, told_already, new_run, with_run, numbered_run, make_run, reported, frees, with_report, by_step, report, with_settings, purge, lock, unlock, force_unlock, is_released, released, done_with, done_already, refused_by, shown_of, rules_there, rules_missing, Ruling}
+use Rattle.machine.specs.Settling.{is_waiting, first_waiting, to_start, started_if}
+use Rattle.machine.specs.RunSteps.{next_status, is_last}
+use Rattle.machine.proofs.StepLemmas.{never_pending, pending_idle}
+use Rattle.machine.proofs.LawLemmas.{number_left-is, none_waits}
+use Rattle.machine.proofs.RunLemmas.{run_of-number, run_of-map, run_of-started, run_of-push, none_numbered, first_waiting-push, first_waiting-map}
+use Rattle.basis.specs.Runs.{is_open}
+use Rattle.basis.specs.declared.rows.RunAsk.{RunAsk}
+use Rattle.basis.specs.declared.runs.RunStatus.{RunStatus}
+use Rattle.basis.specs.declared.runs.RunAction.{RunAction}
 use Rattle.machine.specs.Units.{unit_of, workspace_unit, newest_unit, version_of, unit_by}
 use Rattle.machine.specs.declared.acts.Act.{Act}
-use Rattle.machine.specs.declared.acts.Act.TheVariants.{PutWorkspace, ReadWorkspace, UpdateState, ReadState, PurgeState, Lock as LockAct, Unlock, ForceUnlock}
+use Rattle.machine.specs.declared.acts.Act.TheVariants.{PutWorkspace, ReadWorkspace, UpdateState, ReadState, PurgeState, Lock as LockAct, Unlock, ForceUnlock, MakeRun, ReadRun, ReportRun}
 use Rattle.machine.specs.declared.acts.Decision.{Decision}
 use Rattle.machine.specs.declared.acts.Decision.TheVariants.{Refused, Accepted}
-use Rattle.machine.specs.declared.acts.Answer.TheVariants.{Done}
+use Rattle.machine.specs.declared.acts.Answer.TheVariants.{Done, Run as ShownRun}
 use Rattle.machine.specs.declared.acts.Edit.TheVariants.{Release}
 use Rattle.machine.specs.declared.records.Holder.{Holder}
 use Rattle.machine.specs.declared.records.Holder.TheVariants.{Nobody, Lock, Run}
 use Rattle.machine.specs.declared.acts.Newest.{Newest}
+use Rattle.machine.specs.declared.records.Run.{Run as AnyRun}
 use Rattle.machine.specs.declared.records.Version.{Version}
 use Rattle.machine.specs.declared.records.Workspace.{Workspace}
 use Rattle.machine.specs.declared.acts.Unit.{Unit as AnyUnit}
-use Rattle.machine.proofs.LawLemmas.{rules_are_lawful}
+use Rattle.machine.proofs.RuleLemmas.{rules_are_lawful}
 use Rattle.machine.specs.Effects.{effect}
-use Rattle.machine.specs.Inner.Decisions.{decision_of, decided_update, decided_after, decided_version, decided_number, decided_read, decided_purge, decided_lock, decided_unlock, decided_force, changing, holder_after, meaning, Meets, ChangeIsDue, decision_missing}
-use Rattle.machine.specs.Laws.{IsLawfulOrganization}
+use Rattle.machine.specs.Inner.Decisions.{decision_of, decided_update, decided_after, decided_version, decided_number, decided_read, decided_purge, decided_lock, decided_unlock, decided_force, decided_number_of_run, decided_make, decided_read_run, decided_step, decided_report, start_freed, begun_by, acted, changing, holder_after, meaning, Meets, ChangeIsDue, decision_missing}
+use Rattle.machine.specs.Laws.{IsRun, IsLawful, IsLawfulIfThere, IsLawfulOrganization, is_pending}
 use Rattle.machine.specs.Records.{Seen, seen_by, standing, count_of, seen_in}
 use Rattle.machine.specs.Ranges.{IsInRange, IsMoment}
 use Rattle.machine.proofs.MissingLemmas.{IsPut, Misses, put_or_missed}
@@ -125,15 +136,123 @@ shown_model : (w : Workspace) (o : Option Version) → newest w.versions ≡ o
 shown_model w None e = rw e refl
 shown_model w (Some v) e = rw e refl
 
-there_model : (o : Organization) (w : Workspace) (act : Act) (now : ℕ) → meaning (decision_of (unit_by o act (Some w)) act now) (Some w) ≡ rules_there act now w
-there_model o w (PutWorkspace settings) now = put_model w settings (newest w.versions) (to_start w.holder (first_waiting w.runs)) refl
-there_model o w ReadWorkspace now = shown_model w (newest w.versions) refl
-there_model o w (UpdateState head text id) now = update_model w head text id now (may_write w.holder (holder_status w.holder w.runs) id)
-there_model o w ReadState now = read_model w (newest w.versions) refl
-there_model o w (PurgeState id) now = purge_model w id (may_write w.holder (holder_status w.holder w.runs) id)
-there_model o w (LockAct id text) now = lock_model id text w w.holder
-there_model o w (Unlock id) now = unlock_model id w w.holder
-there_model o w ForceUnlock now = force_model w w.holder
+-- a run more: it is told as it is once one has started
+added_model : (w : Workspace) (ask : RunAsk) (now n : ℕ) → run_of n w.runs ≡ None
+    → meaning (decided_number_of_run (Some n) (workspace_unit (MakeRun ask) w) ask now) (Some w) ≡ told_with n (with_run (new_run n ask now) w)
+added_model w ask now n none =
+    let r : AnyRun = new_run n ask now in
+    let v : Workspace = with_run r w in
+    let start : Option ℕ = to_start w.holder (option_or (first_waiting w.runs) (cond (is_waiting r) (Some n) None)) in
+    subst (λ (f : Option ℕ). effect (the_run (begun_by start r)) (Some (started_if start v)) ≡ effect (run_answer (run_of n (started_if (to_start w.holder f) v).runs)) (Some (started_if (to_start w.holder f) v)))
+    (sym (first_waiting-push w.runs r))
+    (ap (λ (o : Option AnyRun). effect (run_answer o) (Some (started_if start v))) (sym (run_of-started start n v ∙ ap (option_map (begun_by start)) (run_of-push n w.runs r none refl))))
+
+make_model : (w : Workspace) (ask : RunAsk) (now : ℕ) → IsLawful w → (o : Option AnyRun)
+    → meaning (decided_make o (workspace_unit (MakeRun ask) w) ask now) (Some w) ≡ make_run o w ask now
+make_model w ask now lawful (Some r) = refl
+make_model w ask now lawful None = chosen (nat_lt (open_runs w.runs) max_open_runs)
+  where
+    numbered : (m : Option ℕ) → number_left w.next_run ≡ m → meaning (decided_number_of_run m (workspace_unit (MakeRun ask) w) ask now) (Some w) ≡ numbered_run m w ask now
+    numbered None e = refl
+    numbered (Some n) e =
+        added_model w ask now n (ap (λ (k : ℕ). run_of k w.runs) (number_left-is w.next_run n e).0 ∙ none_numbered 0 w.runs w.next_run lawful.runs.rise)
+
+    chosen : (b : Bool) → meaning (cond b (decided_number_of_run (number_left w.next_run) (workspace_unit (MakeRun ask) w) ask now) (Refused Refusal.OverLimit)) (Some w)
+        ≡ cond b (numbered_run (number_left w.next_run) w ask now) (effect (refused Refusal.OverLimit) (Some w))
+    chosen true = numbered (number_left w.next_run) refl
+    chosen false = refl
+
+read_run_model : (w : Workspace) (o : Option AnyRun) → meaning (decided_read_run o) (Some w) ≡ effect (run_answer o) (Some w)
+read_run_model w None = refl
+read_run_model w (Some r) = refl
+
+-- who waits once a run has taken an action: nobody where nobody held, and the same ones where it held
+waits_after : (w : Workspace) (n : ℕ) (action : RunAction) (status : RunStatus) (r : AnyRun) → next_status r.plan_only w.auto_apply r.status action ≡ Some status → IsLawful w
+    → (h : Holder) → w.holder ≡ h
+    → start_freed (frees n status h) (workspace_unit (ReportRun n action) w) ≡ to_start (cond (frees n status h) Nobody h) (first_waiting (map (reported n action status) w.runs))
+waits_after w n action status r leads lawful Nobody e =
+    sym (first_waiting-map (reported n action status) (λ x. refl) w.runs (as_before w.runs (subst (λ (h : Holder). AllByRecursion (IsRun h) w.runs) e lawful.runs.each))
+    ∙ none_waits Nobody w.runs refl (subst (λ (h : Holder). AllByRecursion (IsRun h) w.runs) e lawful.runs.each))
+  where
+    one : (x : AnyRun) → IsRun Nobody x → (b : Bool) → is_waiting (record x { status = cond b status x.status }) ≡ is_waiting x
+    one x is true = idle_after (is_pending x.status) refl
+      where
+        idle_after : (c : Bool) → is_pending x.status ≡ c → (is_pending status && not x.plan_only) ≡ (is_pending x.status && not x.plan_only)
+        idle_after true p = absurd (let none : ⊥ = cc (is.waiting p).1 in none)
+        idle_after false p = rw (never_pending r.plan_only w.auto_apply r.status action status leads, p) refl
+    one x is false = refl
+
+    as_before : (l : List AnyRun) → AllByRecursion (IsRun Nobody) l → AllByRecursion (λ (x : AnyRun). is_waiting (reported n action status x) ≡ is_waiting x) l
+    as_before [] all = tt
+    as_before (x ∷ l) all = (one x all.0 (x.number == n), as_before l all.1)
+waits_after w n action status r leads lawful (Lock id text) e = refl
+waits_after w n action status r leads lawful (Run m) e = by_end (m == n) refl (is_open status)
+  where
+    each : AllByRecursion (IsRun (Run m)) w.runs
+    each = subst (λ (h : Holder). AllByRecursion (IsRun h) w.runs) e lawful.runs.each
+
+    -- the run that holds is active, so it doesn't wait
+    held_idle : (x : AnyRun) → IsRun (Run m) x → m ≡ x.number → (c d : Bool) → x.plan_only ≡ c → is_pending x.status ≡ d → (d && not c) ≡ false
+    held_idle x is at true d k p = idle_kind d
+      where
+        idle_kind : (d : Bool) → (d && not true) ≡ false
+        idle_kind true = refl
+        idle_kind false = refl
+    held_idle x is at false true k p = absurd (let none : ⊥ = cc (sym (pending_idle x.status p) ∙ is.active k ∙ eq-eqb m x.number at) in none)
+    held_idle x is at false false k p = refl
+
+    one : (x : AnyRun) → IsRun (Run m) x → m ≡ n → (b : Bool) → (x.number == n) ≡ b → is_waiting (record x { status = cond b status x.status }) ≡ is_waiting x
+    one x is at true t =
+        (rw (never_pending r.plan_only w.auto_apply r.status action status leads) refl)
+        ∙ sym (held_idle x is (at ∙ sym (eqb-true x.number n t)) x.plan_only (is_pending x.status) refl refl)
+    one x is at false t = refl
+
+    as_before : m ≡ n → (l : List AnyRun) → AllByRecursion (IsRun (Run m)) l → AllByRecursion (λ (x : AnyRun). is_waiting (reported n action status x) ≡ is_waiting x) l
+    as_before at [] all = tt
+    as_before at (x ∷ l) all = (one x all.0 at (x.number == n) refl, as_before at l all.1)
+
+    by_end : (b : Bool) → (m == n) ≡ b → (c : Bool)
+        → cond (b && not c) (first_waiting w.runs) None ≡ to_start (cond (b && not c) Nobody (Run m)) (first_waiting (map (reported n action status) w.runs))
+    by_end true t true = refl
+    by_end true t false = sym (first_waiting-map (reported n action status) (λ x. refl) w.runs (as_before (eqb-true m n t) w.runs each))
+    by_end false t c = refl
+
+step_model : (w : Workspace) (n : ℕ) (action : RunAction) (r : AnyRun) → IsLawful w → run_of n w.runs ≡ Some r → (m : Option RunStatus) → next_status r.plan_only w.auto_apply r.status action ≡ m
+    → meaning (decided_step m (workspace_unit (ReportRun n action) w) r n action) (Some w) ≡ by_step m n action w
+step_model w n action r lawful there None leads = refl
+step_model w n action r lawful there (Some status) leads =
+    let v : Workspace = with_report n action status w in
+    let start : Option ℕ = start_freed (frees n status w.holder) (workspace_unit (ReportRun n action) w) in
+    subst (λ (s : Option ℕ). effect (the_run (begun_by start (acted action status r))) (Some (started_if start v)) ≡ effect (run_answer (run_of n (started_if s v).runs)) (Some (started_if s v)))
+    (waits_after w n action status r leads lawful w.holder refl)
+    (ap (λ (o : Option AnyRun). effect (run_answer o) (Some (started_if start v)))
+    (sym (run_of-started start n v ∙ ap (option_map (begun_by start)) (run_of-map (reported n action status) (λ x. refl) n w.runs ∙ ap (option_map (reported n action status)) there ∙ ap Some own))))
+  where
+    own : reported n action status r ≡ acted action status r
+    own = rw (eq-eqb r.number n (run_of-number n w.runs r there)) refl
+
+report_model : (w : Workspace) (n : ℕ) (action : RunAction) → IsLawful w → (o : Option AnyRun) → run_of n w.runs ≡ o
+    → meaning (decided_report o (workspace_unit (ReportRun n action) w) n action) (Some w) ≡ report o n action w
+report_model w n action lawful None there = refl
+report_model w n action lawful (Some r) there = chosen (is_last action r.action)
+  where
+    chosen : (b : Bool) → meaning (cond b (Accepted (ShownRun r) None) (decided_step (next_status r.plan_only w.auto_apply r.status action) (workspace_unit (ReportRun n action) w) r n action)) (Some w)
+        ≡ cond b (told_already r w) (by_step (next_status r.plan_only w.auto_apply r.status action) n action w)
+    chosen true = refl
+    chosen false = step_model w n action r lawful there (next_status r.plan_only w.auto_apply r.status action) refl
+
+there_model : (o : Organization) (w : Workspace) (act : Act) (now : ℕ) → IsLawful w → meaning (decision_of (unit_by o act (Some w)) act now) (Some w) ≡ rules_there act now w
+there_model o w (PutWorkspace settings) now lawful = put_model w settings (newest w.versions) (to_start w.holder (first_waiting w.runs)) refl
+there_model o w ReadWorkspace now lawful = shown_model w (newest w.versions) refl
+there_model o w (UpdateState head text id) now lawful = update_model w head text id now (may_write w.holder (holder_status w.holder w.runs) id)
+there_model o w ReadState now lawful = read_model w (newest w.versions) refl
+there_model o w (PurgeState id) now lawful = purge_model w id (may_write w.holder (holder_status w.holder w.runs) id)
+there_model o w (LockAct id text) now lawful = lock_model id text w w.holder
+there_model o w (Unlock id) now lawful = unlock_model id w w.holder
+there_model o w ForceUnlock now lawful = force_model w w.holder
+there_model o w (MakeRun ask) now lawful = make_model w ask now lawful (keyed_run ask.key w.runs)
+there_model o w (ReadRun n) now lawful = read_run_model w (run_of n w.runs)
+there_model o w (ReportRun n action) now lawful = report_model w n action lawful (run_of n w.runs) refl
 
 missing_model : (act : Act) (room : Bool) → meaning (decision_missing act room) None ≡ rules_missing act room
 missing_model act room = by_act (put_or_missed act)
@@ -146,10 +265,10 @@ missing_model act room = by_act (put_or_missed act)
     by_act (inl put) = subst (λ (a : Act). meaning (decision_missing a room) None ≡ rules_missing a room) (sym put.1) (made room put.0)
     by_act (inr misses) = ap (λ (d : Decision). meaning d None) (misses room).1 ∙ sym (misses room).0
 
-model : (o : Organization) (w : Option Workspace) (act : Act) (now : ℕ)
+model : (o : Organization) (w : Option Workspace) (act : Act) (now : ℕ) → IsLawfulIfThere w
     → meaning (decision_of (unit_by o act w) act now) (standing (seen_by (nat_lt (count_of o) o.limit) w)) ≡ rules act now (seen_by (nat_lt (count_of o) o.limit) w)
-model o None act now = missing_model act (nat_lt (count_of o) o.limit)
-model o (Some w) act now = there_model o w act now
+model o None act now lawful = missing_model act (nat_lt (count_of o) o.limit)
+model o (Some w) act now lawful = there_model o w act now lawful
 
 -- a change that means what the rules say is due
 due_from : (s : Seen) (act : Act) (now : ℕ) (d : Decision) → meaning d (standing s) ≡ rules act now s → IsInRange act → IsMoment now → ChangeIsDue s d
@@ -158,17 +277,22 @@ due_from s act now (Accepted answer None) e range moment = tt
 due_from s act now (Accepted answer (Some change)) e range moment =
     record { act = act; now = now; range = range; moment = moment; is = ap (λ (r : Ruling). r.left) e }
 
-meets : (o : Organization) (w : Option Workspace) (act : Act) (now : ℕ) → Meets (seen_by (nat_lt (count_of o) o.limit) w) act now (decision_of (unit_by o act w) act now)
-meets o w act now =
+meets : (o : Organization) (w : Option Workspace) (act : Act) (now : ℕ) → IsLawfulIfThere w → Meets (seen_by (nat_lt (count_of o) o.limit) w) act now (decision_of (unit_by o act w) act now)
+meets o w act now there =
     let s : Seen = seen_by (nat_lt (count_of o) o.limit) w in
     record {
-      model = model o w act now;
-      due = λ range moment. due_from s act now (decision_of (unit_by o act w) act now) (model o w act now) range moment;
+      model = model o w act now there;
+      due = λ range moment. due_from s act now (decision_of (unit_by o act w) act now) (model o w act now there) range moment;
       lawful = λ range moment lawful. rules_are_lawful act now s range moment lawful;
     }
+
+lawful_there : (o : Organization) (name : List ℕ) → IsLawfulOrganization o → (w : Option Workspace) → get o.workspaces name ≡ w → IsLawfulIfThere w
+lawful_there o name lawful None e = tt
+lawful_there o name lawful (Some w) e = (lawful.workspaces name w e).lawful
 
 pub met : {E : Type 0} (unit : AnyUnit) (act : Act) (now : ℕ) (r : Result Decision E) → IfOk r (λ d. d ≡ decision_of unit act now)
     → IfOk r (λ d. (o : Organization) (name : List ℕ) → IsLawfulOrganization o → unit ≡ unit_of o name act → Meets (seen_in o name) act now d)
 met unit act now (Ok d) h = λ o name lawful e.
-    subst (λ (x : Decision). Meets (seen_in o name) act now x) (ap (λ (u : AnyUnit). decision_of u act now) (sym e) ∙ sym h) (meets o (get o.workspaces name) act now)
+    let named : (w : Option Workspace) → get o.workspaces name ≡ w → IsLawfulIfThere w = lawful_there o name lawful in
+    subst (λ (x : Decision). Meets (seen_in o name) act now x) (ap (λ (u : AnyUnit). decision_of u act now) (sym e) ∙ sym h) (meets o (get o.workspaces name) act now (named (get o.workspaces name) refl))
 met unit act now (Err e) h = tt

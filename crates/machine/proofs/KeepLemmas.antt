@@ -22,7 +22,7 @@ use Rattle.machine.specs.declared.keeps.AdminAnswer.TheVariants.{Done, Exists, A
 use Rattle.machine.specs.declared.records.Token.{Token}
 use Rattle.machine.specs.declared.records.Workspace.{Workspace}
 use Rattle.machine.specs.declared.records.Organization.{Organization}
-use Rattle.machine.proofs.LawLemmas.{rules_are_lawful}
+use Rattle.machine.proofs.RuleLemmas.{rules_are_lawful}
 use Rattle.machine.proofs.MapLemmas.{get_own, get_other, removed_own, removed_other}
 
 -- names are the same or apart

@@ -23,7 +23,7 @@ use Rattle.machine.specs.declared.records.Run.{Run}
 use Rattle.basis.specs.Names.{is_free_id}
 use Rattle.std.specs.Str.{bytes_eq}
 use Rattle.machine.specs.declared.acts.Act.{Act}
-use Rattle.machine.specs.declared.acts.Act.TheVariants.{PutWorkspace, ReadWorkspace, UpdateState, ReadState, PurgeState, Lock as LockAct, Unlock, ForceUnlock}
+use Rattle.machine.specs.declared.acts.Act.TheVariants.{PutWorkspace, ReadWorkspace, UpdateState, ReadState, PurgeState, Lock as LockAct, Unlock, ForceUnlock, MakeRun, ReadRun, ReportRun}
 use Rattle.machine.specs.declared.records.Version.{Version}
 use Rattle.machine.specs.declared.records.Workspace.{Workspace}
 
@@ -83,7 +83,7 @@ version_is_lawful w n head text now e range moment lawful =
     }
 
 -- while the laws hold, nobody is to start
-none_waits : (holder : Holder) (runs : List Run) → is_nobody holder ≡ true → AllByRecursion (IsRun holder) runs → first_waiting runs ≡ None
+pub none_waits : (holder : Holder) (runs : List Run) → is_nobody holder ≡ true → AllByRecursion (IsRun holder) runs → first_waiting runs ≡ None
 none_waits holder [] nobody all = refl
 none_waits holder (r ∷ runs) nobody all = passed (is_pending r.status) r.plan_only refl (none_waits holder runs nobody all.1)
   where
@@ -91,16 +91,16 @@ none_waits holder (r ∷ runs) nobody all = passed (is_pending r.status) r.plan_
     passed true c e more = absurd (let no : ⊥ = cc (sym nobody ∙ (all.0.waiting e).1) in no)
     passed false c e more = more
 
-nobody_starts : (holder : Holder) (runs : List Run) → AllByRecursion (IsRun holder) runs → to_start holder (first_waiting runs) ≡ None
+pub nobody_starts : (holder : Holder) (runs : List Run) → AllByRecursion (IsRun holder) runs → to_start holder (first_waiting runs) ≡ None
 nobody_starts Nobody runs all = none_waits Nobody runs refl all
 nobody_starts (Lock id text) runs all = refl
 nobody_starts (HoldingRun n) runs all = refl
 
 -- so a lawful workspace has settled
-still_is_lawful : (w : Workspace) → IsLawful w → IsLawful (settled w)
+pub still_is_lawful : (w : Workspace) → IsLawful w → IsLawful (settled w)
 still_is_lawful w lawful = subst (λ (start : Option ℕ). IsLawful (started_if start w)) (sym (nobody_starts w.holder w.runs lawful.runs.each)) lawful
 
-purge_is_lawful : (m : Option Refusal) (w : Workspace) → IsLawful w → IsLawfulIfThere (purge m w).left
+pub purge_is_lawful : (m : Option Refusal) (w : Workspace) → IsLawful w → IsLawfulIfThere (purge m w).left
 purge_is_lawful (Some refusal) w lawful = lawful
 purge_is_lawful None w lawful = still_is_lawful (purged w) (record {
   versions = record { next = lawful.versions.next; rise = tt; each = tt; kept = omega arith };
@@ -109,7 +109,7 @@ purge_is_lawful None w lawful = still_is_lawful (purged w) (record {
 })
 
 -- under a lock the runs stand as they did under nobody
-under_lock : (id text : List ℕ) (runs : List Run) → AllByRecursion (IsRun Nobody) runs → AllByRecursion (IsRun (Lock id text)) runs
+pub under_lock : (id text : List ℕ) (runs : List Run) → AllByRecursion (IsRun Nobody) runs → AllByRecursion (IsRun (Lock id text)) runs
 under_lock id text [] all = tt
 under_lock id text (r ∷ runs) all = (
   record {
@@ -123,7 +123,7 @@ under_lock id text (r ∷ runs) all = (
   under_lock id text runs all.1,
 )
 
-lock_is_lawful : (h : Holder) (id text : List ℕ) (w : Workspace) → w.holder ≡ h → IsTrue (is_free_id id) → IsLawful w → IsLawfulIfThere (lock h id text w).left
+pub lock_is_lawful : (h : Holder) (id text : List ℕ) (w : Workspace) → w.holder ≡ h → IsTrue (is_free_id id) → IsLawful w → IsLawfulIfThere (lock h id text w).left
 lock_is_lawful Nobody id text w e range lawful = record {
   versions = lawful.versions;
   runs = record {
@@ -148,7 +148,7 @@ either_is_lawful : (b : Bool) (o : Outcome) (w : Workspace) → IsLawful w → I
 either_is_lawful true o w lawful = lawful
 either_is_lawful false o w lawful = lawful
 
-unlock_is_lawful : (h : Holder) (id : List ℕ) (w : Workspace) → w.holder ≡ h → IsLawful w → IsLawfulIfThere (unlock h id w).left
+pub unlock_is_lawful : (h : Holder) (id : List ℕ) (w : Workspace) → w.holder ≡ h → IsLawful w → IsLawfulIfThere (unlock h id w).left
 unlock_is_lawful Nobody id w e lawful = lawful
 unlock_is_lawful (Lock id_held text) id w e lawful = chosen (bytes_eq id id_held)
   where
@@ -157,7 +157,7 @@ unlock_is_lawful (Lock id_held text) id w e lawful = chosen (bytes_eq id id_held
     chosen false = either_is_lawful (is_released w.released id) (refused_by Refusal.Locked w.holder) w lawful
 unlock_is_lawful (HoldingRun n) id w e lawful = either_is_lawful (is_released w.released id) (refused Refusal.HeldByRun) w lawful
 
-force_is_lawful : (h : Holder) (w : Workspace) → w.holder ≡ h → IsLawful w → IsLawfulIfThere (force_unlock h w).left
+pub force_is_lawful : (h : Holder) (w : Workspace) → w.holder ≡ h → IsLawful w → IsLawfulIfThere (force_unlock h w).left
 force_is_lawful Nobody w e lawful = lawful
 force_is_lawful (Lock id_held text) w e lawful = release_is_lawful id_held text w e lawful
 force_is_lawful (HoldingRun n) w e lawful = lawful
@@ -175,30 +175,7 @@ succession_is_lawful w head text now other_lineage range moment lawful = lawful
 succession_is_lawful w head text now old_serial range moment lawful = lawful
 succession_is_lawful w head text now next range moment lawful = number_is_lawful w head text now (number_left w.next_version) refl range moment lawful
 
-update_is_lawful : (w : Workspace) (head : StateHead) (text : List ℕ) (now : ℕ) (m : Option Refusal)
+pub update_is_lawful : (w : Workspace) (head : StateHead) (text : List ℕ) (now : ℕ) (m : Option Refusal)
     → IsHead head → now ≤ 253_402_300_799 → IsLawful w → IsLawfulIfThere (by_may_write m w head text now).left
 update_is_lawful w head text now (Some refusal) range moment lawful = lawful
 update_is_lawful w head text now None range moment lawful = succession_is_lawful w head text now (succession w.versions text head) range moment lawful
-
-pub rules_are_lawful : (act : Act) (now : ℕ) (s : Seen) → IsInRange act → IsMoment now → IsLawfulIfThere (standing s) → IsLawfulIfThere (rules act now s).left
-rules_are_lawful act now (missing room) range moment lawful = by_act (put_or_missed act)
-  where
-    made : (room : Bool) (settings : Settings) → IsLawfulIfThere (rules_missing (PutWorkspace settings) room).left
-    made true settings = record {
-      versions = record { next = (omega arith, omega arith); rise = tt; each = tt; kept = omega arith };
-      runs = record { next = (omega arith, omega arith); rise = tt; each = tt; open_runs = omega arith; keys = tt; held = tt };
-      released = tt;
-    }
-    made false settings = tt
-
-    by_act : IsPut act ⊎ Misses act → IsLawfulIfThere (rules_missing act room).left
-    by_act (inl put) = subst (λ (a : Act). IsLawfulIfThere (rules_missing a room).left) (sym put.1) (made room put.0)
-    by_act (inr misses) = subst (λ (r : Ruling). IsLawfulIfThere r.left) (sym (misses room).0) tt
-rules_are_lawful (PutWorkspace settings) now (there w) range moment lawful = still_is_lawful (with_settings w settings) (record { versions = lawful.versions; runs = lawful.runs; released = lawful.released })
-rules_are_lawful ReadWorkspace now (there w) range moment lawful = lawful
-rules_are_lawful (UpdateState head text id) now (there w) range moment lawful = update_is_lawful w head text now (may_write w.holder (holder_status w.holder w.runs) id) range moment lawful
-rules_are_lawful ReadState now (there w) range moment lawful = lawful
-rules_are_lawful (PurgeState id) now (there w) range moment lawful = purge_is_lawful (may_write w.holder (holder_status w.holder w.runs) id) w lawful
-rules_are_lawful (LockAct id text) now (there w) range moment lawful = lock_is_lawful w.holder id text w refl range lawful
-rules_are_lawful (Unlock id) now (there w) range moment lawful = unlock_is_lawful w.holder id w refl lawful
-rules_are_lawful ForceUnlock now (there w) range moment lawful = force_is_lawful w.holder w refl lawful

@@ -1,3 +1,8 @@
+pub mod StepLemmas
+pub mod RunLemmas
+pub mod RunRulings
+pub mod RunLawLemmas
+pub mod RuleLemmas
 pub mod SettlingLemmas
 pub mod SettlesLemmas
 pub mod Examples

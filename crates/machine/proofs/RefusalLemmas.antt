@@ -10,6 +10,7 @@ use Rattle.basis.specs.declared.rows.StateHead.{StateHead}
 use Rattle.machine.proofs.MissingLemmas.{IsPut, Misses, put_or_missed}
 use Rattle.basis.specs.declared.runs.RunStatus.{RunStatus}
 use Rattle.basis.specs.declared.runs.RunStatus.TheVariants.{Pending, Planning, Planned, Applying, Applied, PlannedAndFinished, Errored, Discarded, Canceled}
+use Rattle.machine.proofs.RunRulings.{comes_leaves, comes_held, comes_unlocked, make_comes, read_comes, report_comes}
 use Rattle.machine.specs.Effects.{effect}
 use Rattle.machine.specs.Records.{Seen, missing, there}
 use Rattle.machine.specs.Workspaces.{newest, holder_status}
@@ -18,7 +19,7 @@ use Rattle.machine.specs.Succession.{Succession, first, same, other_lineage, old
 use Rattle.machine.specs.Rules.{Outcome, refused, held, done, Ruling, rules, rules_missing, refused_by, by_may_write, by_succession, numbered_update, number_left, done_with, done_already, purge, lock, unlock, released, is_released, force_unlock, state_answer}
 use Rattle.machine.specs.Custody.{IsRefusal, IsWriter, RefusalsChangeNothing, RefusalsTellTheHolder, WritesCarryTheId}
 use Rattle.machine.specs.declared.acts.Act.{Act}
-use Rattle.machine.specs.declared.acts.Act.TheVariants.{PutWorkspace, ReadWorkspace, UpdateState, ReadState, PurgeState, Lock as LockAct, Unlock, ForceUnlock}
+use Rattle.machine.specs.declared.acts.Act.TheVariants.{PutWorkspace, ReadWorkspace, UpdateState, ReadState, PurgeState, Lock as LockAct, Unlock, ForceUnlock, MakeRun, ReadRun, ReportRun}
 use Rattle.machine.specs.declared.records.Holder.{Holder}
 use Rattle.machine.specs.declared.records.Holder.TheVariants.{Nobody, Lock, Run}
 use Rattle.machine.specs.declared.records.Version.{Version}
@@ -148,6 +149,9 @@ refusals_change_nothing (PurgeState id) now (there w) is = purge_leaves w (may_w
 refusals_change_nothing (LockAct id text) now (there w) is = lock_leaves id text w w.holder is
 refusals_change_nothing (Unlock id) now (there w) is = unlock_leaves id w w.holder is
 refusals_change_nothing ForceUnlock now (there w) is = force_leaves w w.holder is
+refusals_change_nothing (MakeRun ask) now (there w) is = comes_leaves (make_comes w ask now) is
+refusals_change_nothing (ReadRun n) now (there w) is = comes_leaves (read_comes w n) is
+refusals_change_nothing (ReportRun n action) now (there w) is = comes_leaves (report_comes w n action) is
 
 -- who is told of a holder
 abbrev Tells : Outcome → Holder → Type 0
@@ -211,6 +215,9 @@ refusals_tell_the_holder (PurgeState id) now w holder e = purge_tells w (may_wri
 refusals_tell_the_holder (LockAct id text) now w holder e = lock_tells id text w w.holder holder e
 refusals_tell_the_holder (Unlock id) now w holder e = unlock_tells id w w.holder holder e
 refusals_tell_the_holder ForceUnlock now w holder e = force_tells w w.holder holder e
+refusals_tell_the_holder (MakeRun ask) now w holder e = absurd (comes_held (make_comes w ask now) holder e)
+refusals_tell_the_holder (ReadRun n) now w holder e = absurd (comes_held (read_comes w n) holder e)
+refusals_tell_the_holder (ReportRun n action) now w holder e = absurd (comes_held (report_comes w n action) holder e)
 
 -- a run that may write is applying
 applying_is : (status : Option RunStatus) → is_applying status ≡ true → status ≡ Some Applying
@@ -258,6 +265,9 @@ writes_carry_the_id (PurgeState given) now w id writes e =
 writes_carry_the_id (LockAct asked t) now w id writes e = absurd writes
 writes_carry_the_id (Unlock asked) now w id writes e = absurd writes
 writes_carry_the_id ForceUnlock now w id writes e = absurd writes
+writes_carry_the_id (MakeRun ask) now w id writes e = absurd writes
+writes_carry_the_id (ReadRun n) now w id writes e = absurd writes
+writes_carry_the_id (ReportRun n action) now w id writes e = absurd writes
 
 -- a workspace that is missing has no holder to tell
 pub missing_tells_no_holder : (act : Act) (room : Bool) (holder : Holder) → (rules_missing act room).answer ≡ held holder → ⊥
@@ -374,3 +384,6 @@ never_refused_as_locked (PurgeState id) now (there w) e = purge_other w (may_wri
 never_refused_as_locked (LockAct id text) now (there w) e = lock_other id text w w.holder e
 never_refused_as_locked (Unlock id) now (there w) e = unlock_other id w w.holder e
 never_refused_as_locked ForceUnlock now (there w) e = force_other w w.holder e
+never_refused_as_locked (MakeRun ask) now (there w) e = comes_unlocked (make_comes w ask now) e
+never_refused_as_locked (ReadRun n) now (there w) e = comes_unlocked (read_comes w n) e
+never_refused_as_locked (ReportRun n action) now (there w) e = comes_unlocked (report_comes w n action) e

@@ -1,16 +1,18 @@
 -- A workspace whose lock is released settles, and is lawful then; the run that starts has the least number of those that wait.
-use Rattle.std.proofs.Common.{◌≡◌, ℕ, suc, ◌<◌, ◌≤◌, ◌==◌, Bool, true, false, not, ◌&&◌, cond, List, [], ◌∷◌, length, map, filter, Option, Some, None, IfSome, IsSomeAnd, refl, sym, ap, subst, ◌∙◌, arith, eq-eqb, eqb-true, ne_eqb}
+use Rattle.std.proofs.Common.{◌≡◌, ℕ, suc, ◌<◌, ◌≤◌, ◌==◌, Bool, true, false, not, ◌&&◌, cond, List, [], ◌∷◌, length, map, filter, Option, Some, None, IfSome, IsSomeAnd, IsTrue, refl, sym, ap, subst, ◌∙◌, arith, eq-eqb, eqb-true, ne_eqb}
 use Rattle.std.proofs.lemmas.Bool.{eqb-false}
 use Rattle.std.specs.Prelude.{find, option_map}
 use Rattle.std.specs.List.{AllByRecursion}
 use Rattle.std.specs.Str.{bytes_eq}
+use Rattle.basis.specs.Names.{is_free_id}
 use Rattle.basis.specs.Runs.{is_open}
 use Rattle.basis.specs.declared.runs.RunStatus.{RunStatus}
 use Rattle.basis.specs.declared.runs.RunStatus.TheVariants.{Pending, Planning, Planned, Applying, Applied, PlannedAndFinished, Errored, Discarded, Canceled}
 use Rattle.basis.specs.declared.runs.RunAction.{RunAction}
 use Rattle.machine.specs.Workspaces.{run_of}
-use Rattle.machine.specs.Laws.{Rises, IsRun, KeysDiffer, AreRuns, IsLawful, IsWhereActionEnds, is_pending}
-use Rattle.machine.specs.Settling.{is_waiting, first_waiting, begun, started_if, settled}
+use Rattle.machine.specs.Laws.{Rises, IsRun, AreVersions, AreRuns, IsLawful, IsWhereActionEnds, is_pending}
+use Rattle.machine.specs.Settling.{is_waiting, first_waiting, begun, to_start, started_if, settled}
+use Rattle.machine.proofs.RunLemmas.{numbers-map, keys_differ-map}
 use Rattle.machine.specs.Rules.{released}
 use Rattle.machine.specs.declared.records.Holder.{Holder}
 use Rattle.machine.specs.declared.records.Holder.TheVariants.{Nobody, Lock, Run as HoldingRun}
@@ -152,24 +154,6 @@ all_begun id text n (r ∷ runs) waiting all = (passed (r.number == n) refl, all
     passed true e = let at : r.number ≡ n = eqb-true r.number n e in begun_run id text n r at (waiting.0 at) all.0
     passed false e = other_run id text n r (ne_eqb n r.number (λ at. eqb-false r.number n e (sym at))) all.0
 
-numbers_begun : (n : ℕ) (runs : List Run) → map (λ (r : Run). r.number) (map (begun n) runs) ≡ map (λ (r : Run). r.number) runs
-numbers_begun n [] = refl
-numbers_begun n (r ∷ runs) = ap (λ (ns : List ℕ). r.number ∷ ns) (numbers_begun n runs)
-
-others_begun : (key : List ℕ) (n : ℕ) (runs : List Run) → AllByRecursion (λ (s : Run). IfSome s.key (λ other. bytes_eq key other ≡ false)) runs
-    → AllByRecursion (λ (s : Run). IfSome s.key (λ other. bytes_eq key other ≡ false)) (map (begun n) runs)
-others_begun key n [] all = tt
-others_begun key n (r ∷ runs) all = (all.0, others_begun key n runs all.1)
-
-key_begun : (k : Option (List ℕ)) (n : ℕ) (runs : List Run) → IfSome k (λ key. AllByRecursion (λ (s : Run). IfSome s.key (λ other. bytes_eq key other ≡ false)) runs)
-    → IfSome k (λ key. AllByRecursion (λ (s : Run). IfSome s.key (λ other. bytes_eq key other ≡ false)) (map (begun n) runs))
-key_begun None n runs h = tt
-key_begun (Some key) n runs h = others_begun key n runs h
-
-keys_begun : (n : ℕ) (runs : List Run) → KeysDiffer runs → KeysDiffer (map (begun n) runs)
-keys_begun n [] keys = tt
-keys_begun n (r ∷ runs) keys = (key_begun r.key n runs keys.0, keys_begun n runs keys.1)
-
 -- as many runs are open
 open_begun : (n : ℕ) (runs : List Run) → AreWaiting n runs → length (filter (λ (r : Run). is_open r.status) (map (begun n) runs)) ≡ length (filter (λ (r : Run). is_open r.status) runs)
 open_begun n [] waiting = refl
@@ -201,37 +185,42 @@ held_begun n (r ∷ runs) f found at waiting = passed (r.number == n) refl (is_w
     passed false e true w is more = absurd (let same : r ≡ f = cc in eqb-false r.number n e (ap (λ (s : Run). s.number) same ∙ at))
     passed false e false w is more = more is
 
--- the lock goes, and the workspace settles
-pub release_is_lawful : (id text : List ℕ) (w : Workspace) → w.holder ≡ Lock id text → IsLawful w → IsLawful (settled (released id w))
-release_is_lawful id text w e lawful = settling (find is_waiting w.runs) refl
+-- where nobody holds, and all else is as it may be under a lock, a workspace settles
+pub freed_is_lawful : (id text : List ℕ) (w : Workspace) → w.holder ≡ Nobody → AreVersions w.next_version w.versions → AreRuns (Lock id text) w.next_run w.runs
+    → IfSome w.released (λ x. IsTrue (is_free_id x)) → IsLawful (settled w)
+freed_is_lawful id text w e versions runs released =
+    subst (λ (h : Holder). IsLawful (started_if (to_start h (first_waiting w.runs)) w)) (sym e) (settling (find is_waiting w.runs) refl)
   where
-    runs : AreRuns (Lock id text) w.next_run w.runs
-    runs = subst (λ (h : Holder). AreRuns h w.next_run w.runs) e lawful.runs
-
-    settling : (o : Option Run) → find is_waiting w.runs ≡ o → IsLawful (started_if (option_map (λ (r : Run). r.number) o) (released id w))
+    settling : (o : Option Run) → find is_waiting w.runs ≡ o → IsLawful (started_if (option_map (λ (r : Run). r.number) o) w)
     settling None none = record {
-      versions = lawful.versions;
-      runs = record {
+      versions = versions;
+      runs = subst (λ (h : Holder). AreRuns h w.next_run w.runs) (sym e) (record {
         next = runs.next;
         rise = runs.rise;
         each = none_left id text w.runs none runs.each;
         open_runs = runs.open_runs;
         keys = runs.keys;
         held = tt;
-      };
-      released = runs.held;
+      });
+      released = released;
     }
     settling (Some f) found =
         let alone : (0 < f.number) × AreWaiting f.number w.runs = first_alone 0 w.runs w.next_run f found runs.rise in
         record {
-          versions = lawful.versions;
+          versions = versions;
           runs = record {
             next = runs.next;
-            rise = subst (λ (ns : List ℕ). Rises 0 ns w.next_run) (sym (numbers_begun f.number w.runs)) runs.rise;
+            rise = subst (λ (ns : List ℕ). Rises 0 ns w.next_run) (sym (numbers-map (begun f.number) (λ x. refl) w.runs)) runs.rise;
             each = all_begun id text f.number w.runs alone.1 runs.each;
             open_runs = rw (open_begun f.number w.runs alone.1) runs.open_runs;
-            keys = keys_begun f.number w.runs runs.keys;
+            keys = keys_differ-map (begun f.number) (λ x. refl) w.runs runs.keys;
             held = held_begun f.number w.runs f found refl alone.1;
           };
-          released = runs.held;
+          released = released;
         }
+
+-- the lock goes, and the workspace settles
+pub release_is_lawful : (id text : List ℕ) (w : Workspace) → w.holder ≡ Lock id text → IsLawful w → IsLawful (settled (released id w))
+release_is_lawful id text w e lawful =
+    let runs : AreRuns (Lock id text) w.next_run w.runs = subst (λ (h : Holder). AreRuns h w.next_run w.runs) e lawful.runs in
+    freed_is_lawful id text (released id w) refl lawful.versions runs runs.held

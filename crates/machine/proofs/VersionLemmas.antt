@@ -10,7 +10,10 @@ use Rattle.machine.specs.Workspaces.{newest, holder_status, max_versions}
 use Rattle.machine.specs.Writing.{may_write}
 use Rattle.machine.specs.Settling.{first_waiting, to_start, started, started_if, settled}
 use Rattle.machine.specs.Succession.{Succession, first, same, other_lineage, old_serial, next, succession, after_newest, lineages_differ}
-use Rattle.machine.specs.Rules.{done, no_state, state, state_answer, rules, refused_by, by_may_write, by_succession, numbered_update, number_left, with_version, with_settings, done_with, done_already, purge, purged, lock, locked, unlock, released, is_released, force_unlock}
+use Rattle.machine.specs.Rules.{done, no_state, state, state_answer, rules, refused_by, by_may_write, by_succession, numbered_update, number_left, with_version, with_settings, done_with, done_already, purge, purged, lock, locked, unlock, released, is_released, force_unlock, new_run, with_run, with_report}
+use Rattle.machine.proofs.RunRulings.{IsMade, IsReported, comes_to, make_comes, report_comes}
+use Rattle.basis.specs.declared.rows.RunAsk.{RunAsk}
+use Rattle.basis.specs.declared.runs.RunAction.{RunAction}
 use Rattle.machine.specs.Units.{find_last, version_of}
 use Rattle.machine.specs.Custody.{WhatIsPostedIsRead, NothingIsReadOfAPurge, KeepsVersions, MakesVersion, NumbersRise}
 use Rattle.machine.proofs.CustodyLemmas.{newest_with, versions_stay, stays_by, lock_becomes, unlock_becomes, force_becomes, purge_becomes, Unlocks}
@@ -18,7 +21,7 @@ use Rattle.machine.proofs.LawLemmas.{number_left-is}
 use Rattle.machine.proofs.PlainLemmas.{find_last_push}
 use Rattle.machine.proofs.RefusalLemmas.{never_done}
 use Rattle.machine.specs.declared.acts.Act.{Act}
-use Rattle.machine.specs.declared.acts.Act.TheVariants.{PutWorkspace, ReadWorkspace, UpdateState, ReadState, PurgeState, Lock as LockAct, Unlock, ForceUnlock}
+use Rattle.machine.specs.declared.acts.Act.TheVariants.{PutWorkspace, ReadWorkspace, UpdateState, ReadState, PurgeState, Lock as LockAct, Unlock, ForceUnlock, MakeRun, ReadRun, ReportRun}
 use Rattle.machine.specs.declared.records.Version.{Version}
 use Rattle.machine.specs.declared.records.Workspace.{Workspace}
 
@@ -161,6 +164,23 @@ unlock_numbers : (w v : Workspace) (after : Option Workspace) → after ≡ Some
 unlock_numbers w v after e (inl h) = same_numbers w v (sym h ∙ e)
 unlock_numbers w v after e (inr h) = settled_numbers w (released h.0 w) v (sym h.1 ∙ e) (kept_numbers w (released h.0 w) refl refl refl)
 
+-- a run more, or an action: versions stay
+made_run_numbers : (w : Workspace) (ask : RunAsk) (now n : ℕ) → number_left w.next_run ≡ Some n → Numbers w (with_run (new_run n ask now) w)
+made_run_numbers w ask now n e = (omega (arith, (number_left-is w.next_run n e).0), inl (record { next = refl; left = λ m u found. found }))
+
+run_numbers : (w v : Workspace) (changed : Workspace → Type 0) (after : Option Workspace) → ((u : Workspace) → changed u → Numbers w u) → after ≡ Some v
+    → (after ≡ Some w) ⊎ (u : Workspace) × changed u × (after ≡ Some (settled u)) → Numbers w v
+run_numbers w v changed after numbers e (inl h) = same_numbers w v (sym h ∙ e)
+run_numbers w v changed after numbers e (inr h) = settled_numbers w h.0 v (sym h.2 ∙ e) (numbers h.0 h.1)
+
+make_numbers : (w v : Workspace) (ask : RunAsk) (now : ℕ) → (rules (MakeRun ask) now (there w)).left ≡ Some v → Numbers w v
+make_numbers w v ask now e =
+    run_numbers w v (IsMade w ask now) _ (λ u is. subst (Numbers w) (sym is.2) (made_run_numbers w ask now is.0 is.1)) e (comes_to (make_comes w ask now))
+
+report_numbers : (w v : Workspace) (n : ℕ) (action : RunAction) (now : ℕ) → (rules (ReportRun n action) now (there w)).left ≡ Some v → Numbers w v
+report_numbers w v n action now e =
+    run_numbers w v (IsReported w n action) _ (λ u is. subst (Numbers w) (sym is.is) (kept_numbers w (with_report n action is.status w) refl refl refl)) e (comes_to (report_comes w n action))
+
 pub numbers_rise : NumbersRise
 numbers_rise (PutWorkspace settings) now w v e = settled_numbers w (with_settings w settings) v e (kept_numbers w (with_settings w settings) refl refl refl)
 numbers_rise (UpdateState head text id) now w v e = update_numbers w v head text now (may_write w.holder (holder_status w.holder w.runs) id) e
@@ -170,3 +190,6 @@ numbers_rise (PurgeState id) now w v e = purge_numbers w v (rules (PurgeState id
 numbers_rise (LockAct id text) now w v e = lock_numbers w v id text (rules (LockAct id text) now (there w)).left e (lock_becomes id text w w.holder)
 numbers_rise (Unlock id) now w v e = unlock_numbers w v (rules (Unlock id) now (there w)).left e (unlock_becomes id w w.holder)
 numbers_rise ForceUnlock now w v e = unlock_numbers w v (rules ForceUnlock now (there w)).left e (force_becomes w w.holder)
+numbers_rise (MakeRun ask) now w v e = make_numbers w v ask now e
+numbers_rise (ReadRun n) now w v e = same_numbers w v e
+numbers_rise (ReportRun n action) now w v e = report_numbers w v n action now e

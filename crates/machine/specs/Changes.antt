@@ -1,14 +1,15 @@
 -- What a change does to a workspace, and when it is due: this is what a store's `apply` speaks of.
-use Rattle.std.specs.Prelude.{◌≡◌, ℕ, ◌+◌, List, [], ◌∷◌, ◌++◌, drop, Option, Some, None, option_map}
+use Rattle.std.specs.Prelude.{◌≡◌, ℕ, ◌+◌, List, [], ◌∷◌, ◌++◌, drop, map, cond, Option, Some, None, option_map}
 use Rattle.machine.specs.Workspaces.{new_workspace}
 use Rattle.machine.specs.Settling.{started_if}
 use Rattle.machine.specs.Ranges.{IsInRange, IsMoment}
 use Rattle.machine.specs.Records.{Seen, standing}
-use Rattle.machine.specs.Rules.{rules, with_settings, purged, locked, released}
+use Rattle.machine.specs.Rules.{rules, with_settings, purged, locked, released, with_run, reported}
 use Rattle.machine.specs.declared.acts.Act.{Act}
 use Rattle.machine.specs.declared.acts.Edit.{Edit}
-use Rattle.machine.specs.declared.acts.Edit.TheVariants.{Make, Configure, AddVersion, Purge, Hold, Release}
+use Rattle.machine.specs.declared.acts.Edit.TheVariants.{Make, Configure, AddVersion, Purge, Hold, Release, AddRun, Report}
 use Rattle.machine.specs.declared.acts.Change.{Change}
+use Rattle.machine.specs.declared.records.Holder.TheVariants.{Nobody}
 use Rattle.machine.specs.declared.records.Workspace.{Workspace}
 
 -- the workspace after an edit
@@ -20,6 +21,9 @@ edited (AddVersion version gone) w =
 edited Purge w = option_map purged w
 edited (Hold id text) w = option_map (locked id text) w
 edited (Release id) w = option_map (released id) w
+edited (AddRun run) w = option_map (with_run run) w
+edited (Report number action status frees) w =
+    option_map (λ (v : Workspace). record v { holder = cond frees Nobody v.holder; runs = map (reported number action status) v.runs }) w
 
 -- the workspace after a change: an edit, and the run that starts
 abbrev pub changed_by : Change → Option Workspace → Option Workspace

@@ -6,11 +6,11 @@ use Rattle.basis.specs.declared.refusals.Refusal.{Refusal}
 use Rattle.basis.specs.declared.runs.RunStatus.{RunStatus}
 use Rattle.basis.specs.declared.runs.RunStatus.TheVariants.{Applying}
 use Rattle.machine.specs.Records.{Seen, there, standing}
-use Rattle.machine.specs.Rules.{Outcome, refused, held, done, no_state, state, workspace, rules}
+use Rattle.machine.specs.Rules.{Outcome, refused, held, done, no_state, state, workspace, the_run, rules}
 use Rattle.machine.specs.Units.{version_of}
 use Rattle.machine.specs.Workspaces.{newest, holder_status}
 use Rattle.machine.specs.declared.acts.Act.{Act}
-use Rattle.machine.specs.declared.acts.Act.TheVariants.{PutWorkspace, ReadWorkspace, UpdateState, ReadState, PurgeState, Lock as LockAct, Unlock, ForceUnlock}
+use Rattle.machine.specs.declared.acts.Act.TheVariants.{PutWorkspace, ReadWorkspace, UpdateState, ReadState, PurgeState, Lock as LockAct, Unlock, ForceUnlock, MakeRun, ReadRun, ReportRun}
 use Rattle.machine.specs.declared.records.Holder.{Holder}
 use Rattle.machine.specs.declared.records.Holder.TheVariants.{Nobody, Lock, Run}
 use Rattle.machine.specs.declared.records.Version.{Version}
@@ -24,6 +24,7 @@ IsRefusal done = ⊥
 IsRefusal no_state = ⊥
 IsRefusal (state text) = ⊥
 IsRefusal (workspace shown) = ⊥
+IsRefusal (the_run r) = ⊥
 
 -- a refusal leaves the workspace as it is
 abbrev pub RefusalsChangeNothing : Type 0
@@ -43,6 +44,9 @@ WritesWith (PurgeState given) id = given ≡ id
 WritesWith (LockAct asked text) id = ⊥
 WritesWith (Unlock asked) id = ⊥
 WritesWith ForceUnlock id = ⊥
+WritesWith (MakeRun ask) id = ⊥
+WritesWith (ReadRun n) id = ⊥
+WritesWith (ReportRun n action) id = ⊥
 
 -- the ID that the holder writes with: none while nobody holds, that of the lock, or that of a run, which is applying
 abbrev pub IsWriter : Holder → Option RunStatus → Option (List ℕ) → Type 0
@@ -70,6 +74,9 @@ Releases (PurgeState id) own = ⊥
 Releases (LockAct id text) own = ⊥
 Releases (Unlock id) own = id ≡ own
 Releases ForceUnlock own = ⊤
+Releases (MakeRun ask) own = ⊥
+Releases (ReadRun n) own = ⊥
+Releases (ReportRun n action) own = ⊥
 
 -- a lock holds, with its first text, until an act releases it
 abbrev pub HoldsUntilReleased : Type 0
@@ -110,7 +117,7 @@ abbrev pub NumbersRise : Type 0
 NumbersRise = (act : Act) (now : ℕ) (w v : Workspace) → (rules act now (there w)).left ≡ Some v
     → (w.next_run ≤ v.next_run) × (KeepsVersions w v ⊎ MakesVersion w v)
 
--- an act that changes nothing more where it comes again
+-- an act that changes nothing more where it comes again: every one but the creation of a run without a key
 abbrev pub IsRepeatable : Act → Type 0
 IsRepeatable (PutWorkspace settings) = ⊤
 IsRepeatable ReadWorkspace = ⊤
@@ -120,6 +127,9 @@ IsRepeatable (PurgeState id) = ⊤
 IsRepeatable (LockAct id text) = ⊤
 IsRepeatable (Unlock id) = ⊤
 IsRepeatable ForceUnlock = ⊤
+IsRepeatable (MakeRun ask) = IsSome ask.key
+IsRepeatable (ReadRun n) = ⊤
+IsRepeatable (ReportRun n action) = ⊤
 
 -- such an act, at whatever moment, on a workspace that is as the first left it
 abbrev pub RepeatsChangeNothing : Type 0

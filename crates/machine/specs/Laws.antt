@@ -1,15 +1,14 @@
 -- The laws that always hold of a workspace and of an organization.
-use Rattle.std.specs.Prelude.{◌≡◌, ℕ, ◌^◌, ◌<◌, ◌≤◌, Bool, true, false, ◌==◌, List, [], ◌∷◌, length, map, filter, Option, Some, None, IfSome, IsSomeAnd, IsTrue, ⊤}
-use Rattle.std.specs.List.{AllByRecursion}
+use Rattle.std.specs.Prelude.{◌≡◌, ℕ, ◌^◌, ◌<◌, ◌≤◌, Bool, true, false, ◌&&◌, ◌||◌, ◌==◌, List, [], ◌∷◌, length, map, Option, Some, None, IfSome, IsSomeAnd, IsTrue, ⊤}
+use Rattle.std.specs.List.{AllByRecursion, list_any}
 use Rattle.std.specs.Str.{bytes_eq}
 use Rattle.std.specs.FinMap.{get}
 use Rattle.basis.specs.Names.{is_org_name, is_ws_name, is_free_id, has_length}
-use Rattle.basis.specs.Runs.{is_open}
 use Rattle.basis.specs.declared.runs.RunStatus.{RunStatus}
 use Rattle.basis.specs.declared.runs.RunStatus.TheVariants.{Pending, Planning, Planned, Applying, Applied, PlannedAndFinished, Errored, Discarded, Canceled}
 use Rattle.basis.specs.declared.runs.RunAction.{RunAction}
-use Rattle.basis.specs.declared.runs.RunAction.TheVariants.{ReportPlanned, ReportUnchanged, Fail, Confirm, ReportApplied, Discard, Cancel}
-use Rattle.machine.specs.Workspaces.{max_versions, max_open_runs, run_of}
+use Rattle.machine.specs.RunSteps.{RunStep, plan_only_steps, auto_apply_steps, confirmed_steps, is_status, is_action}
+use Rattle.machine.specs.Workspaces.{max_versions, max_open_runs, run_of, open_runs}
 use Rattle.machine.specs.declared.records.Holder.{Holder}
 use Rattle.machine.specs.declared.records.Holder.TheVariants.{Nobody, Lock, Run as HoldingRun}
 use Rattle.machine.specs.declared.records.Version.{Version}
@@ -56,32 +55,17 @@ is_pending Errored = false
 is_pending Discarded = false
 is_pending Canceled = false
 
--- the statuses in which the rows of an action end: of a plan-only run, and of a queued one
-abbrev pub plan_only_end : RunAction → RunStatus → Bool
-plan_only_end ReportPlanned PlannedAndFinished = true
-plan_only_end ReportUnchanged PlannedAndFinished = true
-plan_only_end Fail Errored = true
-plan_only_end Cancel Canceled = true
-plan_only_end _ _ = false
-
-abbrev pub queued_end : RunAction → RunStatus → Bool
-queued_end ReportPlanned Planned = true
-queued_end ReportPlanned Applying = true
-queued_end ReportUnchanged PlannedAndFinished = true
-queued_end Fail Errored = true
-queued_end Confirm Applying = true
-queued_end ReportApplied Applied = true
-queued_end Discard Discarded = true
-queued_end Cancel Canceled = true
-queued_end _ _ = false
+-- whether a step of an action ends in a status
+abbrev pub ends_in : List RunStep → RunAction → RunStatus → Bool
+ends_in steps action status = list_any (λ (s : RunStep). is_action s.action action && is_status s.to status) steps
 
 -- a run that no action has reached is pending or planning; any other is where its last action ends
 abbrev pub IsWhereActionEnds : Bool → Option RunAction → RunStatus → Type 0
 IsWhereActionEnds plan_only None Pending = ⊤
 IsWhereActionEnds plan_only None Planning = ⊤
 IsWhereActionEnds plan_only None _ = IsTrue false
-IsWhereActionEnds true (Some action) status = IsTrue (plan_only_end action status)
-IsWhereActionEnds false (Some action) status = IsTrue (queued_end action status)
+IsWhereActionEnds true (Some action) status = IsTrue (ends_in plan_only_steps action status)
+IsWhereActionEnds false (Some action) status = IsTrue (ends_in auto_apply_steps action status || ends_in confirmed_steps action status)
 
 -- the run of this number holds
 abbrev pub holds : Holder → ℕ → Bool
@@ -119,7 +103,7 @@ pub record AreRuns (holder : Holder) (next_run : ℕ) (runs : List Run) : Type 0
   pub next : IsNext next_run
   pub rise : Rises 0 (map (λ (r : Run). r.number) runs) next_run
   pub each : AllByRecursion (IsRun holder) runs
-  pub open_runs : length (filter (λ (r : Run). is_open r.status) runs) ≤ max_open_runs
+  pub open_runs : open_runs runs ≤ max_open_runs
   pub keys : KeysDiffer runs
   pub held : IsHolder holder runs
 

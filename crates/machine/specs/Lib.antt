@@ -1,6 +1,7 @@
 pub mod Order
 pub mod Effects
 pub mod Workspaces
+pub mod RunSteps
 pub mod Laws
 pub mod Settling
 pub mod Writing

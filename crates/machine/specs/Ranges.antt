@@ -1,13 +1,18 @@
 -- The ranges of what is asked.
-use Rattle.std.specs.Prelude.{ℕ, ◌^◌, ◌<◌, ◌≤◌, List, length, IsTrue, ⊤}
-use Rattle.basis.specs.Names.{is_free_id}
+use Rattle.std.specs.Prelude.{ℕ, ◌^◌, ◌<◌, ◌≤◌, List, length, IfSome, IsTrue, ⊤}
+use Rattle.basis.specs.Names.{is_free_id, has_length}
+use Rattle.basis.specs.declared.rows.RunAsk.{RunAsk}
 use Rattle.basis.specs.declared.rows.StateHead.{StateHead}
 use Rattle.machine.specs.declared.acts.Act.{Act}
-use Rattle.machine.specs.declared.acts.Act.TheVariants.{PutWorkspace, ReadWorkspace, UpdateState, ReadState, PurgeState, Lock as LockAct, Unlock, ForceUnlock}
+use Rattle.machine.specs.declared.acts.Act.TheVariants.{PutWorkspace, ReadWorkspace, UpdateState, ReadState, PurgeState, Lock as LockAct, Unlock, ForceUnlock, MakeRun, ReadRun, ReportRun}
 
 -- what a state's head says is in range
 abbrev pub IsHead : StateHead → Type 0
 IsHead head = (head.serial < 2 ^ 63) × (length head.lineage ≤ 256)
+
+-- what the creation of a run asks is in range
+abbrev pub IsRunAsk : RunAsk → Type 0
+IsRunAsk ask = IfSome ask.key (λ key. IsTrue (has_length 1 64 key)) × (length ask.message ≤ 1_000)
 
 -- a moment, in seconds since 1970
 abbrev pub IsMoment : ℕ → Type 0
@@ -23,3 +28,6 @@ IsInRange (PurgeState id) = ⊤
 IsInRange (LockAct id text) = IsTrue (is_free_id id)
 IsInRange (Unlock id) = ⊤
 IsInRange ForceUnlock = ⊤
+IsInRange (MakeRun ask) = IsRunAsk ask
+IsInRange (ReadRun n) = ⊤
+IsInRange (ReportRun n action) = ⊤

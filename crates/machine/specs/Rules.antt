@@ -1,24 +1,32 @@
 -- The rules: what an act on a workspace is answered, and the workspace after it. A refusal changes nothing.
-use Rattle.std.specs.Prelude.{ℕ, ◌+◌, Bool, true, false, cond, List, [], ◌∷◌, ◌++◌, Option, Some, None, option_map}
+use Rattle.std.specs.Prelude.{ℕ, ◌+◌, Bool, true, false, not, ◌&&◌, nat_lt, ◌==◌, cond, List, [], ◌∷◌, ◌++◌, map, Option, Some, None, option_map}
 use Rattle.std.specs.Str.{bytes_eq}
 use Rattle.basis.specs.Numbers.{within}
 use Rattle.basis.specs.declared.refusals.Refusal.{Refusal}
-use Rattle.basis.specs.declared.refusals.Refusal.TheVariants.{NotFound, OtherLineage, OldSerial, OverLimit, HeldByRun, Locked}
+use Rattle.basis.specs.declared.refusals.Refusal.TheVariants.{NotFound, OtherLineage, OldSerial, OverLimit, WrongState, HeldByRun, Locked}
 use Rattle.basis.specs.declared.rows.Settings.{Settings}
 use Rattle.basis.specs.declared.rows.StateHead.{StateHead}
+use Rattle.basis.specs.declared.rows.RunAsk.{RunAsk}
 use Rattle.basis.specs.declared.rows.HolderId.{HolderId}
 use Rattle.basis.specs.declared.rows.HolderId.TheVariants.{Lock as LockHolder, Run as RunHolder}
+use Rattle.basis.specs.Runs.{is_open}
+use Rattle.basis.specs.declared.runs.RunStatus.{RunStatus}
+use Rattle.basis.specs.declared.runs.RunStatus.TheVariants.{Pending, Planning}
+use Rattle.basis.specs.declared.runs.RunAction.{RunAction}
 use Rattle.machine.specs.Effects.{Effect, effect}
+use Rattle.machine.specs.Laws.{holds}
+use Rattle.machine.specs.RunSteps.{next_status, is_last}
 use Rattle.machine.specs.Records.{Seen, missing, there}
-use Rattle.machine.specs.Workspaces.{newest, last_of, max_versions, new_workspace, holder_status}
+use Rattle.machine.specs.Workspaces.{newest, last_of, max_versions, max_open_runs, new_workspace, holder_status, run_of, keyed_run, open_runs}
 use Rattle.machine.specs.Writing.{may_write}
 use Rattle.machine.specs.Settling.{settled}
 use Rattle.machine.specs.Succession.{Succession, first, same, other_lineage, old_serial, next, succession}
 use Rattle.machine.specs.declared.acts.Act.{Act}
-use Rattle.machine.specs.declared.acts.Act.TheVariants.{PutWorkspace, ReadWorkspace, UpdateState, ReadState, PurgeState, Lock as LockAct, Unlock, ForceUnlock}
+use Rattle.machine.specs.declared.acts.Act.TheVariants.{PutWorkspace, ReadWorkspace, UpdateState, ReadState, PurgeState, Lock as LockAct, Unlock, ForceUnlock, MakeRun, ReadRun, ReportRun}
 use Rattle.machine.specs.declared.acts.Shown.{Shown}
 use Rattle.machine.specs.declared.records.Holder.{Holder}
-use Rattle.machine.specs.declared.records.Holder.TheVariants.{Nobody, Lock, Run}
+use Rattle.machine.specs.declared.records.Holder.TheVariants.{Nobody, Lock, Run as HoldingRun}
+use Rattle.machine.specs.declared.records.Run.{Run}
 use Rattle.machine.specs.declared.records.Version.{Version}
 use Rattle.machine.specs.declared.records.Workspace.{Workspace}
 
@@ -36,6 +44,8 @@ pub data Outcome : Type 0 where
   state : List ℕ → Outcome
   -- the workspace after the act
   workspace : Shown → Outcome
+  -- the run after the act
+  the_run : Run → Outcome
 
 -- an answer, and the workspace after it, if there is one
 abbrev pub Ruling : Type 0
@@ -45,7 +55,7 @@ Ruling = Effect Outcome (Option Workspace)
 abbrev pub holder_id : Holder → Option HolderId
 holder_id Nobody = None
 holder_id (Lock id text) = Some (LockHolder id)
-holder_id (Run n) = Some (RunHolder n)
+holder_id (HoldingRun n) = Some (RunHolder n)
 
 -- a workspace as it is shown
 abbrev pub shown_of : Workspace → Shown
@@ -127,7 +137,7 @@ locked id text w = record w { holder = Lock id text }
 abbrev pub lock : Holder → List ℕ → List ℕ → Workspace → Ruling
 lock Nobody id text w = done_with (locked id text w)
 lock (Lock id_held text_held) id text w = cond (bytes_eq id id_held) (done_already w) (effect (refused_by Locked w.holder) (Some w))
-lock (Run n) id text w = effect (refused_by Locked w.holder) (Some w)
+lock (HoldingRun n) id text w = effect (refused_by Locked w.holder) (Some w)
 
 -- nobody holds any more, and the lock's ID is the one released last
 abbrev pub released : List ℕ → Workspace → Workspace
@@ -143,13 +153,65 @@ unlock Nobody id w = done_already w
 unlock (Lock id_held text) id w =
     cond (bytes_eq id id_held) (done_with (released id_held w))
     (cond (is_released w.released id) (done_already w) (effect (refused_by Locked w.holder) (Some w)))
-unlock (Run n) id w = cond (is_released w.released id) (done_already w) (effect (refused HeldByRun) (Some w))
+unlock (HoldingRun n) id w = cond (is_released w.released id) (done_already w) (effect (refused HeldByRun) (Some w))
 
 -- UNLOCK with an empty body: it releases whatever lock holds
 abbrev pub force_unlock : Holder → Workspace → Ruling
 force_unlock Nobody w = done_already w
 force_unlock (Lock id_held text) w = done_with (released id_held w)
-force_unlock (Run n) w = effect (refused HeldByRun) (Some w)
+force_unlock (HoldingRun n) w = effect (refused HeldByRun) (Some w)
+
+-- what is told of a run: it, as it is in a workspace
+abbrev pub run_answer : Option Run → Outcome
+run_answer None = refused NotFound
+run_answer (Some r) = the_run r
+
+-- an accepted change: the workspace settles, and a run is told as it is after that
+abbrev pub told_with : ℕ → Workspace → Ruling
+told_with n w = effect (run_answer (run_of n (settled w).runs)) (Some (settled w))
+
+-- nothing changes, and the run is told as it is
+abbrev pub told_already : Run → Workspace → Ruling
+told_already r w = effect (the_run r) (Some w)
+
+-- a run at its creation: a plan-only run plans at once, and a queued one is pending
+abbrev pub new_run : ℕ → RunAsk → ℕ → Run
+new_run number ask now = record { number = number; plan_only = ask.plan_only; key = ask.key; message = ask.message; created = now; status = cond ask.plan_only Planning Pending; action = None }
+
+-- a run more, behind the others
+abbrev pub with_run : Run → Workspace → Workspace
+with_run r w = record w { next_run = r.number + 1; runs = w.runs ++ r ∷ [] }
+
+abbrev pub numbered_run : Option ℕ → Workspace → RunAsk → ℕ → Ruling
+numbered_run None w ask now = effect (refused OverLimit) (Some w)
+numbered_run (Some number) w ask now = told_with number (with_run (new_run number ask now) w)
+
+-- the creation of a run: the one that has the key is told, before any limit is judged
+abbrev pub make_run : Option Run → Workspace → RunAsk → ℕ → Ruling
+make_run (Some r) w ask now = told_already r w
+make_run None w ask now =
+    cond (nat_lt (open_runs w.runs) max_open_runs) (numbered_run (number_left w.next_run) w ask now) (effect (refused OverLimit) (Some w))
+
+-- the run of a number took an action last, and is in the status after it
+abbrev pub reported : ℕ → RunAction → RunStatus → Run → Run
+reported n action status r = record r { status = cond (r.number == n) status r.status; action = cond (r.number == n) (Some action) r.action }
+
+-- whether the run of a number holds, and a status ends it
+abbrev pub frees : ℕ → RunStatus → Holder → Bool
+frees n status holder = holds holder n && not (is_open status)
+
+-- a holding run that ends leaves nobody holding
+abbrev pub with_report : ℕ → RunAction → RunStatus → Workspace → Workspace
+with_report n action status w = record w { holder = cond (frees n status w.holder) Nobody w.holder; runs = map (reported n action status) w.runs }
+
+abbrev pub by_step : Option RunStatus → ℕ → RunAction → Workspace → Ruling
+by_step None n action w = effect (refused WrongState) (Some w)
+by_step (Some status) n action w = told_with n (with_report n action status w)
+
+-- an action on a run: the one that it took last is answered again; auto-apply is the workspace's setting as it is now
+abbrev pub report : Option Run → ℕ → RunAction → Workspace → Ruling
+report None n action w = effect (refused NotFound) (Some w)
+report (Some r) n action w = cond (is_last action r.action) (told_already r w) (by_step (next_status r.plan_only w.auto_apply r.status action) n action w)
 
 -- a workspace that is missing is made by PUT where there is room, and nothing else finds it
 abbrev pub rules_missing : Act → Bool → Ruling
@@ -165,6 +227,9 @@ rules_there (PurgeState id) now w = purge (may_write w.holder (holder_status w.h
 rules_there (LockAct id text) now w = lock w.holder id text w
 rules_there (Unlock id) now w = unlock w.holder id w
 rules_there ForceUnlock now w = force_unlock w.holder w
+rules_there (MakeRun ask) now w = make_run (keyed_run ask.key w.runs) w ask now
+rules_there (ReadRun n) now w = effect (run_answer (run_of n w.runs)) (Some w)
+rules_there (ReportRun n action) now w = report (run_of n w.runs) n action w
 
 -- the rules: of an act and a moment, on a workspace
 abbrev pub rules : Act → ℕ → Seen → Ruling

@@ -4,15 +4,16 @@ use Rattle.std.specs.Option.{option_or}
 use Rattle.std.specs.FinMap.{get}
 use Rattle.std.specs.Str.{bytes_eq}
 use Rattle.machine.specs.Records.{count_of}
-use Rattle.machine.specs.Workspaces.{newest, holder_status}
+use Rattle.machine.specs.Workspaces.{newest, holder_status, run_of, keyed_run, open_runs}
 use Rattle.machine.specs.Settling.{first_waiting}
 use Rattle.machine.specs.declared.acts.Act.{Act}
-use Rattle.machine.specs.declared.acts.Act.TheVariants.{PutWorkspace, ReadWorkspace, UpdateState, ReadState, PurgeState, Lock as LockAct, Unlock, ForceUnlock}
+use Rattle.machine.specs.declared.acts.Act.TheVariants.{PutWorkspace, ReadWorkspace, UpdateState, ReadState, PurgeState, Lock as LockAct, Unlock, ForceUnlock, MakeRun, ReadRun, ReportRun}
 use Rattle.machine.specs.declared.acts.Newest.{Newest}
 use Rattle.machine.specs.declared.acts.WorkspaceUnit.{WorkspaceUnit}
 use Rattle.machine.specs.declared.acts.Unit.{Unit as AnyUnit}
 use Rattle.machine.specs.declared.acts.Unit.TheVariants.{Absent, Present}
 use Rattle.machine.specs.declared.records.Organization.{Organization}
+use Rattle.machine.specs.declared.records.Run.{Run}
 use Rattle.machine.specs.declared.records.Version.{Version}
 use Rattle.machine.specs.declared.records.Workspace.{Workspace}
 
@@ -26,6 +27,23 @@ is_text_of (PurgeState id) text = false
 is_text_of (LockAct id asked) text = false
 is_text_of (Unlock id) text = false
 is_text_of ForceUnlock text = false
+is_text_of (MakeRun ask) text = false
+is_text_of (ReadRun n) text = false
+is_text_of (ReportRun n action) text = false
+
+-- the run that an act asks of: by its number, or, where one is to be made, by its key
+abbrev pub asked_run : Act → List Run → Option Run
+asked_run (PutWorkspace settings) runs = None
+asked_run ReadWorkspace runs = None
+asked_run (UpdateState head asked id) runs = None
+asked_run ReadState runs = None
+asked_run (PurgeState id) runs = None
+asked_run (LockAct id asked) runs = None
+asked_run (Unlock id) runs = None
+asked_run ForceUnlock runs = None
+asked_run (MakeRun ask) runs = keyed_run ask.key runs
+asked_run (ReadRun n) runs = run_of n runs
+asked_run (ReportRun n action) runs = run_of n runs
 
 abbrev pub newest_unit : Act → Version → Newest
 newest_unit act v = record { number = v.number; serial = v.serial; lineage = v.lineage; is_same = is_text_of act v.text }
@@ -41,6 +59,8 @@ workspace_unit act w = record {
   newest = option_map (newest_unit act) (newest w.versions);
   versions = length w.versions;
   first_waiting = first_waiting w.runs;
+  asked_run = asked_run act w.runs;
+  open_runs = open_runs w.runs;
 }
 
 -- of a workspace that is missing, how many there are and how many there may be

@@ -1,5 +1,7 @@
 -- Parts of a workspace, and the laws that always hold of one.
-use Rattle.std.specs.Prelude.{ℕ, ◌-◌, Bool, ◌==◌, List, [], ◌∷◌, length, drop, find, Option, Some, None, option_map}
+use Rattle.std.specs.Prelude.{ℕ, ◌-◌, Bool, false, ◌==◌, List, [], ◌∷◌, length, drop, filter, find, Option, Some, None, option_map}
+use Rattle.std.specs.Str.{bytes_eq}
+use Rattle.basis.specs.Runs.{is_open}
 use Rattle.basis.specs.declared.rows.Settings.{Settings}
 use Rattle.basis.specs.declared.runs.RunStatus.{RunStatus}
 use Rattle.machine.specs.declared.records.Holder.{Holder}
@@ -42,3 +44,19 @@ abbrev pub holder_status : Holder → List Run → Option RunStatus
 holder_status Nobody runs = None
 holder_status (Lock id text) runs = None
 holder_status (HoldingRun n) runs = option_map (λ (r : Run). r.status) (run_of n runs)
+
+-- the run that has a key, if a key is given
+abbrev pub has_key : List ℕ → Option (List ℕ) → Bool
+has_key key None = false
+has_key key (Some own) = bytes_eq own key
+
+abbrev pub is_keyed : List ℕ → Run → Bool
+is_keyed key r = has_key key r.key
+
+abbrev pub keyed_run : Option (List ℕ) → List Run → Option Run
+keyed_run None runs = None
+keyed_run (Some key) runs = find (is_keyed key) runs
+
+-- how many runs are open
+abbrev pub open_runs : List Run → ℕ
+open_runs runs = length (filter (λ (r : Run). is_open r.status) runs)

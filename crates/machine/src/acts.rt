@@ -1,8 +1,9 @@
 //! What is asked of a workspace, what a decision needs of it, and what is decided.
 
-use crate::records::{Holder, Version};
+use crate::records::{Holder, Run, Version};
 use basis::{
-    Bytes, HolderId, Limit, LockId, Number, Refusal, RunStatus, Settings, StateHead, Text,
+    Bytes, HolderId, Limit, LockId, Number, Refusal, RunAction, RunAsk, RunStatus, Settings,
+    StateHead, Text,
 };
 
 /// What is asked of one workspace, its documents read.
@@ -33,6 +34,12 @@ pub enum Act {
     Unlock(LockId),
     /// `UNLOCK` of whatever lock holds.
     ForceUnlock,
+    /// Makes a run, or shows the one that has the key.
+    MakeRun(RunAsk),
+    /// A run as it is shown.
+    ReadRun(Number),
+    /// An action on a run.
+    ReportRun(Number, RunAction),
 }
 
 /// What a decision needs of the newest version.
@@ -61,6 +68,10 @@ pub struct WorkspaceUnit {
     pub versions: usize,
     /// The first run that waits: queued, pending, and of the least number.
     pub first_waiting: Option<Number>,
+    /// The run that is asked of: by its number, or, where one is to be made, by its key.
+    pub asked_run: Option<Run>,
+    /// How many runs are open.
+    pub open_runs: usize,
 }
 
 /// What a decision needs of one workspace, or that it isn't there.
@@ -90,6 +101,8 @@ pub enum Answer {
     State(Number),
     /// The workspace after the act.
     Workspace(Shown),
+    /// The run after the act.
+    Run(Run),
 }
 
 /// What an accepted act does to its workspace.
@@ -100,13 +113,28 @@ pub enum Edit {
     /// Sets the settings of the workspace that is there.
     Configure(Settings),
     /// Puts a version behind the others, and lets the oldest ones go, as many as `gone` says.
-    AddVersion { version: Version, gone: usize },
+    AddVersion {
+        version: Version,
+        gone: usize,
+    },
     /// Takes every version away.
     Purge,
     /// The lock of this ID holds, and its text is kept.
-    Hold { id: LockId, text: Bytes },
+    Hold {
+        id: LockId,
+        text: Bytes,
+    },
     /// Nobody holds any more, and this is the ID released last.
     Release(LockId),
+    /// Puts a run behind the others.
+    AddRun(Run),
+    /// A run took this action last and is in this status; where it `frees` the workspace, nobody holds any more.
+    Report {
+        number: Number,
+        action: RunAction,
+        status: RunStatus,
+        frees: bool,
+    },
 }
 
 /// How an accepted act changes its workspace: an edit, and the run that then starts, since nobody holds.

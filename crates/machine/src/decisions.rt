@@ -4,29 +4,35 @@ ghost use Rattle.std.specs.Str.{bytes_eq};
 ghost use Rattle.machine.specs.Units.{unit_of};
 ghost use Rattle.machine.specs.Records.{seen_in};
 ghost use Rattle.machine.specs.Laws.{IsLawfulOrganization};
-ghost use Rattle.machine.specs.Inner.Decisions.{decision_of, decision_missing, decided_update, decided_after, decided_version, decided_read, decided_purge, decided_lock, decided_unlock, decided_force, changing, start_now, holder_after, shown_now, shown_held, new_shown, Meets};
+ghost use Rattle.machine.specs.Inner.Decisions.{decision_of, decision_missing, decided_update, decided_after, decided_version, decided_read, decided_purge, decided_lock, decided_unlock, decided_force, decided_number_of_run, decided_make, decided_read_run, decided_step, decided_report, start_with, status_begun, begun_by, changing, start_now, holder_after, shown_now, shown_held, new_shown, Meets};
 ghost use Rattle.machine.specs.Settling.{to_start};
 ghost use Rattle.machine.specs.Writing.{may_write, is_applying};
 ghost use Rattle.machine.specs.Succession.{lineages_differ};
-ghost use Rattle.machine.specs.Rules.{holder_id, is_released};
+ghost use Rattle.machine.specs.Rules.{holder_id, is_released, number_left, new_run};
+ghost use Rattle.machine.specs.Laws.{holds};
+ghost use Rattle.machine.specs.RunSteps.{is_last};
 ghost use Rattle.machine.specs.declared.records.Organization.{Organization as AnyOrganization};
-ghost use Rattle.machine.specs.declared.records.Holder.TheVariants.{Run};
+ghost use Rattle.machine.specs.declared.records.Holder.TheVariants.{Run as HoldingRun};
 ghost use Rattle.machine.specs.declared.acts.Unit.TheVariants.{Present};
 ghost use Rattle.machine.specs.declared.acts.Act.TheVariants.{PutWorkspace};
-ghost use Rattle.machine.specs.declared.acts.Answer.TheVariants.{Done, Workspace as ShownWorkspace};
-ghost use Rattle.machine.specs.declared.acts.Edit.TheVariants.{Release};
+ghost use Rattle.machine.specs.declared.acts.Answer.TheVariants.{Done, Workspace as ShownWorkspace, Run as ShownRun};
+ghost use Rattle.machine.specs.declared.acts.Edit.TheVariants.{Release, AddRun};
 ghost use Rattle.machine.specs.declared.acts.Decision.TheVariants.{Accepted, Refused};
 
 use crate::acts::{Act, Answer, Change, Decision, Edit, Newest, Shown, Unit, WorkspaceUnit};
-use crate::records::{Holder, Version};
+use crate::records::{Holder, Run, Version};
+use crate::run_steps::next_status;
 use basis::{
-    Bytes, Down, HolderId, LockId, Moment, Number, Refusal, RunStatus, Settings, StateHead, Text,
-    is_run_id,
+    Bytes, Down, HolderId, LockId, Moment, Number, Refusal, RunAction, RunAsk, RunStatus, Settings,
+    StateHead, Text, is_run_id,
 };
 use std::alloc::Global;
 
 /// The most versions that a workspace keeps.
 pub const MAX_VERSIONS: usize = 100;
+
+/// The most open runs of a workspace.
+pub const MAX_OPEN_RUNS: usize = 100;
 
 fn is_applying(status: Option<RunStatus>) -> bool
     ensures { result ≡ is_applying status }
@@ -61,7 +67,7 @@ fn may_write(holder: &Holder, status: Option<RunStatus>, id: &Option<LockId>) ->
 }
 
 fn may_write_of_run(n: Number, status: Option<RunStatus>, id: &LockId) -> Option<Refusal>
-    ensures { result ≡ may_write (Run n) status (Some id.now) }
+    ensures { result ≡ may_write (HoldingRun n) status (Some id.now) }
 {
     if !is_run_id(n, id.as_str()) {
         Some(Refusal::Locked)
@@ -339,6 +345,181 @@ fn decide_force(unit: &WorkspaceUnit) -> Result<Decision, Down>
     }
 }
 
+fn status_begun(start: Option<Number>, number: Number, status: RunStatus) -> RunStatus
+    ensures { result ≡ status_begun start number status }
+{
+    match start {
+        None => status,
+        Some(n) => {
+            if number == n {
+                RunStatus::Planning
+            } else {
+                status
+            }
+        }
+    }
+}
+
+// A run as it is after an act: in a status, or planning where it is the one that starts.
+fn run_after(
+    run: &Run,
+    action: Option<RunAction>,
+    status: RunStatus,
+    start: Option<Number>,
+) -> Result<Run, Down>
+    ensures { IfOk result (λ after. after ≡ begun_by start (record run.now { action = action; status = status })) }
+{
+    Ok(Run {
+        number: run.number,
+        plan_only: run.plan_only,
+        key: run.key.clone()?,
+        message: run.message.clone()?,
+        created: run.created,
+        status: status_begun(start, run.number, status),
+        action,
+    })
+}
+
+fn new_run(number: Number, ask: &RunAsk, now: Moment) -> Result<Run, Down>
+    ensures { IfOk result (λ run. run ≡ new_run number ask.now now) }
+{
+    let status = if ask.plan_only {
+        RunStatus::Planning
+    } else {
+        RunStatus::Pending
+    };
+    Ok(Run {
+        number,
+        plan_only: ask.plan_only,
+        key: ask.key.clone()?,
+        message: ask.message.clone()?,
+        created: now,
+        status,
+        action: None,
+    })
+}
+
+// The run that starts once a run has come behind the others.
+fn start_with(unit: &WorkspaceUnit, run: &Run) -> Option<Number>
+    ensures { result ≡ start_with unit.now run.now }
+{
+    let own = if run.is_waiting() {
+        Some(run.number)
+    } else {
+        None
+    };
+    to_start(&unit.holder, unit.first_waiting.or(own))
+}
+
+// A run comes behind the others, and is told as it is once one has started.
+fn add_run(run: &Run, start: Option<Number>) -> Result<Decision, Down>
+    ensures { IfOk result (λ decision. decision ≡ changing (ShownRun (begun_by start run.now)) (AddRun run.now) start) }
+{
+    let answer = Answer::Run(run_after(run, run.action, run.status, start)?);
+    let edit = Edit::AddRun(run.clone()?);
+    Ok(accept(answer, edit, start))
+}
+
+fn decide_new_run(unit: &WorkspaceUnit, ask: &RunAsk, now: Moment) -> Result<Decision, Down>
+    ensures { IfOk result (λ decision. decision ≡ decided_number_of_run (number_left unit.now.next_run) unit.now ask.now now) }
+{
+    let Some(number) = Number::new(unit.next_run) else {
+        return Ok(Decision::Refused(Refusal::OverLimit));
+    };
+    let run = new_run(number, ask, now)?;
+    let start = start_with(unit, &run);
+    add_run(&run, start)
+}
+
+fn show_run(run: &Run) -> Result<Decision, Down>
+    ensures { IfOk result (λ decision. decision ≡ Accepted (ShownRun run.now) None) }
+{
+    Ok(Decision::Accepted {
+        answer: Answer::Run(run.clone()?),
+        change: None,
+    })
+}
+
+fn decide_make(unit: &WorkspaceUnit, ask: &RunAsk, now: Moment) -> Result<Decision, Down>
+    ensures { IfOk result (λ decision. decision ≡ decided_make unit.now.asked_run unit.now ask.now now) }
+{
+    match &unit.asked_run {
+        Some(run) => show_run(run),
+        None => {
+            if unit.open_runs < MAX_OPEN_RUNS {
+                decide_new_run(unit, ask, now)
+            } else {
+                Ok(Decision::Refused(Refusal::OverLimit))
+            }
+        }
+    }
+}
+
+fn decide_read_run(asked_run: &Option<Run>) -> Result<Decision, Down>
+    ensures { IfOk result (λ decision. decision ≡ decided_read_run asked_run.now) }
+{
+    match asked_run {
+        Some(run) => show_run(run),
+        None => Ok(Decision::Refused(Refusal::NotFound)),
+    }
+}
+
+fn holds(holder: &Holder, n: Number) -> bool
+    ensures { result ≡ holds holder.now n }
+{
+    match holder {
+        Holder::Nobody => false,
+        Holder::Lock { .. } => false,
+        Holder::Run(m) => *m == n,
+    }
+}
+
+// A run took an action that leads it to a status: where it held and has ended, the first run that waits starts.
+fn decide_step(
+    unit: &WorkspaceUnit,
+    run: &Run,
+    n: Number,
+    action: RunAction,
+    status: RunStatus,
+) -> Result<Decision, Down>
+    ensures { IfOk result (λ decision. decision ≡ decided_step (Some status) unit.now run.now n action) }
+{
+    let frees = holds(&unit.holder, n) && !status.is_open();
+    let start = if frees { unit.first_waiting } else { None };
+    let answer = Answer::Run(run_after(run, Some(action), status, start)?);
+    let edit = Edit::Report {
+        number: n,
+        action,
+        status,
+        frees,
+    };
+    Ok(accept(answer, edit, start))
+}
+
+fn is_last(action: RunAction, last: Option<RunAction>) -> bool
+    ensures { result ≡ is_last action last }
+{
+    match last {
+        None => false,
+        Some(last) => last.word() == action.word(),
+    }
+}
+
+fn decide_report(unit: &WorkspaceUnit, n: Number, action: RunAction) -> Result<Decision, Down>
+    ensures { IfOk result (λ decision. decision ≡ decided_report unit.now.asked_run unit.now n action) }
+{
+    let Some(run) = &unit.asked_run else {
+        return Ok(Decision::Refused(Refusal::NotFound));
+    };
+    if is_last(action, run.action) {
+        return show_run(run);
+    }
+    match next_status(run.plan_only, unit.auto_apply, run.status, action) {
+        Some(status) => decide_step(unit, run, n, action, status),
+        None => Ok(Decision::Refused(Refusal::WrongState)),
+    }
+}
+
 fn decide_present(unit: &WorkspaceUnit, act: &Act, now: Moment) -> Result<Decision, Down>
     ensures { IfOk result (λ decision. decision ≡ decision_of (Present unit.now) act.now now) }
 {
@@ -355,6 +536,9 @@ fn decide_present(unit: &WorkspaceUnit, act: &Act, now: Moment) -> Result<Decisi
         Act::Lock { id, text } => decide_lock(&unit.holder, id, text),
         Act::Unlock(id) => decide_unlock(unit, id),
         Act::ForceUnlock => decide_force(unit),
+        Act::MakeRun(ask) => decide_make(unit, ask, now),
+        Act::ReadRun(_) => decide_read_run(&unit.asked_run),
+        Act::ReportRun(n, action) => decide_report(unit, *n, *action),
     }
 }
 
@@ -370,6 +554,9 @@ fn decide_missing(act: &Act, has_room: bool) -> Decision
         Act::Lock { .. } => Decision::Refused(Refusal::NotFound),
         Act::Unlock(_) => Decision::Refused(Refusal::NotFound),
         Act::ForceUnlock => Decision::Refused(Refusal::NotFound),
+        Act::MakeRun(_) => Decision::Refused(Refusal::NotFound),
+        Act::ReadRun(_) => Decision::Refused(Refusal::NotFound),
+        Act::ReportRun(_, _) => Decision::Refused(Refusal::NotFound),
     }
 }
 

@@ -9,9 +9,10 @@ pub mod laws;
 pub mod maps;
 pub mod plain;
 pub mod records;
+pub mod run_steps;
 
 pub use acts::{Act, Answer, Change, Decision, Edit, Newest, Shown, Unit, WorkspaceUnit};
-pub use decisions::{MAX_VERSIONS, decide};
+pub use decisions::{MAX_OPEN_RUNS, MAX_VERSIONS, decide};
 pub use keeps::{AdminAnswer, Keep};
 pub use laws::{
     holds_until_released, locked_workspaces_stay, nothing_is_read_of_a_purge, numbers_rise,
@@ -21,3 +22,4 @@ pub use laws::{
 pub use maps::NameMap;
 pub use plain::PlainKeep;
 pub use records::{Holder, Organization, Run, Token, Version, Workspace};
+pub use run_steps::next_status;

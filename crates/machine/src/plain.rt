@@ -1,16 +1,17 @@
 //! A store in memory: every organization's record as nested values.
 ghost use Rattle.std.specs.Prelude.{◌≡◌, ◌≢◌, ℕ, ⊤, List, Option, Some, None, IfOk, OnOk, OnErr, cond, option_map, option_copied};
-ghost use Rattle.std.specs.Prelude.{map as map_list};
+ghost use Rattle.std.specs.Prelude.{map as map_list, find};
 ghost use Rattle.std.specs.FinMap as map;
 ghost use Rattle.machine.specs.Effects.{effect};
 ghost use Rattle.machine.specs.Laws.{AreLawful};
 ghost use Rattle.machine.specs.Records.{with_workspace, placed};
 ghost use Rattle.machine.specs.Tokens.{token_with, has_digest, new_organization, org_added, token_added};
 ghost use Rattle.machine.specs.Changes.{edited, changed_by};
-ghost use Rattle.machine.specs.Units.{is_text_of, newest_unit, workspace_unit, unit_of, version_of, text_of};
+ghost use Rattle.machine.specs.Rules.{reported};
+ghost use Rattle.machine.specs.Units.{is_text_of, asked_run, newest_unit, workspace_unit, unit_of, version_of, text_of};
 ghost use Rattle.basis.specs.declared.runs.RunStatus.TheVariants.{Planning};
 ghost use Rattle.machine.specs.Settling.{first_waiting, begun, started, started_if};
-ghost use Rattle.machine.specs.Workspaces.{newest, new_workspace, run_of, holder_status};
+ghost use Rattle.machine.specs.Workspaces.{newest, new_workspace, run_of, holder_status, is_keyed, keyed_run, open_runs};
 ghost use Rattle.machine.specs.declared.records.Organization.{Organization as AnyOrganization};
 
 use crate::acts::{Act, Change, Edit, Newest, Unit, WorkspaceUnit};
@@ -19,7 +20,8 @@ use crate::maps::{Entry, NameMap};
 use crate::records::{Holder, Organization, Run, Token, Version, Workspace};
 use basis::numbers::MAX_LIMIT;
 use basis::{
-    Bytes, Down, Items, Limit, LockId, Number, OrgName, Role, RunStatus, Settings, Text, WsName,
+    Bytes, Down, Items, Limit, LockId, Number, OrgName, Role, RunAction, RunStatus, Settings, Text,
+    WsName,
 };
 use std::alloc::Global;
 
@@ -251,6 +253,8 @@ impl NameMap<Workspace> {
                 Edit::Purge => Ok(()),
                 Edit::Hold { .. } => Ok(()),
                 Edit::Release(_) => Ok(()),
+                Edit::AddRun(_) => Ok(()),
+                Edit::Report { .. } => Ok(()),
             },
         }
     }
@@ -296,6 +300,8 @@ impl Workspace {
             newest: newest_of(act, self.versions.as_slice())?,
             versions: self.versions.as_slice().len(),
             first_waiting: first_waiting(self.runs.as_slice()),
+            asked_run: asked_run(act, self.runs.as_slice())?,
+            open_runs: open_runs(self.runs.as_slice()),
         })
     }
 
@@ -344,6 +350,24 @@ impl Workspace {
         Ok(())
     }
 
+    fn add_run(&mut self, run: &Run) -> Result<(), Down>
+        ensures ok { OnOk result (Some self.new ≡ edited (Edit.AddRun run.now) (Some self.old)) }
+        ensures err { OnErr result (self.new ≡ self.old) }
+    {
+        self.runs.push(run.clone()?)?;
+        self.next_run = run.number.get() as u64 + 1;
+        Ok(())
+    }
+
+    fn report(&mut self, number: Number, action: RunAction, status: RunStatus, frees: bool)
+        ensures { Some self.new ≡ edited (Edit.Report number action status frees) (Some self.old) }
+    {
+        if frees {
+            self.holder = Holder::Nobody;
+        }
+        record(&mut self.runs, number, action, status);
+    }
+
     fn edit(&mut self, alloc: Global, edit: &Edit) -> Result<(), Down>
         ensures ok { OnOk result (Some self.new ≡ edited edit.now (Some self.old)) }
         ensures err { OnErr result (self.new ≡ self.old) }
@@ -355,6 +379,13 @@ impl Workspace {
             Edit::Purge => self.purge(),
             Edit::Hold { id, text } => self.hold(id, text)?,
             Edit::Release(id) => self.release(id)?,
+            Edit::AddRun(run) => self.add_run(run)?,
+            Edit::Report {
+                number,
+                action,
+                status,
+                frees,
+            } => self.report(*number, *action, *status, *frees),
         }
         Ok(())
     }
@@ -394,6 +425,28 @@ fn begun_status(starts: bool, status: RunStatus) -> RunStatus
     if starts { RunStatus::Planning } else { status }
 }
 
+// The run of this number took this action last, and is in this status.
+fn record(runs: &mut Items<Run>, n: Number, action: RunAction, status: RunStatus)
+    ensures { runs.new ≡ map_list (reported n action status) runs.old }
+{
+    for run in runs.items.iter_mut() {
+        run.action = recorded_action(run.number == n, action, run.action);
+        run.status = recorded_status(run.number == n, status, run.status);
+    }
+}
+
+fn recorded_action(is_it: bool, action: RunAction, last: Option<RunAction>) -> Option<RunAction>
+    ensures { result ≡ cond is_it (Some action) last }
+{
+    if is_it { Some(action) } else { last }
+}
+
+fn recorded_status(is_it: bool, status: RunStatus, before: RunStatus) -> RunStatus
+    ensures { result ≡ cond is_it status before }
+{
+    if is_it { status } else { before }
+}
+
 fn is_text_of(act: &Act, text: &Bytes) -> bool
     ensures { result ≡ is_text_of act.now text.now }
 {
@@ -406,6 +459,9 @@ fn is_text_of(act: &Act, text: &Bytes) -> bool
         Act::Lock { .. } => false,
         Act::Unlock(_) => false,
         Act::ForceUnlock => false,
+        Act::MakeRun(_) => false,
+        Act::ReadRun(_) => false,
+        Act::ReportRun(_, _) => false,
     }
 }
 
@@ -433,6 +489,64 @@ fn run_of(n: Number, runs: &[Run]) -> Option<&Run>
     ensures { option_copied result ≡ run_of n runs.now }
 {
     runs.iter().find(|run| run.number == n)
+}
+
+fn is_keyed(key: &Text, run: &Run) -> bool
+    ensures { result ≡ is_keyed key.now run.now }
+{
+    match &run.key {
+        None => false,
+        Some(own) => own.as_str() == key.as_str(),
+    }
+}
+
+fn run_with_key<'a>(key: &Text, runs: &'a [Run]) -> Option<&'a Run>
+    ensures { option_copied result ≡ find (is_keyed key.now) runs.now }
+{
+    runs.iter().find(|run| is_keyed(key, run))
+}
+
+fn keyed_run<'a>(key: &Option<Text>, runs: &'a [Run]) -> Option<&'a Run>
+    ensures { option_copied result ≡ keyed_run key.now runs.now }
+{
+    match key {
+        None => None,
+        Some(key) => run_with_key(key, runs),
+    }
+}
+
+fn copy_of(run: Option<&Run>) -> Result<Option<Run>, Down>
+    ensures { IfOk result (λ copy. copy ≡ option_copied run.entry) }
+{
+    match run {
+        None => Ok(None),
+        Some(run) => Ok(Some(run.clone()?)),
+    }
+}
+
+// The run that an act asks of.
+fn asked_run(act: &Act, runs: &[Run]) -> Result<Option<Run>, Down>
+    ensures { IfOk result (λ run. run ≡ asked_run act.now runs.now) }
+{
+    match act {
+        Act::MakeRun(ask) => copy_of(keyed_run(&ask.key, runs)),
+        Act::ReadRun(n) => copy_of(run_of(*n, runs)),
+        Act::ReportRun(n, _) => copy_of(run_of(*n, runs)),
+        Act::PutWorkspace(_) => Ok(None),
+        Act::ReadWorkspace => Ok(None),
+        Act::UpdateState { .. } => Ok(None),
+        Act::ReadState => Ok(None),
+        Act::PurgeState { .. } => Ok(None),
+        Act::Lock { .. } => Ok(None),
+        Act::Unlock(_) => Ok(None),
+        Act::ForceUnlock => Ok(None),
+    }
+}
+
+fn open_runs(runs: &[Run]) -> usize
+    ensures { result ≡ open_runs runs.now }
+{
+    runs.iter().filter(|run| run.status.is_open()).count()
 }
 
 fn first_waiting(runs: &[Run]) -> Option<Number>

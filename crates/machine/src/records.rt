@@ -24,7 +24,7 @@ pub struct Version {
 }
 
 /// A run of a workspace.
-#[derive(Debug, Drop)]
+#[derive(Clone, Debug, Drop)]
 pub struct Run {
     pub number: Number,
     pub plan_only: bool,

@@ -18,7 +18,7 @@ use Rattle.machine.specs.Tokens.{new_organization}
 use Rattle.machine.specs.declared.acts.Change.{Change}
 use Rattle.machine.specs.declared.records.Workspace.{Workspace}
 use Rattle.machine.specs.declared.records.Organization.{Organization}
-use Rattle.machine.proofs.LawLemmas.{rules_are_lawful}
+use Rattle.machine.proofs.RuleLemmas.{rules_are_lawful}
 use Rattle.machine.proofs.KeepLemmas.{standing_is}
 use Rattle.statements.specs.Rows.{Kept, id_of, OrgRow, TokenRow}
 use Rattle.statements.specs.Tables.{Tables}

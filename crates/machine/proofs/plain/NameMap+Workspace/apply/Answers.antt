@@ -30,3 +30,9 @@ returns-in-Hold-clause-ok c = absent_kept _ _ c.args.change.now (none_at_gap _ _
 
 pub returns-in-Release-clause-ok : goal.returns-in-Release-clause-ok
 returns-in-Release-clause-ok c = absent_kept _ _ c.args.change.now (none_at_gap _ _ _ c.in-Err.ensures.absent) (rw c.in-Release.is refl)
+
+pub returns-in-AddRun-clause-ok : goal.returns-in-AddRun-clause-ok
+returns-in-AddRun-clause-ok c = absent_kept _ _ c.args.change.now (none_at_gap _ _ _ c.in-Err.ensures.absent) (rw c.in-AddRun.is refl)
+
+pub returns-in-Report-clause-ok : goal.returns-in-Report-clause-ok
+returns-in-Report-clause-ok c = absent_kept _ _ c.args.change.now (none_at_gap _ _ _ c.in-Err.ensures.absent) (rw c.in-Report.is refl)

@@ -1,0 +1,77 @@
+-- The steps of runs: three finite sets of a status, an action, and the status after it (HCP Terraform, 'Run States and
+-- Stages', a subset). An action that no step of a status has is refused there.
+use Rattle.std.specs.Prelude.{ℕ, Bool, true, false, ◌&&◌, List, [], ◌∷◌, find, Option, Some, None, option_map}
+use Rattle.std.specs.Str.{bytes_eq}
+use Rattle.basis.specs.Runs.{status_word, action_word}
+use Rattle.basis.specs.declared.runs.RunStatus.{RunStatus}
+use Rattle.basis.specs.declared.runs.RunStatus.TheVariants.{Pending, Planning, Planned, Applying, Applied, PlannedAndFinished, Errored, Discarded, Canceled}
+use Rattle.basis.specs.declared.runs.RunAction.{RunAction}
+use Rattle.basis.specs.declared.runs.RunAction.TheVariants.{ReportPlanned, ReportUnchanged, Fail, Confirm, ReportApplied, Discard, Cancel}
+
+-- a run in a status takes an action, and is in a status after it
+pub record RunStep : Type 0 where
+  pub from : RunStatus
+  pub action : RunAction
+  pub to : RunStatus
+
+abbrev pub step : RunStatus → RunAction → RunStatus → RunStep
+step from action to = record { from = from; action = action; to = to }
+
+-- of a plan-only run
+abbrev pub plan_only_steps : List RunStep
+plan_only_steps =
+    step Planning ReportPlanned PlannedAndFinished
+    ∷ step Planning ReportUnchanged PlannedAndFinished
+    ∷ step Planning Fail Errored
+    ∷ step Planning Cancel Canceled
+    ∷ []
+
+-- of a queued run, by where it goes once its plan is made
+abbrev pub queued_steps : RunStatus → List RunStep
+queued_steps planned =
+    step Pending Discard Discarded
+    ∷ step Planning ReportPlanned planned
+    ∷ step Planning ReportUnchanged PlannedAndFinished
+    ∷ step Planning Fail Errored
+    ∷ step Planning Cancel Canceled
+    ∷ step Planned Confirm Applying
+    ∷ step Planned Discard Discarded
+    ∷ step Applying ReportApplied Applied
+    ∷ step Applying Fail Errored
+    ∷ step Applying Cancel Canceled
+    ∷ []
+
+-- of a queued run under auto-apply: it applies at once
+abbrev pub auto_apply_steps : List RunStep
+auto_apply_steps = queued_steps Applying
+
+-- of any other queued run: it waits for Confirm
+abbrev pub confirmed_steps : List RunStep
+confirmed_steps = queued_steps Planned
+
+abbrev pub steps_of : (plan_only auto_apply : Bool) → List RunStep
+steps_of true auto_apply = plan_only_steps
+steps_of false true = auto_apply_steps
+steps_of false false = confirmed_steps
+
+-- two statuses, or two actions, that have one word
+abbrev pub is_status : RunStatus → RunStatus → Bool
+is_status a b = bytes_eq (status_word a) (status_word b)
+
+abbrev pub is_action : RunAction → RunAction → Bool
+is_action a b = bytes_eq (action_word a) (action_word b)
+
+abbrev pub is_step : RunStatus → RunAction → RunStep → Bool
+is_step status action s = is_status s.from status && is_action s.action action
+
+abbrev pub step_in : List RunStep → RunStatus → RunAction → Option RunStatus
+step_in steps status action = option_map (λ (s : RunStep). s.to) (find (is_step status action) steps)
+
+-- where an action takes a run, if it takes it anywhere
+abbrev pub next_status : (plan_only auto_apply : Bool) → RunStatus → RunAction → Option RunStatus
+next_status plan_only auto_apply status action = step_in (steps_of plan_only auto_apply) status action
+
+-- whether the action is the one that a run took last
+abbrev pub is_last : RunAction → Option RunAction → Bool
+is_last action None = false
+is_last action (Some last) = is_action last action
