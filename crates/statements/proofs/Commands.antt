@@ -21,6 +21,9 @@ is_below column parameter = op2 (Compare Lt Binary) (col 1 column) (col 0 parame
 abbrev pub is_number : ℕ → ℕ → Term
 is_number column n = op2 (Compare Eq Binary) (col 1 column) (lit (Int (pos n)))
 
+abbrev pub is_under : ℕ → ℕ → Term
+is_under column n = op2 (Compare Lt Binary) (col 1 column) (lit (Int (pos n)))
+
 abbrev pub simple_query : ℕ → List Term → List Term → Query
 simple_query tree filter project = record {
   from = inner tree end;

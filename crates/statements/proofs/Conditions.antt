@@ -1,5 +1,5 @@
 -- Terms of WHERE at typed values.
-use Rattle.std.proofs.Common.{◌≡◌, ℕ, pos, Bool, true, false, not, ◌&&◌, if◌then◌else◌, List, refl, ◌∙◌, int_eq, int_lt, eqb, arith}
+use Rattle.std.proofs.Common.{◌≡◌, ℕ, pos, Bool, true, false, not, ◌&&◌, if◌then◌else◌, List, Option, Some, None, refl, ap, ◌∙◌, int_eq, int_lt, eqb, arith}
 use Rattle.std.specs.Prelude.{nat_lt}
 use Rattle.std.specs.Str.{bytes_eq}
 use Rattle.std.proofs.lemmas.Map.Text.{is_eq-slice_cmp}
@@ -10,10 +10,12 @@ use Rattle.sqlite_value.specs.declared.value.Value.TheVariants.{Int, Text, Blob}
 use Rattle.sqlite_sql.specs.declared.ops.CompareOp.TheVariants.{Eq, Lt}
 use Rattle.sqlite_sql.specs.declared.ops.BinaryOp.TheVariants.{Compare}
 use Rattle.sqlite_sql.specs.Ops.{is_true, binary}
+use Rattle.sqlite_typed.specs.Columns.{or_null}
 use Rattle.basis.specs.declared.runs.RunStatus.{RunStatus}
 use Rattle.basis.specs.declared.runs.RunStatus.TheVariants.{Pending, Planning, Planned, Applying, Applied, PlannedAndFinished, Errored, Discarded, Canceled}
 use Rattle.statements.specs.Rows.{flag, status_code}
-use Rattle.statements.specs.Finds.{is_pending}
+use Rattle.basis.specs.Runs.{is_open}
+use Rattle.statements.specs.Finds.{is_pending, has_key}
 use Rattle.sqlite_typed.proofs.TestLemmas.{at_texts, at_blobs, at_ints, then_term, last_term}
 
 pub same_text : (a b : List ℕ) → is_true (binary (Compare Eq Binary) (Text a) (Text b)) ≡ bytes_eq a b
@@ -73,3 +75,30 @@ pub waits : (a b c d : List ℕ) (s : RunStatus) (planned : Bool)
     ≡ (bytes_eq a b && (bytes_eq c d && (is_pending s && not planned)))
 waits a b c d s planned =
     then_term (same_text a b) (then_term (same_text c d) (then_term (same_number (status_code s) 0 ∙ pending_is s) (last_term (at_ints _ Eq (if planned then pos 1 else pos 0) (pos 0) ∙ unset_is planned))))
+
+-- what is compared with NULL is never true
+key_is : (key : List ℕ) (o : Option (List ℕ)) → is_true (binary (Compare Eq Binary) (or_null Text o) (Text key)) ≡ has_key key o
+unfolding binary
+key_is key None = refl
+key_is key (Some k) = same_text k key
+
+pub two_texts_key : (a b c d key : List ℕ) (o : Option (List ℕ))
+    → (is_true (binary (Compare Eq Binary) (Text a) (Text b)) && (is_true (binary (Compare Eq Binary) (Text c) (Text d)) && (is_true (binary (Compare Eq Binary) (or_null Text o) (Text key)) && true)))
+    ≡ (bytes_eq a b && (bytes_eq c d && has_key key o))
+two_texts_key a b c d key o = then_term (same_text a b) (then_term (same_text c d) (last_term (key_is key o)))
+
+open_is : (s : RunStatus) → nat_lt (status_code s) 4 ≡ is_open s
+open_is Pending = refl
+open_is Planning = refl
+open_is Planned = refl
+open_is Applying = refl
+open_is Applied = refl
+open_is PlannedAndFinished = refl
+open_is Errored = refl
+open_is Discarded = refl
+open_is Canceled = refl
+
+pub two_texts_open : (a b c d : List ℕ) (s : RunStatus)
+    → (is_true (binary (Compare Eq Binary) (Text a) (Text b)) && (is_true (binary (Compare Eq Binary) (Text c) (Text d)) && (is_true (binary (Compare Lt Binary) (Int (pos (status_code s))) (Int (pos 4))) && true)))
+    ≡ (bytes_eq a b && (bytes_eq c d && is_open s))
+two_texts_open a b c d s = two_texts_below a b c d (status_code s) 4 ∙ ap (λ o. bytes_eq a b && (bytes_eq c d && o)) (open_is s)

@@ -4,14 +4,16 @@ use Rattle.sqlite_value.specs.declared.value.Value.TheVariants as cell
 use Rattle.sqlite_typed.specs.Columns.{or_null}
 use Rattle.basis.specs.declared.roles.Role.{Role}
 use Rattle.basis.specs.declared.runs.RunStatus.{RunStatus}
+use Rattle.basis.specs.declared.runs.RunAction.{RunAction}
 use Rattle.statements.specs.declared.rows.Holder.{Holder}
 use Rattle.statements.specs.declared.rows.Holder.TheVariants.{Nobody, Lock, Run as HeldByRun}
 use Rattle.statements.specs.declared.rows.Workspace.{Workspace}
 use Rattle.statements.specs.declared.rows.Head.{Head}
-use Rattle.statements.specs.Rows.{Version, number, flag, role_code, status_code, kind_cell, lock_id_cell, lock_text_cell, run_cell}
+use Rattle.statements.specs.declared.rows.Run.{Run}
+use Rattle.statements.specs.Rows.{Version, number, flag, role_code, status_code, action_code, kind_cell, lock_id_cell, lock_text_cell, run_cell}
 use Rattle.statements.specs.Finds.{head_of}
-use Rattle.statements.specs.Queries.{IsFlag, IsTextOrNull, IsHolder, IsWorkspace, IsHead}
-use Rattle.statements.proofs.Codes.{same_role, same_status}
+use Rattle.statements.specs.Queries.{IsFlag, IsTextOrNull, IsHolder, IsWorkspace, IsHead, IsActionOrNull, IsRun}
+use Rattle.statements.proofs.Codes.{same_role, same_status, same_action}
 
 same_code : (m n : ℕ) → number m ≡ number n → m ≡ n
 same_code m n e = cc
@@ -74,4 +76,22 @@ head_read v h told = λ i. record {
   serial = number_read v.serial h.serial told.serial i;
   lineage = text_read v.lineage h.lineage told.lineage i;
   size = number_read (length v.body) h.size told.size i;
+}
+
+action_read : (o p : Option RunAction) → IsActionOrNull (or_null (λ a. number (action_code a)) o) p → p ≡ o
+action_read None None told = refl
+action_read None (Some b) told = absurd (cc)
+action_read (Some a) None told = absurd (cc)
+action_read (Some a) (Some b) told = ap Some (sym (same_action a b (same_code _ _ told)))
+
+pub run_read : (r q : Run)
+    → IsRun (number r.number ∷ flag r.plan_only ∷ or_null cell.Text r.key ∷ cell.Text r.message ∷ number r.created ∷ number (status_code r.status) ∷ or_null (λ a. number (action_code a)) r.action ∷ []) q → q ≡ r
+run_read r q told = λ i. record {
+  number = number_read r.number q.number told.number_is i;
+  plan_only = flag_read r.plan_only q.plan_only told.plan_only i;
+  key = optional_read r.key q.key told.key i;
+  message = text_read r.message q.message told.message i;
+  created = number_read r.created q.created told.created i;
+  status = status_read r.status q.status told.status i;
+  action = action_read r.action q.action told.action i;
 }

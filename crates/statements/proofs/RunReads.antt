@@ -1,5 +1,5 @@
 -- What the queries on the table run read of its rows.
-use Rattle.std.proofs.Common.{ℕ, List, [], ◌∷◌, Option, codes, refl}
+use Rattle.std.proofs.Common.{◌≡◌, ℕ, List, [], ◌∷◌, Option, Some, codes, refl}
 use Rattle.sqlite_value.specs.declared.value.Value.TheVariants.{Text}
 use Rattle.sqlite_value.specs.Order.{Row}
 use Rattle.sqlite_keyed.proofs.ListLemmas.{first_taken}
@@ -8,12 +8,12 @@ use Rattle.statements.specs.Schema.{run_table}
 use Rattle.statements.specs.Rows.{run_cells, number}
 use Rattle.statements.specs.Tables.{Tables, Holds}
 use Rattle.statements.specs.Changes.{is_run}
-use Rattle.statements.specs.Finds.{is_waiting, first_waiting_of, status_of}
-use Rattle.statements.specs.Queries.{FirstRow, Pins, IsNumber, IsStatus}
-use Rattle.statements.proofs.PointReads.{first_own}
-use Rattle.statements.proofs.ReadBack.{number_read, status_read}
-use Rattle.statements.proofs.Conditions.{two_texts_number, waits}
-use Rattle.statements.proofs.RunTexts.{first_waiting_text, first_waiting_means, first_waiting_rest, run_status_text, run_status_means, run_status_rest}
+use Rattle.statements.specs.Finds.{is_waiting, first_waiting_of, status_of, is_run_with_key, is_open_run_of, run_of, keyed_run_of, open_runs_of}
+use Rattle.statements.specs.Queries.{FirstRow, Pins, IsNumber, IsStatus, IsRun}
+use Rattle.statements.proofs.PointReads.{first_own, count_own}
+use Rattle.statements.proofs.ReadBack.{number_read, status_read, run_read}
+use Rattle.statements.proofs.Conditions.{two_texts_number, two_texts_key, two_texts_open, waits}
+use Rattle.statements.proofs.RunTexts.{first_waiting_text, first_waiting_means, first_waiting_rest, run_status_text, run_status_means, run_status_rest, run_names, find_run_text, find_run_means, find_run_rest, find_keyed_run_text, find_keyed_run_means, find_keyed_run_rest, count_open_runs_text, count_open_runs_means, count_open_runs_rest}
 
 module _ (old new : State) (t : Tables) (h : Holds old.now t) where
   pub first_waiting_shows : (org ws : List ℕ) (row : Option Row) → FirstRow first_waiting_text (Text org ∷ Text ws ∷ []) old new row → Pins IsNumber row (first_waiting_of org ws t)
@@ -25,3 +25,18 @@ module _ (old new : State) (t : Tables) (h : Holds old.now t) where
   run_status_shows org ws run row first =
       first_own run_cells run_table old new h.ours.run t.runs h.runs h.runs_keyed run_status_text (Text org ∷ Text ws ∷ number run ∷ []) row first run_status_rest (codes "status" ∷ [])
       (is_run org ws run) (λ x. two_texts_number x.1.org org x.1.ws ws x.1.it.number run) IsStatus (λ x. x.1.it.status) (λ x y told. status_read x.1.it.status y told) (run_status_means old.now.schema _ _ h.ours.run.place) (λ l. refl)
+
+  pub find_run_shows : (org ws : List ℕ) (n : ℕ) (row : Option Row) → FirstRow find_run_text (Text org ∷ Text ws ∷ number n ∷ []) old new row → Pins IsRun row (run_of org ws n t)
+  find_run_shows org ws n row first =
+      first_own run_cells run_table old new h.ours.run t.runs h.runs h.runs_keyed find_run_text (Text org ∷ Text ws ∷ number n ∷ []) row first find_run_rest run_names
+      (is_run org ws n) (λ x. two_texts_number x.1.org org x.1.ws ws x.1.it.number n) IsRun (λ x. x.1.it) (λ x y told. run_read x.1.it y told) (find_run_means old.now.schema _ _ h.ours.run.place) (λ l. refl)
+
+  pub find_keyed_run_shows : (org ws key : List ℕ) (row : Option Row) → FirstRow find_keyed_run_text (Text org ∷ Text ws ∷ Text key ∷ []) old new row → Pins IsRun row (keyed_run_of org ws key t)
+  find_keyed_run_shows org ws key row first =
+      first_own run_cells run_table old new h.ours.run t.runs h.runs h.runs_keyed find_keyed_run_text (Text org ∷ Text ws ∷ Text key ∷ []) row first find_keyed_run_rest run_names
+      (is_run_with_key org ws key) (λ x. two_texts_key x.1.org org x.1.ws ws key x.1.it.key) IsRun (λ x. x.1.it) (λ x y told. run_read x.1.it y told) (find_keyed_run_means old.now.schema _ _ h.ours.run.place) (λ l. refl)
+
+  pub count_open_runs_shows : (org ws : List ℕ) (row : Option Row) → FirstRow count_open_runs_text (Text org ∷ Text ws ∷ []) old new row → row ≡ Some (number (open_runs_of org ws t) ∷ [])
+  count_open_runs_shows org ws row first =
+      count_own run_cells run_table old new h.ours.run t.runs h.runs h.runs_keyed count_open_runs_text (Text org ∷ Text ws ∷ []) row first count_open_runs_rest (codes "count(*)" ∷ [])
+      (is_open_run_of org ws) (λ x. two_texts_open x.1.org org x.1.ws ws x.1.it.status) (count_open_runs_means old.now.schema _ _ h.ours.run.place) (λ l. refl)

@@ -21,8 +21,8 @@ use Rattle.statements.proofs.SyntaxTrees as st
 use Rattle.statements.proofs.Meaning.{Means, means, some_parsed, as_read}
 use Rattle.statements.proofs.Reading.{read_is}
 use Rattle.statements.proofs.Writes.{plain_program}
-use Rattle.statements.proofs.Answered.{point}
-use Rattle.statements.proofs.Commands.{is_at, is_number, update_query, delete_query, point_rest, point_draft, no_page, one_page}
+use Rattle.statements.proofs.Answered.{point, tally}
+use Rattle.statements.proofs.Commands.{is_at, is_number, is_under, update_query, delete_query, point_rest, point_draft, tally_draft, no_page, one_page}
 
 abbrev pub first_waiting_text : List ℕ
 first_waiting_text = codes "SELECT number FROM run WHERE org = ?1 AND ws = ?2 AND status = 0 AND plan_only = 0 ORDER BY rowid LIMIT 1"
@@ -55,6 +55,60 @@ run_status_is_query = (run_status_select, some_parsed (first run_status_text), r
 
 abbrev pub run_status_rest : Query
 run_status_rest = point_rest (is_at 1 0 ∷ is_at 2 1 ∷ is_at 3 2 ∷ []) (col 1 8 ∷ []) no_page
+
+abbrev pub run_names : List (List ℕ)
+run_names = codes "number" ∷ codes "plan_only" ∷ codes "rkey" ∷ codes "message" ∷ codes "created" ∷ codes "status" ∷ codes "action" ∷ []
+
+abbrev pub run_shown : List Term
+run_shown = col 1 3 ∷ col 1 4 ∷ col 1 5 ∷ col 1 6 ∷ col 1 7 ∷ col 1 8 ∷ col 1 9 ∷ []
+
+abbrev pub find_run_text : List ℕ
+find_run_text = codes "SELECT number, plan_only, rkey, message, created, status, action FROM run WHERE org = ?1 AND ws = ?2 AND number = ?3 ORDER BY rowid"
+
+abbrev pub find_run_select : ast.Select
+find_run_select = st.select st.find_run_core (st.by_rowid false) None
+
+find_run_reads : first find_run_text ≡ Ok (as_read (some_parsed (first find_run_text)) (written.Select find_run_select))
+unfolding everything
+find_run_reads = refl
+
+pub find_run_is_query : IsQuery find_run_text
+find_run_is_query = (find_run_select, some_parsed (first find_run_text), find_run_reads)
+
+abbrev pub find_run_rest : Query
+find_run_rest = point_rest (is_at 1 0 ∷ is_at 2 1 ∷ is_at 3 2 ∷ []) run_shown no_page
+
+abbrev pub find_keyed_run_text : List ℕ
+find_keyed_run_text = codes "SELECT number, plan_only, rkey, message, created, status, action FROM run WHERE org = ?1 AND ws = ?2 AND rkey = ?3 ORDER BY rowid"
+
+abbrev pub find_keyed_run_select : ast.Select
+find_keyed_run_select = st.select st.find_keyed_run_core (st.by_rowid false) None
+
+find_keyed_run_reads : first find_keyed_run_text ≡ Ok (as_read (some_parsed (first find_keyed_run_text)) (written.Select find_keyed_run_select))
+unfolding everything
+find_keyed_run_reads = refl
+
+pub find_keyed_run_is_query : IsQuery find_keyed_run_text
+find_keyed_run_is_query = (find_keyed_run_select, some_parsed (first find_keyed_run_text), find_keyed_run_reads)
+
+abbrev pub find_keyed_run_rest : Query
+find_keyed_run_rest = point_rest (is_at 1 0 ∷ is_at 2 1 ∷ is_at 5 2 ∷ []) run_shown no_page
+
+abbrev pub count_open_runs_text : List ℕ
+count_open_runs_text = codes "SELECT count(*) FROM run WHERE org = ?1 AND ws = ?2 AND status < 4"
+
+abbrev pub count_open_runs_select : ast.Select
+count_open_runs_select = st.select st.count_open_runs_core [] None
+
+count_open_runs_reads : first count_open_runs_text ≡ Ok (as_read (some_parsed (first count_open_runs_text)) (written.Select count_open_runs_select))
+unfolding everything
+count_open_runs_reads = refl
+
+pub count_open_runs_is_query : IsQuery count_open_runs_text
+count_open_runs_is_query = (count_open_runs_select, some_parsed (first count_open_runs_text), count_open_runs_reads)
+
+abbrev pub count_open_runs_rest : Query
+count_open_runs_rest = point_rest (is_at 1 0 ∷ is_at 2 1 ∷ is_under 8 4 ∷ []) [] no_page
 
 abbrev pub set_run_status_text : List ℕ
 set_run_status_text = codes "UPDATE run SET status = ?4 WHERE org = ?1 AND ws = ?2 AND number = ?3"
@@ -130,6 +184,57 @@ module _ (s : Schema) (at tree : ℕ) (h : IsAt s (codes "run") run_table at tre
   pub run_status_means : Means s (Select (plain_program (point run_status_rest tree false)) (codes "status" ∷ [])) run_status_text
   unfolding timed returning
   run_status_means = means s (written.Select run_status_select) _ refl (λ _. refl) run_status_is run_status_text (some_parsed (first run_status_text)) run_status_reads
+
+  find_run_named : named s st.find_run_core (st.by_rowid false) no_page ≡ Ok ((point_draft find_run_rest tree false), run_names, (Some Binary ∷ Some Binary ∷ Some Binary ∷ Some Binary ∷ Some Binary ∷ Some Binary ∷ Some Binary ∷ []))
+  unfolding everything
+  find_run_named = rw (h.named, h.found, h.found, h.found, h.small) refl
+
+  find_run_fits : program s [] (point_draft find_run_rest tree false) ≡ Ok (plain_program (point find_run_rest tree false))
+  unfolding everything
+  find_run_fits = rw (h.low, h.treed) refl
+
+  find_run_is : (base : ℕ) → command s [] base (written.Select find_run_select) ≡ Ok (Select (plain_program (point find_run_rest tree false)) run_names)
+  unfolding everything
+  find_run_is base =
+      read_is s find_run_select st.find_run_core (st.by_rowid false) no_page ((point_draft find_run_rest tree false), run_names, (Some Binary ∷ Some Binary ∷ Some Binary ∷ Some Binary ∷ Some Binary ∷ Some Binary ∷ Some Binary ∷ [])) refl refl refl refl refl (λ again. refl) find_run_named (plain_program (point find_run_rest tree false)) find_run_fits base
+
+  pub find_run_means : Means s (Select (plain_program (point find_run_rest tree false)) run_names) find_run_text
+  unfolding timed returning
+  find_run_means = means s (written.Select find_run_select) _ refl (λ _. refl) find_run_is find_run_text (some_parsed (first find_run_text)) find_run_reads
+
+  find_keyed_run_named : named s st.find_keyed_run_core (st.by_rowid false) no_page ≡ Ok ((point_draft find_keyed_run_rest tree false), run_names, (Some Binary ∷ Some Binary ∷ Some Binary ∷ Some Binary ∷ Some Binary ∷ Some Binary ∷ Some Binary ∷ []))
+  unfolding everything
+  find_keyed_run_named = rw (h.named, h.found, h.found, h.found, h.small) refl
+
+  find_keyed_run_fits : program s [] (point_draft find_keyed_run_rest tree false) ≡ Ok (plain_program (point find_keyed_run_rest tree false))
+  unfolding everything
+  find_keyed_run_fits = rw (h.low, h.treed) refl
+
+  find_keyed_run_is : (base : ℕ) → command s [] base (written.Select find_keyed_run_select) ≡ Ok (Select (plain_program (point find_keyed_run_rest tree false)) run_names)
+  unfolding everything
+  find_keyed_run_is base =
+      read_is s find_keyed_run_select st.find_keyed_run_core (st.by_rowid false) no_page ((point_draft find_keyed_run_rest tree false), run_names, (Some Binary ∷ Some Binary ∷ Some Binary ∷ Some Binary ∷ Some Binary ∷ Some Binary ∷ Some Binary ∷ [])) refl refl refl refl refl (λ again. refl) find_keyed_run_named (plain_program (point find_keyed_run_rest tree false)) find_keyed_run_fits base
+
+  pub find_keyed_run_means : Means s (Select (plain_program (point find_keyed_run_rest tree false)) run_names) find_keyed_run_text
+  unfolding timed returning
+  find_keyed_run_means = means s (written.Select find_keyed_run_select) _ refl (λ _. refl) find_keyed_run_is find_keyed_run_text (some_parsed (first find_keyed_run_text)) find_keyed_run_reads
+
+  count_open_runs_named : named s st.count_open_runs_core [] no_page ≡ Ok ((tally_draft count_open_runs_rest tree Binary (lit Null)), (codes "count(*)" ∷ []), (None ∷ []))
+  unfolding everything
+  count_open_runs_named = rw (h.named, h.found, h.found, h.found) refl
+
+  count_open_runs_fits : program s [] (tally_draft count_open_runs_rest tree Binary (lit Null)) ≡ Ok (plain_program (tally count_open_runs_rest tree Binary (lit Null)))
+  unfolding everything
+  count_open_runs_fits = rw (h.low, h.treed) refl
+
+  count_open_runs_is : (base : ℕ) → command s [] base (written.Select count_open_runs_select) ≡ Ok (Select (plain_program (tally count_open_runs_rest tree Binary (lit Null))) (codes "count(*)" ∷ []))
+  unfolding everything
+  count_open_runs_is base =
+      read_is s count_open_runs_select st.count_open_runs_core [] no_page ((tally_draft count_open_runs_rest tree Binary (lit Null)), (codes "count(*)" ∷ []), (None ∷ [])) refl refl refl refl refl (λ again. refl) count_open_runs_named (plain_program (tally count_open_runs_rest tree Binary (lit Null))) count_open_runs_fits base
+
+  pub count_open_runs_means : Means s (Select (plain_program (tally count_open_runs_rest tree Binary (lit Null))) (codes "count(*)" ∷ [])) count_open_runs_text
+  unfolding timed returning
+  count_open_runs_means = means s (written.Select count_open_runs_select) _ refl (λ _. refl) count_open_runs_is count_open_runs_text (some_parsed (first count_open_runs_text)) count_open_runs_reads
 
   set_run_status_is : (base : ℕ) → command s [] base st.set_run_status ≡ Ok (Update at (plain_program (set_run_status_query tree)))
   unfolding everything

@@ -38,6 +38,9 @@ one = Integer (codes "1")
 abbrev pub two : Expr
 two = Integer (codes "2")
 
+abbrev pub four : Expr
+four = Integer (codes "4")
+
 abbrev pub update : List ℕ → List (List ℕ × Expr) → Expr → Statement
 update table sets test = written.Update table sets (Some test) []
 
@@ -140,6 +143,18 @@ first_waiting_core = from_table (shown_columns (codes "number" ∷ [])) (codes "
 
 abbrev pub run_status_core : Core
 run_status_core = from_table (shown_columns (codes "status" ∷ [])) (codes "run") (also (at_key (codes "org") (codes "ws")) (is_given (codes "number") 3))
+
+abbrev pub run_columns : List Shown
+run_columns = shown_columns (codes "number" ∷ codes "plan_only" ∷ codes "rkey" ∷ codes "message" ∷ codes "created" ∷ codes "status" ∷ codes "action" ∷ [])
+
+abbrev pub find_run_core : Core
+find_run_core = from_table run_columns (codes "run") (also (at_key (codes "org") (codes "ws")) (is_given (codes "number") 3))
+
+abbrev pub find_keyed_run_core : Core
+find_keyed_run_core = from_table run_columns (codes "run") (also (at_key (codes "org") (codes "ws")) (is_given (codes "rkey") 3))
+
+abbrev pub count_open_runs_core : Core
+count_open_runs_core = from_table (One (CallStar (codes "count")) None (codes "count(*)") ∷ []) (codes "run") (also (at_key (codes "org") (codes "ws")) (Two Lt (named (codes "status")) four))
 
 abbrev pub set_run_status : Statement
 set_run_status = update (codes "run") ((codes "status", Parameter 4) ∷ []) (also (at_key (codes "org") (codes "ws")) (is_given (codes "number") 3))

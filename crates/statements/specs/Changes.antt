@@ -9,7 +9,8 @@ use Rattle.basis.specs.declared.runs.RunAction.{RunAction}
 use Rattle.statements.specs.declared.rows.Holder.{Holder}
 use Rattle.statements.specs.declared.rows.Holder.TheVariants.{Nobody}
 use Rattle.statements.specs.declared.rows.Workspace.{Workspace}
-use Rattle.statements.specs.Rows.{Run, Version, Kept, id_of, OrgRow, TokenRow, WsRow, VersionRow, RunRow}
+use Rattle.statements.specs.declared.rows.Run.{Run}
+use Rattle.statements.specs.Rows.{Version, Kept, id_of, OrgRow, TokenRow, WsRow, VersionRow, RunRow}
 use Rattle.statements.specs.Tables.{Tables}
 
 -- one more row, behind the others and with the next rowid

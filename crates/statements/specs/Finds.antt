@@ -4,8 +4,10 @@ use Rattle.std.specs.Str.{bytes_eq}
 use Rattle.basis.specs.declared.roles.Role.{Role}
 use Rattle.basis.specs.declared.runs.RunStatus.{RunStatus}
 use Rattle.basis.specs.declared.runs.RunStatus.TheVariants.{Pending}
+use Rattle.basis.specs.Runs.{is_open}
 use Rattle.statements.specs.declared.rows.Workspace.{Workspace}
 use Rattle.statements.specs.declared.rows.Head.{Head}
+use Rattle.statements.specs.declared.rows.Run.{Run}
 use Rattle.statements.specs.Rows.{Version, Kept, RunRow}
 use Rattle.statements.specs.Tables.{Tables}
 use Rattle.statements.specs.Changes.{is_org, is_token, has_digest, is_ws_of, is_ws, is_version_of, is_version, is_run}
@@ -66,3 +68,24 @@ first_waiting_of org ws t = option_map (λ x. x.1.it.number) (find (is_waiting o
 
 abbrev pub status_of : List ℕ → List ℕ → ℕ → Tables → Option RunStatus
 status_of org ws n t = option_map (λ x. x.1.it.status) (find (is_run org ws n) t.runs)
+
+abbrev pub run_of : List ℕ → List ℕ → ℕ → Tables → Option Run
+run_of org ws n t = option_map (λ x. x.1.it) (find (is_run org ws n) t.runs)
+
+-- a run without a key has none of them
+abbrev pub has_key : List ℕ → Option (List ℕ) → Bool
+has_key key None = false
+has_key key (Some k) = bytes_eq k key
+
+abbrev pub is_run_with_key : List ℕ → List ℕ → List ℕ → Kept RunRow → Bool
+is_run_with_key org ws key x = bytes_eq x.1.org org && (bytes_eq x.1.ws ws && has_key key x.1.it.key)
+
+abbrev pub keyed_run_of : List ℕ → List ℕ → List ℕ → Tables → Option Run
+keyed_run_of org ws key t = option_map (λ x. x.1.it) (find (is_run_with_key org ws key) t.runs)
+
+-- a run that hasn't ended
+abbrev pub is_open_run_of : List ℕ → List ℕ → Kept RunRow → Bool
+is_open_run_of org ws x = bytes_eq x.1.org org && (bytes_eq x.1.ws ws && is_open x.1.it.status)
+
+abbrev pub open_runs_of : List ℕ → List ℕ → Tables → ℕ
+open_runs_of org ws t = counted (filter (is_open_run_of org ws) t.runs)

@@ -10,11 +10,13 @@ use Rattle.sqlite_value.specs.declared.value.Value.TheVariants as cell
 use Rattle.sqlite_value.specs.Order.{Row, column}
 use Rattle.basis.specs.declared.roles.Role.{Role}
 use Rattle.basis.specs.declared.runs.RunStatus.{RunStatus}
+use Rattle.basis.specs.declared.runs.RunAction.{RunAction}
 use Rattle.statements.specs.declared.rows.Holder.{Holder}
 use Rattle.statements.specs.declared.rows.Holder.TheVariants.{Nobody, Lock, Run as HeldByRun}
 use Rattle.statements.specs.declared.rows.Workspace.{Workspace}
 use Rattle.statements.specs.declared.rows.Head.{Head}
-use Rattle.statements.specs.Rows.{number, role_code, status_code}
+use Rattle.statements.specs.declared.rows.Run.{Run}
+use Rattle.statements.specs.Rows.{number, role_code, status_code, action_code}
 use Rattle.sqlite.specs.State.{State, IsUnchanged, IsRolledBack, QueriesRow, Shown}
 
 -- the text is a SELECT, in each schema
@@ -66,6 +68,22 @@ pub record IsHead (row : Row) (h : Head) : Type 0 where
   pub lineage : column row 2 ≡ cell.Text h.lineage
   pub size : column row 3 ≡ number h.size
 
+abbrev pub IsStatusCell : Value → RunStatus → Type 0
+IsStatusCell v status = v ≡ number (status_code status)
+
+abbrev pub IsActionOrNull : Value → Option RunAction → Type 0
+IsActionOrNull v None = v ≡ cell.Null
+IsActionOrNull v (Some action) = v ≡ number (action_code action)
+
+pub record IsRun (row : Row) (r : Run) : Type 0 where
+  pub number_is : column row 0 ≡ number r.number
+  pub plan_only : IsFlag (column row 1) r.plan_only
+  pub key : IsTextOrNull (column row 2) r.key
+  pub message : column row 3 ≡ cell.Text r.message
+  pub created : column row 4 ≡ number r.created
+  pub status : IsStatusCell (column row 5) r.status
+  pub action : IsActionOrNull (column row 6) r.action
+
 abbrev pub IsBody : Row → List ℕ → Type 0
 IsBody row body = column row 0 ≡ cell.Blob body
 
@@ -76,7 +94,7 @@ abbrev pub IsRole : Row → Role → Type 0
 IsRole row role = column row 0 ≡ number (role_code role)
 
 abbrev pub IsStatus : Row → RunStatus → Type 0
-IsStatus row status = column row 0 ≡ number (status_code status)
+IsStatus row status = IsStatusCell (column row 0) status
 
 -- the number in the row that a count gives
 abbrev pub IsCount : {E F : Type 0} → Result (Option Row) E → Result ℕ F → Type 0

@@ -1,5 +1,5 @@
 -- The rows of the tables as typed values, and the cells that keep them.
-use Rattle.std.specs.Prelude.{Option, ℕ, ℤ, pos, Bool, List, [], ◌∷◌, length, if◌then◌else◌}
+use Rattle.std.specs.Prelude.{ℕ, ℤ, pos, Bool, List, [], ◌∷◌, length, if◌then◌else◌}
 use Rattle.sqlite_value.specs.declared.value.Value.{Value}
 use Rattle.sqlite_value.specs.declared.value.Value.TheVariants as cell
 use Rattle.sqlite_value.specs.Order.{Row}
@@ -13,6 +13,7 @@ use Rattle.basis.specs.declared.runs.RunAction.TheVariants.{ReportPlanned, Repor
 use Rattle.statements.specs.declared.rows.Holder.{Holder}
 use Rattle.statements.specs.declared.rows.Holder.TheVariants.{Nobody, Lock, Run as HeldByRun}
 use Rattle.statements.specs.declared.rows.Workspace.{Workspace}
+use Rattle.statements.specs.declared.rows.Run.{Run}
 
 -- a token: the digest of its secret, and its role
 pub record Token : Type 0 where
@@ -26,15 +27,6 @@ pub record Version : Type 0 where
   pub lineage : List ℕ
   pub created : ℕ
   pub body : List ℕ
-
-pub record Run : Type 0 where
-  pub number : ℕ
-  pub plan_only : Bool
-  pub key : Option (List ℕ)
-  pub message : List ℕ
-  pub created : ℕ
-  pub status : RunStatus
-  pub action : Option RunAction
 
 -- a row with its rowid
 abbrev pub Kept : Type 0 → Type 0

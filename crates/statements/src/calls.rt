@@ -6,9 +6,9 @@ ghost use Rattle.sqlite.specs.Held.{state};
 ghost use Rattle.sqlite.specs.State.{HasCleanDisk, Survives};
 ghost use Rattle.statements.specs.Rows.{role_code, status_code, action_code, flag};
 ghost use Rattle.statements.specs.Steps.{Wrote};
-ghost use Rattle.statements.specs.Queries.{IsQuery, FirstRow, IsCalm, IsRead, IsFlag, IsTextOrNull, IsHolder, IsWorkspace, IsHead, IsBody, IsNumber, IsRole, IsStatus, IsCount};
+ghost use Rattle.statements.specs.Queries.{IsQuery, FirstRow, IsCalm, IsRead, IsFlag, IsTextOrNull, IsHolder, IsWorkspace, IsHead, IsRun, IsBody, IsNumber, IsRole, IsStatusCell, IsActionOrNull, IsStatus, IsCount};
 
-use crate::rows::{Head, Holder, Workspace};
+use crate::rows::{Head, Holder, Run, Workspace};
 use basis::{Bytes, Role, RunAction, RunStatus, Text};
 use sqlite::types::ValueRef;
 use sqlite::{Alter, Connection, Error, Row, Transaction};
@@ -110,10 +110,10 @@ fn role_in(row: &Row) -> Result<Role, Error>
     }
 }
 
-fn status_in(row: &Row) -> Result<RunStatus, Error>
-    ensures { IfOk result (IsStatus row.now) }
+fn status_in(row: &Row, at: usize) -> Result<RunStatus, Error>
+    ensures { IfOk result (IsStatusCell (column row.now at)) }
 {
-    match row.get::<u64>(0)? {
+    match row.get::<u64>(at)? {
         0 => Ok(RunStatus::Pending),
         1 => Ok(RunStatus::Planning),
         2 => Ok(RunStatus::Planned),
@@ -123,8 +123,38 @@ fn status_in(row: &Row) -> Result<RunStatus, Error>
         6 => Ok(RunStatus::Errored),
         7 => Ok(RunStatus::Discarded),
         8 => Ok(RunStatus::Canceled),
-        _ => Err(Error::IntegralValueOutOfRange(0)),
+        _ => Err(Error::IntegralValueOutOfRange(at)),
     }
+}
+
+fn action_in(row: &Row, at: usize) -> Result<Option<RunAction>, Error>
+    ensures { IfOk result (IsActionOrNull (column row.now at)) }
+{
+    match row.get::<Option<u64>>(at)? {
+        None => Ok(None),
+        Some(0) => Ok(Some(RunAction::ReportPlanned)),
+        Some(1) => Ok(Some(RunAction::ReportUnchanged)),
+        Some(2) => Ok(Some(RunAction::Fail)),
+        Some(3) => Ok(Some(RunAction::Confirm)),
+        Some(4) => Ok(Some(RunAction::ReportApplied)),
+        Some(5) => Ok(Some(RunAction::Discard)),
+        Some(6) => Ok(Some(RunAction::Cancel)),
+        Some(_) => Err(Error::IntegralValueOutOfRange(at)),
+    }
+}
+
+fn run_in(row: &Row) -> Result<Run, Error>
+    ensures { IfOk result (IsRun row.now) }
+{
+    Ok(Run {
+        number: row.get(0)?,
+        plan_only: row.get(1)?,
+        key: optional_text(row, 2)?,
+        message: Text::new(row.get(3)?),
+        created: row.get(4)?,
+        status: status_in(row, 5)?,
+        action: action_in(row, 6)?,
+    })
 }
 
 pub(crate) fn workspace_of(row: Result<Option<Row>, Error>) -> Result<Option<Workspace>, Error>
@@ -141,6 +171,15 @@ pub(crate) fn head_of(row: Result<Option<Row>, Error>) -> Result<Option<Head>, E
 {
     match row? {
         Some(row) => Ok(Some(head_in(&row)?)),
+        None => Ok(None),
+    }
+}
+
+pub(crate) fn run_of(row: Result<Option<Row>, Error>) -> Result<Option<Run>, Error>
+    ensures { IsRead IsRun row result }
+{
+    match row? {
+        Some(row) => Ok(Some(run_in(&row)?)),
         None => Ok(None),
     }
 }
@@ -176,7 +215,7 @@ pub(crate) fn status_of(row: Result<Option<Row>, Error>) -> Result<Option<RunSta
     ensures { IsRead IsStatus row result }
 {
     match row? {
-        Some(row) => Ok(Some(status_in(&row)?)),
+        Some(row) => Ok(Some(status_in(&row, 0)?)),
         None => Ok(None),
     }
 }

@@ -11,7 +11,7 @@ pub mod tokens;
 pub mod versions;
 pub mod workspaces;
 
-pub use rows::{Head, Holder, Workspace};
+pub use rows::{Head, Holder, Run, Workspace};
 
 #[cfg(test)]
 mod tests;

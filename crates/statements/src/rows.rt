@@ -1,5 +1,5 @@
 //! What rows hold, as values.
-use basis::{Bytes, Text};
+use basis::{Bytes, RunAction, RunStatus, Text};
 
 /// Who holds a workspace: nobody, a lock with the text that took it, or the run of this number.
 #[derive(Drop)]
@@ -27,4 +27,18 @@ pub struct Head {
     pub serial: u64,
     pub lineage: Text,
     pub size: u64,
+}
+
+/// A run of a workspace.
+#[derive(Drop)]
+pub struct Run {
+    pub number: u64,
+    pub plan_only: bool,
+    pub key: Option<Text>,
+    pub message: Text,
+    /// seconds since 1970 (UTC)
+    pub created: u64,
+    pub status: RunStatus,
+    /// The action that the run took last.
+    pub action: Option<RunAction>,
 }

@@ -4,9 +4,12 @@ ghost use Rattle.sqlite.specs.Held.{state};
 ghost use Rattle.sqlite.specs.State.{Survives};
 ghost use Rattle.statements.specs.Steps.{ChangesBy, ReadsBy};
 ghost use Rattle.statements.specs.Changes.{run_changed_to, run_acted, run_added, new_run, runs_removed};
-ghost use Rattle.statements.specs.Finds.{first_waiting_of, status_of};
+ghost use Rattle.statements.specs.Finds.{first_waiting_of, status_of, run_of, keyed_run_of, open_runs_of};
 
-use crate::calls::{action_number, first_row, number_of, signed, status_number, status_of, write};
+use crate::calls::{
+    action_number, count_of, first_row, number_of, run_of, signed, status_number, status_of, write,
+};
+use crate::rows::Run;
 use basis::{RunAction, RunStatus};
 use sqlite::{Alter, Connection, Error, Transaction, params};
 
@@ -45,6 +48,56 @@ pub fn status<S: Alter>(
     let run = signed(run);
     let row = first_row(conn, RUN_STATUS, params![org, ws, &run]);
     status_of(row)
+}
+
+const FIND_RUN: &str =
+    "SELECT number, plan_only, rkey, message, created, status, action FROM run WHERE org = ?1 AND ws = ?2 AND number = ?3 ORDER BY rowid";
+
+/// A run by its number.
+pub fn find<S: Alter>(
+    conn: &mut Connection<S>,
+    org: &str,
+    ws: &str,
+    number: u64,
+) -> Result<Option<Run>, Error>
+    requires number_fits { number < 2 ^ 63 }
+    ensures mode { conn.old.in_transaction ≡ false → conn.new.in_transaction ≡ false }
+    ensures read { ReadsBy (run_of org.now ws.now number) (state S.Store conn.old) (state S.Store conn.new) result }
+    ensures survives { Survives (state S.Store conn.old) (state S.Store conn.new) (λ _. ⊥) }
+{
+    let number = signed(number);
+    let row = first_row(conn, FIND_RUN, params![org, ws, &number]);
+    run_of(row)
+}
+
+const FIND_KEYED_RUN: &str =
+    "SELECT number, plan_only, rkey, message, created, status, action FROM run WHERE org = ?1 AND ws = ?2 AND rkey = ?3 ORDER BY rowid";
+
+/// A run by its key.
+pub fn find_by_key<S: Alter>(
+    conn: &mut Connection<S>,
+    org: &str,
+    ws: &str,
+    key: &str,
+) -> Result<Option<Run>, Error>
+    ensures mode { conn.old.in_transaction ≡ false → conn.new.in_transaction ≡ false }
+    ensures read { ReadsBy (keyed_run_of org.now ws.now key.now) (state S.Store conn.old) (state S.Store conn.new) result }
+    ensures survives { Survives (state S.Store conn.old) (state S.Store conn.new) (λ _. ⊥) }
+{
+    let row = first_row(conn, FIND_KEYED_RUN, params![org, ws, key]);
+    run_of(row)
+}
+
+const COUNT_OPEN_RUNS: &str = "SELECT count(*) FROM run WHERE org = ?1 AND ws = ?2 AND status < 4";
+
+/// How many runs of a workspace are open.
+pub fn count_open<S: Alter>(conn: &mut Connection<S>, org: &str, ws: &str) -> Result<u64, Error>
+    ensures mode { conn.old.in_transaction ≡ false → conn.new.in_transaction ≡ false }
+    ensures read { ReadsBy (open_runs_of org.now ws.now) (state S.Store conn.old) (state S.Store conn.new) result }
+    ensures survives { Survives (state S.Store conn.old) (state S.Store conn.new) (λ _. ⊥) }
+{
+    let row = first_row(conn, COUNT_OPEN_RUNS, params![org, ws]);
+    count_of(row)
 }
 
 const SET_RUN_STATUS: &str =

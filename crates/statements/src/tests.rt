@@ -1,4 +1,6 @@
-use crate::{Head, Holder, Workspace, making, organizations, runs, tokens, versions, workspaces};
+use crate::{
+    Head, Holder, Run, Workspace, making, organizations, runs, tokens, versions, workspaces,
+};
 use basis::{Role, RunAction, RunStatus};
 use sqlite::{Alter, Connection, Error, Transaction};
 use std::test::Fail;
@@ -129,6 +131,40 @@ fn is_head(found: &Option<Head>, number: u64, size: u64) -> bool {
     }
 }
 
+fn is_first(found: &Option<Run>) -> bool {
+    match found {
+        Some(
+            Run {
+                number: 1,
+                plan_only: true,
+                key: None,
+                message,
+                created: 5,
+                status: RunStatus::Pending,
+                action: None,
+            },
+        ) => message.as_str() == "",
+        _ => false,
+    }
+}
+
+fn is_canceled_second(found: &Option<Run>) -> bool {
+    match found {
+        Some(
+            Run {
+                number: 2,
+                plan_only: false,
+                key: Some(key),
+                message,
+                created: 6,
+                status: RunStatus::Canceled,
+                action: Some(RunAction::Cancel),
+            },
+        ) => key.as_str() == "k" && message.as_str() == "m",
+        _ => false,
+    }
+}
+
 #[test]
 fn reads_what_was_written(rt: HostRuntime) -> Result<(), Fail> {
     let mut conn = Connection::open_in_memory(rt.alloc())?;
@@ -211,5 +247,56 @@ fn leaves_the_rows_of_others(rt: HostRuntime) -> Result<(), Fail> {
         Some(RunStatus::Pending)
     );
     assert_eq!(rt; text(&mut conn, "SELECT '' || a FROM ws2")?.as_str(), "7");
+    Ok(())
+}
+
+fn add_elsewhere<S: Alter>(conn: &mut Connection<S>) -> Result<(), Error> {
+    if !conn.is_autocommit() {
+        return Err(Error::InvalidQuery);
+    }
+    let mut tx = conn.transaction();
+    runs::add(
+        &mut tx,
+        "acme",
+        "dev",
+        9,
+        true,
+        Some("k"),
+        "d",
+        8,
+        RunStatus::Applying,
+    )?;
+    runs::add(
+        &mut tx,
+        "acme",
+        "dev",
+        10,
+        true,
+        Some("k2"),
+        "d",
+        8,
+        RunStatus::Applied,
+    )?;
+    tx.commit()
+}
+
+#[test]
+fn finds_runs(rt: HostRuntime) -> Result<(), Fail> {
+    let mut conn = Connection::open_in_memory(rt.alloc())?;
+    make(&mut conn)?;
+    add_elsewhere(&mut conn)?;
+    fill(&mut conn, "other")?;
+    fill(&mut conn, "acme")?;
+    assert_eq!(rt; runs::count_open(&mut conn, "acme", "prod")?, 3);
+    change(&mut conn, "acme")?;
+    assert!(rt; is_first(&runs::find(&mut conn, "acme", "prod", 1)?));
+    assert!(rt; is_canceled_second(&runs::find(&mut conn, "acme", "prod", 2)?));
+    assert!(rt; runs::find(&mut conn, "acme", "prod", 9)?.is_none());
+    assert!(rt; is_canceled_second(&runs::find_by_key(&mut conn, "acme", "prod", "k")?));
+    assert!(rt; runs::find_by_key(&mut conn, "acme", "prod", "k2")?.is_none());
+    assert!(rt; runs::find_by_key(&mut conn, "acme", "prod", "")?.is_none());
+    assert_eq!(rt; runs::count_open(&mut conn, "acme", "prod")?, 2);
+    assert_eq!(rt; runs::count_open(&mut conn, "acme", "dev")?, 1);
+    assert_eq!(rt; runs::count_open(&mut conn, "other", "prod")?, 3);
     Ok(())
 }

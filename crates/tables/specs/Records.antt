@@ -13,7 +13,7 @@ use Rattle.machine.specs.declared.records.Organization.{Organization}
 use Rattle.statements.specs.declared.rows.Holder.{Holder as HolderCells}
 use Rattle.statements.specs.declared.rows.Holder.TheVariants as cells
 use Rattle.statements.specs.Rows.{Version as VersionCells}
-use Rattle.statements.specs.Rows.{Run as RunCells}
+use Rattle.statements.specs.declared.rows.Run.{Run as RunCells}
 use Rattle.statements.specs.Rows.{Token as TokenCells}
 use Rattle.statements.specs.declared.rows.Workspace.{Workspace as WorkspaceCells}
 use Rattle.statements.specs.Rows.{Kept, TokenRow}
