@@ -417,7 +417,6 @@ versions_change_by_the_id (Unlock id) now w v held text e h =
     inl (unlocked_versions w v held (bytes_eq id held) (is_released w.released id) (refused_by Refusal.Locked w.holder) (subst (λ (x : Holder). (unlock x id w).left ≡ Some v) e h))
 versions_change_by_the_id ForceUnlock now w v held text e h =
     inl (versions_of_same (settled (released held w)) w v (subst (λ (x : Holder). (force_unlock x w).left ≡ Some v) e h) (settled_versions (released held w)))
-
 versions_change_by_the_id (MakeRun ask) now w v held text e h =
     inl (run_versions w v (IsMade w ask now) _ (λ u is. ap (λ (x : Workspace). x.versions) is.2) h (comes_to (make_comes w ask now)))
 versions_change_by_the_id (ReadRun n) now w v held text e h = inl (versions_of_same w w v h refl)

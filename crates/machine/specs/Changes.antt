@@ -4,7 +4,7 @@ use Rattle.machine.specs.Workspaces.{new_workspace}
 use Rattle.machine.specs.Settling.{started_if}
 use Rattle.machine.specs.Ranges.{IsInRange, IsMoment}
 use Rattle.machine.specs.Records.{Seen, standing}
-use Rattle.machine.specs.Rules.{rules, with_settings, purged, locked, released, with_run, reported}
+use Rattle.machine.specs.Rules.{rules, with_settings, purged, locked, released, new_run, with_run, reported}
 use Rattle.machine.specs.declared.acts.Act.{Act}
 use Rattle.machine.specs.declared.acts.Edit.{Edit}
 use Rattle.machine.specs.declared.acts.Edit.TheVariants.{Make, Configure, AddVersion, Purge, Hold, Release, AddRun, Report}
@@ -21,7 +21,7 @@ edited (AddVersion version gone) w =
 edited Purge w = option_map purged w
 edited (Hold id text) w = option_map (locked id text) w
 edited (Release id) w = option_map (released id) w
-edited (AddRun run) w = option_map (with_run run) w
+edited (AddRun number ask created) w = option_map (with_run (new_run number ask created)) w
 edited (Report number action status frees) w =
     option_map (λ (v : Workspace). record v { holder = cond frees Nobody v.holder; runs = map (reported number action status) v.runs }) w
 

@@ -2,8 +2,8 @@
 
 use crate::records::{Holder, Run, Version};
 use basis::{
-    Bytes, HolderId, Limit, LockId, Number, Refusal, RunAction, RunAsk, RunStatus, Settings,
-    StateHead, Text,
+    Bytes, HolderId, Limit, LockId, Moment, Number, Refusal, RunAction, RunAsk, RunStatus,
+    Settings, StateHead, Text,
 };
 
 /// What is asked of one workspace, its documents read.
@@ -126,8 +126,12 @@ pub enum Edit {
     },
     /// Nobody holds any more, and this is the ID released last.
     Release(LockId),
-    /// Puts a run behind the others.
-    AddRun(Run),
+    /// Puts a new run behind the others.
+    AddRun {
+        number: Number,
+        ask: RunAsk,
+        created: Moment,
+    },
     /// A run took this action last and is in this status; where it `frees` the workspace, nobody holds any more.
     Report {
         number: Number,

@@ -380,7 +380,17 @@ fn run_after(
     })
 }
 
-fn new_run(number: Number, ask: &RunAsk, now: Moment) -> Result<Run, Down>
+fn copy_of(ask: &RunAsk) -> Result<RunAsk, Down>
+    ensures { IfOk result (λ copy. copy ≡ ask.now) }
+{
+    Ok(RunAsk {
+        key: ask.key.clone()?,
+        message: ask.message.clone()?,
+        plan_only: ask.plan_only,
+    })
+}
+
+pub(crate) fn new_run(number: Number, ask: &RunAsk, now: Moment) -> Result<Run, Down>
     ensures { IfOk result (λ run. run ≡ new_run number ask.now now) }
 {
     let status = if ask.plan_only {
@@ -412,11 +422,15 @@ fn start_with(unit: &WorkspaceUnit, run: &Run) -> Option<Number>
 }
 
 // A run comes behind the others, and is told as it is once one has started.
-fn add_run(run: &Run, start: Option<Number>) -> Result<Decision, Down>
-    ensures { IfOk result (λ decision. decision ≡ changing (ShownRun (begun_by start run.now)) (AddRun run.now) start) }
+fn add_run(run: &Run, ask: &RunAsk, now: Moment, start: Option<Number>) -> Result<Decision, Down>
+    ensures { IfOk result (λ decision. decision ≡ changing (ShownRun (begun_by start run.now)) (AddRun run.now.number ask.now now) start) }
 {
     let answer = Answer::Run(run_after(run, run.action, run.status, start)?);
-    let edit = Edit::AddRun(run.clone()?);
+    let edit = Edit::AddRun {
+        number: run.number,
+        ask: copy_of(ask)?,
+        created: now,
+    };
     Ok(accept(answer, edit, start))
 }
 
@@ -428,7 +442,7 @@ fn decide_new_run(unit: &WorkspaceUnit, ask: &RunAsk, now: Moment) -> Result<Dec
     };
     let run = new_run(number, ask, now)?;
     let start = start_with(unit, &run);
-    add_run(&run, start)
+    add_run(&run, ask, now, start)
 }
 
 fn show_run(run: &Run) -> Result<Decision, Down>

@@ -15,13 +15,14 @@ ghost use Rattle.machine.specs.Workspaces.{newest, new_workspace, run_of, holder
 ghost use Rattle.machine.specs.declared.records.Organization.{Organization as AnyOrganization};
 
 use crate::acts::{Act, Change, Edit, Newest, Unit, WorkspaceUnit};
+use crate::decisions::new_run;
 use crate::keeps::{AdminAnswer, Keep};
 use crate::maps::{Entry, NameMap};
 use crate::records::{Holder, Organization, Run, Token, Version, Workspace};
 use basis::numbers::MAX_LIMIT;
 use basis::{
-    Bytes, Down, Items, Limit, LockId, Number, OrgName, Role, RunAction, RunStatus, Settings, Text,
-    WsName,
+    Bytes, Down, Items, Limit, LockId, Moment, Number, OrgName, Role, RunAction, RunAsk, RunStatus,
+    Settings, Text, WsName,
 };
 use std::alloc::Global;
 
@@ -253,7 +254,7 @@ impl NameMap<Workspace> {
                 Edit::Purge => Ok(()),
                 Edit::Hold { .. } => Ok(()),
                 Edit::Release(_) => Ok(()),
-                Edit::AddRun(_) => Ok(()),
+                Edit::AddRun { .. } => Ok(()),
                 Edit::Report { .. } => Ok(()),
             },
         }
@@ -350,12 +351,12 @@ impl Workspace {
         Ok(())
     }
 
-    fn add_run(&mut self, run: &Run) -> Result<(), Down>
-        ensures ok { OnOk result (Some self.new ≡ edited (Edit.AddRun run.now) (Some self.old)) }
+    fn add_run(&mut self, number: Number, ask: &RunAsk, created: Moment) -> Result<(), Down>
+        ensures ok { OnOk result (Some self.new ≡ edited (Edit.AddRun number ask.now created) (Some self.old)) }
         ensures err { OnErr result (self.new ≡ self.old) }
     {
-        self.runs.push(run.clone()?)?;
-        self.next_run = run.number.get() as u64 + 1;
+        self.runs.push(new_run(number, ask, created)?)?;
+        self.next_run = number.get() as u64 + 1;
         Ok(())
     }
 
@@ -379,7 +380,11 @@ impl Workspace {
             Edit::Purge => self.purge(),
             Edit::Hold { id, text } => self.hold(id, text)?,
             Edit::Release(id) => self.release(id)?,
-            Edit::AddRun(run) => self.add_run(run)?,
+            Edit::AddRun {
+                number,
+                ask,
+                created,
+            } => self.add_run(*number, ask, *created)?,
             Edit::Report {
                 number,
                 action,

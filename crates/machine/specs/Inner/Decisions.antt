@@ -147,7 +147,7 @@ begun_by start r = record r { status = status_begun start r.number r.status }
 
 abbrev pub decided_number_of_run : Option ℕ → WorkspaceUnit → RunAsk → ℕ → Decision
 decided_number_of_run None u ask now = Refused OverLimit
-decided_number_of_run (Some n) u ask now = changing (ShownRun (begun_by (start_with u (new_run n ask now)) (new_run n ask now))) (AddRun (new_run n ask now)) (start_with u (new_run n ask now))
+decided_number_of_run (Some n) u ask now = changing (ShownRun (begun_by (start_with u (new_run n ask now)) (new_run n ask now))) (AddRun n ask now) (start_with u (new_run n ask now))
 
 abbrev pub decided_make : Option Run → WorkspaceUnit → RunAsk → ℕ → Decision
 decided_make (Some r) u ask now = Accepted (ShownRun r) None
