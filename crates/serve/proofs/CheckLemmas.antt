@@ -1,26 +1,27 @@
 -- The checks of a request in their order, and what an order that passed them is.
-use Rattle.std.proofs.Common.{◌≡◌, ℕ, ◌^◌, ◌<◌, ◌≤◌, Bool, true, false, ◌&&◌, ◌||◌, not, List, length, Option, Some, None, Result, Ok, Err, IsSome, IsTrue, is_some, refl, sym, ap, subst, ◌∙◌, arith}
+use Rattle.std.proofs.Common.{◌≡◌, ℕ, ◌^◌, ◌<◌, ◌≤◌, Bool, true, false, ◌&&◌, ◌||◌, not, List, length, Option, Some, None, Result, Ok, Err, IsSome, IfSome, IsTrue, is_some, refl, sym, ap, subst, ◌∙◌, arith}
 use Rattle.std.specs.Prelude.{codes}
 use Rattle.std.specs.List.{starts_with}
 use Rattle.std.proofs.lemmas.Bool.{le-leb}
 use Rattle.basis.specs.Checks.{or_refused, and_then}
-use Rattle.basis.specs.Names.{is_free_id}
+use Rattle.basis.specs.Names.{is_free_id, has_length}
 use Rattle.basis.specs.declared.refusals.Refusal.{Refusal}
 use Rattle.basis.specs.declared.refusals.Refusal.TheVariants.{BadToken, BadState, BadLock, BadBody}
 use Rattle.basis.specs.declared.roles.Role.{Role}
+use Rattle.basis.specs.declared.rows.RunAsk.{RunAsk}
 use Rattle.basis.specs.declared.rows.Settings.{Settings}
 use Rattle.basis.specs.declared.rows.StateHead.{StateHead}
 use Rattle.sha2.specs.Sha256.{sha256}
 use Rattle.serde_json.specs.Data.{Data}
 use Rattle.serde_json.specs.Find.{get_member}
-use Rattle.docs.specs.Documents.{state_head, lock_id_of, settings_of}
-use Rattle.docs.specs.Readings.{IsState, IsLock, IsText}
-use Rattle.docs.proofs.ReadingLemmas.{state_law, lock_law}
+use Rattle.docs.specs.Documents.{state_head, lock_id_of, settings_of, run_ask}
+use Rattle.docs.specs.Readings.{IsState, IsLock, IsText, IsKey, IsAsk}
+use Rattle.docs.proofs.ReadingLemmas.{state_law, lock_law, ask_law}
 use Rattle.machine.specs.Ranges.{IsHead, IsInRange}
 use Rattle.machine.specs.Records.{workspace_in}
 use Rattle.machine.specs.Tokens.{caller_of}
 use Rattle.machine.specs.declared.acts.Act.{Act}
-use Rattle.machine.specs.declared.acts.Act.TheVariants.{PutWorkspace as PutAct, ReadWorkspace as ReadWorkspaceAct, UpdateState as UpdateAct, ReadState as ReadAct, PurgeState as PurgeAct, Lock as LockAct, Unlock as UnlockAct, ForceUnlock as ForceUnlockAct}
+use Rattle.machine.specs.declared.acts.Act.TheVariants.{PutWorkspace as PutAct, ReadWorkspace as ReadWorkspaceAct, UpdateState as UpdateAct, ReadState as ReadAct, PurgeState as PurgeAct, Lock as LockAct, Unlock as UnlockAct, ForceUnlock as ForceUnlockAct, MakeRun as MakeRunAct, ReadRun as ReadRunAct, ReportRun as ReportRunAct}
 use Rattle.machine.specs.declared.records.Token.{Token}
 use Rattle.machine.specs.declared.records.Organization.{Organization}
 use Rattle.route.specs.Policy.{role_refused, allowed_by}
@@ -133,6 +134,22 @@ unlock_in_range : (o : Option (List ℕ)) (act : Act) → spelt BadLock UnlockAc
 unlock_in_range None act e = absurd (let none : ⊥ = cc in none)
 unlock_in_range (Some id) act e = subst IsInRange (is_one (UnlockAct id) act e) tt
 
+message_most : (o : Option Data) (message : List ℕ) → IsText 1_000 o message → length message ≤ 1_000
+message_most None message h = rw h (omega arith)
+message_most (Some value) message h = h.1
+
+key_within : (o : Option Data) (key : Option (List ℕ)) → IsKey o key → IfSome key (λ k. IsTrue (has_length 1 64 k))
+key_within o None h = tt
+key_within None (Some key) h = absurd (let none : ⊥ = cc in none)
+key_within (Some value) (Some key) h = rw (le-leb 1 (length key) h.1, le-leb (length key) 64 h.2) refl
+
+ask_in_range : (body : List ℕ) (o : Option RunAsk) (act : Act) → run_ask body ≡ o → spelt BadBody MakeRunAct o ≡ Ok act → IsInRange act
+ask_in_range body None act t e = absurd (let none : ⊥ = cc in none)
+ask_in_range body (Some ask) act t e =
+    let is : IsAsk body ask = (ask_law body ask).0 t in
+    subst IsInRange (is_one (MakeRunAct ask) act e)
+    (key_within (get_member (codes "key") is.members) ask.key is.key, message_most (get_member (codes "message") is.members) ask.message is.message)
+
 pub act_in_range : (what : WsAct) (id : Option (List ℕ)) (body : List ℕ) (act : Act) → act_of what id body ≡ Ok act → IsInRange act
 act_in_range Read id body act e = subst IsInRange (is_one ReadWorkspaceAct act e) tt
 act_in_range Put id body act e = put_in_range (settings_of body) act e
@@ -146,9 +163,9 @@ act_in_range ForceUnlock id body act e = subst IsInRange (is_one ForceUnlockAct 
 act_in_range (ListVersions after) id body act e = absurd (let none : ⊥ = cc in none)
 act_in_range (ReadVersion number) id body act e = absurd (let none : ⊥ = cc in none)
 act_in_range (ListRuns after) id body act e = absurd (let none : ⊥ = cc in none)
-act_in_range MakeRun id body act e = absurd (let none : ⊥ = cc in none)
-act_in_range (ReadRun number) id body act e = absurd (let none : ⊥ = cc in none)
-act_in_range (ReportRun number action) id body act e = absurd (let none : ⊥ = cc in none)
+act_in_range MakeRun id body act e = ask_in_range body (run_ask body) act refl e
+act_in_range (ReadRun number) id body act e = subst IsInRange (is_one (ReadRunAct number) act e) tt
+act_in_range (ReportRun number action) id body act e = subst IsInRange (is_one (ReportRunAct number action) act e) tt
 
 -- what an order that passed the checks is: the organization is there, and this act is asked of the workspace
 pub record Passes (r : Option Organization) (asked : Asked) (body : List ℕ) (o : Order) : Type 0 where

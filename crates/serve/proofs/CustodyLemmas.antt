@@ -6,20 +6,21 @@ use Rattle.std.specs.FinMap.{get, insert, get-empty}
 use Rattle.std.proofs.lemmas.Slice.Eq.{bytes_eq-Decides}
 use Rattle.basis.specs.declared.refusals.Refusal.{Refusal}
 use Rattle.basis.specs.declared.refusals.Refusal.TheVariants.{Locked, BadState, BadLock, BadBody}
+use Rattle.basis.specs.declared.rows.RunAsk.{RunAsk}
 use Rattle.basis.specs.declared.rows.Settings.{Settings}
 use Rattle.basis.specs.declared.rows.StateHead.{StateHead}
 use Rattle.sha2.specs.Sha256.{sha256}
-use Rattle.docs.specs.Documents.{state_head, lock_id_of, settings_of}
+use Rattle.docs.specs.Documents.{state_head, lock_id_of, settings_of, run_ask}
 use Rattle.machine.specs.Order.{name_cmp}
 use Rattle.machine.specs.Effects.{effect}
 use Rattle.machine.specs.Records.{Seen, missing, there, workspace_in, count_of, seen_by, seen_in, standing, with_workspace, placed}
-use Rattle.machine.specs.Rules.{Outcome, refused, held, done, no_state, state, workspace, rules}
+use Rattle.machine.specs.Rules.{Outcome, refused, held, done, no_state, state, workspace, the_run, rules}
 use Rattle.machine.specs.Custody.{WritesWith, Releases, IsRepeatable, IsRefusal}
 use Rattle.machine.specs.Tokens.{new_organization, token_of, with_token, has_digest, token_added, new_organization}
 use Rattle.machine.specs.declared.keeps.AdminAnswer.{AdminAnswer}
 use Rattle.machine.specs.declared.keeps.AdminAnswer.TheVariants.{Done, Exists}
 use Rattle.machine.specs.declared.acts.Act.{Act}
-use Rattle.machine.specs.declared.acts.Act.TheVariants.{PutWorkspace as PutAct, ReadWorkspace as ReadWorkspaceAct, UpdateState as UpdateAct, ReadState as ReadAct, PurgeState as PurgeAct, Lock as LockAct, Unlock as UnlockAct, ForceUnlock as ForceUnlockAct}
+use Rattle.machine.specs.declared.acts.Act.TheVariants.{PutWorkspace as PutAct, ReadWorkspace as ReadWorkspaceAct, UpdateState as UpdateAct, ReadState as ReadAct, PurgeState as PurgeAct, Lock as LockAct, Unlock as UnlockAct, ForceUnlock as ForceUnlockAct, MakeRun as MakeRunAct, ReadRun as ReadRunAct, ReportRun as ReportRunAct}
 use Rattle.machine.specs.declared.records.Holder.{Holder}
 use Rattle.machine.specs.declared.records.Holder.TheVariants.{Lock as HeldLock}
 use Rattle.machine.specs.declared.records.Token.{Token}
@@ -138,9 +139,13 @@ writes_by ForceUnlock id body act own is writes = absurd (subst (λ (a : Act). W
 writes_by (ListVersions after) id body act own is writes = absurd (let none : ⊥ = cc in none)
 writes_by (ReadVersion number) id body act own is writes = absurd (let none : ⊥ = cc in none)
 writes_by (ListRuns after) id body act own is writes = absurd (let none : ⊥ = cc in none)
-writes_by MakeRun id body act own is writes = absurd (let none : ⊥ = cc in none)
-writes_by (ReadRun number) id body act own is writes = absurd (let none : ⊥ = cc in none)
-writes_by (ReportRun number action) id body act own is writes = absurd (let none : ⊥ = cc in none)
+writes_by MakeRun id body act own is writes = by_ask (run_ask body) is
+  where
+    by_ask : (o : Option RunAsk) → spelt BadBody MakeRunAct o ≡ Ok act → id ≡ Some own
+    by_ask None is = absurd (let none : ⊥ = cc in none)
+    by_ask (Some ask) is = absurd (subst (λ (a : Act). WritesWith a (Some own)) (is_one (MakeRunAct ask) act is) writes)
+writes_by (ReadRun number) id body act own is writes = absurd (subst (λ (a : Act). WritesWith a (Some own)) (is_one (ReadRunAct number) act is) writes)
+writes_by (ReportRun number action) id body act own is writes = absurd (subst (λ (a : Act). WritesWith a (Some own)) (is_one (ReportRunAct number action) act is) writes)
 
 -- a workspace that a step leaves as it is
 abbrev Kept : Option Workspace → Ask → List ℕ → List ℕ → List ℕ → Workspace → Type 0
@@ -322,6 +327,7 @@ not_refused org ws done e is = is
 not_refused org ws no_state e is = is
 not_refused org ws (state text) e is = is
 not_refused org ws (workspace shown) e is = is
+not_refused org ws (the_run r) e is = is
 
 -- the second of two requests, on any record whose workspace is as the first left it
 later_leaves : (r q : Option Organization) (now later : ℕ) (asked : Asked) (content_md5 : Option (List ℕ)) (body ws : List ℕ) (x y : Result Order Refusal)

@@ -7,9 +7,9 @@ use Rattle.basis.specs.declared.refusals.Refusal.TheVariants.{Locked, BadToken, 
 use Rattle.basis.specs.declared.roles.Role.{Role}
 use Rattle.basis.specs.declared.roles.Role.TheVariants.{Read as Reads, Write as Writes, Admin as Manages}
 use Rattle.sha2.specs.Sha256.{sha256}
-use Rattle.docs.specs.Documents.{state_head, lock_id_of, settings_of}
+use Rattle.docs.specs.Documents.{state_head, lock_id_of, settings_of, run_ask}
 use Rattle.machine.specs.Records.{Seen, missing, there, standing, workspace_in}
-use Rattle.machine.specs.Rules.{Outcome, refused, held, done, no_state, state, workspace, rules}
+use Rattle.machine.specs.Rules.{Outcome, refused, held, done, no_state, state, workspace, the_run, rules}
 use Rattle.machine.specs.Tokens.{caller_of}
 use Rattle.machine.specs.declared.acts.Act.{Act}
 use Rattle.machine.specs.declared.records.Holder.{Holder}
@@ -82,7 +82,7 @@ act_other ForceUnlock id body e = let none : ⊥ = cc in none
 act_other (ListVersions after) id body e = let none : ⊥ = cc in none
 act_other (ReadVersion number) id body e = let none : ⊥ = cc in none
 act_other (ListRuns after) id body e = let none : ⊥ = cc in none
-act_other MakeRun id body e = let none : ⊥ = cc in none
+act_other MakeRun id body e = spelt_other BadBody _ (run_ask body) (λ is. let none : ⊥ = cc in none) e
 act_other (ReadRun number) id body e = let none : ⊥ = cc in none
 act_other (ReportRun number action) id body e = let none : ⊥ = cc in none
 
@@ -106,6 +106,7 @@ held_by org ws done e never = absurd (let none : ⊥ = cc in none)
 held_by org ws no_state e never = absurd (let none : ⊥ = cc in none)
 held_by org ws (state text) e never = absurd (let none : ⊥ = cc in none)
 held_by org ws (workspace shown) e never = absurd (let none : ⊥ = cc in none)
+held_by org ws (the_run r) e never = absurd (let none : ⊥ = cc in none)
 
 seen_holder : (s : Seen) (act : Act) (now : ℕ) (h : Holder) → (rules act now s).answer ≡ held h → (w : Workspace) × (s ≡ there w) × (h ≡ w.holder)
 seen_holder (missing room) act now h e = absurd (missing_tells_no_holder act room h e)

@@ -8,7 +8,7 @@ use Rattle.basis.specs.declared.refusals.Refusal.{Refusal}
 use Rattle.basis.specs.declared.refusals.Refusal.TheVariants.{NotFound}
 use Rattle.machine.specs.Effects.{effect}
 use Rattle.machine.specs.Records.{workspace_in, standing, placed}
-use Rattle.machine.specs.Rules.{Outcome, refused, held, done, no_state, state, workspace, Ruling, rules}
+use Rattle.machine.specs.Rules.{Outcome, refused, held, done, no_state, state, workspace, the_run, Ruling, rules}
 use Rattle.machine.specs.Custody.{IsRefusal}
 use Rattle.machine.specs.Tokens.{token_of, with_token, has_digest}
 use Rattle.machine.specs.declared.keeps.AdminAnswer.{AdminAnswer}
@@ -25,13 +25,14 @@ use Rattle.route.specs.declared.acts.Asked.{Asked}
 use Rattle.route.specs.declared.acts.AskedAct.{AskedAct}
 use Rattle.route.specs.declared.acts.AskedAct.TheVariants.{ListWorkspaces, OfWorkspace}
 use Rattle.route.specs.declared.acts.WsAct.{WsAct}
+use Rattle.route.specs.declared.acts.WsAct.TheVariants.{Read, Put, Delete, ReadState, UpdateState, PurgeState, Lock, Unlock, ForceUnlock, ListVersions, ReadVersion, ListRuns, MakeRun, ReadRun, ReportRun}
 use Rattle.wire.specs.Replies.{Answer}
 use Rattle.serve.specs.declared.steps.Admin.{Admin}
 use Rattle.serve.specs.declared.steps.Admin.TheVariants.{OrgAdd, TokenAdd}
 use Rattle.serve.specs.declared.prepared.Order.{Order}
 use Rattle.serve.specs.Asks.{Ask, silent, requests, commands}
 use Rattle.serve.specs.Asks as ask
-use Rattle.serve.specs.Checks.{known_caller, may_do, is_in_reach, in_reach, require, makes, is_served, is_found, found_if, found, place, checked}
+use Rattle.serve.specs.Checks.{known_caller, may_do, is_in_reach, in_reach, require, makes, is_served, is_there, is_found, found_if, found, place, checked}
 use Rattle.serve.specs.Steps.{Said, replies, tells, answer_to, seen_at, ruled_in, carried, request_step, command_step, step}
 use Rattle.serve.specs.Laws.{RefusalsChangeNothing, OutOfReachIsNotFound, renamed, NeedsWorkspace, OutOfReachIsAsAbsent}
 use Rattle.serve.proofs.CheckLemmas.{after_ok, after_err, after_names, after_reach, after_role, after_caller}
@@ -45,6 +46,7 @@ refuses_by org ws done refusal e = absurd (let none : ⊥ = cc in none)
 refuses_by org ws no_state refusal e = absurd (let none : ⊥ = cc in none)
 refuses_by org ws (state text) refusal e = absurd (let none : ⊥ = cc in none)
 refuses_by org ws (workspace shown) refusal e = absurd (let none : ⊥ = cc in none)
+refuses_by org ws (the_run r) refusal e = absurd (let none : ⊥ = cc in none)
 
 ruled_leaves : (org ws : List ℕ) (r : Option Organization) (ruling : Ruling) → ruling.left ≡ workspace_in r ws → (ruled_in org ws r ruling).left ≡ r
 ruled_leaves org ws r ruling e = ap (λ (w : Option Workspace). option_map (λ (o : Organization). placed o ws w) r) e ∙ placed_same r ws
@@ -99,9 +101,26 @@ out_of_reach_is_not_found r now asked content_md5 body token out known may =
     (after_ok (may_do token asked) (λ _. after_role r asked content_md5 body) tt (Err NotFound) may (out_after_role r asked content_md5 body out)))
 
 -- a workspace that is lacking isn't found
-lacking : (b c : Bool) (r : Option Organization) (ws : List ℕ) → workspace_in r ws ≡ None → c ≡ false → (b && (c || is_some (workspace_in r ws))) ≡ false
-lacking true c r ws none e = ap (λ (d : Bool). d || is_some (workspace_in r ws)) e ∙ ap is_some none
-lacking false c r ws none e = refl
+none_of_none : (what : WsAct) → is_there what None ≡ false
+none_of_none Read = refl
+none_of_none Put = refl
+none_of_none Delete = refl
+none_of_none ReadState = refl
+none_of_none UpdateState = refl
+none_of_none PurgeState = refl
+none_of_none Lock = refl
+none_of_none Unlock = refl
+none_of_none ForceUnlock = refl
+none_of_none (ListVersions after) = refl
+none_of_none (ReadVersion number) = refl
+none_of_none (ListRuns after) = refl
+none_of_none MakeRun = refl
+none_of_none (ReadRun number) = refl
+none_of_none (ReportRun number action) = refl
+
+lacking : (b c : Bool) (r : Option Organization) (ws : List ℕ) (what : WsAct) → workspace_in r ws ≡ None → c ≡ false → (b && (c || is_there what (workspace_in r ws))) ≡ false
+lacking true c r ws what none e = ap (λ (d : Bool). d || is_there what (workspace_in r ws)) e ∙ ap (is_there what) none ∙ none_of_none what
+lacking false c r ws what none e = refl
 
 absent_after_role : (r : Option Organization) (asked : Asked) (content_md5 : Option (List ℕ)) (body org ws : List ℕ) (act : AskedAct) → NeedsWorkspace act → workspace_in r ws ≡ None
     → after_role r (record asked { org = org; act = renamed act ws }) content_md5 body ≡ Err NotFound
@@ -113,7 +132,7 @@ absent_after_role r asked content_md5 body org ws (OfWorkspace old act) needs no
 
     reached : (b : Bool) → and_then (require NotFound b) (λ _. after_reach r other content_md5 body) ≡ Err NotFound
     reached true = after_err (found r (OfWorkspace ws act)) (after_names other content_md5 body) NotFound
-        (ap (λ (b : Bool). found_if b (place ws act)) (lacking (is_served act) (makes act) r ws none needs))
+        (ap (λ (b : Bool). found_if b (place ws act)) (lacking (is_served act) (makes act) r ws act none needs))
     reached false = refl
 
 -- the role that is needed is the same

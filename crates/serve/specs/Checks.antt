@@ -6,13 +6,15 @@ use Rattle.basis.specs.Checks.{or_refused, and_then}
 use Rattle.basis.specs.declared.refusals.Refusal.{Refusal}
 use Rattle.basis.specs.declared.refusals.Refusal.TheVariants.{BadToken, NotFound, BadDigest, BadState, BadLock, BadBody}
 use Rattle.sha2.specs.Sha256.{sha256}
-use Rattle.docs.specs.Documents.{state_head, lock_id_of, settings_of}
+use Rattle.docs.specs.Documents.{state_head, lock_id_of, settings_of, run_ask}
 use Rattle.docs.specs.Digests.{digest_fits}
 use Rattle.machine.specs.Records.{workspace_in}
 use Rattle.machine.specs.Tokens.{caller_of}
+use Rattle.machine.specs.Workspaces.{run_of}
 use Rattle.machine.specs.declared.acts.Act.{Act}
-use Rattle.machine.specs.declared.acts.Act.TheVariants.{PutWorkspace as PutAct, ReadWorkspace as ReadWorkspaceAct, UpdateState as UpdateAct, ReadState as ReadAct, PurgeState as PurgeAct, Lock as LockAct, Unlock as UnlockAct, ForceUnlock as ForceUnlockAct}
+use Rattle.machine.specs.declared.acts.Act.TheVariants.{PutWorkspace as PutAct, ReadWorkspace as ReadWorkspaceAct, UpdateState as UpdateAct, ReadState as ReadAct, PurgeState as PurgeAct, Lock as LockAct, Unlock as UnlockAct, ForceUnlock as ForceUnlockAct, MakeRun as MakeRunAct, ReadRun as ReadRunAct, ReportRun as ReportRunAct}
 use Rattle.machine.specs.declared.records.Token.{Token}
+use Rattle.machine.specs.declared.records.Workspace.{Workspace}
 use Rattle.machine.specs.declared.records.Organization.{Organization}
 use Rattle.route.specs.Policy.{role_refused, allowed_by}
 use Rattle.route.specs.declared.acts.Asked.{Asked}
@@ -79,17 +81,40 @@ is_served ForceUnlock = true
 is_served (ListVersions after) = false
 is_served (ReadVersion number) = false
 is_served (ListRuns after) = false
-is_served MakeRun = false
-is_served (ReadRun number) = false
-is_served (ReportRun number action) = false
+is_served MakeRun = true
+is_served (ReadRun number) = true
+is_served (ReportRun number action) = true
 
 -- an act on the workspace of a name
 abbrev pub place : List ℕ → WsAct → Place
 place ws act = record { ws = ws; act = act }
 
--- names: the workspace is there, or is to be made
+-- whether a workspace has a run of a number
+abbrev pub has_run : ℕ → Option Workspace → Bool
+has_run number None = false
+has_run number (Some w) = is_some (run_of number w.runs)
+
+-- what an act asks of is there: the workspace, and the run that it names
+abbrev pub is_there : WsAct → Option Workspace → Bool
+is_there Read w = is_some w
+is_there Put w = is_some w
+is_there Delete w = is_some w
+is_there ReadState w = is_some w
+is_there UpdateState w = is_some w
+is_there PurgeState w = is_some w
+is_there Lock w = is_some w
+is_there Unlock w = is_some w
+is_there ForceUnlock w = is_some w
+is_there (ListVersions after) w = is_some w
+is_there (ReadVersion number) w = is_some w
+is_there (ListRuns after) w = is_some w
+is_there MakeRun w = is_some w
+is_there (ReadRun number) w = has_run number w
+is_there (ReportRun number action) w = has_run number w
+
+-- names: what is asked of is there, or is to be made
 abbrev pub is_found : Option Organization → List ℕ → WsAct → Bool
-is_found r ws act = is_served act && (makes act || is_some (workspace_in r ws))
+is_found r ws act = is_served act && (makes act || is_there act (workspace_in r ws))
 
 abbrev pub found_if : Bool → Place → Result Place Refusal
 found_if true p = Ok p
@@ -125,9 +150,9 @@ act_of ForceUnlock id body = Ok ForceUnlockAct
 act_of (ListVersions after) id body = Err NotFound
 act_of (ReadVersion number) id body = Err NotFound
 act_of (ListRuns after) id body = Err NotFound
-act_of MakeRun id body = Err NotFound
-act_of (ReadRun number) id body = Err NotFound
-act_of (ReportRun number action) id body = Err NotFound
+act_of MakeRun id body = spelt BadBody MakeRunAct (run_ask body)
+act_of (ReadRun number) id body = Ok (ReadRunAct number)
+act_of (ReportRun number action) id body = Ok (ReportRunAct number action)
 
 -- the same, its documents read
 abbrev pub order : List ℕ → Act → Order

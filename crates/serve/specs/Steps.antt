@@ -3,16 +3,18 @@ use Rattle.std.specs.Prelude.{ℕ, Bool, false, List, [], ◌∷◌, Option, Som
 use Rattle.basis.specs.declared.refusals.Refusal.{Refusal}
 use Rattle.basis.specs.declared.refusals.Refusal.TheVariants.{Locked}
 use Rattle.basis.specs.declared.rows.WsRow.{WsRow}
+use Rattle.basis.specs.declared.rows.RunRow.{RunRow}
 use Rattle.sha2.specs.Sha256.{sha256}
-use Rattle.docs.specs.Bodies.{error_text, ws_text, run_holder_text}
+use Rattle.docs.specs.Bodies.{error_text, ws_text, run_text, run_holder_text}
 use Rattle.machine.specs.Effects.{Effect, effect}
-use Rattle.machine.specs.Rules.{Outcome, refused, held, done, no_state, state, workspace, Ruling, rules}
+use Rattle.machine.specs.Rules.{Outcome, refused, held, done, no_state, state, workspace, the_run, Ruling, rules}
 use Rattle.machine.specs.Records.{Seen, missing, seen_in, placed}
 use Rattle.machine.specs.Tokens.{Managed, org_added, token_added, token_of}
 use Rattle.machine.specs.declared.acts.Shown.{Shown}
 use Rattle.machine.specs.declared.keeps.AdminAnswer.{AdminAnswer}
 use Rattle.machine.specs.declared.records.Holder.{Holder}
 use Rattle.machine.specs.declared.records.Holder.TheVariants.{Nobody, Lock as HeldLock, Run as HeldRun}
+use Rattle.machine.specs.declared.records.Run.{Run}
 use Rattle.machine.specs.declared.records.Organization.{Organization}
 use Rattle.route.specs.declared.acts.Asked.{Asked}
 use Rattle.wire.specs.Replies.{Answer, empty_answer, no_content_answer, document_answer, refused_answer}
@@ -50,6 +52,10 @@ holder_text org ws (HeldRun n) = run_holder_text org ws n
 abbrev pub row_of : List ℕ → Shown → WsRow
 row_of ws shown = record { auto_apply = shown.auto_apply; holder = shown.holder; name = ws; version = shown.version }
 
+-- a run as it is shown
+abbrev pub run_row : Run → RunRow
+run_row r = record { action = r.action; created = r.created; key = r.key; message = r.message; number = r.number; plan_only = r.plan_only; status = r.status }
+
 -- the answer to what the rules say
 abbrev pub answer_to : List ℕ → List ℕ → Outcome → Answer
 answer_to org ws (refused refusal) = refused_answer refusal (error_text refusal) false
@@ -58,6 +64,7 @@ answer_to org ws done = empty_answer
 answer_to org ws no_state = no_content_answer
 answer_to org ws (state text) = document_answer text
 answer_to org ws (workspace shown) = document_answer (ws_text (row_of ws shown))
+answer_to org ws (the_run r) = document_answer (run_text (run_row r))
 
 -- the workspace that the rules are asked of
 abbrev pub seen_at : Option Organization → List ℕ → Seen

@@ -1,22 +1,21 @@
 //! The checks of a request from the token on, each by itself.
-ghost use Rattle.std.specs.Prelude.{◌≡◌, ℕ, List, IsSome, is_some, IfOk, Ok};
-ghost use Rattle.std.specs.FinMap.{get};
+ghost use Rattle.std.specs.Prelude.{◌≡◌, ℕ, List, IsSome, Some, IfOk, Ok};
 ghost use Rattle.basis.specs.Inner.Checks.{Follows};
 ghost use Rattle.basis.specs.declared.refusals.Refusal.TheVariants.{BadBody, BadLock, BadState};
-ghost use Rattle.docs.specs.Documents.{settings_of, state_head, lock_id_of};
+ghost use Rattle.docs.specs.Documents.{settings_of, state_head, lock_id_of, run_ask};
 ghost use Rattle.machine.specs.Keeping.{Looks};
 ghost use Rattle.machine.specs.Records.{workspace_in};
 ghost use Rattle.machine.specs.Units.{unit_of};
-ghost use Rattle.machine.specs.declared.acts.Act.{Act as AnyAct};
-ghost use Rattle.machine.specs.declared.acts.Act.TheVariants.{PutWorkspace, UpdateState, PurgeState, Lock, Unlock};
+ghost use Rattle.machine.specs.declared.acts.Act.TheVariants.{PutWorkspace, UpdateState, PurgeState, Lock, Unlock, MakeRun};
 ghost use Rattle.machine.specs.declared.records.Organization.{Organization};
-ghost use Rattle.serve.specs.Checks.{require, in_reach, makes, is_served, is_found, found, found_if, place, fits, digest_checked, spelt, act_of};
+ghost use Rattle.serve.specs.Checks.{require, in_reach, makes, is_served, is_there, is_found, found, found_if, place, fits, digest_checked, spelt, act_of};
 ghost use Rattle.serve.specs.Inner.Prepared.{known_role};
+ghost use Rattle.serve.specs.Inner.Units.{look_of, has_asked_run, is_present};
 
 use crate::prepared::Place;
 use basis::{Bytes, Down, LockId, OrgName, Refusal, Role, WsName};
-use docs::{DocFault, digest_fits, read_lock, read_settings, read_state};
-use machine::{Act, Keep, Unit};
+use docs::{DocFault, digest_fits, read_lock, read_run, read_settings, read_state};
+use machine::{Act, Keep, Unit, WorkspaceUnit};
 use route::{Asked, AskedAct, WsAct, secret_digest};
 use std::alloc::Global;
 
@@ -70,28 +69,79 @@ fn is_served(act: WsAct) -> bool
         WsAct::ReadState | WsAct::UpdateState | WsAct::PurgeState => true,
         WsAct::Lock | WsAct::Unlock | WsAct::ForceUnlock => true,
         WsAct::ListVersions { .. } | WsAct::ReadVersion(_) => false,
-        WsAct::ListRuns { .. } | WsAct::MakeRun => false,
-        WsAct::ReadRun(_) | WsAct::ReportRun(_, _) => false,
+        WsAct::ListRuns { .. } => false,
+        WsAct::MakeRun | WsAct::ReadRun(_) | WsAct::ReportRun(_, _) => true,
     }
 }
 
-fn is_present(unit: &Unit) -> bool
-    ensures { (o : Organization) (name : List ℕ) (act : AnyAct) → unit.now ≡ unit_of o name act → result ≡ is_some (get o.workspaces name) }
+// An act that asks for no more than whether what is asked of is there.
+fn look_of(act: WsAct) -> Act
+    ensures { result ≡ look_of act }
+{
+    match act {
+        WsAct::ReadRun(number) => Act::ReadRun(number),
+        WsAct::ReportRun(number, _) => Act::ReadRun(number),
+        WsAct::Read | WsAct::Put | WsAct::Delete => Act::ReadState,
+        WsAct::ReadState | WsAct::UpdateState | WsAct::PurgeState => Act::ReadState,
+        WsAct::Lock | WsAct::Unlock | WsAct::ForceUnlock => Act::ReadState,
+        WsAct::ListVersions { .. } | WsAct::ReadVersion(_) => Act::ReadState,
+        WsAct::ListRuns { .. } | WsAct::MakeRun => Act::ReadState,
+    }
+}
+
+// Whether it is there, once its workspace is: the run that it names, too.
+fn has_asked_run(act: WsAct, unit: &WorkspaceUnit) -> bool
+    ensures { result ≡ has_asked_run act unit.now }
+{
+    match act {
+        WsAct::ReadRun(_) | WsAct::ReportRun(_, _) => unit.asked_run.is_some(),
+        WsAct::Read | WsAct::Put | WsAct::Delete => true,
+        WsAct::ReadState | WsAct::UpdateState | WsAct::PurgeState => true,
+        WsAct::Lock | WsAct::Unlock | WsAct::ForceUnlock => true,
+        WsAct::ListVersions { .. } | WsAct::ReadVersion(_) => true,
+        WsAct::ListRuns { .. } | WsAct::MakeRun => true,
+    }
+}
+
+fn is_present(unit: &Unit, act: &WsAct) -> bool
+    ensures { result ≡ is_present act.now unit.now }
 {
     match unit {
         Unit::Absent { .. } => false,
-        Unit::Present(_) => true,
+        Unit::Present(unit) => has_asked_run(*act, unit),
     }
 }
 
-// Whether a workspace is there.
-fn is_there<K: Keep>(alloc: Global, keep: &mut K, org: &OrgName, ws: &WsName) -> Result<bool, Down>
+// What is seen of it.
+fn look<K: Keep>(
+    alloc: Global,
+    keep: &mut K,
+    org: &OrgName,
+    ws: &WsName,
+    act: WsAct,
+) -> Result<Unit, Down>
+    ensures looks { Looks K.rows K.clean K.sound keep.old keep.new }
+    ensures ok { K.clean keep.new → K.sound keep.old → IfOk result (λ unit. (o : Organization) → K.rows keep.old org.now ≡ Some o
+        → unit ≡ unit_of o ws.now (look_of act)) }
+{
+    let look = look_of(act);
+    keep.unit(alloc, org, ws, &look)
+}
+
+// Whether what is asked of is there.
+fn is_there<K: Keep>(
+    alloc: Global,
+    keep: &mut K,
+    org: &OrgName,
+    ws: &WsName,
+    act: WsAct,
+) -> Result<bool, Down>
     ensures looks { Looks K.rows K.clean K.sound keep.old keep.new }
     ensures ok { K.clean keep.new → K.sound keep.old → IsSome (K.rows keep.old org.now)
-        → IfOk result (λ there. there ≡ is_some (workspace_in (K.rows keep.old org.now) ws.now)) }
+        → IfOk result (λ there. there ≡ is_there act (workspace_in (K.rows keep.old org.now) ws.now)) }
 {
-    let unit = keep.unit(alloc, org, ws, &Act::ReadState)?;
-    Ok(is_present(&unit))
+    let unit = look(alloc, keep, org, ws, act)?;
+    Ok(is_present(&unit, &act))
 }
 
 fn found_if(is_found: bool, ws: &WsName, act: WsAct) -> Result<Place, Refusal>
@@ -106,7 +156,7 @@ fn found_if(is_found: bool, ws: &WsName, act: WsAct) -> Result<Place, Refusal>
     }
 }
 
-// Whether the workspace of an act is there, or is to be made.
+// Whether what is asked of is there, or is to be made.
 fn is_found<K: Keep>(
     alloc: Global,
     keep: &mut K,
@@ -118,11 +168,11 @@ fn is_found<K: Keep>(
     ensures ok { K.clean keep.new → K.sound keep.old → IsSome (K.rows keep.old org.now)
         → IfOk result (λ found. found ≡ is_found (K.rows keep.old org.now) ws.now act) }
 {
-    let there = is_there(alloc, keep, org, ws)?;
+    let there = is_there(alloc, keep, org, ws, act)?;
     Ok(is_served(act) && (makes(act) || there))
 }
 
-/// The place of what is asked: its workspace is there, or is to be made.
+/// The place of what is asked: what it asks of is there, or is to be made.
 pub fn found<K: Keep>(
     alloc: Global,
     keep: &mut K,
@@ -215,6 +265,16 @@ fn read_unlocking(alloc: Global, body: &Bytes) -> Result<Act, Refusal>
     }
 }
 
+fn read_making(alloc: Global, body: &Bytes) -> Result<Act, Refusal>
+    ensures { Follows result (spelt BadBody MakeRun (run_ask body.now)) }
+{
+    match read_run(alloc, body.as_slice()) {
+        Ok(ask) => Ok(Act::MakeRun(ask)),
+        Err(DocFault::Bad) => Err(Refusal::BadBody),
+        Err(DocFault::Down) => Err(Refusal::Unavailable),
+    }
+}
+
 /// The act that the body's document spells, or why it spells none.
 pub fn act_of(
     alloc: Global,
@@ -237,8 +297,8 @@ pub fn act_of(
         WsAct::ListVersions { .. } => Err(Refusal::NotFound),
         WsAct::ReadVersion(_) => Err(Refusal::NotFound),
         WsAct::ListRuns { .. } => Err(Refusal::NotFound),
-        WsAct::MakeRun => Err(Refusal::NotFound),
-        WsAct::ReadRun(_) => Err(Refusal::NotFound),
-        WsAct::ReportRun(_, _) => Err(Refusal::NotFound),
+        WsAct::MakeRun => read_making(alloc, &body),
+        WsAct::ReadRun(number) => Ok(Act::ReadRun(number)),
+        WsAct::ReportRun(number, action) => Ok(Act::ReportRun(number, action)),
     }
 }

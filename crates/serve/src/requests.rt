@@ -8,7 +8,7 @@ ghost use Rattle.machine.specs.Ranges.{IsInRange};
 ghost use Rattle.machine.specs.Records.{workspace_in, seen_in};
 ghost use Rattle.machine.specs.Rules.{refused_by, rules};
 ghost use Rattle.machine.specs.Inner.Decisions.{meaning, answered, holder_of, ChangeIsDue};
-ghost use Rattle.machine.specs.declared.acts.Answer.TheVariants.{Workspace as ShownWorkspace};
+ghost use Rattle.machine.specs.declared.acts.Answer.TheVariants.{Workspace as ShownWorkspace, Run as ShownRun};
 ghost use Rattle.machine.specs.declared.acts.Decision.TheVariants.{Accepted};
 ghost use Rattle.machine.specs.declared.records.Organization.{Organization};
 ghost use Rattle.serve.specs.Checks.{checked};
@@ -19,9 +19,9 @@ ghost use Rattle.serve.specs.Inner.Units.{holder_in};
 use crate::checks::{act_of, digest_checked, found, in_reach, known_caller};
 use crate::prepared::{Order, Pending, Prepared};
 use basis::numbers::MAX_MOMENT;
-use basis::{Bytes, Down, Moment, OrgName, Refusal, WsName, WsRow};
-use docs::{write_error, write_run_holder, write_ws};
-use machine::{Answer, Change, Decision, Holder, Keep, Shown, Unit, decide};
+use basis::{Bytes, Down, Moment, OrgName, Refusal, RunRow, WsName, WsRow};
+use docs::{write_error, write_run, write_run_holder, write_ws};
+use machine::{Answer, Change, Decision, Holder, Keep, Run, Shown, Unit, decide};
 use route::{Asked, allowed};
 use std::alloc::Global;
 use wire::Reply;
@@ -147,6 +147,21 @@ fn workspace_reply(alloc: Global, ws: &WsName, shown: Shown) -> Result<Reply, Do
     Ok(Reply::document(Bytes::new(write_ws(alloc, &row)?)))
 }
 
+fn run_reply(alloc: Global, run: Run) -> Result<Reply, Down>
+    ensures { IfOk result (λ reply. reply ≡ answer_to [] [] (answered (ShownRun run) None)) }
+{
+    let row = RunRow {
+        action: run.action,
+        created: run.created,
+        key: run.key,
+        message: run.message,
+        number: run.number,
+        plan_only: run.plan_only,
+        status: run.status,
+    };
+    Ok(Reply::document(Bytes::new(write_run(alloc, &row)?)))
+}
+
 /// The reply of an accepted act.
 fn accepted_reply<K: Keep>(
     alloc: Global,
@@ -167,6 +182,7 @@ fn accepted_reply<K: Keep>(
             None => Ok(Reply::no_content()),
         },
         Answer::Workspace(shown) => workspace_reply(alloc, ws, shown),
+        Answer::Run(run) => run_reply(alloc, run),
     }
 }
 
