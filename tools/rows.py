@@ -10,6 +10,7 @@ custody give it: a status, and a body where there is one. Nothing here is read o
 
 import base64
 import hashlib
+import json
 import os
 import sys
 
@@ -144,6 +145,34 @@ def sized(length, body, answer):
     return raw(["POST /v1/acme/state/net HTTP/1.1", "Host: c", "Authorization: Bearer " + W] + length, answer, body)
 
 
+def run(number, status, action=None, key=None, message="", plan_only=False):
+    """A run as it is shown: its keys in the order of their bytes, nothing between them."""
+    shown = {"action": action, "created": AT, "key": key, "message": message, "number": number, "plan_only": plan_only, "status": status}
+    return (200, json.dumps(shown, sort_keys=True, separators=(",", ":")))
+
+
+def make(body, answer, token=W):
+    return request(token, "POST", "runs/net", body, answer)
+
+
+def act(number, action, answer, token=W):
+    return request(token, "POST", "runs/net/%d/actions/%s" % (number, action), None, answer)
+
+
+def look(number, answer):
+    return request(R, "GET", "runs/net/%d" % number, None, answer)
+
+
+def shown(auto_apply=False, holder=None, version=None):
+    """The workspace net, as it is shown."""
+    what = {"auto_apply": auto_apply, "holder": holder, "name": "net", "version": version}
+    return (200, json.dumps(what, sort_keys=True, separators=(",", ":")))
+
+
+WRONG_STATE = (409, "wrong-state")
+BAD_BODY = (400, "bad-body")
+RUN_HOLDS = '{"ID":"run-1","Info":"","Operation":"run","Path":"net","Version":"","Who":"acme"}'
+OTHER_MD5 = "kAFQmDzST7DWlj99KOF/cg=="
 BAD_STATE = (400, "bad-state")
 GET_NET = "GET /v1/acme/state/net HTTP/1.1"
 BEARER = "Authorization: Bearer " + R
@@ -370,6 +399,133 @@ ROWS = [
             raw(["GET * HTTP/1.1", "Host: c", BEARER], (400, "bad-message")),
         ],
     ),
+    (
+        "release_starts_the_queue",
+        "A run waits while a lock holds, and starts once it is released; the ID released last is answered again.",
+        [
+            request(W, "LOCK", "state/net", '{"ID":"x1"}', OK),
+            request(W, "LOCK", "state/net", '{"ID":"x1"}', OK),
+            make("", run(1, "pending")),
+            request(W, "UNLOCK", "state/net", '{"ID":"x1"}', OK),
+            look(1, run(1, "planning")),
+            request(W, "UNLOCK", "state/net", '{"ID":"x1"}', OK),
+            request(R, "GET", "workspaces/net", None, shown(holder="run-1")),
+            request(W, "UNLOCK", "state/net", '{"ID":"x2"}', (409, "held-by-run")),
+            request(A, "UNLOCK", "state/net", None, (409, "held-by-run")),
+        ],
+    ),
+    (
+        "queue",
+        "One queued run is active and the others wait; the least number starts; a plan-only run never waits.",
+        [
+            make("", run(1, "planning")),
+            make("", run(2, "pending")),
+            make("", run(3, "pending")),
+            make('{"plan_only":true}', run(4, "planning", plan_only=True)),
+            act(2, "discard", run(2, "discarded", "discard")),
+            act(1, "unchanged", run(1, "planned_and_finished", "unchanged")),
+            look(3, run(3, "planning")),
+            act(1, "unchanged", run(1, "planned_and_finished", "unchanged")),
+            act(1, "cancel", WRONG_STATE),
+            act(4, "confirm", WRONG_STATE),
+        ],
+    ),
+    (
+        "run_holds",
+        "A run that holds is told to who asks for the lock, as lock information.",
+        [
+            make("", run(1, "planning")),
+            act(1, "planned", run(1, "planned", "planned")),
+            request(W, "LOCK", "state/net", '{"ID":"x1"}', (423, RUN_HOLDS)),
+            request(A, "DELETE", "state/net", None, (423, RUN_HOLDS)),
+        ],
+    ),
+    (
+        "run_applies",
+        "A run writes by its ID, and while it applies.",
+        [
+            make("", run(1, "planning")),
+            post(W, state(1), (409, "not-applying"), "state/net?ID=run-1"),
+            act(1, "planned", run(1, "planned", "planned")),
+            act(1, "confirm", run(1, "applying", "confirm")),
+            post(W, state(1), (423, RUN_HOLDS), "state/net?ID=run-2"),
+            post(W, state(1), OK, "state/net?ID=run-1"),
+            act(1, "applied", run(1, "applied", "applied")),
+            post(W, state(2), (409, "not-held"), "state/net?ID=run-1"),
+        ],
+    ),
+    (
+        "keys",
+        "A run that is made with a key once more is told as it is, whatever else is asked of it.",
+        [
+            make('{"key":"k1"}', run(1, "planning", key="k1")),
+            make('{"key":"k1"}', run(1, "planning", key="k1")),
+            look(2, NOT_FOUND),
+            make('{"key":"k1","message":"again","plan_only":true}', run(1, "planning", key="k1")),
+            make('{"key":"k2","message":"A \\"second\\" one"}', run(2, "pending", key="k2", message='A "second" one')),
+            act(1, "fail", run(1, "errored", "fail", "k1")),
+            make('{"key":"k2"}', run(2, "planning", key="k2", message='A "second" one')),
+            make('{"key":"k1"}', run(1, "errored", "fail", "k1")),
+        ],
+    ),
+    (
+        "auto_apply",
+        "Under auto-apply a plan that is made is applied at once.",
+        [
+            request(A, "PUT", "workspaces/net", '{"auto_apply":true}', shown(True)),
+            make("", run(1, "planning")),
+            act(1, "planned", run(1, "applying", "planned")),
+            act(1, "planned", run(1, "applying", "planned")),
+            act(1, "confirm", WRONG_STATE),
+            act(1, "fail", run(1, "errored", "fail")),
+            request(R, "GET", "workspaces/net", None, shown(True)),
+        ],
+    ),
+    (
+        "auto_apply_of_now",
+        "Auto-apply is the setting as it is when the plan is made, and not when the run is.",
+        [
+            make("", run(1, "planning")),
+            request(A, "PUT", "workspaces/net", '{"auto_apply":true}', shown(True, "run-1")),
+            make("", run(2, "pending")),
+            act(1, "planned", run(1, "applying", "planned")),
+            act(1, "cancel", run(1, "canceled", "cancel")),
+            request(A, "PUT", "workspaces/net", "", shown(False, "run-2")),
+            act(2, "planned", run(2, "planned", "planned")),
+            act(2, "discard", run(2, "discarded", "discard")),
+        ],
+    ),
+    (
+        "run_documents",
+        "What creates a run, and what is no document of one; a message that isn't given is empty.",
+        [
+            make("[]", BAD_BODY),
+            make('{"key":""}', BAD_BODY),
+            make('{"key":"%s"}' % ("k" * 65), BAD_BODY),
+            make('{"key":null}', BAD_BODY),
+            make('{"message":"%s"}' % ("m" * 1001), BAD_BODY),
+            make('{"plan_only":1}', BAD_BODY),
+            make('{"key":"%s","x":[]}' % ("k" * 64), run(1, "planning", key="k" * 64)),
+        ],
+    ),
+    (
+        "run_names",
+        "A run that isn't there is told before a digest is looked at, a role before any name.",
+        [
+            look(1, NOT_FOUND),
+            request(W, "POST", "runs/net/1/actions/cancel", None, NOT_FOUND, OTHER_MD5),
+            request(W, "POST", "runs/none", "", NOT_FOUND, OTHER_MD5),
+            request(R, "POST", "runs/none/1/actions/cancel", None, (403, "need-write")),
+            make("", (403, "need-write"), R),
+            request(W, "POST", "runs/net", "abc", (400, "bad-digest"), EMPTY_MD5),
+            make("", run(1, "planning")),
+            request(W, "POST", "runs/net/1/actions/cancel", None, (400, "bad-digest"), OTHER_MD5),
+            request(W, "POST", "runs/net/1/actions/apply", None, (404, "no-route")),
+            request(B, "GET", "runs/net/1", None, NOT_FOUND),
+            request(B, "POST", "runs/net/1/actions/cancel", None, NOT_FOUND),
+            request(W, "DELETE", "runs/net/1", None, (405, "no-method", "GET")),
+        ],
+    ),
 ]
 
 
@@ -458,11 +614,15 @@ def row_written(name, says, steps):
 LOCKS = ["stock_client", "holder_told", "forced_release", "first_text_stays", "purge"]
 STATES = ["digests", "succession", "states", "settings"]
 NAMES = ["roles", "absent_and_foreign"]
+QUEUE = ["release_starts_the_queue", "queue", "run_holds", "run_applies"]
+RUNS = ["keys", "auto_apply", "auto_apply_of_now", "run_documents", "run_names"]
 TABLES = [
     ("LOCK_ROWS", "Locks, and what they bind.", [row for row in ROWS if row[0] in LOCKS]),
     ("STATE_ROWS", "States and settings.", [row for row in ROWS if row[0] in STATES]),
     ("NAME_ROWS", "Roles, and workspaces that aren't there or are another organization's.", [row for row in ROWS if row[0] in NAMES]),
-    ("MESSAGE_ROWS", "Messages, tokens and routes.", [row for row in ROWS if row[0] not in LOCKS + STATES + NAMES]),
+    ("QUEUE_ROWS", "Runs that wait, hold and write.", [row for row in ROWS if row[0] in QUEUE]),
+    ("RUN_ROWS", "How runs are made, named and acted on.", [row for row in ROWS if row[0] in RUNS]),
+    ("MESSAGE_ROWS", "Messages, tokens and routes.", [row for row in ROWS if row[0] not in LOCKS + STATES + NAMES + QUEUE + RUNS]),
 ]
 
 

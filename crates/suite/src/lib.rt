@@ -17,6 +17,8 @@ mod route_tests;
 #[cfg(test)]
 mod rows;
 #[cfg(test)]
+mod runs_tests;
+#[cfg(test)]
 mod serve_tests;
 #[cfg(test)]
 mod steps;

@@ -1,6 +1,9 @@
 //! Worked exchanges, each with its whole reply.
 use crate::devices::make_cuts;
-use crate::rows::{ACME, BETA, LOCK_ROWS, MESSAGE_ROWS, NAME_ROWS, RESENT, SET_UP, STATE_ROWS};
+use crate::rows::{
+    ACME, BETA, LOCK_ROWS, MESSAGE_ROWS, NAME_ROWS, QUEUE_ROWS, RESENT, RUN_ROWS, SET_UP,
+    STATE_ROWS,
+};
 use crate::steps::{Row, Sent, Story, expect_replies, expect_story, now, written};
 use crate::texts::repeated;
 use basis::{Bytes, Down, Moment};
@@ -41,6 +44,16 @@ fn rows_of_states_are_answered(rt: HostRuntime) -> Result<(), Fail> {
 #[test]
 fn rows_of_names_are_answered(rt: HostRuntime) -> Result<(), Fail> {
     expect_rows(&rt, rt.alloc(), NAME_ROWS)
+}
+
+#[test]
+fn rows_of_the_queue_are_answered(rt: HostRuntime) -> Result<(), Fail> {
+    expect_rows(&rt, rt.alloc(), QUEUE_ROWS)
+}
+
+#[test]
+fn rows_of_runs_are_answered(rt: HostRuntime) -> Result<(), Fail> {
+    expect_rows(&rt, rt.alloc(), RUN_ROWS)
 }
 
 #[test]

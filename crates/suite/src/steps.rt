@@ -78,6 +78,16 @@ impl Story {
         Ok(())
     }
 
+    /// Puts a request of this text at the end.
+    pub fn add_text(&mut self, alloc: Global, request: &str, reply: &str) -> Result<(), Fail> {
+        self.steps.push(Step::Request {
+            at: now()?,
+            bytes: Bytes::copy_of(alloc, request.as_bytes())?,
+        })?;
+        self.due.push(Bytes::copy_of(alloc, reply.as_bytes())?)?;
+        Ok(())
+    }
+
     /// Puts a table's steps at the end.
     pub fn add_all(&mut self, alloc: Global, table: &[(Sent, &str)]) -> Result<(), Fail> {
         for (sent, reply) in table {
