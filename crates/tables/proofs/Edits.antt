@@ -4,27 +4,33 @@ use Rattle.std.proofs.lemmas.Bool.{leb-true, leb-false}
 use Rattle.std.proofs.lemmas.List.{length-map}
 use Rattle.sqlite_keyed.specs.Lists.{delete_where}
 use Rattle.basis.specs.declared.rows.Settings.{Settings}
+use Rattle.basis.specs.declared.rows.RunAsk.{RunAsk}
+use Rattle.basis.specs.declared.runs.RunStatus.{RunStatus}
+use Rattle.basis.specs.declared.runs.RunStatus.TheVariants.{Pending, Planning}
+use Rattle.basis.specs.declared.runs.RunAction.{RunAction}
 use Rattle.machine.specs.Settling.{begun, started, started_if}
 use Rattle.machine.specs.Changes.{edited, changed_by}
-use Rattle.machine.specs.Rules.{with_settings, purged, locked, released}
+use Rattle.machine.specs.Rules.{with_settings, purged, locked, released, new_run, with_run, reported}
 use Rattle.machine.specs.Workspaces.{new_workspace}
 use Rattle.machine.specs.declared.acts.Edit.{Edit}
-use Rattle.machine.specs.declared.acts.Edit.TheVariants.{Make, Configure, AddVersion, Purge, Hold, Release}
+use Rattle.machine.specs.declared.acts.Edit.TheVariants.{Make, Configure, AddVersion, Purge, Hold, Release, AddRun, Report}
 use Rattle.machine.specs.declared.acts.Change.{Change}
+use Rattle.machine.specs.declared.records.Holder.TheVariants.{Nobody as NoHolder}
 use Rattle.machine.specs.declared.records.Version.{Version}
 use Rattle.machine.specs.declared.records.Run.{Run}
 use Rattle.machine.specs.declared.records.Workspace.{Workspace}
-use Rattle.statements.specs.declared.rows.Holder.TheVariants.{Lock, Run as HeldByRun}
+use Rattle.statements.specs.declared.rows.Holder.TheVariants.{Nobody, Lock, Run as HeldByRun}
 use Rattle.statements.specs.declared.rows.Workspace.{Workspace as WorkspaceCells}
+use Rattle.statements.specs.declared.rows.Run.{Run as RunCells}
 use Rattle.statements.specs.Rows.{Kept, VersionRow}
 use Rattle.statements.specs.Tables.{Tables}
-use Rattle.statements.specs.Changes.{with_auto, held_by, released_from, with_next_version, ws_changed, ws_removed, new_version, versions_removed, versions_removed_below, runs_removed, is_version_of}
+use Rattle.statements.specs.Changes.{with_auto, held_by, released_from, with_next_version, with_next_run, ws_changed, ws_removed, new_version, versions_removed, versions_removed_below, new_run as new_run_cells, runs_removed, run_added, run_acted, is_version_of}
 use Rattle.statements.specs.Finds.{workspace_of, versions_of}
-use Rattle.tables.specs.Records.{version_in, workspace_in, versions_at, runs_at, workspace_by}
+use Rattle.tables.specs.Records.{version_in, run_in, workspace_in, versions_at, runs_at, workspace_by}
 use Rattle.tables.specs.Sound.{KeepsTheLast, IsSound}
-use Rattle.tables.specs.Edits.{made_rows, put_rows, emptied_rows, versioned_rows, edited_rows, started_rows, changed_rows}
+use Rattle.tables.specs.Edits.{made_rows, put_rows, emptied_rows, versioned_rows, run_rows, freed_rows, edited_rows, started_rows, changed_rows}
 use Rattle.tables.proofs.Lists.{drop_push, drop_beyond, cut_is}
-use Rattle.tables.proofs.Parts.{row_changed, row_unchanged, row_removed, row_left, row_added, row_added_other, versions_pushed, versions_pushed_other, versions_cut, versions_cut_other, versions_gone, versions_gone_other, runs_begun, runs_begun_other, runs_gone, runs_gone_other}
+use Rattle.tables.proofs.Parts.{row_changed, row_unchanged, row_removed, row_left, row_added, row_added_other, versions_pushed, versions_pushed_other, versions_cut, versions_cut_other, versions_gone, versions_gone_other, runs_begun, runs_begun_other, runs_pushed, runs_pushed_other, runs_acted, runs_acted_other, runs_gone, runs_gone_other}
 use Rattle.tables.proofs.Sets.{Puts, puts_then, same_parts}
 
 -- ---- the parts of a workspace that is changed
@@ -38,6 +44,15 @@ changed_row g f vs us rs ss same (Some c) = ap Some (same c)
 kept_row : (row : Option WorkspaceCells) → option_map (λ (c : WorkspaceCells). c) row ≡ row
 kept_row None = refl
 kept_row (Some c) = refl
+
+no_row : (f : Workspace → Workspace) (vs : List Version) (rs : List Run) (row : Option WorkspaceCells) → row ≡ None
+    → option_map (λ (c : WorkspaceCells). workspace_in c vs rs) row ≡ option_map f (option_map (λ (c : WorkspaceCells). workspace_in c vs rs) row)
+no_row f vs rs None e = refl
+no_row f vs rs (Some c) e = absurd (let none : ⊥ = cc in none)
+
+-- a run has taken an action, and its workspace is freed or not
+abbrev after_report : ℕ → RunAction → RunStatus → Bool → Workspace → Workspace
+after_report n action status frees w = record w { holder = cond frees NoHolder w.holder; runs = map (reported n action status) w.runs }
 
 module _ (org ws : List ℕ) (t : Tables) where
   row : Option WorkspaceCells
@@ -135,14 +150,9 @@ module _ (org ws : List ℕ) (t : Tables) where
       versioned_puts None count e counts = record {
         orgs = refl;
         tokens = refl;
-        own = none (workspace_of org ws t) e;
+        own = no_row (one_more v gone) (versions_at t org ws) (runs_at t org ws) (workspace_of org ws t) e;
         others = λ a b other. refl;
       }
-        where
-          none : (r : Option WorkspaceCells) → r ≡ None → option_map (λ (c : WorkspaceCells). workspace_in c (versions_at t org ws) (runs_at t org ws)) r
-              ≡ option_map (one_more v gone) (option_map (λ (c : WorkspaceCells). workspace_in c (versions_at t org ws) (runs_at t org ws)) r)
-          none None e = refl
-          none (Some c) e = absurd (let no_one : ⊥ = cc in no_one)
       versioned_puts (Some w) count e counts = by_test (nat_le gone count) refl
         where
           stands : workspace_by t org ws ≡ Some (workspace_in w (versions_at t org ws) (runs_at t org ws))
@@ -165,6 +175,42 @@ module _ (org ws : List ℕ) (t : Tables) where
               let over : length (versions_at t org ws) < gone = omega (arith, leb-false gone count test, counted_as) in
               emptied_puts (sym (drop_beyond gone (versions_at t org ws) v over))
 
+  module _ (number : ℕ) (ask : RunAsk) (created : ℕ) where
+    run_puts : (r : Option WorkspaceCells) → workspace_of org ws t ≡ r
+        → Puts org ws (option_map (with_run (new_run number ask created)) (workspace_by t org ws)) t (run_rows org ws number ask created r t)
+    run_puts None e = record {
+      orgs = refl;
+      tokens = refl;
+      own = no_row (with_run (new_run number ask created)) (versions_at t org ws) (runs_at t org ws) (workspace_of org ws t) e;
+      others = λ a b other. refl;
+    }
+    run_puts (Some w) e =
+        let new : RunCells = new_run_cells number ask.plan_only ask.key ask.message created (cond ask.plan_only Planning Pending) in
+        record {
+          orgs = refl;
+          tokens = refl;
+          own = same_parts _ _ _ _ _ _ (row_changed org ws (with_next_run (number + 1)) t) refl (runs_pushed org ws t new)
+              ∙ changed_row (with_next_run (number + 1)) (with_run (new_run number ask created)) (versions_at t org ws) (versions_at t org ws) (runs_at t org ws) (runs_at t org ws ++ run_in new ∷ []) (λ c. refl) (workspace_of org ws t);
+          others = λ a b other. same_parts _ _ _ _ _ _ (row_unchanged org ws (with_next_run (number + 1)) t a b other) refl (runs_pushed_other org ws t new a b other);
+        }
+
+  module _ (n : ℕ) (action : RunAction) (status : RunStatus) where
+    report_puts : (frees : Bool) → Puts org ws (option_map (after_report n action status frees) (workspace_by t org ws)) t (freed_rows frees org ws (run_acted status action org ws n t))
+    report_puts true = record {
+      orgs = refl;
+      tokens = refl;
+      own = same_parts _ _ _ _ _ _ (row_changed org ws (held_by Nobody) t) refl (runs_acted org ws t status action n)
+          ∙ changed_row (held_by Nobody) (after_report n action status true) (versions_at t org ws) (versions_at t org ws) (runs_at t org ws) (map (reported n action status) (runs_at t org ws)) (λ c. refl) (workspace_of org ws t);
+      others = λ a b other. same_parts _ _ _ _ _ _ (row_unchanged org ws (held_by Nobody) t a b other) refl (runs_acted_other org ws t status action n a b other);
+    }
+    report_puts false = record {
+      orgs = refl;
+      tokens = refl;
+      own = same_parts _ _ _ _ _ _ (sym (kept_row (workspace_of org ws t))) refl (runs_acted org ws t status action n)
+          ∙ changed_row (λ c. c) (after_report n action status false) (versions_at t org ws) (versions_at t org ws) (runs_at t org ws) (map (reported n action status) (runs_at t org ws)) (λ c. refl) (workspace_of org ws t);
+      others = λ a b other. same_parts _ _ _ _ _ _ refl refl (runs_acted_other org ws t status action n a b other);
+    }
+
   -- ---- an edit
 
   module _ (sound : IsSound t) where
@@ -175,6 +221,8 @@ module _ (org ws : List ℕ) (t : Tables) where
     edited_puts Purge = purge_puts
     edited_puts (Hold id text) = row_puts (held_by (Lock id text)) (locked id text) (λ c vs rs. refl)
     edited_puts (Release id) = row_puts (released_from id) (released id) (λ c vs rs. refl)
+    edited_puts (AddRun number ask created) = run_puts number ask created (workspace_of org ws t) refl
+    edited_puts (Report number action status frees) = report_puts number action status frees
 
 pub changed_puts : (org ws : List ℕ) (t : Tables) → IsSound t → (change : Change) → Puts org ws (changed_by change (workspace_by t org ws)) t (changed_rows org ws change t)
 changed_puts org ws t sound change =

@@ -5,17 +5,21 @@ use Rattle.std.specs.Option.{unwrap_or, option_or}
 use Rattle.std.specs.List.{AllByRecursion, list_any}
 use Rattle.std.specs.FinMap.{from_entries, entries, get, get-from_entries, len-insert, len-entries, len-empty, len}
 use Rattle.std.proofs.lemmas.Bool.{eqb-true, eq-eqb, ne_eqb}
+use Rattle.std.proofs.lemmas.List.{length-map}
 use Rattle.sqlite_keyed.specs.Rules.{AreApart}
-use Rattle.sqlite_keyed.proofs.SliceLemmas.{find-slice, any_is_found}
+use Rattle.sqlite_keyed.proofs.ListLemmas.{filter_same}
+use Rattle.sqlite_keyed.proofs.SliceLemmas.{find-slice, filter-slice, any_is_found}
+use Rattle.basis.specs.Runs.{is_open}
 use Rattle.basis.specs.declared.runs.RunStatus.{RunStatus}
 use Rattle.basis.specs.declared.runs.RunStatus.TheVariants.{Pending, Planning, Planned, Applying, Applied, PlannedAndFinished, Errored, Discarded, Canceled}
 use Rattle.machine.specs.Order.{name_cmp}
 use Rattle.machine.specs.Laws.{Rises, is_pending}
 use Rattle.machine.specs.Settling.{first_waiting, is_waiting}
-use Rattle.machine.specs.Workspaces.{newest, run_of, holder_status}
+use Rattle.machine.specs.Workspaces.{newest, is_numbered, run_of, has_key, is_keyed, keyed_run, holder_status, open_runs}
 use Rattle.machine.specs.Records.{count_of, workspace_in as seen_workspace}
-use Rattle.machine.specs.Units.{find_last, version_of, text_of, newest_unit, unit_by, unit_of}
+use Rattle.machine.specs.Units.{find_last, version_of, text_of, asked_run, newest_unit, unit_by, unit_of}
 use Rattle.machine.specs.declared.acts.Act.{Act}
+use Rattle.machine.specs.declared.acts.Act.TheVariants.{PutWorkspace, ReadWorkspace, UpdateState, ReadState, PurgeState, Lock as LockAct, Unlock, ForceUnlock, MakeRun, ReadRun, ReportRun}
 use Rattle.machine.specs.declared.acts.Unit.TheVariants.{Absent, Present}
 use Rattle.machine.specs.declared.records.Version.{Version}
 use Rattle.machine.specs.declared.records.Run.{Run}
@@ -25,6 +29,7 @@ use Rattle.machine.proofs.MapLemmas.{names_total}
 use Rattle.statements.specs.declared.rows.Head.{Head}
 use Rattle.statements.specs.declared.rows.Holder.{Holder as HolderCells}
 use Rattle.statements.specs.declared.rows.Holder.TheVariants as cells
+use Rattle.statements.specs.declared.rows.Run.{Run as RunCells}
 use Rattle.statements.specs.declared.rows.Workspace.{Workspace as WorkspaceCells}
 use Rattle.statements.specs.Rows.{Kept, OrgRow, WsRow, VersionRow, RunRow}
 use Rattle.statements.specs.Tables.{Tables}
@@ -39,7 +44,7 @@ use Rattle.tables.proofs.Parts.{none_mapped}
 use Rattle.tables.proofs.Sets.{entry_found, got_workspace, workspace_there, one_of}
 use Rattle.tables.proofs.Edits.{count_is}
 use Rattle.tables.proofs.Lawful.{limit_there, limit_is, found_holds}
-use Rattle.tables.specs.Units.{holder_status_in, is_found_text, newest_by, newest_in, unit_at, unit_in}
+use Rattle.tables.specs.Units.{holder_status_in, is_found_text, newest_by, newest_in, keyed_cells_in, asked_run_in, unit_at, unit_in}
 
 -- ---- lists
 
@@ -124,6 +129,10 @@ pending_same Errored = refl
 pending_same Discarded = refl
 pending_same Canceled = refl
 
+key_same : (key : List ℕ) (own : Option (List ℕ)) → finds.has_key key own ≡ has_key key own
+key_same key None = refl
+key_same key (Some own) = refl
+
 -- ---- what each query finds
 
 module _ (t : Tables) (org ws : List ℕ) where
@@ -150,6 +159,47 @@ module _ (t : Tables) (org ws : List ℕ) where
       ap (option_map (λ (x : Kept RunRow). x.1.it.status)) (find_same (is_run org ws n) (λ x. is_run_of org ws x && (run_in x.1.it).number == n) (λ x. three (bytes_eq x.1.org org) (bytes_eq x.1.ws ws) (x.1.it.number == n)) t.runs)
       ∙ mapped (λ (x : Kept RunRow). run_in x.1.it) (λ (r : Run). r.status) (find (λ x. is_run_of org ws x && (run_in x.1.it).number == n) t.runs)
       ∙ ap (option_map (λ (r : Run). r.status)) (find-slice (is_run_of org ws) (λ (x : Kept RunRow). run_in x.1.it) (λ (r : Run). r.number == n) t.runs)
+
+  -- the run of a row that passes a test of its own
+  run_found : (p : Kept RunRow → Bool) (q : Run → Bool) → ((x : Kept RunRow) → p x ≡ (is_run_of org ws x && q (run_in x.1.it))) → option_map run_in (option_map (λ (x : Kept RunRow). x.1.it) (find p t.runs)) ≡ find q (runs_at t org ws)
+  run_found p q same =
+      sym (mapped (λ (x : Kept RunRow). x.1.it) run_in (find p t.runs))
+      ∙ ap (option_map (λ (x : Kept RunRow). run_in x.1.it)) (find_same p (λ x. is_run_of org ws x && q (run_in x.1.it)) same t.runs)
+      ∙ find-slice (is_run_of org ws) (λ (x : Kept RunRow). run_in x.1.it) q t.runs
+
+  numbered_found : (n : ℕ) → option_map run_in (finds.run_of org ws n t) ≡ run_of n (runs_at t org ws)
+  numbered_found n = run_found (is_run org ws n) (is_numbered n) (λ x. three (bytes_eq x.1.org org) (bytes_eq x.1.ws ws) (x.1.it.number == n))
+
+  keyed_found : (key : Option (List ℕ)) → option_map run_in (keyed_cells_in key org ws t) ≡ keyed_run key (runs_at t org ws)
+  keyed_found None = refl
+  keyed_found (Some key) = run_found (finds.is_run_with_key org ws key) (is_keyed key) (λ x.
+      three (bytes_eq x.1.org org) (bytes_eq x.1.ws ws) (finds.has_key key x.1.it.key) ∙ ap (λ (b : Bool). (bytes_eq x.1.org org && bytes_eq x.1.ws ws) && b) (key_same key x.1.it.key))
+
+  pub asked_run_found : (act : Act) → asked_run_in act org ws t ≡ asked_run act (runs_at t org ws)
+  asked_run_found (PutWorkspace settings) = refl
+  asked_run_found ReadWorkspace = refl
+  asked_run_found (UpdateState head text id) = refl
+  asked_run_found ReadState = refl
+  asked_run_found (PurgeState id) = refl
+  asked_run_found (LockAct id text) = refl
+  asked_run_found (Unlock id) = refl
+  asked_run_found ForceUnlock = refl
+  asked_run_found (MakeRun ask) = keyed_found ask.key
+  asked_run_found (ReadRun n) = numbered_found n
+  asked_run_found (ReportRun n action) = numbered_found n
+
+  -- the count of open runs is exact, since there are no more than 100
+  pub open_runs_found : open_runs (runs_at t org ws) ≤ 100 → finds.open_runs_of org ws t ≡ open_runs (runs_at t org ws)
+  open_runs_found most = least (length (filter (finds.is_open_run_of org ws) t.runs)) (open_runs (runs_at t org ws)) same most
+    where
+      same : open_runs (runs_at t org ws) ≡ length (filter (finds.is_open_run_of org ws) t.runs)
+      same =
+          ap length (sym (filter-slice (is_run_of org ws) (λ (x : Kept RunRow). run_in x.1.it) (λ (r : Run). is_open r.status) t.runs))
+          ∙ length-map (filter (λ (x : Kept RunRow). is_run_of org ws x && is_open x.1.it.status) t.runs) (λ (x : Kept RunRow). run_in x.1.it)
+          ∙ ap length (sym (filter_same (finds.is_open_run_of org ws) (λ (x : Kept RunRow). is_run_of org ws x && is_open x.1.it.status) (λ x. three (bytes_eq x.1.org org) (bytes_eq x.1.ws ws) (is_open x.1.it.status)) t.runs))
+
+      least : (n m : ℕ) → m ≡ n → m ≤ 100 → min n 9_223_372_036_854_775_807 ≡ m
+      least n m e h = omega arith
 
   pub holder_status_found : (holder : HolderCells) → holder_status_in org ws holder t ≡ holder_status (holder_in holder) (runs_at t org ws)
   holder_status_found cells.Nobody = refl
@@ -229,6 +279,8 @@ module _ (t : Tables) (sound : IsSound t) (org : List ℕ) where
             newest = newest_unit_found t org ws w.next_version act lawful.versions.rise i;
             versions = count_is org ws t sound w f i;
             first_waiting = first_waiting_found t org ws i;
+            asked_run = asked_run_found t org ws act i;
+            open_runs = open_runs_found t org ws lawful.runs.open_runs i;
           })
 
   -- ---- the text of a version

@@ -1,5 +1,5 @@
 -- The rules keep the numbers of a workspace's versions one after another, and the count of workspaces within the limit.
-use Rattle.std.proofs.Common.{◌≡◌, ℕ, zero, suc, ◌+◌, ◌-◌, ◌<◌, ◌≤◌, nat_lt, Bool, true, false, cond, List, [], ◌∷◌, ◌++◌, length, drop, map, is_some, Option, Some, None, IfSome, refl, sym, ap, subst, ◌∙◌, arith}
+use Rattle.std.proofs.Common.{◌≡◌, ◌⊎◌, inl, inr, ℕ, zero, suc, ◌+◌, ◌-◌, ◌<◌, ◌≤◌, nat_lt, Bool, true, false, cond, List, [], ◌∷◌, ◌++◌, length, drop, map, is_some, Option, Some, None, IfSome, refl, sym, ap, subst, ◌∙◌, arith}
 use Rattle.std.specs.Str.{bytes_eq}
 use Rattle.std.specs.FinMap.{FinMap, get, len, len-insert, len-remove, len-entries}
 use Rattle.std.proofs.lemmas.Bool.{ltb-true}
@@ -12,10 +12,10 @@ use Rattle.machine.specs.Changes.{changed_by, IsDue}
 use Rattle.machine.specs.Workspaces.{max_versions, holder_status}
 use Rattle.machine.specs.Writing.{may_write}
 use Rattle.machine.specs.Succession.{Succession, first, same, other_lineage, old_serial, next, succession}
-use Rattle.machine.specs.Rules.{Outcome, refused, rules, rules_missing, by_may_write, by_succession, numbered_update, number_left, with_version, with_settings, refused_by, done_with, done_already, purge, purged, lock, locked, unlock, released, is_released, force_unlock}
+use Rattle.machine.specs.Rules.{Outcome, refused, rules, rules_missing, by_may_write, by_succession, numbered_update, number_left, with_version, with_settings, refused_by, done_with, done_already, purge, purged, lock, locked, unlock, released, is_released, force_unlock, Ruling}
 use Rattle.machine.specs.Settling.{first_waiting, to_start, started_if, settled}
 use Rattle.machine.specs.declared.acts.Act.{Act}
-use Rattle.machine.specs.declared.acts.Act.TheVariants.{PutWorkspace, ReadWorkspace, UpdateState, ReadState, PurgeState, Lock as LockAct, Unlock, ForceUnlock}
+use Rattle.machine.specs.declared.acts.Act.TheVariants.{PutWorkspace, ReadWorkspace, UpdateState, ReadState, PurgeState, Lock as LockAct, Unlock, ForceUnlock, MakeRun, ReadRun, ReportRun}
 use Rattle.machine.specs.declared.acts.Change.{Change}
 use Rattle.machine.specs.declared.records.Holder.{Holder}
 use Rattle.machine.specs.declared.records.Holder.TheVariants.{Nobody, Lock, Run as HoldingRun}
@@ -25,6 +25,7 @@ use Rattle.machine.specs.declared.records.Organization.{Organization}
 use Rattle.machine.proofs.LawLemmas.{number_left-is}
 use Rattle.machine.proofs.KeepLemmas.{standing_is}
 use Rattle.machine.proofs.MapLemmas.{names_total}
+use Rattle.machine.proofs.RunRulings.{Comes, comes_to, IsMade, make_comes, IsNothing, read_comes, IsReported, report_comes}
 use Rattle.tables.specs.Sound.{Follow, KeepsTheLast}
 
 abbrev numbers : List Version → List ℕ
@@ -104,6 +105,13 @@ force_keeps Nobody w keeps = keeps
 force_keeps (Lock id_held text) w keeps = settled_keeps (released id_held w) keeps
 force_keeps (HoldingRun n) w keeps = keeps
 
+comes_keeps : (ruling : Ruling) (w : Workspace) (changed : Workspace → Type 0) → ((v : Workspace) → changed v → KeepsTheLast v) → KeepsTheLast w → Comes ruling w changed → Keeps ruling.left
+comes_keeps ruling w changed after keeps comes = by_sum (comes_to comes)
+  where
+    by_sum : (ruling.left ≡ Some w) ⊎ (v : Workspace) × changed v × (ruling.left ≡ Some (settled v)) → Keeps ruling.left
+    by_sum (inl e) = subst Keeps (sym e) keeps
+    by_sum (inr to) = subst Keeps (sym to.2) (settled_keeps to.0 (after to.0 to.1))
+
 pub rules_keep_the_last : (act : Act) (now : ℕ) (s : Seen) → Keeps (standing s) → Keeps (rules act now s).left
 rules_keep_the_last (PutWorkspace settings) now (missing true) keeps = tt
 rules_keep_the_last (PutWorkspace settings) now (missing false) keeps = tt
@@ -114,6 +122,9 @@ rules_keep_the_last (PurgeState id) now (missing room) keeps = tt
 rules_keep_the_last (LockAct id text) now (missing room) keeps = tt
 rules_keep_the_last (Unlock id) now (missing room) keeps = tt
 rules_keep_the_last ForceUnlock now (missing room) keeps = tt
+rules_keep_the_last (MakeRun ask) now (missing room) keeps = tt
+rules_keep_the_last (ReadRun n) now (missing room) keeps = tt
+rules_keep_the_last (ReportRun n action) now (missing room) keeps = tt
 rules_keep_the_last (PutWorkspace settings) now (there w) keeps = settled_keeps (with_settings w settings) keeps
 rules_keep_the_last ReadWorkspace now (there w) keeps = keeps
 rules_keep_the_last (UpdateState head text id) now (there w) keeps = update_keeps w head text now (may_write w.holder (holder_status w.holder w.runs) id) keeps
@@ -122,6 +133,9 @@ rules_keep_the_last (PurgeState id) now (there w) keeps = purge_keeps (may_write
 rules_keep_the_last (LockAct id text) now (there w) keeps = lock_keeps w.holder id text w keeps
 rules_keep_the_last (Unlock id) now (there w) keeps = unlock_keeps w.holder id w keeps
 rules_keep_the_last ForceUnlock now (there w) keeps = force_keeps w.holder w keeps
+rules_keep_the_last (MakeRun ask) now (there w) keeps = comes_keeps (rules (MakeRun ask) now (there w)) w (IsMade w ask now) (λ v made. subst KeepsTheLast (sym made.2) keeps) keeps (make_comes w ask now)
+rules_keep_the_last (ReadRun n) now (there w) keeps = comes_keeps (rules (ReadRun n) now (there w)) w IsNothing (λ v none. absurd none) keeps (read_comes w n)
+rules_keep_the_last (ReportRun n action) now (there w) keeps = comes_keeps (rules (ReportRun n action) now (there w)) w (IsReported w n action) (λ v is. subst KeepsTheLast (sym is.is) keeps) keeps (report_comes w n action)
 
 -- ---- the limit
 
@@ -136,6 +150,9 @@ made_in_room (PurgeState id) room w e = absurd (let none : ⊥ = cc in none)
 made_in_room (LockAct id text) room w e = absurd (let none : ⊥ = cc in none)
 made_in_room (Unlock id) room w e = absurd (let none : ⊥ = cc in none)
 made_in_room ForceUnlock room w e = absurd (let none : ⊥ = cc in none)
+made_in_room (MakeRun ask) room w e = absurd (let none : ⊥ = cc in none)
+made_in_room (ReadRun n) room w e = absurd (let none : ⊥ = cc in none)
+made_in_room (ReportRun n action) room w e = absurd (let none : ⊥ = cc in none)
 
 len_with : (m : FinMap name_cmp Workspace) (name : List ℕ) (w : Option Workspace) (limit : ℕ) → len m ≤ limit → (is_some (get m name) ≡ false → is_some w ≡ true → len m < limit) → len (with_workspace m name w) ≤ limit
 len_with m name None limit within room = subst (λ (n : ℕ). n ≤ limit) (sym (len-remove names_total m name)) (fewer (is_some (get m name)))

@@ -7,17 +7,18 @@ use Rattle.sqlite.specs.Effect.{Database}
 use Rattle.sqlite.specs.State.{State, IsUnchanged}
 use Rattle.machine.specs.declared.acts.Act.{Act}
 use Rattle.machine.specs.declared.acts.Unit.{Unit}
-use Rattle.machine.specs.declared.acts.Edit.TheVariants.{AddVersion}
+use Rattle.basis.specs.declared.rows.RunAsk.{RunAsk}
+use Rattle.machine.specs.declared.acts.Edit.TheVariants.{AddVersion, AddRun}
 use Rattle.machine.specs.declared.records.Version.{Version}
 use Rattle.statements.specs.declared.rows.Workspace.{Workspace as WorkspaceCells}
 use Rattle.statements.specs.Rows.{Kept, VersionRow}
 use Rattle.statements.specs.Changes.{is_version_below, versions_removed_below}
 use Rattle.statements.specs.Finds.{workspace_of, versions_of}
 use Rattle.statements.specs.Tables.{Tables, Holds}
-use Rattle.tables.specs.Edits.{versioned_rows, put_rows, emptied_rows}
+use Rattle.tables.specs.Edits.{versioned_rows, put_rows, emptied_rows, run_rows}
 use Rattle.tables.specs.Units.{unit_at, unit_in}
 use Rattle.tables.specs.KeepLooks.{SeesBy, present_in}
-use Rattle.tables.specs.KeepEdits.{outgoing_of, outgoing_in, put_by, GoesBy}
+use Rattle.tables.specs.KeepEdits.{outgoing_of, outgoing_in, put_by, room_of, room_in, run_by, GoesBy}
 use Rattle.tables.specs.declared.steps.Outgoing.{Outgoing}
 use Rattle.tables.specs.declared.steps.Outgoing.TheVariants.{Below, All}
 
@@ -52,6 +53,17 @@ goes_by org ws v gone old new (Ok out) sees clean =
     let seen = sees clean in
     (λ is t held. ap (λ o. put_by o org ws v t) (seen.0 is t held) ∙ put_as org ws v gone (workspace_of org ws t) (versions_of org ws t) t, seen.1)
 goes_by org ws v gone old new (Err e) sees clean = (tt, (sees clean).1)
+
+run_as : (org ws : List ℕ) (number : ℕ) (ask : RunAsk) (created : ℕ) (o : Option WorkspaceCells) (t : Tables) → run_by (room_of o) org ws number ask created t ≡ run_rows org ws number ask created o t
+run_as org ws number ask created None t = none_removed org ws t
+run_as org ws number ask created (Some w) t = refl
+
+pub run_goes_by : {E : Type 0} (org ws : List ℕ) (number : ℕ) (ask : RunAsk) (created : ℕ) (old new : State) (result : Result Outgoing E) → SeesBy (room_in org ws) old new result
+    → GoesBy org ws (AddRun number ask created) old new result
+run_goes_by org ws number ask created old new (Ok out) sees clean =
+    let seen = sees clean in
+    (λ is t held. ap (λ o. run_by o org ws number ask created t) (seen.0 is t held) ∙ run_as org ws number ask created (workspace_of org ws t) t, seen.1)
+run_goes_by org ws number ask created old new (Err e) sees clean = (tt, (sees clean).1)
 
 pub unit_by_row : {E : Type 0} (act : Act) (org ws : List ℕ) (w : WorkspaceCells) (a b d : State) (o : Option WorkspaceCells) (result : Result Unit E) → o ≡ Some w
     → ((t : Tables) → Holds a.now t → o ≡ workspace_of org ws t) → IsUnchanged a b → SeesBy (present_in act org ws w) b d result → SeesBy (unit_in act org ws) a d result

@@ -8,20 +8,24 @@ use Rattle.sqlite_keyed.specs.Rules.{AreApart}
 use Rattle.sqlite_keyed.proofs.ListLemmas.{all_weaker, all_both, all-filter, all-append, ascending-append}
 use Rattle.sqlite_keyed.proofs.RuleLemmas.{apart_update, apart_delete}
 use Rattle.sqlite_keyed.proofs.SliceLemmas.{any_is_found}
-use Rattle.basis.specs.declared.runs.RunStatus.TheVariants.{Planning}
+use Rattle.basis.specs.declared.rows.RunAsk.{RunAsk}
+use Rattle.basis.specs.declared.runs.RunStatus.{RunStatus}
+use Rattle.basis.specs.declared.runs.RunStatus.TheVariants.{Pending, Planning}
+use Rattle.basis.specs.declared.runs.RunAction.{RunAction}
 use Rattle.machine.specs.declared.acts.Edit.{Edit}
-use Rattle.machine.specs.declared.acts.Edit.TheVariants.{Make, Configure, AddVersion, Purge, Hold, Release}
+use Rattle.machine.specs.declared.acts.Edit.TheVariants.{Make, Configure, AddVersion, Purge, Hold, Release, AddRun, Report}
 use Rattle.machine.specs.declared.acts.Change.{Change}
 use Rattle.machine.specs.declared.records.Version.{Version}
-use Rattle.statements.specs.declared.rows.Holder.TheVariants.{Lock, Run as HeldByRun}
+use Rattle.statements.specs.declared.rows.Holder.TheVariants.{Nobody, Lock, Run as HeldByRun}
 use Rattle.statements.specs.declared.rows.Workspace.{Workspace as WorkspaceCells}
+use Rattle.statements.specs.declared.rows.Run.{Run as RunCells}
 use Rattle.statements.specs.Rows.{Version as VersionCells}
 use Rattle.statements.specs.Rows.{Kept, id_of, WsRow}
 use Rattle.statements.specs.Tables.{Tables}
-use Rattle.statements.specs.Changes.{is_org, is_ws, is_version_of, is_version_below, is_run_of, is_run, with_auto, held_by, released_from, with_next_version, ws_changed, new_workspace, new_version, version_added, versions_removed, versions_removed_below, run_changed_to}
+use Rattle.statements.specs.Changes.{is_org, is_ws, is_version_of, is_version_below, is_run_of, is_run, with_auto, held_by, released_from, with_next_version, with_next_run, ws_changed, new_workspace, new_version, version_added, versions_removed, versions_removed_below, new_run, run_added, run_changed_to, run_acted}
 use Rattle.statements.specs.Finds.{workspace_of, versions_of}
 use Rattle.tables.specs.Sound.{IsSound}
-use Rattle.tables.specs.Edits.{made_rows, put_rows, emptied_rows, versioned_rows, edited_rows, started_rows, changed_rows}
+use Rattle.tables.specs.Edits.{made_rows, put_rows, emptied_rows, versioned_rows, run_put, run_rows, freed_rows, edited_rows, started_rows, changed_rows}
 use Rattle.tables.proofs.Names.{is_pair, pair_is, pair_first, pair_second, pair_apart}
 
 module _ {X : Type 0} where
@@ -119,6 +123,22 @@ module _ (org ws : List ℕ) (t : Tables) (owned : AreOwned t) where
     runs_owned = all_updated (λ x. list_any (is_ws x.1.org x.1.ws) t.wss ≡ true) (is_run org ws n) (λ x. (x.0, record x.1 { it = record x.1.it { status = Planning } })) (λ x h. h) t.runs owned.runs_owned;
   }
 
+  owned_run : (r : RunCells) → list_any (is_ws org ws) t.wss ≡ true → AreOwned (run_added org ws r t)
+  owned_run r there = record {
+    wss_apart = owned.wss_apart;
+    wss_owned = owned.wss_owned;
+    versions_owned = owned.versions_owned;
+    runs_owned = all-append (λ x. list_any (is_ws x.1.org x.1.ws) t.wss ≡ true) t.runs ((next_key id_of t.runs, record { org = org; ws = ws; it = r }) ∷ []) owned.runs_owned (there, tt);
+  }
+
+  owned_acted : (status : RunStatus) (action : RunAction) (n : ℕ) → AreOwned (run_acted status action org ws n t)
+  owned_acted status action n = record {
+    wss_apart = owned.wss_apart;
+    wss_owned = owned.wss_owned;
+    versions_owned = owned.versions_owned;
+    runs_owned = all_updated (λ x. list_any (is_ws x.1.org x.1.ws) t.wss ≡ true) (is_run org ws n) (λ x. (x.0, record x.1 { it = record x.1.it { status = status; action = Some action } })) (λ x h. h) t.runs owned.runs_owned;
+  }
+
   owned_made : (auto : Bool) → list_any (is_org org) t.orgs ≡ true → AreOwned (made_rows org ws auto t)
   owned_made auto there = record {
     wss_apart = apart_pushed (λ a b. is_ws a.1.org a.1.name b) (delete_where (is_ws org ws) t.wss) new (apart_delete (λ a b. is_ws a.1.org a.1.name b) (is_ws org ws) t.wss owned.wss_apart)
@@ -158,6 +178,16 @@ module _ (org ws : List ℕ) where
           (owned_version org ws (versions_removed_below org ws (w.next_version - (count - gone)) t) cut (new_version v.number v.serial v.lineage v.created v.text) (row_there t w e)) (with_next_version (v.number + 1))
       by_test false = owned_row org ws (versions_removed org ws t) (owned_purged org ws t owned) (with_next_version (v.number + 1))
 
+  owned_run_rows : (number : ℕ) (ask : RunAsk) (created : ℕ) (t : Tables) → AreOwned t → (r : Option WorkspaceCells) → workspace_of org ws t ≡ r → AreOwned (run_rows org ws number ask created r t)
+  owned_run_rows number ask created t owned None e = owned
+  owned_run_rows number ask created t owned (Some w) e =
+      owned_row org ws (run_put org ws number ask created t)
+      (owned_run org ws t owned (new_run number ask.plan_only ask.key ask.message created (cond ask.plan_only Planning Pending)) (row_there t w e)) (with_next_run (number + 1))
+
+  owned_freed : (frees : Bool) (t : Tables) → AreOwned t → AreOwned (freed_rows frees org ws t)
+  owned_freed true t owned = owned_row org ws t owned (held_by Nobody)
+  owned_freed false t owned = owned
+
   owned_edited : (t : Tables) → AreOwned t → list_any (is_org org) t.orgs ≡ true → (edit : Edit) → AreOwned (edited_rows org ws edit t)
   owned_edited t owned there (Make settings) = owned_made org ws t owned settings.auto_apply there
   owned_edited t owned there (Configure settings) = owned_row org ws t owned (with_auto settings.auto_apply)
@@ -165,6 +195,8 @@ module _ (org ws : List ℕ) where
   owned_edited t owned there Purge = owned_purged org ws t owned
   owned_edited t owned there (Hold id text) = owned_row org ws t owned (held_by (Lock id text))
   owned_edited t owned there (Release id) = owned_row org ws t owned (released_from id)
+  owned_edited t owned there (AddRun number ask created) = owned_run_rows number ask created t owned (workspace_of org ws t) refl
+  owned_edited t owned there (Report number action status frees) = owned_freed frees (run_acted status action org ws number t) (owned_acted org ws t owned status action number)
 
   owned_started : (t : Tables) → AreOwned t → (start : Option ℕ) → AreOwned (started_rows org ws start t)
   owned_started t owned None = owned

@@ -5,15 +5,19 @@ use Rattle.sqlite_keyed.specs.Lists.{delete_where}
 use Rattle.sqlite_keyed.specs.Keyed.{next_key}
 use Rattle.sqlite_keyed.proofs.ListLemmas.{filter_same, map_same}
 use Rattle.sqlite_keyed.proofs.SliceLemmas.{slice-push_mine, slice-push_other, slice-delete_mine, slice-delete_other, slice-update_mine, slice-update_other}
+use Rattle.basis.specs.declared.runs.RunStatus.{RunStatus}
 use Rattle.basis.specs.declared.runs.RunStatus.TheVariants.{Planning}
+use Rattle.basis.specs.declared.runs.RunAction.{RunAction}
+use Rattle.machine.specs.Rules.{reported}
 use Rattle.machine.specs.Settling.{begun}
 use Rattle.machine.specs.declared.records.Version.{Version}
 use Rattle.machine.specs.declared.records.Run.{Run}
 use Rattle.statements.specs.declared.rows.Workspace.{Workspace as WorkspaceCells}
+use Rattle.statements.specs.declared.rows.Run.{Run as RunCells}
 use Rattle.statements.specs.Rows.{Version as VersionCells}
 use Rattle.statements.specs.Rows.{Kept, id_of, WsRow, VersionRow, RunRow}
 use Rattle.statements.specs.Tables.{Tables}
-use Rattle.statements.specs.Changes.{is_ws, ws_changed, ws_added, ws_removed, new_workspace, is_version_of, is_version_below, version_added, versions_removed, versions_removed_below, is_run_of, is_run, run_changed_to, runs_removed}
+use Rattle.statements.specs.Changes.{is_ws, ws_changed, ws_added, ws_removed, new_workspace, is_version_of, is_version_below, version_added, versions_removed, versions_removed_below, is_run_of, is_run, run_changed_to, run_acted, run_added, runs_removed}
 use Rattle.statements.specs.Finds.{workspace_of}
 use Rattle.tables.specs.Records.{version_in, run_in, versions_at, runs_at}
 use Rattle.tables.proofs.Lists.{find_changed, find_unchanged, find_deleted, find_left, find_pushed, find_pushed_other, filter_deleted}
@@ -35,6 +39,10 @@ status_of_begun : (b : Bool) (r : Run) → cond b (record r { status = Planning 
 status_of_begun true r = refl
 status_of_begun false r = refl
 
+status_of_acted : (action : RunAction) (status : RunStatus) (b : Bool) (r : Run) → cond b (record r { status = status; action = Some action }) r ≡ record r { status = cond b status r.status; action = cond b (Some action) r.action }
+status_of_acted action status true r = refl
+status_of_acted action status false r = refl
+
 three : (a b c : Bool) → (a && (b && c)) ≡ ((a && b) && c)
 three true b c = refl
 three false b c = refl
@@ -46,6 +54,9 @@ first_two false b c e = e
 
 abbrev planned : Kept RunRow → Kept RunRow
 planned x = (x.0, record x.1 { it = record x.1.it { status = Planning } })
+
+abbrev acted : RunStatus → RunAction → Kept RunRow → Kept RunRow
+acted status action x = (x.0, record x.1 { it = record x.1.it { status = status; action = Some action } })
 
 module _ (org ws : List ℕ) where
   -- ---- the row
@@ -108,6 +119,23 @@ module _ (org ws : List ℕ) where
     pub runs_begun_other : (n : ℕ) (a b : List ℕ) → is_pair org ws a b ≡ false → runs_at (run_changed_to Planning org ws n t) a b ≡ runs_at t a b
     runs_begun_other n a b other =
         slice-update_other (is_run_of a b) (λ x. run_in x.1.it) (is_run org ws n) (λ x e. pair_apart org ws a b x.1.org x.1.ws other (first_two (bytes_eq x.1.org org) (bytes_eq x.1.ws ws) (x.1.it.number == n) e)) planned (λ x. refl) t.runs
+
+    pub runs_pushed : (r : RunCells) → runs_at (run_added org ws r t) org ws ≡ runs_at t org ws ++ run_in r ∷ []
+    runs_pushed r = slice-push_mine (is_run_of org ws) (λ x. run_in x.1.it) t.runs (next_key id_of t.runs, record { org = org; ws = ws; it = r }) (pair_is org ws)
+
+    pub runs_pushed_other : (r : RunCells) (a b : List ℕ) → is_pair org ws a b ≡ false → runs_at (run_added org ws r t) a b ≡ runs_at t a b
+    runs_pushed_other r a b other = slice-push_other (is_run_of a b) (λ x. run_in x.1.it) t.runs (next_key id_of t.runs, record { org = org; ws = ws; it = r }) (pair_apart org ws a b org ws other (pair_is org ws))
+
+    module _ (status : RunStatus) (action : RunAction) (n : ℕ) where
+      pub runs_acted : runs_at (run_acted status action org ws n t) org ws ≡ map (reported n action status) (runs_at t org ws)
+      runs_acted =
+          ap (λ xs. map (λ (x : Kept RunRow). run_in x.1.it) (filter (is_run_of org ws) xs)) (map_same (λ (x : Kept RunRow). cond (is_run org ws n x) (acted status action x) x) (λ (x : Kept RunRow). cond (is_run_of org ws x && x.1.it.number == n) (acted status action x) x) (λ x. ap (λ (b : Bool). cond b (acted status action x) x) (three (bytes_eq x.1.org org) (bytes_eq x.1.ws ws) (x.1.it.number == n))) t.runs)
+          ∙ slice-update_mine (is_run_of org ws) (λ (x : Kept RunRow). run_in x.1.it) (λ (r : Run). r.number == n) (acted status action) (λ (r : Run). record r { status = status; action = Some action }) (λ x. refl) (λ x. refl) t.runs
+          ∙ map_same (λ (r : Run). cond (r.number == n) (record r { status = status; action = Some action }) r) (reported n action status) (λ r. status_of_acted action status (r.number == n) r) (runs_at t org ws)
+
+      pub runs_acted_other : (a b : List ℕ) → is_pair org ws a b ≡ false → runs_at (run_acted status action org ws n t) a b ≡ runs_at t a b
+      runs_acted_other a b other =
+          slice-update_other (is_run_of a b) (λ x. run_in x.1.it) (is_run org ws n) (λ x e. pair_apart org ws a b x.1.org x.1.ws other (first_two (bytes_eq x.1.org org) (bytes_eq x.1.ws ws) (x.1.it.number == n) e)) (acted status action) (λ x. refl) t.runs
 
     pub runs_gone : runs_at (runs_removed org ws t) org ws ≡ []
     runs_gone = ap (map (λ (x : Kept RunRow). run_in x.1.it)) (filter_deleted (is_run_of org ws) t.runs)

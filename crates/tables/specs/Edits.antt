@@ -1,14 +1,15 @@
 -- What a change does to the rows, by the changes that statements make.
 use Rattle.std.specs.Prelude.{ℕ, ◌+◌, ◌-◌, nat_le, Bool, cond, List, Option, Some, None}
-use Rattle.basis.specs.declared.runs.RunStatus.TheVariants.{Planning}
+use Rattle.basis.specs.declared.rows.RunAsk.{RunAsk}
+use Rattle.basis.specs.declared.runs.RunStatus.TheVariants.{Pending, Planning}
 use Rattle.machine.specs.declared.acts.Edit.{Edit}
-use Rattle.machine.specs.declared.acts.Edit.TheVariants.{Make, Configure, AddVersion, Purge, Hold, Release}
+use Rattle.machine.specs.declared.acts.Edit.TheVariants.{Make, Configure, AddVersion, Purge, Hold, Release, AddRun, Report}
 use Rattle.machine.specs.declared.acts.Change.{Change}
 use Rattle.machine.specs.declared.records.Version.{Version}
-use Rattle.statements.specs.declared.rows.Holder.TheVariants.{Lock, Run as HeldByRun}
+use Rattle.statements.specs.declared.rows.Holder.TheVariants.{Nobody, Lock, Run as HeldByRun}
 use Rattle.statements.specs.declared.rows.Workspace.{Workspace as WorkspaceCells}
 use Rattle.statements.specs.Tables.{Tables}
-use Rattle.statements.specs.Changes.{with_auto, held_by, released_from, with_next_version, ws_changed, ws_added, ws_removed, new_version, version_added, versions_removed, versions_removed_below, runs_removed, run_changed_to}
+use Rattle.statements.specs.Changes.{with_auto, held_by, released_from, with_next_version, with_next_run, ws_changed, ws_added, ws_removed, new_version, version_added, versions_removed, versions_removed_below, new_run, run_added, runs_removed, run_changed_to, run_acted}
 use Rattle.statements.specs.Finds.{workspace_of, versions_of}
 
 -- A new workspace has no versions and no runs: whatever rows of its name there are go first, children before it.
@@ -33,6 +34,19 @@ versioned_rows org ws v gone None count t = t
 versioned_rows org ws v gone (Some w) count t =
     cond (nat_le gone count) (put_rows org ws v w.next_version (count - gone) t) (emptied_rows org ws v t)
 
+-- a run comes behind the others: a plan-only run plans at once, and a queued one is pending
+abbrev pub run_put : List ℕ → List ℕ → ℕ → RunAsk → ℕ → Tables → Tables
+run_put org ws number ask created t = run_added org ws (new_run number ask.plan_only ask.key ask.message created (cond ask.plan_only Planning Pending)) t
+
+-- of a workspace that isn't there nothing comes
+abbrev pub run_rows : List ℕ → List ℕ → ℕ → RunAsk → ℕ → Option WorkspaceCells → Tables → Tables
+run_rows org ws number ask created None t = t
+run_rows org ws number ask created (Some w) t = ws_changed (with_next_run (number + 1)) org ws (run_put org ws number ask created t)
+
+-- nobody holds any more, where a run frees its workspace
+abbrev pub freed_rows : Bool → List ℕ → List ℕ → Tables → Tables
+freed_rows frees org ws t = cond frees (ws_changed (held_by Nobody) org ws t) t
+
 -- after an edit
 abbrev pub edited_rows : List ℕ → List ℕ → Edit → Tables → Tables
 edited_rows org ws (Make settings) t = made_rows org ws settings.auto_apply t
@@ -41,6 +55,8 @@ edited_rows org ws (AddVersion version gone) t = versioned_rows org ws version g
 edited_rows org ws Purge t = versions_removed org ws t
 edited_rows org ws (Hold id text) t = ws_changed (held_by (Lock id text)) org ws t
 edited_rows org ws (Release id) t = ws_changed (released_from id) org ws t
+edited_rows org ws (AddRun number ask created) t = run_rows org ws number ask created (workspace_of org ws t) t
+edited_rows org ws (Report number action status frees) t = freed_rows frees org ws (run_acted status action org ws number t)
 
 -- after a run has started, if one does: it holds, and is planning
 abbrev pub started_rows : List ℕ → List ℕ → Option ℕ → Tables → Tables

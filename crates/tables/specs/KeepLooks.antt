@@ -1,5 +1,5 @@
 -- What looks at a store leave and give.
-use Rattle.std.specs.Prelude.{◌≡◌, ℕ, Bool, false, List, Option, Some, None, IsTrue, Result, IfOk, OnOk, OnErr}
+use Rattle.std.specs.Prelude.{◌≡◌, ℕ, Bool, false, List, Option, Some, None, option_map, IsTrue, Result, IfOk, OnOk, OnErr}
 use Rattle.std.specs.Str.{bytes_eq}
 use Rattle.sqlite.specs.State.{State, HasCleanDisk, KeepsCommit}
 use Rattle.std.specs.Option.{unwrap_or}
@@ -9,10 +9,11 @@ use Rattle.machine.specs.declared.acts.Unit.TheVariants.{Absent, Present}
 use Rattle.machine.specs.declared.acts.WorkspaceUnit.{WorkspaceUnit}
 use Rattle.statements.specs.declared.rows.Holder.{Holder as HolderCells}
 use Rattle.statements.specs.declared.rows.Workspace.{Workspace as WorkspaceCells}
-use Rattle.statements.specs.Finds.{cap_of, workspaces_of, versions_of, first_waiting_of}
+use Rattle.statements.specs.Finds.{cap_of, workspaces_of, versions_of, first_waiting_of, open_runs_of}
 use Rattle.statements.specs.Tables.{Tables, Holds}
-use Rattle.tables.specs.Records.{holder_in}
-use Rattle.tables.specs.Units.{holder_status_in, newest_in}
+use Rattle.tables.specs.Records.{holder_in, run_in}
+use Rattle.tables.specs.Units.{holder_status_in, newest_in, asked_cells_in}
+use Rattle.tables.specs.declared.looks.RunsAround.{RunsAround}
 use Rattle.tables.specs.declared.looks.Surroundings.{Surroundings}
 
 -- no row changes, as long as the store isn't shut
@@ -34,21 +35,27 @@ is_body text (Some found) = bytes_eq found text
 abbrev pub absent_in : List ℕ → Tables → Unit
 absent_in org t = Absent (workspaces_of org t) (unwrap_or (cap_of org t) 0)
 
+abbrev pub runs_in : Act → List ℕ → List ℕ → HolderCells → Tables → RunsAround
+runs_in act org ws holder t =
+    record { holder_status = holder_status_in org ws holder t; first_waiting = first_waiting_of org ws t; asked_run = asked_cells_in act org ws t; open_runs = open_runs_of org ws t }
+
 abbrev pub around_in : Act → List ℕ → List ℕ → HolderCells → Tables → Surroundings
 around_in act org ws holder t =
-    record { holder_status = holder_status_in org ws holder t; newest = newest_in act org ws t; versions = versions_of org ws t; first_waiting = first_waiting_of org ws t }
+    record { newest = newest_in act org ws t; versions = versions_of org ws t; runs = runs_in act org ws holder t }
 
 abbrev pub unit_from : WorkspaceCells → Surroundings → WorkspaceUnit
 unit_from w a = record {
   auto_apply = w.auto;
   holder = holder_in w.holder;
-  holder_status = a.holder_status;
+  holder_status = a.runs.holder_status;
   released = w.released;
   next_version = w.next_version;
   next_run = w.next_run;
   newest = a.newest;
   versions = a.versions;
-  first_waiting = a.first_waiting;
+  first_waiting = a.runs.first_waiting;
+  asked_run = option_map run_in a.runs.asked_run;
+  open_runs = a.runs.open_runs;
 }
 
 abbrev pub present_in : Act → List ℕ → List ℕ → WorkspaceCells → Tables → Unit

@@ -1,28 +1,36 @@
 //! What is asked of the tables outside a transaction, by queries of one row each.
-ghost use Rattle.std.specs.Prelude.{◌≡◌, false, IsTrue, IfOk, OnOk, ◌^◌, ◌<◌, unwrap_or};
+ghost use Rattle.std.specs.Prelude.{◌≡◌, false, option_map, IsTrue, IfOk, OnOk, ◌^◌, ◌<◌, unwrap_or};
 ghost use Rattle.sqlite.specs.Held.{state};
 ghost use Rattle.sqlite.specs.State.{HasCleanDisk};
-ghost use Rattle.statements.specs.Finds.{body_of, status_of, first_waiting_of};
-ghost use Rattle.tables.specs.Records.{holder_in};
-ghost use Rattle.tables.specs.Units.{holder_status_in, is_found_text, newest_by, newest_in, unit_in};
-ghost use Rattle.tables.specs.KeepEdits.{outgoing_of, outgoing_below, outgoing_in, GoesBy};
-ghost use Rattle.tables.specs.KeepLooks.{SeesBy, is_body, absent_in, around_in, unit_from, present_in};
+ghost use Rattle.statements.specs.Finds.{body_of, status_of, run_of};
+ghost use Rattle.tables.specs.Records.{holder_in, run_in};
+ghost use Rattle.tables.specs.Units.{holder_status_in, is_found_text, newest_by, newest_in, keyed_cells_in, asked_cells_in, unit_in};
+ghost use Rattle.tables.specs.KeepEdits.{outgoing_of, outgoing_below, outgoing_in, room_of, room_in, GoesBy};
+ghost use Rattle.tables.specs.KeepLooks.{SeesBy, is_body, absent_in, runs_in, around_in, unit_from, present_in};
 
 use crate::steps::Outgoing;
-use basis::{Bytes, Limit, LockId, Number, RunStatus, Text};
-use machine::{Act, Edit, Holder, Newest, Unit, WorkspaceUnit};
+use basis::{Bytes, Limit, LockId, Moment, Number, RunStatus, Text};
+use machine::{Act, Edit, Holder, Newest, Run, Unit, WorkspaceUnit};
 use sqlite::{Alter, Connection, Error, ErrorCode};
-use statements::rows::{Head, Holder as HolderCells, Workspace as WorkspaceCells};
+use statements::rows::{Head, Holder as HolderCells, Run as RunCells, Workspace as WorkspaceCells};
 use statements::{organizations, runs, versions, workspaces};
 use std::alloc::Global;
+
+/// What a decision needs of the runs of a workspace.
+#[derive(Drop)]
+struct RunsAround {
+    holder_status: Option<RunStatus>,
+    first_waiting: Option<u64>,
+    asked_run: Option<RunCells>,
+    open_runs: u64,
+}
 
 /// What a decision needs of a workspace besides its row.
 #[derive(Drop)]
 struct Surroundings {
-    holder_status: Option<RunStatus>,
     newest: Option<Newest>,
     versions: u64,
-    first_waiting: Option<u64>,
+    runs: RunsAround,
 }
 
 /// The text of a version, if it is kept.
@@ -117,6 +125,9 @@ fn is_asked_text<S: Alter>(
         Act::Lock { .. } => Ok(false),
         Act::Unlock(_) => Ok(false),
         Act::ForceUnlock => Ok(false),
+        Act::MakeRun(_) => Ok(false),
+        Act::ReadRun(_) => Ok(false),
+        Act::ReportRun(..) => Ok(false),
     }
 }
 
@@ -221,6 +232,96 @@ fn limit_of(cap: Option<u64>) -> Result<Limit, Error>
     }
 }
 
+fn moment_of(seconds: u64) -> Result<Moment, Error>
+    ensures { IfOk result (λ moment. moment ≡ seconds) }
+{
+    match Moment::new(seconds) {
+        Some(moment) => Ok(moment),
+        None => Err(Error::IntegralValueOutOfRange(0)),
+    }
+}
+
+fn run_as(run: RunCells) -> Result<Run, Error>
+    ensures { IfOk result (λ read. read ≡ run_in run) }
+{
+    Ok(Run {
+        number: number_of(run.number)?,
+        plan_only: run.plan_only,
+        key: run.key,
+        message: run.message,
+        created: moment_of(run.created)?,
+        status: run.status,
+        action: run.action,
+    })
+}
+
+fn optional_run_as(run: Option<RunCells>) -> Result<Option<Run>, Error>
+    ensures { IfOk result (λ read. read ≡ option_map run_in run) }
+{
+    match run {
+        None => Ok(None),
+        Some(run) => Ok(Some(run_as(run)?)),
+    }
+}
+
+/// The run of a number.
+fn numbered_run<S: Alter>(
+    conn: &mut Connection<S>,
+    org: &str,
+    ws: &str,
+    number: Number,
+) -> Result<Option<RunCells>, Error>
+    ensures mode { conn.old.in_transaction ≡ false → conn.new.in_transaction ≡ false }
+    ensures so_far { HasCleanDisk (state S.Store conn.new) → HasCleanDisk (state S.Store conn.old) }
+    ensures sees { SeesBy (run_of org.now ws.now number) (state S.Store conn.old) (state S.Store conn.new) result }
+{
+    let number = number.get() as u64;
+    runs::find(conn, org, ws, number)
+}
+
+/// The run that has a key, if a key is given.
+fn keyed_run<S: Alter>(
+    conn: &mut Connection<S>,
+    org: &str,
+    ws: &str,
+    key: &Option<Text>,
+) -> Result<Option<RunCells>, Error>
+    ensures mode { conn.old.in_transaction ≡ false → conn.new.in_transaction ≡ false }
+    ensures so_far { HasCleanDisk (state S.Store conn.new) → HasCleanDisk (state S.Store conn.old) }
+    ensures sees { SeesBy (keyed_cells_in key.now org.now ws.now) (state S.Store conn.old) (state S.Store conn.new) result }
+{
+    match key {
+        None => Ok(None),
+        Some(key) => runs::find_by_key(conn, org, ws, key.as_str()),
+    }
+}
+
+/// The run that an act asks of.
+fn asked_run<S: Alter>(
+    conn: &mut Connection<S>,
+    org: &str,
+    ws: &str,
+    act: &Act,
+) -> Result<Option<RunCells>, Error>
+    ensures mode { conn.old.in_transaction ≡ false → conn.new.in_transaction ≡ false }
+    ensures so_far { HasCleanDisk (state S.Store conn.new) → HasCleanDisk (state S.Store conn.old) }
+    ensures sees { SeesBy (asked_cells_in act.now org.now ws.now) (state S.Store conn.old) (state S.Store conn.new) result }
+{
+    match act {
+        Act::MakeRun(ask) => keyed_run(conn, org, ws, &ask.key),
+        Act::ReadRun(number) => numbered_run(conn, org, ws, *number),
+        Act::ReportRun(number, _) => numbered_run(conn, org, ws, *number),
+        Act::PutWorkspace(_) => Ok(None),
+        Act::ReadWorkspace => Ok(None),
+        Act::UpdateState { .. } => Ok(None),
+        Act::ReadState => Ok(None),
+        Act::PurgeState { .. } => Ok(None),
+        Act::Lock { .. } => Ok(None),
+        Act::Unlock(_) => Ok(None),
+        Act::ForceUnlock => Ok(None),
+    }
+}
+
 /// How many workspaces an organization has, and how many it may have.
 fn absent<S: Alter>(conn: &mut Connection<S>, org: &str) -> Result<Unit, Error>
     ensures mode { conn.old.in_transaction ≡ false → conn.new.in_transaction ≡ false }
@@ -237,6 +338,31 @@ fn absent<S: Alter>(conn: &mut Connection<S>, org: &str) -> Result<Unit, Error>
     })
 }
 
+/// What a decision needs of the runs of a workspace.
+fn runs_around<S: Alter>(
+    conn: &mut Connection<S>,
+    org: &str,
+    ws: &str,
+    act: &Act,
+    holder: &HolderCells,
+) -> Result<RunsAround, Error>
+    ensures mode { conn.old.in_transaction ≡ false → conn.new.in_transaction ≡ false }
+    ensures so_far { HasCleanDisk (state S.Store conn.new) → HasCleanDisk (state S.Store conn.old) }
+    ensures sees { SeesBy (runs_in act.now org.now ws.now holder.now) (state S.Store conn.old) (state S.Store conn.new) result }
+    ensures is_open { HasCleanDisk (state S.Store conn.new) → OnOk result (IsTrue (state S.Store conn.new).is_open) }
+{
+    let holder_status = holder_status(conn, org, ws, holder)?;
+    let first_waiting = runs::first_waiting(conn, org, ws)?;
+    let asked_run = asked_run(conn, org, ws, act)?;
+    let open_runs = runs::count_open(conn, org, ws)?;
+    Ok(RunsAround {
+        holder_status,
+        first_waiting,
+        asked_run,
+        open_runs,
+    })
+}
+
 /// What a decision needs of a workspace besides its row.
 fn around<S: Alter>(
     conn: &mut Connection<S>,
@@ -250,15 +376,13 @@ fn around<S: Alter>(
     ensures sees { SeesBy (around_in act.now org.now ws.now holder.now) (state S.Store conn.old) (state S.Store conn.new) result }
     ensures is_open { HasCleanDisk (state S.Store conn.new) → OnOk result (IsTrue (state S.Store conn.new).is_open) }
 {
-    let holder_status = holder_status(conn, org, ws, holder)?;
     let newest = newest(conn, org, ws, act)?;
     let versions = versions::count(conn, org, ws)?;
-    let first_waiting = runs::first_waiting(conn, org, ws)?;
+    let runs = runs_around(conn, org, ws, act, holder)?;
     Ok(Surroundings {
-        holder_status,
         newest,
         versions,
-        first_waiting,
+        runs,
     })
 }
 
@@ -269,19 +393,23 @@ fn unit_by(
 ) -> Result<WorkspaceUnit, Error>
     ensures { IfOk result (λ unit. unit ≡ unit_from workspace around) }
 {
-    let first_waiting = optional_number_of(around.first_waiting)?;
+    let runs = around.runs;
+    let first_waiting = optional_number_of(runs.first_waiting)?;
+    let asked_run = optional_run_as(runs.asked_run)?;
     let released = optional_lock_id_of(alloc, &workspace.released)?;
     let holder = holder_of(alloc, workspace.holder)?;
     Ok(WorkspaceUnit {
         auto_apply: workspace.auto,
         holder,
-        holder_status: around.holder_status,
+        holder_status: runs.holder_status,
         released,
         next_version: workspace.next_version,
         next_run: workspace.next_run,
         newest: around.newest,
         versions: around.versions as usize,
         first_waiting,
+        asked_run,
+        open_runs: runs.open_runs as usize,
     })
 }
 
@@ -357,7 +485,27 @@ fn below(gone: u64, next: u64, count: u64) -> Outgoing
     }
 }
 
-/// Which versions go by an edit: none, if it isn't one that adds a version.
+/// Whether there is a workspace for a run: then none of its versions goes.
+fn room<S: Alter>(conn: &mut Connection<S>, org: &str, ws: &str) -> Result<Outgoing, Error>
+    ensures mode { conn.old.in_transaction ≡ false → conn.new.in_transaction ≡ false }
+    ensures so_far { HasCleanDisk (state S.Store conn.new) → HasCleanDisk (state S.Store conn.old) }
+    ensures sees { SeesBy (room_in org.now ws.now) (state S.Store conn.old) (state S.Store conn.new) result }
+{
+    let workspace = workspaces::find(conn, org, ws)?;
+    Ok(room_by(workspace))
+}
+
+fn room_by(workspace: Option<WorkspaceCells>) -> Outgoing
+    ensures { result ≡ room_of workspace }
+{
+    match workspace {
+        None => Outgoing::Missing,
+        Some(_) => Outgoing::Below(0),
+    }
+}
+
+/// Which versions go by an edit, or that there is no workspace for what it adds: none go, if it
+/// isn't one that adds a version.
 pub(crate) fn outgoing<S: Alter>(
     conn: &mut Connection<S>,
     org: &str,
@@ -375,5 +523,7 @@ pub(crate) fn outgoing<S: Alter>(
         Edit::Purge => Ok(Outgoing::Missing),
         Edit::Hold { .. } => Ok(Outgoing::Missing),
         Edit::Release(_) => Ok(Outgoing::Missing),
+        Edit::AddRun { .. } => room(conn, org, ws),
+        Edit::Report { .. } => Ok(Outgoing::Missing),
     }
 }

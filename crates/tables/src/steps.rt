@@ -1,23 +1,23 @@
 //! What a change of a workspace does to the tables, inside one transaction.
-ghost use Rattle.std.specs.Prelude.{◌≡◌, ◌<◌, ◌^◌};
+ghost use Rattle.std.specs.Prelude.{◌≡◌, ◌+◌, ◌<◌, ◌^◌, cond, option_map};
 ghost use Rattle.sqlite.specs.Held.{state};
 ghost use Rattle.sqlite.specs.State.{HasCleanDisk};
 ghost use Rattle.statements.specs.Steps.{ChangesBy};
-ghost use Rattle.statements.specs.Changes.{versions_removed_below};
-ghost use Rattle.tables.specs.Edits.{made_rows, numbered_rows, emptied_rows};
-ghost use Rattle.tables.specs.KeepEdits.{added_rows, put_above, put_by, edited_by, begun_rows, changed_by};
+ghost use Rattle.statements.specs.Changes.{versions_removed_below, run_acted};
+ghost use Rattle.tables.specs.Edits.{made_rows, numbered_rows, emptied_rows, run_put, freed_rows};
+ghost use Rattle.tables.specs.KeepEdits.{added_rows, put_above, put_by, run_counted, run_by, edited_by, begun_rows, changed_by};
 
-use basis::{Number, RunStatus};
+use basis::{Moment, Number, RunAction, RunAsk, RunStatus, Text};
 use machine::{Change, Edit, Version};
 use sqlite::{Alter, Error, Transaction};
 use statements::{runs, versions, workspaces};
 
-/// Which versions of a workspace go as one comes.
+/// Which versions of a workspace go as a version or a run comes.
 #[derive(Clone, Copy)]
 pub(crate) enum Outgoing {
-    /// None: there is no workspace, so none comes.
+    /// None: there is no workspace, so no version and no run comes.
     Missing,
-    /// Those with numbers below this one.
+    /// Those with numbers below this one: none of them, as a run comes.
     Below(u64),
     All,
 }
@@ -140,6 +140,136 @@ fn put<S: Alter>(
     }
 }
 
+fn optional_str(text: &Option<Text>) -> Option<&str>
+    ensures { option_map (λ s. s.now) result ≡ text.now }
+{
+    match text {
+        None => None,
+        Some(text) => Some(text.as_str()),
+    }
+}
+
+/// The status of a new run.
+fn first_status(plan_only: bool) -> RunStatus
+    ensures { result ≡ cond plan_only RunStatus.Planning RunStatus.Pending }
+{
+    if plan_only {
+        RunStatus::Planning
+    } else {
+        RunStatus::Pending
+    }
+}
+
+/// Puts a run behind the others.
+fn put_run<S: Alter>(
+    tx: &mut Transaction<'_, S>,
+    org: &str,
+    ws: &str,
+    number: Number,
+    ask: &RunAsk,
+    created: Moment,
+) -> Result<(), Error>
+    ensures same_reference { tx.new.conn.ghost_name ≡ tx.old.conn.ghost_name }
+    ensures changed { ChangesBy (run_put org.now ws.now number ask.now created) (state S.Store tx.old.conn.now) (state S.Store tx.new.conn.now) result }
+    ensures so_far { HasCleanDisk (state S.Store tx.new.conn.now) → HasCleanDisk (state S.Store tx.old.conn.now) }
+{
+    let number = number.get() as u64;
+    let created = created.seconds();
+    let key = optional_str(&ask.key);
+    let message = ask.message.as_str();
+    let status = first_status(ask.plan_only);
+    runs::add(
+        tx,
+        org,
+        ws,
+        number,
+        ask.plan_only,
+        key,
+        message,
+        created,
+        status,
+    )
+}
+
+/// Puts a run behind the others; the next one has the number behind its.
+fn count_run<S: Alter>(
+    tx: &mut Transaction<'_, S>,
+    org: &str,
+    ws: &str,
+    number: Number,
+    ask: &RunAsk,
+    created: Moment,
+) -> Result<(), Error>
+    ensures same_reference { tx.new.conn.ghost_name ≡ tx.old.conn.ghost_name }
+    ensures changed { ChangesBy (run_counted org.now ws.now number ask.now created) (state S.Store tx.old.conn.now) (state S.Store tx.new.conn.now) result }
+    ensures so_far { HasCleanDisk (state S.Store tx.new.conn.now) → HasCleanDisk (state S.Store tx.old.conn.now) }
+{
+    put_run(tx, org, ws, number, ask, created)?;
+    let number = number.get() as u64;
+    workspaces::set_next_run(tx, org, ws, number + 1)
+}
+
+/// Adds a run, where there is a workspace.
+fn add_run<S: Alter>(
+    tx: &mut Transaction<'_, S>,
+    org: &str,
+    ws: &str,
+    number: Number,
+    ask: &RunAsk,
+    created: Moment,
+    outgoing: Outgoing,
+) -> Result<(), Error>
+    ensures same_reference { tx.new.conn.ghost_name ≡ tx.old.conn.ghost_name }
+    ensures changed { ChangesBy (run_by outgoing org.now ws.now number ask.now created) (state S.Store tx.old.conn.now) (state S.Store tx.new.conn.now) result }
+    ensures so_far { HasCleanDisk (state S.Store tx.new.conn.now) → HasCleanDisk (state S.Store tx.old.conn.now) }
+{
+    match outgoing {
+        // It removes none.
+        Outgoing::Missing => forget(tx, org, ws, 0),
+        Outgoing::Below(_) => count_run(tx, org, ws, number, ask, created),
+        Outgoing::All => count_run(tx, org, ws, number, ask, created),
+    }
+}
+
+/// Records an action on a run.
+fn act<S: Alter>(
+    tx: &mut Transaction<'_, S>,
+    org: &str,
+    ws: &str,
+    number: Number,
+    action: RunAction,
+    status: RunStatus,
+) -> Result<(), Error>
+    ensures same_reference { tx.new.conn.ghost_name ≡ tx.old.conn.ghost_name }
+    ensures changed { ChangesBy (run_acted status action org.now ws.now number) (state S.Store tx.old.conn.now) (state S.Store tx.new.conn.now) result }
+    ensures so_far { HasCleanDisk (state S.Store tx.new.conn.now) → HasCleanDisk (state S.Store tx.old.conn.now) }
+{
+    let number = number.get() as u64;
+    runs::record_action(tx, org, ws, number, status, action)
+}
+
+/// Records an action on a run; where it frees the workspace, nobody holds any more.
+fn report<S: Alter>(
+    tx: &mut Transaction<'_, S>,
+    org: &str,
+    ws: &str,
+    number: Number,
+    action: RunAction,
+    status: RunStatus,
+    frees: bool,
+) -> Result<(), Error>
+    ensures same_reference { tx.new.conn.ghost_name ≡ tx.old.conn.ghost_name }
+    ensures changed { ChangesBy (λ t. freed_rows frees org.now ws.now (run_acted status action org.now ws.now number t)) (state S.Store tx.old.conn.now) (state S.Store tx.new.conn.now) result }
+    ensures so_far { HasCleanDisk (state S.Store tx.new.conn.now) → HasCleanDisk (state S.Store tx.old.conn.now) }
+{
+    act(tx, org, ws, number, action, status)?;
+    if frees {
+        workspaces::release_run(tx, org, ws)
+    } else {
+        Ok(())
+    }
+}
+
 /// Edits a workspace.
 fn edit<S: Alter>(
     tx: &mut Transaction<'_, S>,
@@ -161,6 +291,17 @@ fn edit<S: Alter>(
             workspaces::hold_by_lock(tx, org, ws, id.as_str(), text.as_slice())
         }
         Edit::Release(id) => workspaces::release_lock(tx, org, ws, id.as_str()),
+        Edit::AddRun {
+            number,
+            ask,
+            created,
+        } => add_run(tx, org, ws, *number, ask, *created, outgoing),
+        Edit::Report {
+            number,
+            action,
+            status,
+            frees,
+        } => report(tx, org, ws, *number, *action, *status, *frees),
     }
 }
 

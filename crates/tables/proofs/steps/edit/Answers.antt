@@ -17,3 +17,9 @@ returns-in-Hold-clause-changed g c = rw c.in-Hold.is (rw (c.as_str.ensures, c.as
 
 pub returns-in-Release-clause-changed : goal.returns-in-Release-clause-changed
 returns-in-Release-clause-changed g c = rw c.in-Release.is (rw c.as_str-in-Release.ensures at c.release_lock.ensures.changed)
+
+pub returns-in-AddRun-clause-changed : goal.returns-in-AddRun-clause-changed
+returns-in-AddRun-clause-changed g c = rw c.in-AddRun.is c.add_run.ensures.changed
+
+pub returns-in-Report-clause-changed : goal.returns-in-Report-clause-changed
+returns-in-Report-clause-changed g c = rw c.in-Report.is c.report.ensures.changed
