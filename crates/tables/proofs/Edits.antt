@@ -24,7 +24,7 @@ use Rattle.statements.specs.declared.rows.Workspace.{Workspace as WorkspaceCells
 use Rattle.statements.specs.declared.rows.Run.{Run as RunCells}
 use Rattle.statements.specs.Rows.{Kept, VersionRow}
 use Rattle.statements.specs.Tables.{Tables}
-use Rattle.statements.specs.Changes.{with_auto, held_by, released_from, with_next_version, with_next_run, ws_changed, ws_removed, new_version, versions_removed, versions_removed_below, new_run as new_run_cells, runs_removed, run_added, run_acted, is_version_of}
+use Rattle.statements.specs.Changes.{with_auto, held_by, released_from, with_next_version, with_next_run, ws_changed, ws_removed, new_version, versions_removed, versions_removed_below, new_run as new_run_cells, runs_removed, run_acted, is_version_of}
 use Rattle.statements.specs.Finds.{workspace_of, versions_of}
 use Rattle.tables.specs.Records.{version_in, run_in, workspace_in, versions_at, runs_at, workspace_by}
 use Rattle.tables.specs.Sound.{KeepsTheLast, IsSound}

@@ -4,8 +4,10 @@ use Rattle.std.specs.Prelude.{codes}
 use Rattle.std.specs.FinMap.{from_entries, empty}
 use Rattle.basis.specs.declared.roles.Role.TheVariants.{Write}
 use Rattle.basis.specs.declared.runs.RunStatus.{RunStatus}
-use Rattle.basis.specs.declared.runs.RunStatus.TheVariants.{Pending, Planning}
-use Rattle.machine.specs.declared.acts.Edit.TheVariants.{Make, Configure, AddVersion, Purge, Release}
+use Rattle.basis.specs.declared.rows.RunAsk.{RunAsk}
+use Rattle.basis.specs.declared.runs.RunStatus.TheVariants.{Pending, Planning, Canceled}
+use Rattle.basis.specs.declared.runs.RunAction.TheVariants.{Cancel}
+use Rattle.machine.specs.declared.acts.Edit.TheVariants.{Make, Configure, AddVersion, Purge, Release, AddRun, Report}
 use Rattle.machine.specs.declared.records.Holder.TheVariants.{Nobody, Lock, Run as HoldingRun}
 use Rattle.machine.specs.declared.records.Version.{Version}
 use Rattle.machine.specs.declared.records.Run.{Run}
@@ -124,6 +126,30 @@ nothing_added = refl
 started : record_of (changed_rows acme prod (record { edit = Release x1; start = Some 1 }) two) acme
     ≡ acme_has (record of_acme { holder = HoldingRun 1; released = Some x1; runs = run 1 Planning ∷ [] })
 started = refl
+
+-- a second run comes: a queued one is pending
+abbrev asked : RunAsk
+asked = record { key = Some (codes "k2"); message = codes "go"; plan_only = false }
+
+abbrev second_run : Run
+second_run = record (run 2 Pending) { key = Some (codes "k2") }
+
+run_added : record_of (edited_rows acme prod (AddRun 2 asked 1_700_000_000) two) acme ≡ acme_has (record of_acme { next_run = 3; runs = run 1 Pending ∷ second_run ∷ [] })
+run_added = refl
+
+run_added_other : record_of (edited_rows acme prod (AddRun 2 asked 1_700_000_000) two) globex ≡ globex_has of_globex
+run_added_other = refl
+
+no_run_added : edited_rows globex (codes "dev") (AddRun 1 asked 1_700_000_000) two ≡ two
+no_run_added = refl
+
+-- the run was canceled: the lock stays, or nobody holds any more
+canceled : record_of (edited_rows acme prod (Report 1 Cancel Canceled false) two) acme ≡ acme_has (record of_acme { runs = record (run 1 Canceled) { action = Some Cancel } ∷ [] })
+canceled = refl
+
+canceled_and_freed : record_of (edited_rows acme prod (Report 1 Cancel Canceled true) two) acme
+    ≡ acme_has (record of_acme { holder = Nobody; runs = record (run 1 Canceled) { action = Some Cancel } ∷ [] })
+canceled_and_freed = refl
 
 -- a workspace more, behind the other
 made : record_of (edited_rows acme (codes "dev") (Make (record { auto_apply = true })) two) acme ≡ Some (record {

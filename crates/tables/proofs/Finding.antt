@@ -29,7 +29,6 @@ use Rattle.machine.proofs.MapLemmas.{names_total}
 use Rattle.statements.specs.declared.rows.Head.{Head}
 use Rattle.statements.specs.declared.rows.Holder.{Holder as HolderCells}
 use Rattle.statements.specs.declared.rows.Holder.TheVariants as cells
-use Rattle.statements.specs.declared.rows.Run.{Run as RunCells}
 use Rattle.statements.specs.declared.rows.Workspace.{Workspace as WorkspaceCells}
 use Rattle.statements.specs.Rows.{Kept, OrgRow, WsRow, VersionRow, RunRow}
 use Rattle.statements.specs.Tables.{Tables}

@@ -1,5 +1,8 @@
 use crate::{Fault, SqlKeep};
-use basis::{Bytes, Limit, LockId, Moment, Number, OrgName, Role, Settings, Text, WsName};
+use basis::{
+    Bytes, Limit, LockId, Moment, Number, OrgName, Role, RunAction, RunAsk, RunStatus, Settings,
+    Text, WsName,
+};
 use machine::{Act, AdminAnswer, Change, Edit, Holder, Keep, Unit, Version};
 use sqlite::{Connection, MemStore};
 use std::alloc::Global;
@@ -66,6 +69,29 @@ fn make(
 ) -> Result<(), Fail> {
     let edit = Edit::Make(Settings { auto_apply: true });
     keep.apply(alloc, org, ws, &Change { edit, start: None })?;
+    Ok(())
+}
+
+// Adds the queued run of a number, whose key is `k` and that number.
+fn add_run(
+    keep: &mut SqlKeep<MemStore>,
+    alloc: Global,
+    org: &OrgName,
+    ws: &WsName,
+    n: u64,
+    start: Option<Number>,
+) -> Result<(), Fail> {
+    let ask = RunAsk {
+        key: Some(Text::copy_of(alloc, format!(in alloc; "k{n}")?.as_str())?),
+        message: Text::copy_of(alloc, "go")?,
+        plan_only: false,
+    };
+    let edit = Edit::AddRun {
+        number: number(n)?,
+        ask,
+        created: Moment::new(1_700_000_000).ok_or("a moment")?,
+    };
+    keep.apply(alloc, org, ws, &Change { edit, start })?;
     Ok(())
 }
 
@@ -156,6 +182,58 @@ fn holds_one_workspace(rt: HostRuntime) -> Result<(), Fail> {
         return Err(Fail::new("other has no workspace"));
     };
     assert!(rt; matches!(unit.holder, Holder::Nobody));
+    Ok(())
+}
+
+// How many rows there are after two runs of acme's `prod`: the first was discarded, and the second holds.
+const RUN_ROWS: &[(&str, i64)] = &[
+    ("SELECT count(*) FROM run", 2),
+    (
+        "SELECT count(*) FROM run WHERE org = 'acme' AND ws = 'prod' AND number = 1 AND rkey = 'k1' AND status = 7 AND action = 5",
+        1,
+    ),
+    (
+        "SELECT count(*) FROM run WHERE org = 'acme' AND ws = 'prod' AND number = 2 AND rkey = 'k2' AND status = 1 AND action IS NULL",
+        1,
+    ),
+    (
+        "SELECT count(*) FROM run WHERE plan_only = 0 AND message = 'go' AND created = 1700000000",
+        2,
+    ),
+    ("SELECT count(*) FROM ws", 2),
+    (
+        "SELECT count(*) FROM ws WHERE org = 'acme' AND kind = 2 AND run = 2 AND next_run = 3",
+        1,
+    ),
+    (
+        "SELECT count(*) FROM ws WHERE org = 'other' AND kind = 0 AND next_run = 1",
+        1,
+    ),
+];
+
+#[test]
+fn keeps_runs_of_one_workspace(rt: HostRuntime) -> Result<(), Fail> {
+    let alloc = rt.alloc();
+    let mut keep = two_organizations(alloc)?;
+    let acme = OrgName::read(alloc, "acme")?;
+    let prod = WsName::read(alloc, "prod")?;
+    let dev = WsName::read(alloc, "dev")?;
+    add_run(&mut keep, alloc, &acme, &prod, 1, Some(number(1)?))?;
+    add_run(&mut keep, alloc, &acme, &prod, 2, None)?;
+    // There is no such workspace.
+    add_run(&mut keep, alloc, &acme, &dev, 1, None)?;
+    let edit = Edit::Report {
+        number: number(1)?,
+        action: RunAction::Discard,
+        status: RunStatus::Discarded,
+        frees: true,
+    };
+    let start = Some(number(2)?);
+    keep.apply(alloc, &acme, &prod, &Change { edit, start })?;
+    let mut conn = keep.close();
+    for (sql, want) in RUN_ROWS {
+        assert_eq!(rt; count(&mut conn, sql)?, *want);
+    }
     Ok(())
 }
 
