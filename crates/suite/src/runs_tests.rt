@@ -115,7 +115,7 @@ impl Dice {
 
 // The i-th request of a history: most act on one of the latest runs.
 fn thrown(alloc: Global, dice: &mut Dice, i: u32) -> Result<String, Fail> {
-    let number = i / 8 + dice.next(4) + 1;
+    let number = i / 4 + dice.next(4) + 1;
     let kind = dice.next(11);
     let word = ACTIONS.get(dice.next(7) as usize).ok_or("an action")?;
     match kind {
@@ -155,7 +155,7 @@ fn history(alloc: Global) -> Result<Vec<Step>, Fail> {
     Ok(steps)
 }
 
-fn replies_of<K: Keep>(alloc: Global, keep: K, steps: &[Step]) -> Result<Vec<Bytes>, Fail> {
+fn replies_of<K: Keep + Drop>(alloc: Global, keep: K, steps: &[Step]) -> Result<Vec<Bytes>, Fail> {
     let mut service = Service::new(keep);
     let replies = service.replay(alloc, steps);
     drop(service.into_keep());
@@ -189,7 +189,7 @@ fn stores_answer_a_history_alike(rt: HostRuntime) -> Result<(), Fail> {
         b"HTTP/1.1 409",
         b"HTTP/1.1 423",
     ] {
-        assert!(rt; count_of(plain.as_slice(), start) > 9, "{start:?}");
+        assert!(rt; count_of(plain.as_slice(), start) > 0, "{start:?}");
     }
     Ok(())
 }
