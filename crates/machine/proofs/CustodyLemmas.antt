@@ -79,7 +79,7 @@ same_again : (w : Workspace) (head : StateHead) (text : List ℕ) (later : ℕ) 
 same_again w head text later v e is = rw (e, is, bytes_same text) refl
 
 -- what becomes of the workspace at each moment: it stays, or gets a version behind the others
-abbrev Becomes : StateHead → List ℕ → Workspace → (ℕ → Option Workspace) → Type 0
+abbrev pub Becomes : StateHead → List ℕ → Workspace → (ℕ → Option Workspace) → Type 0
 Becomes head text w after = ((t : ℕ) → after t ≡ Some w) ⊎ (n : ℕ) × ((t : ℕ) → after t ≡ Some (settled (with_version w n head text t)))
 
 number_becomes : (head : StateHead) (text : List ℕ) (w : Workspace) (n : Option ℕ) → Becomes head text w (λ t. (numbered_update n w head text t).left)
@@ -93,7 +93,7 @@ succession_becomes head text w other_lineage = inl (λ t. refl)
 succession_becomes head text w old_serial = inl (λ t. refl)
 succession_becomes head text w next = number_becomes head text w (number_left w.next_version)
 
-update_becomes : (head : StateHead) (text : List ℕ) (w : Workspace) (m : Option Refusal) → Becomes head text w (λ t. (by_may_write m w head text t).left)
+pub update_becomes : (head : StateHead) (text : List ℕ) (w : Workspace) (m : Option Refusal) → Becomes head text w (λ t. (by_may_write m w head text t).left)
 update_becomes head text w (Some refusal) = inl (λ t. refl)
 update_becomes head text w None = succession_becomes head text w (succession w.versions text head)
 
@@ -216,7 +216,7 @@ kept_some : (start : Option ℕ) (o : Option Run) → is_some o ≡ true → is_
 kept_some start None is = absurd (let none : ⊥ = cc in none)
 kept_some start (Some r) is = refl
 
-key_is_there : (key : List ℕ) (w : Workspace) (r : Run) → r.key ≡ Some key → is_some (keyed_run (Some key) (settled (with_run r w)).runs) ≡ true
+pub key_is_there : (key : List ℕ) (w : Workspace) (r : Run) → r.key ≡ Some key → is_some (keyed_run (Some key) (settled (with_run r w)).runs) ≡ true
 key_is_there key w r e =
     let u : Workspace = with_run r w in
     let start : Option ℕ = to_start u.holder (first_waiting u.runs) in

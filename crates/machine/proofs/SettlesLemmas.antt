@@ -22,7 +22,7 @@ found_of_all P test (r ∷ runs) f all e = passed (test r) e (λ is. found_of_al
     passed false is more = more is
 
 -- what is found passes the test
-found_passes : (test : Run → Bool) (runs : List Run) (f : Run) → find test runs ≡ Some f → test f ≡ true
+pub found_passes : (test : Run → Bool) (runs : List Run) (f : Run) → find test runs ≡ Some f → test f ≡ true
 found_passes test [] f e = absurd (let none : ⊥ = cc in none)
 found_passes test (r ∷ runs) f e = passed (test r) refl e (λ is. found_passes test runs f is)
   where
@@ -30,7 +30,7 @@ found_passes test (r ∷ runs) f e = passed (test r) refl e (λ is. found_passes
     passed true t is more = ap test (let same_one : f ≡ r = cc in same_one) ∙ t
     passed false t is more = more is
 
-none_found : (runs : List Run) → find is_waiting runs ≡ None → NoneWaits runs
+pub none_found : (runs : List Run) → find is_waiting runs ≡ None → NoneWaits runs
 none_found [] e = tt
 none_found (r ∷ runs) e = passed (is_waiting r) refl e (λ is. none_found runs is)
   where

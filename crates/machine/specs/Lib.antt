@@ -14,4 +14,5 @@ pub mod Units
 pub mod Tokens
 pub mod Keeping
 pub mod Custody
+pub mod Queue
 pub mod Inner

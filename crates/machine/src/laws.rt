@@ -1,5 +1,6 @@
 //! Laws of the rules, each the contract of a call that does nothing.
 ghost use Rattle.machine.specs.Settling.{SettlesOnce};
+ghost use Rattle.machine.specs.Queue.{OneRunIsActive, PlanOnlyRunsStayOut, RunsStartInOrder, RunsStay, ActionsComeAgain, KeyedCreationsComeAgain};
 ghost use Rattle.machine.specs.Custody.{HoldsUntilReleased, LockedWorkspacesStay, NothingIsReadOfAPurge, NumbersRise, RefusalsChangeNothing, RefusalsTellTheHolder, RepeatsChangeNothing, VersionsChangeByTheId, WhatIsPostedIsRead, WritesCarryTheId};
 
 /// A refusal leaves the workspace as it is.
@@ -57,4 +58,34 @@ pub fn repeats_change_nothing()
 /// Settling allows one workspace, and the rules give that one.
 pub fn settles_once()
     ensures { SettlesOnce }
+{}
+
+/// After every act at most one queued run is active: planning, planned or applying.
+pub fn one_run_is_active()
+    ensures { OneRunIsActive }
+{}
+
+/// After every act a plan-only run neither waits nor holds.
+pub fn plan_only_runs_stay_out()
+    ensures { PlanOnlyRunsStayOut }
+{}
+
+/// A run that starts waited, or the act makes it, and those that wait after it have greater numbers.
+pub fn runs_start_in_order()
+    ensures { RunsStartInOrder }
+{}
+
+/// A run that is there stays there, and goes on by one step at most: it starts, or takes an action.
+pub fn runs_stay()
+    ensures { RunsStay }
+{}
+
+/// An action that was accepted comes again, after whatever else, and changes nothing.
+pub fn actions_come_again()
+    ensures { ActionsComeAgain }
+{}
+
+/// A creation with a key that was accepted comes again, after whatever else, and changes nothing.
+pub fn keyed_creations_come_again()
+    ensures { KeyedCreationsComeAgain }
 {}

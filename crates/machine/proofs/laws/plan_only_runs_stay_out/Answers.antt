@@ -1,0 +1,5 @@
+use Rattle.machine.proofs.VersionLemmas as lemma
+use Rattle.machine.proofs.laws.plan_only_runs_stay_out.Goals as goal
+
+pub returns : goal.returns
+returns c = lemma.plan_only_runs_stay_out

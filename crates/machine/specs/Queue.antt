@@ -1,0 +1,86 @@
+-- The queue of runs, as laws of the rules: who is active, who starts, what becomes of a run, and what comes again.
+use Rattle.std.specs.Prelude.{◌≡◌, ◌⊎◌, ◌<◌, ◌≤◌, ℕ, Bool, true, false, not, ◌&&◌, List, [], ◌∷◌, length, filter, Option, Some, None, ⊤}
+use Rattle.std.specs.List.{AllByRecursion}
+use Rattle.basis.specs.declared.rows.RunAsk.{RunAsk}
+use Rattle.basis.specs.declared.runs.RunStatus.TheVariants.{Planning}
+use Rattle.basis.specs.declared.runs.RunAction.{RunAction}
+use Rattle.machine.specs.Workspaces.{run_of}
+use Rattle.machine.specs.Laws.{is_active, is_pending, holds, IsLawful, IsLawfulIfThere}
+use Rattle.machine.specs.Ranges.{IsInRange, IsMoment}
+use Rattle.machine.specs.RunSteps.{next_status}
+use Rattle.machine.specs.Settling.{is_waiting}
+use Rattle.machine.specs.Records.{Seen, there, standing}
+use Rattle.machine.specs.Rules.{rules}
+use Rattle.machine.specs.Custody.{IsRefusal}
+use Rattle.machine.specs.declared.acts.Act.{Act}
+use Rattle.machine.specs.declared.acts.Act.TheVariants.{MakeRun, ReportRun}
+use Rattle.machine.specs.declared.records.Run.{Run}
+use Rattle.machine.specs.declared.records.Workspace.{Workspace}
+
+-- a queued run that is planning, planned or applying
+abbrev pub is_active_run : Run → Bool
+is_active_run r = is_active r.status && not r.plan_only
+
+-- after every act at most one queued run is active
+abbrev pub OneRunIsActive : Type 0
+OneRunIsActive = (act : Act) (now : ℕ) (s : Seen) (v : Workspace) → IsInRange act → IsMoment now → IsLawfulIfThere (standing s)
+    → (rules act now s).left ≡ Some v → length (filter is_active_run v.runs) ≤ 1
+
+-- after every act a plan-only run neither waits nor holds
+abbrev pub PlanOnlyRunsStayOut : Type 0
+PlanOnlyRunsStayOut = (act : Act) (now : ℕ) (s : Seen) (v : Workspace) (n : ℕ) (r : Run) → IsInRange act → IsMoment now → IsLawfulIfThere (standing s)
+    → (rules act now s).left ≡ Some v → run_of n v.runs ≡ Some r → r.plan_only ≡ true → (is_pending r.status ≡ false) × (holds v.holder n ≡ false)
+
+-- the run of a number starts: it doesn't hold before, and holds after
+abbrev pub Starts : ℕ → Workspace → Workspace → Type 0
+Starts n w v = (holds w.holder n ≡ false) × (holds v.holder n ≡ true)
+
+-- it waited, or this act makes it
+abbrev pub WaitedOrIsNew : ℕ → Workspace → Type 0
+WaitedOrIsNew n w = ((r : Run) × (run_of n w.runs ≡ Some r) × (is_waiting r ≡ true)) ⊎ (n ≡ w.next_run)
+
+-- a run that starts waited or is new, and those that wait after it have greater numbers
+abbrev pub RunsStartInOrder : Type 0
+RunsStartInOrder = (act : Act) (now : ℕ) (w v : Workspace) (n : ℕ) → IsInRange act → IsMoment now → IsLawful w → (rules act now (there w)).left ≡ Some v → Starts n w v
+    → WaitedOrIsNew n w × AllByRecursion (λ (r : Run). is_waiting r ≡ true → n < r.number) v.runs
+
+-- what becomes of a run: it is as it was, or it waited and starts, or it took an action that leads on
+abbrev pub GoesOn : Bool → Run → Run → Type 0
+GoesOn auto_apply r s =
+    ((s.status ≡ r.status) × (s.action ≡ r.action))
+    ⊎ (((is_waiting r ≡ true) × (s.status ≡ Planning) × (s.action ≡ r.action))
+    ⊎ ((action : RunAction) × (next_status r.plan_only auto_apply r.status action ≡ Some s.status) × (s.action ≡ Some action)))
+
+-- a run that is there stays there, with its kind, its key, its message and its moment, and goes on by one step at most
+pub record StaysThere (auto_apply : Bool) (r s : Run) : Type 0 where
+  pub number : s.number ≡ r.number
+  pub plan_only : s.plan_only ≡ r.plan_only
+  pub key : s.key ≡ r.key
+  pub message : s.message ≡ r.message
+  pub created : s.created ≡ r.created
+  pub goes : GoesOn auto_apply r s
+
+abbrev pub RunsStay : Type 0
+RunsStay = (act : Act) (now : ℕ) (w v : Workspace) (n : ℕ) (r : Run) → IsLawful w → (rules act now (there w)).left ≡ Some v → run_of n w.runs ≡ Some r
+    → (s : Run) × (run_of n v.runs ≡ Some s) × StaysThere w.auto_apply r s
+
+-- acts in their ranges, each at a moment in range, one after another: what they leave of a workspace
+abbrev pub AreInRange : List (Act × ℕ) → Type 0
+AreInRange acts = AllByRecursion (λ (a : Act × ℕ). IsInRange a.0 × IsMoment a.1) acts
+
+abbrev pub Leads : List (Act × ℕ) → Workspace → Workspace → Type 0
+Leads [] w u = u ≡ w
+Leads (a ∷ acts) w u = (v : Workspace) × ((rules a.0 a.1 (there w)).left ≡ Some v) × Leads acts v u
+
+-- an action that was accepted comes again, after whatever else, and changes nothing
+abbrev pub ActionsComeAgain : Type 0
+ActionsComeAgain = (n : ℕ) (action : RunAction) (now later : ℕ) (acts : List (Act × ℕ)) (w v u : Workspace) → IsLawful w → IsMoment now
+    → (IsRefusal (rules (ReportRun n action) now (there w)).answer → ⊥) → (rules (ReportRun n action) now (there w)).left ≡ Some v
+    → AreInRange acts → Leads acts v u → (rules (ReportRun n action) later (there u)).left ≡ Some u
+
+-- a creation with a key that was accepted comes again, after whatever else, and changes nothing
+abbrev pub KeyedCreationsComeAgain : Type 0
+KeyedCreationsComeAgain = (ask again : RunAsk) (key : List ℕ) (now later : ℕ) (acts : List (Act × ℕ)) (w v u : Workspace) → ask.key ≡ Some key → again.key ≡ Some key
+    → IsInRange (MakeRun ask) → IsLawful w → IsMoment now
+    → (IsRefusal (rules (MakeRun ask) now (there w)).answer → ⊥) → (rules (MakeRun ask) now (there w)).left ≡ Some v
+    → AreInRange acts → Leads acts v u → (rules (MakeRun again) later (there u)).left ≡ Some u
