@@ -15,3 +15,4 @@ pub mod CustodyLemmas
 pub mod RefusalLemmas
 pub mod VersionLemmas
 pub mod KeepLemmas
+pub mod QueueLemmas

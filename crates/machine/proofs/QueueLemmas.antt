@@ -6,6 +6,7 @@ use Rattle.std.proofs.lemmas.Bool.{eqb-false}
 use Rattle.std.proofs.lemmas.Slice.Eq.{bytes_eq-Decides}
 use Rattle.basis.specs.Runs.{is_open}
 use Rattle.basis.specs.declared.rows.RunAsk.{RunAsk}
+use Rattle.basis.specs.declared.rows.StateHead.{StateHead}
 use Rattle.basis.specs.declared.refusals.Refusal.TheVariants.{OverLimit}
 use Rattle.basis.specs.declared.runs.RunStatus.{RunStatus}
 use Rattle.basis.specs.declared.runs.RunStatus.TheVariants.{Pending, Planning, Planned, Applying, Applied, PlannedAndFinished, Errored, Discarded, Canceled}
@@ -30,7 +31,7 @@ use Rattle.machine.specs.declared.records.Holder.TheVariants.{Nobody, Lock, Run 
 use Rattle.machine.specs.declared.records.Run.{Run}
 use Rattle.machine.specs.declared.records.Workspace.{Workspace}
 use Rattle.machine.proofs.StepLemmas.{led, one_status, one_action, never_pending}
-use Rattle.machine.proofs.RunLemmas.{run_of-number, run_of-map, run_of-started, found_above, only_one_numbered, all_found, numbers-map, Rises-more, keyed-push}
+use Rattle.machine.proofs.RunLemmas.{run_of-number, run_of-map, run_of-started, only_one_numbered, all_found, numbers-map, Rises-more, keyed-push}
 use Rattle.machine.proofs.RunRulings.{IsMade, IsReported, comes_to, make_comes, report_comes}
 use Rattle.machine.proofs.RuleLemmas.{rules_are_lawful}
 use Rattle.machine.proofs.LawLemmas.{number_left-is}
@@ -160,7 +161,7 @@ settles w u v is e = inr (u, is, sym (one_left (settled u) v e))
 nobody_holds : (n : ℕ) (X : Type 0) → false ≡ true → X
 nobody_holds n X e = absurd (let none : ⊥ = cc in none)
 
-update_after : (w v : Workspace) (head : _) (text : List ℕ) (now : ℕ) (after : ℕ → Option Workspace) → IsLawful w → Becomes head text w after → after now ≡ Some v → After w v
+update_after : (w v : Workspace) (head : StateHead) (text : List ℕ) (now : ℕ) (after : ℕ → Option Workspace) → IsLawful w → Becomes head text w after → after now ≡ Some v → After w v
 update_after w v head text now after lawful (inl h) e = unchanged w v (sym (h now) ∙ e)
 update_after w v head text now after lawful (inr h) e =
     settles w (with_version w h.0 head text now) v (same_runs w (with_version w h.0 head text now) lawful refl refl (λ n is. is)) (sym (h.1 now) ∙ e)
@@ -358,21 +359,19 @@ runs_stay act now w v n r lawful e found = by_after (after_act act now w v lawfu
   where
     settled_run : (u : Workspace) → Settling w u → (s : Run) × (run_of n u.runs ≡ Some s) × ((s ≡ r) ⊎ ((is_waiting s ≡ false) × StaysThere w.auto_apply r s))
         → (s : Run) × (run_of n (settled u).runs ≡ Some s) × StaysThere w.auto_apply r s
-    settled_run u is (s, at, kind) =
-        let start : Option ℕ = to_start u.holder (first_waiting u.runs) in
-        (begun_by start s, run_of-started start n u ∙ ap (option_map (begun_by start)) at, goes_on kind (begun_or_not u s n start is.risen refl at))
+    settled_run u is (s, at, kind) = (begun_by start s, run_of-started start n u ∙ ap (option_map (begun_by start)) at, goes_on kind (begun_or_not u s n start is.risen refl at))
       where
         start : Option ℕ
         start = to_start u.holder (first_waiting u.runs)
 
         as_it_is : StaysThere w.auto_apply r s → status_begun start s.number s.status ≡ s.status → StaysThere w.auto_apply r (begun_by start s)
-        as_it_is there same_one = record {
-          number = there.number;
-          plan_only = there.plan_only;
-          key = there.key;
-          message = there.message;
-          created = there.created;
-          goes = subst (λ (x : RunStatus). GoesOn w.auto_apply r (record s { status = x })) (sym same_one) there.goes;
+        as_it_is is_there same_one = record {
+          number = is_there.number;
+          plan_only = is_there.plan_only;
+          key = is_there.key;
+          message = is_there.message;
+          created = is_there.created;
+          goes = subst (λ (x : RunStatus). GoesOn w.auto_apply r (record s { status = x })) (sym same_one) is_there.goes;
         }
 
         itself : s ≡ r → StaysThere w.auto_apply r s
@@ -399,11 +398,250 @@ runs_stay act now w v n r lawful e found = by_after (after_act act now w v lawfu
 -- ---- what comes again
 
 -- an action that a run has behind it
-is_past : RunAction → RunStatus → Bool
-is_past action status = not (is_open status) || went_on action status
-
 abbrev went_on : RunAction → RunStatus → Bool
 went_on ReportPlanned Planned = true
 went_on ReportPlanned Applying = true
 went_on Confirm Applying = true
 went_on _ _ = false
+
+abbrev is_past : RunAction → RunStatus → Bool
+is_past action status = not (is_open status) || went_on action status
+
+-- what has ended has every action behind it
+ended_is_past : (action : RunAction) (status : RunStatus) → is_open status ≡ false → is_past action status ≡ true
+ended_is_past action status e = ap (λ (b : Bool). not b || went_on action status) e
+
+-- a step leads behind its action
+abbrev LeadsPast : RunStatus → RunAction → RunStatus → Type 0
+LeadsPast from action to = is_past action to ≡ true
+
+ends_past : (steps : List RunStep) (action : RunAction) (status : RunStatus) → AllByRecursion (λ (s : RunStep). LeadsPast s.from s.action s.to) steps → ends_in steps action status ≡ true → is_past action status ≡ true
+ends_past [] action status all e = absurd (let none : ⊥ = cc in none)
+ends_past (s ∷ steps) action status all e = passed (is_action s.action action) refl (is_status s.to status) refl e (λ rest. ends_past steps action status all.1 rest)
+  where
+    passed : (b : Bool) → is_action s.action action ≡ b → (c : Bool) → is_status s.to status ≡ c → ((b && c) || ends_in steps action status) ≡ true
+        → (ends_in steps action status ≡ true → is_past action status ≡ true) → is_past action status ≡ true
+    passed true t true u e more = subst (λ (x : RunStatus). is_past action x ≡ true) (one_status s.to status u) (subst (λ (x : RunAction). is_past x s.to ≡ true) (one_action s.action action t) all.0)
+    passed true t false u e more = more e
+    passed false t c u e more = more e
+
+all_lead_past : (plan_only : Bool) (action : RunAction) (status : RunStatus) → IsWhereActionEnds plan_only (Some action) status → is_past action status ≡ true
+all_lead_past true action status ends = ends_past plan_only_steps action status (refl, (refl, (refl, (refl, tt)))) ends
+all_lead_past false action status ends = either (ends_in auto_apply_steps action status) refl (ends_in confirmed_steps action status) refl ends
+  where
+    either : (b : Bool) → ends_in auto_apply_steps action status ≡ b → (c : Bool) → ends_in confirmed_steps action status ≡ c → (b || c) ≡ true → is_past action status ≡ true
+    either true t c u e = ends_past auto_apply_steps action status (refl, (refl, (refl, (refl, (refl, (refl, (refl, (refl, (refl, (refl, tt)))))))))) t
+    either false t true u e = ends_past confirmed_steps action status (refl, (refl, (refl, (refl, (refl, (refl, (refl, (refl, (refl, (refl, tt)))))))))) u
+    either false t false u e = absurd (let none : ⊥ = cc in none)
+
+-- what a run has behind it stays behind it
+abbrev KeepsPast : RunStatus → RunAction → RunStatus → Type 0
+KeepsPast from action to = (a : RunAction) → is_past a from ≡ true → is_past a to ≡ true
+
+applying_past : (a : RunAction) → is_past a Planned ≡ true → is_past a Applying ≡ true
+applying_past ReportPlanned e = refl
+applying_past ReportUnchanged e = absurd (let none : ⊥ = cc in none)
+applying_past Fail e = absurd (let none : ⊥ = cc in none)
+applying_past Confirm e = refl
+applying_past ReportApplied e = absurd (let none : ⊥ = cc in none)
+applying_past Discard e = absurd (let none : ⊥ = cc in none)
+applying_past Cancel e = absurd (let none : ⊥ = cc in none)
+
+planning_past : (a : RunAction) (X : Type 0) → is_past a Planning ≡ true → X
+planning_past ReportPlanned X e = absurd (let none : ⊥ = cc in none)
+planning_past ReportUnchanged X e = absurd (let none : ⊥ = cc in none)
+planning_past Fail X e = absurd (let none : ⊥ = cc in none)
+planning_past Confirm X e = absurd (let none : ⊥ = cc in none)
+planning_past ReportApplied X e = absurd (let none : ⊥ = cc in none)
+planning_past Discard X e = absurd (let none : ⊥ = cc in none)
+planning_past Cancel X e = absurd (let none : ⊥ = cc in none)
+
+pending_past : (a : RunAction) (X : Type 0) → is_past a Pending ≡ true → X
+pending_past ReportPlanned X e = absurd (let none : ⊥ = cc in none)
+pending_past ReportUnchanged X e = absurd (let none : ⊥ = cc in none)
+pending_past Fail X e = absurd (let none : ⊥ = cc in none)
+pending_past Confirm X e = absurd (let none : ⊥ = cc in none)
+pending_past ReportApplied X e = absurd (let none : ⊥ = cc in none)
+pending_past Discard X e = absurd (let none : ⊥ = cc in none)
+pending_past Cancel X e = absurd (let none : ⊥ = cc in none)
+
+abbrev to_end : (to : RunStatus) → is_open to ≡ false → (a : RunAction) → is_past a to ≡ true
+to_end to e a = ended_is_past a to e
+
+still_past : (plan_only auto_apply : Bool) (from : RunStatus) (action : RunAction) (to : RunStatus) → next_status plan_only auto_apply from action ≡ Some to → KeepsPast from action to
+still_past true auto_apply from action to e =
+    led KeepsPast plan_only_steps from action to
+    ((λ a _. to_end PlannedAndFinished refl a), ((λ a _. to_end PlannedAndFinished refl a), ((λ a _. to_end Errored refl a), ((λ a _. to_end Canceled refl a), tt)))) e
+still_past false true from action to e =
+    led KeepsPast auto_apply_steps from action to
+    ((λ a _. to_end Discarded refl a), ((λ a h. planning_past a _ h), ((λ a _. to_end PlannedAndFinished refl a), ((λ a _. to_end Errored refl a), ((λ a _. to_end Canceled refl a),
+    ((λ a h. applying_past a h), ((λ a _. to_end Discarded refl a), ((λ a _. to_end Applied refl a), ((λ a _. to_end Errored refl a), ((λ a _. to_end Canceled refl a), tt)))))))))) e
+still_past false false from action to e =
+    led KeepsPast confirmed_steps from action to
+    ((λ a _. to_end Discarded refl a), ((λ a h. planning_past a _ h), ((λ a _. to_end PlannedAndFinished refl a), ((λ a _. to_end Errored refl a), ((λ a _. to_end Canceled refl a),
+    ((λ a h. applying_past a h), ((λ a _. to_end Discarded refl a), ((λ a _. to_end Applied refl a), ((λ a _. to_end Errored refl a), ((λ a _. to_end Canceled refl a), tt)))))))))) e
+
+-- and isn't taken once more
+abbrev NotPast : RunStatus → RunAction → RunStatus → Type 0
+NotPast from action to = is_past action from ≡ false
+
+not_past : (plan_only auto_apply : Bool) (from : RunStatus) (action : RunAction) (to : RunStatus) → next_status plan_only auto_apply from action ≡ Some to → is_past action from ≡ false
+not_past true auto_apply from action to e = led NotPast plan_only_steps from action to (refl, (refl, (refl, (refl, tt)))) e
+not_past false true from action to e = led NotPast auto_apply_steps from action to (refl, (refl, (refl, (refl, (refl, (refl, (refl, (refl, (refl, (refl, tt)))))))))) e
+not_past false false from action to e = led NotPast confirmed_steps from action to (refl, (refl, (refl, (refl, (refl, (refl, (refl, (refl, (refl, (refl, tt)))))))))) e
+
+waiting_pending : (s : RunStatus) (kind : Bool) (X : Type 0) (a : RunAction) → (is_pending s && not kind) ≡ true → is_past a s ≡ true → X
+waiting_pending Pending kind X a waits past = pending_past a X past
+waiting_pending Planning kind X a waits past = absurd (let none : ⊥ = cc in none)
+waiting_pending Planned kind X a waits past = absurd (let none : ⊥ = cc in none)
+waiting_pending Applying kind X a waits past = absurd (let none : ⊥ = cc in none)
+waiting_pending Applied kind X a waits past = absurd (let none : ⊥ = cc in none)
+waiting_pending PlannedAndFinished kind X a waits past = absurd (let none : ⊥ = cc in none)
+waiting_pending Errored kind X a waits past = absurd (let none : ⊥ = cc in none)
+waiting_pending Discarded kind X a waits past = absurd (let none : ⊥ = cc in none)
+waiting_pending Canceled kind X a waits past = absurd (let none : ⊥ = cc in none)
+
+past_stays : (auto_apply : Bool) (r s : Run) (action : RunAction) → StaysThere auto_apply r s → is_past action r.status ≡ true → is_past action s.status ≡ true
+past_stays auto_apply r s action is past = by_way is.goes
+  where
+    by_way : GoesOn auto_apply r s → is_past action s.status ≡ true
+    by_way (inl as_before) = ap (is_past action) as_before.0 ∙ past
+    by_way (inr (inl begins)) = waiting_pending r.status r.plan_only (is_past action s.status ≡ true) action begins.0 past
+    by_way (inr (inr (a, leads, last))) = still_past r.plan_only auto_apply r.status a s.status leads action past
+
+abbrev HasBehind : ℕ → RunAction → Workspace → Type 0
+HasBehind n action w = (s : Run) × (run_of n w.runs ≡ Some s) × (is_past action s.status ≡ true)
+
+-- an accepted action is the last of its run
+accepted_last : (n : ℕ) (action : RunAction) (now : ℕ) (w v : Workspace) → (IsRefusal (rules (ReportRun n action) now (there w)).answer → ⊥) → (rules (ReportRun n action) now (there w)).left ≡ Some v
+    → (s : Run) × (run_of n v.runs ≡ Some s) × (s.action ≡ Some action)
+accepted_last n action now w v accepted e = by_run (run_of n w.runs) refl accepted e
+  where
+    last_is : (o : Option RunAction) → is_last action o ≡ true → o ≡ Some action
+    last_is None e = absurd (let none : ⊥ = cc in none)
+    last_is (Some last) e = ap Some (one_action last action e)
+
+    by_status : (r : Run) → run_of n w.runs ≡ Some r → (m : Option RunStatus) → (IsRefusal (by_step m n action w).answer → ⊥) → (by_step m n action w).left ≡ Some v
+        → (s : Run) × (run_of n v.runs ≡ Some s) × (s.action ≡ Some action)
+    by_status r found None accepted e = absurd (accepted tt)
+    by_status r found (Some status) accepted e =
+        let u : Workspace = with_report n action status w in
+        let start : Option ℕ = to_start u.holder (first_waiting u.runs) in
+        let f : Run → Run = reported n action status in
+        (
+          begun_by start (f r),
+          ap (λ (x : Workspace). run_of n x.runs) (sym (one_left (settled u) v e)) ∙ run_of-started start n u
+          ∙ ap (option_map (begun_by start)) (run_of-map f (λ x. refl) n w.runs ∙ ap (option_map f) found),
+          ap (λ (b : Bool). cond b (Some action) r.action) (eq-eqb r.number n (run_of-number n w.runs r found)),
+        )
+
+    by_last : (r : Run) → run_of n w.runs ≡ Some r → (b : Bool) → is_last action r.action ≡ b
+        → (IsRefusal (cond b (told_already r w) (by_step (next_status r.plan_only w.auto_apply r.status action) n action w)).answer → ⊥)
+        → (cond b (told_already r w) (by_step (next_status r.plan_only w.auto_apply r.status action) n action w)).left ≡ Some v
+        → (s : Run) × (run_of n v.runs ≡ Some s) × (s.action ≡ Some action)
+    by_last r found true t accepted e = (r, ap (λ (x : Workspace). run_of n x.runs) (sym (one_left w v e)) ∙ found, last_is r.action t)
+    by_last r found false t accepted e = by_status r found (next_status r.plan_only w.auto_apply r.status action) accepted e
+
+    by_run : (o : Option Run) → run_of n w.runs ≡ o → (IsRefusal (report o n action w).answer → ⊥) → (report o n action w).left ≡ Some v
+        → (s : Run) × (run_of n v.runs ≡ Some s) × (s.action ≡ Some action)
+    by_run None found accepted e = absurd (accepted tt)
+    by_run (Some r) found accepted e = by_last r found (is_last action r.action) refl accepted e
+
+behind_later : (n : ℕ) (action : RunAction) (acts : List (Act × ℕ)) (v u : Workspace) → AreInRange acts → Leads acts v u → IsLawful v → HasBehind n action v → HasBehind n action u
+behind_later n action [] v u range leads lawful behind = subst (HasBehind n action) (sym leads) behind
+behind_later n action (a ∷ acts) v u range leads lawful behind =
+    let next : Workspace = leads.0 in
+    let after : IsLawful next = lawful_after a.0 a.1 (there v) next range.0.0 range.0.1 lawful leads.1 in
+    let there_is : (s : Run) × (run_of n next.runs ≡ Some s) × StaysThere v.auto_apply behind.0 s = runs_stay a.0 a.1 v next n behind.0 lawful leads.1 behind.1 in
+    behind_later n action acts next u range.1 leads.2 after (there_is.0, there_is.1, past_stays v.auto_apply behind.0 there_is.0 action there_is.2 behind.2)
+
+pub actions_come_again : ActionsComeAgain
+actions_come_again n action now later acts w v u lawful moment accepted e range leads =
+    let after : IsLawful v = lawful_after (ReportRun n action) now (there w) v tt moment lawful e in
+    let last : (s : Run) × (run_of n v.runs ≡ Some s) × (s.action ≡ Some action) = accepted_last n action now w v accepted e in
+    let ends : IsWhereActionEnds last.0.plan_only last.0.action last.0.status = (all_found (IsRun v.holder) n v.runs last.0 after.runs.each last.1).action in
+    let past : is_past action last.0.status ≡ true =
+    all_lead_past last.0.plan_only action last.0.status (subst (λ (o : Option RunAction). IsWhereActionEnds last.0.plan_only o last.0.status) last.2 ends) in
+    let behind : HasBehind n action u = behind_later n action acts v u range leads after (last.0, last.1, past) in
+    subst (λ (o : Option Run). (report o n action u).left ≡ Some u) (sym behind.1) (refuses behind.0 behind.2 (is_last action behind.0.action))
+  where
+    none_left : (s : Run) → is_past action s.status ≡ true → (m : Option RunStatus) → next_status s.plan_only u.auto_apply s.status action ≡ m → (by_step m n action u).left ≡ Some u
+    none_left s past None leads = refl
+    none_left s past (Some status) leads = absurd (let none : ⊥ = cc (sym past ∙ not_past s.plan_only u.auto_apply s.status action status leads) in none)
+
+    refuses : (s : Run) → is_past action s.status ≡ true → (b : Bool) → (cond b (told_already s u) (by_step (next_status s.plan_only u.auto_apply s.status action) n action u)).left ≡ Some u
+    refuses s past true = refl
+    refuses s past false = none_left s past (next_status s.plan_only u.auto_apply s.status action) refl
+
+-- ---- a creation with a key
+
+found_keyed : (key : List ℕ) (n : ℕ) (runs : List Run) (s : Run) → run_of n runs ≡ Some s → s.key ≡ Some key → is_some (keyed_run (Some key) runs) ≡ true
+found_keyed key n [] s e k = absurd (let none : ⊥ = cc in none)
+found_keyed key n (x ∷ runs) s e k = chosen (has_key key x.key) refl (x.number == n) e (λ rest. found_keyed key n runs s rest k)
+  where
+    own : (y : Run) → y.key ≡ Some key → has_key key y.key ≡ true
+    own y k = ap (has_key key) k ∙ (bytes_eq-Decides key key).1 refl
+
+    chosen : (b : Bool) → has_key key x.key ≡ b → (c : Bool) → cond c (Some x) (run_of n runs) ≡ Some s → (run_of n runs ≡ Some s → is_some (keyed_run (Some key) runs) ≡ true)
+        → is_some (cond b (Some x) (keyed_run (Some key) runs)) ≡ true
+    chosen true t c e more = refl
+    chosen false t true e more = absurd (let none : ⊥ = cc (sym t ∙ own x (ap (λ (y : Run). y.key) (one_run x s e) ∙ k)) in none)
+    chosen false t false e more = more e
+
+abbrev HasKey : List ℕ → Workspace → Type 0
+HasKey key w = is_some (keyed_run (Some key) w.runs) ≡ true
+
+key_is : (key : List ℕ) (o : Option (List ℕ)) → has_key key o ≡ true → o ≡ Some key
+key_is key None e = absurd (let none : ⊥ = cc in none)
+key_is key (Some own) e = ap Some ((bytes_eq-Decides own key).0 e)
+
+key_stays : (key : List ℕ) (act : Act) (now : ℕ) (w v : Workspace) → IsLawful w → (rules act now (there w)).left ≡ Some v → HasKey key w → HasKey key v
+key_stays key act now w v lawful e has = by_found (keyed_run (Some key) w.runs) refl has
+  where
+    passes : (runs : List Run) (r : Run) → find (is_keyed key) runs ≡ Some r → is_keyed key r ≡ true
+    passes [] r e = absurd (let none : ⊥ = cc in none)
+    passes (x ∷ runs) r e = chosen (is_keyed key x) refl e (λ rest. passes runs r rest)
+      where
+        chosen : (b : Bool) → is_keyed key x ≡ b → cond b (Some x) (find (is_keyed key) runs) ≡ Some r → (find (is_keyed key) runs ≡ Some r → is_keyed key r ≡ true) → is_keyed key r ≡ true
+        chosen true t is more = ap (is_keyed key) (sym (one_run x r is)) ∙ t
+        chosen false t is more = more is
+
+    by_found : (o : Option Run) → keyed_run (Some key) w.runs ≡ o → is_some o ≡ true → HasKey key v
+    by_found None found has = absurd (let none : ⊥ = cc in none)
+    by_found (Some r) found has =
+        let at : run_of r.number w.runs ≡ Some r = (found_numbered (is_keyed key) 0 w.runs w.next_run r found lawful.runs.rise).1 in
+        let s : (s : Run) × (run_of r.number v.runs ≡ Some s) × StaysThere w.auto_apply r s = runs_stay act now w v r.number r lawful e at in
+        found_keyed key r.number v.runs s.0 s.1 (s.2.key ∙ key_is key r.key (passes w.runs r found))
+
+key_later : (key : List ℕ) (acts : List (Act × ℕ)) (v u : Workspace) → AreInRange acts → Leads acts v u → IsLawful v → HasKey key v → HasKey key u
+key_later key [] v u range leads lawful has = subst (HasKey key) (sym leads) has
+key_later key (a ∷ acts) v u range leads lawful has =
+    key_later key acts leads.0 u range.1 leads.2 (lawful_after a.0 a.1 (there v) leads.0 range.0.0 range.0.1 lawful leads.1) (key_stays key a.0 a.1 v leads.0 lawful leads.1 has)
+
+-- what was accepted has its key
+accepted_keyed : (ask : RunAsk) (key : List ℕ) (now : ℕ) (w v : Workspace) → ask.key ≡ Some key → (IsRefusal (rules (MakeRun ask) now (there w)).answer → ⊥) → (rules (MakeRun ask) now (there w)).left ≡ Some v → HasKey key v
+accepted_keyed ask key now w v k accepted e = by_key (keyed_run ask.key w.runs) refl accepted e
+  where
+    numbered : (m : Option ℕ) → (IsRefusal (numbered_run m w ask now).answer → ⊥) → (numbered_run m w ask now).left ≡ Some v → HasKey key v
+    numbered None accepted e = absurd (accepted tt)
+    numbered (Some n) accepted e = subst (HasKey key) (one_left (settled (with_run (new_run n ask now) w)) v e) (key_is_there key w (new_run n ask now) k)
+
+    chosen : (b : Bool) → (IsRefusal (cond b (numbered_run (number_left w.next_run) w ask now) (effect (refused OverLimit) (Some w))).answer → ⊥)
+        → (cond b (numbered_run (number_left w.next_run) w ask now) (effect (refused OverLimit) (Some w))).left ≡ Some v → HasKey key v
+    chosen true accepted e = numbered (number_left w.next_run) accepted e
+    chosen false accepted e = absurd (accepted tt)
+
+    by_key : (o : Option Run) → keyed_run ask.key w.runs ≡ o → (IsRefusal (make_run o w ask now).answer → ⊥) → (make_run o w ask now).left ≡ Some v → HasKey key v
+    by_key (Some r) found accepted e =
+        subst (HasKey key) (one_left w v e) (subst (λ (x : Option (List ℕ)). is_some (keyed_run x w.runs) ≡ true) k (ap (λ (o : Option Run). is_some o) found))
+    by_key None found accepted e = chosen (nat_lt (open_runs w.runs) max_open_runs) accepted e
+
+pub keyed_creations_come_again : KeyedCreationsComeAgain
+keyed_creations_come_again ask again key now later acts w v u k l in_range lawful moment accepted e range leads =
+    let after : IsLawful v = lawful_after (MakeRun ask) now (there w) v in_range moment lawful e in
+    let has : HasKey key u = key_later key acts v u range leads after (accepted_keyed ask key now w v k accepted e) in
+    subst (λ (x : Option (List ℕ)). (make_run (keyed_run x u.runs) u again later).left ≡ Some u) (sym l) (told (keyed_run (Some key) u.runs) has)
+  where
+    told : (o : Option Run) → is_some o ≡ true → (make_run o u again later).left ≡ Some u
+    told None has = absurd (let none : ⊥ = cc in none)
+    told (Some r) has = refl

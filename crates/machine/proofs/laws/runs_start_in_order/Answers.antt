@@ -1,4 +1,4 @@
-use Rattle.machine.proofs.VersionLemmas as lemma
+use Rattle.machine.proofs.QueueLemmas as lemma
 use Rattle.machine.proofs.laws.runs_start_in_order.Goals as goal
 
 pub returns : goal.returns
