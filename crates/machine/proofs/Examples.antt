@@ -1,19 +1,24 @@
 -- Worked steps of one workspace, computed by the definitions themselves.
-use Rattle.std.proofs.Common.{◌≡◌, ℕ, [], ◌∷◌, List, Option, Some, None, false, refl, true}
+use Rattle.std.proofs.Common.{◌≡◌, ℕ, ◌<◌, ◌≤◌, inl, inr, [], ◌∷◌, List, filter, length, Option, Some, None, false, refl, true, sym, arith}
+use Rattle.std.specs.List.{AllByRecursion}
 use Rattle.std.specs.Prelude.{codes}
 use Rattle.std.specs.Fmt.{digits}
 use Rattle.basis.specs.Names.{run_id}
-use Rattle.basis.specs.declared.refusals.Refusal.TheVariants.{NotFound, NotHeld, NotApplying, OtherLineage, OldSerial, OverLimit, HeldByRun, Locked}
+use Rattle.basis.specs.declared.refusals.Refusal.TheVariants.{NotFound, NotHeld, NotApplying, OtherLineage, OldSerial, OverLimit, WrongState, HeldByRun, Locked}
+use Rattle.basis.specs.declared.rows.RunAsk.{RunAsk}
 use Rattle.basis.specs.declared.rows.StateHead.{StateHead}
 use Rattle.basis.specs.declared.runs.RunStatus.{RunStatus}
-use Rattle.basis.specs.declared.runs.RunStatus.TheVariants.{Pending, Planning, Planned, Applying, Applied}
+use Rattle.basis.specs.declared.runs.RunStatus.TheVariants.{Pending, Planning, Planned, Applying, Applied, PlannedAndFinished, Errored, Discarded}
 use Rattle.basis.specs.declared.runs.RunAction.{RunAction}
-use Rattle.basis.specs.declared.runs.RunAction.TheVariants.{ReportApplied}
+use Rattle.basis.specs.declared.runs.RunAction.TheVariants.{ReportPlanned, Fail, Confirm, ReportApplied, Discard}
 use Rattle.machine.specs.Workspaces.{new_workspace}
 use Rattle.machine.specs.Writing.{may_write}
-use Rattle.machine.specs.Rules.{refused, held, done, no_state, state, rules}
-use Rattle.machine.specs.declared.acts.Act.TheVariants.{UpdateState, ReadState, PurgeState, Lock as LockAct, Unlock, ForceUnlock}
-use Rattle.machine.specs.declared.records.Holder.TheVariants.{Lock, Run as HoldingRun}
+use Rattle.machine.specs.Rules.{refused, held, done, no_state, state, the_run, rules}
+use Rattle.machine.specs.Laws.{Rises, IsRun, IsHolder, KeysDiffer, IsLawful}
+use Rattle.machine.specs.Settling.{is_waiting}
+use Rattle.machine.specs.Queue.{is_active_run, GoesOn}
+use Rattle.machine.specs.declared.acts.Act.TheVariants.{UpdateState, ReadState, PurgeState, Lock as LockAct, Unlock, ForceUnlock, MakeRun, ReportRun}
+use Rattle.machine.specs.declared.records.Holder.TheVariants.{Nobody, Lock, Run as HoldingRun}
 use Rattle.machine.specs.declared.records.Version.{Version}
 use Rattle.machine.specs.declared.records.Run.{Run}
 use Rattle.machine.specs.declared.records.Workspace.{Workspace}
@@ -182,3 +187,149 @@ run_applies = refl
 another_run : may_write (HoldingRun 1) (Some Applying) (Some (codes "run-2")) ≡ Some Locked
 unfolding run_id digits
 another_run = refl
+
+-- ---- runs: how they are made, and how they go
+
+abbrev ask : RunAsk
+ask = record { key = None; message = []; plan_only = false }
+
+abbrev plan : RunAsk
+plan = record { key = None; message = []; plan_only = true }
+
+abbrev k1 : List ℕ
+k1 = codes "k1"
+
+abbrev keyed : RunAsk
+keyed = record { key = Some k1; message = []; plan_only = false }
+
+abbrev plan_only : ℕ → RunStatus → Option RunAction → Run
+plan_only number status action = record (run number status action) { plan_only = true }
+
+abbrev with_key : Run → Run
+with_key r = record r { key = Some k1 }
+
+-- the first queued run starts at once, and the second waits
+first_made : rules (MakeRun ask) 1_700_000_000 (there empty) ≡ effect (the_run (run 1 Planning None)) (Some (record empty { holder = HoldingRun 1; next_run = 2; runs = run 1 Planning None ∷ [] }))
+first_made = refl
+
+second_made : rules (MakeRun ask) 1_700_000_000 (there (record empty { holder = HoldingRun 1; next_run = 2; runs = run 1 Planning None ∷ [] }))
+    ≡ effect (the_run (run 2 Pending None)) (Some (record empty { holder = HoldingRun 1; next_run = 3; runs = run 1 Planning None ∷ run 2 Pending None ∷ [] }))
+second_made = refl
+
+-- a plan-only run plans at once, and nobody holds
+plan_made : rules (MakeRun plan) 1_700_000_000 (there empty) ≡ effect (the_run (plan_only 1 Planning None)) (Some (record empty { next_run = 2; runs = plan_only 1 Planning None ∷ [] }))
+plan_made = refl
+
+-- the run that has the key is told as it is, whatever else is asked
+keyed_again : rules (MakeRun keyed) 1_700_000_001 (there (record empty { next_run = 2; runs = with_key (plan_only 1 Planning None) ∷ [] }))
+    ≡ effect (the_run (with_key (plan_only 1 Planning None))) (Some (record empty { next_run = 2; runs = with_key (plan_only 1 Planning None) ∷ [] }))
+keyed_again = refl
+
+no_run_number_left : rules (MakeRun ask) 1_700_000_000 (there (record empty { next_run = 1_000_000_001 })) ≡ effect (refused OverLimit) (Some (record empty { next_run = 1_000_000_001 }))
+no_run_number_left = refl
+
+abbrev two : RunStatus → Option RunAction → Workspace
+two status action = record empty { holder = HoldingRun 1; next_run = 3; runs = run 1 status action ∷ run 2 Pending None ∷ [] }
+
+-- a plan that is made waits for Confirm, or is applied at once
+planned_now : rules (ReportRun 1 ReportPlanned) 1_700_000_000 (there (two Planning None)) ≡ effect (the_run (run 1 Planned (Some ReportPlanned))) (Some (two Planned (Some ReportPlanned)))
+planned_now = refl
+
+applied_at_once : rules (ReportRun 1 ReportPlanned) 1_700_000_000 (there (record (two Planning None) { auto_apply = true }))
+    ≡ effect (the_run (run 1 Applying (Some ReportPlanned))) (Some (record (two Applying (Some ReportPlanned)) { auto_apply = true }))
+applied_at_once = refl
+
+-- the action that was taken last is answered again, any other that no step has is refused
+reported_again : rules (ReportRun 1 ReportPlanned) 1_700_000_000 (there (two Planned (Some ReportPlanned))) ≡ effect (the_run (run 1 Planned (Some ReportPlanned))) (Some (two Planned (Some ReportPlanned)))
+reported_again = refl
+
+reported_elsewhere : rules (ReportRun 1 ReportApplied) 1_700_000_000 (there (two Planned (Some ReportPlanned))) ≡ effect (refused WrongState) (Some (two Planned (Some ReportPlanned)))
+reported_elsewhere = refl
+
+-- a holding run that ends leaves the hold to the next
+next_starts : rules (ReportRun 1 Fail) 1_700_000_000 (there (two Planning None))
+    ≡ effect (the_run (run 1 Errored (Some Fail))) (Some (record empty { holder = HoldingRun 2; next_run = 3; runs = run 1 Errored (Some Fail) ∷ run 2 Planning None ∷ [] }))
+next_starts = refl
+
+-- one that waits may be discarded
+waiting_discarded : rules (ReportRun 2 Discard) 1_700_000_000 (there (two Planning None))
+    ≡ effect (the_run (run 2 Discarded (Some Discard))) (Some (record empty { holder = HoldingRun 1; next_run = 3; runs = run 1 Planning None ∷ run 2 Discarded (Some Discard) ∷ [] }))
+waiting_discarded = refl
+
+no_such_run : rules (ReportRun 3 Discard) 1_700_000_000 (there (two Planning None)) ≡ effect (refused NotFound) (Some (two Planning None))
+no_such_run = refl
+
+-- ---- a lawful workspace with runs of each kind, and what breaks each law of runs
+
+abbrev each_kind : Workspace
+each_kind = record empty {
+  holder = HoldingRun 2;
+  next_run = 6;
+  runs = run 1 Applied (Some ReportApplied) ∷ with_key (run 2 Applying (Some Confirm)) ∷ run 3 Pending None ∷ plan_only 4 Planning None ∷ plan_only 5 PlannedAndFinished (Some ReportPlanned) ∷ [];
+}
+
+each_kind_is_lawful : IsLawful each_kind
+each_kind_is_lawful = record {
+  versions = record { next = (omega arith, omega arith); rise = tt; each = tt; kept = omega arith };
+  runs = record {
+    next = (omega arith, omega arith);
+    rise = (omega arith, omega arith, (omega arith, omega arith, (omega arith, omega arith, (omega arith, omega arith, (omega arith, omega arith, tt)))));
+    each = (
+      record { key = tt; message = omega arith; created = omega arith; action = refl; active = λ _. refl; waiting = λ e. absurd (let none : ⊥ = cc in none) },
+      (record { key = refl; message = omega arith; created = omega arith; action = refl; active = λ _. refl; waiting = λ e. absurd (let none : ⊥ = cc in none) },
+      (record { key = tt; message = omega arith; created = omega arith; action = tt; active = λ _. refl; waiting = λ e. (refl, refl) },
+      (record { key = tt; message = omega arith; created = omega arith; action = tt; active = λ e. absurd (let none : ⊥ = cc in none); waiting = λ e. absurd (let none : ⊥ = cc in none) },
+      (record { key = tt; message = omega arith; created = omega arith; action = refl; active = λ e. absurd (let none : ⊥ = cc in none); waiting = λ e. absurd (let none : ⊥ = cc in none) }, tt)))),
+    );
+    open_runs = omega arith;
+    keys = (tt, ((tt, (tt, (tt, tt))), (tt, (tt, (tt, tt)))));
+    held = refl;
+  };
+  released = tt;
+}
+
+-- a second run is active
+second_active : IsRun (HoldingRun 1) (run 2 Planning None) → ⊥
+second_active is = let none : ⊥ = cc (is.active refl) in none
+
+two_are_too_many : length (filter is_active_run (run 1 Planning None ∷ run 2 Applying (Some Confirm) ∷ [])) ≤ 1 → ⊥
+two_are_too_many le = omega (arith, le)
+
+-- a run waits where nobody holds
+waits_for_nobody : IsRun Nobody (run 1 Pending None) → ⊥
+waits_for_nobody is = let none : ⊥ = cc ((is.waiting refl).1) in none
+
+-- a plan-only run waits, or holds
+plan_only_waits : IsRun (HoldingRun 2) (plan_only 1 Pending None) → ⊥
+plan_only_waits is = let none : ⊥ = cc ((is.waiting refl).0) in none
+
+plan_only_holds : IsHolder (HoldingRun 1) (plan_only 1 Planning None ∷ []) → ⊥
+plan_only_holds is = let none : ⊥ = cc is in none
+
+-- a run that isn't there holds
+nobody_s_run : IsHolder (HoldingRun 2) (run 1 Planning None ∷ []) → ⊥
+nobody_s_run is = is
+
+-- a run is where its last action doesn't end
+elsewhere : IsRun Nobody (run 1 Applied (Some Confirm)) → ⊥
+elsewhere is = let none : ⊥ = cc is.action in none
+
+ended_by_nothing : IsRun Nobody (run 1 Errored None) → ⊥
+ended_by_nothing is = let none : ⊥ = cc is.action in none
+
+-- two runs have one key, or one number
+one_key : KeysDiffer (with_key (run 1 Applied (Some ReportApplied)) ∷ with_key (run 2 Applied (Some ReportApplied)) ∷ []) → ⊥
+one_key keys = let none : ⊥ = cc keys.0.0 in none
+
+one_number : Rises 0 (1 ∷ 1 ∷ []) 3 → ⊥
+one_number rise = omega (arith, rise.2.0)
+
+-- the greater number starts first
+starts_out_of_order : AllByRecursion (λ (r : Run). is_waiting r ≡ true → 3 < r.number) (run 2 Pending None ∷ run 3 Planning None ∷ []) → ⊥
+starts_out_of_order all = omega (arith, all.0 refl)
+
+-- a run that has ended goes on
+ended_goes_on : GoesOn false (run 1 Errored (Some Fail)) (run 1 Planning (Some Fail)) → ⊥
+ended_goes_on (inl as_before) = let none : ⊥ = cc as_before.0 in none
+ended_goes_on (inr (inl begins)) = let none : ⊥ = cc begins.0 in none
+ended_goes_on (inr (inr (action, leads, last))) = let none : ⊥ = cc (sym leads) in none
