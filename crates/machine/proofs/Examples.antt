@@ -276,10 +276,16 @@ each_kind_is_lawful = record {
     rise = (omega arith, omega arith, (omega arith, omega arith, (omega arith, omega arith, (omega arith, omega arith, (omega arith, omega arith, tt)))));
     each = (
       record { key = tt; message = omega arith; created = omega arith; action = refl; active = λ _. refl; waiting = λ e. absurd (let none : ⊥ = cc in none) },
-      (record { key = refl; message = omega arith; created = omega arith; action = refl; active = λ _. refl; waiting = λ e. absurd (let none : ⊥ = cc in none) },
-      (record { key = tt; message = omega arith; created = omega arith; action = tt; active = λ _. refl; waiting = λ e. (refl, refl) },
-      (record { key = tt; message = omega arith; created = omega arith; action = tt; active = λ e. absurd (let none : ⊥ = cc in none); waiting = λ e. absurd (let none : ⊥ = cc in none) },
-      (record { key = tt; message = omega arith; created = omega arith; action = refl; active = λ e. absurd (let none : ⊥ = cc in none); waiting = λ e. absurd (let none : ⊥ = cc in none) }, tt)))),
+      (
+        record { key = refl; message = omega arith; created = omega arith; action = refl; active = λ _. refl; waiting = λ e. absurd (let none : ⊥ = cc in none) },
+        (
+          record { key = tt; message = omega arith; created = omega arith; action = tt; active = λ _. refl; waiting = λ e. (refl, refl) },
+          (
+            record { key = tt; message = omega arith; created = omega arith; action = tt; active = λ e. absurd (let none : ⊥ = cc in none); waiting = λ e. absurd (let none : ⊥ = cc in none) },
+            (record { key = tt; message = omega arith; created = omega arith; action = refl; active = λ e. absurd (let none : ⊥ = cc in none); waiting = λ e. absurd (let none : ⊥ = cc in none) }, tt),
+          ),
+        ),
+      ),
     );
     open_runs = omega arith;
     keys = (tt, ((tt, (tt, (tt, tt))), (tt, (tt, (tt, tt)))));

@@ -56,8 +56,7 @@ found_numbered test low (r ∷ runs) next f found rise = passed (test r) found (
     passed : (b : Bool) → cond b (Some r) (find test runs) ≡ Some f → (find test runs ≡ Some f → (r.number < f.number) × (run_of f.number runs ≡ Some f))
         → (low < f.number) × (run_of f.number (r ∷ runs) ≡ Some f)
     passed true is more =
-        let one : r ≡ f = cc in
-        (
+        let one : r ≡ f = cc in (
           omega (arith, ap (λ (x : Run). x.number) one, rise.0),
           ap (λ (b : Bool). cond b (Some r) (run_of f.number runs)) (eq-eqb r.number f.number (ap (λ (x : Run). x.number) one)) ∙ ap Some one,
         )
@@ -338,8 +337,7 @@ runs_start_in_order act now w v n range moment lawful e starts = by_after (after
     by_start u is Nobody at (Some m) waiting here =
         let same_one : m ≡ n = eqb-true m n here in
         let first : first_waiting u.runs ≡ Some n = waiting ∙ ap Some same_one in
-        let f : (f : Run) × (run_of n u.runs ≡ Some f) × (is_waiting f ≡ true) = to_start_waits u n is.risen first in
-        (
+        let f : (f : Run) × (run_of n u.runs ≡ Some f) × (is_waiting f ≡ true) = to_start_waits u n is.risen first in (
           is.waited n f.0 f.1 f.2,
           subst (λ (k : ℕ). AllByRecursion (λ (r : Run). is_waiting r ≡ true → n < r.number) (map (begun k) u.runs)) (sym same_one) (all_begun_above n u.runs (least_starts 0 u.runs u.next_run n first is.risen)),
         )
@@ -473,13 +471,39 @@ still_past true auto_apply from action to e =
     led KeepsPast plan_only_steps from action to
     ((λ a _. to_end PlannedAndFinished refl a), ((λ a _. to_end PlannedAndFinished refl a), ((λ a _. to_end Errored refl a), ((λ a _. to_end Canceled refl a), tt)))) e
 still_past false true from action to e =
-    led KeepsPast auto_apply_steps from action to
-    ((λ a _. to_end Discarded refl a), ((λ a h. planning_past a _ h), ((λ a _. to_end PlannedAndFinished refl a), ((λ a _. to_end Errored refl a), ((λ a _. to_end Canceled refl a),
-    ((λ a h. applying_past a h), ((λ a _. to_end Discarded refl a), ((λ a _. to_end Applied refl a), ((λ a _. to_end Errored refl a), ((λ a _. to_end Canceled refl a), tt)))))))))) e
+    led KeepsPast auto_apply_steps from action to (
+      (λ a _. to_end Discarded refl a),
+      (
+        (λ a h. planning_past a _ h),
+        (
+          (λ a _. to_end PlannedAndFinished refl a),
+          (
+            (λ a _. to_end Errored refl a),
+            (
+              (λ a _. to_end Canceled refl a),
+              ((λ a h. applying_past a h), ((λ a _. to_end Discarded refl a), ((λ a _. to_end Applied refl a), ((λ a _. to_end Errored refl a), ((λ a _. to_end Canceled refl a), tt))))),
+            ),
+          ),
+        ),
+      ),
+    ) e
 still_past false false from action to e =
-    led KeepsPast confirmed_steps from action to
-    ((λ a _. to_end Discarded refl a), ((λ a h. planning_past a _ h), ((λ a _. to_end PlannedAndFinished refl a), ((λ a _. to_end Errored refl a), ((λ a _. to_end Canceled refl a),
-    ((λ a h. applying_past a h), ((λ a _. to_end Discarded refl a), ((λ a _. to_end Applied refl a), ((λ a _. to_end Errored refl a), ((λ a _. to_end Canceled refl a), tt)))))))))) e
+    led KeepsPast confirmed_steps from action to (
+      (λ a _. to_end Discarded refl a),
+      (
+        (λ a h. planning_past a _ h),
+        (
+          (λ a _. to_end PlannedAndFinished refl a),
+          (
+            (λ a _. to_end Errored refl a),
+            (
+              (λ a _. to_end Canceled refl a),
+              ((λ a h. applying_past a h), ((λ a _. to_end Discarded refl a), ((λ a _. to_end Applied refl a), ((λ a _. to_end Errored refl a), ((λ a _. to_end Canceled refl a), tt))))),
+            ),
+          ),
+        ),
+      ),
+    ) e
 
 -- and isn't taken once more
 abbrev NotPast : RunStatus → RunAction → RunStatus → Type 0
@@ -527,11 +551,10 @@ accepted_last n action now w v accepted e = by_run (run_of n w.runs) refl accept
     by_status r found (Some status) accepted e =
         let u : Workspace = with_report n action status w in
         let start : Option ℕ = to_start u.holder (first_waiting u.runs) in
-        let f : Run → Run = reported n action status in
-        (
+        let f : Run → Run = reported n action status in (
           begun_by start (f r),
           ap (λ (x : Workspace). run_of n x.runs) (sym (one_left (settled u) v e)) ∙ run_of-started start n u
-          ∙ ap (option_map (begun_by start)) (run_of-map f (λ x. refl) n w.runs ∙ ap (option_map f) found),
+              ∙ ap (option_map (begun_by start)) (run_of-map f (λ x. refl) n w.runs ∙ ap (option_map f) found),
           ap (λ (b : Bool). cond b (Some action) r.action) (eq-eqb r.number n (run_of-number n w.runs r found)),
         )
 

@@ -1033,7 +1033,7 @@ pub const QUEUE_ROWS: &[Row] = &[
     },
 ];
 
-// How runs are made, named and acted on. Each is sent after `SET_UP`.
+// Keys of runs, and auto-apply. Each is sent after `SET_UP`.
 pub const RUN_ROWS: &[Row] = &[
     // A run that is made with a key once more is told as it is, whatever else is asked of it.
     Row {
@@ -1191,6 +1191,10 @@ pub const RUN_ROWS: &[Row] = &[
             ),
         ],
     },
+];
+
+// What is asked of runs, and what isn't there. Each is sent after `SET_UP`.
+pub const ASKED_RUN_ROWS: &[Row] = &[
     // What creates a run, and what is no document of one; a message that isn't given is empty.
     Row {
         name: "run_documents",

@@ -1,6 +1,8 @@
 //! Runs: what no table of steps holds.
+ghost use Rattle.std.specs.Prelude.{◌<◌};
+
 use crate::rows::SET_UP;
-use crate::steps::{Story, expect_story, now};
+use crate::steps::{Story, expect_replies, expect_story, now};
 use basis::{Bytes, Moment, Number, Refusal, RunAction, RunStatus, Text};
 use machine::{
     Act, Answer, Decision, Holder, Keep, PlainKeep, Run, Unit, WorkspaceUnit, decide, next_status,
@@ -115,7 +117,7 @@ impl Dice {
 
 // The i-th request of a history: most act on one of the latest runs.
 fn thrown(alloc: Global, dice: &mut Dice, i: u32) -> Result<String, Fail> {
-    let number = i / 4 + dice.next(4) + 1;
+    let number = (i / 4).saturating_add(dice.next(4)).saturating_add(1);
     let kind = dice.next(11);
     let word = ACTIONS.get(dice.next(7) as usize).ok_or("an action")?;
     match kind {
@@ -163,13 +165,10 @@ fn replies_of<K: Keep + Drop>(alloc: Global, keep: K, steps: &[Step]) -> Result<
 }
 
 fn count_of(replies: &[Bytes], start: &[u8]) -> usize {
-    let mut count = 0;
-    for reply in replies {
-        if reply.as_slice().starts_with(start) {
-            count += 1;
-        }
-    }
-    count
+    replies
+        .iter()
+        .filter(|reply| reply.as_slice().starts_with(start))
+        .count()
 }
 
 // 400 requests on one workspace have the same replies over both stores, and among them are accepted
@@ -180,9 +179,7 @@ fn stores_answer_a_history_alike(rt: HostRuntime) -> Result<(), Fail> {
     let steps = history(alloc)?;
     let plain = replies_of(alloc, PlainKeep::new(alloc), steps.as_slice())?;
     let tables = replies_of(alloc, SqlKeep::in_memory(alloc)?, steps.as_slice())?;
-    for (i, reply) in plain.iter().enumerate() {
-        assert!(rt; reply.as_slice() == tables[i].as_slice(), "reply {i}");
-    }
+    expect_replies(&rt, tables.as_slice(), plain.as_slice(), "a history");
     for start in [
         b"HTTP/1.1 200",
         b"HTTP/1.1 404",
@@ -216,53 +213,108 @@ const ALL_ACTIONS: &[RunAction] = &[
     RunAction::Cancel,
 ];
 
-// Status, action, and the status after it: of a queued run, of one under auto-apply, of a plan-only run.
-const STEPS: &[(&str, &str, &str, &str, &str)] = &[
-    ("pending", "discard", "discarded", "discarded", ""),
-    (
-        "planning",
-        "planned",
-        "planned",
-        "applying",
-        "planned_and_finished",
-    ),
-    (
-        "planning",
-        "unchanged",
-        "planned_and_finished",
-        "planned_and_finished",
-        "planned_and_finished",
-    ),
-    ("planning", "fail", "errored", "errored", "errored"),
-    ("planning", "cancel", "canceled", "canceled", "canceled"),
-    ("planned", "confirm", "applying", "applying", ""),
-    ("planned", "discard", "discarded", "discarded", ""),
-    ("applying", "applied", "applied", "applied", ""),
-    ("applying", "fail", "errored", "errored", ""),
-    ("applying", "cancel", "canceled", "canceled", ""),
+// Where an action takes a run: a queued one, one under auto-apply, a plan-only one.
+#[derive(Clone, Copy)]
+struct Going {
+    from: RunStatus,
+    action: RunAction,
+    queued: RunStatus,
+    auto_apply: RunStatus,
+    plan_only: Option<RunStatus>,
+}
+
+const GOINGS: &[Going] = &[
+    Going {
+        from: RunStatus::Planning,
+        action: RunAction::ReportPlanned,
+        queued: RunStatus::Planned,
+        auto_apply: RunStatus::Applying,
+        plan_only: Some(RunStatus::PlannedAndFinished),
+    },
+    Going {
+        from: RunStatus::Pending,
+        action: RunAction::Discard,
+        queued: RunStatus::Discarded,
+        auto_apply: RunStatus::Discarded,
+        plan_only: None,
+    },
+    Going {
+        from: RunStatus::Planning,
+        action: RunAction::ReportUnchanged,
+        queued: RunStatus::PlannedAndFinished,
+        auto_apply: RunStatus::PlannedAndFinished,
+        plan_only: Some(RunStatus::PlannedAndFinished),
+    },
+    Going {
+        from: RunStatus::Planning,
+        action: RunAction::Fail,
+        queued: RunStatus::Errored,
+        auto_apply: RunStatus::Errored,
+        plan_only: Some(RunStatus::Errored),
+    },
+    Going {
+        from: RunStatus::Planning,
+        action: RunAction::Cancel,
+        queued: RunStatus::Canceled,
+        auto_apply: RunStatus::Canceled,
+        plan_only: Some(RunStatus::Canceled),
+    },
+    Going {
+        from: RunStatus::Planned,
+        action: RunAction::Confirm,
+        queued: RunStatus::Applying,
+        auto_apply: RunStatus::Applying,
+        plan_only: None,
+    },
+    Going {
+        from: RunStatus::Planned,
+        action: RunAction::Discard,
+        queued: RunStatus::Discarded,
+        auto_apply: RunStatus::Discarded,
+        plan_only: None,
+    },
+    Going {
+        from: RunStatus::Applying,
+        action: RunAction::ReportApplied,
+        queued: RunStatus::Applied,
+        auto_apply: RunStatus::Applied,
+        plan_only: None,
+    },
+    Going {
+        from: RunStatus::Applying,
+        action: RunAction::Fail,
+        queued: RunStatus::Errored,
+        auto_apply: RunStatus::Errored,
+        plan_only: None,
+    },
+    Going {
+        from: RunStatus::Applying,
+        action: RunAction::Cancel,
+        queued: RunStatus::Canceled,
+        auto_apply: RunStatus::Canceled,
+        plan_only: None,
+    },
 ];
 
-// The word that the table has; none where the action is refused.
-fn due_word(plan_only: bool, auto_apply: bool, status: &str, action: &str) -> &'static str {
-    for (from, by, queued, auto, planning) in STEPS {
-        if *from == status && *by == action {
+// The status that the table has; none where the action is refused.
+fn due_status(
+    plan_only: bool,
+    auto_apply: bool,
+    status: RunStatus,
+    action: RunAction,
+) -> Option<RunStatus> {
+    for row in GOINGS {
+        if row.from == status && row.action == action {
             return if plan_only {
-                planning
+                row.plan_only
             } else if auto_apply {
-                auto
+                Some(row.auto_apply)
             } else {
-                queued
+                Some(row.queued)
             };
         }
     }
-    ""
-}
-
-fn word_of(status: Option<RunStatus>) -> &'static str {
-    match status {
-        Some(status) => status.word(),
-        None => "",
-    }
+    None
 }
 
 // A workspace with one run in a status, which is asked of.
@@ -296,16 +348,21 @@ fn unit_with(
     }))
 }
 
-// The word of the status that a decision gives the run; none where it is refused for its state.
-fn decided_word(unit: &Unit, action: RunAction, at: Moment) -> Result<&'static str, Fail> {
+// The status that an answer gives the run.
+fn answered_status(answer: Answer) -> Result<Option<RunStatus>, Fail> {
+    match answer {
+        Answer::Run(run) => Ok(Some(run.status)),
+        _ => Err(Fail::new("another answer")),
+    }
+}
+
+// The status that a decision gives the run; none where it is refused for its state.
+fn decided_status(unit: &Unit, action: RunAction, at: Moment) -> Result<Option<RunStatus>, Fail> {
     let number = Number::new(1).ok_or("a number")?;
     match decide(unit, &Act::ReportRun(number, action), at)? {
-        Decision::Accepted {
-            answer: Answer::Run(run),
-            ..
-        } => Ok(run.status.word()),
-        Decision::Refused(Refusal::WrongState) => Ok(""),
-        _ => Err(Fail::new("another decision")),
+        Decision::Accepted { answer, .. } => answered_status(answer),
+        Decision::Refused(Refusal::WrongState) => Ok(None),
+        Decision::Refused(_) => Err(Fail::new("another refusal")),
     }
 }
 
@@ -318,11 +375,11 @@ fn expect_pairs(
     for status in STATUSES {
         let unit = unit_with(alloc, plan_only, auto_apply, *status)?;
         for action in ALL_ACTIONS {
-            let due = due_word(plan_only, auto_apply, status.word(), action.word());
-            let next = word_of(next_status(plan_only, auto_apply, *status, *action));
-            assert!(rt; next == due, "{status:?} {action:?}");
-            let decided = decided_word(&unit, *action, now()?)?;
-            assert!(rt; decided == due, "{status:?} {action:?} decided");
+            let due = due_status(plan_only, auto_apply, *status, *action);
+            let next = next_status(plan_only, auto_apply, *status, *action);
+            assert_eq!(rt; next, due, "{status:?} {action:?}");
+            let decided = decided_status(&unit, *action, now()?)?;
+            assert_eq!(rt; decided, due, "{status:?} {action:?} decided");
         }
     }
     Ok(())
