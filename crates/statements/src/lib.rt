@@ -12,6 +12,3 @@ pub mod versions;
 pub mod workspaces;
 
 pub use rows::{Head, Holder, Run, Workspace};
-
-#[cfg(test)]
-mod tests;

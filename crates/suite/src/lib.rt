@@ -21,6 +21,10 @@ mod runs_tests;
 #[cfg(test)]
 mod serve_tests;
 #[cfg(test)]
+mod sql_keep_tests;
+#[cfg(test)]
+mod statements_tests;
+#[cfg(test)]
 mod steps;
 #[cfg(test)]
 mod tables_tests;

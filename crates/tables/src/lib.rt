@@ -6,8 +6,6 @@ mod looks;
 mod opening;
 mod steps;
 mod store;
-#[cfg(test)]
-mod tests;
 mod transactions;
 
 pub use opening::Fault;

@@ -1,8 +1,9 @@
-use crate::{
-    Head, Holder, Run, Workspace, making, organizations, runs, tokens, versions, workspaces,
-};
+//! The statements of schema 1, run over a database in memory.
 use basis::{Role, RunAction, RunStatus};
 use sqlite::{Alter, Connection, Error, Transaction};
+use statements::{
+    Head, Holder, Run, Workspace, making, organizations, runs, tokens, versions, workspaces,
+};
 use std::test::Fail;
 
 // These have no clause, so that the proof of a test does not carry the state of each call.

@@ -1,4 +1,4 @@
-use crate::{Fault, SqlKeep};
+//! The store over tables by its own calls: opened, changed, closed, and looked at with plain SQL.
 use basis::{
     Bytes, Limit, LockId, Moment, Number, OrgName, Role, RunAction, RunAsk, RunStatus, Settings,
     Text, WsName,
@@ -7,6 +7,7 @@ use machine::{Act, AdminAnswer, Change, Edit, Holder, Keep, Unit, Version};
 use sqlite::{Connection, MemStore};
 use std::alloc::Global;
 use std::test::Fail;
+use tables::{Fault, SqlKeep};
 
 fn number(n: u64) -> Result<Number, Fail> {
     Ok(Number::new(n).ok_or("a number")?)
