@@ -339,3 +339,15 @@ ended_goes_on : GoesOn false (run 1 Errored (Some Fail)) (run 1 Planning (Some F
 ended_goes_on (inl as_before) = let none : ⊥ = cc as_before.0 in none
 ended_goes_on (inr (inl begins)) = let none : ⊥ = cc begins.0 in none
 ended_goes_on (inr (inr (action, leads, last))) = let none : ⊥ = cc (sym leads) in none
+
+-- an action that was refused may be taken later, and a creation without a key makes another run
+refused_now : rules (ReportRun 1 Fail) 1_700_000_000 (there (two Planned (Some ReportPlanned))) ≡ effect (refused WrongState) (Some (two Planned (Some ReportPlanned)))
+refused_now = refl
+
+taken_later : rules (ReportRun 1 Fail) 1_700_000_000 (there (record empty { holder = HoldingRun 1; next_run = 2; runs = run 1 Applying (Some Confirm) ∷ [] }))
+    ≡ effect (the_run (run 1 Errored (Some Fail))) (Some (record empty { next_run = 2; runs = run 1 Errored (Some Fail) ∷ [] }))
+taken_later = refl
+
+made_once_more : (rules (MakeRun ask) 1_700_000_000 (there (record empty { next_run = 2; runs = run 1 Applied (Some ReportApplied) ∷ [] }))).left
+    ≡ Some (record empty { holder = HoldingRun 2; next_run = 3; runs = run 1 Applied (Some ReportApplied) ∷ run 2 Planning None ∷ [] })
+made_once_more = refl
