@@ -84,6 +84,14 @@ class Command:
         if name == "org-add":
             (org,) = words
             return "Sent::OrgAdd(%s)" % literal(org)
+        if name == "org-limit":
+            org, limit = words
+            return "Sent::OrgLimit(%s, %s)" % (literal(org), limit)
+        if name == "org-list":
+            return "Sent::OrgList"
+        if name == "token-revoke":
+            org, name = words
+            return "Sent::TokenRevoke(%s, %s)" % (literal(org), literal(name))
         org, name, role, secret = words
         return "Sent::TokenAdd(%s, %s, Role::%s, %s)" % (literal(org), literal(name), role.capitalize(), literal(secret))
 
@@ -169,6 +177,29 @@ def shown(auto_apply=False, holder=None, version=None):
     return (200, json.dumps(what, sort_keys=True, separators=(",", ":")))
 
 
+def listed(*items, more=False):
+    """A list, its items as they are shown."""
+    return (200, '{"items":[%s],"more":%s}' % (",".join(items), json.dumps(more)))
+
+
+def ws(name, version=None, holder=None):
+    what = {"auto_apply": False, "holder": holder, "name": name, "version": version}
+    return json.dumps(what, sort_keys=True, separators=(",", ":"))
+
+
+def version(number, serial, lineage="a1", size=39):
+    what = {"created": AT, "lineage": lineage, "number": number, "serial": serial, "size": size}
+    return json.dumps(what, sort_keys=True, separators=(",", ":"))
+
+
+def put(name, answer=None, token=A):
+    return request(token, "PUT", "workspaces/" + name, None, answer or (200, ws(name)))
+
+
+def get(path, answer, token=R):
+    return request(token, "GET", path, None, answer)
+
+
 WRONG_STATE = (409, "wrong-state")
 BAD_BODY = (400, "bad-body")
 RUN_HOLDS = '{"ID":"run-1","Info":"","Operation":"run","Path":"net","Version":"","Who":"acme"}'
@@ -199,7 +230,8 @@ ROWS = [
             post(R, state(1), (403, "need-write"), "state/none"),
             post(R, state(1), (403, "need-write"), "/v1/beta/state/x"),
             request(W, "PUT", "workspaces/two", None, (403, "need-admin")),
-            request(R, "GET", "runs/net", None, NOT_FOUND),
+            request(R, "GET", "runs/net", None, listed()),
+            request(R, "GET", "runs/none", None, NOT_FOUND),
             request(R, "GET", "workspaces/net", None, (200, '{"auto_apply":false,"holder":null,"name":"net","version":null}')),
             request(R, "GET", "workspaces/none", None, NOT_FOUND),
         ],
@@ -526,6 +558,97 @@ ROWS = [
             request(W, "DELETE", "runs/net/1", None, (405, "no-method", "GET")),
         ],
     ),
+    (
+        "limits",
+        "An organization's limit counts its own workspaces, and may be set below what there is; the operator lists all.",
+        [
+            admin("org-limit acme 1"),
+            put("two", (409, "limit")),
+            request(B, "PUT", "/v1/beta/workspaces/two", None, (200, ws("two"))),
+            admin("org-list", "acme 1 1\nbeta 1 200"),
+            admin("org-limit acme 0"),
+            put("two", (409, "limit")),
+            put("net"),
+            get("workspaces", listed(ws("net"))),
+            admin("org-list", "acme 1 0\nbeta 1 200"),
+            admin("org-limit zeta 5", "refused absent"),
+            admin("org-limit acme 2"),
+            put("two"),
+            put("three", (409, "limit")),
+        ],
+    ),
+    (
+        "revoked",
+        "A token that was taken away opens nothing; its name and its secret may be added again.",
+        [
+            request(W, "LOCK", "state/net", '{"ID":"x1"}', OK),
+            admin("token-revoke acme ci"),
+            admin("token-revoke acme ci", "refused absent"),
+            admin("token-revoke zeta ci", "refused absent"),
+            get("state/net", (401, "bad-token"), W),
+            get("state/net", (204,)),
+            admin("token-add acme cd read writewritewrite1"),
+            get("state/net", (204,), W),
+            request(W, "UNLOCK", "state/net", '{"ID":"x1"}', (403, "need-write")),
+            admin("token-add acme ci write writewritewrite1", "refused exists"),
+        ],
+    ),
+    (
+        "deletion",
+        "A workspace goes where no lock holds and no run is open; one of its name begins anew.",
+        [
+            post(W, state(1), OK),
+            request(A, "LOCK", "state/net", '{"ID":"x1"}', OK),
+            request(A, "DELETE", "workspaces/net", None, (423, '{"ID":"x1"}')),
+            request(W, "UNLOCK", "state/net", '{"ID":"x1"}', OK),
+            make('{"key":"k1"}', run(1, "planning", key="k1")),
+            request(A, "DELETE", "workspaces/net", None, (409, "open-runs")),
+            act(1, "unchanged", run(1, "planned_and_finished", "unchanged", "k1")),
+            request(W, "DELETE", "workspaces/net", None, (403, "need-admin")),
+            request(B, "DELETE", "workspaces/net", None, NOT_FOUND),
+            request(A, "DELETE", "workspaces/net", None, OK),
+            request(A, "DELETE", "workspaces/net", None, NOT_FOUND),
+            get("state/net", NOT_FOUND),
+            get("workspaces", listed()),
+            put("net"),
+            get("state/net", (204,)),
+            get("versions/net", listed()),
+            get("runs/net", listed()),
+            make('{"key":"k1"}', run(1, "planning", key="k1")),
+            request(W, "UNLOCK", "state/net", '{"ID":"x1"}', (409, "held-by-run")),
+            act(1, "cancel", run(1, "canceled", "cancel", "k1")),
+            post(W, '{"serial":0}', OK),
+            get("versions/net", listed(version(1, 0, "", 12))),
+        ],
+    ),
+    (
+        "lists",
+        "Lists begin after what is named, which needn't be there, and hold the caller's own alone.",
+        [
+            post(W, state(1), OK),
+            post(W, state(2), OK),
+            get("versions/net/1", (200, state(1))),
+            get("versions/net/3", NOT_FOUND),
+            get("versions/net", listed(version(1, 1), version(2, 2))),
+            get("versions/net?after=1", listed(version(2, 2))),
+            get("versions/net?after=2", listed()),
+            get("versions/net?after=01", (400, "bad-query")),
+            put("Net"),
+            put("a_1"),
+            make("", run(1, "planning")),
+            make('{"plan_only":true}', run(2, "planning", plan_only=True)),
+            get("workspaces", listed(ws("Net"), ws("a_1"), ws("net", 2, "run-1"))),
+            get("workspaces?after=Net", listed(ws("a_1"), ws("net", 2, "run-1"))),
+            get("workspaces?after=b", listed(ws("net", 2, "run-1"))),
+            get("workspaces?after=zz", listed()),
+            get("workspaces?after=a.b", (400, "bad-query")),
+            get("runs/net", listed(run(1, "planning")[1], run(2, "planning", plan_only=True)[1])),
+            get("runs/net?after=1", listed(run(2, "planning", plan_only=True)[1])),
+            get("runs/net?after=1000000000", listed()),
+            get("/v1/beta/workspaces", NOT_FOUND),
+            get("/v1/beta/workspaces", listed(), B),
+        ],
+    ),
 ]
 
 
@@ -581,7 +704,7 @@ WIDTH = 60
 def item(indent, sent, answer):
     """A step of a table, as `rt fmt` lays it out."""
     pad, sent, answer = " " * indent, sent.written(), literal(answer)
-    name, words = sent[:-1].split("(", 1)
+    name, words = sent[:-1].split("(", 1) if "(" in sent else (sent, "")
     if len(sent + ", " + answer) <= WIDTH:
         return ["%s(%s, %s)," % (pad, sent, answer)]
     lines = ["    %s," % sent]
@@ -617,6 +740,9 @@ NAMES = ["roles", "absent_and_foreign"]
 QUEUE = ["release_starts_the_queue", "queue", "run_holds", "run_applies"]
 RUNS = ["keys", "auto_apply", "auto_apply_of_now"]
 ASKED = ["run_documents", "run_names"]
+KEPT = ["limits", "revoked"]
+DELETED = ["deletion"]
+LISTED = ["lists"]
 TABLES = [
     ("LOCK_ROWS", "Locks, and what they bind.", [row for row in ROWS if row[0] in LOCKS]),
     ("STATE_ROWS", "States and settings.", [row for row in ROWS if row[0] in STATES]),
@@ -624,7 +750,10 @@ TABLES = [
     ("QUEUE_ROWS", "Runs that wait, hold and write.", [row for row in ROWS if row[0] in QUEUE]),
     ("RUN_ROWS", "Keys of runs, and auto-apply.", [row for row in ROWS if row[0] in RUNS]),
     ("ASKED_RUN_ROWS", "What is asked of runs, and what isn't there.", [row for row in ROWS if row[0] in ASKED]),
-    ("MESSAGE_ROWS", "Messages, tokens and routes.", [row for row in ROWS if row[0] not in LOCKS + STATES + NAMES + QUEUE + RUNS + ASKED]),
+    ("KEPT_ROWS", "Limits, and tokens that are taken away.", [row for row in ROWS if row[0] in KEPT]),
+    ("DELETED_ROWS", "Workspaces that go.", [row for row in ROWS if row[0] in DELETED]),
+    ("LIST_ROWS", "Lists.", [row for row in ROWS if row[0] in LISTED]),
+    ("MESSAGE_ROWS", "Messages, tokens and routes.", [row for row in ROWS if row[0] not in LOCKS + STATES + NAMES + QUEUE + RUNS + ASKED + KEPT + DELETED + LISTED]),
 ]
 
 

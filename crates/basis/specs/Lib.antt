@@ -4,4 +4,5 @@ pub mod Numbers
 pub mod Refusals
 pub mod Roles
 pub mod Runs
+pub mod Listings
 pub mod Inner

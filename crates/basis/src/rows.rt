@@ -1,9 +1,13 @@
 //! What documents say, and what listings and bodies show.
+ghost use Rattle.std.specs.Prelude.{◌≡◌, List, [], ◌∷◌, ◌++◌, OnOk, OnErr};
+ghost use Rattle.basis.specs.Listings.{listing_of};
 
+use crate::memory::Down;
 use crate::names::{LockId, WsName};
 use crate::numbers::{Moment, Number};
 use crate::runs::{RunAction, RunStatus};
 use crate::texts::{Items, Text};
+use std::alloc::Global;
 
 /// The greatest serial of a state: 2 ^ 63 - 1.
 pub const MAX_SERIAL: u64 = 9_223_372_036_854_775_807;
@@ -74,9 +78,39 @@ pub struct RunRow {
     pub status: RunStatus,
 }
 
+/// The most items of a listing.
+pub const MAX_ITEMS: usize = 50;
+
 /// At most 50 items, rising, and whether further ones follow the last.
 #[derive(Debug, Drop)]
 pub struct Listing<T> {
     pub items: Items<T>,
     pub more: bool,
+}
+
+impl<T> Listing<T> {
+    /// The listing of nothing.
+    pub fn new(alloc: Global) -> Listing<T>
+        ensures { result ≡ listing_of [] }
+    {
+        Listing {
+            items: Items::new(Vec::new(alloc)),
+            more: false,
+        }
+    }
+
+    /// Puts an item behind the others, or, where there is no room for it, says that more follow.
+    pub fn offer(&mut self, item: T) -> Result<(), Down>
+    where
+        T: Drop,
+        ensures ok { OnOk result ((xs : List _) → self.old ≡ listing_of xs → self.new ≡ listing_of (xs ++ item ∷ [])) }
+        ensures err { OnErr result (self.new ≡ self.old) }
+    {
+        if self.items.as_slice().len() < MAX_ITEMS {
+            self.items.push(item)
+        } else {
+            self.more = true;
+            Ok(())
+        }
+    }
 }

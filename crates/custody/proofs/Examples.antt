@@ -4,7 +4,7 @@ use Rattle.std.specs.Prelude.{codes}
 use Rattle.std.specs.Str.{chars, is_utf8}
 use lib.Utf8.{encode}
 use Rattle.basis.specs.declared.roles.Role.TheVariants.{Write}
-use Rattle.serve.specs.declared.steps.Admin.TheVariants.{OrgAdd, TokenAdd}
+use Rattle.serve.specs.declared.steps.Admin.TheVariants.{OrgAdd, OrgLimit, OrgList, TokenAdd, TokenRevoke}
 use Rattle.serve.specs.declared.steps.Step.TheVariants.{Request, Command}
 use Rattle.custody.specs.Frames.{frame_of}
 
@@ -21,6 +21,19 @@ token_added : frame_of (codes "at 1 admin token-add acme ci write writewritewrit
     ≡ Some (Command 1 (TokenAdd (codes "acme") (codes "ci") Write (codes "writewritewrite1")), [])
 unfolding chars is_utf8 encode
 token_added = refl
+
+-- the operator's other commands
+limit_set : frame_of (codes "at 1 admin org-limit acme 1\n") ≡ Some (Command 1 (OrgLimit (codes "acme") 1), [])
+unfolding chars is_utf8 encode
+limit_set = refl
+
+organizations_listed : frame_of (codes "at 1 admin org-list\n") ≡ Some (Command 1 OrgList, [])
+unfolding chars is_utf8 encode
+organizations_listed = refl
+
+token_revoked : frame_of (codes "at 1 admin token-revoke acme ci\n") ≡ Some (Command 1 (TokenRevoke (codes "acme") (codes "ci")), [])
+unfolding chars is_utf8 encode
+token_revoked = refl
 
 -- a request of so many bytes, whatever they are, and the line feed behind them
 request_taken : frame_of (codes "at 253402300799 http 3\na\nb\n!") ≡ Some (Request 253_402_300_799 (codes "a\nb"), codes "!")
@@ -60,6 +73,6 @@ limit_too_great : frame_of (codes "at 1 admin org-add acme 100001\n") ≡ None
 unfolding chars is_utf8 encode
 limit_too_great = refl
 
-unknown_command : frame_of (codes "at 1 admin org-list\n") ≡ None
+unknown_command : frame_of (codes "at 1 admin org-lists\n") ≡ None
 unfolding chars is_utf8 encode
 unknown_command = refl

@@ -6,7 +6,7 @@ use Rattle.basis.specs.Roles.{role_word}
 use Rattle.basis.specs.declared.roles.Role.{Role}
 use Rattle.basis.specs.declared.roles.Role.TheVariants.{Read, Write, Admin}
 use Rattle.serve.specs.declared.steps.Admin as Operator
-use Rattle.serve.specs.declared.steps.Admin.TheVariants.{OrgAdd, TokenAdd}
+use Rattle.serve.specs.declared.steps.Admin.TheVariants.{OrgAdd, OrgLimit, OrgList, TokenAdd, TokenRevoke}
 use Rattle.custody.specs.declared.headings.Heading.{Heading}
 use Rattle.custody.specs.declared.headings.Heading.TheVariants.{Request, Command}
 
@@ -39,6 +39,20 @@ org_add_of (org ∷ []) = org_command org (Some 200)
 org_add_of (org ∷ limit ∷ []) = org_command org (limit_of limit)
 org_add_of words = None
 
+-- a command that sets an organization's limit, where its name and the limit read
+abbrev pub limit_command : List ℕ → Option ℕ → Option Operator.Admin
+limit_command org limit = cond (is_org_name org) (option_map (λ n. OrgLimit org n) limit) None
+
+-- `ORG N`
+abbrev pub org_limit_of : List (List ℕ) → Option Operator.Admin
+org_limit_of (org ∷ limit ∷ []) = limit_command org (limit_of limit)
+org_limit_of words = None
+
+-- no words
+abbrev pub org_list_of : List (List ℕ) → Option Operator.Admin
+org_list_of [] = Some OrgList
+org_list_of words = None
+
 -- a command that adds a token, where organization, name, role and secret read
 abbrev pub token_command : List ℕ → List ℕ → List ℕ → List ℕ → Option Operator.Admin
 token_command org name role secret =
@@ -49,12 +63,24 @@ abbrev pub token_add_of : List (List ℕ) → Option Operator.Admin
 token_add_of (org ∷ name ∷ role ∷ secret ∷ []) = token_command org name role secret
 token_add_of words = None
 
+-- a command that takes a token away, where organization and name read
+abbrev pub revoke_command : List ℕ → List ℕ → Option Operator.Admin
+revoke_command org name = cond (is_org_name org && is_org_name name) (Some (TokenRevoke org name)) None
+
+-- `ORG NAME`
+abbrev pub token_revoke_of : List (List ℕ) → Option Operator.Admin
+token_revoke_of (org ∷ name ∷ []) = revoke_command org name
+token_revoke_of words = None
+
 -- an operator's command: its name, and its own words
 abbrev pub command_of : List (List ℕ) → Option Operator.Admin
 command_of [] = None
 command_of (name ∷ words) =
     cond (bytes_eq name (codes "org-add")) (org_add_of words)
-    (cond (bytes_eq name (codes "token-add")) (token_add_of words) None)
+    (cond (bytes_eq name (codes "org-limit")) (org_limit_of words)
+    (cond (bytes_eq name (codes "org-list")) (org_list_of words)
+    (cond (bytes_eq name (codes "token-add")) (token_add_of words)
+    (cond (bytes_eq name (codes "token-revoke")) (token_revoke_of words) None))))
 
 -- what follows at that moment: `LEN`, the one word behind `http`
 abbrev pub request_at : ℕ → List (List ℕ) → Option Heading

@@ -19,7 +19,7 @@ pub enum Heading {
 }
 
 impl Heading {
-    ghost use Rattle.custody.specs.Headings.{moment_of, length_of, limit_of, role_of, org_command, org_add_of, token_command, token_add_of, command_of, request_at, heading_at, heading_of};
+    ghost use Rattle.custody.specs.Headings.{moment_of, length_of, limit_of, role_of, org_command, org_add_of, limit_command, org_limit_of, org_list_of, token_command, token_add_of, revoke_command, token_revoke_of, command_of, request_at, heading_at, heading_of};
 
     fn read_moment(word: &str) -> Result<Moment, Unfit>
         ensures ok { IfOk result (λ at. moment_of word.now ≡ Some at) }
@@ -77,6 +77,37 @@ impl Heading {
         }
     }
 
+    fn make_org_limit(alloc: Global, org: &str, limit: Option<Limit>) -> Result<Admin, Unfit>
+        ensures ok { IfOk result (λ command. limit_command org.now limit ≡ Some command) }
+        ensures syntax { IsErrOf result Unfit.Syntax → limit_command org.now limit ≡ None }
+    {
+        let Some(limit) = limit else {
+            return Err(Unfit::Syntax);
+        };
+        let org = OrgName::read(alloc, org)?;
+        Ok(Admin::OrgLimit { org, limit })
+    }
+
+    fn read_org_limit(alloc: Global, words: &[&str]) -> Result<Admin, Unfit>
+        ensures ok { IfOk result (λ command. org_limit_of (bytes_of words.now) ≡ Some command) }
+        ensures syntax { IsErrOf result Unfit.Syntax → org_limit_of (bytes_of words.now) ≡ None }
+    {
+        match *words {
+            [org, limit] => Heading::make_org_limit(alloc, org, Heading::read_limit(limit)),
+            _ => Err(Unfit::Syntax),
+        }
+    }
+
+    fn read_org_list(words: &[&str]) -> Result<Admin, Unfit>
+        ensures ok { IfOk result (λ command. org_list_of (bytes_of words.now) ≡ Some command) }
+        ensures syntax { IsErrOf result Unfit.Syntax → org_list_of (bytes_of words.now) ≡ None }
+    {
+        match words {
+            [] => Ok(Admin::OrgList),
+            [_, ..] => Err(Unfit::Syntax),
+        }
+    }
+
     fn make_token_add(
         alloc: Global,
         org: &str,
@@ -111,6 +142,25 @@ impl Heading {
         }
     }
 
+    fn make_token_revoke(alloc: Global, org: &str, name: &str) -> Result<Admin, Unfit>
+        ensures ok { IfOk result (λ command. revoke_command org.now name.now ≡ Some command) }
+        ensures syntax { IsErrOf result Unfit.Syntax → revoke_command org.now name.now ≡ None }
+    {
+        let org = OrgName::read(alloc, org)?;
+        let name = OrgName::read(alloc, name)?;
+        Ok(Admin::TokenRevoke { org, name })
+    }
+
+    fn read_token_revoke(alloc: Global, words: &[&str]) -> Result<Admin, Unfit>
+        ensures ok { IfOk result (λ command. token_revoke_of (bytes_of words.now) ≡ Some command) }
+        ensures syntax { IsErrOf result Unfit.Syntax → token_revoke_of (bytes_of words.now) ≡ None }
+    {
+        match *words {
+            [org, name] => Heading::make_token_revoke(alloc, org, name),
+            _ => Err(Unfit::Syntax),
+        }
+    }
+
     fn read_command(alloc: Global, words: &[&str]) -> Result<Admin, Unfit>
         ensures ok { IfOk result (λ command. command_of (bytes_of words.now) ≡ Some command) }
         ensures syntax { IsErrOf result Unfit.Syntax → command_of (bytes_of words.now) ≡ None }
@@ -120,7 +170,10 @@ impl Heading {
         };
         match *name {
             "org-add" => Heading::read_org_add(alloc, words),
+            "org-limit" => Heading::read_org_limit(alloc, words),
+            "org-list" => Heading::read_org_list(words),
             "token-add" => Heading::read_token_add(alloc, words),
+            "token-revoke" => Heading::read_token_revoke(alloc, words),
             _ => Err(Unfit::Syntax),
         }
     }

@@ -19,13 +19,14 @@ use Rattle.machine.specs.declared.records.Run.{Run}
 use Rattle.machine.specs.Writing.{may_write}
 use Rattle.machine.specs.Settling.{first_waiting, to_start, started, started_if, settled}
 use Rattle.machine.specs.Succession.{Succession, first, same, other_lineage, old_serial, next, succession}
-use Rattle.machine.specs.Rules.{Outcome, refused, Ruling, rules_missing, done, rules, refused_by, by_may_write, by_succession, numbered_update, number_left, with_version, with_settings, done_with, done_already, purge, purged, lock, locked, unlock, released, is_released, force_unlock, new_run, with_run, numbered_run, make_run, reported, frees, with_report, report}
-use Rattle.machine.specs.Custody.{VersionsChangeByTheId, HoldsUntilReleased, LockedWorkspacesStay, RepeatsChangeNothing, IsRefusal}
-use Rattle.machine.specs.Records.{Seen, missing, there}
+use Rattle.machine.specs.Rules.{Outcome, refused, Ruling, rules_missing, done, rules, refused_by, by_may_write, by_succession, numbered_update, number_left, with_version, with_settings, done_with, done_already, purge, purged, lock, locked, unlock, released, is_released, force_unlock, new_run, with_run, numbered_run, make_run, reported, frees, with_report, report, delete}
+use Rattle.machine.proofs.DeletionLemmas.{IsKept, IsGone, delete_comes, delete_left, delete_again, locked_stays}
+use Rattle.machine.specs.Custody.{VersionsChangeByTheId, WorkspacesGoByDelete, WorkspacesBeginAnew, AcceptedActsComeAgain, IsAnew, IsUnlocked, IsRepeatable, HoldsUntilReleased, LockedWorkspacesStay, RepeatsChangeNothing, IsRefusal}
+use Rattle.machine.specs.Records.{Seen, missing, there, standing}
 use Rattle.machine.specs.Effects.{effect}
 use Rattle.machine.proofs.MissingLemmas.{IsPut, Misses, put_or_missed}
 use Rattle.machine.specs.declared.acts.Act.{Act}
-use Rattle.machine.specs.declared.acts.Act.TheVariants.{PutWorkspace, ReadWorkspace, UpdateState, ReadState, PurgeState, Lock as LockAct, Unlock, ForceUnlock, MakeRun, ReadRun, ReportRun}
+use Rattle.machine.specs.declared.acts.Act.TheVariants.{PutWorkspace, ReadWorkspace, DeleteWorkspace, UpdateState, ReadState, PurgeState, Lock as LockAct, Unlock, ForceUnlock, ListVersions, ReadVersion, ListRuns, MakeRun, ReadRun, ReportRun}
 use Rattle.machine.specs.declared.records.Holder.{Holder}
 use Rattle.machine.specs.declared.records.Holder.TheVariants.{Nobody, Lock, Run as HoldingRun}
 use Rattle.machine.specs.declared.records.Version.{Version}
@@ -308,6 +309,10 @@ repeats (UpdateState head text id) now later (there w) v may e =
     update_again head text id now later w (update_becomes head text w (may_write w.holder (holder_status w.holder w.runs) id)) v e
 repeats ReadWorkspace now later (there w) v may e = refl
 repeats ReadState now later (there w) v may e = refl
+repeats DeleteWorkspace now later (there w) v may e = delete_again w v e
+repeats (ListVersions after) now later (there w) v may e = refl
+repeats (ReadVersion n) now later (there w) v may e = refl
+repeats (ListRuns after) now later (there w) v may e = refl
 repeats (PurgeState id) now later (there w) v may e = purge_again id now later w (purge_becomes w (may_write w.holder (holder_status w.holder w.runs) id)) v e
 repeats (LockAct id text) now later (there w) v may e = lock_again id text now later w (lock_becomes id text w w.holder) v e
 repeats (Unlock id) now later (there w) v may e = unlock_again id now later w (unlock_becomes id w w.holder) v e
@@ -358,6 +363,10 @@ holds_until_released (UpdateState head state id) now w v held text e h =
     inl (held_by head state now w v held text (λ t. (rules (UpdateState head state id) t (there w)).left) e (update_becomes head state w (may_write w.holder (holder_status w.holder w.runs) id)) h)
 holds_until_released ReadWorkspace now w v held text e h = inl (holder_of_same w v held text h e)
 holds_until_released ReadState now w v held text e h = inl (holder_of_same w v held text h e)
+holds_until_released DeleteWorkspace now w v held text e h = inl (holder_of_same w v held text (delete_left w v h) e)
+holds_until_released (ListVersions after) now w v held text e h = inl (holder_of_same w v held text h e)
+holds_until_released (ReadVersion n) now w v held text e h = inl (holder_of_same w v held text h e)
+holds_until_released (ListRuns after) now w v held text e h = inl (holder_of_same w v held text h e)
 holds_until_released (PurgeState id) now w v held text e h =
     inl (purge_held w v held text (rules (PurgeState id) now (there w)).left e (purge_becomes w (may_write w.holder (holder_status w.holder w.runs) id)) h)
 holds_until_released (LockAct id t) now w v held text e h =
@@ -407,6 +416,10 @@ versions_change_by_the_id (UpdateState head state given) now w v held text lock 
     kept_or_carried given w v held text after refl (subst (λ (h : Holder). after (may_write h (holder_status h w.runs) given) ≡ Some v) lock e)
 versions_change_by_the_id ReadWorkspace now w v held text lock e = inl (versions_of_same w w v e refl)
 versions_change_by_the_id ReadState now w v held text lock e = inl (versions_of_same w w v e refl)
+versions_change_by_the_id DeleteWorkspace now w v held text lock e = inl (versions_of_same w w v (delete_left w v e) refl)
+versions_change_by_the_id (ListVersions after) now w v held text lock e = inl (versions_of_same w w v e refl)
+versions_change_by_the_id (ReadVersion n) now w v held text lock e = inl (versions_of_same w w v e refl)
+versions_change_by_the_id (ListRuns after) now w v held text lock e = inl (versions_of_same w w v e refl)
 versions_change_by_the_id (PurgeState given) now w v held text lock e =
     let after : Option Refusal → Option Workspace = λ m. (purge m w).left in
     kept_or_carried given w v held text after refl (subst (λ (h : Holder). after (may_write h (holder_status h w.runs) given) ≡ Some v) lock e)
@@ -423,7 +436,7 @@ versions_change_by_the_id (ReadRun n) now w v held text e h = inl (versions_of_s
 versions_change_by_the_id (ReportRun n action) now w v held text e h =
     inl (run_versions w v (IsReported w n action) _ (λ u is. ap (λ (x : Workspace). x.versions) is.is) h (comes_to (report_comes w n action)))
 
--- no act takes a workspace away that a lock holds
+-- what stays there
 some_after : (w : Workspace) (after : ℕ → Option Workspace) (head : StateHead) (text : List ℕ) (now : ℕ) → Becomes head text w after → IsSome (after now)
 some_after w after head text now (inl h) = rw (h now) refl
 some_after w after head text now (inr h) = rw (h.1 now) refl
@@ -440,34 +453,84 @@ some_after_run : (w : Workspace) (changed : Workspace → Type 0) (after : Optio
 some_after_run w changed after (inl h) = rw h refl
 some_after_run w changed after (inr h) = rw h.2 refl
 
-pub workspaces_stay : (act : Act) (now : ℕ) (w : Workspace) → IsSome (rules act now (there w)).left
-workspaces_stay (PutWorkspace settings) now w = refl
-workspaces_stay (UpdateState head state id) now w =
-    some_after w (λ t. (rules (UpdateState head state id) t (there w)).left) head state now (update_becomes head state w (may_write w.holder (holder_status w.holder w.runs) id))
-workspaces_stay ReadWorkspace now w = refl
-workspaces_stay ReadState now w = refl
-workspaces_stay (PurgeState id) now w =
-    some_of_two w (settled (purged w)) (rules (PurgeState id) now (there w)).left (purge_becomes w (may_write w.holder (holder_status w.holder w.runs) id))
-workspaces_stay (LockAct id t) now w = some_of_two w (locked id t w) (rules (LockAct id t) now (there w)).left (lock_becomes id t w w.holder)
-workspaces_stay (Unlock id) now w = some_unlocked w (rules (Unlock id) now (there w)).left (unlock_becomes id w w.holder)
-workspaces_stay ForceUnlock now w = some_unlocked w (rules ForceUnlock now (there w)).left (force_becomes w w.holder)
-workspaces_stay (MakeRun ask) now w = some_after_run w (IsMade w ask now) (rules (MakeRun ask) now (there w)).left (comes_to (make_comes w ask now))
-workspaces_stay (ReadRun n) now w = refl
-workspaces_stay (ReportRun n action) now w = some_after_run w (IsReported w n action) (rules (ReportRun n action) now (there w)).left (comes_to (report_comes w n action))
+-- a workspace stays, or the act is DELETE
+stays_or_deleted : (act : Act) (now : ℕ) (w : Workspace) → IsSome (rules act now (there w)).left ⊎ (act ≡ DeleteWorkspace)
+stays_or_deleted (PutWorkspace settings) now w = inl refl
+stays_or_deleted (UpdateState head state id) now w =
+    inl (some_after w (λ t. (rules (UpdateState head state id) t (there w)).left) head state now (update_becomes head state w (may_write w.holder (holder_status w.holder w.runs) id)))
+stays_or_deleted ReadWorkspace now w = inl refl
+stays_or_deleted DeleteWorkspace now w = inr refl
+stays_or_deleted ReadState now w = inl refl
+stays_or_deleted (PurgeState id) now w =
+    inl (some_of_two w (settled (purged w)) (rules (PurgeState id) now (there w)).left (purge_becomes w (may_write w.holder (holder_status w.holder w.runs) id)))
+stays_or_deleted (LockAct id t) now w = inl (some_of_two w (locked id t w) (rules (LockAct id t) now (there w)).left (lock_becomes id t w w.holder))
+stays_or_deleted (Unlock id) now w = inl (some_unlocked w (rules (Unlock id) now (there w)).left (unlock_becomes id w w.holder))
+stays_or_deleted ForceUnlock now w = inl (some_unlocked w (rules ForceUnlock now (there w)).left (force_becomes w w.holder))
+stays_or_deleted (ListVersions after) now w = inl refl
+stays_or_deleted (ReadVersion n) now w = inl refl
+stays_or_deleted (ListRuns after) now w = inl refl
+stays_or_deleted (MakeRun ask) now w = inl (some_after_run w (IsMade w ask now) (rules (MakeRun ask) now (there w)).left (comes_to (make_comes w ask now)))
+stays_or_deleted (ReadRun n) now w = inl refl
+stays_or_deleted (ReportRun n action) now w = inl (some_after_run w (IsReported w n action) (rules (ReportRun n action) now (there w)).left (comes_to (report_comes w n action)))
+
+none_of_some : {X : Type 0} (o : Option X) → IsSome o → o ≡ None → ⊥
+none_of_some None some e = let none : ⊥ = cc in none
+none_of_some (Some x) some e = let none : ⊥ = cc in none
 
 pub locked_workspaces_stay : LockedWorkspacesStay
-locked_workspaces_stay act now w held text e = workspaces_stay act now w
+locked_workspaces_stay act now w held text e = by_case (stays_or_deleted act now w)
+  where
+    by_case : IsSome (rules act now (there w)).left ⊎ (act ≡ DeleteWorkspace) → IsSome (rules act now (there w)).left
+    by_case (inl some) = some
+    by_case (inr is) = subst (λ (a : Act). IsSome (rules a now (there w)).left) (sym is) (locked_stays w held text e)
 
--- what is accepted leaves the workspace there
-pub accepted_stays : (act : Act) (now : ℕ) (s : Seen) → (IsRefusal (rules act now s).answer → ⊥) → IsSome (rules act now s).left
+-- a workspace goes by DELETE alone
+pub workspaces_go_by_delete : WorkspacesGoByDelete
+workspaces_go_by_delete act now w e = by_case (stays_or_deleted act now w)
+  where
+    gone : (rules DeleteWorkspace now (there w)).left ≡ None → IsKept (delete w.holder w) w ⊎ IsGone (delete w.holder w) w → IsUnlocked w.holder × (open_runs w.runs ≡ 0)
+    gone e (inl kept) = absurd (let none : ⊥ = cc (sym kept.left ∙ e) in none)
+    gone e (inr is) = (is.unheld, is.idle)
+
+    by_case : IsSome (rules act now (there w)).left ⊎ (act ≡ DeleteWorkspace) → (act ≡ DeleteWorkspace) × IsUnlocked w.holder × (open_runs w.runs ≡ 0)
+    by_case (inl some) = absurd (none_of_some (rules act now (there w)).left some e)
+    by_case (inr is) =
+        let parts = gone (subst (λ (a : Act). (rules a now (there w)).left ≡ None) is e) (delete_comes w) in
+        (is, parts.0, parts.1)
+
+pub workspaces_begin_anew : WorkspacesBeginAnew
+workspaces_begin_anew act now room v e = by_act (put_or_missed act)
+  where
+    anew : (settings : Settings) → new_workspace settings ≡ v → IsAnew v
+    anew settings is = subst IsAnew is (record { holder = refl; released = refl; versions_begin = (refl, refl); runs_begin = (refl, refl) })
+
+    made : (room : Bool) (settings : Settings) → (rules_missing (PutWorkspace settings) room).left ≡ Some v → IsAnew v
+    made true settings e = anew settings (let same_one : new_workspace settings ≡ v = cc in same_one)
+    made false settings e = absurd (let none : ⊥ = cc in none)
+
+    by_act : IsPut act ⊎ Misses act → IsAnew v
+    by_act (inl put) = made room put.0 (subst (λ (a : Act). (rules_missing a room).left ≡ Some v) put.1 e)
+    by_act (inr misses) = absurd (let none : ⊥ = cc (sym (ap (λ (r : Ruling). r.left) (misses room).0) ∙ e) in none)
+
+-- what is accepted leaves the workspace there, or is DELETE
+accepted_stays : (act : Act) (now : ℕ) (s : Seen) → (IsRefusal (rules act now s).answer → ⊥) → IsSome (rules act now s).left ⊎ (act ≡ DeleteWorkspace)
 accepted_stays act now (missing room) accepted = by_act (put_or_missed act)
   where
     made : (room : Bool) (settings : Settings) → (IsRefusal (rules_missing (PutWorkspace settings) room).answer → ⊥) → IsSome (rules_missing (PutWorkspace settings) room).left
     made true settings accepted = refl
     made false settings accepted = absurd (accepted tt)
 
-    by_act : IsPut act ⊎ Misses act → IsSome (rules_missing act room).left
+    by_act : IsPut act ⊎ Misses act → IsSome (rules_missing act room).left ⊎ (act ≡ DeleteWorkspace)
     by_act (inl put) =
-        subst (λ (a : Act). IsSome (rules_missing a room).left) (sym put.1) (made room put.0 (λ is. accepted (subst (λ (a : Act). IsRefusal (rules_missing a room).answer) (sym put.1) is)))
+        inl (subst (λ (a : Act). IsSome (rules_missing a room).left) (sym put.1) (made room put.0 (λ is. accepted (subst (λ (a : Act). IsRefusal (rules_missing a room).answer) (sym put.1) is))))
     by_act (inr misses) = absurd (accepted (subst (λ (r : Ruling). IsRefusal r.answer) (sym (misses room).0) tt))
-accepted_stays act now (there w) accepted = workspaces_stay act now w
+accepted_stays act now (there w) accepted = stays_or_deleted act now w
+
+-- what was accepted, and comes again to what it left
+pub accepted_acts_come_again : AcceptedActsComeAgain
+accepted_acts_come_again act now later s (there v) may accepted e = repeats act now later s v may (sym e)
+accepted_acts_come_again act now later s (missing room) may accepted e = by_case (accepted_stays act now s accepted)
+  where
+    by_case : IsSome (rules act now s).left ⊎ (act ≡ DeleteWorkspace) → (rules act later (missing room)).left ≡ None
+    by_case (inl some) = absurd (none_of_some (rules act now s).left some (sym e))
+    by_case (inr is) = subst (λ (a : Act). (rules a later (missing room)).left ≡ None) (sym is) refl

@@ -2,16 +2,18 @@
 use Rattle.std.specs.FinMap.{get}
 use Rattle.basis.specs.declared.rows.Settings.{Settings}
 use Rattle.machine.specs.declared.records.Organization.{Organization}
-use Rattle.std.proofs.Common.{◌≡◌, ◌⊎◌, inl, inr, ℕ, ◌+◌, ◌-◌, ◌==◌, nat_lt, Bool, true, false, not, ◌&&◌, cond, List, [], ◌∷◌, ◌++◌, drop, map, Option, Some, None, option_map, Result, Ok, Err, IfOk, refl, sym, ap, subst, ◌∙◌, length-append, eq-eqb, eqb-true}
-use Rattle.std.specs.Option.{option_or}
+use Rattle.std.proofs.Common.{◌≡◌, ◌⊎◌, inl, inr, ℕ, ◌+◌, ◌-◌, ◌==◌, nat_lt, Bool, true, false, not, ◌&&◌, cond, List, [], ◌∷◌, ◌++◌, drop, map, Option, Some, None, is_some, option_map, Result, Ok, Err, IfOk, refl, sym, ap, subst, ◌∙◌, length-append, eq-eqb, eqb-true}
+use Rattle.std.specs.Option.{option_or, option_map_or}
 use Rattle.std.specs.List.{AllByRecursion}
 use Rattle.std.specs.Str.{bytes_eq}
 use Rattle.basis.specs.declared.refusals.Refusal.{Refusal}
+use Rattle.basis.specs.declared.refusals.Refusal.TheVariants.{OpenRuns}
 use Rattle.basis.specs.declared.rows.StateHead.{StateHead}
 use Rattle.machine.specs.Workspaces.{max_open_runs, newest, holder_status, run_of, keyed_run, open_runs}
 use Rattle.machine.specs.Writing.{may_write}
 use Rattle.machine.specs.Succession.{after_newest, lineages_differ, same, other_lineage, old_serial, next}
-use Rattle.machine.specs.Rules.{holder_id, rules, done, by_may_write, by_succession, numbered_update, number_left, state_answer, workspace, refused, the_run, run_answer, told_with, told_already, new_run, with_run, numbered_run, make_run, reported, frees, with_report, by_step, report, with_settings, purge, lock, unlock, force_unlock, is_released, released, done_with, done_already, refused_by, shown_of, rules_there, rules_missing, Ruling}
+use Rattle.machine.specs.Showing.{holder_id, shown_of}
+use Rattle.machine.specs.Rules.{rules, done, no_state, state, version_answer, delete, by_may_write, by_succession, numbered_update, number_left, state_answer, workspace, refused, the_run, run_answer, told_with, told_already, new_run, with_run, numbered_run, make_run, reported, frees, with_report, by_step, report, with_settings, purge, lock, unlock, force_unlock, is_released, released, done_with, done_already, refused_by, rules_there, rules_missing, Ruling}
 use Rattle.machine.specs.Settling.{is_waiting, first_waiting, to_start, started_if}
 use Rattle.machine.specs.RunSteps.{next_status, is_last}
 use Rattle.machine.proofs.StepLemmas.{never_pending, pending_idle}
@@ -23,11 +25,11 @@ use Rattle.basis.specs.declared.runs.RunStatus.{RunStatus}
 use Rattle.basis.specs.declared.runs.RunAction.{RunAction}
 use Rattle.machine.specs.Units.{unit_of, workspace_unit, newest_unit, version_of, unit_by}
 use Rattle.machine.specs.declared.acts.Act.{Act}
-use Rattle.machine.specs.declared.acts.Act.TheVariants.{PutWorkspace, ReadWorkspace, UpdateState, ReadState, PurgeState, Lock as LockAct, Unlock, ForceUnlock, MakeRun, ReadRun, ReportRun}
+use Rattle.machine.specs.declared.acts.Act.TheVariants.{PutWorkspace, ReadWorkspace, DeleteWorkspace, UpdateState, ReadState, PurgeState, Lock as LockAct, Unlock, ForceUnlock, ListVersions, ReadVersion, ListRuns, MakeRun, ReadRun, ReportRun}
 use Rattle.machine.specs.declared.acts.Decision.{Decision}
 use Rattle.machine.specs.declared.acts.Decision.TheVariants.{Refused, Accepted}
 use Rattle.machine.specs.declared.acts.Answer.TheVariants.{Done, Run as ShownRun}
-use Rattle.machine.specs.declared.acts.Edit.TheVariants.{Release}
+use Rattle.machine.specs.declared.acts.Edit.TheVariants.{Remove, Release}
 use Rattle.machine.specs.declared.records.Holder.{Holder}
 use Rattle.machine.specs.declared.records.Holder.TheVariants.{Nobody, Lock, Run}
 use Rattle.machine.specs.declared.acts.Newest.{Newest}
@@ -37,7 +39,7 @@ use Rattle.machine.specs.declared.records.Workspace.{Workspace}
 use Rattle.machine.specs.declared.acts.Unit.{Unit as AnyUnit}
 use Rattle.machine.proofs.RuleLemmas.{rules_are_lawful}
 use Rattle.machine.specs.Effects.{effect}
-use Rattle.machine.specs.Inner.Decisions.{decision_of, decided_update, decided_after, decided_version, decided_number, decided_read, decided_purge, decided_lock, decided_unlock, decided_force, decided_number_of_run, decided_make, decided_read_run, decided_step, decided_report, start_freed, begun_by, acted, changing, holder_after, meaning, Meets, ChangeIsDue, decision_missing}
+use Rattle.machine.specs.Inner.Decisions.{decided_delete, decided_version_read, decision_of, decided_update, decided_after, decided_version, decided_number, decided_read, decided_purge, decided_lock, decided_unlock, decided_force, decided_number_of_run, decided_make, decided_read_run, decided_step, decided_report, start_freed, begun_by, acted, changing, holder_after, meaning, Meets, ChangeIsDue, decision_missing}
 use Rattle.machine.specs.Laws.{IsRun, IsLawful, IsLawfulIfThere, IsLawfulOrganization, is_pending}
 use Rattle.machine.specs.Records.{Seen, seen_by, standing, count_of, seen_in}
 use Rattle.machine.specs.Ranges.{IsInRange, IsMoment}
@@ -241,6 +243,24 @@ report_model w n action lawful (Some r) there = chosen (is_last action r.action)
     chosen true = refl
     chosen false = step_model w n action r lawful there (next_status r.plan_only w.auto_apply r.status action) refl
 
+-- DELETE of a workspace, and a version that is asked of
+delete_model : (w : Workspace) (h : Holder) → meaning (decided_delete h (open_runs w.runs)) (Some w) ≡ delete h w
+delete_model w Nobody = idle (nat_lt 0 (open_runs w.runs))
+  where
+    idle : (b : Bool) → meaning (cond b (Refused OpenRuns) (changing Done Remove None)) (Some w) ≡ cond b (effect (refused OpenRuns) (Some w)) (effect done None)
+    idle true = refl
+    idle false = refl
+delete_model w (Lock id text) = refl
+delete_model w (Run n) = idle (nat_lt 0 (open_runs w.runs))
+  where
+    idle : (b : Bool) → meaning (cond b (Refused OpenRuns) (changing Done Remove None)) (Some w) ≡ cond b (effect (refused OpenRuns) (Some w)) (effect done None)
+    idle true = refl
+    idle false = refl
+
+version_model : (w : Workspace) (n : ℕ) (o : Option Version) → version_of n w.versions ≡ o → meaning (decided_version_read (is_some o) n) (Some w) ≡ effect (version_answer o) (Some w)
+version_model w n None at = refl
+version_model w n (Some v) at = ap (λ (o : Option Version). effect (option_map_or state (option_map (λ (u : Version). u.text) o) no_state) (Some w)) at
+
 there_model : (o : Organization) (w : Workspace) (act : Act) (now : ℕ) → IsLawful w → meaning (decision_of (unit_by o act (Some w)) act now) (Some w) ≡ rules_there act now w
 there_model o w (PutWorkspace settings) now lawful = put_model w settings (newest w.versions) (to_start w.holder (first_waiting w.runs)) refl
 there_model o w ReadWorkspace now lawful = shown_model w (newest w.versions) refl
@@ -250,6 +270,10 @@ there_model o w (PurgeState id) now lawful = purge_model w id (may_write w.holde
 there_model o w (LockAct id text) now lawful = lock_model id text w w.holder
 there_model o w (Unlock id) now lawful = unlock_model id w w.holder
 there_model o w ForceUnlock now lawful = force_model w w.holder
+there_model o w DeleteWorkspace now lawful = delete_model w w.holder
+there_model o w (ListVersions after) now lawful = refl
+there_model o w (ReadVersion n) now lawful = version_model w n (version_of n w.versions) refl
+there_model o w (ListRuns after) now lawful = refl
 there_model o w (MakeRun ask) now lawful = make_model w ask now lawful (keyed_run ask.key w.runs)
 there_model o w (ReadRun n) now lawful = read_run_model w (run_of n w.runs)
 there_model o w (ReportRun n action) now lawful = report_model w n action lawful (run_of n w.runs) refl

@@ -1,10 +1,10 @@
 -- Worked steps of one workspace, computed by the definitions themselves.
 use Rattle.std.proofs.Common.{◌≡◌, ℕ, ◌<◌, ◌≤◌, inl, inr, [], ◌∷◌, List, filter, length, Option, Some, None, false, refl, true, sym, arith}
-use Rattle.std.specs.List.{AllByRecursion}
+use Rattle.std.specs.List.{AllByRecursion, range_with_len}
 use Rattle.std.specs.Prelude.{codes}
 use Rattle.std.specs.Fmt.{digits}
 use Rattle.basis.specs.Names.{run_id}
-use Rattle.basis.specs.declared.refusals.Refusal.TheVariants.{NotFound, NotHeld, NotApplying, OtherLineage, OldSerial, OverLimit, WrongState, HeldByRun, Locked}
+use Rattle.basis.specs.declared.refusals.Refusal.TheVariants.{NotFound, NotHeld, NotApplying, OtherLineage, OldSerial, OverLimit, WrongState, HeldByRun, OpenRuns, Locked}
 use Rattle.basis.specs.declared.rows.RunAsk.{RunAsk}
 use Rattle.basis.specs.declared.rows.StateHead.{StateHead}
 use Rattle.basis.specs.declared.runs.RunStatus.{RunStatus}
@@ -13,11 +13,13 @@ use Rattle.basis.specs.declared.runs.RunAction.{RunAction}
 use Rattle.basis.specs.declared.runs.RunAction.TheVariants.{ReportPlanned, Fail, Confirm, ReportApplied, Discard}
 use Rattle.machine.specs.Workspaces.{new_workspace}
 use Rattle.machine.specs.Writing.{may_write}
-use Rattle.machine.specs.Rules.{refused, held, done, no_state, state, the_run, rules}
+use Rattle.machine.specs.Rules.{refused, held, done, no_state, state, workspace, the_run, versions, rules}
+use Rattle.machine.specs.Showing.{shown_of, comes_after}
+use Rattle.basis.specs.Listings.{listing_of}
 use Rattle.machine.specs.Laws.{Rises, IsRun, IsHolder, KeysDiffer, IsLawful}
 use Rattle.machine.specs.Settling.{is_waiting}
 use Rattle.machine.specs.Queue.{is_active_run, GoesOn}
-use Rattle.machine.specs.declared.acts.Act.TheVariants.{UpdateState, ReadState, PurgeState, Lock as LockAct, Unlock, ForceUnlock, MakeRun, ReportRun}
+use Rattle.machine.specs.declared.acts.Act.TheVariants.{PutWorkspace, DeleteWorkspace, ListVersions, ReadVersion, UpdateState, ReadState, PurgeState, Lock as LockAct, Unlock, ForceUnlock, MakeRun, ReportRun}
 use Rattle.machine.specs.declared.records.Holder.TheVariants.{Nobody, Lock, Run as HoldingRun}
 use Rattle.machine.specs.declared.records.Version.{Version}
 use Rattle.machine.specs.declared.records.Run.{Run}
@@ -351,3 +353,49 @@ taken_later = refl
 made_once_more : (rules (MakeRun ask) 1_700_000_000 (there (record empty { next_run = 2; runs = run 1 Applied (Some ReportApplied) ∷ [] }))).left
     ≡ Some (record empty { holder = HoldingRun 2; next_run = 3; runs = run 1 Applied (Some ReportApplied) ∷ run 2 Planning None ∷ [] })
 made_once_more = refl
+
+-- DELETE of a workspace: it goes where no lock holds and no run is open
+gone : rules DeleteWorkspace 1_700_000_000 (there with_s1) ≡ effect done None
+gone = refl
+
+lock_keeps_it : rules DeleteWorkspace 1_700_000_000 (there under_x1) ≡ effect (held (Lock x1 t1)) (Some under_x1)
+lock_keeps_it = refl
+
+abbrev with_run_1 : Workspace
+with_run_1 = record empty { holder = HoldingRun 1; next_run = 2; runs = run 1 Planning None ∷ [] }
+
+open_run_keeps_it : rules DeleteWorkspace 1_700_000_000 (there with_run_1) ≡ effect (refused OpenRuns) (Some with_run_1)
+open_run_keeps_it = refl
+
+-- one of its name begins anew
+made_anew : rules (PutWorkspace (record { auto_apply = false })) 1_700_000_000 (missing true) ≡ effect (workspace (shown_of empty)) (Some empty)
+made_anew = refl
+
+no_room : rules (PutWorkspace (record { auto_apply = false })) 1_700_000_000 (missing false) ≡ effect (refused OverLimit) None
+no_room = refl
+
+-- a version by its number, and one that isn't kept
+first_read : rules (ReadVersion 1) 1_700_000_000 (there with_s1) ≡ effect (state s1) (Some with_s1)
+first_read = refl
+
+second_missing : rules (ReadVersion 2) 1_700_000_000 (there with_s1) ≡ effect (refused NotFound) (Some with_s1)
+second_missing = refl
+
+-- a list begins after the number that it follows, and tells a text's size
+row_1 : rules (ListVersions 0) 1_700_000_000 (there with_s1)
+    ≡ effect (versions (record { items = (record { created = 1_700_000_000; lineage = a1; number = 1; serial = 1; size = 39 }) ∷ []; more = false })) (Some with_s1)
+row_1 = refl
+
+none_after_1 : rules (ListVersions 1) 1_700_000_000 (there with_s1) ≡ effect (versions (record { items = []; more = false })) (Some with_s1)
+none_after_1 = refl
+
+-- 50 items are a page, and one more is told of
+fifty : listing_of (range_with_len 1 50) ≡ record { items = range_with_len 1 50; more = false }
+fifty = refl
+
+fifty_one : listing_of (range_with_len 1 51) ≡ record { items = range_with_len 1 50; more = true }
+fifty_one = refl
+
+-- names come in the order of their bytes: capital letters first, and a name after those that it begins with
+orders : (comes_after (Some (codes "Net")) (codes "a_1") ≡ true) × (comes_after (Some (codes "net")) (codes "net2") ≡ true) × (comes_after (Some (codes "net")) (codes "net") ≡ false)
+orders = (refl, refl, refl)

@@ -1,21 +1,20 @@
 -- What a change does to the laws of records.
-use Rattle.std.proofs.Common.{◌≡◌, ◌≢◌, ℕ, Bool, true, false, ◌||◌, cond, List, [], ◌∷◌, length, Option, Some, None, Result, Ok, Err, OnOk, OnErr, IfOk, IfSome, IsTrue, is_some, nat_lt, refl, sym, ap, subst, ◌∙◌, ◌≤◌}
+use Rattle.std.proofs.Common.{◌≡◌, ◌≢◌, ℕ, Bool, true, false, ◌||◌, cond, List, [], ◌∷◌, length, Option, Some, None, Result, Ok, Err, OnOk, OnErr, IfOk, IsTrue, is_some, nat_lt, refl, sym, ap, subst, ◌∙◌, ◌≤◌}
 use Rattle.std.specs.Prelude.{option_map}
 use Rattle.std.specs.Str.{bytes_eq}
 use Rattle.std.specs.Ordering.{is_eq}
-use Rattle.std.specs.FinMap.{FinMap, entries, get, insert, empty, get-empty, get-entries}
+use Rattle.std.specs.FinMap.{FinMap, entries, get, insert, remove, empty, get-empty, get-entries}
 use Rattle.std.specs.FinMap.Entries.{find}
 use Rattle.std.specs.declared.cmp.Ordering.{Ordering}
 use Rattle.std.proofs.lemmas.Slice.Eq.{bytes_eq-Decides}
 use Rattle.basis.specs.Names.{is_org_name, is_ws_name}
-use Rattle.basis.specs.declared.roles.Role.{Role}
 use Rattle.machine.specs.Order.{name_cmp}
 use Rattle.machine.specs.Effects.{effect}
 use Rattle.machine.specs.Laws.{IsLawful, IsLawfulIfThere, IsToken, IsNamedWorkspace, IsLawfulOrganization, AreLawful}
 use Rattle.machine.specs.Records.{count_of, seen_by, seen_in, standing, with_workspace, placed}
 use Rattle.machine.specs.Changes.{changed_by, IsDue}
 use Rattle.machine.specs.Rules.{rules}
-use Rattle.machine.specs.Tokens.{token_with, has_digest, new_organization, org_added, token_of, with_token, token_added}
+use Rattle.machine.specs.Tokens.{token_with, has_digest, new_organization, org_added, with_limit, org_limited, with_token, token_added, without_token, token_revoked}
 use Rattle.machine.specs.declared.acts.Change.{Change}
 use Rattle.machine.specs.declared.keeps.AdminAnswer.{AdminAnswer}
 use Rattle.machine.specs.declared.keeps.AdminAnswer.TheVariants.{Done, Exists, Absent}
@@ -129,6 +128,20 @@ org_add_keeps (Ok answer) old new org limit most lawful own others err =
     (λ o e. added_is_lawful limit (get old org) most (lawful org) o (sym (ap (λ x. x.left) own) ∙ e))
 org_add_keeps (Err fault) old new org limit most lawful own others err = subst (λ (m : Rows). AreLawful (λ q. get m q)) (sym err) lawful
 
+-- another limit
+limited_is_lawful : (limit : ℕ) (r : Option Organization) → limit ≤ 100_000 → ((o : Organization) → r ≡ Some o → IsLawfulOrganization o)
+    → (o : Organization) → (org_limited limit r).left ≡ Some o → IsLawfulOrganization o
+limited_is_lawful limit None most lawful o e = absurd (let none : ⊥ = cc in none)
+limited_is_lawful limit (Some p) most lawful o e =
+    let was : IsLawfulOrganization p = lawful p refl in
+    subst IsLawfulOrganization (one_of (with_limit p limit) o e) (record { limit = most; tokens = was.tokens; digests = was.digests; workspaces = was.workspaces })
+
+pub org_limit_keeps : (answer : AdminAnswer) (old new : Rows) (org : List ℕ) (limit : ℕ) → limit ≤ 100_000 → AreLawful (λ q. get old q)
+    → effect answer (get new org) ≡ org_limited limit (get old org) → ((q : List ℕ) → q ≢ org → get new q ≡ get old q) → AreLawful (λ q. get new q)
+org_limit_keeps answer old new org limit most lawful own others =
+    kept_by (λ q. get old q) (λ q. get new q) org lawful others
+    (λ o e. limited_is_lawful limit (get old org) most (lawful org) o (sym (ap (λ x. x.left) own) ∙ e))
+
 -- no entry has a digest that isn't found
 no_digest : (digest : List ℕ) (es : List (List ℕ × Token)) (q : List ℕ) (t : Token) → is_some (token_with digest es) ≡ false → find name_cmp q es ≡ Some t → bytes_eq t.digest digest ≡ false
 no_digest digest [] q t none e = absurd (let no_one : ⊥ = cc in no_one)
@@ -196,6 +209,39 @@ token_add_keeps (Ok answer) old new org name token named long lawful own others 
     kept_by (λ q. get old q) (λ q. get new q) org lawful others
     (λ o e. with_token_is_lawful name token (get old org) named long (lawful org) o (sym (ap (λ x. x.left) own) ∙ e))
 token_add_keeps (Err fault) old new org name token named long lawful own others err = subst (λ (m : Rows). AreLawful (λ q. get m q)) (sym err) lawful
+
+-- a token that stays is the same token
+token_stays : (o : Organization) (name q : List ℕ) (t : Token) → get (remove o.tokens name) q ≡ Some t → (b : Bool) → bytes_eq q name ≡ b → get o.tokens q ≡ Some t
+token_stays o name q t e true same =
+    let is : get (remove o.tokens name) name ≡ Some t = subst (λ (p : List ℕ). get (remove o.tokens name) p ≡ Some t) ((bytes_eq-Decides q name).0 same) e in
+    absurd (let none : ⊥ = cc (sym (removed_own o.tokens name) ∙ is) in none)
+token_stays o name q t e false same = sym (removed_other o.tokens name q (apart_from q name same)) ∙ e
+
+stays : (o : Organization) (name q : List ℕ) (t : Token) → get (remove o.tokens name) q ≡ Some t → get o.tokens q ≡ Some t
+stays o name q t e = token_stays o name q t e (bytes_eq q name) refl
+
+less_is_lawful : (o : Organization) (name : List ℕ) → IsLawfulOrganization o → IsLawfulOrganization (without_token o name)
+less_is_lawful o name lawful = record {
+  limit = lawful.limit;
+  tokens = λ q t e. lawful.tokens q t (stays o name q t e);
+  digests = λ q p t u e f d. lawful.digests q p t u (stays o name q t e) (stays o name p u f) d;
+  workspaces = lawful.workspaces;
+}
+
+without_token_is_lawful : (name : List ℕ) (r : Option Organization) → ((o : Organization) → r ≡ Some o → IsLawfulOrganization o)
+    → (o : Organization) → (token_revoked name r).left ≡ Some o → IsLawfulOrganization o
+without_token_is_lawful name None lawful o e = absurd (let none : ⊥ = cc in none)
+without_token_is_lawful name (Some p) lawful o e = chosen (is_some (get p.tokens name)) e
+  where
+    chosen : (b : Bool) → (cond b (effect Done (Some (without_token p name))) (effect Absent (Some p))).left ≡ Some o → IsLawfulOrganization o
+    chosen true is = subst IsLawfulOrganization (one_of (without_token p name) o is) (less_is_lawful p name (lawful p refl))
+    chosen false is = lawful o is
+
+pub token_revoke_keeps : (answer : AdminAnswer) (old new : Rows) (org name : List ℕ) → AreLawful (λ q. get old q)
+    → effect answer (get new org) ≡ token_revoked name (get old org) → ((q : List ℕ) → q ≢ org → get new q ≡ get old q) → AreLawful (λ q. get new q)
+token_revoke_keeps answer old new org name lawful own others =
+    kept_by (λ q. get old q) (λ q. get new q) org lawful others
+    (λ o e. without_token_is_lawful name (get old org) (lawful org) o (sym (ap (λ x. x.left) own) ∙ e))
 
 -- a store with no organization
 pub none_are_lawful : (m : Rows) → m ≡ empty → AreLawful (λ q. get m q)

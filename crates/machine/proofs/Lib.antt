@@ -1,6 +1,7 @@
 pub mod StepLemmas
 pub mod RunLemmas
 pub mod RunRulings
+pub mod DeletionLemmas
 pub mod RunLawLemmas
 pub mod RuleLemmas
 pub mod SettlingLemmas
@@ -16,3 +17,4 @@ pub mod RefusalLemmas
 pub mod VersionLemmas
 pub mod KeepLemmas
 pub mod QueueLemmas
+pub mod PageLemmas

@@ -1,14 +1,14 @@
 -- Entries that rise by their names: where a scan stops is where the name stands, or where it would go.
-use Rattle.std.proofs.Common.{◌≡◌, ◌≢◌, ℕ, zero, suc, ◌+◌, ◌<◌, ◌≤◌, List, [], ◌∷◌, ◌++◌, T, IsTrue, Bool, true, false, map, length, take, drop, get_or, set, cond, is_some, Option, Some, None, refl, sym, ap, subst, ◌∙◌, arith}
+use Rattle.std.proofs.Common.{◌≡◌, ◌≢◌, ℕ, zero, suc, ◌+◌, ◌<◌, ◌≤◌, List, [], ◌∷◌, ◌++◌, T, IsTrue, Bool, true, false, not, ◌&&◌, map, length, take, drop, get_or, set, cond, is_some, Option, Some, None, refl, sym, ap, subst, ◌∙◌, arith}
 use Rattle.std.specs.Bool.{⊤}
-use Rattle.std.specs.List.{insert}
-use Rattle.std.specs.Ordering.{eq_by_cmp, is_eq}
-use Rattle.std.specs.Cmp.{IsTotalOrder, tied_itself}
+use Rattle.std.specs.List.{insert, remove as list_remove}
+use Rattle.std.specs.Ordering.{eq_by_cmp, is_eq, is_lt}
+use Rattle.std.specs.Cmp.{IsTotalOrder, tied_itself, eq_by_cmp_equiv}
 use Rattle.std.specs.Cmp.Lexicographic.{nat_list_cmp_total}
 use Rattle.std.specs.declared.cmp.Ordering.{Ordering}
 use Rattle.std.specs.declared.cmp.Ordering.TheVariants.{Less, Equal, Greater}
-use Rattle.std.specs.FinMap.{FinMap, IsAntisymmetric, nat_cmp-IsAntisymmetric, slice_cmp-IsAntisymmetric, find, put, is_sorted, entries, from_sorted, empty, get, insert as map_insert, entries-from_sorted, entries-insert, get-entries, same_entries_map, empty_of_len, len-entries, remove, get-insert, get-remove, same_map}
-use Rattle.std.specs.FinMap.Entries.{length-put, is_sorted-put}
+use Rattle.std.specs.FinMap.{FinMap, entries_sorted, IsAntisymmetric, nat_cmp-IsAntisymmetric, slice_cmp-IsAntisymmetric, find, put, is_sorted, entries, from_sorted, empty, get, insert as map_insert, entries-from_sorted, entries-insert, get-entries, same_entries_map, empty_of_len, len-entries, remove, get-insert, get-remove, same_map}
+use Rattle.std.specs.FinMap.Entries.{length-put, is_sorted-put, is_sorted-where_key, find-where_key, where_key, below_all}
 use Rattle.std.proofs.lemmas.List.{drop_more, take-append-drop, set_split, map-set, length-map, get_or_default, take_all, take_more}
 use Rattle.std.proofs.lemmas.List.Edits.{length-insert, insert_end}
 use Rattle.machine.specs.Order.{name_cmp}
@@ -102,11 +102,14 @@ same_from_tied Less h = absurd h
 same_from_tied Equal h = refl
 same_from_tied Greater h = absurd h
 
-not_tied : (o k : List ℕ) → o ≢ k → eq_by_cmp name_cmp o k ≡ false
+pub not_tied : (o k : List ℕ) → o ≢ k → eq_by_cmp name_cmp o k ≡ false
 not_tied o k apart = elim (eq_by_cmp name_cmp o k) as (λ b. eq_by_cmp name_cmp o k ≡ b → b ≡ false) [
   | true ↦ λ e. absurd (apart (names_same o k (same_from_tied _ (subst T (sym e) tt))))
   | false ↦ λ e. refl
 ] refl
+
+pub tied_names : (o k : List ℕ) → eq_by_cmp name_cmp o k ≡ true → o ≡ k
+tied_names o k tied = names_same o k (same_from_tied _ (subst T (sym tied) tt))
 
 -- the value that was put at a name is there, and all others are as before
 pub get_own : {X : Type 0} (m : FinMap name_cmp X) (name : List ℕ) (v : X) → get (map_insert m name v) name ≡ Some v
@@ -121,6 +124,57 @@ removed_own m name = get-remove names_total m name name ∙ ap (λ (o : Ordering
 
 pub removed_other : {X : Type 0} (m : FinMap name_cmp X) (name o : List ℕ) → o ≢ name → get (remove m name) o ≡ get m o
 removed_other m name o apart = get-remove names_total m name o ∙ ap (λ b. cond b None (get m o)) (not_tied o name apart)
+
+pub both_first : (a b : Bool) → T (a && b) → T a
+both_first true b h = tt
+both_first false b h = absurd h
+
+pub both_second : (a b : Bool) → T (a && b) → T b
+both_second true b h = h
+both_second false b h = absurd h
+
+less_from : (o : Ordering) → T (is_lt o) → o ≡ Less
+less_from Less h = refl
+less_from Equal h = absurd h
+less_from Greater h = absurd h
+
+-- a name that is below another is not that one
+pub below_apart : (a b : List ℕ) → T (is_lt (name_cmp a b)) → b ≢ a
+below_apart a b below same = subst (λ (o : Ordering). T (is_lt o)) (tied_itself names_total a) (subst (λ k. T (is_lt (name_cmp a k))) same below)
+
+-- what stays when a name is taken away
+abbrev is_other : List ℕ → List ℕ → Bool
+is_other name x = not (eq_by_cmp name_cmp name x)
+
+module _ {X : Type 0} (name : List ℕ) where
+  others_stay : (es : List (List ℕ × X)) → T (below_all name_cmp name es) → where_key name_cmp (is_other name) es ≡ es
+  others_stay [] below = refl
+  others_stay (e ∷ es) below = rw (less_from (name_cmp name e.0) (both_first (is_lt (name_cmp name e.0)) (below_all name_cmp name es) below)) (ap (λ rest. e ∷ rest) (others_stay es (both_second _ _ below)))
+
+  below_each : (k : List ℕ) (es : List (List ℕ × X)) (i : ℕ) (d : List ℕ × X) → i < length es → T (below_all name_cmp k es) → T (is_lt (name_cmp k (get_or es i d).0))
+  below_each k [] i d within below = absurd (omega arith)
+  below_each k (e ∷ es) zero d within below = both_first _ _ below
+  below_each k (e ∷ es) (suc i) d within below = below_each k es i d (omega arith) (both_second _ _ below)
+
+  -- to take the name away is to take away the entry at its place
+  one_goes : (es : List (List ℕ × X)) (i : ℕ) (d : List ℕ × X) → i < length es → T (is_sorted name_cmp es) → (get_or es i d).0 ≡ name → list_remove es i ≡ where_key name_cmp (is_other name) es
+  one_goes [] i d within sorted is = absurd (omega arith)
+  one_goes (e ∷ es) zero d within sorted is =
+      rw (ap (name_cmp name) is ∙ tied_itself names_total name) (sym (others_stay es (subst (λ k. T (below_all name_cmp k es)) is (both_first _ _ sorted))))
+  one_goes (e ∷ es) (suc i) d within sorted is =
+      rw (not_tied name e.0 (below_apart e.0 name (subst (λ k. T (is_lt (name_cmp e.0 k))) is (below_each e.0 es i d (omega arith) (both_first _ _ sorted)))))
+      (ap (λ rest. e ∷ rest) (one_goes es i d (omega arith) (both_second _ _ sorted) is))
+
+turned : {Y : Type 0} (b : Bool) (x y : Y) → cond (not b) x y ≡ cond b y x
+turned true x y = refl
+turned false x y = refl
+
+-- a map whose entries are those of other names is the one without the name
+without_is : {X : Type 0} (m n : FinMap name_cmp X) (name : List ℕ) → entries n ≡ where_key name_cmp (is_other name) (entries m) → n ≡ remove m name
+without_is m n name is = same_map names_total names_same n (remove m name) (λ q.
+    get-entries n q ∙ ap (find name_cmp q) is ∙ find-where_key name_cmp (is_other name) q (λ x e. ap (is_other name) (sym (names_same q x e))) (entries m)
+    ∙ turned (eq_by_cmp name_cmp name q) _ _ ∙ ap (λ b. cond b None (find name_cmp q (entries m))) ((eq_by_cmp_equiv names_total).symm name q)
+    ∙ ap (λ (o : Option _). cond (eq_by_cmp name_cmp q name) None o) (sym (get-entries m q)) ∙ sym (get-remove names_total m name q))
 
 -- rows of another type, each of which is an entry
 module _ {E X : Type 0} (entry : E → List ℕ × X) where
@@ -151,6 +205,12 @@ module _ {E X : Type 0} (entry : E → List ℕ × X) where
   entries_inserted rows zero row = refl
   entries_inserted [] (suc i) row = refl
   entries_inserted (r ∷ rows) (suc i) row = ap (λ es. entry r ∷ es) (entries_inserted rows i row)
+
+  entries_removed : (rows : List E) (i : ℕ) → map entry (list_remove rows i) ≡ list_remove (map entry rows) i
+  entries_removed [] zero = refl
+  entries_removed (r ∷ rows) zero = refl
+  entries_removed [] (suc i) = refl
+  entries_removed (r ∷ rows) (suc i) = ap (λ es. entry r ∷ es) (entries_removed rows i)
 
   -- a row put into the gap for its name
   pub rows_inserted : (rows : List E) (i : ℕ) (row : E) (name : List ℕ) → IsGapFor name (map entry rows) i → (entry row).0 ≡ name → map entry (insert rows i row) ≡ put name_cmp name (entry row).1 (map entry rows)
@@ -218,6 +278,17 @@ module _ {E X : Type 0} (entry : E → List ℕ × X) where
     inserted_at name i row at same =
         let put = rows_put rows (insert rows i row) name (entry row).1 sorted (rows_inserted rows i row name (rw entries_seen at at) same) in
         record { sorted = put.sorted; inserted = put.inserted ∙ ap (λ n. map_insert n name (entry row).1) seen }
+
+    -- the row at the place of a name goes
+    module _ (name : List ℕ) (i : ℕ) (at : IsAt name (entries m) i) (old : E) where
+      gone : map entry (list_remove rows i) ≡ where_key name_cmp (is_other name) (entries m)
+      gone = entries_removed rows i ∙ ap (λ es. list_remove es i) (sym entries_seen) ∙ one_goes name (entries m) i (entry old) at.within (entries_sorted m) (at.named (entry old))
+
+      pub removed_in_order : IsTrue (is_sorted name_cmp (map entry (list_remove rows i)))
+      removed_in_order = is_true _ (subst (λ es. T (is_sorted name_cmp es)) (sym gone) (is_sorted-where_key name_cmp (is_other name) (entries m) (entries_sorted m)))
+
+      pub removed_at : from_sorted {R = name_cmp} (map entry (list_remove rows i)) ≡ remove m name
+      removed_at = without_is m _ name (entries_of_rows (list_remove rows i) removed_in_order ∙ gone)
 
 -- to take away what isn't there changes nothing
 pub remove_absent : {X : Type 0} (m : FinMap name_cmp X) (name : List ℕ) → get m name ≡ None → remove m name ≡ m

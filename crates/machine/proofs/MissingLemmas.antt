@@ -6,7 +6,7 @@ use Rattle.machine.specs.Effects.{effect}
 use Rattle.machine.specs.Rules.{refused, rules_missing}
 use Rattle.machine.specs.Inner.Decisions.{decision_missing}
 use Rattle.machine.specs.declared.acts.Act.{Act}
-use Rattle.machine.specs.declared.acts.Act.TheVariants.{PutWorkspace, ReadWorkspace, UpdateState, ReadState, PurgeState, Lock as LockAct, Unlock, ForceUnlock, MakeRun, ReadRun, ReportRun}
+use Rattle.machine.specs.declared.acts.Act.TheVariants.{PutWorkspace, ReadWorkspace, DeleteWorkspace, UpdateState, ReadState, PurgeState, Lock as LockAct, Unlock, ForceUnlock, ListVersions, ReadVersion, ListRuns, MakeRun, ReadRun, ReportRun}
 use Rattle.machine.specs.declared.acts.Decision.TheVariants.{Refused}
 
 abbrev pub Misses : Act → Type 0
@@ -24,6 +24,10 @@ put_or_missed (PurgeState id) = inr (λ room. (refl, refl))
 put_or_missed (LockAct id text) = inr (λ room. (refl, refl))
 put_or_missed (Unlock id) = inr (λ room. (refl, refl))
 put_or_missed ForceUnlock = inr (λ room. (refl, refl))
+put_or_missed DeleteWorkspace = inr (λ room. (refl, refl))
+put_or_missed (ListVersions after) = inr (λ room. (refl, refl))
+put_or_missed (ReadVersion n) = inr (λ room. (refl, refl))
+put_or_missed (ListRuns after) = inr (λ room. (refl, refl))
 put_or_missed (MakeRun ask) = inr (λ room. (refl, refl))
 put_or_missed (ReadRun n) = inr (λ room. (refl, refl))
 put_or_missed (ReportRun n action) = inr (λ room. (refl, refl))

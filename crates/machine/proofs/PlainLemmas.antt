@@ -1,16 +1,29 @@
--- The newest version is the last of the list, and a scan from the front finds the last of a number.
-use Rattle.std.proofs.Common.{◌≡◌, ℕ, zero, suc, ◌+◌, ◌-◌, ◌<◌, Bool, true, false, cond, eqb, ◌==◌, List, [], ◌∷◌, ◌++◌, length, take, get_or, slice_get, Option, Some, None, option_map, refl, sym, ap, ◌∙◌, arith}
+-- What the store in memory rests on: the newest version is the last of the list, a scan from the front finds the last of a number, and the entries of a map in their order are the list of all organizations.
+use Rattle.std.proofs.Common.{◌≡◌, ℕ, zero, suc, ◌+◌, ◌-◌, ◌<◌, Bool, true, false, cond, eqb, ◌==◌, List, [], ◌∷◌, ◌++◌, length, take, get_or, slice_get, Option, Some, None, option_map, is_some, map, T, ◌||◌, IsSomeAnd, refl, sym, ap, subst, ◌∙◌, arith}
 use Rattle.std.specs.Option.{option_or}
+use Rattle.std.specs.List.{AllByRecursion, list_any}
+use Rattle.std.specs.Str.{bytes_eq}
+use Rattle.std.specs.Ordering.{is_lt, eq_by_cmp}
+use Rattle.std.specs.Cmp.{tied_itself}
 use Rattle.std.proofs.lemmas.List.{take_more}
+use Rattle.std.proofs.lemmas.Slice.Eq.{bytes_eq-Decides}
 use Rattle.machine.specs.Workspaces.{newest}
 use Rattle.machine.specs.Units.{find_last, version_of}
 use Rattle.machine.specs.Records.{with_workspace, placed}
 use Rattle.machine.specs.Order.{name_cmp}
-use Rattle.std.specs.FinMap.{FinMap, get, insert}
+use Rattle.std.specs.FinMap.{FinMap, get, insert, remove, entries, entries_sorted, get-entries}
+use Rattle.std.specs.FinMap.Entries.{find, is_sorted, below_all}
 use Rattle.machine.specs.declared.acts.Change.{Change}
 use Rattle.machine.specs.declared.records.Workspace.{Workspace}
 use Rattle.machine.specs.declared.records.Organization.{Organization}
-use Rattle.machine.proofs.MapLemmas.{remove_absent}
+use Rattle.machine.specs.declared.records.Token.{Token}
+use Rattle.machine.specs.declared.keeps.AdminAnswer.TheVariants.{Done, Absent}
+use Rattle.machine.specs.declared.keeps.OrgRow.{OrgRow}
+use Rattle.machine.specs.Effects.{effect}
+use Rattle.machine.specs.Records.{count_of}
+use Rattle.machine.specs.Inner.Places.{org_row}
+use Rattle.machine.specs.Tokens.{token_revoked, without_token, is_row_of, Ascend, Tells, AreOrganizations}
+use Rattle.machine.proofs.MapLemmas.{remove_absent, names_total, tied_names, below_apart, not_tied, both_first, both_second, is_true}
 use Rattle.machine.specs.declared.records.Version.{Version}
 use Rattle.machine.specs.Changes.{changed_by}
 
@@ -50,3 +63,80 @@ absent_kept m name change none makes = rw (← none, makes) (sym (remove_absent 
 pub organization_changed : (m : FinMap name_cmp Organization) (org ws : List ℕ) (change : Change) (old : Organization) (new : FinMap name_cmp Workspace) → Some old ≡ get m org → new ≡ with_workspace old.workspaces ws (changed_by change (get old.workspaces ws))
     → Some (record old { workspaces = new }) ≡ option_map (λ (o : Organization). placed o ws (changed_by change (get o.workspaces ws))) (get m org)
 organization_changed m org ws change old new was is = rw (← was) (ap (λ w. Some (record old { workspaces = w })) is)
+
+-- of an organization that has no token of the name, none is taken away
+none_from : {X : Type 0} (o : Option X) → is_some o ≡ false → o ≡ None
+none_from None e = refl
+none_from (Some x) e = absurd (subst T e tt)
+
+pub revoke_missed : (o : Organization) (name : List ℕ) (after : FinMap name_cmp Token) → after ≡ remove o.tokens name → is_some (get o.tokens name) ≡ false
+    → effect Absent (Some (record o { tokens = after })) ≡ token_revoked name (Some o)
+revoke_missed o name after made missed =
+    ap (λ (m : FinMap name_cmp Token). effect Absent (Some (record o { tokens = m }))) (made ∙ remove_absent o.tokens name (none_from (get o.tokens name) missed))
+    ∙ ap (λ b. cond b (effect Done (Some (without_token o name))) (effect Absent (Some o))) (sym missed)
+
+-- the organizations of a map, a row for each
+abbrev pub row_at : List ℕ × Organization → OrgRow
+row_at e = org_row e.0 e.1
+
+abbrev Entries : Type 0
+Entries = List (List ℕ × Organization)
+
+rows_above : (name : List ℕ) (es : Entries) → T (below_all name_cmp name es) → AllByRecursion (λ (later : OrgRow). is_lt (name_cmp name later.name) ≡ true) (map row_at es)
+rows_above name [] below = tt
+rows_above name (e ∷ es) below = (is_true _ (both_first _ _ below), rows_above name es (both_second _ _ below))
+
+rows_ascend : (es : Entries) → T (is_sorted name_cmp es) → Ascend (map row_at es)
+rows_ascend [] sorted = tt
+rows_ascend (e ∷ es) sorted = (rows_above e.0 es (both_first _ _ sorted), rows_ascend es (both_second _ _ sorted))
+
+-- each entry is found by its name
+abbrev AreFoundIn : Entries → Entries → Type 0
+AreFoundIn es fs = AllByRecursion (λ (f : List ℕ × Organization). find name_cmp f.0 es ≡ Some f.1) fs
+
+found_later : (e : List ℕ × Organization) (es fs : Entries) → T (below_all name_cmp e.0 fs) → AreFoundIn es fs → AreFoundIn (e ∷ es) fs
+found_later e es [] below found = tt
+found_later e es (f ∷ fs) below found =
+    (ap (λ b. cond b (Some e.1) (find name_cmp f.0 es)) (not_tied f.0 e.0 (below_apart e.0 f.0 (both_first _ _ below))) ∙ found.0, found_later e es fs (both_second _ _ below) found.1)
+
+all_found : (es : Entries) → T (is_sorted name_cmp es) → AreFoundIn es es
+all_found [] sorted = tt
+all_found (e ∷ es) sorted =
+    (rw (tied_itself names_total e.0) refl, found_later e es es (both_first _ _ sorted) (all_found es (both_second _ _ sorted)))
+
+rows_told : (m : FinMap name_cmp Organization) (fs : Entries) → AreFoundIn (entries m) fs → AllByRecursion (Tells (λ o. get m o)) (map row_at fs)
+rows_told m [] found = tt
+rows_told m (f ∷ fs) found =
+    (subst (λ (r : Option Organization). IsSomeAnd r (λ (o : Organization). (count_of f.1 ≡ count_of o) × (f.1.limit ≡ o.limit))) (sym (get-entries m f.0 ∙ found.0)) (refl, refl), rows_told m fs found.1)
+
+or_true : (b : Bool) → (b || true) ≡ true
+or_true true = refl
+or_true false = refl
+
+-- what is found has its row
+row_found : (org : List ℕ) (o : Organization) (es : Entries) → find name_cmp org es ≡ Some o → list_any (is_row_of org) (map row_at es) ≡ true
+row_found org o [] e = absurd (let none : ⊥ = cc in none)
+row_found org o (x ∷ es) e = passed (eq_by_cmp name_cmp org x.0) refl e (row_found org o es)
+  where
+    passed : (b : Bool) → eq_by_cmp name_cmp org x.0 ≡ b → cond b (Some x.1) (find name_cmp org es) ≡ Some o → (find name_cmp org es ≡ Some o → list_any (is_row_of org) (map row_at es) ≡ true)
+        → (bytes_eq x.0 org || list_any (is_row_of org) (map row_at es)) ≡ true
+    passed true tied is more = ap (λ b. b || list_any (is_row_of org) (map row_at es)) ((bytes_eq-Decides x.0 org).1 (sym (tied_names org x.0 tied)))
+    passed false tied is more = ap (λ b. bytes_eq x.0 org || b) (more is) ∙ or_true (bytes_eq x.0 org)
+
+-- rows of another type, each of which is an entry
+rows_through : {E : Type 0} (name : E → List ℕ) (value : E → Organization) (es : List E) → map (λ e. org_row (name e) (value e)) es ≡ map row_at (map (λ e. (name e, value e)) es)
+rows_through name value [] = refl
+rows_through name value (e ∷ es) = ap (λ rows. org_row (name e) (value e) ∷ rows) (rows_through name value es)
+
+module _ (m : FinMap name_cmp Organization) where
+  rows_are : (rows : List OrgRow) → rows ≡ map row_at (entries m) → AreOrganizations (λ o. get m o) rows
+  rows_are rows is = subst (AreOrganizations (λ o. get m o)) (sym is) (record {
+    ascend = rows_ascend (entries m) (entries_sorted m);
+    told = rows_told m (entries m) (all_found (entries m) (entries_sorted m));
+    whole = λ org o e. row_found org o (entries m) (sym (get-entries m org) ∙ e);
+  })
+
+  -- the list of all organizations
+  pub organizations_listed : {E : Type 0} (name : E → List ℕ) (value : E → Organization) (es : List E) (rows : List OrgRow) → map (λ e. (name e, value e)) es ≡ entries m → rows ≡ map (λ e. org_row (name e) (value e)) es
+      → AreOrganizations (λ o. get m o) rows
+  organizations_listed name value es rows same is = rows_are rows (is ∙ rows_through name value es ∙ ap (map row_at) same)

@@ -24,8 +24,9 @@ use Rattle.machine.specs.Rules.{refused, rules, with_version, with_settings, pur
 use Rattle.machine.specs.Custody.{IsRefusal}
 use Rattle.machine.specs.Queue.{is_active_run, OneRunIsActive, PlanOnlyRunsStayOut, Starts, WaitedOrIsNew, RunsStartInOrder, GoesOn, StaysThere, RunsStay, AreInRange, Leads, ActionsComeAgain, KeyedCreationsComeAgain}
 use Rattle.machine.specs.Inner.Decisions.{status_begun, begun_by}
+use Rattle.machine.proofs.DeletionLemmas.{delete_left}
 use Rattle.machine.specs.declared.acts.Act.{Act}
-use Rattle.machine.specs.declared.acts.Act.TheVariants.{PutWorkspace, ReadWorkspace, UpdateState, ReadState, PurgeState, Lock as LockAct, Unlock, ForceUnlock, MakeRun, ReadRun, ReportRun}
+use Rattle.machine.specs.declared.acts.Act.TheVariants.{PutWorkspace, ReadWorkspace, DeleteWorkspace, UpdateState, ReadState, PurgeState, Lock as LockAct, Unlock, ForceUnlock, ListVersions, ReadVersion, ListRuns, MakeRun, ReadRun, ReportRun}
 use Rattle.machine.specs.declared.records.Holder.{Holder}
 use Rattle.machine.specs.declared.records.Holder.TheVariants.{Nobody, Lock, Run as HoldingRun}
 use Rattle.machine.specs.declared.records.Run.{Run}
@@ -280,6 +281,10 @@ after_act ReadWorkspace now w v lawful e = unchanged w v e
 after_act (UpdateState head text id) now w v lawful e =
     update_after w v head text now (λ t. (rules (UpdateState head text id) t (there w)).left) lawful (update_becomes head text w (may_write w.holder (holder_status w.holder w.runs) id)) e
 after_act ReadState now w v lawful e = unchanged w v e
+after_act DeleteWorkspace now w v lawful e = unchanged w v (delete_left w v e)
+after_act (ListVersions after) now w v lawful e = unchanged w v e
+after_act (ReadVersion n) now w v lawful e = unchanged w v e
+after_act (ListRuns after) now w v lawful e = unchanged w v e
 after_act (PurgeState id) now w v lawful e = purge_after w v (rules (PurgeState id) now (there w)).left lawful (purge_becomes w (may_write w.holder (holder_status w.holder w.runs) id)) e
 after_act (LockAct id text) now w v lawful e = lock_after w v id text (rules (LockAct id text) now (there w)).left (lock_becomes id text w w.holder) e
 after_act (Unlock id) now w v lawful e = unlock_after w v (rules (Unlock id) now (there w)).left lawful (unlock_becomes id w w.holder) e

@@ -10,7 +10,8 @@ use Rattle.basis.specs.declared.rows.StateHead.{StateHead}
 use Rattle.machine.proofs.MissingLemmas.{IsPut, Misses, put_or_missed}
 use Rattle.basis.specs.declared.runs.RunStatus.{RunStatus}
 use Rattle.basis.specs.declared.runs.RunStatus.TheVariants.{Pending, Planning, Planned, Applying, Applied, PlannedAndFinished, Errored, Discarded, Canceled}
-use Rattle.machine.proofs.RunRulings.{comes_leaves, comes_held, comes_unlocked, make_comes, read_comes, report_comes}
+use Rattle.machine.proofs.RunRulings.{comes_leaves, comes_held, comes_unlocked, make_comes, read_comes, version_comes, report_comes}
+use Rattle.machine.proofs.DeletionLemmas.{delete_leaves, delete_tells, delete_unlocked}
 use Rattle.machine.specs.Effects.{effect}
 use Rattle.machine.specs.Records.{Seen, missing, there}
 use Rattle.machine.specs.Workspaces.{newest, holder_status}
@@ -19,7 +20,7 @@ use Rattle.machine.specs.Succession.{Succession, first, same, other_lineage, old
 use Rattle.machine.specs.Rules.{Outcome, refused, held, done, Ruling, rules, rules_missing, refused_by, by_may_write, by_succession, numbered_update, number_left, done_with, done_already, purge, lock, unlock, released, is_released, force_unlock, state_answer}
 use Rattle.machine.specs.Custody.{IsRefusal, IsWriter, RefusalsChangeNothing, RefusalsTellTheHolder, WritesCarryTheId}
 use Rattle.machine.specs.declared.acts.Act.{Act}
-use Rattle.machine.specs.declared.acts.Act.TheVariants.{PutWorkspace, ReadWorkspace, UpdateState, ReadState, PurgeState, Lock as LockAct, Unlock, ForceUnlock, MakeRun, ReadRun, ReportRun}
+use Rattle.machine.specs.declared.acts.Act.TheVariants.{PutWorkspace, ReadWorkspace, DeleteWorkspace, UpdateState, ReadState, PurgeState, Lock as LockAct, Unlock, ForceUnlock, ListVersions, ReadVersion, ListRuns, MakeRun, ReadRun, ReportRun}
 use Rattle.machine.specs.declared.records.Holder.{Holder}
 use Rattle.machine.specs.declared.records.Holder.TheVariants.{Nobody, Lock, Run}
 use Rattle.machine.specs.declared.records.Version.{Version}
@@ -145,6 +146,10 @@ refusals_change_nothing (PutWorkspace settings) now (there w) is = absurd is
 refusals_change_nothing (UpdateState head text id) now (there w) is = update_leaves w head text now (may_write w.holder (holder_status w.holder w.runs) id) is
 refusals_change_nothing ReadWorkspace now (there w) is = refl
 refusals_change_nothing ReadState now (there w) is = refl
+refusals_change_nothing DeleteWorkspace now (there w) is = delete_leaves w is
+refusals_change_nothing (ListVersions after) now (there w) is = refl
+refusals_change_nothing (ReadVersion n) now (there w) is = refl
+refusals_change_nothing (ListRuns after) now (there w) is = refl
 refusals_change_nothing (PurgeState id) now (there w) is = purge_leaves w (may_write w.holder (holder_status w.holder w.runs) id) is
 refusals_change_nothing (LockAct id text) now (there w) is = lock_leaves id text w w.holder is
 refusals_change_nothing (Unlock id) now (there w) is = unlock_leaves id w w.holder is
@@ -215,6 +220,10 @@ refusals_tell_the_holder (PurgeState id) now w holder e = purge_tells w (may_wri
 refusals_tell_the_holder (LockAct id text) now w holder e = lock_tells id text w w.holder holder e
 refusals_tell_the_holder (Unlock id) now w holder e = unlock_tells id w w.holder holder e
 refusals_tell_the_holder ForceUnlock now w holder e = force_tells w w.holder holder e
+refusals_tell_the_holder DeleteWorkspace now w holder e = delete_tells w holder e
+refusals_tell_the_holder (ListVersions after) now w holder e = absurd (let none : ⊥ = cc in none)
+refusals_tell_the_holder (ReadVersion n) now w holder e = absurd (comes_held (version_comes w n) holder e)
+refusals_tell_the_holder (ListRuns after) now w holder e = absurd (let none : ⊥ = cc in none)
 refusals_tell_the_holder (MakeRun ask) now w holder e = absurd (comes_held (make_comes w ask now) holder e)
 refusals_tell_the_holder (ReadRun n) now w holder e = absurd (comes_held (read_comes w n) holder e)
 refusals_tell_the_holder (ReportRun n action) now w holder e = absurd (comes_held (report_comes w n action) holder e)
@@ -265,6 +274,10 @@ writes_carry_the_id (PurgeState given) now w id writes e =
 writes_carry_the_id (LockAct asked t) now w id writes e = absurd writes
 writes_carry_the_id (Unlock asked) now w id writes e = absurd writes
 writes_carry_the_id ForceUnlock now w id writes e = absurd writes
+writes_carry_the_id DeleteWorkspace now w id writes e = absurd writes
+writes_carry_the_id (ListVersions after) now w id writes e = absurd writes
+writes_carry_the_id (ReadVersion n) now w id writes e = absurd writes
+writes_carry_the_id (ListRuns after) now w id writes e = absurd writes
 writes_carry_the_id (MakeRun ask) now w id writes e = absurd writes
 writes_carry_the_id (ReadRun n) now w id writes e = absurd writes
 writes_carry_the_id (ReportRun n action) now w id writes e = absurd writes
@@ -384,6 +397,10 @@ never_refused_as_locked (PurgeState id) now (there w) e = purge_other w (may_wri
 never_refused_as_locked (LockAct id text) now (there w) e = lock_other id text w w.holder e
 never_refused_as_locked (Unlock id) now (there w) e = unlock_other id w w.holder e
 never_refused_as_locked ForceUnlock now (there w) e = force_other w w.holder e
+never_refused_as_locked DeleteWorkspace now (there w) e = delete_unlocked w e
+never_refused_as_locked (ListVersions after) now (there w) e = cc
+never_refused_as_locked (ReadVersion n) now (there w) e = comes_unlocked (version_comes w n) e
+never_refused_as_locked (ListRuns after) now (there w) e = cc
 never_refused_as_locked (MakeRun ask) now (there w) e = comes_unlocked (make_comes w ask now) e
 never_refused_as_locked (ReadRun n) now (there w) e = comes_unlocked (read_comes w n) e
 never_refused_as_locked (ReportRun n action) now (there w) e = comes_unlocked (report_comes w n action) e

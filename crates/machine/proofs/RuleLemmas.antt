@@ -11,8 +11,9 @@ use Rattle.machine.specs.Rules.{Ruling, rules_missing, rules, with_settings}
 use Rattle.machine.proofs.MissingLemmas.{IsPut, Misses, put_or_missed}
 use Rattle.machine.proofs.LawLemmas.{still_is_lawful, purge_is_lawful, lock_is_lawful, unlock_is_lawful, force_is_lawful, update_is_lawful}
 use Rattle.machine.proofs.RunLawLemmas.{make_is_lawful, read_is_lawful, report_is_lawful}
+use Rattle.machine.proofs.DeletionLemmas.{delete_is_lawful}
 use Rattle.machine.specs.declared.acts.Act.{Act}
-use Rattle.machine.specs.declared.acts.Act.TheVariants.{PutWorkspace, ReadWorkspace, UpdateState, ReadState, PurgeState, Lock as LockAct, Unlock, ForceUnlock, MakeRun, ReadRun, ReportRun}
+use Rattle.machine.specs.declared.acts.Act.TheVariants.{PutWorkspace, ReadWorkspace, DeleteWorkspace, UpdateState, ReadState, PurgeState, Lock as LockAct, Unlock, ForceUnlock, ListVersions, ReadVersion, ListRuns, MakeRun, ReadRun, ReportRun}
 use Rattle.machine.specs.declared.records.Workspace.{Workspace}
 
 pub rules_are_lawful : (act : Act) (now : ℕ) (s : Seen) → IsInRange act → IsMoment now → IsLawfulIfThere (standing s) → IsLawfulIfThere (rules act now s).left
@@ -37,6 +38,10 @@ rules_are_lawful (PurgeState id) now (there w) range moment lawful = purge_is_la
 rules_are_lawful (LockAct id text) now (there w) range moment lawful = lock_is_lawful w.holder id text w refl range lawful
 rules_are_lawful (Unlock id) now (there w) range moment lawful = unlock_is_lawful w.holder id w refl lawful
 rules_are_lawful ForceUnlock now (there w) range moment lawful = force_is_lawful w.holder w refl lawful
+rules_are_lawful DeleteWorkspace now (there w) range moment lawful = delete_is_lawful w lawful
+rules_are_lawful (ListVersions after) now (there w) range moment lawful = lawful
+rules_are_lawful (ReadVersion n) now (there w) range moment lawful = lawful
+rules_are_lawful (ListRuns after) now (there w) range moment lawful = lawful
 rules_are_lawful (MakeRun ask) now (there w) range moment lawful = make_is_lawful w ask now range moment lawful
 rules_are_lawful (ReadRun n) now (there w) range moment lawful = read_is_lawful w n lawful
 rules_are_lawful (ReportRun n action) now (there w) range moment lawful = report_is_lawful w n action lawful

@@ -9,11 +9,13 @@ use Rattle.machine.specs.Custody.{IsRefusal}
 use Rattle.machine.specs.Workspaces.{max_open_runs, run_of, keyed_run, open_runs}
 use Rattle.machine.specs.RunSteps.{next_status, is_last}
 use Rattle.machine.specs.Settling.{first_waiting, to_start, started_if, settled}
-use Rattle.machine.specs.Rules.{Outcome, refused, held, the_run, Ruling, run_answer, told_with, told_already, new_run, with_run, numbered_run, number_left, make_run, reported, with_report, by_step, report}
+use Rattle.machine.specs.Rules.{Outcome, refused, held, the_run, Ruling, run_answer, told_with, told_already, new_run, with_run, numbered_run, number_left, make_run, reported, with_report, by_step, report, version_answer}
 use Rattle.machine.specs.Inner.Decisions.{begun_by}
 use Rattle.machine.proofs.RunLemmas.{run_of-map, run_of-started, some_run-push}
 use Rattle.machine.specs.declared.records.Holder.{Holder}
+use Rattle.machine.specs.Units.{version_of}
 use Rattle.machine.specs.declared.records.Run.{Run}
+use Rattle.machine.specs.declared.records.Version.{Version}
 use Rattle.machine.specs.declared.records.Workspace.{Workspace}
 
 -- nothing changes, and neither a holder is told nor that one holds
@@ -101,6 +103,17 @@ read_comes w n = by_run (run_of n w.runs)
     by_run : (o : Option Run) → Comes (effect (run_answer o) (Some w)) w IsNothing
     by_run None = inl (plainly_not_found w)
     by_run (Some r) = inl (plainly_told r w)
+
+-- a version is read by its number
+plainly_read : (v : Version) (w : Workspace) → IsPlain (effect (version_answer (Some v)) (Some w)) w
+plainly_read v w = record { left = refl; unheld = λ holder e. cc; unlocked = λ e. cc }
+
+pub version_comes : (w : Workspace) (n : ℕ) → Comes (effect (version_answer (version_of n w.versions)) (Some w)) w IsNothing
+version_comes w n = by_version (version_of n w.versions)
+  where
+    by_version : (o : Option Version) → Comes (effect (version_answer o) (Some w)) w IsNothing
+    by_version None = inl (plainly_not_found w)
+    by_version (Some v) = inl (plainly_read v w)
 
 -- a run takes an action
 pub record IsReported (w : Workspace) (n : ℕ) (action : RunAction) (v : Workspace) : Type 0 where

@@ -20,8 +20,9 @@ use Rattle.machine.proofs.CustodyLemmas.{newest_with, versions_stay, stays_by, l
 use Rattle.machine.proofs.LawLemmas.{number_left-is}
 use Rattle.machine.proofs.PlainLemmas.{find_last_push}
 use Rattle.machine.proofs.RefusalLemmas.{never_done}
+use Rattle.machine.proofs.DeletionLemmas.{delete_left}
 use Rattle.machine.specs.declared.acts.Act.{Act}
-use Rattle.machine.specs.declared.acts.Act.TheVariants.{PutWorkspace, ReadWorkspace, UpdateState, ReadState, PurgeState, Lock as LockAct, Unlock, ForceUnlock, MakeRun, ReadRun, ReportRun}
+use Rattle.machine.specs.declared.acts.Act.TheVariants.{PutWorkspace, ReadWorkspace, DeleteWorkspace, UpdateState, ReadState, PurgeState, Lock as LockAct, Unlock, ForceUnlock, ListVersions, ReadVersion, ListRuns, MakeRun, ReadRun, ReportRun}
 use Rattle.machine.specs.declared.records.Version.{Version}
 use Rattle.machine.specs.declared.records.Workspace.{Workspace}
 
@@ -186,6 +187,10 @@ numbers_rise (PutWorkspace settings) now w v e = settled_numbers w (with_setting
 numbers_rise (UpdateState head text id) now w v e = update_numbers w v head text now (may_write w.holder (holder_status w.holder w.runs) id) e
 numbers_rise ReadWorkspace now w v e = same_numbers w v e
 numbers_rise ReadState now w v e = same_numbers w v e
+numbers_rise DeleteWorkspace now w v e = same_numbers w v (delete_left w v e)
+numbers_rise (ListVersions after) now w v e = same_numbers w v e
+numbers_rise (ReadVersion n) now w v e = same_numbers w v e
+numbers_rise (ListRuns after) now w v e = same_numbers w v e
 numbers_rise (PurgeState id) now w v e = purge_numbers w v (rules (PurgeState id) now (there w)).left e (purge_becomes w (may_write w.holder (holder_status w.holder w.runs) id))
 numbers_rise (LockAct id text) now w v e = lock_numbers w v id text (rules (LockAct id text) now (there w)).left e (lock_becomes id text w w.holder)
 numbers_rise (Unlock id) now w v e = unlock_numbers w v (rules (Unlock id) now (there w)).left e (unlock_becomes id w w.holder)

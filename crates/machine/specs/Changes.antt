@@ -7,7 +7,7 @@ use Rattle.machine.specs.Records.{Seen, standing}
 use Rattle.machine.specs.Rules.{rules, with_settings, purged, locked, released, new_run, with_run, reported}
 use Rattle.machine.specs.declared.acts.Act.{Act}
 use Rattle.machine.specs.declared.acts.Edit.{Edit}
-use Rattle.machine.specs.declared.acts.Edit.TheVariants.{Make, Configure, AddVersion, Purge, Hold, Release, AddRun, Report}
+use Rattle.machine.specs.declared.acts.Edit.TheVariants.{Make, Configure, Remove, AddVersion, Purge, Hold, Release, AddRun, Report}
 use Rattle.machine.specs.declared.acts.Change.{Change}
 use Rattle.machine.specs.declared.records.Holder.TheVariants.{Nobody}
 use Rattle.machine.specs.declared.records.Workspace.{Workspace}
@@ -16,6 +16,7 @@ use Rattle.machine.specs.declared.records.Workspace.{Workspace}
 abbrev pub edited : Edit → Option Workspace → Option Workspace
 edited (Make settings) w = Some (new_workspace settings)
 edited (Configure settings) w = option_map (λ (v : Workspace). with_settings v settings) w
+edited Remove w = None
 edited (AddVersion version gone) w =
     option_map (λ (v : Workspace). record v { next_version = version.number + 1; versions = drop gone (v.versions ++ version ∷ []) }) w
 edited Purge w = option_map purged w

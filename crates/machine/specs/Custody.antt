@@ -1,20 +1,27 @@
 -- Custody, as laws of the rules: who writes, how long a lock holds, what becomes of versions, and that repeats change nothing.
-use Rattle.std.specs.Prelude.{◌≡◌, ◌≤◌, ◌⊎◌, ◌+◌, ℕ, List, Option, Some, None, IsSome, ⊤}
+use Rattle.std.specs.Prelude.{◌≡◌, ◌≤◌, ◌⊎◌, ◌+◌, ℕ, Bool, List, [], Option, Some, None, IsSome, ⊤}
 use Rattle.basis.specs.Names.{run_id}
 use Rattle.basis.specs.declared.rows.StateHead.{StateHead}
 use Rattle.basis.specs.declared.refusals.Refusal.{Refusal}
 use Rattle.basis.specs.declared.runs.RunStatus.{RunStatus}
 use Rattle.basis.specs.declared.runs.RunStatus.TheVariants.{Applying}
-use Rattle.machine.specs.Records.{Seen, there, standing}
-use Rattle.machine.specs.Rules.{Outcome, refused, held, done, no_state, state, workspace, the_run, rules}
+use Rattle.machine.specs.Records.{Seen, missing, there, standing}
+use Rattle.machine.specs.Rules.{Outcome, refused, held, done, no_state, state, workspace, the_run, versions, runs, rules}
 use Rattle.machine.specs.Units.{version_of}
-use Rattle.machine.specs.Workspaces.{newest, holder_status}
+use Rattle.machine.specs.Workspaces.{newest, holder_status, open_runs}
 use Rattle.machine.specs.declared.acts.Act.{Act}
-use Rattle.machine.specs.declared.acts.Act.TheVariants.{PutWorkspace, ReadWorkspace, UpdateState, ReadState, PurgeState, Lock as LockAct, Unlock, ForceUnlock, MakeRun, ReadRun, ReportRun}
+use Rattle.machine.specs.declared.acts.Act.TheVariants.{PutWorkspace, ReadWorkspace, DeleteWorkspace, UpdateState, ReadState, PurgeState, Lock as LockAct, Unlock, ForceUnlock, ListVersions, ReadVersion, ListRuns, MakeRun, ReadRun, ReportRun}
 use Rattle.machine.specs.declared.records.Holder.{Holder}
 use Rattle.machine.specs.declared.records.Holder.TheVariants.{Nobody, Lock, Run}
 use Rattle.machine.specs.declared.records.Version.{Version}
 use Rattle.machine.specs.declared.records.Workspace.{Workspace}
+
+-- a workspace at its beginning
+pub record IsAnew (w : Workspace) : Type 0 where
+  pub holder : w.holder ≡ Nobody
+  pub released : w.released ≡ None
+  pub versions_begin : (w.versions ≡ []) × (w.next_version ≡ 1)
+  pub runs_begin : (w.runs ≡ []) × (w.next_run ≡ 1)
 
 -- a refusal
 abbrev pub IsRefusal : Outcome → Type 0
@@ -25,6 +32,8 @@ IsRefusal no_state = ⊥
 IsRefusal (state text) = ⊥
 IsRefusal (workspace shown) = ⊥
 IsRefusal (the_run r) = ⊥
+IsRefusal (versions list) = ⊥
+IsRefusal (runs list) = ⊥
 
 -- a refusal leaves the workspace as it is
 abbrev pub RefusalsChangeNothing : Type 0
@@ -44,6 +53,10 @@ WritesWith (PurgeState given) id = given ≡ id
 WritesWith (LockAct asked text) id = ⊥
 WritesWith (Unlock asked) id = ⊥
 WritesWith ForceUnlock id = ⊥
+WritesWith DeleteWorkspace id = ⊥
+WritesWith (ListVersions after) id = ⊥
+WritesWith (ReadVersion n) id = ⊥
+WritesWith (ListRuns after) id = ⊥
 WritesWith (MakeRun ask) id = ⊥
 WritesWith (ReadRun n) id = ⊥
 WritesWith (ReportRun n action) id = ⊥
@@ -74,6 +87,10 @@ Releases (PurgeState id) own = ⊥
 Releases (LockAct id text) own = ⊥
 Releases (Unlock id) own = id ≡ own
 Releases ForceUnlock own = ⊤
+Releases DeleteWorkspace own = ⊥
+Releases (ListVersions after) own = ⊥
+Releases (ReadVersion n) own = ⊥
+Releases (ListRuns after) own = ⊥
 Releases (MakeRun ask) own = ⊥
 Releases (ReadRun n) own = ⊥
 Releases (ReportRun n action) own = ⊥
@@ -86,6 +103,20 @@ HoldsUntilReleased = (act : Act) (now : ℕ) (w v : Workspace) (own text : List 
 -- no act takes a workspace away that a lock holds
 abbrev pub LockedWorkspacesStay : Type 0
 LockedWorkspacesStay = (act : Act) (now : ℕ) (w : Workspace) (own text : List ℕ) → w.holder ≡ Lock own text → IsSome (rules act now (there w)).left
+
+-- a workspace goes by DELETE alone, where no lock holds and no run is open
+abbrev pub IsUnlocked : Holder → Type 0
+IsUnlocked Nobody = ⊤
+IsUnlocked (Lock id text) = ⊥
+IsUnlocked (Run n) = ⊤
+
+abbrev pub WorkspacesGoByDelete : Type 0
+WorkspacesGoByDelete = (act : Act) (now : ℕ) (w : Workspace) → (rules act now (there w)).left ≡ None
+    → (act ≡ DeleteWorkspace) × IsUnlocked w.holder × (open_runs w.runs ≡ 0)
+
+-- what is made where no workspace was, be it that one of its name was deleted, begins anew: with no version and no run, at number 1
+abbrev pub WorkspacesBeginAnew : Type 0
+WorkspacesBeginAnew = (act : Act) (now : ℕ) (room : Bool) (v : Workspace) → (rules act now (missing room)).left ≡ Some v → IsAnew v
 
 -- what is posted is what GET gives
 abbrev pub WhatIsPostedIsRead : Type 0
@@ -127,9 +158,18 @@ IsRepeatable (PurgeState id) = ⊤
 IsRepeatable (LockAct id text) = ⊤
 IsRepeatable (Unlock id) = ⊤
 IsRepeatable ForceUnlock = ⊤
+IsRepeatable DeleteWorkspace = ⊤
+IsRepeatable (ListVersions after) = ⊤
+IsRepeatable (ReadVersion n) = ⊤
+IsRepeatable (ListRuns after) = ⊤
 IsRepeatable (MakeRun ask) = IsSome ask.key
 IsRepeatable (ReadRun n) = ⊤
 IsRepeatable (ReportRun n action) = ⊤
+
+-- what was accepted and comes again, at whatever moment, to what it left, changes nothing more
+abbrev pub AcceptedActsComeAgain : Type 0
+AcceptedActsComeAgain = (act : Act) (now later : ℕ) (s t : Seen) → IsRepeatable act → (IsRefusal (rules act now s).answer → ⊥)
+    → standing t ≡ (rules act now s).left → (rules act later t).left ≡ standing t
 
 -- such an act, at whatever moment, on a workspace that is as the first left it
 abbrev pub RepeatsChangeNothing : Type 0

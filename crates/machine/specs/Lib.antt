@@ -8,11 +8,13 @@ pub mod Writing
 pub mod Succession
 pub mod Records
 pub mod Ranges
+pub mod Showing
 pub mod Rules
 pub mod Changes
 pub mod Units
 pub mod Tokens
 pub mod Keeping
+pub mod Pages
 pub mod Custody
 pub mod Queue
 pub mod Inner

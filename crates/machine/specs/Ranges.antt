@@ -4,7 +4,7 @@ use Rattle.basis.specs.Names.{is_free_id, has_length}
 use Rattle.basis.specs.declared.rows.RunAsk.{RunAsk}
 use Rattle.basis.specs.declared.rows.StateHead.{StateHead}
 use Rattle.machine.specs.declared.acts.Act.{Act}
-use Rattle.machine.specs.declared.acts.Act.TheVariants.{PutWorkspace, ReadWorkspace, UpdateState, ReadState, PurgeState, Lock as LockAct, Unlock, ForceUnlock, MakeRun, ReadRun, ReportRun}
+use Rattle.machine.specs.declared.acts.Act.TheVariants.{PutWorkspace, ReadWorkspace, DeleteWorkspace, UpdateState, ReadState, PurgeState, Lock as LockAct, Unlock, ForceUnlock, ListVersions, ReadVersion, ListRuns, MakeRun, ReadRun, ReportRun}
 
 -- what a state's head says is in range
 abbrev pub IsHead : StateHead → Type 0
@@ -28,6 +28,10 @@ IsInRange (PurgeState id) = ⊤
 IsInRange (LockAct id text) = IsTrue (is_free_id id)
 IsInRange (Unlock id) = ⊤
 IsInRange ForceUnlock = ⊤
+IsInRange DeleteWorkspace = ⊤
+IsInRange (ListVersions after) = ⊤
+IsInRange (ReadVersion n) = ⊤
+IsInRange (ListRuns after) = ⊤
 IsInRange (MakeRun ask) = IsRunAsk ask
 IsInRange (ReadRun n) = ⊤
 IsInRange (ReportRun n action) = ⊤

@@ -3,12 +3,13 @@ use Rattle.std.specs.Prelude.{ℕ, ◌+◌, Bool, true, false, not, ◌&&◌, na
 use Rattle.std.specs.Str.{bytes_eq}
 use Rattle.basis.specs.Numbers.{within}
 use Rattle.basis.specs.declared.refusals.Refusal.{Refusal}
-use Rattle.basis.specs.declared.refusals.Refusal.TheVariants.{NotFound, OtherLineage, OldSerial, OverLimit, WrongState, HeldByRun, Locked}
+use Rattle.basis.specs.declared.refusals.Refusal.TheVariants.{NotFound, OtherLineage, OldSerial, OverLimit, WrongState, HeldByRun, OpenRuns, Locked}
 use Rattle.basis.specs.declared.rows.Settings.{Settings}
 use Rattle.basis.specs.declared.rows.StateHead.{StateHead}
 use Rattle.basis.specs.declared.rows.RunAsk.{RunAsk}
-use Rattle.basis.specs.declared.rows.HolderId.{HolderId}
-use Rattle.basis.specs.declared.rows.HolderId.TheVariants.{Lock as LockHolder, Run as RunHolder}
+use Rattle.basis.specs.declared.rows.Listing.{Listing}
+use Rattle.basis.specs.declared.rows.RunRow.{RunRow}
+use Rattle.basis.specs.declared.rows.VersionRow.{VersionRow}
 use Rattle.basis.specs.Runs.{is_open}
 use Rattle.basis.specs.declared.runs.RunStatus.{RunStatus}
 use Rattle.basis.specs.declared.runs.RunStatus.TheVariants.{Pending, Planning}
@@ -17,12 +18,14 @@ use Rattle.machine.specs.Effects.{Effect, effect}
 use Rattle.machine.specs.Laws.{holds}
 use Rattle.machine.specs.RunSteps.{next_status, is_last}
 use Rattle.machine.specs.Records.{Seen, missing, there}
+use Rattle.machine.specs.Showing.{shown_of, versions_listed, runs_listed}
+use Rattle.machine.specs.Units.{version_of}
 use Rattle.machine.specs.Workspaces.{newest, last_of, max_versions, max_open_runs, new_workspace, holder_status, run_of, keyed_run, open_runs}
 use Rattle.machine.specs.Writing.{may_write}
 use Rattle.machine.specs.Settling.{settled}
 use Rattle.machine.specs.Succession.{Succession, first, same, other_lineage, old_serial, next, succession}
 use Rattle.machine.specs.declared.acts.Act.{Act}
-use Rattle.machine.specs.declared.acts.Act.TheVariants.{PutWorkspace, ReadWorkspace, UpdateState, ReadState, PurgeState, Lock as LockAct, Unlock, ForceUnlock, MakeRun, ReadRun, ReportRun}
+use Rattle.machine.specs.declared.acts.Act.TheVariants.{PutWorkspace, ReadWorkspace, DeleteWorkspace, UpdateState, ReadState, PurgeState, Lock as LockAct, Unlock, ForceUnlock, ListVersions, ReadVersion, ListRuns, MakeRun, ReadRun, ReportRun}
 use Rattle.machine.specs.declared.acts.Shown.{Shown}
 use Rattle.machine.specs.declared.records.Holder.{Holder}
 use Rattle.machine.specs.declared.records.Holder.TheVariants.{Nobody, Lock, Run as HoldingRun}
@@ -40,26 +43,20 @@ pub data Outcome : Type 0 where
   done : Outcome
   -- there is no state
   no_state : Outcome
-  -- the text of the newest state
+  -- the text of a version
   state : List ℕ → Outcome
   -- the workspace after the act
   workspace : Shown → Outcome
   -- the run after the act
   the_run : Run → Outcome
+  -- the list of versions
+  versions : Listing VersionRow → Outcome
+  -- the list of runs
+  runs : Listing RunRow → Outcome
 
 -- an answer, and the workspace after it, if there is one
 abbrev pub Ruling : Type 0
 Ruling = Effect Outcome (Option Workspace)
-
--- who holds, as it is shown
-abbrev pub holder_id : Holder → Option HolderId
-holder_id Nobody = None
-holder_id (Lock id text) = Some (LockHolder id)
-holder_id (HoldingRun n) = Some (RunHolder n)
-
--- a workspace as it is shown
-abbrev pub shown_of : Workspace → Shown
-shown_of w = record { auto_apply = w.auto_apply; holder = holder_id w.holder; version = option_map (λ (v : Version). v.number) (newest w.versions) }
 
 -- the greatest number of a version or a run
 abbrev pub max_number : ℕ
@@ -128,6 +125,20 @@ purged w = record w { versions = [] }
 abbrev pub purge : Option Refusal → Workspace → Ruling
 purge (Some refusal) w = effect (refused_by refusal w.holder) (Some w)
 purge None w = done_with (purged w)
+
+-- the text of a version that is asked of by its number
+abbrev pub version_answer : Option Version → Outcome
+version_answer None = refused NotFound
+version_answer (Some v) = state v.text
+
+-- DELETE of a workspace: it goes, with its versions and runs, where no lock holds and no run is open
+abbrev pub delete_idle : ℕ → Workspace → Ruling
+delete_idle busy w = cond (nat_lt 0 busy) (effect (refused OpenRuns) (Some w)) (effect done None)
+
+abbrev pub delete : Holder → Workspace → Ruling
+delete Nobody w = delete_idle (open_runs w.runs) w
+delete (Lock id text) w = effect (refused_by Locked w.holder) (Some w)
+delete (HoldingRun n) w = delete_idle (open_runs w.runs) w
 
 -- the lock of an ID holds; its text is what took it
 abbrev pub locked : List ℕ → List ℕ → Workspace → Workspace
@@ -227,6 +238,10 @@ rules_there (PurgeState id) now w = purge (may_write w.holder (holder_status w.h
 rules_there (LockAct id text) now w = lock w.holder id text w
 rules_there (Unlock id) now w = unlock w.holder id w
 rules_there ForceUnlock now w = force_unlock w.holder w
+rules_there DeleteWorkspace now w = delete w.holder w
+rules_there (ListVersions after) now w = effect (versions (versions_listed after w.versions)) (Some w)
+rules_there (ReadVersion n) now w = effect (version_answer (version_of n w.versions)) (Some w)
+rules_there (ListRuns after) now w = effect (runs (runs_listed after w.runs)) (Some w)
 rules_there (MakeRun ask) now w = make_run (keyed_run ask.key w.runs) w ask now
 rules_there (ReadRun n) now w = effect (run_answer (run_of n w.runs)) (Some w)
 rules_there (ReportRun n action) now w = report (run_of n w.runs) n action w

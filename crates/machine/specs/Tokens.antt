@@ -1,13 +1,18 @@
 -- Callers, and the operator's commands on one organization.
-use Rattle.std.specs.Prelude.{ℕ, Bool, cond, List, [], ◌∷◌, Option, Some, None, is_some, ◌||◌}
+use Rattle.std.specs.Prelude.{◌≡◌, ℕ, Bool, true, cond, List, [], ◌∷◌, Option, Some, None, IsSomeAnd, is_some, ◌||◌, ⊤}
+use Rattle.std.specs.List.{AllByRecursion, list_any}
+use Rattle.std.specs.Ordering.{is_lt}
 use Rattle.std.specs.Str.{bytes_eq}
-use Rattle.std.specs.FinMap.{empty, entries, get, insert}
+use Rattle.std.specs.FinMap.{empty, entries, get, insert, remove}
 use Rattle.basis.specs.declared.roles.Role.{Role}
 use Rattle.machine.specs.Effects.{Effect, effect}
+use Rattle.machine.specs.Order.{name_cmp}
+use Rattle.machine.specs.Records.{count_of}
 use Rattle.machine.specs.declared.records.Token.{Token}
 use Rattle.machine.specs.declared.records.Organization.{Organization}
 use Rattle.machine.specs.declared.keeps.AdminAnswer.{AdminAnswer}
-use Rattle.machine.specs.declared.keeps.AdminAnswer.TheVariants.{Done, Exists, Absent}
+use Rattle.machine.specs.declared.keeps.AdminAnswer.TheVariants.{Done, Exists, Absent, Organizations}
+use Rattle.machine.specs.declared.keeps.OrgRow.{OrgRow}
 
 -- the first entry with a digest
 abbrev pub token_with : List ℕ → List (List ℕ × Token) → Option Token
@@ -36,6 +41,14 @@ abbrev pub org_added : ℕ → Option Organization → Managed
 org_added limit None = effect Done (Some (new_organization limit))
 org_added limit (Some o) = effect Exists (Some o)
 
+-- setting the limit of an organization: what it has stays, also where that is more
+abbrev pub with_limit : Organization → ℕ → Organization
+with_limit o limit = record o { limit = limit }
+
+abbrev pub org_limited : ℕ → Option Organization → Managed
+org_limited limit None = effect Absent None
+org_limited limit (Some o) = effect Done (Some (with_limit o limit))
+
 abbrev pub token_of : List ℕ → Role → Token
 token_of digest role = record { digest = digest; role = role }
 
@@ -47,3 +60,33 @@ abbrev pub token_added : List ℕ → Token → Option Organization → Managed
 token_added name token None = effect Absent None
 token_added name token (Some o) =
     cond (is_some (get o.tokens name) || has_digest token.digest o) (effect Exists (Some o)) (effect Done (Some (with_token o name token)))
+
+-- taking a token away, by its name
+abbrev pub without_token : Organization → List ℕ → Organization
+without_token o name = record o { tokens = remove o.tokens name }
+
+abbrev pub token_revoked : List ℕ → Option Organization → Managed
+token_revoked name None = effect Absent None
+token_revoked name (Some o) = cond (is_some (get o.tokens name)) (effect Done (Some (without_token o name))) (effect Absent (Some o))
+
+-- the list of all organizations: exactly those that are there, in the order of their names' bytes, each with how many workspaces it has and its limit
+abbrev pub is_row_of : List ℕ → OrgRow → Bool
+is_row_of org row = bytes_eq row.name org
+
+abbrev pub Ascend : List OrgRow → Type 0
+Ascend [] = ⊤
+Ascend (row ∷ rows) = AllByRecursion (λ (later : OrgRow). is_lt (name_cmp row.name later.name) ≡ true) rows × Ascend rows
+
+abbrev pub Tells : (List ℕ → Option Organization) → OrgRow → Type 0
+Tells records row = IsSomeAnd (records row.name) (λ o. (row.workspaces ≡ count_of o) × (row.limit ≡ o.limit))
+
+pub record AreOrganizations (records : List ℕ → Option Organization) (rows : List OrgRow) : Type 0 where
+  pub ascend : Ascend rows
+  pub told : AllByRecursion (Tells records) rows
+  pub whole : (org : List ℕ) (o : Organization) → records org ≡ Some o → list_any (is_row_of org) rows ≡ true
+
+abbrev pub ListsOrganizations : (List ℕ → Option Organization) → AdminAnswer → Type 0
+ListsOrganizations records Done = ⊥
+ListsOrganizations records Exists = ⊥
+ListsOrganizations records Absent = ⊥
+ListsOrganizations records (Organizations rows) = AreOrganizations records rows

@@ -13,6 +13,8 @@ pub enum Act {
     PutWorkspace(Settings),
     /// The workspace as it is shown.
     ReadWorkspace,
+    /// The workspace goes, with its versions and runs.
+    DeleteWorkspace,
     /// Terraform's `POST` of a state, with the ID of the lock that the caller says it holds.
     UpdateState {
         head: StateHead,
@@ -34,6 +36,12 @@ pub enum Act {
     Unlock(LockId),
     /// `UNLOCK` of whatever lock holds.
     ForceUnlock,
+    /// The versions whose numbers come after this one, at most 50.
+    ListVersions(u64),
+    /// The text of the version of this number.
+    ReadVersion(Number),
+    /// The runs whose numbers come after this one, at most 50.
+    ListRuns(u64),
     /// Makes a run, or shows the one that has the key.
     MakeRun(RunAsk),
     /// A run as it is shown.
@@ -68,6 +76,8 @@ pub struct WorkspaceUnit {
     pub versions: usize,
     /// The first run that waits: queued, pending, and of the least number.
     pub first_waiting: Option<Number>,
+    /// Whether the version that is asked of is kept.
+    pub has_version: bool,
     /// The run that is asked of: by its number, or, where one is to be made, by its key.
     pub asked_run: Option<Run>,
     /// How many runs are open.
@@ -103,6 +113,10 @@ pub enum Answer {
     Workspace(Shown),
     /// The run after the act.
     Run(Run),
+    /// The list of the versions whose numbers come after this one.
+    Versions(u64),
+    /// The list of the runs whose numbers come after this one.
+    Runs(u64),
 }
 
 /// What an accepted act does to its workspace.
@@ -112,6 +126,8 @@ pub enum Edit {
     Make(Settings),
     /// Sets the settings of the workspace that is there.
     Configure(Settings),
+    /// The workspace goes, with its versions and runs.
+    Remove,
     /// Puts a version behind the others, and lets the oldest ones go, as many as `gone` says.
     AddVersion {
         version: Version,

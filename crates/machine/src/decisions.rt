@@ -4,11 +4,12 @@ ghost use Rattle.std.specs.Str.{bytes_eq};
 ghost use Rattle.machine.specs.Units.{unit_of};
 ghost use Rattle.machine.specs.Records.{seen_in};
 ghost use Rattle.machine.specs.Laws.{IsLawfulOrganization};
-ghost use Rattle.machine.specs.Inner.Decisions.{decision_of, decision_missing, decided_update, decided_after, decided_version, decided_read, decided_purge, decided_lock, decided_unlock, decided_force, decided_number_of_run, decided_make, decided_read_run, decided_step, decided_report, start_with, status_begun, begun_by, changing, start_now, holder_after, shown_now, shown_held, new_shown, Meets};
+ghost use Rattle.machine.specs.Inner.Decisions.{decision_of, decision_missing, decided_update, decided_after, decided_version, decided_read, decided_purge, decided_idle, decided_delete, decided_version_read, decided_lock, decided_unlock, decided_force, decided_number_of_run, decided_make, decided_read_run, decided_step, decided_report, start_with, status_begun, begun_by, changing, start_now, holder_after, shown_now, shown_held, new_shown, Meets};
 ghost use Rattle.machine.specs.Settling.{to_start};
 ghost use Rattle.machine.specs.Writing.{may_write, is_applying};
 ghost use Rattle.machine.specs.Succession.{lineages_differ};
-ghost use Rattle.machine.specs.Rules.{holder_id, is_released, number_left, new_run};
+ghost use Rattle.machine.specs.Showing.{holder_id};
+ghost use Rattle.machine.specs.Rules.{is_released, number_left, new_run};
 ghost use Rattle.machine.specs.Laws.{holds};
 ghost use Rattle.machine.specs.RunSteps.{is_last};
 ghost use Rattle.machine.specs.declared.records.Organization.{Organization as AnyOrganization};
@@ -84,7 +85,7 @@ fn lineages_differ(a: &Text, b: &Text) -> bool
     a.as_str().len() > 0 && b.as_str().len() > 0 && a.as_str() != b.as_str()
 }
 
-fn holder_id(holder: &Holder) -> Result<Option<HolderId>, Down>
+pub(crate) fn holder_id(holder: &Holder) -> Result<Option<HolderId>, Down>
     ensures { IfOk result (λ id. id ≡ holder_id holder.now) }
 {
     match holder {
@@ -266,6 +267,47 @@ fn decide_purge(unit: &WorkspaceUnit, id: &Option<LockId>) -> Decision
     match refused {
         Some(refusal) => Decision::Refused(refusal),
         None => accept(Answer::Done, Edit::Purge, start_now(unit)),
+    }
+}
+
+// The workspace goes where none of its runs is open.
+fn remove_idle(open_runs: usize) -> Decision
+    ensures { result ≡ decided_idle open_runs }
+{
+    if 0 < open_runs {
+        Decision::Refused(Refusal::OpenRuns)
+    } else {
+        accept(Answer::Done, Edit::Remove, None)
+    }
+}
+
+fn decide_delete(unit: &WorkspaceUnit) -> Decision
+    ensures { result ≡ decided_delete unit.now.holder unit.now.open_runs }
+{
+    match &unit.holder {
+        Holder::Nobody => remove_idle(unit.open_runs),
+        Holder::Lock { .. } => Decision::Refused(Refusal::Locked),
+        Holder::Run(_) => remove_idle(unit.open_runs),
+    }
+}
+
+// What is only told, and changes nothing.
+fn tell(answer: Answer) -> Decision
+    ensures { result ≡ Accepted answer None }
+{
+    Decision::Accepted {
+        answer,
+        change: None,
+    }
+}
+
+fn decide_read_version(has_version: bool, n: Number) -> Decision
+    ensures { result ≡ decided_version_read has_version n }
+{
+    if has_version {
+        tell(Answer::State(n))
+    } else {
+        Decision::Refused(Refusal::NotFound)
     }
 }
 
@@ -540,6 +582,7 @@ fn decide_present(unit: &WorkspaceUnit, act: &Act, now: Moment) -> Result<Decisi
     match act {
         Act::PutWorkspace(settings) => decide_put(unit, *settings),
         Act::ReadWorkspace => decide_show(unit),
+        Act::DeleteWorkspace => Ok(decide_delete(unit)),
         Act::UpdateState {
             head,
             text,
@@ -550,6 +593,9 @@ fn decide_present(unit: &WorkspaceUnit, act: &Act, now: Moment) -> Result<Decisi
         Act::Lock { id, text } => decide_lock(&unit.holder, id, text),
         Act::Unlock(id) => decide_unlock(unit, id),
         Act::ForceUnlock => decide_force(unit),
+        Act::ListVersions(after) => Ok(tell(Answer::Versions(*after))),
+        Act::ReadVersion(n) => Ok(decide_read_version(unit.has_version, *n)),
+        Act::ListRuns(after) => Ok(tell(Answer::Runs(*after))),
         Act::MakeRun(ask) => decide_make(unit, ask, now),
         Act::ReadRun(_) => decide_read_run(&unit.asked_run),
         Act::ReportRun(n, action) => decide_report(unit, *n, *action),
@@ -562,12 +608,16 @@ fn decide_missing(act: &Act, has_room: bool) -> Decision
     match act {
         Act::PutWorkspace(settings) => decide_making(*settings, has_room),
         Act::ReadWorkspace => Decision::Refused(Refusal::NotFound),
+        Act::DeleteWorkspace => Decision::Refused(Refusal::NotFound),
         Act::UpdateState { .. } => Decision::Refused(Refusal::NotFound),
         Act::ReadState => Decision::Refused(Refusal::NotFound),
         Act::PurgeState { .. } => Decision::Refused(Refusal::NotFound),
         Act::Lock { .. } => Decision::Refused(Refusal::NotFound),
         Act::Unlock(_) => Decision::Refused(Refusal::NotFound),
         Act::ForceUnlock => Decision::Refused(Refusal::NotFound),
+        Act::ListVersions(_) => Decision::Refused(Refusal::NotFound),
+        Act::ReadVersion(_) => Decision::Refused(Refusal::NotFound),
+        Act::ListRuns(_) => Decision::Refused(Refusal::NotFound),
         Act::MakeRun(_) => Decision::Refused(Refusal::NotFound),
         Act::ReadRun(_) => Decision::Refused(Refusal::NotFound),
         Act::ReportRun(_, _) => Decision::Refused(Refusal::NotFound),

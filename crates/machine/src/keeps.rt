@@ -1,27 +1,43 @@
 //! What keeps organizations: the interface of a store, and what an operator is answered.
-ghost use Rattle.std.specs.Prelude.{◌≡◌, ◌≢◌, ℕ, List, Option, Some, IfOk, OnOk, OnErr, option_map};
+ghost use Rattle.std.specs.Prelude.{◌≡◌, ◌≢◌, ℕ, List, Option, Some, IfOk, OnOk, OnErr, option_map, option_copied};
 ghost use Rattle.std.specs.FinMap.{get};
 ghost use Rattle.machine.specs.Effects.{effect};
 ghost use Rattle.machine.specs.Laws.{AreLawful};
 ghost use Rattle.machine.specs.Keeping.{Looks};
-ghost use Rattle.machine.specs.Tokens.{caller_of, org_added, token_added, token_of};
+ghost use Rattle.machine.specs.Showing.{workspaces_after, versions_after, runs_after};
+ghost use Rattle.machine.specs.Tokens.{caller_of, org_added, org_limited, token_added, token_revoked, token_of, ListsOrganizations};
 ghost use Rattle.machine.specs.Records.{workspace_in, seen_in, placed};
 ghost use Rattle.machine.specs.Changes.{changed_by, IsDue};
 ghost use Rattle.machine.specs.Units.{unit_of, text_of};
 ghost use Rattle.machine.specs.declared.records.Organization.{Organization as AnyOrganization};
 
 use crate::acts::{Act, Change, Unit};
-use basis::{Bytes, Down, Limit, Number, OrgName, Role, WsName};
+use basis::{
+    Bytes, Down, Items, Limit, Listing, Number, OrgName, Role, RunRow, Text, VersionRow, WsName,
+    WsRow,
+};
 use std::alloc::Global;
 
+/// An organization as an operator's list shows it.
+#[derive(Debug, Drop)]
+pub struct OrgRow {
+    pub name: Text,
+    /// How many workspaces it has.
+    pub workspaces: usize,
+    /// How many it may have.
+    pub limit: Limit,
+}
+
 /// What an operator's command is answered.
-#[derive(Clone, Copy, Debug, PartialEq, Eq)]
+#[derive(Debug, Drop)]
 pub enum AdminAnswer {
     Done,
     /// The organization, the token's name or its digest is there already.
     Exists,
-    /// The organization isn't there.
+    /// The organization, or its token, isn't there.
     Absent,
+    /// All organizations, in the order of their names' bytes.
+    Organizations(Items<OrgRow>),
 }
 
 /// What keeps organizations. It is seen as a map from the names of organizations to their records
@@ -69,6 +85,38 @@ pub trait Keep {
         ensures looks { Looks rows clean sound self.old self.new }
         ensures ok { clean self.new → sound self.old → IfOk result (λ text. text ≡ text_of n (workspace_in (rows self.old org.now) ws.now)) };
 
+    /// The organization's workspaces after a name, in the order of the names' bytes.
+    fn workspaces(
+        &mut self,
+        alloc: Global,
+        org: &OrgName,
+        after: Option<&WsName>,
+    ) -> Result<Listing<WsRow>, Down>
+        ensures looks { Looks rows clean sound self.old self.new }
+        ensures ok { clean self.new → sound self.old → IfOk result (λ list. list ≡ workspaces_after (option_copied after.entry) (rows self.old org.now)) };
+
+    /// The versions kept of a workspace whose numbers are greater than this one.
+    fn versions(
+        &mut self,
+        alloc: Global,
+        org: &OrgName,
+        ws: &WsName,
+        after: u64,
+    ) -> Result<Listing<VersionRow>, Down>
+        ensures looks { Looks rows clean sound self.old self.new }
+        ensures ok { clean self.new → sound self.old → IfOk result (λ list. list ≡ versions_after after (workspace_in (rows self.old org.now) ws.now)) };
+
+    /// The runs of a workspace whose numbers are greater than this one.
+    fn runs(
+        &mut self,
+        alloc: Global,
+        org: &OrgName,
+        ws: &WsName,
+        after: u64,
+    ) -> Result<Listing<RunRow>, Down>
+        ensures looks { Looks rows clean sound self.old self.new }
+        ensures ok { clean self.new → sound self.old → IfOk result (λ list. list ≡ runs_after after (workspace_in (rows self.old org.now) ws.now)) };
+
     /// Changes a workspace, in one transaction. The organization is there, and the change is due.
     fn apply(
         &mut self,
@@ -94,6 +142,19 @@ pub trait Keep {
         ensures others { clean self.new → sound self.old → (o : List ℕ) → o ≢ org.now → rows self.new o ≡ rows self.old o }
         ensures err { clean self.new → OnErr result ((o : List ℕ) → rows self.new o ≡ rows self.old o) };
 
+    /// Sets how many workspaces an organization may have. Those that it has stay, also where they are more.
+    fn org_limit(&mut self, alloc: Global, org: &OrgName, limit: Limit) -> Result<AdminAnswer, Down>
+        ensures so_far { clean self.new → clean self.old }
+        ensures kept { clean self.new → sound self.old → sound self.new }
+        ensures own { clean self.new → sound self.old → IfOk result (λ answer. effect answer (rows self.new org.now) ≡ org_limited limit (rows self.old org.now)) }
+        ensures others { clean self.new → sound self.old → (o : List ℕ) → o ≢ org.now → rows self.new o ≡ rows self.old o }
+        ensures err { clean self.new → OnErr result ((o : List ℕ) → rows self.new o ≡ rows self.old o) };
+
+    /// All organizations, in the order of their names' bytes.
+    fn org_list(&mut self, alloc: Global) -> Result<AdminAnswer, Down>
+        ensures looks { Looks rows clean sound self.old self.new }
+        ensures ok { clean self.new → sound self.old → IfOk result (ListsOrganizations (rows self.old)) };
+
     /// Adds a token to an organization.
     fn token_add(
         &mut self,
@@ -106,6 +167,19 @@ pub trait Keep {
         ensures so_far { clean self.new → clean self.old }
         ensures kept { clean self.new → sound self.old → sound self.new }
         ensures own { clean self.new → sound self.old → IfOk result (λ answer. effect answer (rows self.new org.now) ≡ token_added name.now (token_of digest.now role) (rows self.old org.now)) }
+        ensures others { clean self.new → sound self.old → (o : List ℕ) → o ≢ org.now → rows self.new o ≡ rows self.old o }
+        ensures err { clean self.new → OnErr result ((o : List ℕ) → rows self.new o ≡ rows self.old o) };
+
+    /// Takes a token away from an organization, by the token's name.
+    fn token_revoke(
+        &mut self,
+        alloc: Global,
+        org: &OrgName,
+        name: &OrgName,
+    ) -> Result<AdminAnswer, Down>
+        ensures so_far { clean self.new → clean self.old }
+        ensures kept { clean self.new → sound self.old → sound self.new }
+        ensures own { clean self.new → sound self.old → IfOk result (λ answer. effect answer (rows self.new org.now) ≡ token_revoked name.now (rows self.old org.now)) }
         ensures others { clean self.new → sound self.old → (o : List ℕ) → o ≢ org.now → rows self.new o ≡ rows self.old o }
         ensures err { clean self.new → OnErr result ((o : List ℕ) → rows self.new o ≡ rows self.old o) };
 }

@@ -1,7 +1,8 @@
 //! Laws of the rules, each the contract of a call that does nothing.
 ghost use Rattle.machine.specs.Settling.{SettlesOnce};
+ghost use Rattle.machine.specs.Pages.{WorkspacePagesFollow, VersionPagesFollow, RunPagesFollow};
 ghost use Rattle.machine.specs.Queue.{OneRunIsActive, PlanOnlyRunsStayOut, RunsStartInOrder, RunsStay, ActionsComeAgain, KeyedCreationsComeAgain};
-ghost use Rattle.machine.specs.Custody.{HoldsUntilReleased, LockedWorkspacesStay, NothingIsReadOfAPurge, NumbersRise, RefusalsChangeNothing, RefusalsTellTheHolder, RepeatsChangeNothing, VersionsChangeByTheId, WhatIsPostedIsRead, WritesCarryTheId};
+ghost use Rattle.machine.specs.Custody.{AcceptedActsComeAgain, HoldsUntilReleased, LockedWorkspacesStay, NothingIsReadOfAPurge, NumbersRise, RefusalsChangeNothing, RefusalsTellTheHolder, RepeatsChangeNothing, VersionsChangeByTheId, WhatIsPostedIsRead, WorkspacesBeginAnew, WorkspacesGoByDelete, WritesCarryTheId};
 
 /// A refusal leaves the workspace as it is.
 pub fn refusals_change_nothing()
@@ -34,6 +35,16 @@ pub fn locked_workspaces_stay()
     ensures { LockedWorkspacesStay }
 {}
 
+/// A workspace goes by DELETE alone, where no lock holds and no run is open.
+pub fn workspaces_go_by_delete()
+    ensures { WorkspacesGoByDelete }
+{}
+
+/// What is made where no workspace was, be it that one of its name was deleted, begins anew.
+pub fn workspaces_begin_anew()
+    ensures { WorkspacesBeginAnew }
+{}
+
 /// What is posted is what GET gives.
 pub fn what_is_posted_is_read()
     ensures { WhatIsPostedIsRead }
@@ -53,6 +64,11 @@ pub fn numbers_rise()
 /// An act that comes again, at whatever moment, changes nothing more.
 pub fn repeats_change_nothing()
     ensures { RepeatsChangeNothing }
+{}
+
+/// What was accepted and comes again, at whatever moment, to what it left, changes nothing more.
+pub fn accepted_acts_come_again()
+    ensures { AcceptedActsComeAgain }
 {}
 
 /// Settling allows one workspace, and the rules give that one.
@@ -88,4 +104,12 @@ pub fn actions_come_again()
 /// A creation with a key that was accepted comes again, after whatever else, and changes nothing.
 pub fn keyed_creations_come_again()
     ensures { KeyedCreationsComeAgain }
+{}
+
+/// Pages of a list follow one another: what comes after a page's last item is what the page left out,
+/// of workspaces, of versions and of runs.
+pub fn pages_follow()
+    ensures workspaces { WorkspacePagesFollow }
+    ensures versions { VersionPagesFollow }
+    ensures runs { RunPagesFollow }
 {}

@@ -1,5 +1,5 @@
 //! A map from names to values, kept as a list in the order of the names' bytes.
-ghost use Rattle.std.specs.Prelude.{◌≡◌, option_copied, IfOk, IfErr, OnOk, OnErr};
+ghost use Rattle.std.specs.Prelude.{◌≡◌, is_some, option_copied, IfOk, IfErr, OnOk, OnErr};
 ghost use Rattle.std.specs.Prelude.{map as map_list};
 ghost use Rattle.std.specs.FinMap as map;
 ghost use Rattle.machine.specs.Order.{name_cmp};
@@ -71,6 +71,22 @@ impl<T> NameMap<T> {
             Err(i) => self.entries.insert(i, Entry { name, value })?,
         }
         Ok(())
+    }
+
+    /// Takes the value at the name away, and says whether there was one.
+    pub fn remove(&mut self, name: &str) -> bool
+    where
+        T: Drop,
+        ensures removed { self.new ≡ map.remove self.old name.now }
+        ensures there { result ≡ is_some (map.get self.old name.now) }
+    {
+        match self.place_of(name) {
+            Ok(i) => {
+                self.entries.remove(i);
+                true
+            }
+            Err(_) => false,
+        }
     }
 
     /// The entries, in the order of their names.

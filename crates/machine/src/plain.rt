@@ -1,30 +1,34 @@
 //! A store in memory: every organization's record as nested values.
-ghost use Rattle.std.specs.Prelude.{◌≡◌, ◌≢◌, ℕ, ⊤, List, Option, Some, None, IfOk, OnOk, OnErr, cond, option_map, option_copied};
-ghost use Rattle.std.specs.Prelude.{map as map_list, find};
+ghost use Rattle.std.specs.Prelude.{◌≡◌, ◌≢◌, ℕ, ⊤, List, Option, Some, None, IfOk, OnOk, OnErr, cond, is_some, false, option_map, option_copied};
+ghost use Rattle.std.specs.Prelude.{map as map_list, find, filter, nat_lt};
 ghost use Rattle.std.specs.FinMap as map;
 ghost use Rattle.machine.specs.Effects.{effect};
 ghost use Rattle.machine.specs.Laws.{AreLawful};
 ghost use Rattle.machine.specs.Records.{with_workspace, placed};
-ghost use Rattle.machine.specs.Tokens.{token_with, has_digest, new_organization, org_added, token_added};
+ghost use Rattle.basis.specs.Listings.{listing_of};
+ghost use Rattle.machine.specs.Showing.{comes_after, shown_of, row_of, version_row, run_row, workspaces_listed, versions_listed, runs_listed};
+ghost use Rattle.machine.specs.Tokens.{token_with, has_digest, new_organization, org_added, org_limited, token_added, token_revoked, AreOrganizations};
 ghost use Rattle.machine.specs.Changes.{edited, changed_by};
 ghost use Rattle.machine.specs.Rules.{reported};
-ghost use Rattle.machine.specs.Units.{is_text_of, asked_run, newest_unit, workspace_unit, unit_of, version_of, text_of};
+ghost use Rattle.machine.specs.Units.{is_text_of, asked_run, asked_version, newest_unit, workspace_unit, unit_of, version_of, text_of};
 ghost use Rattle.basis.specs.declared.runs.RunStatus.TheVariants.{Planning};
 ghost use Rattle.machine.specs.Settling.{first_waiting, begun, started, started_if};
 ghost use Rattle.machine.specs.Workspaces.{newest, new_workspace, run_of, holder_status, is_keyed, keyed_run, open_runs};
+ghost use Rattle.machine.specs.Inner.Places.{org_row, is_removal};
 ghost use Rattle.machine.specs.declared.records.Organization.{Organization as AnyOrganization};
 
 use crate::acts::{Act, Change, Edit, Newest, Unit, WorkspaceUnit};
-use crate::decisions::new_run;
-use crate::keeps::{AdminAnswer, Keep};
+use crate::decisions::{holder_id, new_run};
+use crate::keeps::{AdminAnswer, Keep, OrgRow};
 use crate::maps::{Entry, NameMap};
 use crate::records::{Holder, Organization, Run, Token, Version, Workspace};
 use basis::numbers::MAX_LIMIT;
 use basis::{
-    Bytes, Down, Items, Limit, LockId, Moment, Number, OrgName, Role, RunAction, RunAsk, RunStatus,
-    Settings, Text, WsName,
+    Bytes, Down, Items, Limit, Listing, LockId, Moment, Number, OrgName, Role, RunAction, RunAsk,
+    RunRow, RunStatus, Settings, Text, VersionRow, WsName, WsRow,
 };
 use std::alloc::Global;
+use std::cmp::Ordering;
 
 /// A store in memory. It is always clean, and sound where every record is lawful.
 #[derive(Drop)]
@@ -102,6 +106,50 @@ impl Keep for PlainKeep {
         }
     }
 
+    fn workspaces(
+        &mut self,
+        alloc: Global,
+        org: &OrgName,
+        after: Option<&WsName>,
+    ) -> Result<Listing<WsRow>, Down> {
+        match self.organizations.get(org.as_str()) {
+            Some(organization) => list_workspaces(alloc, after, organization.workspaces.entries()),
+            None => Ok(Listing::new(alloc)),
+        }
+    }
+
+    fn versions(
+        &mut self,
+        alloc: Global,
+        org: &OrgName,
+        ws: &WsName,
+        after: u64,
+    ) -> Result<Listing<VersionRow>, Down> {
+        let Some(organization) = self.organizations.get(org.as_str()) else {
+            return Ok(Listing::new(alloc));
+        };
+        match organization.workspaces.get(ws.as_str()) {
+            Some(workspace) => list_versions(alloc, after, workspace.versions.as_slice()),
+            None => Ok(Listing::new(alloc)),
+        }
+    }
+
+    fn runs(
+        &mut self,
+        alloc: Global,
+        org: &OrgName,
+        ws: &WsName,
+        after: u64,
+    ) -> Result<Listing<RunRow>, Down> {
+        let Some(organization) = self.organizations.get(org.as_str()) else {
+            return Ok(Listing::new(alloc));
+        };
+        match organization.workspaces.get(ws.as_str()) {
+            Some(workspace) => list_runs(alloc, after, workspace.runs.as_slice()),
+            None => Ok(Listing::new(alloc)),
+        }
+    }
+
     fn apply(
         &mut self,
         alloc: Global,
@@ -116,6 +164,30 @@ impl Keep for PlainKeep {
     fn org_add(&mut self, alloc: Global, org: &OrgName, limit: Limit) -> Result<AdminAnswer, Down> {
         prove!(limit.get() <= MAX_LIMIT);
         self.organizations.add(alloc, org.as_str(), limit)
+    }
+
+    fn org_limit(
+        &mut self,
+        _alloc: Global,
+        org: &OrgName,
+        limit: Limit,
+    ) -> Result<AdminAnswer, Down> {
+        prove!(limit.get() <= MAX_LIMIT);
+        Ok(self.organizations.limit(org.as_str(), limit))
+    }
+
+    fn org_list(&mut self, alloc: Global) -> Result<AdminAnswer, Down> {
+        let rows = list_organizations(alloc, self.organizations.entries())?;
+        Ok(AdminAnswer::Organizations(rows))
+    }
+
+    fn token_revoke(
+        &mut self,
+        _alloc: Global,
+        org: &OrgName,
+        name: &OrgName,
+    ) -> Result<AdminAnswer, Down> {
+        Ok(self.organizations.revoke(org.as_str(), name.as_str()))
     }
 
     fn token_add(
@@ -159,6 +231,29 @@ impl NameMap<Organization> {
         let name = Text::copy_of(alloc, org)?;
         self.insert(name, Organization::new(alloc, limit))?;
         Ok(AdminAnswer::Done)
+    }
+
+    fn limit(&mut self, org: &str, limit: Limit) -> AdminAnswer
+        ensures own { effect result (map.get self.new org.now) ≡ org_limited limit (map.get self.old org.now) }
+        ensures others { (o : List ℕ) → o ≢ org.now → map.get self.new o ≡ map.get self.old o }
+    {
+        match self.place_of(org) {
+            Ok(i) => {
+                self.entries[i].value.limit = limit;
+                AdminAnswer::Done
+            }
+            Err(_) => AdminAnswer::Absent,
+        }
+    }
+
+    fn revoke(&mut self, org: &str, name: &str) -> AdminAnswer
+        ensures own { effect result (map.get self.new org.now) ≡ token_revoked name.now (map.get self.old org.now) }
+        ensures others { (o : List ℕ) → o ≢ org.now → map.get self.new o ≡ map.get self.old o }
+    {
+        match self.place_of(org) {
+            Ok(i) => self.entries[i].value.revoke(name),
+            Err(_) => AdminAnswer::Absent,
+        }
     }
 
     fn add_token(&mut self, org: &str, name: Text, token: Token) -> Result<AdminAnswer, Down>
@@ -211,6 +306,16 @@ impl Organization {
         }
     }
 
+    fn revoke(&mut self, name: &str) -> AdminAnswer
+        ensures { effect result (Some self.new) ≡ token_revoked name.now (Some self.old) }
+    {
+        if self.tokens.remove(name) {
+            AdminAnswer::Done
+        } else {
+            AdminAnswer::Absent
+        }
+    }
+
     fn add_token(&mut self, name: Text, token: Token) -> Result<AdminAnswer, Down>
         ensures ok { IfOk result (λ answer. effect answer (Some self.new) ≡ token_added name token (Some self.old)) }
         ensures err { OnErr result (self.new ≡ self.old) }
@@ -239,6 +344,10 @@ impl NameMap<Workspace> {
         ensures ok { OnOk result (self.new ≡ with_workspace self.old name.now (changed_by change.now (map.get self.old name.now))) }
         ensures err { OnErr result (self.new ≡ self.old) }
     {
+        if is_removal(&change.edit) {
+            self.remove(name);
+            return Ok(());
+        }
         match self.place_of(name) {
             Ok(i) => self.entries[i].value.change(alloc, change),
             Err(_) => match &change.edit {
@@ -250,6 +359,7 @@ impl NameMap<Workspace> {
                 }
                 // Nothing changes of what isn't there.
                 Edit::Configure(_) => Ok(()),
+                Edit::Remove => Ok(()),
                 Edit::AddVersion { .. } => Ok(()),
                 Edit::Purge => Ok(()),
                 Edit::Hold { .. } => Ok(()),
@@ -301,6 +411,7 @@ impl Workspace {
             newest: newest_of(act, self.versions.as_slice())?,
             versions: self.versions.as_slice().len(),
             first_waiting: first_waiting(self.runs.as_slice()),
+            has_version: has_version(act, self.versions.as_slice()),
             asked_run: asked_run(act, self.runs.as_slice())?,
             open_runs: open_runs(self.runs.as_slice()),
         })
@@ -370,12 +481,14 @@ impl Workspace {
     }
 
     fn edit(&mut self, alloc: Global, edit: &Edit) -> Result<(), Down>
-        ensures ok { OnOk result (Some self.new ≡ edited edit.now (Some self.old)) }
+        ensures ok { OnOk result (is_removal edit.now ≡ false → Some self.new ≡ edited edit.now (Some self.old)) }
         ensures err { OnErr result (self.new ≡ self.old) }
     {
         match edit {
             Edit::Make(settings) => *self = Workspace::new(alloc, *settings),
             Edit::Configure(settings) => self.auto_apply = settings.auto_apply,
+            // The map of the workspaces lets it go.
+            Edit::Remove => {}
             Edit::AddVersion { version, gone } => self.add_version(version, *gone)?,
             Edit::Purge => self.purge(),
             Edit::Hold { id, text } => self.hold(id, text)?,
@@ -406,13 +519,19 @@ impl Workspace {
     }
 
     fn change(&mut self, alloc: Global, change: &Change) -> Result<(), Down>
-        ensures ok { OnOk result (Some self.new ≡ changed_by change.now (Some self.old)) }
+        ensures ok { OnOk result (is_removal change.now.edit ≡ false → Some self.new ≡ changed_by change.now (Some self.old)) }
         ensures err { OnErr result (self.new ≡ self.old) }
     {
         self.edit(alloc, &change.edit)?;
         self.start(change.start);
         Ok(())
     }
+}
+
+fn is_removal(edit: &Edit) -> bool
+    ensures { result ≡ is_removal edit.now }
+{
+    matches!(edit, Edit::Remove)
 }
 
 // The run of this number is planning.
@@ -464,6 +583,10 @@ fn is_text_of(act: &Act, text: &Bytes) -> bool
         Act::Lock { .. } => false,
         Act::Unlock(_) => false,
         Act::ForceUnlock => false,
+        Act::DeleteWorkspace => false,
+        Act::ListVersions(_) => false,
+        Act::ReadVersion(_) => false,
+        Act::ListRuns(_) => false,
         Act::MakeRun(_) => false,
         Act::ReadRun(_) => false,
         Act::ReportRun(_, _) => false,
@@ -539,6 +662,10 @@ fn asked_run(act: &Act, runs: &[Run]) -> Result<Option<Run>, Down>
         Act::ReportRun(n, _) => copy_of(run_of(*n, runs)),
         Act::PutWorkspace(_) => Ok(None),
         Act::ReadWorkspace => Ok(None),
+        Act::DeleteWorkspace => Ok(None),
+        Act::ListVersions(_) => Ok(None),
+        Act::ReadVersion(_) => Ok(None),
+        Act::ListRuns(_) => Ok(None),
         Act::UpdateState { .. } => Ok(None),
         Act::ReadState => Ok(None),
         Act::PurgeState { .. } => Ok(None),
@@ -573,4 +700,144 @@ fn version_of(n: Number, versions: &[Version]) -> Option<&Version>
         }
     }
     found
+}
+
+// Whether the version that an act asks of is kept.
+fn has_version(act: &Act, versions: &[Version]) -> bool
+    ensures { result ≡ is_some (asked_version act.now versions.now) }
+{
+    match act {
+        Act::ReadVersion(n) => version_of(*n, versions).is_some(),
+        Act::PutWorkspace(_) => false,
+        Act::ReadWorkspace => false,
+        Act::DeleteWorkspace => false,
+        Act::UpdateState { .. } => false,
+        Act::ReadState => false,
+        Act::PurgeState { .. } => false,
+        Act::Lock { .. } => false,
+        Act::Unlock(_) => false,
+        Act::ForceUnlock => false,
+        Act::ListVersions(_) => false,
+        Act::ListRuns(_) => false,
+        Act::MakeRun(_) => false,
+        Act::ReadRun(_) => false,
+        Act::ReportRun(_, _) => false,
+    }
+}
+
+fn number_of_newest(versions: &[Version]) -> Option<Number>
+    ensures { result ≡ option_map (λ v. v.number) (newest versions.now) }
+{
+    match versions.last() {
+        Some(version) => Some(version.number),
+        None => None,
+    }
+}
+
+// A workspace as a list shows it.
+fn workspace_row(alloc: Global, name: &str, workspace: &Workspace) -> Result<WsRow, Down>
+    ensures { IfOk result (λ row. row ≡ row_of name.now (shown_of workspace.now)) }
+{
+    let Ok(name) = WsName::read(alloc, name) else {
+        return Err(Down);
+    };
+    Ok(WsRow {
+        auto_apply: workspace.auto_apply,
+        holder: holder_id(&workspace.holder)?,
+        name,
+        version: number_of_newest(workspace.versions.as_slice()),
+    })
+}
+
+fn comes_after(after: Option<&WsName>, name: &str) -> bool
+    ensures { result ≡ comes_after (option_copied after.entry) name.now }
+{
+    match after {
+        None => true,
+        Some(after) => matches!(after.as_str().cmp(name), Ordering::Less),
+    }
+}
+
+fn list_workspaces(
+    alloc: Global,
+    after: Option<&WsName>,
+    entries: &[Entry<Workspace>],
+) -> Result<Listing<WsRow>, Down>
+    ensures { IfOk result (λ list. list ≡ workspaces_listed (option_copied after.entry) (map_list (λ e. (e.name, e.value)) entries.now)) }
+{
+    let mut list = Listing::new(alloc);
+    for entry in entries {
+        if comes_after(after, entry.name.as_str()) {
+            list.offer(workspace_row(alloc, entry.name.as_str(), &entry.value)?)?;
+        }
+    }
+    Ok(list)
+}
+
+fn version_row(version: &Version) -> Result<VersionRow, Down>
+    ensures { IfOk result (λ row. row ≡ version_row version.now) }
+{
+    Ok(VersionRow {
+        created: version.created,
+        lineage: version.lineage.clone()?,
+        number: version.number,
+        serial: version.serial,
+        size: version.text.as_slice().len() as u64,
+    })
+}
+
+fn list_versions(
+    alloc: Global,
+    after: u64,
+    versions: &[Version],
+) -> Result<Listing<VersionRow>, Down>
+    ensures { IfOk result (λ list. list ≡ versions_listed after versions.now) }
+{
+    let mut list = Listing::new(alloc);
+    for version in versions {
+        if after < version.number.get() as u64 {
+            list.offer(version_row(version)?)?;
+        }
+    }
+    Ok(list)
+}
+
+fn run_row(run: &Run) -> Result<RunRow, Down>
+    ensures { IfOk result (λ row. row ≡ run_row run.now) }
+{
+    Ok(RunRow {
+        action: run.action,
+        created: run.created,
+        key: run.key.clone()?,
+        message: run.message.clone()?,
+        number: run.number,
+        plan_only: run.plan_only,
+        status: run.status,
+    })
+}
+
+fn list_runs(alloc: Global, after: u64, runs: &[Run]) -> Result<Listing<RunRow>, Down>
+    ensures { IfOk result (λ list. list ≡ runs_listed after runs.now) }
+{
+    let mut list = Listing::new(alloc);
+    for run in runs {
+        if after < run.number.get() as u64 {
+            list.offer(run_row(run)?)?;
+        }
+    }
+    Ok(list)
+}
+
+fn list_organizations(alloc: Global, entries: &[Entry<Organization>]) -> Result<Items<OrgRow>, Down>
+    ensures { IfOk result (λ rows. rows ≡ map_list (λ e. org_row e.name e.value) entries.now) }
+{
+    let mut rows = Items::new(Vec::new(alloc));
+    for entry in entries {
+        rows.push(OrgRow {
+            name: entry.name.clone()?,
+            workspaces: entry.value.workspaces.entries().len(),
+            limit: entry.value.limit,
+        })?;
+    }
+    Ok(rows)
 }

@@ -21,7 +21,7 @@ use Rattle.machine.specs.Ranges.{IsHead, IsInRange}
 use Rattle.machine.specs.Records.{workspace_in}
 use Rattle.machine.specs.Tokens.{caller_of}
 use Rattle.machine.specs.declared.acts.Act.{Act}
-use Rattle.machine.specs.declared.acts.Act.TheVariants.{PutWorkspace as PutAct, ReadWorkspace as ReadWorkspaceAct, UpdateState as UpdateAct, ReadState as ReadAct, PurgeState as PurgeAct, Lock as LockAct, Unlock as UnlockAct, ForceUnlock as ForceUnlockAct, MakeRun as MakeRunAct, ReadRun as ReadRunAct, ReportRun as ReportRunAct}
+use Rattle.machine.specs.declared.acts.Act.TheVariants.{PutWorkspace as PutAct, ReadWorkspace as ReadWorkspaceAct, UpdateState as UpdateAct, ReadState as ReadAct, PurgeState as PurgeAct, Lock as LockAct, Unlock as UnlockAct, ForceUnlock as ForceUnlockAct, DeleteWorkspace as DeleteAct, ListVersions as ListVersionsAct, ReadVersion as ReadVersionAct, ListRuns as ListRunsAct, MakeRun as MakeRunAct, ReadRun as ReadRunAct, ReportRun as ReportRunAct}
 use Rattle.machine.specs.declared.records.Token.{Token}
 use Rattle.machine.specs.declared.records.Organization.{Organization}
 use Rattle.route.specs.Policy.{role_refused, allowed_by}
@@ -30,10 +30,14 @@ use Rattle.route.specs.declared.acts.AskedAct.{AskedAct}
 use Rattle.route.specs.declared.acts.AskedAct.TheVariants.{ListWorkspaces, OfWorkspace}
 use Rattle.route.specs.declared.acts.WsAct.{WsAct}
 use Rattle.route.specs.declared.acts.WsAct.TheVariants.{Read, Put, Delete, ReadState, UpdateState, PurgeState, Lock, Unlock, ForceUnlock, ListVersions, ReadVersion, ListRuns, MakeRun, ReadRun, ReportRun}
-use Rattle.serve.specs.Checks.{known_caller, may_do, in_reach, is_found, found_if, found, place, digest_checked, spelt, act_of, order, checked}
+use Rattle.serve.specs.Checks.{task_of, known_caller, may_do, in_reach, is_found, found_if, found, place, digest_checked, spelt, act_of, order, checked}
 use Rattle.serve.specs.Inner.Prepared.{known_role}
 use Rattle.serve.specs.declared.prepared.Place.{Place}
 use Rattle.serve.specs.declared.prepared.Order.{Order}
+use Rattle.serve.specs.declared.prepared.Task.{Task}
+use Rattle.serve.specs.declared.prepared.Task.TheVariants.{ListAll, Carry}
+use Rattle.serve.specs.declared.prepared.Found.{Found}
+use Rattle.serve.specs.declared.prepared.Found.TheVariants.{Workspaces, At}
 
 module _ {A B : Type 0} where
   pub after_ok : (x : Result A Refusal) (f : A → Result B Refusal) (a : A) (y : Result B Refusal) → x ≡ Ok a → f a ≡ y → and_then x f ≡ y
@@ -48,16 +52,16 @@ module _ {A B : Type 0} where
   passed (Err refusal) f b e = absurd (let none : ⊥ = cc in none)
 
 -- what follows each check
-abbrev pub after_names : Asked → Option (List ℕ) → List ℕ → Place → Result Order Refusal
-after_names asked content_md5 body p = and_then (digest_checked content_md5 body) (λ _. and_then (act_of p.act asked.lock_id body) (λ act. Ok (order p.ws act)))
+abbrev pub after_names : Asked → Option (List ℕ) → List ℕ → Found → Result Task Refusal
+after_names asked content_md5 body f = and_then (digest_checked content_md5 body) (λ _. task_of f asked.lock_id body)
 
-abbrev pub after_reach : Option Organization → Asked → Option (List ℕ) → List ℕ → Result Order Refusal
+abbrev pub after_reach : Option Organization → Asked → Option (List ℕ) → List ℕ → Result Task Refusal
 after_reach r asked content_md5 body = and_then (found r asked.act) (after_names asked content_md5 body)
 
-abbrev pub after_role : Option Organization → Asked → Option (List ℕ) → List ℕ → Result Order Refusal
+abbrev pub after_role : Option Organization → Asked → Option (List ℕ) → List ℕ → Result Task Refusal
 after_role r asked content_md5 body = and_then (in_reach asked) (λ _. after_reach r asked content_md5 body)
 
-abbrev pub after_caller : Option Organization → Asked → Option (List ℕ) → List ℕ → Token → Result Order Refusal
+abbrev pub after_caller : Option Organization → Asked → Option (List ℕ) → List ℕ → Token → Result Task Refusal
 after_caller r asked content_md5 body token = and_then (may_do token asked) (λ _. after_role r asked content_md5 body)
 
 token_of_role : (x : Result Token Refusal) (role : Role) → and_then x (λ token. Ok token.role) ≡ Ok role → (token : Token) × (x ≡ Ok token) × (token.role ≡ role)
@@ -78,13 +82,13 @@ module _ (r : Option Organization) (asked : Asked) (content_md5 : Option (List �
       after_ok (known_caller r asked) (after_caller r asked content_md5 body) t.0 (Err refusal) t.1
       (after_err (may_do t.0 asked) (λ _. after_role r asked content_md5 body) refusal (ap (λ (x : Role). allowed_by (role_refused x asked.act)) t.2 ∙ h))
 
-  pub past_role : (role : Role) (x : Result Order Refusal) → known_role r asked ≡ Ok role → allowed_by (role_refused role asked.act) ≡ Ok tt → after_role r asked content_md5 body ≡ x → checked r asked content_md5 body ≡ x
+  pub past_role : (role : Role) (x : Result Task Refusal) → known_role r asked ≡ Ok role → allowed_by (role_refused role asked.act) ≡ Ok tt → after_role r asked content_md5 body ≡ x → checked r asked content_md5 body ≡ x
   past_role role x e h rest =
       let t : (token : Token) × (known_caller r asked ≡ Ok token) × (token.role ≡ role) = token_of_role (known_caller r asked) role e in
       after_ok (known_caller r asked) (after_caller r asked content_md5 body) t.0 x t.1
       (after_ok (may_do t.0 asked) (λ _. after_role r asked content_md5 body) tt x (ap (λ (y : Role). allowed_by (role_refused y asked.act)) t.2 ∙ h) rest)
 
-  pub past_reach : (role : Role) (x : Result Order Refusal) → known_role r asked ≡ Ok role → allowed_by (role_refused role asked.act) ≡ Ok tt → in_reach asked ≡ Ok tt
+  pub past_reach : (role : Role) (x : Result Task Refusal) → known_role r asked ≡ Ok role → allowed_by (role_refused role asked.act) ≡ Ok tt → in_reach asked ≡ Ok tt
       → after_reach r asked content_md5 body ≡ x → checked r asked content_md5 body ≡ x
   past_reach role x e h reached rest = past_role role x e h (after_ok (in_reach asked) (λ _. after_reach r asked content_md5 body) tt x reached rest)
 
@@ -153,16 +157,16 @@ ask_in_range body (Some ask) act t e =
 pub act_in_range : (what : WsAct) (id : Option (List ℕ)) (body : List ℕ) (act : Act) → act_of what id body ≡ Ok act → IsInRange act
 act_in_range Read id body act e = subst IsInRange (is_one ReadWorkspaceAct act e) tt
 act_in_range Put id body act e = put_in_range (settings_of body) act e
-act_in_range Delete id body act e = absurd (let none : ⊥ = cc in none)
+act_in_range Delete id body act e = subst IsInRange (is_one DeleteAct act e) tt
 act_in_range ReadState id body act e = subst IsInRange (is_one ReadAct act e) tt
 act_in_range UpdateState id body act e = head_in_range body id (state_head body) act refl e
 act_in_range PurgeState id body act e = subst IsInRange (is_one (PurgeAct id) act e) tt
 act_in_range Lock id body act e = lock_in_range body (lock_id_of body) act refl e
 act_in_range Unlock id body act e = unlock_in_range (lock_id_of body) act e
 act_in_range ForceUnlock id body act e = subst IsInRange (is_one ForceUnlockAct act e) tt
-act_in_range (ListVersions after) id body act e = absurd (let none : ⊥ = cc in none)
-act_in_range (ReadVersion number) id body act e = absurd (let none : ⊥ = cc in none)
-act_in_range (ListRuns after) id body act e = absurd (let none : ⊥ = cc in none)
+act_in_range (ListVersions after) id body act e = subst IsInRange (is_one (ListVersionsAct after) act e) tt
+act_in_range (ReadVersion number) id body act e = subst IsInRange (is_one (ReadVersionAct number) act e) tt
+act_in_range (ListRuns after) id body act e = subst IsInRange (is_one (ListRunsAct after) act e) tt
 act_in_range MakeRun id body act e = ask_in_range body (run_ask body) act refl e
 act_in_range (ReadRun number) id body act e = subst IsInRange (is_one (ReadRunAct number) act e) tt
 act_in_range (ReportRun number action) id body act e = subst IsInRange (is_one (ReportRunAct number action) act e) tt
@@ -175,33 +179,67 @@ pub record Passes (r : Option Organization) (asked : Asked) (body : List ℕ) (o
   pub is_there : is_found r o.ws what ≡ true
   pub spelt : act_of what asked.lock_id body ≡ Ok o.act
 
-place_is : (b : Bool) (p q : Place) → found_if b p ≡ Ok q → (b ≡ true) × (p ≡ q)
+place_is : (b : Bool) (p q : Place) → found_if b p ≡ Ok (At q) → (b ≡ true) × (p ≡ q)
 place_is true p q e = (refl, let same : p ≡ q = cc in same)
 place_is false p q e = absurd (let none : ⊥ = cc in none)
 
-found_place : (r : Option Organization) (act : AskedAct) (p : Place) → found r act ≡ Ok p → (act ≡ OfWorkspace p.ws p.act) × (is_found r p.ws p.act ≡ true)
+found_place : (r : Option Organization) (act : AskedAct) (p : Place) → found r act ≡ Ok (At p) → (act ≡ OfWorkspace p.ws p.act) × (is_found r p.ws p.act ≡ true)
 found_place r (ListWorkspaces after) p e = absurd (let none : ⊥ = cc in none)
 found_place r (OfWorkspace ws act) p e =
     let h : (is_found r ws act ≡ true) × (place ws act ≡ p) = place_is (is_found r ws act) (place ws act) p e in
     (ap (λ (q : Place). OfWorkspace q.ws q.act) h.1, subst (λ (q : Place). is_found r q.ws q.act ≡ true) h.1 h.0)
 
-order_is : (ws : List ℕ) (x : Result Act Refusal) (o : Order) → and_then x (λ act. Ok (order ws act)) ≡ Ok o → (ws ≡ o.ws) × (x ≡ Ok o.act)
+order_is : (ws : List ℕ) (x : Result Act Refusal) (o : Order) → and_then x (λ act. Ok (Carry (order ws act))) ≡ Ok (Carry o) → (ws ≡ o.ws) × (x ≡ Ok o.act)
 order_is ws (Ok act) o e = let same : order ws act ≡ o = cc in (ap (λ (p : Order). p.ws) same, ap (λ (p : Order). read_act p.act) same)
 order_is ws (Err refusal) o e = absurd (let none : ⊥ = cc in none)
 
-pub order_passes : (r : Option Organization) (asked : Asked) (content_md5 : Option (List ℕ)) (body : List ℕ) (o : Order) → checked r asked content_md5 body ≡ Ok o → Passes r asked body o
+pub order_passes : (r : Option Organization) (asked : Asked) (content_md5 : Option (List ℕ)) (body : List ℕ) (o : Order) → checked r asked content_md5 body ≡ Ok (Carry o) → Passes r asked body o
 order_passes r asked content_md5 body o e =
-    let known = passed (known_caller r asked) (after_caller r asked content_md5 body) o e in
-    let may = passed (may_do known.0 asked) (λ _. after_role r asked content_md5 body) o known.2 in
-    let reached = passed (in_reach asked) (λ _. after_reach r asked content_md5 body) o may.2 in
-    let named = passed (found r asked.act) (after_names asked content_md5 body) o reached.2 in
-    let fit = passed (digest_checked content_md5 body) (λ _. and_then (act_of named.0.act asked.lock_id body) (λ act. Ok (order named.0.ws act))) o named.2 in
-    let made : (named.0.ws ≡ o.ws) × (act_of named.0.act asked.lock_id body ≡ Ok o.act) = order_is named.0.ws (act_of named.0.act asked.lock_id body) o fit.2 in
-    let at : (asked.act ≡ OfWorkspace named.0.ws named.0.act) × (is_found r named.0.ws named.0.act ≡ true) = found_place r asked.act named.0 named.1 in
-    record {
-      there = caller_there r (sha256 asked.secret) known.0 known.1;
-      what = named.0.act;
-      asks = at.0 ∙ ap (λ (ws : List ℕ). OfWorkspace ws named.0.act) made.0;
-      is_there = subst (λ (ws : List ℕ). is_found r ws named.0.act ≡ true) made.0 at.1;
-      spelt = made.1;
-    }
+    let known = passed (known_caller r asked) (after_caller r asked content_md5 body) (Carry o) e in
+    let may = passed (may_do known.0 asked) (λ _. after_role r asked content_md5 body) (Carry o) known.2 in
+    let reached = passed (in_reach asked) (λ _. after_reach r asked content_md5 body) (Carry o) may.2 in
+    let named = passed (found r asked.act) (after_names asked content_md5 body) (Carry o) reached.2 in
+    let fit = passed (digest_checked content_md5 body) (λ _. task_of named.0 asked.lock_id body) (Carry o) named.2 in
+    by_found (caller_there r (sha256 asked.secret) known.0 known.1) named.0 named.1 fit.2
+  where
+    by_found : IsSome r → (f : Found) → found r asked.act ≡ Ok f → task_of f asked.lock_id body ≡ Ok (Carry o) → Passes r asked body o
+    by_found some (Workspaces after) is made = absurd (let none : ⊥ = cc in none)
+    by_found some (At p) is made =
+        let done : (p.ws ≡ o.ws) × (act_of p.act asked.lock_id body ≡ Ok o.act) = order_is p.ws (act_of p.act asked.lock_id body) o made in
+        let at : (asked.act ≡ OfWorkspace p.ws p.act) × (is_found r p.ws p.act ≡ true) = found_place r asked.act p is in
+        record {
+          there = some;
+          what = p.act;
+          asks = at.0 ∙ ap (λ (ws : List ℕ). OfWorkspace ws p.act) done.0;
+          is_there = subst (λ (ws : List ℕ). is_found r ws p.act ≡ true) done.0 at.1;
+          spelt = done.1;
+        }
+
+-- where the list of the workspaces passes the checks, it is asked
+place_no_list : (b : Bool) (p : Place) (after : Option (List ℕ)) → found_if b p ≡ Ok (Workspaces after) → ⊥
+place_no_list true p after e = let none : ⊥ = cc in none
+place_no_list false p after e = let none : ⊥ = cc in none
+
+list_found : (r : Option Organization) (act : AskedAct) (after : Option (List ℕ)) → found r act ≡ Ok (Workspaces after) → act ≡ ListWorkspaces after
+list_found r (ListWorkspaces other) after e = let same : other ≡ after = cc in ap ListWorkspaces same
+list_found r (OfWorkspace ws act) after e = absurd (place_no_list (is_found r ws act) (place ws act) after e)
+
+no_order : (ws : List ℕ) (x : Result Act Refusal) (after : Option (List ℕ)) → and_then x (λ act. Ok (Carry (order ws act))) ≡ Ok (ListAll after) → ⊥
+no_order ws (Ok act) after e = let none : ⊥ = cc in none
+no_order ws (Err refusal) after e = let none : ⊥ = cc in none
+
+pub list_passes : (r : Option Organization) (asked : Asked) (content_md5 : Option (List ℕ)) (body : List ℕ) (after : Option (List ℕ)) → checked r asked content_md5 body ≡ Ok (ListAll after) → asked.act ≡ ListWorkspaces after
+list_passes r asked content_md5 body after e =
+    let known = passed (known_caller r asked) (after_caller r asked content_md5 body) (ListAll after) e in
+    let may = passed (may_do known.0 asked) (λ _. after_role r asked content_md5 body) (ListAll after) known.2 in
+    let reached = passed (in_reach asked) (λ _. after_reach r asked content_md5 body) (ListAll after) may.2 in
+    let named = passed (found r asked.act) (after_names asked content_md5 body) (ListAll after) reached.2 in
+    let fit = passed (digest_checked content_md5 body) (λ _. task_of named.0 asked.lock_id body) (ListAll after) named.2 in
+    by_found named.0 named.1 fit.2
+  where
+    by_found : (f : Found) → found r asked.act ≡ Ok f → task_of f asked.lock_id body ≡ Ok (ListAll after) → asked.act ≡ ListWorkspaces after
+    by_found (Workspaces other) is made = let same : other ≡ after = cc in list_found r asked.act after (is ∙ ap (λ (a : Option (List ℕ)). all_found a) same)
+      where
+        all_found : Option (List ℕ) → Result Found Refusal
+        all_found a = Ok (Workspaces a)
+    by_found (At p) is made = absurd (no_order p.ws (act_of p.act asked.lock_id body) after made)

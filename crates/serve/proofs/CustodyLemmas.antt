@@ -14,20 +14,20 @@ use Rattle.docs.specs.Documents.{state_head, lock_id_of, settings_of, run_ask}
 use Rattle.machine.specs.Order.{name_cmp}
 use Rattle.machine.specs.Effects.{effect}
 use Rattle.machine.specs.Records.{Seen, missing, there, workspace_in, count_of, seen_by, seen_in, standing, with_workspace, placed}
-use Rattle.machine.specs.Rules.{Outcome, refused, held, done, no_state, state, workspace, the_run, rules}
+use Rattle.machine.specs.Rules.{Outcome, refused, held, done, no_state, state, workspace, the_run, versions, runs, rules}
 use Rattle.machine.specs.Custody.{WritesWith, Releases, IsRepeatable, IsRefusal}
-use Rattle.machine.specs.Tokens.{new_organization, token_of, with_token, has_digest, token_added, new_organization}
+use Rattle.machine.specs.Tokens.{new_organization, token_of, with_token, without_token, has_digest, token_added, token_revoked}
 use Rattle.machine.specs.declared.keeps.AdminAnswer.{AdminAnswer}
-use Rattle.machine.specs.declared.keeps.AdminAnswer.TheVariants.{Done, Exists}
+use Rattle.machine.specs.declared.keeps.AdminAnswer.TheVariants.{Done, Exists, Absent}
 use Rattle.machine.specs.declared.acts.Act.{Act}
-use Rattle.machine.specs.declared.acts.Act.TheVariants.{PutWorkspace as PutAct, ReadWorkspace as ReadWorkspaceAct, UpdateState as UpdateAct, ReadState as ReadAct, PurgeState as PurgeAct, Lock as LockAct, Unlock as UnlockAct, ForceUnlock as ForceUnlockAct, MakeRun as MakeRunAct, ReadRun as ReadRunAct, ReportRun as ReportRunAct}
+use Rattle.machine.specs.declared.acts.Act.TheVariants.{PutWorkspace as PutAct, ReadWorkspace as ReadWorkspaceAct, UpdateState as UpdateAct, ReadState as ReadAct, PurgeState as PurgeAct, Lock as LockAct, Unlock as UnlockAct, ForceUnlock as ForceUnlockAct, DeleteWorkspace as DeleteAct, ListVersions as ListVersionsAct, ReadVersion as ReadVersionAct, ListRuns as ListRunsAct, MakeRun as MakeRunAct, ReadRun as ReadRunAct, ReportRun as ReportRunAct}
 use Rattle.machine.specs.declared.records.Holder.{Holder}
 use Rattle.machine.specs.declared.records.Holder.TheVariants.{Lock as HeldLock}
 use Rattle.machine.specs.declared.records.Token.{Token}
 use Rattle.machine.specs.declared.records.Workspace.{Workspace}
 use Rattle.machine.specs.declared.records.Organization.{Organization}
-use Rattle.machine.proofs.CustodyLemmas.{versions_change_by_the_id, holds_until_released, locked_workspaces_stay, workspaces_stay, accepted_stays, repeats}
-use Rattle.machine.proofs.MapLemmas.{get_own}
+use Rattle.machine.proofs.CustodyLemmas.{versions_change_by_the_id, holds_until_released, locked_workspaces_stay, workspaces_go_by_delete, accepted_acts_come_again, repeats}
+use Rattle.machine.proofs.MapLemmas.{get_own, removed_own}
 use Rattle.machine.proofs.KeepLemmas.{own_workspace, other_workspace}
 use Rattle.route.specs.declared.acts.Asked.{Asked}
 use Rattle.route.specs.declared.acts.AskedAct.{AskedAct}
@@ -36,14 +36,16 @@ use Rattle.route.specs.declared.acts.WsAct.{WsAct}
 use Rattle.route.specs.declared.acts.WsAct.TheVariants.{Read, Put, Delete, ReadState, UpdateState, PurgeState, Lock, Unlock, ForceUnlock, ListVersions, ReadVersion, ListRuns, MakeRun, ReadRun, ReportRun}
 use Rattle.wire.specs.Replies.{Answer}
 use Rattle.serve.specs.declared.steps.Admin.{Admin}
-use Rattle.serve.specs.declared.steps.Admin.TheVariants.{OrgAdd, TokenAdd}
+use Rattle.serve.specs.declared.steps.Admin.TheVariants.{OrgAdd, OrgLimit, OrgList, TokenAdd, TokenRevoke}
 use Rattle.serve.specs.declared.prepared.Order.{Order}
+use Rattle.serve.specs.declared.prepared.Task.{Task}
+use Rattle.serve.specs.declared.prepared.Task.TheVariants.{ListAll, Carry}
 use Rattle.serve.specs.Asks.{Ask, silent, requests, commands}
 use Rattle.serve.specs.Asks as ask
 use Rattle.serve.specs.Checks.{spelt, act_of, checked}
 use Rattle.serve.specs.Steps.{Said, answer_to, seen_at, ruled_in, carried, request_step, command_step, step}
 use Rattle.serve.specs.Custody.{NamesIn, Names, StepsChangeWhatTheyName, IsActOn, IsInCustody, LocksAreKept, asked_again, MayRepeat, StepsAreRepeatable, IsAccepted, RepeatsLeaveTheWorkspace}
-use Rattle.serve.proofs.CheckLemmas.{Passes, order_passes}
+use Rattle.serve.proofs.CheckLemmas.{Passes, order_passes, list_passes}
 use Rattle.serve.proofs.RecordLemmas.{placed_as_it_was, placed_same, standing_at}
 
 apart_from : (a b : List ℕ) → bytes_eq a b ≡ false → a ≢ b
@@ -87,12 +89,22 @@ command_keeps (Some o) (TokenAdd org name role secret) ws = chosen (is_some (get
     chosen : (b : Bool) → workspace_in (cond b (effect Exists (Some o)) (effect Done (Some (with_token o name (token_of (sha256 secret) role))))).left ws ≡ get o.workspaces ws
     chosen true = refl
     chosen false = refl
+command_keeps None (OrgLimit org limit) ws = refl
+command_keeps (Some o) (OrgLimit org limit) ws = refl
+command_keeps r OrgList ws = refl
+command_keeps None (TokenRevoke org name) ws = refl
+command_keeps (Some o) (TokenRevoke org name) ws = taken (is_some (get o.tokens name))
+  where
+    taken : (b : Bool) → workspace_in (cond b (effect Done (Some (without_token o name))) (effect Absent (Some o))).left ws ≡ get o.workspaces ws
+    taken true = refl
+    taken false = refl
 
 -- a step changes at most the workspace that it names
-request_leaves_others : (r : Option Organization) (now : ℕ) (asked : Asked) (content_md5 : Option (List ℕ)) (body ws : List ℕ) (x : Result Order Refusal) → checked r asked content_md5 body ≡ x
+request_leaves_others : (r : Option Organization) (now : ℕ) (asked : Asked) (content_md5 : Option (List ℕ)) (body ws : List ℕ) (x : Result Task Refusal) → checked r asked content_md5 body ≡ x
     → (NamesIn asked.act ws → ⊥) → workspace_in (carried asked.caller now r x).left ws ≡ workspace_in r ws
 request_leaves_others r now asked content_md5 body ws (Err refusal) e other = refl
-request_leaves_others r now asked content_md5 body ws (Ok order) e other =
+request_leaves_others r now asked content_md5 body ws (Ok (ListAll after)) e other = refl
+request_leaves_others r now asked content_md5 body ws (Ok (Carry order)) e other =
     let p : Passes r asked body order = order_passes r asked content_md5 body order e in
     other_after r asked.caller order.ws ws order.act now
     (λ same. other (subst (NamesIn asked.act) (sym same) (names_of asked.act order.ws p.what p.asks)))
@@ -117,7 +129,7 @@ writes_by Put id body act own is writes = by_settings (settings_of body) is
     by_settings : (o : Option Settings) → spelt BadBody PutAct o ≡ Ok act → id ≡ Some own
     by_settings None is = absurd (let none : ⊥ = cc in none)
     by_settings (Some settings) is = absurd (subst (λ (a : Act). WritesWith a (Some own)) (is_one (PutAct settings) act is) writes)
-writes_by Delete id body act own is writes = absurd (let none : ⊥ = cc in none)
+writes_by Delete id body act own is writes = absurd (subst (λ (a : Act). WritesWith a (Some own)) (is_one DeleteAct act is) writes)
 writes_by ReadState id body act own is writes = absurd (subst (λ (a : Act). WritesWith a (Some own)) (is_one ReadAct act is) writes)
 writes_by UpdateState id body act own is writes = by_head (state_head body) is
   where
@@ -136,9 +148,9 @@ writes_by Unlock id body act own is writes = by_id (lock_id_of body) is
     by_id None is = absurd (let none : ⊥ = cc in none)
     by_id (Some given) is = absurd (subst (λ (a : Act). WritesWith a (Some own)) (is_one (UnlockAct given) act is) writes)
 writes_by ForceUnlock id body act own is writes = absurd (subst (λ (a : Act). WritesWith a (Some own)) (is_one ForceUnlockAct act is) writes)
-writes_by (ListVersions after) id body act own is writes = absurd (let none : ⊥ = cc in none)
-writes_by (ReadVersion number) id body act own is writes = absurd (let none : ⊥ = cc in none)
-writes_by (ListRuns after) id body act own is writes = absurd (let none : ⊥ = cc in none)
+writes_by (ListVersions after) id body act own is writes = absurd (subst (λ (a : Act). WritesWith a (Some own)) (is_one (ListVersionsAct after) act is) writes)
+writes_by (ReadVersion number) id body act own is writes = absurd (subst (λ (a : Act). WritesWith a (Some own)) (is_one (ReadVersionAct number) act is) writes)
+writes_by (ListRuns after) id body act own is writes = absurd (subst (λ (a : Act). WritesWith a (Some own)) (is_one (ListRunsAct after) act is) writes)
 writes_by MakeRun id body act own is writes = by_ask (run_ask body) is
   where
     by_ask : (o : Option RunAsk) → spelt BadBody MakeRunAct o ≡ Ok act → id ≡ Some own
@@ -186,11 +198,12 @@ ruled_kept r now awaited asked content_md5 body o w own text p stands lock =
     released_or_held v names p (inl h) = inl h
     released_or_held v names p (inr h) = inr (names, (o.act, act_on asked o.ws body p.what o.act p.asks p.spelt, h))
 
-request_kept : (r : Option Organization) (now : ℕ) (awaited : Bool) (asked : Asked) (content_md5 : Option (List ℕ)) (body ws : List ℕ) (w : Workspace) (own text : List ℕ) (x : Result Order Refusal)
+request_kept : (r : Option Organization) (now : ℕ) (awaited : Bool) (asked : Asked) (content_md5 : Option (List ℕ)) (body ws : List ℕ) (w : Workspace) (own text : List ℕ) (x : Result Task Refusal)
     → checked r asked content_md5 body ≡ x → workspace_in r ws ≡ Some w → w.holder ≡ HeldLock own text
     → Kept (workspace_in (carried asked.caller now r x).left ws) (requests now awaited asked content_md5 body) ws own text w
 request_kept r now awaited asked content_md5 body ws w own text (Err refusal) e stands lock = stays _ (requests now awaited asked content_md5 body) ws own text w stands lock
-request_kept r now awaited asked content_md5 body ws w own text (Ok o) e stands lock = by_name (bytes_eq ws o.ws) refl
+request_kept r now awaited asked content_md5 body ws w own text (Ok (ListAll after)) e stands lock = stays _ (requests now awaited asked content_md5 body) ws own text w stands lock
+request_kept r now awaited asked content_md5 body ws w own text (Ok (Carry o)) e stands lock = by_name (bytes_eq ws o.ws) refl
   where
     p : Passes r asked body o
     p = order_passes r asked content_md5 body o e
@@ -225,11 +238,6 @@ same_order r q asked body o p first second =
     (both.0, is_one o.act p.act (sym first.spelt ∙ ap (λ (w : WsAct). act_of w asked.lock_id body) (sym both.1) ∙ second.spelt))
 
 -- once more, on a record whose workspace is as the first left it
-again_there : (q : Option Organization) (org ws : List ℕ) (act : Act) (now later : ℕ) (s : Seen) (v : Workspace) → IsSome q → IsRepeatable act → (rules act now s).left ≡ Some v
-    → workspace_in q ws ≡ Some v → workspace_in (ruled_in org ws q (rules act later (seen_at q ws))).left ws ≡ Some v
-again_there q org ws act now later s v some may left stands =
-    own_after q org ws act later some ∙ ap (λ (t : Seen). (rules act later t).left) (seen_there q ws v stands) ∙ repeats act now later s v may left
-
 again_left : (q : Option Organization) (org ws : List ℕ) (act : Act) (now later : ℕ) (s : Seen) (v : Workspace) → IsSome q → IsRepeatable act → (rules act now s).left ≡ Some v
     → workspace_in q ws ≡ Some v → (ruled_in org ws q (rules act later (seen_at q ws))).left ≡ q
 again_left None org ws act now later s v some may left stands = absurd (let none : ⊥ = cc in none)
@@ -238,13 +246,14 @@ again_left (Some o) org ws act now later s v some may left stands =
     ap (λ (w : Option Workspace). Some (placed o ws w)) (still ∙ sym stands) ∙ ap Some (placed_as_it_was o ws (get o.workspaces ws) refl)
 
 -- the second of two requests on the record that the first left
-second_leaves : (r : Option Organization) (now later : ℕ) (asked : Asked) (content_md5 : Option (List ℕ)) (body : List ℕ) (x : Result Order Refusal) → checked r asked content_md5 body ≡ x
+second_leaves : (r : Option Organization) (now later : ℕ) (asked : Asked) (content_md5 : Option (List ℕ)) (body : List ℕ) (x : Result Task Refusal) → checked r asked content_md5 body ≡ x
     → ((act : Act) → IsActOn asked.act asked.lock_id body act → IsRepeatable act)
     → (carried asked.caller later (carried asked.caller now r x).left (checked (carried asked.caller now r x).left asked content_md5 body)).left ≡ (carried asked.caller now r x).left
 second_leaves r now later asked content_md5 body (Err refusal) e may =
-    ap (λ (y : Result Order Refusal). (carried asked.caller later r y).left) e
-second_leaves None now later asked content_md5 body (Ok o) e may = absurd (let p = order_passes None asked content_md5 body o e in let none : ⊥ = cc p.there in none)
-second_leaves (Some organization) now later asked content_md5 body (Ok o) e may = by_left (rules o.act now (seen_in organization o.ws)).left refl
+    ap (λ (y : Result Task Refusal). (carried asked.caller later r y).left) e
+second_leaves r now later asked content_md5 body (Ok (ListAll after)) e may = ap (λ (y : Result Task Refusal). (carried asked.caller later r y).left) e
+second_leaves None now later asked content_md5 body (Ok (Carry o)) e may = absurd (let p = order_passes None asked content_md5 body o e in let none : ⊥ = cc p.there in none)
+second_leaves (Some organization) now later asked content_md5 body (Ok (Carry o)) e may = by_left (rules o.act now (seen_in organization o.ws)).left refl
   where
     first : Passes (Some organization) asked body o
     first = order_passes (Some organization) asked content_md5 body o e
@@ -252,45 +261,57 @@ second_leaves (Some organization) now later asked content_md5 body (Ok o) e may 
     repeatable : IsRepeatable o.act
     repeatable = may o.act (act_on asked o.ws body first.what o.act first.asks first.spelt)
 
-    on : Option Organization → Result Order Refusal → Option Organization
+    on : Option Organization → Result Task Refusal → Option Organization
     on q y = (carried asked.caller later q y).left
 
     second : (q : Organization) (v : Workspace) → get q.workspaces o.ws ≡ Some v → (rules o.act now (seen_in organization o.ws)).left ≡ Some v
-        → (y : Result Order Refusal) → checked (Some q) asked content_md5 body ≡ y → on (Some q) y ≡ Some q
+        → (y : Result Task Refusal) → checked (Some q) asked content_md5 body ≡ y → on (Some q) y ≡ Some q
     second q v stands left (Err refusal) f = refl
-    second q v stands left (Ok p) f =
+    second q v stands left (Ok (ListAll after)) f = refl
+    second q v stands left (Ok (Carry p)) f =
         let passes : Passes (Some q) asked body p = order_passes (Some q) asked content_md5 body p f in
         let same : (p.ws ≡ o.ws) × (p.act ≡ o.act) = same_order (Some organization) (Some q) asked body o p first passes in
         ap (λ (n : List ℕ). (ruled_in asked.caller n (Some q) (rules p.act later (seen_at (Some q) n))).left) same.0
         ∙ ap (λ (a : Act). (ruled_in asked.caller o.ws (Some q) (rules a later (seen_at (Some q) o.ws))).left) same.1
         ∙ again_left (Some q) asked.caller o.ws o.act now later (seen_in organization o.ws) v refl repeatable left stands
 
+    -- on a record from which the first took the workspace away
+    second_gone : (q : Organization) → get q.workspaces o.ws ≡ None → o.act ≡ DeleteAct → (y : Result Task Refusal) → checked (Some q) asked content_md5 body ≡ y → on (Some q) y ≡ Some q
+    second_gone q gone is (Err refusal) f = refl
+    second_gone q gone is (Ok (ListAll after)) f = refl
+    second_gone q gone is (Ok (Carry p)) f =
+        let passes : Passes (Some q) asked body p = order_passes (Some q) asked content_md5 body p f in
+        let same : (p.ws ≡ o.ws) × (p.act ≡ o.act) = same_order (Some organization) (Some q) asked body o p first passes in
+        let still : (rules o.act later (seen_in q o.ws)).left ≡ None =
+        ap (λ (x : Option Workspace). (rules o.act later (seen_by (nat_lt (count_of q) q.limit) x)).left) gone ∙ ap (λ (a : Act). (rules a later (missing (nat_lt (count_of q) q.limit))).left) is in
+        ap (λ (n : List ℕ). (ruled_in asked.caller n (Some q) (rules p.act later (seen_at (Some q) n))).left) same.0
+        ∙ ap (λ (a : Act). (ruled_in asked.caller o.ws (Some q) (rules a later (seen_at (Some q) o.ws))).left) same.1
+        ∙ ap (λ (w : Option Workspace). Some (placed q o.ws w)) (still ∙ sym gone) ∙ ap Some (placed_as_it_was q o.ws (get q.workspaces o.ws) refl)
+
+    room : Bool
+    room = nat_lt (count_of organization) organization.limit
+
     by_left : (w : Option Workspace) → (rules o.act now (seen_in organization o.ws)).left ≡ w
-        → (carried asked.caller later (carried asked.caller now (Some organization) (Ok o)).left (checked (carried asked.caller now (Some organization) (Ok o)).left asked content_md5 body)).left
-        ≡ (carried asked.caller now (Some organization) (Ok o)).left
-    by_left None left =
-        let gone : get organization.workspaces o.ws ≡ None = none_before (get organization.workspaces o.ws) refl left in
-        let same : (carried asked.caller now (Some organization) (Ok o)).left ≡ Some organization =
-        ap (λ (w : Option Workspace). Some (placed organization o.ws w)) (left ∙ sym gone) ∙ ap Some (placed_as_it_was organization o.ws (get organization.workspaces o.ws) refl) in
-        let twice : (ruled_in asked.caller o.ws (Some organization) (rules o.act later (seen_in organization o.ws))).left ≡ Some organization =
-        ap (λ (w : Option Workspace). Some (placed organization o.ws w)) (none_again (get organization.workspaces o.ws) refl left ∙ sym gone)
-        ∙ ap Some (placed_as_it_was organization o.ws (get organization.workspaces o.ws) refl) in
-        ap (λ (q : Option Organization). on q (checked q asked content_md5 body)) same ∙ ap (on (Some organization)) e ∙ twice ∙ sym same
+        → (carried asked.caller later (carried asked.caller now (Some organization) (Ok (Carry o))).left (checked (carried asked.caller now (Some organization) (Ok (Carry o))).left asked content_md5 body)).left
+        ≡ (carried asked.caller now (Some organization) (Ok (Carry o))).left
+    by_left None left = by_stand (get organization.workspaces o.ws) refl
       where
-        room : Bool
-        room = nat_lt (count_of organization) organization.limit
-
-        none_before : (w : Option Workspace) → get organization.workspaces o.ws ≡ w → (rules o.act now (seen_by room (get organization.workspaces o.ws))).left ≡ None → get organization.workspaces o.ws ≡ None
-        none_before None t left = t
-        none_before (Some w) t left =
-            absurd (let some : IsSome (rules o.act now (there w)).left = workspaces_stay o.act now w in
-            let none : ⊥ = cc (sym some ∙ ap is_some (sym (ap (λ (x : Option Workspace). (rules o.act now (seen_by room x)).left) t) ∙ left)) in none)
-
-        none_again : (w : Option Workspace) → get organization.workspaces o.ws ≡ w → (rules o.act now (seen_by room (get organization.workspaces o.ws))).left ≡ None
-            → (rules o.act later (seen_by room (get organization.workspaces o.ws))).left ≡ None
-        none_again None t left =
-            ap (λ (x : Option Workspace). (rules o.act later (seen_by room x)).left) t ∙ ap (λ (x : Option Workspace). (rules o.act now (seen_by room x)).left) (sym t) ∙ left
-        none_again (Some w) t left = absurd (let none : ⊥ = cc (sym t ∙ none_before (Some w) t left) in none)
+        by_stand : (w : Option Workspace) → get organization.workspaces o.ws ≡ w
+            → (carried asked.caller later (carried asked.caller now (Some organization) (Ok (Carry o))).left (checked (carried asked.caller now (Some organization) (Ok (Carry o))).left asked content_md5 body)).left
+            ≡ (carried asked.caller now (Some organization) (Ok (Carry o))).left
+        by_stand None gone =
+            let same : (carried asked.caller now (Some organization) (Ok (Carry o))).left ≡ Some organization =
+            ap (λ (w : Option Workspace). Some (placed organization o.ws w)) (left ∙ sym gone) ∙ ap Some (placed_as_it_was organization o.ws (get organization.workspaces o.ws) refl) in
+            let again : (rules o.act later (seen_by room (get organization.workspaces o.ws))).left ≡ None =
+            ap (λ (x : Option Workspace). (rules o.act later (seen_by room x)).left) gone ∙ ap (λ (x : Option Workspace). (rules o.act now (seen_by room x)).left) (sym gone) ∙ left in
+            let twice : (ruled_in asked.caller o.ws (Some organization) (rules o.act later (seen_in organization o.ws))).left ≡ Some organization =
+            ap (λ (w : Option Workspace). Some (placed organization o.ws w)) (again ∙ sym gone) ∙ ap Some (placed_as_it_was organization o.ws (get organization.workspaces o.ws) refl) in
+            ap (λ (q : Option Organization). on q (checked q asked content_md5 body)) same ∙ ap (on (Some organization)) e ∙ twice ∙ sym same
+        by_stand (Some w) stood =
+            let q : Organization = placed organization o.ws (rules o.act now (seen_in organization o.ws)).left in
+            let gone : get q.workspaces o.ws ≡ None = own_workspace organization.workspaces o.ws (rules o.act now (seen_in organization o.ws)).left ∙ left in
+            let by_delete : (rules o.act now (there w)).left ≡ None = sym (ap (λ (x : Option Workspace). (rules o.act now (seen_by room x)).left) stood) ∙ left in
+            second_gone q gone (workspaces_go_by_delete o.act now w by_delete).0 (checked (Some q) asked content_md5 body) refl
     by_left (Some v) left =
         let q : Organization = placed organization o.ws (rules o.act now (seen_in organization o.ws)).left in
         let stands : get q.workspaces o.ws ≡ Some v = own_workspace organization.workspaces o.ws (rules o.act now (seen_in organization o.ws)).left ∙ left in
@@ -305,6 +326,14 @@ token_again o name token false e =
     let stands : is_some (get p.tokens name) ≡ true = ap is_some (get_own o.tokens name token) in
     ap (λ (b : Bool). (cond (b || has_digest token.digest p) (effect Exists (Some p)) (effect Done (Some (with_token p name token)))).left) stands
 
+-- a token that is taken away again
+revoked_again : (o : Organization) (name : List ℕ) (b : Bool) → is_some (get o.tokens name) ≡ b
+    → (token_revoked name (cond b (effect Done (Some (without_token o name))) (effect Absent (Some o))).left).left ≡ (cond b (effect Done (Some (without_token o name))) (effect Absent (Some o))).left
+revoked_again o name true e =
+    let p : Organization = without_token o name in
+    ap (λ (b : Bool). (cond b (effect Done (Some (without_token p name))) (effect Absent (Some p))).left) (ap is_some (removed_own o.tokens name))
+revoked_again o name false e = ap (λ (b : Bool). (cond b (effect Done (Some (without_token o name))) (effect Absent (Some o))).left) e
+
 command_again : (r : Option Organization) (command : Admin) → (command_step (command_step r command).left command).left ≡ (command_step r command).left
 command_again None (OrgAdd org limit) = refl
 command_again (Some o) (OrgAdd org limit) = refl
@@ -312,6 +341,11 @@ command_again None (TokenAdd org name role secret) = refl
 command_again (Some o) (TokenAdd org name role secret) =
     let token : Token = token_of (sha256 secret) role in
     token_again o name token (is_some (get o.tokens name) || has_digest token.digest o) refl
+command_again None (OrgLimit org limit) = refl
+command_again (Some o) (OrgLimit org limit) = refl
+command_again r OrgList = refl
+command_again None (TokenRevoke org name) = refl
+command_again (Some o) (TokenRevoke org name) = revoked_again o name (is_some (get o.tokens name)) refl
 
 pub steps_are_repeatable : StepsAreRepeatable
 steps_are_repeatable r silent later may = refl
@@ -328,25 +362,31 @@ not_refused org ws no_state e is = is
 not_refused org ws (state text) e is = is
 not_refused org ws (workspace shown) e is = is
 not_refused org ws (the_run r) e is = is
+not_refused org ws (versions list) e is = is
+not_refused org ws (runs list) e is = is
 
 -- the second of two requests, on any record whose workspace is as the first left it
-later_leaves : (r q : Option Organization) (now later : ℕ) (asked : Asked) (content_md5 : Option (List ℕ)) (body ws : List ℕ) (x y : Result Order Refusal)
+later_leaves : (r q : Option Organization) (now later : ℕ) (asked : Asked) (content_md5 : Option (List ℕ)) (body ws : List ℕ) (x y : Result Task Refusal)
     → checked r asked content_md5 body ≡ x → checked q asked content_md5 body ≡ y → ((act : Act) → IsActOn asked.act asked.lock_id body act → IsRepeatable act)
     → NamesIn asked.act ws → (carried asked.caller now r x).answer.refusal ≡ None → workspace_in q ws ≡ workspace_in (carried asked.caller now r x).left ws
     → workspace_in (carried asked.caller later q y).left ws ≡ workspace_in q ws
 later_leaves r q now later asked content_md5 body ws (Err refusal) y e f may names accepted same = absurd (let none : ⊥ = cc in none)
-later_leaves r q now later asked content_md5 body ws (Ok o) (Err refusal) e f may names accepted same = refl
-later_leaves r q now later asked content_md5 body ws (Ok o) (Ok p) e f may names accepted same =
+later_leaves r q now later asked content_md5 body ws (Ok (ListAll after)) y e f may names accepted same =
+    absurd (subst (λ (a : AskedAct). NamesIn a ws) (list_passes r asked content_md5 body after e) names)
+later_leaves r q now later asked content_md5 body ws (Ok (Carry o)) (Err refusal) e f may names accepted same = refl
+later_leaves r q now later asked content_md5 body ws (Ok (Carry o)) (Ok (ListAll after)) e f may names accepted same = refl
+later_leaves r q now later asked content_md5 body ws (Ok (Carry o)) (Ok (Carry p)) e f may names accepted same =
     let first : Passes r asked body o = order_passes r asked content_md5 body o e in
     let second : Passes q asked body p = order_passes q asked content_md5 body p f in
     let both : (p.ws ≡ o.ws) × (p.act ≡ o.act) = same_order r q asked body o p first second in
     let is : o.ws ≡ ws = subst (λ (a : AskedAct). NamesIn a ws) first.asks names in
-    let v = some_is (rules o.act now (seen_at r o.ws)).left (accepted_stays o.act now (seen_at r o.ws) (not_refused asked.caller o.ws (rules o.act now (seen_at r o.ws)).answer accepted)) in
-    let stands : workspace_in q o.ws ≡ Some v.0 = subst (λ (n : List ℕ). workspace_in q n ≡ workspace_in (ruled_in asked.caller o.ws r (rules o.act now (seen_at r o.ws))).left n) (sym is) same
-    ∙ own_after r asked.caller o.ws o.act now first.there ∙ v.1 in
+    let stands : standing (seen_at q o.ws) ≡ (rules o.act now (seen_at r o.ws)).left = standing_at q o.ws
+    ∙ subst (λ (n : List ℕ). workspace_in q n ≡ workspace_in (ruled_in asked.caller o.ws r (rules o.act now (seen_at r o.ws))).left n) (sym is) same
+    ∙ own_after r asked.caller o.ws o.act now first.there in
     let repeatable : IsRepeatable o.act = may o.act (act_on asked o.ws body first.what o.act first.asks first.spelt) in
-    let left : workspace_in (ruled_in asked.caller o.ws q (rules o.act later (seen_at q o.ws))).left o.ws ≡ workspace_in q o.ws =
-    again_there q asked.caller o.ws o.act now later (seen_at r o.ws) v.0 second.there repeatable v.1 stands ∙ sym stands in
+    let still : (rules o.act later (seen_at q o.ws)).left ≡ standing (seen_at q o.ws) =
+    accepted_acts_come_again o.act now later (seen_at r o.ws) (seen_at q o.ws) repeatable (not_refused asked.caller o.ws (rules o.act now (seen_at r o.ws)).answer accepted) stands in
+    let left : workspace_in (ruled_in asked.caller o.ws q (rules o.act later (seen_at q o.ws))).left o.ws ≡ workspace_in q o.ws = own_after q asked.caller o.ws o.act later second.there ∙ still ∙ standing_at q o.ws in
     ap (λ (n : List ℕ). workspace_in (ruled_in asked.caller n q (rules p.act later (seen_at q n))).left ws) both.0
     ∙ ap (λ (a : Act). workspace_in (ruled_in asked.caller o.ws q (rules a later (seen_at q o.ws))).left ws) both.1
     ∙ subst (λ (n : List ℕ). workspace_in (ruled_in asked.caller o.ws q (rules o.act later (seen_at q o.ws))).left n ≡ workspace_in q n) is left

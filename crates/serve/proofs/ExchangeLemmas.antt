@@ -22,7 +22,7 @@ use Rattle.serve.specs.Asks as ask
 use Rattle.serve.specs.Steps.{Said, replies}
 use Rattle.serve.specs.Inner.Prepared.{IsPrepared}
 use Rattle.serve.specs.Inner.Replying.{RepliesTo, ended_of}
-use Rattle.serve.specs.Service.{asked_by, Asks, Carries, Stays, said_to, is_own, is_head, after_ask}
+use Rattle.serve.specs.Service.{same_owner, asked_by, Asks, Carries, Stays, said_to, is_own, is_head, after_ask}
 use Rattle.serve.specs.Exchanges.{IsHead, IsAnswered, Exchanges, ChangesAtMostOne}
 use Rattle.serve.specs.declared.exchanges.LinkFault.{LinkFault}
 use Rattle.serve.specs.declared.exchanges.LinkFault.TheVariants.{Ended as LinkEnded, Read as LinkRead, Continue as LinkContinue, Write as LinkWrite}
@@ -53,11 +53,16 @@ carried_one (requests at awaited asked content_md5 body) old new carries = (aske
     stays_apart : (a : Ask) (other : List ℕ) (rows : List ℕ → Option Organization) (b : Bool) → bytes_eq other asked.caller ≡ b → other ≢ asked.caller → after_ask b a (rows other) ≡ rows other
     stays_apart a other rows true e apart = absurd (apart ((bytes_eq-Decides other asked.caller).0 e))
     stays_apart a other rows false e apart = refl
-carried_one (commands at command) old new carries = (ask.commanded_of command, (λ other apart. carries other ∙ stays_apart (commands at command) other old (bytes_eq other (ask.commanded_of command)) refl apart))
+carried_one (commands at command) old new carries = by_owner (ask.commanded_of command) carries
   where
-    stays_apart : (a : Ask) (other : List ℕ) (rows : List ℕ → Option Organization) (b : Bool) → bytes_eq other (ask.commanded_of command) ≡ b → other ≢ ask.commanded_of command → after_ask b a (rows other) ≡ rows other
-    stays_apart a other rows true e apart = absurd (apart ((bytes_eq-Decides other (ask.commanded_of command)).0 e))
-    stays_apart a other rows false e apart = refl
+    stays_apart : (org other : List ℕ) (b : Bool) → bytes_eq other org ≡ b → other ≢ org → after_ask b (commands at command) (old other) ≡ old other
+    stays_apart org other true e apart = absurd (apart ((bytes_eq-Decides other org).0 e))
+    stays_apart org other false e apart = refl
+
+    by_owner : (w : Owner) → ((other : List ℕ) → new other ≡ after_ask (same_owner (organization other) w) (commands at command) (old other)) → ChangesAtMostOne old new
+    by_owner (organization org) is = (org, (λ other apart. is other ∙ stays_apart org other (bytes_eq other org) refl apart))
+    by_owner unattributed is = ([], (λ other apart. is other))
+    by_owner operator is = ([], (λ other apart. is other))
 
 pub answered_one : (now : ℕ) (message : Message) (old new : List ℕ → Option Organization) (reply : Answer)
     → ((awaited : Bool) → Carries (asked_by now awaited message (asked_of message)) old new × (said_to old (asked_by now awaited message (asked_of message)) ≡ replies awaited now reply))

@@ -9,7 +9,7 @@ use Rattle.basis.specs.declared.roles.Role.TheVariants.{Read as Reads, Write as 
 use Rattle.sha2.specs.Sha256.{sha256}
 use Rattle.docs.specs.Documents.{state_head, lock_id_of, settings_of, run_ask}
 use Rattle.machine.specs.Records.{Seen, missing, there, standing, workspace_in}
-use Rattle.machine.specs.Rules.{Outcome, refused, held, done, no_state, state, workspace, the_run, rules}
+use Rattle.machine.specs.Rules.{Outcome, refused, held, done, no_state, state, workspace, the_run, versions, runs, rules}
 use Rattle.machine.specs.Tokens.{caller_of}
 use Rattle.machine.specs.declared.acts.Act.{Act}
 use Rattle.machine.specs.declared.records.Holder.{Holder}
@@ -23,10 +23,14 @@ use Rattle.route.specs.declared.acts.AskedAct.{AskedAct}
 use Rattle.route.specs.declared.acts.AskedAct.TheVariants.{ListWorkspaces, OfWorkspace}
 use Rattle.route.specs.declared.acts.WsAct.{WsAct}
 use Rattle.route.specs.declared.acts.WsAct.TheVariants.{Read, Put, Delete, ReadState, UpdateState, PurgeState, Lock, Unlock, ForceUnlock, ListVersions, ReadVersion, ListRuns, MakeRun, ReadRun, ReportRun}
-use Rattle.serve.specs.Checks.{require, known_caller, may_do, is_in_reach, in_reach, is_found, found_if, found, place, fits, digest_checked, spelt, act_of, checked}
+use Rattle.serve.specs.Checks.{task_of, require, known_caller, may_do, is_in_reach, in_reach, is_found, found_if, found, place, fits, digest_checked, spelt, act_of, checked}
 use Rattle.serve.specs.Steps.{answer_to, holder_text, seen_at, carried, request_step}
 use Rattle.serve.specs.Custody.{NamesIn, LockedTellsTheHolder}
 use Rattle.serve.specs.declared.prepared.Order.{Order}
+use Rattle.serve.specs.declared.prepared.Task.{Task}
+use Rattle.serve.specs.declared.prepared.Task.TheVariants.{ListAll, Carry}
+use Rattle.serve.specs.declared.prepared.Found.{Found}
+use Rattle.serve.specs.declared.prepared.Found.TheVariants.{Workspaces, At}
 use Rattle.serve.specs.declared.prepared.Place.{Place}
 use Rattle.serve.proofs.CheckLemmas.{Passes, order_passes, after_names, after_reach, after_role, after_caller}
 use Rattle.serve.proofs.RecordLemmas.{standing_at}
@@ -89,14 +93,18 @@ act_other (ReportRun number action) id body e = let none : ⊥ = cc in none
 ok_other : {A : Type 0} (a : A) → IsOther (Ok a)
 ok_other a e = let none : ⊥ = cc in none
 
+task_other : (f : Found) (id : Option (List ℕ)) (body : List ℕ) → IsOther (task_of f id body)
+task_other (Workspaces after) id body e = let none : ⊥ = cc in none
+task_other (At p) id body e = other_then (act_of p.act id body) _ (act_other p.act id body) (λ act. ok_other _) e
+
 checked_other : (r : Option Organization) (asked : Asked) (content_md5 : Option (List ℕ)) (body : List ℕ) → IsOther (checked r asked content_md5 body)
 checked_other r asked content_md5 body =
     other_then (known_caller r asked) (after_caller r asked content_md5 body) (caller_other (caller_of r (sha256 asked.secret))) (λ token.
     other_then (may_do token asked) (λ _. after_role r asked content_md5 body) (role_other (includes token.role (least_role asked.act)) (least_role asked.act)) (λ _.
     other_then (in_reach asked) (λ _. after_reach r asked content_md5 body) (required NotFound (is_in_reach asked) (λ is. let none : ⊥ = cc in none)) (λ _.
-    other_then (found r asked.act) (after_names asked content_md5 body) (found_other r asked.act) (λ p.
-    other_then (digest_checked content_md5 body) (λ _. and_then (act_of p.act asked.lock_id body) _) (required BadDigest (fits content_md5 body) (λ is. let none : ⊥ = cc in none)) (λ _.
-    other_then (act_of p.act asked.lock_id body) _ (act_other p.act asked.lock_id body) (λ act. ok_other _))))))
+    other_then (found r asked.act) (after_names asked content_md5 body) (found_other r asked.act) (λ f.
+    other_then (digest_checked content_md5 body) (λ _. task_of f asked.lock_id body) (required BadDigest (fits content_md5 body) (λ is. let none : ⊥ = cc in none)) (λ _.
+    task_other f asked.lock_id body)))))
 
 -- the outcome that is answered 423 tells of a holder
 held_by : (org ws : List ℕ) (o : Outcome) → (answer_to org ws o).refusal ≡ Some Locked → (o ≡ refused Locked → ⊥) → (h : Holder) × (o ≡ held h)
@@ -107,16 +115,19 @@ held_by org ws no_state e never = absurd (let none : ⊥ = cc in none)
 held_by org ws (state text) e never = absurd (let none : ⊥ = cc in none)
 held_by org ws (workspace shown) e never = absurd (let none : ⊥ = cc in none)
 held_by org ws (the_run r) e never = absurd (let none : ⊥ = cc in none)
+held_by org ws (versions list) e never = absurd (let none : ⊥ = cc in none)
+held_by org ws (runs list) e never = absurd (let none : ⊥ = cc in none)
 
 seen_holder : (s : Seen) (act : Act) (now : ℕ) (h : Holder) → (rules act now s).answer ≡ held h → (w : Workspace) × (s ≡ there w) × (h ≡ w.holder)
 seen_holder (missing room) act now h e = absurd (missing_tells_no_holder act room h e)
 seen_holder (there w) act now h e = (w, refl, refusals_tell_the_holder act now w h e)
 
-carried_holder : (r : Option Organization) (now : ℕ) (asked : Asked) (content_md5 : Option (List ℕ)) (body : List ℕ) (x : Result Order Refusal) → checked r asked content_md5 body ≡ x
+carried_holder : (r : Option Organization) (now : ℕ) (asked : Asked) (content_md5 : Option (List ℕ)) (body : List ℕ) (x : Result Task Refusal) → checked r asked content_md5 body ≡ x
     → (carried asked.caller now r x).answer.refusal ≡ Some Locked
     → (ws : List ℕ) × (w : Workspace) × NamesIn asked.act ws × (workspace_in r ws ≡ Some w) × ((carried asked.caller now r x).answer.body ≡ holder_text asked.caller ws w.holder)
 carried_holder r now asked content_md5 body (Err refusal) e is = absurd (checked_other r asked content_md5 body (e ∙ (let same : refusal ≡ Locked = cc in ap Err same)))
-carried_holder r now asked content_md5 body (Ok o) e is =
+carried_holder r now asked content_md5 body (Ok (ListAll after)) e is = absurd (let none : ⊥ = cc in none)
+carried_holder r now asked content_md5 body (Ok (Carry o)) e is =
     let p : Passes r asked body o = order_passes r asked content_md5 body o e in
     let s : Seen = seen_at r o.ws in
     let h : (h : Holder) × ((rules o.act now s).answer ≡ held h) = held_by asked.caller o.ws (rules o.act now s).answer is (never_refused_as_locked o.act now s) in

@@ -8,9 +8,9 @@ use Rattle.basis.specs.declared.refusals.Refusal.{Refusal}
 use Rattle.basis.specs.declared.refusals.Refusal.TheVariants.{NotFound}
 use Rattle.machine.specs.Effects.{effect}
 use Rattle.machine.specs.Records.{workspace_in, standing, placed}
-use Rattle.machine.specs.Rules.{Outcome, refused, held, done, no_state, state, workspace, the_run, Ruling, rules}
+use Rattle.machine.specs.Rules.{Outcome, refused, held, done, no_state, state, workspace, the_run, versions, runs, Ruling, rules}
 use Rattle.machine.specs.Custody.{IsRefusal}
-use Rattle.machine.specs.Tokens.{token_of, with_token, has_digest}
+use Rattle.machine.specs.Tokens.{token_of, with_token, without_token, has_digest}
 use Rattle.machine.specs.declared.keeps.AdminAnswer.{AdminAnswer}
 use Rattle.machine.specs.declared.keeps.AdminAnswer.TheVariants.{Done, Exists, Absent}
 use Rattle.machine.specs.declared.records.Token.{Token}
@@ -28,12 +28,14 @@ use Rattle.route.specs.declared.acts.WsAct.{WsAct}
 use Rattle.route.specs.declared.acts.WsAct.TheVariants.{Read, Put, Delete, ReadState, UpdateState, PurgeState, Lock, Unlock, ForceUnlock, ListVersions, ReadVersion, ListRuns, MakeRun, ReadRun, ReportRun}
 use Rattle.wire.specs.Replies.{Answer}
 use Rattle.serve.specs.declared.steps.Admin.{Admin}
-use Rattle.serve.specs.declared.steps.Admin.TheVariants.{OrgAdd, TokenAdd}
+use Rattle.serve.specs.declared.steps.Admin.TheVariants.{OrgAdd, OrgLimit, OrgList, TokenAdd, TokenRevoke}
 use Rattle.serve.specs.declared.prepared.Order.{Order}
+use Rattle.serve.specs.declared.prepared.Task.{Task}
+use Rattle.serve.specs.declared.prepared.Task.TheVariants.{ListAll, Carry}
 use Rattle.serve.specs.Asks.{Ask, silent, requests, commands}
 use Rattle.serve.specs.Asks as ask
-use Rattle.serve.specs.Checks.{known_caller, may_do, is_in_reach, in_reach, require, makes, is_served, is_there, is_found, found_if, found, place, checked}
-use Rattle.serve.specs.Steps.{Said, replies, tells, answer_to, seen_at, ruled_in, carried, request_step, command_step, step}
+use Rattle.serve.specs.Checks.{known_caller, may_do, is_in_reach, in_reach, require, makes, is_there, is_found, found_if, found, place, checked}
+use Rattle.serve.specs.Steps.{Said, replies, tells, answer_to, seen_at, ruled_in, carried, request_step, command_step, command_said, step}
 use Rattle.serve.specs.Laws.{RefusalsChangeNothing, OutOfReachIsNotFound, renamed, NeedsWorkspace, OutOfReachIsAsAbsent}
 use Rattle.serve.proofs.CheckLemmas.{after_ok, after_err, after_names, after_reach, after_role, after_caller}
 use Rattle.serve.proofs.RecordLemmas.{placed_same, standing_at}
@@ -47,13 +49,16 @@ refuses_by org ws no_state refusal e = absurd (let none : ⊥ = cc in none)
 refuses_by org ws (state text) refusal e = absurd (let none : ⊥ = cc in none)
 refuses_by org ws (workspace shown) refusal e = absurd (let none : ⊥ = cc in none)
 refuses_by org ws (the_run r) refusal e = absurd (let none : ⊥ = cc in none)
+refuses_by org ws (versions list) refusal e = absurd (let none : ⊥ = cc in none)
+refuses_by org ws (runs list) refusal e = absurd (let none : ⊥ = cc in none)
 
 ruled_leaves : (org ws : List ℕ) (r : Option Organization) (ruling : Ruling) → ruling.left ≡ workspace_in r ws → (ruled_in org ws r ruling).left ≡ r
 ruled_leaves org ws r ruling e = ap (λ (w : Option Workspace). option_map (λ (o : Organization). placed o ws w) r) e ∙ placed_same r ws
 
-carried_leaves : (org : List ℕ) (now : ℕ) (r : Option Organization) (x : Result Order Refusal) (refusal : Refusal) → (carried org now r x).answer.refusal ≡ Some refusal → (carried org now r x).left ≡ r
+carried_leaves : (org : List ℕ) (now : ℕ) (r : Option Organization) (x : Result Task Refusal) (refusal : Refusal) → (carried org now r x).answer.refusal ≡ Some refusal → (carried org now r x).left ≡ r
 carried_leaves org now r (Err other) refusal e = refl
-carried_leaves org now r (Ok order) refusal e =
+carried_leaves org now r (Ok (ListAll after)) refusal e = refl
+carried_leaves org now r (Ok (Carry order)) refusal e =
     ruled_leaves org order.ws r (rules order.act now (seen_at r order.ws))
     (rules_change_nothing order.act now (seen_at r order.ws) (refuses_by org order.ws (rules order.act now (seen_at r order.ws)).answer refusal e) ∙ standing_at r order.ws)
 
@@ -67,12 +72,33 @@ command_leaves (Some o) (TokenAdd org name role secret) apart = chosen (is_some 
         → (cond b (effect Exists (Some o)) (effect Done (Some (with_token o name (token_of (sha256 secret) role))))).left ≡ Some o
     chosen true apart = refl
     chosen false apart = absurd (apart refl)
+command_leaves None (OrgLimit org limit) apart = refl
+command_leaves (Some o) (OrgLimit org limit) apart = absurd (apart refl)
+command_leaves r OrgList apart = refl
+command_leaves None (TokenRevoke org name) apart = refl
+command_leaves (Some o) (TokenRevoke org name) apart = taken (is_some (get o.tokens name)) apart
+  where
+    taken : (b : Bool) → (cond b (effect Done (Some (without_token o name))) (effect Absent (Some o))).answer ≢ Done → (cond b (effect Done (Some (without_token o name))) (effect Absent (Some o))).left ≡ Some o
+    taken true apart = absurd (apart refl)
+    taken false apart = refl
+
+-- what is said to an operator is the word of the command, or a list
+said_is : (command : Admin) (a b : AdminAnswer) → command_said command a ≡ tells b → a ≡ b
+said_is (OrgAdd org limit) a b e = cc
+said_is (OrgLimit org limit) a b e = cc
+said_is OrgList a b e = absurd (let none : ⊥ = cc in none)
+said_is (TokenAdd org name role secret) a b e = cc
+said_is (TokenRevoke org name) a b e = cc
+
+no_reply : (command : Admin) (a : AdminAnswer) (awaited : Bool) (now : ℕ) (answer : Answer) → command_said command a ≡ replies awaited now answer → ⊥
+no_reply (OrgAdd org limit) a awaited now answer e = let none : ⊥ = cc in none
+no_reply (OrgLimit org limit) a awaited now answer e = let none : ⊥ = cc in none
+no_reply OrgList a awaited now answer e = let none : ⊥ = cc in none
+no_reply (TokenAdd org name role secret) a awaited now answer e = let none : ⊥ = cc in none
+no_reply (TokenRevoke org name) a awaited now answer e = let none : ⊥ = cc in none
 
 answer_is : (awaited also : Bool) (at now : ℕ) (a b : Answer) → replies awaited at a ≡ replies also now b → a ≡ b
 answer_is awaited also at now a b e = cc
-
-word_is : (a b : AdminAnswer) → tells a ≡ tells b → a ≡ b
-word_is a b e = cc
 
 pub refusals_change_nothing : RefusalsChangeNothing
 refusals_change_nothing r silent = ((λ awaited at answer refusal e is. refl), (λ answer e apart. refl))
@@ -83,8 +109,8 @@ refusals_change_nothing r (requests at awaited asked content_md5 body) = (
   (λ answer e apart. absurd (let none : ⊥ = cc in none)),
 )
 refusals_change_nothing r (commands at command) = (
-  (λ awaited now answer refusal e is. absurd (let none : ⊥ = cc in none)),
-  (λ answer e apart. command_leaves r command (λ done. apart (sym (word_is (command_step r command).answer answer e) ∙ done))),
+  (λ awaited now answer refusal e is. absurd (no_reply command (command_step r command).answer awaited now answer e)),
+  (λ answer e apart. command_leaves r command (λ done. apart (sym (said_is command (command_step r command).answer answer e) ∙ done))),
 )
 
 -- what is out of reach
@@ -118,9 +144,8 @@ none_of_none MakeRun = refl
 none_of_none (ReadRun number) = refl
 none_of_none (ReportRun number action) = refl
 
-lacking : (b c : Bool) (r : Option Organization) (ws : List ℕ) (what : WsAct) → workspace_in r ws ≡ None → c ≡ false → (b && (c || is_there what (workspace_in r ws))) ≡ false
-lacking true c r ws what none e = ap (λ (d : Bool). d || is_there what (workspace_in r ws)) e ∙ ap (is_there what) none ∙ none_of_none what
-lacking false c r ws what none e = refl
+lacking : (c : Bool) (r : Option Organization) (ws : List ℕ) (what : WsAct) → workspace_in r ws ≡ None → c ≡ false → (c || is_there what (workspace_in r ws)) ≡ false
+lacking c r ws what none e = ap (λ (d : Bool). d || is_there what (workspace_in r ws)) e ∙ ap (is_there what) none ∙ none_of_none what
 
 absent_after_role : (r : Option Organization) (asked : Asked) (content_md5 : Option (List ℕ)) (body org ws : List ℕ) (act : AskedAct) → NeedsWorkspace act → workspace_in r ws ≡ None
     → after_role r (record asked { org = org; act = renamed act ws }) content_md5 body ≡ Err NotFound
@@ -132,7 +157,7 @@ absent_after_role r asked content_md5 body org ws (OfWorkspace old act) needs no
 
     reached : (b : Bool) → and_then (require NotFound b) (λ _. after_reach r other content_md5 body) ≡ Err NotFound
     reached true = after_err (found r (OfWorkspace ws act)) (after_names other content_md5 body) NotFound
-        (ap (λ (b : Bool). found_if b (place ws act)) (lacking (is_served act) (makes act) r ws act none needs))
+        (ap (λ (b : Bool). found_if b (place ws act)) (lacking (makes act) r ws act none needs))
     reached false = refl
 
 -- the role that is needed is the same

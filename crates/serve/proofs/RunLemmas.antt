@@ -1,4 +1,5 @@
 -- A run one step longer, and runs that agree.
+use Rattle.std.specs.Prelude.{⊤}
 use Rattle.std.proofs.Common.{◌≡◌, ℕ, suc, ◌+◌, Bool, true, false, List, [], ◌∷◌, ◌++◌, length, take, get_or, ◌<◌, Option, Some, None, Result, Ok, Err, IfOk, OnOk, Vec, Global, refl, sym, ap, subst, ◌∙◌, arith}
 use Rattle.std.proofs.lemmas.Slice.Eq.{bytes_eq-Decides}
 use Rattle.std.proofs.lemmas.List.{take_more, length-take-le}
@@ -9,8 +10,11 @@ use Rattle.wire.proofs.ReplyLemmas.{one_reply}
 use Rattle.wire.specs.Links.{continue_if}
 use Rattle.serve.specs.declared.steps.Step.{Step}
 use Rattle.serve.specs.declared.steps.Step.TheVariants.{Request, Command}
-use Rattle.serve.specs.Asks.{Ask, silent, refused, requests, commands, Owner, organization, unattributed, operator, owner_of}
-use Rattle.serve.specs.Steps.{Said, nothing, replies, tells, step, own_said, own_record}
+use Rattle.serve.specs.declared.steps.Admin.{Admin}
+use Rattle.serve.specs.declared.steps.Admin.TheVariants.{OrgAdd, OrgLimit, OrgList, TokenAdd, TokenRevoke}
+use Rattle.machine.specs.declared.keeps.AdminAnswer.{AdminAnswer}
+use Rattle.serve.specs.Asks.{Ask, silent, refused, requests, commands, Owner, organization, unattributed, operator, commanded_of, owner_of}
+use Rattle.serve.specs.Steps.{Said, nothing, replies, tells, lists, command_step, command_said, step, own_said, own_record}
 use Rattle.serve.specs.Service.{IsAsked, AreAsked, AreTexts, IsText, ask_of, same_owner, is_own, with_own, own_asks, replies_at, record_for, after_ask, said_to}
 use Rattle.serve.specs.Runs.{IsOwnMachine, IsOwnRecord, AreOwnReplies}
 use Rattle.serve.specs.Inner.Taking.{IsTaken, RunsTo}
@@ -83,37 +87,47 @@ said_more true owner rows a text e is =
 said_more false owner rows a text e is = tt
 
 -- the record that the owner's next step reads is what its own run has left
--- a step of unattributed changes no record
+-- a step of unattributed changes no record, nor does the operator's over all organizations
+nobody_commands : (command : Admin) → same_owner unattributed (commanded_of command) ≡ true → ⊥
+nobody_commands (OrgAdd org limit) e = let no : ⊥ = cc in no
+nobody_commands (OrgLimit org limit) e = let no : ⊥ = cc in no
+nobody_commands OrgList e = let no : ⊥ = cc in no
+nobody_commands (TokenAdd org name role secret) e = let no : ⊥ = cc in no
+nobody_commands (TokenRevoke org name) e = let no : ⊥ = cc in no
+
 nobody_still : (b : Ask) (r : Option Organization) → same_owner unattributed (owner_of b) ≡ true → (step r b).left ≡ r
 nobody_still silent r e = refl
 nobody_still (refused at awaited refusal is_head) r e = refl
 nobody_still (requests at awaited asked content_md5 body) r e = absurd (let no : ⊥ = cc in no)
-nobody_still (commands at command) r e = absurd (let no : ⊥ = cc in no)
+nobody_still (commands at command) r e = absurd (nobody_commands command e)
 
-one_of_nobody : (t : Bool) (b : Ask) (rest : List Ask) (r : Option Organization) → is_own unattributed b ≡ t → own_record r rest ≡ r → own_record r (with_own t b rest) ≡ r
-one_of_nobody true b rest r e h = ap (λ (x : Option Organization). own_record x rest) (nobody_still b r e) ∙ h
-one_of_nobody false b rest r e h = h
+list_still : (command : Admin) (r : Option Organization) → same_owner operator (commanded_of command) ≡ true → (command_step r command).left ≡ r
+list_still (OrgAdd org limit) r e = absurd (let no : ⊥ = cc in no)
+list_still (OrgLimit org limit) r e = absurd (let no : ⊥ = cc in no)
+list_still OrgList r e = refl
+list_still (TokenAdd org name role secret) r e = absurd (let no : ⊥ = cc in no)
+list_still (TokenRevoke org name) r e = absurd (let no : ⊥ = cc in no)
 
-nobody_stays : (asked : List Ask) (r : Option Organization) → own_record r (own_asks unattributed asked) ≡ r
-nobody_stays [] r = refl
-nobody_stays (b ∷ asked) r = one_of_nobody (is_own unattributed b) b (own_asks unattributed asked) r refl (nobody_stays asked r)
+operator_still : (b : Ask) (r : Option Organization) → same_owner operator (owner_of b) ≡ true → (step r b).left ≡ r
+operator_still silent r e = absurd (let no : ⊥ = cc in no)
+operator_still (refused at awaited refusal is_head) r e = absurd (let no : ⊥ = cc in no)
+operator_still (requests at awaited asked content_md5 body) r e = absurd (let no : ⊥ = cc in no)
+operator_still (commands at command) r e = list_still command r e
 
--- no step so far is the operator's over all organizations
-not_operator : (a : Ask) → is_own operator a ≡ false
-not_operator silent = refl
-not_operator (refused at awaited refusal is_head) = refl
-not_operator (requests at awaited asked content_md5 body) = refl
-not_operator (commands at command) = refl
+module _ (owner : Owner) (still : (b : Ask) (r : Option Organization) → same_owner owner (owner_of b) ≡ true → (step r b).left ≡ r) where
+  one_still : (t : Bool) (b : Ask) (rest : List Ask) (r : Option Organization) → is_own owner b ≡ t → own_record r rest ≡ r → own_record r (with_own t b rest) ≡ r
+  one_still true b rest r e h = ap (λ (x : Option Organization). own_record x rest) (still b r e) ∙ h
+  one_still false b rest r e h = h
 
-none_of_operator : (asked : List Ask) → own_asks operator asked ≡ []
-none_of_operator [] = refl
-none_of_operator (a ∷ asked) = ap (λ (b : Bool). with_own b a (own_asks operator asked)) (not_operator a) ∙ none_of_operator asked
+  all_still : (asked : List Ask) (r : Option Organization) → own_record r (own_asks owner asked) ≡ r
+  all_still [] r = refl
+  all_still (b ∷ asked) r = one_still (is_own owner b) b (own_asks owner asked) r refl (all_still asked r)
 
 own_so_far : (owner : Owner) (asked : List Ask) (old mid : List ℕ → Option Organization) → ((org : List ℕ) → IsOwnRecord asked old mid org)
     → record_for mid owner ≡ own_record (record_for old owner) (own_asks owner asked)
 own_so_far (organization org) asked old mid rows = rows org
-own_so_far unattributed asked old mid rows = sym (nobody_stays asked None)
-own_so_far operator asked old mid rows = sym (ap (own_record None) (none_of_operator asked))
+own_so_far unattributed asked old mid rows = sym (all_still unattributed nobody_still asked None)
+own_so_far operator asked old mid rows = sym (all_still operator operator_still asked None)
 
 pub runs_none : (rows : List ℕ → Option Organization) → RunsTo [] rows rows []
 runs_none rows = record { asked = []; are = tt; rows = λ org. refl; texts = λ owner. tt }
@@ -161,19 +175,53 @@ all_asked_one (s ∷ steps) [] ys h k = absurd h
 all_asked_one (s ∷ steps) (a ∷ xs) [] h k = absurd k
 all_asked_one (s ∷ steps) (a ∷ xs) (b ∷ ys) h k = ap (λ (x : Ask). x ∷ xs) (asked_one s a b h.0 k.0) ∙ ap (λ (l : List Ask). b ∷ l) (all_asked_one steps xs ys h.1 k.1)
 
--- a thing said has one text
-one_text : (said : Said) (x y : List ℕ) → IsText said x → IsText said y → x ≡ y
-one_text nothing x y h k = h ∙ sym k
-one_text (replies awaited at answer) x y h k = h.2 ∙ ap (λ (r : List ℕ). continue_if awaited ++ r) (one_reply answer at h.0 k.0 h.1 k.1) ∙ sym k.2
-one_text (tells answer) x y h k = h ∙ sym k
+-- what an organization's machine says: anything but the list of all organizations
+abbrev IsOfOne : Said → Type 0
+IsOfOne nothing = ⊤
+IsOfOne (replies awaited at answer) = ⊤
+IsOfOne (tells answer) = ⊤
+IsOfOne lists = ⊥
 
-pub one_list_of_texts : (said : List Said) (xs ys : List (List ℕ)) → AreTexts said xs → AreTexts said ys → xs ≡ ys
-one_list_of_texts [] [] [] h k = refl
-one_list_of_texts [] [] (y ∷ ys) h k = absurd k
-one_list_of_texts [] (x ∷ xs) ys h k = absurd h
-one_list_of_texts (s ∷ said) [] ys h k = absurd h
-one_list_of_texts (s ∷ said) (x ∷ xs) [] h k = absurd k
-one_list_of_texts (s ∷ said) (x ∷ xs) (y ∷ ys) h k = ap (λ (t : List ℕ). t ∷ xs) (one_text s x y h.0 k.0) ∙ ap (λ (l : List (List ℕ)). y ∷ l) (one_list_of_texts said xs ys h.1 k.1)
+said_of_one : (org : List ℕ) (command : Admin) (answer : AdminAnswer) → same_owner (organization org) (commanded_of command) ≡ true → IsOfOne (command_said command answer)
+said_of_one org (OrgAdd name limit) answer own = tt
+said_of_one org (OrgLimit name limit) answer own = tt
+said_of_one org OrgList answer own = absurd (let none : ⊥ = cc in none)
+said_of_one org (TokenAdd name token role secret) answer own = tt
+said_of_one org (TokenRevoke name token) answer own = tt
+
+step_of_one : (org : List ℕ) (r : Option Organization) (a : Ask) → is_own (organization org) a ≡ true → IsOfOne (step r a).answer
+step_of_one org r silent own = tt
+step_of_one org r (refused at awaited refusal is_head) own = tt
+step_of_one org r (requests at awaited asked content_md5 body) own = tt
+step_of_one org r (commands at command) own = said_of_one org command (command_step r command).answer own
+
+abbrev AreOfOne : List Said → Type 0
+AreOfOne [] = ⊤
+AreOfOne (s ∷ said) = IsOfOne s × AreOfOne said
+
+own_of_one : (org : List ℕ) (r : Option Organization) (asked : List Ask) → AreOfOne (own_said r (own_asks (organization org) asked))
+own_of_one org r [] = tt
+own_of_one org r (a ∷ asked) = chosen (is_own (organization org) a) refl (λ q. own_of_one org q asked)
+  where
+    chosen : (b : Bool) → is_own (organization org) a ≡ b → ((q : Option Organization) → AreOfOne (own_said q (own_asks (organization org) asked)))
+        → AreOfOne (own_said r (with_own b a (own_asks (organization org) asked)))
+    chosen true own rest = (step_of_one org r a own, rest (step r a).left)
+    chosen false own rest = rest r
+
+-- a thing said has one text
+one_text : (said : Said) (x y : List ℕ) → IsOfOne said → IsText said x → IsText said y → x ≡ y
+one_text lists x y of_one h k = absurd of_one
+one_text nothing x y of_one h k = h ∙ sym k
+one_text (replies awaited at answer) x y of_one h k = h.2 ∙ ap (λ (r : List ℕ). continue_if awaited ++ r) (one_reply answer at h.0 k.0 h.1 k.1) ∙ sym k.2
+one_text (tells answer) x y of_one h k = h ∙ sym k
+
+pub one_list_of_texts : (said : List Said) (xs ys : List (List ℕ)) → AreOfOne said → AreTexts said xs → AreTexts said ys → xs ≡ ys
+one_list_of_texts [] [] [] one h k = refl
+one_list_of_texts [] [] (y ∷ ys) one h k = absurd k
+one_list_of_texts [] (x ∷ xs) ys one h k = absurd h
+one_list_of_texts (s ∷ said) [] ys one h k = absurd h
+one_list_of_texts (s ∷ said) (x ∷ xs) [] one h k = absurd k
+one_list_of_texts (s ∷ said) (x ∷ xs) (y ∷ ys) one h k = ap (λ (t : List ℕ). t ∷ xs) (one_text s x y one.0 h.0 k.0) ∙ ap (λ (l : List (List ℕ)). y ∷ l) (one_list_of_texts said xs ys one.1 h.1 k.1)
 
 -- of a run, by whatever reading of its steps
 pub rows_by : (steps : List Step) (old new : List ℕ → Option Organization) (ts : List (List ℕ)) → RunsTo steps old new ts
@@ -222,6 +270,7 @@ two_worlds org asked other before after before' after' texts answers first secon
     let said : own_said (before org) (own_asks (organization org) asked) ≡ own_said (before' org) (own_asks (organization org) other) =
     ap (λ (r : Option Organization). own_said r (own_asks (organization org) asked)) rows ∙ ap (own_said (before' org)) steps in (
       one_list_of_texts (own_said (before' org) (own_asks (organization org) other)) (replies_at (organization org) asked texts) (replies_at (organization org) other answers)
+          (own_of_one org (before' org) other)
           (subst (λ (s : List Said). AreTexts s (replies_at (organization org) asked texts)) said first.own_replies) second.own_replies,
       first.own_record ∙ ap (λ (r : Option Organization). own_record r (own_asks (organization org) asked)) rows ∙ ap (own_record (before' org)) steps ∙ sym second.own_record,
     )
@@ -243,14 +292,3 @@ same_steps org steps others asked other are are' same =
     all_asked_one (own_steps org steps asked) (own_asks (organization org) asked) (own_asks (organization org) other)
     (own_are_asked org steps asked are)
     (subst (λ (xs : List Step). AreAsked xs (own_asks (organization org) other)) (sym same) (own_are_asked org others other are'))
-
--- no reply is the operator's over all organizations
-none_at_operator : (asked : List Ask) (ts : List (List ℕ)) → replies_at operator asked ts ≡ []
-none_at_operator [] ts = refl
-none_at_operator (a ∷ asked) [] = refl
-none_at_operator (a ∷ asked) (t ∷ ts) = ap (λ (b : Bool). with_own b t (replies_at operator asked ts)) (not_operator a) ∙ none_at_operator asked ts
-
-pub no_operator : (asked : List Ask) (rows : List ℕ → Option Organization) (ts : List (List ℕ)) → AreOwnReplies asked rows ts operator
-no_operator asked rows ts =
-    subst (λ (xs : List (List ℕ)). AreTexts (own_said None (own_asks operator asked)) xs) (sym (none_at_operator asked ts))
-    (subst (λ (xs : List Ask). AreTexts (own_said None xs) []) (sym (none_of_operator asked)) tt)

@@ -16,12 +16,12 @@ use Rattle.serve.specs.Asks as ask
 use Rattle.serve.specs.Inner.Prepared.{IsPrepared, Foresees}
 use Rattle.serve.specs.Steps.{request_step}
 use Rattle.serve.specs.Service.{asked_by, Asks, Carries, Stays, said_to, IsText, after_ask, is_own}
-use Rattle.serve.specs.Steps.{Said, tells}
-use Rattle.serve.specs.Service.{IsAsked, admin_text}
-use Rattle.serve.specs.Inner.Taking.{IsTaken}
+use Rattle.serve.specs.Service.{IsAsked, IsAdminAnswer, admin_word}
+use Rattle.serve.specs.Inner.Taking.{IsTaken, IsOnOne}
 use Rattle.serve.specs.declared.steps.Step.{Step}
 use Rattle.serve.specs.declared.steps.Step.TheVariants.{Command}
 use Rattle.serve.specs.declared.steps.Admin.{Admin}
+use Rattle.serve.specs.declared.steps.Admin.TheVariants.{OrgAdd, OrgLimit, OrgList, TokenAdd, TokenRevoke}
 use Rattle.machine.specs.declared.keeps.AdminAnswer.{AdminAnswer}
 use Rattle.serve.proofs.RecordLemmas.{if_ok}
 
@@ -101,6 +101,11 @@ command_taken s at command old new res is h =
       text_is = (taken at).1;
     }) h
 
--- the text of what is told
-pub told : (said : Said) (answer : AdminAnswer) (text : List ℕ) → said ≡ tells answer → text ≡ admin_text answer → IsText said text
-told said answer text is made = subst (λ (s : Said). IsText s text) (sym is) made
+-- the word of a command on one organization
+pub word_taken : (rows : List ℕ → Option Organization) (command : Admin) (answer : AdminAnswer) (text : List ℕ) (at : ℕ) → IsAdminAnswer rows command answer → text ≡ admin_word answer → IsOnOne command
+    → IsText (said_to rows (commands at command)) text
+word_taken rows (OrgAdd org limit) answer text at is made one = made ∙ ap admin_word is
+word_taken rows (OrgLimit org limit) answer text at is made one = made ∙ ap admin_word is
+word_taken rows OrgList answer text at is made one = absurd one
+word_taken rows (TokenAdd org name role secret) answer text at is made one = made ∙ ap admin_word is
+word_taken rows (TokenRevoke org name) answer text at is made one = made ∙ ap admin_word is

@@ -3,7 +3,7 @@ use Rattle.std.specs.Prelude.{ℕ, Bool, List, Option, Some, None}
 use Rattle.basis.specs.declared.refusals.Refusal.{Refusal}
 use Rattle.route.specs.declared.acts.Asked.{Asked}
 use Rattle.serve.specs.declared.steps.Admin.{Admin}
-use Rattle.serve.specs.declared.steps.Admin.TheVariants.{OrgAdd, TokenAdd}
+use Rattle.serve.specs.declared.steps.Admin.TheVariants.{OrgAdd, OrgLimit, OrgList, TokenAdd, TokenRevoke}
 
 -- what a step asks, at a moment; the flag `awaited` says that `100 Continue` goes before the reply
 pub data Ask : Type 0 where
@@ -25,14 +25,17 @@ pub data Owner : Type 0 where
   -- the operator's, over all organizations
   operator : Owner
 
--- the organization that an operator's command names
-abbrev pub commanded_of : Admin → List ℕ
-commanded_of (OrgAdd org limit) = org
-commanded_of (TokenAdd org name role secret) = org
+-- whose an operator's command is: the organization's that it names, or, where it lists all organizations, the operator's
+abbrev pub commanded_of : Admin → Owner
+commanded_of (OrgAdd org limit) = organization org
+commanded_of (OrgLimit org limit) = organization org
+commanded_of OrgList = operator
+commanded_of (TokenAdd org name role secret) = organization org
+commanded_of (TokenRevoke org name) = organization org
 
--- whose step it is: of the organization that the token or the command names, or unattributed's
+-- whose step it is: of the organization that the token or the command names, unattributed's, or the operator's
 abbrev pub owner_of : Ask → Owner
 owner_of silent = unattributed
 owner_of (refused at awaited refusal is_head) = unattributed
 owner_of (requests at awaited asked content_md5 body) = organization asked.caller
-owner_of (commands at command) = organization (commanded_of command)
+owner_of (commands at command) = commanded_of command

@@ -1,6 +1,6 @@
 -- The checks of a request from the token on, each by itself: what it gives, or the refusal. The checks of the message,
 -- the path, the query and the token's form come before them (`asked_of` of route).
-use Rattle.std.specs.Prelude.{ℕ, Bool, true, false, ◌&&◌, ◌||◌, List, Option, Some, None, Result, Ok, Err, is_some}
+use Rattle.std.specs.Prelude.{ℕ, Bool, true, false, ◌||◌, List, Option, Some, None, Result, Ok, Err, is_some}
 use Rattle.std.specs.Str.{bytes_eq}
 use Rattle.basis.specs.Checks.{or_refused, and_then}
 use Rattle.basis.specs.declared.refusals.Refusal.{Refusal}
@@ -10,9 +10,10 @@ use Rattle.docs.specs.Documents.{state_head, lock_id_of, settings_of, run_ask}
 use Rattle.docs.specs.Digests.{digest_fits}
 use Rattle.machine.specs.Records.{workspace_in}
 use Rattle.machine.specs.Tokens.{caller_of}
+use Rattle.machine.specs.Units.{version_of}
 use Rattle.machine.specs.Workspaces.{run_of}
 use Rattle.machine.specs.declared.acts.Act.{Act}
-use Rattle.machine.specs.declared.acts.Act.TheVariants.{PutWorkspace as PutAct, ReadWorkspace as ReadWorkspaceAct, UpdateState as UpdateAct, ReadState as ReadAct, PurgeState as PurgeAct, Lock as LockAct, Unlock as UnlockAct, ForceUnlock as ForceUnlockAct, MakeRun as MakeRunAct, ReadRun as ReadRunAct, ReportRun as ReportRunAct}
+use Rattle.machine.specs.declared.acts.Act.TheVariants.{PutWorkspace as PutAct, ReadWorkspace as ReadWorkspaceAct, UpdateState as UpdateAct, ReadState as ReadAct, PurgeState as PurgeAct, Lock as LockAct, Unlock as UnlockAct, ForceUnlock as ForceUnlockAct, DeleteWorkspace as DeleteAct, ListVersions as ListVersionsAct, ReadVersion as ReadVersionAct, ListRuns as ListRunsAct, MakeRun as MakeRunAct, ReadRun as ReadRunAct, ReportRun as ReportRunAct}
 use Rattle.machine.specs.declared.records.Token.{Token}
 use Rattle.machine.specs.declared.records.Workspace.{Workspace}
 use Rattle.machine.specs.declared.records.Organization.{Organization}
@@ -24,6 +25,10 @@ use Rattle.route.specs.declared.acts.WsAct.{WsAct}
 use Rattle.route.specs.declared.acts.WsAct.TheVariants.{Read, Put, Delete, ReadState, UpdateState, PurgeState, Lock, Unlock, ForceUnlock, ListVersions, ReadVersion, ListRuns, MakeRun, ReadRun, ReportRun}
 use Rattle.serve.specs.declared.prepared.Place.{Place}
 use Rattle.serve.specs.declared.prepared.Order.{Order}
+use Rattle.serve.specs.declared.prepared.Found.{Found}
+use Rattle.serve.specs.declared.prepared.Found.TheVariants.{Workspaces, At}
+use Rattle.serve.specs.declared.prepared.Task.{Task}
+use Rattle.serve.specs.declared.prepared.Task.TheVariants.{ListAll, Carry}
 
 -- a condition, and the refusal where it doesn't hold
 abbrev pub require : Refusal → Bool → Result (Unit {0}) Refusal
@@ -67,24 +72,6 @@ makes MakeRun = false
 makes (ReadRun number) = false
 makes (ReportRun number action) = false
 
--- an act whose work is there; the others are to come, and until then they find nothing
-abbrev pub is_served : WsAct → Bool
-is_served Read = true
-is_served Put = true
-is_served Delete = false
-is_served ReadState = true
-is_served UpdateState = true
-is_served PurgeState = true
-is_served Lock = true
-is_served Unlock = true
-is_served ForceUnlock = true
-is_served (ListVersions after) = false
-is_served (ReadVersion number) = false
-is_served (ListRuns after) = false
-is_served MakeRun = true
-is_served (ReadRun number) = true
-is_served (ReportRun number action) = true
-
 -- an act on the workspace of a name
 abbrev pub place : List ℕ → WsAct → Place
 place ws act = record { ws = ws; act = act }
@@ -94,7 +81,12 @@ abbrev pub has_run : ℕ → Option Workspace → Bool
 has_run number None = false
 has_run number (Some w) = is_some (run_of number w.runs)
 
--- what an act asks of is there: the workspace, and the run that it names
+-- whether a workspace keeps the version of a number
+abbrev pub keeps_version : ℕ → Option Workspace → Bool
+keeps_version number None = false
+keeps_version number (Some w) = is_some (version_of number w.versions)
+
+-- what an act asks of is there: the workspace, and the version or the run that it names
 abbrev pub is_there : WsAct → Option Workspace → Bool
 is_there Read w = is_some w
 is_there Put w = is_some w
@@ -106,7 +98,7 @@ is_there Lock w = is_some w
 is_there Unlock w = is_some w
 is_there ForceUnlock w = is_some w
 is_there (ListVersions after) w = is_some w
-is_there (ReadVersion number) w = is_some w
+is_there (ReadVersion number) w = keeps_version number w
 is_there (ListRuns after) w = is_some w
 is_there MakeRun w = is_some w
 is_there (ReadRun number) w = has_run number w
@@ -114,14 +106,14 @@ is_there (ReportRun number action) w = has_run number w
 
 -- names: what is asked of is there, or is to be made
 abbrev pub is_found : Option Organization → List ℕ → WsAct → Bool
-is_found r ws act = is_served act && (makes act || is_there act (workspace_in r ws))
+is_found r ws act = makes act || is_there act (workspace_in r ws)
 
-abbrev pub found_if : Bool → Place → Result Place Refusal
-found_if true p = Ok p
+abbrev pub found_if : Bool → Place → Result Found Refusal
+found_if true p = Ok (At p)
 found_if false p = Err NotFound
 
-abbrev pub found : Option Organization → AskedAct → Result Place Refusal
-found r (ListWorkspaces after) = Err NotFound
+abbrev pub found : Option Organization → AskedAct → Result Found Refusal
+found r (ListWorkspaces after) = Ok (Workspaces after)
 found r (OfWorkspace ws act) = found_if (is_found r ws act) (place ws act)
 
 -- Content-MD5, where it is sent, is the content_md5 of the body
@@ -140,16 +132,16 @@ spelt refusal f (Some a) = Ok (f a)
 abbrev pub act_of : WsAct → Option (List ℕ) → List ℕ → Result Act Refusal
 act_of Read id body = Ok ReadWorkspaceAct
 act_of Put id body = spelt BadBody PutAct (settings_of body)
-act_of Delete id body = Err NotFound
+act_of Delete id body = Ok DeleteAct
 act_of ReadState id body = Ok ReadAct
 act_of UpdateState id body = spelt BadState (λ head. UpdateAct head body id) (state_head body)
 act_of PurgeState id body = Ok (PurgeAct id)
 act_of Lock id body = spelt BadLock (λ held. LockAct held body) (lock_id_of body)
 act_of Unlock id body = spelt BadLock UnlockAct (lock_id_of body)
 act_of ForceUnlock id body = Ok ForceUnlockAct
-act_of (ListVersions after) id body = Err NotFound
-act_of (ReadVersion number) id body = Err NotFound
-act_of (ListRuns after) id body = Err NotFound
+act_of (ListVersions after) id body = Ok (ListVersionsAct after)
+act_of (ReadVersion number) id body = Ok (ReadVersionAct number)
+act_of (ListRuns after) id body = Ok (ListRunsAct after)
 act_of MakeRun id body = spelt BadBody MakeRunAct (run_ask body)
 act_of (ReadRun number) id body = Ok (ReadRunAct number)
 act_of (ReportRun number action) id body = Ok (ReportRunAct number action)
@@ -158,13 +150,17 @@ act_of (ReportRun number action) id body = Ok (ReportRunAct number action)
 abbrev pub order : List ℕ → Act → Order
 order ws act = record { ws = ws; act = act }
 
+-- what is to be done: a list has no document, and its body isn't looked at
+abbrev pub task_of : Found → Option (List ℕ) → List ℕ → Result Task Refusal
+task_of (Workspaces after) id body = Ok (ListAll after)
+task_of (At p) id body = and_then (act_of p.act id body) (λ act. Ok (Carry (order p.ws act)))
+
 -- the checks in their order: the caller, the role, the organization, the names, the content_md5, the document
-abbrev pub checked : Option Organization → Asked → Option (List ℕ) → List ℕ → Result Order Refusal
+abbrev pub checked : Option Organization → Asked → Option (List ℕ) → List ℕ → Result Task Refusal
 checked r asked content_md5 body =
     and_then (known_caller r asked) (λ token.
     and_then (may_do token asked) (λ _.
     and_then (in_reach asked) (λ _.
-    and_then (found r asked.act) (λ p.
+    and_then (found r asked.act) (λ f.
     and_then (digest_checked content_md5 body) (λ _.
-    and_then (act_of p.act asked.lock_id body) (λ act.
-    Ok (order p.ws act)))))))
+    task_of f asked.lock_id body)))))

@@ -15,7 +15,7 @@ use Rattle.route.specs.declared.acts.WsAct.{WsAct}
 use Rattle.serve.specs.Asks.{Ask, silent, requests, commands}
 use Rattle.serve.specs.Asks as ask
 use Rattle.serve.specs.Checks.{act_of}
-use Rattle.serve.specs.Steps.{Said, nothing, replies, tells, holder_text, request_step, step}
+use Rattle.serve.specs.Steps.{Said, nothing, replies, tells, lists, holder_text, request_step, step}
 
 -- the workspace that is asked for has this name
 abbrev pub NamesIn : AskedAct → List ℕ → Type 0
@@ -88,6 +88,7 @@ abbrev pub IsAccepted : Said → Type 0
 IsAccepted nothing = ⊥
 IsAccepted (replies awaited at answer) = answer.refusal ≡ None
 IsAccepted (tells answer) = answer ≡ Done
+IsAccepted lists = ⊤
 
 -- what was accepted and comes again, while the workspace is as the first left it, whatever became of the rest, changes nothing more
 abbrev pub RepeatsLeaveTheWorkspace : Type 0

@@ -1,8 +1,10 @@
 -- Steps as their bytes say them, and whole runs of them over the records of all organizations.
-use Rattle.std.specs.Prelude.{◌≡◌, ℕ, Bool, true, false, List, [], ◌∷◌, ◌++◌, Option, Some, None, codes, ⊤}
+use Rattle.std.specs.Prelude.{◌≡◌, ℕ, Bool, true, false, List, [], ◌∷◌, ◌++◌, Option, Some, None, codes, decimal, ⊤}
 use Rattle.std.specs.Str.{bytes_eq}
 use Rattle.machine.specs.declared.keeps.AdminAnswer.{AdminAnswer}
-use Rattle.machine.specs.declared.keeps.AdminAnswer.TheVariants.{Done, Exists, Absent}
+use Rattle.machine.specs.Tokens.{ListsOrganizations}
+use Rattle.machine.specs.declared.keeps.AdminAnswer.TheVariants.{Done, Exists, Absent, Organizations}
+use Rattle.machine.specs.declared.keeps.OrgRow.{OrgRow}
 use Rattle.machine.specs.declared.records.Organization.{Organization}
 use Rattle.route.specs.Asks.{Asking, asked_of, asks}
 use Rattle.route.specs.Asks as route
@@ -14,7 +16,9 @@ use Rattle.wire.specs.Replies.{IsReplyText}
 use Rattle.serve.specs.declared.steps.Step.{Step}
 use Rattle.serve.specs.declared.steps.Step.TheVariants.{Request, Command}
 use Rattle.serve.specs.Asks.{Ask, silent, refused, requests, commands, Owner, organization, unattributed, operator, owner_of}
-use Rattle.serve.specs.Steps.{Said, nothing, replies, tells, step}
+use Rattle.serve.specs.declared.steps.Admin.{Admin}
+use Rattle.serve.specs.declared.steps.Admin.TheVariants.{OrgAdd, OrgLimit, OrgList, TokenAdd, TokenRevoke}
+use Rattle.serve.specs.Steps.{Said, nothing, replies, tells, lists, command_step, step}
 
 -- the method of a message is HEAD
 abbrev pub is_head : Message → Bool
@@ -49,17 +53,27 @@ AreAsked [] (a ∷ asked) = ⊥
 AreAsked (s ∷ steps) [] = ⊥
 AreAsked (s ∷ steps) (a ∷ asked) = IsAsked s a × AreAsked steps asked
 
--- an operator's answer as it is printed
-abbrev pub admin_text : AdminAnswer → List ℕ
-admin_text Done = codes "ok\n"
-admin_text Exists = codes "refused exists\n"
-admin_text Absent = codes "refused absent\n"
+-- an organization's line in the list of all: its name, how many workspaces it has, its limit
+abbrev pub org_line : OrgRow → List ℕ
+org_line row = row.name ++ codes " " ++ decimal row.workspaces ++ codes " " ++ decimal row.limit ++ codes "\n"
+
+abbrev pub org_lines : List OrgRow → List ℕ
+org_lines [] = []
+org_lines (row ∷ rows) = org_line row ++ org_lines rows
+
+-- the word that answers an operator's command on one organization; a list has none
+abbrev pub admin_word : AdminAnswer → List ℕ
+admin_word Done = codes "ok\n"
+admin_word Exists = codes "refused exists\n"
+admin_word Absent = codes "refused absent\n"
+admin_word (Organizations rows) = []
 
 -- the text of what is said
 abbrev pub IsText : Said → List ℕ → Type 0
 IsText nothing text = text ≡ []
 IsText (replies awaited at answer) text = (reply : List ℕ) × IsReplyText answer at reply × (text ≡ continue_if awaited ++ reply)
-IsText (tells answer) text = text ≡ admin_text answer
+IsText (tells answer) text = text ≡ admin_word answer
+IsText lists text = (rows : List OrgRow) × (text ≡ org_lines rows)
 
 abbrev pub AreTexts : List Said → List (List ℕ) → Type 0
 AreTexts [] [] = ⊤
@@ -116,6 +130,15 @@ Carries ask old new = (org : List ℕ) → new org ≡ after_ask (is_own (organi
 -- what is said to the one who asks, by the records before
 abbrev pub said_to : (List ℕ → Option Organization) → Ask → Said
 said_to rows ask = (step (record_for rows (owner_of ask)) ask).answer
+
+-- what an operator's command is answered: the word of the machine of the organization that it names; or, of the list of all
+-- organizations, exactly those whose records are there
+abbrev pub IsAdminAnswer : (List ℕ → Option Organization) → Admin → AdminAnswer → Type 0
+IsAdminAnswer rows (OrgAdd org limit) answer = answer ≡ (command_step (rows org) (OrgAdd org limit)).answer
+IsAdminAnswer rows (OrgLimit org limit) answer = answer ≡ (command_step (rows org) (OrgLimit org limit)).answer
+IsAdminAnswer rows OrgList answer = ListsOrganizations rows answer
+IsAdminAnswer rows (TokenAdd org name role secret) answer = answer ≡ (command_step (rows org) (TokenAdd org name role secret)).answer
+IsAdminAnswer rows (TokenRevoke org name) answer = answer ≡ (command_step (rows org) (TokenRevoke org name)).answer
 
 -- no record changes
 abbrev pub Stays : (List ℕ → Option Organization) → (List ℕ → Option Organization) → Type 0

@@ -2,16 +2,16 @@
 use Rattle.std.specs.Prelude.{ℕ, Bool, false, List, [], ◌∷◌, Option, Some, None, Result, Ok, Err, option_map}
 use Rattle.basis.specs.declared.refusals.Refusal.{Refusal}
 use Rattle.basis.specs.declared.refusals.Refusal.TheVariants.{Locked}
-use Rattle.basis.specs.declared.rows.WsRow.{WsRow}
-use Rattle.basis.specs.declared.rows.RunRow.{RunRow}
 use Rattle.sha2.specs.Sha256.{sha256}
-use Rattle.docs.specs.Bodies.{error_text, ws_text, run_text, run_holder_text}
+use Rattle.docs.specs.Bodies.{error_text, ws_text, ws_list_text, version_list_text, run_text, run_list_text, run_holder_text}
 use Rattle.machine.specs.Effects.{Effect, effect}
-use Rattle.machine.specs.Rules.{Outcome, refused, held, done, no_state, state, workspace, the_run, Ruling, rules}
+use Rattle.machine.specs.Rules.{Outcome, refused, held, done, no_state, state, workspace, the_run, versions, runs, Ruling, rules}
+use Rattle.machine.specs.Showing.{row_of, run_row, workspaces_after}
 use Rattle.machine.specs.Records.{Seen, missing, seen_in, placed}
-use Rattle.machine.specs.Tokens.{Managed, org_added, token_added, token_of}
+use Rattle.machine.specs.Tokens.{Managed, org_added, org_limited, token_added, token_revoked, token_of}
 use Rattle.machine.specs.declared.acts.Shown.{Shown}
 use Rattle.machine.specs.declared.keeps.AdminAnswer.{AdminAnswer}
+use Rattle.machine.specs.declared.keeps.AdminAnswer.TheVariants.{Done}
 use Rattle.machine.specs.declared.records.Holder.{Holder}
 use Rattle.machine.specs.declared.records.Holder.TheVariants.{Nobody, Lock as HeldLock, Run as HeldRun}
 use Rattle.machine.specs.declared.records.Run.{Run}
@@ -19,11 +19,13 @@ use Rattle.machine.specs.declared.records.Organization.{Organization}
 use Rattle.route.specs.declared.acts.Asked.{Asked}
 use Rattle.wire.specs.Replies.{Answer, empty_answer, no_content_answer, document_answer, refused_answer}
 use Rattle.serve.specs.declared.steps.Admin.{Admin}
-use Rattle.serve.specs.declared.steps.Admin.TheVariants.{OrgAdd, TokenAdd}
+use Rattle.serve.specs.declared.steps.Admin.TheVariants.{OrgAdd, OrgLimit, OrgList, TokenAdd, TokenRevoke}
 use Rattle.serve.specs.Asks.{Ask, silent, requests, commands}
 use Rattle.serve.specs.Asks as ask
 use Rattle.serve.specs.Checks.{checked}
 use Rattle.serve.specs.declared.prepared.Order.{Order}
+use Rattle.serve.specs.declared.prepared.Task.{Task}
+use Rattle.serve.specs.declared.prepared.Task.TheVariants.{ListAll, Carry}
 
 -- what is said to the one who asks
 pub data Said : Type 0 where
@@ -33,6 +35,8 @@ pub data Said : Type 0 where
   replies : Bool → ℕ → Answer → Said
   -- the word that answers an operator's command
   tells : AdminAnswer → Said
+  -- the list of all organizations, which no organization's machine knows
+  lists : Said
 
 -- an answer, and the record afterwards
 abbrev pub Answered : Type 0
@@ -48,14 +52,6 @@ holder_text org ws Nobody = []
 holder_text org ws (HeldLock id text) = text
 holder_text org ws (HeldRun n) = run_holder_text org ws n
 
--- the workspace of a name, as it is shown
-abbrev pub row_of : List ℕ → Shown → WsRow
-row_of ws shown = record { auto_apply = shown.auto_apply; holder = shown.holder; name = ws; version = shown.version }
-
--- a run as it is shown
-abbrev pub run_row : Run → RunRow
-run_row r = record { action = r.action; created = r.created; key = r.key; message = r.message; number = r.number; plan_only = r.plan_only; status = r.status }
-
 -- the answer to what the rules say
 abbrev pub answer_to : List ℕ → List ℕ → Outcome → Answer
 answer_to org ws (refused refusal) = refused_answer refusal (error_text refusal) false
@@ -65,6 +61,8 @@ answer_to org ws no_state = no_content_answer
 answer_to org ws (state text) = document_answer text
 answer_to org ws (workspace shown) = document_answer (ws_text (row_of ws shown))
 answer_to org ws (the_run r) = document_answer (run_text (run_row r))
+answer_to org ws (versions list) = document_answer (version_list_text list)
+answer_to org ws (runs list) = document_answer (run_list_text list)
 
 -- the workspace that the rules are asked of
 abbrev pub seen_at : Option Organization → List ℕ → Seen
@@ -75,19 +73,31 @@ seen_at (Some o) ws = seen_in o ws
 abbrev pub ruled_in : List ℕ → List ℕ → Option Organization → Ruling → Answered
 ruled_in org ws r ruling = effect (answer_to org ws ruling.answer) (option_map (λ (o : Organization). placed o ws ruling.left) r)
 
--- what follows the checks
-abbrev pub carried : List ℕ → ℕ → Option Organization → Result Order Refusal → Answered
+-- what follows the checks: the list of the workspaces, or the rules
+abbrev pub carried : List ℕ → ℕ → Option Organization → Result Task Refusal → Answered
 carried org now r (Err refusal) = refusing refusal r
-carried org now r (Ok order) = ruled_in org order.ws r (rules order.act now (seen_at r order.ws))
+carried org now r (Ok (ListAll after)) = effect (document_answer (ws_list_text (workspaces_after after r))) r
+carried org now r (Ok (Carry order)) = ruled_in org order.ws r (rules order.act now (seen_at r order.ws))
 
 -- what a request of an organization is answered at a moment
 abbrev pub request_step : Option Organization → ℕ → Asked → Option (List ℕ) → List ℕ → Answered
 request_step r now asked content_md5 body = carried asked.caller now r (checked r asked content_md5 body)
 
--- what an operator's command is answered
+-- what an operator's command on an organization is answered; the list of all organizations changes none
 abbrev pub command_step : Option Organization → Admin → Managed
 command_step r (OrgAdd org limit) = org_added limit r
+command_step r (OrgLimit org limit) = org_limited limit r
+command_step r OrgList = effect Done r
 command_step r (TokenAdd org name role secret) = token_added name (token_of (sha256 secret) role) r
+command_step r (TokenRevoke org name) = token_revoked name r
+
+-- what is said to an operator
+abbrev pub command_said : Admin → AdminAnswer → Said
+command_said (OrgAdd org limit) answer = tells answer
+command_said (OrgLimit org limit) answer = tells answer
+command_said OrgList answer = lists
+command_said (TokenAdd org name role secret) answer = tells answer
+command_said (TokenRevoke org name) answer = tells answer
 
 -- the step of an organization's machine: what is said, and the record afterwards; a step of unattributed changes no record and reads none
 abbrev pub step : Option Organization → Ask → Effect Said (Option Organization)
@@ -96,7 +106,7 @@ step r (ask.refused at awaited refusal is_head) = effect (replies awaited at (re
 step r (requests at awaited asked content_md5 body) =
     let done = request_step r at asked content_md5 body in effect (replies awaited at done.answer) done.left
 step r (commands at command) =
-    let done = command_step r command in effect (tells done.answer) done.left
+    let done = command_step r command in effect (command_said command done.answer) done.left
 
 -- the machine run over what is asked of it: what is said to each, and the record in the end
 abbrev pub own_said : Option Organization → List Ask → List Said

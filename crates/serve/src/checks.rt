@@ -8,11 +8,13 @@ ghost use Rattle.machine.specs.Records.{workspace_in};
 ghost use Rattle.machine.specs.Units.{unit_of};
 ghost use Rattle.machine.specs.declared.acts.Act.TheVariants.{PutWorkspace, UpdateState, PurgeState, Lock, Unlock, MakeRun};
 ghost use Rattle.machine.specs.declared.records.Organization.{Organization};
-ghost use Rattle.serve.specs.Checks.{require, in_reach, makes, is_served, is_there, is_found, found, found_if, place, fits, digest_checked, spelt, act_of};
+ghost use Rattle.serve.specs.Checks.{require, in_reach, makes, is_there, is_found, found, found_if, place, fits, digest_checked, spelt, act_of, task_of};
 ghost use Rattle.serve.specs.Inner.Prepared.{known_role};
-ghost use Rattle.serve.specs.Inner.Units.{look_of, has_asked_run, is_present};
+ghost use Rattle.serve.specs.declared.prepared.Found.TheVariants.{Workspaces, At};
+ghost use Rattle.serve.specs.Inner.Prepared.{IsTaskInRange};
+ghost use Rattle.serve.specs.Inner.Units.{look_of, has_asked, is_present};
 
-use crate::prepared::Place;
+use crate::prepared::{Found, Order, Place, Task};
 use basis::{Bytes, Down, LockId, OrgName, Refusal, Role, WsName};
 use docs::{DocFault, digest_fits, read_lock, read_run, read_settings, read_state};
 use machine::{Act, Keep, Unit, WorkspaceUnit};
@@ -60,20 +62,6 @@ fn makes(act: WsAct) -> bool
     }
 }
 
-fn is_served(act: WsAct) -> bool
-    ensures { result ≡ is_served act }
-{
-    match act {
-        WsAct::Read | WsAct::Put => true,
-        WsAct::Delete => false,
-        WsAct::ReadState | WsAct::UpdateState | WsAct::PurgeState => true,
-        WsAct::Lock | WsAct::Unlock | WsAct::ForceUnlock => true,
-        WsAct::ListVersions { .. } | WsAct::ReadVersion(_) => false,
-        WsAct::ListRuns { .. } => false,
-        WsAct::MakeRun | WsAct::ReadRun(_) | WsAct::ReportRun(_, _) => true,
-    }
-}
-
 // An act that asks for no more than whether what is asked of is there.
 fn look_of(act: WsAct) -> Act
     ensures { result ≡ look_of act }
@@ -84,21 +72,23 @@ fn look_of(act: WsAct) -> Act
         WsAct::Read | WsAct::Put | WsAct::Delete => Act::ReadState,
         WsAct::ReadState | WsAct::UpdateState | WsAct::PurgeState => Act::ReadState,
         WsAct::Lock | WsAct::Unlock | WsAct::ForceUnlock => Act::ReadState,
-        WsAct::ListVersions { .. } | WsAct::ReadVersion(_) => Act::ReadState,
+        WsAct::ReadVersion(number) => Act::ReadVersion(number),
+        WsAct::ListVersions { .. } => Act::ReadState,
         WsAct::ListRuns { .. } | WsAct::MakeRun => Act::ReadState,
     }
 }
 
-// Whether it is there, once its workspace is: the run that it names, too.
-fn has_asked_run(act: WsAct, unit: &WorkspaceUnit) -> bool
-    ensures { result ≡ has_asked_run act unit.now }
+// Whether it is there, once its workspace is: the version or the run that it names, too.
+fn has_asked(act: WsAct, unit: &WorkspaceUnit) -> bool
+    ensures { result ≡ has_asked act unit.now }
 {
     match act {
         WsAct::ReadRun(_) | WsAct::ReportRun(_, _) => unit.asked_run.is_some(),
         WsAct::Read | WsAct::Put | WsAct::Delete => true,
         WsAct::ReadState | WsAct::UpdateState | WsAct::PurgeState => true,
         WsAct::Lock | WsAct::Unlock | WsAct::ForceUnlock => true,
-        WsAct::ListVersions { .. } | WsAct::ReadVersion(_) => true,
+        WsAct::ReadVersion(_) => unit.has_version,
+        WsAct::ListVersions { .. } => true,
         WsAct::ListRuns { .. } | WsAct::MakeRun => true,
     }
 }
@@ -108,7 +98,7 @@ fn is_present(unit: &Unit, act: &WsAct) -> bool
 {
     match unit {
         Unit::Absent { .. } => false,
-        Unit::Present(unit) => has_asked_run(*act, unit),
+        Unit::Present(unit) => has_asked(*act, unit),
     }
 }
 
@@ -144,14 +134,14 @@ fn is_there<K: Keep>(
     Ok(is_present(&unit, &act))
 }
 
-fn found_if(is_found: bool, ws: &WsName, act: WsAct) -> Result<Place, Refusal>
+fn found_if(is_found: bool, ws: &WsName, act: WsAct) -> Result<Found, Refusal>
     ensures { Follows result (found_if is_found (place ws.now act)) }
 {
     if !is_found {
         return Err(Refusal::NotFound);
     }
     match ws.clone() {
-        Ok(ws) => Ok(Place { ws, act }),
+        Ok(ws) => Ok(Found::At(Place { ws, act })),
         Err(_) => Err(Refusal::Unavailable),
     }
 }
@@ -169,22 +159,31 @@ fn is_found<K: Keep>(
         → IfOk result (λ found. found ≡ is_found (K.rows keep.old org.now) ws.now act) }
 {
     let there = is_there(alloc, keep, org, ws, act)?;
-    Ok(is_served(act) && (makes(act) || there))
+    Ok(makes(act) || there)
 }
 
-/// The place of what is asked: what it asks of is there, or is to be made.
+fn found_list(after: &Option<WsName>) -> Result<Found, Refusal>
+    ensures { Follows result (Ok (Workspaces after.now)) }
+{
+    match after.clone() {
+        Ok(after) => Ok(Found::Workspaces(after)),
+        Err(_) => Err(Refusal::Unavailable),
+    }
+}
+
+/// What is found of what is asked: what it asks of is there, or is to be made.
 pub fn found<K: Keep>(
     alloc: Global,
     keep: &mut K,
     org: &OrgName,
     asked: &AskedAct,
-) -> Result<Place, Refusal>
+) -> Result<Found, Refusal>
     ensures looks { Looks K.rows K.clean K.sound keep.old keep.new }
     ensures ok { K.clean keep.new → K.sound keep.old → IsSome (K.rows keep.old org.now)
         → Follows result (found (K.rows keep.old org.now) asked.now) }
 {
     match asked {
-        AskedAct::ListWorkspaces { .. } => Err(Refusal::NotFound),
+        AskedAct::ListWorkspaces { after } => found_list(after),
         AskedAct::OfWorkspace(ws, act) => match is_found(alloc, keep, org, ws, *act) {
             Ok(is_found) => found_if(is_found, ws, *act),
             Err(Down) => Err(Refusal::Unavailable),
@@ -276,12 +275,7 @@ fn read_making(alloc: Global, body: &Bytes) -> Result<Act, Refusal>
 }
 
 /// The act that the body's document spells, or why it spells none.
-pub fn act_of(
-    alloc: Global,
-    act: WsAct,
-    lock_id: &Option<LockId>,
-    body: Bytes,
-) -> Result<Act, Refusal>
+fn act_of(alloc: Global, act: WsAct, lock_id: &Option<LockId>, body: Bytes) -> Result<Act, Refusal>
     ensures { Follows result (act_of act lock_id.now body) }
 {
     match act {
@@ -293,12 +287,43 @@ pub fn act_of(
         WsAct::Lock => read_locking(alloc, body),
         WsAct::Unlock => read_unlocking(alloc, &body),
         WsAct::ForceUnlock => Ok(Act::ForceUnlock),
-        WsAct::Delete => Err(Refusal::NotFound),
-        WsAct::ListVersions { .. } => Err(Refusal::NotFound),
-        WsAct::ReadVersion(_) => Err(Refusal::NotFound),
-        WsAct::ListRuns { .. } => Err(Refusal::NotFound),
+        WsAct::Delete => Ok(Act::DeleteWorkspace),
+        WsAct::ListVersions { after } => Ok(Act::ListVersions(after)),
+        WsAct::ReadVersion(number) => Ok(Act::ReadVersion(number)),
+        WsAct::ListRuns { after } => Ok(Act::ListRuns(after)),
         WsAct::MakeRun => read_making(alloc, &body),
         WsAct::ReadRun(number) => Ok(Act::ReadRun(number)),
         WsAct::ReportRun(number, action) => Ok(Act::ReportRun(number, action)),
+    }
+}
+
+fn order_of(
+    alloc: Global,
+    place: Place,
+    lock_id: &Option<LockId>,
+    body: Bytes,
+) -> Result<Task, Refusal>
+    ensures ok { Follows result (task_of (At place) lock_id.now body) }
+    ensures range { IfOk result IsTaskInRange }
+{
+    match act_of(alloc, place.act, lock_id, body) {
+        Ok(act) => Ok(Task::Carry(Order { ws: place.ws, act })),
+        Err(refusal) => Err(refusal),
+    }
+}
+
+/// What is to be done, once what is asked of was found.
+pub fn task_of(
+    alloc: Global,
+    found: Found,
+    lock_id: &Option<LockId>,
+    body: Bytes,
+) -> Result<Task, Refusal>
+    ensures ok { Follows result (task_of found lock_id.now body) }
+    ensures range { IfOk result IsTaskInRange }
+{
+    match found {
+        Found::Workspaces(after) => Ok(Task::ListAll(after)),
+        Found::At(place) => order_of(alloc, place, lock_id, body),
     }
 }

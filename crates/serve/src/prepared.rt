@@ -12,11 +12,25 @@ pub struct Place {
     pub act: WsAct,
 }
 
+/// What was found of what is asked: the organization's workspaces after a name, or the place of an act.
+#[derive(Drop)]
+pub enum Found {
+    Workspaces(Option<WsName>),
+    At(Place),
+}
+
 /// An act on a workspace by its name, its documents read.
 #[derive(Drop)]
 pub struct Order {
     pub ws: WsName,
     pub act: Act,
+}
+
+/// What is to be done: to list the organization's workspaces after a name, or an act.
+#[derive(Drop)]
+pub enum Task {
+    ListAll(Option<WsName>),
+    Carry(Order),
 }
 
 /// A change that is to follow, once the answer is made.

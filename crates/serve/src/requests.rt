@@ -1,5 +1,5 @@
 //! A request of an organization: the checks in their order, and the answer of the rules.
-ghost use Rattle.std.specs.Prelude.{◌≡◌, ◌≢◌, ℕ, List, [], Option, Some, None, Ok, IsSome, IfOk, OnOk, option_map};
+ghost use Rattle.std.specs.Prelude.{◌≡◌, ◌≢◌, ℕ, List, [], Option, Some, None, Ok, IsSome, IfOk, OnOk, option_map, option_copied};
 ghost use Rattle.basis.specs.Inner.Checks.{Follows};
 ghost use Rattle.docs.specs.Bodies.{error_text, ws_text};
 ghost use Rattle.machine.specs.Keeping.{Looks};
@@ -8,19 +8,23 @@ ghost use Rattle.machine.specs.Ranges.{IsInRange};
 ghost use Rattle.machine.specs.Records.{workspace_in, seen_in};
 ghost use Rattle.machine.specs.Rules.{refused_by, rules};
 ghost use Rattle.machine.specs.Inner.Decisions.{meaning, answered, holder_of, ChangeIsDue};
-ghost use Rattle.machine.specs.declared.acts.Answer.TheVariants.{Workspace as ShownWorkspace, Run as ShownRun};
+ghost use Rattle.machine.specs.declared.acts.Answer.TheVariants.{Workspace as ShownWorkspace, Run as ShownRun, Versions as ListedVersions, Runs as ListedRuns};
+ghost use Rattle.serve.specs.declared.prepared.Task.TheVariants.{ListAll, Carry};
 ghost use Rattle.machine.specs.declared.acts.Decision.TheVariants.{Accepted};
 ghost use Rattle.machine.specs.declared.records.Organization.{Organization};
 ghost use Rattle.serve.specs.Checks.{checked};
 ghost use Rattle.serve.specs.Steps.{refusing, holder_text, answer_to, ruled_in, carried, request_step};
-ghost use Rattle.serve.specs.Inner.Prepared.{Foresees};
+ghost use Rattle.serve.specs.Inner.Prepared.{Foresees, IsTaskInRange};
 ghost use Rattle.serve.specs.Inner.Units.{holder_in};
 
-use crate::checks::{act_of, digest_checked, found, in_reach, known_caller};
-use crate::prepared::{Order, Pending, Prepared};
+use crate::checks::{digest_checked, found, in_reach, known_caller, task_of};
+use crate::prepared::{Order, Pending, Prepared, Task};
 use basis::numbers::MAX_MOMENT;
 use basis::{Bytes, Down, Moment, OrgName, Refusal, RunRow, WsName, WsRow};
-use docs::{write_error, write_run, write_run_holder, write_ws};
+use docs::{
+    write_error, write_run, write_run_holder, write_run_list, write_version_list, write_ws,
+    write_ws_list,
+};
 use machine::{Answer, Change, Decision, Holder, Keep, Run, Shown, Unit, decide};
 use route::{Asked, allowed};
 use std::alloc::Global;
@@ -40,12 +44,12 @@ pub fn request<K: Keep>(
         (request_step (K.rows keep.old asked.now.caller) at asked.now content_md5.now body)) }
 {
     match checked(alloc, keep, asked, content_md5, body) {
-        Ok(order) => rule(alloc, keep, at, &asked.caller, &order),
+        Ok(task) => perform(alloc, keep, at, &asked.caller, task),
         Err(refusal) => refuse_unless_down(alloc, refusal),
     }
 }
 
-/// What is asked of a workspace, once the checks have passed in their order, or the refusal of the
+/// What is to be done, once the checks have passed in their order, or the refusal of the
 /// first that fails; `Unavailable` is want of memory.
 fn checked<K: Keep>(
     alloc: Global,
@@ -53,10 +57,10 @@ fn checked<K: Keep>(
     asked: &Asked,
     content_md5: &Option<Bytes>,
     body: Bytes,
-) -> Result<Order, Refusal>
+) -> Result<Task, Refusal>
     ensures looks { Looks K.rows K.clean K.sound keep.old keep.new }
     ensures ok { K.clean keep.new → K.sound keep.old → Follows result (checked (K.rows keep.old asked.now.caller) asked.now content_md5.now body) }
-    ensures range { IfOk result (λ order. IsInRange order.act) }
+    ensures range { IfOk result IsTaskInRange }
     ensures there { K.clean keep.new → K.sound keep.old → OnOk result (IsSome (K.rows keep.old asked.now.caller)) }
 {
     let role = match known_caller(alloc, keep, asked) {
@@ -69,17 +73,14 @@ fn checked<K: Keep>(
     if let Err(refusal) = in_reach(asked) {
         return Err(refusal);
     }
-    let place = match found(alloc, keep, &asked.caller, &asked.act) {
-        Ok(place) => place,
+    let found = match found(alloc, keep, &asked.caller, &asked.act) {
+        Ok(found) => found,
         Err(refusal) => return Err(refusal),
     };
     if let Err(refusal) = digest_checked(content_md5, &body) {
         return Err(refusal);
     }
-    match act_of(alloc, place.act, &asked.lock_id, body) {
-        Ok(act) => Ok(Order { ws: place.ws, act }),
-        Err(refusal) => Err(refusal),
-    }
+    task_of(alloc, found, &asked.lock_id, body)
 }
 
 /// A refusal: its word, and nothing changes.
@@ -183,6 +184,84 @@ fn accepted_reply<K: Keep>(
         },
         Answer::Workspace(shown) => workspace_reply(alloc, ws, shown),
         Answer::Run(run) => run_reply(alloc, run),
+        Answer::Versions(after) => list_versions(alloc, keep, org, ws, after),
+        Answer::Runs(after) => list_runs(alloc, keep, org, ws, after),
+    }
+}
+
+fn list_versions<K: Keep>(
+    alloc: Global,
+    keep: &mut K,
+    org: &OrgName,
+    ws: &WsName,
+    after: u64,
+) -> Result<Reply, Down>
+    ensures looks { Looks K.rows K.clean K.sound keep.old keep.new }
+    ensures ok { K.clean keep.new → K.sound keep.old → IfOk result (λ reply. reply
+        ≡ answer_to org.now ws.now (answered (ListedVersions after) (workspace_in (K.rows keep.old org.now) ws.now))) }
+{
+    let list = keep.versions(alloc, org, ws, after)?;
+    Ok(Reply::document(Bytes::new(write_version_list(alloc, &list)?)))
+}
+
+fn list_runs<K: Keep>(
+    alloc: Global,
+    keep: &mut K,
+    org: &OrgName,
+    ws: &WsName,
+    after: u64,
+) -> Result<Reply, Down>
+    ensures looks { Looks K.rows K.clean K.sound keep.old keep.new }
+    ensures ok { K.clean keep.new → K.sound keep.old → IfOk result (λ reply. reply
+        ≡ answer_to org.now ws.now (answered (ListedRuns after) (workspace_in (K.rows keep.old org.now) ws.now))) }
+{
+    let list = keep.runs(alloc, org, ws, after)?;
+    Ok(Reply::document(Bytes::new(write_run_list(alloc, &list)?)))
+}
+
+fn name_in(after: &Option<WsName>) -> Option<&WsName>
+    ensures { option_copied result ≡ after.now }
+{
+    match after {
+        Some(name) => Some(name),
+        None => None,
+    }
+}
+
+/// The list of an organization's workspaces.
+fn list_workspaces<K: Keep>(
+    alloc: Global,
+    keep: &mut K,
+    org: &OrgName,
+    after: &Option<WsName>,
+) -> Result<Prepared, Down>
+    ensures looks { Looks K.rows K.clean K.sound keep.old keep.new }
+    ensures ok { K.clean keep.new → K.sound keep.old → IfOk result (λ p. (at : ℕ)
+        → Foresees (K.rows keep.old org.now) org.now (carried org.now at (K.rows keep.old org.now) (Ok (ListAll after.now))) p) }
+{
+    let list = keep.workspaces(alloc, org, name_in(after))?;
+    let body = Bytes::new(write_ws_list(alloc, &list)?);
+    Ok(Prepared {
+        reply: Reply::document(body),
+        pending: None,
+    })
+}
+
+/// What the checks have left to do: a list, or the rules on an act.
+fn perform<K: Keep>(
+    alloc: Global,
+    keep: &mut K,
+    at: Moment,
+    org: &OrgName,
+    task: Task,
+) -> Result<Prepared, Down>
+    ensures looks { Looks K.rows K.clean K.sound keep.old keep.new }
+    ensures ok { K.clean keep.new → K.sound keep.old → IfOk result (λ p. IsSome (K.rows keep.old org.now) → IsTaskInRange task
+        → Foresees (K.rows keep.old org.now) org.now (carried org.now at (K.rows keep.old org.now) (Ok task)) p) }
+{
+    match task {
+        Task::ListAll(after) => list_workspaces(alloc, keep, org, &after),
+        Task::Carry(order) => rule(alloc, keep, at, org, &order),
     }
 }
 
@@ -259,7 +338,7 @@ fn rule<K: Keep>(
 ) -> Result<Prepared, Down>
     ensures looks { Looks K.rows K.clean K.sound keep.old keep.new }
     ensures ok { K.clean keep.new → K.sound keep.old → IfOk result (λ p. IsSome (K.rows keep.old org.now) → IsInRange order.now.act
-        → Foresees (K.rows keep.old org.now) org.now (carried org.now at (K.rows keep.old org.now) (Ok order.now)) p) }
+        → Foresees (K.rows keep.old org.now) org.now (carried org.now at (K.rows keep.old org.now) (Ok (Carry order.now))) p) }
 {
     keep.records_are_lawful();
     prove!(at.seconds() <= MAX_MOMENT);

@@ -5,12 +5,14 @@ ghost use Rattle.std.specs.Io.KnownBytes.{Consumes};
 ghost use Rattle.serve.specs.Exchanges.{Exchanges, ChangesAtMostOne};
 ghost use Rattle.serve.specs.Inner.Replying.{ended_of};
 ghost use Rattle.serve.specs.Inner.Taking.{IsTaken, RunsTo};
-ghost use Rattle.serve.specs.Asks.{Ask, commands, unattributed};
-ghost use Rattle.serve.specs.Steps.{tells};
-ghost use Rattle.serve.specs.Service.{IsText, Stays, Carries, said_to, AreAsked};
+ghost use Rattle.serve.specs.Asks.{Ask, commands, unattributed, operator};
+ghost use Rattle.serve.specs.Service.{IsText, Stays, Carries, said_to, AreAsked, IsAdminAnswer, org_lines};
+ghost use Rattle.serve.specs.Inner.Taking.{IsOnOne};
+ghost use Rattle.machine.specs.Keeping.{Looks};
+ghost use Rattle.machine.specs.declared.keeps.OrgRow.{OrgRow};
 ghost use Rattle.serve.specs.Runs.{IsOwnMachine, IsOwnRecord, AreOwnReplies};
 
-use crate::commands::{admin_text, command};
+use crate::commands::{admin_word, command, org_lines};
 use crate::exchanges::{LinkFault, exchange};
 use crate::messages::take_request;
 use crate::steps::{Admin, Step};
@@ -20,10 +22,41 @@ use route::Routes;
 use std::alloc::Global;
 use wire::{Inlet, Outlet, Reply, WriteFault, write_reply};
 
-// The most bytes of an answer to an operator's command.
-const MAX_ADMIN_TEXT: usize = 15;
+// The most bytes of the word that answers an operator's command.
+const MAX_ADMIN_WORD: usize = 15;
 
-/// A command is carried out once there is room for its text.
+/// A command on one organization is carried out once there is room for its word.
+fn take_word<K: Keep>(alloc: Global, keep: &mut K, asked: &Admin) -> Result<Bytes, Down>
+    ensures so_far { K.clean keep.new → K.clean keep.old }
+    ensures kept { K.clean keep.new → K.sound keep.old → K.sound keep.new }
+    ensures ok { K.clean keep.new → K.sound keep.old → IfOk result (λ text. (at : ℕ) → Carries (commands at asked.now) (K.rows keep.old) (K.rows keep.new)
+        × (IsOnOne asked.now → IsText (said_to (K.rows keep.old) (commands at asked.now)) text)) }
+    ensures err { K.clean keep.new → OnErr result (Stays (K.rows keep.old) (K.rows keep.new)) }
+{
+    let mut text = Vec::with_capacity(alloc, MAX_ADMIN_WORD)?;
+    let answer = command(alloc, keep, asked)?;
+    text.extend_from_slice(admin_word(&answer)).unwrap();
+    Ok(Bytes::new(text))
+}
+
+fn list_lines(alloc: Global, answer: &AdminAnswer) -> Result<Bytes, Down>
+    ensures { IfOk result (λ text. (rows : List OrgRow) × (text ≡ org_lines rows)) }
+{
+    match answer {
+        AdminAnswer::Organizations(rows) => Ok(Bytes::new(org_lines(alloc, rows.as_slice())?)),
+        AdminAnswer::Done | AdminAnswer::Exists | AdminAnswer::Absent => Err(Down),
+    }
+}
+
+/// The list of all organizations, which changes nothing.
+fn take_list<K: Keep>(alloc: Global, keep: &mut K) -> Result<Bytes, Down>
+    ensures looks { Looks K.rows K.clean K.sound keep.old keep.new }
+    ensures ok { IfOk result (λ text. (rows : List OrgRow) × (text ≡ org_lines rows)) }
+{
+    let answer = keep.org_list(alloc)?;
+    list_lines(alloc, &answer)
+}
+
 fn take_command<K: Keep>(alloc: Global, keep: &mut K, asked: &Admin) -> Result<Bytes, Down>
     ensures so_far { K.clean keep.new → K.clean keep.old }
     ensures kept { K.clean keep.new → K.sound keep.old → K.sound keep.new }
@@ -31,10 +64,13 @@ fn take_command<K: Keep>(alloc: Global, keep: &mut K, asked: &Admin) -> Result<B
         × IsText (said_to (K.rows keep.old) (commands at asked.now)) text) }
     ensures err { K.clean keep.new → OnErr result (Stays (K.rows keep.old) (K.rows keep.new)) }
 {
-    let mut text = Vec::with_capacity(alloc, MAX_ADMIN_TEXT)?;
-    let answer = command(alloc, keep, asked)?;
-    text.extend_from_slice(admin_text(answer)).unwrap();
-    Ok(Bytes::new(text))
+    match asked {
+        Admin::OrgList => take_list(alloc, keep),
+        Admin::OrgAdd { .. } => take_word(alloc, keep, asked),
+        Admin::OrgLimit { .. } => take_word(alloc, keep, asked),
+        Admin::TokenAdd { .. } => take_word(alloc, keep, asked),
+        Admin::TokenRevoke { .. } => take_word(alloc, keep, asked),
+    }
 }
 
 /// One step: what it is answered, once it is carried out.
@@ -191,12 +227,12 @@ impl<K: Keep> Service<K> {
         }
     }
 
-    /// Carries out an operator's command.
+    /// Carries out an operator's command. The list of all organizations is that of their records.
     pub fn admin(&mut self, alloc: Global, now: Moment, asked: &Admin) -> Result<AdminAnswer, Down>
         ensures so_far { K.clean self.new.keep → K.clean self.old.keep }
         ensures kept { K.clean self.new.keep → K.sound self.old.keep → K.sound self.new.keep }
         ensures ok { K.clean self.new.keep → K.sound self.old.keep → IfOk result (λ answer. Carries (commands now asked.now) (K.rows self.old.keep) (K.rows self.new.keep)
-            × (said_to (K.rows self.old.keep) (commands now asked.now) ≡ tells answer)) }
+            × IsAdminAnswer (K.rows self.old.keep) asked.now answer) }
         ensures err { K.clean self.new.keep → OnErr result (Stays (K.rows self.old.keep) (K.rows self.new.keep)) }
         ensures taken { self.new.taken ≡ self.old.taken }
     {
@@ -243,6 +279,10 @@ impl<K: Keep> Service<K> {
         // The replies to unattributed's steps follow from their bytes and moments alone.
         ensures unattributed { K.clean self.new.keep → K.sound self.old.keep → IfOk result (λ replies. (asked : List Ask) → AreAsked steps.now asked
             → AreOwnReplies asked (K.rows self.old.keep) replies.items unattributed) }
+
+        // The list of all organizations is outside of isolation: the replies to those steps are lists (`admin` says of which).
+        ensures lists { K.clean self.new.keep → K.sound self.old.keep → IfOk result (λ replies. (asked : List Ask) → AreAsked steps.now asked
+            → AreOwnReplies asked (K.rows self.old.keep) replies.items operator) }
 
         // Also after `Down`, each organization's record is that of its own machine, run over its own steps of those taken.
         ensures rows { K.clean self.new.keep → K.sound self.old.keep → (asked : List Ask) → AreAsked (take self.new.taken steps.now) asked

@@ -9,11 +9,23 @@ pub enum Admin {
         org: OrgName,
         limit: Limit,
     },
+    /// Sets how many workspaces an organization may have.
+    OrgLimit {
+        org: OrgName,
+        limit: Limit,
+    },
+    /// Lists all organizations.
+    OrgList,
     TokenAdd {
         org: OrgName,
         name: OrgName,
         role: Role,
         secret: Secret,
+    },
+    /// Takes a token away.
+    TokenRevoke {
+        org: OrgName,
+        name: OrgName,
     },
 }
 

@@ -30,7 +30,7 @@ module _ (text : List ℕ) (is : IsQuery text) where
       go (Ok k) e f = let same : c ≡ with_command (record is.1 { statement = written.Select is.0; formats = [] }) (timed s [] (written.Select is.0), (k, None)) = cc in ap (λ (d : Compiled). d.returning) same
       go (Err e) f g = absurd (cc)
 
-  silent : (s : Schema) (c : Compiled) → understood s text ≡ Ok c → c.returning ≡ None
+  pub silent : (s : Schema) (c : Compiled) → understood s text ≡ Ok c → c.returning ≡ None
   unfolding understood
   silent s c h = go (reads_listing s text) h
     where
@@ -46,7 +46,7 @@ module _ (text : List ℕ) (is : IsQuery text) where
       go true e = kept (compiled listing_schema text) (λ d is_d. compiled_silent listing_schema d is_d) e
       go false e = compiled_silent s c e
 
-  shown_calm : (params : Row) (old new : State) (rows : List Row) → Shown text params old new rows → IsUnchanged old new
+  pub shown_calm : (params : Row) (old new : State) (rows : List Row) → Shown text params old new rows → IsUnchanged old new
   unfolding Shown
   shown_calm params old new rows h = (subst (ShowsRows old new text h.0 _ rows) (silent old.now.schema h.0 h.1.is) h.2).3
 
@@ -58,7 +58,7 @@ module _ (text : List ℕ) (is : IsQuery text) where
   no_rows_told Broken h = cc
   no_rows_told Unstorable h = cc
 
-  failed_calm : (params : Row) (old new : State) (e : Error) → FailsToQuery text params old new e → IsUnchanged old new ⊎ IsRolledBack old new
+  pub failed_calm : (params : Row) (old new : State) (e : Error) → FailsToQuery text params old new e → IsUnchanged old new ⊎ IsRolledBack old new
   unfolding FailsToQuery IsNotRun
   failed_calm params old new e (inl (inl refused)) = inl refused.1
   failed_calm params old new e (inl (inr failed)) = inr failed.3

@@ -6,10 +6,11 @@ use Rattle.sqlite_value.specs.declared.keys.Collation.TheVariants.{Binary}
 use Rattle.sqlite_sql.specs.Term.{Term, lit, col, op2}
 use Rattle.sqlite_sql.specs.Query.{Query, inner, end}
 use Rattle.sqlite_sql.specs.declared.aggregate.AggregateOp.TheVariants.{CountRows}
-use Rattle.sqlite_sql.specs.declared.ops.CompareOp.TheVariants.{Eq, Lt}
+use Rattle.sqlite_sql.specs.declared.ops.CompareOp.TheVariants.{Eq, Lt, Gt}
 use Rattle.sqlite_sql.specs.declared.ops.BinaryOp.TheVariants.{Compare}
 use Rattle.sqlite_draft.specs.declared.query.Draft.{Draft}
 use Rattle.statements.proofs.Answered.{by_rowid}
+use Rattle.statements.proofs.Listed.{sorted_by}
 
 -- a column is a parameter, each by its place
 abbrev pub is_at : ℕ → ℕ → Term
@@ -17,6 +18,9 @@ is_at column parameter = op2 (Compare Eq Binary) (col 1 column) (col 0 parameter
 
 abbrev pub is_below : ℕ → ℕ → Term
 is_below column parameter = op2 (Compare Lt Binary) (col 1 column) (col 0 parameter)
+
+abbrev pub is_above : ℕ → ℕ → Term
+is_above column parameter = op2 (Compare Gt Binary) (col 1 column) (col 0 parameter)
 
 abbrev pub is_number : ℕ → ℕ → Term
 is_number column n = op2 (Compare Eq Binary) (col 1 column) (lit (Int (pos n)))
@@ -70,6 +74,10 @@ point_draft rest tree descending = record {
   limit = rest.limit;
   offset = rest.offset;
 }
+
+-- in the order of a column
+abbrev pub listing_draft : Query → ℕ → ℕ → Draft
+listing_draft rest tree column = record (point_draft rest tree false) { order = sorted_by column }
 
 abbrev pub tally_draft : Query → ℕ → Collation → Term → Draft
 tally_draft rest tree collation argument = record {

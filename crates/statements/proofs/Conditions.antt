@@ -7,7 +7,7 @@ use Rattle.std.proofs.lemmas.Int.{ints}
 use Rattle.std.proofs.lemmas.Bool.Decides.{nat_tests}
 use Rattle.sqlite_value.specs.declared.keys.Collation.TheVariants.{Binary}
 use Rattle.sqlite_value.specs.declared.value.Value.TheVariants.{Int, Text, Blob}
-use Rattle.sqlite_sql.specs.declared.ops.CompareOp.TheVariants.{Eq, Lt}
+use Rattle.sqlite_sql.specs.declared.ops.CompareOp.TheVariants.{Eq, Lt, Gt}
 use Rattle.sqlite_sql.specs.declared.ops.BinaryOp.TheVariants.{Compare}
 use Rattle.sqlite_sql.specs.Ops.{is_true, binary}
 use Rattle.sqlite_typed.specs.Columns.{or_null}
@@ -16,6 +16,7 @@ use Rattle.basis.specs.declared.runs.RunStatus.TheVariants.{Pending, Planning, P
 use Rattle.statements.specs.Rows.{flag, status_code}
 use Rattle.basis.specs.Runs.{is_open}
 use Rattle.statements.specs.Finds.{is_pending, has_key}
+use Rattle.statements.specs.Listings.{comes_after}
 use Rattle.sqlite_typed.proofs.TestLemmas.{at_texts, at_blobs, at_ints, then_term, last_term}
 
 pub same_text : (a b : List ℕ) → is_true (binary (Compare Eq Binary) (Text a) (Text b)) ≡ bytes_eq a b
@@ -47,6 +48,19 @@ pub two_texts_below : (a b c d : List ℕ) (m n : ℕ)
     → (is_true (binary (Compare Eq Binary) (Text a) (Text b)) && (is_true (binary (Compare Eq Binary) (Text c) (Text d)) && (is_true (binary (Compare Lt Binary) (Int (pos m)) (Int (pos n))) && true)))
     ≡ (bytes_eq a b && (bytes_eq c d && nat_lt m n))
 two_texts_below a b c d m n = then_term (same_text a b) (then_term (same_text c d) (last_term (at_ints _ Lt (pos m) (pos n) ∙ below_is m n)))
+
+and_again : (a b c : Bool) → (a && (b && c)) ≡ ((a && b) && c)
+and_again true b c = refl
+and_again false b c = refl
+
+pub two_texts_above : (a b c d : List ℕ) (m n : ℕ)
+    → (is_true (binary (Compare Eq Binary) (Text a) (Text b)) && (is_true (binary (Compare Eq Binary) (Text c) (Text d)) && (is_true (binary (Compare Gt Binary) (Int (pos m)) (Int (pos n))) && true)))
+    ≡ ((bytes_eq a b && bytes_eq c d) && nat_lt n m)
+two_texts_above a b c d m n =
+    then_term (same_text a b) (then_term (same_text c d) (last_term (at_ints _ Gt (pos m) (pos n) ∙ below_is n m))) ∙ and_again (bytes_eq a b) (bytes_eq c d) (nat_lt n m)
+
+pub text_after : (a b c d : List ℕ) → (is_true (binary (Compare Eq Binary) (Text a) (Text b)) && (is_true (binary (Compare Gt Binary) (Text c) (Text d)) && true)) ≡ (bytes_eq a b && comes_after d c)
+text_after a b c d = then_term (same_text a b) (last_term (at_texts _ Gt c d))
 
 pub text_blob : (a b c d : List ℕ) → (is_true (binary (Compare Eq Binary) (Text a) (Text b)) && (is_true (binary (Compare Eq Binary) (Blob c) (Blob d)) && true)) ≡ (bytes_eq a b && bytes_eq c d)
 text_blob a b c d = then_term (same_text a b) (last_term (same_blob c d))

@@ -11,9 +11,11 @@ pub mod Frames
 pub mod Grown
 pub mod KeyedLists
 pub mod Lead
+pub mod Listed
 pub mod Makes
 pub mod Meaning
 pub mod MetaTexts
+pub mod NameLists
 pub mod OrgReads
 pub mod OrgTexts
 pub mod OrgWrites
@@ -26,7 +28,9 @@ pub mod RunTexts
 pub mod RunWrites
 pub mod SchemaTexts
 pub mod Schemas
+pub mod Sorting
 pub mod SyntaxTrees
+pub mod Taking
 pub mod TokenReads
 pub mod TokenTexts
 pub mod TokenWrites

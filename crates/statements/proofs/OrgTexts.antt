@@ -6,7 +6,7 @@ use Rattle.sqlite_sql.specs.Term.{Term, lit, col}
 use Rattle.sqlite_sql.specs.Query.{Query}
 use Rattle.sqlite_schema.specs.declared.schema.Schema.{Schema}
 use Rattle.sqlite_schema.specs.declared.command.Source.TheVariants.{Values}
-use Rattle.sqlite_schema.specs.declared.command.Command.TheVariants.{Select, Insert}
+use Rattle.sqlite_schema.specs.declared.command.Command.TheVariants.{Select, Insert, Update}
 use Rattle.sqlite_ast.specs.declared.Statement.TheVariants as written
 use Rattle.sqlite_ast.specs.declared.Select as ast
 use Rattle.sqlite_resolve.specs.Compile.{first, command, timed, returning}
@@ -21,7 +21,8 @@ use Rattle.statements.proofs.Meaning.{Means, means, some_parsed, as_read}
 use Rattle.statements.proofs.Reading.{read_is}
 use Rattle.statements.proofs.Writes.{plain_program}
 use Rattle.statements.proofs.Answered.{point}
-use Rattle.statements.proofs.Commands.{is_at, point_rest, point_draft, no_page}
+use Rattle.statements.proofs.Listed.{listing}
+use Rattle.statements.proofs.Commands.{is_at, update_query, point_rest, point_draft, no_page, listing_draft}
 
 abbrev pub add_org_text : List ℕ
 add_org_text = codes "INSERT INTO org (name, cap) VALUES (?1, ?2)"
@@ -32,6 +33,16 @@ add_org_reads = refl
 
 abbrev pub add_org_terms : List Term
 add_org_terms = lit Null ∷ col 0 0 ∷ col 0 1 ∷ []
+
+abbrev pub set_cap_text : List ℕ
+set_cap_text = codes "UPDATE org SET cap = ?2 WHERE name = ?1"
+
+set_cap_reads : first set_cap_text ≡ Ok (as_read (some_parsed (first set_cap_text)) st.set_cap)
+unfolding everything
+set_cap_reads = refl
+
+abbrev pub set_cap_query : ℕ → Query
+set_cap_query tree = update_query tree (is_at 1 0 ∷ []) (col 1 1 ∷ col 0 1 ∷ [])
 
 abbrev pub org_cap_text : List ℕ
 org_cap_text = codes "SELECT cap FROM org WHERE name = ?1 ORDER BY rowid"
@@ -49,7 +60,43 @@ org_cap_is_query = (org_cap_select, some_parsed (first org_cap_text), org_cap_re
 abbrev pub org_cap_rest : Query
 org_cap_rest = point_rest (is_at 1 0 ∷ []) (col 1 2 ∷ []) no_page
 
+abbrev pub list_orgs_text : List ℕ
+list_orgs_text = codes "SELECT name, cap FROM org ORDER BY name"
+
+abbrev pub list_orgs_select : ast.Select
+list_orgs_select = st.select st.list_orgs_core (st.by_column (codes "name")) None
+
+list_orgs_reads : first list_orgs_text ≡ Ok (as_read (some_parsed (first list_orgs_text)) (written.Select list_orgs_select))
+unfolding everything
+list_orgs_reads = refl
+
+pub list_orgs_is_query : IsQuery list_orgs_text
+list_orgs_is_query = (list_orgs_select, some_parsed (first list_orgs_text), list_orgs_reads)
+
+abbrev pub list_orgs_rest : Query
+list_orgs_rest = point_rest [] (col 1 1 ∷ col 1 2 ∷ []) no_page
+
+abbrev pub list_orgs_names : List (List ℕ)
+list_orgs_names = codes "name" ∷ codes "cap" ∷ []
+
 module _ (s : Schema) (at tree : ℕ) (h : IsAt s (codes "org") org_table at tree) where
+  list_orgs_named : named s st.list_orgs_core (st.by_column (codes "name")) no_page ≡ Ok ((listing_draft list_orgs_rest tree 1), list_orgs_names, (Some Binary ∷ Some Binary ∷ []))
+  unfolding everything
+  list_orgs_named = rw (h.named, h.found, h.found, h.found, h.found) refl
+
+  list_orgs_fits : program s [] (listing_draft list_orgs_rest tree 1) ≡ Ok (plain_program (listing list_orgs_rest tree 1))
+  unfolding everything
+  list_orgs_fits = rw (h.low, h.treed) refl
+
+  list_orgs_is : (base : ℕ) → command s [] base (written.Select list_orgs_select) ≡ Ok (Select (plain_program (listing list_orgs_rest tree 1)) list_orgs_names)
+  unfolding everything
+  list_orgs_is base =
+      read_is s list_orgs_select st.list_orgs_core (st.by_column (codes "name")) no_page ((listing_draft list_orgs_rest tree 1), list_orgs_names, (Some Binary ∷ Some Binary ∷ [])) refl refl refl refl refl (λ again. refl) list_orgs_named (plain_program (listing list_orgs_rest tree 1)) list_orgs_fits base
+
+  pub list_orgs_means : Means s (Select (plain_program (listing list_orgs_rest tree 1)) list_orgs_names) list_orgs_text
+  unfolding timed returning
+  list_orgs_means = means s (written.Select list_orgs_select) _ refl (λ _. refl) list_orgs_is list_orgs_text (some_parsed (first list_orgs_text)) list_orgs_reads
+
   add_org_is : (base : ℕ) → command s [] base st.add_org ≡ Ok (Insert at (Values add_org_terms 3))
   unfolding everything
   add_org_is base = rw (h.named, h.found) refl
@@ -57,6 +104,14 @@ module _ (s : Schema) (at tree : ℕ) (h : IsAt s (codes "org") org_table at tre
   pub add_org_means : Means s (Insert at (Values add_org_terms 3)) add_org_text
   unfolding everything
   add_org_means = means s st.add_org _ (rw (h.named, h.found) refl) (λ _. refl) add_org_is add_org_text (some_parsed (first add_org_text)) add_org_reads
+
+  set_cap_is : (base : ℕ) → command s [] base st.set_cap ≡ Ok (Update at (plain_program (set_cap_query tree)))
+  unfolding everything
+  set_cap_is base = rw (h.named, h.found, h.found, h.found, h.treed, h.low) refl
+
+  pub set_cap_means : Means s (Update at (plain_program (set_cap_query tree))) set_cap_text
+  unfolding everything
+  set_cap_means = means s st.set_cap _ refl (λ _. refl) set_cap_is set_cap_text (some_parsed (first set_cap_text)) set_cap_reads
 
   org_cap_named : named s st.org_cap_core (st.by_rowid false) no_page ≡ Ok ((point_draft org_cap_rest tree false), (codes "cap" ∷ []), (Some Binary ∷ []))
   unfolding everything

@@ -9,10 +9,14 @@ use Rattle.statements.specs.declared.rows.Holder.{Holder}
 use Rattle.statements.specs.declared.rows.Holder.TheVariants.{Nobody, Lock, Run as HeldByRun}
 use Rattle.statements.specs.declared.rows.Workspace.{Workspace}
 use Rattle.statements.specs.declared.rows.Head.{Head}
+use Rattle.statements.specs.declared.rows.NamedWorkspace.{NamedWorkspace}
+use Rattle.statements.specs.declared.rows.Organization.{Organization}
+use Rattle.statements.specs.declared.rows.VersionHead.{VersionHead}
 use Rattle.statements.specs.declared.rows.Run.{Run}
 use Rattle.statements.specs.Rows.{Version, number, flag, role_code, status_code, action_code, kind_cell, lock_id_cell, lock_text_cell, run_cell}
 use Rattle.statements.specs.Finds.{head_of}
-use Rattle.statements.specs.Queries.{IsFlag, IsTextOrNull, IsHolder, IsWorkspace, IsHead, IsActionOrNull, IsRun}
+use Rattle.statements.specs.Listings.{version_head_of}
+use Rattle.statements.specs.Queries.{IsFlag, IsTextOrNull, IsHolder, IsWorkspace, IsNamedWorkspace, IsOrganization, IsHead, IsVersionHead, IsActionOrNull, IsRun}
 use Rattle.statements.proofs.Codes.{same_role, same_status, same_action}
 
 same_code : (m n : ℕ) → number m ≡ number n → m ≡ n
@@ -68,6 +72,25 @@ workspace_read w v told = λ i. record {
   released = optional_read w.released v.released told.released i;
   next_version = number_read w.next_version v.next_version told.next_version i;
   next_run = number_read w.next_run v.next_run told.next_run i;
+}
+
+pub named_workspace_read : (name : List ℕ) (w : Workspace) (v : NamedWorkspace)
+    → IsNamedWorkspace (flag w.auto ∷ kind_cell w.holder ∷ lock_id_cell w.holder ∷ lock_text_cell w.holder ∷ run_cell w.holder ∷ or_null cell.Text w.released ∷ number w.next_version ∷ number w.next_run ∷ cell.Text name ∷ []) v
+    → v ≡ record { name = name; it = w }
+named_workspace_read name w v told =
+    let it = workspace_read w v.it (record { auto = told.it.auto; holder = told.it.holder; released = told.it.released; next_version = told.it.next_version; next_run = told.it.next_run }) in
+    λ i. record { name = text_read name v.name told.name i; it = it i }
+
+pub organization_read : (name : List ℕ) (cap : ℕ) (o : Organization) → IsOrganization (cell.Text name ∷ number cap ∷ []) o → o ≡ record { name = name; cap = cap }
+organization_read name cap o told = λ i. record { name = text_read name o.name told.name i; cap = number_read cap o.cap told.cap i }
+
+pub version_head_read : (v : Version) (h : VersionHead) → IsVersionHead (number v.number ∷ number v.serial ∷ cell.Text v.lineage ∷ number v.created ∷ number (length v.body) ∷ []) h → h ≡ version_head_of v
+version_head_read v h told = λ i. record {
+  number = number_read v.number h.number told.number_is i;
+  serial = number_read v.serial h.serial told.serial i;
+  lineage = text_read v.lineage h.lineage told.lineage i;
+  created = number_read v.created h.created told.created i;
+  size = number_read (length v.body) h.size told.size i;
 }
 
 pub head_read : (v : Version) (h : Head) → IsHead (number v.number ∷ number v.serial ∷ cell.Text v.lineage ∷ number (length v.body) ∷ []) h → h ≡ head_of v

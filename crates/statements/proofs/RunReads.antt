@@ -1,4 +1,5 @@
 -- What the queries on the table run read of its rows.
+use Rattle.std.specs.List.{AllZip}
 use Rattle.std.proofs.Common.{◌≡◌, ℕ, List, [], ◌∷◌, Option, Some, codes, refl}
 use Rattle.sqlite_value.specs.declared.value.Value.TheVariants.{Text}
 use Rattle.sqlite_value.specs.Order.{Row}
@@ -7,13 +8,16 @@ use Rattle.sqlite.specs.State.{State}
 use Rattle.statements.specs.Schema.{run_table}
 use Rattle.statements.specs.Rows.{run_cells, number}
 use Rattle.statements.specs.Tables.{Tables, Holds}
-use Rattle.statements.specs.Changes.{is_run}
+use Rattle.statements.specs.Changes.{is_run, is_run_of}
 use Rattle.statements.specs.Finds.{is_waiting, first_waiting_of, status_of, is_run_with_key, is_open_run_of, run_of, keyed_run_of, open_runs_of}
-use Rattle.statements.specs.Queries.{FirstRow, Pins, IsNumber, IsStatus, IsRun}
+use Rattle.statements.specs.Queries.{FirstRow, FirstRows, Pins, IsNumber, IsStatus, IsRun}
+use Rattle.statements.specs.declared.rows.Run.{Run}
+use Rattle.statements.specs.Listings.{runs_after, RunsRise}
+use Rattle.statements.proofs.Listed.{by_column, numbered_are}
 use Rattle.statements.proofs.PointReads.{first_own, count_own}
 use Rattle.statements.proofs.ReadBack.{number_read, status_read, run_read}
-use Rattle.statements.proofs.Conditions.{two_texts_number, two_texts_key, two_texts_open, waits}
-use Rattle.statements.proofs.RunTexts.{first_waiting_text, first_waiting_means, first_waiting_rest, run_status_text, run_status_means, run_status_rest, run_names, find_run_text, find_run_means, find_run_rest, find_keyed_run_text, find_keyed_run_means, find_keyed_run_rest, count_open_runs_text, count_open_runs_means, count_open_runs_rest}
+use Rattle.statements.proofs.Conditions.{two_texts_number, two_texts_above, two_texts_key, two_texts_open, waits}
+use Rattle.statements.proofs.RunTexts.{list_runs_text, list_runs_means, list_runs_rest, first_waiting_text, first_waiting_means, first_waiting_rest, run_status_text, run_status_means, run_status_rest, run_names, find_run_text, find_run_means, find_run_rest, find_keyed_run_text, find_keyed_run_means, find_keyed_run_rest, count_open_runs_text, count_open_runs_means, count_open_runs_rest}
 
 module _ (old new : State) (t : Tables) (h : Holds old.now t) where
   pub first_waiting_shows : (org ws : List ℕ) (row : Option Row) → FirstRow first_waiting_text (Text org ∷ Text ws ∷ []) old new row → Pins IsNumber row (first_waiting_of org ws t)
@@ -35,6 +39,13 @@ module _ (old new : State) (t : Tables) (h : Holds old.now t) where
   find_keyed_run_shows org ws key row first =
       first_own run_cells run_table old new h.ours.run t.runs h.runs h.runs_keyed find_keyed_run_text (Text org ∷ Text ws ∷ Text key ∷ []) row first find_keyed_run_rest run_names
       (is_run_with_key org ws key) (λ x. two_texts_key x.1.org org x.1.ws ws key x.1.it.key) IsRun (λ x. x.1.it) (λ x y told. run_read x.1.it y told) (find_keyed_run_means old.now.schema _ _ h.ours.run.place) (λ l. refl)
+
+  pub list_runs_shows : (org ws : List ℕ) (after most : ℕ) (rows : List Row) (runs : List Run) → RunsRise org ws t → FirstRows most list_runs_text (Text org ∷ Text ws ∷ number after ∷ []) old new rows → AllZip IsRun rows runs
+      → runs ≡ runs_after org ws after most t
+  list_runs_shows org ws after most rows runs rise first read =
+      numbered_are run_cells run_table old new h.ours.run t.runs h.runs h.runs_keyed list_runs_text (Text org ∷ Text ws ∷ number after ∷ []) list_runs_rest 3 run_names
+      IsRun (λ r. r.number) (λ x. x.1.it) (is_run_of org ws) after (λ x. two_texts_above x.1.org org x.1.ws ws x.1.it.number after) (λ x y told. run_read x.1.it y told)
+      (λ x y. by_column x.1.it.number y.1.it.number) (list_runs_means old.now.schema _ _ h.ours.run.place) (λ l. refl) most rows runs rise first read
 
   pub count_open_runs_shows : (org ws : List ℕ) (row : Option Row) → FirstRow count_open_runs_text (Text org ∷ Text ws ∷ []) old new row → row ≡ Some (number (open_runs_of org ws t) ∷ [])
   count_open_runs_shows org ws row first =

@@ -22,7 +22,8 @@ use Rattle.statements.proofs.Meaning.{Means, means, some_parsed, as_read}
 use Rattle.statements.proofs.Reading.{read_is}
 use Rattle.statements.proofs.Writes.{plain_program}
 use Rattle.statements.proofs.Answered.{point, tally}
-use Rattle.statements.proofs.Commands.{is_at, is_number, is_under, update_query, delete_query, point_rest, point_draft, tally_draft, no_page, one_page}
+use Rattle.statements.proofs.Listed.{listing}
+use Rattle.statements.proofs.Commands.{is_at, is_number, is_under, update_query, delete_query, point_rest, point_draft, tally_draft, no_page, one_page, is_above, listing_draft}
 
 abbrev pub first_waiting_text : List ℕ
 first_waiting_text = codes "SELECT number FROM run WHERE org = ?1 AND ws = ?2 AND status = 0 AND plan_only = 0 ORDER BY rowid LIMIT 1"
@@ -150,7 +151,40 @@ remove_runs_reads = refl
 abbrev pub remove_runs_query : ℕ → Query
 remove_runs_query tree = delete_query tree (is_at 1 0 ∷ is_at 2 1 ∷ [])
 
+abbrev pub list_runs_text : List ℕ
+list_runs_text = codes "SELECT number, plan_only, rkey, message, created, status, action FROM run WHERE org = ?1 AND ws = ?2 AND number > ?3 ORDER BY number"
+
+abbrev pub list_runs_select : ast.Select
+list_runs_select = st.select st.list_runs_core (st.by_column (codes "number")) None
+
+list_runs_reads : first list_runs_text ≡ Ok (as_read (some_parsed (first list_runs_text)) (written.Select list_runs_select))
+unfolding everything
+list_runs_reads = refl
+
+pub list_runs_is_query : IsQuery list_runs_text
+list_runs_is_query = (list_runs_select, some_parsed (first list_runs_text), list_runs_reads)
+
+abbrev pub list_runs_rest : Query
+list_runs_rest = point_rest (is_at 1 0 ∷ is_at 2 1 ∷ is_above 3 2 ∷ []) run_shown no_page
+
 module _ (s : Schema) (at tree : ℕ) (h : IsAt s (codes "run") run_table at tree) where
+  list_runs_named : named s st.list_runs_core (st.by_column (codes "number")) no_page ≡ Ok ((listing_draft list_runs_rest tree 3), run_names, (Some Binary ∷ Some Binary ∷ Some Binary ∷ Some Binary ∷ Some Binary ∷ Some Binary ∷ Some Binary ∷ []))
+  unfolding everything
+  list_runs_named = rw (h.named, h.found, h.found, h.found, h.found) refl
+
+  list_runs_fits : program s [] (listing_draft list_runs_rest tree 3) ≡ Ok (plain_program (listing list_runs_rest tree 3))
+  unfolding everything
+  list_runs_fits = rw (h.low, h.treed) refl
+
+  list_runs_is : (base : ℕ) → command s [] base (written.Select list_runs_select) ≡ Ok (Select (plain_program (listing list_runs_rest tree 3)) run_names)
+  unfolding everything
+  list_runs_is base =
+      read_is s list_runs_select st.list_runs_core (st.by_column (codes "number")) no_page ((listing_draft list_runs_rest tree 3), run_names, (Some Binary ∷ Some Binary ∷ Some Binary ∷ Some Binary ∷ Some Binary ∷ Some Binary ∷ Some Binary ∷ [])) refl refl refl refl refl (λ again. refl) list_runs_named (plain_program (listing list_runs_rest tree 3)) list_runs_fits base
+
+  pub list_runs_means : Means s (Select (plain_program (listing list_runs_rest tree 3)) run_names) list_runs_text
+  unfolding timed returning
+  list_runs_means = means s (written.Select list_runs_select) _ refl (λ _. refl) list_runs_is list_runs_text (some_parsed (first list_runs_text)) list_runs_reads
+
   first_waiting_named : named s st.first_waiting_core (st.by_rowid false) one_page ≡ Ok ((point_draft first_waiting_rest tree false), (codes "number" ∷ []), (Some Binary ∷ []))
   unfolding everything
   first_waiting_named = rw (h.named, h.found, h.found, h.found, h.small) refl

@@ -2,7 +2,7 @@
 use Rattle.std.specs.Prelude.{ℕ, Bool, false, List, [], ◌∷◌, map, codes, Option, Some, None}
 use Rattle.sqlite_ast.specs.declared.Expr.{Expr}
 use Rattle.sqlite_ast.specs.declared.Expr.TheVariants.{Column, Parameter, Integer, Null, CallStar, Binary as Two}
-use Rattle.sqlite_ast.specs.declared.Binary.TheVariants.{And, Eq, Lt}
+use Rattle.sqlite_ast.specs.declared.Binary.TheVariants.{And, Eq, Lt, Gt}
 use Rattle.sqlite_ast.specs.declared.Conflict.TheVariants.{Abort}
 use Rattle.sqlite_ast.specs.declared.Rows.TheVariants.{Values}
 use Rattle.sqlite_ast.specs.declared.Origin.TheVariants.{Table}
@@ -57,6 +57,17 @@ abbrev pub from_table : List Shown → List ℕ → Expr → Core
 from_table shown table test =
     roll-Core (record { distinct = false; shown = shown; from = roll-Source (record { is_left = false; origin = Table table; alias = None; on = None; using = [] }) ∷ []; filter = Some test; group = []; having = None })
 
+abbrev pub from_all : List Shown → List ℕ → Core
+from_all shown table =
+    roll-Core (record { distinct = false; shown = shown; from = roll-Source (record { is_left = false; origin = Table table; alias = None; on = None; using = [] }) ∷ []; filter = None; group = []; having = None })
+
+-- a column is above the parameter of this number
+abbrev pub is_above : List ℕ → ℕ → Expr
+is_above column n = Two Gt (named column) (Parameter n)
+
+abbrev pub by_column : List ℕ → List Sort
+by_column column = roll-Sort (record { key = named column; descending = false; nulls_first = None }) ∷ []
+
 abbrev pub by_rowid : Bool → List Sort
 by_rowid descending = roll-Sort (record { key = named (codes "rowid"); descending = descending; nulls_first = None }) ∷ []
 
@@ -105,6 +116,9 @@ newest_version_core = from_table (shown_columns (codes "number" ∷ codes "seria
 abbrev pub nth_version_core : Core
 nth_version_core = from_table (shown_columns (codes "number" ∷ [])) (codes "version") (at_key (codes "org") (codes "ws"))
 
+abbrev pub version_number_core : Core
+version_number_core = from_table (shown_columns (codes "number" ∷ [])) (codes "version") (also (at_key (codes "org") (codes "ws")) (is_given (codes "number") 3))
+
 abbrev pub version_body_core : Core
 version_body_core = from_table (shown_columns (codes "body" ∷ [])) (codes "version") (also (at_key (codes "org") (codes "ws")) (is_given (codes "number") 3))
 
@@ -138,6 +152,18 @@ add_org = insert (codes "org") (codes "name" ∷ codes "cap" ∷ []) (Parameter 
 abbrev pub org_cap_core : Core
 org_cap_core = from_table (shown_columns (codes "cap" ∷ [])) (codes "org") (is_given (codes "name") 1)
 
+abbrev pub set_cap : Statement
+set_cap = update (codes "org") ((codes "cap", Parameter 2) ∷ []) (is_given (codes "name") 1)
+
+abbrev pub list_orgs_core : Core
+list_orgs_core = from_all (shown_columns (codes "name" ∷ codes "cap" ∷ [])) (codes "org")
+
+abbrev pub list_ws_core : Core
+list_ws_core = from_table (shown_columns (codes "auto" ∷ codes "kind" ∷ codes "lock_id" ∷ codes "lock_text" ∷ codes "run" ∷ codes "released" ∷ codes "next_version" ∷ codes "next_run" ∷ codes "name" ∷ [])) (codes "ws") (also (is_given (codes "org") 1) (is_above (codes "name") 2))
+
+abbrev pub list_versions_core : Core
+list_versions_core = from_table (shown_columns (codes "number" ∷ codes "serial" ∷ codes "lineage" ∷ codes "created" ∷ codes "size" ∷ [])) (codes "version") (also (at_key (codes "org") (codes "ws")) (is_above (codes "number") 3))
+
 abbrev pub first_waiting_core : Core
 first_waiting_core = from_table (shown_columns (codes "number" ∷ [])) (codes "run") (also (also (at_key (codes "org") (codes "ws")) (Two Eq (named (codes "status")) zero)) (Two Eq (named (codes "plan_only")) zero))
 
@@ -152,6 +178,9 @@ find_run_core = from_table run_columns (codes "run") (also (at_key (codes "org")
 
 abbrev pub find_keyed_run_core : Core
 find_keyed_run_core = from_table run_columns (codes "run") (also (at_key (codes "org") (codes "ws")) (is_given (codes "rkey") 3))
+
+abbrev pub list_runs_core : Core
+list_runs_core = from_table run_columns (codes "run") (also (at_key (codes "org") (codes "ws")) (is_above (codes "number") 3))
 
 abbrev pub count_open_runs_core : Core
 count_open_runs_core = from_table (One (CallStar (codes "count")) None (codes "count(*)") ∷ []) (codes "run") (also (at_key (codes "org") (codes "ws")) (Two Lt (named (codes "status")) four))

@@ -1,9 +1,10 @@
 -- From what a text does to what a function of it promises.
 use Rattle.std.proofs.Common.{◌≡◌, ◌⊎◌, inl, ℕ, List, [], ◌∷◌, Option, Some, None, Result, Ok, Err, IfOk, OnOk, OnErr, refl, ap, subst, ◌∙◌}
+use Rattle.std.specs.List.{AllZip}
 use Rattle.sqlite_value.specs.Order.{Row}
 use Rattle.sqlite.specs.State.{State, Executes, KeepsCommit, IsUnchanged, IsRolledBack}
 use Rattle.sqlite.specs.declared.error.Error.{Error}
-use Rattle.statements.specs.Queries.{FirstRow, IsCalm, IsRead, IsCount, IsNumber, Pins}
+use Rattle.statements.specs.Queries.{FirstRow, IsCalm, IsRead, AreRead, IsCount, IsNumber, Pins}
 use Rattle.statements.specs.Rows.{number}
 use Rattle.sqlite.specs.Effect.{Database}
 use Rattle.statements.specs.Making.{Alters}
@@ -45,6 +46,16 @@ reads_by {X} read Is old new text params (Ok r) (Ok o) first calm is pins = (λ 
     same (Some row) None p is pin = absurd is
     same (Some row) (Some y) None is pin = absurd pin
     same (Some row) (Some y) (Some x) is pin = ap Some (pin y is)
+
+-- a query of many rows, each of which is read as a value
+pub lists_by : {X E F : Type 0} (law : Tables → Type 0) (read : Tables → List X) (Is : Row → X → Type 0) (old new : State) (Gives : List Row → Type 0) (rows : Result (List Row) E) (result : Result (List X) F)
+    → IfOk rows Gives → IsCalm old new rows → AreRead Is rows result
+    → ((t : Tables) → Holds old.now t → law t → (rs : List Row) (xs : List X) → Gives rs → AllZip Is rs xs → xs ≡ read t)
+    → IfOk result (λ x. (t : Tables) → Holds old.now t → law t → x ≡ read t) × (OnOk result (IsUnchanged old new) × OnErr result (IsUnchanged old new ⊎ IsRolledBack old new))
+lists_by law read Is old new Gives (Ok rs) (Err f) gives calm are shows = (tt, (tt, inl calm.0))
+lists_by law read Is old new Gives (Err e) (Err f) gives calm are shows = (tt, (tt, calm.1))
+lists_by law read Is old new Gives (Err e) (Ok xs) gives calm are shows = absurd are
+lists_by law read Is old new Gives (Ok rs) (Ok xs) gives calm are shows = (λ t h lawful. shows t h lawful rs xs gives are, (calm.0, tt))
 
 pub counts_by : {E F : Type 0} (read : Tables → ℕ) (old new : State) (text : List ℕ) (params : Row) (row : Result (Option Row) E) (result : Result ℕ F)
     → IfOk row (FirstRow text params old new) → IsCalm old new row → IsCount row result

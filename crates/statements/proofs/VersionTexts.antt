@@ -22,7 +22,8 @@ use Rattle.statements.proofs.Meaning.{Means, means, some_parsed, as_read}
 use Rattle.statements.proofs.Reading.{read_is}
 use Rattle.statements.proofs.Writes.{plain_program}
 use Rattle.statements.proofs.Answered.{point, tally}
-use Rattle.statements.proofs.Commands.{is_at, is_below, delete_query, point_rest, point_draft, tally_draft, no_page, one_page, one_page_at}
+use Rattle.statements.proofs.Listed.{listing}
+use Rattle.statements.proofs.Commands.{is_at, is_below, delete_query, point_rest, point_draft, tally_draft, no_page, one_page, one_page_at, is_above, listing_draft}
 
 abbrev pub newest_version_text : List ℕ
 newest_version_text = codes "SELECT number, serial, lineage, size FROM version WHERE org = ?1 AND ws = ?2 ORDER BY rowid DESC LIMIT 1"
@@ -55,6 +56,22 @@ nth_version_is_query = (nth_version_select, some_parsed (first nth_version_text)
 
 abbrev pub nth_version_rest : Query
 nth_version_rest = point_rest (is_at 1 0 ∷ is_at 2 1 ∷ []) (col 1 3 ∷ []) (one_page_at 2)
+
+abbrev pub version_number_text : List ℕ
+version_number_text = codes "SELECT number FROM version WHERE org = ?1 AND ws = ?2 AND number = ?3 ORDER BY rowid"
+
+abbrev pub version_number_select : ast.Select
+version_number_select = st.select st.version_number_core (st.by_rowid false) None
+
+version_number_reads : first version_number_text ≡ Ok (as_read (some_parsed (first version_number_text)) (written.Select version_number_select))
+unfolding everything
+version_number_reads = refl
+
+pub version_number_is_query : IsQuery version_number_text
+version_number_is_query = (version_number_select, some_parsed (first version_number_text), version_number_reads)
+
+abbrev pub version_number_rest : Query
+version_number_rest = point_rest (is_at 1 0 ∷ is_at 2 1 ∷ is_at 3 2 ∷ []) (col 1 3 ∷ []) no_page
 
 abbrev pub version_body_text : List ℕ
 version_body_text = codes "SELECT body FROM version WHERE org = ?1 AND ws = ?2 AND number = ?3 ORDER BY rowid"
@@ -118,7 +135,43 @@ remove_versions_reads = refl
 abbrev pub remove_versions_query : ℕ → Query
 remove_versions_query tree = delete_query tree (is_at 1 0 ∷ is_at 2 1 ∷ [])
 
+abbrev pub list_versions_text : List ℕ
+list_versions_text = codes "SELECT number, serial, lineage, created, size FROM version WHERE org = ?1 AND ws = ?2 AND number > ?3 ORDER BY number"
+
+abbrev pub list_versions_select : ast.Select
+list_versions_select = st.select st.list_versions_core (st.by_column (codes "number")) None
+
+list_versions_reads : first list_versions_text ≡ Ok (as_read (some_parsed (first list_versions_text)) (written.Select list_versions_select))
+unfolding everything
+list_versions_reads = refl
+
+pub list_versions_is_query : IsQuery list_versions_text
+list_versions_is_query = (list_versions_select, some_parsed (first list_versions_text), list_versions_reads)
+
+abbrev pub list_versions_rest : Query
+list_versions_rest = point_rest (is_at 1 0 ∷ is_at 2 1 ∷ is_above 3 2 ∷ []) (col 1 3 ∷ col 1 4 ∷ col 1 5 ∷ col 1 6 ∷ col 1 7 ∷ []) no_page
+
+abbrev pub list_versions_names : List (List ℕ)
+list_versions_names = codes "number" ∷ codes "serial" ∷ codes "lineage" ∷ codes "created" ∷ codes "size" ∷ []
+
 module _ (s : Schema) (at tree : ℕ) (h : IsAt s (codes "version") version_table at tree) where
+  list_versions_named : named s st.list_versions_core (st.by_column (codes "number")) no_page ≡ Ok ((listing_draft list_versions_rest tree 3), list_versions_names, (Some Binary ∷ Some Binary ∷ Some Binary ∷ Some Binary ∷ Some Binary ∷ []))
+  unfolding everything
+  list_versions_named = rw (h.named, h.found, h.found, h.found, h.found) refl
+
+  list_versions_fits : program s [] (listing_draft list_versions_rest tree 3) ≡ Ok (plain_program (listing list_versions_rest tree 3))
+  unfolding everything
+  list_versions_fits = rw (h.low, h.treed) refl
+
+  list_versions_is : (base : ℕ) → command s [] base (written.Select list_versions_select) ≡ Ok (Select (plain_program (listing list_versions_rest tree 3)) list_versions_names)
+  unfolding everything
+  list_versions_is base =
+      read_is s list_versions_select st.list_versions_core (st.by_column (codes "number")) no_page ((listing_draft list_versions_rest tree 3), list_versions_names, (Some Binary ∷ Some Binary ∷ Some Binary ∷ Some Binary ∷ Some Binary ∷ [])) refl refl refl refl refl (λ again. refl) list_versions_named (plain_program (listing list_versions_rest tree 3)) list_versions_fits base
+
+  pub list_versions_means : Means s (Select (plain_program (listing list_versions_rest tree 3)) list_versions_names) list_versions_text
+  unfolding timed returning
+  list_versions_means = means s (written.Select list_versions_select) _ refl (λ _. refl) list_versions_is list_versions_text (some_parsed (first list_versions_text)) list_versions_reads
+
   newest_version_named : named s st.newest_version_core (st.by_rowid true) one_page ≡ Ok ((point_draft newest_version_rest tree true), (codes "number" ∷ codes "serial" ∷ codes "lineage" ∷ codes "size" ∷ []), (Some Binary ∷ Some Binary ∷ Some Binary ∷ Some Binary ∷ []))
   unfolding everything
   newest_version_named = rw (h.named, h.found, h.found, h.found, h.small) refl
@@ -152,6 +205,23 @@ module _ (s : Schema) (at tree : ℕ) (h : IsAt s (codes "version") version_tabl
   pub nth_version_means : Means s (Select (plain_program (point nth_version_rest tree false)) (codes "number" ∷ [])) nth_version_text
   unfolding timed returning
   nth_version_means = means s (written.Select nth_version_select) _ refl (λ _. refl) nth_version_is nth_version_text (some_parsed (first nth_version_text)) nth_version_reads
+
+  version_number_named : named s st.version_number_core (st.by_rowid false) no_page ≡ Ok ((point_draft version_number_rest tree false), (codes "number" ∷ []), (Some Binary ∷ []))
+  unfolding everything
+  version_number_named = rw (h.named, h.found, h.found, h.found, h.small) refl
+
+  version_number_fits : program s [] (point_draft version_number_rest tree false) ≡ Ok (plain_program (point version_number_rest tree false))
+  unfolding everything
+  version_number_fits = rw (h.low, h.treed) refl
+
+  version_number_is : (base : ℕ) → command s [] base (written.Select version_number_select) ≡ Ok (Select (plain_program (point version_number_rest tree false)) (codes "number" ∷ []))
+  unfolding everything
+  version_number_is base =
+      read_is s version_number_select st.version_number_core (st.by_rowid false) no_page ((point_draft version_number_rest tree false), (codes "number" ∷ []), (Some Binary ∷ [])) refl refl refl refl refl (λ again. refl) version_number_named (plain_program (point version_number_rest tree false)) version_number_fits base
+
+  pub version_number_means : Means s (Select (plain_program (point version_number_rest tree false)) (codes "number" ∷ [])) version_number_text
+  unfolding timed returning
+  version_number_means = means s (written.Select version_number_select) _ refl (λ _. refl) version_number_is version_number_text (some_parsed (first version_number_text)) version_number_reads
 
   version_body_named : named s st.version_body_core (st.by_rowid false) no_page ≡ Ok ((point_draft version_body_rest tree false), (codes "body" ∷ []), (Some Binary ∷ []))
   unfolding everything

@@ -1,4 +1,5 @@
 -- What the queries on the table ws read of its rows.
+use Rattle.std.specs.List.{AllZip}
 use Rattle.std.proofs.Common.{◌≡◌, ℕ, List, [], ◌∷◌, Option, Some, codes, refl}
 use Rattle.sqlite_value.specs.declared.value.Value.TheVariants.{Text}
 use Rattle.sqlite_value.specs.Order.{Row}
@@ -8,11 +9,14 @@ use Rattle.statements.specs.Rows.{ws_cells, number}
 use Rattle.statements.specs.Tables.{Tables, Holds}
 use Rattle.statements.specs.Changes.{is_ws, is_ws_of}
 use Rattle.statements.specs.Finds.{workspace_of, workspaces_of}
-use Rattle.statements.specs.Queries.{FirstRow, Pins, IsWorkspace}
+use Rattle.statements.specs.Queries.{FirstRow, FirstRows, Pins, IsWorkspace, IsNamedWorkspace}
+use Rattle.statements.specs.declared.rows.NamedWorkspace.{NamedWorkspace}
+use Rattle.statements.specs.Listings.{workspace_at, workspaces_after, WorkspacesApart}
+use Rattle.statements.proofs.NameLists.{by_text, wss_apart, names_after}
 use Rattle.statements.proofs.PointReads.{first_own, count_own}
-use Rattle.statements.proofs.ReadBack.{workspace_read}
-use Rattle.statements.proofs.Conditions.{one_text, two_texts}
-use Rattle.statements.proofs.WsTexts.{find_ws_text, find_ws_means, find_ws_rest, count_ws_text, count_ws_means, count_ws_rest}
+use Rattle.statements.proofs.ReadBack.{workspace_read, named_workspace_read}
+use Rattle.statements.proofs.Conditions.{one_text, two_texts, text_after}
+use Rattle.statements.proofs.WsTexts.{list_ws_text, list_ws_means, list_ws_rest, list_ws_names, find_ws_text, find_ws_means, find_ws_rest, count_ws_text, count_ws_means, count_ws_rest}
 
 module _ (old new : State) (t : Tables) (h : Holds old.now t) where
   pub find_ws_shows : (org name : List ℕ) (row : Option Row) → FirstRow find_ws_text (Text org ∷ Text name ∷ []) old new row → Pins IsWorkspace row (workspace_of org name t)
@@ -24,3 +28,10 @@ module _ (old new : State) (t : Tables) (h : Holds old.now t) where
   count_ws_shows org row first =
       count_own ws_cells ws_table old new h.ours.ws t.wss h.wss h.wss_keyed count_ws_text (Text org ∷ []) row first count_ws_rest (codes "count(*)" ∷ [])
       (is_ws_of org) (λ x. one_text x.1.org org) (count_ws_means old.now.schema _ _ h.ours.ws.place) (λ l. refl)
+
+  pub list_ws_shows : (org after : List ℕ) (most : ℕ) (rows : List Row) (wss : List NamedWorkspace) → WorkspacesApart t → FirstRows most list_ws_text (Text org ∷ Text after ∷ []) old new rows → AllZip IsNamedWorkspace rows wss
+      → wss ≡ workspaces_after org after most t
+  list_ws_shows org after most rows wss apart first read =
+      names_after ws_cells ws_table old new h.ours.ws t.wss h.wss h.wss_keyed list_ws_text (Text org ∷ Text after ∷ []) list_ws_rest 2 list_ws_names
+      IsNamedWorkspace (λ x. x.1.name) (λ x. x.1.it) workspace_at (λ x y told. named_workspace_read x.1.name x.1.it y told)
+      (λ x y. by_text x.1.name y.1.name) (list_ws_means old.now.schema _ _ h.ours.ws.place) (λ l. refl) (is_ws_of org) after (λ x. text_after x.1.org org x.1.name after) (wss_apart org t.wss apart) most rows wss first read

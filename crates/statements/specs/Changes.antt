@@ -25,6 +25,10 @@ is_org name x = bytes_eq x.1.name name
 abbrev pub org_added : List ℕ → ℕ → Tables → Tables
 org_added name cap t = record t { orgs = with_next (record { name = name; cap = cap }) t.orgs }
 
+-- the organization may have so many workspaces
+abbrev pub org_capped : List ℕ → ℕ → Tables → Tables
+org_capped name cap t = record t { orgs = update_where (is_org name) (λ x. (x.0, record x.1 { cap = cap })) t.orgs }
+
 -- ---- tokens
 
 abbrev pub is_token : List ℕ → List ℕ → Kept TokenRow → Bool

@@ -48,6 +48,10 @@ newest_of org ws t = option_map (λ x. head_of x.1.it) (last_in (filter (is_vers
 abbrev pub number_at : List ℕ → List ℕ → ℕ → Tables → Option ℕ
 number_at org ws place t = option_map (λ x. x.1.it.number) (slice_get (filter (is_version_of org ws) t.versions) place)
 
+-- the number of a version, if it is there
+abbrev pub number_of : List ℕ → List ℕ → ℕ → Tables → Option ℕ
+number_of org ws n t = option_map (λ x. x.1.it.number) (find (is_version org ws n) t.versions)
+
 abbrev pub body_of : List ℕ → List ℕ → ℕ → Tables → Option (List ℕ)
 body_of org ws n t = option_map (λ x. x.1.it.body) (find (is_version org ws n) t.versions)
 

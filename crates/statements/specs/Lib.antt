@@ -1,6 +1,7 @@
 pub mod Changes
 pub mod Decode
 pub mod Finds
+pub mod Listings
 pub mod Making
 pub mod Place
 pub mod Queries

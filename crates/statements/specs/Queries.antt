@@ -1,5 +1,6 @@
 -- What a query gives: the first row of its answer, or none, and the value that this row is read as.
-use Rattle.std.specs.Prelude.{◌≡◌, ◌⊎◌, ⊤, ℕ, ℤ, pos, Bool, not, List, [], Option, Some, None, Result, Ok, Err, OnOk, OnErr}
+use Rattle.std.specs.Prelude.{◌≡◌, ◌⊎◌, ◌≤◌, length, ⊤, ℕ, ℤ, pos, Bool, not, List, [], Option, Some, None, Result, Ok, Err, OnOk, OnErr}
+use Rattle.std.specs.List.{AllZip}
 use Rattle.std.specs.Ordering.{int_eq}
 use Rattle.sqlite_ast.specs.declared.Select.{Select}
 use Rattle.sqlite_ast.specs.declared.Statement.TheVariants as written
@@ -14,10 +15,13 @@ use Rattle.basis.specs.declared.runs.RunAction.{RunAction}
 use Rattle.statements.specs.declared.rows.Holder.{Holder}
 use Rattle.statements.specs.declared.rows.Holder.TheVariants.{Nobody, Lock, Run as HeldByRun}
 use Rattle.statements.specs.declared.rows.Workspace.{Workspace}
+use Rattle.statements.specs.declared.rows.NamedWorkspace.{NamedWorkspace}
+use Rattle.statements.specs.declared.rows.Organization.{Organization}
 use Rattle.statements.specs.declared.rows.Head.{Head}
+use Rattle.statements.specs.declared.rows.VersionHead.{VersionHead}
 use Rattle.statements.specs.declared.rows.Run.{Run}
 use Rattle.statements.specs.Rows.{number, role_code, status_code, action_code}
-use Rattle.sqlite.specs.State.{State, IsUnchanged, IsRolledBack, QueriesRow, Shown}
+use Rattle.sqlite.specs.State.{State, IsUnchanged, IsRolledBack, QueriesRow, Shown, Begins}
 
 -- the text is a SELECT, in each schema
 abbrev pub IsQuery : List ℕ → Type 0
@@ -26,6 +30,10 @@ IsQuery text = (q : Select) × (p : Parsed) × (first text ≡ Ok (record p { st
 abbrev pub FirstRow : List ℕ → Row → State → State → Option Row → Type 0
 FirstRow text params old new None = Shown text params old new []
 FirstRow text params old new (Some row) = QueriesRow text params old new (Ok row)
+
+-- The rows begin an answer, and are as many as were wanted; or they are all of it, and no more than that.
+abbrev pub FirstRows : ℕ → List ℕ → Row → State → State → List Row → Type 0
+FirstRows most text params old new rows = (Begins text params old rows × (length rows ≡ most)) ⊎ (Shown text params old new rows × (length rows ≤ most))
 
 -- A query leaves what it reads as it was; where it fails, a transaction may be rolled back.
 abbrev pub IsCalm : {X E : Type 0} → State → State → Result X E → Type 0
@@ -39,6 +47,12 @@ IsRead Is (Ok None) (Ok None) = ⊤
 IsRead Is (Ok None) (Ok (Some x)) = ⊥
 IsRead Is (Ok (Some row)) (Ok None) = ⊥
 IsRead Is (Ok (Some row)) (Ok (Some x)) = Is row x
+
+-- each row that a query gave is read as a value
+abbrev pub AreRead : {X E F : Type 0} → (Row → X → Type 0) → Result (List Row) E → Result (List X) F → Type 0
+AreRead Is rows (Err f) = ⊤
+AreRead Is (Err e) (Ok xs) = ⊥
+AreRead Is (Ok rows) (Ok xs) = AllZip Is rows xs
 
 -- ---- how a row is read
 
@@ -62,11 +76,26 @@ pub record IsWorkspace (row : Row) (w : Workspace) : Type 0 where
   pub next_version : column row 6 ≡ number w.next_version
   pub next_run : column row 7 ≡ number w.next_run
 
+pub record IsNamedWorkspace (row : Row) (w : NamedWorkspace) : Type 0 where
+  pub it : IsWorkspace row w.it
+  pub name : column row 8 ≡ cell.Text w.name
+
+pub record IsOrganization (row : Row) (o : Organization) : Type 0 where
+  pub name : column row 0 ≡ cell.Text o.name
+  pub cap : column row 1 ≡ number o.cap
+
 pub record IsHead (row : Row) (h : Head) : Type 0 where
   pub number_is : column row 0 ≡ number h.number
   pub serial : column row 1 ≡ number h.serial
   pub lineage : column row 2 ≡ cell.Text h.lineage
   pub size : column row 3 ≡ number h.size
+
+pub record IsVersionHead (row : Row) (h : VersionHead) : Type 0 where
+  pub number_is : column row 0 ≡ number h.number
+  pub serial : column row 1 ≡ number h.serial
+  pub lineage : column row 2 ≡ cell.Text h.lineage
+  pub created : column row 3 ≡ number h.created
+  pub size : column row 4 ≡ number h.size
 
 abbrev pub IsStatusCell : Value → RunStatus → Type 0
 IsStatusCell v status = v ≡ number (status_code status)

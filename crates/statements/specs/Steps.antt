@@ -21,6 +21,11 @@ abbrev pub ReadsBy : {X E : Type 0} → (Tables → X) → State → State → R
 ReadsBy read old new result =
     HasCleanDisk new → IfOk result (λ x. (t : Tables) → Holds old.now t → x ≡ read t) × (OnOk result (IsUnchanged old new) × OnErr result (IsUnchanged old new ⊎ IsRolledBack old new))
 
+-- such a read of rows that obey a law
+abbrev pub ReadsWhere : {X E : Type 0} → (Tables → Type 0) → (Tables → X) → State → State → Result X E → Type 0
+ReadsWhere law read old new result =
+    HasCleanDisk new → IfOk result (λ x. (t : Tables) → Holds old.now t → law t → x ≡ read t) × (OnOk result (IsUnchanged old new) × OnErr result (IsUnchanged old new ⊎ IsRolledBack old new))
+
 -- a text that was run in a transaction
 abbrev pub Wrote : {X E : Type 0} → List ℕ → Row → State → State → Result X E → Type 0
 Wrote text params old new result = OnOk result ((count : ℕ) × ExecutesInside 0 text params old new (Ok count)) × OnErr result (KeepsCommit old new)

@@ -1,17 +1,19 @@
 //! How a text is run, and how the row that it gives is read.
 ghost use Rattle.std.specs.Prelude.{◌≡◌, false, ◌^◌, ◌<◌, pos, IsTrue, IfOk};
+ghost use Rattle.std.specs.List.{AllZip};
 ghost use Rattle.sqlite_value.specs.Order.{column};
 ghost use Rattle.sqlite.specs.Values.{bound};
 ghost use Rattle.sqlite.specs.Held.{state};
-ghost use Rattle.sqlite.specs.State.{HasCleanDisk, Survives};
+ghost use Rattle.sqlite.specs.State.{HasCleanDisk, Survives, Shown};
 ghost use Rattle.statements.specs.Rows.{role_code, status_code, action_code, flag};
 ghost use Rattle.statements.specs.Steps.{Wrote};
-ghost use Rattle.statements.specs.Queries.{IsQuery, FirstRow, IsCalm, IsRead, IsFlag, IsTextOrNull, IsHolder, IsWorkspace, IsHead, IsRun, IsBody, IsNumber, IsRole, IsStatusCell, IsActionOrNull, IsStatus, IsCount};
+ghost use Rattle.statements.specs.Queries.{IsQuery, FirstRow, FirstRows, IsCalm, IsRead, AreRead, IsNamedWorkspace, IsOrganization, IsVersionHead, IsFlag, IsTextOrNull, IsHolder, IsWorkspace, IsHead, IsRun, IsBody, IsNumber, IsRole, IsStatusCell, IsActionOrNull, IsStatus, IsCount};
 
-use crate::rows::{Head, Holder, Run, Workspace};
-use basis::{Bytes, Role, RunAction, RunStatus, Text};
+use crate::rows::{Head, Holder, NamedWorkspace, Organization, Run, VersionHead, Workspace};
+use basis::{Bytes, Items, Role, RunAction, RunStatus, Text};
 use sqlite::types::ValueRef;
 use sqlite::{Alter, Connection, Error, Row, Transaction};
+use std::alloc::Global;
 
 /// Runs a write in a transaction.
 pub(crate) fn write<S: Alter>(
@@ -41,6 +43,47 @@ pub(crate) fn first_row<S: Alter>(
     match conn.query_row(sql, params) {
         Ok(row) => Ok(Some(row)),
         Err(Error::QueryReturnedNoRows) => Ok(None),
+        Err(error) => Err(error),
+    }
+}
+
+/// The first rows of a query's answer, no more than `most`. The others are not read.
+pub(crate) fn first_rows<S: Alter>(
+    alloc: Global,
+    conn: &mut Connection<S>,
+    sql: &str,
+    params: &[ValueRef<'_>],
+    most: usize,
+) -> Result<Items<Row>, Error>
+    ensures mode { conn.old.in_transaction ≡ false → conn.new.in_transaction ≡ false }
+    ensures rows { IsQuery sql.now → HasCleanDisk (state S.Store conn.new) → IfOk result (FirstRows most sql.now (bound params.now) (state S.Store conn.old) (state S.Store conn.new)) }
+    ensures calm { IsQuery sql.now → HasCleanDisk (state S.Store conn.new) → IsCalm (state S.Store conn.old) (state S.Store conn.new) result }
+    ensures survives { IsQuery sql.now → Survives (state S.Store conn.old) (state S.Store conn.new) (λ _. ⊥) }
+{
+    let mut first = Vec::new(alloc);
+    let mut rows = conn.query(sql, params)?;
+    'rows: for taken in 0..most {
+        let Some(row) = rows.next()? else {
+            return Ok(Items::new(first));
+        };
+        first.push(row.copy()?)?;
+    }
+    Ok(Items::new(first))
+}
+
+/// All rows of a query's answer.
+pub(crate) fn all_rows<S: Alter>(
+    conn: &mut Connection<S>,
+    sql: &str,
+    params: &[ValueRef<'_>],
+) -> Result<Items<Row>, Error>
+    ensures mode { conn.old.in_transaction ≡ false → conn.new.in_transaction ≡ false }
+    ensures rows { HasCleanDisk (state S.Store conn.new) → IfOk result (Shown sql.now (bound params.now) (state S.Store conn.old) (state S.Store conn.new)) }
+    ensures calm { IsQuery sql.now → HasCleanDisk (state S.Store conn.new) → IsCalm (state S.Store conn.old) (state S.Store conn.new) result }
+    ensures survives { IsQuery sql.now → Survives (state S.Store conn.old) (state S.Store conn.new) (λ _. ⊥) }
+{
+    match conn.query_all(sql, params) {
+        Ok(rows) => Ok(Items::new(rows)),
         Err(error) => Err(error),
     }
 }
@@ -96,6 +139,36 @@ fn head_in(row: &Row) -> Result<Head, Error>
         serial: row.get(1)?,
         lineage: Text::new(row.get(2)?),
         size: row.get(3)?,
+    })
+}
+
+fn named_workspace_in(row: &Row) -> Result<NamedWorkspace, Error>
+    ensures { IfOk result (IsNamedWorkspace row.now) }
+{
+    Ok(NamedWorkspace {
+        it: workspace_in(row)?,
+        name: Text::new(row.get(8)?),
+    })
+}
+
+fn organization_in(row: &Row) -> Result<Organization, Error>
+    ensures { IfOk result (IsOrganization row.now) }
+{
+    Ok(Organization {
+        name: Text::new(row.get(0)?),
+        cap: row.get(1)?,
+    })
+}
+
+fn version_head_in(row: &Row) -> Result<VersionHead, Error>
+    ensures { IfOk result (IsVersionHead row.now) }
+{
+    Ok(VersionHead {
+        number: row.get(0)?,
+        serial: row.get(1)?,
+        lineage: Text::new(row.get(2)?),
+        created: row.get(3)?,
+        size: row.get(4)?,
     })
 }
 
@@ -218,6 +291,83 @@ pub(crate) fn status_of(row: Result<Option<Row>, Error>) -> Result<Option<RunSta
         Some(row) => Ok(Some(status_in(&row, 0)?)),
         None => Ok(None),
     }
+}
+
+fn named_workspaces_in(alloc: Global, rows: &[Row]) -> Result<Items<NamedWorkspace>, Error>
+    ensures { IfOk result (AllZip IsNamedWorkspace rows.now) }
+{
+    let mut read = Vec::new(alloc);
+    for row in rows {
+        read.push(named_workspace_in(row)?)?;
+    }
+    Ok(Items::new(read))
+}
+
+pub(crate) fn named_workspaces_of(
+    alloc: Global,
+    rows: Result<Items<Row>, Error>,
+) -> Result<Items<NamedWorkspace>, Error>
+    ensures { AreRead IsNamedWorkspace rows result }
+{
+    let rows = rows?;
+    named_workspaces_in(alloc, rows.as_slice())
+}
+
+fn organizations_in(alloc: Global, rows: &[Row]) -> Result<Items<Organization>, Error>
+    ensures { IfOk result (AllZip IsOrganization rows.now) }
+{
+    let mut read = Vec::new(alloc);
+    for row in rows {
+        read.push(organization_in(row)?)?;
+    }
+    Ok(Items::new(read))
+}
+
+pub(crate) fn organizations_of(
+    alloc: Global,
+    rows: Result<Items<Row>, Error>,
+) -> Result<Items<Organization>, Error>
+    ensures { AreRead IsOrganization rows result }
+{
+    let rows = rows?;
+    organizations_in(alloc, rows.as_slice())
+}
+
+fn version_heads_in(alloc: Global, rows: &[Row]) -> Result<Items<VersionHead>, Error>
+    ensures { IfOk result (AllZip IsVersionHead rows.now) }
+{
+    let mut read = Vec::new(alloc);
+    for row in rows {
+        read.push(version_head_in(row)?)?;
+    }
+    Ok(Items::new(read))
+}
+
+pub(crate) fn version_heads_of(
+    alloc: Global,
+    rows: Result<Items<Row>, Error>,
+) -> Result<Items<VersionHead>, Error>
+    ensures { AreRead IsVersionHead rows result }
+{
+    let rows = rows?;
+    version_heads_in(alloc, rows.as_slice())
+}
+
+fn runs_in(alloc: Global, rows: &[Row]) -> Result<Items<Run>, Error>
+    ensures { IfOk result (AllZip IsRun rows.now) }
+{
+    let mut read = Vec::new(alloc);
+    for row in rows {
+        read.push(run_in(row)?)?;
+    }
+    Ok(Items::new(read))
+}
+
+pub(crate) fn runs_of(alloc: Global, rows: Result<Items<Row>, Error>) -> Result<Items<Run>, Error>
+    ensures { AreRead IsRun rows result }
+{
+    let rows = rows?;
+    runs_in(alloc, rows.as_slice())
 }
 
 /// Zero stands for no row, which a count never gives.

@@ -11,4 +11,4 @@ pub mod tokens;
 pub mod versions;
 pub mod workspaces;
 
-pub use rows::{Head, Holder, Run, Workspace};
+pub use rows::{Head, Holder, NamedWorkspace, Organization, Run, VersionHead, Workspace};

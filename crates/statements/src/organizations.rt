@@ -2,12 +2,16 @@
 ghost use Rattle.std.specs.Prelude.{◌≡◌, false, ◌<◌, ◌^◌};
 ghost use Rattle.sqlite.specs.Held.{state};
 ghost use Rattle.sqlite.specs.State.{Survives};
-ghost use Rattle.statements.specs.Steps.{ChangesBy, ReadsBy};
-ghost use Rattle.statements.specs.Changes.{org_added};
+ghost use Rattle.statements.specs.Steps.{ChangesBy, ReadsBy, ReadsWhere};
+ghost use Rattle.statements.specs.Changes.{org_added, org_capped};
+ghost use Rattle.statements.specs.Listings.{organizations_in, OrgsApart};
 ghost use Rattle.statements.specs.Finds.{cap_of};
 
-use crate::calls::{first_row, number_of, signed, write};
+use crate::calls::{all_rows, first_row, number_of, organizations_of, signed, write};
+use crate::rows::Organization;
+use basis::Items;
 use sqlite::{Alter, Connection, Error, Transaction, params};
+use std::alloc::Global;
 
 const ORG_CAP: &str = "SELECT cap FROM org WHERE name = ?1 ORDER BY rowid";
 
@@ -21,6 +25,18 @@ pub fn cap<S: Alter>(conn: &mut Connection<S>, name: &str) -> Result<Option<u64>
     number_of(row)
 }
 
+const LIST_ORGS: &str = "SELECT name, cap FROM org ORDER BY name";
+
+/// All organizations, in the order of their names.
+pub fn list<S: Alter>(alloc: Global, conn: &mut Connection<S>) -> Result<Items<Organization>, Error>
+    ensures mode { conn.old.in_transaction ≡ false → conn.new.in_transaction ≡ false }
+    ensures read { ReadsWhere OrgsApart organizations_in (state S.Store conn.old) (state S.Store conn.new) result }
+    ensures survives { Survives (state S.Store conn.old) (state S.Store conn.new) (λ _. ⊥) }
+{
+    let rows = all_rows(conn, LIST_ORGS, &[]);
+    organizations_of(alloc, rows)
+}
+
 const ADD_ORG: &str = "INSERT INTO org (name, cap) VALUES (?1, ?2)";
 
 /// Adds an organization, and how many workspaces it may have.
@@ -32,4 +48,17 @@ pub fn add<S: Alter>(tx: &mut Transaction<'_, S>, name: &str, cap: u64) -> Resul
 {
     let cap = signed(cap);
     write(tx, ADD_ORG, params![name, &cap])
+}
+
+const SET_CAP: &str = "UPDATE org SET cap = ?2 WHERE name = ?1";
+
+/// Sets how many workspaces an organization may have.
+pub fn set_cap<S: Alter>(tx: &mut Transaction<'_, S>, name: &str, cap: u64) -> Result<(), Error>
+    requires cap_fits { cap < 2 ^ 63 }
+    ensures same_reference { tx.new.conn.ghost_name ≡ tx.old.conn.ghost_name }
+    ensures changed { ChangesBy (org_capped name.now cap) (state S.Store tx.old.conn.now) (state S.Store tx.new.conn.now) result }
+    ensures survives { Survives (state S.Store tx.old.conn.now) (state S.Store tx.new.conn.now) (λ _. ⊥) }
+{
+    let cap = signed(cap);
+    write(tx, SET_CAP, params![name, &cap])
 }

@@ -20,12 +20,38 @@ pub struct Workspace {
     pub next_run: u64,
 }
 
+/// A workspace with its name.
+#[derive(Drop)]
+pub struct NamedWorkspace {
+    pub name: Text,
+    pub it: Workspace,
+}
+
+/// An organization, and how many workspaces it may have.
+#[derive(Drop)]
+pub struct Organization {
+    pub name: Text,
+    pub cap: u64,
+}
+
 /// A version without its text, of which it has the number of bytes.
 #[derive(Drop)]
 pub struct Head {
     pub number: u64,
     pub serial: u64,
     pub lineage: Text,
+    pub size: u64,
+}
+
+/// A version without its text, with the moment at which it was made.
+#[derive(Drop)]
+pub struct VersionHead {
+    pub number: u64,
+    pub serial: u64,
+    pub lineage: Text,
+    /// seconds since 1970 (UTC)
+    pub created: u64,
+    /// How many bytes the text has.
     pub size: u64,
 }
 

@@ -2,16 +2,19 @@
 ghost use Rattle.std.specs.Prelude.{◌≡◌, false, option_map, ◌<◌, ◌^◌};
 ghost use Rattle.sqlite.specs.Held.{state};
 ghost use Rattle.sqlite.specs.State.{Survives};
-ghost use Rattle.statements.specs.Steps.{ChangesBy, ReadsBy};
+ghost use Rattle.statements.specs.Steps.{ChangesBy, ReadsBy, ReadsWhere};
 ghost use Rattle.statements.specs.Changes.{run_changed_to, run_acted, run_added, new_run, runs_removed};
+ghost use Rattle.statements.specs.Listings.{runs_after, RunsRise};
 ghost use Rattle.statements.specs.Finds.{first_waiting_of, status_of, run_of, keyed_run_of, open_runs_of};
 
 use crate::calls::{
-    action_number, count_of, first_row, number_of, run_of, signed, status_number, status_of, write,
+    action_number, count_of, first_row, first_rows, number_of, run_of, runs_of, signed,
+    status_number, status_of, write,
 };
 use crate::rows::Run;
-use basis::{RunAction, RunStatus};
+use basis::{Items, RunAction, RunStatus};
 use sqlite::{Alter, Connection, Error, Transaction, params};
+use std::alloc::Global;
 
 const FIRST_WAITING: &str =
     "SELECT number FROM run WHERE org = ?1 AND ws = ?2 AND status = 0 AND plan_only = 0 ORDER BY rowid LIMIT 1";
@@ -68,6 +71,28 @@ pub fn find<S: Alter>(
     let number = signed(number);
     let row = first_row(conn, FIND_RUN, params![org, ws, &number]);
     run_of(row)
+}
+
+const LIST_RUNS: &str =
+    "SELECT number, plan_only, rkey, message, created, status, action FROM run WHERE org = ?1 AND ws = ?2 AND number > ?3 ORDER BY number";
+
+/// The runs of a workspace whose numbers are above `after`, in the order of their numbers and no more than `most`.
+pub fn list<S: Alter>(
+    alloc: Global,
+    conn: &mut Connection<S>,
+    org: &str,
+    ws: &str,
+    after: u64,
+    most: usize,
+) -> Result<Items<Run>, Error>
+    requires after_fits { after < 2 ^ 63 }
+    ensures mode { conn.old.in_transaction ≡ false → conn.new.in_transaction ≡ false }
+    ensures read { ReadsWhere (RunsRise org.now ws.now) (runs_after org.now ws.now after most) (state S.Store conn.old) (state S.Store conn.new) result }
+    ensures survives { Survives (state S.Store conn.old) (state S.Store conn.new) (λ _. ⊥) }
+{
+    let after = signed(after);
+    let rows = first_rows(alloc, conn, LIST_RUNS, params![org, ws, &after], most);
+    runs_of(alloc, rows)
 }
 
 const FIND_KEYED_RUN: &str =

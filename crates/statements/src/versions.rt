@@ -2,14 +2,18 @@
 ghost use Rattle.std.specs.Prelude.{◌≡◌, false, ◌<◌, ◌^◌};
 ghost use Rattle.sqlite.specs.Held.{state};
 ghost use Rattle.sqlite.specs.State.{Survives};
-ghost use Rattle.statements.specs.Steps.{ChangesBy, ReadsBy};
+ghost use Rattle.statements.specs.Steps.{ChangesBy, ReadsBy, ReadsWhere};
 ghost use Rattle.statements.specs.Changes.{new_version, version_added, versions_removed, versions_removed_below};
-ghost use Rattle.statements.specs.Finds.{newest_of, number_at, body_of, versions_of};
+ghost use Rattle.statements.specs.Listings.{versions_after, VersionsRise};
+ghost use Rattle.statements.specs.Finds.{newest_of, number_at, number_of, body_of, versions_of};
 
-use crate::calls::{body_of, count_of, first_row, head_of, number_of, signed, write};
-use crate::rows::Head;
-use basis::Bytes;
+use crate::calls::{
+    body_of, count_of, first_row, first_rows, head_of, number_of, signed, version_heads_of, write,
+};
+use crate::rows::{Head, VersionHead};
+use basis::{Bytes, Items};
 use sqlite::{Alter, Connection, Error, Transaction, params};
+use std::alloc::Global;
 
 const NEWEST_VERSION: &str =
     "SELECT number, serial, lineage, size FROM version WHERE org = ?1 AND ws = ?2 ORDER BY rowid DESC LIMIT 1";
@@ -26,6 +30,28 @@ pub fn newest<S: Alter>(
 {
     let row = first_row(conn, NEWEST_VERSION, params![org, ws]);
     head_of(row)
+}
+
+const LIST_VERSIONS: &str =
+    "SELECT number, serial, lineage, created, size FROM version WHERE org = ?1 AND ws = ?2 AND number > ?3 ORDER BY number";
+
+/// The versions of a workspace whose numbers are above `after`, without their texts, in the order of their numbers and no more than `most`.
+pub fn list<S: Alter>(
+    alloc: Global,
+    conn: &mut Connection<S>,
+    org: &str,
+    ws: &str,
+    after: u64,
+    most: usize,
+) -> Result<Items<VersionHead>, Error>
+    requires after_fits { after < 2 ^ 63 }
+    ensures mode { conn.old.in_transaction ≡ false → conn.new.in_transaction ≡ false }
+    ensures read { ReadsWhere (VersionsRise org.now ws.now) (versions_after org.now ws.now after most) (state S.Store conn.old) (state S.Store conn.new) result }
+    ensures survives { Survives (state S.Store conn.old) (state S.Store conn.new) (λ _. ⊥) }
+{
+    let after = signed(after);
+    let rows = first_rows(alloc, conn, LIST_VERSIONS, params![org, ws, &after], most);
+    version_heads_of(alloc, rows)
 }
 
 const NTH_VERSION: &str =
@@ -45,6 +71,26 @@ pub fn number_at<S: Alter>(
 {
     let place = signed(place);
     let row = first_row(conn, NTH_VERSION, params![org, ws, &place]);
+    number_of(row)
+}
+
+const VERSION_NUMBER: &str =
+    "SELECT number FROM version WHERE org = ?1 AND ws = ?2 AND number = ?3 ORDER BY rowid";
+
+/// The number of a version, if it is there.
+pub fn find<S: Alter>(
+    conn: &mut Connection<S>,
+    org: &str,
+    ws: &str,
+    number: u64,
+) -> Result<Option<u64>, Error>
+    requires number_fits { number < 2 ^ 63 }
+    ensures mode { conn.old.in_transaction ≡ false → conn.new.in_transaction ≡ false }
+    ensures read { ReadsBy (number_of org.now ws.now number) (state S.Store conn.old) (state S.Store conn.new) result }
+    ensures survives { Survives (state S.Store conn.old) (state S.Store conn.new) (λ _. ⊥) }
+{
+    let number = signed(number);
+    let row = first_row(conn, VERSION_NUMBER, params![org, ws, &number]);
     number_of(row)
 }
 

@@ -2,14 +2,19 @@
 ghost use Rattle.std.specs.Prelude.{◌≡◌, false, ◌<◌, ◌^◌};
 ghost use Rattle.sqlite.specs.Held.{state};
 ghost use Rattle.sqlite.specs.State.{Survives};
-ghost use Rattle.statements.specs.Steps.{ChangesBy, ReadsBy};
+ghost use Rattle.statements.specs.Steps.{ChangesBy, ReadsBy, ReadsWhere};
 ghost use Rattle.statements.specs.Changes.{with_auto, held_by, released_from, with_next_version, with_next_run, ws_changed, ws_added, ws_removed};
+ghost use Rattle.statements.specs.Listings.{workspaces_after, WorkspacesApart};
 ghost use Rattle.statements.specs.Finds.{workspace_of, workspaces_of};
 ghost use Rattle.statements.specs.declared.rows.Holder.TheVariants.{Nobody, Lock, Run as HeldByRun};
 
-use crate::calls::{count_of, first_row, signed, workspace_of, write};
-use crate::rows::Workspace;
+use crate::calls::{
+    count_of, first_row, first_rows, named_workspaces_of, signed, workspace_of, write,
+};
+use crate::rows::{NamedWorkspace, Workspace};
+use basis::Items;
 use sqlite::{Alter, Connection, Error, Transaction, params};
+use std::alloc::Global;
 
 const FIND_WS: &str =
     "SELECT auto, kind, lock_id, lock_text, run, released, next_version, next_run FROM ws WHERE org = ?1 AND name = ?2 ORDER BY rowid";
@@ -26,6 +31,26 @@ pub fn find<S: Alter>(
 {
     let row = first_row(conn, FIND_WS, params![org, name]);
     workspace_of(row)
+}
+
+const LIST_WS: &str =
+    "SELECT auto, kind, lock_id, lock_text, run, released, next_version, next_run, name FROM ws WHERE org = ?1 AND name > ?2 ORDER BY name";
+
+/// The workspaces of an organization that come after a name, in the order of their names and no more than `most`.
+/// All names come after the empty one.
+pub fn list<S: Alter>(
+    alloc: Global,
+    conn: &mut Connection<S>,
+    org: &str,
+    after: &str,
+    most: usize,
+) -> Result<Items<NamedWorkspace>, Error>
+    ensures mode { conn.old.in_transaction ≡ false → conn.new.in_transaction ≡ false }
+    ensures read { ReadsWhere WorkspacesApart (workspaces_after org.now after.now most) (state S.Store conn.old) (state S.Store conn.new) result }
+    ensures survives { Survives (state S.Store conn.old) (state S.Store conn.new) (λ _. ⊥) }
+{
+    let rows = first_rows(alloc, conn, LIST_WS, params![org, after], most);
+    named_workspaces_of(alloc, rows)
 }
 
 const COUNT_WS: &str = "SELECT count(*) FROM ws WHERE org = ?1";

@@ -9,6 +9,8 @@ mod devices;
 #[cfg(test)]
 mod docs_tests;
 #[cfg(test)]
+mod listings_tests;
+#[cfg(test)]
 mod machine_tests;
 #[cfg(test)]
 mod requests;

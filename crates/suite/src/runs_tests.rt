@@ -343,6 +343,7 @@ fn unit_with(
         newest: None,
         versions: 0,
         first_waiting: None,
+        has_version: false,
         asked_run: Some(run),
         open_runs: 1,
     }))

@@ -1,8 +1,8 @@
 //! Worked exchanges, each with its whole reply.
 use crate::devices::make_cuts;
 use crate::rows::{
-    ACME, ASKED_RUN_ROWS, BETA, LOCK_ROWS, MESSAGE_ROWS, NAME_ROWS, QUEUE_ROWS, RESENT, RUN_ROWS,
-    SET_UP, STATE_ROWS,
+    ACME, ASKED_RUN_ROWS, BETA, DELETED_ROWS, KEPT_ROWS, LIST_ROWS, LOCK_ROWS, MESSAGE_ROWS,
+    NAME_ROWS, QUEUE_ROWS, RESENT, RUN_ROWS, SET_UP, STATE_ROWS,
 };
 use crate::steps::{Row, Sent, Story, expect_replies, expect_story, now, written};
 use crate::texts::repeated;
@@ -59,6 +59,21 @@ fn rows_of_runs_are_answered(rt: HostRuntime) -> Result<(), Fail> {
 #[test]
 fn rows_of_asked_runs_are_answered(rt: HostRuntime) -> Result<(), Fail> {
     expect_rows(&rt, rt.alloc(), ASKED_RUN_ROWS)
+}
+
+#[test]
+fn rows_of_limits_and_tokens_are_answered(rt: HostRuntime) -> Result<(), Fail> {
+    expect_rows(&rt, rt.alloc(), KEPT_ROWS)
+}
+
+#[test]
+fn rows_of_deletion_are_answered(rt: HostRuntime) -> Result<(), Fail> {
+    expect_rows(&rt, rt.alloc(), DELETED_ROWS)
+}
+
+#[test]
+fn rows_of_lists_are_answered(rt: HostRuntime) -> Result<(), Fail> {
+    expect_rows(&rt, rt.alloc(), LIST_ROWS)
 }
 
 #[test]

@@ -1,9 +1,10 @@
 //! The store over tables by its own calls: opened, changed, closed, and looked at with plain SQL.
+use crate::steps::word_of;
 use basis::{
     Bytes, Limit, LockId, Moment, Number, OrgName, Role, RunAction, RunAsk, RunStatus, Settings,
     Text, WsName,
 };
-use machine::{Act, AdminAnswer, Change, Edit, Holder, Keep, Unit, Version};
+use machine::{Act, Change, Edit, Holder, Keep, Unit, Version};
 use sqlite::{Connection, MemStore};
 use std::alloc::Global;
 use std::test::Fail;
@@ -117,18 +118,17 @@ fn adds_organizations_and_tokens(rt: HostRuntime) -> Result<(), Fail> {
     let other = OrgName::read(alloc, "other")?;
     let ci = OrgName::read(alloc, "ci")?;
     let limit = Limit::new(200).ok_or("a limit")?;
-    assert_eq!(rt; keep.org_add(alloc, &acme, limit)?, AdminAnswer::Exists);
+    let again = keep.org_add(alloc, &acme, limit)?;
+    assert_eq!(rt; word_of(&again), "refused exists");
     for (org, name, digest, answer) in [
-        (&acme, &ci, [1; 32], AdminAnswer::Done),
-        (&acme, &ci, [2; 32], AdminAnswer::Exists),
-        (&acme, &acme, [1; 32], AdminAnswer::Exists),
-        (&acme, &acme, [2; 32], AdminAnswer::Done),
-        (&ci, &ci, [3; 32], AdminAnswer::Absent),
+        (&acme, &ci, [1; 32], "ok"),
+        (&acme, &ci, [2; 32], "refused exists"),
+        (&acme, &acme, [1; 32], "refused exists"),
+        (&acme, &acme, [2; 32], "ok"),
+        (&ci, &ci, [3; 32], "refused absent"),
     ] {
-        assert_eq!(rt;
-            keep.token_add(alloc, org, name, Role::Write, &digest)?,
-            answer
-        );
+        let added = keep.token_add(alloc, org, name, Role::Write, &digest)?;
+        assert_eq!(rt; word_of(&added), answer);
     }
     assert_eq!(rt; keep.caller(alloc, &acme, &[2; 32])?, Some(Role::Write));
     assert_eq!(rt; keep.caller(alloc, &other, &[1; 32])?, None);

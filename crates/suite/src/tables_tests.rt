@@ -1,8 +1,8 @@
 //! The store over tables: what stands in them, looked at with plain SQL.
 use crate::rows::{LOCK_ROWS, SET_UP};
-use crate::steps::{Row, Story, expect_replies};
+use crate::steps::{Row, Story, expect_replies, word_of};
 use basis::{Limit, OrgName, Settings, WsName};
-use machine::{AdminAnswer, Change, Edit, Keep};
+use machine::{Change, Edit, Keep};
 use serve::Service;
 use sqlite::{Connection, MemStore};
 use std::alloc::Global;
@@ -118,7 +118,7 @@ fn add(
     let org = OrgName::read(alloc, name.as_str())?;
     let limit = Limit::new(200).ok_or("a limit")?;
     let added = keep.org_add(alloc, &org, limit)?;
-    assert!(rt; added == AdminAnswer::Done);
+    assert_eq!(rt; word_of(&added), "ok");
     let edit = Edit::Make(Settings {
         auto_apply: n == 7 || n == 8,
     });

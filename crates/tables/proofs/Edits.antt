@@ -13,7 +13,7 @@ use Rattle.machine.specs.Changes.{edited, changed_by}
 use Rattle.machine.specs.Rules.{with_settings, purged, locked, released, new_run, with_run, reported}
 use Rattle.machine.specs.Workspaces.{new_workspace}
 use Rattle.machine.specs.declared.acts.Edit.{Edit}
-use Rattle.machine.specs.declared.acts.Edit.TheVariants.{Make, Configure, AddVersion, Purge, Hold, Release, AddRun, Report}
+use Rattle.machine.specs.declared.acts.Edit.TheVariants.{Make, Configure, Remove, AddVersion, Purge, Hold, Release, AddRun, Report}
 use Rattle.machine.specs.declared.acts.Change.{Change}
 use Rattle.machine.specs.declared.records.Holder.TheVariants.{Nobody as NoHolder}
 use Rattle.machine.specs.declared.records.Version.{Version}
@@ -24,11 +24,11 @@ use Rattle.statements.specs.declared.rows.Workspace.{Workspace as WorkspaceCells
 use Rattle.statements.specs.declared.rows.Run.{Run as RunCells}
 use Rattle.statements.specs.Rows.{Kept, VersionRow}
 use Rattle.statements.specs.Tables.{Tables}
-use Rattle.statements.specs.Changes.{with_auto, held_by, released_from, with_next_version, with_next_run, ws_changed, ws_removed, new_version, versions_removed, versions_removed_below, new_run as new_run_cells, runs_removed, run_acted, is_version_of}
+use Rattle.statements.specs.Changes.{with_auto, held_by, released_from, with_next_version, with_next_run, ws_changed, ws_added, new_version, versions_removed, versions_removed_below, new_run as new_run_cells, run_acted, is_version_of}
 use Rattle.statements.specs.Finds.{workspace_of, versions_of}
 use Rattle.tables.specs.Records.{version_in, run_in, workspace_in, versions_at, runs_at, workspace_by}
 use Rattle.tables.specs.Sound.{KeepsTheLast, IsSound}
-use Rattle.tables.specs.Edits.{made_rows, put_rows, emptied_rows, versioned_rows, run_rows, freed_rows, edited_rows, started_rows, changed_rows}
+use Rattle.tables.specs.Edits.{removed_rows, made_rows, put_rows, emptied_rows, versioned_rows, run_rows, freed_rows, edited_rows, started_rows, changed_rows}
 use Rattle.tables.proofs.Lists.{drop_push, drop_beyond, cut_is}
 use Rattle.tables.proofs.Parts.{row_changed, row_unchanged, row_removed, row_left, row_added, row_added_other, versions_pushed, versions_pushed_other, versions_cut, versions_cut_other, versions_gone, versions_gone_other, runs_begun, runs_begun_other, runs_pushed, runs_pushed_other, runs_acted, runs_acted_other, runs_gone, runs_gone_other}
 use Rattle.tables.proofs.Sets.{Puts, puts_then, same_parts}
@@ -68,15 +68,22 @@ module _ (org ws : List ℕ) (t : Tables) where
     others = λ a b other. same_parts _ _ _ _ _ _ (row_unchanged org ws g t a b other) refl refl;
   }
 
-  made_puts : (settings : Settings) → Puts org ws (Some (new_workspace settings)) t (made_rows org ws settings.auto_apply t)
-  made_puts settings =
-      let u : Tables = runs_removed org ws (versions_removed org ws t) in
-      record {
-        orgs = refl;
-        tokens = refl;
-        own = same_parts _ _ _ _ _ _ (row_added org ws (ws_removed org ws u) settings.auto_apply (row_removed org ws u)) (versions_gone org ws t) (runs_gone org ws t);
-        others = λ a b other. same_parts _ _ _ _ _ _ (row_added_other org ws (ws_removed org ws u) settings.auto_apply a b other ∙ row_left org ws t a b other) (versions_gone_other org ws t a b other) (runs_gone_other org ws t a b other);
-      }
+  -- a workspace where there is no row of its name
+  added_puts : (settings : Settings) → workspace_of org ws t ≡ None → versions_at t org ws ≡ [] → runs_at t org ws ≡ [] → Puts org ws (Some (new_workspace settings)) t (ws_added org ws settings.auto_apply t)
+  added_puts settings none no_version no_run = record {
+    orgs = refl;
+    tokens = refl;
+    own = same_parts _ _ _ _ _ _ (row_added org ws t settings.auto_apply none) no_version no_run;
+    others = λ a b other. same_parts _ _ _ _ _ _ (row_added_other org ws t settings.auto_apply a b other) refl refl;
+  }
+
+  removed_puts : Puts org ws None t (removed_rows org ws t)
+  removed_puts = record {
+    orgs = refl;
+    tokens = refl;
+    own = same_parts _ _ _ _ _ _ (row_removed org ws t) (versions_gone org ws t) (runs_gone org ws t);
+    others = λ a b other. same_parts _ _ _ _ _ _ (row_left org ws t a b other) (versions_gone_other org ws t a b other) (runs_gone_other org ws t a b other);
+  }
 
   purge_puts : Puts org ws (option_map purged (workspace_by t org ws)) t (versions_removed org ws t)
   purge_puts = record {
@@ -211,18 +218,25 @@ module _ (org ws : List ℕ) (t : Tables) where
       others = λ a b other. same_parts _ _ _ _ _ _ refl refl (runs_acted_other org ws t status action n a b other);
     }
 
+made_puts : (org ws : List ℕ) (t : Tables) (settings : Settings) → Puts org ws (Some (new_workspace settings)) t (made_rows org ws settings.auto_apply t)
+made_puts org ws t settings =
+    let u : Tables = removed_rows org ws t in
+    puts_then org ws t u (made_rows org ws settings.auto_apply t) (removed_puts org ws t) (added_puts org ws u settings (row_removed org ws t) (versions_gone org ws t) (runs_gone org ws t))
+
+module _ (org ws : List ℕ) (t : Tables) where
   -- ---- an edit
 
   module _ (sound : IsSound t) where
     pub edited_puts : (edit : Edit) → Puts org ws (edited edit (workspace_by t org ws)) t (edited_rows org ws edit t)
-    edited_puts (Make settings) = made_puts settings
-    edited_puts (Configure settings) = row_puts (with_auto settings.auto_apply) (λ (w : Workspace). with_settings w settings) (λ c vs rs. refl)
-    edited_puts (AddVersion v gone) = versioned_puts v gone sound (workspace_of org ws t) (versions_of org ws t) refl (λ w e. count_is sound w e)
-    edited_puts Purge = purge_puts
-    edited_puts (Hold id text) = row_puts (held_by (Lock id text)) (locked id text) (λ c vs rs. refl)
-    edited_puts (Release id) = row_puts (released_from id) (released id) (λ c vs rs. refl)
-    edited_puts (AddRun number ask created) = run_puts number ask created (workspace_of org ws t) refl
-    edited_puts (Report number action status frees) = report_puts number action status frees
+    edited_puts (Make settings) = made_puts org ws t settings
+    edited_puts (Configure settings) = row_puts org ws t (with_auto settings.auto_apply) (λ (w : Workspace). with_settings w settings) (λ c vs rs. refl)
+    edited_puts Remove = removed_puts org ws t
+    edited_puts (AddVersion v gone) = versioned_puts org ws t v gone sound (workspace_of org ws t) (versions_of org ws t) refl (λ w e. count_is org ws t sound w e)
+    edited_puts Purge = purge_puts org ws t
+    edited_puts (Hold id text) = row_puts org ws t (held_by (Lock id text)) (locked id text) (λ c vs rs. refl)
+    edited_puts (Release id) = row_puts org ws t (released_from id) (released id) (λ c vs rs. refl)
+    edited_puts (AddRun number ask created) = run_puts org ws t number ask created (workspace_of org ws t) refl
+    edited_puts (Report number action status frees) = report_puts org ws t number action status frees
 
 pub changed_puts : (org ws : List ℕ) (t : Tables) → IsSound t → (change : Change) → Puts org ws (changed_by change (workspace_by t org ws)) t (changed_rows org ws change t)
 changed_puts org ws t sound change =

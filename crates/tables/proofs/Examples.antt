@@ -7,17 +7,19 @@ use Rattle.basis.specs.declared.runs.RunStatus.{RunStatus}
 use Rattle.basis.specs.declared.rows.RunAsk.{RunAsk}
 use Rattle.basis.specs.declared.runs.RunStatus.TheVariants.{Pending, Planning, Canceled}
 use Rattle.basis.specs.declared.runs.RunAction.TheVariants.{Cancel}
-use Rattle.machine.specs.declared.acts.Edit.TheVariants.{Make, Configure, AddVersion, Purge, Release, AddRun, Report}
+use Rattle.machine.specs.declared.acts.Edit.TheVariants.{Make, Configure, Remove, AddVersion, Purge, Release, AddRun, Report}
 use Rattle.machine.specs.declared.records.Holder.TheVariants.{Nobody, Lock, Run as HoldingRun}
 use Rattle.machine.specs.declared.records.Version.{Version}
 use Rattle.machine.specs.declared.records.Run.{Run}
 use Rattle.machine.specs.declared.records.Workspace.{Workspace}
 use Rattle.machine.specs.declared.records.Organization.{Organization}
 use Rattle.statements.specs.declared.rows.Holder.TheVariants as cells
+use Rattle.statements.specs.Changes.{org_capped, token_removed}
 use Rattle.statements.specs.Tables.{Tables}
 use Rattle.tables.specs.Records.{record_of}
 use Rattle.tables.specs.Sound.{IsSound}
 use Rattle.tables.specs.Edits.{edited_rows, changed_rows}
+use Rattle.tables.specs.KeepLists.{versions_listed_in, runs_listed_in}
 
 abbrev acme : List ℕ
 acme = codes "acme"
@@ -158,6 +160,49 @@ made : record_of (edited_rows acme (codes "dev") (Make (record { auto_apply = tr
   workspaces = from_entries ((prod, of_acme) ∷ (codes "dev", record { auto_apply = true; holder = Nobody; released = None; next_version = 1; next_run = 1; versions = []; runs = [] }) ∷ []);
 })
 made = refl
+
+-- a workspace goes with its versions and its run, and all that is left of it is nothing
+removed : record_of (edited_rows acme prod Remove two) acme ≡ Some (record {
+  limit = 10;
+  tokens = from_entries ((codes "ci", record { digest = codes "01234567890123456789012345678901"; role = Write }) ∷ []);
+  workspaces = empty;
+})
+removed = refl
+
+no_run_left : (edited_rows acme prod Remove two).runs ≡ []
+no_run_left = refl
+
+removed_other : record_of (edited_rows acme prod Remove two) globex ≡ globex_has of_globex
+removed_other = refl
+
+-- one that is made again begins anew
+made_anew : record_of (edited_rows acme prod (Make (record { auto_apply = true })) (edited_rows acme prod Remove two)) acme
+    ≡ acme_has (record { auto_apply = true; holder = Nobody; released = None; next_version = 1; next_run = 1; versions = []; runs = [] })
+made_anew = refl
+
+-- ---- an operator's commands
+
+-- a limit below what there is: the workspace stays
+limited : record_of (org_capped acme 0 two) acme ≡ Some (record {
+  limit = 0;
+  tokens = from_entries ((codes "ci", record { digest = codes "01234567890123456789012345678901"; role = Write }) ∷ []);
+  workspaces = from_entries ((prod, of_acme) ∷ []);
+})
+limited = refl
+
+limited_other : record_of (org_capped acme 0 two) globex ≡ globex_has of_globex
+limited_other = refl
+
+revoked : record_of (token_removed acme (codes "ci") two) acme ≡ Some (record { limit = 10; tokens = empty; workspaces = from_entries ((prod, of_acme) ∷ []) })
+revoked = refl
+
+-- ---- lists
+
+versions_behind : versions_listed_in 1 acme prod two ≡ record { items = record { created = 1_700_000_000; lineage = codes "a1"; number = 2; serial = 2; size = 12 } ∷ []; more = false }
+versions_behind = refl
+
+runs_behind : runs_listed_in 1 acme prod two ≡ record { items = []; more = false }
+runs_behind = refl
 
 -- ---- tables that aren't sound
 

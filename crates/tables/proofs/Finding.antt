@@ -17,9 +17,9 @@ use Rattle.machine.specs.Laws.{Rises, is_pending}
 use Rattle.machine.specs.Settling.{first_waiting, is_waiting}
 use Rattle.machine.specs.Workspaces.{newest, is_numbered, run_of, has_key, is_keyed, keyed_run, holder_status, open_runs}
 use Rattle.machine.specs.Records.{count_of, workspace_in as seen_workspace}
-use Rattle.machine.specs.Units.{find_last, version_of, text_of, asked_run, newest_unit, unit_by, unit_of}
+use Rattle.machine.specs.Units.{find_last, version_of, asked_version, text_of, asked_run, newest_unit, unit_by, unit_of}
 use Rattle.machine.specs.declared.acts.Act.{Act}
-use Rattle.machine.specs.declared.acts.Act.TheVariants.{PutWorkspace, ReadWorkspace, UpdateState, ReadState, PurgeState, Lock as LockAct, Unlock, ForceUnlock, MakeRun, ReadRun, ReportRun}
+use Rattle.machine.specs.declared.acts.Act.TheVariants.{PutWorkspace, ReadWorkspace, DeleteWorkspace, UpdateState, ReadState, PurgeState, Lock as LockAct, Unlock, ForceUnlock, ListVersions, ReadVersion, ListRuns, MakeRun, ReadRun, ReportRun}
 use Rattle.machine.specs.declared.acts.Unit.TheVariants.{Absent, Present}
 use Rattle.machine.specs.declared.records.Version.{Version}
 use Rattle.machine.specs.declared.records.Run.{Run}
@@ -33,7 +33,7 @@ use Rattle.statements.specs.declared.rows.Workspace.{Workspace as WorkspaceCells
 use Rattle.statements.specs.Rows.{Kept, OrgRow, WsRow, VersionRow, RunRow}
 use Rattle.statements.specs.Tables.{Tables}
 use Rattle.statements.specs.Changes.{is_org, is_version_of, is_version, is_run_of, is_run, is_ws, is_ws_of}
-use Rattle.statements.specs.Finds.{last_in, counted, head_of, newest_of, body_of, versions_of, first_waiting_of, status_of, workspace_of, workspaces_of, cap_of}
+use Rattle.statements.specs.Finds.{last_in, counted, head_of, newest_of, body_of, number_of, versions_of, first_waiting_of, status_of, workspace_of, workspaces_of, cap_of}
 use Rattle.statements.specs.Finds as finds
 use Rattle.tables.specs.Records.{version_in, run_in, holder_in, versions_at, runs_at, workspace_at, workspace_by, workspaces_at, organization_at, record_of}
 use Rattle.tables.specs.Sound.{IsSound}
@@ -42,8 +42,8 @@ use Rattle.tables.proofs.Lists.{found_passes}
 use Rattle.tables.proofs.Parts.{none_mapped}
 use Rattle.tables.proofs.Sets.{entry_found, got_workspace, workspace_there, one_of}
 use Rattle.tables.proofs.Edits.{count_is}
-use Rattle.tables.proofs.Lawful.{limit_there, limit_is, found_holds}
-use Rattle.tables.specs.Units.{holder_status_in, is_found_text, newest_by, newest_in, keyed_cells_in, asked_run_in, unit_at, unit_in}
+use Rattle.tables.proofs.Lawful.{limit_there, found_holds}
+use Rattle.tables.specs.Units.{holder_status_in, is_found_text, newest_by, newest_in, has_version_in, keyed_cells_in, asked_run_in, unit_at, unit_in}
 
 -- ---- lists
 
@@ -54,6 +54,10 @@ find_same p q same (x ∷ xs) = λ i. cond (same x i) (Some x) (find_same p q sa
 mapped : {A B C : Type 0} (f : A → B) (g : B → C) (o : Option A) → option_map (λ a. g (f a)) o ≡ option_map g (option_map f o)
 mapped f g None = refl
 mapped f g (Some a) = refl
+
+found_as : {A B : Type 0} (f : A → B) (o : Option A) → is_some (option_map f o) ≡ is_some o
+found_as f None = refl
+found_as f (Some a) = refl
 
 three : (a b c : Bool) → (a && (b && c)) ≡ ((a && b) && c)
 three true b c = refl
@@ -177,12 +181,16 @@ module _ (t : Tables) (org ws : List ℕ) where
   pub asked_run_found : (act : Act) → asked_run_in act org ws t ≡ asked_run act (runs_at t org ws)
   asked_run_found (PutWorkspace settings) = refl
   asked_run_found ReadWorkspace = refl
+  asked_run_found DeleteWorkspace = refl
   asked_run_found (UpdateState head text id) = refl
   asked_run_found ReadState = refl
   asked_run_found (PurgeState id) = refl
   asked_run_found (LockAct id text) = refl
   asked_run_found (Unlock id) = refl
   asked_run_found ForceUnlock = refl
+  asked_run_found (ListVersions after) = refl
+  asked_run_found (ReadVersion n) = refl
+  asked_run_found (ListRuns after) = refl
   asked_run_found (MakeRun ask) = keyed_found ask.key
   asked_run_found (ReadRun n) = numbered_found n
   asked_run_found (ReportRun n action) = numbered_found n
@@ -204,6 +212,33 @@ module _ (t : Tables) (org ws : List ℕ) where
   holder_status_found cells.Nobody = refl
   holder_status_found (cells.Lock id text) = refl
   holder_status_found (cells.Run n) = status_found n
+
+  -- the version that is asked of is kept where it has a row
+  module _ (next : ℕ) (rise : Rises 0 (numbers (versions_at t org ws)) next) where
+    kept_found : (n : ℕ) → is_some (number_of org ws n t) ≡ is_some (version_of n (versions_at t org ws))
+    kept_found n =
+        found_as (λ (x : Kept VersionRow). x.1.it.number) (find (is_version org ws n) t.versions)
+        ∙ ap is_some (find_same (is_version org ws n) (λ x. is_version_of org ws x && numbered n (version_in x.1.it)) (λ x. three (bytes_eq x.1.org org) (bytes_eq x.1.ws ws) (x.1.it.number == n)) t.versions)
+        ∙ sym (found_as (λ (x : Kept VersionRow). version_in x.1.it) (find (λ x. is_version_of org ws x && numbered n (version_in x.1.it)) t.versions))
+        ∙ ap is_some (find-slice (is_version_of org ws) (λ (x : Kept VersionRow). version_in x.1.it) (numbered n) t.versions)
+        ∙ ap is_some (first_is_last 0 next n (versions_at t org ws) rise)
+
+    pub has_version_found : (act : Act) → has_version_in act org ws t ≡ is_some (asked_version act (versions_at t org ws))
+    has_version_found (PutWorkspace settings) = refl
+    has_version_found ReadWorkspace = refl
+    has_version_found DeleteWorkspace = refl
+    has_version_found (UpdateState head text id) = refl
+    has_version_found ReadState = refl
+    has_version_found (PurgeState id) = refl
+    has_version_found (LockAct id text) = refl
+    has_version_found (Unlock id) = refl
+    has_version_found ForceUnlock = refl
+    has_version_found (ListVersions after) = refl
+    has_version_found (ReadVersion n) = kept_found n
+    has_version_found (ListRuns after) = refl
+    has_version_found (MakeRun ask) = refl
+    has_version_found (ReadRun n) = refl
+    has_version_found (ReportRun n action) = refl
 
   -- the text of the newest version is found by its number
   pub newest_unit_found : (next : ℕ) (act : Act) → Rises 0 (numbers (versions_at t org ws)) next → newest_in act org ws t ≡ option_map (newest_unit act) (newest (versions_at t org ws))
@@ -252,12 +287,12 @@ module _ (t : Tables) (sound : IsSound t) (org : List ℕ) where
       sym (entries_counted org (λ (x : Kept WsRow). workspace_at t org x.1.name x.1.it) t.wss sound.wss_apart)
       ∙ len-entries (workspaces_at t org) ∙ ap (λ m. length (entries m)) (sym (workspaces_there t org o e))
 
-  -- the count of workspaces is exact, since there are no more than the limit
+  -- the count of workspaces is exact, since there are no more than the greatest limit
   pub count_found : (o : Organization) → record_of t org ≡ Some o → workspaces_of org t ≡ count_of o
-  count_found o e = least (length (filter (is_ws_of org) t.wss)) (count_of o) o.limit (rows_counted o e) (sound.limits org o e) (limit_is t sound org o e)
+  count_found o e = least (length (filter (is_ws_of org) t.wss)) (count_of o) (rows_counted o e) (sound.counts org o e)
     where
-      least : (n m k : ℕ) → n ≡ m → m ≤ k → k ≤ 100_000 → min n 9_223_372_036_854_775_807 ≡ m
-      least n m k e h l = omega arith
+      least : (n m : ℕ) → n ≡ m → m ≤ 100_000 → min n 9_223_372_036_854_775_807 ≡ m
+      least n m e h = omega arith
 
   -- what a decision sees of a workspace is what the point queries find
   pub unit_found : (o : Organization) (ws : List ℕ) (act : Act) → record_of t org ≡ Some o → unit_in act org ws t ≡ unit_of o ws act
@@ -278,6 +313,7 @@ module _ (t : Tables) (sound : IsSound t) (org : List ℕ) where
             newest = newest_unit_found t org ws w.next_version act lawful.versions.rise i;
             versions = count_is org ws t sound w f i;
             first_waiting = first_waiting_found t org ws i;
+            has_version = has_version_found t org ws w.next_version lawful.versions.rise act i;
             asked_run = asked_run_found t org ws act i;
             open_runs = open_runs_found t org ws lawful.runs.open_runs i;
           })
@@ -306,6 +342,10 @@ module _ (t : Tables) (sound : IsSound t) (org : List ℕ) where
   pub no_versions : (ws : List ℕ) → workspace_of org ws t ≡ None → versions_at t org ws ≡ []
   no_versions ws e = ap (map (λ (x : Kept VersionRow). version_in x.1.it)) (no_orphans (is_version_of org ws) (λ x. is_ws x.1.org x.1.ws) t.wss
       (λ x f. ap₂ (λ (a b : List ℕ). list_any (is_ws a b) t.wss) (pair_first org ws x.1.org x.1.ws f) (pair_second org ws x.1.org x.1.ws f) ∙ none_is ws e) t.versions sound.versions_owned)
+
+  pub no_runs : (ws : List ℕ) → workspace_of org ws t ≡ None → runs_at t org ws ≡ []
+  no_runs ws e = ap (map (λ (x : Kept RunRow). run_in x.1.it)) (no_orphans (is_run_of org ws) (λ x. is_ws x.1.org x.1.ws) t.wss
+      (λ x f. ap₂ (λ (a b : List ℕ). list_any (is_ws a b) t.wss) (pair_first org ws x.1.org x.1.ws f) (pair_second org ws x.1.org x.1.ws f) ∙ none_is ws e) t.runs sound.runs_owned)
 
   pub seen_in_rows : (ws : List ℕ) → seen_workspace (record_of t org) ws ≡ workspace_by t org ws
   seen_in_rows ws = by_limit (cap_of org t) refl

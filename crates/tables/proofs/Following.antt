@@ -1,4 +1,4 @@
--- The rules keep the numbers of a workspace's versions one after another, and the count of workspaces within the limit.
+-- The rules keep the numbers of a workspace's versions one after another, and the count of workspaces within the greatest limit.
 use Rattle.std.proofs.Common.{◌≡◌, ◌⊎◌, inl, inr, ℕ, zero, suc, ◌+◌, ◌-◌, ◌<◌, ◌≤◌, nat_lt, Bool, true, false, cond, List, [], ◌∷◌, ◌++◌, length, drop, map, is_some, Option, Some, None, IfSome, refl, sym, ap, subst, ◌∙◌, arith}
 use Rattle.std.specs.Str.{bytes_eq}
 use Rattle.std.specs.FinMap.{FinMap, get, len, len-insert, len-remove, len-entries}
@@ -9,13 +9,13 @@ use Rattle.machine.specs.Effects.{effect}
 use Rattle.machine.specs.Order.{name_cmp}
 use Rattle.machine.specs.Records.{Seen, missing, there, standing, seen_by, seen_in, count_of, with_workspace, placed}
 use Rattle.machine.specs.Changes.{changed_by, IsDue}
-use Rattle.machine.specs.Workspaces.{max_versions, holder_status}
+use Rattle.machine.specs.Workspaces.{max_versions, holder_status, open_runs}
 use Rattle.machine.specs.Writing.{may_write}
 use Rattle.machine.specs.Succession.{Succession, first, same, other_lineage, old_serial, next, succession}
-use Rattle.machine.specs.Rules.{Outcome, refused, rules, rules_missing, by_may_write, by_succession, numbered_update, number_left, with_version, with_settings, refused_by, done_with, done_already, purge, purged, lock, locked, unlock, released, is_released, force_unlock, Ruling}
+use Rattle.machine.specs.Rules.{Outcome, refused, done, rules, rules_missing, by_may_write, by_succession, numbered_update, number_left, with_version, with_settings, refused_by, done_with, done_already, purge, purged, delete, delete_idle, lock, locked, unlock, released, is_released, force_unlock, Ruling}
 use Rattle.machine.specs.Settling.{first_waiting, to_start, started_if, settled}
 use Rattle.machine.specs.declared.acts.Act.{Act}
-use Rattle.machine.specs.declared.acts.Act.TheVariants.{PutWorkspace, ReadWorkspace, UpdateState, ReadState, PurgeState, Lock as LockAct, Unlock, ForceUnlock, MakeRun, ReadRun, ReportRun}
+use Rattle.machine.specs.declared.acts.Act.TheVariants.{PutWorkspace, ReadWorkspace, DeleteWorkspace, UpdateState, ReadState, PurgeState, Lock as LockAct, Unlock, ForceUnlock, ListVersions, ReadVersion, ListRuns, MakeRun, ReadRun, ReportRun}
 use Rattle.machine.specs.declared.acts.Change.{Change}
 use Rattle.machine.specs.declared.records.Holder.{Holder}
 use Rattle.machine.specs.declared.records.Holder.TheVariants.{Nobody, Lock, Run as HoldingRun}
@@ -105,6 +105,18 @@ force_keeps Nobody w keeps = keeps
 force_keeps (Lock id_held text) w keeps = settled_keeps (released id_held w) keeps
 force_keeps (HoldingRun n) w keeps = keeps
 
+idle_keeps : (busy : ℕ) (w : Workspace) → KeepsTheLast w → Keeps (delete_idle busy w).left
+idle_keeps busy w keeps = chosen (nat_lt 0 busy)
+  where
+    chosen : (b : Bool) → Keeps (cond b (effect (refused Refusal.OpenRuns) (Some w)) (effect done None)).left
+    chosen true = keeps
+    chosen false = tt
+
+delete_keeps : (h : Holder) (w : Workspace) → KeepsTheLast w → Keeps (delete h w).left
+delete_keeps Nobody w keeps = idle_keeps (open_runs w.runs) w keeps
+delete_keeps (Lock id text) w keeps = keeps
+delete_keeps (HoldingRun n) w keeps = idle_keeps (open_runs w.runs) w keeps
+
 comes_keeps : (ruling : Ruling) (w : Workspace) (changed : Workspace → Type 0) → ((v : Workspace) → changed v → KeepsTheLast v) → KeepsTheLast w → Comes ruling w changed → Keeps ruling.left
 comes_keeps ruling w changed after keeps comes = by_sum (comes_to comes)
   where
@@ -116,23 +128,31 @@ pub rules_keep_the_last : (act : Act) (now : ℕ) (s : Seen) → Keeps (standing
 rules_keep_the_last (PutWorkspace settings) now (missing true) keeps = tt
 rules_keep_the_last (PutWorkspace settings) now (missing false) keeps = tt
 rules_keep_the_last ReadWorkspace now (missing room) keeps = tt
+rules_keep_the_last DeleteWorkspace now (missing room) keeps = tt
 rules_keep_the_last (UpdateState head text id) now (missing room) keeps = tt
 rules_keep_the_last ReadState now (missing room) keeps = tt
 rules_keep_the_last (PurgeState id) now (missing room) keeps = tt
 rules_keep_the_last (LockAct id text) now (missing room) keeps = tt
 rules_keep_the_last (Unlock id) now (missing room) keeps = tt
 rules_keep_the_last ForceUnlock now (missing room) keeps = tt
+rules_keep_the_last (ListVersions after) now (missing room) keeps = tt
+rules_keep_the_last (ReadVersion n) now (missing room) keeps = tt
+rules_keep_the_last (ListRuns after) now (missing room) keeps = tt
 rules_keep_the_last (MakeRun ask) now (missing room) keeps = tt
 rules_keep_the_last (ReadRun n) now (missing room) keeps = tt
 rules_keep_the_last (ReportRun n action) now (missing room) keeps = tt
 rules_keep_the_last (PutWorkspace settings) now (there w) keeps = settled_keeps (with_settings w settings) keeps
 rules_keep_the_last ReadWorkspace now (there w) keeps = keeps
+rules_keep_the_last DeleteWorkspace now (there w) keeps = delete_keeps w.holder w keeps
 rules_keep_the_last (UpdateState head text id) now (there w) keeps = update_keeps w head text now (may_write w.holder (holder_status w.holder w.runs) id) keeps
 rules_keep_the_last ReadState now (there w) keeps = keeps
 rules_keep_the_last (PurgeState id) now (there w) keeps = purge_keeps (may_write w.holder (holder_status w.holder w.runs) id) w keeps
 rules_keep_the_last (LockAct id text) now (there w) keeps = lock_keeps w.holder id text w keeps
 rules_keep_the_last (Unlock id) now (there w) keeps = unlock_keeps w.holder id w keeps
 rules_keep_the_last ForceUnlock now (there w) keeps = force_keeps w.holder w keeps
+rules_keep_the_last (ListVersions after) now (there w) keeps = keeps
+rules_keep_the_last (ReadVersion n) now (there w) keeps = keeps
+rules_keep_the_last (ListRuns after) now (there w) keeps = keeps
 rules_keep_the_last (MakeRun ask) now (there w) keeps = comes_keeps (rules (MakeRun ask) now (there w)) w (IsMade w ask now) (λ v made. subst KeepsTheLast (sym made.2) keeps) keeps (make_comes w ask now)
 rules_keep_the_last (ReadRun n) now (there w) keeps = comes_keeps (rules (ReadRun n) now (there w)) w IsNothing (λ v none. absurd none) keeps (read_comes w n)
 rules_keep_the_last (ReportRun n action) now (there w) keeps = comes_keeps (rules (ReportRun n action) now (there w)) w (IsReported w n action) (λ v is. subst KeepsTheLast (sym is.is) keeps) keeps (report_comes w n action)
@@ -144,12 +164,16 @@ made_in_room : (act : Act) (room : Bool) (w : Workspace) → Some w ≡ (rules_m
 made_in_room (PutWorkspace settings) true w e = refl
 made_in_room (PutWorkspace settings) false w e = absurd (let none : ⊥ = cc in none)
 made_in_room ReadWorkspace room w e = absurd (let none : ⊥ = cc in none)
+made_in_room DeleteWorkspace room w e = absurd (let none : ⊥ = cc in none)
 made_in_room (UpdateState head text id) room w e = absurd (let none : ⊥ = cc in none)
 made_in_room ReadState room w e = absurd (let none : ⊥ = cc in none)
 made_in_room (PurgeState id) room w e = absurd (let none : ⊥ = cc in none)
 made_in_room (LockAct id text) room w e = absurd (let none : ⊥ = cc in none)
 made_in_room (Unlock id) room w e = absurd (let none : ⊥ = cc in none)
 made_in_room ForceUnlock room w e = absurd (let none : ⊥ = cc in none)
+made_in_room (ListVersions after) room w e = absurd (let none : ⊥ = cc in none)
+made_in_room (ReadVersion n) room w e = absurd (let none : ⊥ = cc in none)
+made_in_room (ListRuns after) room w e = absurd (let none : ⊥ = cc in none)
 made_in_room (MakeRun ask) room w e = absurd (let none : ⊥ = cc in none)
 made_in_room (ReadRun n) room w e = absurd (let none : ⊥ = cc in none)
 made_in_room (ReportRun n action) room w e = absurd (let none : ⊥ = cc in none)
@@ -166,16 +190,20 @@ len_with m name (Some w) limit within room = subst (λ (n : ℕ). n ≤ limit) (
     more true e = within
     more false e = let below : len m < limit = room e refl in omega arith
 
-pub count_within : (o : Organization) (ws : List ℕ) (change : Change) → IsDue (seen_in o ws) change → count_of o ≤ o.limit → count_of (placed o ws (changed_by change (get o.workspaces ws))) ≤ o.limit
-count_within o ws change due within =
-    subst (λ (n : ℕ). n ≤ o.limit) (len-entries (with_workspace o.workspaces ws (changed_by change (get o.workspaces ws))))
-    (len_with o.workspaces ws (changed_by change (get o.workspaces ws)) o.limit (subst (λ (n : ℕ). n ≤ o.limit) (sym (len-entries o.workspaces)) within) (λ none some. subst (λ (n : ℕ). n < o.limit) (sym (len-entries o.workspaces)) (room (get o.workspaces ws) (changed_by change (get o.workspaces ws)) refl refl none some)))
+-- the count grows only where it is below the organization's limit, which is none above the greatest
+pub count_within : (o : Organization) (ws : List ℕ) (change : Change) → IsDue (seen_in o ws) change → (most : ℕ) → o.limit ≤ most → count_of o ≤ most → count_of (placed o ws (changed_by change (get o.workspaces ws))) ≤ most
+count_within o ws change due most limit within =
+    subst (λ (n : ℕ). n ≤ most) (len-entries (with_workspace o.workspaces ws (changed_by change (get o.workspaces ws))))
+    (len_with o.workspaces ws (changed_by change (get o.workspaces ws)) most (subst (λ (n : ℕ). n ≤ most) (sym (len-entries o.workspaces)) within) (λ none some. subst (λ (n : ℕ). n < most) (sym (len-entries o.workspaces)) (room (get o.workspaces ws) (changed_by change (get o.workspaces ws)) refl refl none some)))
   where
-    room : (v w : Option Workspace) → get o.workspaces ws ≡ v → changed_by change (get o.workspaces ws) ≡ w → is_some v ≡ false → is_some w ≡ true → count_of o < o.limit
+    below : count_of o < o.limit → count_of o < most
+    below h = omega (arith, h, limit)
+
+    room : (v w : Option Workspace) → get o.workspaces ws ≡ v → changed_by change (get o.workspaces ws) ≡ w → is_some v ≡ false → is_some w ≡ true → count_of o < most
     room (Some v) w e f none some = absurd (let no_one : ⊥ = cc in no_one)
     room None None e f none some = absurd (let no_one : ⊥ = cc in no_one)
     room None (Some w) e f none some =
         let given : changed_by change (standing (seen_in o ws)) ≡ Some w = ap (changed_by change) (standing_is (nat_lt (count_of o) o.limit) (get o.workspaces ws)) ∙ f in
         let ruled : Some w ≡ (rules due.act due.now (seen_in o ws)).left = sym given ∙ due.is in
         let here : Some w ≡ (rules_missing due.act (nat_lt (count_of o) o.limit)).left = ruled ∙ ap (λ (v : Option Workspace). (rules due.act due.now (seen_by (nat_lt (count_of o) o.limit) v)).left) e in
-        ltb-true (count_of o) o.limit (made_in_room due.act (nat_lt (count_of o) o.limit) w here)
+        below (ltb-true (count_of o) o.limit (made_in_room due.act (nat_lt (count_of o) o.limit) w here))

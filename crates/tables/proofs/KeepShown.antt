@@ -1,5 +1,5 @@
 -- From the rows of a connection to the records of its store.
-use Rattle.std.proofs.Common.{◌≡◌, ◌≢◌, ℕ, ◌≤◌, ◌||◌, List, length, is_some, Option, Some, None, option_map, IsTrue, refl, sym, ap, ◌∙◌, subst}
+use Rattle.std.proofs.Common.{◌≡◌, ◌≢◌, ℕ, ◌<◌, ◌≤◌, ◌||◌, List, [], length, is_some, Option, Some, None, option_map, IsTrue, refl, sym, ap, ◌∙◌, subst}
 use Rattle.sqlite.specs.Effect.{Database}
 use Rattle.sqlite.specs.State.{State}
 use Rattle.basis.specs.Names.{is_org_name, is_ws_name}
@@ -18,18 +18,34 @@ use Rattle.machine.specs.declared.records.Token.{Token}
 use Rattle.machine.specs.declared.records.Organization.{Organization}
 use Rattle.machine.specs.declared.keeps.AdminAnswer.{AdminAnswer}
 use Rattle.machine.specs.declared.keeps.AdminAnswer.TheVariants.{Done, Exists, Absent}
-use Rattle.statements.specs.Changes.{org_added, token_added}
+use Rattle.statements.specs.Changes.{org_added, org_capped, token_added, token_removed}
 use Rattle.statements.specs.Decode.{tables_of}
 use Rattle.statements.specs.Finds.{cap_of, role_of_name, role_of_digest, body_of}
 use Rattle.statements.specs.Tables.{Tables, Holds}
 use Rattle.statements.proofs.Decoding.{tables-held}
 use Rattle.tables.specs.Edits.{changed_rows}
+use Rattle.tables.specs.Records.{record_of}
+use Rattle.std.specs.Option.{unwrap_or}
+use Rattle.basis.specs.Listings.{listing_of}
+use Rattle.basis.specs.declared.rows.Listing.{Listing}
+use Rattle.basis.specs.declared.rows.RunRow.{RunRow}
+use Rattle.basis.specs.declared.rows.VersionRow.{VersionRow}
+use Rattle.basis.specs.declared.rows.WsRow.{WsRow}
+use Rattle.machine.specs.Showing as showing
+use Rattle.machine.specs.Tokens.{AreOrganizations}
+use Rattle.machine.specs.declared.keeps.OrgRow.{OrgRow}
+use Rattle.statements.specs.Listings.{OrgsApart, WorkspacesApart, VersionsRise, RunsRise}
+use Rattle.tables.specs.KeepLists.{versions_listed_in, runs_listed_in, workspaces_listed_in, organizations_listed_in}
 use Rattle.tables.specs.Units.{unit_in}
 use Rattle.tables.specs.Stores.{records_of, IsSoundStore}
 use Rattle.tables.specs.KeepStores.{IsSoundKeep}
-use Rattle.tables.specs.KeepSteps.{Commits, Manages, org_managed_by, org_managed, token_managed_by, token_managed}
+use Rattle.tables.specs.KeepSteps.{Commits, Manages, org_managed_by, org_managed, limit_managed_by, limit_managed, token_managed_by, token_managed, revocation_managed_by, revocation_managed}
 use Rattle.tables.proofs.Operators.{caller_found, org_exists, token_absent, token_named, token_known}
+use Rattle.tables.proofs.Limits.{limit_absent, limit_done, limit_other, limit_keeps}
+use Rattle.tables.proofs.Revoking.{revoke_absent, revoke_done, revoke_other, revoke_keeps}
 use Rattle.tables.proofs.Finding.{unit_found, text_found}
+use Rattle.tables.proofs.Listed.{versions_told, runs_told, versions_rise, runs_rise, no_versions_after, no_runs_after, workspaces_told}
+use Rattle.tables.proofs.OrgLists.{organizations_told}
 use Rattle.tables.proofs.Stores.{store_by, records_by, store_changed_own, store_changed_other, store_changed_keeps, store_org_done, store_org_other, store_org_keeps, store_token_done, store_token_other, store_token_keeps}
 
 module _ (db : Database) (a : State) (s : IsSoundKeep db a) where
@@ -53,6 +69,30 @@ module _ (db : Database) (a : State) (s : IsSoundKeep db a) where
   pub text_told : (org ws : List ℕ) (n : ℕ) (text : Option (List ℕ)) → IsTrue a.is_open × ((t : Tables) → Holds a.committed t → text ≡ body_of org ws n t)
       → text ≡ text_of n (workspace_in (records_of db org) ws)
   text_told org ws n text told = told.1 now (held told.0) ∙ text_found now s.store.sound org ws n
+
+  -- ---- lists
+
+  pub versions_shown : (org ws : List ℕ) (after : ℕ) (list : Listing VersionRow) → IsTrue a.is_open × ((t : Tables) → Holds a.committed t → VersionsRise org ws t → list ≡ versions_listed_in after org ws t)
+      → list ≡ showing.versions_after after (workspace_in (records_of db org) ws)
+  versions_shown org ws after list told = told.1 now (held told.0) (versions_rise now org ws s.store.sound) ∙ versions_told now org ws s.store.sound after
+
+  pub runs_shown : (org ws : List ℕ) (after : ℕ) (list : Listing RunRow) → IsTrue a.is_open × ((t : Tables) → Holds a.committed t → RunsRise org ws t → list ≡ runs_listed_in after org ws t)
+      → list ≡ showing.runs_after after (workspace_in (records_of db org) ws)
+  runs_shown org ws after list told = told.1 now (held told.0) (runs_rise now org ws s.store.sound) ∙ runs_told now org ws s.store.sound after
+
+  -- no version and no run comes after the greatest number
+  pub no_versions_shown : (org ws : List ℕ) (after : ℕ) (list : Listing VersionRow) → 1_000_000_000 < after → list ≡ listing_of [] → list ≡ showing.versions_after after (workspace_in (records_of db org) ws)
+  no_versions_shown org ws after list beyond none = none ∙ no_versions_after now org ws s.store.sound after beyond
+
+  pub no_runs_shown : (org ws : List ℕ) (after : ℕ) (list : Listing RunRow) → 1_000_000_000 < after → list ≡ listing_of [] → list ≡ showing.runs_after after (workspace_in (records_of db org) ws)
+  no_runs_shown org ws after list beyond none = none ∙ no_runs_after now org ws s.store.sound after beyond
+
+  pub workspaces_shown : (org : List ℕ) (after : Option (List ℕ)) (list : Listing WsRow) → IsTrue a.is_open × ((t : Tables) → Holds a.committed t → WorkspacesApart t → list ≡ workspaces_listed_in (unwrap_or after []) org t)
+      → list ≡ showing.workspaces_after after (records_of db org)
+  workspaces_shown org after list told = told.1 now (held told.0) s.store.sound.wss_apart ∙ workspaces_told now org s.store.sound after
+
+  pub organizations_shown : (rows : List OrgRow) → IsTrue a.is_open × ((t : Tables) → Holds a.committed t → OrgsApart t → rows ≡ organizations_listed_in t) → AreOrganizations (records_of db) rows
+  organizations_shown rows told = subst (AreOrganizations (records_of db)) (sym (told.1 now (held told.0) s.store.sound.orgs_apart)) (organizations_told now s.store.sound)
 
   module _ (b : State) where
     -- ---- a change of a workspace
@@ -103,6 +143,73 @@ module _ (db : Database) (a : State) (s : IsSoundKeep db a) where
           go : (c : Option ℕ) → cap_of org now ≡ c → IsSoundStore b.committed
           go None e = store_org_keeps db b.committed s.store org limit (at_all (org_added org limit) (org_left None e)) named most e
           go (Some cap) e = store_by b.committed now (org_left (Some cap) e) s.store.sound
+
+    -- ---- the limit of an organization
+
+    answered_as : (org : List ℕ) (x y : AdminAnswer) (r : Option Organization) (after : Effect AdminAnswer (Option Organization)) → x ≡ y → effect y r ≡ after → records_of b.committed org ≡ r → effect x (records_of b.committed org) ≡ after
+    answered_as org x y r after e f g = (λ i. effect (e i) (g i)) ∙ f
+
+    module _ (org : List ℕ) (limit : ℕ) (answer : AdminAnswer) (m : Manages (limit_managed org limit) a b answer) where
+      limit_by : (c : Option ℕ) → cap_of org now ≡ c → (answer ≡ (limit_managed_by c org limit now).answer) × Holds b.committed (limit_managed_by c org limit now).left
+      limit_by c e =
+          subst (λ (x : Option ℕ). (answer ≡ (limit_managed_by x org limit now).answer) × Holds b.committed (limit_managed_by x org limit now).left) e (m.answer_is now (held m.was_open), m.rows now (held m.was_open))
+
+      pub limit_told : effect answer (records_of b.committed org) ≡ tokens.org_limited limit (records_of db org)
+      limit_told = go (cap_of org now) refl
+        where
+          go : (c : Option ℕ) → cap_of org now ≡ c → effect answer (records_of b.committed org) ≡ tokens.org_limited limit (records_of db org)
+          go None e =
+              let t = limit_by None e in
+              answered_as org answer Absent (records_of db org) (tokens.org_limited limit (records_of db org)) t.0 (limit_absent org limit now e) (records_by b.committed now t.1 org)
+          go (Some cap) e =
+              let t = limit_by (Some cap) e in
+              answered_as org answer Done (record_of (org_capped org limit now) org) (tokens.org_limited limit (records_of db org)) t.0 (limit_done org limit now cap e) (records_by b.committed (org_capped org limit now) t.1 org)
+
+      pub limit_others : (q : List ℕ) → q ≢ org → records_of b.committed q ≡ records_of db q
+      limit_others q apart = go (cap_of org now) refl
+        where
+          go : (c : Option ℕ) → cap_of org now ≡ c → records_of b.committed q ≡ records_of db q
+          go None e = records_by b.committed now (limit_by None e).1 q
+          go (Some cap) e = records_by b.committed (org_capped org limit now) (limit_by (Some cap) e).1 q ∙ limit_other org limit now q apart
+
+      pub limit_stays_sound : limit ≤ 100_000 → IsSoundKeep b.committed b
+      limit_stays_sound most = record { store = go (cap_of org now) refl; tied = λ _. refl }
+        where
+          go : (c : Option ℕ) → cap_of org now ≡ c → IsSoundStore b.committed
+          go None e = store_by b.committed now (limit_by None e).1 s.store.sound
+          go (Some cap) e = store_by b.committed (org_capped org limit now) (limit_by (Some cap) e).1 (limit_keeps org limit now cap e s.store.sound most)
+
+    -- ---- a token that goes
+
+    module _ (org name : List ℕ) (answer : AdminAnswer) (m : Manages (revocation_managed org name) a b answer) where
+      revoke_by : (r : Option Role) → role_of_name org name now ≡ r → (answer ≡ (revocation_managed_by r org name now).answer) × Holds b.committed (revocation_managed_by r org name now).left
+      revoke_by r e =
+          subst (λ (x : Option Role). (answer ≡ (revocation_managed_by x org name now).answer) × Holds b.committed (revocation_managed_by x org name now).left) e (m.answer_is now (held m.was_open), m.rows now (held m.was_open))
+
+      pub revoke_told : effect answer (records_of b.committed org) ≡ tokens.token_revoked name (records_of db org)
+      revoke_told = go (role_of_name org name now) refl
+        where
+          go : (r : Option Role) → role_of_name org name now ≡ r → effect answer (records_of b.committed org) ≡ tokens.token_revoked name (records_of db org)
+          go None e =
+              let t = revoke_by None e in
+              answered_as org answer Absent (records_of db org) (tokens.token_revoked name (records_of db org)) t.0 (revoke_absent org name now e) (records_by b.committed now t.1 org)
+          go (Some role) e =
+              let t = revoke_by (Some role) e in
+              answered_as org answer Done (record_of (token_removed org name now) org) (tokens.token_revoked name (records_of db org)) t.0 (revoke_done org name now s.store.sound role e) (records_by b.committed (token_removed org name now) t.1 org)
+
+      pub revoke_others : (q : List ℕ) → q ≢ org → records_of b.committed q ≡ records_of db q
+      revoke_others q apart = go (role_of_name org name now) refl
+        where
+          go : (r : Option Role) → role_of_name org name now ≡ r → records_of b.committed q ≡ records_of db q
+          go None e = records_by b.committed now (revoke_by None e).1 q
+          go (Some role) e = records_by b.committed (token_removed org name now) (revoke_by (Some role) e).1 q ∙ revoke_other org name now q apart
+
+      pub revoke_stays_sound : IsSoundKeep b.committed b
+      revoke_stays_sound = record { store = go (role_of_name org name now) refl; tied = λ _. refl }
+        where
+          go : (r : Option Role) → role_of_name org name now ≡ r → IsSoundStore b.committed
+          go None e = store_by b.committed now (revoke_by None e).1 s.store.sound
+          go (Some role) e = store_by b.committed (token_removed org name now) (revoke_by (Some role) e).1 (revoke_keeps org name now s.store.sound)
 
     -- ---- a token
 

@@ -32,7 +32,7 @@ use Rattle.tables.proofs.Names.{same_name, apart_name, names_apart, is_pair, pai
 use Rattle.tables.proofs.Parts.{none_mapped}
 use Rattle.tables.proofs.Sets.{Puts, workspace_there, one_of, put_own, put_other}
 use Rattle.tables.proofs.Edits.{changed_puts}
-use Rattle.tables.proofs.Lawful.{limit_there}
+use Rattle.tables.proofs.Lawful.{limit_there, limit_is}
 use Rattle.tables.proofs.Following.{rules_keep_the_last, count_within}
 use Rattle.tables.proofs.Owned.{AreOwned, sound_are_owned, changed_are_owned, any_pushed, apart_pushed, pair_turned}
 use Rattle.tables.proofs.Operators.{org_own, org_other}
@@ -90,7 +90,7 @@ changed_keeps org ws t sound change o named there due = record {
   runs_owned = owned.runs_owned;
   org_rows = order.org_rows;
   token_rows = order.token_rows;
-  limits = λ q p e. within q p e (bytes_eq q org) refl;
+  counts = λ q p e. within q p e (bytes_eq q org) refl;
   workspaces = λ a b w e. named_there a b w e (is_pair org ws a b) refl;
   versions = λ a b w e. kept_there a b w e (is_pair org ws a b) refl;
 }
@@ -138,14 +138,14 @@ changed_keeps org ws t sound change o named there due = record {
     kept_there a b w e true same = if_there KeepsTheLast after w kept_after (own a b w e same)
     kept_there a b w e false other = sound.versions a b w (sym (puts.others a b other) ∙ e)
 
-    within : (q : List ℕ) (p : Organization) → record_of u q ≡ Some p → (c : Bool) → bytes_eq q org ≡ c → count_of p ≤ p.limit
+    within : (q : List ℕ) (p : Organization) → record_of u q ≡ Some p → (c : Bool) → bytes_eq q org ≡ c → count_of p ≤ 100_000
     within q p e true same =
         let here : record_of u org ≡ Some p = subst (λ (x : List ℕ). record_of u x ≡ Some p) (same_name q org same) e in
         let is : placed o ws after ≡ p = one_of (placed o ws after) p (sym (put_own org ws after t u puts o there) ∙ here) in
-        let counted : count_of (placed o ws (changed_by change (get o.workspaces ws))) ≤ o.limit = count_within o ws change due (sound.limits org o there) in
-        let counted_too : count_of (placed o ws after) ≤ o.limit = subst (λ (w : Option Workspace). count_of (placed o ws (changed_by change w)) ≤ o.limit) (workspace_there t org ws o there) counted in
-        subst (λ (r : Organization). count_of r ≤ r.limit) is counted_too
-    within q p e false other = sound.limits q p (sym (put_other org ws after t u puts q (names_apart q org other)) ∙ e)
+        let counted : count_of (placed o ws (changed_by change (get o.workspaces ws))) ≤ 100_000 = count_within o ws change due 100_000 (limit_is t sound org o there) (sound.counts org o there) in
+        let counted_too : count_of (placed o ws after) ≤ 100_000 = subst (λ (w : Option Workspace). count_of (placed o ws (changed_by change w)) ≤ 100_000) (workspace_there t org ws o there) counted in
+        subst (λ (r : Organization). count_of r ≤ 100_000) is counted_too
+    within q p e false other = sound.counts q p (sym (put_other org ws after t u puts q (names_apart q org other)) ∙ e)
 
 -- ---- an operator's command
 
@@ -168,7 +168,7 @@ org_added_keeps org limit t sound named most none = record {
   runs_owned = sound.runs_owned;
   org_rows = all-append IsOrgRow t.orgs (new ∷ []) sound.org_rows (record { named = named; limit = most }, tt);
   token_rows = sound.token_rows;
-  limits = λ q o e. within q o e (bytes_eq q org) refl;
+  counts = λ q o e. within q o e (bytes_eq q org) refl;
   workspaces = sound.workspaces;
   versions = sound.versions;
 }
@@ -179,11 +179,11 @@ org_added_keeps org limit t sound named most none = record {
     none_yet : count_of (new_organization limit) ≡ 0
     none_yet = sym (len-entries (empty {X = Workspace} {R = name_cmp})) ∙ len-empty name_cmp Workspace
 
-    within : (q : List ℕ) (o : Organization) → record_of (org_added org limit t) q ≡ Some o → (c : Bool) → bytes_eq q org ≡ c → count_of o ≤ o.limit
+    within : (q : List ℕ) (o : Organization) → record_of (org_added org limit t) q ≡ Some o → (c : Bool) → bytes_eq q org ≡ c → count_of o ≤ 100_000
     within q o e true same =
         let here : record_of (org_added org limit t) org ≡ Some o = subst (λ (x : List ℕ). record_of (org_added org limit t) x ≡ Some o) (same_name q org same) e in
-        subst (λ (r : Organization). count_of r ≤ r.limit) (one_of (new_organization limit) o (sym (org_own t sound org limit none) ∙ here)) (subst (λ (n : ℕ). n ≤ limit) (sym none_yet) (omega arith))
-    within q o e false other = sound.limits q o (sym (org_other t sound org limit q (names_apart q org other)) ∙ e)
+        subst (λ (r : Organization). count_of r ≤ 100_000) (one_of (new_organization limit) o (sym (org_own t sound org limit none) ∙ here)) (subst (λ (n : ℕ). n ≤ 100_000) (sym none_yet) (omega arith))
+    within q o e false other = sound.counts q o (sym (org_other t sound org limit q (names_apart q org other)) ∙ e)
 
 -- a token more leaves sound tables sound
 pub token_added_keeps : (org name digest : List ℕ) (role : Role) (t : Tables) → IsSound t → IsTrue (is_org_name name) → length digest ≡ 32 → (cap : ℕ) → cap_of org t ≡ Some cap
@@ -203,7 +203,7 @@ token_added_keeps org name digest role t sound named long cap there unnamed unkn
   runs_owned = sound.runs_owned;
   org_rows = sound.org_rows;
   token_rows = all-append IsTokenRow t.tokens (new ∷ []) sound.token_rows (record { named = named; digest = long }, tt);
-  limits = λ q o e. within q o (cap_of q t) refl e;
+  counts = λ q o e. within q o (cap_of q t) refl e;
   workspaces = sound.workspaces;
   versions = sound.versions;
 }
@@ -211,10 +211,10 @@ token_added_keeps org name digest role t sound named long cap there unnamed unkn
     new : Kept TokenRow
     new = (next_key id_of t.tokens, record { org = org; name = name; it = record { digest = digest; role = role } })
 
-    within : (q : List ℕ) (o : Organization) (c : Option ℕ) → cap_of q t ≡ c → option_map (organization_at (token_added org name digest role t) q) c ≡ Some o → count_of o ≤ o.limit
+    within : (q : List ℕ) (o : Organization) (c : Option ℕ) → cap_of q t ≡ c → option_map (organization_at (token_added org name digest role t) q) c ≡ Some o → count_of o ≤ 100_000
     within q o None f e = absurd (let none : ⊥ = cc in none)
     within q o (Some c) f e =
-        subst (λ (r : Organization). count_of r ≤ r.limit) (one_of (organization_at (token_added org name digest role t) q c) o e) (sound.limits q (organization_at t q c) (ap (option_map (organization_at t q)) f))
+        subst (λ (r : Organization). count_of r ≤ 100_000) (one_of (organization_at (token_added org name digest role t) q c) o e) (sound.counts q (organization_at t q c) (ap (option_map (organization_at t q)) f))
 
 -- ---- tables with no row
 
@@ -233,7 +233,7 @@ no_rows_are_sound metas = record {
   runs_owned = tt;
   org_rows = tt;
   token_rows = tt;
-  limits = λ org o e. absurd (let none : ⊥ = cc in none);
+  counts = λ org o e. absurd (let none : ⊥ = cc in none);
   workspaces = λ org name w e. absurd (let none : ⊥ = cc in none);
   versions = λ org name w e. absurd (let none : ⊥ = cc in none);
 }

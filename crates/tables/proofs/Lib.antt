@@ -10,9 +10,15 @@ pub mod KeepFound
 pub mod Lawful
 pub mod Finding
 pub mod Operators
+pub mod Ranks
+pub mod Listed
+pub mod OrgLists
+pub mod Limits
+pub mod Revoking
 pub mod Following
 pub mod Owned
 pub mod Kept
+pub mod KeepListed
 pub mod KeepManaged
 pub mod Examples
 pub mod Stores

@@ -107,7 +107,7 @@ module _ (t : Tables) (sound : IsSound t) (org : List ℕ) where
   no_tokens e = no_orphans (is_token_of org) (λ x. is_org x.1.org) t.orgs
       (λ x f. ap (λ (n : List ℕ). list_any (is_org n) t.orgs) (same_name x.1.org org f) ∙ none_there t sound org e) t.tokens sound.tokens_owned
 
-  no_workspaces : cap_of org t ≡ None → filter (is_ws_of org) t.wss ≡ []
+  pub no_workspaces : cap_of org t ≡ None → filter (is_ws_of org) t.wss ≡ []
   no_workspaces e = no_orphans (is_ws_of org) (λ x. is_org x.1.org) t.orgs
       (λ x f. ap (λ (n : List ℕ). list_any (is_org n) t.orgs) (same_name x.1.org org f) ∙ none_there t sound org e) t.wss sound.wss_owned
 
@@ -136,10 +136,10 @@ module _ (t : Tables) (sound : IsSound t) (org : List ℕ) where
 
 -- ---- an organization more
 
-record_there : (t : Tables) (org : List ℕ) (cap : ℕ) → cap_of org t ≡ Some cap → record_of t org ≡ Some (organization_at t org cap)
+pub record_there : (t : Tables) (org : List ℕ) (cap : ℕ) → cap_of org t ≡ Some cap → record_of t org ≡ Some (organization_at t org cap)
 record_there t org cap e = ap (option_map (organization_at t org)) e
 
-record_missing : (t : Tables) (org : List ℕ) → cap_of org t ≡ None → record_of t org ≡ None
+pub record_missing : (t : Tables) (org : List ℕ) → cap_of org t ≡ None → record_of t org ≡ None
 record_missing t org e = ap (option_map (organization_at t org)) e
 
 module _ (t : Tables) (sound : IsSound t) (org : List ℕ) (limit : ℕ) where
@@ -171,6 +171,10 @@ found_same : {A B : Type 0} (f : A → B) (o : Option A) → is_some (option_map
 found_same f None = refl
 found_same f (Some a) = refl
 
+-- a name is one of a token's where it has a row
+pub named_in_rows : (t : Tables) (org name : List ℕ) → is_some (get (tokens_at t org) name) ≡ is_some (role_of_name org name t)
+named_in_rows t org name = ap is_some (got_token t org name) ∙ found_same (λ (x : Kept TokenRow). token_in x.1.it) (find (is_token org name) t.tokens) ∙ sym (found_same (λ (x : Kept TokenRow). x.1.it.role) (find (is_token org name) t.tokens))
+
 module _ (t : Tables) (sound : IsSound t) (org name digest : List ℕ) (role : Role) where
   abbrev new_token : Token
   new_token = token_of digest role
@@ -188,9 +192,6 @@ module _ (t : Tables) (sound : IsSound t) (org name digest : List ℕ) (role : R
     abbrev before : Organization
     before = organization_at t org cap
 
-    named_is : is_some (get (tokens_at t org) name) ≡ is_some (role_of_name org name t)
-    named_is = ap is_some (got_token t org name) ∙ found_same (λ (x : Kept TokenRow). token_in x.1.it) (find (is_token org name) t.tokens) ∙ sym (found_same (λ (x : Kept TokenRow). x.1.it.role) (find (is_token org name) t.tokens))
-
     digest_is : is_some (token_with digest (entries (tokens_at t org))) ≡ is_some (role_of_digest org digest t)
     digest_is =
         ap is_some (digest_found digest org t.tokens sound.tokens_apart sound.digests_apart)
@@ -200,7 +201,7 @@ module _ (t : Tables) (sound : IsSound t) (org name digest : List ℕ) (role : R
         → token_added name new_token (record_of t org) ≡ cond (a || b) (effect Exists (Some before)) (effect Done (Some (with_token before name new_token)))
     by_tests a b e f =
         ap (token_added name new_token) (record_there t org cap there)
-        ∙ ap₂ (λ (x y : Bool). cond (x || y) (effect Exists (Some before)) (effect Done (Some (with_token before name new_token)))) (named_is ∙ e) (digest_is ∙ f)
+        ∙ ap₂ (λ (x y : Bool). cond (x || y) (effect Exists (Some before)) (effect Done (Some (with_token before name new_token)))) (named_in_rows t org name ∙ e) (digest_is ∙ f)
 
     -- the name is taken
     pub token_named : (r : Role) → role_of_name org name t ≡ Some r → effect Exists (record_of t org) ≡ token_added name new_token (record_of t org)

@@ -13,7 +13,7 @@ use Rattle.basis.specs.declared.runs.RunStatus.{RunStatus}
 use Rattle.basis.specs.declared.runs.RunStatus.TheVariants.{Pending, Planning}
 use Rattle.basis.specs.declared.runs.RunAction.{RunAction}
 use Rattle.machine.specs.declared.acts.Edit.{Edit}
-use Rattle.machine.specs.declared.acts.Edit.TheVariants.{Make, Configure, AddVersion, Purge, Hold, Release, AddRun, Report}
+use Rattle.machine.specs.declared.acts.Edit.TheVariants.{Make, Configure, Remove, AddVersion, Purge, Hold, Release, AddRun, Report}
 use Rattle.machine.specs.declared.acts.Change.{Change}
 use Rattle.machine.specs.declared.records.Version.{Version}
 use Rattle.statements.specs.declared.rows.Holder.TheVariants.{Nobody, Lock, Run as HeldByRun}
@@ -22,14 +22,14 @@ use Rattle.statements.specs.declared.rows.Run.{Run as RunCells}
 use Rattle.statements.specs.Rows.{Version as VersionCells}
 use Rattle.statements.specs.Rows.{Kept, id_of, WsRow}
 use Rattle.statements.specs.Tables.{Tables}
-use Rattle.statements.specs.Changes.{is_org, is_ws, is_version_of, is_version_below, is_run_of, is_run, with_auto, held_by, released_from, with_next_version, with_next_run, ws_changed, new_workspace, new_version, version_added, versions_removed, versions_removed_below, new_run, run_added, run_changed_to, run_acted}
+use Rattle.statements.specs.Changes.{is_org, is_ws, is_version_of, is_version_below, is_run_of, is_run, with_auto, held_by, released_from, with_next_version, with_next_run, ws_changed, ws_added, new_workspace, new_version, version_added, versions_removed, versions_removed_below, new_run, run_added, run_changed_to, run_acted}
 use Rattle.statements.specs.Finds.{workspace_of, versions_of}
 use Rattle.tables.specs.Sound.{IsSound}
-use Rattle.tables.specs.Edits.{made_rows, put_rows, emptied_rows, versioned_rows, run_put, run_rows, freed_rows, edited_rows, started_rows, changed_rows}
+use Rattle.tables.specs.Edits.{removed_rows, made_rows, put_rows, emptied_rows, versioned_rows, run_put, run_rows, freed_rows, edited_rows, started_rows, changed_rows}
 use Rattle.tables.proofs.Names.{is_pair, pair_is, pair_first, pair_second, pair_apart}
 
 module _ {X : Type 0} where
-  all_updated : (P : X → Type 0) (p : X → Bool) (f : X → X) → ((x : X) → P x → P (f x)) → (xs : List X) → AllByRecursion P xs → AllByRecursion P (update_where p f xs)
+  pub all_updated : (P : X → Type 0) (p : X → Bool) (f : X → X) → ((x : X) → P x → P (f x)) → (xs : List X) → AllByRecursion P xs → AllByRecursion P (update_where p f xs)
   all_updated P p f keeps [] all = tt
   all_updated P p f keeps (x ∷ xs) all = (elim (p x) as (λ b. P (cond b (f x) x)) [ true ↦ keeps x all.0 | false ↦ all.0 ], all_updated P p f keeps xs all.1)
 
@@ -41,7 +41,7 @@ module _ {X : Type 0} where
       go true e more = more
       go false e more = (e, more)
 
-  any_updated : (q p : X → Bool) (f : X → X) → ((x : X) → q (f x) ≡ q x) → (xs : List X) → list_any q (update_where p f xs) ≡ list_any q xs
+  pub any_updated : (q p : X → Bool) (f : X → X) → ((x : X) → q (f x) ≡ q x) → (xs : List X) → list_any q (update_where p f xs) ≡ list_any q xs
   any_updated q p f stays [] = refl
   any_updated q p f stays (x ∷ xs) = λ i. elim (p x) as (λ b. q (cond b (f x) x) ≡ q x) [ true ↦ stays x | false ↦ refl ] i || any_updated q p f stays xs i
 
@@ -139,25 +139,37 @@ module _ (org ws : List ℕ) (t : Tables) (owned : AreOwned t) where
     runs_owned = all_updated (λ x. list_any (is_ws x.1.org x.1.ws) t.wss ≡ true) (is_run org ws n) (λ x. (x.0, record x.1 { it = record x.1.it { status = status; action = Some action } })) (λ x h. h) t.runs owned.runs_owned;
   }
 
-  owned_made : (auto : Bool) → list_any (is_org org) t.orgs ≡ true → AreOwned (made_rows org ws auto t)
-  owned_made auto there = record {
-    wss_apart = apart_pushed (λ a b. is_ws a.1.org a.1.name b) (delete_where (is_ws org ws) t.wss) new (apart_delete (λ a b. is_ws a.1.org a.1.name b) (is_ws org ws) t.wss owned.wss_apart)
-        (all_weaker (λ x. is_ws org ws x ≡ false) (λ x. is_ws x.1.org x.1.name new ≡ false) (λ x e. pair_turned org ws x.1.org x.1.name e) (delete_where (is_ws org ws) t.wss) (all_deleted (is_ws org ws) t.wss));
-    wss_owned = all-append (λ x. list_any (is_org x.1.org) t.orgs ≡ true) (delete_where (is_ws org ws) t.wss) (new ∷ []) (all-filter (λ x. list_any (is_org x.1.org) t.orgs ≡ true) (λ x. not (is_ws org ws x)) t.wss owned.wss_owned) (there, tt);
-    versions_owned = all_both (λ x. list_any (is_ws x.1.org x.1.ws) t.wss ≡ true) (λ x. is_version_of org ws x ≡ false) (λ x. list_any (is_ws x.1.org x.1.ws) (delete_where (is_ws org ws) t.wss ++ new ∷ []) ≡ true)
+  owned_removed : AreOwned (removed_rows org ws t)
+  owned_removed = record {
+    wss_apart = apart_delete (λ a b. is_ws a.1.org a.1.name b) (is_ws org ws) t.wss owned.wss_apart;
+    wss_owned = all-filter (λ x. list_any (is_org x.1.org) t.orgs ≡ true) (λ x. not (is_ws org ws x)) t.wss owned.wss_owned;
+    versions_owned = all_both (λ x. list_any (is_ws x.1.org x.1.ws) t.wss ≡ true) (λ x. is_version_of org ws x ≡ false) (λ x. list_any (is_ws x.1.org x.1.ws) (delete_where (is_ws org ws) t.wss) ≡ true)
         (λ x h e. still x.1.org x.1.ws e h) (delete_where (is_version_of org ws) t.versions)
         (all-filter (λ x. list_any (is_ws x.1.org x.1.ws) t.wss ≡ true) (λ x. not (is_version_of org ws x)) t.versions owned.versions_owned) (all_deleted (is_version_of org ws) t.versions);
-    runs_owned = all_both (λ x. list_any (is_ws x.1.org x.1.ws) t.wss ≡ true) (λ x. is_run_of org ws x ≡ false) (λ x. list_any (is_ws x.1.org x.1.ws) (delete_where (is_ws org ws) t.wss ++ new ∷ []) ≡ true)
+    runs_owned = all_both (λ x. list_any (is_ws x.1.org x.1.ws) t.wss ≡ true) (λ x. is_run_of org ws x ≡ false) (λ x. list_any (is_ws x.1.org x.1.ws) (delete_where (is_ws org ws) t.wss) ≡ true)
         (λ x h e. still x.1.org x.1.ws e h) (delete_where (is_run_of org ws) t.runs)
         (all-filter (λ x. list_any (is_ws x.1.org x.1.ws) t.wss ≡ true) (λ x. not (is_run_of org ws x)) t.runs owned.runs_owned) (all_deleted (is_run_of org ws) t.runs);
   }
     where
-      new : Kept WsRow
-      new = (next_key id_of (delete_where (is_ws org ws) t.wss), record { org = org; name = ws; it = new_workspace auto })
-
       -- another workspace's row is still there
-      still : (a b : List ℕ) → is_pair org ws a b ≡ false → list_any (is_ws a b) t.wss ≡ true → list_any (is_ws a b) (delete_where (is_ws org ws) t.wss ++ new ∷ []) ≡ true
-      still a b e h = any_pushed (is_ws a b) (delete_where (is_ws org ws) t.wss) new (any_left (is_ws a b) (is_ws org ws) (λ x f. pair_apart org ws a b x.1.org x.1.name e f) t.wss ∙ h)
+      still : (a b : List ℕ) → is_pair org ws a b ≡ false → list_any (is_ws a b) t.wss ≡ true → list_any (is_ws a b) (delete_where (is_ws org ws) t.wss) ≡ true
+      still a b e h = any_left (is_ws a b) (is_ws org ws) (λ x f. pair_apart org ws a b x.1.org x.1.name e f) t.wss ∙ h
+
+  -- a workspace where there is no row of its name
+  owned_added : (auto : Bool) → AllByRecursion (λ x. is_ws org ws x ≡ false) t.wss → list_any (is_org org) t.orgs ≡ true → AreOwned (ws_added org ws auto t)
+  owned_added auto none there = record {
+    wss_apart = apart_pushed (λ a b. is_ws a.1.org a.1.name b) t.wss new owned.wss_apart
+        (all_weaker (λ x. is_ws org ws x ≡ false) (λ x. is_ws x.1.org x.1.name new ≡ false) (λ x e. pair_turned org ws x.1.org x.1.name e) t.wss none);
+    wss_owned = all-append (λ x. list_any (is_org x.1.org) t.orgs ≡ true) t.wss (new ∷ []) owned.wss_owned (there, tt);
+    versions_owned = all_weaker (λ x. list_any (is_ws x.1.org x.1.ws) t.wss ≡ true) (λ x. list_any (is_ws x.1.org x.1.ws) (t.wss ++ new ∷ []) ≡ true) (λ x h. any_pushed (is_ws x.1.org x.1.ws) t.wss new h) t.versions owned.versions_owned;
+    runs_owned = all_weaker (λ x. list_any (is_ws x.1.org x.1.ws) t.wss ≡ true) (λ x. list_any (is_ws x.1.org x.1.ws) (t.wss ++ new ∷ []) ≡ true) (λ x h. any_pushed (is_ws x.1.org x.1.ws) t.wss new h) t.runs owned.runs_owned;
+  }
+    where
+      new : Kept WsRow
+      new = (next_key id_of t.wss, record { org = org; name = ws; it = new_workspace auto })
+
+owned_made : (org ws : List ℕ) (t : Tables) → AreOwned t → (auto : Bool) → list_any (is_org org) t.orgs ≡ true → AreOwned (made_rows org ws auto t)
+owned_made org ws t owned auto there = owned_added org ws (removed_rows org ws t) (owned_removed org ws t owned) auto (all_deleted (is_ws org ws) t.wss) there
 
 module _ (org ws : List ℕ) where
   pub row_there : (t : Tables) (w : WorkspaceCells) → workspace_of org ws t ≡ Some w → list_any (is_ws org ws) t.wss ≡ true
@@ -191,6 +203,7 @@ module _ (org ws : List ℕ) where
   owned_edited : (t : Tables) → AreOwned t → list_any (is_org org) t.orgs ≡ true → (edit : Edit) → AreOwned (edited_rows org ws edit t)
   owned_edited t owned there (Make settings) = owned_made org ws t owned settings.auto_apply there
   owned_edited t owned there (Configure settings) = owned_row org ws t owned (with_auto settings.auto_apply)
+  owned_edited t owned there Remove = owned_removed org ws t owned
   owned_edited t owned there (AddVersion v gone) = owned_versioned v gone t owned (workspace_of org ws t) (versions_of org ws t) refl
   owned_edited t owned there Purge = owned_purged org ws t owned
   owned_edited t owned there (Hold id text) = owned_row org ws t owned (held_by (Lock id text))

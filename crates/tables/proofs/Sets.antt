@@ -81,7 +81,7 @@ pub record Puts (org ws : List ℕ) (w : Option Workspace) (t u : Tables) : Type
 other_org : (org ws a b : List ℕ) → a ≢ org → is_pair org ws a b ≡ false
 other_org org ws a b apart = ap (λ (x : Bool). x && bytes_eq b ws) (apart_name a org apart)
 
-other_ws : (org ws q : List ℕ) → bytes_eq q ws ≡ false → is_pair org ws org q ≡ false
+pub other_ws : (org ws q : List ℕ) → bytes_eq q ws ≡ false → is_pair org ws org q ≡ false
 other_ws org ws q e = ap (λ (x : Bool). x && bytes_eq q ws) (name_is org) ∙ e
 
 pub puts_then : {v w : Option Workspace} (org ws : List ℕ) (t u z : Tables) → Puts org ws v t u → Puts org ws w u z → Puts org ws w t z

@@ -3,7 +3,7 @@ use Rattle.std.specs.Prelude.{ℕ, ◌+◌, ◌-◌, nat_le, Bool, cond, List, O
 use Rattle.basis.specs.declared.rows.RunAsk.{RunAsk}
 use Rattle.basis.specs.declared.runs.RunStatus.TheVariants.{Pending, Planning}
 use Rattle.machine.specs.declared.acts.Edit.{Edit}
-use Rattle.machine.specs.declared.acts.Edit.TheVariants.{Make, Configure, AddVersion, Purge, Hold, Release, AddRun, Report}
+use Rattle.machine.specs.declared.acts.Edit.TheVariants.{Make, Configure, Remove, AddVersion, Purge, Hold, Release, AddRun, Report}
 use Rattle.machine.specs.declared.acts.Change.{Change}
 use Rattle.machine.specs.declared.records.Version.{Version}
 use Rattle.statements.specs.declared.rows.Holder.TheVariants.{Nobody, Lock, Run as HeldByRun}
@@ -12,9 +12,13 @@ use Rattle.statements.specs.Tables.{Tables}
 use Rattle.statements.specs.Changes.{with_auto, held_by, released_from, with_next_version, with_next_run, ws_changed, ws_added, ws_removed, new_version, version_added, versions_removed, versions_removed_below, new_run, run_added, runs_removed, run_changed_to, run_acted}
 use Rattle.statements.specs.Finds.{workspace_of, versions_of}
 
--- A new workspace has no versions and no runs: whatever rows of its name there are go first, children before it.
+-- a workspace goes with its versions and runs, which go before it
+abbrev pub removed_rows : List ℕ → List ℕ → Tables → Tables
+removed_rows org ws t = ws_removed org ws (runs_removed org ws (versions_removed org ws t))
+
+-- a new workspace has no versions and no runs: whatever rows of its name there are go first
 abbrev pub made_rows : List ℕ → List ℕ → Bool → Tables → Tables
-made_rows org ws auto t = ws_added org ws auto (ws_removed org ws (runs_removed org ws (versions_removed org ws t)))
+made_rows org ws auto t = ws_added org ws auto (removed_rows org ws t)
 
 abbrev pub numbered_rows : List ℕ → List ℕ → Version → Tables → Tables
 numbered_rows org ws v t = ws_changed (with_next_version (v.number + 1)) org ws t
@@ -51,6 +55,7 @@ freed_rows frees org ws t = cond frees (ws_changed (held_by Nobody) org ws t) t
 abbrev pub edited_rows : List ℕ → List ℕ → Edit → Tables → Tables
 edited_rows org ws (Make settings) t = made_rows org ws settings.auto_apply t
 edited_rows org ws (Configure settings) t = ws_changed (with_auto settings.auto_apply) org ws t
+edited_rows org ws Remove t = removed_rows org ws t
 edited_rows org ws (AddVersion version gone) t = versioned_rows org ws version gone (workspace_of org ws t) (versions_of org ws t) t
 edited_rows org ws Purge t = versions_removed org ws t
 edited_rows org ws (Hold id text) t = ws_changed (held_by (Lock id text)) org ws t

@@ -10,7 +10,7 @@ use Rattle.tables.specs.KeepLooks.{Stays}
 use Rattle.basis.specs.declared.rows.RunAsk.{RunAsk}
 use Rattle.basis.specs.declared.runs.RunStatus.TheVariants.{Planning}
 use Rattle.machine.specs.declared.acts.Edit.{Edit}
-use Rattle.machine.specs.declared.acts.Edit.TheVariants.{Make, Configure, AddVersion, Purge, Hold, Release, AddRun, Report}
+use Rattle.machine.specs.declared.acts.Edit.TheVariants.{Make, Configure, Remove, AddVersion, Purge, Hold, Release, AddRun, Report}
 use Rattle.machine.specs.declared.acts.Change.{Change}
 use Rattle.machine.specs.declared.records.Version.{Version}
 use Rattle.tables.specs.Edits.{edited_rows, emptied_rows, numbered_rows, run_put, started_rows}
@@ -61,6 +61,7 @@ run_by All org ws number ask created t = run_counted org ws number ask created t
 abbrev pub edited_by : Outgoing → List ℕ → List ℕ → Edit → Tables → Tables
 edited_by out org ws (Make settings) t = edited_rows org ws (Make settings) t
 edited_by out org ws (Configure settings) t = edited_rows org ws (Configure settings) t
+edited_by out org ws Remove t = edited_rows org ws Remove t
 edited_by out org ws (AddVersion version gone) t = put_by out org ws version t
 edited_by out org ws Purge t = edited_rows org ws Purge t
 edited_by out org ws (Hold id text) t = edited_rows org ws (Hold id text) t

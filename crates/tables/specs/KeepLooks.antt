@@ -12,7 +12,7 @@ use Rattle.statements.specs.declared.rows.Workspace.{Workspace as WorkspaceCells
 use Rattle.statements.specs.Finds.{cap_of, workspaces_of, versions_of, first_waiting_of, open_runs_of}
 use Rattle.statements.specs.Tables.{Tables, Holds}
 use Rattle.tables.specs.Records.{holder_in, run_in}
-use Rattle.tables.specs.Units.{holder_status_in, newest_in, asked_cells_in}
+use Rattle.tables.specs.Units.{holder_status_in, newest_in, has_version_in, asked_cells_in}
 use Rattle.tables.specs.declared.looks.RunsAround.{RunsAround}
 use Rattle.tables.specs.declared.looks.Surroundings.{Surroundings}
 
@@ -41,7 +41,7 @@ runs_in act org ws holder t =
 
 abbrev pub around_in : Act → List ℕ → List ℕ → HolderCells → Tables → Surroundings
 around_in act org ws holder t =
-    record { newest = newest_in act org ws t; versions = versions_of org ws t; runs = runs_in act org ws holder t }
+    record { newest = newest_in act org ws t; versions = versions_of org ws t; has_version = has_version_in act org ws t; runs = runs_in act org ws holder t }
 
 abbrev pub unit_from : WorkspaceCells → Surroundings → WorkspaceUnit
 unit_from w a = record {
@@ -54,6 +54,7 @@ unit_from w a = record {
   newest = a.newest;
   versions = a.versions;
   first_waiting = a.runs.first_waiting;
+  has_version = a.has_version;
   asked_run = option_map run_in a.runs.asked_run;
   open_runs = a.runs.open_runs;
 }

@@ -5,7 +5,7 @@ use Rattle.basis.specs.declared.roles.Role.{Role}
 use Rattle.machine.specs.Effects.{Effect, effect}
 use Rattle.machine.specs.declared.keeps.AdminAnswer.{AdminAnswer}
 use Rattle.machine.specs.declared.keeps.AdminAnswer.TheVariants.{Done, Exists, Absent}
-use Rattle.statements.specs.Changes.{org_added, token_added}
+use Rattle.statements.specs.Changes.{org_added, org_capped, token_added, token_removed}
 use Rattle.statements.specs.Finds.{cap_of, role_of_name, role_of_digest}
 use Rattle.statements.specs.Tables.{Tables, Holds}
 
@@ -42,6 +42,22 @@ token_managed_by (Some cap) taken org name digest role t = cond taken (effect Ex
 
 abbrev pub token_managed : List ℕ → List ℕ → List ℕ → Role → Tables → Effect AdminAnswer Tables
 token_managed org name digest role t = token_managed_by (cap_of org t) (is_taken org name digest t) org name digest role t
+
+-- the limit of an organization that is there
+abbrev pub limit_managed_by : Option ℕ → List ℕ → ℕ → Tables → Effect AdminAnswer Tables
+limit_managed_by None org limit t = effect Absent t
+limit_managed_by (Some cap) org limit t = effect Done (org_capped org limit t)
+
+abbrev pub limit_managed : List ℕ → ℕ → Tables → Effect AdminAnswer Tables
+limit_managed org limit t = limit_managed_by (cap_of org t) org limit t
+
+-- a token that is there goes
+abbrev pub revocation_managed_by : Option Role → List ℕ → List ℕ → Tables → Effect AdminAnswer Tables
+revocation_managed_by None org name t = effect Absent t
+revocation_managed_by (Some role) org name t = effect Done (token_removed org name t)
+
+abbrev pub revocation_managed : List ℕ → List ℕ → Tables → Effect AdminAnswer Tables
+revocation_managed org name t = revocation_managed_by (role_of_name org name t) org name t
 
 -- the answer is that of the rows, and the rows after it are committed
 pub record Manages (command : Tables → Effect AdminAnswer Tables) (old new : State) (answer : AdminAnswer) : Type 0 where

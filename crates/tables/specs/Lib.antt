@@ -1,5 +1,6 @@
 pub mod Edits
 pub mod KeepEdits
+pub mod KeepLists
 pub mod KeepLooks
 pub mod KeepMaking
 pub mod KeepSteps

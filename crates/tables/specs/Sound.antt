@@ -46,8 +46,8 @@ pub record IsSound (t : Tables) : Type 0 where
   -- names, limits and digests are in range
   pub org_rows : AllByRecursion IsOrgRow t.orgs
   pub token_rows : AllByRecursion IsTokenRow t.tokens
-  -- no organization has more workspaces than its limit
-  pub limits : (org : List ℕ) (o : Organization) → record_of t org ≡ Some o → count_of o ≤ o.limit
+  -- no organization has more workspaces than the greatest limit; where its limit was lowered, it may have more than that
+  pub counts : (org : List ℕ) (o : Organization) → record_of t org ≡ Some o → count_of o ≤ MAX_LIMIT
   -- each workspace that the rows denote is lawful: of its versions and runs the numbers rise in the order of their rows
   pub workspaces : (org name : List ℕ) (w : Workspace) → workspace_by t org name ≡ Some w → IsNamedWorkspace name w
   pub versions : (org name : List ℕ) (w : Workspace) → workspace_by t org name ≡ Some w → KeepsTheLast w

@@ -1,10 +1,10 @@
 -- What a decision sees of a workspace, from what the queries find.
-use Rattle.std.specs.Prelude.{ℕ, Bool, false, List, Option, Some, None, option_map}
+use Rattle.std.specs.Prelude.{ℕ, Bool, false, List, Option, Some, None, is_some, option_map}
 use Rattle.std.specs.Option.{unwrap_or}
 use Rattle.basis.specs.declared.runs.RunStatus.{RunStatus}
 use Rattle.machine.specs.Units.{is_text_of}
 use Rattle.machine.specs.declared.acts.Act.{Act}
-use Rattle.machine.specs.declared.acts.Act.TheVariants.{PutWorkspace, ReadWorkspace, UpdateState, ReadState, PurgeState, Lock as LockAct, Unlock, ForceUnlock, MakeRun, ReadRun, ReportRun}
+use Rattle.machine.specs.declared.acts.Act.TheVariants.{PutWorkspace, ReadWorkspace, DeleteWorkspace, UpdateState, ReadState, PurgeState, Lock as LockAct, Unlock, ForceUnlock, ListVersions, ReadVersion, ListRuns, MakeRun, ReadRun, ReportRun}
 use Rattle.machine.specs.declared.records.Run.{Run}
 use Rattle.machine.specs.declared.acts.Newest.{Newest}
 use Rattle.machine.specs.declared.acts.Unit.{Unit as AnyUnit}
@@ -15,7 +15,7 @@ use Rattle.statements.specs.declared.rows.Holder.TheVariants as cells
 use Rattle.statements.specs.declared.rows.Workspace.{Workspace as WorkspaceCells}
 use Rattle.statements.specs.declared.rows.Run.{Run as RunCells}
 use Rattle.statements.specs.Tables.{Tables}
-use Rattle.statements.specs.Finds.{cap_of, workspace_of, workspaces_of, newest_of, body_of, versions_of, first_waiting_of, status_of, run_of, keyed_run_of, open_runs_of}
+use Rattle.statements.specs.Finds.{cap_of, workspace_of, workspaces_of, newest_of, body_of, number_of, versions_of, first_waiting_of, status_of, run_of, keyed_run_of, open_runs_of}
 use Rattle.tables.specs.Records.{holder_in, run_in}
 
 -- the status of the run that holds
@@ -35,6 +35,24 @@ newest_by act org ws t head = record { number = head.number; serial = head.seria
 abbrev pub newest_in : Act → List ℕ → List ℕ → Tables → Option Newest
 newest_in act org ws t = option_map (newest_by act org ws t) (newest_of org ws t)
 
+-- whether the version that an act asks of by its number has a row
+abbrev pub has_version_in : Act → List ℕ → List ℕ → Tables → Bool
+has_version_in (PutWorkspace settings) org ws t = false
+has_version_in ReadWorkspace org ws t = false
+has_version_in DeleteWorkspace org ws t = false
+has_version_in (UpdateState head text id) org ws t = false
+has_version_in ReadState org ws t = false
+has_version_in (PurgeState id) org ws t = false
+has_version_in (LockAct id text) org ws t = false
+has_version_in (Unlock id) org ws t = false
+has_version_in ForceUnlock org ws t = false
+has_version_in (ListVersions after) org ws t = false
+has_version_in (ReadVersion n) org ws t = is_some (number_of org ws n t)
+has_version_in (ListRuns after) org ws t = false
+has_version_in (MakeRun ask) org ws t = false
+has_version_in (ReadRun n) org ws t = false
+has_version_in (ReportRun n action) org ws t = false
+
 -- the row of the run that has a key, if a key is given
 abbrev pub keyed_cells_in : Option (List ℕ) → List ℕ → List ℕ → Tables → Option RunCells
 keyed_cells_in None org ws t = None
@@ -44,12 +62,16 @@ keyed_cells_in (Some key) org ws t = keyed_run_of org ws key t
 abbrev pub asked_cells_in : Act → List ℕ → List ℕ → Tables → Option RunCells
 asked_cells_in (PutWorkspace settings) org ws t = None
 asked_cells_in ReadWorkspace org ws t = None
+asked_cells_in DeleteWorkspace org ws t = None
 asked_cells_in (UpdateState head text id) org ws t = None
 asked_cells_in ReadState org ws t = None
 asked_cells_in (PurgeState id) org ws t = None
 asked_cells_in (LockAct id text) org ws t = None
 asked_cells_in (Unlock id) org ws t = None
 asked_cells_in ForceUnlock org ws t = None
+asked_cells_in (ListVersions after) org ws t = None
+asked_cells_in (ReadVersion n) org ws t = None
+asked_cells_in (ListRuns after) org ws t = None
 asked_cells_in (MakeRun ask) org ws t = keyed_cells_in ask.key org ws t
 asked_cells_in (ReadRun n) org ws t = run_of org ws n t
 asked_cells_in (ReportRun n action) org ws t = run_of org ws n t
@@ -69,6 +91,7 @@ unit_at act org ws t (Some w) = Present (record {
   newest = newest_in act org ws t;
   versions = versions_of org ws t;
   first_waiting = first_waiting_of org ws t;
+  has_version = has_version_in act org ws t;
   asked_run = asked_run_in act org ws t;
   open_runs = open_runs_of org ws t;
 })

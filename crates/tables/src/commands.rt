@@ -1,17 +1,19 @@
 //! The calls of a store, over its connection: each with what it has to look at first.
-ghost use Rattle.std.specs.Prelude.{◌≡◌, false, IsTrue, OnOk};
+ghost use Rattle.std.specs.Prelude.{◌≡◌, false, IsTrue, OnOk, ◌^◌, ◌<◌};
 ghost use Rattle.sqlite.specs.Held.{state};
 ghost use Rattle.sqlite.specs.State.{HasCleanDisk};
 ghost use Rattle.statements.specs.Finds.{body_of, role_of_digest};
 ghost use Rattle.tables.specs.Edits.{changed_rows};
 ghost use Rattle.tables.specs.Units.{unit_in};
 ghost use Rattle.tables.specs.KeepStores.{LooksBy};
+ghost use Rattle.statements.specs.Listings.{OrgsApart, WorkspacesApart, VersionsRise, RunsRise};
 ghost use Rattle.tables.specs.KeepLooks.{SeesBy};
-ghost use Rattle.tables.specs.KeepSteps.{TransactsBy, ManagesBy, org_managed, token_managed, is_taken};
+ghost use Rattle.tables.specs.KeepLists.{LooksWhere, versions_listed_in, runs_listed_in, workspaces_listed_in, organizations_listed_in};
+ghost use Rattle.tables.specs.KeepSteps.{TransactsBy, ManagesBy, org_managed, limit_managed, token_managed, revocation_managed, is_taken};
 
-use crate::{looks, transactions};
-use basis::{Bytes, Limit, Number, Role};
-use machine::{Act, AdminAnswer, Change, Unit};
+use crate::{listings, looks, transactions};
+use basis::{Bytes, Items, Limit, Listing, Number, Role, RunRow, VersionRow, WsRow};
+use machine::{Act, AdminAnswer, Change, OrgRow, Unit};
 use sqlite::{Alter, Connection, Error};
 use statements::{organizations, tokens};
 use std::alloc::Global;
@@ -55,6 +57,27 @@ pub(crate) fn org_add<S: Alter>(
     Ok(AdminAnswer::Done)
 }
 
+/// Sets how many workspaces an organization may have.
+pub(crate) fn org_limit<S: Alter>(
+    conn: &mut Connection<S>,
+    org: &str,
+    limit: Limit,
+) -> Result<AdminAnswer, Error>
+    requires idle { conn.old.in_transaction ≡ false }
+    ensures idle { conn.new.in_transaction ≡ false }
+    ensures so_far { HasCleanDisk (state S.Store conn.new) → HasCleanDisk (state S.Store conn.old) }
+    ensures done { ManagesBy (limit_managed org.now limit) (state S.Store conn.old) (state S.Store conn.new) result }
+{
+    let idle = conn.is_autocommit();
+    prove!(idle);
+    let cap = organizations::cap(conn, org)?;
+    if cap.is_none() {
+        return Ok(AdminAnswer::Absent);
+    }
+    transactions::set_limit(conn, org, limit)?;
+    Ok(AdminAnswer::Done)
+}
+
 /// Whether an organization has a token of the name, or one with the digest.
 fn is_taken<S: Alter>(
     conn: &mut Connection<S>,
@@ -95,6 +118,27 @@ pub(crate) fn token_add<S: Alter>(
         return Ok(AdminAnswer::Exists);
     }
     transactions::add_token(conn, org, name, role, digest)?;
+    Ok(AdminAnswer::Done)
+}
+
+/// Takes a token away from an organization.
+pub(crate) fn token_revoke<S: Alter>(
+    conn: &mut Connection<S>,
+    org: &str,
+    name: &str,
+) -> Result<AdminAnswer, Error>
+    requires idle { conn.old.in_transaction ≡ false }
+    ensures idle { conn.new.in_transaction ≡ false }
+    ensures so_far { HasCleanDisk (state S.Store conn.new) → HasCleanDisk (state S.Store conn.old) }
+    ensures done { ManagesBy (revocation_managed org.now name.now) (state S.Store conn.old) (state S.Store conn.new) result }
+{
+    let idle = conn.is_autocommit();
+    prove!(idle);
+    let role = tokens::role_of_name(conn, org, name)?;
+    if role.is_none() {
+        return Ok(AdminAnswer::Absent);
+    }
+    transactions::remove_token(conn, org, name)?;
     Ok(AdminAnswer::Done)
 }
 
@@ -148,4 +192,74 @@ pub(crate) fn text<S: Alter>(
     let idle = conn.is_autocommit();
     prove!(idle);
     looks::body(conn, org, ws, number)
+}
+
+/// The workspaces of an organization that come after a name. All come after the empty one.
+pub(crate) fn workspaces<S: Alter>(
+    conn: &mut Connection<S>,
+    alloc: Global,
+    org: &str,
+    after: &str,
+) -> Result<Listing<WsRow>, Error>
+    requires idle { conn.old.in_transaction ≡ false }
+    ensures idle { conn.new.in_transaction ≡ false }
+    ensures so_far { HasCleanDisk (state S.Store conn.new) → HasCleanDisk (state S.Store conn.old) }
+    ensures looks { LooksWhere WorkspacesApart (workspaces_listed_in after.now org.now) (state S.Store conn.old) (state S.Store conn.new) result }
+{
+    let idle = conn.is_autocommit();
+    prove!(idle);
+    listings::list_of_workspaces(conn, alloc, org, after)
+}
+
+/// The versions of a workspace whose numbers are greater than this one.
+pub(crate) fn versions<S: Alter>(
+    conn: &mut Connection<S>,
+    alloc: Global,
+    org: &str,
+    ws: &str,
+    after: u64,
+) -> Result<Listing<VersionRow>, Error>
+    requires idle { conn.old.in_transaction ≡ false }
+    requires after_fits { after < 2 ^ 63 }
+    ensures idle { conn.new.in_transaction ≡ false }
+    ensures so_far { HasCleanDisk (state S.Store conn.new) → HasCleanDisk (state S.Store conn.old) }
+    ensures looks { LooksWhere (VersionsRise org.now ws.now) (versions_listed_in after org.now ws.now) (state S.Store conn.old) (state S.Store conn.new) result }
+{
+    let idle = conn.is_autocommit();
+    prove!(idle);
+    listings::list_of_versions(conn, alloc, org, ws, after)
+}
+
+/// The runs of a workspace whose numbers are greater than this one.
+pub(crate) fn runs<S: Alter>(
+    conn: &mut Connection<S>,
+    alloc: Global,
+    org: &str,
+    ws: &str,
+    after: u64,
+) -> Result<Listing<RunRow>, Error>
+    requires idle { conn.old.in_transaction ≡ false }
+    requires after_fits { after < 2 ^ 63 }
+    ensures idle { conn.new.in_transaction ≡ false }
+    ensures so_far { HasCleanDisk (state S.Store conn.new) → HasCleanDisk (state S.Store conn.old) }
+    ensures looks { LooksWhere (RunsRise org.now ws.now) (runs_listed_in after org.now ws.now) (state S.Store conn.old) (state S.Store conn.new) result }
+{
+    let idle = conn.is_autocommit();
+    prove!(idle);
+    listings::list_of_runs(conn, alloc, org, ws, after)
+}
+
+/// All organizations, in the order of their names.
+pub(crate) fn org_list<S: Alter>(
+    conn: &mut Connection<S>,
+    alloc: Global,
+) -> Result<Items<OrgRow>, Error>
+    requires idle { conn.old.in_transaction ≡ false }
+    ensures idle { conn.new.in_transaction ≡ false }
+    ensures so_far { HasCleanDisk (state S.Store conn.new) → HasCleanDisk (state S.Store conn.old) }
+    ensures looks { LooksWhere OrgsApart organizations_listed_in (state S.Store conn.old) (state S.Store conn.new) result }
+{
+    let idle = conn.is_autocommit();
+    prove!(idle);
+    listings::list_of_organizations(conn, alloc)
 }

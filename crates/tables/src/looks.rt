@@ -1,10 +1,10 @@
 //! What is asked of the tables outside a transaction, by queries of one row each.
-ghost use Rattle.std.specs.Prelude.{◌≡◌, false, option_map, IsTrue, IfOk, OnOk, ◌^◌, ◌<◌, unwrap_or};
+ghost use Rattle.std.specs.Prelude.{◌≡◌, false, is_some, option_map, IsTrue, IfOk, OnOk, ◌^◌, ◌<◌, unwrap_or};
 ghost use Rattle.sqlite.specs.Held.{state};
 ghost use Rattle.sqlite.specs.State.{HasCleanDisk};
-ghost use Rattle.statements.specs.Finds.{body_of, status_of, run_of};
+ghost use Rattle.statements.specs.Finds.{body_of, number_of, status_of, run_of};
 ghost use Rattle.tables.specs.Records.{holder_in, run_in};
-ghost use Rattle.tables.specs.Units.{holder_status_in, is_found_text, newest_by, newest_in, keyed_cells_in, asked_cells_in, unit_in};
+ghost use Rattle.tables.specs.Units.{holder_status_in, is_found_text, newest_by, newest_in, has_version_in, keyed_cells_in, asked_cells_in, unit_in};
 ghost use Rattle.tables.specs.KeepEdits.{outgoing_of, outgoing_below, outgoing_in, room_of, room_in, GoesBy};
 ghost use Rattle.tables.specs.KeepLooks.{SeesBy, is_body, absent_in, runs_in, around_in, unit_from, present_in};
 
@@ -30,6 +30,7 @@ struct RunsAround {
 struct Surroundings {
     newest: Option<Newest>,
     versions: u64,
+    has_version: bool,
     runs: RunsAround,
 }
 
@@ -120,18 +121,22 @@ fn is_asked_text<S: Alter>(
         Act::UpdateState { text, .. } => is_text(conn, org, ws, number, text),
         Act::PutWorkspace(_) => Ok(false),
         Act::ReadWorkspace => Ok(false),
+        Act::DeleteWorkspace => Ok(false),
         Act::ReadState => Ok(false),
         Act::PurgeState { .. } => Ok(false),
         Act::Lock { .. } => Ok(false),
         Act::Unlock(_) => Ok(false),
         Act::ForceUnlock => Ok(false),
+        Act::ListVersions(_) => Ok(false),
+        Act::ReadVersion(_) => Ok(false),
+        Act::ListRuns(_) => Ok(false),
         Act::MakeRun(_) => Ok(false),
         Act::ReadRun(_) => Ok(false),
         Act::ReportRun(..) => Ok(false),
     }
 }
 
-fn number_of(number: u64) -> Result<Number, Error>
+pub(crate) fn number_of(number: u64) -> Result<Number, Error>
     ensures { IfOk result (λ n. n ≡ number) }
 {
     match Number::new(number) {
@@ -188,7 +193,7 @@ fn optional_number_of(number: Option<u64>) -> Result<Option<Number>, Error>
     }
 }
 
-fn lock_id_of(alloc: Global, id: &Text) -> Result<LockId, Error>
+pub(crate) fn lock_id_of(alloc: Global, id: &Text) -> Result<LockId, Error>
     ensures { IfOk result (λ read. read ≡ id.now) }
 {
     match LockId::read(alloc, id.as_str()) {
@@ -219,7 +224,7 @@ fn holder_of(alloc: Global, holder: HolderCells) -> Result<Holder, Error>
     }
 }
 
-fn limit_of(cap: Option<u64>) -> Result<Limit, Error>
+pub(crate) fn limit_of(cap: Option<u64>) -> Result<Limit, Error>
     ensures { IfOk result (λ limit. limit ≡ unwrap_or cap 0) }
 {
     let cap = cap.unwrap_or(0);
@@ -232,7 +237,7 @@ fn limit_of(cap: Option<u64>) -> Result<Limit, Error>
     }
 }
 
-fn moment_of(seconds: u64) -> Result<Moment, Error>
+pub(crate) fn moment_of(seconds: u64) -> Result<Moment, Error>
     ensures { IfOk result (λ moment. moment ≡ seconds) }
 {
     match Moment::new(seconds) {
@@ -313,12 +318,62 @@ fn asked_run<S: Alter>(
         Act::ReportRun(number, _) => numbered_run(conn, org, ws, *number),
         Act::PutWorkspace(_) => Ok(None),
         Act::ReadWorkspace => Ok(None),
+        Act::DeleteWorkspace => Ok(None),
         Act::UpdateState { .. } => Ok(None),
         Act::ReadState => Ok(None),
         Act::PurgeState { .. } => Ok(None),
         Act::Lock { .. } => Ok(None),
         Act::Unlock(_) => Ok(None),
         Act::ForceUnlock => Ok(None),
+        Act::ListVersions(_) => Ok(None),
+        Act::ReadVersion(_) => Ok(None),
+        Act::ListRuns(_) => Ok(None),
+    }
+}
+
+/// Whether the version of a number is kept.
+fn is_kept<S: Alter>(
+    conn: &mut Connection<S>,
+    org: &str,
+    ws: &str,
+    number: Number,
+) -> Result<bool, Error>
+    ensures mode { conn.old.in_transaction ≡ false → conn.new.in_transaction ≡ false }
+    ensures so_far { HasCleanDisk (state S.Store conn.new) → HasCleanDisk (state S.Store conn.old) }
+    ensures sees { SeesBy (λ t. is_some (number_of org.now ws.now number t)) (state S.Store conn.old) (state S.Store conn.new) result }
+{
+    let number = number.get() as u64;
+    let found = versions::find(conn, org, ws, number)?;
+    Ok(found.is_some())
+}
+
+/// Whether the version that an act asks of is kept. Where an act asks of none, nothing is looked up.
+fn has_version<S: Alter>(
+    conn: &mut Connection<S>,
+    org: &str,
+    ws: &str,
+    act: &Act,
+) -> Result<bool, Error>
+    ensures mode { conn.old.in_transaction ≡ false → conn.new.in_transaction ≡ false }
+    ensures so_far { HasCleanDisk (state S.Store conn.new) → HasCleanDisk (state S.Store conn.old) }
+    ensures sees { SeesBy (has_version_in act.now org.now ws.now) (state S.Store conn.old) (state S.Store conn.new) result }
+{
+    match act {
+        Act::ReadVersion(number) => is_kept(conn, org, ws, *number),
+        Act::PutWorkspace(_) => Ok(false),
+        Act::ReadWorkspace => Ok(false),
+        Act::DeleteWorkspace => Ok(false),
+        Act::UpdateState { .. } => Ok(false),
+        Act::ReadState => Ok(false),
+        Act::PurgeState { .. } => Ok(false),
+        Act::Lock { .. } => Ok(false),
+        Act::Unlock(_) => Ok(false),
+        Act::ForceUnlock => Ok(false),
+        Act::ListVersions(_) => Ok(false),
+        Act::ListRuns(_) => Ok(false),
+        Act::MakeRun(_) => Ok(false),
+        Act::ReadRun(_) => Ok(false),
+        Act::ReportRun(..) => Ok(false),
     }
 }
 
@@ -378,10 +433,12 @@ fn around<S: Alter>(
 {
     let newest = newest(conn, org, ws, act)?;
     let versions = versions::count(conn, org, ws)?;
+    let has_version = has_version(conn, org, ws, act)?;
     let runs = runs_around(conn, org, ws, act, holder)?;
     Ok(Surroundings {
         newest,
         versions,
+        has_version,
         runs,
     })
 }
@@ -408,6 +465,7 @@ fn unit_by(
         newest: around.newest,
         versions: around.versions as usize,
         first_waiting,
+        has_version: around.has_version,
         asked_run,
         open_runs: runs.open_runs as usize,
     })
@@ -520,6 +578,7 @@ pub(crate) fn outgoing<S: Alter>(
         Edit::AddVersion { gone, .. } => outgoing_in(conn, org, ws, *gone),
         Edit::Make(_) => Ok(Outgoing::Missing),
         Edit::Configure(_) => Ok(Outgoing::Missing),
+        Edit::Remove => Ok(Outgoing::Missing),
         Edit::Purge => Ok(Outgoing::Missing),
         Edit::Hold { .. } => Ok(Outgoing::Missing),
         Edit::Release(_) => Ok(Outgoing::Missing),

@@ -4,7 +4,7 @@ ghost use Rattle.sqlite.specs.Held.{state};
 ghost use Rattle.sqlite.specs.State.{HasCleanDisk};
 ghost use Rattle.statements.specs.Steps.{ChangesBy};
 ghost use Rattle.statements.specs.Changes.{versions_removed_below, run_acted};
-ghost use Rattle.tables.specs.Edits.{made_rows, numbered_rows, emptied_rows, run_put, freed_rows};
+ghost use Rattle.tables.specs.Edits.{removed_rows, made_rows, numbered_rows, emptied_rows, run_put, freed_rows};
 ghost use Rattle.tables.specs.KeepEdits.{added_rows, put_above, put_by, run_counted, run_by, edited_by, begun_rows, changed_by};
 
 use basis::{Moment, Number, RunAction, RunAsk, RunStatus, Text};
@@ -22,15 +22,24 @@ pub(crate) enum Outgoing {
     All,
 }
 
+/// Removes a workspace with its versions and runs.
+fn remove<S: Alter>(tx: &mut Transaction<'_, S>, org: &str, ws: &str) -> Result<(), Error>
+    ensures same_reference { tx.new.conn.ghost_name ≡ tx.old.conn.ghost_name }
+    ensures changed { ChangesBy (removed_rows org.now ws.now) (state S.Store tx.old.conn.now) (state S.Store tx.new.conn.now) result }
+    ensures so_far { HasCleanDisk (state S.Store tx.new.conn.now) → HasCleanDisk (state S.Store tx.old.conn.now) }
+{
+    versions::remove_all(tx, org, ws)?;
+    runs::remove_all(tx, org, ws)?;
+    workspaces::remove(tx, org, ws)
+}
+
 /// Makes a workspace. It has no versions and no runs.
 fn make<S: Alter>(tx: &mut Transaction<'_, S>, org: &str, ws: &str, auto: bool) -> Result<(), Error>
     ensures same_reference { tx.new.conn.ghost_name ≡ tx.old.conn.ghost_name }
     ensures changed { ChangesBy (made_rows org.now ws.now auto) (state S.Store tx.old.conn.now) (state S.Store tx.new.conn.now) result }
     ensures so_far { HasCleanDisk (state S.Store tx.new.conn.now) → HasCleanDisk (state S.Store tx.old.conn.now) }
 {
-    versions::remove_all(tx, org, ws)?;
-    runs::remove_all(tx, org, ws)?;
-    workspaces::remove(tx, org, ws)?;
+    remove(tx, org, ws)?;
     workspaces::add(tx, org, ws, auto)
 }
 
@@ -285,6 +294,7 @@ fn edit<S: Alter>(
     match edit {
         Edit::Make(settings) => make(tx, org, ws, settings.auto_apply),
         Edit::Configure(settings) => workspaces::set_auto(tx, org, ws, settings.auto_apply),
+        Edit::Remove => remove(tx, org, ws),
         Edit::AddVersion { version, .. } => put(tx, org, ws, version, outgoing),
         Edit::Purge => versions::remove_all(tx, org, ws),
         Edit::Hold { id, text } => {

@@ -1,5 +1,6 @@
 //! The store of all organizations over one connection to a database.
-ghost use Rattle.std.specs.Prelude.{◌≡◌, ◌≢◌, true, false, ℕ, List, Option, Some, None, IsTrue, IfOk, IfErr};
+ghost use Rattle.std.specs.Prelude.{◌≡◌, ◌≢◌, true, false, ℕ, List, [], Option, Some, None, option_copied, IsTrue, IfOk, IfErr};
+ghost use Rattle.std.specs.Option.{unwrap_or};
 ghost use Rattle.sqlite.specs.Held.{state};
 ghost use Rattle.sqlite.specs.State.{HasCleanDisk, KeepsCommit};
 ghost use Rattle.tables.specs.Stores.{records_of, IsSoundStore};
@@ -9,8 +10,10 @@ ghost use Rattle.tables.specs.KeepStores.{IsSoundKeep, any_there, all_there, IsO
 
 use crate::commands;
 use crate::opening::{Fault, ready};
-use basis::numbers::MAX_LIMIT;
-use basis::{Bytes, Down, Limit, Number, OrgName, Role, WsName};
+use basis::numbers::{MAX_LIMIT, MAX_NUMBER};
+use basis::{
+    Bytes, Down, Limit, Listing, Number, OrgName, Role, RunRow, VersionRow, WsName, WsRow,
+};
 use machine::{Act, AdminAnswer, Change, Keep, Unit};
 use sqlite::{Alter, Connection, MemStore};
 use std::alloc::Global;
@@ -95,6 +98,16 @@ impl<S: Alter> SqlKeep<S> {
     }
 }
 
+/// The name after which a list begins: all names come after the empty one.
+fn name_after(after: Option<&WsName>) -> &str
+    ensures { result.now ≡ unwrap_or (option_copied after.entry) [] }
+{
+    match after {
+        None => "",
+        Some(name) => name.as_str(),
+    }
+}
+
 impl<S: Alter> Keep for SqlKeep<S> {
     ghost rows = { λ keep. records_of (state S.Store keep.seen.value).committed };
 
@@ -136,6 +149,52 @@ impl<S: Alter> Keep for SqlKeep<S> {
         }
     }
 
+    fn workspaces(
+        &mut self,
+        alloc: Global,
+        org: &OrgName,
+        after: Option<&WsName>,
+    ) -> Result<Listing<WsRow>, Down> {
+        match commands::workspaces(&mut self.conn, alloc, org.as_str(), name_after(after)) {
+            Ok(list) => Ok(list),
+            Err(_) => Err(Down),
+        }
+    }
+
+    fn versions(
+        &mut self,
+        alloc: Global,
+        org: &OrgName,
+        ws: &WsName,
+        after: u64,
+    ) -> Result<Listing<VersionRow>, Down> {
+        // No version has a greater number.
+        if after > MAX_NUMBER as u64 {
+            return Ok(Listing::new(alloc));
+        }
+        match commands::versions(&mut self.conn, alloc, org.as_str(), ws.as_str(), after) {
+            Ok(list) => Ok(list),
+            Err(_) => Err(Down),
+        }
+    }
+
+    fn runs(
+        &mut self,
+        alloc: Global,
+        org: &OrgName,
+        ws: &WsName,
+        after: u64,
+    ) -> Result<Listing<RunRow>, Down> {
+        // No run has a greater number.
+        if after > MAX_NUMBER as u64 {
+            return Ok(Listing::new(alloc));
+        }
+        match commands::runs(&mut self.conn, alloc, org.as_str(), ws.as_str(), after) {
+            Ok(list) => Ok(list),
+            Err(_) => Err(Down),
+        }
+    }
+
     fn apply(
         &mut self,
         _alloc: Global,
@@ -160,6 +219,44 @@ impl<S: Alter> Keep for SqlKeep<S> {
     ) -> Result<AdminAnswer, Down> {
         prove!(limit.get() <= MAX_LIMIT);
         match commands::org_add(&mut self.conn, org.as_str(), limit) {
+            Ok(answer) => {
+                self.seen = Snapshot::of(&self.conn);
+                Ok(answer)
+            }
+            Err(_) => Err(Down),
+        }
+    }
+
+    fn org_limit(
+        &mut self,
+        _alloc: Global,
+        org: &OrgName,
+        limit: Limit,
+    ) -> Result<AdminAnswer, Down> {
+        prove!(limit.get() <= MAX_LIMIT);
+        match commands::org_limit(&mut self.conn, org.as_str(), limit) {
+            Ok(answer) => {
+                self.seen = Snapshot::of(&self.conn);
+                Ok(answer)
+            }
+            Err(_) => Err(Down),
+        }
+    }
+
+    fn org_list(&mut self, alloc: Global) -> Result<AdminAnswer, Down> {
+        match commands::org_list(&mut self.conn, alloc) {
+            Ok(rows) => Ok(AdminAnswer::Organizations(rows)),
+            Err(_) => Err(Down),
+        }
+    }
+
+    fn token_revoke(
+        &mut self,
+        _alloc: Global,
+        org: &OrgName,
+        name: &OrgName,
+    ) -> Result<AdminAnswer, Down> {
+        match commands::token_revoke(&mut self.conn, org.as_str(), name.as_str()) {
             Ok(answer) => {
                 self.seen = Snapshot::of(&self.conn);
                 Ok(answer)

@@ -2,7 +2,7 @@
 ghost use Rattle.std.specs.Prelude.{◌≡◌, false, ◌<◌, ◌^◌, OnOk, OnErr};
 ghost use Rattle.sqlite.specs.Held.{state};
 ghost use Rattle.sqlite.specs.State.{HasCleanDisk, KeepsCommit};
-ghost use Rattle.statements.specs.Changes.{org_added, token_added};
+ghost use Rattle.statements.specs.Changes.{org_added, org_capped, token_added, token_removed};
 ghost use Rattle.tables.specs.KeepEdits.{changed_by};
 ghost use Rattle.tables.specs.KeepMaking.{IsMade};
 ghost use Rattle.tables.specs.KeepSteps.{TransactsBy};
@@ -67,6 +67,25 @@ pub(crate) fn add_organization<S: Alter>(
     tx.commit()
 }
 
+/// Sets how many workspaces an organization may have.
+pub(crate) fn set_limit<S: Alter>(
+    conn: &mut Connection<S>,
+    org: &str,
+    limit: Limit,
+) -> Result<(), Error>
+    requires idle { conn.old.in_transaction ≡ false }
+    ensures idle { conn.new.in_transaction ≡ false }
+    ensures so_far { HasCleanDisk (state S.Store conn.new) → HasCleanDisk (state S.Store conn.old) }
+    ensures done { TransactsBy (org_capped org.now limit) (state S.Store conn.old) (state S.Store conn.new) result }
+{
+    let cap = limit.get() as u64;
+    let idle = conn.is_autocommit();
+    prove!(idle);
+    let mut tx = conn.transaction();
+    organizations::set_cap(&mut tx, org, cap)?;
+    tx.commit()
+}
+
 /// Adds a token.
 pub(crate) fn add_token<S: Alter>(
     conn: &mut Connection<S>,
@@ -84,5 +103,23 @@ pub(crate) fn add_token<S: Alter>(
     prove!(idle);
     let mut tx = conn.transaction();
     tokens::add(&mut tx, org, name, digest, role)?;
+    tx.commit()
+}
+
+/// Removes a token.
+pub(crate) fn remove_token<S: Alter>(
+    conn: &mut Connection<S>,
+    org: &str,
+    name: &str,
+) -> Result<(), Error>
+    requires idle { conn.old.in_transaction ≡ false }
+    ensures idle { conn.new.in_transaction ≡ false }
+    ensures so_far { HasCleanDisk (state S.Store conn.new) → HasCleanDisk (state S.Store conn.old) }
+    ensures done { TransactsBy (token_removed org.now name.now) (state S.Store conn.old) (state S.Store conn.new) result }
+{
+    let idle = conn.is_autocommit();
+    prove!(idle);
+    let mut tx = conn.transaction();
+    tokens::remove(&mut tx, org, name)?;
     tx.commit()
 }

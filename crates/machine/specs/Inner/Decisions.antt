@@ -4,7 +4,7 @@ use Rattle.std.specs.Prelude.{◌≡◌, ℕ, ◌+◌, ◌-◌, Bool, nat_lt, �
 use Rattle.std.specs.Option.{option_map_or, option_or}
 use Rattle.std.specs.Str.{bytes_eq}
 use Rattle.basis.specs.declared.refusals.Refusal.{Refusal}
-use Rattle.basis.specs.declared.refusals.Refusal.TheVariants.{NotFound, OtherLineage, OldSerial, OverLimit, WrongState, HeldByRun, Locked}
+use Rattle.basis.specs.declared.refusals.Refusal.TheVariants.{NotFound, OtherLineage, OldSerial, OverLimit, WrongState, HeldByRun, OpenRuns, Locked}
 use Rattle.basis.specs.declared.rows.StateHead.{StateHead}
 use Rattle.basis.specs.declared.rows.RunAsk.{RunAsk}
 use Rattle.basis.specs.declared.runs.RunStatus.{RunStatus}
@@ -20,21 +20,22 @@ use Rattle.machine.specs.Workspaces.{max_versions, max_open_runs}
 use Rattle.machine.specs.Succession.{lineages_differ}
 use Rattle.machine.specs.Settling.{is_waiting, begun, to_start}
 use Rattle.machine.specs.Writing.{may_write}
-use Rattle.machine.specs.Rules.{Outcome, done, no_state, state, workspace, the_run, Ruling, holder_id, number_left, refused_by, is_released, new_run, frees, rules}
+use Rattle.machine.specs.Showing.{holder_id, versions_after, runs_after}
+use Rattle.machine.specs.Rules.{Outcome, done, no_state, state, workspace, the_run, versions, runs, Ruling, number_left, refused_by, is_released, new_run, frees, rules}
 use Rattle.machine.specs.RunSteps.{next_status, is_last}
 use Rattle.machine.specs.Changes.{changed_by, IsDue}
 use Rattle.machine.specs.Units.{text_of}
 use Rattle.machine.specs.declared.acts.Act.{Act}
-use Rattle.machine.specs.declared.acts.Act.TheVariants.{PutWorkspace, ReadWorkspace, UpdateState, ReadState, PurgeState, Lock as LockAct, Unlock, ForceUnlock, MakeRun, ReadRun, ReportRun}
+use Rattle.machine.specs.declared.acts.Act.TheVariants.{PutWorkspace, ReadWorkspace, DeleteWorkspace, UpdateState, ReadState, PurgeState, Lock as LockAct, Unlock, ForceUnlock, ListVersions, ReadVersion, ListRuns, MakeRun, ReadRun, ReportRun}
 use Rattle.machine.specs.declared.acts.Newest.{Newest}
 use Rattle.machine.specs.declared.acts.WorkspaceUnit.{WorkspaceUnit}
 use Rattle.machine.specs.declared.acts.Unit.{Unit as AnyUnit}
 use Rattle.machine.specs.declared.acts.Unit.TheVariants.{Absent, Present}
 use Rattle.machine.specs.declared.acts.Shown.{Shown}
 use Rattle.machine.specs.declared.acts.Answer.{Answer}
-use Rattle.machine.specs.declared.acts.Answer.TheVariants.{Done, NoState, State, Workspace as ShownWorkspace, Run as ShownRun}
+use Rattle.machine.specs.declared.acts.Answer.TheVariants.{Done, NoState, State, Workspace as ShownWorkspace, Run as ShownRun, Versions, Runs}
 use Rattle.machine.specs.declared.acts.Edit.{Edit}
-use Rattle.machine.specs.declared.acts.Edit.TheVariants.{Make, Configure, AddVersion, Purge, Hold, Release, AddRun, Report}
+use Rattle.machine.specs.declared.acts.Edit.TheVariants.{Make, Configure, Remove, AddVersion, Purge, Hold, Release, AddRun, Report}
 use Rattle.machine.specs.declared.acts.Change.{Change}
 use Rattle.machine.specs.declared.acts.Decision.{Decision}
 use Rattle.machine.specs.declared.acts.Decision.TheVariants.{Refused, Accepted}
@@ -54,6 +55,8 @@ answered NoState w = no_state
 answered (State n) w = option_map_or state (text_of n w) no_state
 answered (ShownWorkspace shown) w = workspace shown
 answered (ShownRun r) w = the_run r
+answered (Versions after) w = versions (versions_after after w)
+answered (Runs after) w = runs (runs_after after w)
 
 -- who holds, as a refused writer is told
 abbrev pub holder_of : Option Workspace → Holder
@@ -115,6 +118,17 @@ decided_read (Some v) = Accepted (State v.number) None
 abbrev pub decided_purge : Option Refusal → WorkspaceUnit → Decision
 decided_purge (Some refusal) u = Refused refusal
 decided_purge None u = changing Done Purge (start_now u)
+
+abbrev pub decided_idle : ℕ → Decision
+decided_idle busy = cond (nat_lt 0 busy) (Refused OpenRuns) (changing Done Remove None)
+
+abbrev pub decided_delete : Holder → ℕ → Decision
+decided_delete Nobody busy = decided_idle busy
+decided_delete (Lock id text) busy = Refused Locked
+decided_delete (HoldingRun n) busy = decided_idle busy
+
+abbrev pub decided_version_read : Bool → ℕ → Decision
+decided_version_read has_version n = cond has_version (Accepted (State n) None) (Refused NotFound)
 
 abbrev pub decided_lock : Holder → List ℕ → List ℕ → Decision
 decided_lock Nobody id text = changing Done (Hold id text) None
@@ -188,6 +202,10 @@ decision_of (Present u) (PurgeState id) now = decided_purge (may_write u.holder 
 decision_of (Present u) (LockAct id text) now = decided_lock u.holder id text
 decision_of (Present u) (Unlock id) now = decided_unlock u.holder u id
 decision_of (Present u) ForceUnlock now = decided_force u.holder u
+decision_of (Present u) DeleteWorkspace now = decided_delete u.holder u.open_runs
+decision_of (Present u) (ListVersions after) now = Accepted (Versions after) None
+decision_of (Present u) (ReadVersion n) now = decided_version_read u.has_version n
+decision_of (Present u) (ListRuns after) now = Accepted (Runs after) None
 decision_of (Present u) (MakeRun ask) now = decided_make u.asked_run u ask now
 decision_of (Present u) (ReadRun n) now = decided_read_run u.asked_run
 decision_of (Present u) (ReportRun n action) now = decided_report u.asked_run u n action

@@ -1,8 +1,13 @@
 -- Contracts between functions: where a name stands among entries that rise by their names, and where it would go.
-use Rattle.std.specs.Prelude.{◌≡◌, ℕ, ◌<◌, ◌≤◌, List, get_or, set, length, Some, None}
+use Rattle.std.specs.Prelude.{◌≡◌, ℕ, Bool, true, false, ◌<◌, ◌≤◌, List, get_or, set, length, Some, None}
 use Rattle.std.specs.List.{insert}
 use Rattle.std.specs.FinMap.{find, put}
 use Rattle.machine.specs.Order.{name_cmp}
+use Rattle.machine.specs.Records.{count_of}
+use Rattle.machine.specs.declared.acts.Edit.{Edit}
+use Rattle.machine.specs.declared.acts.Edit.TheVariants.{Make, Configure, Remove, AddVersion, Purge, Hold, Release, AddRun, Report}
+use Rattle.machine.specs.declared.keeps.OrgRow.{OrgRow}
+use Rattle.machine.specs.declared.records.Organization.{Organization}
 
 -- the entry of the name is the i-th: it gives the value, and a value put at the name replaces it
 pub record IsAt {X : Type 0} (name : List ℕ) (es : List (List ℕ × X)) (i : ℕ) : Type 0 where
@@ -16,3 +21,19 @@ pub record IsGapFor {X : Type 0} (name : List ℕ) (es : List (List ℕ × X)) (
   pub within : i ≤ length es
   pub absent : find name_cmp name es ≡ None
   pub inserted : (v : X) → put name_cmp name v es ≡ insert es i (name, v)
+
+-- an organization in the list of all
+abbrev pub org_row : List ℕ → Organization → OrgRow
+org_row name o = record { name = name; workspaces = count_of o; limit = o.limit }
+
+-- the workspace goes
+abbrev pub is_removal : Edit → Bool
+is_removal (Make settings) = false
+is_removal (Configure settings) = false
+is_removal Remove = true
+is_removal (AddVersion version gone) = false
+is_removal Purge = false
+is_removal (Hold id text) = false
+is_removal (Release id) = false
+is_removal (AddRun number ask created) = false
+is_removal (Report number action status frees) = false

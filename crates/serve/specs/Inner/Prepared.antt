@@ -1,10 +1,13 @@
 -- Contracts between functions: an answer that is made in full before anything changes, and the change that is to follow.
-use Rattle.std.specs.Prelude.{◌≡◌, ℕ, Bool, List, Option, Some, None, Result, Ok}
+use Rattle.std.specs.Prelude.{◌≡◌, ℕ, Bool, List, Option, Some, None, Result, Ok, ⊤}
 use Rattle.std.specs.FinMap.{get}
 use Rattle.basis.specs.Checks.{and_then}
 use Rattle.basis.specs.declared.refusals.Refusal.{Refusal}
 use Rattle.basis.specs.declared.roles.Role.{Role}
+use Rattle.machine.specs.Ranges.{IsInRange}
 use Rattle.machine.specs.Records.{seen_in, placed}
+use Rattle.serve.specs.declared.prepared.Task.{Task}
+use Rattle.serve.specs.declared.prepared.Task.TheVariants.{ListAll, Carry}
 use Rattle.machine.specs.Changes.{changed_by, IsDue}
 use Rattle.machine.specs.declared.records.Organization.{Organization}
 use Rattle.route.specs.declared.acts.Asked.{Asked}
@@ -50,3 +53,8 @@ abbrev pub IsReceived : List ℕ → Received → Type 0
 IsReceived bytes (Whole message interim) = (awaited : Bool) × Reads bytes (whole message awaited) × (interim.items ≡ continue_if awaited)
 IsReceived bytes (Refused refusal is_head) = Reads bytes (wire.refused refusal is_head)
 IsReceived bytes Unfinished = Reads bytes unfinished
+
+-- the documents of an act that is to be done are in their ranges
+abbrev pub IsTaskInRange : Task → Type 0
+IsTaskInRange (ListAll after) = ⊤
+IsTaskInRange (Carry order) = IsInRange order.act

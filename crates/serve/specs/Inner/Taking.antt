@@ -1,7 +1,9 @@
 -- Contracts between functions: one step taken, and a run of steps over the records of all organizations.
-use Rattle.std.specs.Prelude.{ℕ, List, Option}
+use Rattle.std.specs.Prelude.{ℕ, List, Option, ⊤}
 use Rattle.machine.specs.declared.records.Organization.{Organization}
 use Rattle.serve.specs.declared.steps.Step.{Step}
+use Rattle.serve.specs.declared.steps.Admin.{Admin}
+use Rattle.serve.specs.declared.steps.Admin.TheVariants.{OrgAdd, OrgLimit, OrgList, TokenAdd, TokenRevoke}
 use Rattle.serve.specs.Asks.{Ask, Owner}
 use Rattle.serve.specs.Service.{IsAsked, AreAsked, Carries, said_to, IsText}
 use Rattle.serve.specs.Runs.{IsOwnRecord, AreOwnReplies}
@@ -18,3 +20,11 @@ pub record RunsTo (steps : List Step) (old new : List ℕ → Option Organizatio
   pub are : AreAsked steps asked
   pub rows : (org : List ℕ) → IsOwnRecord asked old new org
   pub texts : (owner : Owner) → AreOwnReplies asked old replies owner
+
+-- a command on one organization
+abbrev pub IsOnOne : Admin → Type 0
+IsOnOne (OrgAdd org limit) = ⊤
+IsOnOne (OrgLimit org limit) = ⊤
+IsOnOne OrgList = ⊥
+IsOnOne (TokenAdd org name role secret) = ⊤
+IsOnOne (TokenRevoke org name) = ⊤

@@ -1,7 +1,7 @@
 -- Contracts between functions: what serving needs of a unit.
 use Rattle.std.specs.Prelude.{Bool, true, false, is_some}
 use Rattle.machine.specs.declared.acts.Act.{Act}
-use Rattle.machine.specs.declared.acts.Act.TheVariants.{ReadState as ReadStateAct, ReadRun as ReadRunAct}
+use Rattle.machine.specs.declared.acts.Act.TheVariants.{ReadState as ReadStateAct, ReadVersion as ReadVersionAct, ReadRun as ReadRunAct}
 use Rattle.machine.specs.declared.acts.WorkspaceUnit.{WorkspaceUnit}
 use Rattle.route.specs.declared.acts.WsAct.{WsAct}
 use Rattle.route.specs.declared.acts.WsAct.TheVariants.{Read, Put, Delete, ReadState, UpdateState, PurgeState, Lock, Unlock, ForceUnlock, ListVersions, ReadVersion, ListRuns, MakeRun, ReadRun, ReportRun}
@@ -27,30 +27,30 @@ look_of Lock = ReadStateAct
 look_of Unlock = ReadStateAct
 look_of ForceUnlock = ReadStateAct
 look_of (ListVersions after) = ReadStateAct
-look_of (ReadVersion number) = ReadStateAct
+look_of (ReadVersion number) = ReadVersionAct number
 look_of (ListRuns after) = ReadStateAct
 look_of MakeRun = ReadStateAct
 look_of (ReadRun number) = ReadRunAct number
 look_of (ReportRun number action) = ReadRunAct number
 
 -- whether it is there, once its workspace is
-abbrev pub has_asked_run : WsAct → WorkspaceUnit → Bool
-has_asked_run Read u = true
-has_asked_run Put u = true
-has_asked_run Delete u = true
-has_asked_run ReadState u = true
-has_asked_run UpdateState u = true
-has_asked_run PurgeState u = true
-has_asked_run Lock u = true
-has_asked_run Unlock u = true
-has_asked_run ForceUnlock u = true
-has_asked_run (ListVersions after) u = true
-has_asked_run (ReadVersion number) u = true
-has_asked_run (ListRuns after) u = true
-has_asked_run MakeRun u = true
-has_asked_run (ReadRun number) u = is_some u.asked_run
-has_asked_run (ReportRun number action) u = is_some u.asked_run
+abbrev pub has_asked : WsAct → WorkspaceUnit → Bool
+has_asked Read u = true
+has_asked Put u = true
+has_asked Delete u = true
+has_asked ReadState u = true
+has_asked UpdateState u = true
+has_asked PurgeState u = true
+has_asked Lock u = true
+has_asked Unlock u = true
+has_asked ForceUnlock u = true
+has_asked (ListVersions after) u = true
+has_asked (ReadVersion number) u = u.has_version
+has_asked (ListRuns after) u = true
+has_asked MakeRun u = true
+has_asked (ReadRun number) u = is_some u.asked_run
+has_asked (ReportRun number action) u = is_some u.asked_run
 
 abbrev pub is_present : WsAct → AnyUnit → Bool
 is_present act (Absent workspaces limit) = false
-is_present act (Present u) = has_asked_run act u
+is_present act (Present u) = has_asked act u

@@ -20,4 +20,4 @@ returns c =
     subst (λ (k : SqlKeep MemStore over_memory). HasCleanDisk (state over_memory k.conn)) c.into_keep-keep.ensures c.is_always_clean.ensures in
     replies_of_none c.args.steps.now (λ o. records_of (state over_memory before.seen.value).committed o) (λ o. records_of (state over_memory after.seen.value).committed o) c.replay-replies.result
     (λ o. ap (λ (k : SqlKeep MemStore over_memory). records_of (state over_memory k.seen.value).committed o) kept ∙ c.in_ok-empty.ensures.empty o)
-    c.replay-replies.ensures.one_each (c.replay-replies.ensures.isolation clean sound) (c.replay-replies.ensures.unattributed clean sound)
+    c.replay-replies.ensures.one_each (c.replay-replies.ensures.isolation clean sound) (c.replay-replies.ensures.unattributed clean sound) (c.replay-replies.ensures.lists clean sound)

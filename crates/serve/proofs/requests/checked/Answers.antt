@@ -1,8 +1,8 @@
 use Rattle.std.proofs.Common.{Ok, Err, IsSome, Option, Some, IfOk, subst, sym, ◌≡◌, ◌∙◌, refl}
-use Rattle.machine.specs.declared.acts.Act.{Act}
+use Rattle.basis.specs.Inner.Checks.{Follows}
 use Rattle.machine.specs.declared.records.Organization.{Organization}
-use Rattle.serve.specs.Checks.{found, digest_checked, act_of, order}
-use Rattle.serve.proofs.CheckLemmas.{past_reach, after_ok, after_err, after_names, role_there, act_in_range}
+use Rattle.serve.specs.Checks.{found, digest_checked, task_of}
+use Rattle.serve.proofs.CheckLemmas.{past_reach, after_ok, after_err, after_names, role_there}
 use Rattle.serve.proofs.requests.checked.Goals as goal
 
 pub returns-in-Err-found-clause-ok : goal.returns-in-Err-found-clause-ok
@@ -27,12 +27,12 @@ returns-in-Err-digest_checked-clause-ok g c = λ clean sound apart.
     let some : IsSome (g.K.Keep.rows c.known_caller.new.keep asked.caller) = subst IsSome (sym same) (role_there r asked c.in-Ok.role known) in
     let met = c.in-Ok-found.ensures.ok clean (c.known_caller.ensures.looks.kept before sound) some in
     past_reach r asked c.args.content_md5.now c.args.body c.in-Ok.role (Err c.in-Err-digest_checked.refusal) known (sym c.allowed.ensures ∙ c.in_default.is) (sym c.in_reach.ensures ∙ c.in_default-in_reach.is)
-    (after_ok (found r asked.act) (after_names asked c.args.content_md5.now c.args.body) c.in-Ok-found.place (Err c.in-Err-digest_checked.refusal)
-    (subst (λ (x : Option Organization). found x asked.act ≡ Ok c.in-Ok-found.place) same met)
+    (after_ok (found r asked.act) (after_names asked c.args.content_md5.now c.args.body) c.in-Ok-found.found (Err c.in-Err-digest_checked.refusal)
+    (subst (λ (x : Option Organization). found x asked.act ≡ Ok c.in-Ok-found.found) same met)
     (after_err (digest_checked c.args.content_md5.now c.args.body) _ c.in-Err-digest_checked.refusal (sym c.digest_checked.ensures ∙ c.in-Err-digest_checked.is)))
 
-pub returns-in-Ok-act_of-clause-ok : goal.returns-in-Ok-act_of-clause-ok
-returns-in-Ok-act_of-clause-ok g c = λ clean sound.
+pub returns-clause-ok : goal.returns-clause-ok
+returns-clause-ok g c = λ clean sound.
     let asked = c.args.asked.now in
     let r = g.K.Keep.rows c.args.keep.now asked.caller in
     let before : g.K.Keep.clean c.known_caller.new.keep = c.found.ensures.looks.so_far clean in
@@ -40,12 +40,8 @@ returns-in-Ok-act_of-clause-ok g c = λ clean sound.
     let same : g.K.Keep.rows c.known_caller.new.keep asked.caller ≡ r = c.known_caller.ensures.looks.same before asked.caller in
     let some : IsSome (g.K.Keep.rows c.known_caller.new.keep asked.caller) = subst IsSome (sym same) (role_there r asked c.in-Ok.role known) in
     let met = c.in-Ok-found.ensures.ok clean (c.known_caller.ensures.looks.kept before sound) some in
-    let made = Ok (order c.in-Ok-found.place.ws c.in-Ok-act_of.act) in
-    past_reach r asked c.args.content_md5.now c.args.body c.in-Ok.role made known (sym c.allowed.ensures ∙ c.in_default.is) (sym c.in_reach.ensures ∙ c.in_default-in_reach.is)
-    (after_ok (found r asked.act) (after_names asked c.args.content_md5.now c.args.body) c.in-Ok-found.place made
-    (subst (λ (x : Option Organization). found x asked.act ≡ Ok c.in-Ok-found.place) same met)
-    (after_ok (digest_checked c.args.content_md5.now c.args.body) _ tt made (sym c.digest_checked.ensures ∙ c.in_default-digest_checked.is)
-    (after_ok (act_of c.in-Ok-found.place.act asked.lock_id c.args.body) (λ (a : Act). Ok (order c.in-Ok-found.place.ws a)) c.in-Ok-act_of.act made c.in-Ok-act_of.ensures refl)))
-
-pub returns-in-Ok-act_of-clause-range : goal.returns-in-Ok-act_of-clause-range
-returns-in-Ok-act_of-clause-range g c = act_in_range c.in-Ok-found.place.act c.args.asked.now.lock_id c.args.body c.in-Ok-act_of.act c.in-Ok-act_of.ensures
+    let made = task_of c.in-Ok-found.found asked.lock_id c.args.body in
+    subst (Follows c.task_of.result) (sym (past_reach r asked c.args.content_md5.now c.args.body c.in-Ok.role made known (sym c.allowed.ensures ∙ c.in_default.is) (sym c.in_reach.ensures ∙ c.in_default-in_reach.is)
+    (after_ok (found r asked.act) (after_names asked c.args.content_md5.now c.args.body) c.in-Ok-found.found made
+    (subst (λ (x : Option Organization). found x asked.act ≡ Ok c.in-Ok-found.found) same met)
+    (after_ok (digest_checked c.args.content_md5.now c.args.body) _ tt made (sym c.digest_checked.ensures ∙ c.in_default-digest_checked.is) refl)))) c.task_of.ensures.ok

@@ -3,7 +3,7 @@ use Rattle.basis.specs.declared.refusals.Refusal.{Refusal}
 use Rattle.machine.specs.declared.records.Organization.{Organization}
 use Rattle.serve.specs.Steps.{carried}
 use Rattle.serve.specs.Inner.Prepared.{Foresees}
-use Rattle.serve.specs.declared.prepared.Order.{Order}
+use Rattle.serve.specs.declared.prepared.Task.{Task}
 use Rattle.serve.proofs.RecordLemmas.{if_ok, refused_after}
 use Rattle.serve.proofs.requests.request.Goals as goal
 
@@ -11,14 +11,14 @@ pub returns-in-Ok-clause-ok : goal.returns-in-Ok-clause-ok
 returns-in-Ok-clause-ok g c = λ clean sound.
     let org = c.args.asked.now.caller in
     let r = g.K.Keep.rows c.args.keep.now org in
-    let before : g.K.Keep.clean c.checked.new.keep = c.rule.ensures.looks.so_far clean in
+    let before : g.K.Keep.clean c.checked.new.keep = c.perform.ensures.looks.so_far clean in
     let same : g.K.Keep.rows c.checked.new.keep org ≡ r = c.checked.ensures.looks.same before org in
     let some : IsSome (g.K.Keep.rows c.checked.new.keep org) = subst IsSome (sym same) (c.in-Ok.ensures.there before sound) in
-    if_ok c.rule.result
+    if_ok c.perform.result
     (λ p foreseen.
-    subst (λ (x : Result Order Refusal). Foresees r org (carried org c.args.at r x) p) (sym (c.in-Ok.ensures.ok before sound))
-    (subst (λ (x : Option Organization). Foresees x org (carried org c.args.at x (Ok c.in-Ok.order)) p) same (foreseen some c.in-Ok.ensures.range)))
-    (c.rule.ensures.ok clean (c.checked.ensures.looks.kept before sound))
+    subst (λ (x : Result Task Refusal). Foresees r org (carried org c.args.at r x) p) (sym (c.in-Ok.ensures.ok before sound))
+    (subst (λ (x : Option Organization). Foresees x org (carried org c.args.at x (Ok c.in-Ok.task)) p) same (foreseen some c.in-Ok.ensures.range)))
+    (c.perform.ensures.ok clean (c.checked.ensures.looks.kept before sound))
 
 pub returns-in-Err-clause-ok : goal.returns-in-Err-clause-ok
 returns-in-Err-clause-ok g c = λ clean sound.

@@ -1,10 +1,14 @@
-use Rattle.std.proofs.Common.{◌≡◌, rules}
-use Rattle.serve.specs.Service.{admin_text}
-use Rattle.serve.proofs.TakenLemmas.{told}
+use Rattle.serve.proofs.RecordLemmas.{if_ok}
 use Rattle.serve.proofs.service.take_command.Goals as goal
 
-pub returns-clause-ok : goal.returns-clause-ok
-returns-clause-ok g c = λ clean sound at.
-    let done = c.in_ok-answer.ensures.ok clean sound at in
-    let made : c.new.result ≡ admin_text c.in_ok-answer.answer = search rules in
-    (done.0, told _ c.in_ok-answer.answer c.new.result done.1 made)
+pub returns-in-OrgAdd-clause-ok : goal.returns-in-OrgAdd-clause-ok
+returns-in-OrgAdd-clause-ok g c = λ clean sound. if_ok c.take_word.result (λ text taken at. let both = taken at in (both.0, both.1 (rw c.in-OrgAdd.is tt))) (c.take_word.ensures.ok clean sound)
+
+pub returns-in-OrgLimit-clause-ok : goal.returns-in-OrgLimit-clause-ok
+returns-in-OrgLimit-clause-ok g c = λ clean sound. if_ok c.take_word-in-OrgLimit.result (λ text taken at. let both = taken at in (both.0, both.1 (rw c.in-OrgLimit.is tt))) (c.take_word-in-OrgLimit.ensures.ok clean sound)
+
+pub returns-in-TokenAdd-clause-ok : goal.returns-in-TokenAdd-clause-ok
+returns-in-TokenAdd-clause-ok g c = λ clean sound. if_ok c.take_word-in-TokenAdd.result (λ text taken at. let both = taken at in (both.0, both.1 (rw c.in-TokenAdd.is tt))) (c.take_word-in-TokenAdd.ensures.ok clean sound)
+
+pub returns-in-TokenRevoke-clause-ok : goal.returns-in-TokenRevoke-clause-ok
+returns-in-TokenRevoke-clause-ok g c = λ clean sound. if_ok c.take_word-in-TokenRevoke.result (λ text taken at. let both = taken at in (both.0, both.1 (rw c.in-TokenRevoke.is tt))) (c.take_word-in-TokenRevoke.ensures.ok clean sound)

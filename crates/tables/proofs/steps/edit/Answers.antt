@@ -6,6 +6,9 @@ returns-in-Make-clause-changed g c = rw c.in-Make.is c.make.ensures.changed
 pub returns-in-Configure-clause-changed : goal.returns-in-Configure-clause-changed
 returns-in-Configure-clause-changed g c = rw c.in-Configure.is c.set_auto.ensures.changed
 
+pub returns-in-Remove-clause-changed : goal.returns-in-Remove-clause-changed
+returns-in-Remove-clause-changed g c = rw c.in-Remove.is c.remove.ensures.changed
+
 pub returns-in-AddVersion-clause-changed : goal.returns-in-AddVersion-clause-changed
 returns-in-AddVersion-clause-changed g c = rw c.in-AddVersion.is c.put.ensures.changed
 

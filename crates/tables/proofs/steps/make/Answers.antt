@@ -1,6 +1,6 @@
 use Rattle.sqlite.specs.Held.{state}
-use Rattle.statements.specs.Changes.{ws_added, ws_removed, versions_removed, runs_removed}
-use Rattle.statements.specs.Tables.{Tables}
+use Rattle.statements.specs.Changes.{ws_added}
+use Rattle.tables.specs.Edits.{removed_rows}
 use Rattle.tables.proofs.KeepMoves.{clean_before, moves_then}
 use Rattle.tables.proofs.steps.make.Goals as goal
 
@@ -9,19 +9,7 @@ returns-clause-changed g c clean inside =
     let org = c.args.org.now in
     let ws = c.args.ws.now in
     let s0 = state g.S.Store c.args.tx.now.conn.now in
-    let s1 = state g.S.Store c.remove_all.new.tx.conn.now in
-    let s2 = state g.S.Store c.remove_all-2.new.tx.conn.now in
-    let s3 = state g.S.Store c.remove.new.tx.conn.now in
-    let s4 = state g.S.Store c.add.new.tx.conn.now in
-    let clean3 = clean_before s3 s4 _ c.add.ensures.survives clean in
-    let clean2 = clean_before s2 s3 _ c.remove.ensures.survives clean3 in
-    let clean1 = clean_before s1 s2 _ c.remove_all-2.ensures.survives clean2 in
-    let one = (c.in_ok-remove_all.ensures.changed clean1 inside).0 in
-    let two = (c.in_ok-remove_all-2.ensures.changed clean2 one.inside).0 in
-    let three = (c.in_ok-remove.ensures.changed clean3 two.inside).0 in
-    let f : Tables → Tables = versions_removed org ws in
-    let h : Tables → Tables = λ t. runs_removed org ws (f t) in
-    let k : Tables → Tables = λ t. ws_removed org ws (h t) in
-    moves_then f (λ t. ws_added org ws c.args.auto (ws_removed org ws (runs_removed org ws t))) s0 s1 s4 c.add.result one
-    (moves_then (runs_removed org ws) (λ t. ws_added org ws c.args.auto (ws_removed org ws t)) s1 s2 s4 c.add.result two
-    (moves_then (ws_removed org ws) (ws_added org ws c.args.auto) s2 s3 s4 c.add.result three (c.add.ensures.changed clean three.inside)))
+    let s1 = state g.S.Store c.remove.new.tx.conn.now in
+    let s2 = state g.S.Store c.add.new.tx.conn.now in
+    let one = (c.in_ok-remove.ensures.changed (clean_before s1 s2 _ c.add.ensures.survives clean) inside).0 in
+    moves_then (removed_rows org ws) (ws_added org ws c.args.auto) s0 s1 s2 c.add.result one (c.add.ensures.changed clean one.inside)

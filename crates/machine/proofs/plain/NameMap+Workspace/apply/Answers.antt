@@ -1,4 +1,4 @@
-use Rattle.std.proofs.Common.{arith, refl, ◌∙◌}
+use Rattle.std.proofs.Common.{arith, refl, sym, ◌∙◌}
 use Rattle.std.proofs.lemmas.Result.{on_ok_weaker}
 use Rattle.machine.proofs.MapLemmas.{place_within, got_at, changed_in_order, changed_at, none_at_gap}
 use Rattle.machine.proofs.PlainLemmas.{workspace_changed, absent_kept}
@@ -13,7 +13,7 @@ invariant_of-self c = changed_in_order _ _ _ c.self.view_is c.self.invariant _ _
 pub returns-in-Ok-clause-ok : goal.returns-in-Ok-clause-ok
 returns-in-Ok-clause-ok c =
     let was = got_at _ _ _ c.self.view_is c.self.invariant _ _ c.in-Ok.ensures.found _ c.index_mut.ensures.value in
-    on_ok_weaker c.change.result (λ is. changed_at _ _ _ c.self.view_is c.self.invariant _ _ c.in-Ok.ensures.found _ c.index_mut.ensures.value _ refl ∙ workspace_changed _ _ c.args.change.now _ _ was is) c.change.ensures.ok
+    on_ok_weaker c.change.result (λ is. changed_at _ _ _ c.self.view_is c.self.invariant _ _ c.in-Ok.ensures.found _ c.index_mut.ensures.value _ refl ∙ workspace_changed _ _ c.args.change.now _ _ was (is (sym c.is_removal.ensures ∙ c.if-is_removal.false))) c.change.ensures.ok
 
 -- nothing changes of what isn't there
 pub returns-in-Configure-clause-ok : goal.returns-in-Configure-clause-ok

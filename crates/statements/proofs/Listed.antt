@@ -1,0 +1,171 @@
+-- The rows of one of our tables in an order with no ties, as a function of typed rows.
+use Rattle.std.proofs.Common.{◌≡◌, inl, inr, ℕ, ◌≤◌, ◌<◌, pos, Bool, false, ◌&&◌, List, [], ◌∷◌, ◌++◌, map, filter, take, length, None, refl, sym, ap, ◌∙◌, subst, arith, Ordering, Less, Equal, int_cmp, is_eq, IsPermutation}
+use Rattle.std.specs.Prelude.{nat_lt}
+use Rattle.std.specs.List.{list_all, AllZip}
+use Rattle.std.specs.Ordering.{ordering_then}
+use Rattle.std.proofs.lemmas.List.{take_all, take-append-le, take-map}
+use Rattle.std.proofs.lemmas.Int.{ints}
+use Rattle.sqlite_value.specs.declared.keys.Collation.TheVariants.{Binary}
+use Rattle.sqlite_value.specs.declared.keys.Key.{Key}
+use Rattle.sqlite_value.specs.declared.value.Value.TheVariants.{Null, Int}
+use Rattle.sqlite_value.specs.Order.{Row, value_cmp}
+use Rattle.sqlite_value.proofs.OrderLemmas.{value_cmp-Int, then-Equal}
+use Rattle.sqlite_trees.specs.Tree.{Trees, IsAscending}
+use Rattle.sqlite_sql.specs.Term.{Term, col, holds, eval_all}
+use Rattle.sqlite_sql.specs.Query.{Query, Output, inner, end, output, output_cmp, page, IsAnswer}
+use Rattle.sqlite_sql.specs.Program.{overlay}
+use Rattle.sqlite_sql.proofs.QueryLemmas.{output_cmp_total}
+use Rattle.sqlite_schema.specs.declared.schema.Schema.{Schema}
+use Rattle.sqlite_schema.specs.declared.schema.Table.{Table}
+use Rattle.sqlite_schema.specs.declared.command.Command.TheVariants.{Select}
+use Rattle.sqlite.specs.State.{State, Shown, Begins}
+use Rattle.sqlite.proofs.Callers.{reads_as, begins_as}
+use Rattle.sqlite_keyed.specs.Keyed.{IsKeyedBy}
+use Rattle.sqlite_keyed.specs.Lists.{sort_by}
+use Rattle.sqlite_keyed.proofs.ListLemmas.{map-map, filter-map, ascending-map, ascending_from_map, ascending_weaker, ascending-filter}
+use Rattle.sqlite_keyed.proofs.SortLemmas.{HasNoTies, sorted_is-sort_by, sort_by-map}
+use Rattle.sqlite_typed.proofs.AnswerLemmas.{Source, last_table, at_end, matches_are}
+use Rattle.statements.specs.Place.{tree_of, IsOwn}
+use Rattle.statements.specs.Rows.{Kept, id_of, stored}
+use Rattle.statements.specs.Queries.{FirstRows}
+use Rattle.statements.specs.Listings.{Rise}
+use Rattle.statements.proofs.Meaning.{Means}
+use Rattle.statements.proofs.Writes.{plain_program}
+use Rattle.statements.proofs.Own.{stored_tree}
+use Rattle.statements.proofs.Sorting.{filter_both, sorted_already}
+
+-- a query for rows of one table in the order of a column
+abbrev pub sorted_by : ℕ → List (Term × Key)
+sorted_by column = (col 1 column, record { collation = Binary; descending = false }) ∷ []
+
+abbrev pub listing : Query → ℕ → ℕ → Query
+listing rest tree column = record rest { from = inner tree end; group = None; distinct = false; order = sorted_by column }
+
+module _ {R : Type 0} (cells : R → Row) (db : Trees) (tree : ℕ) (xs : List (Kept R)) (held : db tree ≡ map (stored cells) xs) (keyed : IsKeyedBy id_of xs)
+    (rest : Query) (column : ℕ) (params : Row) (p : Kept R → Bool) (tests : (x : Kept R) → list_all (holds (params ∷ stored cells x ∷ [])) rest.filter ≡ p x) where
+  abbrev q : Query
+  q = listing rest tree column
+
+  abbrev source : Source db (inner tree end) (Kept R)
+  source = last_table db tree (stored cells) id_of xs held keyed (at_end db)
+
+  abbrev out : Kept R → Output
+  out x = output q (params ∷ stored cells x ∷ [])
+
+  abbrev show : Kept R → Row
+  show x = eval_all rest.project (params ∷ stored cells x ∷ [])
+
+  arranged : (rows : List Row) (a : IsAnswer q db params rows) → IsPermutation (map out (filter p xs)) a.ordered
+  arranged rows a = subst (λ l. IsPermutation l a.ordered) (a.distinct ∙ ap (map (output q)) (a.grouped ∙ matches_are q db params source p tests) ∙ map-map (output q) _ _) a.same
+
+  module _ (order : Kept R → Kept R → Ordering) (is : (x y : Kept R) → output_cmp q (out x) (out y) ≡ order x y) (apart : IsAscending (λ x y. is_eq (order x y) ≡ false) (filter p xs)) where
+    in_order : (rows : List Row) (a : IsAnswer q db params rows) → a.ordered ≡ map out (sort_by order (filter p xs))
+    in_order rows a =
+        let untied : HasNoTies (output_cmp q) (output_cmp_total q) (map out (filter p xs)) =
+        ascending-map (λ x y. is_eq (output_cmp q x y) ≡ false) out (filter p xs) (subst (λ (o : Kept R → Kept R → Ordering). IsAscending (λ x y. is_eq (o x y) ≡ false) (filter p xs)) (λ i x y. sym (is x y) i) apart) in
+        sorted_is-sort_by (output_cmp q) (output_cmp_total q) _ a.ordered untied (arranged rows a) a.sorted
+        ∙ sort_by-map (output_cmp q) out (filter p xs) ∙ (λ i. map out (sort_by (λ x y. is x y i) (filter p xs)))
+
+    pub listed_is : ((l : List Row) → page q params l ≡ l) → (rows : List Row) → IsAnswer q db params rows → rows ≡ map show (sort_by order (filter p xs))
+    listed_is whole rows a = a.shown ∙ whole _ ∙ ap (map (λ (o : Output). o.1)) (in_order rows a) ∙ map-map (λ (o : Output). o.1) out _
+
+module _ {X : Type 0} where
+  pub front_is : (n : ℕ) (xs ys all : List X) → all ≡ xs ++ ys → length xs ≡ n → xs ≡ take n all
+  front_is n xs ys all is long = sym (ap (take n) is ∙ take-append-le n xs ys (omega (arith, long)) ∙ take_all n xs (omega (arith, long)))
+
+  pub whole_is : (n : ℕ) (xs all : List X) → all ≡ xs → length xs ≤ n → xs ≡ take n all
+  whole_is n xs all is long = sym (ap (take n) is ∙ take_all n xs long)
+
+-- rows that are read as values are read as these
+pub read_as : {A X : Type 0} (Is : Row → X → Type 0) (show : A → Row) (val : A → X) → ((x : A) (y : X) → Is (show x) y → y ≡ val x) → (zs : List A) (rows : List Row) (xs : List X)
+    → rows ≡ map show zs → AllZip Is rows xs → xs ≡ map val zs
+read_as Is show val back [] [] [] e all = refl
+read_as Is show val back [] [] (x ∷ xs) e all = absurd all
+read_as Is show val back [] (r ∷ rows) xs e all = absurd (cc)
+read_as Is show val back (z ∷ zs) [] xs e all = absurd (cc)
+read_as Is show val back (z ∷ zs) (r ∷ rows) [] e all = absurd all
+read_as Is show val back (z ∷ zs) (r ∷ rows) (x ∷ xs) e all =
+    let here : r ≡ show z = cc in
+    let more : rows ≡ map show zs = cc in
+    λ i. back z x (subst (λ l. Is l x) here all.0) i ∷ read_as Is show val back zs rows xs more all.1 i
+
+module _ (text : List ℕ) (params : Row) (old new : State) (q : Query) (names : List (List ℕ)) (m : Means old.now.schema (Select (plain_program q) names) text) where
+  begun : (rows : List Row) → Begins text params old rows → (tail : List Row) × IsAnswer q (overlay old.now.trees []) params (rows ++ tail)
+  begun rows h = let got = (begins_as text params old new old.now.schema refl (Select (plain_program q) names) m.0 m.1 m.2 rows h).1 in (got.0, got.1 Null)
+
+  shown : (rows : List Row) → Shown text params old new rows → IsAnswer q (overlay old.now.trees []) params rows
+  shown rows h = (reads_as text params old new old.now.schema refl (Select (plain_program q) names) m.0 m.1 m.2 rows h).answer Null
+
+  pub first_listed : (most : ℕ) (rows all : List Row) → ((l : List Row) → IsAnswer q (overlay old.now.trees []) params l → l ≡ all) → FirstRows most text params old new rows → rows ≡ take most all
+  first_listed most rows all is (inl h) = let got = begun rows h.0 in front_is most rows got.0 all (sym (is (rows ++ got.0) got.1)) h.1
+  first_listed most rows all is (inr h) = whole_is most rows all (sym (is rows (shown rows h.0))) h.1
+
+  pub all_listed : (rows all : List Row) → ((l : List Row) → IsAnswer q (overlay old.now.trees []) params l → l ≡ all) → Shown text params old new rows → rows ≡ all
+  all_listed rows all is h = is rows (shown rows h)
+
+module _ {R : Type 0} (cells : R → Row) (table : Table) (old new : State) (own : IsOwn old.now.schema table)
+    (xs : List (Kept R)) (held : old.now.trees (tree_of old.now.schema table.name) ≡ map (stored cells) xs) (keyed : IsKeyedBy id_of xs) (text : List ℕ) (params : Row)
+    (rest : Query) (column : ℕ) (names : List (List ℕ)) (p : Kept R → Bool) (tests : (x : Kept R) → list_all (holds (params ∷ stored cells x ∷ [])) rest.filter ≡ p x) where
+  abbrev s : Schema
+  s = old.now.schema
+
+  abbrev here : ℕ
+  here = tree_of s table.name
+
+  abbrev sees : Kept R → Row
+  sees x = eval_all rest.project (params ∷ stored cells x ∷ [])
+
+  module _ (order : Kept R → Kept R → Ordering) (is : (x y : Kept R) → output_cmp (listing rest here column) (output (listing rest here column) (params ∷ stored cells x ∷ [])) (output (listing rest here column) (params ∷ stored cells y ∷ [])) ≡ order x y)
+      (apart : IsAscending (λ x y. is_eq (order x y) ≡ false) (filter p xs)) (means : Means s (Select (plain_program (listing rest here column)) names) text) (whole : (l : List Row) → page (listing rest here column) params l ≡ l)
+      {X : Type 0} (Is : Row → X → Type 0) (val : Kept R → X) (back : (x : Kept R) (y : X) → Is (sees x) y → y ≡ val x) where
+    only : (l : List Row) → IsAnswer (listing rest here column) (overlay old.now.trees []) params l → l ≡ map sees (sort_by order (filter p xs))
+    only = listed_is cells (overlay old.now.trees []) here xs (stored_tree old.now.trees here own.place.low ∙ held) keyed rest column params p tests order is apart whole
+
+    pub first_rows_are : (most : ℕ) (rows : List Row) → FirstRows most text params old new rows → rows ≡ take most (map sees (sort_by order (filter p xs)))
+    first_rows_are most rows h = first_listed text params old new (listing rest here column) names means most rows _ only h
+
+    pub all_rows_are : (rows : List Row) → Shown text params old new rows → rows ≡ map sees (sort_by order (filter p xs))
+    all_rows_are rows h = all_listed text params old new (listing rest here column) names means rows _ only h
+
+-- ---- rows whose numbers rise
+
+pub by_column : (m n : ℕ) → ordering_then (value_cmp (Int (pos m)) (Int (pos n))) Equal ≡ int_cmp (pos m) (pos n)
+by_column m n = then-Equal _ ∙ value_cmp-Int (pos m) (pos n)
+
+below : (m n : ℕ) → m < n → int_cmp (pos m) (pos n) ≡ Less
+below m n low = grind (arith, ints)
+
+-- a list of rows above a number, which were numbered in the order of the rows
+module _ {R : Type 0} (cells : R → Row) (table : Table) (old new : State) (own : IsOwn old.now.schema table)
+    (xs : List (Kept R)) (held : old.now.trees (tree_of old.now.schema table.name) ≡ map (stored cells) xs) (keyed : IsKeyedBy id_of xs) (text : List ℕ) (params : Row)
+    (rest : Query) (column : ℕ) (names : List (List ℕ)) {X : Type 0} (Is : Row → X → Type 0) (number_of : X → ℕ) (val : Kept R → X) (mine : Kept R → Bool) (after : ℕ)
+    (tests : (x : Kept R) → list_all (holds (params ∷ stored cells x ∷ [])) rest.filter ≡ (mine x && nat_lt after (number_of (val x))))
+    (back : (x : Kept R) (y : X) → Is (eval_all rest.project (params ∷ stored cells x ∷ [])) y → y ≡ val x) where
+  abbrev num : Kept R → ℕ
+  num x = number_of (val x)
+
+  abbrev place : ℕ
+  place = tree_of old.now.schema table.name
+
+  abbrev numbered : Kept R → Kept R → Ordering
+  numbered x y = int_cmp (pos (num x)) (pos (num y))
+
+  rising : Rise (map num (filter mine xs)) → IsAscending (λ x y. numbered x y ≡ Less) (filter (λ x. mine x && nat_lt after (num x)) xs)
+  rising up =
+      let all = ascending_from_map (λ m n. m < n) num (filter mine xs) up in
+      let less = ascending_weaker (λ x y. num x < num y) (λ x y. numbered x y ≡ Less) (λ x y low. below (num x) (num y) low) (filter mine xs) all in
+      subst (IsAscending (λ x y. numbered x y ≡ Less)) (sym (filter_both mine (λ x. nat_lt after (num x)) xs)) (ascending-filter (λ x y. numbered x y ≡ Less) (λ x. nat_lt after (num x)) (filter mine xs) less)
+
+  pub numbered_are : ((x y : Kept R) → output_cmp (listing rest place column) (output (listing rest place column) (params ∷ stored cells x ∷ [])) (output (listing rest place column) (params ∷ stored cells y ∷ [])) ≡ numbered x y)
+      → Means old.now.schema (Select (plain_program (listing rest place column)) names) text → ((l : List Row) → page (listing rest place column) params l ≡ l)
+      → (most : ℕ) (rows : List Row) (ys : List X) → Rise (map num (filter mine xs)) → FirstRows most text params old new rows → AllZip Is rows ys
+      → ys ≡ take most (filter (λ y. nat_lt after (number_of y)) (map val (filter mine xs)))
+  numbered_are is means whole most rows ys up first read =
+      let p = λ (x : Kept R). mine x && nat_lt after (num x) in
+      let show = λ (x : Kept R). eval_all rest.project (params ∷ stored cells x ∷ []) in
+      let less = rising up in
+      let apart = ascending_weaker (λ x y. numbered x y ≡ Less) (λ x y. is_eq (numbered x y) ≡ false) (λ x y h. ap is_eq h) (filter p xs) less in
+      let sorted = first_rows_are cells table old new own xs held keyed text params rest column names p tests numbered is apart means whole Is val back most rows first in
+      let taken : rows ≡ map show (take most (filter p xs)) = sorted ∙ ap (λ l. take most (map show l)) (sorted_already numbered (filter p xs) less) ∙ take-map show most (filter p xs) in
+      read_as Is show val back (take most (filter p xs)) rows ys taken read ∙ sym (take-map val most (filter p xs))
+      ∙ ap (λ l. take most (map val l)) (filter_both mine (λ x. nat_lt after (num x)) xs) ∙ ap (take most) (sym (filter-map (λ y. nat_lt after (number_of y)) val (filter mine xs)))

@@ -1,0 +1,77 @@
+-- What each list reads of the rows, and the law of the rows under which it does.
+use Rattle.std.specs.Prelude.{◌<◌, ℕ, Bool, List, map, filter, length, take, nat_lt}
+use Rattle.std.specs.declared.cmp.Ordering.{Ordering}
+use Rattle.std.specs.Ordering.{nat_cmp, is_lt}
+use Rattle.std.specs.Cmp.Lexicographic.{slice_cmp}
+use Rattle.std.specs.FinMap.{FinMap, from_entries, entries}
+use Rattle.sqlite_trees.specs.Tree.{IsAscending}
+use Rattle.sqlite_keyed.specs.Rules.{AreApart}
+use Rattle.statements.specs.declared.rows.Workspace.{Workspace}
+use Rattle.statements.specs.declared.rows.NamedWorkspace.{NamedWorkspace}
+use Rattle.statements.specs.declared.rows.VersionHead.{VersionHead}
+use Rattle.statements.specs.declared.rows.Run.{Run}
+use Rattle.statements.specs.declared.rows.Organization.{Organization}
+use Rattle.statements.specs.Rows.{Version}
+use Rattle.statements.specs.Tables.{Tables}
+use Rattle.statements.specs.Changes.{is_org, is_ws_of, is_ws, is_version_of, is_run_of}
+
+-- the order of names: that of their bytes
+abbrev pub name_cmp : List ℕ → List ℕ → Ordering
+name_cmp = slice_cmp nat_cmp
+
+abbrev pub comes_after : List ℕ → List ℕ → Bool
+comes_after a name = is_lt (name_cmp a name)
+
+-- each number is below all that follow
+abbrev pub Rise : List ℕ → Type 0
+Rise = IsAscending (λ m n. m < n)
+
+-- ---- organizations
+
+abbrev pub caps : Tables → FinMap name_cmp ℕ
+caps t = from_entries (map (λ x. (x.1.name, x.1.cap)) t.orgs)
+
+abbrev pub organization_at : List ℕ × ℕ → Organization
+organization_at e = record { name = e.0; cap = e.1 }
+
+-- in the order of their names
+abbrev pub organizations_in : Tables → List Organization
+organizations_in t = map organization_at (entries (caps t))
+
+abbrev pub OrgsApart : Tables → Type 0
+OrgsApart t = AreApart (λ a b. is_org a.1.name b) t.orgs
+
+-- ---- workspaces
+
+abbrev pub workspaces_by_name : List ℕ → Tables → FinMap name_cmp Workspace
+workspaces_by_name org t = from_entries (map (λ x. (x.1.name, x.1.it)) (filter (is_ws_of org) t.wss))
+
+abbrev pub workspace_at : List ℕ × Workspace → NamedWorkspace
+workspace_at e = record { name = e.0; it = e.1 }
+
+-- those of an organization that come after a name, in the order of their names, no more than so many
+abbrev pub workspaces_after : List ℕ → List ℕ → ℕ → Tables → List NamedWorkspace
+workspaces_after org after most t = take most (map workspace_at (filter (λ e. comes_after after e.0) (entries (workspaces_by_name org t))))
+
+abbrev pub WorkspacesApart : Tables → Type 0
+WorkspacesApart t = AreApart (λ a b. is_ws a.1.org a.1.name b) t.wss
+
+-- ---- versions
+
+abbrev pub version_head_of : Version → VersionHead
+version_head_of v = record { number = v.number; serial = v.serial; lineage = v.lineage; created = v.created; size = length v.body }
+
+-- those of a workspace whose numbers are above this one, no more than so many
+abbrev pub versions_after : List ℕ → List ℕ → ℕ → ℕ → Tables → List VersionHead
+versions_after org ws after most t = take most (filter (λ v. nat_lt after v.number) (map (λ x. version_head_of x.1.it) (filter (is_version_of org ws) t.versions)))
+
+abbrev pub VersionsRise : List ℕ → List ℕ → Tables → Type 0
+VersionsRise org ws t = Rise (map (λ x. x.1.it.number) (filter (is_version_of org ws) t.versions))
+
+-- ---- runs
+
+abbrev pub runs_after : List ℕ → List ℕ → ℕ → ℕ → Tables → List Run
+runs_after org ws after most t = take most (filter (λ r. nat_lt after r.number) (map (λ x. x.1.it) (filter (is_run_of org ws) t.runs)))
+
+abbrev pub RunsRise : List ℕ → List ℕ → Tables → Type 0
+RunsRise org ws t = Rise (map (λ x. x.1.it.number) (filter (is_run_of org ws) t.runs))

@@ -1,0 +1,80 @@
+-- An organization with another limit.
+use Rattle.std.proofs.Common.{◌≡◌, ◌≢◌, ℕ, ◌≤◌, Bool, true, false, List, find, Option, Some, None, option_map, refl, sym, ap, subst, ◌∙◌}
+use Rattle.std.specs.Str.{bytes_eq}
+use Rattle.std.specs.List.{list_any}
+use Rattle.sqlite_keyed.specs.Lists.{update_where}
+use Rattle.sqlite_keyed.proofs.ListLemmas.{all_weaker}
+use Rattle.sqlite_keyed.proofs.RuleLemmas.{apart_update}
+use Rattle.machine.specs.Effects.{effect}
+use Rattle.machine.specs.Records.{count_of}
+use Rattle.machine.specs.Tokens.{with_limit, org_limited}
+use Rattle.machine.specs.declared.keeps.AdminAnswer.TheVariants.{Done, Absent}
+use Rattle.machine.specs.declared.records.Organization.{Organization}
+use Rattle.statements.specs.Rows.{Kept, OrgRow}
+use Rattle.statements.specs.Tables.{Tables}
+use Rattle.statements.specs.Changes.{is_org, org_capped}
+use Rattle.statements.specs.Finds.{cap_of}
+use Rattle.tables.specs.Records.{organization_at, record_of}
+use Rattle.tables.specs.Sound.{IsOrgRow, IsSound}
+use Rattle.tables.proofs.Names.{same_name, apart_name, names_apart}
+use Rattle.tables.proofs.Lists.{find_changed, find_unchanged}
+use Rattle.tables.proofs.Sets.{one_of}
+use Rattle.tables.proofs.Owned.{all_updated, any_updated}
+use Rattle.tables.proofs.Operators.{record_there, record_missing}
+
+module _ (org : List ℕ) (limit : ℕ) where
+  abbrev recapped : Kept OrgRow → Kept OrgRow
+  recapped x = (x.0, record x.1 { cap = limit })
+
+  limit_of_row : (o : Option (Kept OrgRow)) (cap : ℕ) → option_map (λ (x : Kept OrgRow). x.1.cap) o ≡ Some cap → option_map (λ (x : Kept OrgRow). x.1.cap) (option_map recapped o) ≡ Some limit
+  limit_of_row None cap e = absurd (let none : ⊥ = cc in none)
+  limit_of_row (Some x) cap e = refl
+
+  module _ (t : Tables) where
+    cap_set : (cap : ℕ) → cap_of org t ≡ Some cap → cap_of org (org_capped org limit t) ≡ Some limit
+    cap_set cap there = ap (option_map (λ (x : Kept OrgRow). x.1.cap)) (find_changed (is_org org) recapped (λ x. refl) t.orgs) ∙ limit_of_row (find (is_org org) t.orgs) cap there
+
+    cap_stays : (q : List ℕ) → q ≢ org → cap_of q (org_capped org limit t) ≡ cap_of q t
+    cap_stays q apart = ap (option_map (λ (x : Kept OrgRow). x.1.cap))
+        (find_unchanged (is_org q) (is_org org) (λ x e. apart_name x.1.name q (λ same. apart (sym same ∙ same_name x.1.name org e))) recapped (λ x. refl) t.orgs)
+
+    pub limit_absent : cap_of org t ≡ None → effect Absent (record_of t org) ≡ org_limited limit (record_of t org)
+    limit_absent e = subst (λ (r : Option Organization). effect Absent r ≡ org_limited limit r) (sym (record_missing t org e)) refl
+
+    pub limit_other : (q : List ℕ) → q ≢ org → record_of (org_capped org limit t) q ≡ record_of t q
+    limit_other q apart = ap (option_map (organization_at t q)) (cap_stays q apart)
+
+    module _ (cap : ℕ) (there : cap_of org t ≡ Some cap) where
+      limit_own : record_of (org_capped org limit t) org ≡ Some (with_limit (organization_at t org cap) limit)
+      limit_own = ap (option_map (organization_at t org)) (cap_set cap there)
+
+      -- what the organization has stays, and its limit is the new one
+      pub limit_done : effect Done (record_of (org_capped org limit t) org) ≡ org_limited limit (record_of t org)
+      limit_done = ap (effect Done) limit_own ∙ sym (ap (org_limited limit) (record_there t org cap there))
+
+      -- it leaves sound tables sound
+      pub limit_keeps : IsSound t → limit ≤ 100_000 → IsSound (org_capped org limit t)
+      limit_keeps sound most = record {
+        orgs_apart = apart_update (λ a b. is_org a.1.name b) (is_org org) recapped (λ a b. refl) (λ a b. refl) t.orgs sound.orgs_apart;
+        tokens_apart = sound.tokens_apart;
+        digests_apart = sound.digests_apart;
+        wss_apart = sound.wss_apart;
+        tokens_owned = all_weaker (λ x. list_any (is_org x.1.org) t.orgs ≡ true) (λ x. list_any (is_org x.1.org) (update_where (is_org org) recapped t.orgs) ≡ true) (λ x h. still x.1.org ∙ h) t.tokens sound.tokens_owned;
+        wss_owned = all_weaker (λ x. list_any (is_org x.1.org) t.orgs ≡ true) (λ x. list_any (is_org x.1.org) (update_where (is_org org) recapped t.orgs) ≡ true) (λ x h. still x.1.org ∙ h) t.wss sound.wss_owned;
+        versions_owned = sound.versions_owned;
+        runs_owned = sound.runs_owned;
+        org_rows = all_updated IsOrgRow (is_org org) recapped (λ x is. record { named = is.named; limit = most }) t.orgs sound.org_rows;
+        token_rows = sound.token_rows;
+        counts = λ q o e. within q o e (bytes_eq q org) refl;
+        workspaces = sound.workspaces;
+        versions = sound.versions;
+      }
+        where
+          still : (q : List ℕ) → list_any (is_org q) (update_where (is_org org) recapped t.orgs) ≡ list_any (is_org q) t.orgs
+          still q = any_updated (is_org q) (is_org org) recapped (λ x. refl) t.orgs
+
+          within : (q : List ℕ) (o : Organization) → record_of (org_capped org limit t) q ≡ Some o → (c : Bool) → bytes_eq q org ≡ c → count_of o ≤ 100_000
+          within q o e true same =
+              let here : record_of (org_capped org limit t) org ≡ Some o = subst (λ (x : List ℕ). record_of (org_capped org limit t) x ≡ Some o) (same_name q org same) e in
+              subst (λ (r : Organization). count_of r ≤ 100_000) (one_of (with_limit (organization_at t org cap) limit) o (sym limit_own ∙ here)) (sound.counts org (organization_at t org cap) (record_there t org cap there))
+          within q o e false other = sound.counts q o (sym (limit_other q (names_apart q org other)) ∙ e)

@@ -1,0 +1,183 @@
+-- What the lists of a workspace's versions and runs, and of an organization's workspaces, show of the record.
+use Rattle.std.proofs.Common.{◌≡◌, ℕ, ◌<◌, ◌≤◌, nat_lt, true, List, [], ◌∷◌, map, filter, take, Option, Some, None, option_map, IsTrue, refl, sym, ap, subst, ◌∙◌, arith, length}
+use Rattle.std.specs.Option.{unwrap_or}
+use Rattle.std.specs.List.{AllByRecursion}
+use Rattle.std.specs.FinMap.{from_entries, entries, get, entries_sorted, get-entries, get-from_entries}
+use Rattle.std.specs.FinMap.Entries.{find as find_entry}
+use Rattle.std.proofs.lemmas.List.{take-map}
+use Rattle.sqlite_keyed.proofs.ListLemmas.{all_weaker}
+use Rattle.sqlite_trees.specs.Tree.{IsAscending}
+use Rattle.basis.specs.Names.{is_ws_name}
+use Rattle.basis.specs.Listings.{listing_of}
+use Rattle.machine.specs.Order.{name_cmp}
+use Rattle.machine.specs.Records.{workspace_in as seen_workspace}
+use Rattle.machine.specs.Showing as showing
+use Rattle.machine.specs.Workspaces.{newest}
+use Rattle.machine.specs.declared.records.Version.{Version}
+use Rattle.machine.specs.declared.records.Run.{Run}
+use Rattle.machine.specs.declared.records.Workspace.{Workspace}
+use Rattle.machine.proofs.MapLemmas.{names_total}
+use Rattle.statements.specs.declared.rows.Head.{Head}
+use Rattle.statements.specs.declared.rows.Workspace.{Workspace as WorkspaceCells}
+use Rattle.statements.specs.Rows.{Kept, WsRow, VersionRow, RunRow}
+use Rattle.statements.specs.Tables.{Tables}
+use Rattle.statements.specs.Changes.{is_ws_of, is_version_of, is_run_of}
+use Rattle.statements.specs.Finds.{cap_of, workspace_of}
+use Rattle.statements.specs.Listings.{comes_after, workspaces_by_name, workspace_at as named_at, version_head_of, VersionsRise, RunsRise}
+use Rattle.tables.specs.Records.{holder_in, version_in, run_in, versions_at, runs_at, workspace_at, workspaces_at, organization_at, record_of}
+use Rattle.tables.specs.Sound.{IsSound}
+use Rattle.tables.specs.KeepLists.{version_row_in, versions_listed_in, run_row_in, runs_listed_in, ws_row_in, workspaces_listed_in}
+use Rattle.tables.proofs.Sets.{entry_found}
+use Rattle.tables.proofs.Operators.{no_workspaces}
+use Rattle.tables.proofs.Finding.{newest_found, no_versions, no_runs, seen_in_rows}
+use Rattle.tables.proofs.Ranks.{rising, none_after, first_rows_tell, shown_rows, every, same_names, no_entries, all_found, entries_shown}
+
+-- the list of the first rows is the list of all
+listed_all : {A B : Type 0} (f : A → B) (xs : List A) → listing_of (map f (take 51 xs)) ≡ listing_of (map f xs)
+listed_all f xs = ap listing_of (sym (take-map f 51 xs)) ∙ first_rows_tell (map f xs)
+
+-- ---- versions and runs
+
+abbrev version_numbers : List Version → List ℕ
+version_numbers vs = map (λ (v : Version). v.number) vs
+
+abbrev run_numbers : List Run → List ℕ
+run_numbers rs = map (λ (r : Run). r.number) rs
+
+module _ (t : Tables) (org ws : List ℕ) where
+  mine : List (Kept VersionRow)
+  mine = filter (is_version_of org ws) t.versions
+
+  own_runs : List (Kept RunRow)
+  own_runs = filter (is_run_of org ws) t.runs
+
+  versions_rows : (after : ℕ) → versions_listed_in after org ws t ≡ showing.versions_listed after (versions_at t org ws)
+  versions_rows after =
+      listed_all version_row_in (filter (λ v. nat_lt after v.number) (map (λ (x : Kept VersionRow). version_head_of x.1.it) (filter (is_version_of org ws) t.versions)))
+      ∙ ap listing_of (shown_rows (λ (x : Kept VersionRow). version_head_of x.1.it) version_row_in (λ (x : Kept VersionRow). version_in x.1.it) showing.version_row (λ v. nat_lt after v.number) (λ (v : Version). nat_lt after v.number) (λ x. refl)
+      (filter (is_version_of org ws) t.versions) (every _ (λ x. refl) (filter (is_version_of org ws) t.versions)))
+
+  runs_rows : (after : ℕ) → runs_listed_in after org ws t ≡ showing.runs_listed after (runs_at t org ws)
+  runs_rows after =
+      listed_all run_row_in (filter (λ r. nat_lt after r.number) (map (λ (x : Kept RunRow). x.1.it) (filter (is_run_of org ws) t.runs)))
+      ∙ ap listing_of (shown_rows (λ (x : Kept RunRow). x.1.it) run_row_in (λ (x : Kept RunRow). run_in x.1.it) showing.run_row (λ r. nat_lt after r.number) (λ (r : Run). nat_lt after r.number) (λ x. refl)
+      (filter (is_run_of org ws) t.runs) (every _ (λ x. refl) (filter (is_run_of org ws) t.runs)))
+
+  module _ (sound : IsSound t) where
+    versions_row : (after : ℕ) (r : Option WorkspaceCells) → workspace_of org ws t ≡ r → showing.versions_listed after (versions_at t org ws) ≡ showing.versions_after after (option_map (workspace_at t org ws) r)
+    versions_row after None e = ap (showing.versions_listed after) (no_versions t sound org ws e)
+    versions_row after (Some w) e = refl
+
+    -- the list of the versions is that of the record
+    pub versions_told : (after : ℕ) → versions_listed_in after org ws t ≡ showing.versions_after after (seen_workspace (record_of t org) ws)
+    versions_told after = versions_rows after ∙ versions_row after (workspace_of org ws t) refl ∙ ap (showing.versions_after after) (sym (seen_in_rows t sound org ws))
+
+    runs_row : (after : ℕ) (r : Option WorkspaceCells) → workspace_of org ws t ≡ r → showing.runs_listed after (runs_at t org ws) ≡ showing.runs_after after (option_map (workspace_at t org ws) r)
+    runs_row after None e = ap (showing.runs_listed after) (no_runs t sound org ws e)
+    runs_row after (Some w) e = refl
+
+    -- the list of the runs is that of the record
+    pub runs_told : (after : ℕ) → runs_listed_in after org ws t ≡ showing.runs_after after (seen_workspace (record_of t org) ws)
+    runs_told after = runs_rows after ∙ runs_row after (workspace_of org ws t) refl ∙ ap (showing.runs_after after) (sym (seen_in_rows t sound org ws))
+
+    -- their numbers rise in the order of their rows
+    pub versions_rise : VersionsRise org ws t
+    versions_rise = subst (IsAscending (λ (m n : ℕ). m < n)) (same_names (λ (x : Kept VersionRow). version_in x.1.it) (λ (v : Version). v.number) (λ (x : Kept VersionRow). x.1.it.number) (λ x. refl) (filter (is_version_of org ws) t.versions)) (by_row (workspace_of org ws t) refl)
+      where
+        by_row : (r : Option WorkspaceCells) → workspace_of org ws t ≡ r → IsAscending (λ (m n : ℕ). m < n) (version_numbers (versions_at t org ws))
+        by_row None e = subst (λ (vs : List Version). IsAscending (λ (m n : ℕ). m < n) (version_numbers vs)) (sym (no_versions t sound org ws e)) tt
+        by_row (Some w) e = rising 0 w.next_version (version_numbers (versions_at t org ws)) (sound.workspaces org ws (workspace_at t org ws w) (ap (option_map (workspace_at t org ws)) e)).lawful.versions.rise
+
+    pub runs_rise : RunsRise org ws t
+    runs_rise = subst (IsAscending (λ (m n : ℕ). m < n)) (same_names (λ (x : Kept RunRow). run_in x.1.it) (λ (r : Run). r.number) (λ (x : Kept RunRow). x.1.it.number) (λ x. refl) (filter (is_run_of org ws) t.runs)) (by_row (workspace_of org ws t) refl)
+      where
+        by_row : (r : Option WorkspaceCells) → workspace_of org ws t ≡ r → IsAscending (λ (m n : ℕ). m < n) (run_numbers (runs_at t org ws))
+        by_row None e = subst (λ (rs : List Run). IsAscending (λ (m n : ℕ). m < n) (run_numbers rs)) (sym (no_runs t sound org ws e)) tt
+        by_row (Some w) e = rising 0 w.next_run (run_numbers (runs_at t org ws)) (sound.workspaces org ws (workspace_at t org ws w) (ap (option_map (workspace_at t org ws)) e)).lawful.runs.rise
+
+    -- none comes after the greatest number
+    pub no_versions_after : (after : ℕ) → 1_000_000_000 < after → listing_of [] ≡ showing.versions_after after (seen_workspace (record_of t org) ws)
+    no_versions_after after beyond = by_row (workspace_of org ws t) refl ∙ ap (showing.versions_after after) (sym (seen_in_rows t sound org ws))
+      where
+        by_row : (r : Option WorkspaceCells) → workspace_of org ws t ≡ r → listing_of [] ≡ showing.versions_after after (option_map (workspace_at t org ws) r)
+        by_row None e = refl
+        by_row (Some w) e =
+            let lawful = (sound.workspaces org ws (workspace_at t org ws w) (ap (option_map (workspace_at t org ws)) e)).lawful.versions in
+            let most : w.next_version ≤ 1_000_000_001 = lawful.next.1 in
+            sym (ap (λ (vs : List Version). listing_of (map showing.version_row vs)) (none_after (λ (v : Version). v.number) 0 w.next_version after (versions_at t org ws) lawful.rise (omega (arith, most, beyond))))
+
+    pub no_runs_after : (after : ℕ) → 1_000_000_000 < after → listing_of [] ≡ showing.runs_after after (seen_workspace (record_of t org) ws)
+    no_runs_after after beyond = by_row (workspace_of org ws t) refl ∙ ap (showing.runs_after after) (sym (seen_in_rows t sound org ws))
+      where
+        by_row : (r : Option WorkspaceCells) → workspace_of org ws t ≡ r → listing_of [] ≡ showing.runs_after after (option_map (workspace_at t org ws) r)
+        by_row None e = refl
+        by_row (Some w) e =
+            let lawful = (sound.workspaces org ws (workspace_at t org ws w) (ap (option_map (workspace_at t org ws)) e)).lawful.runs in
+            let most : w.next_run ≤ 1_000_000_001 = lawful.next.1 in
+            sym (ap (λ (rs : List Run). listing_of (map showing.run_row rs)) (none_after (λ (r : Run). r.number) 0 w.next_run after (runs_at t org ws) lawful.rise (omega (arith, most, beyond))))
+
+-- ---- workspaces
+
+number_shown : (o : Option Version) → option_map (λ (h : Head). h.number) (option_map (λ (v : Version). record { number = v.number; serial = v.serial; lineage = v.lineage; size = length v.text }) o) ≡ option_map (λ (v : Version). v.number) o
+number_shown None = refl
+number_shown (Some v) = refl
+
+comes_after_all : (name : List ℕ) → IsTrue (is_ws_name name) → comes_after [] name ≡ true
+comes_after_all [] named = absurd (let none : ⊥ = cc in none)
+comes_after_all (c ∷ cs) named = refl
+
+module _ (t : Tables) (org : List ℕ) where
+  abbrev by_name : List (List ℕ × WorkspaceCells)
+  by_name = entries (workspaces_by_name org t)
+
+  -- a row as it is shown is the workspace as it is shown
+  row_shown : (e : List ℕ × WorkspaceCells) → ws_row_in org t (named_at e) ≡ showing.row_of e.0 (showing.shown_of (workspace_at t org e.0 e.1))
+  row_shown e =
+      ap (λ (version : Option ℕ). record { auto_apply = e.1.auto; holder = showing.holder_id (holder_in e.1.holder); name = e.0; version = version })
+      (ap (option_map (λ (h : Head). h.number)) (newest_found t org e.0) ∙ number_shown (newest (versions_at t org e.0)))
+
+  record_entries : entries (workspaces_at t org) ≡ map (λ (e : List ℕ × WorkspaceCells). (e.0, workspace_at t org e.0 e.1)) (entries (workspaces_by_name org t))
+  record_entries = entries_shown (λ (n : List ℕ) (w : WorkspaceCells). workspace_at t org n w) (λ (x : Kept WsRow). x.1.name) (λ (x : Kept WsRow). x.1.it) (filter (is_ws_of org) t.wss)
+
+  row_of_name : (q : List ℕ) → get (workspaces_by_name org t) q ≡ workspace_of org q t
+  row_of_name q =
+      get-from_entries names_total (map (λ (x : Kept WsRow). (x.1.name, x.1.it)) (filter (is_ws_of org) t.wss)) q
+      ∙ entry_found (is_ws_of org) (λ (x : Kept WsRow). x.1.name) (λ (x : Kept WsRow). x.1.it) q t.wss
+
+  module _ (sound : IsSound t) where
+    -- each name is one
+    are_named : AllByRecursion (λ (e : List ℕ × WorkspaceCells). IsTrue (is_ws_name e.0)) (entries (workspaces_by_name org t))
+    are_named = all_weaker (λ (e : List ℕ × WorkspaceCells). find_entry name_cmp e.0 (entries (workspaces_by_name org t)) ≡ Some e.1) (λ (e : List ℕ × WorkspaceCells). IsTrue (is_ws_name e.0))
+        (λ e found. (sound.workspaces org e.0 (workspace_at t org e.0 e.1) (ap (option_map (workspace_at t org e.0)) (sym (row_of_name e.0) ∙ get-entries (workspaces_by_name org t) e.0 ∙ found))).named)
+        (entries (workspaces_by_name org t)) (all_found (entries (workspaces_by_name org t)) (entries_sorted (workspaces_by_name org t)))
+
+    passes : (after : Option (List ℕ)) (e : List ℕ × WorkspaceCells) → IsTrue (is_ws_name e.0) → comes_after (unwrap_or after []) e.0 ≡ showing.comes_after after e.0
+    passes None e named = comes_after_all e.0 named
+    passes (Some a) e named = refl
+
+    workspaces_rows : (after : Option (List ℕ)) → workspaces_listed_in (unwrap_or after []) org t ≡ showing.workspaces_listed after (entries (workspaces_at t org))
+    workspaces_rows after =
+        listed_all (ws_row_in org t) (map named_at (filter (λ e. comes_after (unwrap_or after []) e.0) (entries (workspaces_by_name org t))))
+        ∙ ap listing_of (mapped (filter (λ e. comes_after (unwrap_or after []) e.0) (entries (workspaces_by_name org t)))
+        ∙ ap (map (λ (e : List ℕ × WorkspaceCells). ws_row_in org t (named_at e))) (ap (filter (λ (e : List ℕ × WorkspaceCells). comes_after (unwrap_or after []) e.0)) (sym (itself (entries (workspaces_by_name org t)))))
+        ∙ shown_rows (λ (e : List ℕ × WorkspaceCells). e) (λ (e : List ℕ × WorkspaceCells). ws_row_in org t (named_at e)) (λ (e : List ℕ × WorkspaceCells). (e.0, workspace_at t org e.0 e.1))
+        (λ (e : List ℕ × Workspace). showing.row_of e.0 (showing.shown_of e.1)) (λ (e : List ℕ × WorkspaceCells). comes_after (unwrap_or after []) e.0) (λ (e : List ℕ × Workspace). showing.comes_after after e.0) row_shown
+        (entries (workspaces_by_name org t)) (all_weaker (λ (e : List ℕ × WorkspaceCells). IsTrue (is_ws_name e.0)) _ (λ e named. passes after e named) (entries (workspaces_by_name org t)) are_named))
+        ∙ ap (showing.workspaces_listed after) (sym record_entries)
+      where
+        mapped : (es : List (List ℕ × WorkspaceCells)) → map (ws_row_in org t) (map named_at es) ≡ map (λ (e : List ℕ × WorkspaceCells). ws_row_in org t (named_at e)) es
+        mapped [] = refl
+        mapped (e ∷ es) = ap (λ rows. ws_row_in org t (named_at e) ∷ rows) (mapped es)
+
+        itself : (es : List (List ℕ × WorkspaceCells)) → map (λ (e : List ℕ × WorkspaceCells). e) es ≡ es
+        itself [] = refl
+        itself (e ∷ es) = ap (λ rest. e ∷ rest) (itself es)
+
+    -- the list of the workspaces is that of the record
+    pub workspaces_told : (after : Option (List ℕ)) → workspaces_listed_in (unwrap_or after []) org t ≡ showing.workspaces_after after (record_of t org)
+    workspaces_told after = workspaces_rows after ∙ by_limit (cap_of org t) refl
+      where
+        by_limit : (c : Option ℕ) → cap_of org t ≡ c → showing.workspaces_listed after (entries (workspaces_at t org)) ≡ showing.workspaces_after after (option_map (organization_at t org) c)
+        by_limit None e =
+            ap (showing.workspaces_listed after) (ap (λ (xs : List (Kept WsRow)). entries (from_entries {R = name_cmp} (map (λ (x : Kept WsRow). (x.1.name, workspace_at t org x.1.name x.1.it)) xs))) (no_workspaces t sound org e) ∙ no_entries)
+        by_limit (Some cap) e = refl

@@ -1,0 +1,118 @@
+-- An organization without one of its tokens.
+use Rattle.std.proofs.Common.{◌≡◌, ◌≢◌, ℕ, ◌≤◌, Bool, true, false, not, cond, List, find, is_some, Option, Some, None, option_map, refl, sym, ap, subst, ◌∙◌}
+use Rattle.std.specs.Str.{bytes_eq}
+use Rattle.std.specs.List.{list_any}
+use Rattle.std.specs.FinMap.{from_entries, get, remove, same_map}
+use Rattle.sqlite_keyed.proofs.ListLemmas.{all-filter}
+use Rattle.sqlite_keyed.proofs.RuleLemmas.{apart_delete}
+use Rattle.sqlite_keyed.proofs.SliceLemmas.{slice-delete_other}
+use Rattle.basis.specs.declared.roles.Role.{Role}
+use Rattle.machine.specs.Order.{name_cmp}
+use Rattle.machine.specs.Effects.{effect}
+use Rattle.machine.specs.Records.{count_of}
+use Rattle.machine.specs.Tokens.{without_token, token_revoked}
+use Rattle.machine.specs.declared.keeps.AdminAnswer.TheVariants.{Done, Absent}
+use Rattle.machine.specs.declared.records.Organization.{Organization}
+use Rattle.machine.proofs.MapLemmas.{names_total, names_same, removed_own, removed_other}
+use Rattle.statements.specs.Rows.{Kept, TokenRow}
+use Rattle.statements.specs.Tables.{Tables}
+use Rattle.statements.specs.Changes.{is_org, is_token, has_digest, token_removed}
+use Rattle.statements.specs.Finds.{cap_of, role_of_name}
+use Rattle.tables.specs.Records.{token_in, is_token_of, tokens_at, workspaces_at, organization_at, record_of}
+use Rattle.tables.specs.Sound.{IsTokenRow, IsSound}
+use Rattle.tables.proofs.Names.{same_name, apart_name, names_apart, pair_first, pair_apart}
+use Rattle.tables.proofs.Lists.{found_passes, find_deleted, find_left}
+use Rattle.tables.proofs.Sets.{got_token, one_of, other_ws}
+use Rattle.tables.proofs.Lawful.{found_holds}
+use Rattle.tables.proofs.Finding.{none_there}
+use Rattle.tables.proofs.Operators.{record_there, record_missing, named_in_rows}
+
+module _ (org name : List ℕ) (t : Tables) where
+  abbrev left : Tables
+  left = token_removed org name t
+
+  got_removed : get (tokens_at left org) name ≡ None
+  got_removed = got_token left org name ∙ ap (option_map (λ (x : Kept TokenRow). token_in x.1.it)) (find_deleted (is_token org name) t.tokens)
+
+  got_others : (q : List ℕ) → bytes_eq q name ≡ false → get (tokens_at left org) q ≡ get (tokens_at t org) q
+  got_others q other =
+      got_token left org q
+      ∙ ap (option_map (λ (x : Kept TokenRow). token_in x.1.it)) (find_left (is_token org q) (is_token org name) (λ x e. pair_apart org name org q x.1.org x.1.name (other_ws org name q other) e) t.tokens)
+      ∙ sym (got_token t org q)
+
+  tokens_left : tokens_at left org ≡ remove (tokens_at t org) name
+  tokens_left = same_map names_total names_same _ _ (λ q. by_name q (bytes_eq q name) refl)
+    where
+      by_name : (q : List ℕ) (b : Bool) → bytes_eq q name ≡ b → get (tokens_at left org) q ≡ get (remove (tokens_at t org) name) q
+      by_name q true e = subst (λ (n : List ℕ). get (tokens_at left org) n ≡ get (remove (tokens_at t org) name) n) (sym (same_name q name e)) (got_removed ∙ sym (removed_own (tokens_at t org) name))
+      by_name q false e = got_others q e ∙ sym (removed_other (tokens_at t org) name q (names_apart q name e))
+
+  -- the answer, by whether the organization and the token are there
+  revoked_there : (cap : ℕ) (b : Bool) → cap_of org t ≡ Some cap → is_some (role_of_name org name t) ≡ b
+      → token_revoked name (record_of t org) ≡ cond b (effect Done (Some (without_token (organization_at t org cap) name))) (effect Absent (Some (organization_at t org cap)))
+  revoked_there cap b there is =
+      ap (token_revoked name) (record_there t org cap there)
+      ∙ ap (λ (x : Bool). cond x (effect Done (Some (without_token (organization_at t org cap) name))) (effect Absent (Some (organization_at t org cap)))) (named_in_rows t org name ∙ is)
+
+  pub revoke_absent : role_of_name org name t ≡ None → effect Absent (record_of t org) ≡ token_revoked name (record_of t org)
+  revoke_absent none = by_limit (cap_of org t) refl
+    where
+      by_limit : (c : Option ℕ) → cap_of org t ≡ c → effect Absent (record_of t org) ≡ token_revoked name (record_of t org)
+      by_limit None e = subst (λ (r : Option Organization). effect Absent r ≡ token_revoked name r) (sym (record_missing t org e)) refl
+      by_limit (Some cap) e = ap (effect Absent) (record_there t org cap e) ∙ sym (revoked_there cap false e (ap is_some none))
+
+  -- a token belongs to an organization that is there
+  no_token : IsSound t → cap_of org t ≡ None → (role : Role) → role_of_name org name t ≡ Some role → ⊥
+  no_token sound e role f = by_row (find (is_token org name) t.tokens) refl f
+    where
+      by_row : (o : Option (Kept TokenRow)) → find (is_token org name) t.tokens ≡ o → option_map (λ (x : Kept TokenRow). x.1.it.role) o ≡ Some role → ⊥
+      by_row None g f = let none : ⊥ = cc in none
+      by_row (Some x) g f =
+          let own : x.1.org ≡ org = pair_first org name x.1.org x.1.name (found_passes (is_token org name) t.tokens x g) in
+          let owned : list_any (is_org x.1.org) t.orgs ≡ true = found_holds (λ (y : Kept TokenRow). list_any (is_org y.1.org) t.orgs ≡ true) (is_token org name) t.tokens x sound.tokens_owned g in
+          let there : list_any (is_org org) t.orgs ≡ true = subst (λ (n : List ℕ). list_any (is_org n) t.orgs ≡ true) own owned in
+          let no_one : ⊥ = cc (sym there ∙ none_there t sound org e) in no_one
+
+  pub revoke_done : IsSound t → (role : Role) → role_of_name org name t ≡ Some role → effect Done (record_of left org) ≡ token_revoked name (record_of t org)
+  revoke_done sound role f = by_limit (cap_of org t) refl
+    where
+      by_limit : (c : Option ℕ) → cap_of org t ≡ c → effect Done (record_of left org) ≡ token_revoked name (record_of t org)
+      by_limit None e = absurd (no_token sound e role f)
+      by_limit (Some cap) e =
+          ap (λ (c : Option ℕ). effect Done (option_map (organization_at left org) c)) e
+          ∙ (λ i. effect Done (Some (record { limit = cap; tokens = tokens_left i; workspaces = workspaces_at t org })))
+          ∙ sym (revoked_there cap true e (ap is_some f))
+
+  pub revoke_other : (q : List ℕ) → q ≢ org → record_of left q ≡ record_of t q
+  revoke_other q apart = by_limit (cap_of q t)
+    where
+      same_tokens : tokens_at left q ≡ tokens_at t q
+      same_tokens = ap (λ es. from_entries {R = name_cmp} es) (slice-delete_other (is_token_of q) (λ (x : Kept TokenRow). (x.1.name, token_in x.1.it)) (is_token org name)
+          (λ x e. apart_name x.1.org q (λ same. apart (sym same ∙ pair_first org name x.1.org x.1.name e))) t.tokens)
+
+      by_limit : (c : Option ℕ) → option_map (organization_at left q) c ≡ option_map (organization_at t q) c
+      by_limit None = refl
+      by_limit (Some c) = λ i. Some (record { limit = c; tokens = same_tokens i; workspaces = workspaces_at t q })
+
+  -- it leaves sound tables sound
+  pub revoke_keeps : IsSound t → IsSound left
+  revoke_keeps sound = record {
+    orgs_apart = sound.orgs_apart;
+    tokens_apart = apart_delete (λ a b. is_token a.1.org a.1.name b) (is_token org name) t.tokens sound.tokens_apart;
+    digests_apart = apart_delete (λ a b. has_digest a.1.org a.1.it.digest b) (is_token org name) t.tokens sound.digests_apart;
+    wss_apart = sound.wss_apart;
+    tokens_owned = all-filter (λ x. list_any (is_org x.1.org) t.orgs ≡ true) (λ x. not (is_token org name x)) t.tokens sound.tokens_owned;
+    wss_owned = sound.wss_owned;
+    versions_owned = sound.versions_owned;
+    runs_owned = sound.runs_owned;
+    org_rows = sound.org_rows;
+    token_rows = all-filter IsTokenRow (λ x. not (is_token org name x)) t.tokens sound.token_rows;
+    counts = λ q o e. within q o (cap_of q t) refl e;
+    workspaces = sound.workspaces;
+    versions = sound.versions;
+  }
+    where
+      within : (q : List ℕ) (o : Organization) (c : Option ℕ) → cap_of q t ≡ c → option_map (organization_at left q) c ≡ Some o → count_of o ≤ 100_000
+      within q o None f e = absurd (let none : ⊥ = cc in none)
+      within q o (Some c) f e =
+          subst (λ (r : Organization). count_of r ≤ 100_000) (one_of (organization_at left q c) o e) (sound.counts q (organization_at t q c) (ap (option_map (organization_at t q)) f))

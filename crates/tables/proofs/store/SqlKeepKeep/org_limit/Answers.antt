@@ -1,0 +1,19 @@
+use Rattle.std.proofs.Common.{◌≤◌, subst}
+use Rattle.sqlite.specs.Held.{state}
+use Rattle.tables.proofs.KeepShown.{limit_told, limit_others, limit_stays_sound}
+use Rattle.tables.proofs.store.SqlKeepKeep.org_limit.Goals as goal
+
+pub returns-in-Ok-clause-kept : goal.returns-in-Ok-clause-kept
+returns-in-Ok-clause-kept g c = rw c.of.ensures (λ clean sound.
+    limit_stays_sound (state g.S.Store c.args.self.now.seen.value).committed (state g.S.Store c.args.self.now.conn) sound (state g.S.Store c.org_limit.new.conn) c.args.org.now c.args.limit c.in-Ok.answer
+    (rw c.as_str.ensures.text at (c.in-Ok.ensures.done clean).0) (subst (λ n. n ≤ 100_000) c.get.ensures.value c.get.ensures.most))
+
+pub returns-in-Ok-clause-own : goal.returns-in-Ok-clause-own
+returns-in-Ok-clause-own g c = rw c.of.ensures (λ clean sound.
+    limit_told (state g.S.Store c.args.self.now.seen.value).committed (state g.S.Store c.args.self.now.conn) sound (state g.S.Store c.org_limit.new.conn) c.args.org.now c.args.limit c.in-Ok.answer
+    (rw c.as_str.ensures.text at (c.in-Ok.ensures.done clean).0))
+
+pub returns-in-Ok-clause-others : goal.returns-in-Ok-clause-others
+returns-in-Ok-clause-others g c = rw c.of.ensures (λ clean sound q apart.
+    limit_others (state g.S.Store c.args.self.now.seen.value).committed (state g.S.Store c.args.self.now.conn) sound (state g.S.Store c.org_limit.new.conn) c.args.org.now c.args.limit c.in-Ok.answer
+    (rw c.as_str.ensures.text at (c.in-Ok.ensures.done clean).0) q apart)

@@ -1,0 +1,18 @@
+use Rattle.sqlite.specs.Held.{state}
+use Rattle.tables.proofs.KeepShown.{revoke_told, revoke_others, revoke_stays_sound}
+use Rattle.tables.proofs.store.SqlKeepKeep.token_revoke.Goals as goal
+
+pub returns-in-Ok-clause-kept : goal.returns-in-Ok-clause-kept
+returns-in-Ok-clause-kept g c = rw c.of.ensures (λ clean sound.
+    revoke_stays_sound (state g.S.Store c.args.self.now.seen.value).committed (state g.S.Store c.args.self.now.conn) sound (state g.S.Store c.token_revoke.new.conn) c.args.org.now c.args.name.now c.in-Ok.answer
+    (rw (c.as_str.ensures.text, c.as_str-2.ensures.text) at (c.in-Ok.ensures.done clean).0))
+
+pub returns-in-Ok-clause-own : goal.returns-in-Ok-clause-own
+returns-in-Ok-clause-own g c = rw c.of.ensures (λ clean sound.
+    revoke_told (state g.S.Store c.args.self.now.seen.value).committed (state g.S.Store c.args.self.now.conn) sound (state g.S.Store c.token_revoke.new.conn) c.args.org.now c.args.name.now c.in-Ok.answer
+    (rw (c.as_str.ensures.text, c.as_str-2.ensures.text) at (c.in-Ok.ensures.done clean).0))
+
+pub returns-in-Ok-clause-others : goal.returns-in-Ok-clause-others
+returns-in-Ok-clause-others g c = rw c.of.ensures (λ clean sound q apart.
+    revoke_others (state g.S.Store c.args.self.now.seen.value).committed (state g.S.Store c.args.self.now.conn) sound (state g.S.Store c.token_revoke.new.conn) c.args.org.now c.args.name.now c.in-Ok.answer
+    (rw (c.as_str.ensures.text, c.as_str-2.ensures.text) at (c.in-Ok.ensures.done clean).0) q apart)

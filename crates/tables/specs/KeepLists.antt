@@ -1,0 +1,68 @@
+-- What lists read of the rows.
+use Rattle.std.specs.Prelude.{◌≡◌, ℕ, List, map, Option, option_map, IsTrue, Result, IfOk, OnOk, OnErr}
+use Rattle.sqlite.specs.State.{State, HasCleanDisk, KeepsCommit}
+use Rattle.basis.specs.Listings.{listing_of}
+use Rattle.basis.specs.declared.rows.Listing.{Listing}
+use Rattle.basis.specs.declared.rows.RunRow.{RunRow}
+use Rattle.basis.specs.declared.rows.VersionRow.{VersionRow}
+use Rattle.basis.specs.declared.rows.WsRow.{WsRow}
+use Rattle.machine.specs.Showing.{holder_id}
+use Rattle.machine.specs.declared.keeps.OrgRow.{OrgRow}
+use Rattle.statements.specs.declared.rows.NamedWorkspace.{NamedWorkspace}
+use Rattle.statements.specs.declared.rows.Organization.{Organization as OrganizationCells}
+use Rattle.statements.specs.declared.rows.Run.{Run as RunCells}
+use Rattle.statements.specs.declared.rows.VersionHead.{VersionHead}
+use Rattle.statements.specs.Finds.{newest_of, workspaces_of}
+use Rattle.statements.specs.Listings.{organizations_in, workspaces_after, versions_after, runs_after}
+use Rattle.statements.specs.Tables.{Tables, Holds}
+use Rattle.tables.specs.KeepLooks.{Stays}
+use Rattle.tables.specs.Records.{holder_in}
+
+-- no row changes, and the value is that of rows that obey a law; after a failure nothing is committed
+abbrev pub SeesWhere : {X E : Type 0} → (Tables → Type 0) → (Tables → X) → State → State → Result X E → Type 0
+SeesWhere law read old new result =
+    HasCleanDisk new → IfOk result (λ x. IsTrue new.is_open → (t : Tables) → Holds old.now t → law t → x ≡ read t) × (OnOk result (Stays old new) × OnErr result (KeepsCommit old new))
+
+-- such a look at the committed rows
+abbrev pub LooksWhere : {X E : Type 0} → (Tables → Type 0) → (Tables → X) → State → State → Result X E → Type 0
+LooksWhere law read old new result =
+    HasCleanDisk new → IfOk result (λ x. IsTrue old.is_open × ((t : Tables) → Holds old.committed t → law t → x ≡ read t)) × KeepsCommit old new
+
+-- one row more than a listing has is asked for: it tells whether more follow
+abbrev pub asked_rows : ℕ
+asked_rows = 51
+
+-- ---- versions
+
+abbrev pub version_row_in : VersionHead → VersionRow
+version_row_in v = record { created = v.created; lineage = v.lineage; number = v.number; serial = v.serial; size = v.size }
+
+abbrev pub versions_listed_in : ℕ → List ℕ → List ℕ → Tables → Listing VersionRow
+versions_listed_in after org ws t = listing_of (map version_row_in (versions_after org ws after asked_rows t))
+
+-- ---- runs
+
+abbrev pub run_row_in : RunCells → RunRow
+run_row_in r = record { action = r.action; created = r.created; key = r.key; message = r.message; number = r.number; plan_only = r.plan_only; status = r.status }
+
+abbrev pub runs_listed_in : ℕ → List ℕ → List ℕ → Tables → Listing RunRow
+runs_listed_in after org ws t = listing_of (map run_row_in (runs_after org ws after asked_rows t))
+
+-- ---- workspaces
+
+abbrev pub newest_number_in : List ℕ → List ℕ → Tables → Option ℕ
+newest_number_in org ws t = option_map (λ head. head.number) (newest_of org ws t)
+
+abbrev pub ws_row_in : List ℕ → Tables → NamedWorkspace → WsRow
+ws_row_in org t w = record { auto_apply = w.it.auto; holder = holder_id (holder_in w.it.holder); name = w.name; version = newest_number_in org w.name t }
+
+abbrev pub workspaces_listed_in : List ℕ → List ℕ → Tables → Listing WsRow
+workspaces_listed_in after org t = listing_of (map (ws_row_in org t) (workspaces_after org after asked_rows t))
+
+-- ---- organizations
+
+abbrev pub org_row_in : Tables → OrganizationCells → OrgRow
+org_row_in t o = record { name = o.name; workspaces = workspaces_of o.name t; limit = o.cap }
+
+abbrev pub organizations_listed_in : Tables → List OrgRow
+organizations_listed_in t = map (org_row_in t) (organizations_in t)

@@ -1,0 +1,272 @@
+//! The lists that are asked of the tables, outside a transaction.
+ghost use Rattle.std.specs.Prelude.{◌≡◌, false, List, [], ◌∷◌, ◌++◌, map, IsTrue, IfOk, OnOk, ◌^◌, ◌<◌};
+ghost use Rattle.sqlite.specs.Held.{state};
+ghost use Rattle.sqlite.specs.State.{HasCleanDisk};
+ghost use Rattle.basis.specs.Listings.{listing_of};
+ghost use Rattle.machine.specs.Showing.{holder_id};
+ghost use Rattle.statements.specs.Listings.{OrgsApart, WorkspacesApart, VersionsRise, RunsRise};
+ghost use Rattle.tables.specs.Records.{holder_in};
+ghost use Rattle.tables.specs.KeepLooks.{SeesBy};
+ghost use Rattle.tables.specs.KeepLists.{SeesWhere, version_row_in, versions_listed_in, run_row_in, runs_listed_in, newest_number_in, ws_row_in, workspaces_listed_in, org_row_in, organizations_listed_in};
+
+use crate::looks::{limit_of, lock_id_of, moment_of, number_of};
+use basis::{HolderId, Items, Listing, Number, RunRow, Text, VersionRow, WsName, WsRow};
+use machine::OrgRow;
+use sqlite::{Alter, Connection, Error, ErrorCode};
+use statements::rows::{
+    Holder as HolderCells, NamedWorkspace, Organization as OrganizationCells, Run as RunCells,
+    VersionHead,
+};
+use statements::{organizations, runs, versions, workspaces};
+use std::alloc::Global;
+
+/// How many rows are asked for: one more than a listing has, which tells whether more follow.
+const ASKED_ROWS: usize = 51;
+
+/// Puts an item behind the others, or, where there is no room for it, says that more follow.
+fn offer<T: Drop>(list: &mut Listing<T>, item: T) -> Result<(), Error>
+    ensures { OnOk result ((xs : List _) → list.old ≡ listing_of xs → list.new ≡ listing_of (xs ++ item ∷ [])) }
+{
+    match list.offer(item) {
+        Ok(()) => Ok(()),
+        Err(_) => Err(Error::SqliteFailure(ErrorCode::OutOfMemory)),
+    }
+}
+
+fn version_row(head: &VersionHead) -> Result<VersionRow, Error>
+    ensures { IfOk result (λ row. row ≡ version_row_in head.now) }
+{
+    Ok(VersionRow {
+        created: moment_of(head.created)?,
+        lineage: head.lineage.clone()?,
+        number: number_of(head.number)?,
+        serial: head.serial,
+        size: head.size,
+    })
+}
+
+fn list_versions(alloc: Global, heads: &[VersionHead]) -> Result<Listing<VersionRow>, Error>
+    ensures { IfOk result (λ list. list ≡ listing_of (map version_row_in heads.now)) }
+{
+    let mut list = Listing::new(alloc);
+    for head in heads {
+        offer(&mut list, version_row(head)?)?;
+    }
+    Ok(list)
+}
+
+/// The versions of a workspace whose numbers are greater than this one.
+pub(crate) fn list_of_versions<S: Alter>(
+    conn: &mut Connection<S>,
+    alloc: Global,
+    org: &str,
+    ws: &str,
+    after: u64,
+) -> Result<Listing<VersionRow>, Error>
+    requires after_fits { after < 2 ^ 63 }
+    ensures mode { conn.old.in_transaction ≡ false → conn.new.in_transaction ≡ false }
+    ensures so_far { HasCleanDisk (state S.Store conn.new) → HasCleanDisk (state S.Store conn.old) }
+    ensures sees { SeesWhere (VersionsRise org.now ws.now) (versions_listed_in after org.now ws.now) (state S.Store conn.old) (state S.Store conn.new) result }
+    ensures is_open { HasCleanDisk (state S.Store conn.new) → OnOk result (IsTrue (state S.Store conn.new).is_open) }
+{
+    let heads = versions::list(alloc, conn, org, ws, after, ASKED_ROWS)?;
+    list_versions(alloc, heads.as_slice())
+}
+
+fn run_row(run: &RunCells) -> Result<RunRow, Error>
+    ensures { IfOk result (λ row. row ≡ run_row_in run.now) }
+{
+    Ok(RunRow {
+        action: run.action,
+        created: moment_of(run.created)?,
+        key: run.key.clone()?,
+        message: run.message.clone()?,
+        number: number_of(run.number)?,
+        plan_only: run.plan_only,
+        status: run.status,
+    })
+}
+
+fn list_runs(alloc: Global, runs: &[RunCells]) -> Result<Listing<RunRow>, Error>
+    ensures { IfOk result (λ list. list ≡ listing_of (map run_row_in runs.now)) }
+{
+    let mut list = Listing::new(alloc);
+    for run in runs {
+        offer(&mut list, run_row(run)?)?;
+    }
+    Ok(list)
+}
+
+/// The runs of a workspace whose numbers are greater than this one.
+pub(crate) fn list_of_runs<S: Alter>(
+    conn: &mut Connection<S>,
+    alloc: Global,
+    org: &str,
+    ws: &str,
+    after: u64,
+) -> Result<Listing<RunRow>, Error>
+    requires after_fits { after < 2 ^ 63 }
+    ensures mode { conn.old.in_transaction ≡ false → conn.new.in_transaction ≡ false }
+    ensures so_far { HasCleanDisk (state S.Store conn.new) → HasCleanDisk (state S.Store conn.old) }
+    ensures sees { SeesWhere (RunsRise org.now ws.now) (runs_listed_in after org.now ws.now) (state S.Store conn.old) (state S.Store conn.new) result }
+    ensures is_open { HasCleanDisk (state S.Store conn.new) → OnOk result (IsTrue (state S.Store conn.new).is_open) }
+{
+    let rows = runs::list(alloc, conn, org, ws, after, ASKED_ROWS)?;
+    list_runs(alloc, rows.as_slice())
+}
+
+/// The number of the newest version.
+fn newest_number<S: Alter>(
+    conn: &mut Connection<S>,
+    org: &str,
+    ws: &str,
+) -> Result<Option<Number>, Error>
+    ensures mode { conn.old.in_transaction ≡ false → conn.new.in_transaction ≡ false }
+    ensures so_far { HasCleanDisk (state S.Store conn.new) → HasCleanDisk (state S.Store conn.old) }
+    ensures sees { SeesBy (newest_number_in org.now ws.now) (state S.Store conn.old) (state S.Store conn.new) result }
+    ensures is_open { HasCleanDisk (state S.Store conn.new) → OnOk result (IsTrue (state S.Store conn.new).is_open) }
+{
+    match versions::newest(conn, org, ws)? {
+        None => Ok(None),
+        Some(head) => Ok(Some(number_of(head.number)?)),
+    }
+}
+
+fn holder_id_of(alloc: Global, holder: &HolderCells) -> Result<Option<HolderId>, Error>
+    ensures { IfOk result (λ id. id ≡ holder_id (holder_in holder.now)) }
+{
+    match holder {
+        HolderCells::Nobody => Ok(None),
+        HolderCells::Lock { id, .. } => Ok(Some(HolderId::Lock(lock_id_of(alloc, id)?))),
+        HolderCells::Run(run) => Ok(Some(HolderId::Run(number_of(*run)?))),
+    }
+}
+
+fn ws_name_of(alloc: Global, name: &Text) -> Result<WsName, Error>
+    ensures { IfOk result (λ read. read ≡ name.now) }
+{
+    match WsName::read(alloc, name.as_str()) {
+        Ok(name) => Ok(name),
+        Err(_) => Err(Error::SqliteFailure(ErrorCode::OutOfMemory)),
+    }
+}
+
+/// A workspace as a list shows it.
+fn ws_row<S: Alter>(
+    conn: &mut Connection<S>,
+    alloc: Global,
+    org: &str,
+    workspace: &NamedWorkspace,
+) -> Result<WsRow, Error>
+    ensures mode { conn.old.in_transaction ≡ false → conn.new.in_transaction ≡ false }
+    ensures so_far { HasCleanDisk (state S.Store conn.new) → HasCleanDisk (state S.Store conn.old) }
+    ensures sees { SeesBy (λ t. ws_row_in org.now t workspace.now) (state S.Store conn.old) (state S.Store conn.new) result }
+    ensures is_open { HasCleanDisk (state S.Store conn.new) → OnOk result (IsTrue (state S.Store conn.new).is_open) }
+{
+    let version = newest_number(conn, org, workspace.name.as_str())?;
+    let holder = holder_id_of(alloc, &workspace.it.holder)?;
+    let name = ws_name_of(alloc, &workspace.name)?;
+    Ok(WsRow {
+        auto_apply: workspace.it.auto,
+        holder,
+        name,
+        version,
+    })
+}
+
+fn list_workspaces<S: Alter>(
+    conn: &mut Connection<S>,
+    alloc: Global,
+    org: &str,
+    workspaces: &[NamedWorkspace],
+) -> Result<Listing<WsRow>, Error>
+    ensures mode { conn.old.in_transaction ≡ false → conn.new.in_transaction ≡ false }
+    ensures so_far { HasCleanDisk (state S.Store conn.new) → HasCleanDisk (state S.Store conn.old) }
+    ensures sees { SeesBy (λ t. listing_of (map (ws_row_in org.now t) workspaces.now)) (state S.Store conn.old) (state S.Store conn.new) result }
+    ensures stays_open { HasCleanDisk (state S.Store conn.new) → OnOk result (IsTrue (state S.Store conn.old).is_open → IsTrue (state S.Store conn.new).is_open) }
+{
+    let mut list = Listing::new(alloc);
+    for workspace in workspaces {
+        let row = ws_row(conn, alloc, org, workspace)?;
+        offer(&mut list, row)?;
+    }
+    Ok(list)
+}
+
+/// The workspaces of an organization that come after a name. All come after the empty one.
+pub(crate) fn list_of_workspaces<S: Alter>(
+    conn: &mut Connection<S>,
+    alloc: Global,
+    org: &str,
+    after: &str,
+) -> Result<Listing<WsRow>, Error>
+    ensures mode { conn.old.in_transaction ≡ false → conn.new.in_transaction ≡ false }
+    ensures so_far { HasCleanDisk (state S.Store conn.new) → HasCleanDisk (state S.Store conn.old) }
+    ensures sees { SeesWhere WorkspacesApart (workspaces_listed_in after.now org.now) (state S.Store conn.old) (state S.Store conn.new) result }
+    ensures is_open { HasCleanDisk (state S.Store conn.new) → OnOk result (IsTrue (state S.Store conn.new).is_open) }
+{
+    let rows = workspaces::list(alloc, conn, org, after, ASKED_ROWS)?;
+    list_workspaces(conn, alloc, org, rows.as_slice())
+}
+
+/// An organization as an operator's list shows it.
+fn org_row<S: Alter>(
+    conn: &mut Connection<S>,
+    organization: &OrganizationCells,
+) -> Result<OrgRow, Error>
+    ensures mode { conn.old.in_transaction ≡ false → conn.new.in_transaction ≡ false }
+    ensures so_far { HasCleanDisk (state S.Store conn.new) → HasCleanDisk (state S.Store conn.old) }
+    ensures sees { SeesBy (λ t. org_row_in t organization.now) (state S.Store conn.old) (state S.Store conn.new) result }
+    ensures is_open { HasCleanDisk (state S.Store conn.new) → OnOk result (IsTrue (state S.Store conn.new).is_open) }
+{
+    let count = workspaces::count(conn, organization.name.as_str())?;
+    let name = organization.name.clone()?;
+    let limit = limit_of(Some(organization.cap))?;
+    Ok(OrgRow {
+        name,
+        workspaces: count as usize,
+        limit,
+    })
+}
+
+/// Puts an item behind the others.
+fn push<T: Drop>(items: &mut Items<T>, item: T) -> Result<(), Error>
+    ensures { OnOk result (items.new ≡ items.old ++ item ∷ []) }
+{
+    match items.push(item) {
+        Ok(()) => Ok(()),
+        Err(_) => Err(Error::SqliteFailure(ErrorCode::OutOfMemory)),
+    }
+}
+
+fn list_organizations<S: Alter>(
+    conn: &mut Connection<S>,
+    alloc: Global,
+    organizations: &[OrganizationCells],
+) -> Result<Items<OrgRow>, Error>
+    ensures mode { conn.old.in_transaction ≡ false → conn.new.in_transaction ≡ false }
+    ensures so_far { HasCleanDisk (state S.Store conn.new) → HasCleanDisk (state S.Store conn.old) }
+    ensures sees { SeesBy (λ t. map (org_row_in t) organizations.now) (state S.Store conn.old) (state S.Store conn.new) result }
+    ensures stays_open { HasCleanDisk (state S.Store conn.new) → OnOk result (IsTrue (state S.Store conn.old).is_open → IsTrue (state S.Store conn.new).is_open) }
+{
+    let mut rows = Items::new(Vec::new(alloc));
+    for organization in organizations {
+        let row = org_row(conn, organization)?;
+        push(&mut rows, row)?;
+    }
+    Ok(rows)
+}
+
+/// All organizations, in the order of their names.
+pub(crate) fn list_of_organizations<S: Alter>(
+    conn: &mut Connection<S>,
+    alloc: Global,
+) -> Result<Items<OrgRow>, Error>
+    ensures mode { conn.old.in_transaction ≡ false → conn.new.in_transaction ≡ false }
+    ensures so_far { HasCleanDisk (state S.Store conn.new) → HasCleanDisk (state S.Store conn.old) }
+    ensures sees { SeesWhere OrgsApart organizations_listed_in (state S.Store conn.old) (state S.Store conn.new) result }
+    ensures is_open { HasCleanDisk (state S.Store conn.new) → OnOk result (IsTrue (state S.Store conn.new).is_open) }
+{
+    let rows = organizations::list(alloc, conn)?;
+    list_organizations(conn, alloc, rows.as_slice())
+}
