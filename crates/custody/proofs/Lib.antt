@@ -2,3 +2,5 @@ pub mod Examples
 pub mod FrameLemmas
 pub mod WordLemmas
 mod ReplayLemmas
+mod ServingLemmas
+mod OutcomeLemmas

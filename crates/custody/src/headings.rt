@@ -41,7 +41,7 @@ impl Heading {
         }
     }
 
-    fn read_limit(word: &str) -> Option<Limit>
+    pub(crate) fn read_limit(word: &str) -> Option<Limit>
         ensures { result ≡ limit_of word.now }
     {
         let value = whole_number(word)?;
@@ -49,13 +49,17 @@ impl Heading {
         Limit::new(value)
     }
 
-    fn read_role(word: &str) -> Option<Role>
+    pub(crate) fn read_role(word: &str) -> Option<Role>
         ensures { result ≡ role_of word.now }
     {
         Role::named(word)
     }
 
-    fn make_org_add(alloc: Global, org: &str, limit: Option<Limit>) -> Result<Admin, Unfit>
+    pub(crate) fn make_org_add(
+        alloc: Global,
+        org: &str,
+        limit: Option<Limit>,
+    ) -> Result<Admin, Unfit>
         ensures ok { IfOk result (λ command. org_command org.now limit ≡ Some command) }
         ensures syntax { IsErrOf result Unfit.Syntax → org_command org.now limit ≡ None }
     {
@@ -77,7 +81,11 @@ impl Heading {
         }
     }
 
-    fn make_org_limit(alloc: Global, org: &str, limit: Option<Limit>) -> Result<Admin, Unfit>
+    pub(crate) fn make_org_limit(
+        alloc: Global,
+        org: &str,
+        limit: Option<Limit>,
+    ) -> Result<Admin, Unfit>
         ensures ok { IfOk result (λ command. limit_command org.now limit ≡ Some command) }
         ensures syntax { IsErrOf result Unfit.Syntax → limit_command org.now limit ≡ None }
     {
@@ -142,7 +150,7 @@ impl Heading {
         }
     }
 
-    fn make_token_revoke(alloc: Global, org: &str, name: &str) -> Result<Admin, Unfit>
+    pub(crate) fn make_token_revoke(alloc: Global, org: &str, name: &str) -> Result<Admin, Unfit>
         ensures ok { IfOk result (λ command. revoke_command org.now name.now ≡ Some command) }
         ensures syntax { IsErrOf result Unfit.Syntax → revoke_command org.now name.now ≡ None }
     {

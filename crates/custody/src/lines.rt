@@ -46,7 +46,8 @@ pub fn split_message(bytes: &[u8], len: usize) -> Option<(&[u8], &[u8])>
     }
 }
 
-fn read_text(line: &[u8]) -> Option<&str>
+/// A line, where it is text (UTF-8).
+pub fn read_text(line: &[u8]) -> Option<&str>
     ensures { option_map (λ text. text.now) result ≡ text_of line.now }
 {
     str::from_utf8(line).ok()

@@ -1,28 +1,20 @@
 //! The command `replay`: frames from one stream, replies to another.
 ghost use Rattle.std.specs.Prelude.{◌≡◌, ◌⊎◌, codes, true, false, IfSome, IfOk, OnOk};
 ghost use Rattle.std.specs.Io.KnownBytes.{Appends};
-ghost use Rattle.custody.specs.Replies.{printed, answer_line, AreReplies, AnswersFrames, Replays};
+ghost use Rattle.custody.specs.Replies.{printed, bad_frame_text, AreReplies, AnswersFrames};
+ghost use Rattle.custody.specs.Endings.{status_of};
+ghost use Rattle.custody.specs.Outcomes.{ReplaysFrames};
+ghost use Rattle.custody.specs.declared.endings.Ending.{Ending};
 
+use crate::endings::Ending;
 use crate::frames::read_frames;
-use crate::replies::{print_answer, print_bad_frame, print_replies};
+use crate::replies::{print_bad_frame, print_replies, say};
 use basis::{Bytes, Down};
 use serve::{Service, Step};
 use std::alloc::Global;
 use std::io;
 use std::io::{Read, Write};
 use tables::SqlKeep;
-
-/// The exit status of a replay to its last frame.
-pub const DONE: u8 = 0;
-
-/// The exit status where a frame doesn't parse.
-pub const BAD_FRAME: u8 = 2;
-
-/// The exit status where the words don't read.
-pub const USAGE: u8 = 2;
-
-/// The exit status where memory, standard input or standard output failed.
-pub const DOWN: u8 = 3;
 
 // The replies, and the place of the frame behind them that doesn't parse.
 #[derive(Drop)]
@@ -43,7 +35,8 @@ fn replayed(alloc: Global, steps: &[Step]) -> Result<Vec<Bytes>, Down>
     replies
 }
 
-fn read_all<I: Read>(alloc: Global, input: &mut I) -> Result<Vec<u8>, Down>
+/// All that is left of a stream.
+pub fn read_all<I: Read>(alloc: Global, input: &mut I) -> Result<Vec<u8>, Down>
     ensures { IfOk result (λ bytes. IfSome (I.remaining input.old) (λ known. bytes.items ≡ known)) }
 {
     let mut bytes = Vec::new(alloc);
@@ -80,50 +73,47 @@ fn print_all<O: Write>(output: &mut O, replies: &[Bytes]) -> io::Result<()>
     output.flush()
 }
 
-/// Prints `refused down`. The result is the exit status.
-pub fn refuse_down<O: Write>(output: &mut O) -> u8
-    ensures { result ≡ 3 }
+fn end_at<E: Write>(errors: &mut E, bad_frame: Option<usize>) -> Ending
+    ensures done { bad_frame ≡ None → result ≡ Ending.Done }
+    ensures bad { IfSome bad_frame (λ frame. ((result ≡ Ending.BadFrame) × Appends (E.contents errors.old) (E.contents errors.new) (bad_frame_text frame)) ⊎ (result ≡ Ending.Unprinted)) }
 {
-    let _ = print_answer(output, "refused down");
-    DOWN
-}
-
-/// Prints `refused usage`. The result is the exit status, also where that failed.
-pub fn refuse_usage<O: Write>(output: &mut O) -> u8
-    ensures status { (result ≡ 2) ⊎ (result ≡ 3) }
-    ensures printed { result ≡ 2 → Appends (O.contents output.old) (O.contents output.new) (answer_line (codes "refused usage")) }
-{
-    match print_answer(output, "refused usage") {
-        Ok(()) => USAGE,
-        Err(_) => DOWN,
+    match bad_frame {
+        None => Ending::Done,
+        Some(frame) => match print_bad_frame(errors, frame) {
+            Ok(()) => Ending::BadFrame,
+            Err(_) => Ending::Unprinted,
+        },
     }
 }
 
-/// Reads frames up to the first that doesn't parse, replays them and prints the replies. The result
-/// is the exit status.
+/// Reads frames up to the first that doesn't parse, replays them and prints the replies.
+pub fn replay_frames<I: Read, O: Write, E: Write>(
+    alloc: Global,
+    input: &mut I,
+    output: &mut O,
+    errors: &mut E,
+) -> Ending
+    ensures { ReplaysFrames (I.remaining input.old) result (record { old = O.contents output.old; new = O.contents output.new }) (record { old = E.contents errors.old; new = E.contents errors.new }) }
+{
+    let Ok(replay) = answer_input(alloc, input) else {
+        return say(output, Ending::Down);
+    };
+    match print_all(output, replay.replies.as_slice()) {
+        Ok(()) => end_at(errors, replay.bad_frame),
+        Err(_) => Ending::Unprinted,
+    }
+}
+
+/// As `replay_frames`, over a database in memory. The result is the exit status.
 pub fn run_frames<I: Read, O: Write, E: Write>(
     alloc: Global,
     input: &mut I,
     output: &mut O,
     errors: &mut E,
 ) -> u8
-    ensures status { (result ≡ 0) ⊎ ((result ≡ 2) ⊎ (result ≡ 3)) }
-    ensures whole { result ≡ 0 → IfSome (I.remaining input.old) (λ bytes. Replays bytes false (O.contents output.old) (O.contents output.new)) }
-    ensures bad { result ≡ 2 → IfSome (I.remaining input.old) (λ bytes. Replays bytes true (O.contents output.old) (O.contents output.new)) }
+    ensures { (ending : Ending) × (result ≡ status_of ending) × ReplaysFrames (I.remaining input.old) ending (record { old = O.contents output.old; new = O.contents output.new }) (record { old = E.contents errors.old; new = E.contents errors.new }) }
 {
-    let Ok(replay) = answer_input(alloc, input) else {
-        return refuse_down(output);
-    };
-    if print_all(output, replay.replies.as_slice()).is_err() {
-        return DOWN;
-    }
-    match replay.bad_frame {
-        None => DONE,
-        Some(frame) => {
-            let _ = print_bad_frame(errors, frame);
-            BAD_FRAME
-        }
-    }
+    replay_frames(alloc, input, output, errors).status()
 }
 
 #[cfg(test)]
@@ -241,13 +231,13 @@ mod tests {
             3
         );
         assert_eq!(rt; errors.len(), 0);
-        assert_eq!(rt; refuse_usage(&mut unflushed), 3);
-        assert_eq!(rt; refuse_usage(&mut errors), 2);
+        assert_eq!(rt; say(&mut unflushed, Ending::Usage), Ending::Unprinted);
+        assert_eq!(rt; say(&mut errors, Ending::Usage), Ending::Usage);
         assert_eq!(rt; errors.as_slice(), b"refused usage\n".as_slice());
     }
 
     #[test]
-    fn ends_with_status_2_where_the_error_stream_fails(rt: HostRuntime) {
+    fn ends_with_status_3_where_the_error_stream_fails(rt: HostRuntime) {
         let mut input = TWO_AND_BAD;
         let mut output = Vec::new(rt.alloc());
         let mut errors = Narrow {
@@ -256,7 +246,7 @@ mod tests {
         };
         assert_eq!(rt;
             run_frames(rt.alloc(), &mut input, &mut output, &mut errors),
-            2
+            3
         );
     }
 }

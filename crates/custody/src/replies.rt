@@ -2,8 +2,13 @@
 ghost use Rattle.std.specs.Prelude.{◌≡◌, OnOk};
 ghost use Rattle.std.specs.Io.KnownBytes.{Appends};
 ghost use Rattle.custody.specs.Replies.{reply_frame, printed, bad_frame_text, answer_line};
+ghost use Rattle.custody.specs.Outcomes.{IsSaid};
+ghost use Rattle.serve.specs.Service.{org_line};
+ghost use Rattle.std.specs.List.{flat_map};
 
+use crate::endings::Ending;
 use basis::Bytes;
+use machine::OrgRow;
 use std::io;
 use std::io::Write;
 
@@ -38,6 +43,38 @@ pub fn print_answer<W: Write>(output: &mut W, answer: &str) -> io::Result<()>
 {
     output.write_all(answer.as_bytes())?;
     output.write_all(b"\n")?;
+    output.flush()
+}
+
+/// Prints the line of an ending, and says how the program ends then.
+pub fn say<O: Write>(output: &mut O, ending: Ending) -> Ending
+    ensures { IsSaid ending result (O.contents output.old) (O.contents output.new) }
+{
+    match print_answer(output, ending.line()) {
+        Ok(()) => ending,
+        Err(_) => Ending::Unprinted,
+    }
+}
+
+fn print_organization<O: Write>(output: &mut O, row: &OrgRow) -> io::Result<()>
+    ensures { OnOk result (Appends (O.contents output.old) (O.contents output.new) (org_line row.now)) }
+{
+    writeln!(
+        output,
+        "{} {} {}",
+        row.name.as_str(),
+        row.workspaces,
+        row.limit.get()
+    )
+}
+
+/// Prints the list of all organizations: a line `ORG WORKSPACES LIMIT` each.
+pub fn print_organizations<O: Write>(output: &mut O, rows: &[OrgRow]) -> io::Result<()>
+    ensures { OnOk result (Appends (O.contents output.old) (O.contents output.new) (flat_map org_line rows.now)) }
+{
+    'rows: for row in rows {
+        print_organization(output, row)?;
+    }
     output.flush()
 }
 

@@ -1,0 +1,42 @@
+-- How the program ends: its exit status, and the line on standard output.
+use Rattle.std.specs.Prelude.{ℕ, List, [], codes}
+use Rattle.machine.specs.declared.keeps.AdminAnswer.{AdminAnswer}
+use Rattle.machine.specs.declared.keeps.AdminAnswer.TheVariants as answer
+use Rattle.tables.specs.declared.opening.Fault.{Fault}
+use Rattle.tables.specs.declared.opening.Fault.TheVariants as fault
+use Rattle.custody.specs.declared.endings.Ending.{Ending}
+use Rattle.custody.specs.declared.endings.Ending.TheVariants.{Done, Exists, Absent, Usage, BadFrame, Schema, Down, Unprinted}
+
+-- the exit status
+abbrev pub status_of : Ending → ℕ
+status_of Done = 0
+status_of Exists = 1
+status_of Absent = 1
+status_of Usage = 2
+status_of BadFrame = 2
+status_of Schema = 3
+status_of Down = 3
+status_of Unprinted = 3
+
+-- the line that says so, without its line feed
+abbrev pub line_of : Ending → List ℕ
+line_of Done = codes "ok"
+line_of Exists = codes "refused exists"
+line_of Absent = codes "refused absent"
+line_of Usage = codes "refused usage"
+line_of Schema = codes "refused schema"
+line_of Down = codes "refused down"
+line_of BadFrame = []
+line_of Unprinted = []
+
+-- after an answer to an operator's command
+abbrev pub answer_ending : AdminAnswer → Ending
+answer_ending answer.Done = Done
+answer_ending answer.Exists = Exists
+answer_ending answer.Absent = Absent
+answer_ending (answer.Organizations rows) = Done
+
+-- where a database isn't opened
+abbrev pub fault_ending : Fault → Ending
+fault_ending fault.Schema = Schema
+fault_ending fault.Down = Down
