@@ -1,4 +1,4 @@
--- Worked frames, computed by the definitions themselves.
+-- Worked frames, and words of the program, computed by the definitions themselves.
 use Rattle.std.proofs.Common.{◌≡◌, [], ◌∷◌, Some, None, refl}
 use Rattle.std.specs.Prelude.{codes}
 use Rattle.std.specs.Str.{chars, is_utf8}
@@ -6,7 +6,11 @@ use lib.Utf8.{encode}
 use Rattle.basis.specs.declared.roles.Role.TheVariants.{Write}
 use Rattle.serve.specs.declared.steps.Admin.TheVariants.{OrgAdd, OrgLimit, OrgList, TokenAdd, TokenRevoke}
 use Rattle.serve.specs.declared.steps.Step.TheVariants.{Request, Command}
+use Rattle.clap.proofs.OnLiterals.{clap_on_literals}
 use Rattle.custody.specs.Frames.{frame_of}
+use Rattle.custody.specs.Orders.{carries, adds_token, serves, replays}
+use Rattle.custody.specs.Secrets.{secret_in}
+use Rattle.custody.specs.Words.{asked_in}
 
 -- an organization with the limit that it has at first, and what follows the line
 organization_added : frame_of (codes "at 1700000000 admin org-add acme\nat 5") ≡ Some (Command 1_700_000_000 (OrgAdd (codes "acme") 200), codes "at 5")
@@ -76,3 +80,53 @@ limit_too_great = refl
 unknown_command : frame_of (codes "at 1 admin org-lists\n") ≡ None
 unfolding chars is_utf8 encode
 unknown_command = refl
+
+-- words
+organization_asked : asked_in (codes "org-add" ∷ codes "--db" ∷ codes "t.db" ∷ codes "acme" ∷ []) ≡ Some (carries (codes "t.db") (OrgAdd (codes "acme") 200))
+unfolding clap_on_literals chars is_utf8 encode
+organization_asked = refl
+
+limit_asked : asked_in (codes "org-add" ∷ codes "acme" ∷ codes "--limit=7" ∷ codes "--db=t.db" ∷ []) ≡ Some (carries (codes "t.db") (OrgAdd (codes "acme") 7))
+unfolding clap_on_literals chars is_utf8 encode
+limit_asked = refl
+
+no_such_limit : asked_in (codes "org-add" ∷ codes "--db" ∷ codes "t.db" ∷ codes "--limit" ∷ codes "100001" ∷ codes "beta" ∷ []) ≡ None
+unfolding clap_on_literals chars is_utf8 encode
+no_such_limit = refl
+
+no_such_name : asked_in (codes "org-add" ∷ codes "--db" ∷ codes "t.db" ∷ codes "Acme" ∷ []) ≡ None
+unfolding clap_on_literals chars is_utf8 encode
+no_such_name = refl
+
+no_file : asked_in (codes "org-add" ∷ codes "acme" ∷ []) ≡ None
+unfolding clap_on_literals chars is_utf8 encode
+no_file = refl
+
+token_asked : asked_in (codes "token-add" ∷ codes "--db" ∷ codes "t.db" ∷ codes "acme" ∷ codes "ci" ∷ codes "write" ∷ []) ≡ Some (adds_token (codes "t.db") (codes "acme") (codes "ci") Write)
+unfolding clap_on_literals chars is_utf8 encode
+token_asked = refl
+
+serving_asked : asked_in (codes "serve" ∷ codes "--db" ∷ codes "t.db" ∷ codes "--port" ∷ codes "8090" ∷ codes "--count" ∷ codes "3" ∷ []) ≡ Some (serves (codes "t.db") 8090 3)
+unfolding clap_on_literals chars is_utf8 encode
+serving_asked = refl
+
+frames_asked : asked_in (codes "replay" ∷ []) ≡ Some replays
+unfolding clap_on_literals chars is_utf8 encode
+frames_asked = refl
+
+nothing_asked : asked_in [] ≡ None
+unfolding clap_on_literals chars is_utf8 encode
+nothing_asked = refl
+
+-- the secret of a new token
+secret_alone : secret_in (codes "writewritewrite1") ≡ Some (codes "writewritewrite1")
+unfolding chars is_utf8 encode
+secret_alone = refl
+
+secret_line : secret_in (codes "writewritewrite1\n") ≡ Some (codes "writewritewrite1")
+unfolding chars is_utf8 encode
+secret_line = refl
+
+two_lines : secret_in (codes "writewritewrite1\nwritewritewrite1") ≡ None
+unfolding chars is_utf8 encode
+two_lines = refl

@@ -396,6 +396,8 @@ mod tests {
     use super::*;
     use sqlite::Connection;
     use std::fs;
+    use std::fs::Permissions;
+    use std::os::unix::fs::PermissionsExt;
     use std::test::Fail;
 
     // Words and standard input, and what is due: the status and the standard output.
@@ -697,6 +699,18 @@ mod tests {
         let bytes = b"this is no database, and nobody should make one of it";
         fs::write(&rt, "g.db", bytes.as_slice())?;
         expect_refused(&rt, "g.db", bytes.as_slice(), "refused down\n")
+    }
+
+    // Whoever may read everything finds garbage in it.
+    #[test]
+    fn an_unreadable_file_is_refused(rt: HostRuntime) -> Result<(), Fail> {
+        forget(&rt, "u.db", "u.db-wal");
+        fs::write(&rt, "u.db", b"no database".as_slice())?;
+        fs::set_permissions(&rt, "u.db", Permissions::from_mode(0))?;
+        let left = run(&rt, &["org-list", "--db", "u.db"], b"")?;
+        assert_eq!(&rt; left.output.as_slice(), b"refused down\n".as_slice());
+        assert_eq!(&rt; left.status, 3);
+        Ok(())
     }
 
     #[test]

@@ -4,7 +4,9 @@ use crate::rows::{
     ACME, ASKED_RUN_ROWS, BETA, DELETED_ROWS, KEPT_ROWS, LIST_ROWS, LOCK_ROWS, MESSAGE_ROWS,
     NAME_ROWS, QUEUE_ROWS, RESENT, RUN_ROWS, SET_UP, STATE_ROWS,
 };
-use crate::steps::{Row, Sent, Story, expect_replies, expect_story, now, written};
+use crate::steps::{
+    Row, Sent, Story, expect_in_file, expect_replies, expect_story, now, written,
+};
 use crate::texts::repeated;
 use basis::{Bytes, Down, Moment};
 use machine::PlainKeep;
@@ -22,63 +24,65 @@ fn story_of(alloc: Global, before: &[(Sent, &str)], steps: &[(Sent, &str)]) -> R
     Ok(story)
 }
 
-// Each row, behind `SET_UP`.
-fn expect_rows(rt: &impl Abort, alloc: Global, rows: &[Row]) -> Result<(), Fail> {
+// Each row, behind `SET_UP`, over the stores in memory and in a file.
+fn expect_rows(rt: &impl Abort, host: &HostRuntime, rows: &[Row]) -> Result<(), Fail> {
+    let alloc = host.alloc();
     for row in rows {
         let story = story_of(alloc, SET_UP, row.steps)?;
         expect_story(rt, alloc, &story, row.name)?;
+        expect_in_file(rt, host, &story, row.name)?;
     }
     Ok(())
 }
 
 #[test]
 fn rows_of_locks_are_answered(rt: HostRuntime) -> Result<(), Fail> {
-    expect_rows(&rt, rt.alloc(), LOCK_ROWS)
+    expect_rows(&rt, &rt, LOCK_ROWS)
 }
 
 #[test]
 fn rows_of_states_are_answered(rt: HostRuntime) -> Result<(), Fail> {
-    expect_rows(&rt, rt.alloc(), STATE_ROWS)
+    expect_rows(&rt, &rt, STATE_ROWS)
 }
 
 #[test]
 fn rows_of_names_are_answered(rt: HostRuntime) -> Result<(), Fail> {
-    expect_rows(&rt, rt.alloc(), NAME_ROWS)
+    expect_rows(&rt, &rt, NAME_ROWS)
 }
 
 #[test]
 fn rows_of_the_queue_are_answered(rt: HostRuntime) -> Result<(), Fail> {
-    expect_rows(&rt, rt.alloc(), QUEUE_ROWS)
+    expect_rows(&rt, &rt, QUEUE_ROWS)
 }
 
 #[test]
 fn rows_of_runs_are_answered(rt: HostRuntime) -> Result<(), Fail> {
-    expect_rows(&rt, rt.alloc(), RUN_ROWS)
+    expect_rows(&rt, &rt, RUN_ROWS)
 }
 
 #[test]
 fn rows_of_asked_runs_are_answered(rt: HostRuntime) -> Result<(), Fail> {
-    expect_rows(&rt, rt.alloc(), ASKED_RUN_ROWS)
+    expect_rows(&rt, &rt, ASKED_RUN_ROWS)
 }
 
 #[test]
 fn rows_of_limits_and_tokens_are_answered(rt: HostRuntime) -> Result<(), Fail> {
-    expect_rows(&rt, rt.alloc(), KEPT_ROWS)
+    expect_rows(&rt, &rt, KEPT_ROWS)
 }
 
 #[test]
 fn rows_of_deletion_are_answered(rt: HostRuntime) -> Result<(), Fail> {
-    expect_rows(&rt, rt.alloc(), DELETED_ROWS)
+    expect_rows(&rt, &rt, DELETED_ROWS)
 }
 
 #[test]
 fn rows_of_lists_are_answered(rt: HostRuntime) -> Result<(), Fail> {
-    expect_rows(&rt, rt.alloc(), LIST_ROWS)
+    expect_rows(&rt, &rt, LIST_ROWS)
 }
 
 #[test]
 fn rows_of_messages_are_answered(rt: HostRuntime) -> Result<(), Fail> {
-    expect_rows(&rt, rt.alloc(), MESSAGE_ROWS)
+    expect_rows(&rt, &rt, MESSAGE_ROWS)
 }
 
 // The steps of two organizations in turn.

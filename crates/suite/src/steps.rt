@@ -3,7 +3,9 @@ use basis::numbers::FIRST_LIMIT;
 use basis::{Bytes, Limit, Moment, OrgName, Role, Secret};
 use machine::{AdminAnswer, Keep, PlainKeep};
 use serve::{Admin, LinkFault, Service, Step};
+use sqlite::Connection;
 use std::alloc::Global;
+use std::fs;
 use std::process::Abort;
 use std::test::Fail;
 use tables::SqlKeep;
@@ -234,6 +236,42 @@ fn expect_in_tables(rt: &impl Abort, alloc: Global, story: &Story, name: &str) -
     let mut service = Service::new(SqlKeep::in_memory(alloc)?);
     expect_exchanges(rt, alloc, &mut service, story, name);
     drop(service.into_keep());
+    Ok(())
+}
+
+// The replies to steps over the store in a file, which is closed afterwards.
+fn exchanged_in_file(
+    rt: &impl Abort,
+    host: &HostRuntime,
+    path: &str,
+    steps: &[Step],
+) -> Result<Vec<Bytes>, Fail> {
+    let Ok(keep) = SqlKeep::open(Connection::open(host, path)?) else {
+        return Err(Fail::from("a store in a file"));
+    };
+    let mut service = Service::new(keep);
+    let replies = exchanged(rt, host.alloc(), &mut service, steps);
+    service.into_keep().close().close()?;
+    Ok(replies)
+}
+
+/// Exchanged one by one over the store in a file, which is closed and opened again midway, the steps of
+/// a story are answered by what is due.
+pub fn expect_in_file(
+    rt: &impl Abort,
+    host: &HostRuntime,
+    story: &Story,
+    name: &str,
+) -> Result<(), Fail> {
+    let _ = fs::remove_file(host, "row.db");
+    let _ = fs::remove_file(host, "row.db-wal");
+    let middle = story.steps.len() / 2;
+    let (before, after) = story.steps.as_slice().split_at(middle);
+    let (due_before, due_after) = story.due.as_slice().split_at(middle);
+    let replies = exchanged_in_file(rt, host, "row.db", before)?;
+    expect_replies(rt, replies.as_slice(), due_before, name);
+    let replies = exchanged_in_file(rt, host, "row.db", after)?;
+    expect_replies(rt, replies.as_slice(), due_after, name);
     Ok(())
 }
 
