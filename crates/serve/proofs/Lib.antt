@@ -8,3 +8,5 @@ pub mod CustodyLemmas
 pub mod HolderLemmas
 pub mod BookLemmas
 pub mod BookExamples
+pub mod AbsentLemmas
+pub mod AbsentExamples

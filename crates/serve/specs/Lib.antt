@@ -7,4 +7,5 @@ pub mod Exchanges
 pub mod Laws
 pub mod Custody
 pub mod Book
+pub mod AbsentForms
 pub mod Inner

@@ -10,6 +10,7 @@ ghost use Rattle.serve.specs.Service.{IsText, Stays, Carries, said_to, AreAsked,
 ghost use Rattle.serve.specs.Inner.Taking.{IsOnOne};
 ghost use Rattle.machine.specs.Keeping.{Looks};
 ghost use Rattle.machine.specs.declared.keeps.OrgRow.{OrgRow};
+ghost use Rattle.serve.specs.AbsentForms.{RepliesAreThoseOfAbsentForms, OutOfReachRepliesNotFound};
 ghost use Rattle.serve.specs.Book.{LocksKeepOthersOut, RunsKeepOthersOut, NoIdWhereNobodyHolds, LocksEndByUnlock, OneRunIsActive, RunsStartInOrder, RepeatsLeaveIt, DoneOnceIsDone, OfEachBook};
 ghost use Rattle.serve.specs.Runs.{IsOwnMachine, IsOwnRecord, AreOwnReplies};
 
@@ -280,6 +281,12 @@ impl<K: Keep> Service<K> {
         // those of its own machine, fed only its own steps.
         ensures isolation { K.clean self.new.keep → K.sound self.old.keep → IfOk result (λ replies. (asked : List Ask) → AreAsked steps.now asked
             → (org : List ℕ) → IsOwnMachine org asked (K.rows self.old.keep) (K.rows self.new.keep) replies.items) }
+
+        // Another organization's workspace answers as an absent one: the reply is that to each of the request's absent forms.
+        ensures absent_forms { K.clean self.new.keep → K.sound self.old.keep → IfOk result (λ replies. RepliesAreThoseOfAbsentForms steps.now (K.rows self.old.keep) replies.items) }
+
+        // And whatever is asked of another organization, by a caller that is known and has the role, is answered not-found.
+        ensures out_of_reach { K.clean self.new.keep → K.sound self.old.keep → IfOk result (λ replies. OutOfReachRepliesNotFound steps.now (K.rows self.old.keep) replies.items) }
 
         // The replies to unattributed's steps follow from their bytes and moments alone.
         ensures unattributed { K.clean self.new.keep → K.sound self.old.keep → IfOk result (λ replies. (asked : List Ask) → AreAsked steps.now asked

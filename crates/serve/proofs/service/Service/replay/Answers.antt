@@ -1,6 +1,7 @@
 use Rattle.serve.specs.Asks.{unattributed, operator}
 use Rattle.serve.proofs.RunLemmas.{replies_given, orgs_given, rows_by}
 use Rattle.serve.proofs.service.Service.replay.Goals as goal
+use Rattle.serve.proofs.AbsentLemmas.{absent_forms, out_of_reach, each_reply}
 use Rattle.serve.proofs.BookLemmas as book
 
 pub returns-clause-readings : goal.returns-clause-readings
@@ -62,3 +63,15 @@ pub returns-clause-done_once : goal.returns-clause-done_once
 returns-clause-done_once g c = λ clean sound.
     let ran = c.run_all.ensures.ran clean sound in
     book.of_each_book _ book.done_once_is_done _ (g.K.Keep.rows c.args.self.now.keep) (g.K.Keep.rows c.run_all.new.self.keep) ran.0 ran.1 (c.records_are_lawful.ensures (c.run_all.ensures.so_far clean) sound)
+
+pub returns-clause-absent_forms : goal.returns-clause-absent_forms
+returns-clause-absent_forms g c = λ clean sound.
+    let old = g.K.Keep.rows c.args.self.now.keep in
+    let new = g.K.Keep.rows c.run_all.new.self.keep in
+    each_reply _ c.args.steps.now c.run_all.new.self.taken old new c.run_all.result (λ texts asked are own. absent_forms c.args.steps.now old new texts asked are own) (c.run_all.ensures.ran clean sound) c.run_all.ensures.all
+
+pub returns-clause-out_of_reach : goal.returns-clause-out_of_reach
+returns-clause-out_of_reach g c = λ clean sound.
+    let old = g.K.Keep.rows c.args.self.now.keep in
+    let new = g.K.Keep.rows c.run_all.new.self.keep in
+    each_reply _ c.args.steps.now c.run_all.new.self.taken old new c.run_all.result (λ texts asked are own. out_of_reach c.args.steps.now old new texts asked are own) (c.run_all.ensures.ran clean sound) c.run_all.ensures.all
