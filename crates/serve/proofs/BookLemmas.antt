@@ -40,10 +40,10 @@ use Rattle.serve.specs.declared.steps.Step.{Step}
 use Rattle.serve.specs.Asks.{Ask, silent, requests, commands, Owner, organization}
 use Rattle.serve.specs.Asks as ask
 use Rattle.serve.specs.Checks.{spelt, act_of, checked}
-use Rattle.serve.specs.Steps.{replies, answer_to, seen_at, carried, step}
+use Rattle.serve.specs.Steps.{Said, replies, answer_to, seen_at, carried, step}
 use Rattle.serve.specs.Service.{with_own, is_own, own_asks}
 use Rattle.serve.specs.Custody.{NamesIn, Names, CarriesId, IsActOn, ReleasesLock, asked_again, MayRepeat, IsAccepted}
-use Rattle.serve.specs.Book.{Entry, book, if_so, put_if, as_long_as, begun_periods, InEachPeriod, is_lock, is_held, is_run, life, AsksOf, AsksFor, CarriesNoId, IsAcceptedUpdate, IsAcceptedPurge, next_version, MakesVersion, Writes, IsApplying, starts, Repeats, IsDoneOnce, LocksKeepOthersOut, RunsKeepOthersOut, NoIdWhereNobodyHolds, LocksEndByUnlock, OneRunIsActive, RunsStartInOrder, RepeatsLeaveIt, DoneOnceIsDone, OfEachBook}
+use Rattle.serve.specs.Book.{Entry, book, BooksAreOfTheRun, if_so, put_if, as_long_as, begun_periods, InEachPeriod, is_lock, is_held, is_run, life, AsksOf, AsksFor, CarriesNoId, IsAcceptedUpdate, IsAcceptedPurge, next_version, MakesVersion, Writes, IsApplying, starts, Repeats, IsDoneOnce, LocksKeepOthersOut, RunsKeepOthersOut, NoIdWhereNobodyHolds, LocksEndByUnlock, OneRunIsActive, RunsStartInOrder, RepeatsLeaveIt, DoneOnceIsDone, OfEachBook}
 use Rattle.serve.specs.Inner.Taking.{IsTimely, RunsTo}
 use Rattle.serve.proofs.CheckLemmas.{Passes, order_passes, list_passes, act_in_range}
 use Rattle.serve.proofs.RecordLemmas.{standing_at}
@@ -154,6 +154,13 @@ book_is_legal ws r (a ∷ asks) lawful timely =
     let after : IsLawfulIfThere (workspace_in (step r a).left ws) = lawful_goes ws (entry_of ws r a) goes lawful in
     let rest : AreLegal ws (workspace_in (step r a).left ws) (book ws (step r a).left asks) = book_is_legal ws (step r a).left asks after timely.1 in
     ((refl, rest.0), (record { goes = goes; first = lawful; last = after }, rest.1))
+
+-- the book is of the run
+pub books_are_of_the_run : BooksAreOfTheRun
+books_are_of_the_run ws r [] = (refl, refl)
+books_are_of_the_run ws r (a ∷ asks) =
+    let rest = books_are_of_the_run ws (step r a).left asks in
+    (ap (λ (said : List Said). (step r a).answer ∷ said) rest.0, rest.1)
 
 -- ---- over many steps
 

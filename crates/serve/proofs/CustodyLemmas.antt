@@ -44,9 +44,17 @@ use Rattle.serve.specs.Asks.{Ask, silent, requests, commands}
 use Rattle.serve.specs.Asks as ask
 use Rattle.serve.specs.Checks.{spelt, act_of, checked}
 use Rattle.serve.specs.Steps.{Said, answer_to, seen_at, ruled_in, carried, request_step, command_step, step}
-use Rattle.serve.specs.Custody.{NamesIn, Names, StepsChangeWhatTheyName, IsActOn, IsInCustody, LocksAreKept, asked_again, MayRepeat, StepsAreRepeatable, IsAccepted, RepeatsLeaveTheWorkspace}
+use Rattle.serve.specs.Custody.{NamesIn, Names, StepsChangeWhatTheyName, IsActOn, IsInCustody, LocksAreKept, asked_again, MayRepeat, StepsAreRepeatable, IsAccepted, RepeatsLeaveTheWorkspace, SameBytesAskAgain, RequestsChangeTheirWorkspaceAlone}
 use Rattle.serve.proofs.CheckLemmas.{Passes, order_passes, list_passes}
 use Rattle.serve.proofs.RecordLemmas.{placed_as_it_was, placed_same, standing_at}
+use Rattle.serve.proofs.LawLemmas.{ruled_leaves}
+use Rattle.serve.specs.Service.{asked_by, ask_of}
+use Rattle.route.specs.Asks.{Asking, asked_of, asks}
+use Rattle.route.specs.Asks as route
+use Rattle.wire.specs.declared.messages.Message.{Message}
+use Rattle.wire.specs.Messages.{Reading, unfinished, whole}
+use Rattle.wire.specs.Messages as wire
+use Rattle.wire.proofs.ReadingLemmas.{reads_one}
 
 pub apart_from : (a b : List ℕ) → bytes_eq a b ≡ false → a ≢ b
 apart_from a b e same = let none : ⊥ = cc (sym e ∙ (bytes_eq-Decides a b).1 same) in none
@@ -397,3 +405,35 @@ repeats_leave_the_workspace r q (ask.refused at awaited refusal is_head) later w
 repeats_leave_the_workspace r q (requests at awaited asked content_md5 body) later ws may names accepted same =
     later_leaves r q at later asked content_md5 body ws (checked r asked content_md5 body) (checked q asked content_md5 body) refl refl may names accepted same
 repeats_leave_the_workspace r q (commands at command) later ws may names accepted same = absurd names
+
+-- the same bytes at another moment
+asking_again : (at later : ℕ) (awaited : Bool) (message : Message) (asking : Asking) → asked_by later awaited message asking ≡ asked_again later (asked_by at awaited message asking)
+asking_again at later awaited message (route.refused refusal) = refl
+asking_again at later awaited message (asks asked) = refl
+
+reading_again : (at later : ℕ) (reading : Reading) → ask_of later reading ≡ asked_again later (ask_of at reading)
+reading_again at later unfinished = refl
+reading_again at later (wire.refused refusal head) = refl
+reading_again at later (whole message awaited) = asking_again at later awaited message (asked_of message)
+
+pub same_bytes_ask_again : SameBytesAskAgain
+same_bytes_ask_again at later bytes a b h k =
+    k.is ∙ ap (ask_of later) (reads_one bytes k.reading h.reading k.reads h.reads) ∙ reading_again at later h.reading ∙ ap (asked_again later) (sym h.is)
+
+-- a request that leaves its workspace
+request_leaves_all : (r : Option Organization) (now : ℕ) (asked : Asked) (content_md5 : Option (List ℕ)) (body ws : List ℕ) (x : Result Task Refusal) → checked r asked content_md5 body ≡ x → NamesIn asked.act ws
+    → workspace_in (carried asked.caller now r x).left ws ≡ workspace_in r ws → (carried asked.caller now r x).left ≡ r
+request_leaves_all r now asked content_md5 body ws (Err refusal) e names same = refl
+request_leaves_all r now asked content_md5 body ws (Ok (ListAll after)) e names same = refl
+request_leaves_all r now asked content_md5 body ws (Ok (Carry o)) e names same =
+    let p : Passes r asked body o = order_passes r asked content_md5 body o e in
+    let is : o.ws ≡ ws = subst (λ (a : AskedAct). NamesIn a ws) p.asks names in
+    let own : workspace_in (ruled_in asked.caller o.ws r (rules o.act now (seen_at r o.ws))).left o.ws ≡ workspace_in r o.ws =
+    subst (λ (n : List ℕ). workspace_in (ruled_in asked.caller o.ws r (rules o.act now (seen_at r o.ws))).left n ≡ workspace_in r n) (sym is) same in
+    ruled_leaves asked.caller o.ws r (rules o.act now (seen_at r o.ws)) (sym (own_after r asked.caller o.ws o.act now p.there) ∙ own)
+
+pub requests_change_their_workspace_alone : RequestsChangeTheirWorkspaceAlone
+requests_change_their_workspace_alone r silent ws names same = refl
+requests_change_their_workspace_alone r (ask.refused at awaited refusal is_head) ws names same = refl
+requests_change_their_workspace_alone r (requests at awaited asked content_md5 body) ws names same = request_leaves_all r at asked content_md5 body ws (checked r asked content_md5 body) refl names same
+requests_change_their_workspace_alone r (commands at command) ws names same = absurd names

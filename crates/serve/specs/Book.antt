@@ -1,6 +1,6 @@
 -- The book of a workspace: each step of its organization's own machine, with the workspace before and after it; its periods; and
 -- what custody says of it.
-use Rattle.std.specs.Prelude.{◌≡◌, ◌<◌, ◌≤◌, ◌⊎◌, ℕ, Bool, true, false, not, ◌&&◌, List, [], ◌∷◌, length, filter, Option, Some, None, IfSome, IsSome, is_some, ⊤}
+use Rattle.std.specs.Prelude.{◌≡◌, ◌<◌, ◌≤◌, ◌⊎◌, ℕ, Bool, true, false, not, ◌&&◌, List, [], ◌∷◌, length, map, filter, Option, Some, None, IfSome, IsSome, is_some, ⊤}
 use Rattle.std.specs.List.{AllByRecursion}
 use Rattle.std.specs.Str.{bytes_eq}
 use Rattle.basis.specs.Names.{run_id}
@@ -24,7 +24,7 @@ use Rattle.serve.specs.Asks.{Ask, silent, requests, commands, organization}
 use Rattle.serve.specs.Asks as ask
 use Rattle.serve.specs.Custody.{Names, IsActOn, CarriesId, ReleasesLock, asked_again, MayRepeat, IsAccepted}
 use Rattle.serve.specs.Service.{AreAsked, own_asks}
-use Rattle.serve.specs.Steps.{Said, step}
+use Rattle.serve.specs.Steps.{Said, step, own_said, own_record}
 
 -- a step: what is asked, what is said, and the workspace before and after it
 pub record Entry : Type 0 where
@@ -37,6 +37,16 @@ pub record Entry : Type 0 where
 abbrev pub book : List ℕ → Option Organization → List Ask → List Entry
 book ws r [] = []
 book ws r (a ∷ asks) = (record { ask = a; said = (step r a).answer; before = workspace_in r ws; after = workspace_in (step r a).left ws }) ∷ book ws (step r a).left asks
+
+-- the workspace after the last step
+abbrev pub after_all : Option Workspace → List Entry → Option Workspace
+after_all w [] = w
+after_all w (e ∷ es) = after_all e.after es
+
+-- the book is of the machine's run: it has what the machine says, step by step, and ends with the workspace that it leaves
+abbrev pub BooksAreOfTheRun : Type 0
+BooksAreOfTheRun = (ws : List ℕ) (r : Option Organization) (asks : List Ask)
+    → (map (λ (e : Entry). e.said) (book ws r asks) ≡ own_said r asks) × (after_all (workspace_in r ws) (book ws r asks) ≡ workspace_in (own_record r asks) ws)
 
 -- ---- periods
 

@@ -267,7 +267,7 @@ impl<K: Keep> Service<K> {
         result
     }
 
-    /// IsTaken steps in turn, each answered in full before it changes anything, and gives one reply for
+    /// Takes steps in turn, each answered in full before it changes anything, and gives one reply for
     /// each: empty for an unfinished message. The step that memory or the store refuses ends it with
     /// `Down`: it isn't taken, nor is any after it.
     pub fn replay(&mut self, alloc: Global, steps: &[Step]) -> Result<Vec<Bytes>, Down>
