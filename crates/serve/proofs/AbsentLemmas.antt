@@ -42,7 +42,7 @@ use Rattle.serve.specs.Laws.{renamed, NeedsWorkspace}
 use Rattle.serve.specs.Steps.{Said, Answered as StepAnswered, replies, step, own_said, own_record}
 use Rattle.serve.specs.Service.{Asks, IsAsked, AreAsked, IsText, AreTexts, asked_by, ask_of, is_own, with_own, own_asks, replies_at, same_owner}
 use Rattle.serve.specs.Runs.{IsOwnMachine}
-use Rattle.serve.specs.AbsentForms.{NamesInstead, IsFormOf, Answered, record_before, RepliesAreThoseOfAbsentForms, OutOfReachRepliesNotFound}
+use Rattle.serve.specs.AbsentForms.{NamesInstead, IsFormOf, AnsweredRequest, record_before, RepliesAreThoseOfAbsentForms, OutOfReachRepliesNotFound}
 use Rattle.serve.proofs.CheckLemmas.{after_ok, passed}
 use Rattle.serve.proofs.LawLemmas.{out_of_reach_is_not_found, out_of_reach_is_as_absent}
 use Rattle.serve.proofs.RunLemmas.{asked_one, orgs_given}
@@ -312,7 +312,7 @@ own_request : (org : List ℕ) → same_owner (organization org) (organization o
 own_request org = (bytes_eq-Decides org org).1 refl
 
 reply_at : (steps : List Step) (rows rows' : List ℕ → Option Organization) (texts : List (List ℕ)) (asked : List Ask) → AreAsked steps asked → ((org : List ℕ) → IsOwnMachine org asked rows rows' texts)
-    → (a : Answered steps texts) → IsText (step (record_before rows a.asked.caller a.earlier) (requests a.at a.awaited a.asked a.content_md5 a.body)).answer a.text
+    → (a : AnsweredRequest steps texts) → IsText (step (record_before rows a.asked.caller a.earlier) (requests a.at a.awaited a.asked a.content_md5 a.body)).answer a.text
 reply_at steps rows rows' texts asked are own a =
     text_at a.asked.caller (rows a.asked.caller) steps asked texts a.place (Request a.at a.bytes) a.text a.earlier (requests a.at a.awaited a.asked a.content_md5 a.body) are (own a.asked.caller).own_replies a.came a.replied a.came_earlier a.asks
     (own_request a.asked.caller)

@@ -11,12 +11,12 @@ use Rattle.basis.specs.declared.runs.RunStatus.TheVariants.{Pending, Planning, P
 use Rattle.basis.specs.declared.runs.RunAction.{RunAction}
 use Rattle.basis.specs.declared.runs.RunAction.TheVariants.{ReportPlanned, Confirm, ReportApplied}
 use Rattle.serde_json.proofs.OnLiterals.{serde_json_on_literals}
-use Rattle.docs.specs.Documents.{run_ask}
+use Rattle.docs.specs.Documents.{lock_id_of, run_ask}
 use Rattle.machine.specs.Custody.{IsRepeatable, Releases}
 use Rattle.machine.specs.Laws.{is_nobody}
 use Rattle.machine.specs.Workspaces.{new_workspace}
 use Rattle.machine.specs.declared.acts.Act.{Act}
-use Rattle.machine.specs.declared.acts.Act.TheVariants.{PurgeState as PurgeAct, MakeRun as MakeRunAct, ReportRun as ReportRunAct}
+use Rattle.machine.specs.declared.acts.Act.TheVariants.{PurgeState as PurgeAct, Unlock as UnlockAct, MakeRun as MakeRunAct, ReportRun as ReportRunAct}
 use Rattle.machine.specs.declared.records.Holder.{Holder}
 use Rattle.machine.specs.declared.records.Holder.TheVariants.{Nobody, Lock as HeldLock, Run as HeldRun}
 use Rattle.machine.specs.declared.records.Run.{Run}
@@ -28,7 +28,7 @@ use Rattle.route.specs.declared.acts.WsAct.TheVariants.{Read, Put, Delete, ReadS
 use Rattle.wire.specs.Replies.{empty_answer}
 use Rattle.serve.specs.Asks.{Ask, requests}
 use Rattle.serve.specs.Steps.{Said, replies}
-use Rattle.serve.specs.Book.{Entry, as_long_as, periods, is_held, is_lock, is_run, life, IsApplying, starts, LocksKeepOthersOut, RunsKeepOthersOut, NoIdWhereNobodyHolds, LocksEndByUnlock, OneRunIsActive, RunsStartInOrder, RepeatsLeaveIt, DoneOnceIsDone}
+use Rattle.serve.specs.Book.{Entry, as_long_as, periods, is_held, is_lock, is_run, life, IsApplying, starts, LocksKeepOthersOut, RunsKeepOthersOut, NoIdWhereNobodyHolds, LocksEndByUnlock, OneRunAtATime, StartsRise, RepeatsLeaveIt, DoneOnceIsDone}
 use Rattle.serve.proofs.CustodyLemmas.{is_one}
 
 abbrev net : List ℕ
@@ -52,8 +52,11 @@ abbrev held_by : ℕ → RunStatus → List Run → Workspace
 held_by n status others = record empty { holder = HeldRun n; next_run = 3; runs = run n status ∷ others }
 
 -- a request of the workspace, with an ID or none, at a moment
+abbrev sent : ℕ → WsAct → Option (List ℕ) → List ℕ → Ask
+sent at what id body = requests at false (record { caller = codes "acme"; secret = codes "wwwwwwwwwwwwwwww"; org = codes "acme"; act = OfWorkspace net what; lock_id = id }) None body
+
 abbrev asks_at : ℕ → WsAct → Option (List ℕ) → Ask
-asks_at at what id = requests at false (record { caller = codes "acme"; secret = codes "wwwwwwwwwwwwwwww"; org = codes "acme"; act = OfWorkspace net what; lock_id = id }) None (codes "{\"key\":\"k1\"}")
+asks_at at what id = sent at what id (codes "{\"key\":\"k1\"}")
 
 abbrev asks : WsAct → Option (List ℕ) → Ask
 asks what id = asks_at 1_700_000_000 what id
@@ -160,10 +163,10 @@ lock_ended_by_a_purge law =
     subst (λ (a : Act). Releases a x1) (is_one (PurgeAct (Some x1)) ends.0 ends.1) ends.2
 
 -- two runs are active
-two_active_runs : OneRunIsActive net (accepted (asks Read None) (held_by 1 Planning (run 2 Planned ∷ [])) (held_by 1 Planning (run 2 Planned ∷ [])) ∷ []) → ⊥
+two_active_runs : OneRunAtATime net (accepted (asks Read None) (held_by 1 Planning (run 2 Planned ∷ [])) (held_by 1 Planning (run 2 Planned ∷ [])) ∷ []) → ⊥
 two_active_runs law = omega (arith, law.0)
 
-one_active_run : OneRunIsActive net (accepted (asks Read None) (held_by 1 Planning (run 2 Pending ∷ [])) (held_by 1 Planning (run 2 Pending ∷ [])) ∷ [])
+one_active_run : OneRunAtATime net (accepted (asks Read None) (held_by 1 Planning (run 2 Pending ∷ [])) (held_by 1 Planning (run 2 Pending ∷ [])) ∷ [])
 one_active_run = (omega arith, tt)
 
 -- run 2 starts before run 1
@@ -177,7 +180,7 @@ abbrev goes_on_with_1 : Entry
 goes_on_with_1 = accepted (asks (ReportRun 2 ReportApplied) None) (record waits { holder = HeldRun 2; runs = run 1 Pending ∷ run 2 Planning ∷ [] })
     (record waits { holder = HeldRun 1; runs = run 1 Planning ∷ run 2 Applied ∷ [] })
 
-newest_run_first : RunsStartInOrder net (begins_with_2 ∷ reads ∷ goes_on_with_1 ∷ []) → ⊥
+newest_run_first : StartsRise net (begins_with_2 ∷ reads ∷ goes_on_with_1 ∷ []) → ⊥
 newest_run_first law = omega (arith, (law.0 2 1 refl).1.0 refl)
 
 -- a purge that was accepted came again to what it left, and changed something
@@ -197,6 +200,30 @@ repeat_that_changes law =
     (law.0 refl (λ act is. subst IsRepeatable (sym (is_one (PurgeAct None) act is)) tt) refl).0 (1_700_000_060, refl) refl in
     omega (arith, ap next_of same)
 
+abbrev is_free_now : Option Workspace → Bool
+is_free_now None = true
+is_free_now (Some w) = is_nobody w.holder
+
+-- an UNLOCK that was accepted came again to the run that it let start, and took its hold
+abbrev waiting_1 : Workspace
+waiting_1 = record (locked_before 1) { next_run = 2; runs = run 1 Pending ∷ [] }
+
+abbrev started_1 : Workspace
+started_1 = record waiting_1 { holder = HeldRun 1; released = Some x1; runs = run 1 Planning ∷ [] }
+
+abbrev releases : Entry
+releases = accepted (sent 1_700_000_000 Unlock None (codes "{\"ID\":\"x1\"}")) waiting_1 started_1
+
+abbrev releases_again : Entry
+releases_again = accepted (sent 1_700_000_060 Unlock None (codes "{\"ID\":\"x1\"}")) started_1 (record started_1 { holder = Nobody })
+
+release_that_frees_a_run : RepeatsLeaveIt net (releases ∷ releases_again ∷ []) → ⊥
+unfolding serde_json_on_literals chars is_utf8 lock_id_of
+release_that_frees_a_run law =
+    let same = (law.0 refl (λ act is. subst IsRepeatable (sym (is_one (UnlockAct x1) act is)) tt) refl).0 (1_700_000_060, refl) refl in
+    let apart : true ≡ false = ap is_free_now same in
+    let none : ⊥ = cc apart in none
+
 -- an action that was accepted came again much later, and changed something
 abbrev confirms : Entry
 confirms = accepted (asks (ReportRun 1 Confirm) None) (held_by 1 Planned []) (held_by 1 Applying [])
@@ -206,10 +233,6 @@ ends = accepted (asks (ReportRun 1 ReportApplied) None) (held_by 1 Applying []) 
 
 abbrev confirms_again : Entry
 confirms_again = accepted (asks_at 1_700_000_060 (ReportRun 1 Confirm) None) (record empty { next_run = 3; runs = run 1 Applied ∷ [] }) (held_by 1 Applying [])
-
-abbrev is_free_now : Option Workspace → Bool
-is_free_now None = true
-is_free_now (Some w) = is_nobody w.holder
 
 action_taken_twice : DoneOnceIsDone net (confirms ∷ ends ∷ confirms_again ∷ []) → ⊥
 action_taken_twice law =

@@ -43,7 +43,7 @@ use Rattle.serve.specs.Checks.{spelt, act_of, checked}
 use Rattle.serve.specs.Steps.{Said, replies, answer_to, seen_at, carried, step}
 use Rattle.serve.specs.Service.{with_own, is_own, own_asks}
 use Rattle.serve.specs.Custody.{NamesIn, Names, CarriesId, IsActOn, ReleasesLock, asked_again, MayRepeat, IsAccepted}
-use Rattle.serve.specs.Book.{Entry, book, BooksAreOfTheRun, if_so, put_if, as_long_as, begun_periods, InEachPeriod, is_lock, is_held, is_run, life, AsksOf, AsksFor, CarriesNoId, IsAcceptedUpdate, IsAcceptedPurge, next_version, MakesVersion, Writes, IsApplying, starts, Repeats, IsDoneOnce, LocksKeepOthersOut, RunsKeepOthersOut, NoIdWhereNobodyHolds, LocksEndByUnlock, OneRunIsActive, RunsStartInOrder, RepeatsLeaveIt, DoneOnceIsDone, OfEachBook}
+use Rattle.serve.specs.Book.{Entry, book, BooksAreOfTheRun, if_so, put_if, as_long_as, begun_periods, InEachPeriod, is_lock, is_held, is_run, life, AsksOf, AsksFor, CarriesNoId, IsAcceptedUpdate, IsAcceptedPurge, next_version, MakesVersion, Writes, IsApplying, starts, Repeats, IsDoneOnce, LocksKeepOthersOut, RunsKeepOthersOut, NoIdWhereNobodyHolds, LocksEndByUnlock, OneRunAtATime, StartsRise, RepeatsLeaveIt, DoneOnceIsDone, OfEachBook}
 use Rattle.serve.specs.Inner.Taking.{IsTimely, RunsTo}
 use Rattle.serve.proofs.CheckLemmas.{Passes, order_passes, list_passes, act_in_range}
 use Rattle.serve.proofs.RecordLemmas.{standing_at}
@@ -420,7 +420,7 @@ one_active : (o : Option Workspace) → IsLawfulIfThere o → IfSome o (λ w. le
 one_active None lawful = tt
 one_active (Some v) lawful = one_is_active v lawful
 
-pub one_run_is_active : (ws : List ℕ) (w : Option Workspace) (es : List Entry) → AreLegal ws w es → OneRunIsActive ws es
+pub one_run_is_active : (ws : List ℕ) (w : Option Workspace) (es : List Entry) → AreLegal ws w es → OneRunAtATime ws es
 one_run_is_active ws w es legal = all_of (IsLegal ws) _ es (λ e is. one_active e.after is.last) legal.1
 
 -- who starts
@@ -477,7 +477,7 @@ above ws n m f u legal b below is =
     let one : s.1 ≡ u = same_workspace f.before s.1 u s.3 b in
     starts_above s.0.act s.0.now u s.2 n m s.0.range s.0.moment (lawful_at ws f u legal b) (sym (leaves_of ws f s.0 u b) ∙ s.4) below (subst (λ (w : Workspace). Starts m w s.2) one s.5)
 
-pub runs_start_in_order : (ws : List ℕ) (w : Option Workspace) (es : List Entry) → AreLegal ws w es → RunsStartInOrder ws es
+pub runs_start_in_order : (ws : List ℕ) (w : Option Workspace) (es : List Entry) → AreLegal ws w es → StartsRise ws es
 runs_start_in_order ws w [] legal = tt
 runs_start_in_order ws w (e ∷ es) legal = (
   (λ n m is.

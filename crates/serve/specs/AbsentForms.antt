@@ -45,7 +45,7 @@ pub record IsFormOf (bytes other org ws : List ℕ) : Type 0 where
   pub names : NamesInstead target aim org ws
 
 -- at a place of a run: the request that came, what it asks, what was asked before it, and its reply
-pub record Answered (steps : List Step) (texts : List (List ℕ)) : Type 0 where
+pub record AnsweredRequest (steps : List Step) (texts : List (List ℕ)) : Type 0 where
   pub place : ℕ
   pub at : ℕ
   pub bytes : List ℕ
@@ -67,12 +67,12 @@ record_before rows org earlier = own_record (rows org) (own_asks (organization o
 -- the reply to a request whose path isn't its caller's organization's, and which needs a workspace, is the text of the machine's answer to
 -- each of its absent forms, from the record of the caller's organization before it
 abbrev pub RepliesAreThoseOfAbsentForms : List Step → (List ℕ → Option Organization) → List (List ℕ) → Type 0
-RepliesAreThoseOfAbsentForms steps rows texts = (a : Answered steps texts) (other org ws : List ℕ) (ask : Ask) → is_in_reach a.asked ≡ false → NeedsWorkspace a.asked.act
+RepliesAreThoseOfAbsentForms steps rows texts = (a : AnsweredRequest steps texts) (other org ws : List ℕ) (ask : Ask) → is_in_reach a.asked ≡ false → NeedsWorkspace a.asked.act
     → workspace_in (record_before rows a.asked.caller a.earlier) ws ≡ None → IsFormOf a.bytes other org ws → Asks a.at other ask
     → IsText (step (record_before rows a.asked.caller a.earlier) ask).answer a.text
 
 -- and whatever it asks, PUT of a workspace and the list of workspaces too: where its caller is known and has the role, the reply is the text of not-found
 abbrev pub OutOfReachRepliesNotFound : List Step → (List ℕ → Option Organization) → List (List ℕ) → Type 0
-OutOfReachRepliesNotFound steps rows texts = (a : Answered steps texts) (token : Token) → is_in_reach a.asked ≡ false
+OutOfReachRepliesNotFound steps rows texts = (a : AnsweredRequest steps texts) (token : Token) → is_in_reach a.asked ≡ false
     → known_caller (record_before rows a.asked.caller a.earlier) a.asked ≡ Ok token → may_do token a.asked ≡ Ok tt
     → IsText (replies a.awaited a.at (refused_answer NotFound (error_text NotFound) false)) a.text

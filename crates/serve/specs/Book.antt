@@ -191,14 +191,14 @@ abbrev pub LocksEndByUnlock : List ℕ → List Entry → Type 0
 LocksEndByUnlock ws es = (id : List ℕ) → InEachPeriod (is_held (is_lock id)) (λ e. is_held (is_lock id) e.after ≡ false → Names e.ask ws × ReleasesLock e.ask id × IsAccepted e.said) es
 
 -- after each step at most one queued run is planning, planned or applying
-abbrev pub OneRunIsActive : List ℕ → List Entry → Type 0
-OneRunIsActive ws es = AllByRecursion (λ (e : Entry). IfSome e.after (λ w. length (filter is_active_run w.runs) ≤ 1)) es
+abbrev pub OneRunAtATime : List ℕ → List Entry → Type 0
+OneRunAtATime ws es = AllByRecursion (λ (e : Entry). IfSome e.after (λ w. length (filter is_active_run w.runs) ≤ 1)) es
 
 -- of two runs that start in the life of one workspace, the later one has the greater number
-abbrev pub RunsStartInOrder : List ℕ → List Entry → Type 0
-RunsStartInOrder ws [] = ⊤
-RunsStartInOrder ws (e ∷ es) =
-    ((n m : ℕ) → starts n e ≡ true → AllByRecursion (λ (f : Entry). starts m f ≡ true → n < m) (life e es)) × RunsStartInOrder ws es
+abbrev pub StartsRise : List ℕ → List Entry → Type 0
+StartsRise ws [] = ⊤
+StartsRise ws (e ∷ es) =
+    ((n m : ℕ) → starts n e ≡ true → AllByRecursion (λ (f : Entry). starts m f ≡ true → n < m) (life e es)) × StartsRise ws es
 
 -- what was accepted and comes again, while the workspace is as the first left it, leaves it so: all but the creation of a run without a key
 abbrev pub RepeatsLeaveIt : List ℕ → List Entry → Type 0

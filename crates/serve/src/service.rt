@@ -11,7 +11,7 @@ ghost use Rattle.serve.specs.Inner.Taking.{IsOnOne};
 ghost use Rattle.machine.specs.Keeping.{Looks};
 ghost use Rattle.machine.specs.declared.keeps.OrgRow.{OrgRow};
 ghost use Rattle.serve.specs.AbsentForms.{RepliesAreThoseOfAbsentForms, OutOfReachRepliesNotFound};
-ghost use Rattle.serve.specs.Book.{LocksKeepOthersOut, RunsKeepOthersOut, NoIdWhereNobodyHolds, LocksEndByUnlock, OneRunIsActive, RunsStartInOrder, RepeatsLeaveIt, DoneOnceIsDone, OfEachBook};
+ghost use Rattle.serve.specs.Book.{LocksKeepOthersOut, RunsKeepOthersOut, NoIdWhereNobodyHolds, LocksEndByUnlock, OneRunAtATime, StartsRise, RepeatsLeaveIt, DoneOnceIsDone, OfEachBook};
 ghost use Rattle.serve.specs.Runs.{IsOwnMachine, IsOwnRecord, AreOwnReplies};
 
 use crate::commands::{admin_word, command, org_lines};
@@ -320,10 +320,10 @@ impl<K: Keep> Service<K> {
         ensures lock_ends { K.clean self.new.keep → K.sound self.old.keep → OfEachBook LocksEndByUnlock (take self.new.taken steps.now) (K.rows self.old.keep) }
 
         // After each step at most one queued run is active.
-        ensures one_active { K.clean self.new.keep → K.sound self.old.keep → OfEachBook OneRunIsActive (take self.new.taken steps.now) (K.rows self.old.keep) }
+        ensures one_active { K.clean self.new.keep → K.sound self.old.keep → OfEachBook OneRunAtATime (take self.new.taken steps.now) (K.rows self.old.keep) }
 
         // In a workspace's life queued runs start in rising number.
-        ensures starts_rise { K.clean self.new.keep → K.sound self.old.keep → OfEachBook RunsStartInOrder (take self.new.taken steps.now) (K.rows self.old.keep) }
+        ensures starts_rise { K.clean self.new.keep → K.sound self.old.keep → OfEachBook StartsRise (take self.new.taken steps.now) (K.rows self.old.keep) }
 
         // What was accepted and comes again, while the workspace is as it left it, leaves it so; but for a run made without a key.
         ensures repeats { K.clean self.new.keep → K.sound self.old.keep → OfEachBook RepeatsLeaveIt (take self.new.taken steps.now) (K.rows self.old.keep) }
