@@ -1,6 +1,6 @@
 -- The book of a workspace: what the rules, or nothing, made of each step, and what follows over many steps.
-use Rattle.std.proofs.Common.{◌≡◌, ◌⊎◌, inl, inr, ℕ, ◌<◌, ◌≤◌, Bool, true, false, not, ◌&&◌, List, [], ◌∷◌, length, filter, Option, Some, None, option_map, Result, Ok, Err, IfSome, IsSome, is_some, refl, sym, ap, subst, ◌∙◌, arith}
-use Rattle.std.specs.List.{AllByRecursion}
+use Rattle.std.proofs.Common.{◌≡◌, ◌⊎◌, inl, inr, ℕ, ◌<◌, ◌≤◌, Bool, true, false, not, ◌&&◌, List, [], ◌∷◌, cond, ◌++◌, length, filter, Option, Some, None, option_map, Result, Ok, Err, IfSome, IsSome, is_some, refl, sym, ap, subst, ◌∙◌, arith}
+use Rattle.std.specs.List.{AllByRecursion, flat_map}
 use Rattle.std.specs.Str.{bytes_eq}
 use Rattle.std.specs.FinMap.{get}
 use Rattle.std.proofs.lemmas.Bool.{eqb-true}
@@ -43,7 +43,7 @@ use Rattle.serve.specs.Checks.{spelt, act_of, checked}
 use Rattle.serve.specs.Steps.{Said, replies, answer_to, seen_at, carried, step}
 use Rattle.serve.specs.Service.{with_own, is_own, own_asks}
 use Rattle.serve.specs.Custody.{NamesIn, Names, CarriesId, IsActOn, ReleasesLock, asked_again, MayRepeat, IsAccepted}
-use Rattle.serve.specs.Book.{Entry, book, BooksAreOfTheRun, if_so, put_if, as_long_as, begun_periods, InEachPeriod, is_lock, is_held, is_run, life, AsksOf, AsksFor, CarriesNoId, IsAcceptedUpdate, IsAcceptedPurge, next_version, MakesVersion, Writes, IsApplying, starts, Repeats, IsDoneOnce, LocksKeepOthersOut, RunsKeepOthersOut, NoIdWhereNobodyHolds, LocksEndByUnlock, OneRunAtATime, StartsRise, RepeatsLeaveIt, DoneOnceIsDone, OfEachBook}
+use Rattle.serve.specs.Book.{Entry, book, BooksAreOfTheRun, if_so, put_if, as_long_as, begun_periods, periods, PeriodsAreTheStepsBetween, InEachPeriod, is_lock, is_held, is_run, life, AsksOf, AsksFor, CarriesNoId, IsAcceptedUpdate, IsAcceptedPurge, next_version, MakesVersion, Writes, IsApplying, starts, Repeats, IsDoneOnce, LocksKeepOthersOut, RunsKeepOthersOut, NoIdWhereNobodyHolds, LocksEndByUnlock, OneRunAtATime, StartsRise, RepeatsLeaveIt, DoneOnceIsDone, OfEachBook}
 use Rattle.serve.specs.Inner.Taking.{IsTimely, RunsTo}
 use Rattle.serve.proofs.CheckLemmas.{Passes, order_passes, list_passes, act_in_range}
 use Rattle.serve.proofs.RecordLemmas.{standing_at}
@@ -195,6 +195,46 @@ module _ (is : Option Workspace → Bool) (P : Entry → Type 0) where
       chosen : (b : Bool) → is e.before ≡ b → AllByRecursion (λ (period : List Entry). AllByRecursion P period) (put_if b (as_long_as is (e ∷ es)) (begun_periods is (e ∷ es)))
       chosen true t = (in_period (e ∷ es) w joins (ap is (sym joins.0) ∙ t) all, in_begun (e ∷ es) w joins all)
       chosen false t = in_begun (e ∷ es) w joins all
+
+-- the periods, one after the other
+book_joins : (ws : List ℕ) (r : Option Organization) (asks : List Ask) → Joins (workspace_in r ws) (book ws r asks)
+book_joins ws r [] = tt
+book_joins ws r (a ∷ asks) = (refl, book_joins ws (step r a).left asks)
+
+module _ (is : Option Workspace → Bool) where
+  abbrev held_steps : List Entry → List Entry
+  held_steps es = filter (λ (e : Entry). is e.before) es
+
+  abbrev joined : List (List Entry) → List Entry
+  joined ps = flat_map (λ (period : List Entry). period) ps
+
+  from_here : (es : List Entry) (w : Option Workspace) → Joins w es → if_so (is w) (as_long_as is es) ++ joined (begun_periods is es) ≡ held_steps es
+  from_here [] w joins = by_test (is w)
+    where
+      by_test : (b : Bool) → if_so {A = Entry} b [] ++ [] ≡ []
+      by_test true = refl
+      by_test false = refl
+  from_here (e ∷ es) w joins = ap (λ (b : Bool). if_so b (as_long_as is (e ∷ es)) ++ joined (begun_periods is (e ∷ es))) (ap is (sym joins.0)) ∙ by_tests (is e.before) (is e.after) (from_here es e.after joins.1)
+    where
+      by_tests : (b c : Bool) → if_so c (as_long_as is es) ++ joined (begun_periods is es) ≡ held_steps es
+          → if_so b (e ∷ if_so c (as_long_as is es)) ++ joined (put_if (not b && c) (as_long_as is es) (begun_periods is es)) ≡ cond b (e ∷ held_steps es) (held_steps es)
+      by_tests true c h = ap (λ (xs : List Entry). e ∷ xs) h
+      by_tests false true h = h
+      by_tests false false h = h
+
+  from_the_start : (es : List Entry) (w : Option Workspace) → Joins w es → joined (periods is es) ≡ held_steps es
+  from_the_start [] w joins = refl
+  from_the_start (e ∷ es) w joins = ap joined_by (ap is joins.0) ∙ chosen (is w) ∙ from_here (e ∷ es) w joins
+    where
+      joined_by : Bool → List Entry
+      joined_by b = joined (put_if b (as_long_as is (e ∷ es)) (begun_periods is (e ∷ es)))
+
+      chosen : (b : Bool) → joined (put_if b (as_long_as is (e ∷ es)) (begun_periods is (e ∷ es))) ≡ if_so b (as_long_as is (e ∷ es)) ++ joined (begun_periods is (e ∷ es))
+      chosen true = refl
+      chosen false = refl
+
+pub periods_are_the_steps_between : PeriodsAreTheStepsBetween
+periods_are_the_steps_between is ws r asks = from_the_start is (book ws r asks) (workspace_in r ws) (book_joins ws r asks)
 
 -- through a life: what is kept from step to step, and what it gives of each
 module _ (ws : List ℕ) (I : Workspace → Type 0) (P : Entry → Type 0)

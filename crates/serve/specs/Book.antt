@@ -1,7 +1,7 @@
 -- The book of a workspace: each step of its organization's own machine, with the workspace before and after it; its periods; and
 -- what custody says of it.
 use Rattle.std.specs.Prelude.{◌≡◌, ◌<◌, ◌≤◌, ◌⊎◌, ℕ, Bool, true, false, not, ◌&&◌, List, [], ◌∷◌, length, map, filter, Option, Some, None, IfSome, IsSome, is_some, ⊤}
-use Rattle.std.specs.List.{AllByRecursion}
+use Rattle.std.specs.List.{AllByRecursion, flat_map}
 use Rattle.std.specs.Str.{bytes_eq}
 use Rattle.basis.specs.Names.{run_id}
 use Rattle.basis.specs.declared.runs.RunStatus.TheVariants.{Applying}
@@ -74,6 +74,11 @@ begun_periods is (e ∷ es) = put_if (not (is e.before) && is e.after) (as_long_
 abbrev pub periods : (Option Workspace → Bool) → List Entry → List (List Entry)
 periods is [] = []
 periods is (e ∷ es) = put_if (is e.before) (as_long_as is (e ∷ es)) (begun_periods is (e ∷ es))
+
+-- the periods, one after the other, are the steps before which it is so
+abbrev pub PeriodsAreTheStepsBetween : Type 0
+PeriodsAreTheStepsBetween = (is : Option Workspace → Bool) (ws : List ℕ) (r : Option Organization) (asks : List Ask)
+    → flat_map (λ (period : List Entry). period) (periods is (book ws r asks)) ≡ filter (λ (e : Entry). is e.before) (book ws r asks)
 
 -- of each step in each of these periods
 abbrev pub InEachPeriod : (Option Workspace → Bool) → (Entry → Type 0) → List Entry → Type 0

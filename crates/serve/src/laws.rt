@@ -1,7 +1,7 @@
 //! Laws of steps and runs, each the contract of a call that does nothing.
 ghost use Rattle.serve.specs.Laws.{OneAsking, TwoWorlds, SameStepsAskTheSame, RefusalsChangeNothing, OutOfReachIsNotFound, OutOfReachIsAsAbsent};
 ghost use Rattle.serve.specs.Custody.{StepsChangeWhatTheyName, LocksAreKept, StepsAreRepeatable, RepeatsLeaveTheWorkspace, LockedTellsTheHolder, SameBytesAskAgain, RequestsChangeTheirWorkspaceAlone};
-ghost use Rattle.serve.specs.Book.{BooksAreOfTheRun};
+ghost use Rattle.serve.specs.Book.{BooksAreOfTheRun, PeriodsAreTheStepsBetween};
 
 /// The steps of a list ask one list of things.
 pub fn one_asking()
@@ -79,4 +79,9 @@ pub fn requests_change_their_workspace_alone()
 /// the workspace that it leaves.
 pub fn books_are_of_the_run()
     ensures { BooksAreOfTheRun }
+{}
+
+/// The periods of a book, one after the other, are the steps before which what they are of is so.
+pub fn periods_are_the_steps_between()
+    ensures { PeriodsAreTheStepsBetween }
 {}
