@@ -5,15 +5,13 @@ use Rattle.basis.specs.Checks.{or_refused, and_then}
 use Rattle.basis.specs.Names.{is_org_name, is_ws_name}
 use Rattle.basis.specs.Numbers.{number_of}
 use Rattle.basis.specs.declared.refusals.Refusal.{Refusal}
-use Rattle.basis.specs.declared.refusals.Refusal.TheVariants.{NotFound, NoRoute, NoMethod, BadQuery}
+use Rattle.basis.specs.declared.refusals.Refusal.TheVariants.{NoRoute, NoMethod, BadQuery}
 use Rattle.basis.specs.declared.runs.RunAction.{RunAction}
-use Rattle.machine.specs.Records.{workspace_in}
-use Rattle.machine.specs.declared.records.Token.{Token}
 use Rattle.machine.specs.declared.records.Organization.{Organization}
-use Rattle.route.specs.Acts.{verb_of, listing_act, workspace_act, unlock_of, state_act, runs_act, got, posted, act_at, allow_of, act_asked, act_read}
+use Rattle.route.specs.Acts.{verb_of, listing_act, workspace_act, runs_act, got, posted, act_at, allow_of, act_asked, act_read}
 use Rattle.route.specs.Asks.{Asking, query_text, is_bodyless, asked_made, with_query, asked_at, asked_read, asking_of, asked_of, asks}
 use Rattle.route.specs.Asks as route
-use Rattle.route.specs.Paths.{parts_of, action_of, of_workspace, of_number, of_action, after_workspace, after_org, in_org, resource_at, resource_of}
+use Rattle.route.specs.Paths.{parts_of, action_of, of_workspace, of_number, of_action, after_workspace, in_org, resource_at, resource_of}
 use Rattle.route.specs.Queries.{query_read, lock_id_read, name_after, listed_from, ws_begun_after, begun_after, after_read}
 use Rattle.route.specs.Tokens.{bearer_token_read}
 use Rattle.route.specs.declared.acts.Asked.{Asked}
@@ -25,7 +23,6 @@ use Rattle.route.specs.declared.paths.OrgResource.{OrgResource}
 use Rattle.route.specs.declared.paths.Resource.{Resource}
 use Rattle.route.specs.declared.paths.Resource.TheVariants.{AllWorkspaces, Workspace, State, AllVersions, Version, AllRuns, Run, Action}
 use Rattle.route.specs.declared.queries.Query.{Query}
-use Rattle.route.specs.declared.tokens.BearerToken.{BearerToken}
 use Rattle.route.specs.declared.verbs.Verb.{Verb}
 use Rattle.route.specs.declared.verbs.Verb.TheVariants.{Get, Post, Put, Delete, Lock, Unlock}
 use Rattle.wire.specs.declared.messages.Message.{Message}
@@ -36,13 +33,12 @@ use Rattle.wire.proofs.ReadingLemmas.{reads_one}
 use Rattle.wire.proofs.RetargetLemmas.{retargeted}
 use Rattle.serve.specs.declared.steps.Step.{Step}
 use Rattle.serve.specs.declared.steps.Step.TheVariants.{Request}
-use Rattle.serve.specs.Asks.{Ask, requests, Owner, organization}
-use Rattle.serve.specs.Checks.{is_in_reach, known_caller, may_do}
-use Rattle.serve.specs.Laws.{renamed, NeedsWorkspace}
+use Rattle.serve.specs.Asks.{Ask, requests, organization}
+use Rattle.serve.specs.Laws.{renamed}
 use Rattle.serve.specs.Steps.{Said, Answered as StepAnswered, replies, step, own_said, own_record}
 use Rattle.serve.specs.Service.{Asks, IsAsked, AreAsked, IsText, AreTexts, asked_by, ask_of, is_own, with_own, own_asks, replies_at, same_owner}
 use Rattle.serve.specs.Runs.{IsOwnMachine}
-use Rattle.serve.specs.AbsentForms.{NamesInstead, IsFormOf, AnsweredRequest, record_before, RepliesAreThoseOfAbsentForms, OutOfReachRepliesNotFound}
+use Rattle.serve.specs.AbsentForms.{IsFormOf, AnsweredRequest, record_before, RepliesAreThoseOfAbsentForms, OutOfReachRepliesNotFound}
 use Rattle.serve.proofs.CheckLemmas.{after_ok, passed}
 use Rattle.serve.proofs.LawLemmas.{out_of_reach_is_not_found, out_of_reach_is_as_absent}
 use Rattle.serve.proofs.RunLemmas.{asked_one, orgs_given}

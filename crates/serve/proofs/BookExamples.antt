@@ -1,15 +1,13 @@
 -- Small histories of one workspace: how its periods are cut, and, for each law of the book, one that breaks it.
-use Rattle.std.proofs.Common.{◌≡◌, inl, inr, ℕ, ◌<◌, Bool, true, false, List, [], ◌∷◌, Option, Some, None, Result, Ok, Err, refl, sym, ap, subst, ◌∙◌, arith}
+use Rattle.std.proofs.Common.{◌≡◌, inl, inr, ℕ, Bool, true, false, List, [], ◌∷◌, Option, Some, None, refl, sym, ap, subst, ◌∙◌, arith}
 use Rattle.std.specs.Prelude.{codes}
 use Rattle.std.specs.Fmt.{digits}
 use Rattle.std.specs.Str.{chars, is_utf8}
 use Rattle.basis.specs.Names.{run_id}
-use Rattle.basis.specs.declared.refusals.Refusal.{Refusal}
 use Rattle.basis.specs.declared.rows.RunAsk.{RunAsk}
 use Rattle.basis.specs.declared.runs.RunStatus.{RunStatus}
 use Rattle.basis.specs.declared.runs.RunStatus.TheVariants.{Pending, Planning, Planned, Applying, Applied}
-use Rattle.basis.specs.declared.runs.RunAction.{RunAction}
-use Rattle.basis.specs.declared.runs.RunAction.TheVariants.{ReportPlanned, Confirm, ReportApplied}
+use Rattle.basis.specs.declared.runs.RunAction.TheVariants.{Confirm, ReportApplied}
 use Rattle.serde_json.proofs.OnLiterals.{serde_json_on_literals}
 use Rattle.docs.specs.Documents.{lock_id_of, run_ask}
 use Rattle.machine.specs.Custody.{IsRepeatable, Releases}
@@ -17,18 +15,16 @@ use Rattle.machine.specs.Laws.{is_nobody}
 use Rattle.machine.specs.Workspaces.{new_workspace}
 use Rattle.machine.specs.declared.acts.Act.{Act}
 use Rattle.machine.specs.declared.acts.Act.TheVariants.{PurgeState as PurgeAct, Unlock as UnlockAct, MakeRun as MakeRunAct, ReportRun as ReportRunAct}
-use Rattle.machine.specs.declared.records.Holder.{Holder}
 use Rattle.machine.specs.declared.records.Holder.TheVariants.{Nobody, Lock as HeldLock, Run as HeldRun}
 use Rattle.machine.specs.declared.records.Run.{Run}
-use Rattle.machine.specs.declared.records.Version.{Version}
 use Rattle.machine.specs.declared.records.Workspace.{Workspace}
 use Rattle.route.specs.declared.acts.AskedAct.TheVariants.{OfWorkspace}
 use Rattle.route.specs.declared.acts.WsAct.{WsAct}
-use Rattle.route.specs.declared.acts.WsAct.TheVariants.{Read, Put, Delete, ReadState, UpdateState, PurgeState, Lock, Unlock, MakeRun, ReportRun}
+use Rattle.route.specs.declared.acts.WsAct.TheVariants.{Read, Put, Delete, UpdateState, PurgeState, Lock, Unlock, MakeRun, ReportRun}
 use Rattle.wire.specs.Replies.{empty_answer}
 use Rattle.serve.specs.Asks.{Ask, requests}
-use Rattle.serve.specs.Steps.{Said, replies}
-use Rattle.serve.specs.Book.{Entry, as_long_as, periods, is_held, is_lock, is_run, life, IsApplying, starts, LocksKeepOthersOut, RunsKeepOthersOut, NoIdWhereNobodyHolds, LocksEndByUnlock, OneRunAtATime, StartsRise, RepeatsLeaveIt, DoneOnceIsDone}
+use Rattle.serve.specs.Steps.{replies}
+use Rattle.serve.specs.Book.{Entry, periods, is_held, is_lock, life, IsApplying, LocksKeepOthersOut, RunsKeepOthersOut, NoIdWhereNobodyHolds, LocksEndByUnlock, OneRunAtATime, StartsRise, RepeatsLeaveIt, DoneOnceIsDone}
 use Rattle.serve.proofs.CustodyLemmas.{is_one}
 
 abbrev net : List ℕ

@@ -1,5 +1,5 @@
 -- Absent forms of a request that is out of its caller's reach: the same request on a workspace that the caller's own organization lacks.
-use Rattle.std.specs.Prelude.{◌≡◌, ℕ, Bool, true, false, List, [], ◌∷◌, take, slice_get, Option, Some, None, Ok}
+use Rattle.std.specs.Prelude.{◌≡◌, ℕ, Bool, true, false, List, ◌∷◌, take, slice_get, Option, Some, None, Ok}
 use Rattle.basis.specs.Names.{is_org_name, is_ws_name}
 use Rattle.basis.specs.declared.refusals.Refusal.TheVariants.{NotFound}
 use Rattle.docs.specs.Bodies.{error_text}

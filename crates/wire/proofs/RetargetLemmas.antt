@@ -1,6 +1,6 @@
 -- The head that the grammar prints ends where its printed form ends, and a head with another target is read as the same message but for path and query.
-use Rattle.std.proofs.Common.{◌≡◌, ℕ, suc, ◌+◌, ◌<◌, ◌≤◌, List, [], ◌∷◌, ◌++◌, length, take, drop, Bool, true, false, cond, nat_le, ◌==◌, ◌||◌, ◌&&◌, not, Option, Some, None, option_map, is_none, is_some, refl, sym, ap, subst, ◌∙◌, arith, length-append, append_assoc, append-nil, eqb-true}
-use Rattle.std.specs.Prelude.{All, codes, IsTrue, if◌then◌else◌}
+use Rattle.std.proofs.Common.{◌≡◌, ℕ, suc, ◌+◌, ◌<◌, ◌≤◌, List, [], ◌∷◌, ◌++◌, length, take, drop, Bool, true, false, cond, nat_le, ◌==◌, ◌||◌, ◌&&◌, Option, Some, None, option_map, is_none, is_some, refl, sym, ap, subst, ◌∙◌, arith, length-append, append_assoc, append-nil, eqb-true}
+use Rattle.std.specs.Prelude.{All, if◌then◌else◌}
 use Rattle.std.specs.List.{flat_map}
 use Rattle.std.proofs.Math.Seq.{take-append_seam, drop-append_seam}
 use Rattle.std.proofs.lemmas.Bool.{le-leb, leb-true, ne_eqb, leb-false}
@@ -14,12 +14,11 @@ use Rattle.wire.specs.declared.heads.TheConstants.{MAX_HEAD}
 use Rattle.wire.specs.declared.framing.TheConstants.{MAX_FEEDS}
 use Rattle.wire.specs.declared.framing.Frame.{Frame}
 use Rattle.wire.specs.declared.messages.Message.{Message}
-use Rattle.wire.specs.Heads.{is_break, has_feed, empty_line, text_len, head_len, HeadEnd, Whole, head_end_by, head_end_of, feeds_of}
-use Rattle.wire.specs.Fields.{Fields}
+use Rattle.wire.specs.Heads.{has_feed, empty_line, text_len, head_len, HeadEnd, Whole, head_end_by, head_end_of, feeds_of}
 use Rattle.wire.specs.Framing.{Parts, parts_of, crowded, parsed, is_without_host, repeats_a_field, is_framed_twice, is_chunked, length_refusal, content_length, max_body, refusal_of, frame_of, Verdict, refuses, accepts, judged_by, judged}
-use Rattle.wire.specs.Messages.{Reading, unfinished, refused, whole, framed_message, reading_by, ReadsBy, Reads}
+use Rattle.wire.specs.Messages.{unfinished, refused, whole, framed_message, reading_by, ReadsBy, Reads}
 use Rattle.wire.specs.Targets.{origin_of, path_of, query_of}
-use Rattle.wire.specs.Retargeting.{SameButTarget, RetargetedReads}
+use Rattle.wire.specs.Retargeting.{RetargetedReads}
 use Rattle.wire.proofs.FeedLemmas.{count, count-append, feeds_blank, same_break}
 use Rattle.wire.proofs.ReadingLemmas.{reads_one}
 
