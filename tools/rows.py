@@ -662,6 +662,39 @@ RESENT = [
     request(A, "PUT", "workspaces/net", None, (200, '{"auto_apply":false,"holder":null,"name":"net","version":1}')),
 ]
 
+# Each request is sent twice, and then the workspace, its versions and its runs are looked at: they are as the first left them.
+S1, S2 = version(1, 1), version(2, 2)
+
+
+def twice(sent, net, versions, runs):
+    return [sent, sent, get("workspaces/net", net), get("versions/net", listed(*versions)), get("runs/net", listed(*[r[1] for r in runs]))]
+
+
+TWICE_LOCKED = (
+    twice(request(W, "LOCK", "state/net", '{"ID":"x1"}', OK), shown(holder="x1"), [], [])
+    + twice(post(W, state(1), OK, "state/net?ID=x1"), shown(holder="x1", version=1), [S1], [])
+    + twice(make('{"key":"k1"}', run(1, "pending", key="k1")), shown(holder="x1", version=1), [S1], [run(1, "pending", key="k1")])
+    + twice(request(W, "UNLOCK", "state/net", '{"ID":"x1"}', OK), shown(holder="run-1", version=1), [S1], [run(1, "planning", key="k1")])
+)
+TWICE_RUN = (
+    twice(act(1, "planned", run(1, "planned", "planned", "k1")), shown(holder="run-1", version=1), [S1], [run(1, "planned", "planned", "k1")])
+    + twice(act(1, "confirm", run(1, "applying", "confirm", "k1")), shown(holder="run-1", version=1), [S1], [run(1, "applying", "confirm", "k1")])
+    + twice(post(W, state(2), OK, "state/net?ID=run-1"), shown(holder="run-1", version=2), [S1, S2], [run(1, "applying", "confirm", "k1")])
+    + twice(act(1, "applied", run(1, "applied", "applied", "k1")), shown(version=2), [S1, S2], [run(1, "applied", "applied", "k1")])
+)
+
+# The lock's ID released once more, the run's update once more, then everything as it was, and what the next run's number is.
+TWICE_AFTER = [
+    request(W, "UNLOCK", "state/net", '{"ID":"x1"}', OK),
+    post(W, state(2), (409, "not-held"), "state/net?ID=run-1"),
+    get("state/net", (200, state(2))),
+    get("workspaces/net", shown(version=2)),
+    get("versions/net", listed(S1, S2)),
+    get("runs/net", listed(run(1, "applied", "applied", "k1")[1])),
+    make('{"key":"k1"}', run(1, "applied", "applied", "k1")),
+    make('{"key":"k2"}', run(2, "planning", key="k2")),
+]
+
 # What each of two organizations sends.
 ACME = [
     admin("org-add acme"),
@@ -765,6 +798,9 @@ def lines():
     yield from table("ACME", "What one organization sends.", ACME)
     yield from table("BETA", "What another one sends.", BETA)
     yield from table("RESENT", "An organization, its token, a workspace, a state, and the two looked at.", RESENT)
+    yield from table("TWICE_LOCKED", "Under a lock, each request sent twice, and what there is after that.", TWICE_LOCKED)
+    yield from table("TWICE_RUN", "The run that waited, each request sent twice, and what there is after that.", TWICE_RUN)
+    yield from table("TWICE_AFTER", "Two of them once more, and what there is in the end.", TWICE_AFTER)
     for name, says, rows in TABLES:
         yield ""
         yield "// %s Each is sent after `SET_UP`." % says

@@ -17,4 +17,5 @@ pub mod RefusalLemmas
 pub mod VersionLemmas
 pub mod KeepLemmas
 pub mod QueueLemmas
+pub mod BookLemmas
 pub mod PageLemmas

@@ -40,7 +40,7 @@ use Rattle.machine.proofs.SettlingLemmas.{least_starts}
 use Rattle.machine.proofs.SettlesLemmas.{found_passes}
 use Rattle.machine.proofs.CustodyLemmas.{Becomes, update_becomes, Unlocks, purge_becomes, lock_becomes, unlock_becomes, force_becomes, key_is_there}
 
-abbrev numbers : List Run → List ℕ
+abbrev pub numbers : List Run → List ℕ
 numbers runs = map (λ (r : Run). r.number) runs
 
 one_left : (u v : Workspace) → Some u ≡ Some v → u ≡ v
@@ -92,7 +92,7 @@ none_active h n low (r ∷ runs) next le here rise all = passed (is_active_run r
     passed true t rest = absurd (omega (arith, holds_one h n r.number here (active_holds h r all.0 t), le, rise.0))
     passed false t rest = rest
 
-active_once : (h : Holder) (low : ℕ) (runs : List Run) (next : ℕ) → Rises low (numbers runs) next → AllByRecursion (IsRun h) runs → length (filter is_active_run runs) ≤ 1
+pub active_once : (h : Holder) (low : ℕ) (runs : List Run) (next : ℕ) → Rises low (numbers runs) next → AllByRecursion (IsRun h) runs → length (filter is_active_run runs) ≤ 1
 active_once h low [] next rise all = omega arith
 active_once h low (r ∷ runs) next rise all = passed (is_active_run r) refl (active_once h r.number runs next rise.2 all.1)
   where
@@ -100,7 +100,7 @@ active_once h low (r ∷ runs) next rise all = passed (is_active_run r) refl (ac
     passed true t rest = omega (arith, none_active h r.number r.number runs next (omega arith) (active_holds h r all.0 t) rise.2 all.1)
     passed false t rest = rest
 
-lawful_after : (act : Act) (now : ℕ) (s : Seen) (v : Workspace) → IsInRange act → IsMoment now → IsLawfulIfThere (standing s) → (rules act now s).left ≡ Some v → IsLawful v
+pub lawful_after : (act : Act) (now : ℕ) (s : Seen) (v : Workspace) → IsInRange act → IsMoment now → IsLawfulIfThere (standing s) → (rules act now s).left ≡ Some v → IsLawful v
 lawful_after act now s v range moment lawful e = subst IsLawfulIfThere e (rules_are_lawful act now s range moment lawful)
 
 pub one_run_is_active : OneRunIsActive
@@ -354,6 +354,28 @@ runs_start_in_order act now w v n range moment lawful e starts = by_after (after
     by_after (inr h) =
         subst (λ (x : Workspace). WaitedOrIsNew n w × AllByRecursion (λ (r : Run). is_waiting r ≡ true → n < r.number) x.runs) (sym h.2)
         (by_start h.0 h.1 h.0.holder refl (first_waiting h.0.runs) refl (ap (λ (x : Workspace). holds x.holder n) (sym h.2) ∙ starts.1))
+
+-- a run that waits after an act waited before it, or the act made it
+pub waited_before : (act : Act) (now : ℕ) (w v : Workspace) (n : ℕ) (r : Run) → IsLawful w → (rules act now (there w)).left ≡ Some v → run_of n v.runs ≡ Some r → is_waiting r ≡ true → WaitedOrIsNew n w
+waited_before act now w v n r lawful e found waits = by_after (after_act act now w v lawful e)
+  where
+    unbegun : (start : Option ℕ) (s : Run) → begun_by start s ≡ r → is_waiting s ≡ true
+    unbegun None s one = ap (λ (x : Run). is_waiting x) one ∙ waits
+    unbegun (Some m) s one = by_test (s.number == m) one
+      where
+        by_test : (b : Bool) → (record s { status = cond b Planning s.status }) ≡ r → is_waiting s ≡ true
+        by_test true one = absurd (let none : ⊥ = cc (ap (λ (x : Run). is_waiting x) one ∙ waits) in none)
+        by_test false one = ap (λ (x : Run). is_waiting x) one ∙ waits
+
+    by_run : (u : Workspace) → Settling w u → (start : Option ℕ) → (o : Option Run) → run_of n u.runs ≡ o → option_map (begun_by start) o ≡ Some r → WaitedOrIsNew n w
+    by_run u is start None at e = absurd (let none : ⊥ = cc in none)
+    by_run u is start (Some s) at e = is.waited n s at (unbegun start s (one_run (begun_by start s) r e))
+
+    by_after : After w v → WaitedOrIsNew n w
+    by_after (inl quietly) = inl (r, ap (run_of n) (sym quietly.0) ∙ found, waits)
+    by_after (inr h) =
+        let start : Option ℕ = to_start h.0.holder (first_waiting h.0.runs) in
+        by_run h.0 h.1 start (run_of n h.0.runs) refl (sym (run_of-started start n h.0) ∙ ap (λ (x : Workspace). run_of n x.runs) (sym h.2) ∙ found)
 
 -- ---- what becomes of a run
 

@@ -44,40 +44,48 @@ use Rattle.serve.specs.Asks.{Ask, silent, requests, commands}
 use Rattle.serve.specs.Asks as ask
 use Rattle.serve.specs.Checks.{spelt, act_of, checked}
 use Rattle.serve.specs.Steps.{Said, answer_to, seen_at, ruled_in, carried, request_step, command_step, step}
-use Rattle.serve.specs.Custody.{NamesIn, Names, StepsChangeWhatTheyName, IsActOn, IsInCustody, LocksAreKept, asked_again, MayRepeat, StepsAreRepeatable, IsAccepted, RepeatsLeaveTheWorkspace}
+use Rattle.serve.specs.Custody.{NamesIn, Names, StepsChangeWhatTheyName, IsActOn, IsInCustody, LocksAreKept, asked_again, MayRepeat, StepsAreRepeatable, IsAccepted, RepeatsLeaveTheWorkspace, SameBytesAskAgain, RequestsChangeTheirWorkspaceAlone}
 use Rattle.serve.proofs.CheckLemmas.{Passes, order_passes, list_passes}
 use Rattle.serve.proofs.RecordLemmas.{placed_as_it_was, placed_same, standing_at}
+use Rattle.serve.proofs.LawLemmas.{ruled_leaves}
+use Rattle.serve.specs.Service.{asked_by, ask_of}
+use Rattle.route.specs.Asks.{Asking, asked_of, asks}
+use Rattle.route.specs.Asks as route
+use Rattle.wire.specs.declared.messages.Message.{Message}
+use Rattle.wire.specs.Messages.{Reading, unfinished, whole}
+use Rattle.wire.specs.Messages as wire
+use Rattle.wire.proofs.ReadingLemmas.{reads_one}
 
-apart_from : (a b : List ℕ) → bytes_eq a b ≡ false → a ≢ b
+pub apart_from : (a b : List ℕ) → bytes_eq a b ≡ false → a ≢ b
 apart_from a b e same = let none : ⊥ = cc (sym e ∙ (bytes_eq-Decides a b).1 same) in none
 
-one_of : (w v : Workspace) → Some w ≡ Some v → w ≡ v
+pub one_of : (w v : Workspace) → Some w ≡ Some v → w ≡ v
 one_of w v e = cc
 
 -- the workspaces after the rules of one of them
-own_after : (r : Option Organization) (org ws : List ℕ) (act : Act) (now : ℕ) → IsSome r
+pub own_after : (r : Option Organization) (org ws : List ℕ) (act : Act) (now : ℕ) → IsSome r
     → workspace_in (ruled_in org ws r (rules act now (seen_at r ws))).left ws ≡ (rules act now (seen_at r ws)).left
 own_after None org ws act now some = absurd (let none : ⊥ = cc in none)
 own_after (Some o) org ws act now some = own_workspace o.workspaces ws (rules act now (seen_in o ws)).left
 
-other_after : (r : Option Organization) (org ws other : List ℕ) (act : Act) (now : ℕ) → other ≢ ws
+pub other_after : (r : Option Organization) (org ws other : List ℕ) (act : Act) (now : ℕ) → other ≢ ws
     → workspace_in (ruled_in org ws r (rules act now (seen_at r ws))).left other ≡ workspace_in r other
 other_after None org ws other act now apart = refl
 other_after (Some o) org ws other act now apart = other_workspace o.workspaces ws (rules act now (seen_in o ws)).left other apart
 
 -- a workspace that stands is the one that the rules see
-seen_there : (r : Option Organization) (ws : List ℕ) (w : Workspace) → workspace_in r ws ≡ Some w → seen_at r ws ≡ there w
+pub seen_there : (r : Option Organization) (ws : List ℕ) (w : Workspace) → workspace_in r ws ≡ Some w → seen_at r ws ≡ there w
 seen_there None ws w e = absurd (let none : ⊥ = cc in none)
 seen_there (Some o) ws w e = ap (seen_by (nat_lt (count_of o) o.limit)) e
 
-names_of : (act : AskedAct) (ws : List ℕ) (what : WsAct) → act ≡ OfWorkspace ws what → NamesIn act ws
+pub names_of : (act : AskedAct) (ws : List ℕ) (what : WsAct) → act ≡ OfWorkspace ws what → NamesIn act ws
 names_of act ws what e = subst (λ (a : AskedAct). NamesIn a ws) (sym e) refl
 
-act_on : (asked : Asked) (ws body : List ℕ) (what : WsAct) (act : Act) → asked.act ≡ OfWorkspace ws what → act_of what asked.lock_id body ≡ Ok act → IsActOn asked.act asked.lock_id body act
+pub act_on : (asked : Asked) (ws body : List ℕ) (what : WsAct) (act : Act) → asked.act ≡ OfWorkspace ws what → act_of what asked.lock_id body ≡ Ok act → IsActOn asked.act asked.lock_id body act
 act_on asked ws body what act e spelt = subst (λ (a : AskedAct). IsActOn a asked.lock_id body act) (sym e) spelt
 
 -- an operator's command leaves every workspace
-command_keeps : (r : Option Organization) (command : Admin) (ws : List ℕ) → workspace_in (command_step r command).left ws ≡ workspace_in r ws
+pub command_keeps : (r : Option Organization) (command : Admin) (ws : List ℕ) → workspace_in (command_step r command).left ws ≡ workspace_in r ws
 command_keeps None (OrgAdd org limit) ws = nothing_in limit ws
   where
     nothing_in : (limit : ℕ) (ws : List ℕ) → workspace_in (Some (new_organization limit)) ws ≡ None
@@ -119,45 +127,45 @@ steps_change_what_they_name r (commands at command) ws other = command_keeps r c
 abbrev read_act : Act → Result Act Refusal
 read_act act = Ok act
 
-is_one : (a b : Act) → read_act a ≡ read_act b → b ≡ a
+pub is_one : (a b : Act) → read_act a ≡ read_act b → b ≡ a
 is_one a b e = cc
 
-writes_by : (what : WsAct) (id : Option (List ℕ)) (body : List ℕ) (act : Act) (own : List ℕ) → act_of what id body ≡ Ok act → WritesWith act (Some own) → id ≡ Some own
-writes_by Read id body act own is writes = absurd (subst (λ (a : Act). WritesWith a (Some own)) (is_one ReadWorkspaceAct act is) writes)
-writes_by Put id body act own is writes = by_settings (settings_of body) is
+pub writes_by : (what : WsAct) (id : Option (List ℕ)) (body : List ℕ) (act : Act) (given : Option (List ℕ)) → act_of what id body ≡ Ok act → WritesWith act given → id ≡ given
+writes_by Read id body act given is writes = absurd (subst (λ (a : Act). WritesWith a given) (is_one ReadWorkspaceAct act is) writes)
+writes_by Put id body act given is writes = by_settings (settings_of body) is
   where
-    by_settings : (o : Option Settings) → spelt BadBody PutAct o ≡ Ok act → id ≡ Some own
+    by_settings : (o : Option Settings) → spelt BadBody PutAct o ≡ Ok act → id ≡ given
     by_settings None is = absurd (let none : ⊥ = cc in none)
-    by_settings (Some settings) is = absurd (subst (λ (a : Act). WritesWith a (Some own)) (is_one (PutAct settings) act is) writes)
-writes_by Delete id body act own is writes = absurd (subst (λ (a : Act). WritesWith a (Some own)) (is_one DeleteAct act is) writes)
-writes_by ReadState id body act own is writes = absurd (subst (λ (a : Act). WritesWith a (Some own)) (is_one ReadAct act is) writes)
-writes_by UpdateState id body act own is writes = by_head (state_head body) is
+    by_settings (Some settings) is = absurd (subst (λ (a : Act). WritesWith a given) (is_one (PutAct settings) act is) writes)
+writes_by Delete id body act given is writes = absurd (subst (λ (a : Act). WritesWith a given) (is_one DeleteAct act is) writes)
+writes_by ReadState id body act given is writes = absurd (subst (λ (a : Act). WritesWith a given) (is_one ReadAct act is) writes)
+writes_by UpdateState id body act given is writes = by_head (state_head body) is
   where
-    by_head : (o : Option StateHead) → spelt BadState (λ head. UpdateAct head body id) o ≡ Ok act → id ≡ Some own
+    by_head : (o : Option StateHead) → spelt BadState (λ head. UpdateAct head body id) o ≡ Ok act → id ≡ given
     by_head None is = absurd (let none : ⊥ = cc in none)
-    by_head (Some head) is = subst (λ (a : Act). WritesWith a (Some own)) (is_one (UpdateAct head body id) act is) writes
-writes_by PurgeState id body act own is writes = subst (λ (a : Act). WritesWith a (Some own)) (is_one (PurgeAct id) act is) writes
-writes_by Lock id body act own is writes = by_id (lock_id_of body) is
+    by_head (Some head) is = subst (λ (a : Act). WritesWith a given) (is_one (UpdateAct head body id) act is) writes
+writes_by PurgeState id body act given is writes = subst (λ (a : Act). WritesWith a given) (is_one (PurgeAct id) act is) writes
+writes_by Lock id body act given is writes = by_id (lock_id_of body) is
   where
-    by_id : (o : Option (List ℕ)) → spelt BadLock (λ given. LockAct given body) o ≡ Ok act → id ≡ Some own
+    by_id : (o : Option (List ℕ)) → spelt BadLock (λ named. LockAct named body) o ≡ Ok act → id ≡ given
     by_id None is = absurd (let none : ⊥ = cc in none)
-    by_id (Some given) is = absurd (subst (λ (a : Act). WritesWith a (Some own)) (is_one (LockAct given body) act is) writes)
-writes_by Unlock id body act own is writes = by_id (lock_id_of body) is
+    by_id (Some named) is = absurd (subst (λ (a : Act). WritesWith a given) (is_one (LockAct named body) act is) writes)
+writes_by Unlock id body act given is writes = by_id (lock_id_of body) is
   where
-    by_id : (o : Option (List ℕ)) → spelt BadLock UnlockAct o ≡ Ok act → id ≡ Some own
+    by_id : (o : Option (List ℕ)) → spelt BadLock UnlockAct o ≡ Ok act → id ≡ given
     by_id None is = absurd (let none : ⊥ = cc in none)
-    by_id (Some given) is = absurd (subst (λ (a : Act). WritesWith a (Some own)) (is_one (UnlockAct given) act is) writes)
-writes_by ForceUnlock id body act own is writes = absurd (subst (λ (a : Act). WritesWith a (Some own)) (is_one ForceUnlockAct act is) writes)
-writes_by (ListVersions after) id body act own is writes = absurd (subst (λ (a : Act). WritesWith a (Some own)) (is_one (ListVersionsAct after) act is) writes)
-writes_by (ReadVersion number) id body act own is writes = absurd (subst (λ (a : Act). WritesWith a (Some own)) (is_one (ReadVersionAct number) act is) writes)
-writes_by (ListRuns after) id body act own is writes = absurd (subst (λ (a : Act). WritesWith a (Some own)) (is_one (ListRunsAct after) act is) writes)
-writes_by MakeRun id body act own is writes = by_ask (run_ask body) is
+    by_id (Some named) is = absurd (subst (λ (a : Act). WritesWith a given) (is_one (UnlockAct named) act is) writes)
+writes_by ForceUnlock id body act given is writes = absurd (subst (λ (a : Act). WritesWith a given) (is_one ForceUnlockAct act is) writes)
+writes_by (ListVersions after) id body act given is writes = absurd (subst (λ (a : Act). WritesWith a given) (is_one (ListVersionsAct after) act is) writes)
+writes_by (ReadVersion number) id body act given is writes = absurd (subst (λ (a : Act). WritesWith a given) (is_one (ReadVersionAct number) act is) writes)
+writes_by (ListRuns after) id body act given is writes = absurd (subst (λ (a : Act). WritesWith a given) (is_one (ListRunsAct after) act is) writes)
+writes_by MakeRun id body act given is writes = by_ask (run_ask body) is
   where
-    by_ask : (o : Option RunAsk) → spelt BadBody MakeRunAct o ≡ Ok act → id ≡ Some own
+    by_ask : (o : Option RunAsk) → spelt BadBody MakeRunAct o ≡ Ok act → id ≡ given
     by_ask None is = absurd (let none : ⊥ = cc in none)
-    by_ask (Some ask) is = absurd (subst (λ (a : Act). WritesWith a (Some own)) (is_one (MakeRunAct ask) act is) writes)
-writes_by (ReadRun number) id body act own is writes = absurd (subst (λ (a : Act). WritesWith a (Some own)) (is_one (ReadRunAct number) act is) writes)
-writes_by (ReportRun number action) id body act own is writes = absurd (subst (λ (a : Act). WritesWith a (Some own)) (is_one (ReportRunAct number action) act is) writes)
+    by_ask (Some ask) is = absurd (subst (λ (a : Act). WritesWith a given) (is_one (MakeRunAct ask) act is) writes)
+writes_by (ReadRun number) id body act given is writes = absurd (subst (λ (a : Act). WritesWith a given) (is_one (ReadRunAct number) act is) writes)
+writes_by (ReportRun number action) id body act given is writes = absurd (subst (λ (a : Act). WritesWith a given) (is_one (ReportRunAct number action) act is) writes)
 
 -- a workspace that a step leaves as it is
 abbrev Kept : Option Workspace → Ask → List ℕ → List ℕ → List ℕ → Workspace → Type 0
@@ -166,7 +174,7 @@ Kept after what ws own text w = (v : Workspace) × (after ≡ Some v) × IsInCus
 stays : (after : Option Workspace) (what : Ask) (ws own text : List ℕ) (w : Workspace) → after ≡ Some w → w.holder ≡ HeldLock own text → Kept after what ws own text w
 stays after what ws own text w e lock = (w, e, record { versions = inl refl; holder = inl lock })
 
-some_is : (o : Option Workspace) → IsSome o → (v : Workspace) × (o ≡ Some v)
+pub some_is : (o : Option Workspace) → IsSome o → (v : Workspace) × (o ≡ Some v)
 some_is None h = absurd (let none : ⊥ = cc in none)
 some_is (Some v) h = (v, refl)
 
@@ -191,7 +199,7 @@ ruled_kept r now awaited asked content_md5 body o w own text p stands lock =
     carried_or_kept : (v : Workspace) → NamesIn asked.act o.ws → Passes r asked body o → (v.versions ≡ w.versions) ⊎ WritesWith o.act (Some own)
         → (v.versions ≡ w.versions) ⊎ (NamesIn asked.act o.ws × (asked.lock_id ≡ Some own))
     carried_or_kept v names p (inl h) = inl h
-    carried_or_kept v names p (inr h) = inr (names, writes_by p.what asked.lock_id body o.act own p.spelt h)
+    carried_or_kept v names p (inr h) = inr (names, writes_by p.what asked.lock_id body o.act (Some own) p.spelt h)
 
     released_or_held : (v : Workspace) → NamesIn asked.act o.ws → Passes r asked body o → (v.holder ≡ HeldLock own text) ⊎ Releases o.act own
         → (v.holder ≡ HeldLock own text) ⊎ (NamesIn asked.act o.ws × ((act : Act) × IsActOn asked.act asked.lock_id body act × Releases act own))
@@ -225,7 +233,7 @@ locks_are_kept r (commands at command) ws w own text stands lock =
     stays (workspace_in (command_step r command).left ws) (commands at command) ws own text w (command_keeps r command ws ∙ stands) lock
 
 -- two orders of one request, over two records, are one
-one_name : (a b : List ℕ) (c d : WsAct) → OfWorkspace a c ≡ OfWorkspace b d → (a ≡ b) × (c ≡ d)
+pub one_name : (a b : List ℕ) (c d : WsAct) → OfWorkspace a c ≡ OfWorkspace b d → (a ≡ b) × (c ≡ d)
 one_name a b c d e = (ap name_of e, cc)
   where
     name_of : AskedAct → List ℕ
@@ -354,7 +362,7 @@ steps_are_repeatable r (requests at awaited asked content_md5 body) later may = 
 steps_are_repeatable r (commands at command) later may = command_again r command
 
 -- what was accepted leaves the workspace there
-not_refused : (org ws : List ℕ) (o : Outcome) → (answer_to org ws o).refusal ≡ None → IsRefusal o → ⊥
+pub not_refused : (org ws : List ℕ) (o : Outcome) → (answer_to org ws o).refusal ≡ None → IsRefusal o → ⊥
 not_refused org ws (refused refusal) e is = cc
 not_refused org ws (held holder) e is = cc
 not_refused org ws done e is = is
@@ -397,3 +405,35 @@ repeats_leave_the_workspace r q (ask.refused at awaited refusal is_head) later w
 repeats_leave_the_workspace r q (requests at awaited asked content_md5 body) later ws may names accepted same =
     later_leaves r q at later asked content_md5 body ws (checked r asked content_md5 body) (checked q asked content_md5 body) refl refl may names accepted same
 repeats_leave_the_workspace r q (commands at command) later ws may names accepted same = absurd names
+
+-- the same bytes at another moment
+asking_again : (at later : ℕ) (awaited : Bool) (message : Message) (asking : Asking) → asked_by later awaited message asking ≡ asked_again later (asked_by at awaited message asking)
+asking_again at later awaited message (route.refused refusal) = refl
+asking_again at later awaited message (asks asked) = refl
+
+reading_again : (at later : ℕ) (reading : Reading) → ask_of later reading ≡ asked_again later (ask_of at reading)
+reading_again at later unfinished = refl
+reading_again at later (wire.refused refusal head) = refl
+reading_again at later (whole message awaited) = asking_again at later awaited message (asked_of message)
+
+pub same_bytes_ask_again : SameBytesAskAgain
+same_bytes_ask_again at later bytes a b h k =
+    k.is ∙ ap (ask_of later) (reads_one bytes k.reading h.reading k.reads h.reads) ∙ reading_again at later h.reading ∙ ap (asked_again later) (sym h.is)
+
+-- a request that leaves its workspace
+request_leaves_all : (r : Option Organization) (now : ℕ) (asked : Asked) (content_md5 : Option (List ℕ)) (body ws : List ℕ) (x : Result Task Refusal) → checked r asked content_md5 body ≡ x → NamesIn asked.act ws
+    → workspace_in (carried asked.caller now r x).left ws ≡ workspace_in r ws → (carried asked.caller now r x).left ≡ r
+request_leaves_all r now asked content_md5 body ws (Err refusal) e names same = refl
+request_leaves_all r now asked content_md5 body ws (Ok (ListAll after)) e names same = refl
+request_leaves_all r now asked content_md5 body ws (Ok (Carry o)) e names same =
+    let p : Passes r asked body o = order_passes r asked content_md5 body o e in
+    let is : o.ws ≡ ws = subst (λ (a : AskedAct). NamesIn a ws) p.asks names in
+    let own : workspace_in (ruled_in asked.caller o.ws r (rules o.act now (seen_at r o.ws))).left o.ws ≡ workspace_in r o.ws =
+    subst (λ (n : List ℕ). workspace_in (ruled_in asked.caller o.ws r (rules o.act now (seen_at r o.ws))).left n ≡ workspace_in r n) (sym is) same in
+    ruled_leaves asked.caller o.ws r (rules o.act now (seen_at r o.ws)) (sym (own_after r asked.caller o.ws o.act now p.there) ∙ own)
+
+pub requests_change_their_workspace_alone : RequestsChangeTheirWorkspaceAlone
+requests_change_their_workspace_alone r silent ws names same = refl
+requests_change_their_workspace_alone r (ask.refused at awaited refusal is_head) ws names same = refl
+requests_change_their_workspace_alone r (requests at awaited asked content_md5 body) ws names same = request_leaves_all r at asked content_md5 body ws (checked r asked content_md5 body) refl names same
+requests_change_their_workspace_alone r (commands at command) ws names same = absurd names

@@ -52,7 +52,7 @@ refuses_by org ws (the_run r) refusal e = absurd (let none : ⊥ = cc in none)
 refuses_by org ws (versions list) refusal e = absurd (let none : ⊥ = cc in none)
 refuses_by org ws (runs list) refusal e = absurd (let none : ⊥ = cc in none)
 
-ruled_leaves : (org ws : List ℕ) (r : Option Organization) (ruling : Ruling) → ruling.left ≡ workspace_in r ws → (ruled_in org ws r ruling).left ≡ r
+pub ruled_leaves : (org ws : List ℕ) (r : Option Organization) (ruling : Ruling) → ruling.left ≡ workspace_in r ws → (ruled_in org ws r ruling).left ≡ r
 ruled_leaves org ws r ruling e = ap (λ (w : Option Workspace). option_map (λ (o : Organization). placed o ws w) r) e ∙ placed_same r ws
 
 carried_leaves : (org : List ℕ) (now : ℕ) (r : Option Organization) (x : Result Task Refusal) (refusal : Refusal) → (carried org now r x).answer.refusal ≡ Some refusal → (carried org now r x).left ≡ r

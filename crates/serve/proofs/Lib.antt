@@ -6,3 +6,7 @@ pub mod ExchangeLemmas
 pub mod LawLemmas
 pub mod CustodyLemmas
 pub mod HolderLemmas
+pub mod BookLemmas
+pub mod BookExamples
+pub mod AbsentLemmas
+pub mod AbsentExamples

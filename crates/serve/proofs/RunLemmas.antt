@@ -17,8 +17,9 @@ use Rattle.serve.specs.Asks.{Ask, silent, refused, requests, commands, Owner, or
 use Rattle.serve.specs.Steps.{Said, nothing, replies, tells, lists, command_step, command_said, step, own_said, own_record}
 use Rattle.serve.specs.Service.{IsAsked, AreAsked, AreTexts, IsText, ask_of, same_owner, is_own, with_own, own_asks, replies_at, record_for, after_ask, said_to}
 use Rattle.serve.specs.Runs.{IsOwnMachine, IsOwnRecord, AreOwnReplies}
-use Rattle.serve.specs.Inner.Taking.{IsTaken, RunsTo}
+use Rattle.serve.specs.Inner.Taking.{IsTaken, RunsTo, IsTimely}
 use Rattle.serve.specs.Laws.{TwoWorlds, own_steps, SameStepsAskTheSame}
+use Rattle.std.specs.List.{AllByRecursion}
 
 with_own-append : {A : Type 0} (b : Bool) (a : A) (xs ys : List A) → with_own b a (xs ++ ys) ≡ with_own b a xs ++ ys
 with_own-append true a xs ys = refl
@@ -55,6 +56,10 @@ AreAsked-push [] s [] a h is = (is, tt)
 AreAsked-push [] s (b ∷ asked) a h is = absurd h
 AreAsked-push (x ∷ steps) s [] a h is = absurd h
 AreAsked-push (x ∷ steps) s (b ∷ asked) a h is = (h.0, AreAsked-push steps s asked a h.1 is)
+
+timely-push : (asked : List Ask) (a : Ask) → AllByRecursion IsTimely asked → IsTimely a → AllByRecursion IsTimely (asked ++ a ∷ [])
+timely-push [] a all is = (is, tt)
+timely-push (b ∷ asked) a all is = (all.0, timely-push asked a all.1 is)
 
 AreAsked-length : (steps : List Step) (asked : List Ask) → AreAsked steps asked → length asked ≡ length steps
 AreAsked-length [] [] h = refl
@@ -130,7 +135,7 @@ own_so_far unattributed asked old mid rows = sym (all_still unattributed nobody_
 own_so_far operator asked old mid rows = sym (all_still operator operator_still asked None)
 
 pub runs_none : (rows : List ℕ → Option Organization) → RunsTo [] rows rows []
-runs_none rows = record { asked = []; are = tt; rows = λ org. refl; texts = λ owner. tt }
+runs_none rows = record { asked = []; are = tt; timely = tt; rows = λ org. refl; texts = λ owner. tt }
 
 pub runs_more : (steps : List Step) (s : Step) (old mid new : List ℕ → Option Organization) (ts : List (List ℕ)) (text : List ℕ)
     → length ts ≡ length steps → RunsTo steps old mid ts → IsTaken s text mid new → RunsTo (steps ++ s ∷ []) old new (ts ++ text ∷ [])
@@ -141,6 +146,7 @@ runs_more steps s old mid new ts text len run taken =
     record {
       asked = asked ++ a ∷ [];
       are = AreAsked-push steps s asked a run.are taken.is;
+      timely = timely-push asked a run.timely taken.timely;
       rows = λ org. taken.carries org
           ∙ ap (after_ask (is_own (organization org) a) a) (run.rows org)
           ∙ sym (after_more (is_own (organization org) a) (own_record (old org) (own_asks (organization org) asked)) a)

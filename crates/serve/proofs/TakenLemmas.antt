@@ -6,7 +6,7 @@ use Rattle.machine.specs.declared.records.Organization.{Organization}
 use Rattle.route.specs.Asks.{Asking, asked_of, asks}
 use Rattle.route.specs.Asks as route
 use Rattle.wire.specs.declared.messages.Message.{Message}
-use Rattle.wire.specs.Messages.{Reads, unfinished, whole}
+use Rattle.wire.specs.Messages.{Reads, unfinished, whole, Reading}
 use Rattle.wire.specs.Messages as wire
 use Rattle.wire.specs.Links.{continue_if}
 use Rattle.wire.specs.Replies.{Answer, IsReplyText, refused_answer}
@@ -15,15 +15,16 @@ use Rattle.serve.specs.Asks.{Ask, silent, requests, commands, organization}
 use Rattle.serve.specs.Asks as ask
 use Rattle.serve.specs.Inner.Prepared.{IsPrepared, Foresees}
 use Rattle.serve.specs.Steps.{request_step}
-use Rattle.serve.specs.Service.{asked_by, Asks, Carries, Stays, said_to, IsText, after_ask, is_own}
+use Rattle.serve.specs.Service.{asked_by, Asks, Carries, Stays, said_to, IsText, after_ask, is_own, ask_of}
 use Rattle.serve.specs.Service.{IsAsked, IsAdminAnswer, admin_word}
-use Rattle.serve.specs.Inner.Taking.{IsTaken, IsOnOne}
+use Rattle.serve.specs.Inner.Taking.{IsTaken, IsOnOne, IsTimely}
 use Rattle.serve.specs.declared.steps.Step.{Step}
-use Rattle.serve.specs.declared.steps.Step.TheVariants.{Command}
+use Rattle.serve.specs.declared.steps.Step.TheVariants.{Command, Request}
 use Rattle.serve.specs.declared.steps.Admin.{Admin}
 use Rattle.serve.specs.declared.steps.Admin.TheVariants.{OrgAdd, OrgLimit, OrgList, TokenAdd, TokenRevoke}
 use Rattle.machine.specs.declared.keeps.AdminAnswer.{AdminAnswer}
 use Rattle.serve.proofs.RecordLemmas.{if_ok}
+use Rattle.machine.specs.Ranges.{IsMoment}
 
 -- what is said of what is prepared
 pub said_is : (rows : List ℕ → Option Organization) (at : ℕ) (awaited : Bool) (message : Message) (asking : Asking) (p : Prepared) (text : List ℕ)
@@ -97,8 +98,32 @@ command_taken s at command old new res is h =
     if_ok res (λ text taken. record {
       ask = commands at command;
       is = subst (λ (x : Step). IsAsked x (commands at command)) (sym is) refl;
+      timely = tt;
       carries = (taken at).0;
       text_is = (taken at).1;
+    }) h
+
+-- the moment of what is asked is that of the step
+asking_timely : (at : ℕ) (awaited : Bool) (message : Message) (asking : Asking) → IsMoment at → IsTimely (asked_by at awaited message asking)
+asking_timely at awaited message (route.refused refusal) moment = tt
+asking_timely at awaited message (asks asked) moment = moment
+
+reading_timely : (at : ℕ) (reading : Reading) → IsMoment at → IsTimely (ask_of at reading)
+reading_timely at unfinished moment = tt
+reading_timely at (wire.refused refusal head) moment = tt
+reading_timely at (whole message awaited) moment = asking_timely at awaited message (asked_of message) moment
+
+-- a request
+pub request_taken : {E : Type 0} (s : Step) (at : ℕ) (bytes came : List ℕ) (old new : List ℕ → Option Organization) (res : Result (List ℕ) E) → s ≡ Request at bytes → came ≡ bytes → IsMoment at
+    → IfOk res (λ text. (ask : Ask) × Asks at came ask × Carries ask old new × IsText (said_to old ask) text)
+    → IfOk res (λ text. IsTaken s text old new)
+request_taken s at bytes came old new res is same moment h =
+    if_ok res (λ text taken. record {
+      ask = taken.0;
+      is = subst (λ (x : Step). IsAsked x taken.0) (sym is) (subst (λ (b : List ℕ). Asks at b taken.0) same taken.1);
+      timely = subst IsTimely (sym taken.1.is) (reading_timely at taken.1.reading moment);
+      carries = taken.2;
+      text_is = taken.3;
     }) h
 
 -- the word of a command on one organization

@@ -15,6 +15,7 @@ use Rattle.route.specs.declared.acts.WsAct.{WsAct}
 use Rattle.serve.specs.Asks.{Ask, silent, requests, commands}
 use Rattle.serve.specs.Asks as ask
 use Rattle.serve.specs.Checks.{act_of}
+use Rattle.serve.specs.Service.{Asks}
 use Rattle.serve.specs.Steps.{Said, nothing, replies, tells, lists, holder_text, request_step, step}
 
 -- the workspace that is asked for has this name
@@ -101,3 +102,11 @@ LockedTellsTheHolder = (r : Option Organization) (now : ℕ) (asked : Asked) (co
     → (request_step r now asked content_md5 body).answer.refusal ≡ Some Locked
     → (ws : List ℕ) × (w : Workspace) × NamesIn asked.act ws × (workspace_in r ws ≡ Some w)
     × ((request_step r now asked content_md5 body).answer.body ≡ holder_text asked.caller ws w.holder)
+
+-- the same bytes at another moment ask the same again
+abbrev pub SameBytesAskAgain : Type 0
+SameBytesAskAgain = (at later : ℕ) (bytes : List ℕ) (a b : Ask) → Asks at bytes a → Asks later bytes b → b ≡ asked_again later a
+
+-- a request that leaves the workspace that it names equal leaves the whole record equal
+abbrev pub RequestsChangeTheirWorkspaceAlone : Type 0
+RequestsChangeTheirWorkspaceAlone = (r : Option Organization) (what : Ask) (ws : List ℕ) → Names what ws → workspace_in (step r what).left ws ≡ workspace_in r ws → (step r what).left ≡ r

@@ -6,4 +6,6 @@ pub mod Runs
 pub mod Exchanges
 pub mod Laws
 pub mod Custody
+pub mod Book
+pub mod AbsentForms
 pub mod Inner

@@ -1,6 +1,7 @@
 //! Laws of steps and runs, each the contract of a call that does nothing.
 ghost use Rattle.serve.specs.Laws.{OneAsking, TwoWorlds, SameStepsAskTheSame, RefusalsChangeNothing, OutOfReachIsNotFound, OutOfReachIsAsAbsent};
-ghost use Rattle.serve.specs.Custody.{StepsChangeWhatTheyName, LocksAreKept, StepsAreRepeatable, RepeatsLeaveTheWorkspace, LockedTellsTheHolder};
+ghost use Rattle.serve.specs.Custody.{StepsChangeWhatTheyName, LocksAreKept, StepsAreRepeatable, RepeatsLeaveTheWorkspace, LockedTellsTheHolder, SameBytesAskAgain, RequestsChangeTheirWorkspaceAlone};
+ghost use Rattle.serve.specs.Book.{BooksAreOfTheRun, PeriodsAreTheStepsBetween};
 
 /// The steps of a list ask one list of things.
 pub fn one_asking()
@@ -62,4 +63,25 @@ pub fn repeats_leave_the_workspace()
 /// The body of a 423 is the holder's.
 pub fn locked_tells_the_holder()
     ensures { LockedTellsTheHolder }
+{}
+
+/// The same bytes at another moment ask the same again.
+pub fn same_bytes_ask_again()
+    ensures { SameBytesAskAgain }
+{}
+
+/// A request that leaves the workspace that it names equal leaves the whole record equal.
+pub fn requests_change_their_workspace_alone()
+    ensures { RequestsChangeTheirWorkspaceAlone }
+{}
+
+/// The book of a workspace has what the machine of its organization says, step by step, and ends with
+/// the workspace that it leaves.
+pub fn books_are_of_the_run()
+    ensures { BooksAreOfTheRun }
+{}
+
+/// The periods of a book, one after the other, are the steps before which what they are of is so.
+pub fn periods_are_the_steps_between()
+    ensures { PeriodsAreTheStepsBetween }
 {}

@@ -10,12 +10,15 @@ ghost use Rattle.serve.specs.Service.{IsText, Stays, Carries, said_to, AreAsked,
 ghost use Rattle.serve.specs.Inner.Taking.{IsOnOne};
 ghost use Rattle.machine.specs.Keeping.{Looks};
 ghost use Rattle.machine.specs.declared.keeps.OrgRow.{OrgRow};
+ghost use Rattle.serve.specs.AbsentForms.{RepliesAreThoseOfAbsentForms, OutOfReachRepliesNotFound};
+ghost use Rattle.serve.specs.Book.{LocksKeepOthersOut, RunsKeepOthersOut, NoIdWhereNobodyHolds, LocksEndByUnlock, OneRunAtATime, StartsRise, RepeatsLeaveIt, DoneOnceIsDone, OfEachBook};
 ghost use Rattle.serve.specs.Runs.{IsOwnMachine, IsOwnRecord, AreOwnReplies};
 
 use crate::commands::{admin_word, command, org_lines};
 use crate::exchanges::{LinkFault, exchange};
 use crate::messages::take_request;
 use crate::steps::{Admin, Step};
+use basis::numbers::MAX_MOMENT;
 use basis::{Bytes, Down, Moment};
 use machine::{AdminAnswer, Keep};
 use route::Routes;
@@ -86,7 +89,10 @@ fn take_step<K: Keep>(
     ensures err { K.clean keep.new → OnErr result (Stays (K.rows keep.old) (K.rows keep.new)) }
 {
     match step {
-        Step::Request { at, bytes } => take_request(alloc, keep, routes, *at, bytes.as_slice()),
+        Step::Request { at, bytes } => {
+            prove!(at.seconds() <= MAX_MOMENT);
+            take_request(alloc, keep, routes, *at, bytes.as_slice())
+        }
         Step::Command { command, .. } => take_command(alloc, keep, command),
     }
 }
@@ -261,7 +267,7 @@ impl<K: Keep> Service<K> {
         result
     }
 
-    /// IsTaken steps in turn, each answered in full before it changes anything, and gives one reply for
+    /// Takes steps in turn, each answered in full before it changes anything, and gives one reply for
     /// each: empty for an unfinished message. The step that memory or the store refuses ends it with
     /// `Down`: it isn't taken, nor is any after it.
     pub fn replay(&mut self, alloc: Global, steps: &[Step]) -> Result<Vec<Bytes>, Down>
@@ -275,6 +281,12 @@ impl<K: Keep> Service<K> {
         // those of its own machine, fed only its own steps.
         ensures isolation { K.clean self.new.keep → K.sound self.old.keep → IfOk result (λ replies. (asked : List Ask) → AreAsked steps.now asked
             → (org : List ℕ) → IsOwnMachine org asked (K.rows self.old.keep) (K.rows self.new.keep) replies.items) }
+
+        // Another organization's workspace answers as an absent one: the reply is that to each of the request's absent forms.
+        ensures absent_forms { K.clean self.new.keep → K.sound self.old.keep → IfOk result (λ replies. RepliesAreThoseOfAbsentForms steps.now (K.rows self.old.keep) replies.items) }
+
+        // And whatever is asked of another organization, by a caller that is known and has the role, is answered not-found.
+        ensures out_of_reach { K.clean self.new.keep → K.sound self.old.keep → IfOk result (λ replies. OutOfReachRepliesNotFound steps.now (K.rows self.old.keep) replies.items) }
 
         // The replies to unattributed's steps follow from their bytes and moments alone.
         ensures unattributed { K.clean self.new.keep → K.sound self.old.keep → IfOk result (λ replies. (asked : List Ask) → AreAsked steps.now asked
@@ -293,7 +305,33 @@ impl<K: Keep> Service<K> {
 
         // After `Down` a step is left that wasn't taken.
         ensures taken_fewer { OnErr result (self.new.taken < length steps.now) }
+
+        // Custody, over the book of each workspace (`Book`): its steps with the workspace before and after each, in the own machine's run over the steps taken.
+        // In the period of a lock, a step that makes a version or is an accepted purge carried its ID.
+        ensures lock_periods { K.clean self.new.keep → K.sound self.old.keep → OfEachBook LocksKeepOthersOut (take self.new.taken steps.now) (K.rows self.old.keep) }
+
+        // In the period of a run, such a step carried the run's ID, and the run was applying.
+        ensures run_periods { K.clean self.new.keep → K.sound self.old.keep → OfEachBook RunsKeepOthersOut (take self.new.taken steps.now) (K.rows self.old.keep) }
+
+        // While nobody holds, an accepted update or purge carried no ID.
+        ensures unheld { K.clean self.new.keep → K.sound self.old.keep → OfEachBook NoIdWhereNobodyHolds (take self.new.taken steps.now) (K.rows self.old.keep) }
+
+        // A lock's period ends by an UNLOCK of its ID or a forced one, and by nothing else.
+        ensures lock_ends { K.clean self.new.keep → K.sound self.old.keep → OfEachBook LocksEndByUnlock (take self.new.taken steps.now) (K.rows self.old.keep) }
+
+        // After each step at most one queued run is active.
+        ensures one_active { K.clean self.new.keep → K.sound self.old.keep → OfEachBook OneRunAtATime (take self.new.taken steps.now) (K.rows self.old.keep) }
+
+        // In a workspace's life queued runs start in rising number.
+        ensures starts_rise { K.clean self.new.keep → K.sound self.old.keep → OfEachBook StartsRise (take self.new.taken steps.now) (K.rows self.old.keep) }
+
+        // What was accepted and comes again, while the workspace is as it left it, leaves it so; but for a run made without a key.
+        ensures repeats { K.clean self.new.keep → K.sound self.old.keep → OfEachBook RepeatsLeaveIt (take self.new.taken steps.now) (K.rows self.old.keep) }
+
+        // A run's creation with a key and a run's action, accepted, come again at any later point of the workspace's life and leave it equal.
+        ensures done_once { K.clean self.new.keep → K.sound self.old.keep → OfEachBook DoneOnceIsDone (take self.new.taken steps.now) (K.rows self.old.keep) }
     {
+        self.keep.records_are_lawful();
         self.run_all(alloc, steps)
     }
 }

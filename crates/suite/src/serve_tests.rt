@@ -2,7 +2,8 @@
 use crate::devices::make_cuts;
 use crate::rows::{
     ACME, ASKED_RUN_ROWS, BETA, DELETED_ROWS, KEPT_ROWS, LIST_ROWS, LOCK_ROWS, MESSAGE_ROWS,
-    NAME_ROWS, QUEUE_ROWS, RESENT, RUN_ROWS, SET_UP, STATE_ROWS,
+    NAME_ROWS, QUEUE_ROWS, RESENT, RUN_ROWS, SET_UP, STATE_ROWS, TWICE_AFTER, TWICE_LOCKED,
+    TWICE_RUN,
 };
 use crate::steps::{
     Row, Sent, Story, expect_in_file, expect_replies, expect_story, now, written,
@@ -68,6 +69,17 @@ fn rows_of_asked_runs_are_answered(rt: HostRuntime) -> Result<(), Fail> {
 #[test]
 fn rows_of_limits_and_tokens_are_answered(rt: HostRuntime) -> Result<(), Fail> {
     expect_rows(&rt, &rt, KEPT_ROWS)
+}
+
+// A lock, an update, a run that waits and one that applies: what is sent twice changes nothing the
+// second time.
+#[test]
+fn what_is_sent_twice_changes_nothing_more(rt: HostRuntime) -> Result<(), Fail> {
+    let alloc = rt.alloc();
+    let mut story = story_of(alloc, SET_UP, TWICE_LOCKED)?;
+    story.add_all(alloc, TWICE_RUN)?;
+    story.add_all(alloc, TWICE_AFTER)?;
+    expect_story(&rt, alloc, &story, "twice")
 }
 
 #[test]

@@ -9,10 +9,10 @@ use Rattle.httparse.proofs.PieceLemmas.{token_is_no_newline}
 use Rattle.httparse.proofs.GrammarLemmas.{print_request-append}
 use Rattle.wire.specs.Heads.{is_break, is_feed, feeds_of}
 
-abbrev count : List ℕ → ℕ
+abbrev pub count : List ℕ → ℕ
 count bytes = count_by is_feed bytes
 
-count-append : (xs ys : List ℕ) → count (xs ++ ys) ≡ count xs + count ys
+pub count-append : (xs ys : List ℕ) → count (xs ++ ys) ≡ count xs + count ys
 count-append xs ys = sum_by-append (λ b. cond (is_feed b) 1 0) xs ys
 
 count_end : (e : LineEnd) → count (print_end e) ≡ 1
@@ -28,12 +28,12 @@ count_fields (f ∷ fields) =
     let h : length fields ≤ count (flat_map print_field fields) = count_fields fields in
     omega (arith, count_field f, h, count-append (print_field f) (flat_map print_field fields))
 
-feeds_blank : (ends : List LineEnd) (bytes : List ℕ) → feeds_of (print_blank ends ++ bytes) ≡ feeds_of bytes
+pub feeds_blank : (ends : List LineEnd) (bytes : List ℕ) → feeds_of (print_blank ends ++ bytes) ≡ feeds_of bytes
 feeds_blank [] bytes = refl
 feeds_blank (crlf ∷ ends) bytes = feeds_blank ends bytes
 feeds_blank (lf ∷ ends) bytes = feeds_blank ends bytes
 
-same_break : (b : ℕ) → (b == 13 || b == 10) ≡ false → is_break b ≡ false
+pub same_break : (b : ℕ) → (b == 13 || b == 10) ≡ false → is_break b ≡ false
 same_break b e = turned (b == 13) (b == 10) e
   where
     turned : (x y : Bool) → (x || y) ≡ false → (y || x) ≡ false

@@ -10,3 +10,4 @@ pub mod FeedLemmas
 pub mod FrameLemmas
 pub mod AnswerLemmas
 pub mod ExistenceLemmas
+pub mod RetargetLemmas

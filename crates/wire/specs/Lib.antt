@@ -8,4 +8,5 @@ pub mod Targets
 pub mod Fields
 pub mod Heads
 pub mod Replies
+pub mod Retargeting
 pub mod Inner

@@ -1,6 +1,7 @@
 //! Laws of the definitions, each the contract of a call that does nothing.
 ghost use Rattle.wire.specs.Laws.{OneReading, StaysRead, StaysAwaited, OneText};
 ghost use Rattle.wire.specs.Messages.{Reading, Reads};
+ghost use Rattle.wire.specs.Retargeting.{RetargetedReads};
 
 use crate::framing::some_verdict;
 use crate::heads::{HeadPosition, MAX_HEAD, end_in};
@@ -37,4 +38,10 @@ pub fn stays_awaited()
 /// An answer has at most one text at a moment.
 pub fn one_text()
     ensures { OneText }
+{}
+
+/// One request with two targets, where the first is a message: the second is the same message with the
+/// path and the query of the other target.
+pub fn retargeted_reads()
+    ensures { RetargetedReads }
 {}

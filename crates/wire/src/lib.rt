@@ -16,7 +16,7 @@ mod sending;
 mod targets;
 
 pub use devices::{Broken, FromRead, Inlet, Outlet, ToWrite};
-pub use laws::{one_reading, one_text, some_reading, stays_awaited, stays_read};
+pub use laws::{one_reading, one_text, retargeted_reads, some_reading, stays_awaited, stays_read};
 pub use messages::{Message, WireFault};
 pub use reading::read_message;
 pub use replies::Reply;

@@ -4,20 +4,32 @@ use Rattle.machine.specs.declared.records.Organization.{Organization}
 use Rattle.serve.specs.declared.steps.Step.{Step}
 use Rattle.serve.specs.declared.steps.Admin.{Admin}
 use Rattle.serve.specs.declared.steps.Admin.TheVariants.{OrgAdd, OrgLimit, OrgList, TokenAdd, TokenRevoke}
-use Rattle.serve.specs.Asks.{Ask, Owner}
+use Rattle.serve.specs.Asks.{Ask, Owner, silent, requests, commands}
 use Rattle.serve.specs.Service.{IsAsked, AreAsked, Carries, said_to, IsText}
 use Rattle.serve.specs.Runs.{IsOwnRecord, AreOwnReplies}
+use Rattle.std.specs.List.{AllByRecursion}
+use Rattle.machine.specs.Ranges.{IsMoment}
+use Rattle.serve.specs.Asks as ask
+
+-- the moment of a request is in range
+abbrev pub IsTimely : Ask → Type 0
+IsTimely silent = ⊤
+IsTimely (ask.refused at awaited refusal is_head) = ⊤
+IsTimely (requests at awaited asked content_md5 body) = IsMoment at
+IsTimely (commands at command) = ⊤
 
 -- one step taken: what it asks is carried out, and this is the text of what is said
 pub record IsTaken (s : Step) (text : List ℕ) (old new : List ℕ → Option Organization) : Type 0 where
   pub ask : Ask
   pub is : IsAsked s ask
+  pub timely : IsTimely ask
   pub carries : Carries ask old new
   pub text_is : IsText (said_to old ask) text
 
 pub record RunsTo (steps : List Step) (old new : List ℕ → Option Organization) (replies : List (List ℕ)) : Type 0 where
   pub asked : List Ask
   pub are : AreAsked steps asked
+  pub timely : AllByRecursion IsTimely asked
   pub rows : (org : List ℕ) → IsOwnRecord asked old new org
   pub texts : (owner : Owner) → AreOwnReplies asked old replies owner
 

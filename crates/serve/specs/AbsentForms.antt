@@ -1,0 +1,78 @@
+-- Absent forms of a request that is out of its caller's reach: the same request on a workspace that the caller's own organization lacks.
+use Rattle.std.specs.Prelude.{◌≡◌, ℕ, Bool, true, false, List, ◌∷◌, take, slice_get, Option, Some, None, Ok}
+use Rattle.basis.specs.Names.{is_org_name, is_ws_name}
+use Rattle.basis.specs.declared.refusals.Refusal.TheVariants.{NotFound}
+use Rattle.docs.specs.Bodies.{error_text}
+use Rattle.machine.specs.Records.{workspace_in}
+use Rattle.machine.specs.declared.records.Token.{Token}
+use Rattle.machine.specs.declared.records.Organization.{Organization}
+use Rattle.route.specs.Paths.{parts_of}
+use Rattle.route.specs.declared.acts.Asked.{Asked}
+use Rattle.wire.specs.Replies.{refused_answer}
+use Rattle.wire.specs.Retargeting.{SameButTarget}
+use Rattle.wire.specs.Targets.{origin_of, path_of, query_of}
+use Rattle.serve.specs.declared.steps.Step.{Step}
+use Rattle.serve.specs.declared.steps.Step.TheVariants.{Request}
+use Rattle.serve.specs.Asks.{Ask, requests, organization}
+use Rattle.serve.specs.Checks.{is_in_reach, known_caller, may_do}
+use Rattle.serve.specs.Laws.{NeedsWorkspace}
+use Rattle.serve.specs.Service.{Asks, AreAsked, IsText, own_asks}
+use Rattle.serve.specs.Steps.{replies, step, own_record}
+
+-- one target names what another does, but for the workspace, and for the organization or not: the parts of the path are else the same, and so is the query
+pub record NamesInstead (target aim org ws : List ℕ) : Type 0 where
+  pub from : List ℕ
+  pub to : List ℕ
+  pub from_is : origin_of target ≡ Some from
+  pub to_is : origin_of aim ≡ Some to
+  pub root : List ℕ
+  pub version : List ℕ
+  pub org_before : List ℕ
+  pub word : List ℕ
+  pub ws_before : List ℕ
+  pub more : List (List ℕ)
+  pub path_before : parts_of (path_of from) ≡ root ∷ version ∷ org_before ∷ word ∷ ws_before ∷ more
+  pub path_after : parts_of (path_of to) ≡ root ∷ version ∷ org ∷ word ∷ ws ∷ more
+  pub query_stays : query_of to ≡ query_of from
+  pub org_named : is_org_name org ≡ true
+  pub ws_named : is_ws_name ws ≡ true
+
+-- the same request, its head as the grammar prints it, with the path's workspace replaced by this name, and the path's organization by that one
+pub record IsFormOf (bytes other org ws : List ℕ) : Type 0 where
+  pub target : List ℕ
+  pub aim : List ℕ
+  pub same : SameButTarget bytes other target aim
+  pub names : NamesInstead target aim org ws
+
+-- at a place of a run: the request that came, what it asks, what was asked before it, and its reply
+pub record AnsweredRequest (steps : List Step) (texts : List (List ℕ)) : Type 0 where
+  pub place : ℕ
+  pub at : ℕ
+  pub bytes : List ℕ
+  pub came : slice_get steps place ≡ Some (Request at bytes)
+  pub awaited : Bool
+  pub asked : Asked
+  pub content_md5 : Option (List ℕ)
+  pub body : List ℕ
+  pub asks : Asks at bytes (requests at awaited asked content_md5 body)
+  pub earlier : List Ask
+  pub came_earlier : AreAsked (take place steps) earlier
+  pub text : List ℕ
+  pub replied : slice_get texts place ≡ Some text
+
+-- the record of an organization before a place: what its own machine left of the record at the start, by its own steps before it
+abbrev pub record_before : (List ℕ → Option Organization) → List ℕ → List Ask → Option Organization
+record_before rows org earlier = own_record (rows org) (own_asks (organization org) earlier)
+
+-- the reply to a request whose path isn't its caller's organization's, and which needs a workspace, is the text of the machine's answer to
+-- each of its absent forms, from the record of the caller's organization before it
+abbrev pub RepliesAreThoseOfAbsentForms : List Step → (List ℕ → Option Organization) → List (List ℕ) → Type 0
+RepliesAreThoseOfAbsentForms steps rows texts = (a : AnsweredRequest steps texts) (other org ws : List ℕ) (ask : Ask) → is_in_reach a.asked ≡ false → NeedsWorkspace a.asked.act
+    → workspace_in (record_before rows a.asked.caller a.earlier) ws ≡ None → IsFormOf a.bytes other org ws → Asks a.at other ask
+    → IsText (step (record_before rows a.asked.caller a.earlier) ask).answer a.text
+
+-- and whatever it asks, PUT of a workspace and the list of workspaces too: where its caller is known and has the role, the reply is the text of not-found
+abbrev pub OutOfReachRepliesNotFound : List Step → (List ℕ → Option Organization) → List (List ℕ) → Type 0
+OutOfReachRepliesNotFound steps rows texts = (a : AnsweredRequest steps texts) (token : Token) → is_in_reach a.asked ≡ false
+    → known_caller (record_before rows a.asked.caller a.earlier) a.asked ≡ Ok token → may_do token a.asked ≡ Ok tt
+    → IsText (replies a.awaited a.at (refused_answer NotFound (error_text NotFound) false)) a.text
