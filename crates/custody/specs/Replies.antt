@@ -31,7 +31,7 @@ abbrev pub no_rows : List ℕ → Option Organization
 no_rows org = None
 
 -- the replies to these steps over an empty store: one for each, and at the places of the steps of an
--- organization, and of unattributed, those that its own machine says; the operator's are lists
+-- organization, and of nobody, those that its own machine says; the operator's are lists
 pub record AreReplies (steps : List Step) (replies : List (List ℕ)) : Type 0 where
   pub one_each : length replies ≡ length steps
   pub own : (asked : List Ask) → AreAsked steps asked → (owner : Owner) → AreOwnReplies asked no_rows replies owner

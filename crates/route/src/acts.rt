@@ -32,13 +32,13 @@ pub enum WsAct {
     Read,
     /// Makes the workspace, or gives it other settings.
     Put,
-    /// AddsPair the workspace away.
+    /// Takes the workspace away.
     Delete,
     /// The text of the newest version.
     ReadState,
     /// Makes a new version.
     UpdateState,
-    /// AddsPair all versions away.
+    /// Takes all versions away.
     PurgeState,
     /// Locks the workspace.
     Lock,

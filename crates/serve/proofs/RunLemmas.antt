@@ -92,7 +92,7 @@ said_more true owner rows a text e is =
 said_more false owner rows a text e is = tt
 
 -- the record that the owner's next step reads is what its own run has left
--- a step of unattributed changes no record, nor does the operator's over all organizations
+-- an unattributed step changes no record, nor does the operator's over all organizations
 nobody_commands : (command : Admin) → same_owner unattributed (commanded_of command) ≡ true → ⊥
 nobody_commands (OrgAdd org limit) e = let no : ⊥ = cc in no
 nobody_commands (OrgLimit org limit) e = let no : ⊥ = cc in no

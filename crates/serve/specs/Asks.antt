@@ -20,7 +20,7 @@ pub data Ask : Type 0 where
 pub data Owner : Type 0 where
   -- the organization's of this name
   organization : List ℕ → Owner
-  -- unattributed's: what its bytes say is refused, or unfinished
+  -- nobody's: what its bytes say is refused, or unfinished
   unattributed : Owner
   -- the operator's, over all organizations
   operator : Owner
@@ -33,7 +33,7 @@ commanded_of OrgList = operator
 commanded_of (TokenAdd org name role secret) = organization org
 commanded_of (TokenRevoke org name) = organization org
 
--- whose step it is: of the organization that the token or the command names, unattributed's, or the operator's
+-- whose step it is: of the organization that the token or the command names, nobody's, or the operator's
 abbrev pub owner_of : Ask → Owner
 owner_of silent = unattributed
 owner_of (refused at awaited refusal is_head) = unattributed

@@ -101,7 +101,7 @@ abbrev pub with_own : {A : Type 0} → Bool → A → List A → List A
 with_own true a rest = a ∷ rest
 with_own false a rest = rest
 
--- what is asked of one organization, or of unattributed, in the order of the steps
+-- what is asked of one organization, or by nobody, in the order of the steps
 abbrev pub own_asks : Owner → List Ask → List Ask
 own_asks owner [] = []
 own_asks owner (a ∷ asked) = with_own (is_own owner a) a (own_asks owner asked)

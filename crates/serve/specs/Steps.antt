@@ -99,7 +99,7 @@ command_said OrgList answer = lists
 command_said (TokenAdd org name role secret) answer = tells answer
 command_said (TokenRevoke org name) answer = tells answer
 
--- the step of an organization's machine: what is said, and the record afterwards; a step of unattributed changes no record and reads none
+-- the step of an organization's machine: what is said, and the record afterwards; an unattributed step changes no record and reads none
 abbrev pub step : Option Organization → Ask → Effect Said (Option Organization)
 step r silent = effect nothing r
 step r (ask.refused at awaited refusal is_head) = effect (replies awaited at (refused_answer refusal (error_text refusal) is_head)) r

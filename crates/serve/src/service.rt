@@ -288,7 +288,7 @@ impl<K: Keep> Service<K> {
         // And whatever is asked of another organization, by a caller that is known and has the role, is answered not-found.
         ensures out_of_reach { K.clean self.new.keep → K.sound self.old.keep → IfOk result (λ replies. OutOfReachRepliesNotFound steps.now (K.rows self.old.keep) replies.items) }
 
-        // The replies to unattributed's steps follow from their bytes and moments alone.
+        // The replies to unattributed steps follow from their bytes and moments alone.
         ensures unattributed { K.clean self.new.keep → K.sound self.old.keep → IfOk result (λ replies. (asked : List Ask) → AreAsked steps.now asked
             → AreOwnReplies asked (K.rows self.old.keep) replies.items unattributed) }
 
