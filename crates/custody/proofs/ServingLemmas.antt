@@ -8,36 +8,39 @@ use Rattle.serve.specs.declared.exchanges.LinkFault.TheVariants.{Ended, Read, Co
 use Rattle.serve.specs.declared.steps.Step.{Step}
 use Rattle.serve.specs.declared.steps.Step.TheVariants.{Request, Command}
 use Rattle.serve.specs.Exchanges.{Exchanges, IsAnswered, IsServed, IsUnavailable}
+use Rattle.machine.specs.Ranges.{IsMoment}
 use Rattle.serve.specs.Service.{Stays, IsText, said_to}
-use Rattle.serve.specs.Inner.Taking.{IsTaken, RunsTo}
+use Rattle.serve.specs.Inner.Taking.{IsTaken, IsTimely, RunsTo}
 use Rattle.serve.specs.Steps.{Said}
 use Rattle.serve.proofs.RunLemmas.{runs_none, runs_more}
+use Rattle.serve.proofs.TakenLemmas.{reading_timely}
 use Rattle.custody.specs.Serving.{AreRequests, Serves}
 use Rattle.custody.specs.Inner.Serving.{TakesOne, ServesTo}
 
-answered : (now : ℕ) (received : List ℕ) (old new : List ℕ → Option Organization) (awaited : Bool) (text : List ℕ) → IsAnswered now received old new awaited text → TakesOne old new
-answered now received old new awaited text (inl served) = inl (
+answered : (now : ℕ) (received : List ℕ) (old new : List ℕ → Option Organization) (awaited : Bool) (text : List ℕ) → IsMoment now → IsAnswered now received old new awaited text → TakesOne old new
+answered now received old new awaited text moment (inl served) = inl (
   now,
   received,
   continue_if awaited ++ text,
   record {
     ask = served.ask;
     is = served.asks;
+    timely = subst IsTimely (sym served.asks.is) (reading_timely now served.asks.reading moment);
     carries = served.carries;
     text_is = subst (λ (s : Said). IsText s (continue_if awaited ++ text)) (sym served.said) (text, served.is, refl);
   },
 )
-answered now received old new awaited text (inr down) = inr down.stays
+answered now received old new awaited text moment (inr down) = inr down.stays
 
 -- one exchange takes at most one request
 pub taken_of : {T : Type 0} (now : ℕ) (received : List ℕ) (left : Option (List ℕ)) (old new : List ℕ → Option Organization) (before after : Option (List ℕ)) (res : Result T LinkFault)
-    → Exchanges now received left old new before after res
+    → IsMoment now → Exchanges now received left old new before after res
     → (IsErrOf res Ended ⊎ (IsErrOf res Read ⊎ IsErrOf res Continue) → Stays old new) → TakesOne old new
-taken_of now received left old new before after (Ok done) told stays = answered now received old new told.0 told.1 told.2
-taken_of now received left old new before after (Err Ended) told stays = inr (stays (inl refl))
-taken_of now received left old new before after (Err Read) told stays = inr (stays (inr (inl refl)))
-taken_of now received left old new before after (Err Continue) told stays = inr (stays (inr (inr refl)))
-taken_of now received left old new before after (Err Write) told stays = answered now received old new told.0 (told.1 ++ told.2) told.4
+taken_of now received left old new before after (Ok done) moment told stays = answered now received old new told.0 told.1 moment told.2
+taken_of now received left old new before after (Err Ended) moment told stays = inr (stays (inl refl))
+taken_of now received left old new before after (Err Read) moment told stays = inr (stays (inr (inl refl)))
+taken_of now received left old new before after (Err Continue) moment told stays = inr (stays (inr (inr refl)))
+taken_of now received left old new before after (Err Write) moment told stays = answered now received old new told.0 (told.1 ++ told.2) moment told.4
 
 requests-push : (steps : List Step) (at : ℕ) (bytes : List ℕ) → AreRequests steps → AreRequests (steps ++ Request at bytes ∷ [])
 requests-push [] at bytes h = tt
@@ -69,6 +72,7 @@ serves_more count old mid new so_far (inr stays) = record {
   run = record {
     asked = so_far.run.asked;
     are = so_far.run.are;
+    timely = so_far.run.timely;
     rows = λ org. stays org ∙ so_far.run.rows org;
     texts = so_far.run.texts;
   };

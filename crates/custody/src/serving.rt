@@ -6,6 +6,7 @@ ghost use Rattle.custody.specs.Serving.{listening_line, Listens, Serves, fault_t
 ghost use Rattle.custody.specs.Inner.Serving.{TakesOne};
 
 use crate::endings::Ending;
+use basis::numbers::MAX_MOMENT;
 use basis::{Down, Moment};
 use machine::Keep;
 use serve::{LinkFault, Service};
@@ -123,6 +124,7 @@ fn exchange_one<K: Keep, I: Inlet, O: Outlet>(
     ensures kept { K.clean service.new.keep → K.sound service.old.keep → K.sound service.new.keep }
     ensures takes { K.clean service.new.keep → K.sound service.old.keep → TakesOne (K.rows service.old.keep) (K.rows service.new.keep) }
 {
+    prove!(now.seconds() <= MAX_MOMENT);
     service.exchange(alloc, now, inlet, outlet)
 }
 

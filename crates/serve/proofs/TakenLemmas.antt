@@ -108,7 +108,7 @@ asking_timely : (at : ℕ) (awaited : Bool) (message : Message) (asking : Asking
 asking_timely at awaited message (route.refused refusal) moment = tt
 asking_timely at awaited message (asks asked) moment = moment
 
-reading_timely : (at : ℕ) (reading : Reading) → IsMoment at → IsTimely (ask_of at reading)
+pub reading_timely : (at : ℕ) (reading : Reading) → IsMoment at → IsTimely (ask_of at reading)
 reading_timely at unfinished moment = tt
 reading_timely at (wire.refused refusal head) moment = tt
 reading_timely at (whole message awaited) moment = asking_timely at awaited message (asked_of message) moment

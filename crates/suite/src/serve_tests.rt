@@ -5,9 +5,7 @@ use crate::rows::{
     NAME_ROWS, QUEUE_ROWS, RESENT, RUN_ROWS, SET_UP, STATE_ROWS, TWICE_AFTER, TWICE_LOCKED,
     TWICE_RUN,
 };
-use crate::steps::{
-    Row, Sent, Story, expect_in_file, expect_replies, expect_story, now, written,
-};
+use crate::steps::{Row, Sent, Story, expect_in_file, expect_replies, expect_story, now, written};
 use crate::texts::repeated;
 use basis::{Bytes, Down, Moment};
 use machine::PlainKeep;
