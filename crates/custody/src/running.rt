@@ -633,7 +633,7 @@ mod tests {
         assert_eq!(&rt; one.status, 0);
         let text = str::from_utf8(one.errors.as_slice())?;
         for range in [
-            "--db <PATH>",
+            "Usage: custody serve --db <PATH> --port <P> --count <N>",
             "--port <P>",
             "1 to 65535",
             "--count <N>",

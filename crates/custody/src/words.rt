@@ -151,14 +151,15 @@ fn replay<'a>(alloc: Global) -> Command<'a>
     command(alloc, "replay", about)
 }
 
-fn bare<'a>(alloc: Global) -> Command<'a>
-    ensures { IsCommand result bare }
+fn bare<'a>(alloc: Global) -> Result<Command<'a>, AllocError>
+    ensures { IfOk result (λ whole. IsCommand whole bare) }
 {
     Command::new(alloc, "custody")
         .about("Keeps Terraform state: who may change which state, and when")
         .no_binary_name(true)
         .subcommand_required(true)
         .arg_required_else_help(true)
+        .bin_name("custody")
 }
 
 fn with_organizations<'a>(alloc: Global, bare: Command<'a>) -> Result<Command<'a>, AllocError>
@@ -186,7 +187,8 @@ fn with_running<'a>(alloc: Global, bare: Command<'a>) -> Result<Command<'a>, All
 fn custody<'a>(alloc: Global) -> Result<Command<'a>, AllocError>
     ensures { IfOk result (λ whole. app_of whole ≡ custody) }
 {
-    let organizations = with_organizations(alloc, bare(alloc))?;
+    let bare = bare(alloc)?;
+    let organizations = with_organizations(alloc, bare)?;
     let tokens = with_tokens(alloc, organizations)?;
     with_running(alloc, tokens)
 }
