@@ -9,14 +9,12 @@ with many small objects, and with many small numbers.
 import base64
 import hashlib
 import json
-import os
-import shutil
 import subprocess
-import sys
 import tempfile
 import time
 
-TOP = os.path.dirname(os.path.dirname(os.path.abspath(__file__)))
+from building import build
+
 BELOW = ("basis", "docs")
 MIB = 1024 * 1024
 TURNS = 15
@@ -52,25 +50,6 @@ def state_of(shape, size):
     return state.ljust(size)
 
 
-def build(folder):
-    """Proves and builds the program over copies of the crates. Returns its path."""
-    with open(f"{TOP}/crates.txt", encoding="utf-8") as it:
-        lines = [line for line in it if line.partition(":")[0] in BELOW]
-    with open(f"{folder}/crates.txt", "w", encoding="utf-8") as it:
-        it.writelines([*lines, "timing: basis docs\n"])
-    shutil.copy(f"{TOP}/HANDLES", folder)
-    for name in BELOW:
-        shutil.copytree(f"{TOP}/crates/{name}", f"{folder}/crates/{name}")
-    crate = f"{folder}/crates/timing"
-    os.makedirs(f"{crate}/src")
-    shutil.copy(f"{TOP}/bench/documents/main.rt.in", f"{crate}/src/main.rt")
-    state = state_of(terraform, 4096)
-    said = subprocess.run(["rt", "run", "--", field_of(state)], cwd=crate, input=state, capture_output=True)
-    if not os.path.isfile(f"{crate}/out/timing"):
-        sys.exit((said.stdout + said.stderr).decode(errors="replace"))
-    return f"{crate}/out/timing"
-
-
 def field_of(state):
     return base64.b64encode(hashlib.md5(state).digest()).decode()
 
@@ -93,7 +72,8 @@ def measure(program, state):
 
 def main():
     with tempfile.TemporaryDirectory() as folder:
-        program = build(folder)
+        state = state_of(terraform, 4096)
+        program = build(folder, "documents", "timing: basis docs", BELOW, [field_of(state)], state)
         print("state       MiB   read_state   python3 json   digest_fits   hashlib md5   (ms)")
         for shape in (terraform, objects, numbers):
             for size in (1, 2, 4):
