@@ -266,6 +266,9 @@ pub fn expect_in_file(
     let _ = fs::remove_file(host, "row.db");
     let _ = fs::remove_file(host, "row.db-wal");
     let middle = story.steps.len() / 2;
+    if middle > story.due.len() {
+        return Err(Fail::from("a reply for each step"));
+    }
     let (before, after) = story.steps.as_slice().split_at(middle);
     let (due_before, due_after) = story.due.as_slice().split_at(middle);
     let replies = exchanged_in_file(rt, host, "row.db", before)?;
