@@ -24,49 +24,49 @@ fn story_of(alloc: Global, before: &[(Sent, &str)], steps: &[(Sent, &str)]) -> R
 }
 
 // Each row, behind `SET_UP`, over the stores in memory and in a file.
-fn expect_rows(rt: &impl Abort, host: &HostRuntime, rows: &[Row]) -> Result<(), Fail> {
+fn expect_rows(rt: &impl Abort, host: &HostRuntime, path: &str, rows: &[Row]) -> Result<(), Fail> {
     let alloc = host.alloc();
     for row in rows {
         let story = story_of(alloc, SET_UP, row.steps)?;
         expect_story(rt, alloc, &story, row.name)?;
-        expect_in_file(rt, host, &story, row.name)?;
+        expect_in_file(rt, host, path, &story, row.name)?;
     }
     Ok(())
 }
 
 #[test]
 fn rows_of_locks_are_answered(rt: HostRuntime) -> Result<(), Fail> {
-    expect_rows(&rt, &rt, LOCK_ROWS)
+    expect_rows(&rt, &rt, "lock_rows.db", LOCK_ROWS)
 }
 
 #[test]
 fn rows_of_states_are_answered(rt: HostRuntime) -> Result<(), Fail> {
-    expect_rows(&rt, &rt, STATE_ROWS)
+    expect_rows(&rt, &rt, "state_rows.db", STATE_ROWS)
 }
 
 #[test]
 fn rows_of_names_are_answered(rt: HostRuntime) -> Result<(), Fail> {
-    expect_rows(&rt, &rt, NAME_ROWS)
+    expect_rows(&rt, &rt, "name_rows.db", NAME_ROWS)
 }
 
 #[test]
 fn rows_of_the_queue_are_answered(rt: HostRuntime) -> Result<(), Fail> {
-    expect_rows(&rt, &rt, QUEUE_ROWS)
+    expect_rows(&rt, &rt, "queue_rows.db", QUEUE_ROWS)
 }
 
 #[test]
 fn rows_of_runs_are_answered(rt: HostRuntime) -> Result<(), Fail> {
-    expect_rows(&rt, &rt, RUN_ROWS)
+    expect_rows(&rt, &rt, "run_rows.db", RUN_ROWS)
 }
 
 #[test]
 fn rows_of_asked_runs_are_answered(rt: HostRuntime) -> Result<(), Fail> {
-    expect_rows(&rt, &rt, ASKED_RUN_ROWS)
+    expect_rows(&rt, &rt, "asked_run_rows.db", ASKED_RUN_ROWS)
 }
 
 #[test]
 fn rows_of_limits_and_tokens_are_answered(rt: HostRuntime) -> Result<(), Fail> {
-    expect_rows(&rt, &rt, KEPT_ROWS)
+    expect_rows(&rt, &rt, "kept_rows.db", KEPT_ROWS)
 }
 
 // A lock, an update, a run that waits and one that applies: what is sent twice changes nothing the
@@ -82,17 +82,17 @@ fn what_is_sent_twice_changes_nothing_more(rt: HostRuntime) -> Result<(), Fail> 
 
 #[test]
 fn rows_of_deletion_are_answered(rt: HostRuntime) -> Result<(), Fail> {
-    expect_rows(&rt, &rt, DELETED_ROWS)
+    expect_rows(&rt, &rt, "deleted_rows.db", DELETED_ROWS)
 }
 
 #[test]
 fn rows_of_lists_are_answered(rt: HostRuntime) -> Result<(), Fail> {
-    expect_rows(&rt, &rt, LIST_ROWS)
+    expect_rows(&rt, &rt, "list_rows.db", LIST_ROWS)
 }
 
 #[test]
 fn rows_of_messages_are_answered(rt: HostRuntime) -> Result<(), Fail> {
-    expect_rows(&rt, &rt, MESSAGE_ROWS)
+    expect_rows(&rt, &rt, "message_rows.db", MESSAGE_ROWS)
 }
 
 // The steps of two organizations in turn.

@@ -255,25 +255,27 @@ fn exchanged_in_file(
     Ok(replies)
 }
 
-/// Exchanged one by one over the store in a file, which is closed and opened again midway, the steps of
-/// a story are answered by what is due.
+/// Exchanged one by one over the store in a new file, which is closed and opened again midway, the steps
+/// of a story are answered by what is due.
 pub fn expect_in_file(
     rt: &impl Abort,
     host: &HostRuntime,
+    path: &str,
     story: &Story,
     name: &str,
 ) -> Result<(), Fail> {
-    let _ = fs::remove_file(host, "row.db");
-    let _ = fs::remove_file(host, "row.db-wal");
+    let log = format!(in host.alloc(); "{path}-wal")?;
+    let _ = fs::remove_file(host, path);
+    let _ = fs::remove_file(host, log.as_str());
     let middle = story.steps.len() / 2;
     if middle > story.due.len() {
         return Err(Fail::from("a reply for each step"));
     }
     let (before, after) = story.steps.as_slice().split_at(middle);
     let (due_before, due_after) = story.due.as_slice().split_at(middle);
-    let replies = exchanged_in_file(rt, host, "row.db", before)?;
+    let replies = exchanged_in_file(rt, host, path, before)?;
     expect_replies(rt, replies.as_slice(), due_before, name);
-    let replies = exchanged_in_file(rt, host, "row.db", after)?;
+    let replies = exchanged_in_file(rt, host, path, after)?;
     expect_replies(rt, replies.as_slice(), due_after, name);
     Ok(())
 }
