@@ -1,9 +1,5 @@
 -- How the program ends: its exit status, and the line on standard output.
 use Rattle.std.specs.Prelude.{ℕ, List, [], codes}
-use Rattle.machine.specs.declared.keeps.AdminAnswer.{AdminAnswer}
-use Rattle.machine.specs.declared.keeps.AdminAnswer.TheVariants as answer
-use Rattle.tables.specs.declared.opening.Fault.{Fault}
-use Rattle.tables.specs.declared.opening.Fault.TheVariants as fault
 use Rattle.custody.specs.declared.endings.Ending.{Ending}
 use Rattle.custody.specs.declared.endings.Ending.TheVariants.{Done, Exists, Absent, Usage, BadFrame, Schema, Down, Unprinted}
 
@@ -28,15 +24,3 @@ line_of Schema = codes "refused schema"
 line_of Down = codes "refused down"
 line_of BadFrame = []
 line_of Unprinted = []
-
--- after an answer to an operator's command
-abbrev pub answer_ending : AdminAnswer → Ending
-answer_ending answer.Done = Done
-answer_ending answer.Exists = Exists
-answer_ending answer.Absent = Absent
-answer_ending (answer.Organizations rows) = Done
-
--- where a database isn't opened
-abbrev pub fault_ending : Fault → Ending
-fault_ending fault.Schema = Schema
-fault_ending fault.Down = Down

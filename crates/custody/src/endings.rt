@@ -1,10 +1,7 @@
 //! How the program ends: its exit status, and the line that says so.
 
 ghost use Rattle.std.specs.Prelude.{◌≡◌};
-ghost use Rattle.custody.specs.Endings.{status_of, line_of, answer_ending, fault_ending};
-
-use machine::AdminAnswer;
-use tables::Fault;
+ghost use Rattle.custody.specs.Endings.{status_of, line_of};
 
 /// How the program ends.
 #[derive(Clone, Copy, Debug, PartialEq, Eq)]
@@ -52,27 +49,6 @@ impl Ending {
             Ending::Schema => "refused schema",
             Ending::Down => "refused down",
             Ending::BadFrame | Ending::Unprinted => "",
-        }
-    }
-
-    /// How the program ends after an answer to an operator's command.
-    pub fn of_answer(answer: &AdminAnswer) -> Ending
-        ensures { result ≡ answer_ending answer.now }
-    {
-        match answer {
-            AdminAnswer::Done | AdminAnswer::Organizations(_) => Ending::Done,
-            AdminAnswer::Exists => Ending::Exists,
-            AdminAnswer::Absent => Ending::Absent,
-        }
-    }
-
-    /// How the program ends where a database isn't opened.
-    pub fn of_fault(fault: Fault) -> Ending
-        ensures { result ≡ fault_ending fault }
-    {
-        match fault {
-            Fault::Schema => Ending::Schema,
-            Fault::Down => Ending::Down,
         }
     }
 }
