@@ -1,3 +1,18 @@
+missing_model : (o : Organization) (act : Act) → meaning (decision_missing act (nat_lt (counted_for act (count_of o)) o.limit)) None ≡ rules_missing act (nat_lt (count_of o) o.limit)
+missing_model o act = by_act (put_or_missed act)
+  where
+    room : Bool
+    room = nat_lt (count_of o) o.limit
+
+    made : (room : Bool) (settings : Settings) → meaning (decision_missing (PutWorkspace settings) room) None ≡ rules_missing (PutWorkspace settings) room
+    made true settings = refl
+    made false settings = refl
+
+    by_act : IsPut act ⊎ Misses act → meaning (decision_missing act (nat_lt (counted_for act (count_of o)) o.limit)) None ≡ rules_missing act room
+    by_act (inl put) =
+        subst (λ (a : Act). meaning (decision_missing a (nat_lt (counted_for a (count_of o)) o.limit)) None ≡ rules_missing a room) (sym put.1) (made room put.0)
+    by_act (inr misses) = ap (λ (d : Decision). meaning d None) (misses (nat_lt (counted_for act (count_of o)) o.limit)).1 ∙ sym (misses room).0
+
 -- A decision means what the rules say.
 use Rattle.std.specs.FinMap.{get}
 use Rattle.basis.specs.declared.rows.Settings.{Settings}
@@ -23,7 +38,7 @@ use Rattle.basis.specs.Runs.{is_open}
 use Rattle.basis.specs.declared.rows.RunAsk.{RunAsk}
 use Rattle.basis.specs.declared.runs.RunStatus.{RunStatus}
 use Rattle.basis.specs.declared.runs.RunAction.{RunAction}
-use Rattle.machine.specs.Units.{unit_of, workspace_unit, newest_unit, version_of, unit_by}
+use Rattle.machine.specs.Units.{unit_of, counted_for, workspace_unit, newest_unit, version_of, unit_by}
 use Rattle.machine.specs.declared.acts.Act.{Act}
 use Rattle.machine.specs.declared.acts.Act.TheVariants.{PutWorkspace, ReadWorkspace, DeleteWorkspace, UpdateState, ReadState, PurgeState, Lock as LockAct, Unlock, ForceUnlock, ListVersions, ReadVersion, ListRuns, MakeRun, ReadRun, ReportRun}
 use Rattle.machine.specs.declared.acts.Decision.{Decision}
@@ -291,7 +306,7 @@ missing_model act room = by_act (put_or_missed act)
 
 model : (o : Organization) (w : Option Workspace) (act : Act) (now : ℕ) → IsLawfulIfThere w
     → meaning (decision_of (unit_by o act w) act now) (standing (seen_by (nat_lt (count_of o) o.limit) w)) ≡ rules act now (seen_by (nat_lt (count_of o) o.limit) w)
-model o None act now lawful = missing_model act (nat_lt (count_of o) o.limit)
+model o None act now lawful = missing_model o act
 model o (Some w) act now lawful = there_model o w act now lawful
 
 -- a change that means what the rules say is due

@@ -1,5 +1,5 @@
 -- What a decision sees of a workspace.
-use Rattle.std.specs.Prelude.{ℕ, Bool, false, ◌==◌, cond, List, [], ◌∷◌, length, Option, Some, None, is_some, option_map, option_and_then}
+use Rattle.std.specs.Prelude.{ℕ, Bool, true, false, ◌==◌, cond, List, [], ◌∷◌, length, Option, Some, None, is_some, option_map, option_and_then}
 use Rattle.std.specs.Option.{option_or}
 use Rattle.std.specs.FinMap.{get}
 use Rattle.std.specs.Str.{bytes_eq}
@@ -99,9 +99,31 @@ workspace_unit act w = record {
   open_runs = open_runs w.runs;
 }
 
+-- whether an act makes its workspace where there is none
+abbrev pub makes_workspace : Act → Bool
+makes_workspace (PutWorkspace settings) = true
+makes_workspace ReadWorkspace = false
+makes_workspace (UpdateState head asked id) = false
+makes_workspace ReadState = false
+makes_workspace (PurgeState id) = false
+makes_workspace (LockAct id asked) = false
+makes_workspace (Unlock id) = false
+makes_workspace ForceUnlock = false
+makes_workspace DeleteWorkspace = false
+makes_workspace (ListVersions after) = false
+makes_workspace (ReadVersion n) = false
+makes_workspace (ListRuns after) = false
+makes_workspace (MakeRun ask) = false
+makes_workspace (ReadRun n) = false
+makes_workspace (ReportRun n action) = false
+
+-- how many workspaces there are, where an act makes one; for any other act nothing asks for the count
+abbrev pub counted_for : Act → ℕ → ℕ
+counted_for act count = cond (makes_workspace act) count 0
+
 -- of a workspace that is missing, how many there are and how many there may be
 abbrev pub unit_by : Organization → Act → Option Workspace → AnyUnit
-unit_by o act None = Absent (count_of o) o.limit
+unit_by o act None = Absent (counted_for act (count_of o)) o.limit
 unit_by o act (Some w) = Present (workspace_unit act w)
 
 -- what a decision on an act sees of the workspace of a name

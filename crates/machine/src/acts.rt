@@ -1,4 +1,6 @@
 //! What is asked of a workspace, what a decision needs of it, and what is decided.
+ghost use Rattle.std.specs.Prelude.{◌≡◌};
+ghost use Rattle.machine.specs.Units.{makes_workspace};
 
 use crate::records::{Holder, Run, Version};
 use basis::{
@@ -50,6 +52,23 @@ pub enum Act {
     ReportRun(Number, RunAction),
 }
 
+impl Act {
+    /// Whether the act makes its workspace where there is none.
+    pub fn makes_workspace(&self) -> bool
+        ensures { result ≡ makes_workspace self.now }
+    {
+        match self {
+            Act::PutWorkspace(_) => true,
+            Act::ReadWorkspace | Act::DeleteWorkspace => false,
+            Act::UpdateState { .. } | Act::ReadState | Act::PurgeState { .. } => false,
+            Act::Lock { .. } | Act::Unlock(_) | Act::ForceUnlock => false,
+            Act::ListVersions(_) | Act::ReadVersion(_) => false,
+            Act::ListRuns(_) | Act::MakeRun(_) => false,
+            Act::ReadRun(_) | Act::ReportRun(_, _) => false,
+        }
+    }
+}
+
 /// What a decision needs of the newest version.
 #[derive(Debug, Drop)]
 pub struct Newest {
@@ -87,7 +106,8 @@ pub struct WorkspaceUnit {
 /// What a decision needs of one workspace, or that it isn't there.
 #[derive(Debug, Drop)]
 pub enum Unit {
-    /// How many workspaces the organization has, and how many it may have.
+    /// How many workspaces the organization has, where the act makes one (for any other act 0, since
+    /// nothing asks for the count), and how many it may have.
     Absent { workspaces: usize, limit: Limit },
     Present(WorkspaceUnit),
 }

@@ -10,7 +10,7 @@ ghost use Rattle.machine.specs.Showing.{comes_after, shown_of, row_of, version_r
 ghost use Rattle.machine.specs.Tokens.{token_with, has_digest, new_organization, org_added, org_limited, token_added, token_revoked, AreOrganizations};
 ghost use Rattle.machine.specs.Changes.{edited, changed_by};
 ghost use Rattle.machine.specs.Rules.{reported};
-ghost use Rattle.machine.specs.Units.{is_text_of, asked_run, asked_version, newest_unit, workspace_unit, unit_of, version_of, text_of};
+ghost use Rattle.machine.specs.Units.{counted_for, is_text_of, asked_run, asked_version, newest_unit, workspace_unit, unit_of, version_of, text_of};
 ghost use Rattle.basis.specs.declared.runs.RunStatus.TheVariants.{Planning};
 ghost use Rattle.machine.specs.Settling.{first_waiting, begun, started, started_if};
 ghost use Rattle.machine.specs.Workspaces.{newest, new_workspace, run_of, holder_status, is_keyed, keyed_run, open_runs};
@@ -300,7 +300,7 @@ impl Organization {
         match self.workspaces.get(ws) {
             Some(workspace) => Ok(Unit::Present(workspace.unit(act)?)),
             None => Ok(Unit::Absent {
-                workspaces: self.workspaces.entries().len(),
+                workspaces: counted_for(act, self.workspaces.entries().len()),
                 limit: self.limit,
             }),
         }
@@ -569,6 +569,12 @@ fn recorded_status(is_it: bool, status: RunStatus, before: RunStatus) -> RunStat
     ensures { result ≡ cond is_it status before }
 {
     if is_it { status } else { before }
+}
+
+fn counted_for(act: &Act, count: usize) -> usize
+    ensures { result ≡ counted_for act.now count }
+{
+    if act.makes_workspace() { count } else { 0 }
 }
 
 fn is_text_of(act: &Act, text: &Bytes) -> bool

@@ -17,7 +17,7 @@ use Rattle.machine.specs.Laws.{Rises, is_pending}
 use Rattle.machine.specs.Settling.{first_waiting, is_waiting}
 use Rattle.machine.specs.Workspaces.{newest, is_numbered, run_of, has_key, is_keyed, keyed_run, holder_status, open_runs}
 use Rattle.machine.specs.Records.{count_of, workspace_in as seen_workspace}
-use Rattle.machine.specs.Units.{find_last, version_of, asked_version, text_of, asked_run, newest_unit, unit_by, unit_of}
+use Rattle.machine.specs.Units.{find_last, version_of, asked_version, text_of, asked_run, newest_unit, counted_for, unit_by, unit_of}
 use Rattle.machine.specs.declared.acts.Act.{Act}
 use Rattle.machine.specs.declared.acts.Act.TheVariants.{PutWorkspace, ReadWorkspace, DeleteWorkspace, UpdateState, ReadState, PurgeState, Lock as LockAct, Unlock, ForceUnlock, ListVersions, ReadVersion, ListRuns, MakeRun, ReadRun, ReportRun}
 use Rattle.machine.specs.declared.acts.Unit.TheVariants.{Absent, Present}
@@ -299,7 +299,7 @@ module _ (t : Tables) (sound : IsSound t) (org : List ℕ) where
   unit_found o ws act e = by_row (workspace_of org ws t) refl ∙ ap (unit_by o act) (sym (workspace_there t org ws o e))
     where
       by_row : (r : Option WorkspaceCells) → workspace_of org ws t ≡ r → unit_at act org ws t r ≡ unit_by o act (option_map (workspace_at t org ws) r)
-      by_row None f = λ i. Absent (count_found o e i) (unwrap_or (limit_there t org o e i) 0)
+      by_row None f = λ i. Absent (counted_for act (count_found o e i)) (unwrap_or (limit_there t org o e i) 0)
       by_row (Some w) f =
           let stands : workspace_by t org ws ≡ Some (workspace_at t org ws w) = ap (option_map (workspace_at t org ws)) f in
           let lawful = (sound.workspaces org ws _ stands).lawful in

@@ -3,6 +3,7 @@ use Rattle.std.specs.Prelude.{◌≡◌, ℕ, Bool, false, List, Option, Some, N
 use Rattle.std.specs.Str.{bytes_eq}
 use Rattle.sqlite.specs.State.{State, HasCleanDisk, KeepsCommit}
 use Rattle.std.specs.Option.{unwrap_or}
+use Rattle.machine.specs.Units.{counted_for}
 use Rattle.machine.specs.declared.acts.Act.{Act}
 use Rattle.machine.specs.declared.acts.Unit.{Unit}
 use Rattle.machine.specs.declared.acts.Unit.TheVariants.{Absent, Present}
@@ -32,8 +33,12 @@ abbrev pub is_body : List ℕ → Option (List ℕ) → Bool
 is_body text None = false
 is_body text (Some found) = bytes_eq found text
 
-abbrev pub absent_in : List ℕ → Tables → Unit
-absent_in org t = Absent (workspaces_of org t) (unwrap_or (cap_of org t) 0)
+-- how many workspaces an organization has, where an act makes one
+abbrev pub counted_in : Act → List ℕ → Tables → ℕ
+counted_in act org t = counted_for act (workspaces_of org t)
+
+abbrev pub absent_in : Act → List ℕ → Tables → Unit
+absent_in act org t = Absent (counted_in act org t) (unwrap_or (cap_of org t) 0)
 
 abbrev pub runs_in : Act → List ℕ → List ℕ → HolderCells → Tables → RunsAround
 runs_in act org ws holder t =

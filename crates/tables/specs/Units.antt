@@ -2,7 +2,7 @@
 use Rattle.std.specs.Prelude.{ℕ, Bool, false, List, Option, Some, None, is_some, option_map}
 use Rattle.std.specs.Option.{unwrap_or}
 use Rattle.basis.specs.declared.runs.RunStatus.{RunStatus}
-use Rattle.machine.specs.Units.{is_text_of}
+use Rattle.machine.specs.Units.{is_text_of, counted_for}
 use Rattle.machine.specs.declared.acts.Act.{Act}
 use Rattle.machine.specs.declared.acts.Act.TheVariants.{PutWorkspace, ReadWorkspace, DeleteWorkspace, UpdateState, ReadState, PurgeState, Lock as LockAct, Unlock, ForceUnlock, ListVersions, ReadVersion, ListRuns, MakeRun, ReadRun, ReportRun}
 use Rattle.machine.specs.declared.records.Run.{Run}
@@ -80,7 +80,7 @@ abbrev pub asked_run_in : Act → List ℕ → List ℕ → Tables → Option Ru
 asked_run_in act org ws t = option_map run_in (asked_cells_in act org ws t)
 
 abbrev pub unit_at : Act → List ℕ → List ℕ → Tables → Option WorkspaceCells → AnyUnit
-unit_at act org ws t None = Absent (workspaces_of org t) (unwrap_or (cap_of org t) 0)
+unit_at act org ws t None = Absent (counted_for act (workspaces_of org t)) (unwrap_or (cap_of org t) 0)
 unit_at act org ws t (Some w) = Present (record {
   auto_apply = w.auto;
   holder = holder_in w.holder;

@@ -6,7 +6,7 @@ ghost use Rattle.statements.specs.Finds.{body_of, number_of, status_of, run_of};
 ghost use Rattle.tables.specs.Records.{holder_in, run_in};
 ghost use Rattle.tables.specs.Units.{holder_status_in, is_found_text, newest_by, newest_in, has_version_in, keyed_cells_in, asked_cells_in, unit_in};
 ghost use Rattle.tables.specs.KeepEdits.{outgoing_of, outgoing_below, outgoing_in, room_of, room_in, GoesBy};
-ghost use Rattle.tables.specs.KeepLooks.{SeesBy, is_body, absent_in, runs_in, around_in, unit_from, present_in};
+ghost use Rattle.tables.specs.KeepLooks.{SeesBy, is_body, counted_in, absent_in, runs_in, around_in, unit_from, present_in};
 
 use crate::steps::Outgoing;
 use basis::{Bytes, Limit, LockId, Moment, Number, RunStatus, Text};
@@ -377,14 +377,27 @@ fn has_version<S: Alter>(
     }
 }
 
-/// How many workspaces an organization has, and how many it may have.
-fn absent<S: Alter>(conn: &mut Connection<S>, org: &str) -> Result<Unit, Error>
+/// How many workspaces an organization has, where an act makes one: for any other act they are not
+/// counted.
+fn counted<S: Alter>(conn: &mut Connection<S>, org: &str, act: &Act) -> Result<u64, Error>
     ensures mode { conn.old.in_transaction ≡ false → conn.new.in_transaction ≡ false }
     ensures so_far { HasCleanDisk (state S.Store conn.new) → HasCleanDisk (state S.Store conn.old) }
-    ensures sees { SeesBy (absent_in org.now) (state S.Store conn.old) (state S.Store conn.new) result }
+    ensures sees { SeesBy (counted_in act.now org.now) (state S.Store conn.old) (state S.Store conn.new) result }
+{
+    if !act.makes_workspace() {
+        return Ok(0);
+    }
+    workspaces::count(conn, org)
+}
+
+/// How many workspaces an organization has, where an act makes one, and how many it may have.
+fn absent<S: Alter>(conn: &mut Connection<S>, org: &str, act: &Act) -> Result<Unit, Error>
+    ensures mode { conn.old.in_transaction ≡ false → conn.new.in_transaction ≡ false }
+    ensures so_far { HasCleanDisk (state S.Store conn.new) → HasCleanDisk (state S.Store conn.old) }
+    ensures sees { SeesBy (absent_in act.now org.now) (state S.Store conn.old) (state S.Store conn.new) result }
     ensures is_open { HasCleanDisk (state S.Store conn.new) → OnOk result (IsTrue (state S.Store conn.new).is_open) }
 {
-    let count = workspaces::count(conn, org)?;
+    let count = counted(conn, org, act)?;
     let cap = organizations::cap(conn, org)?;
     let limit = limit_of(cap)?;
     Ok(Unit::Absent {
@@ -503,7 +516,7 @@ pub(crate) fn unit<S: Alter>(
     ensures is_open { HasCleanDisk (state S.Store conn.new) → OnOk result (IsTrue (state S.Store conn.new).is_open) }
 {
     match workspaces::find(conn, org, ws)? {
-        None => absent(conn, org),
+        None => absent(conn, org, act),
         Some(workspace) => present(conn, alloc, org, ws, act, workspace),
     }
 }
