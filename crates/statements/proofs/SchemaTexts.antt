@@ -43,6 +43,9 @@ make_run_text = codes "CREATE TABLE run (org TEXT NOT NULL, ws TEXT NOT NULL, nu
 abbrev pub make_run_index_text : List ℕ
 make_run_index_text = codes "CREATE INDEX run_by_status ON run (org, ws, status, number)"
 
+abbrev pub make_version_index_text : List ℕ
+make_version_index_text = codes "CREATE INDEX version_head ON version (org, ws, number, serial, lineage, created, size)"
+
 make_meta_defines : table_defined_by make_meta_text ≡ Ok meta_table
 unfolding everything
 make_meta_defines = refl
@@ -122,3 +125,11 @@ make_run_index_reads = refl
 pub make_run_index_does : (old new : State) (params : Row) (count : ℕ) → Executes make_run_index_text params old new (Ok count) → KeepsMade old.now new.now
 unfolding everything
 make_run_index_does = makes_index (index_text (some_parsed (first make_run_index_text)).statement) make_run_index_text (some_parsed (first make_run_index_text)) make_run_index_reads refl
+
+make_version_index_reads : first make_version_index_text ≡ Ok (as_read (some_parsed (first make_version_index_text)) (written.CreateIndex (fresh_index (index_text (some_parsed (first make_version_index_text)).statement))))
+unfolding everything
+make_version_index_reads = refl
+
+pub make_version_index_does : (old new : State) (params : Row) (count : ℕ) → Executes make_version_index_text params old new (Ok count) → KeepsMade old.now new.now
+unfolding everything
+make_version_index_does = makes_index (index_text (some_parsed (first make_version_index_text)).statement) make_version_index_text (some_parsed (first make_version_index_text)) make_version_index_reads refl

@@ -93,6 +93,18 @@ fn make_run_index<S: Alter>(tx: &mut Transaction<'_, S>) -> Result<(), Error>
     write(tx, MAKE_RUN_INDEX, &[])
 }
 
+const MAKE_VERSION_INDEX: &str =
+    "CREATE INDEX version_head ON version (org, ws, number, serial, lineage, created, size)";
+
+/// Makes the index by which versions are found and listed without a look at their texts.
+fn make_version_index<S: Alter>(tx: &mut Transaction<'_, S>) -> Result<(), Error>
+    ensures same_reference { tx.new.conn.ghost_name ≡ tx.old.conn.ghost_name }
+    ensures made { AltersBy KeepsMade (state S.Store tx.old.conn.now) (state S.Store tx.new.conn.now) result }
+    ensures survives { Survives (state S.Store tx.old.conn.now) (state S.Store tx.new.conn.now) (λ _. ⊥) }
+{
+    write(tx, MAKE_VERSION_INDEX, &[])
+}
+
 /// Makes the tables of names: the version, organizations, tokens and workspaces.
 fn make_names<S: Alter>(tx: &mut Transaction<'_, S>) -> Result<(), Error>
     ensures same_reference { tx.new.conn.ghost_name ≡ tx.old.conn.ghost_name }
@@ -105,7 +117,7 @@ fn make_names<S: Alter>(tx: &mut Transaction<'_, S>) -> Result<(), Error>
     make_ws(tx)
 }
 
-/// Makes the tables of versions and runs, and the index on runs.
+/// Makes the tables of versions and runs, and an index on each.
 fn make_states<S: Alter>(tx: &mut Transaction<'_, S>) -> Result<(), Error>
     ensures same_reference { tx.new.conn.ghost_name ≡ tx.old.conn.ghost_name }
     ensures made { AltersBy (GrowsByAll (version_table ∷ run_table ∷ [])) (state S.Store tx.old.conn.now) (state S.Store tx.new.conn.now) result }
@@ -113,7 +125,8 @@ fn make_states<S: Alter>(tx: &mut Transaction<'_, S>) -> Result<(), Error>
 {
     make_version(tx)?;
     make_run(tx)?;
-    make_run_index(tx)
+    make_run_index(tx)?;
+    make_version_index(tx)
 }
 
 const SET_VERSION: &str = "INSERT INTO meta (one, version) VALUES (1, 1)";

@@ -1,0 +1,11 @@
+use Rattle.sqlite.specs.Held.{state}
+use Rattle.statements.specs.Making.{KeepsMade}
+use Rattle.statements.proofs.Transactions.{alters_by}
+use Rattle.statements.proofs.SchemaTexts.{make_version_index_text, make_version_index_does}
+use Rattle.statements.proofs.making.make_version_index.Goals as goal
+
+pub returns-clause-made : goal.returns-clause-made
+returns-clause-made g c clean inside =
+    let old = state g.S.Store c.args.tx.now.conn.now in
+    let new = state g.S.Store c.write.new.tx.conn.now in
+    alters_by KeepsMade old new make_version_index_text _ c.write.result (c.write.ensures.runs clean inside) (λ count ran. make_version_index_does old new _ count ran)
