@@ -1,18 +1,3 @@
-missing_model : (o : Organization) (act : Act) → meaning (decision_missing act (nat_lt (counted_for act (count_of o)) o.limit)) None ≡ rules_missing act (nat_lt (count_of o) o.limit)
-missing_model o act = by_act (put_or_missed act)
-  where
-    room : Bool
-    room = nat_lt (count_of o) o.limit
-
-    made : (room : Bool) (settings : Settings) → meaning (decision_missing (PutWorkspace settings) room) None ≡ rules_missing (PutWorkspace settings) room
-    made true settings = refl
-    made false settings = refl
-
-    by_act : IsPut act ⊎ Misses act → meaning (decision_missing act (nat_lt (counted_for act (count_of o)) o.limit)) None ≡ rules_missing act room
-    by_act (inl put) =
-        subst (λ (a : Act). meaning (decision_missing a (nat_lt (counted_for a (count_of o)) o.limit)) None ≡ rules_missing a room) (sym put.1) (made room put.0)
-    by_act (inr misses) = ap (λ (d : Decision). meaning d None) (misses (nat_lt (counted_for act (count_of o)) o.limit)).1 ∙ sym (misses room).0
-
 -- A decision means what the rules say.
 use Rattle.std.specs.FinMap.{get}
 use Rattle.basis.specs.declared.rows.Settings.{Settings}
@@ -293,16 +278,20 @@ there_model o w (MakeRun ask) now lawful = make_model w ask now lawful (keyed_ru
 there_model o w (ReadRun n) now lawful = read_run_model w (run_of n w.runs)
 there_model o w (ReportRun n action) now lawful = report_model w n action lawful (run_of n w.runs) refl
 
-missing_model : (act : Act) (room : Bool) → meaning (decision_missing act room) None ≡ rules_missing act room
-missing_model act room = by_act (put_or_missed act)
+missing_model : (o : Organization) (act : Act) → meaning (decision_missing act (nat_lt (counted_for act (count_of o)) o.limit)) None ≡ rules_missing act (nat_lt (count_of o) o.limit)
+missing_model o act = by_act (put_or_missed act)
   where
+    room : Bool
+    room = nat_lt (count_of o) o.limit
+
     made : (room : Bool) (settings : Settings) → meaning (decision_missing (PutWorkspace settings) room) None ≡ rules_missing (PutWorkspace settings) room
     made true settings = refl
     made false settings = refl
 
-    by_act : IsPut act ⊎ Misses act → meaning (decision_missing act room) None ≡ rules_missing act room
-    by_act (inl put) = subst (λ (a : Act). meaning (decision_missing a room) None ≡ rules_missing a room) (sym put.1) (made room put.0)
-    by_act (inr misses) = ap (λ (d : Decision). meaning d None) (misses room).1 ∙ sym (misses room).0
+    by_act : IsPut act ⊎ Misses act → meaning (decision_missing act (nat_lt (counted_for act (count_of o)) o.limit)) None ≡ rules_missing act room
+    by_act (inl put) =
+        subst (λ (a : Act). meaning (decision_missing a (nat_lt (counted_for a (count_of o)) o.limit)) None ≡ rules_missing a room) (sym put.1) (made room put.0)
+    by_act (inr misses) = ap (λ (d : Decision). meaning d None) (misses (nat_lt (counted_for act (count_of o)) o.limit)).1 ∙ sym (misses room).0
 
 model : (o : Organization) (w : Option Workspace) (act : Act) (now : ℕ) → IsLawfulIfThere w
     → meaning (decision_of (unit_by o act w) act now) (standing (seen_by (nat_lt (count_of o) o.limit) w)) ≡ rules act now (seen_by (nat_lt (count_of o) o.limit) w)
