@@ -9,7 +9,7 @@ use Rattle.machine.specs.declared.records.Organization.{Organization}
 use Rattle.statements.specs.Tables.{Tables}
 use Rattle.tables.specs.Records.{workspace_by, record_of}
 use Rattle.tables.specs.Sound.{IsSound}
-use Rattle.tables.specs.Edits.{changed_rows}
+use Rattle.tables.specs.Inner.Edits.{changed_rows}
 use Rattle.tables.proofs.Edits.{changed_puts}
 use Rattle.tables.proofs.Sets.{put_own, put_other, workspace_there}
 

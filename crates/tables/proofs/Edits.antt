@@ -28,7 +28,7 @@ use Rattle.statements.specs.Changes.{with_auto, held_by, released_from, with_nex
 use Rattle.statements.specs.Finds.{workspace_of, versions_of}
 use Rattle.tables.specs.Records.{version_in, run_in, workspace_in, versions_at, runs_at, workspace_by}
 use Rattle.tables.specs.Sound.{KeepsTheLast, IsSound}
-use Rattle.tables.specs.Edits.{removed_rows, made_rows, put_rows, emptied_rows, versioned_rows, run_rows, freed_rows, edited_rows, started_rows, changed_rows}
+use Rattle.tables.specs.Inner.Edits.{removed_rows, made_rows, put_rows, emptied_rows, versioned_rows, run_rows, freed_rows, edited_rows, started_rows, changed_rows}
 use Rattle.tables.proofs.Lists.{drop_push, drop_beyond, cut_is}
 use Rattle.tables.proofs.Parts.{row_changed, row_unchanged, row_removed, row_left, row_added, row_added_other, versions_pushed, versions_pushed_other, versions_cut, versions_cut_other, versions_gone, versions_gone_other, runs_begun, runs_begun_other, runs_pushed, runs_pushed_other, runs_acted, runs_acted_other, runs_gone, runs_gone_other}
 use Rattle.tables.proofs.Sets.{Puts, puts_then, same_parts}

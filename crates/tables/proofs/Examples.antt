@@ -18,8 +18,8 @@ use Rattle.statements.specs.Changes.{org_capped, token_removed}
 use Rattle.statements.specs.Tables.{Tables}
 use Rattle.tables.specs.Records.{record_of}
 use Rattle.tables.specs.Sound.{IsSound}
-use Rattle.tables.specs.Edits.{edited_rows, changed_rows}
-use Rattle.tables.specs.KeepLists.{versions_listed_in, runs_listed_in}
+use Rattle.tables.specs.Inner.Edits.{edited_rows, changed_rows}
+use Rattle.tables.specs.Inner.Lists.{versions_listed_in, runs_listed_in}
 
 abbrev acme : List ℕ
 acme = codes "acme"

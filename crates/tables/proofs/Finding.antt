@@ -43,7 +43,7 @@ use Rattle.tables.proofs.Parts.{none_mapped}
 use Rattle.tables.proofs.Sets.{entry_found, got_workspace, workspace_there, one_of}
 use Rattle.tables.proofs.Edits.{count_is}
 use Rattle.tables.proofs.Lawful.{limit_there, found_holds}
-use Rattle.tables.specs.Units.{holder_status_in, is_found_text, newest_by, newest_in, has_version_in, keyed_cells_in, asked_run_in, unit_at, unit_in}
+use Rattle.tables.specs.Inner.Units.{holder_status_in, is_found_text, newest_by, newest_in, has_version_in, keyed_cells_in, asked_run_in, unit_at, unit_in}
 
 -- ---- lists
 

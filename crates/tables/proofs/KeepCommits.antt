@@ -9,8 +9,8 @@ use Rattle.sqlite.specs.declared.error.Error.{Error}
 use Rattle.statements.specs.Steps.{Moves}
 use Rattle.statements.specs.Making.{Alters, HasSchema}
 use Rattle.statements.specs.Tables.{Tables, Holds}
-use Rattle.tables.specs.KeepSteps.{IsSettled, Commits}
-use Rattle.tables.specs.KeepMaking.{IsMade}
+use Rattle.tables.specs.Inner.Steps.{IsSettled, Commits}
+use Rattle.tables.specs.Inner.Making.{IsMade}
 
 -- what a commit promises where it is done
 abbrev pub Ends : State → State → Type 0

@@ -15,10 +15,10 @@ use Rattle.statements.specs.Rows.{Kept, VersionRow}
 use Rattle.statements.specs.Changes.{is_version_below, versions_removed_below}
 use Rattle.statements.specs.Finds.{workspace_of, versions_of}
 use Rattle.statements.specs.Tables.{Tables, Holds}
-use Rattle.tables.specs.Edits.{versioned_rows, put_rows, emptied_rows, run_rows}
-use Rattle.tables.specs.Units.{unit_at, unit_in}
-use Rattle.tables.specs.KeepLooks.{SeesBy, present_in}
-use Rattle.tables.specs.KeepEdits.{outgoing_of, outgoing_in, put_by, room_of, room_in, run_by, GoesBy}
+use Rattle.tables.specs.Inner.Edits.{versioned_rows, put_rows, emptied_rows, run_rows}
+use Rattle.tables.specs.Inner.Units.{unit_at, unit_in}
+use Rattle.tables.specs.Inner.Looks.{SeesBy, present_in}
+use Rattle.tables.specs.Inner.Outgoing.{outgoing_of, outgoing_in, put_by, room_of, room_in, run_by, GoesBy}
 use Rattle.tables.specs.declared.steps.Outgoing.{Outgoing}
 use Rattle.tables.specs.declared.steps.Outgoing.TheVariants.{Below, All}
 

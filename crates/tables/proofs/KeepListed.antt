@@ -2,7 +2,7 @@
 use Rattle.std.proofs.Common.{◌≡◌, IsTrue}
 use Rattle.sqlite.specs.State.{State, HasCleanDisk}
 use Rattle.statements.specs.Tables.{Tables, Holds}
-use Rattle.tables.specs.KeepLooks.{Stays}
+use Rattle.tables.specs.Inner.Looks.{Stays}
 
 -- what was seen so far
 pub record SeesSoFar {X : Type 0} (read : Tables → X) (old new : State) (x : X) : Type 0 where

@@ -10,10 +10,10 @@ use Rattle.machine.specs.declared.keeps.AdminAnswer.TheVariants.{Done, Exists, A
 use Rattle.statements.specs.Changes.{org_added, token_added}
 use Rattle.statements.specs.Finds.{cap_of}
 use Rattle.statements.specs.Tables.{Tables, Holds}
-use Rattle.tables.specs.Edits.{edited_rows, changed_rows, started_rows}
-use Rattle.tables.specs.KeepEdits.{edited_by, changed_by}
-use Rattle.tables.specs.KeepLooks.{Stays}
-use Rattle.tables.specs.KeepSteps.{IsSettled, Commits, Manages, org_managed_by, org_managed, is_taken, token_managed_by, token_managed}
+use Rattle.tables.specs.Inner.Edits.{edited_rows, changed_rows, started_rows}
+use Rattle.tables.specs.Inner.Outgoing.{edited_by, changed_by}
+use Rattle.tables.specs.Inner.Looks.{Stays}
+use Rattle.tables.specs.Inner.Steps.{IsSettled, Commits, Manages, org_managed_by, org_managed, is_taken, token_managed_by, token_managed}
 use Rattle.tables.specs.declared.steps.Outgoing.{Outgoing}
 
 -- rows that were looked at are those that are then changed

@@ -5,7 +5,7 @@ use Rattle.sqlite_trees.specs.declared.memory.MemStore.{MemStore}
 use Rattle.sqlite.specs.Held.{Held, state}
 use Rattle.sqlite.specs.State.{HasCleanDisk}
 use Rattle.sqlite.specs.Steps.{over_memory, IsEmpty}
-use Rattle.tables.specs.KeepStores.{any_there}
+use Rattle.tables.specs.Opening.{any_there}
 
 pub memory_is_clean : (h : Held MemStore) → HasCleanDisk (state over_memory h)
 unfolding doubt

@@ -23,7 +23,7 @@ use Rattle.statements.specs.Decode.{tables_of}
 use Rattle.statements.specs.Finds.{cap_of, role_of_name, role_of_digest, body_of}
 use Rattle.statements.specs.Tables.{Tables, Holds}
 use Rattle.statements.proofs.Decoding.{tables-held}
-use Rattle.tables.specs.Edits.{changed_rows}
+use Rattle.tables.specs.Inner.Edits.{changed_rows}
 use Rattle.tables.specs.Records.{record_of}
 use Rattle.std.specs.Option.{unwrap_or}
 use Rattle.basis.specs.Listings.{listing_of}
@@ -35,11 +35,11 @@ use Rattle.machine.specs.Showing as showing
 use Rattle.machine.specs.Tokens.{AreOrganizations}
 use Rattle.machine.specs.declared.keeps.OrgRow.{OrgRow}
 use Rattle.statements.specs.Listings.{OrgsApart, WorkspacesApart, VersionsRise, RunsRise}
-use Rattle.tables.specs.KeepLists.{versions_listed_in, runs_listed_in, workspaces_listed_in, organizations_listed_in}
-use Rattle.tables.specs.Units.{unit_in}
+use Rattle.tables.specs.Inner.Lists.{versions_listed_in, runs_listed_in, workspaces_listed_in, organizations_listed_in}
+use Rattle.tables.specs.Inner.Units.{unit_in}
 use Rattle.tables.specs.Stores.{records_of, IsSoundStore}
-use Rattle.tables.specs.KeepStores.{IsSoundKeep}
-use Rattle.tables.specs.KeepSteps.{Commits, Manages, org_managed_by, org_managed, limit_managed_by, limit_managed, token_managed_by, token_managed, revocation_managed_by, revocation_managed}
+use Rattle.tables.specs.Opening.{IsSoundKeep}
+use Rattle.tables.specs.Inner.Steps.{Commits, Manages, org_managed_by, org_managed, limit_managed_by, limit_managed, token_managed_by, token_managed, revocation_managed_by, revocation_managed}
 use Rattle.tables.proofs.Operators.{caller_found, org_exists, token_absent, token_named, token_known}
 use Rattle.tables.proofs.Limits.{limit_absent, limit_done, limit_other, limit_keeps}
 use Rattle.tables.proofs.Revoking.{revoke_absent, revoke_done, revoke_other, revoke_keeps}

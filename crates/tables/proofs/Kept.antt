@@ -27,7 +27,7 @@ use Rattle.statements.specs.Finds.{cap_of, role_of_name, role_of_digest}
 use Rattle.statements.specs.Making.{no_rows}
 use Rattle.tables.specs.Records.{workspace_by, organization_at, record_of}
 use Rattle.tables.specs.Sound.{KeepsTheLast, IsOrgRow, IsTokenRow, IsSound}
-use Rattle.tables.specs.Edits.{changed_rows}
+use Rattle.tables.specs.Inner.Edits.{changed_rows}
 use Rattle.tables.proofs.Names.{same_name, apart_name, names_apart, is_pair, pair_first, pair_second}
 use Rattle.tables.proofs.Parts.{none_mapped}
 use Rattle.tables.proofs.Sets.{Puts, workspace_there, one_of, put_own, put_other}

@@ -26,7 +26,7 @@ use Rattle.statements.specs.Finds.{cap_of, workspace_of}
 use Rattle.statements.specs.Listings.{comes_after, workspaces_by_name, workspace_at as named_at, version_head_of, VersionsRise, RunsRise}
 use Rattle.tables.specs.Records.{holder_in, version_in, run_in, versions_at, runs_at, workspace_at, workspaces_at, organization_at, record_of}
 use Rattle.tables.specs.Sound.{IsSound}
-use Rattle.tables.specs.KeepLists.{version_row_in, versions_listed_in, run_row_in, runs_listed_in, ws_row_in, workspaces_listed_in}
+use Rattle.tables.specs.Inner.Lists.{version_row_in, versions_listed_in, run_row_in, runs_listed_in, ws_row_in, workspaces_listed_in}
 use Rattle.tables.proofs.Sets.{entry_found}
 use Rattle.tables.proofs.Operators.{no_workspaces}
 use Rattle.tables.proofs.Finding.{newest_found, no_versions, no_runs, seen_in_rows}

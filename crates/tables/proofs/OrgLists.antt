@@ -16,7 +16,7 @@ use Rattle.statements.specs.Finds.{cap_of, workspaces_of}
 use Rattle.statements.specs.Listings.{caps, organization_at as cells_at}
 use Rattle.tables.specs.Records.{organization_at, record_of}
 use Rattle.tables.specs.Sound.{IsSound}
-use Rattle.tables.specs.KeepLists.{org_row_in, organizations_listed_in}
+use Rattle.tables.specs.Inner.Lists.{org_row_in, organizations_listed_in}
 use Rattle.tables.proofs.Names.{tied}
 use Rattle.tables.proofs.Lawful.{limit_there}
 use Rattle.tables.proofs.Finding.{count_found}

@@ -25,7 +25,7 @@ use Rattle.statements.specs.Tables.{Tables}
 use Rattle.statements.specs.Changes.{is_org, is_ws, is_version_of, is_version_below, is_run_of, is_run, with_auto, held_by, released_from, with_next_version, with_next_run, ws_changed, ws_added, new_workspace, new_version, version_added, versions_removed, versions_removed_below, new_run, run_added, run_changed_to, run_acted}
 use Rattle.statements.specs.Finds.{workspace_of, versions_of}
 use Rattle.tables.specs.Sound.{IsSound}
-use Rattle.tables.specs.Edits.{removed_rows, made_rows, put_rows, emptied_rows, versioned_rows, run_put, run_rows, freed_rows, edited_rows, started_rows, changed_rows}
+use Rattle.tables.specs.Inner.Edits.{removed_rows, made_rows, put_rows, emptied_rows, versioned_rows, run_put, run_rows, freed_rows, edited_rows, started_rows, changed_rows}
 use Rattle.tables.proofs.Names.{is_pair, pair_is, pair_first, pair_second, pair_apart}
 
 module _ {X : Type 0} where

@@ -18,7 +18,7 @@ use Rattle.statements.specs.Finds.{cap_of, role_of_name, role_of_digest}
 use Rattle.statements.specs.Making.{no_rows, version_set}
 use Rattle.statements.specs.Tables.{Tables, Holds}
 use Rattle.statements.proofs.Decoding.{tables-held}
-use Rattle.tables.specs.Edits.{changed_rows}
+use Rattle.tables.specs.Inner.Edits.{changed_rows}
 use Rattle.tables.specs.Records.{record_of}
 use Rattle.tables.specs.Sound.{IsSound}
 use Rattle.tables.specs.Stores.{records_of, IsSoundStore}

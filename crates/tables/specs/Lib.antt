@@ -1,12 +1,6 @@
-pub mod Edits
-pub mod KeepEdits
-pub mod KeepLists
-pub mod KeepLooks
-pub mod KeepMaking
-pub mod KeepSteps
-pub mod KeepStores
+pub mod Inner
 pub mod Laws
+pub mod Opening
 pub mod Records
 pub mod Sound
 pub mod Stores
-pub mod Units

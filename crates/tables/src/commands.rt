@@ -3,13 +3,12 @@ ghost use Rattle.std.specs.Prelude.{◌≡◌, false, IsTrue, OnOk, ◌^◌, ◌
 ghost use Rattle.sqlite.specs.Held.{state};
 ghost use Rattle.sqlite.specs.State.{HasCleanDisk};
 ghost use Rattle.statements.specs.Finds.{body_of, role_of_digest};
-ghost use Rattle.tables.specs.Edits.{changed_rows};
-ghost use Rattle.tables.specs.Units.{unit_in};
-ghost use Rattle.tables.specs.KeepStores.{LooksBy};
+ghost use Rattle.tables.specs.Inner.Edits.{changed_rows};
+ghost use Rattle.tables.specs.Inner.Units.{unit_in};
 ghost use Rattle.statements.specs.Listings.{OrgsApart, WorkspacesApart, VersionsRise, RunsRise};
-ghost use Rattle.tables.specs.KeepLooks.{SeesBy};
-ghost use Rattle.tables.specs.KeepLists.{LooksWhere, versions_listed_in, runs_listed_in, workspaces_listed_in, organizations_listed_in};
-ghost use Rattle.tables.specs.KeepSteps.{TransactsBy, ManagesBy, org_managed, limit_managed, token_managed, revocation_managed, is_taken};
+ghost use Rattle.tables.specs.Inner.Looks.{LooksBy, SeesBy};
+ghost use Rattle.tables.specs.Inner.Lists.{LooksWhere, versions_listed_in, runs_listed_in, workspaces_listed_in, organizations_listed_in};
+ghost use Rattle.tables.specs.Inner.Steps.{TransactsBy, ManagesBy, org_managed, limit_managed, token_managed, revocation_managed, is_taken};
 
 use crate::{listings, looks, transactions};
 use basis::{Bytes, Items, Limit, Listing, Number, Role, RunRow, VersionRow, WsRow};

@@ -6,8 +6,8 @@ ghost use Rattle.basis.specs.Listings.{listing_of};
 ghost use Rattle.machine.specs.Showing.{holder_id};
 ghost use Rattle.statements.specs.Listings.{OrgsApart, WorkspacesApart, VersionsRise, RunsRise};
 ghost use Rattle.tables.specs.Records.{holder_in};
-ghost use Rattle.tables.specs.KeepLooks.{SeesBy};
-ghost use Rattle.tables.specs.KeepLists.{SeesWhere, version_row_in, versions_listed_in, run_row_in, runs_listed_in, newest_number_in, ws_row_in, workspaces_listed_in, org_row_in, organizations_listed_in};
+ghost use Rattle.tables.specs.Inner.Looks.{SeesBy};
+ghost use Rattle.tables.specs.Inner.Lists.{SeesWhere, version_row_in, versions_listed_in, run_row_in, runs_listed_in, newest_number_in, ws_row_in, workspaces_listed_in, org_row_in, organizations_listed_in};
 
 use crate::looks::{limit_of, lock_id_of, moment_of, number_of};
 use basis::{HolderId, Items, Listing, Number, RunRow, Text, VersionRow, WsName, WsRow};

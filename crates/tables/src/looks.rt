@@ -4,9 +4,9 @@ ghost use Rattle.sqlite.specs.Held.{state};
 ghost use Rattle.sqlite.specs.State.{HasCleanDisk};
 ghost use Rattle.statements.specs.Finds.{body_of, number_of, status_of, run_of};
 ghost use Rattle.tables.specs.Records.{holder_in, run_in};
-ghost use Rattle.tables.specs.Units.{holder_status_in, is_found_text, newest_by, newest_in, has_version_in, keyed_cells_in, asked_cells_in, unit_in};
-ghost use Rattle.tables.specs.KeepEdits.{outgoing_of, outgoing_below, outgoing_in, room_of, room_in, GoesBy};
-ghost use Rattle.tables.specs.KeepLooks.{SeesBy, is_body, counted_in, absent_in, runs_in, around_in, unit_from, present_in};
+ghost use Rattle.tables.specs.Inner.Units.{holder_status_in, is_found_text, newest_by, newest_in, has_version_in, keyed_cells_in, asked_cells_in, unit_in};
+ghost use Rattle.tables.specs.Inner.Outgoing.{outgoing_of, outgoing_below, outgoing_in, room_of, room_in, GoesBy};
+ghost use Rattle.tables.specs.Inner.Looks.{SeesBy, is_body, counted_in, absent_in, runs_in, around_in, unit_from, present_in};
 
 use crate::steps::Outgoing;
 use basis::{Bytes, Limit, LockId, Moment, Number, RunStatus, Text};

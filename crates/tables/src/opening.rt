@@ -2,10 +2,10 @@
 ghost use Rattle.std.specs.Prelude.{◌≡◌, true, false, OnOk, OnErr, IfOk, IfErr};
 ghost use Rattle.sqlite.specs.Held.{state};
 ghost use Rattle.sqlite.specs.State.{HasCleanDisk, KeepsCommit};
-ghost use Rattle.tables.specs.KeepMaking.{IsMade};
 ghost use Rattle.statements.specs.Place.{IsOwn};
 ghost use Rattle.statements.specs.Schema.{meta_table};
-ghost use Rattle.tables.specs.KeepStores.{any_there, all_there, tells_version, is_first, IsTold, IsOther};
+ghost use Rattle.tables.specs.Opening.{any_there, all_there, IsOther};
+ghost use Rattle.tables.specs.Inner.Making.{IsMade, IsTold, tells_version, is_first};
 
 use crate::transactions;
 use sqlite::{Alter, Connection};

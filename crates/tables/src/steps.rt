@@ -4,8 +4,8 @@ ghost use Rattle.sqlite.specs.Held.{state};
 ghost use Rattle.sqlite.specs.State.{HasCleanDisk};
 ghost use Rattle.statements.specs.Steps.{ChangesBy};
 ghost use Rattle.statements.specs.Changes.{versions_removed_below, run_acted};
-ghost use Rattle.tables.specs.Edits.{removed_rows, made_rows, numbered_rows, emptied_rows, run_put, freed_rows};
-ghost use Rattle.tables.specs.KeepEdits.{added_rows, put_above, put_by, run_counted, run_by, edited_by, begun_rows, changed_by};
+ghost use Rattle.tables.specs.Inner.Edits.{removed_rows, made_rows, numbered_rows, emptied_rows, run_put, freed_rows};
+ghost use Rattle.tables.specs.Inner.Outgoing.{added_rows, put_above, put_by, run_counted, run_by, edited_by, begun_rows, changed_by};
 
 use basis::{Moment, Number, RunAction, RunAsk, RunStatus, Text};
 use machine::{Change, Edit, Version};

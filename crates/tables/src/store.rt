@@ -6,7 +6,7 @@ ghost use Rattle.sqlite.specs.State.{HasCleanDisk, KeepsCommit};
 ghost use Rattle.tables.specs.Stores.{records_of, IsSoundStore};
 ghost use Rattle.statements.specs.Making.{version_in, KeepsTables};
 ghost use Rattle.statements.specs.Tables.{Tables, Holds};
-ghost use Rattle.tables.specs.KeepStores.{IsSoundKeep, any_there, all_there, IsOther};
+ghost use Rattle.tables.specs.Opening.{IsSoundKeep, any_there, all_there, IsOther};
 
 use crate::commands;
 use crate::opening::{Fault, ready};

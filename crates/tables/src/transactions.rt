@@ -3,9 +3,9 @@ ghost use Rattle.std.specs.Prelude.{◌≡◌, false, ◌<◌, ◌^◌, OnOk, On
 ghost use Rattle.sqlite.specs.Held.{state};
 ghost use Rattle.sqlite.specs.State.{HasCleanDisk, KeepsCommit};
 ghost use Rattle.statements.specs.Changes.{org_added, org_capped, token_added, token_removed};
-ghost use Rattle.tables.specs.KeepEdits.{changed_by};
-ghost use Rattle.tables.specs.KeepMaking.{IsMade};
-ghost use Rattle.tables.specs.KeepSteps.{TransactsBy};
+ghost use Rattle.tables.specs.Inner.Outgoing.{changed_by};
+ghost use Rattle.tables.specs.Inner.Making.{IsMade};
+ghost use Rattle.tables.specs.Inner.Steps.{TransactsBy};
 
 use crate::steps::{self, Outgoing};
 use basis::{Limit, Role};

@@ -4,7 +4,7 @@ use Rattle.sqlite.specs.State.{HasCleanDisk}
 use Rattle.sqlite.specs.Steps.{over_memory}
 use Rattle.sqlite_trees.specs.declared.memory.MemStore.{MemStore}
 use Rattle.tables.specs.Stores.{records_of}
-use Rattle.tables.specs.KeepStores.{IsSoundKeep}
+use Rattle.tables.specs.Opening.{IsSoundKeep}
 use Rattle.tables.specs.declared.store.SqlKeep.{SqlKeep}
 use Rattle.custody.proofs.ReplayLemmas.{replies_of_none}
 use Rattle.custody.proofs.replays.replayed.Goals as goal

@@ -5,7 +5,7 @@ use Rattle.machine.specs.Effects.{effect}
 use Rattle.machine.specs.declared.keeps.AdminAnswer.TheVariants.{Done, Exists}
 use Rattle.statements.specs.Changes.{token_added}
 use Rattle.statements.specs.Tables.{Holds}
-use Rattle.tables.specs.KeepSteps.{token_managed}
+use Rattle.tables.specs.Inner.Steps.{token_managed}
 use Rattle.tables.proofs.KeepCommits.{settled_by}
 use Rattle.tables.proofs.KeepManaged.{manages_none, manages_one, unchanged_stays, stays_then, token_there}
 use Rattle.tables.proofs.commands.token_add.Goals as goal

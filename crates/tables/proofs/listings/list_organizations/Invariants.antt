@@ -1,6 +1,6 @@
 use Rattle.std.proofs.Common.{◌≡◌, false, take, map}
 use Rattle.sqlite.specs.Held.{state}
-use Rattle.tables.specs.KeepLists.{org_row_in}
+use Rattle.tables.specs.Inner.Lists.{org_row_in}
 use Rattle.tables.proofs.KeepListed.{SeesSoFar}
 use Rattle.tables.proofs.listings.list_organizations.Given as goal
 

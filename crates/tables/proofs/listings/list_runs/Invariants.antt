@@ -1,6 +1,6 @@
 use Rattle.std.proofs.Common.{◌≡◌, take, map}
 use Rattle.basis.specs.Listings.{listing_of}
-use Rattle.tables.specs.KeepLists.{run_row_in}
+use Rattle.tables.specs.Inner.Lists.{run_row_in}
 use Rattle.tables.proofs.listings.list_runs.Given as goal
 
 -- the list of the rows so far

@@ -1,7 +1,7 @@
 use Rattle.std.proofs.Common.{◌≡◌, false, take, map}
 use Rattle.sqlite.specs.Held.{state}
 use Rattle.basis.specs.Listings.{listing_of}
-use Rattle.tables.specs.KeepLists.{ws_row_in}
+use Rattle.tables.specs.Inner.Lists.{ws_row_in}
 use Rattle.tables.proofs.KeepListed.{SeesSoFar}
 use Rattle.tables.proofs.listings.list_workspaces.Given as goal
 

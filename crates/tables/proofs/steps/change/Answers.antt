@@ -1,5 +1,5 @@
 use Rattle.sqlite.specs.Held.{state}
-use Rattle.tables.specs.KeepEdits.{edited_by, begun_rows}
+use Rattle.tables.specs.Inner.Outgoing.{edited_by, begun_rows}
 use Rattle.tables.proofs.KeepMoves.{moves_then}
 use Rattle.tables.proofs.steps.change.Goals as goal
 

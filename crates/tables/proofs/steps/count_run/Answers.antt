@@ -1,7 +1,7 @@
 use Rattle.std.proofs.Common.{◌+◌}
 use Rattle.sqlite.specs.Held.{state}
 use Rattle.statements.specs.Changes.{with_next_run, ws_changed}
-use Rattle.tables.specs.Edits.{run_put}
+use Rattle.tables.specs.Inner.Edits.{run_put}
 use Rattle.tables.proofs.KeepMoves.{clean_before, moves_then}
 use Rattle.tables.proofs.steps.count_run.Goals as goal
 

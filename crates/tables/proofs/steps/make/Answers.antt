@@ -1,6 +1,6 @@
 use Rattle.sqlite.specs.Held.{state}
 use Rattle.statements.specs.Changes.{ws_added}
-use Rattle.tables.specs.Edits.{removed_rows}
+use Rattle.tables.specs.Inner.Edits.{removed_rows}
 use Rattle.tables.proofs.KeepMoves.{clean_before, moves_then}
 use Rattle.tables.proofs.steps.make.Goals as goal
 

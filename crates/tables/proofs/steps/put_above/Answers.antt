@@ -1,7 +1,7 @@
 use Rattle.sqlite.specs.Held.{state}
 use Rattle.statements.specs.Changes.{versions_removed_below}
-use Rattle.tables.specs.Edits.{numbered_rows}
-use Rattle.tables.specs.KeepEdits.{added_rows}
+use Rattle.tables.specs.Inner.Edits.{numbered_rows}
+use Rattle.tables.specs.Inner.Outgoing.{added_rows}
 use Rattle.tables.proofs.KeepMoves.{moves_then}
 use Rattle.tables.proofs.steps.put_above.Goals as goal
 

@@ -1,6 +1,6 @@
 use Rattle.sqlite.specs.Held.{state}
 use Rattle.statements.specs.Changes.{versions_removed}
-use Rattle.tables.specs.Edits.{numbered_rows}
+use Rattle.tables.specs.Inner.Edits.{numbered_rows}
 use Rattle.tables.proofs.KeepMoves.{moves_then}
 use Rattle.tables.proofs.steps.put_none.Goals as goal
 

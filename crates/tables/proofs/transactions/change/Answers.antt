@@ -1,7 +1,7 @@
 use Rattle.std.proofs.Common.{rules}
 use Rattle.sqlite.specs.Held.{state}
 use Rattle.sqlite.specs.State.{HasCleanDisk}
-use Rattle.tables.specs.KeepEdits.{changed_by}
+use Rattle.tables.specs.Inner.Outgoing.{changed_by}
 use Rattle.tables.proofs.KeepMoves.{clean_before}
 use Rattle.tables.proofs.KeepCommits.{settled_by, inside_by, commits_by}
 use Rattle.tables.proofs.transactions.change.Goals as goal

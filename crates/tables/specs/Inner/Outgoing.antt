@@ -6,14 +6,14 @@ use Rattle.statements.specs.declared.rows.Holder.TheVariants.{Run as HeldByRun}
 use Rattle.statements.specs.Changes.{held_by, with_next_run, ws_changed, run_changed_to, new_version, version_added, versions_removed_below}
 use Rattle.statements.specs.Finds.{workspace_of, versions_of}
 use Rattle.statements.specs.Tables.{Tables, Holds}
-use Rattle.tables.specs.KeepLooks.{Stays}
+use Rattle.tables.specs.Inner.Looks.{Stays}
 use Rattle.basis.specs.declared.rows.RunAsk.{RunAsk}
 use Rattle.basis.specs.declared.runs.RunStatus.TheVariants.{Planning}
 use Rattle.machine.specs.declared.acts.Edit.{Edit}
 use Rattle.machine.specs.declared.acts.Edit.TheVariants.{Make, Configure, Remove, AddVersion, Purge, Hold, Release, AddRun, Report}
 use Rattle.machine.specs.declared.acts.Change.{Change}
 use Rattle.machine.specs.declared.records.Version.{Version}
-use Rattle.tables.specs.Edits.{edited_rows, emptied_rows, numbered_rows, run_put, started_rows}
+use Rattle.tables.specs.Inner.Edits.{edited_rows, emptied_rows, numbered_rows, run_put, started_rows}
 use Rattle.tables.specs.declared.steps.Outgoing.{Outgoing}
 use Rattle.tables.specs.declared.steps.Outgoing.TheVariants.{Missing, Below, All}
 

@@ -15,7 +15,7 @@ use Rattle.statements.specs.declared.rows.VersionHead.{VersionHead}
 use Rattle.statements.specs.Finds.{newest_of, workspaces_of}
 use Rattle.statements.specs.Listings.{organizations_in, workspaces_after, versions_after, runs_after}
 use Rattle.statements.specs.Tables.{Tables, Holds}
-use Rattle.tables.specs.KeepLooks.{Stays}
+use Rattle.tables.specs.Inner.Looks.{Stays}
 use Rattle.tables.specs.Records.{holder_in}
 
 -- no row changes, and the value is that of rows that obey a law; after a failure nothing is committed

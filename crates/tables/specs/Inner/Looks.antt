@@ -13,7 +13,7 @@ use Rattle.statements.specs.declared.rows.Workspace.{Workspace as WorkspaceCells
 use Rattle.statements.specs.Finds.{cap_of, workspaces_of, versions_of, first_waiting_of, open_runs_of}
 use Rattle.statements.specs.Tables.{Tables, Holds}
 use Rattle.tables.specs.Records.{holder_in, run_in}
-use Rattle.tables.specs.Units.{holder_status_in, newest_in, has_version_in, asked_cells_in}
+use Rattle.tables.specs.Inner.Units.{holder_status_in, newest_in, has_version_in, asked_cells_in}
 use Rattle.tables.specs.declared.looks.RunsAround.{RunsAround}
 use Rattle.tables.specs.declared.looks.Surroundings.{Surroundings}
 
@@ -27,6 +27,10 @@ pub record Stays (old new : State) : Type 0 where
 abbrev pub SeesBy : {X E : Type 0} → (Tables → X) → State → State → Result X E → Type 0
 SeesBy read old new result =
     HasCleanDisk new → IfOk result (λ x. IsTrue new.is_open → (t : Tables) → Holds old.now t → x ≡ read t) × (OnOk result (Stays old new) × OnErr result (KeepsCommit old new))
+
+-- a look: nothing is committed, and the value is that of the committed rows
+abbrev pub LooksBy : {X E : Type 0} → (Tables → X) → State → State → Result X E → Type 0
+LooksBy read old new result = HasCleanDisk new → IfOk result (λ x. IsTrue old.is_open × ((t : Tables) → Holds old.committed t → x ≡ read t)) × KeepsCommit old new
 
 -- whether the text that was found is this one
 abbrev pub is_body : List ℕ → Option (List ℕ) → Bool
