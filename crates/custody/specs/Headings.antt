@@ -1,12 +1,9 @@
 -- The first line of a frame: a moment, and a request's length or an operator's command.
-use Rattle.std.specs.Prelude.{ℕ, List, [], ◌∷◌, Option, Some, None, ◌&&◌, cond, option_map, option_and_then, bytes_eq, codes}
-use Rattle.basis.specs.Names.{is_org_name, is_secret}
+use Rattle.std.specs.Prelude.{ℕ, List, [], ◌∷◌, Option, Some, None, cond, option_map, option_and_then, bytes_eq, codes}
 use Rattle.basis.specs.Numbers.{whole_of, within}
-use Rattle.basis.specs.Roles.{role_word}
-use Rattle.basis.specs.declared.roles.Role.{Role}
-use Rattle.basis.specs.declared.roles.Role.TheVariants.{Read, Write, Admin}
 use Rattle.serve.specs.declared.steps.Admin as Operator
-use Rattle.serve.specs.declared.steps.Admin.TheVariants.{OrgAdd, OrgLimit, OrgList, TokenAdd, TokenRevoke}
+use Rattle.serve.specs.declared.steps.Admin.TheVariants.{OrgList}
+use Rattle.custody.specs.Commands.{limit_of, org_command, limit_command, token_command, revoke_command}
 use Rattle.custody.specs.declared.headings.Heading.{Heading}
 use Rattle.custody.specs.declared.headings.Heading.TheVariants.{Request, Command}
 
@@ -18,30 +15,11 @@ moment_of word = option_and_then (within 0 253_402_300_799) (whole_of word)
 abbrev pub length_of : List ℕ → Option ℕ
 length_of word = option_and_then (within 0 20_000_000) (whole_of word)
 
--- the limit that a word writes
-abbrev pub limit_of : List ℕ → Option ℕ
-limit_of word = option_and_then (within 0 100_000) (whole_of word)
-
--- the role that a word names
-abbrev pub role_of : List ℕ → Option Role
-role_of word =
-    cond (bytes_eq word (role_word Read)) (Some Read)
-    (cond (bytes_eq word (role_word Write)) (Some Write)
-    (cond (bytes_eq word (role_word Admin)) (Some Admin) None))
-
--- a command that adds an organization, where its name and limit read
-abbrev pub org_command : List ℕ → Option ℕ → Option Operator.Admin
-org_command org limit = cond (is_org_name org) (option_map (λ n. OrgAdd org n) limit) None
-
 -- `ORG`, with the limit 200, or `ORG LIMIT`
 abbrev pub org_add_of : List (List ℕ) → Option Operator.Admin
 org_add_of (org ∷ []) = org_command org (Some 200)
 org_add_of (org ∷ limit ∷ []) = org_command org (limit_of limit)
 org_add_of words = None
-
--- a command that sets an organization's limit, where its name and the limit read
-abbrev pub limit_command : List ℕ → Option ℕ → Option Operator.Admin
-limit_command org limit = cond (is_org_name org) (option_map (λ n. OrgLimit org n) limit) None
 
 -- `ORG N`
 abbrev pub org_limit_of : List (List ℕ) → Option Operator.Admin
@@ -53,19 +31,10 @@ abbrev pub org_list_of : List (List ℕ) → Option Operator.Admin
 org_list_of [] = Some OrgList
 org_list_of words = None
 
--- a command that adds a token, where organization, name, role and secret read
-abbrev pub token_command : List ℕ → List ℕ → List ℕ → List ℕ → Option Operator.Admin
-token_command org name role secret =
-    cond (is_org_name org && is_org_name name && is_secret secret) (option_map (λ r. TokenAdd org name r secret) (role_of role)) None
-
 -- `ORG NAME ROLE SECRET`
 abbrev pub token_add_of : List (List ℕ) → Option Operator.Admin
 token_add_of (org ∷ name ∷ role ∷ secret ∷ []) = token_command org name role secret
 token_add_of words = None
-
--- a command that takes a token away, where organization and name read
-abbrev pub revoke_command : List ℕ → List ℕ → Option Operator.Admin
-revoke_command org name = cond (is_org_name org && is_org_name name) (Some (TokenRevoke org name)) None
 
 -- `ORG NAME`
 abbrev pub token_revoke_of : List (List ℕ) → Option Operator.Admin

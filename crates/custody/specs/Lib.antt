@@ -1,3 +1,4 @@
+pub mod Commands
 pub mod Endings
 pub mod Frames
 pub mod Headings

@@ -8,7 +8,7 @@ use Rattle.clap.specs.Words.{Row, first_of, first_value}
 use Rattle.clap.specs.declared.parser.matches.Found.{Found}
 use Rattle.serve.specs.declared.steps.Admin as Operator
 use Rattle.serve.specs.declared.steps.Admin.TheVariants.{OrgList, TokenAdd}
-use Rattle.custody.specs.Headings.{limit_of, role_of, org_command, limit_command, revoke_command}
+use Rattle.custody.specs.Commands.{limit_of, role_of, org_command, limit_command, revoke_command}
 use Rattle.custody.specs.declared.orders.NewToken.{NewToken}
 use Rattle.custody.specs.declared.orders.Values.{Values}
 use Rattle.custody.specs.declared.orders.Order.{Order}

@@ -2,8 +2,9 @@
 ghost use Rattle.std.specs.Prelude.{◌≡◌, ℕ, List, map, Some, None, option_map, IfOk, IfErr, IsErrOf};
 ghost use Rattle.custody.specs.Lines.{bytes_of};
 
+use crate::commands;
 use basis::numbers::{FIRST_LIMIT, whole_number};
-use basis::{Limit, Moment, OrgName, Role, Secret, Unfit};
+use basis::{Limit, Moment, Unfit};
 use serve::Admin;
 use std::alloc::Global;
 
@@ -19,7 +20,7 @@ pub enum Heading {
 }
 
 impl Heading {
-    ghost use Rattle.custody.specs.Headings.{moment_of, length_of, limit_of, role_of, org_command, org_add_of, limit_command, org_limit_of, org_list_of, token_command, token_add_of, revoke_command, token_revoke_of, command_of, request_at, heading_at, heading_of};
+    ghost use Rattle.custody.specs.Headings.{moment_of, length_of, org_add_of, org_limit_of, org_list_of, token_add_of, token_revoke_of, command_of, request_at, heading_at, heading_of};
 
     fn read_moment(word: &str) -> Result<Moment, Unfit>
         ensures ok { IfOk result (λ at. moment_of word.now ≡ Some at) }
@@ -41,59 +42,15 @@ impl Heading {
         }
     }
 
-    pub(crate) fn read_limit(word: &str) -> Option<Limit>
-        ensures { result ≡ limit_of word.now }
-    {
-        let value = whole_number(word)?;
-        let value = u32::try_from(value).ok()?;
-        Limit::new(value)
-    }
-
-    pub(crate) fn read_role(word: &str) -> Option<Role>
-        ensures { result ≡ role_of word.now }
-    {
-        Role::named(word)
-    }
-
-    pub(crate) fn make_org_add(
-        alloc: Global,
-        org: &str,
-        limit: Option<Limit>,
-    ) -> Result<Admin, Unfit>
-        ensures ok { IfOk result (λ command. org_command org.now limit ≡ Some command) }
-        ensures syntax { IsErrOf result Unfit.Syntax → org_command org.now limit ≡ None }
-    {
-        let Some(limit) = limit else {
-            return Err(Unfit::Syntax);
-        };
-        let org = OrgName::read(alloc, org)?;
-        Ok(Admin::OrgAdd { org, limit })
-    }
-
     fn read_org_add(alloc: Global, words: &[&str]) -> Result<Admin, Unfit>
         ensures ok { IfOk result (λ command. org_add_of (bytes_of words.now) ≡ Some command) }
         ensures syntax { IsErrOf result Unfit.Syntax → org_add_of (bytes_of words.now) ≡ None }
     {
         match *words {
-            [org] => Heading::make_org_add(alloc, org, Limit::new(FIRST_LIMIT)),
-            [org, limit] => Heading::make_org_add(alloc, org, Heading::read_limit(limit)),
+            [org] => commands::org_add(alloc, org, Limit::new(FIRST_LIMIT)),
+            [org, limit] => commands::org_add(alloc, org, commands::read_limit(limit)),
             _ => Err(Unfit::Syntax),
         }
-    }
-
-    pub(crate) fn make_org_limit(
-        alloc: Global,
-        org: &str,
-        limit: Option<Limit>,
-    ) -> Result<Admin, Unfit>
-        ensures ok { IfOk result (λ command. limit_command org.now limit ≡ Some command) }
-        ensures syntax { IsErrOf result Unfit.Syntax → limit_command org.now limit ≡ None }
-    {
-        let Some(limit) = limit else {
-            return Err(Unfit::Syntax);
-        };
-        let org = OrgName::read(alloc, org)?;
-        Ok(Admin::OrgLimit { org, limit })
     }
 
     fn read_org_limit(alloc: Global, words: &[&str]) -> Result<Admin, Unfit>
@@ -101,7 +58,7 @@ impl Heading {
         ensures syntax { IsErrOf result Unfit.Syntax → org_limit_of (bytes_of words.now) ≡ None }
     {
         match *words {
-            [org, limit] => Heading::make_org_limit(alloc, org, Heading::read_limit(limit)),
+            [org, limit] => commands::org_limit(alloc, org, commands::read_limit(limit)),
             _ => Err(Unfit::Syntax),
         }
     }
@@ -116,47 +73,14 @@ impl Heading {
         }
     }
 
-    fn make_token_add(
-        alloc: Global,
-        org: &str,
-        name: &str,
-        role: &str,
-        secret: &str,
-    ) -> Result<Admin, Unfit>
-        ensures ok { IfOk result (λ command. token_command org.now name.now role.now secret.now ≡ Some command) }
-        ensures syntax { IsErrOf result Unfit.Syntax → token_command org.now name.now role.now secret.now ≡ None }
-    {
-        let Some(role) = Heading::read_role(role) else {
-            return Err(Unfit::Syntax);
-        };
-        let org = OrgName::read(alloc, org)?;
-        let name = OrgName::read(alloc, name)?;
-        let secret = Secret::read(alloc, secret)?;
-        Ok(Admin::TokenAdd {
-            org,
-            name,
-            role,
-            secret,
-        })
-    }
-
     fn read_token_add(alloc: Global, words: &[&str]) -> Result<Admin, Unfit>
         ensures ok { IfOk result (λ command. token_add_of (bytes_of words.now) ≡ Some command) }
         ensures syntax { IsErrOf result Unfit.Syntax → token_add_of (bytes_of words.now) ≡ None }
     {
         match *words {
-            [org, name, role, secret] => Heading::make_token_add(alloc, org, name, role, secret),
+            [org, name, role, secret] => commands::token_add(alloc, org, name, role, secret),
             _ => Err(Unfit::Syntax),
         }
-    }
-
-    pub(crate) fn make_token_revoke(alloc: Global, org: &str, name: &str) -> Result<Admin, Unfit>
-        ensures ok { IfOk result (λ command. revoke_command org.now name.now ≡ Some command) }
-        ensures syntax { IsErrOf result Unfit.Syntax → revoke_command org.now name.now ≡ None }
-    {
-        let org = OrgName::read(alloc, org)?;
-        let name = OrgName::read(alloc, name)?;
-        Ok(Admin::TokenRevoke { org, name })
     }
 
     fn read_token_revoke(alloc: Global, words: &[&str]) -> Result<Admin, Unfit>
@@ -164,7 +88,7 @@ impl Heading {
         ensures syntax { IsErrOf result Unfit.Syntax → token_revoke_of (bytes_of words.now) ≡ None }
     {
         match *words {
-            [org, name] => Heading::make_token_revoke(alloc, org, name),
+            [org, name] => commands::token_revoke(alloc, org, name),
             _ => Err(Unfit::Syntax),
         }
     }

@@ -1,6 +1,7 @@
 //! The program `custody`: Terraform state for organizations that share one database.
 #![tactic(auto)]
 
+mod commands;
 mod endings;
 mod files;
 mod frames;

@@ -3,9 +3,9 @@ ghost use Rattle.std.specs.Prelude.{◌≡◌, ◌≤◌, ℕ, List, Option, Som
 ghost use Rattle.basis.specs.Numbers.{whole_of, within};
 ghost use Rattle.clap.specs.Words.{found_of, first_value};
 ghost use Rattle.custody.specs.Orders.{limit_or_first, command_on, command_in, token_in, token_asked, serving_asked, file_asked, asked_of, given_found, given_of, text_in, said_by, with_secret, port_of, count_of, carries};
-ghost use Rattle.custody.specs.Headings.{limit_of, limit_command, revoke_command};
+ghost use Rattle.custody.specs.Commands.{limit_of, limit_command, revoke_command};
 
-use crate::headings::Heading;
+use crate::commands;
 use basis::numbers::{FIRST_LIMIT, whole_number};
 use basis::{Limit, OrgName, Role, Secret, Unfit};
 use clap::ArgMatches;
@@ -108,7 +108,7 @@ fn limit_or_first(value: Option<&str>) -> Option<Limit>
     ensures { result ≡ limit_or_first (text_in value.entry) }
 {
     match value {
-        Some(value) => Heading::read_limit(value),
+        Some(value) => commands::read_limit(value),
         None => Limit::new(FIRST_LIMIT),
     }
 }
@@ -118,7 +118,7 @@ fn limit_command(alloc: Global, org: &str, limit: Option<&str>) -> Result<Admin,
     ensures syntax { IsErrOf result Unfit.Syntax → option_and_then (λ text. limit_command org.now (limit_of text)) (text_in limit.entry) ≡ None }
 {
     match limit {
-        Some(limit) => Heading::make_org_limit(alloc, org, Heading::read_limit(limit)),
+        Some(limit) => commands::org_limit(alloc, org, commands::read_limit(limit)),
         None => Err(Unfit::Syntax),
     }
 }
@@ -128,7 +128,7 @@ fn revoke_command(alloc: Global, org: &str, name: Option<&str>) -> Result<Admin,
     ensures syntax { IsErrOf result Unfit.Syntax → option_and_then (λ text. revoke_command org.now text) (text_in name.entry) ≡ None }
 {
     match name {
-        Some(name) => Heading::make_token_revoke(alloc, org, name),
+        Some(name) => commands::token_revoke(alloc, org, name),
         None => Err(Unfit::Syntax),
     }
 }
@@ -138,7 +138,7 @@ fn command_on(alloc: Global, command: &str, org: &str, values: &Values<'_>) -> R
     ensures syntax { IsErrOf result Unfit.Syntax → command_on command.now org.now (given_of values.now) ≡ None }
 {
     match command {
-        "org-add" => Heading::make_org_add(alloc, org, limit_or_first(values.limit)),
+        "org-add" => commands::org_add(alloc, org, limit_or_first(values.limit)),
         "org-limit" => limit_command(alloc, org, values.limit),
         "token-revoke" => revoke_command(alloc, org, values.name),
         _ => Err(Unfit::Syntax),
@@ -164,7 +164,7 @@ fn new_token(alloc: Global, values: &Values<'_>) -> Result<NewToken, Unfit>
 {
     match (values.org, values.name, values.role) {
         (Some(org), Some(name), Some(role)) => {
-            NewToken::make(alloc, org, name, Heading::read_role(role))
+            NewToken::make(alloc, org, name, commands::read_role(role))
         }
         _ => Err(Unfit::Syntax),
     }

@@ -5,8 +5,8 @@ use Rattle.std.proofs.lemmas.Slice.Eq.{bytes_eq-Decides}
 use Rattle.basis.specs.Roles.{role_word}
 use Rattle.basis.specs.declared.roles.Role.{Role}
 use Rattle.basis.specs.declared.roles.Role.TheVariants.{Read, Write, Admin}
-use Rattle.custody.specs.Headings.{role_of}
-use Rattle.custody.proofs.headings.Heading.read_role.Goals as goal
+use Rattle.custody.specs.Commands.{role_of}
+use Rattle.custody.proofs.commands.read_role.Goals as goal
 
 -- each role's word names that role
 of_word : (role : Role) → Some role ≡ role_of (role_word role)

@@ -1,0 +1,37 @@
+-- The operator's commands, from the words that name what they are about.
+use Rattle.std.specs.Prelude.{ℕ, List, Option, Some, None, ◌&&◌, cond, option_map, option_and_then, bytes_eq}
+use Rattle.basis.specs.Names.{is_org_name, is_secret}
+use Rattle.basis.specs.Numbers.{whole_of, within}
+use Rattle.basis.specs.Roles.{role_word}
+use Rattle.basis.specs.declared.roles.Role.{Role}
+use Rattle.basis.specs.declared.roles.Role.TheVariants.{Read, Write, Admin}
+use Rattle.serve.specs.declared.steps.Admin as Operator
+use Rattle.serve.specs.declared.steps.Admin.TheVariants.{OrgAdd, OrgLimit, TokenAdd, TokenRevoke}
+
+-- the limit that a word writes
+abbrev pub limit_of : List ℕ → Option ℕ
+limit_of word = option_and_then (within 0 100_000) (whole_of word)
+
+-- the role that a word names
+abbrev pub role_of : List ℕ → Option Role
+role_of word =
+    cond (bytes_eq word (role_word Read)) (Some Read)
+    (cond (bytes_eq word (role_word Write)) (Some Write)
+    (cond (bytes_eq word (role_word Admin)) (Some Admin) None))
+
+-- a command that adds an organization, where its name and limit read
+abbrev pub org_command : List ℕ → Option ℕ → Option Operator.Admin
+org_command org limit = cond (is_org_name org) (option_map (λ n. OrgAdd org n) limit) None
+
+-- a command that sets an organization's limit, where its name and the limit read
+abbrev pub limit_command : List ℕ → Option ℕ → Option Operator.Admin
+limit_command org limit = cond (is_org_name org) (option_map (λ n. OrgLimit org n) limit) None
+
+-- a command that adds a token, where organization, name, role and secret read
+abbrev pub token_command : List ℕ → List ℕ → List ℕ → List ℕ → Option Operator.Admin
+token_command org name role secret =
+    cond (is_org_name org && is_org_name name && is_secret secret) (option_map (λ r. TokenAdd org name r secret) (role_of role)) None
+
+-- a command that takes a token away, where organization and name read
+abbrev pub revoke_command : List ℕ → List ℕ → Option Operator.Admin
+revoke_command org name = cond (is_org_name org && is_org_name name) (Some (TokenRevoke org name)) None
