@@ -1,5 +1,6 @@
 pub mod Commands
 pub mod Endings
+pub mod Files
 pub mod Frames
 pub mod Headings
 pub mod Inner
