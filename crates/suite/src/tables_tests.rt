@@ -99,6 +99,24 @@ fn a_state_stands_in_the_tables(rt: HostRuntime) -> Result<(), Fail> {
     expect_counts(&rt, &mut conn, AFTER_A_STATE)
 }
 
+// No clause says that an index is there: without one all answers are the same.
+const INDEXES: &[(&str, i64)] = &[
+    (
+        "SELECT count(*) FROM sqlite_schema WHERE type = 'index' AND sql = 'CREATE INDEX run_by_status ON run (org, ws, status, number)'",
+        1,
+    ),
+    (
+        "SELECT count(*) FROM sqlite_schema WHERE type = 'index' AND sql = 'CREATE INDEX version_head ON version (org, ws, number, serial, lineage, created, size)'",
+        1,
+    ),
+];
+
+#[test]
+fn indexes_stand_beside_the_tables(rt: HostRuntime) -> Result<(), Fail> {
+    let mut conn = SqlKeep::in_memory(rt.alloc())?.close();
+    expect_counts(&rt, &mut conn, INDEXES)
+}
+
 #[test]
 fn a_lock_stands_in_the_tables(rt: HostRuntime) -> Result<(), Fail> {
     let mut conn = left_by(&rt, rt.alloc(), &LOCK_ROWS[1])?;
