@@ -1,9 +1,7 @@
-//! The tests of the crates below, by their public calls: a module for each crate, the devices that
-//! fail in `devices`, and tables that are generated in `rows`.
+//! The tests of the crates below, by their public calls: a module for each crate that `parts` has not,
+//! the devices that fail in `devices`, and tables that are generated in `rows`.
 #![tactic(auto)]
 
-#[cfg(test)]
-mod basis_tests;
 #[cfg(test)]
 mod devices;
 #[cfg(test)]
@@ -15,8 +13,6 @@ mod machine_tests;
 #[cfg(test)]
 mod requests;
 #[cfg(test)]
-mod route_tests;
-#[cfg(test)]
 mod rows;
 #[cfg(test)]
 mod runs_tests;
@@ -24,8 +20,6 @@ mod runs_tests;
 mod serve_tests;
 #[cfg(test)]
 mod sql_keep_tests;
-#[cfg(test)]
-mod statements_tests;
 #[cfg(test)]
 mod steps;
 #[cfg(test)]
