@@ -29,7 +29,7 @@ pub const MAX_SECRET: usize = 64;
 const RUN_PREFIX: &[u8] = b"run-";
 
 /// An organization's name, or a token's: 1 to 40 bytes of `a`-`z`, `0`-`9` and `-`, the first a letter.
-#[derive(Clone, Debug, Drop)]
+#[derive(Clone, Drop)]
 pub struct OrgName {
     text: String,
 }
@@ -64,7 +64,7 @@ impl OrgName {
 }
 
 /// A workspace's name: 1 to 90 ASCII letters, digits, `-` and `_`.
-#[derive(Clone, Debug, Drop)]
+#[derive(Clone, Drop)]
 pub struct WsName {
     text: String,
 }
@@ -99,7 +99,7 @@ impl WsName {
 }
 
 /// The ID of a lock: 1 to 128 bytes of text.
-#[derive(Clone, Debug, Drop)]
+#[derive(Clone, Drop)]
 pub struct LockId {
     text: String,
 }

@@ -20,7 +20,7 @@ pub const MAX_LIMIT: u32 = 100_000;
 pub const FIRST_LIMIT: u32 = 200;
 
 /// The number of a version or a run: 1 to 1,000,000,000.
-#[derive(Clone, Copy, Debug, PartialEq, Eq, PartialOrd, Ord)]
+#[derive(Clone, Copy, PartialEq, Eq)]
 pub struct Number {
     value: u32,
 }
@@ -69,7 +69,7 @@ impl Number {
 }
 
 /// A moment, in whole seconds since 1970 (UTC): 0 to 253,402,300,799, the end of the year 9999.
-#[derive(Clone, Copy, Debug, PartialEq, Eq, PartialOrd, Ord)]
+#[derive(Clone, Copy, PartialEq, Eq)]
 pub struct Moment {
     seconds: u64,
 }
@@ -105,7 +105,7 @@ impl Moment {
 }
 
 /// How many workspaces an organization may have: 0 to 100,000.
-#[derive(Clone, Copy, Debug, PartialEq, Eq, PartialOrd, Ord)]
+#[derive(Clone, Copy, PartialEq, Eq)]
 pub struct Limit {
     value: u32,
 }

@@ -4,7 +4,7 @@ ghost use Rattle.basis.specs.Roles.{includes, role_word};
 ghost use Rattle.basis.specs.declared.roles.Role.{Role as AnyRole};
 
 /// What a token may do. Each role includes the ones before.
-#[derive(Clone, Copy, Debug, PartialEq, Eq)]
+#[derive(Clone, Copy, PartialEq, Eq)]
 pub enum Role {
     Read,
     Write,

@@ -17,20 +17,20 @@ pub const MAX_LINEAGE: usize = 256;
 
 /// What custody reads of a Terraform state: `serial` counts its changes, and `lineage` tells states
 /// that don't follow one another apart. An absent lineage is empty.
-#[derive(Clone, Debug, Drop)]
+#[derive(Drop)]
 pub struct StateHead {
     pub serial: u64,
     pub lineage: Text,
 }
 
 /// Settings of a workspace.
-#[derive(Clone, Copy, Debug, PartialEq, Eq)]
+#[derive(Clone, Copy, PartialEq, Eq)]
 pub struct Settings {
     pub auto_apply: bool,
 }
 
 /// What the document of a run's creation asks.
-#[derive(Debug, Drop)]
+#[derive(Drop)]
 pub struct RunAsk {
     pub key: Option<Text>,
     pub message: Text,
@@ -38,14 +38,14 @@ pub struct RunAsk {
 }
 
 /// Who holds a workspace, as it is shown: the ID of a lock, or the number n of a run, shown as `run-n`.
-#[derive(Clone, Debug, Drop)]
+#[derive(Drop)]
 pub enum HolderId {
     Lock(LockId),
     Run(Number),
 }
 
 /// A workspace as it is shown.
-#[derive(Clone, Debug, Drop)]
+#[derive(Drop)]
 pub struct WsRow {
     pub auto_apply: bool,
     pub holder: Option<HolderId>,
@@ -55,7 +55,7 @@ pub struct WsRow {
 }
 
 /// A version as it is listed.
-#[derive(Debug, Drop)]
+#[derive(Drop)]
 pub struct VersionRow {
     pub created: Moment,
     pub lineage: Text,
@@ -66,7 +66,7 @@ pub struct VersionRow {
 }
 
 /// A run as it is shown.
-#[derive(Debug, Drop)]
+#[derive(Drop)]
 pub struct RunRow {
     /// The last accepted action.
     pub action: Option<RunAction>,
@@ -82,7 +82,7 @@ pub struct RunRow {
 pub const MAX_ITEMS: usize = 50;
 
 /// At most 50 items, rising, and whether further ones follow the last.
-#[derive(Debug, Drop)]
+#[derive(Drop)]
 pub struct Listing<T> {
     pub items: Items<T>,
     pub more: bool,

@@ -3,7 +3,7 @@ ghost use Rattle.std.specs.Prelude.{◌≡◌};
 ghost use Rattle.basis.specs.Runs.{status_word, action_word, is_open};
 
 /// Where a run stands. The first four are open; the others are ends.
-#[derive(Clone, Copy, Debug, PartialEq, Eq)]
+#[derive(Clone, Copy, PartialEq, Eq)]
 pub enum RunStatus {
     Pending,
     Planning,
@@ -47,7 +47,7 @@ impl RunStatus {
 }
 
 /// What a runner or a person reports of a run, or asks of it.
-#[derive(Clone, Copy, Debug, PartialEq, Eq)]
+#[derive(Clone, Copy, PartialEq, Eq)]
 pub enum RunAction {
     /// The plan is made and has changes.
     ReportPlanned,

@@ -6,7 +6,7 @@ use std::alloc::{AllocError, Global};
 use std::marker::Model;
 
 /// A text (UTF-8), seen as its bytes.
-#[derive(Clone, Debug, Drop)]
+#[derive(Clone, Drop)]
 pub struct Text {
     text: String,
 }
@@ -45,7 +45,7 @@ impl Text {
 }
 
 /// Bytes, seen as their list.
-#[derive(Clone, Debug, Drop)]
+#[derive(Clone, Drop)]
 pub struct Bytes {
     bytes: Vec<u8>,
 }
@@ -84,7 +84,7 @@ impl Bytes {
 }
 
 /// Items of a list, seen as the list.
-#[derive(Debug, Drop)]
+#[derive(Drop)]
 pub struct Items<T> {
     pub items: Vec<T>,
 }

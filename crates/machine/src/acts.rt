@@ -9,7 +9,7 @@ use basis::{
 };
 
 /// What is asked of one workspace, its documents read.
-#[derive(Debug, Drop)]
+#[derive(Drop)]
 pub enum Act {
     /// Makes the workspace, or sets the settings of the one that is there.
     PutWorkspace(Settings),
@@ -70,7 +70,7 @@ impl Act {
 }
 
 /// What a decision needs of the newest version.
-#[derive(Debug, Drop)]
+#[derive(Drop)]
 pub struct Newest {
     pub number: Number,
     pub serial: u64,
@@ -80,7 +80,7 @@ pub struct Newest {
 }
 
 /// What a decision needs of a workspace that is there.
-#[derive(Debug, Drop)]
+#[derive(Drop)]
 pub struct WorkspaceUnit {
     pub auto_apply: bool,
     pub holder: Holder,
@@ -104,7 +104,7 @@ pub struct WorkspaceUnit {
 }
 
 /// What a decision needs of one workspace, or that it isn't there.
-#[derive(Debug, Drop)]
+#[derive(Drop)]
 pub enum Unit {
     /// How many workspaces the organization has, where the act makes one (for any other act 0, since
     /// nothing asks for the count), and how many it may have.
@@ -113,7 +113,7 @@ pub enum Unit {
 }
 
 /// A workspace as it is shown, but for its name.
-#[derive(Debug, Drop)]
+#[derive(Drop)]
 pub struct Shown {
     pub auto_apply: bool,
     pub holder: Option<HolderId>,
@@ -121,7 +121,7 @@ pub struct Shown {
 }
 
 /// What an accepted act is answered.
-#[derive(Debug, Drop)]
+#[derive(Drop)]
 pub enum Answer {
     /// Nothing but that it is done.
     Done,
@@ -140,7 +140,7 @@ pub enum Answer {
 }
 
 /// What an accepted act does to its workspace.
-#[derive(Debug, Drop)]
+#[derive(Drop)]
 pub enum Edit {
     /// Makes the workspace.
     Make(Settings),
@@ -178,14 +178,14 @@ pub enum Edit {
 }
 
 /// How an accepted act changes its workspace: an edit, and the run that then starts, since nobody holds.
-#[derive(Debug, Drop)]
+#[derive(Drop)]
 pub struct Change {
     pub edit: Edit,
     pub start: Option<Number>,
 }
 
 /// What becomes of an act.
-#[derive(Debug, Drop)]
+#[derive(Drop)]
 pub enum Decision {
     /// Nothing changes. The body of `Locked` is the holder's text.
     Refused(Refusal),

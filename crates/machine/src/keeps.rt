@@ -19,7 +19,7 @@ use basis::{
 use std::alloc::Global;
 
 /// An organization as an operator's list shows it.
-#[derive(Debug, Drop)]
+#[derive(Drop)]
 pub struct OrgRow {
     pub name: Text,
     /// How many workspaces it has.
@@ -29,7 +29,7 @@ pub struct OrgRow {
 }
 
 /// What an operator's command is answered.
-#[derive(Debug, Drop)]
+#[derive(Drop)]
 pub enum AdminAnswer {
     Done,
     /// The organization, the token's name or its digest is there already.

@@ -6,7 +6,7 @@ use crate::maps::NameMap;
 use basis::{Bytes, Items, Limit, LockId, Moment, Number, Role, RunAction, RunStatus, Text};
 
 /// Who holds a workspace: nobody, a lock with the text that took it, or a run.
-#[derive(Clone, Debug, Drop)]
+#[derive(Clone, Drop)]
 pub enum Holder {
     Nobody,
     Lock { id: LockId, text: Bytes },
@@ -14,7 +14,7 @@ pub enum Holder {
 }
 
 /// A version of a workspace's state. Its text is kept byte for byte as it was sent.
-#[derive(Clone, Debug, Drop)]
+#[derive(Clone, Drop)]
 pub struct Version {
     pub number: Number,
     pub serial: u64,
@@ -24,7 +24,7 @@ pub struct Version {
 }
 
 /// A run of a workspace.
-#[derive(Clone, Debug, Drop)]
+#[derive(Clone, Drop)]
 pub struct Run {
     pub number: Number,
     pub plan_only: bool,
@@ -45,7 +45,7 @@ impl Run {
 }
 
 /// What a workspace holds.
-#[derive(Debug, Drop)]
+#[derive(Drop)]
 pub struct Workspace {
     pub auto_apply: bool,
     pub holder: Holder,
@@ -60,7 +60,7 @@ pub struct Workspace {
 }
 
 /// A bearer token: the SHA-256 of its secret, and its role.
-#[derive(Clone, Copy, Debug)]
+#[derive(Clone, Copy)]
 pub struct Token {
     pub digest: [u8; 32],
     pub role: Role,

@@ -17,7 +17,7 @@ pub struct Asked {
 }
 
 /// What a request asks of the organization that its path names.
-#[derive(Debug, Drop)]
+#[derive(Drop)]
 pub enum AskedAct {
     /// The workspaces whose names come after this one.
     ListWorkspaces { after: Option<WsName> },
@@ -26,7 +26,7 @@ pub enum AskedAct {
 }
 
 /// What a request asks of one workspace.
-#[derive(Clone, Copy, Debug, PartialEq, Eq)]
+#[derive(Clone, Copy, PartialEq, Eq)]
 pub enum WsAct {
     /// The workspace as it is shown.
     Read,

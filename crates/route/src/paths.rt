@@ -11,14 +11,14 @@ use basis::{Number, OrgName, Refusal, RunAction, Unfit, WsName};
 use std::alloc::Global;
 
 /// An organization, and the resource that a path names in it.
-#[derive(Debug, Drop)]
+#[derive(Drop)]
 pub struct OrgResource {
     pub org: OrgName,
     pub resource: Resource,
 }
 
 /// The resource that a path names in its organization (RFC 9110, section 3.1).
-#[derive(Debug, Drop)]
+#[derive(Drop)]
 pub enum Resource {
     AllWorkspaces,
     Workspace(WsName),

@@ -22,7 +22,7 @@ const ID_KEY: &str = "ID";
 const AFTER_KEY: &str = "after";
 
 /// The values of the keys that have a use.
-#[derive(Debug, Drop)]
+#[derive(Drop)]
 pub struct Query {
     /// `access_token`: a bearer token.
     pub token: Option<Text>,

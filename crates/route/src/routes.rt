@@ -37,7 +37,7 @@ impl Routes {
 }
 
 /// The shape of a route.
-#[derive(Clone, Copy, Debug, PartialEq, Eq)]
+#[derive(Clone, Copy, PartialEq, Eq)]
 pub enum Kind {
     ListsWorkspaces,
     IsWorkspace,

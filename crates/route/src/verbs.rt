@@ -19,7 +19,7 @@ pub fn act_asked(resource: Resource, method: &str, bodyless: bool) -> Result<Ask
 }
 
 /// A method that some route has (RFC 9110, section 9.3; LOCK and UNLOCK as Terraform's backend 'http' sends them).
-#[derive(Clone, Copy, Debug, PartialEq, Eq)]
+#[derive(Clone, Copy, PartialEq, Eq)]
 pub enum Verb {
     Get,
     Post,

@@ -17,7 +17,7 @@ use std::alloc::Global;
 use wire::{Inlet, Message, Outlet, Reply, WireFault, read_message, write_reply};
 
 /// Why an exchange ended without a whole reply. After the first three no rows changed.
-#[derive(Clone, Copy, Debug, PartialEq, Eq)]
+#[derive(Clone, Copy, PartialEq, Eq)]
 pub enum LinkFault {
     /// The input ended inside the message.
     Ended,

@@ -13,7 +13,7 @@ use sqlite_schema::schema::{Column, Kind, Schema};
 use statements::making;
 
 /// Why a database wasn't opened.
-#[derive(Clone, Copy, Debug, PartialEq, Eq)]
+#[derive(Clone, Copy, PartialEq, Eq)]
 pub enum Fault {
     /// Some of the tables are there, but not those of this version.
     Schema,

@@ -5,7 +5,7 @@ use std::error::Error;
 use std::fmt;
 
 /// A request, as far as custody looks at it.
-#[derive(Debug, Drop)]
+#[derive(Drop)]
 pub struct Message {
     pub method: Method,
     /// What stands before the first `?` of the target, without scheme and host.
