@@ -1,0 +1,68 @@
+-- What stands on the streams, by how the program ends.
+use Rattle.std.proofs.Common.{◌≡◌, ◌⊎◌, ◌≢◌, ◌++◌, ℕ, List, Option, Some, None, IfSome, IfOk, Result, Ok, Err, refl, sym, subst, inl, inr, ap}
+use Rattle.std.specs.Prelude.{OnErr}
+use Rattle.basis.specs.declared.memory.Down.{Down as BasisDown}
+use Rattle.machine.specs.declared.keeps.AdminAnswer.{AdminAnswer}
+use Rattle.machine.specs.declared.records.Organization.{Organization}
+use Rattle.serve.specs.declared.steps.Admin.{Admin}
+use Rattle.serve.specs.Asks.{commands}
+use Rattle.serve.specs.Service.{Carries as CarriesOut, IsAdminAnswer, Stays}
+use Rattle.wire.proofs.LinkLemmas.{Appends-then}
+use Rattle.std.specs.Io.KnownBytes.{Appends}
+use Rattle.program.specs.declared.endings.Ending.{Ending}
+use Rattle.program.specs.declared.endings.Ending.TheVariants.{Done, Exists, Absent, Usage, BadFrame, Schema, Down, Unprinted}
+use Rattle.program.specs.Endings.{line_of}
+use Rattle.program.specs.Outcomes.{Stream, stream, Gets, GetsSome, Says, IsSaid, ReplaysFrames, ServesAt, Tells, IsOperated}
+use Rattle.program.specs.Inner.Outcomes.{IsSaidWhy}
+use Rattle.program.specs.Replies.{AnswersFrames, printed, bad_frame_text, answer_line}
+use Rattle.program.specs.Serving.{Listens, listening_line}
+
+-- whatever allows an ending whose line is said, and one whose streams took not all
+pub said : (P : Ending → Type 0) (e result : Ending) (old new : Option (List ℕ)) → (Says e (stream old new) → P e) → P Unprinted → IsSaid e result old new → P result
+said P e result old new right wrong (inl h) = subst P (sym h.0) (right h.1)
+said P e result old new right wrong (inr h) = subst P (sym h) wrong
+
+pub said_why : (P : Ending → Type 0) (e result : Ending) (output errors : Stream) → (Says e output → GetsSome errors → P e) → P Unprinted → IsSaidWhy e result output errors → P result
+said_why P e result output errors right wrong (inl h) = subst P (sym h.0) (right h.1 h.2)
+said_why P e result output errors right wrong (inr h) = subst P (sym h) wrong
+
+pub replayed : (input : Option (List ℕ)) (replies : List (List ℕ)) (bad : Option ℕ) (result : Ending) (output errors : Stream) → IfSome input (λ bytes. AnswersFrames bytes replies bad) → Gets output (printed replies)
+    → (bad ≡ None → result ≡ Done) → IfSome bad (λ frame. ((result ≡ BadFrame) × Gets errors (bad_frame_text frame)) ⊎ (result ≡ Unprinted)) → ReplaysFrames input result output errors
+replayed input replies None result output errors answers out done bad =
+    subst (λ (e : Ending). ReplaysFrames input e output errors) (sym (done refl)) (whole input answers)
+  where
+    whole : (known : Option (List ℕ)) → IfSome known (λ bytes. AnswersFrames bytes replies None) → ReplaysFrames known Done output errors
+    whole None h = tt
+    whole (Some bytes) h = (h.0, replies, h.1, h.2, out)
+replayed input replies (Some frame) result output errors answers out done (inr h) = subst (λ (e : Ending). ReplaysFrames input e output errors) (sym h) tt
+replayed input replies (Some frame) result output errors answers out done (inl h) =
+    subst (λ (e : Ending). ReplaysFrames input e output errors) (sym h.0) (to_bad input answers)
+  where
+    to_bad : (known : Option (List ℕ)) → IfSome known (λ bytes. AnswersFrames bytes replies (Some frame)) → ReplaysFrames known BadFrame output errors
+    to_bad None a = tt
+    to_bad (Some bytes) a = (a.0, replies, a.1, a.2, out, subst (λ (n : ℕ). Gets errors (bad_frame_text n)) a.3 h.1)
+
+-- what was told before, and then the last line
+pub served : (ending result : Ending) (old mid new : Option (List ℕ)) → Listens ending old mid → (ending ≡ Down → IsSaid Down result mid new) → (ending ≢ Down → (result ≡ ending) × (new ≡ mid)) → ServesAt result (stream old new)
+served Done result old mid new listens down other =
+    let same = other (λ e. cc) in
+    subst (λ (e : Ending). ServesAt e (stream old new)) (sym same.0) (listens.0, subst (λ (o : Option (List ℕ)). Appends old o (listening_line listens.0)) (sym same.1) listens.1)
+served Exists result old mid new listens down other = absurd listens
+served Absent result old mid new listens down other = absurd listens
+served Usage result old mid new listens down other = absurd listens
+served BadFrame result old mid new listens down other = absurd listens
+served Schema result old mid new listens down other = absurd listens
+served Unprinted result old mid new listens down other = subst (λ (e : Ending). ServesAt e (stream old new)) (sym (other (λ e. cc)).0) tt
+served Down result old mid new listens down other = go listens (down refl)
+  where
+    go : Listens Down old mid → IsSaid Down result mid new → ServesAt result (stream old new)
+    go heard (inr h) = subst (λ (e : Ending). ServesAt e (stream old new)) (sym h) tt
+    go (inl same) (inl h) = subst (λ (e : Ending). ServesAt e (stream old new)) (sym h.0) (inl (subst (λ (o : Option (List ℕ)). Appends o new (answer_line (line_of Down))) same h.1))
+    go (inr told) (inl h) = subst (λ (e : Ending). ServesAt e (stream old new)) (sym h.0) (inr (told.0, Appends-then old mid new (listening_line told.0) (answer_line (line_of Down)) told.1 h.1))
+
+-- an answer is told as it is, and where there is none `refused down`
+pub operated : (at : ℕ) (command : Admin) (old new : List ℕ → Option Organization) (e : Ending) (output : Stream) (res : Result AdminAnswer BasisDown)
+    → IfOk res (λ answer. CarriesOut (commands at command) old new × IsAdminAnswer old command answer) → OnErr res (Stays old new)
+    → IfOk res (λ answer. Tells command answer e output) → OnErr res (IsSaid Down e output.old output.new) → IsOperated command old new e output
+operated at command old new e output (Ok answer) done stays tells down = inl (answer, at, done.0, done.1, tells)
+operated at command old new e output (Err d) done stays tells down = inr (stays, down)

@@ -1,0 +1,89 @@
+-- Connections one after the other.
+use Rattle.std.proofs.Common.{◌≡◌, ◌∙◌, ◌≤◌, ◌+◌, ◌++◌, ◌∷◌, [], List, ℕ, Option, Result, Ok, Err, Bool, length, refl, sym, subst, arith, inl, inr, ap}
+use Rattle.std.specs.Prelude.{◌⊎◌, IsErrOf}
+use Rattle.machine.specs.declared.records.Organization.{Organization}
+use Rattle.wire.specs.Links.{continue_if}
+use Rattle.serve.specs.declared.exchanges.LinkFault.{LinkFault}
+use Rattle.serve.specs.declared.exchanges.LinkFault.TheVariants.{Ended, Read, Continue, Write}
+use Rattle.serve.specs.declared.steps.Step.{Step}
+use Rattle.serve.specs.declared.steps.Step.TheVariants.{Request, Command}
+use Rattle.serve.specs.Exchanges.{Exchanges, IsAnswered, IsServed, IsUnavailable}
+use Rattle.machine.specs.Ranges.{IsMoment}
+use Rattle.serve.specs.Service.{Stays, IsText, said_to}
+use Rattle.serve.specs.Inner.Taking.{IsTaken, IsTimely, RunsTo}
+use Rattle.serve.specs.Steps.{Said}
+use Rattle.serve.proofs.RunLemmas.{runs_none, runs_more}
+use Rattle.serve.proofs.TakenLemmas.{reading_timely}
+use Rattle.program.specs.Serving.{AreRequests, Serves}
+use Rattle.program.specs.Inner.Serving.{TakesOne, ServesTo}
+
+answered : (now : ℕ) (received : List ℕ) (old new : List ℕ → Option Organization) (awaited : Bool) (text : List ℕ) → IsMoment now → IsAnswered now received old new awaited text → TakesOne old new
+answered now received old new awaited text moment (inl served) = inl (
+  now,
+  received,
+  continue_if awaited ++ text,
+  record {
+    ask = served.ask;
+    is = served.asks;
+    timely = subst IsTimely (sym served.asks.is) (reading_timely now served.asks.reading moment);
+    carries = served.carries;
+    text_is = subst (λ (s : Said). IsText s (continue_if awaited ++ text)) (sym served.said) (text, served.is, refl);
+  },
+)
+answered now received old new awaited text moment (inr down) = inr down.stays
+
+-- one exchange takes at most one request
+pub taken_of : {T : Type 0} (now : ℕ) (received : List ℕ) (left : Option (List ℕ)) (old new : List ℕ → Option Organization) (before after : Option (List ℕ)) (res : Result T LinkFault)
+    → IsMoment now → Exchanges now received left old new before after res
+    → (IsErrOf res Ended ⊎ (IsErrOf res Read ⊎ IsErrOf res Continue) → Stays old new) → TakesOne old new
+taken_of now received left old new before after (Ok done) moment told stays = answered now received old new told.0 told.1 moment told.2
+taken_of now received left old new before after (Err Ended) moment told stays = inr (stays (inl refl))
+taken_of now received left old new before after (Err Read) moment told stays = inr (stays (inr (inl refl)))
+taken_of now received left old new before after (Err Continue) moment told stays = inr (stays (inr (inr refl)))
+taken_of now received left old new before after (Err Write) moment told stays = answered now received old new told.0 (told.1 ++ told.2) moment told.4
+
+requests-push : (steps : List Step) (at : ℕ) (bytes : List ℕ) → AreRequests steps → AreRequests (steps ++ Request at bytes ∷ [])
+requests-push [] at bytes h = tt
+requests-push (Request n b ∷ steps) at bytes h = requests-push steps at bytes h
+requests-push (Command n c ∷ steps) at bytes h = absurd h
+
+length-push : {X : Type 0} (xs : List X) (x : X) → length (xs ++ x ∷ []) ≡ length xs + 1
+length-push [] x = refl
+length-push (y ∷ xs) x = let more = length-push xs x in omega arith
+
+pub serves_none : (rows : List ℕ → Option Organization) → ServesTo 0 rows rows
+serves_none rows = record { steps = []; replies = []; few = omega arith; requests = tt; even = refl; run = runs_none rows }
+
+pub serves_more : (count : ℕ) (old mid new : List ℕ → Option Organization) → ServesTo count old mid → TakesOne mid new → ServesTo (count + 1) old new
+serves_more count old mid new so_far (inl one) = record {
+  steps = so_far.steps ++ Request one.0 one.1 ∷ [];
+  replies = so_far.replies ++ one.2 ∷ [];
+  few = subst (λ n. n ≤ count + 1) (sym (length-push so_far.steps (Request one.0 one.1))) (let few = so_far.few in omega arith);
+  requests = requests-push so_far.steps one.0 one.1 so_far.requests;
+  even = length-push so_far.replies one.2 ∙ ap (λ n. n + 1) so_far.even ∙ sym (length-push so_far.steps (Request one.0 one.1));
+  run = runs_more so_far.steps (Request one.0 one.1) old mid new so_far.replies one.2 so_far.even so_far.run one.3;
+}
+serves_more count old mid new so_far (inr stays) = record {
+  steps = so_far.steps;
+  replies = so_far.replies;
+  few = let few = so_far.few in omega arith;
+  requests = so_far.requests;
+  even = so_far.even;
+  run = record {
+    asked = so_far.run.asked;
+    are = so_far.run.are;
+    timely = so_far.run.timely;
+    rows = λ org. stays org ∙ so_far.run.rows org;
+    texts = so_far.run.texts;
+  };
+}
+
+pub serves_of : (count most : ℕ) (old new : List ℕ → Option Organization) → count ≤ most → ServesTo count old new → Serves most old new
+serves_of count most old new le so_far = record {
+  steps = so_far.steps;
+  few = let few = so_far.few in omega arith;
+  requests = so_far.requests;
+  asked = so_far.run.asked;
+  are = so_far.run.are;
+  rows = so_far.run.rows;
+}

@@ -1,0 +1,18 @@
+use Rattle.std.proofs.Common.{rules}
+use Rattle.program.specs.declared.endings.Ending.{Ending}
+use Rattle.program.specs.declared.endings.Ending.TheVariants.{Down}
+use Rattle.program.specs.Outcomes.{ReplaysFrames, stream}
+use Rattle.program.proofs.OutcomeLemmas.{said, replayed}
+use Rattle.program.proofs.replays.replay_frames.Goals as goal
+
+pub returns-in_default : goal.returns-in_default
+returns-in_default g c =
+    said (λ (e : Ending). ReplaysFrames (g.I.Read.remaining c.args.input.now) e (stream (g.O.Write.contents c.args.output.now) (g.O.Write.contents c.say.new.output)) (stream (g.E.Write.contents c.args.errors.now) (g.E.Write.contents c.args.errors.now)))
+    Down c.say.result _ _ (λ h. h) tt c.say.ensures
+
+pub returns-in-Ok-print_all : goal.returns-in-Ok-print_all
+returns-in-Ok-print_all g c =
+    replayed (g.I.Read.remaining c.args.input.now) c.in-Ok.replay.replies.items c.in-Ok.replay.bad_frame c.end_at.result _ _ c.in-Ok.ensures (search rules) c.end_at.ensures.done c.end_at.ensures.bad
+
+pub returns : goal.returns
+returns g c = tt

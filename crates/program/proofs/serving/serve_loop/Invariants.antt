@@ -1,0 +1,11 @@
+use Rattle.std.proofs.Common.{◌≡◌, ℕ}
+use Rattle.program.specs.Inner.Serving.{ServesTo}
+use Rattle.program.proofs.serving.serve_loop.Given as goal
+
+-- the connections so far are served
+abbrev pub invariant-connections : goal.invariant-connections
+invariant-connections g l = record {
+  so_far : g.K.Keep.clean l.service.keep → g.K.Keep.clean l.fn.service.keep;
+  kept : g.K.Keep.clean l.service.keep → g.K.Keep.sound l.fn.service.keep → g.K.Keep.sound l.service.keep;
+  serves : g.K.Keep.clean l.service.keep → g.K.Keep.sound l.fn.service.keep → ServesTo l.place (g.K.Keep.rows l.fn.service.keep) (g.K.Keep.rows l.service.keep);
+}

@@ -1,0 +1,6 @@
+use Rattle.std.proofs.Common.{rules}
+use Rattle.program.proofs.words.org_list.Goals as goal
+
+pub returns : goal.returns
+returns c =
+    c.with_arg.ensures _ _ c.command-bare.ensures c.database.ensures

@@ -1,0 +1,7 @@
+use Rattle.std.proofs.Common.{rules}
+use Rattle.program.proofs.words.with_tokens.Goals as goal
+
+pub returns : goal.returns
+returns c app is_app =
+    let first = c.in_ok-adding.ensures _ _ is_app c.in_ok-token_add.ensures in
+    c.with_command-2.ensures _ _ first c.in_ok-token_revoke.ensures

@@ -1,0 +1,69 @@
+-- The first line of a frame: a moment, and a request's length or an operator's command.
+use Rattle.std.specs.Prelude.{ℕ, List, [], ◌∷◌, Option, Some, None, cond, option_map, option_and_then, bytes_eq, codes}
+use Rattle.basis.specs.Numbers.{whole_of, within}
+use Rattle.serve.specs.declared.steps.Admin as Operator
+use Rattle.serve.specs.declared.steps.Admin.TheVariants.{OrgList}
+use Rattle.program.specs.Commands.{limit_of, org_command, limit_command, token_command, revoke_command}
+use Rattle.program.specs.declared.headings.Heading.{Heading}
+use Rattle.program.specs.declared.headings.Heading.TheVariants.{Request, Command}
+
+-- the moment that a word writes
+abbrev pub moment_of : List ℕ → Option ℕ
+moment_of word = option_and_then (within 0 253_402_300_799) (whole_of word)
+
+-- the length of a request that a word writes: at most 20,000,000 bytes
+abbrev pub length_of : List ℕ → Option ℕ
+length_of word = option_and_then (within 0 20_000_000) (whole_of word)
+
+-- `ORG`, with the limit 200, or `ORG LIMIT`
+abbrev pub org_add_of : List (List ℕ) → Option Operator.Admin
+org_add_of (org ∷ []) = org_command org (Some 200)
+org_add_of (org ∷ limit ∷ []) = org_command org (limit_of limit)
+org_add_of words = None
+
+-- `ORG N`
+abbrev pub org_limit_of : List (List ℕ) → Option Operator.Admin
+org_limit_of (org ∷ limit ∷ []) = limit_command org (limit_of limit)
+org_limit_of words = None
+
+-- no words
+abbrev pub org_list_of : List (List ℕ) → Option Operator.Admin
+org_list_of [] = Some OrgList
+org_list_of words = None
+
+-- `ORG NAME ROLE SECRET`
+abbrev pub token_add_of : List (List ℕ) → Option Operator.Admin
+token_add_of (org ∷ name ∷ role ∷ secret ∷ []) = token_command org name role secret
+token_add_of words = None
+
+-- `ORG NAME`
+abbrev pub token_revoke_of : List (List ℕ) → Option Operator.Admin
+token_revoke_of (org ∷ name ∷ []) = revoke_command org name
+token_revoke_of words = None
+
+-- an operator's command: its name, and its own words
+abbrev pub command_of : List (List ℕ) → Option Operator.Admin
+command_of [] = None
+command_of (name ∷ words) =
+    cond (bytes_eq name (codes "org-add")) (org_add_of words)
+    (cond (bytes_eq name (codes "org-limit")) (org_limit_of words)
+    (cond (bytes_eq name (codes "org-list")) (org_list_of words)
+    (cond (bytes_eq name (codes "token-add")) (token_add_of words)
+    (cond (bytes_eq name (codes "token-revoke")) (token_revoke_of words) None))))
+
+-- what follows at that moment: `LEN`, the one word behind `http`
+abbrev pub request_at : ℕ → List (List ℕ) → Option Heading
+request_at at (word ∷ []) = option_map (λ len. Request at len) (length_of word)
+request_at at words = None
+
+-- a request's length after `http`, a command after `admin`
+abbrev pub heading_at : ℕ → List ℕ → List (List ℕ) → Option Heading
+heading_at at kind words =
+    cond (bytes_eq kind (codes "http")) (request_at at words)
+    (cond (bytes_eq kind (codes "admin")) (option_map (λ command. Command at command) (command_of words)) None)
+
+-- `at SECONDS http LEN` or `at SECONDS admin WORDS`
+abbrev pub heading_of : List (List ℕ) → Option Heading
+heading_of (word ∷ seconds ∷ kind ∷ words) =
+    cond (bytes_eq word (codes "at")) (option_and_then (λ at. heading_at at kind words) (moment_of seconds)) None
+heading_of words = None

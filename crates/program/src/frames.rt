@@ -1,0 +1,82 @@
+//! Frames of standard input, one after another.
+ghost use Rattle.std.specs.Prelude.{◌≡◌, ◌<◌, ◌≤◌, length, Some, None, IfOk, IsErrOf};
+ghost use Rattle.program.specs.Frames.{step_of, line_heading, frame_of, AreFrames, IsOnlyReading};
+
+use crate::headings::Heading;
+use crate::lines::{split_line, split_message, split_words};
+use basis::{Bytes, Down, Unfit};
+use serve::Step;
+use std::alloc::Global;
+
+/// The steps of the frames up to the first that doesn't parse.
+#[derive(Drop)]
+pub struct Frames {
+    pub steps: Vec<Step>,
+    /// Whether a frame follows that doesn't parse.
+    pub is_bad: bool,
+}
+
+fn read_line(alloc: Global, line: &[u8]) -> Result<Heading, Unfit>
+    ensures ok { IfOk result (λ heading. line_heading line.now ≡ Some heading) }
+    ensures syntax { IsErrOf result Unfit.Syntax → line_heading line.now ≡ None }
+{
+    let words = split_words(alloc, line)?;
+    Heading::read(alloc, words.as_slice())
+}
+
+fn read_step(alloc: Global, heading: Heading, rest: &[u8]) -> Result<(Step, &[u8]), Unfit>
+    ensures ok { IfOk result (λ found. step_of heading rest.now ≡ Some (found.0, found.1.now)) }
+    ensures syntax { IsErrOf result Unfit.Syntax → step_of heading rest.now ≡ None }
+    ensures shorter { IfOk result (λ found. length found.1.now ≤ length rest.now) }
+{
+    match heading {
+        Heading::Request { at, len } => {
+            let Some((message, rest)) = split_message(rest, len) else {
+                return Err(Unfit::Syntax);
+            };
+            let bytes = Bytes::new(Vec::from_slice(alloc, message)?);
+            Ok((Step::Request { at, bytes }, rest))
+        }
+        Heading::Command { at, command } => Ok((Step::Command { at, command }, rest)),
+    }
+}
+
+fn read_frame(alloc: Global, bytes: &[u8]) -> Result<(Step, &[u8]), Unfit>
+    ensures ok { IfOk result (λ found. frame_of bytes.now ≡ Some (found.0, found.1.now)) }
+    ensures syntax { IsErrOf result Unfit.Syntax → frame_of bytes.now ≡ None }
+    ensures shorter { IfOk result (λ found. length found.1.now < length bytes.now) }
+{
+    let Some((line, rest)) = split_line(bytes) else {
+        return Err(Unfit::Syntax);
+    };
+    let heading = read_line(alloc, line)?;
+    read_step(alloc, heading, rest)
+}
+
+/// Reads frames up to the first that doesn't parse. It has the place `steps.len() + 1`, from 1 on.
+pub fn read_frames(alloc: Global, bytes: &[u8]) -> Result<Frames, Down>
+    ensures frames { IfOk result (λ frames. AreFrames bytes.now frames.steps.items frames.is_bad) }
+    ensures only { IfOk result (λ frames. IsOnlyReading bytes.now frames.steps.items frames.is_bad) }
+{
+    let mut steps = Vec::new(alloc);
+    let mut rest = bytes;
+    'frames: while !rest.is_empty() {
+        match read_frame(alloc, rest) {
+            Ok((step, left)) => {
+                steps.push(step)?;
+                rest = left;
+            }
+            Err(Unfit::Syntax) => {
+                return Ok(Frames {
+                    steps,
+                    is_bad: true,
+                });
+            }
+            Err(Unfit::Down) => return Err(Down),
+        }
+    }
+    Ok(Frames {
+        steps,
+        is_bad: false,
+    })
+}

@@ -1,0 +1,117 @@
+//! The command `replay`: frames from one stream, replies to another.
+ghost use Rattle.std.specs.Prelude.{◌≡◌, ◌⊎◌, codes, true, false, IfSome, IfOk, OnOk};
+ghost use Rattle.std.specs.Io.KnownBytes.{Appends};
+ghost use Rattle.program.specs.Replies.{printed, bad_frame_text, AreReplies, AnswersFrames};
+ghost use Rattle.program.specs.Endings.{status_of};
+ghost use Rattle.program.specs.Outcomes.{ReplaysFrames};
+ghost use Rattle.program.specs.declared.endings.Ending.{Ending};
+
+use crate::endings::Ending;
+use crate::frames::read_frames;
+use crate::replies::{print_bad_frame, print_replies, say};
+use basis::{Bytes, Down};
+use serve::{Service, Step};
+use std::alloc::Global;
+use std::io;
+use std::io::{Read, Write};
+use tables::SqlKeep;
+
+// The replies, and the place of the frame behind them that doesn't parse.
+#[derive(Drop)]
+struct Replay {
+    replies: Vec<Bytes>,
+    bad_frame: Option<usize>,
+}
+
+fn replayed(alloc: Global, steps: &[Step]) -> Result<Vec<Bytes>, Down>
+    ensures { IfOk result (λ replies. AreReplies steps.now replies.items) }
+{
+    let empty = SqlKeep::in_memory(alloc)?;
+    let mut service = Service::new(empty);
+    let replies = service.replay(alloc, steps);
+    let keep = service.into_keep();
+    keep.is_always_clean();
+    drop(keep.close());
+    replies
+}
+
+/// All that is left of a stream.
+pub fn read_all<I: Read>(alloc: Global, input: &mut I) -> Result<Vec<u8>, Down>
+    ensures { IfOk result (λ bytes. IfSome (I.remaining input.old) (λ known. bytes.items ≡ known)) }
+{
+    let mut bytes = Vec::new(alloc);
+    match input.read_to_end(&mut bytes) {
+        Ok(_) => Ok(bytes),
+        Err(_) => Err(Down),
+    }
+}
+
+fn answer(alloc: Global, bytes: &[u8]) -> Result<Replay, Down>
+    ensures { IfOk result (λ replay. AnswersFrames bytes.now replay.replies.items replay.bad_frame) }
+{
+    let frames = read_frames(alloc, bytes)?;
+    let replies = replayed(alloc, frames.steps.as_slice())?;
+    let bad_frame = if frames.is_bad {
+        Some(frames.steps.len() + 1)
+    } else {
+        None
+    };
+    Ok(Replay { replies, bad_frame })
+}
+
+fn answer_input<I: Read>(alloc: Global, input: &mut I) -> Result<Replay, Down>
+    ensures { IfOk result (λ replay. IfSome (I.remaining input.old) (λ bytes. AnswersFrames bytes replay.replies.items replay.bad_frame)) }
+{
+    let bytes = read_all(alloc, input)?;
+    answer(alloc, bytes.as_slice())
+}
+
+fn print_all<O: Write>(output: &mut O, replies: &[Bytes]) -> io::Result<()>
+    ensures { OnOk result (Appends (O.contents output.old) (O.contents output.new) (printed replies.now)) }
+{
+    print_replies(output, replies)?;
+    output.flush()
+}
+
+fn end_at<E: Write>(errors: &mut E, bad_frame: Option<usize>) -> Ending
+    ensures done { bad_frame ≡ None → result ≡ Ending.Done }
+    ensures bad { IfSome bad_frame (λ frame. ((result ≡ Ending.BadFrame) × Appends (E.contents errors.old) (E.contents errors.new) (bad_frame_text frame)) ⊎ (result ≡ Ending.Unprinted)) }
+{
+    match bad_frame {
+        None => Ending::Done,
+        Some(frame) => match print_bad_frame(errors, frame) {
+            Ok(()) => Ending::BadFrame,
+            Err(_) => Ending::Unprinted,
+        },
+    }
+}
+
+/// Reads frames up to the first that doesn't parse, replays them and prints the replies.
+pub fn replay_frames<I: Read, O: Write, E: Write>(
+    alloc: Global,
+    input: &mut I,
+    output: &mut O,
+    errors: &mut E,
+) -> Ending
+    ensures { ReplaysFrames (I.remaining input.old) result (record { old = O.contents output.old; new = O.contents output.new }) (record { old = E.contents errors.old; new = E.contents errors.new }) }
+{
+    let Ok(replay) = answer_input(alloc, input) else {
+        return say(output, Ending::Down);
+    };
+    match print_all(output, replay.replies.as_slice()) {
+        Ok(()) => end_at(errors, replay.bad_frame),
+        Err(_) => Ending::Unprinted,
+    }
+}
+
+/// As `replay_frames`, over a database in memory. The result is the exit status.
+pub fn run_frames<I: Read, O: Write, E: Write>(
+    alloc: Global,
+    input: &mut I,
+    output: &mut O,
+    errors: &mut E,
+) -> u8
+    ensures { (ending : Ending) × (result ≡ status_of ending) × ReplaysFrames (I.remaining input.old) ending (record { old = O.contents output.old; new = O.contents output.new }) (record { old = E.contents errors.old; new = E.contents errors.new }) }
+{
+    replay_frames(alloc, input, output, errors).status()
+}

@@ -1,0 +1,395 @@
+//! The program's commands, from its words to its exit status.
+ghost use Rattle.std.specs.Prelude.{◌≡◌, ◌≢◌, ◌<◌, ℕ, List, length, string_bytes, IfOk, OnOk, OnErr, Some, None};
+ghost use Rattle.std.specs.Io.KnownBytes.{Appends};
+ghost use Rattle.program.specs.Endings.{status_of};
+ghost use Rattle.program.specs.Orders.{said_by};
+ghost use Rattle.program.specs.Outcomes.{stream, IsSaid, AnswersLine, AnswersList, TellsWord, TellsList, Tells, IsOperated, Carries, RefusesUsage, AddsToken, ServesAt, Does, RefusesWords, Runs};
+ghost use Rattle.program.specs.Inner.Outcomes.{IsSaidWhy};
+ghost use Rattle.program.specs.Serving.{Listens};
+ghost use Rattle.program.specs.Words.{words_bytes, IsWhy, AskForHelp, AreNoCommand};
+ghost use Rattle.program.specs.declared.endings.Ending.{Ending};
+
+use crate::endings::Ending;
+use crate::orders::{NewToken, Order};
+use crate::outside::{Clock, Connections, Files};
+use crate::replays::{read_all, replay_frames};
+use crate::replies::{print_organizations, say};
+use crate::secrets::read_secret;
+use crate::serving::serve_loop;
+use crate::words::{Unasked, read_words};
+use basis::{Down, Moment, Secret, Unfit};
+use clap::Error;
+use machine::{AdminAnswer, Keep};
+use serve::{Admin, Service};
+use std::alloc::Global;
+use std::io;
+use std::io::{Read, Write};
+use std::net::Ipv4Addr;
+use tables::Fault;
+
+/// What a value among the words has to be.
+const FORMS: &str =
+    "custody: a value isn't of its form: ORG and NAME are 1 to 40 of a-z, 0-9 and '-', the first a letter; ROLE is read, write or admin; a limit of workspaces is 0 to 100000, a port 1 to 65535, a count 1 to 1000000; numbers have no leading zero\n";
+
+/// What a secret has to be.
+const SECRET_FORM: &str =
+    "custody: the secret isn't one line of 16 to 64 ASCII letters or digits\n";
+
+/// What is said where the log of a file stays beside it.
+const LOG_STAYS: &str =
+    "custody: the log could not be copied into the file: keep the file and its log together\n";
+
+fn note<E: Write>(errors: &mut E, text: &str) -> io::Result<()>
+    ensures { OnOk result (Appends (E.contents errors.old) (E.contents errors.new) text.now) }
+{
+    errors.write_all(text.as_bytes())?;
+    errors.flush()
+}
+
+/// Says why on the error stream, and the ending on standard output.
+fn say_why<O: Write, E: Write>(output: &mut O, errors: &mut E, ending: Ending, why: &str) -> Ending
+    ensures { 0 < length why.now → IsSaidWhy ending result (stream (O.contents output.old) (O.contents output.new)) (stream (E.contents errors.old) (E.contents errors.new)) }
+{
+    let noted = note(errors, why);
+    let said = say(output, ending);
+    match noted {
+        Ok(()) => said,
+        Err(_) => Ending::Unprinted,
+    }
+}
+
+fn say_list<O: Write>(output: &mut O, answer: &AdminAnswer) -> Ending
+    ensures line { AnswersList result (stream (O.contents output.old) (O.contents output.new)) }
+    ensures tells { TellsList answer.now result (stream (O.contents output.old) (O.contents output.new)) }
+{
+    match answer {
+        AdminAnswer::Organizations(rows) => match print_organizations(output, rows.as_slice()) {
+            Ok(()) => Ending::Done,
+            Err(_) => Ending::Unprinted,
+        },
+        AdminAnswer::Done | AdminAnswer::Exists | AdminAnswer::Absent => say(output, Ending::Down),
+    }
+}
+
+fn say_word<O: Write>(output: &mut O, answer: &AdminAnswer) -> Ending
+    ensures line { AnswersLine result (stream (O.contents output.old) (O.contents output.new)) }
+    ensures tells { TellsWord answer.now result (stream (O.contents output.old) (O.contents output.new)) }
+{
+    match answer {
+        AdminAnswer::Done => say(output, Ending::Done),
+        AdminAnswer::Exists => say(output, Ending::Exists),
+        AdminAnswer::Absent => say(output, Ending::Absent),
+        AdminAnswer::Organizations(_) => say(output, Ending::Down),
+    }
+}
+
+fn say_answer<O: Write>(output: &mut O, command: &Admin, answer: &AdminAnswer) -> Ending
+    ensures line { Carries command.now result (stream (O.contents output.old) (O.contents output.new)) }
+    ensures tells { Tells command.now answer.now result (stream (O.contents output.old) (O.contents output.new)) }
+{
+    match command {
+        Admin::OrgList => say_list(output, answer),
+        Admin::OrgAdd { .. } => say_word(output, answer),
+        Admin::OrgLimit { .. } => say_word(output, answer),
+        Admin::TokenAdd { .. } => say_word(output, answer),
+        Admin::TokenRevoke { .. } => say_word(output, answer),
+    }
+}
+
+fn say_down<O: Write>(output: &mut O, command: &Admin) -> Ending
+    ensures line { Carries command.now result (stream (O.contents output.old) (O.contents output.new)) }
+    ensures down { IsSaid Ending.Down result (O.contents output.old) (O.contents output.new) }
+{
+    match command {
+        Admin::OrgList => say(output, Ending::Down),
+        Admin::OrgAdd { .. } => say(output, Ending::Down),
+        Admin::OrgLimit { .. } => say(output, Ending::Down),
+        Admin::TokenAdd { .. } => say(output, Ending::Down),
+        Admin::TokenRevoke { .. } => say(output, Ending::Down),
+    }
+}
+
+fn say_answered<O: Write>(
+    output: &mut O,
+    command: &Admin,
+    answered: &Result<AdminAnswer, Down>,
+) -> Ending
+    ensures line { Carries command.now result (stream (O.contents output.old) (O.contents output.new)) }
+    ensures tells { IfOk answered.now (λ answer. Tells command.now answer result (stream (O.contents output.old) (O.contents output.new))) }
+    ensures down { OnErr answered.now (IsSaid Ending.Down result (O.contents output.old) (O.contents output.new)) }
+{
+    match answered {
+        Ok(answer) => say_answer(output, command, answer),
+        Err(_) => say_down(output, command),
+    }
+}
+
+fn say_schema<O: Write>(output: &mut O, command: &Admin) -> Ending
+    ensures { Carries command.now result (stream (O.contents output.old) (O.contents output.new)) }
+{
+    match command {
+        Admin::OrgList => say(output, Ending::Schema),
+        Admin::OrgAdd { .. } => say(output, Ending::Schema),
+        Admin::OrgLimit { .. } => say(output, Ending::Schema),
+        Admin::TokenAdd { .. } => say(output, Ending::Schema),
+        Admin::TokenRevoke { .. } => say(output, Ending::Schema),
+    }
+}
+
+/// Carries out an operator's command over a store, prints its answer, and gives the store back. It looks
+/// at no clock: no answer to an operator's command depends on the moment.
+fn operate<K: Keep, O: Write>(
+    alloc: Global,
+    keep: K,
+    command: &Admin,
+    output: &mut O,
+) -> (Ending, K)
+    ensures so_far { K.clean result.1 → K.clean keep }
+    ensures kept { K.clean result.1 → K.sound keep → K.sound result.1 }
+    ensures line { Carries command.now result.0 (stream (O.contents output.old) (O.contents output.new)) }
+    ensures model { K.clean result.1 → K.sound keep → IsOperated command.now (K.rows keep) (K.rows result.1) result.0 (stream (O.contents output.old) (O.contents output.new)) }
+{
+    let mut service = Service::new(keep);
+    let answered = service.admin(alloc, Moment::new(0).unwrap(), command);
+    let keep = service.into_keep();
+    let ending = say_answered(output, command, &answered);
+    (ending, keep)
+}
+
+fn close_after<K: Keep, F: Files<K>, E: Write>(files: &mut F, db: &str, store: K, errors: &mut E) {
+    if files.close(db, store).is_err() {
+        let _ = note(errors, LOG_STAYS);
+    }
+}
+
+fn carry_out<K: Keep, F: Files<K>, O: Write, E: Write>(
+    alloc: Global,
+    files: &mut F,
+    db: &str,
+    command: &Admin,
+    output: &mut O,
+    errors: &mut E,
+) -> Ending
+    ensures { Carries command.now result (stream (O.contents output.old) (O.contents output.new)) }
+{
+    let store = match files.open(db) {
+        Ok(store) => store,
+        Err(Fault::Schema) => return say_schema(output, command),
+        Err(Fault::Down) => return say_down(output, command),
+    };
+    let (ending, store) = operate(alloc, store, command, output);
+    close_after(files, db, store, errors);
+    ending
+}
+
+fn add_token<K: Keep, F: Files<K>, O: Write, E: Write>(
+    alloc: Global,
+    files: &mut F,
+    db: &str,
+    token: NewToken,
+    secret: Secret,
+    output: &mut O,
+    errors: &mut E,
+) -> Ending
+    ensures { AnswersLine result (stream (O.contents output.old) (O.contents output.new)) }
+{
+    let command = token.with_secret(secret);
+    carry_out(alloc, files, db, &command, output, errors)
+}
+
+fn read_and_add<K: Keep, F: Files<K>, I: Read, O: Write, E: Write>(
+    alloc: Global,
+    files: &mut F,
+    db: &str,
+    token: NewToken,
+    input: &mut I,
+    output: &mut O,
+    errors: &mut E,
+) -> Ending
+    ensures { AddsToken (I.remaining input.old) result (stream (O.contents output.old) (O.contents output.new)) (stream (E.contents errors.old) (E.contents errors.new)) }
+{
+    let Ok(bytes) = read_all(alloc, input) else {
+        return say(output, Ending::Down);
+    };
+    match read_secret(alloc, bytes.as_slice()) {
+        Ok(secret) => add_token(alloc, files, db, token, secret, output, errors),
+        Err(Unfit::Syntax) => say_why(output, errors, Ending::Usage, SECRET_FORM),
+        Err(Unfit::Down) => say(output, Ending::Down),
+    }
+}
+
+fn serve_at<K: Keep, N: Connections, C: Clock, O: Write, E: Write>(
+    alloc: Global,
+    network: &mut N,
+    clock: &mut C,
+    service: &mut Service<K>,
+    port: u16,
+    count: u32,
+    output: &mut O,
+    errors: &mut E,
+) -> Ending
+    ensures { Listens result (O.contents output.old) (O.contents output.new) }
+{
+    match network.bind(Ipv4Addr::LOCALHOST, port) {
+        Ok(port) => serve_loop(alloc, network, port, service, count, clock, output, errors),
+        Err(_) => Ending::Down,
+    }
+}
+
+fn say_served<O: Write>(output: &mut O, ending: Ending) -> Ending
+    ensures down { ending ≡ Ending.Down → IsSaid Ending.Down result (O.contents output.old) (O.contents output.new) }
+    ensures other { ending ≢ Ending.Down → (result ≡ ending) × (O.contents output.new ≡ O.contents output.old) }
+{
+    match ending {
+        Ending::Down => say(output, Ending::Down),
+        _ => ending,
+    }
+}
+
+fn serve<K: Keep, F: Files<K>, N: Connections, C: Clock, O: Write, E: Write>(
+    alloc: Global,
+    files: &mut F,
+    network: &mut N,
+    clock: &mut C,
+    db: &str,
+    port: u16,
+    count: u32,
+    output: &mut O,
+    errors: &mut E,
+) -> Ending
+    ensures { ServesAt result (stream (O.contents output.old) (O.contents output.new)) }
+{
+    let store = match files.open(db) {
+        Ok(store) => store,
+        Err(Fault::Schema) => return say(output, Ending::Schema),
+        Err(Fault::Down) => return say(output, Ending::Down),
+    };
+    let mut service = Service::new(store);
+    let ending = serve_at(
+        alloc,
+        network,
+        clock,
+        &mut service,
+        port,
+        count,
+        output,
+        errors,
+    );
+    close_after(files, db, service.into_keep(), errors);
+    say_served(output, ending)
+}
+
+fn run_order<K: Keep, F: Files<K>, N: Connections, C: Clock, I: Read, O: Write, E: Write>(
+    alloc: Global,
+    files: &mut F,
+    network: &mut N,
+    clock: &mut C,
+    order: Order<'_>,
+    input: &mut I,
+    output: &mut O,
+    errors: &mut E,
+) -> Ending
+    ensures { Does (said_by order.entry) (I.remaining input.old) result (stream (O.contents output.old) (O.contents output.new)) (stream (E.contents errors.old) (E.contents errors.new)) }
+{
+    match order {
+        Order::Carry { db, command } => carry_out(alloc, files, db, &command, output, errors),
+        Order::AddToken { db, token } => {
+            read_and_add(alloc, files, db, token, input, output, errors)
+        }
+        Order::Serve { db, port, count } => serve(
+            alloc, files, network, clock, db, port, count, output, errors,
+        ),
+        Order::Replay => replay_frames(alloc, input, output, errors),
+    }
+}
+
+fn text_of(alloc: Global, error: &Error) -> Result<String, Down>
+    ensures { IfOk result (λ text. 0 < length (string_bytes text)) }
+{
+    match format!(in alloc; "{error}") {
+        Ok(text) if !text.is_empty() => Ok(text),
+        _ => Err(Down),
+    }
+}
+
+fn tell_help<O: Write, E: Write>(
+    alloc: Global,
+    output: &mut O,
+    errors: &mut E,
+    help: &Error,
+) -> Ending
+    ensures { (words : List (List ℕ)) → AskForHelp words → RefusesWords words result (stream (O.contents output.old) (O.contents output.new)) (stream (E.contents errors.old) (E.contents errors.new)) }
+{
+    let Ok(text) = text_of(alloc, help) else {
+        return say(output, Ending::Down);
+    };
+    match note(errors, text.as_str()) {
+        Ok(()) => Ending::Done,
+        Err(_) => Ending::Unprinted,
+    }
+}
+
+fn refuse_error<O: Write, E: Write>(
+    alloc: Global,
+    output: &mut O,
+    errors: &mut E,
+    error: &Error,
+) -> Ending
+    ensures { (words : List (List ℕ)) → AreNoCommand words → RefusesWords words result (stream (O.contents output.old) (O.contents output.new)) (stream (E.contents errors.old) (E.contents errors.new)) }
+{
+    let Ok(text) = text_of(alloc, error) else {
+        return say(output, Ending::Down);
+    };
+    say_why(output, errors, Ending::Usage, text.as_str())
+}
+
+fn refuse_words<O: Write, E: Write>(
+    alloc: Global,
+    output: &mut O,
+    errors: &mut E,
+    why: Unasked,
+) -> Ending
+    ensures { (words : List (List ℕ)) → IsWhy words why → RefusesWords words result (stream (O.contents output.old) (O.contents output.new)) (stream (E.contents errors.old) (E.contents errors.new)) }
+{
+    match why {
+        Unasked::Help(help) => tell_help(alloc, output, errors, &help),
+        Unasked::Words(error) => refuse_error(alloc, output, errors, &error),
+        Unasked::Value => say_why(output, errors, Ending::Usage, FORMS),
+        Unasked::Down => say(output, Ending::Down),
+    }
+}
+
+fn run<K: Keep, F: Files<K>, N: Connections, C: Clock, I: Read, O: Write, E: Write>(
+    alloc: Global,
+    files: &mut F,
+    network: &mut N,
+    clock: &mut C,
+    words: &[String],
+    input: &mut I,
+    output: &mut O,
+    errors: &mut E,
+) -> Ending
+    ensures { Runs (words_bytes words.now) (I.remaining input.old) result (stream (O.contents output.old) (O.contents output.new)) (stream (E.contents errors.old) (E.contents errors.new)) }
+{
+    match read_words(alloc, words) {
+        Ok(order) => run_order(alloc, files, network, clock, order, input, output, errors),
+        Err(why) => refuse_words(alloc, output, errors, why),
+    }
+}
+
+/// Runs the command that the words ask for; they come without the program's name. The result is the exit
+/// status.
+pub fn run_words<K: Keep, F: Files<K>, N: Connections, C: Clock, I: Read, O: Write, E: Write>(
+    alloc: Global,
+    files: &mut F,
+    network: &mut N,
+    clock: &mut C,
+    words: &[String],
+    input: &mut I,
+    output: &mut O,
+    errors: &mut E,
+) -> u8
+    ensures { (ending : Ending) × (result ≡ status_of ending) × Runs (words_bytes words.now) (I.remaining input.old) ending (stream (O.contents output.old) (O.contents output.new)) (stream (E.contents errors.old) (E.contents errors.new)) }
+{
+    run(alloc, files, network, clock, words, input, output, errors).status()
+}

@@ -1,0 +1,12 @@
+//! The files, the sockets and the clock of the system, for the program.
+#![tactic(auto)]
+
+mod clock;
+mod files;
+mod running;
+mod sockets;
+
+pub use clock::SystemClock;
+pub use files::{DiskFiles, FileKeep, close_file, open_file};
+pub use running::run_here;
+pub use sockets::{LINGER_READS, LINGER_SECONDS, TcpSockets};

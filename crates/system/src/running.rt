@@ -1,0 +1,68 @@
+//! The program over the files, the sockets and the clock of the system.
+ghost use Rattle.std.specs.Prelude.{◌≡◌};
+ghost use Rattle.program.specs.Endings.{status_of};
+ghost use Rattle.program.specs.Outcomes.{stream, Runs};
+ghost use Rattle.program.specs.Words.{words_bytes};
+ghost use Rattle.program.specs.declared.endings.Ending.{Ending};
+
+use crate::clock::SystemClock;
+use crate::files::DiskFiles;
+use crate::sockets::TcpSockets;
+use machine::Keep;
+use program::outside::Files;
+use program::running::run_words;
+use sqlite_disk::{Start, Unknown};
+use std::io::{Read, Write};
+use std::rt::HostRuntime;
+
+// Over the sockets and the clock of the system, and any files.
+fn run_over<K: Keep, F: Files<K>, I: Read, O: Write, E: Write>(
+    rt: &HostRuntime,
+    files: &mut F,
+    words: &[String],
+    input: &mut I,
+    output: &mut O,
+    errors: &mut E,
+) -> u8
+    ensures { (ending : Ending) × (result ≡ status_of ending) × Runs (words_bytes words.now) (I.remaining input.old) ending (stream (O.contents output.old) (O.contents output.new)) (stream (E.contents errors.old) (E.contents errors.new)) }
+{
+    let mut network = TcpSockets::new(rt);
+    let mut clock = SystemClock::new(rt);
+    run_words(
+        rt.alloc(),
+        files,
+        &mut network,
+        &mut clock,
+        words,
+        input,
+        output,
+        errors,
+    )
+}
+
+fn run_from<S: Start, I: Read, O: Write, E: Write>(
+    rt: &HostRuntime,
+    start: S,
+    words: &[String],
+    input: &mut I,
+    output: &mut O,
+    errors: &mut E,
+) -> u8
+    ensures { (ending : Ending) × (result ≡ status_of ending) × Runs (words_bytes words.now) (I.remaining input.old) ending (stream (O.contents output.old) (O.contents output.new)) (stream (E.contents errors.old) (E.contents errors.new)) }
+{
+    let mut files = DiskFiles::new(rt, start);
+    run_over(rt, &mut files, words, input, output, errors)
+}
+
+/// As `run_words`, over the files, the sockets and the clock of the system.
+pub fn run_here<I: Read, O: Write, E: Write>(
+    rt: &HostRuntime,
+    words: &[String],
+    input: &mut I,
+    output: &mut O,
+    errors: &mut E,
+) -> u8
+    ensures { (ending : Ending) × (result ≡ status_of ending) × Runs (words_bytes words.now) (I.remaining input.old) ending (stream (O.contents output.old) (O.contents output.new)) (stream (E.contents errors.old) (E.contents errors.new)) }
+{
+    run_from(rt, Unknown, words, input, output, errors)
+}
