@@ -1,0 +1,124 @@
+//! The program `stories`: examples as text, each told to the service and compared with what the text says.
+#![tactic(auto)]
+
+mod commands;
+mod definitions;
+mod devices;
+mod failures;
+mod files;
+mod lines;
+mod messages;
+mod plays;
+mod programs;
+mod requests;
+mod routes;
+mod stories;
+mod taking;
+mod tells;
+mod texts;
+mod values;
+mod ways;
+
+use failures::{Failure, Why};
+use std::io;
+use std::io::{BufWriter, Read, Write};
+use std::process::ExitCode;
+use stories::run_story;
+use tells::{tell_end, tell_failure, tell_passed, tell_short, tell_unread};
+use texts::{Book, Story, read_book};
+
+/// All stories passed.
+const PASSED: u8 = 0;
+
+/// A story failed.
+const FAILED: u8 = 1;
+
+/// The text doesn't read, or memory or a stream refused.
+const UNREAD: u8 = 2;
+
+/// What came of a story.
+#[derive(Clone, Copy)]
+enum Came {
+    Passed,
+    Failed,
+    /// The text doesn't read.
+    Unread,
+}
+
+fn tell_came<W: Write>(
+    rt: &HostRuntime,
+    output: &mut W,
+    name: &str,
+    failure: &Failure,
+) -> io::Result<Came> {
+    match &failure.why {
+        Why::Unread(why) => {
+            tell_unread(output, failure.line, why)?;
+            Ok(Came::Unread)
+        }
+        _ => {
+            tell_failure(rt.alloc(), output, name, failure)?;
+            tell_short(rt.alloc(), &mut rt.stderr(), name, failure)?;
+            Ok(Came::Failed)
+        }
+    }
+}
+
+fn tell_story<W: Write>(
+    rt: &HostRuntime,
+    output: &mut W,
+    book: &Book<'_>,
+    story: &Story<'_>,
+) -> io::Result<Came> {
+    match run_story(rt, book, story) {
+        Ok(()) => {
+            tell_passed(output, story.name)?;
+            Ok(Came::Passed)
+        }
+        Err(failure) => tell_came(rt, output, story.name, &failure),
+    }
+}
+
+fn tell_stories<W: Write>(rt: &HostRuntime, output: &mut W, book: &Book<'_>) -> io::Result<u8> {
+    let mut failed = 0usize;
+    for story in book.stories.as_slice() {
+        match tell_story(rt, output, book, story)? {
+            Came::Passed => {}
+            Came::Failed => failed = failed.saturating_add(1),
+            Came::Unread => return Ok(UNREAD),
+        }
+    }
+    tell_end(output, book.stories.len(), failed)?;
+    Ok(if failed == 0 { PASSED } else { FAILED })
+}
+
+fn tell_text<W: Write>(rt: &HostRuntime, output: &mut W, text: &str) -> io::Result<u8> {
+    match read_book(rt.alloc(), text) {
+        Ok(book) => tell_stories(rt, output, &book),
+        Err(unread) => {
+            tell_unread(output, unread.line, unread.why)?;
+            Ok(UNREAD)
+        }
+    }
+}
+
+fn run(rt: &HostRuntime) -> io::Result<u8> {
+    let alloc = rt.alloc();
+    let mut bytes = Vec::new(alloc);
+    rt.stdin().read_to_end(&mut bytes)?;
+    let mut output = BufWriter::new(alloc, rt.stdout())?;
+    match str::from_utf8(bytes.as_slice()) {
+        Ok(text) => tell_text(rt, &mut output, text),
+        Err(_) => {
+            tell_unread(&mut output, 0, "the text isn't UTF-8")?;
+            Ok(UNREAD)
+        }
+    }
+}
+
+fn main(rt: HostRuntime) -> ExitCode {
+    match run(&rt) {
+        Ok(status) => ExitCode::from(status),
+        Err(_) => ExitCode::from(UNREAD),
+    }
+}

@@ -1,0 +1,110 @@
+//! A message read and shown.
+use crate::devices::Sips;
+use crate::failures::Failure;
+use crate::tells::shown;
+use basis::{Bytes, Text};
+use std::alloc::{AllocError, Global};
+use wire::{Message, ToWrite, WireFault, read_message};
+
+// A line with a name and bytes, behind a line feed where lines stand before it.
+fn add_line(alloc: Global, lines: &mut String, name: &str, bytes: &[u8]) -> Result<(), AllocError> {
+    if !lines.is_empty() {
+        lines.push('\n')?;
+    }
+    lines.push_str(name)?;
+    lines.push(' ')?;
+    lines.push_str(shown(alloc, bytes, true)?.as_str())
+}
+
+fn add_text(
+    alloc: Global,
+    lines: &mut String,
+    name: &str,
+    text: &Option<Text>,
+) -> Result<(), AllocError> {
+    match text {
+        Some(text) => add_line(alloc, lines, name, text.as_str().as_bytes()),
+        None => Ok(()),
+    }
+}
+
+fn add_field(
+    alloc: Global,
+    lines: &mut String,
+    name: &str,
+    field: &Option<Bytes>,
+) -> Result<(), AllocError> {
+    match field {
+        Some(field) => add_line(alloc, lines, name, field.as_slice()),
+        None => Ok(()),
+    }
+}
+
+fn message_lines(alloc: Global, message: &Message) -> Result<String, AllocError> {
+    let mut lines = String::new(alloc);
+    let all = &mut lines;
+    add_line(alloc, all, "method", message.method.as_str().as_bytes())?;
+    add_line(alloc, all, "path", message.path.as_str().as_bytes())?;
+    add_text(alloc, all, "query", &message.query)?;
+    add_field(alloc, all, "authorization", &message.authorization)?;
+    add_field(alloc, all, "content-md5", &message.content_md5)?;
+    if !message.body.as_slice().is_empty() {
+        add_line(alloc, all, "body", message.body.as_slice())?;
+    }
+    Ok(lines)
+}
+
+/// What is written before the body is read, where the client waits for it.
+const CONTINUE: &[u8] = b"HTTP/1.1 100 Continue\r\n\r\n";
+
+// A line about what was written.
+fn add_continue(lines: &mut String, written: &[u8]) -> Result<(), AllocError> {
+    if written.is_empty() {
+        Ok(())
+    } else if written == CONTINUE {
+        lines.push_str("\ncontinue")
+    } else {
+        lines.push_str("\nsomething else was written than the line 100 Continue")
+    }
+}
+
+fn fault_line(alloc: Global, fault: WireFault) -> Result<String, Failure> {
+    match fault {
+        WireFault::Ended => Ok(String::from_str(alloc, "unfinished")?),
+        WireFault::Refused(refusal, false) => {
+            Ok(format!(in alloc; "refused {}", refusal.word())?)
+        }
+        WireFault::Refused(refusal, true) => {
+            Ok(format!(in alloc; "refused {}, HEAD", refusal.word())?)
+        }
+        WireFault::Read | WireFault::Continue | WireFault::Down => {
+            Err(Failure::refused(0, "memory was refused"))
+        }
+    }
+}
+
+// The lines of a message, each read giving at most so many bytes.
+fn lines_by(alloc: Global, bytes: &[u8], most: usize) -> Result<String, Failure> {
+    let mut inlet = Sips::new(bytes, most);
+    let mut outlet = ToWrite::new(Vec::new(alloc));
+    match read_message(alloc, &mut inlet, &mut outlet) {
+        Ok(message) => {
+            let mut lines = message_lines(alloc, &message)?;
+            add_continue(&mut lines, outlet.into_inner().as_slice())?;
+            Ok(lines)
+        }
+        Err(fault) => fault_line(alloc, fault),
+    }
+}
+
+/// The lines of a message, which are the same by whatever pieces it is read.
+pub fn show_message(alloc: Global, bytes: &[u8]) -> Result<String, Failure> {
+    let whole = lines_by(alloc, bytes, 1_000_000_000)?;
+    for most in [1, 7, 4_096] {
+        let lines = lines_by(alloc, bytes, most)?;
+        if lines.as_str() != whole.as_str() {
+            return Ok(lines);
+        }
+    }
+    Ok(whole)
+}

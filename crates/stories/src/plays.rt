@@ -1,0 +1,191 @@
+//! A story of a store as it is played: its steps, what is due to each, and what is asked of the tables.
+use crate::commands::read_command;
+use crate::definitions::{Definitions, Unread};
+use crate::lines::Mark;
+use crate::requests::{reply_of, request_of};
+use crate::texts::{Book, Part, Plot, Story};
+use basis::{Bytes, Moment};
+use serve::Step;
+use std::alloc::Global;
+
+/// What is due to a step, and the line where that step stands.
+#[derive(Drop)]
+pub struct Due {
+    pub line: usize,
+    pub bytes: Vec<u8>,
+}
+
+/// What is asked of the tables before the step of this place, and its answer.
+#[derive(Drop)]
+pub struct Question {
+    pub place: usize,
+    pub line: usize,
+    pub sql: String,
+    pub answer: Vec<u8>,
+}
+
+/// A story of a store.
+#[derive(Drop)]
+pub struct Play {
+    pub steps: Vec<Step>,
+    pub due: Vec<Due>,
+    pub questions: Vec<Question>,
+}
+
+// The lines of an operator's answer.
+fn lines_due(alloc: Global, parts: &[Part<'_>]) -> Result<Vec<u8>, Unread> {
+    let mut bytes = Vec::new(alloc);
+    for part in parts {
+        if part.mark != Mark::Answer {
+            return Err(part.unread("an operator's answer is lines `= TEXT`"));
+        }
+        bytes.extend_from_slice(part.text.as_bytes())?;
+        bytes.push(b'\n')?;
+    }
+    Ok(bytes)
+}
+
+// What is due to a request.
+fn reply_due(
+    alloc: Global,
+    definitions: &Definitions<'_>,
+    date: &str,
+    head: &Part<'_>,
+    parts: &[Part<'_>],
+    is_head: bool,
+) -> Result<Vec<u8>, Unread> {
+    match parts {
+        [answer] if answer.mark == Mark::Answer => {
+            reply_of(alloc, definitions, date, answer, is_head)
+        }
+        _ => Err(head.unread("a request has one line `= ..`")),
+    }
+}
+
+impl Play {
+    fn new(alloc: Global) -> Play {
+        Play {
+            steps: Vec::new(alloc),
+            due: Vec::new(alloc),
+            questions: Vec::new(alloc),
+        }
+    }
+
+    /// The steps from one place to another, and what is due to them.
+    pub fn between(&self, from: usize, to: usize) -> (&[Step], &[Due]) {
+        match (self.steps.get(from..to), self.due.get(from..to)) {
+            (Some(steps), Some(due)) => (steps, due),
+            _ => (&[], &[]),
+        }
+    }
+
+    fn push(&mut self, line: usize, step: Step, bytes: Vec<u8>) -> Result<(), Unread> {
+        self.steps.push(step)?;
+        self.due.push(Due { line, bytes })?;
+        Ok(())
+    }
+
+    fn add_command(
+        &mut self,
+        alloc: Global,
+        at: Moment,
+        head: &Part<'_>,
+        words: &str,
+        parts: &[Part<'_>],
+    ) -> Result<(), Unread> {
+        let due = lines_due(alloc, parts)?;
+        match read_command(alloc, at, words) {
+            Ok(step) => self.push(head.line, step, due),
+            Err(_) => Err(head.unread("these words are no operator's command")),
+        }
+    }
+
+    fn add_request(
+        &mut self,
+        alloc: Global,
+        definitions: &Definitions<'_>,
+        at: Moment,
+        date: &str,
+        head: &Part<'_>,
+        parts: &[Part<'_>],
+    ) -> Result<(), Unread> {
+        let bytes = if head.text == "raw" {
+            Vec::from_slice(alloc, head.written())?
+        } else {
+            request_of(alloc, definitions, head)?
+        };
+        let is_head = bytes.as_slice().starts_with(b"HEAD ");
+        let due = reply_due(alloc, definitions, date, head, parts, is_head)?;
+        self.push(
+            head.line,
+            Step::Request {
+                at,
+                bytes: Bytes::new(bytes),
+            },
+            due,
+        )
+    }
+
+    fn add_question(
+        &mut self,
+        alloc: Global,
+        head: &Part<'_>,
+        sql: &str,
+        parts: &[Part<'_>],
+    ) -> Result<(), Unread> {
+        let [answer] = parts else {
+            return Err(head.unread("a question has one line `= TEXT`"));
+        };
+        let question = Question {
+            place: self.steps.len(),
+            line: head.line,
+            sql: String::from_str(alloc, sql)?,
+            answer: Vec::from_slice(alloc, answer.text.as_bytes())?,
+        };
+        self.questions.push(question)?;
+        Ok(())
+    }
+
+    fn add(
+        &mut self,
+        alloc: Global,
+        definitions: &Definitions<'_>,
+        plot: &Plot<'_>,
+    ) -> Result<(), Unread> {
+        let [head, parts @ ..] = plot.parts.as_slice() else {
+            return Ok(());
+        };
+        let Some(at) = Moment::new(plot.at) else {
+            return Err(head.unread("this is no moment"));
+        };
+        match head.text.split_once(' ') {
+            Some(("admin", words)) => self.add_command(alloc, at, head, words, parts),
+            Some(("sql", sql)) => self.add_question(alloc, head, sql, parts),
+            _ => self.add_request(alloc, definitions, at, plot.date, head, parts),
+        }
+    }
+
+    fn add_all(
+        &mut self,
+        alloc: Global,
+        definitions: &Definitions<'_>,
+        story: &Story<'_>,
+    ) -> Result<(), Unread> {
+        for plot in story.plots.as_slice() {
+            self.add(alloc, definitions, plot)?;
+        }
+        Ok(())
+    }
+}
+
+/// The steps of a story, behind those of the stories before it.
+pub fn play_of(alloc: Global, book: &Book<'_>, story: &Story<'_>) -> Result<Play, Unread> {
+    let mut play = Play::new(alloc);
+    for place in story.before.as_slice() {
+        if let Some(earlier) = book.stories.get(*place) {
+            play.add_all(alloc, &book.definitions, earlier)?;
+        }
+    }
+    play.add_all(alloc, &book.definitions, story)?;
+    Ok(play)
+}

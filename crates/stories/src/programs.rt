@@ -1,0 +1,254 @@
+//! Steps of the program: its words, its streams, and files beside it.
+use crate::failures::Failure;
+use crate::lines::Mark;
+use crate::texts::{Part, Plot};
+use sqlite::{Connection, Error};
+use std::alloc::{AllocError, Global};
+use std::fs;
+use system::run_here;
+
+/// What a step of the program does.
+#[derive(Clone, Copy)]
+enum Does {
+    Forgets,
+    Writes,
+    MakesTable,
+    IsAbsent,
+    IsSame,
+    Runs,
+}
+
+const WORDS: &[(&str, Does)] = &[
+    ("file", Does::Forgets),
+    ("write", Does::Writes),
+    ("table", Does::MakesTable),
+    ("absent", Does::IsAbsent),
+    ("same", Does::IsSame),
+    ("$", Does::Runs),
+];
+
+fn words_of<'a>(head: &Part<'a>) -> Option<(Does, &'a str)> {
+    let (first, rest) = match head.text.split_once(' ') {
+        Some(words) => words,
+        None => (head.text, ""),
+    };
+    for (word, does) in WORDS {
+        if *word == first {
+            return Some((*does, rest));
+        }
+    }
+    None
+}
+
+/// Whether a step is one of the program.
+pub fn is_of_program(head: &Part<'_>) -> bool {
+    words_of(head).is_some()
+}
+
+/// Takes a file away, and its log.
+pub fn forget(rt: &HostRuntime, path: &str) -> Result<(), AllocError> {
+    let log = format!(in rt.alloc(); "{path}-wal")?;
+    let _ = fs::remove_file(rt, path);
+    let _ = fs::remove_file(rt, log.as_str());
+    Ok(())
+}
+
+fn make_table(rt: &HostRuntime, path: &str, sql: &str) -> Result<(), Error> {
+    let mut conn = Connection::open(rt, path)?;
+    let made = conn.execute_batch(sql);
+    let closed = conn.close();
+    made?;
+    match closed {
+        Ok(()) => Ok(()),
+        Err(_) => Err(Error::InvalidQuery),
+    }
+}
+
+/// What a command left.
+#[derive(Drop)]
+struct Left {
+    status: u8,
+    output: Vec<u8>,
+    errors: Vec<u8>,
+}
+
+fn split(alloc: Global, words: &str) -> Result<Vec<String>, AllocError> {
+    let mut all = Vec::new(alloc);
+    if words.is_empty() {
+        return Ok(all);
+    }
+    for word in words.split(' ') {
+        all.push(String::from_str(alloc, word)?)?;
+    }
+    Ok(all)
+}
+
+// Runs the program on these words.
+fn ran(rt: &HostRuntime, words: &[String], mut input: &[u8]) -> Left {
+    let mut output = Vec::new(rt.alloc());
+    let mut errors = Vec::new(rt.alloc());
+    let status = run_here(rt, words, &mut input, &mut output, &mut errors);
+    Left {
+        status,
+        output,
+        errors,
+    }
+}
+
+fn compare(alloc: Global, line: usize, due: &[u8], came: &[u8]) -> Result<(), Failure> {
+    if due == came {
+        return Ok(());
+    }
+    let due = Vec::from_slice(alloc, due)?;
+    let came = Vec::from_slice(alloc, came)?;
+    Err(Failure::differs(line, due, came))
+}
+
+// Whether a text stands in bytes.
+fn contains(bytes: &[u8], text: &str) -> bool {
+    match str::from_utf8(bytes) {
+        Ok(all) => all.contains(text),
+        Err(_) => false,
+    }
+}
+
+// What one line `?` says of the error stream.
+fn compare_line(alloc: Global, part: &Part<'_>, errors: &[u8]) -> Result<(), Failure> {
+    match part.text.split_once(' ') {
+        Some(("contains", text)) if contains(errors, text) => Ok(()),
+        Some(("contains", text)) => compare(alloc, part.line, text.as_bytes(), errors),
+        _ => compare(alloc, part.line, part.written(), errors),
+    }
+}
+
+fn compare_errors(
+    alloc: Global,
+    answer: &Part<'_>,
+    parts: &[Part<'_>],
+    errors: &[u8],
+) -> Result<(), Failure> {
+    if parts.is_empty() {
+        return compare(alloc, answer.line, b"", errors);
+    }
+    for part in parts {
+        compare_line(alloc, part, errors)?;
+    }
+    Ok(())
+}
+
+// What a command left, compared with what is due.
+fn compare_left(
+    alloc: Global,
+    answer: &Part<'_>,
+    parts: &[Part<'_>],
+    left: &Left,
+) -> Result<(), Failure> {
+    let status = format!(in alloc; "{}", left.status)?;
+    let line = answer.line;
+    compare(alloc, line, answer.written(), left.output.as_slice())?;
+    compare(
+        alloc,
+        line,
+        answer.text.as_bytes(),
+        status.as_str().as_bytes(),
+    )?;
+    compare_errors(alloc, answer, parts, left.errors.as_slice())
+}
+
+fn run_step(
+    rt: &HostRuntime,
+    head: &Part<'_>,
+    words: &str,
+    parts: &[Part<'_>],
+) -> Result<(), Failure> {
+    let [answer, parts @ ..] = parts else {
+        return Err(Failure::from(head.unread("no exit status is given")));
+    };
+    if answer.mark != Mark::Answer {
+        return Err(Failure::from(head.unread("the exit status stands first")));
+    }
+    let words = split(rt.alloc(), words)?;
+    let left = ran(rt, words.as_slice(), head.written());
+    compare_left(rt.alloc(), answer, parts, &left)
+}
+
+// The bytes of a file; none where it can't be read.
+fn bytes_of(rt: &HostRuntime, path: &str) -> Result<Vec<u8>, Failure> {
+    match fs::read(rt, path) {
+        Ok(bytes) => Ok(bytes),
+        Err(_) => Err(Failure::refused(0, "a file can't be read")),
+    }
+}
+
+/// What the last `write` or `table` of a story left.
+#[derive(Drop)]
+pub struct Files {
+    last: Vec<u8>,
+}
+
+impl Files {
+    pub fn new(alloc: Global) -> Files {
+        Files {
+            last: Vec::new(alloc),
+        }
+    }
+
+    fn write(&mut self, rt: &HostRuntime, head: &Part<'_>, path: &str) -> Result<(), Failure> {
+        if fs::write(rt, path, head.written()).is_err() {
+            return Err(Failure::refused(head.line, "the file can't be written"));
+        }
+        self.last = bytes_of(rt, path)?;
+        Ok(())
+    }
+
+    fn make_table(
+        &mut self,
+        rt: &HostRuntime,
+        head: &Part<'_>,
+        words: &str,
+    ) -> Result<(), Failure> {
+        let Some((path, sql)) = words.split_once(' ') else {
+            return Err(Failure::from(head.unread("a table is a path and SQL")));
+        };
+        if make_table(rt, path, sql).is_err() {
+            return Err(Failure::refused(head.line, "the table isn't made"));
+        }
+        self.last = bytes_of(rt, path)?;
+        Ok(())
+    }
+
+    fn is_same(&self, rt: &HostRuntime, head: &Part<'_>, path: &str) -> Result<(), Failure> {
+        let bytes = bytes_of(rt, path)?;
+        compare(
+            rt.alloc(),
+            head.line,
+            self.last.as_slice(),
+            bytes.as_slice(),
+        )
+    }
+
+    /// Takes a step of the program.
+    pub fn take(&mut self, rt: &HostRuntime, plot: &Plot<'_>) -> Result<(), Failure> {
+        let [head, parts @ ..] = plot.parts.as_slice() else {
+            return Ok(());
+        };
+        match words_of(head) {
+            Some((Does::Forgets, path)) => Ok(forget(rt, path)?),
+            Some((Does::Writes, path)) => self.write(rt, head, path),
+            Some((Does::MakesTable, words)) => self.make_table(rt, head, words),
+            Some((Does::IsAbsent, path)) => is_absent(rt, head, path),
+            Some((Does::IsSame, path)) => self.is_same(rt, head, path),
+            Some((Does::Runs, words)) => run_step(rt, head, words, parts),
+            None => Err(Failure::from(head.unread(
+                "a story of the program has steps of the program alone",
+            ))),
+        }
+    }
+}
+
+fn is_absent(rt: &HostRuntime, head: &Part<'_>, path: &str) -> Result<(), Failure> {
+    match fs::exists(rt, path) {
+        Ok(false) => Ok(()),
+        _ => Err(Failure::refused(head.line, "the file is there")),
+    }
+}

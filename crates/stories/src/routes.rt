@@ -1,0 +1,210 @@
+//! What a request asks, shown.
+use crate::failures::Failure;
+use basis::{Bytes, Refusal, Role, Text};
+use http::Method;
+use route::{Asked, AskedAct, Routes, WsAct, allowed, asked};
+use std::alloc::{AllocError, Global};
+use wire::Message;
+
+/// By whom routes are asked.
+const WRITER: &[u8] = b"Bearer acme.writewritewrite1";
+
+/// The organization that isn't named in what is shown.
+const OWN: &str = "acme";
+
+fn text_of(alloc: Global, text: Option<&str>) -> Result<Option<Text>, Failure> {
+    match text {
+        Some(text) => Ok(Some(Text::copy_of(alloc, text)?)),
+        None => Ok(None),
+    }
+}
+
+fn bytes_of(alloc: Global, bytes: Option<&[u8]>) -> Result<Option<Bytes>, Failure> {
+    match bytes {
+        Some(bytes) => Ok(Some(Bytes::copy_of(alloc, bytes)?)),
+        None => Ok(None),
+    }
+}
+
+fn method_of(alloc: Global, method: &str) -> Result<Method, Failure> {
+    match Method::from_bytes(alloc, method.as_bytes()) {
+        Ok(method) => Ok(method),
+        Err(_) => Err(Failure::refused(0, "this is no method")),
+    }
+}
+
+// A message of these parts.
+fn message_of(
+    alloc: Global,
+    method: &str,
+    path: &str,
+    query: Option<&str>,
+    authorization: Option<&[u8]>,
+    body: &[u8],
+) -> Result<Message, Failure> {
+    let method = method_of(alloc, method)?;
+    let path = Text::copy_of(alloc, path)?;
+    let query = text_of(alloc, query)?;
+    let authorization = bytes_of(alloc, authorization)?;
+    let body = Bytes::copy_of(alloc, body)?;
+    Ok(Message {
+        method,
+        path,
+        query,
+        authorization,
+        content_md5: None,
+        body,
+    })
+}
+
+fn asked_by(alloc: Global, message: &Message) -> Result<Result<Asked, Refusal>, Failure> {
+    match Routes::new(alloc) {
+        Ok(routes) => Ok(asked(alloc, &routes, message)),
+        Err(_) => Err(Failure::refused(0, "memory was refused")),
+    }
+}
+
+// The least role that may.
+fn role_word(asked: &Asked) -> &'static str {
+    for (role, word) in [(Role::Read, "read"), (Role::Write, "write")] {
+        if allowed(asked, role).is_ok() {
+            return word;
+        }
+    }
+    "admin"
+}
+
+// The word of an act.
+fn act_word(act: &WsAct) -> &'static str {
+    match act {
+        WsAct::Read => "show workspace",
+        WsAct::Put => "put workspace",
+        WsAct::Delete => "delete workspace",
+        WsAct::ReadState => "read state",
+        WsAct::UpdateState => "update state",
+        WsAct::PurgeState => "purge state",
+        WsAct::Lock => "lock",
+        WsAct::Unlock => "unlock",
+        WsAct::ForceUnlock => "force unlock",
+        WsAct::ListVersions { .. } => "list versions after",
+        WsAct::ReadVersion(_) => "read version",
+        WsAct::ListRuns { .. } => "list runs after",
+        WsAct::MakeRun => "make run",
+        WsAct::ReadRun(_) => "read run",
+        WsAct::ReportRun(_, _) => "report",
+    }
+}
+
+// The number that an act names.
+fn number_of(act: &WsAct) -> Option<u64> {
+    match act {
+        WsAct::ListVersions { after } => Some(*after),
+        WsAct::ListRuns { after } => Some(*after),
+        WsAct::ReadVersion(number) => Some(u64::from(number.get())),
+        WsAct::ReadRun(number) => Some(u64::from(number.get())),
+        WsAct::ReportRun(number, _) => Some(u64::from(number.get())),
+        _ => None,
+    }
+}
+
+fn action_of(act: &WsAct) -> Option<&'static str> {
+    match act {
+        WsAct::ReportRun(_, action) => Some(action.word()),
+        _ => None,
+    }
+}
+
+fn act_text(alloc: Global, act: &WsAct) -> Result<String, AllocError> {
+    let word = act_word(act);
+    match (number_of(act), action_of(act)) {
+        (Some(number), Some(action)) => format!(in alloc; "{word} {action} on run {number}"),
+        (Some(number), None) => format!(in alloc; "{word} {number}"),
+        (None, _) => String::from_str(alloc, word),
+    }
+}
+
+fn asked_act(alloc: Global, role: &str, act: &AskedAct) -> Result<String, AllocError> {
+    match act {
+        AskedAct::ListWorkspaces { after: None } => { format!(in alloc; "{role}: list workspaces") }
+        AskedAct::ListWorkspaces { after: Some(name) } => {
+            format!(in alloc; "{role}: list workspaces after {}", name.as_str())
+        }
+        AskedAct::OfWorkspace(ws, act) => {
+            let act = act_text(alloc, act)?;
+            format!(in alloc; "{role} {}: {}", ws.as_str(), act.as_str())
+        }
+    }
+}
+
+fn asked_text(alloc: Global, asked: &Asked) -> Result<String, AllocError> {
+    let mut text = asked_act(alloc, role_word(asked), &asked.act)?;
+    if let Some(id) = &asked.lock_id {
+        text.push_str(" with ID ")?;
+        text.push_str(id.as_str())?;
+    }
+    if asked.org.as_str() != OWN {
+        text.push_str(" in ")?;
+        text.push_str(asked.org.as_str())?;
+    }
+    Ok(text)
+}
+
+fn refusal_text(alloc: Global, refusal: Refusal) -> Result<String, AllocError> {
+    match refusal {
+        Refusal::NoMethod(allow) => {
+            format!(in alloc; "refused no-method, allowed {}", allow.text())
+        }
+        _ => format!(in alloc; "refused {}", refusal.word()),
+    }
+}
+
+// Path and query of a target.
+fn path_and_query(target: &str) -> (&str, Option<&str>) {
+    match target.split_once('?') {
+        Some((path, query)) => (path, Some(query)),
+        None => (target, None),
+    }
+}
+
+/// What a route with this body asks.
+pub fn show_route(alloc: Global, words: &str, body: &[u8]) -> Result<String, Failure> {
+    let Some((method, target)) = words.split_once(' ') else {
+        return Err(Failure::refused(0, "a route is a method and a target"));
+    };
+    let (path, query) = path_and_query(target);
+    let message = message_of(alloc, method, path, query, Some(WRITER), body)?;
+    match asked_by(alloc, &message)? {
+        Ok(asked) => Ok(asked_text(alloc, &asked)?),
+        Err(refusal) => Ok(refusal_text(alloc, refusal)?),
+    }
+}
+
+fn token_text(alloc: Global, asked: &Asked) -> Result<String, AllocError> {
+    let (caller, secret) = (asked.caller.as_str(), asked.secret.as_str());
+    format!(in alloc; "token {caller} {secret}")
+}
+
+fn query_of(query: Option<&[u8]>) -> Result<Option<&str>, Failure> {
+    match query {
+        None => Ok(None),
+        Some(bytes) => match str::from_utf8(bytes) {
+            Ok(text) => Ok(Some(text)),
+            Err(_) => Err(Failure::refused(0, "a query is text")),
+        },
+    }
+}
+
+/// Who asks by these values of the field Authorization and of the query.
+pub fn show_asks(
+    alloc: Global,
+    authorization: Option<&[u8]>,
+    query: Option<&[u8]>,
+) -> Result<String, Failure> {
+    let query = query_of(query)?;
+    let path = "/v1/acme/state/net";
+    let message = message_of(alloc, "GET", path, query, authorization, b"")?;
+    match asked_by(alloc, &message)? {
+        Ok(asked) => Ok(token_text(alloc, &asked)?),
+        Err(refusal) => Ok(refusal_text(alloc, refusal)?),
+    }
+}

@@ -1,0 +1,53 @@
+//! A story run by its kind: of a store, of the program, or of values.
+use crate::failures::Failure;
+use crate::files::run_in_file;
+use crate::plays::play_of;
+use crate::programs::{Files, is_of_program};
+use crate::texts::{Book, Part, Plot, Story};
+use crate::values::{is_of_values, take_value};
+use crate::ways::run_in_memory;
+
+// The earlier stories and this one, in turn.
+fn run_store(rt: &HostRuntime, book: &Book<'_>, story: &Story<'_>) -> Result<(), Failure> {
+    let play = play_of(rt.alloc(), book, story)?;
+    run_in_memory(rt.alloc(), &play)?;
+    run_in_file(rt, &play)
+}
+
+fn take_all(rt: &HostRuntime, files: &mut Files, plots: &[Plot<'_>]) -> Result<(), Failure> {
+    for plot in plots {
+        files.take(rt, plot)?;
+    }
+    Ok(())
+}
+
+fn run_program(rt: &HostRuntime, book: &Book<'_>, story: &Story<'_>) -> Result<(), Failure> {
+    let mut files = Files::new(rt.alloc());
+    for place in story.before.as_slice() {
+        if let Some(earlier) = book.stories.get(*place) {
+            take_all(rt, &mut files, earlier.plots.as_slice())?;
+        }
+    }
+    take_all(rt, &mut files, story.plots.as_slice())
+}
+
+fn run_values(rt: &HostRuntime, story: &Story<'_>) -> Result<(), Failure> {
+    for plot in story.plots.as_slice() {
+        take_value(rt.alloc(), plot)?;
+    }
+    Ok(())
+}
+
+fn first_head<'s, 'a>(story: &'s Story<'a>) -> Option<&'s Part<'a>> {
+    let plot = story.plots.first()?;
+    plot.parts.first()
+}
+
+/// Runs a story, up to what fails.
+pub fn run_story(rt: &HostRuntime, book: &Book<'_>, story: &Story<'_>) -> Result<(), Failure> {
+    match first_head(story) {
+        Some(head) if is_of_values(head) => run_values(rt, story),
+        Some(head) if is_of_program(head) => run_program(rt, book, story),
+        _ => run_store(rt, book, story),
+    }
+}
