@@ -1,10 +1,10 @@
 #!/usr/bin/env python3
 """Refuses each allocation in turn, and says how each run ended.
 
-    python3 tools/refusals.py rows PROGRAM     the worked rows through `custody replay`
+    python3 tools/refusals.py stories PROGRAM [FRONT]  each story of a store whose name begins so, through `custody replay`
     python3 tools/refusals.py tests PROGRAM [FRONT]    each test whose name begins so (`rt test` leaves out/CRATE_tests)
 
-Allocation N of a process is refused, for N from 1 on, until runs meet no refusal any more. A run of a row has to end in
+Allocation N of a process is refused, for N from 1 on, until runs meet no refusal any more. A run of a story has to end in
 `refused down` alone, status 3, or in the right replies; a test has to pass or to end for want of memory.
 """
 
@@ -14,7 +14,7 @@ import subprocess
 import sys
 import tempfile
 
-import rows
+import stories
 
 HERE = os.path.dirname(os.path.abspath(__file__))
 WANTS = ("error: Down\n", "error: AllocError\n", "error: AllocFailed {")
@@ -42,8 +42,8 @@ def each_refused(library, words, judge, data=b""):
     return counts
 
 
-def row(steps):
-    want = rows.printed(steps).encode()
+def replies(steps):
+    want = stories.printed(steps)
 
     def judge(done):
         if done.returncode == 0 and done.stdout == want:
@@ -65,17 +65,18 @@ def main():
     total = collections.Counter()
     with tempfile.TemporaryDirectory() as folder:
         library = refusing(folder)
-        if kind == "rows":
-            for name, _, steps in rows.ROWS:
-                steps = rows.SET_UP + steps
-                data = rows.framed(steps).encode()
-                counts = each_refused(library, [program, "replay"], row(steps), data)
-                print(name, dict(counts), flush=True)
-                total.update(counts)
+        front = "".join(sys.argv[3:])
+        if kind == "stories":
+            for name, story in stories.all_stories().items():
+                steps = stories.steps_of(story)
+                if steps and name.startswith(front):
+                    counts = each_refused(library, [program, "replay"], replies(steps), stories.framed(steps))
+                    print(name, dict(counts), flush=True)
+                    total.update(counts)
         else:
             listed = subprocess.run([program, "--list"], capture_output=True, text=True, check=True).stdout
             names = [line[: -len(": test")] for line in listed.splitlines() if line.endswith(": test")]
-            for name in [name for name in names if name.startswith("".join(sys.argv[3:]))]:
+            for name in [name for name in names if name.startswith(front)]:
                 counts = each_refused(library, [program, name], test)
                 print(name, dict(counts), flush=True)
                 total.update(counts)

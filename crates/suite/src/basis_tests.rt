@@ -1,9 +1,8 @@
 //! Names, numbers, moments, roles, refusals, runs and texts.
 use basis::{
-    Allow, Bytes, Items, Limit, LockId, Moment, Number, OrgName, Refusal, Role, RunAction,
-    RunStatus, Secret, Text, Unfit, WsName, is_free_id, is_run_id, numbers,
+    Allow, Bytes, Items, Number, OrgName, Refusal, Role, RunAction, RunStatus, Text, Unfit,
+    is_free_id, is_run_id,
 };
-use std::alloc::Global;
 use std::test::Fail;
 
 // The refusals in their order, which is that of the checks: the first has the number 1.
@@ -76,7 +75,7 @@ fn roles_include_the_roles_before(rt: HostRuntime) {
         let found = Role::named(word).map(|role| role.includes(*least));
         assert_eq!(rt; found, Some(*leave), "{word}");
     }
-    assert_eq!(rt; Role::named("Read"), None);
+    assert!(rt; Role::named("Read").is_none());
 }
 
 const ACTIONS: &[(RunAction, &str)] = &[
@@ -112,51 +111,6 @@ fn runs_have_words(rt: HostRuntime) {
     }
 }
 
-// What is read as a whole number, and as the number of a version or a run.
-const NUMBERS: &[(&str, Option<u64>, Option<u32>)] = &[
-    ("0", Some(0), None),
-    ("1", Some(1), Some(1)),
-    ("10", Some(10), Some(10)),
-    ("1000000000", Some(1_000_000_000), Some(1_000_000_000)),
-    ("1000000001", Some(1_000_000_001), None),
-    (
-        "18446744073709551615",
-        Some(18_446_744_073_709_551_615),
-        None,
-    ),
-    ("18446744073709551616", None, None),
-    ("", None, None),
-    ("00", None, None),
-    ("01", None, None),
-    ("+1", None, None),
-    ("-1", None, None),
-    ("1a", None, None),
-    (" 1", None, None),
-    ("1.0", None, None),
-];
-
-#[test]
-fn numbers_are_read(rt: HostRuntime) {
-    for (text, whole, number) in NUMBERS {
-        assert_eq!(rt; numbers::whole_number(text), *whole, "at {text}");
-        let found = Number::read(text).ok().map(Number::get);
-        assert_eq!(rt; found, *number, "at {text}");
-    }
-}
-
-#[test]
-fn numbers_have_bounds(rt: HostRuntime) {
-    assert_eq!(rt; Number::new(0), None);
-    // 9999-12-31T23:59:59Z
-    for (seconds, fits) in [(0, true), (253_402_300_799, true), (253_402_300_800, false)] {
-        let moment = Moment::new(seconds).map(Moment::seconds);
-        assert_eq!(rt; moment, fits.then_some(seconds));
-    }
-    for (value, fits) in [(0, true), (100_000, true), (100_001, false)] {
-        assert_eq!(rt; Limit::new(value).map(Limit::get), fits.then_some(value));
-    }
-}
-
 #[test]
 fn texts_are_kept(rt: HostRuntime) -> Result<(), Fail> {
     let string = Text::copy_of(rt.alloc(), "é\n")?.into_string();
@@ -176,83 +130,6 @@ fn items_are_kept_in_order(rt: HostRuntime) -> Result<(), Fail> {
     assert_eq!(rt; items.as_slice(), [3, 1, 2, 5].as_slice());
     items.forget_first(1);
     assert_eq!(rt; items.into_vec().as_slice(), [1, 2, 5].as_slice());
-    Ok(())
-}
-
-#[derive(Clone, Copy, Debug)]
-enum Name {
-    Org,
-    Ws,
-    Lock,
-    Secret,
-}
-
-// Whether the text is read as a name, and kept.
-fn is_kept(alloc: Global, name: Name, text: &str) -> bool {
-    match name {
-        Name::Org => OrgName::read(alloc, text).is_ok_and(|found| found.as_str() == text),
-        Name::Ws => WsName::read(alloc, text).is_ok_and(|found| found.as_str() == text),
-        Name::Lock => LockId::read(alloc, text).is_ok_and(|found| found.as_str() == text),
-        Name::Secret => Secret::read(alloc, text).is_ok_and(|found| found.as_str() == text),
-    }
-}
-
-// The shortest and the longest text of each name.
-const LENGTHS: &[(Name, usize, usize)] = &[
-    (Name::Org, 1, 40),
-    (Name::Ws, 1, 90),
-    (Name::Lock, 1, 128),
-    (Name::Secret, 16, 64),
-];
-
-const NAMES: &[(Name, &str, bool)] = &[
-    (Name::Org, "acme-2", true),
-    (Name::Org, "a-1", true),
-    (Name::Org, "a--", true),
-    (Name::Org, "1a", false),
-    (Name::Org, "-a", false),
-    (Name::Org, "aB", false),
-    (Name::Org, "a_b", false),
-    (Name::Org, "a.b", false),
-    (Name::Org, "a b", false),
-    (Name::Org, "a/b", false),
-    (Name::Org, "é", false),
-    (Name::Ws, "prod_EU", true),
-    (Name::Ws, "a-1", true),
-    (Name::Ws, "1a", true),
-    (Name::Ws, "-a", true),
-    (Name::Ws, "aB", true),
-    (Name::Ws, "A_b-9", true),
-    (Name::Ws, "a.b", false),
-    (Name::Ws, "a b", false),
-    (Name::Ws, "a/b", false),
-    (Name::Ws, "é", false),
-    (Name::Lock, "é: 1\n", true),
-    (Name::Secret, "0123456789abcdef", true),
-    (Name::Secret, "0123456789abcdeF", true),
-    (Name::Secret, "0123456789abcde-", false),
-    (Name::Secret, "0123456789abcde_", false),
-];
-
-#[test]
-fn names_have_lengths_and_letters(rt: HostRuntime) -> Result<(), Fail> {
-    let alloc = rt.alloc();
-    let letters = "a".repeat(alloc, 129)?;
-    for (name, least, most) in LENGTHS {
-        for length in [
-            least.saturating_sub(1),
-            *least,
-            *most,
-            most.saturating_add(1),
-        ] {
-            let text = letters.as_str().get(..length).ok_or("a shorter text")?;
-            let fits = *least <= length && length <= *most;
-            assert_eq!(rt; is_kept(alloc, *name, text), fits, "{name:?} of {length}");
-        }
-    }
-    for (name, text, reads) in NAMES {
-        assert_eq!(rt; is_kept(alloc, *name, text), *reads, "{name:?} {text}");
-    }
     Ok(())
 }
 
