@@ -25,6 +25,11 @@ running_workspace : ws_text (record { auto_apply = false; holder = Some (Run 30)
 unfolding serde_json_on_literals digits run_id error_text ws_text run_text run_holder_text ws_list_text version_list_text run_list_text
 running_workspace = refl
 
+-- a run of the greatest number holds
+held_by_the_greatest : ws_text (record { auto_apply = false; holder = Some (Run 1_000_000_000); name = codes "net"; version = Some 7 }) ≡ codes "{\"auto_apply\":false,\"holder\":\"run-1000000000\",\"name\":\"net\",\"version\":7}"
+unfolding serde_json_on_literals digits run_id error_text ws_text run_text run_holder_text ws_list_text version_list_text run_list_text
+held_by_the_greatest = refl
+
 run : run_text (record { action = None; created = 1_700_000_000; key = None; message = []; number = 3; plan_only = false; status = Planning }) ≡ codes "{\"action\":null,\"created\":1700000000,\"key\":null,\"message\":\"\",\"number\":3,\"plan_only\":false,\"status\":\"planning\"}"
 unfolding serde_json_on_literals digits run_id error_text ws_text run_text run_holder_text ws_list_text version_list_text run_list_text
 run = refl

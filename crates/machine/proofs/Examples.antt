@@ -1,5 +1,5 @@
 -- Worked steps of one workspace, computed by the definitions themselves.
-use Rattle.std.proofs.Common.{◌≡◌, ℕ, ◌<◌, ◌≤◌, inl, inr, [], ◌∷◌, List, filter, length, Option, Some, None, false, refl, true, sym, arith}
+use Rattle.std.proofs.Common.{◌≡◌, ℕ, ◌<◌, ◌≤◌, inl, inr, [], ◌∷◌, List, filter, length, map, Bool, Option, Some, None, false, refl, true, sym, arith}
 use Rattle.std.specs.List.{AllByRecursion, range_with_len}
 use Rattle.std.specs.Prelude.{codes}
 use Rattle.std.specs.Fmt.{digits}
@@ -8,9 +8,10 @@ use Rattle.basis.specs.declared.refusals.Refusal.TheVariants.{NotFound, NotHeld,
 use Rattle.basis.specs.declared.rows.RunAsk.{RunAsk}
 use Rattle.basis.specs.declared.rows.StateHead.{StateHead}
 use Rattle.basis.specs.declared.runs.RunStatus.{RunStatus}
-use Rattle.basis.specs.declared.runs.RunStatus.TheVariants.{Pending, Planning, Planned, Applying, Applied, PlannedAndFinished, Errored, Discarded}
+use Rattle.basis.specs.declared.runs.RunStatus.TheVariants.{Pending, Planning, Planned, Applying, Applied, PlannedAndFinished, Errored, Discarded, Canceled}
 use Rattle.basis.specs.declared.runs.RunAction.{RunAction}
-use Rattle.basis.specs.declared.runs.RunAction.TheVariants.{ReportPlanned, Fail, Confirm, ReportApplied, Discard}
+use Rattle.basis.specs.declared.runs.RunAction.TheVariants.{ReportPlanned, ReportUnchanged, Fail, Confirm, ReportApplied, Discard, Cancel}
+use Rattle.machine.specs.RunSteps.{next_status}
 use Rattle.machine.specs.Workspaces.{new_workspace}
 use Rattle.machine.specs.Writing.{may_write}
 use Rattle.machine.specs.Rules.{refused, held, done, no_state, state, workspace, the_run, versions, rules}
@@ -399,3 +400,55 @@ fifty_one = refl
 -- names come in the order of their bytes: capital letters first, and a name after those that it begins with
 orders : (comes_after (Some (codes "Net")) (codes "a_1") ≡ true) × (comes_after (Some (codes "net")) (codes "net2") ≡ true) × (comes_after (Some (codes "net")) (codes "net") ≡ false)
 orders = (refl, refl, refl)
+
+-- where the actions lead from each status: of a queued run, of one under auto-apply, and of a plan-only one
+abbrev actions : List RunAction
+actions = ReportPlanned ∷ ReportUnchanged ∷ Fail ∷ Confirm ∷ ReportApplied ∷ Discard ∷ Cancel ∷ []
+
+abbrev ended : List RunStatus
+ended = Applied ∷ PlannedAndFinished ∷ Errored ∷ Discarded ∷ Canceled ∷ []
+
+abbrev lead_to : (plan_only auto_apply : Bool) → RunStatus → List (Option RunStatus)
+lead_to plan_only auto_apply status = map (next_status plan_only auto_apply status) actions
+
+abbrev nowhere : List (Option RunStatus)
+nowhere = map (λ (action : RunAction). None) actions
+
+queued_pending : lead_to false false Pending ≡ None ∷ None ∷ None ∷ None ∷ None ∷ Some Discarded ∷ None ∷ []
+queued_pending = refl
+
+queued_planning : lead_to false false Planning ≡ Some Planned ∷ Some PlannedAndFinished ∷ Some Errored ∷ None ∷ None ∷ None ∷ Some Canceled ∷ []
+queued_planning = refl
+
+queued_planned : lead_to false false Planned ≡ None ∷ None ∷ None ∷ Some Applying ∷ None ∷ Some Discarded ∷ None ∷ []
+queued_planned = refl
+
+queued_applying : lead_to false false Applying ≡ None ∷ None ∷ Some Errored ∷ None ∷ Some Applied ∷ None ∷ Some Canceled ∷ []
+queued_applying = refl
+
+auto_apply_pending : lead_to false true Pending ≡ None ∷ None ∷ None ∷ None ∷ None ∷ Some Discarded ∷ None ∷ []
+auto_apply_pending = refl
+
+auto_apply_planning : lead_to false true Planning ≡ Some Applying ∷ Some PlannedAndFinished ∷ Some Errored ∷ None ∷ None ∷ None ∷ Some Canceled ∷ []
+auto_apply_planning = refl
+
+auto_apply_planned : lead_to false true Planned ≡ None ∷ None ∷ None ∷ Some Applying ∷ None ∷ Some Discarded ∷ None ∷ []
+auto_apply_planned = refl
+
+auto_apply_applying : lead_to false true Applying ≡ None ∷ None ∷ Some Errored ∷ None ∷ Some Applied ∷ None ∷ Some Canceled ∷ []
+auto_apply_applying = refl
+
+plan_only_planning : (auto_apply : Bool) → lead_to true auto_apply Planning ≡ Some PlannedAndFinished ∷ Some PlannedAndFinished ∷ Some Errored ∷ None ∷ None ∷ None ∷ Some Canceled ∷ []
+plan_only_planning auto_apply = refl
+
+plan_only_elsewhere : (auto_apply : Bool) → map (lead_to true auto_apply) (Pending ∷ Planned ∷ Applying ∷ []) ≡ nowhere ∷ nowhere ∷ nowhere ∷ []
+plan_only_elsewhere auto_apply = refl
+
+queued_ended : map (lead_to false false) ended ≡ map (λ (status : RunStatus). nowhere) ended
+queued_ended = refl
+
+auto_apply_ended : map (lead_to false true) ended ≡ map (λ (status : RunStatus). nowhere) ended
+auto_apply_ended = refl
+
+plan_only_ended : (auto_apply : Bool) → map (lead_to true auto_apply) ended ≡ map (λ (status : RunStatus). nowhere) ended
+plan_only_ended auto_apply = refl

@@ -1,6 +1,6 @@
 //! Steps as frames tell them, and services that took them.
 use basis::{Bytes, Moment};
-use machine::{AdminAnswer, Keep};
+use machine::Keep;
 use program::frames::read_frames;
 use serve::{Service, Step};
 use std::alloc::Global;
@@ -45,15 +45,5 @@ pub fn expect_replies(rt: &impl Abort, replies: &[Bytes], due: &[&str], name: &s
             reply.as_slice() == due[i].as_bytes(),
             "reply {i} of {name}"
         );
-    }
-}
-
-/// The word of an operator's answer; a list of organizations has none.
-pub fn word_of(answer: &AdminAnswer) -> &'static str {
-    match answer {
-        AdminAnswer::Done => "ok",
-        AdminAnswer::Exists => "refused exists",
-        AdminAnswer::Absent => "refused absent",
-        AdminAnswer::Organizations(_) => "",
     }
 }
