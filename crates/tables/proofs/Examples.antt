@@ -1,6 +1,7 @@
 -- Worked rows and the records that they denote, computed by the definitions themselves.
-use Rattle.std.proofs.Common.{◌≡◌, ℕ, pos, true, false, true≢false, List, [], ◌∷◌, Option, Some, None, refl, sym}
-use Rattle.std.specs.Prelude.{codes}
+use Rattle.std.proofs.Common.{◌≡◌, ℕ, pos, true, false, true≢false, List, [], ◌∷◌, Option, Some, None, refl, sym, ap}
+use Rattle.std.specs.Prelude.{◌==◌, codes}
+use Rattle.std.specs.List.{list_any}
 use Rattle.std.specs.FinMap.{from_entries, empty}
 use Rattle.basis.specs.declared.roles.Role.TheVariants.{Write}
 use Rattle.basis.specs.declared.runs.RunStatus.{RunStatus}
@@ -15,6 +16,7 @@ use Rattle.machine.specs.declared.records.Workspace.{Workspace}
 use Rattle.machine.specs.declared.records.Organization.{Organization}
 use Rattle.statements.specs.declared.rows.Holder.TheVariants as cells
 use Rattle.statements.specs.Changes.{org_capped, token_removed}
+use Rattle.statements.specs.Rows.{Kept}
 use Rattle.statements.specs.Tables.{Tables}
 use Rattle.tables.specs.Records.{record_of}
 use Rattle.tables.specs.Sound.{IsSound}
@@ -212,6 +214,13 @@ orphaned = record two { wss = [] }
 
 orphaned_is_not : IsSound orphaned → ⊥
 orphaned_is_not sound = true≢false (sym sound.versions_owned.0)
+
+-- another version
+abbrev later : Tables
+later = record two { metas = (pos 1, 2) ∷ [] }
+
+later_is_not : IsSound later → ⊥
+later_is_not sound = true≢false (ap (list_any (λ (x : Kept ℕ). x.1 == 2)) sound.told)
 
 -- two rows of one organization
 abbrev doubled : Tables

@@ -26,9 +26,10 @@ use Rattle.statements.specs.Changes.{is_org, is_token, has_digest, org_added, to
 use Rattle.statements.specs.Finds.{cap_of, role_of_name, role_of_digest}
 use Rattle.statements.specs.Making.{no_rows}
 use Rattle.tables.specs.Records.{workspace_by, organization_at, record_of}
-use Rattle.tables.specs.Sound.{KeepsTheLast, IsOrgRow, IsTokenRow, IsSound}
+use Rattle.tables.specs.Sound.{KeepsTheLast, TellsVersion, IsOrgRow, IsTokenRow, IsSound}
 use Rattle.tables.specs.Inner.Edits.{changed_rows}
 use Rattle.tables.proofs.Names.{same_name, apart_name, names_apart, is_pair, pair_first, pair_second}
+use Rattle.tables.proofs.Telling.{metas_changed}
 use Rattle.tables.proofs.Parts.{none_mapped}
 use Rattle.tables.proofs.Sets.{Puts, workspace_there, one_of, put_own, put_other}
 use Rattle.tables.proofs.Edits.{changed_puts}
@@ -80,6 +81,7 @@ org_there t org cap e = any_is_found (is_org org) t.orgs ∙ sym (some_mapped (f
 pub changed_keeps : (org ws : List ℕ) (t : Tables) → IsSound t → (change : Change) (o : Organization) → IsTrue (is_ws_name ws) → record_of t org ≡ Some o → IsDue (seen_in o ws) change
     → IsSound (changed_rows org ws change t)
 changed_keeps org ws t sound change o named there due = record {
+  told = metas_changed org ws change t ∙ sound.told;
   orgs_apart = order.orgs_apart;
   tokens_apart = order.tokens_apart;
   digests_apart = order.digests_apart;
@@ -158,6 +160,7 @@ turned a b e = apart_name b a (λ same. names_apart a b e (sym same))
 -- an organization more leaves sound tables sound
 pub org_added_keeps : (org : List ℕ) (limit : ℕ) (t : Tables) → IsSound t → IsTrue (is_org_name org) → limit ≤ 100_000 → cap_of org t ≡ None → IsSound (org_added org limit t)
 org_added_keeps org limit t sound named most none = record {
+  told = sound.told;
   orgs_apart = apart_pushed (λ a b. is_org a.1.name b) t.orgs new sound.orgs_apart (all_weaker (λ x. is_org org x ≡ false) (λ x. is_org x.1.name new ≡ false) (λ x e. turned x.1.name org e) t.orgs (no_row t org none));
   tokens_apart = sound.tokens_apart;
   digests_apart = sound.digests_apart;
@@ -189,6 +192,7 @@ org_added_keeps org limit t sound named most none = record {
 pub token_added_keeps : (org name digest : List ℕ) (role : Role) (t : Tables) → IsSound t → IsTrue (is_org_name name) → length digest ≡ 32 → (cap : ℕ) → cap_of org t ≡ Some cap
     → role_of_name org name t ≡ None → role_of_digest org digest t ≡ None → IsSound (token_added org name digest role t)
 token_added_keeps org name digest role t sound named long cap there unnamed unknown = record {
+  told = sound.told;
   orgs_apart = sound.orgs_apart;
   tokens_apart = apart_pushed (λ a b. is_token a.1.org a.1.name b) t.tokens new sound.tokens_apart
       (all_weaker (λ x. is_token org name x ≡ false) (λ x. is_token x.1.org x.1.name new ≡ false) (λ x e. pair_turned org name x.1.org x.1.name e) t.tokens
@@ -221,8 +225,9 @@ token_added_keeps org name digest role t sound named long cap there unnamed unkn
 pub no_record : (metas : List (Kept ℕ)) (org : List ℕ) → record_of (record no_rows { metas = metas }) org ≡ None
 no_record metas org = refl
 
-pub no_rows_are_sound : (metas : List (Kept ℕ)) → IsSound (record no_rows { metas = metas })
-no_rows_are_sound metas = record {
+pub no_rows_are_sound : (metas : List (Kept ℕ)) → TellsVersion 1 (record no_rows { metas = metas }) → IsSound (record no_rows { metas = metas })
+no_rows_are_sound metas told = record {
+  told = told;
   orgs_apart = tt;
   tokens_apart = tt;
   digests_apart = tt;

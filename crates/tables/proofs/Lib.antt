@@ -17,6 +17,7 @@ pub mod Limits
 pub mod Revoking
 pub mod Following
 pub mod Owned
+pub mod Telling
 pub mod Kept
 pub mod KeepListed
 pub mod KeepManaged

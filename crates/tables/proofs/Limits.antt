@@ -55,6 +55,7 @@ module _ (org : List ℕ) (limit : ℕ) where
       -- it leaves sound tables sound
       pub limit_keeps : IsSound t → limit ≤ 100_000 → IsSound (org_capped org limit t)
       limit_keeps sound most = record {
+        told = sound.told;
         orgs_apart = apart_update (λ a b. is_org a.1.name b) (is_org org) recapped (λ a b. refl) (λ a b. refl) t.orgs sound.orgs_apart;
         tokens_apart = sound.tokens_apart;
         digests_apart = sound.digests_apart;

@@ -97,6 +97,7 @@ module _ (org name : List ℕ) (t : Tables) where
   -- it leaves sound tables sound
   pub revoke_keeps : IsSound t → IsSound left
   revoke_keeps sound = record {
+    told = sound.told;
     orgs_apart = sound.orgs_apart;
     tokens_apart = apart_delete (λ a b. is_token a.1.org a.1.name b) (is_token org name) t.tokens sound.tokens_apart;
     digests_apart = apart_delete (λ a b. has_digest a.1.org a.1.it.digest b) (is_token org name) t.tokens sound.digests_apart;

@@ -1,5 +1,5 @@
 -- The records of a database, and its soundness, once its rows have changed.
-use Rattle.std.proofs.Common.{◌≡◌, ◌≢◌, ℕ, ◌≤◌, List, length, Some, None, IsTrue, sym, ap, subst, ◌∙◌}
+use Rattle.std.proofs.Common.{◌≡◌, ◌≢◌, ℕ, ◌≤◌, List, length, Some, None, IsTrue, refl, sym, ap, subst, ◌∙◌}
 use Rattle.std.specs.FinMap.{get}
 use Rattle.sqlite.specs.Effect.{Database}
 use Rattle.basis.specs.Names.{is_org_name, is_ws_name}
@@ -42,7 +42,7 @@ records_by db t holds org = ap (λ (u : Tables). record_of u org) (tables-held d
 -- the tables that were just made
 module _ (db : Database) (made : Holds db (version_set no_rows)) where
   pub first_store_is_sound : IsSoundStore db
-  first_store_is_sound = store_by db (version_set no_rows) made (no_rows_are_sound (version_set no_rows).metas)
+  first_store_is_sound = store_by db (version_set no_rows) made (no_rows_are_sound (version_set no_rows).metas refl)
 
   pub first_store_is_empty : (org : List ℕ) → records_of db org ≡ None
   first_store_is_empty org = records_by db (version_set no_rows) made org ∙ no_record (version_set no_rows).metas org

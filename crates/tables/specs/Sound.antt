@@ -1,5 +1,5 @@
 -- When tables are sound.
-use Rattle.std.specs.Prelude.{◌≡◌, ◌≤◌, ◌+◌, ℕ, true, List, [], ◌∷◌, length, map, Some, IsTrue, ⊤}
+use Rattle.std.specs.Prelude.{◌≡◌, ◌≤◌, ◌+◌, ℕ, pos, true, List, [], ◌∷◌, length, map, Some, IsTrue, ⊤}
 use Rattle.std.specs.List.{AllByRecursion, list_any}
 use Rattle.sqlite_keyed.specs.Rules.{AreApart}
 use Rattle.basis.specs.Names.{is_org_name}
@@ -32,7 +32,13 @@ pub record IsTokenRow (x : Kept TokenRow) : Type 0 where
   pub named : IsTrue (is_org_name x.1.name)
   pub digest : length x.1.it.digest ≡ 32
 
+-- meta has the one row of a database of this version
+abbrev pub TellsVersion : ℕ → Tables → Type 0
+TellsVersion n t = t.metas ≡ (pos 1, n) ∷ []
+
 pub record IsSound (t : Tables) : Type 0 where
+  -- the tables are those of version 1, and meta says so
+  pub told : TellsVersion 1 t
   -- an organization has one row, so has a token and a workspace; no two tokens of an organization have one digest
   pub orgs_apart : AreApart (λ a b. is_org a.1.name b) t.orgs
   pub tokens_apart : AreApart (λ a b. is_token a.1.org a.1.name b) t.tokens

@@ -1,9 +1,14 @@
 use Rattle.std.proofs.Common.{refl, sym, ap, subst}
 use Rattle.sqlite.specs.Effect.{Database}
+use Rattle.sqlite.specs.Held.{state}
 use Rattle.tables.specs.Stores.{records_of, IsSoundStore}
+use Rattle.tables.proofs.Telling.{sound_is_not_other}
 use Rattle.tables.proofs.store.SqlKeep.open.Goals as goal
 
 pub returns-in-Ok-clause-held : goal.returns-in-Ok-clause-held
 returns-in-Ok-clause-held g c = rw c.of-seen.ensures (λ clean there.
     let told = c.in-Ok.ensures.told clean there in
     (λ sound. record { store = subst IsSoundStore (sym told.same) sound; tied = λ _. refl }, λ o. ap (λ (db : Database). records_of db o) told.same))
+
+pub returns-in-Err-clause-sound : goal.returns-in-Err-clause-sound
+returns-in-Err-clause-sound g c clean schema = sound_is_not_other (state g.S.Store c.args.conn) (c.in-Err.ensures.other clean schema).1
