@@ -1,11 +1,14 @@
 -- What the texts on the table meta mean and do, in each schema that has it.
-use Rattle.std.proofs.Common.{◌≡◌, ℕ, pos, false, List, [], ◌∷◌, codes, Option, Some, None, Ok, int_eq, refl}
+use Rattle.std.proofs.Common.{◌≡◌, ℕ, pos, false, List, [], ◌∷◌, codes, find, Option, Some, None, Ok, int_eq, refl, ◌∙◌}
 use Rattle.sqlite_value.specs.declared.value.Value.TheVariants.{Null, Int}
 use Rattle.sqlite_value.specs.declared.keys.Collation.TheVariants.{Binary}
 use Rattle.sqlite_value.specs.Order.{Row}
-use Rattle.sqlite_sql.specs.Term.{Term, lit, col}
+use Rattle.sqlite_sql.specs.Program.{overlay}
+use Rattle.sqlite_sql.specs.Term.{Term, lit, col, eval_all}
 use Rattle.sqlite_sql.specs.Query.{Query}
 use Rattle.sqlite_schema.specs.declared.schema.Schema.{Schema}
+use Rattle.sqlite_schema.specs.declared.schema.Table.{Table}
+use Rattle.sqlite.specs.Effect.{Database}
 use Rattle.sqlite_schema.specs.declared.command.Source.TheVariants.{Values}
 use Rattle.sqlite_schema.specs.declared.command.Command.TheVariants.{Select, Insert}
 use Rattle.sqlite_ast.specs.declared.Statement.{Statement}
@@ -22,22 +25,22 @@ use Rattle.sqlite.specs.State.{State, Executes}
 use Rattle.sqlite_keyed.proofs.KeyedLemmas.{IsKeyedBy-insert_by}
 use Rattle.sqlite_typed.proofs.TestLemmas.{at_ints, last_term}
 use Rattle.sqlite_sql.specs.declared.ops.CompareOp.TheVariants as compare
-use Rattle.statements.specs.Place.{IsAt}
+use Rattle.statements.specs.Place.{IsAt, tree_of}
 use Rattle.statements.specs.Schema.{meta_table}
-use Rattle.statements.specs.Rows.{id_of, meta_cells}
+use Rattle.statements.specs.Rows.{Kept, id_of, stored, meta_cells}
 use Rattle.statements.specs.Tables.{Tables, Holds}
-use Rattle.statements.specs.Making.{LeavesOthers, version_set, version_in}
+use Rattle.statements.specs.Making.{LeavesOthers, HasMeta, like_meta, version_set, version_of, version_in}
 use Rattle.statements.specs.Queries.{IsQuery, FirstRow, Pins, IsNumber}
 use Rattle.statements.proofs.SyntaxTrees as st
 use Rattle.statements.proofs.Meaning.{Means, means, some_parsed, as_read}
 use Rattle.statements.proofs.Reading.{read_is}
 use Rattle.statements.proofs.Writes.{plain_program}
-use Rattle.statements.proofs.Answered.{point}
+use Rattle.statements.proofs.Answered.{answered, point, first_is}
 use Rattle.statements.proofs.Commands.{is_number, point_rest, point_draft, no_page}
-use Rattle.statements.proofs.Own.{put_own, insert_others}
+use Rattle.statements.proofs.Own.{put_own, insert_others, stored_tree}
 use Rattle.statements.proofs.Casts.{meta_casts}
 use Rattle.statements.proofs.Frames.{metas_written}
-use Rattle.statements.proofs.PointReads.{first_own}
+use Rattle.statements.proofs.PointReads.{pinned}
 use Rattle.statements.proofs.ReadBack.{number_read}
 
 abbrev pub set_version_text : List ℕ
@@ -81,6 +84,8 @@ module _ (s : Schema) (at tree : ℕ) (h : IsAt s (codes "meta") meta_table at t
   unfolding everything
   set_version_means = means s set_version _ (rw (h.named, h.found) refl) (λ _. refl) set_version_is set_version_text (some_parsed (first set_version_text)) set_version_reads
 
+-- the query of the version, over each table of meta's columns
+module _ (s : Schema) (at tree : ℕ) (table : Table) (h : IsAt s (codes "meta") (like_meta table) at tree) where
   version_named : named s version_core (st.by_rowid false) no_page ≡ Ok (point_draft version_rest tree false, (codes "version" ∷ []), (Some Binary ∷ []))
   unfolding everything
   version_named = rw (h.named, h.found, h.found, h.found, h.small) refl
@@ -98,6 +103,18 @@ module _ (s : Schema) (at tree : ℕ) (h : IsAt s (codes "meta") meta_table at t
   unfolding timed returning
   version_means = means s (written.Select version_select) _ refl (λ _. refl) version_is version_text (some_parsed (first version_text)) version_reads
 
+pub version_told : (old new : State) (table : Table) (metas : List (Kept ℕ)) → HasMeta old.now table metas → (row : Option Row) → FirstRow version_text [] old new row → Pins IsNumber row (version_of metas)
+version_told old new table metas has row first =
+    let tree = tree_of old.now.schema meta_table.name in
+    let got = answered version_text [] old new (point version_rest tree false) (codes "version" ∷ []) (version_means old.now.schema _ _ table has.place) row first in
+    pinned IsNumber (λ (x : Kept ℕ). eval_all version_rest.project ([] ∷ stored meta_cells x ∷ [])) (λ x. x.1) (λ x y told. number_read x.1 y told) row (find (λ x. int_eq (id_of x) (pos 1)) metas)
+    (got.2 ∙ first_is meta_cells (overlay old.now.trees []) tree metas (stored_tree old.now.trees tree has.place.low ∙ has.rows) has.keyed version_rest []
+    (λ x. int_eq (id_of x) (pos 1)) (λ x. last_term (at_ints _ compare.Eq (id_of x) (pos 1))) (λ l. refl) got.0 got.1)
+
+-- what tables hold is a case of it
+pub has_meta : (db : Database) (t : Tables) → Holds db t → HasMeta db meta_table t.metas
+has_meta db t h = record { place = h.ours.meta.place; rows = h.metas; keyed = h.metas_keyed }
+
 module _ (old new : State) (t : Tables) (h : Holds old.now t) where
   pub set_version_does : (count : ℕ) → Executes set_version_text [] old new (Ok count) → Holds new.now (version_set t)
   set_version_does count ran =
@@ -106,9 +123,7 @@ module _ (old new : State) (t : Tables) (h : Holds old.now t) where
       metas_written old.now new.now left.1 t h _ left.0 (IsKeyedBy-insert_by id_of t.metas (pos 1, 1) h.metas_keyed)
 
   pub version_shows : (row : Option Row) → FirstRow version_text [] old new row → Pins IsNumber row (version_in t)
-  version_shows row first =
-      first_own meta_cells meta_table old new h.ours.meta t.metas h.metas h.metas_keyed version_text [] row first version_rest (codes "version" ∷ [])
-      (λ x. int_eq (id_of x) (pos 1)) (λ x. last_term (at_ints _ compare.Eq (id_of x) (pos 1))) IsNumber (λ x. x.1) (λ x y told. number_read x.1 y told) (version_means old.now.schema _ _ h.ours.meta.place) (λ l. refl)
+  version_shows = version_told old new meta_table t.metas (has_meta old.now t h)
 
 pub set_version_leaves : (old new : State) (count : ℕ) → Executes set_version_text [] old new (Ok count) → LeavesOthers meta_table old.now new.now
 set_version_leaves old new count ran own =

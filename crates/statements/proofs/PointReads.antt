@@ -28,7 +28,7 @@ first_behind zero (x ∷ xs) = refl
 first_behind (suc n) [] = refl
 first_behind (suc n) (x ∷ xs) = first_behind n xs
 
-pinned : {A X : Type 0} (Is : Row → X → Type 0) (show : A → Row) (val : A → X) → ((x : A) (y : X) → Is (show x) y → y ≡ val x) → (row : Option Row) (o : Option A) → row ≡ option_map show o
+pub pinned : {A X : Type 0} (Is : Row → X → Type 0) (show : A → Row) (val : A → X) → ((x : A) (y : X) → Is (show x) y → y ≡ val x) → (row : Option Row) (o : Option A) → row ≡ option_map show o
     → Pins Is row (option_map val o)
 pinned Is show val back None None is = tt
 pinned Is show val back None (Some x) is = absurd (cc)

@@ -29,6 +29,14 @@ alters_by Change old new text params (Ok x) wrote does =
     (record { change = does wrote.0.0 ran.0; was_open = ran.1.was_open; is_open = ran.1.is_open; committed = ran.1.committed_is; inside = ran.1.mode }, tt)
 alters_by Change old new text params (Err e) wrote does = (tt, wrote.1)
 
+read_same : {X : Type 0} (Is : Row → X → Type 0) (r : Option Row) (o p : Option X) → IsRead {E = Error} {F = Error} Is (Ok r) (Ok o) → Pins Is r p → o ≡ p
+read_same Is None None None is pin = refl
+read_same Is None None (Some x) is pin = absurd pin
+read_same Is None (Some y) p is pin = absurd is
+read_same Is (Some row) None p is pin = absurd is
+read_same Is (Some row) (Some y) None is pin = absurd pin
+read_same Is (Some row) (Some y) (Some x) is pin = ap Some (pin y is)
+
 -- a query of one row, whose row is read as a value
 pub reads_by : {X E F : Type 0} (read : Tables → Option X) (Is : Row → X → Type 0) (old new : State) (text : List ℕ) (params : Row) (row : Result (Option Row) E) (result : Result (Option X) F)
     → IfOk row (FirstRow text params old new) → IsCalm old new row → IsRead Is row result
@@ -37,15 +45,15 @@ pub reads_by : {X E F : Type 0} (read : Tables → Option X) (Is : Row → X →
 reads_by read Is old new text params (Ok r) (Err f) first calm is pins = (tt, (tt, inl calm.0))
 reads_by read Is old new text params (Err e) (Err f) first calm is pins = (tt, (tt, calm.1))
 reads_by read Is old new text params (Err e) (Ok o) first calm is pins = absurd is
-reads_by {X} read Is old new text params (Ok r) (Ok o) first calm is pins = (λ t h. same r o (read t) is (pins t h r first), (calm.0, tt))
-  where
-    same : (r : Option Row) (o p : Option X) → IsRead {E = Error} {F = Error} Is (Ok r) (Ok o) → Pins Is r p → o ≡ p
-    same None None None is pin = refl
-    same None None (Some x) is pin = absurd pin
-    same None (Some y) p is pin = absurd is
-    same (Some row) None p is pin = absurd is
-    same (Some row) (Some y) None is pin = absurd pin
-    same (Some row) (Some y) (Some x) is pin = ap Some (pin y is)
+reads_by read Is old new text params (Ok r) (Ok o) first calm is pins = (λ t h. read_same Is r o (read t) is (pins t h r first), (calm.0, tt))
+
+-- of such a row, whatever is told of the value that it pins
+pub one_read : {X E F : Type 0} (Is : Row → X → Type 0) (old new : State) (text : List ℕ) (params : Row) (row : Result (Option Row) E) (result : Result (Option X) F)
+    → IfOk row (FirstRow text params old new) → IsRead Is row result → (P : Option X → Type 0)
+    → ((o : Option X) → ((want : Option X) → ((r : Option Row) → FirstRow text params old new r → Pins Is r want) → o ≡ want) → P o) → IfOk result P
+one_read Is old new text params row (Err f) first is P tells = tt
+one_read Is old new text params (Err e) (Ok o) first is P tells = absurd is
+one_read Is old new text params (Ok r) (Ok o) first is P tells = tells o (λ want pins. read_same Is r o want is (pins r first))
 
 -- a query of many rows, each of which is read as a value
 pub lists_by : {X E F : Type 0} (law : Tables → Type 0) (read : Tables → List X) (Is : Row → X → Type 0) (old new : State) (Gives : List Row → Type 0) (rows : Result (List Row) E) (result : Result (List X) F)

@@ -1,16 +1,16 @@
 -- How the tables are made, in a database that may hold tables of others.
-use Rattle.std.specs.Prelude.{◌≡◌, ◌≢◌, ◌<◌, ℕ, pos, List, [], ◌∷◌, ◌++◌, IsTrue, Result, OnOk, OnErr, Option, option_map}
+use Rattle.std.specs.Prelude.{◌≡◌, ◌≢◌, ◌<◌, ℕ, pos, List, [], ◌∷◌, ◌++◌, map, IsTrue, Result, OnOk, OnErr, Option, option_map}
 use Rattle.std.specs.List.{AllByRecursion}
 use Rattle.sqlite_trees.specs.Tree.{IsAscending}
 use Rattle.sqlite_schema.specs.declared.schema.Table.{Table}
 use Rattle.sqlite_catalog.specs.Change.{KeepsRows}
 use Rattle.sqlite.specs.Effect.{Database}
 use Rattle.sqlite.specs.State.{State, HasCleanDisk, KeepsCommit}
-use Rattle.sqlite_keyed.specs.Keyed.{insert_by, get_by}
-use Rattle.statements.specs.Place.{tree_of, IsOwn}
+use Rattle.sqlite_keyed.specs.Keyed.{IsKeyedBy, insert_by, get_by}
+use Rattle.statements.specs.Place.{at_of, tree_of, IsAt, IsOwn}
 use Rattle.statements.specs.Schema.{meta_table, org_table, token_table, ws_table, version_table, run_table}
-use Rattle.statements.specs.Rows.{id_of}
-use Rattle.statements.specs.Tables.{Tables, Holds}
+use Rattle.statements.specs.Rows.{Kept, id_of, stored, meta_cells}
+use Rattle.statements.specs.Tables.{Tables, Holds, meta_tree}
 
 -- These tables of ours stand in the schema, made in this order, each with no row.
 pub record AreMade (tables : List Table) (db : Database) : Type 0 where
@@ -74,6 +74,19 @@ pub record HasSchema (old new : Database) : Type 0 where
   pub holds : Holds new (version_set no_rows)
   pub kept : KeepsTables old new
 
--- the version in meta's row 1
+-- the version in row 1 of meta
+abbrev pub version_of : List (Kept ℕ) → Option ℕ
+version_of metas = option_map (λ x. x.1) (get_by id_of metas (pos 1))
+
 abbrev pub version_in : Tables → Option ℕ
-version_in t = option_map (λ x. x.1) (get_by id_of t.metas (pos 1))
+version_in t = version_of t.metas
+
+-- a table of meta's name and columns, whatever it checks, refers to and keeps unique
+abbrev pub like_meta : Table → Table
+like_meta t = record t { name = meta_table.name; columns = meta_table.columns; key = meta_table.key; computed = meta_table.computed }
+
+-- The name meta means such a table, which has these rows, in the order of their rowids; whatever else the database has.
+pub record HasMeta (db : Database) (table : Table) (metas : List (Kept ℕ)) : Type 0 where
+  pub place : IsAt db.schema meta_table.name (like_meta table) (at_of db.schema meta_table.name) (meta_tree db.schema)
+  pub rows : db.trees (meta_tree db.schema) ≡ map (stored meta_cells) metas
+  pub keyed : IsKeyedBy id_of metas

@@ -1,5 +1,13 @@
 -- When a store is sound, and which of our tables a database has.
-use Rattle.std.specs.Prelude.{◌≡◌, ◌≢◌, Bool, ◌&&◌, ◌||◌, is_some, Some, IsTrue}
+use Rattle.std.specs.Prelude.{◌≡◌, ◌≢◌, ◌==◌, ℕ, Bool, true, false, not, ◌&&◌, ◌||◌, is_some, List, [], ◌∷◌, codes, slice_get, Option, Some, None, IsTrue}
+use Rattle.std.specs.Str.{bytes_eq}
+use Rattle.sqlite_value.specs.declared.keys.Collation.{Collation}
+use Rattle.sqlite_value.specs.declared.keys.Collation.TheVariants.{Binary, NoCase, RTrim}
+use Rattle.sqlite_value.specs.declared.value.Value.{Value}
+use Rattle.sqlite_value.specs.declared.value.Value.TheVariants as cell
+use Rattle.sqlite_schema.specs.declared.schema.Kind.{Kind}
+use Rattle.sqlite_schema.specs.declared.schema.Kind.TheVariants.{Integer, Real, Text, Blob, Any}
+use Rattle.sqlite_schema.specs.declared.schema.Column.{Column}
 use Rattle.sqlite_schema.specs.declared.schema.Schema.{Schema}
 use Rattle.sqlite_schema.specs.declared.schema.Table.{Table}
 use Rattle.sqlite_schema.specs.Names.{table_named}
@@ -24,6 +32,64 @@ any_there s = is_there s meta_table || is_there s org_table || is_there s token_
 
 abbrev pub all_there : Schema → Bool
 all_there s = is_there s meta_table && is_there s org_table && is_there s token_table && is_there s ws_table && is_there s version_table && is_there s run_table
+
+-- ---- whether the table meta has the columns of ours
+
+abbrev pub is_integer : Kind → Bool
+is_integer Integer = true
+is_integer Real = false
+is_integer Text = false
+is_integer Blob = false
+is_integer Any = false
+
+abbrev pub is_null : Value → Bool
+is_null cell.Null = true
+is_null (cell.Int n) = false
+is_null (cell.Real x) = false
+is_null (cell.Text b) = false
+is_null (cell.Blob b) = false
+
+abbrev pub is_binary : Collation → Bool
+is_binary Binary = true
+is_binary NoCase = false
+is_binary RTrim = false
+
+-- a column of this name that takes integers alone
+abbrev pub is_integer_column : Column → List ℕ → Bool
+is_integer_column c name = (c.is_strict && is_integer c.kind) && bytes_eq c.name name
+
+-- no default, and no other order of texts
+abbrev pub is_plain_column : Column → Bool
+is_plain_column c = is_null c.default && is_binary c.collation
+
+abbrev pub tells_version : List Column → Bool
+tells_version (one ∷ version ∷ []) =
+    ((is_integer_column one (codes "one") && is_plain_column one) && not one.not_null) && ((is_integer_column version (codes "version") && is_plain_column version) && version.not_null)
+tells_version _ = false
+
+-- the first column is the rowid
+abbrev pub is_first_key : Option ℕ → Bool
+is_first_key None = false
+is_first_key (Some at) = at == 0
+
+abbrev pub has_none : List ℕ → Bool
+has_none [] = true
+has_none (x ∷ xs) = false
+
+abbrev pub is_meta_table : Table → Bool
+is_meta_table t = (is_first_key t.key && has_none t.computed) && tells_version t.columns
+
+abbrev pub is_meta_in : Option Table → Bool
+is_meta_in None = false
+is_meta_in (Some t) = is_meta_table t
+
+abbrev pub is_meta_at : Schema → Option ℕ → Bool
+is_meta_at s None = false
+is_meta_at s (Some at) = is_meta_in (slice_get s.tables at)
+
+-- the name meta means a table with the columns of ours, whatever else it is
+abbrev pub is_meta : Schema → Bool
+is_meta s = is_meta_at s (table_named s meta_table.name)
 
 -- the database tells no version, or another than this one
 abbrev pub IsOther : State → Type 0

@@ -4,12 +4,14 @@ ghost use Rattle.sqlite.specs.Held.{state};
 ghost use Rattle.sqlite.specs.State.{HasCleanDisk, KeepsCommit};
 ghost use Rattle.statements.specs.Place.{IsOwn};
 ghost use Rattle.statements.specs.Schema.{meta_table};
-ghost use Rattle.tables.specs.Opening.{any_there, all_there, IsOther};
-ghost use Rattle.tables.specs.Inner.Making.{IsMade, IsTold, tells_version, is_first};
+ghost use Rattle.tables.specs.Opening.{any_there, all_there, is_integer_column, is_null, is_plain_column, tells_version, is_first_key, has_none, is_meta, IsOther};
+ghost use Rattle.tables.specs.Inner.Making.{IsMade, IsTold, is_first};
 
 use crate::transactions;
 use sqlite::{Alter, Connection};
 use sqlite_schema::schema::{Column, Kind, Schema};
+use sqlite_value::keys::Collation;
+use sqlite_value::value::Value;
 use statements::making;
 
 /// Why a database wasn't opened.
@@ -42,27 +44,77 @@ fn all_there(schema: &Schema) -> bool
         && schema.table_named(b"run".as_slice()).is_some()
 }
 
-/// Whether a table has two columns, and the second is named `version` and takes integers alone.
+/// Whether a column has this name, and takes integers alone.
+fn is_integer_column(column: &Column, name: &[u8]) -> bool
+    ensures { result ≡ is_integer_column column.now name.now }
+{
+    column.is_strict && column.kind == Kind::Integer && column.name.as_slice() == name
+}
+
+fn is_null(value: &Value) -> bool
+    ensures { result ≡ is_null value.now }
+{
+    match value {
+        Value::Null => true,
+        Value::Int(_) => false,
+        Value::Real(_) => false,
+        Value::Text(_) => false,
+        Value::Blob(_) => false,
+    }
+}
+
+/// Whether a column has no default, and no other order of texts.
+fn is_plain_column(column: &Column) -> bool
+    ensures { result ≡ is_plain_column column.now }
+{
+    is_null(&column.default) && column.collation == Collation::Binary
+}
+
+/// Whether these are the columns of a table that tells a version.
 fn tells_version(columns: &[Column]) -> bool
     ensures { result ≡ tells_version columns.now }
 {
     match columns {
-        [_, version] => {
-            version.is_strict
-                && version.kind == Kind::Integer
-                && version.name.as_slice() == b"version".as_slice()
+        [one, version] => {
+            (is_integer_column(one, b"one".as_slice()) && is_plain_column(one) && !one.not_null)
+                && (is_integer_column(version, b"version".as_slice())
+                    && is_plain_column(version)
+                    && version.not_null)
         }
         _ => false,
     }
 }
 
-/// Whether the table meta can tell a version.
+fn is_first_key(key: Option<usize>) -> bool
+    ensures { result ≡ is_first_key key }
+{
+    match key {
+        None => false,
+        Some(at) => at == 0,
+    }
+}
+
+fn has_none(places: &[usize]) -> bool
+    ensures { result ≡ has_none places.now }
+{
+    match places {
+        [] => true,
+        _ => false,
+    }
+}
+
+/// Whether the table meta has the columns of ours.
 fn is_meta(schema: &Schema) -> bool
-    ensures { IsOwn schema.now meta_table → result ≡ true }
+    ensures exact { result ≡ is_meta schema.now }
+    ensures own { IsOwn schema.now meta_table → result ≡ true }
 {
     match schema.table_named(b"meta".as_slice()) {
         Some(at) => match schema.tables.as_slice().get(at) {
-            Some(table) => tells_version(table.columns.as_slice()),
+            Some(table) => {
+                is_first_key(table.key)
+                    && has_none(table.computed.as_slice())
+                    && tells_version(table.columns.as_slice())
+            }
             None => false,
         },
         None => false,
@@ -110,6 +162,7 @@ pub(crate) fn ready<S: Alter>(conn: &mut Connection<S>) -> Result<(), Fault>
     ensures told { HasCleanDisk (state S.Store conn.new) → OnOk result (any_there (state S.Store conn.old).now.schema ≡ true → IsTold (state S.Store conn.old) (state S.Store conn.new)) }
     ensures err { HasCleanDisk (state S.Store conn.new) → OnErr result (KeepsCommit (state S.Store conn.old) (state S.Store conn.new)) }
     ensures other { HasCleanDisk (state S.Store conn.new) → IfErr result (λ fault. fault ≡ Fault.Schema → (any_there (state S.Store conn.old).now.schema ≡ true) × IsOther (state S.Store conn.old)) }
+    ensures foreign { any_there (state S.Store conn.old).now.schema ≡ true → is_meta (state S.Store conn.old).now.schema ≡ false → IfErr result (λ fault. fault ≡ Fault.Schema) × IfOk result (λ _. ⊥) }
     ensures missing { any_there (state S.Store conn.old).now.schema ≡ true → all_there (state S.Store conn.old).now.schema ≡ false → IfErr result (λ fault. fault ≡ Fault.Schema) × IfOk result (λ _. ⊥) }
 {
     if !any_there(conn.schema()) {

@@ -4,9 +4,11 @@ ghost use Rattle.std.specs.Option.{unwrap_or};
 ghost use Rattle.sqlite.specs.Held.{state};
 ghost use Rattle.sqlite.specs.State.{HasCleanDisk, KeepsCommit};
 ghost use Rattle.tables.specs.Stores.{records_of, IsSoundStore};
-ghost use Rattle.statements.specs.Making.{version_in, KeepsTables};
+ghost use Rattle.statements.specs.Making.{HasMeta, version_of, version_in, KeepsTables};
+ghost use Rattle.statements.specs.Rows.{Kept};
+ghost use Rattle.sqlite_schema.specs.declared.schema.Table.{Table};
 ghost use Rattle.statements.specs.Tables.{Tables, Holds};
-ghost use Rattle.tables.specs.Opening.{IsSoundKeep, any_there, all_there, IsOther};
+ghost use Rattle.tables.specs.Opening.{IsSoundKeep, any_there, all_there, is_meta, IsOther};
 
 use crate::commands;
 use crate::opening::{Fault, ready};
@@ -70,10 +72,14 @@ impl<S: Alter> SqlKeep<S> {
             → (state S.Store keep.conn).committed ≡ (state S.Store conn).now) }
         ensures version { IfOk result (λ keep. ⟦<SqlKeep<S> as Keep>⟧.clean keep → any_there (state S.Store conn).now.schema ≡ true
             → (t : Tables) → Holds (state S.Store conn).now t → version_in t ≡ Some 1) }
+        ensures tells { IfOk result (λ keep. ⟦<SqlKeep<S> as Keep>⟧.clean keep → any_there (state S.Store conn).now.schema ≡ true
+            → (table : Table) (metas : List (Kept ℕ)) → HasMeta (state S.Store conn).now table metas → version_of metas ≡ Some 1) }
         ensures back { IfErr result (λ unopened. HasCleanDisk (state S.Store unopened.conn) → KeepsCommit (state S.Store conn) (state S.Store unopened.conn)) }
         ensures other { IfErr result (λ unopened. HasCleanDisk (state S.Store unopened.conn) → unopened.fault ≡ Fault.Schema
             → (any_there (state S.Store conn).now.schema ≡ true) × IsOther (state S.Store conn)) }
         ensures sound { IfErr result (λ unopened. HasCleanDisk (state S.Store unopened.conn) → unopened.fault ≡ Fault.Schema → IsSoundStore (state S.Store conn).now → ⊥) }
+        ensures foreign { any_there (state S.Store conn).now.schema ≡ true → is_meta (state S.Store conn).now.schema ≡ false
+            → IfErr result (λ unopened. unopened.fault ≡ Fault.Schema) × IfOk result (λ _. ⊥) }
         ensures missing { any_there (state S.Store conn).now.schema ≡ true → all_there (state S.Store conn).now.schema ≡ false
             → IfErr result (λ unopened. unopened.fault ≡ Fault.Schema) × IfOk result (λ _. ⊥) }
         ensures idle { IfErr result (λ unopened. unopened.conn.in_transaction ≡ false) }

@@ -1,8 +1,11 @@
 use Rattle.sqlite.specs.Held.{state}
-use Rattle.statements.specs.Making.{version_in}
+use Rattle.std.proofs.Common.{◌≡◌, ℕ, List, [], Option}
+use Rattle.sqlite_schema.specs.declared.schema.Table.{Table}
+use Rattle.statements.specs.Making.{HasMeta, version_of, version_in}
+use Rattle.statements.specs.Rows.{Kept}
 use Rattle.statements.specs.Queries.{IsNumber}
-use Rattle.statements.proofs.Transactions.{reads_by}
-use Rattle.statements.proofs.MetaTexts.{version_text, version_is_query, version_shows}
+use Rattle.statements.proofs.Transactions.{reads_by, one_read}
+use Rattle.statements.proofs.MetaTexts.{version_text, version_is_query, version_told, version_shows}
 use Rattle.statements.proofs.making.version.Goals as goal
 
 pub returns-clause-read : goal.returns-clause-read
@@ -11,6 +14,14 @@ returns-clause-read g c clean =
     let new = state g.S.Store c.first_row-row.new.conn in
     reads_by version_in IsNumber old new version_text _ c.first_row-row.result c.number_of.result
     (c.first_row-row.ensures.row version_is_query clean) (c.first_row-row.ensures.calm version_is_query clean) c.number_of.ensures (λ t holds row first. version_shows old new t holds row first)
+
+pub returns-clause-told : goal.returns-clause-told
+returns-clause-told g c clean =
+    let old = state g.S.Store c.args.conn.now in
+    let new = state g.S.Store c.first_row-row.new.conn in
+    one_read IsNumber old new version_text [] c.first_row-row.result c.number_of.result (c.first_row-row.ensures.row version_is_query clean) c.number_of.ensures
+    (λ (o : Option ℕ). (table : Table) (metas : List (Kept ℕ)) → HasMeta old.now table metas → o ≡ version_of metas)
+    (λ o same table metas has. same (version_of metas) (version_told old new table metas has))
 
 pub returns-clause-survives : goal.returns-clause-survives
 returns-clause-survives g c = c.first_row-row.ensures.survives version_is_query

@@ -12,3 +12,6 @@ returns-in-Ok-clause-held g c = rw c.of-seen.ensures (λ clean there.
 
 pub returns-in-Err-clause-sound : goal.returns-in-Err-clause-sound
 returns-in-Err-clause-sound g c clean schema = sound_is_not_other (state g.S.Store c.args.conn) (c.in-Err.ensures.other clean schema).1
+
+pub returns-in-Ok-clause-tells : goal.returns-in-Ok-clause-tells
+returns-in-Ok-clause-tells g c clean there = (c.in-Ok.ensures.told clean there).tells
