@@ -1,6 +1,7 @@
 -- When a store is sound, and which of our tables a database has.
-use Rattle.std.specs.Prelude.{◌≡◌, ◌≢◌, ◌==◌, ℕ, Bool, true, false, not, ◌&&◌, ◌||◌, is_some, List, [], ◌∷◌, codes, slice_get, Option, Some, None, IsTrue}
+use Rattle.std.specs.Prelude.{◌≡◌, ◌≢◌, ◌==◌, ℕ, Bool, true, false, not, ◌&&◌, is_some, List, [], ◌∷◌, codes, slice_get, Option, Some, None, IsTrue}
 use Rattle.std.specs.Str.{bytes_eq}
+use Rattle.std.specs.List.{list_any, list_all}
 use Rattle.sqlite_value.specs.declared.keys.Collation.{Collation}
 use Rattle.sqlite_value.specs.declared.keys.Collation.TheVariants.{Binary, NoCase, RTrim}
 use Rattle.sqlite_value.specs.declared.value.Value.{Value}
@@ -13,8 +14,8 @@ use Rattle.sqlite_schema.specs.declared.schema.Table.{Table}
 use Rattle.sqlite_schema.specs.Names.{table_named}
 use Rattle.sqlite.specs.Effect.{Database}
 use Rattle.sqlite.specs.State.{State}
-use Rattle.statements.specs.Schema.{meta_table, org_table, token_table, ws_table, version_table, run_table}
-use Rattle.statements.specs.Making.{version_in}
+use Rattle.statements.specs.Schema.{meta_table}
+use Rattle.statements.specs.Making.{our_tables, version_in}
 use Rattle.statements.specs.Tables.{Tables, Holds}
 use Rattle.tables.specs.Stores.{IsSoundStore}
 
@@ -28,10 +29,10 @@ is_there s t = is_some (table_named s t.name)
 
 -- whether one of our tables is there, or all are
 abbrev pub any_there : Schema → Bool
-any_there s = is_there s meta_table || is_there s org_table || is_there s token_table || is_there s ws_table || is_there s version_table || is_there s run_table
+any_there s = list_any (is_there s) our_tables
 
 abbrev pub all_there : Schema → Bool
-all_there s = is_there s meta_table && is_there s org_table && is_there s token_table && is_there s ws_table && is_there s version_table && is_there s run_table
+all_there s = list_all (is_there s) our_tables
 
 -- ---- whether the table meta has the columns of ours
 
