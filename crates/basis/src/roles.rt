@@ -36,3 +36,9 @@ impl Role {
         }
     }
 }
+
+/// Who asks, by a token: what it may do.
+#[derive(Clone, Copy)]
+pub struct Caller {
+    pub role: Role,
+}

@@ -29,6 +29,23 @@ pub struct Settings {
     pub auto_apply: bool,
 }
 
+/// What is told of a workspace; nothing changes by it.
+#[derive(Clone, Copy)]
+pub enum Look {
+    /// The workspace as it is shown.
+    Workspace,
+    /// The text of the newest version (Terraform's `GET`).
+    State,
+    /// The text of the version of this number.
+    Version(Number),
+    /// The versions whose numbers come after this one, at most 50.
+    Versions(u64),
+    /// A run as it is shown.
+    Run(Number),
+    /// The runs whose numbers come after this one, at most 50.
+    Runs(u64),
+}
+
 /// What the document of a run's creation asks.
 #[derive(Drop)]
 pub struct RunAsk {
@@ -47,7 +64,7 @@ pub enum HolderId {
 /// A workspace as it is shown.
 #[derive(Drop)]
 pub struct WsRow {
-    pub auto_apply: bool,
+    pub settings: Settings,
     pub holder: Option<HolderId>,
     pub name: WsName,
     /// The number of the newest version.

@@ -10,6 +10,7 @@ use Rattle.basis.specs.declared.rows.HolderId.{HolderId}
 use Rattle.basis.specs.declared.rows.HolderId.TheVariants.{Lock, Run}
 use Rattle.basis.specs.declared.rows.Listing.{Listing}
 use Rattle.basis.specs.declared.rows.RunRow.{RunRow}
+use Rattle.basis.specs.declared.rows.Settings.{Settings}
 use Rattle.basis.specs.declared.rows.VersionRow.{VersionRow}
 use Rattle.basis.specs.declared.rows.WsRow.{WsRow}
 use Rattle.basis.specs.declared.runs.RunAction.{RunAction}
@@ -34,17 +35,17 @@ abbrev pub number_value : Option ℕ → Data
 number_value None = null
 number_value (Some n) = number (unsigned n)
 
--- a workspace, by the values of its parts
-abbrev pub ws_object : Bool → Data → List ℕ → Data → Data
-ws_object auto_apply holder name version = object (
-    member (codes "auto_apply") (boolean auto_apply) (
+-- a workspace, by its settings and the values of its other parts
+abbrev pub ws_object : Settings → Data → List ℕ → Data → Data
+ws_object settings holder name version = object (
+    member (codes "auto_apply") (boolean settings.auto_apply) (
     member (codes "holder") holder (
     member (codes "name") (string name) (
     member (codes "version") version no_members))))
 
 -- auto-apply, holder, name and the number of the newest version
 abbrev pub ws_value : WsRow → Data
-ws_value row = ws_object row.auto_apply (holder_value row.holder) row.name (number_value row.version)
+ws_value row = ws_object row.settings (holder_value row.holder) row.name (number_value row.version)
 
 -- a workspace as it is shown
 unfoldable pub ws_text : WsRow → List ℕ

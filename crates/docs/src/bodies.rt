@@ -7,7 +7,8 @@ ghost use Rattle.basis.specs.Names.{run_id};
 ghost use Rattle.docs.specs.Bodies.{error_value, error_text, holder_value, number_value, ws_object, ws_value, ws_text, version_value, action_value, text_value, run_object, run_value, run_text, run_holder_value, run_holder_text};
 
 use basis::{
-    Down, HolderId, Number, OrgName, Refusal, RunAction, RunRow, Text, VersionRow, WsName, WsRow,
+    Down, HolderId, Number, OrgName, Refusal, RunAction, RunRow, Settings, Text, VersionRow,
+    WsName, WsRow,
 };
 use serde_json::{Value, json};
 use std::alloc::{AllocError, Global};
@@ -71,22 +72,22 @@ pub(crate) fn ws_value(alloc: Global, row: &WsRow) -> Result<Value, AllocError>
 {
     let holder = holder_value(alloc, &row.holder)?;
     let version = number_value(row.version);
-    ws_object(alloc, row.auto_apply, holder, row.name.as_str(), version)
+    ws_object(alloc, row.settings, holder, row.name.as_str(), version)
 }
 
-// A workspace, from the values of its parts.
+// A workspace, from its settings and the values of its other parts.
 fn ws_object(
     alloc: Global,
-    auto_apply: bool,
+    settings: Settings,
     holder: Value,
     name: &str,
     version: Value,
 ) -> Result<Value, AllocError>
     ensures { IfOk result (λ value. view value
-        ≡ ws_object auto_apply (view holder) name.now (view version)) }
+        ≡ ws_object settings (view holder) name.now (view version)) }
 {
     json!(in alloc; {
-        "auto_apply": auto_apply,
+        "auto_apply": settings.auto_apply,
         "holder": holder,
         "name": name,
         "version": version,

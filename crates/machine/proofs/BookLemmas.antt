@@ -15,7 +15,7 @@ use Rattle.machine.specs.Rules.{done, rules, refused_by, by_may_write, by_succes
 use Rattle.machine.specs.Custody.{IsRefusal, WritesWith}
 use Rattle.machine.specs.Queue.{is_active_run, Starts, WaitedOrIsNew, AreInRange, Leads}
 use Rattle.machine.specs.declared.acts.Act.{Act}
-use Rattle.machine.specs.declared.acts.Act.TheVariants.{PutWorkspace, ReadWorkspace, DeleteWorkspace, UpdateState, ReadState, PurgeState, Lock as LockAct, Unlock, ForceUnlock, ListVersions, ReadVersion, ListRuns, MakeRun, ReadRun, ReportRun}
+use Rattle.machine.specs.declared.acts.Act.TheVariants.{Look, PutWorkspace, DeleteWorkspace, UpdateState, PurgeState, Lock as LockAct, Unlock, ForceUnlock, MakeRun, ReportRun}
 use Rattle.machine.specs.declared.records.Holder.{Holder}
 use Rattle.machine.specs.declared.records.Holder.TheVariants.{Nobody, Lock, Run as HoldingRun}
 use Rattle.machine.specs.declared.records.Run.{Run}
@@ -86,12 +86,8 @@ run_next w v changed after stays e (inr h) = settled_next h.0 v (sym h.2 ∙ e) 
 pub rises_by_write : (act : Act) (now : ℕ) (w v : Workspace) → (rules act now (there w)).left ≡ Some v → w.next_version < v.next_version → IsAcceptedWrite act now w
 rises_by_write (PutWorkspace settings) now w v e lt = none_made w v _ (settled_next (with_settings w settings) v e) lt
 rises_by_write (UpdateState head text id) now w v e lt = (id, refl, update_accepted w v head text now (may_write w.holder (holder_status w.holder w.runs) id) e lt)
-rises_by_write ReadWorkspace now w v e lt = none_made w v _ (left_next w v e) lt
-rises_by_write ReadState now w v e lt = none_made w v _ (left_next w v e) lt
+rises_by_write (Look what) now w v e lt = none_made w v _ (left_next w v e) lt
 rises_by_write DeleteWorkspace now w v e lt = none_made w v _ (left_next w v (delete_left w v e)) lt
-rises_by_write (ListVersions after) now w v e lt = none_made w v _ (left_next w v e) lt
-rises_by_write (ReadVersion n) now w v e lt = none_made w v _ (left_next w v e) lt
-rises_by_write (ListRuns after) now w v e lt = none_made w v _ (left_next w v e) lt
 rises_by_write (PurgeState id) now w v e lt =
     none_made w v _ (purge_next w v (rules (PurgeState id) now (there w)).left e (purge_becomes w (may_write w.holder (holder_status w.holder w.runs) id))) lt
 rises_by_write (LockAct id text) now w v e lt = none_made w v _ (lock_next w v id text (rules (LockAct id text) now (there w)).left e (lock_becomes id text w w.holder)) lt
@@ -99,7 +95,6 @@ rises_by_write (Unlock id) now w v e lt = none_made w v _ (unlock_next w v (rule
 rises_by_write ForceUnlock now w v e lt = none_made w v _ (unlock_next w v (rules ForceUnlock now (there w)).left e (force_becomes w w.holder)) lt
 rises_by_write (MakeRun ask) now w v e lt =
     none_made w v _ (run_next w v (IsMade w ask now) _ (λ u is. ap (λ (x : Workspace). x.next_version) is.2) e (comes_to (make_comes w ask now))) lt
-rises_by_write (ReadRun n) now w v e lt = none_made w v _ (left_next w v e) lt
 rises_by_write (ReportRun n action) now w v e lt =
     none_made w v _ (run_next w v (IsReported w n action) _ (λ u is. ap (λ (x : Workspace). x.next_version) is.is) e (comes_to (report_comes w n action))) lt
 

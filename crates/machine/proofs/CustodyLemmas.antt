@@ -19,14 +19,14 @@ use Rattle.machine.specs.declared.records.Run.{Run}
 use Rattle.machine.specs.Writing.{may_write}
 use Rattle.machine.specs.Settling.{first_waiting, to_start, started, started_if, settled}
 use Rattle.machine.specs.Succession.{Succession, first, same, other_lineage, old_serial, next, succession}
-use Rattle.machine.specs.Rules.{Outcome, refused, Ruling, rules_missing, done, rules, refused_by, by_may_write, by_succession, numbered_update, number_left, with_version, with_settings, done_with, done_already, purge, purged, lock, locked, unlock, released, is_released, force_unlock, new_run, with_run, numbered_run, make_run, reported, frees, with_report, report, delete}
+use Rattle.machine.specs.Rules.{Outcome, refused, Ruling, rules_missing, rules, refused_by, by_may_write, by_succession, numbered_update, number_left, with_version, with_settings, done_with, done_already, purge, purged, lock, locked, unlock, released, is_released, force_unlock, new_run, with_run, numbered_run, make_run, reported, frees, with_report, report, delete}
 use Rattle.machine.proofs.DeletionLemmas.{IsKept, IsGone, delete_comes, delete_left, delete_again, locked_stays}
-use Rattle.machine.specs.Custody.{VersionsChangeByTheId, WorkspacesGoByDelete, WorkspacesBeginAnew, AcceptedActsComeAgain, IsAnew, IsUnlocked, IsRepeatable, HoldsUntilReleased, LockedWorkspacesStay, RepeatsChangeNothing, IsRefusal}
-use Rattle.machine.specs.Records.{Seen, missing, there, standing}
+use Rattle.machine.specs.Custody.{VersionsChangeByTheId, WorkspacesGoByDelete, WorkspacesBeginAnew, AcceptedActsComeAgain, IsAnew, IsUnlocked, HoldsUntilReleased, LockedWorkspacesStay, RepeatsChangeNothing, IsRefusal}
+use Rattle.machine.specs.Records.{Seen, missing, there}
 use Rattle.machine.specs.Effects.{effect}
 use Rattle.machine.proofs.MissingLemmas.{IsPut, Misses, put_or_missed}
 use Rattle.machine.specs.declared.acts.Act.{Act}
-use Rattle.machine.specs.declared.acts.Act.TheVariants.{PutWorkspace, ReadWorkspace, DeleteWorkspace, UpdateState, ReadState, PurgeState, Lock as LockAct, Unlock, ForceUnlock, ListVersions, ReadVersion, ListRuns, MakeRun, ReadRun, ReportRun}
+use Rattle.machine.specs.declared.acts.Act.TheVariants.{Look, PutWorkspace, DeleteWorkspace, UpdateState, PurgeState, Lock as LockAct, Unlock, ForceUnlock, MakeRun, ReportRun}
 use Rattle.machine.specs.declared.records.Holder.{Holder}
 use Rattle.machine.specs.declared.records.Holder.TheVariants.{Nobody, Lock, Run as HoldingRun}
 use Rattle.machine.specs.declared.records.Version.{Version}
@@ -307,12 +307,8 @@ repeats (PutWorkspace settings) now later (there w) v may e =
     again (PutWorkspace settings) now later w (settled u) refl (ap Some (ap settled (settings_stay w settings (to_start w.holder (first_waiting w.runs))) ∙ settled_twice u)) v e
 repeats (UpdateState head text id) now later (there w) v may e =
     update_again head text id now later w (update_becomes head text w (may_write w.holder (holder_status w.holder w.runs) id)) v e
-repeats ReadWorkspace now later (there w) v may e = refl
-repeats ReadState now later (there w) v may e = refl
+repeats (Look what) now later (there w) v may e = refl
 repeats DeleteWorkspace now later (there w) v may e = delete_again w v e
-repeats (ListVersions after) now later (there w) v may e = refl
-repeats (ReadVersion n) now later (there w) v may e = refl
-repeats (ListRuns after) now later (there w) v may e = refl
 repeats (PurgeState id) now later (there w) v may e = purge_again id now later w (purge_becomes w (may_write w.holder (holder_status w.holder w.runs) id)) v e
 repeats (LockAct id text) now later (there w) v may e = lock_again id text now later w (lock_becomes id text w w.holder) v e
 repeats (Unlock id) now later (there w) v may e = unlock_again id now later w (unlock_becomes id w w.holder) v e
@@ -322,7 +318,6 @@ repeats (MakeRun ask) now later (there w) v may e = by_key ask.key refl may
     by_key : (k : Option (List ℕ)) → ask.key ≡ k → IsSome k → (rules (MakeRun ask) later (there v)).left ≡ Some v
     by_key None at may = absurd (let none : ⊥ = cc in none)
     by_key (Some key) at may = make_again ask key now later w at v e
-repeats (ReadRun n) now later (there w) v may e = refl
 repeats (ReportRun n action) now later (there w) v may e = report_again n action now later w v e
 
 -- while a lock holds, settling starts no run
@@ -361,12 +356,8 @@ holds_until_released (PutWorkspace settings) now w v held text e h =
     inl (holder_of_same (settled u) v held text h (holder_stays u held text e))
 holds_until_released (UpdateState head state id) now w v held text e h =
     inl (held_by head state now w v held text (λ t. (rules (UpdateState head state id) t (there w)).left) e (update_becomes head state w (may_write w.holder (holder_status w.holder w.runs) id)) h)
-holds_until_released ReadWorkspace now w v held text e h = inl (holder_of_same w v held text h e)
-holds_until_released ReadState now w v held text e h = inl (holder_of_same w v held text h e)
+holds_until_released (Look what) now w v held text e h = inl (holder_of_same w v held text h e)
 holds_until_released DeleteWorkspace now w v held text e h = inl (holder_of_same w v held text (delete_left w v h) e)
-holds_until_released (ListVersions after) now w v held text e h = inl (holder_of_same w v held text h e)
-holds_until_released (ReadVersion n) now w v held text e h = inl (holder_of_same w v held text h e)
-holds_until_released (ListRuns after) now w v held text e h = inl (holder_of_same w v held text h e)
 holds_until_released (PurgeState id) now w v held text e h =
     inl (purge_held w v held text (rules (PurgeState id) now (there w)).left e (purge_becomes w (may_write w.holder (holder_status w.holder w.runs) id)) h)
 holds_until_released (LockAct id t) now w v held text e h =
@@ -376,7 +367,6 @@ holds_until_released (Unlock id) now w v held text e h =
     unlocked_or_held id w v held text (bytes_eq id held) refl e (subst (λ (x : Holder). (unlock x id w).left ≡ Some v) e h)
 holds_until_released ForceUnlock now w v held text e h = inr tt
 holds_until_released (MakeRun ask) now w v held text e h = inl (run_held w v held text (IsMade w ask now) _ (λ u is. ap (λ (x : Workspace). x.holder) is.2 ∙ e) e h (comes_to (make_comes w ask now)))
-holds_until_released (ReadRun n) now w v held text e h = inl (holder_of_same w v held text h e)
 holds_until_released (ReportRun n action) now w v held text e h =
     inl (run_held w v held text (IsReported w n action) _ (λ u is. ap (λ (x : Workspace). x.holder) is.is ∙ ap (λ (x : Holder). cond (frees n is.status x) Nobody x) e) e h (comes_to (report_comes w n action)))
 
@@ -414,12 +404,8 @@ versions_change_by_the_id (PutWorkspace settings) now w v held text lock e =
 versions_change_by_the_id (UpdateState head state given) now w v held text lock e =
     let after : Option Refusal → Option Workspace = λ m. (by_may_write m w head state now).left in
     kept_or_carried given w v held text after refl (subst (λ (h : Holder). after (may_write h (holder_status h w.runs) given) ≡ Some v) lock e)
-versions_change_by_the_id ReadWorkspace now w v held text lock e = inl (versions_of_same w w v e refl)
-versions_change_by_the_id ReadState now w v held text lock e = inl (versions_of_same w w v e refl)
+versions_change_by_the_id (Look what) now w v held text lock e = inl (versions_of_same w w v e refl)
 versions_change_by_the_id DeleteWorkspace now w v held text lock e = inl (versions_of_same w w v (delete_left w v e) refl)
-versions_change_by_the_id (ListVersions after) now w v held text lock e = inl (versions_of_same w w v e refl)
-versions_change_by_the_id (ReadVersion n) now w v held text lock e = inl (versions_of_same w w v e refl)
-versions_change_by_the_id (ListRuns after) now w v held text lock e = inl (versions_of_same w w v e refl)
 versions_change_by_the_id (PurgeState given) now w v held text lock e =
     let after : Option Refusal → Option Workspace = λ m. (purge m w).left in
     kept_or_carried given w v held text after refl (subst (λ (h : Holder). after (may_write h (holder_status h w.runs) given) ≡ Some v) lock e)
@@ -432,7 +418,6 @@ versions_change_by_the_id ForceUnlock now w v held text e h =
     inl (versions_of_same (settled (released held w)) w v (subst (λ (x : Holder). (force_unlock x w).left ≡ Some v) e h) (settled_versions (released held w)))
 versions_change_by_the_id (MakeRun ask) now w v held text e h =
     inl (run_versions w v (IsMade w ask now) _ (λ u is. ap (λ (x : Workspace). x.versions) is.2) h (comes_to (make_comes w ask now)))
-versions_change_by_the_id (ReadRun n) now w v held text e h = inl (versions_of_same w w v h refl)
 versions_change_by_the_id (ReportRun n action) now w v held text e h =
     inl (run_versions w v (IsReported w n action) _ (λ u is. ap (λ (x : Workspace). x.versions) is.is) h (comes_to (report_comes w n action)))
 
@@ -458,19 +443,14 @@ stays_or_deleted : (act : Act) (now : ℕ) (w : Workspace) → IsSome (rules act
 stays_or_deleted (PutWorkspace settings) now w = inl refl
 stays_or_deleted (UpdateState head state id) now w =
     inl (some_after w (λ t. (rules (UpdateState head state id) t (there w)).left) head state now (update_becomes head state w (may_write w.holder (holder_status w.holder w.runs) id)))
-stays_or_deleted ReadWorkspace now w = inl refl
+stays_or_deleted (Look what) now w = inl refl
 stays_or_deleted DeleteWorkspace now w = inr refl
-stays_or_deleted ReadState now w = inl refl
 stays_or_deleted (PurgeState id) now w =
     inl (some_of_two w (settled (purged w)) (rules (PurgeState id) now (there w)).left (purge_becomes w (may_write w.holder (holder_status w.holder w.runs) id)))
 stays_or_deleted (LockAct id t) now w = inl (some_of_two w (locked id t w) (rules (LockAct id t) now (there w)).left (lock_becomes id t w w.holder))
 stays_or_deleted (Unlock id) now w = inl (some_unlocked w (rules (Unlock id) now (there w)).left (unlock_becomes id w w.holder))
 stays_or_deleted ForceUnlock now w = inl (some_unlocked w (rules ForceUnlock now (there w)).left (force_becomes w w.holder))
-stays_or_deleted (ListVersions after) now w = inl refl
-stays_or_deleted (ReadVersion n) now w = inl refl
-stays_or_deleted (ListRuns after) now w = inl refl
 stays_or_deleted (MakeRun ask) now w = inl (some_after_run w (IsMade w ask now) (rules (MakeRun ask) now (there w)).left (comes_to (make_comes w ask now)))
-stays_or_deleted (ReadRun n) now w = inl refl
 stays_or_deleted (ReportRun n action) now w = inl (some_after_run w (IsReported w n action) (rules (ReportRun n action) now (there w)).left (comes_to (report_comes w n action)))
 
 none_of_some : {X : Type 0} (o : Option X) → IsSome o → o ≡ None → ⊥

@@ -1,8 +1,9 @@
 -- A decision means what the rules say.
 use Rattle.std.specs.FinMap.{get}
+use Rattle.basis.specs.declared.rows.Look.TheVariants as look
 use Rattle.basis.specs.declared.rows.Settings.{Settings}
 use Rattle.machine.specs.declared.records.Organization.{Organization}
-use Rattle.std.proofs.Common.{◌≡◌, ◌⊎◌, inl, inr, ℕ, ◌+◌, ◌-◌, ◌==◌, nat_lt, Bool, true, false, not, ◌&&◌, cond, List, [], ◌∷◌, ◌++◌, drop, map, Option, Some, None, is_some, option_map, Result, Ok, Err, IfOk, refl, sym, ap, subst, ◌∙◌, length-append, eq-eqb, eqb-true}
+use Rattle.std.proofs.Common.{◌≡◌, ◌⊎◌, inl, inr, ℕ, ◌+◌, ◌==◌, nat_lt, Bool, true, false, not, ◌&&◌, cond, List, [], ◌∷◌, map, Option, Some, None, is_some, option_map, Result, Ok, Err, IfOk, refl, sym, ap, subst, ◌∙◌, eq-eqb, eqb-true}
 use Rattle.std.specs.Option.{option_or, option_map_or}
 use Rattle.std.specs.List.{AllByRecursion}
 use Rattle.std.specs.Str.{bytes_eq}
@@ -13,19 +14,21 @@ use Rattle.machine.specs.Workspaces.{max_open_runs, newest, holder_status, run_o
 use Rattle.machine.specs.Writing.{may_write}
 use Rattle.machine.specs.Succession.{after_newest, lineages_differ, same, other_lineage, old_serial, next}
 use Rattle.machine.specs.Showing.{holder_id, shown_of}
-use Rattle.machine.specs.Rules.{rules, done, no_state, state, version_answer, delete, by_may_write, by_succession, numbered_update, number_left, state_answer, workspace, refused, the_run, run_answer, told_with, told_already, new_run, with_run, numbered_run, make_run, reported, frees, with_report, by_step, report, with_settings, purge, lock, unlock, force_unlock, is_released, released, done_with, done_already, refused_by, rules_there, rules_missing, Ruling}
+use Rattle.machine.specs.Rules.{rules, done, no_state, state, version_answer, delete, by_may_write, by_succession, numbered_update, number_left, state_answer, workspace, refused, the_run, run_answer, told_with, told_already, new_run, with_run, with_version, purged, shown_with, numbered_run, make_run, reported, frees, with_report, by_step, report, with_settings, purge, lock, unlock, force_unlock, is_released, released, done_with, done_already, refused_by, rules_there, rules_missing, Ruling}
 use Rattle.machine.specs.Settling.{is_waiting, first_waiting, to_start, started_if}
 use Rattle.machine.specs.RunSteps.{next_status, is_last}
 use Rattle.machine.proofs.StepLemmas.{never_pending, pending_idle}
-use Rattle.machine.proofs.LawLemmas.{number_left-is, none_waits}
+use Rattle.machine.proofs.LawLemmas.{number_left-is, none_waits, nobody_starts}
+use Rattle.machine.proofs.CutLemmas.{cut_is_last}
 use Rattle.machine.proofs.RunLemmas.{run_of-number, run_of-map, run_of-started, run_of-push, none_numbered, first_waiting-push, first_waiting-map}
 use Rattle.basis.specs.Runs.{is_open}
 use Rattle.basis.specs.declared.rows.RunAsk.{RunAsk}
 use Rattle.basis.specs.declared.runs.RunStatus.{RunStatus}
 use Rattle.basis.specs.declared.runs.RunAction.{RunAction}
-use Rattle.machine.specs.Units.{unit_of, counted_for, workspace_unit, newest_unit, version_of, unit_by}
+use Rattle.machine.specs.Needs.{needs}
+use Rattle.machine.specs.Units.{unit_of, workspace_unit, newest_unit, version_of, unit_by}
 use Rattle.machine.specs.declared.acts.Act.{Act}
-use Rattle.machine.specs.declared.acts.Act.TheVariants.{PutWorkspace, ReadWorkspace, DeleteWorkspace, UpdateState, ReadState, PurgeState, Lock as LockAct, Unlock, ForceUnlock, ListVersions, ReadVersion, ListRuns, MakeRun, ReadRun, ReportRun}
+use Rattle.machine.specs.declared.acts.Act.TheVariants.{Look, PutWorkspace, DeleteWorkspace, UpdateState, PurgeState, Lock as LockAct, Unlock, ForceUnlock, MakeRun, ReportRun}
 use Rattle.machine.specs.declared.acts.Decision.{Decision}
 use Rattle.machine.specs.declared.acts.Decision.TheVariants.{Refused, Accepted}
 use Rattle.machine.specs.declared.acts.Answer.TheVariants.{Done, Run as ShownRun}
@@ -39,7 +42,8 @@ use Rattle.machine.specs.declared.records.Workspace.{Workspace}
 use Rattle.machine.specs.declared.acts.Unit.{Unit as AnyUnit}
 use Rattle.machine.proofs.RuleLemmas.{rules_are_lawful}
 use Rattle.machine.specs.Effects.{effect}
-use Rattle.machine.specs.Inner.Decisions.{decided_delete, decided_version_read, decision_of, decided_update, decided_after, decided_version, decided_number, decided_read, decided_purge, decided_lock, decided_unlock, decided_force, decided_number_of_run, decided_make, decided_read_run, decided_step, decided_report, start_freed, begun_by, acted, changing, holder_after, meaning, Meets, ChangeIsDue, decision_missing}
+use Rattle.machine.specs.Inner.Decisions.{decided_delete, decided_version_read, decision_of, decided_update, decided_after, decided_version, decided_number, decided_read, decided_purge, decided_lock, decided_unlock, decided_force, decided_number_of_run, decided_make, decided_read_run, decided_step, decided_report, start_freed, begun_by, acted, changing, decision_missing}
+use Rattle.machine.specs.Meaning.{meaning, Meets, ChangeIsDue}
 use Rattle.machine.specs.Laws.{IsRun, IsLawful, IsLawfulIfThere, IsLawfulOrganization, is_pending}
 use Rattle.machine.specs.Records.{Seen, seen_by, standing, count_of, seen_in}
 use Rattle.machine.specs.Ranges.{IsInRange, IsMoment}
@@ -53,19 +57,25 @@ version_of-newest (u ∷ []) v e =
     subst (λ (x : Version). cond (u.number == x.number) (Some u) None ≡ Some x) is (rw (eq-eqb u.number u.number refl) refl)
 version_of-newest (u ∷ w ∷ vs) v e = rw (version_of-newest (w ∷ vs) v e) refl
 
--- one more version, and the oldest of too many gone
-number_model : (w : Workspace) (head : StateHead) (text : List ℕ) (id : Option (List ℕ)) (now : ℕ) (n : Option ℕ)
-    → meaning (decided_number n (workspace_unit (UpdateState head text id) w) head text now) (Some w) ≡ numbered_update n w head text now
-number_model w head text id now None = refl
-number_model w head text id now (Some n) =
-    let v : Version = record { number = n; serial = head.serial; lineage = head.lineage; created = now; text = text } in
-    ap (λ (k : ℕ). effect done (Some (started_if (to_start w.holder (first_waiting w.runs)) (record w { next_version = n + 1; versions = drop (k - 100) (w.versions ++ v ∷ []) })))) (sym (length-append w.versions (v ∷ [])))
+-- where somebody holds none starts, and where nobody does none waits
+none_starts : (w : Workspace) → IsLawful w → to_start w.holder (first_waiting w.runs) ≡ None
+none_starts w lawful = nobody_starts w.holder w.runs lawful.runs.each
 
-after_model : (w : Workspace) (head : StateHead) (text : List ℕ) (id : Option (List ℕ)) (now : ℕ) (o : Option Version)
-    → meaning (decided_after (option_map (newest_unit (UpdateState head text id)) o) (workspace_unit (UpdateState head text id) w) head text now) (Some w)
+-- one more version, and the oldest of too many gone
+number_model : (w : Workspace) (head : StateHead) (text : List ℕ) (id : Option (List ℕ)) (now : ℕ) → IsLawful w → (n : Option ℕ) → number_left w.next_version ≡ n
+    → meaning (decided_number n (workspace_unit (UpdateState head text id) w) head text now) (Some w) ≡ numbered_update n w head text now
+number_model w head text id now lawful None e = refl
+number_model w head text id now lawful (Some n) e =
+    let v : Version = record { number = n; serial = head.serial; lineage = head.lineage; created = now; text = text } in
+    ap (λ (versions : List Version). effect done (Some (record w { next_version = n + 1; versions = versions })))
+    (cut_is_last w.next_version w.versions v lawful.versions.next.0 (number_left-is w.next_version n e).0 lawful.versions.rise)
+    ∙ ap (λ (start : Option ℕ). effect done (Some (started_if start (with_version w n head text now)))) (sym (none_starts w lawful))
+
+after_model : (w : Workspace) (head : StateHead) (text : List ℕ) (id : Option (List ℕ)) (now : ℕ) → IsLawful w → (o : Option Version)
+    → meaning (decided_after (option_map (newest_unit (Some text)) o) (workspace_unit (UpdateState head text id) w) head text now) (Some w)
     ≡ by_succession (after_newest text head o) w head text now
-after_model w head text id now None = number_model w head text id now (number_left w.next_version)
-after_model w head text id now (Some v) =
+after_model w head text id now lawful None = number_model w head text id now lawful (number_left w.next_version) refl
+after_model w head text id now lawful (Some v) =
     chosen (bytes_eq v.text text) (lineages_differ v.lineage head.lineage) (nat_lt v.serial head.serial)
   where
     chosen : (a b c : Bool)
@@ -73,23 +83,23 @@ after_model w head text id now (Some v) =
         ≡ by_succession (cond a same (cond b other_lineage (cond c next old_serial))) w head text now
     chosen true b c = refl
     chosen false true c = refl
-    chosen false false true = number_model w head text id now (number_left w.next_version)
+    chosen false false true = number_model w head text id now lawful (number_left w.next_version) refl
     chosen false false false = refl
 
-update_model : (w : Workspace) (head : StateHead) (text : List ℕ) (id : Option (List ℕ)) (now : ℕ) (m : Option Refusal)
+update_model : (w : Workspace) (head : StateHead) (text : List ℕ) (id : Option (List ℕ)) (now : ℕ) → IsLawful w → (m : Option Refusal)
     → meaning (decided_update m (workspace_unit (UpdateState head text id) w) head text now) (Some w) ≡ by_may_write m w head text now
-update_model w head text id now (Some refusal) = refl
-update_model w head text id now None = after_model w head text id now (newest w.versions)
+update_model w head text id now lawful (Some refusal) = refl
+update_model w head text id now lawful None = after_model w head text id now lawful (newest w.versions)
 
 read_model : (w : Workspace) (o : Option Version) → newest w.versions ≡ o
-    → meaning (decided_read (option_map (newest_unit ReadState) o)) (Some w) ≡ effect (state_answer o) (Some w)
+    → meaning (decided_read (option_map (newest_unit None) o)) (Some w) ≡ effect (state_answer o) (Some w)
 read_model w None e = refl
 read_model w (Some v) e = rw (version_of-newest w.versions v e) refl
 
-purge_model : (w : Workspace) (id : Option (List ℕ)) (m : Option Refusal)
+purge_model : (w : Workspace) (id : Option (List ℕ)) → IsLawful w → (m : Option Refusal)
     → meaning (decided_purge m (workspace_unit (PurgeState id) w)) (Some w) ≡ purge m w
-purge_model w id None = refl
-purge_model w id (Some refusal) = refl
+purge_model w id lawful None = ap (λ (start : Option ℕ). effect done (Some (started_if start (purged w)))) (sym (none_starts w lawful))
+purge_model w id lawful (Some refusal) = refl
 
 lock_model : (id text : List ℕ) (w : Workspace) (h : Holder)
     → meaning (decided_lock h id text) (Some w) ≡ lock h id text w
@@ -124,30 +134,34 @@ force_model w Nobody = refl
 force_model w (Lock id_held text) = refl
 force_model w (Run n) = refl
 
-put_model : (w : Workspace) (settings : Settings) (o : Option Version) (start : Option ℕ) → newest w.versions ≡ o
-    → effect (workspace (record { auto_apply = settings.auto_apply; holder = holder_after start w.holder; version = option_map (λ (v : Newest). v.number) (option_map (newest_unit (PutWorkspace settings)) (newest w.versions)) })) (Some (started_if start (record w { auto_apply = settings.auto_apply })))
-    ≡ effect (workspace (shown_of (started_if start (with_settings w settings)))) (Some (started_if start (with_settings w settings)))
-put_model w settings None None e = rw e refl
-put_model w settings None (Some n) e = rw e refl
-put_model w settings (Some v) None e = rw e refl
-put_model w settings (Some v) (Some n) e = rw e refl
+put_model : (w : Workspace) (settings : Settings) → IsLawful w → (o : Option Version) → newest w.versions ≡ o
+    → effect (workspace (record { settings = settings; holder = holder_id w.holder; version = option_map (λ (v : Newest). v.number) (option_map (newest_unit None) (newest w.versions)) })) (Some (with_settings w settings))
+    ≡ shown_with (with_settings w settings)
+put_model w settings lawful None e = rw (e, none_starts w lawful, e) refl
+put_model w settings lawful (Some v) e = rw (e, none_starts w lawful, e) refl
 
 shown_model : (w : Workspace) (o : Option Version) → newest w.versions ≡ o
-    → effect (workspace (record { auto_apply = w.auto_apply; holder = holder_id w.holder; version = option_map (λ (v : Newest). v.number) (option_map (newest_unit ReadWorkspace) (newest w.versions)) })) (Some w)
+    → effect (workspace (record { settings = w.settings; holder = holder_id w.holder; version = option_map (λ (v : Newest). v.number) (option_map (newest_unit None) (newest w.versions)) })) (Some w)
     ≡ effect (workspace (shown_of w)) (Some w)
 shown_model w None e = rw e refl
 shown_model w (Some v) e = rw e refl
 
 -- a run more: it is told as it is once one has started
-added_model : (w : Workspace) (ask : RunAsk) (now n : ℕ) → run_of n w.runs ≡ None
+added_model : (w : Workspace) (ask : RunAsk) (now n : ℕ) → IsLawful w → run_of n w.runs ≡ None
     → meaning (decided_number_of_run (Some n) (workspace_unit (MakeRun ask) w) ask now) (Some w) ≡ told_with n (with_run (new_run n ask now) w)
-added_model w ask now n none =
+added_model w ask now n lawful none =
     let r : AnyRun = new_run n ask now in
     let v : Workspace = with_run r w in
-    let start : Option ℕ = to_start w.holder (option_or (first_waiting w.runs) (cond (is_waiting r) (Some n) None)) in
-    subst (λ (f : Option ℕ). effect (the_run (begun_by start r)) (Some (started_if start v)) ≡ effect (run_answer (run_of n (started_if (to_start w.holder f) v).runs)) (Some (started_if (to_start w.holder f) v)))
-    (sym (first_waiting-push w.runs r))
+    let own : Option ℕ = cond (is_waiting r) (Some n) None in
+    let start : Option ℕ = to_start w.holder own in
+    subst (λ (f : Option ℕ). effect (the_run (begun_by start r)) (Some (started_if start v)) ≡ effect (run_answer (run_of n (started_if f v).runs)) (Some (started_if f v)))
+    (sym (ap (to_start w.holder) (first_waiting-push w.runs r) ∙ own_starts w.holder (first_waiting w.runs) own (none_starts w lawful)))
     (ap (λ (o : Option AnyRun). effect (run_answer o) (Some (started_if start v))) (sym (run_of-started start n v ∙ ap (option_map (begun_by start)) (run_of-push n w.runs r none refl))))
+  where
+    own_starts : (h : Holder) (waiting own : Option ℕ) → to_start h waiting ≡ None → to_start h (option_or waiting own) ≡ to_start h own
+    own_starts Nobody waiting own e = ap (λ (o : Option ℕ). option_or o own) e
+    own_starts (Lock id text) waiting own e = refl
+    own_starts (Run m) waiting own e = refl
 
 make_model : (w : Workspace) (ask : RunAsk) (now : ℕ) → IsLawful w → (o : Option AnyRun)
     → meaning (decided_make o (workspace_unit (MakeRun ask) w) ask now) (Some w) ≡ make_run o w ask now
@@ -157,7 +171,7 @@ make_model w ask now lawful None = chosen (nat_lt (open_runs w.runs) max_open_ru
     numbered : (m : Option ℕ) → number_left w.next_run ≡ m → meaning (decided_number_of_run m (workspace_unit (MakeRun ask) w) ask now) (Some w) ≡ numbered_run m w ask now
     numbered None e = refl
     numbered (Some n) e =
-        added_model w ask now n (ap (λ (k : ℕ). run_of k w.runs) (number_left-is w.next_run n e).0 ∙ none_numbered 0 w.runs w.next_run lawful.runs.rise)
+        added_model w ask now n lawful (ap (λ (k : ℕ). run_of k w.runs) (number_left-is w.next_run n e).0 ∙ none_numbered 0 w.runs w.next_run lawful.runs.rise)
 
     chosen : (b : Bool) → meaning (cond b (decided_number_of_run (number_left w.next_run) (workspace_unit (MakeRun ask) w) ask now) (Refused Refusal.OverLimit)) (Some w)
         ≡ cond b (numbered_run (number_left w.next_run) w ask now) (effect (refused Refusal.OverLimit) (Some w))
@@ -169,7 +183,7 @@ read_run_model w None = refl
 read_run_model w (Some r) = refl
 
 -- who waits once a run has taken an action: nobody where nobody held, and the same ones where it held
-waits_after : (w : Workspace) (n : ℕ) (action : RunAction) (status : RunStatus) (r : AnyRun) → next_status r.plan_only w.auto_apply r.status action ≡ Some status → IsLawful w
+waits_after : (w : Workspace) (n : ℕ) (action : RunAction) (status : RunStatus) (r : AnyRun) → next_status r.plan_only w.settings.auto_apply r.status action ≡ Some status → IsLawful w
     → (h : Holder) → w.holder ≡ h
     → start_freed (frees n status h) (workspace_unit (ReportRun n action) w) ≡ to_start (cond (frees n status h) Nobody h) (first_waiting (map (reported n action status) w.runs))
 waits_after w n action status r leads lawful Nobody e =
@@ -181,7 +195,7 @@ waits_after w n action status r leads lawful Nobody e =
       where
         idle_after : (c : Bool) → is_pending x.status ≡ c → (is_pending status && not x.plan_only) ≡ (is_pending x.status && not x.plan_only)
         idle_after true p = absurd (let none : ⊥ = cc (is.waiting p).1 in none)
-        idle_after false p = rw (never_pending r.plan_only w.auto_apply r.status action status leads, p) refl
+        idle_after false p = rw (never_pending r.plan_only w.settings.auto_apply r.status action status leads, p) refl
     one x is false = refl
 
     as_before : (l : List AnyRun) → AllByRecursion (IsRun Nobody) l → AllByRecursion (λ (x : AnyRun). is_waiting (reported n action status x) ≡ is_waiting x) l
@@ -205,7 +219,7 @@ waits_after w n action status r leads lawful (Run m) e = by_end (m == n) refl (i
 
     one : (x : AnyRun) → IsRun (Run m) x → m ≡ n → (b : Bool) → (x.number == n) ≡ b → is_waiting (record x { status = cond b status x.status }) ≡ is_waiting x
     one x is at true t =
-        (rw (never_pending r.plan_only w.auto_apply r.status action status leads) refl)
+        (rw (never_pending r.plan_only w.settings.auto_apply r.status action status leads) refl)
         ∙ sym (held_idle x is (at ∙ sym (eqb-true x.number n t)) x.plan_only (is_pending x.status) refl refl)
     one x is at false t = refl
 
@@ -219,7 +233,7 @@ waits_after w n action status r leads lawful (Run m) e = by_end (m == n) refl (i
     by_end true t false = sym (first_waiting-map (reported n action status) (λ x. refl) w.runs (as_before (eqb-true m n t) w.runs each))
     by_end false t c = refl
 
-step_model : (w : Workspace) (n : ℕ) (action : RunAction) (r : AnyRun) → IsLawful w → run_of n w.runs ≡ Some r → (m : Option RunStatus) → next_status r.plan_only w.auto_apply r.status action ≡ m
+step_model : (w : Workspace) (n : ℕ) (action : RunAction) (r : AnyRun) → IsLawful w → run_of n w.runs ≡ Some r → (m : Option RunStatus) → next_status r.plan_only w.settings.auto_apply r.status action ≡ m
     → meaning (decided_step m (workspace_unit (ReportRun n action) w) r n action) (Some w) ≡ by_step m n action w
 step_model w n action r lawful there None leads = refl
 step_model w n action r lawful there (Some status) leads =
@@ -238,10 +252,10 @@ report_model : (w : Workspace) (n : ℕ) (action : RunAction) → IsLawful w →
 report_model w n action lawful None there = refl
 report_model w n action lawful (Some r) there = chosen (is_last action r.action)
   where
-    chosen : (b : Bool) → meaning (cond b (Accepted (ShownRun r) None) (decided_step (next_status r.plan_only w.auto_apply r.status action) (workspace_unit (ReportRun n action) w) r n action)) (Some w)
-        ≡ cond b (told_already r w) (by_step (next_status r.plan_only w.auto_apply r.status action) n action w)
+    chosen : (b : Bool) → meaning (cond b (Accepted (ShownRun r) None) (decided_step (next_status r.plan_only w.settings.auto_apply r.status action) (workspace_unit (ReportRun n action) w) r n action)) (Some w)
+        ≡ cond b (told_already r w) (by_step (next_status r.plan_only w.settings.auto_apply r.status action) n action w)
     chosen true = refl
-    chosen false = step_model w n action r lawful there (next_status r.plan_only w.auto_apply r.status action) refl
+    chosen false = step_model w n action r lawful there (next_status r.plan_only w.settings.auto_apply r.status action) refl
 
 -- DELETE of a workspace, and a version that is asked of
 delete_model : (w : Workspace) (h : Holder) → meaning (decided_delete h (open_runs w.runs)) (Some w) ≡ delete h w
@@ -262,23 +276,23 @@ version_model w n None at = refl
 version_model w n (Some v) at = ap (λ (o : Option Version). effect (option_map_or state (option_map (λ (u : Version). u.text) o) no_state) (Some w)) at
 
 there_model : (o : Organization) (w : Workspace) (act : Act) (now : ℕ) → IsLawful w → meaning (decision_of (unit_by o act (Some w)) act now) (Some w) ≡ rules_there act now w
-there_model o w (PutWorkspace settings) now lawful = put_model w settings (newest w.versions) (to_start w.holder (first_waiting w.runs)) refl
-there_model o w ReadWorkspace now lawful = shown_model w (newest w.versions) refl
-there_model o w (UpdateState head text id) now lawful = update_model w head text id now (may_write w.holder (holder_status w.holder w.runs) id)
-there_model o w ReadState now lawful = read_model w (newest w.versions) refl
-there_model o w (PurgeState id) now lawful = purge_model w id (may_write w.holder (holder_status w.holder w.runs) id)
+there_model o w (PutWorkspace settings) now lawful = put_model w settings lawful (newest w.versions) refl
+there_model o w (Look look.Workspace) now lawful = shown_model w (newest w.versions) refl
+there_model o w (UpdateState head text id) now lawful = update_model w head text id now lawful (may_write w.holder (holder_status w.holder w.runs) id)
+there_model o w (Look look.State) now lawful = read_model w (newest w.versions) refl
+there_model o w (PurgeState id) now lawful = purge_model w id lawful (may_write w.holder (holder_status w.holder w.runs) id)
 there_model o w (LockAct id text) now lawful = lock_model id text w w.holder
 there_model o w (Unlock id) now lawful = unlock_model id w w.holder
 there_model o w ForceUnlock now lawful = force_model w w.holder
 there_model o w DeleteWorkspace now lawful = delete_model w w.holder
-there_model o w (ListVersions after) now lawful = refl
-there_model o w (ReadVersion n) now lawful = version_model w n (version_of n w.versions) refl
-there_model o w (ListRuns after) now lawful = refl
+there_model o w (Look (look.Versions after)) now lawful = refl
+there_model o w (Look (look.Version n)) now lawful = version_model w n (version_of n w.versions) refl
+there_model o w (Look (look.Runs after)) now lawful = refl
 there_model o w (MakeRun ask) now lawful = make_model w ask now lawful (keyed_run ask.key w.runs)
-there_model o w (ReadRun n) now lawful = read_run_model w (run_of n w.runs)
+there_model o w (Look (look.Run n)) now lawful = read_run_model w (run_of n w.runs)
 there_model o w (ReportRun n action) now lawful = report_model w n action lawful (run_of n w.runs) refl
 
-missing_model : (o : Organization) (act : Act) → meaning (decision_missing act (nat_lt (counted_for act (count_of o)) o.limit)) None ≡ rules_missing act (nat_lt (count_of o) o.limit)
+missing_model : (o : Organization) (act : Act) → meaning (decision_missing act (nat_lt (cond (needs act).makes (count_of o) 0) o.limit)) None ≡ rules_missing act (nat_lt (count_of o) o.limit)
 missing_model o act = by_act (put_or_missed act)
   where
     room : Bool
@@ -288,10 +302,10 @@ missing_model o act = by_act (put_or_missed act)
     made true settings = refl
     made false settings = refl
 
-    by_act : IsPut act ⊎ Misses act → meaning (decision_missing act (nat_lt (counted_for act (count_of o)) o.limit)) None ≡ rules_missing act room
+    by_act : IsPut act ⊎ Misses act → meaning (decision_missing act (nat_lt (cond (needs act).makes (count_of o) 0) o.limit)) None ≡ rules_missing act room
     by_act (inl put) =
-        subst (λ (a : Act). meaning (decision_missing a (nat_lt (counted_for a (count_of o)) o.limit)) None ≡ rules_missing a room) (sym put.1) (made room put.0)
-    by_act (inr misses) = ap (λ (d : Decision). meaning d None) (misses (nat_lt (counted_for act (count_of o)) o.limit)).1 ∙ sym (misses room).0
+        subst (λ (a : Act). meaning (decision_missing a (nat_lt (cond (needs a).makes (count_of o) 0) o.limit)) None ≡ rules_missing a room) (sym put.1) (made room put.0)
+    by_act (inr misses) = ap (λ (d : Decision). meaning d None) (misses (nat_lt (cond (needs act).makes (count_of o) 0) o.limit)).1 ∙ sym (misses room).0
 
 model : (o : Organization) (w : Option Workspace) (act : Act) (now : ℕ) → IsLawfulIfThere w
     → meaning (decision_of (unit_by o act w) act now) (standing (seen_by (nat_lt (count_of o) o.limit) w)) ≡ rules act now (seen_by (nat_lt (count_of o) o.limit) w)

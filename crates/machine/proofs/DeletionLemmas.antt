@@ -1,12 +1,12 @@
 -- What DELETE of a workspace comes to: it is refused and the workspace stays, or the workspace goes.
-use Rattle.std.proofs.Common.{◌≡◌, ◌⊎◌, inl, inr, ℕ, nat_lt, Bool, true, false, cond, Option, Some, None, List, IsSome, refl, sym, ap, subst, ◌∙◌, arith}
+use Rattle.std.proofs.Common.{◌≡◌, ◌⊎◌, inl, inr, ℕ, nat_lt, Bool, true, false, cond, Some, None, List, IsSome, refl, sym, ap, subst, ◌∙◌, arith}
 use Rattle.std.proofs.lemmas.Bool.{ltb-false}
 use Rattle.basis.specs.declared.refusals.Refusal.TheVariants.{OpenRuns, Locked}
 use Rattle.machine.specs.Effects.{effect}
 use Rattle.machine.specs.Custody.{IsRefusal, IsUnlocked}
 use Rattle.machine.specs.Laws.{IsLawful, IsLawfulIfThere}
 use Rattle.machine.specs.Workspaces.{open_runs}
-use Rattle.machine.specs.Rules.{Outcome, refused, held, done, Ruling, refused_by, delete}
+use Rattle.machine.specs.Rules.{refused, held, done, Ruling, delete}
 use Rattle.machine.specs.declared.records.Holder.{Holder}
 use Rattle.machine.specs.declared.records.Holder.TheVariants.{Nobody, Lock, Run}
 use Rattle.machine.specs.declared.records.Workspace.{Workspace}

@@ -5,6 +5,7 @@ use Rattle.std.specs.Prelude.{codes}
 use Rattle.std.specs.Fmt.{digits}
 use Rattle.basis.specs.Names.{run_id}
 use Rattle.basis.specs.declared.refusals.Refusal.TheVariants.{NotFound, NotHeld, NotApplying, OtherLineage, OldSerial, OverLimit, WrongState, HeldByRun, OpenRuns, Locked}
+use Rattle.basis.specs.declared.rows.Look.TheVariants as look
 use Rattle.basis.specs.declared.rows.RunAsk.{RunAsk}
 use Rattle.basis.specs.declared.rows.StateHead.{StateHead}
 use Rattle.basis.specs.declared.runs.RunStatus.{RunStatus}
@@ -20,7 +21,7 @@ use Rattle.basis.specs.Listings.{listing_of}
 use Rattle.machine.specs.Laws.{Rises, IsRun, IsHolder, KeysDiffer, IsLawful}
 use Rattle.machine.specs.Settling.{is_waiting}
 use Rattle.machine.specs.Queue.{is_active_run, GoesOn}
-use Rattle.machine.specs.declared.acts.Act.TheVariants.{PutWorkspace, DeleteWorkspace, ListVersions, ReadVersion, UpdateState, ReadState, PurgeState, Lock as LockAct, Unlock, ForceUnlock, MakeRun, ReportRun}
+use Rattle.machine.specs.declared.acts.Act.TheVariants.{Look, PutWorkspace, DeleteWorkspace, UpdateState, PurgeState, Lock as LockAct, Unlock, ForceUnlock, MakeRun, ReportRun}
 use Rattle.machine.specs.declared.records.Holder.TheVariants.{Nobody, Lock, Run as HoldingRun}
 use Rattle.machine.specs.declared.records.Version.{Version}
 use Rattle.machine.specs.declared.records.Run.{Run}
@@ -148,10 +149,10 @@ no_number_left : rules (UpdateState (head 1 a1) s1 None) 1_700_000_000 (there (r
 no_number_left = refl
 
 -- the newest text, or none
-newest_read : rules ReadState 1_700_000_000 (there with_s1) ≡ effect (state s1) (Some with_s1)
+newest_read : rules (Look look.State) 1_700_000_000 (there with_s1) ≡ effect (state s1) (Some with_s1)
 newest_read = refl
 
-nothing_read : rules ReadState 1_700_000_000 (there empty) ≡ effect no_state (Some empty)
+nothing_read : rules (Look look.State) 1_700_000_000 (there empty) ≡ effect no_state (Some empty)
 nothing_read = refl
 
 -- runs: the first is over, two wait behind a lock, and the first of these starts once it is released
@@ -238,8 +239,8 @@ two status action = record empty { holder = HoldingRun 1; next_run = 3; runs = r
 planned_now : rules (ReportRun 1 ReportPlanned) 1_700_000_000 (there (two Planning None)) ≡ effect (the_run (run 1 Planned (Some ReportPlanned))) (Some (two Planned (Some ReportPlanned)))
 planned_now = refl
 
-applied_at_once : rules (ReportRun 1 ReportPlanned) 1_700_000_000 (there (record (two Planning None) { auto_apply = true }))
-    ≡ effect (the_run (run 1 Applying (Some ReportPlanned))) (Some (record (two Applying (Some ReportPlanned)) { auto_apply = true }))
+applied_at_once : rules (ReportRun 1 ReportPlanned) 1_700_000_000 (there (record (two Planning None) { settings = record { auto_apply = true } }))
+    ≡ effect (the_run (run 1 Applying (Some ReportPlanned))) (Some (record (two Applying (Some ReportPlanned)) { settings = record { auto_apply = true } }))
 applied_at_once = refl
 
 -- the action that was taken last is answered again, any other that no step has is refused
@@ -376,18 +377,18 @@ no_room : rules (PutWorkspace (record { auto_apply = false })) 1_700_000_000 (mi
 no_room = refl
 
 -- a version by its number, and one that isn't kept
-first_read : rules (ReadVersion 1) 1_700_000_000 (there with_s1) ≡ effect (state s1) (Some with_s1)
+first_read : rules (Look (look.Version 1)) 1_700_000_000 (there with_s1) ≡ effect (state s1) (Some with_s1)
 first_read = refl
 
-second_missing : rules (ReadVersion 2) 1_700_000_000 (there with_s1) ≡ effect (refused NotFound) (Some with_s1)
+second_missing : rules (Look (look.Version 2)) 1_700_000_000 (there with_s1) ≡ effect (refused NotFound) (Some with_s1)
 second_missing = refl
 
 -- a list begins after the number that it follows, and tells a text's size
-row_1 : rules (ListVersions 0) 1_700_000_000 (there with_s1)
+row_1 : rules (Look (look.Versions 0)) 1_700_000_000 (there with_s1)
     ≡ effect (versions (record { items = (record { created = 1_700_000_000; lineage = a1; number = 1; serial = 1; size = 39 }) ∷ []; more = false })) (Some with_s1)
 row_1 = refl
 
-none_after_1 : rules (ListVersions 1) 1_700_000_000 (there with_s1) ≡ effect (versions (record { items = []; more = false })) (Some with_s1)
+none_after_1 : rules (Look (look.Versions 1)) 1_700_000_000 (there with_s1) ≡ effect (versions (record { items = []; more = false })) (Some with_s1)
 none_after_1 = refl
 
 -- 50 items are a page, and one more is told of

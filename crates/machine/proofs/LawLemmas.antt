@@ -1,20 +1,16 @@
 -- The rules keep the laws of a workspace.
-use Rattle.std.proofs.Common.{◌≡◌, ◌⊎◌, inl, inr, ℕ, ◌+◌, ◌-◌, ◌<◌, ◌≤◌, nat_le, Bool, true, false, cond, List, [], ◌∷◌, ◌++◌, length, drop, map, suc, zero, ◌&&◌, not, Option, Some, None, IsTrue, refl, sym, subst, ◌∙◌, arith, length-drop}
+use Rattle.std.proofs.Common.{◌≡◌, ℕ, ◌+◌, ◌-◌, ◌<◌, ◌≤◌, nat_le, Bool, true, false, cond, List, [], ◌∷◌, ◌++◌, length, drop, map, suc, zero, ◌&&◌, not, Option, Some, None, IsTrue, refl, sym, subst, ◌∙◌, arith, length-drop}
 use Rattle.std.specs.Prelude.{find, option_map}
 use Rattle.std.specs.List.{AllByRecursion}
 use Rattle.std.proofs.lemmas.Bool.{leb-true}
 use Rattle.basis.specs.declared.refusals.Refusal.{Refusal}
 use Rattle.basis.specs.declared.rows.StateHead.{StateHead}
 use Rattle.machine.specs.Laws.{IsLawful, IsVersion, Rises, IsRun, is_pending, is_nobody, IsLawfulIfThere}
-use Rattle.machine.specs.Ranges.{IsHead, IsInRange, IsMoment}
-use Rattle.machine.specs.Records.{Seen, missing, there, standing}
+use Rattle.machine.specs.Ranges.{IsHead}
 use Rattle.machine.specs.Effects.{effect}
-use Rattle.basis.specs.declared.rows.Settings.{Settings}
-use Rattle.machine.proofs.MissingLemmas.{IsPut, Misses, put_or_missed}
-use Rattle.machine.specs.Workspaces.{max_versions, holder_status}
-use Rattle.machine.specs.Writing.{may_write}
+use Rattle.machine.specs.Workspaces.{max_versions}
 use Rattle.machine.specs.Succession.{Succession, first, same, other_lineage, old_serial, next, succession}
-use Rattle.machine.specs.Rules.{Outcome, refused, Ruling, rules_missing, rules, by_may_write, by_succession, numbered_update, number_left, with_version, max_number, with_settings, refused_by, done_with, done_already, purge, purged, lock, unlock, released, is_released, force_unlock}
+use Rattle.machine.specs.Rules.{Outcome, refused, by_may_write, by_succession, numbered_update, number_left, with_version, max_number, refused_by, done_with, done_already, purge, purged, lock, unlock, released, is_released, force_unlock}
 use Rattle.machine.specs.Settling.{is_waiting, first_waiting, to_start, started_if, settled}
 use Rattle.machine.proofs.SettlingLemmas.{release_is_lawful}
 use Rattle.machine.specs.declared.records.Holder.{Holder}
@@ -22,8 +18,6 @@ use Rattle.machine.specs.declared.records.Holder.TheVariants.{Nobody, Lock, Run 
 use Rattle.machine.specs.declared.records.Run.{Run}
 use Rattle.basis.specs.Names.{is_free_id}
 use Rattle.std.specs.Str.{bytes_eq}
-use Rattle.machine.specs.declared.acts.Act.{Act}
-use Rattle.machine.specs.declared.acts.Act.TheVariants.{PutWorkspace, ReadWorkspace, DeleteWorkspace, UpdateState, ReadState, PurgeState, Lock as LockAct, Unlock, ForceUnlock, ListVersions, ReadVersion, ListRuns, MakeRun, ReadRun, ReportRun}
 use Rattle.machine.specs.declared.records.Version.{Version}
 use Rattle.machine.specs.declared.records.Workspace.{Workspace}
 

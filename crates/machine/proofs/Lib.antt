@@ -9,6 +9,7 @@ pub mod SettlesLemmas
 pub mod Examples
 pub mod MissingLemmas
 pub mod LawLemmas
+pub mod CutLemmas
 pub mod DecisionLemmas
 pub mod MapLemmas
 pub mod PlainLemmas

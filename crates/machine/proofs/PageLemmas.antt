@@ -10,10 +10,9 @@ use Rattle.std.specs.FinMap.{entries, entries_sorted, is_sorted}
 use Rattle.std.specs.FinMap.Entries.{below_all}
 use Rattle.std.proofs.lemmas.Bool.{ltb-true, lt-ltb, le-ltb}
 use Rattle.machine.specs.Order.{name_cmp}
-use Rattle.machine.specs.Laws.{Rises, IsLawful}
+use Rattle.machine.specs.Laws.{Rises}
 use Rattle.machine.specs.Showing.{comes_after}
 use Rattle.machine.specs.Pages.{WorkspacePagesFollow, VersionPagesFollow, RunPagesFollow}
-use Rattle.machine.specs.declared.records.Organization.{Organization}
 use Rattle.machine.specs.declared.records.Run.{Run}
 use Rattle.machine.specs.declared.records.Version.{Version}
 use Rattle.machine.specs.declared.records.Workspace.{Workspace}
@@ -106,6 +105,9 @@ module _ {X : Type 0} (number : X → ℕ) where
       above : (ys : List X) → Rises (number x) (map number ys) next → AllByRecursion (λ y. below x y ≡ true) ys
       above [] rest = tt
       above (y ∷ ys) rest = (lt-ltb (number x) (number y) rest.0, rise_above (number y) x ys next rest.0 rest.2)
+
+  pub behind_number : (low next : ℕ) (xs : List X) (v : X) (n : ℕ) → Rises low (map number xs) next → slice_get xs n ≡ Some v → filter (λ x. nat_lt (number v) (number x)) xs ≡ drop (suc n) xs
+  behind_number low next xs v n rise e = behind_it below below_back below_itself xs n v (rise_ascends low xs next rise) e
 
   pub numbers_follow : (after low next : ℕ) (xs : List X) (v : X) (n : ℕ) → Rises low (map number xs) next → slice_get (filter (λ x. nat_lt after (number x)) xs) n ≡ Some v
       → filter (λ x. nat_lt (number v) (number x)) xs ≡ drop (suc n) (filter (λ x. nat_lt after (number x)) xs)

@@ -10,20 +10,19 @@ use Rattle.basis.specs.declared.rows.StateHead.{StateHead}
 use Rattle.machine.proofs.MissingLemmas.{IsPut, Misses, put_or_missed}
 use Rattle.basis.specs.declared.runs.RunStatus.{RunStatus}
 use Rattle.basis.specs.declared.runs.RunStatus.TheVariants.{Pending, Planning, Planned, Applying, Applied, PlannedAndFinished, Errored, Discarded, Canceled}
-use Rattle.machine.proofs.RunRulings.{comes_leaves, comes_held, comes_unlocked, make_comes, read_comes, version_comes, report_comes}
+use Rattle.machine.proofs.RunRulings.{comes_leaves, comes_held, comes_unlocked, look_comes, make_comes, report_comes}
 use Rattle.machine.proofs.DeletionLemmas.{delete_leaves, delete_tells, delete_unlocked}
 use Rattle.machine.specs.Effects.{effect}
 use Rattle.machine.specs.Records.{Seen, missing, there}
-use Rattle.machine.specs.Workspaces.{newest, holder_status}
+use Rattle.machine.specs.Workspaces.{holder_status}
 use Rattle.machine.specs.Writing.{may_write, is_applying}
 use Rattle.machine.specs.Succession.{Succession, first, same, other_lineage, old_serial, next, succession}
-use Rattle.machine.specs.Rules.{Outcome, refused, held, done, Ruling, rules, rules_missing, refused_by, by_may_write, by_succession, numbered_update, number_left, done_with, done_already, purge, lock, unlock, released, is_released, force_unlock, state_answer}
+use Rattle.machine.specs.Rules.{Outcome, refused, held, done, Ruling, rules, rules_missing, refused_by, by_may_write, by_succession, numbered_update, number_left, done_with, done_already, purge, lock, unlock, released, is_released, force_unlock}
 use Rattle.machine.specs.Custody.{IsRefusal, IsWriter, RefusalsChangeNothing, RefusalsTellTheHolder, WritesCarryTheId}
 use Rattle.machine.specs.declared.acts.Act.{Act}
-use Rattle.machine.specs.declared.acts.Act.TheVariants.{PutWorkspace, ReadWorkspace, DeleteWorkspace, UpdateState, ReadState, PurgeState, Lock as LockAct, Unlock, ForceUnlock, ListVersions, ReadVersion, ListRuns, MakeRun, ReadRun, ReportRun}
+use Rattle.machine.specs.declared.acts.Act.TheVariants.{Look, PutWorkspace, DeleteWorkspace, UpdateState, PurgeState, Lock as LockAct, Unlock, ForceUnlock, MakeRun, ReportRun}
 use Rattle.machine.specs.declared.records.Holder.{Holder}
 use Rattle.machine.specs.declared.records.Holder.TheVariants.{Nobody, Lock, Run}
-use Rattle.machine.specs.declared.records.Version.{Version}
 use Rattle.machine.specs.declared.records.Workspace.{Workspace}
 
 -- a refusal is never done, and tells of the holder alone
@@ -144,18 +143,13 @@ refusals_change_nothing act now (missing room) is = by_act (put_or_missed act)
     by_act (inr misses) = ap (λ (r : Ruling). r.left) (misses room).0
 refusals_change_nothing (PutWorkspace settings) now (there w) is = absurd is
 refusals_change_nothing (UpdateState head text id) now (there w) is = update_leaves w head text now (may_write w.holder (holder_status w.holder w.runs) id) is
-refusals_change_nothing ReadWorkspace now (there w) is = refl
-refusals_change_nothing ReadState now (there w) is = refl
+refusals_change_nothing (Look what) now (there w) is = refl
 refusals_change_nothing DeleteWorkspace now (there w) is = delete_leaves w is
-refusals_change_nothing (ListVersions after) now (there w) is = refl
-refusals_change_nothing (ReadVersion n) now (there w) is = refl
-refusals_change_nothing (ListRuns after) now (there w) is = refl
 refusals_change_nothing (PurgeState id) now (there w) is = purge_leaves w (may_write w.holder (holder_status w.holder w.runs) id) is
 refusals_change_nothing (LockAct id text) now (there w) is = lock_leaves id text w w.holder is
 refusals_change_nothing (Unlock id) now (there w) is = unlock_leaves id w w.holder is
 refusals_change_nothing ForceUnlock now (there w) is = force_leaves w w.holder is
 refusals_change_nothing (MakeRun ask) now (there w) is = comes_leaves (make_comes w ask now) is
-refusals_change_nothing (ReadRun n) now (there w) is = comes_leaves (read_comes w n) is
 refusals_change_nothing (ReportRun n action) now (there w) is = comes_leaves (report_comes w n action) is
 
 -- who is told of a holder
@@ -210,22 +204,13 @@ force_tells w (Run n) holder e = run_tells w.holder holder e
 pub refusals_tell_the_holder : RefusalsTellTheHolder
 refusals_tell_the_holder (PutWorkspace settings) now w holder e = absurd (let none : ⊥ = cc in none)
 refusals_tell_the_holder (UpdateState head text id) now w holder e = update_tells w head text now (may_write w.holder (holder_status w.holder w.runs) id) holder e
-refusals_tell_the_holder ReadWorkspace now w holder e = absurd (let none : ⊥ = cc in none)
-refusals_tell_the_holder ReadState now w holder e = read_tells (newest w.versions) e
-  where
-    read_tells : (o : Option Version) → state_answer o ≡ held holder → holder ≡ w.holder
-    read_tells None e = absurd (let none : ⊥ = cc in none)
-    read_tells (Some v) e = absurd (let none : ⊥ = cc in none)
+refusals_tell_the_holder (Look what) now w holder e = absurd ((look_comes what w).unheld holder e)
 refusals_tell_the_holder (PurgeState id) now w holder e = purge_tells w (may_write w.holder (holder_status w.holder w.runs) id) holder e
 refusals_tell_the_holder (LockAct id text) now w holder e = lock_tells id text w w.holder holder e
 refusals_tell_the_holder (Unlock id) now w holder e = unlock_tells id w w.holder holder e
 refusals_tell_the_holder ForceUnlock now w holder e = force_tells w w.holder holder e
 refusals_tell_the_holder DeleteWorkspace now w holder e = delete_tells w holder e
-refusals_tell_the_holder (ListVersions after) now w holder e = absurd (let none : ⊥ = cc in none)
-refusals_tell_the_holder (ReadVersion n) now w holder e = absurd (comes_held (version_comes w n) holder e)
-refusals_tell_the_holder (ListRuns after) now w holder e = absurd (let none : ⊥ = cc in none)
 refusals_tell_the_holder (MakeRun ask) now w holder e = absurd (comes_held (make_comes w ask now) holder e)
-refusals_tell_the_holder (ReadRun n) now w holder e = absurd (comes_held (read_comes w n) holder e)
 refusals_tell_the_holder (ReportRun n action) now w holder e = absurd (comes_held (report_comes w n action) holder e)
 
 -- a run that may write is applying
@@ -266,8 +251,7 @@ writes_carry_the_id (PutWorkspace settings) now w id writes e = absurd writes
 writes_carry_the_id (UpdateState head state given) now w id writes e =
     subst (IsWriter w.holder (holder_status w.holder w.runs)) writes
     (writer w.holder (holder_status w.holder w.runs) given (λ m. (by_may_write m w head state now).answer) (λ refusal is. never_done refusal w.holder is) e)
-writes_carry_the_id ReadWorkspace now w id writes e = absurd writes
-writes_carry_the_id ReadState now w id writes e = absurd writes
+writes_carry_the_id (Look what) now w id writes e = absurd writes
 writes_carry_the_id (PurgeState given) now w id writes e =
     subst (IsWriter w.holder (holder_status w.holder w.runs)) writes
     (writer w.holder (holder_status w.holder w.runs) given (λ m. (purge m w).answer) (λ refusal is. never_done refusal w.holder is) e)
@@ -275,11 +259,7 @@ writes_carry_the_id (LockAct asked t) now w id writes e = absurd writes
 writes_carry_the_id (Unlock asked) now w id writes e = absurd writes
 writes_carry_the_id ForceUnlock now w id writes e = absurd writes
 writes_carry_the_id DeleteWorkspace now w id writes e = absurd writes
-writes_carry_the_id (ListVersions after) now w id writes e = absurd writes
-writes_carry_the_id (ReadVersion n) now w id writes e = absurd writes
-writes_carry_the_id (ListRuns after) now w id writes e = absurd writes
 writes_carry_the_id (MakeRun ask) now w id writes e = absurd writes
-writes_carry_the_id (ReadRun n) now w id writes e = absurd writes
 writes_carry_the_id (ReportRun n action) now w id writes e = absurd writes
 
 -- a workspace that is missing has no holder to tell
@@ -372,10 +352,6 @@ force_other w Nobody e = cc
 force_other w (Lock id_held text) e = cc
 force_other w (Run n) e = run_other e
 
-state_other : (o : Option Version) → IsOther (state_answer o)
-state_other None e = cc
-state_other (Some v) e = cc
-
 missing_other : (act : Act) (room : Bool) → IsOther (rules_missing act room).answer
 missing_other act room e = by_act (put_or_missed act)
   where
@@ -391,16 +367,11 @@ pub never_refused_as_locked : (act : Act) (now : ℕ) (s : Seen) → IsOther (ru
 never_refused_as_locked act now (missing room) e = missing_other act room e
 never_refused_as_locked (PutWorkspace settings) now (there w) e = cc
 never_refused_as_locked (UpdateState head text id) now (there w) e = update_other w head text now (may_write w.holder (holder_status w.holder w.runs) id) e
-never_refused_as_locked ReadWorkspace now (there w) e = cc
-never_refused_as_locked ReadState now (there w) e = state_other (newest w.versions) e
+never_refused_as_locked (Look what) now (there w) e = (look_comes what w).unlocked e
 never_refused_as_locked (PurgeState id) now (there w) e = purge_other w (may_write w.holder (holder_status w.holder w.runs) id) e
 never_refused_as_locked (LockAct id text) now (there w) e = lock_other id text w w.holder e
 never_refused_as_locked (Unlock id) now (there w) e = unlock_other id w w.holder e
 never_refused_as_locked ForceUnlock now (there w) e = force_other w w.holder e
 never_refused_as_locked DeleteWorkspace now (there w) e = delete_unlocked w e
-never_refused_as_locked (ListVersions after) now (there w) e = cc
-never_refused_as_locked (ReadVersion n) now (there w) e = comes_unlocked (version_comes w n) e
-never_refused_as_locked (ListRuns after) now (there w) e = cc
 never_refused_as_locked (MakeRun ask) now (there w) e = comes_unlocked (make_comes w ask now) e
-never_refused_as_locked (ReadRun n) now (there w) e = comes_unlocked (read_comes w n) e
 never_refused_as_locked (ReportRun n action) now (there w) e = comes_unlocked (report_comes w n action) e

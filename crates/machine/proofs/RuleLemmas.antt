@@ -1,20 +1,18 @@
 -- The rules keep the laws of a workspace: of every act.
-use Rattle.std.proofs.Common.{◌≡◌, ◌⊎◌, inl, inr, ℕ, ◌≤◌, nat_lt, Bool, true, false, cond, Option, Some, None, refl, sym, subst, arith}
-use Rattle.basis.specs.declared.refusals.Refusal.{Refusal}
+use Rattle.std.proofs.Common.{◌⊎◌, inl, inr, ℕ, Bool, true, false, refl, sym, subst, arith}
 use Rattle.basis.specs.declared.rows.Settings.{Settings}
-use Rattle.machine.specs.Laws.{IsLawful, IsLawfulIfThere}
+use Rattle.machine.specs.Laws.{IsLawfulIfThere}
 use Rattle.machine.specs.Ranges.{IsInRange, IsMoment}
 use Rattle.machine.specs.Records.{Seen, missing, there, standing}
-use Rattle.machine.specs.Workspaces.{holder_status, run_of, keyed_run}
+use Rattle.machine.specs.Workspaces.{holder_status}
 use Rattle.machine.specs.Writing.{may_write}
 use Rattle.machine.specs.Rules.{Ruling, rules_missing, rules, with_settings}
 use Rattle.machine.proofs.MissingLemmas.{IsPut, Misses, put_or_missed}
 use Rattle.machine.proofs.LawLemmas.{still_is_lawful, purge_is_lawful, lock_is_lawful, unlock_is_lawful, force_is_lawful, update_is_lawful}
-use Rattle.machine.proofs.RunLawLemmas.{make_is_lawful, read_is_lawful, report_is_lawful}
+use Rattle.machine.proofs.RunLawLemmas.{make_is_lawful, report_is_lawful}
 use Rattle.machine.proofs.DeletionLemmas.{delete_is_lawful}
 use Rattle.machine.specs.declared.acts.Act.{Act}
-use Rattle.machine.specs.declared.acts.Act.TheVariants.{PutWorkspace, ReadWorkspace, DeleteWorkspace, UpdateState, ReadState, PurgeState, Lock as LockAct, Unlock, ForceUnlock, ListVersions, ReadVersion, ListRuns, MakeRun, ReadRun, ReportRun}
-use Rattle.machine.specs.declared.records.Workspace.{Workspace}
+use Rattle.machine.specs.declared.acts.Act.TheVariants.{Look, PutWorkspace, DeleteWorkspace, UpdateState, PurgeState, Lock as LockAct, Unlock, ForceUnlock, MakeRun, ReportRun}
 
 pub rules_are_lawful : (act : Act) (now : ℕ) (s : Seen) → IsInRange act → IsMoment now → IsLawfulIfThere (standing s) → IsLawfulIfThere (rules act now s).left
 rules_are_lawful act now (missing room) range moment lawful = by_act (put_or_missed act)
@@ -31,17 +29,12 @@ rules_are_lawful act now (missing room) range moment lawful = by_act (put_or_mis
     by_act (inl put) = subst (λ (a : Act). IsLawfulIfThere (rules_missing a room).left) (sym put.1) (made room put.0)
     by_act (inr misses) = subst (λ (r : Ruling). IsLawfulIfThere r.left) (sym (misses room).0) tt
 rules_are_lawful (PutWorkspace settings) now (there w) range moment lawful = still_is_lawful (with_settings w settings) (record { versions = lawful.versions; runs = lawful.runs; released = lawful.released })
-rules_are_lawful ReadWorkspace now (there w) range moment lawful = lawful
+rules_are_lawful (Look what) now (there w) range moment lawful = lawful
 rules_are_lawful (UpdateState head text id) now (there w) range moment lawful = update_is_lawful w head text now (may_write w.holder (holder_status w.holder w.runs) id) range moment lawful
-rules_are_lawful ReadState now (there w) range moment lawful = lawful
 rules_are_lawful (PurgeState id) now (there w) range moment lawful = purge_is_lawful (may_write w.holder (holder_status w.holder w.runs) id) w lawful
 rules_are_lawful (LockAct id text) now (there w) range moment lawful = lock_is_lawful w.holder id text w refl range lawful
 rules_are_lawful (Unlock id) now (there w) range moment lawful = unlock_is_lawful w.holder id w refl lawful
 rules_are_lawful ForceUnlock now (there w) range moment lawful = force_is_lawful w.holder w refl lawful
 rules_are_lawful DeleteWorkspace now (there w) range moment lawful = delete_is_lawful w lawful
-rules_are_lawful (ListVersions after) now (there w) range moment lawful = lawful
-rules_are_lawful (ReadVersion n) now (there w) range moment lawful = lawful
-rules_are_lawful (ListRuns after) now (there w) range moment lawful = lawful
 rules_are_lawful (MakeRun ask) now (there w) range moment lawful = make_is_lawful w ask now range moment lawful
-rules_are_lawful (ReadRun n) now (there w) range moment lawful = read_is_lawful w n lawful
 rules_are_lawful (ReportRun n action) now (there w) range moment lawful = report_is_lawful w n action lawful

@@ -1,24 +1,22 @@
 -- The rules on runs keep the laws of a workspace.
-use Rattle.std.proofs.Common.{◌≡◌, ◌⊎◌, inl, inr, ℕ, ◌+◌, ◌<◌, ◌≤◌, ◌==◌, nat_lt, Bool, true, false, not, ◌&&◌, cond, List, [], ◌∷◌, ◌++◌, codes, map, Option, Some, None, option_map, IfSome, IsSomeAnd, IsTrue, refl, sym, ap, subst, ◌∙◌, arith, eqb-true, ne_eqb}
+use Rattle.std.proofs.Common.{◌≡◌, ◌⊎◌, inl, inr, ℕ, ◌+◌, ◌<◌, ◌≤◌, ◌==◌, nat_lt, Bool, true, false, not, ◌&&◌, cond, List, [], ◌∷◌, ◌++◌, codes, map, Option, Some, None, option_map, IsSomeAnd, refl, sym, ap, subst, ◌∙◌, arith, eqb-true, ne_eqb}
 use Rattle.std.proofs.lemmas.Bool.{eqb-false, ltb-true}
 use Rattle.std.specs.List.{AllByRecursion}
-use Rattle.basis.specs.Names.{has_length, is_free_id}
 use Rattle.basis.specs.Runs.{is_open}
 use Rattle.basis.specs.declared.rows.RunAsk.{RunAsk}
 use Rattle.basis.specs.declared.refusals.Refusal.TheVariants.{OverLimit}
 use Rattle.basis.specs.declared.runs.RunStatus.{RunStatus}
-use Rattle.basis.specs.declared.runs.RunStatus.TheVariants.{Pending, Planning}
 use Rattle.basis.specs.declared.runs.RunAction.{RunAction}
 use Rattle.machine.specs.Effects.{effect}
-use Rattle.machine.specs.Laws.{Rises, is_active, is_pending, is_nobody, holds, IsWhereActionEnds, IsRun, KeysDiffer, IsHolder, AreRuns, IsLawful, IsLawfulIfThere}
+use Rattle.machine.specs.Laws.{Rises, is_active, is_nobody, holds, IsWhereActionEnds, IsRun, IsHolder, AreRuns, IsLawful, IsLawfulIfThere}
 use Rattle.machine.specs.Ranges.{IsRunAsk, IsMoment}
-use Rattle.machine.specs.RunSteps.{next_status, is_last}
+use Rattle.machine.specs.RunSteps.{next_status}
 use Rattle.machine.specs.Workspaces.{max_open_runs, run_of, keyed_run, open_runs}
 use Rattle.machine.specs.Settling.{settled}
-use Rattle.machine.specs.Rules.{refused, Ruling, new_run, with_run, numbered_run, number_left, make_run, reported, frees, with_report, run_answer, report}
+use Rattle.machine.specs.Rules.{refused, new_run, with_run, numbered_run, number_left, make_run, reported, frees, with_report, report}
 use Rattle.machine.proofs.StepLemmas.{leads_where_it_ends, never_pending, from_open, stays_idle, open_is_active, ended_is_idle}
 use Rattle.machine.proofs.RunLemmas.{run_of-number, run_of-map, none_numbered, only_one_numbered, some_numbered-push, keys_differ-map, keys_differ-push, open_runs-push, open_runs-map, all-push, all-both, all-map, all_found, numbers-map, Rises-more}
-use Rattle.machine.proofs.RunRulings.{Comes, comes_to, IsReported, report_comes}
+use Rattle.machine.proofs.RunRulings.{comes_to, IsReported, report_comes}
 use Rattle.machine.proofs.SettlingLemmas.{freed_is_lawful}
 use Rattle.machine.proofs.LawLemmas.{number_left-is, still_is_lawful, under_lock}
 use Rattle.machine.specs.declared.records.Holder.{Holder}
@@ -220,7 +218,7 @@ stays_active h n action status auto_apply r leads keeps before queued = by_hold 
     by_hold true t false o = absurd (let none : ⊥ = cc (sym (ap not o) ∙ ap (λ (b : Bool). b && not (is_open status)) (sym t) ∙ keeps) in none)
     by_hold false t c o = stays_idle auto_apply r.status action status queued_leads (before queued ∙ t)
 
-reported_is_lawful : (w : Workspace) (n : ℕ) (action : RunAction) (status : RunStatus) (r : Run) → run_of n w.runs ≡ Some r → next_status r.plan_only w.auto_apply r.status action ≡ Some status
+reported_is_lawful : (w : Workspace) (n : ℕ) (action : RunAction) (status : RunStatus) (r : Run) → run_of n w.runs ≡ Some r → next_status r.plan_only w.settings.auto_apply r.status action ≡ Some status
     → IsLawful w → IsLawful (settled (with_report n action status w))
 reported_is_lawful w n action status r there leads lawful = by_frees (frees n status w.holder) refl
   where
@@ -229,8 +227,8 @@ reported_is_lawful w n action status r there leads lawful = by_frees (frees n st
 
     stays : frees n status w.holder ≡ false → AreRuns w.holder w.next_run (map (reported n action status) w.runs)
     stays keeps =
-        reported_runs w.holder w.holder n action status w.auto_apply r w.next_run w.runs there leads (λ x t. refl)
-        (stays_active w.holder n action status w.auto_apply r leads keeps before) (λ e. e)
+        reported_runs w.holder w.holder n action status w.settings.auto_apply r w.next_run w.runs there leads (λ x t. refl)
+        (stays_active w.holder n action status w.settings.auto_apply r leads keeps before) (λ e. e)
         (holder_reported w.holder (reported n action status) (λ x. refl) (λ x. refl) w.runs lawful.runs.held) lawful.runs
 
     ends : (h : Holder) → w.holder ≡ h → frees n status h ≡ true → AreRuns (Lock (codes "x") []) w.next_run (map (reported n action status) w.runs)
@@ -241,7 +239,7 @@ reported_is_lawful w n action status r there leads lawful = by_frees (frees n st
         both : (b : Bool) → (m == n) ≡ b → (c : Bool) → is_open status ≡ c → (b && not c) ≡ true → AreRuns (Lock (codes "x") []) w.next_run (map (reported n action status) w.runs)
         both true t true o is = absurd (let none : ⊥ = cc in none)
         both true t false o is =
-            reported_runs (HoldingRun m) (Lock (codes "x") []) n action status w.auto_apply r w.next_run w.runs there leads
+            reported_runs (HoldingRun m) (Lock (codes "x") []) n action status w.settings.auto_apply r w.next_run w.runs there leads
             (λ x apart. sym (ne_eqb m x.number (λ at. eqb-false x.number n apart (sym at ∙ eqb-true m n t))))
             (λ queued. ended_is_idle status o) (λ e. refl) refl (subst (λ (h : Holder). AreRuns h w.next_run w.runs) e lawful.runs)
         both false t c o is = absurd (let none : ⊥ = cc in none)

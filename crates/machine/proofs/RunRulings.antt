@@ -1,15 +1,17 @@
 -- What the rules on runs come to: nothing changes and no holder is told, or a run is told as it is in the settled workspace.
-use Rattle.std.proofs.Common.{◌≡◌, ◌⊎◌, inl, inr, ℕ, nat_lt, Bool, true, false, cond, List, [], ◌∷◌, ◌++◌, map, Option, Some, None, option_map, IsSome, refl, sym, ap, subst, ◌∙◌}
+use Rattle.std.proofs.Common.{◌≡◌, ◌⊎◌, inl, inr, ℕ, nat_lt, Bool, true, false, cond, [], ◌∷◌, ◌++◌, Option, Some, None, option_map, refl, sym, ap, subst, ◌∙◌}
 use Rattle.basis.specs.declared.refusals.Refusal.TheVariants.{NotFound, OverLimit, WrongState, Locked}
+use Rattle.basis.specs.declared.rows.Look.{Look as AnyLook}
+use Rattle.basis.specs.declared.rows.Look.TheVariants as look
 use Rattle.basis.specs.declared.rows.RunAsk.{RunAsk}
 use Rattle.basis.specs.declared.runs.RunStatus.{RunStatus}
 use Rattle.basis.specs.declared.runs.RunAction.{RunAction}
 use Rattle.machine.specs.Effects.{effect}
 use Rattle.machine.specs.Custody.{IsRefusal}
-use Rattle.machine.specs.Workspaces.{max_open_runs, run_of, keyed_run, open_runs}
+use Rattle.machine.specs.Workspaces.{max_open_runs, newest, run_of, keyed_run, open_runs}
 use Rattle.machine.specs.RunSteps.{next_status, is_last}
-use Rattle.machine.specs.Settling.{first_waiting, to_start, started_if, settled}
-use Rattle.machine.specs.Rules.{Outcome, refused, held, the_run, Ruling, run_answer, told_with, told_already, new_run, with_run, numbered_run, number_left, make_run, reported, with_report, by_step, report, version_answer}
+use Rattle.machine.specs.Settling.{first_waiting, to_start, settled}
+use Rattle.machine.specs.Rules.{refused, held, the_run, Ruling, run_answer, told_with, told_already, new_run, with_run, numbered_run, number_left, make_run, reported, with_report, by_step, report, state_answer, version_answer, told}
 use Rattle.machine.specs.Inner.Decisions.{begun_by}
 use Rattle.machine.proofs.RunLemmas.{run_of-map, run_of-started, some_run-push}
 use Rattle.machine.specs.declared.records.Holder.{Holder}
@@ -93,37 +95,36 @@ make_comes_by w ask now None = chosen (nat_lt (open_runs w.runs) max_open_runs)
 pub make_comes : (w : Workspace) (ask : RunAsk) (now : ℕ) → Comes (make_run (keyed_run ask.key w.runs) w ask now) w (IsMade w ask now)
 make_comes w ask now = make_comes_by w ask now (keyed_run ask.key w.runs)
 
--- a run is read
-abbrev pub IsNothing : Workspace → Type 0
-IsNothing v = ⊥
-
-pub read_comes : (w : Workspace) (n : ℕ) → Comes (effect (run_answer (run_of n w.runs)) (Some w)) w IsNothing
-read_comes w n = by_run (run_of n w.runs)
+-- what is told of a workspace: nothing changes
+pub look_comes : (what : AnyLook) (w : Workspace) → IsPlain (effect (told what w) (Some w)) w
+look_comes look.Workspace w = record { left = refl; unheld = λ holder e. cc; unlocked = λ e. cc }
+look_comes look.State w = by_newest (newest w.versions)
   where
-    by_run : (o : Option Run) → Comes (effect (run_answer o) (Some w)) w IsNothing
-    by_run None = inl (plainly_not_found w)
-    by_run (Some r) = inl (plainly_told r w)
-
--- a version is read by its number
-plainly_read : (v : Version) (w : Workspace) → IsPlain (effect (version_answer (Some v)) (Some w)) w
-plainly_read v w = record { left = refl; unheld = λ holder e. cc; unlocked = λ e. cc }
-
-pub version_comes : (w : Workspace) (n : ℕ) → Comes (effect (version_answer (version_of n w.versions)) (Some w)) w IsNothing
-version_comes w n = by_version (version_of n w.versions)
+    by_newest : (o : Option Version) → IsPlain (effect (state_answer o) (Some w)) w
+    by_newest None = record { left = refl; unheld = λ holder e. cc; unlocked = λ e. cc }
+    by_newest (Some v) = record { left = refl; unheld = λ holder e. cc; unlocked = λ e. cc }
+look_comes (look.Version n) w = by_version (version_of n w.versions)
   where
-    by_version : (o : Option Version) → Comes (effect (version_answer o) (Some w)) w IsNothing
-    by_version None = inl (plainly_not_found w)
-    by_version (Some v) = inl (plainly_read v w)
+    by_version : (o : Option Version) → IsPlain (effect (version_answer o) (Some w)) w
+    by_version None = plainly_not_found w
+    by_version (Some v) = record { left = refl; unheld = λ holder e. cc; unlocked = λ e. cc }
+look_comes (look.Versions after) w = record { left = refl; unheld = λ holder e. cc; unlocked = λ e. cc }
+look_comes (look.Run n) w = by_run (run_of n w.runs)
+  where
+    by_run : (o : Option Run) → IsPlain (effect (run_answer o) (Some w)) w
+    by_run None = plainly_not_found w
+    by_run (Some r) = plainly_told r w
+look_comes (look.Runs after) w = record { left = refl; unheld = λ holder e. cc; unlocked = λ e. cc }
 
 -- a run takes an action
 pub record IsReported (w : Workspace) (n : ℕ) (action : RunAction) (v : Workspace) : Type 0 where
   pub run : Run
   pub status : RunStatus
   pub there : run_of n w.runs ≡ Some run
-  pub leads : next_status run.plan_only w.auto_apply run.status action ≡ Some status
+  pub leads : next_status run.plan_only w.settings.auto_apply run.status action ≡ Some status
   pub is : v ≡ with_report n action status w
 
-step_comes : (w : Workspace) (n : ℕ) (action : RunAction) (r : Run) (m : Option RunStatus) → run_of n w.runs ≡ Some r → next_status r.plan_only w.auto_apply r.status action ≡ m
+step_comes : (w : Workspace) (n : ℕ) (action : RunAction) (r : Run) (m : Option RunStatus) → run_of n w.runs ≡ Some r → next_status r.plan_only w.settings.auto_apply r.status action ≡ m
     → Comes (by_step m n action w) w (IsReported w n action)
 step_comes w n action r None there leads = inl (plainly_refused_state w)
 step_comes w n action r (Some status) there leads =
@@ -141,6 +142,6 @@ report_comes w n action = by_run (run_of n w.runs) refl
     by_run None e = inl (plainly_not_found w)
     by_run (Some r) e = chosen (is_last action r.action)
       where
-        chosen : (b : Bool) → Comes (cond b (told_already r w) (by_step (next_status r.plan_only w.auto_apply r.status action) n action w)) w (IsReported w n action)
+        chosen : (b : Bool) → Comes (cond b (told_already r w) (by_step (next_status r.plan_only w.settings.auto_apply r.status action) n action w)) w (IsReported w n action)
         chosen true = inl (plainly_told r w)
-        chosen false = step_comes w n action r (next_status r.plan_only w.auto_apply r.status action) e refl
+        chosen false = step_comes w n action r (next_status r.plan_only w.settings.auto_apply r.status action) e refl

@@ -1,11 +1,10 @@
 -- Settling, as a relation, allows one workspace: the one that the rules give.
-use Rattle.std.proofs.Common.{◌≡◌, ◌⊎◌, inl, inr, ℕ, ◌<◌, ◌≤◌, ◌==◌, Bool, true, false, not, ◌&&◌, cond, List, [], ◌∷◌, map, Option, Some, None, refl, sym, ap, subst, ◌∙◌, arith, eq-eqb, eqb-true}
+use Rattle.std.proofs.Common.{◌≡◌, inl, inr, ℕ, ◌<◌, ◌≤◌, ◌==◌, Bool, true, false, cond, List, [], ◌∷◌, map, Option, Some, None, refl, sym, ap, subst, ◌∙◌, arith, eq-eqb, eqb-true}
 use Rattle.std.specs.Prelude.{find, option_map}
 use Rattle.std.specs.List.{AllByRecursion}
-use Rattle.std.proofs.lemmas.Bool.{eqb-false}
 use Rattle.machine.specs.Workspaces.{run_of, is_numbered}
 use Rattle.machine.specs.Laws.{Rises}
-use Rattle.machine.specs.Settling.{is_waiting, first_waiting, to_start, started, started_if, settled, NoneWaits, Starts, Settles, SettlesOnce}
+use Rattle.machine.specs.Settling.{is_waiting, first_waiting, to_start, started_if, settled, NoneWaits, Starts, Settles, SettlesOnce}
 use Rattle.machine.specs.declared.records.Holder.{Holder}
 use Rattle.machine.specs.declared.records.Holder.TheVariants.{Nobody, Lock, Run as HoldingRun}
 use Rattle.machine.specs.declared.records.Run.{Run}

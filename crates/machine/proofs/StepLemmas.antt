@@ -1,7 +1,7 @@
 -- What each step of a run does: it leads from an open status to one that isn't pending, and an action that a run took leads there.
-use Rattle.std.proofs.Common.{◌≡◌, ℕ, Bool, true, false, not, ◌&&◌, ◌||◌, cond, List, [], ◌∷◌, Option, Some, None, option_map, IsTrue, refl, sym, ap, subst, ◌∙◌}
+use Rattle.std.proofs.Common.{◌≡◌, ℕ, Bool, true, false, ◌&&◌, ◌||◌, cond, List, [], ◌∷◌, Some, option_map, refl, sym, ap, subst, ◌∙◌}
 use Rattle.std.specs.Prelude.{find, codes}
-use Rattle.std.specs.List.{AllByRecursion, list_any}
+use Rattle.std.specs.List.{AllByRecursion}
 use Rattle.std.specs.Str.{bytes_eq}
 use Rattle.std.proofs.lemmas.Slice.Eq.{bytes_eq-Decides}
 use Rattle.basis.specs.Runs.{is_open, status_word, action_word}
@@ -10,7 +10,7 @@ use Rattle.basis.specs.declared.runs.RunStatus.TheVariants.{Pending, Planning, P
 use Rattle.basis.specs.declared.runs.RunAction.{RunAction}
 use Rattle.basis.specs.declared.runs.RunAction.TheVariants.{ReportPlanned, ReportUnchanged, Fail, Confirm, ReportApplied, Discard, Cancel}
 use Rattle.machine.specs.Laws.{is_active, is_pending, IsWhereActionEnds, ends_in}
-use Rattle.machine.specs.RunSteps.{RunStep, plan_only_steps, queued_steps, auto_apply_steps, confirmed_steps, steps_of, is_status, is_action, is_step, step_in, next_status, is_last}
+use Rattle.machine.specs.RunSteps.{RunStep, plan_only_steps, auto_apply_steps, confirmed_steps, is_status, is_action, is_step, step_in, next_status}
 
 -- two statuses of one word are one, and so are two actions
 abbrev status_named : List ℕ → RunStatus

@@ -8,21 +8,20 @@ use Rattle.basis.specs.declared.rows.StateHead.{StateHead}
 use Rattle.machine.specs.Records.{there}
 use Rattle.machine.specs.Workspaces.{newest, holder_status, max_versions}
 use Rattle.machine.specs.Writing.{may_write}
-use Rattle.machine.specs.Settling.{first_waiting, to_start, started, started_if, settled}
+use Rattle.machine.specs.Settling.{first_waiting, to_start, started_if, settled}
 use Rattle.machine.specs.Succession.{Succession, first, same, other_lineage, old_serial, next, succession, after_newest, lineages_differ}
-use Rattle.machine.specs.Rules.{done, no_state, state, state_answer, rules, refused_by, by_may_write, by_succession, numbered_update, number_left, with_version, with_settings, done_with, done_already, purge, purged, lock, locked, unlock, released, is_released, force_unlock, new_run, with_run, with_report}
+use Rattle.machine.specs.Rules.{done, no_state, state, state_answer, rules, by_may_write, by_succession, numbered_update, number_left, with_version, with_settings, purge, purged, locked, released, new_run, with_run, with_report}
 use Rattle.machine.proofs.RunRulings.{IsMade, IsReported, comes_to, make_comes, report_comes}
 use Rattle.basis.specs.declared.rows.RunAsk.{RunAsk}
 use Rattle.basis.specs.declared.runs.RunAction.{RunAction}
 use Rattle.machine.specs.Units.{find_last, version_of}
 use Rattle.machine.specs.Custody.{WhatIsPostedIsRead, NothingIsReadOfAPurge, KeepsVersions, MakesVersion, NumbersRise}
-use Rattle.machine.proofs.CustodyLemmas.{newest_with, versions_stay, stays_by, lock_becomes, unlock_becomes, force_becomes, purge_becomes, Unlocks}
+use Rattle.machine.proofs.CustodyLemmas.{newest_with, versions_stay, lock_becomes, unlock_becomes, force_becomes, purge_becomes, Unlocks}
 use Rattle.machine.proofs.LawLemmas.{number_left-is}
 use Rattle.machine.proofs.PlainLemmas.{find_last_push}
 use Rattle.machine.proofs.RefusalLemmas.{never_done}
 use Rattle.machine.proofs.DeletionLemmas.{delete_left}
-use Rattle.machine.specs.declared.acts.Act.{Act}
-use Rattle.machine.specs.declared.acts.Act.TheVariants.{PutWorkspace, ReadWorkspace, DeleteWorkspace, UpdateState, ReadState, PurgeState, Lock as LockAct, Unlock, ForceUnlock, ListVersions, ReadVersion, ListRuns, MakeRun, ReadRun, ReportRun}
+use Rattle.machine.specs.declared.acts.Act.TheVariants.{Look, PutWorkspace, DeleteWorkspace, UpdateState, PurgeState, Lock as LockAct, Unlock, ForceUnlock, MakeRun, ReportRun}
 use Rattle.machine.specs.declared.records.Version.{Version}
 use Rattle.machine.specs.declared.records.Workspace.{Workspace}
 
@@ -185,16 +184,11 @@ report_numbers w v n action now e =
 pub numbers_rise : NumbersRise
 numbers_rise (PutWorkspace settings) now w v e = settled_numbers w (with_settings w settings) v e (kept_numbers w (with_settings w settings) refl refl refl)
 numbers_rise (UpdateState head text id) now w v e = update_numbers w v head text now (may_write w.holder (holder_status w.holder w.runs) id) e
-numbers_rise ReadWorkspace now w v e = same_numbers w v e
-numbers_rise ReadState now w v e = same_numbers w v e
+numbers_rise (Look what) now w v e = same_numbers w v e
 numbers_rise DeleteWorkspace now w v e = same_numbers w v (delete_left w v e)
-numbers_rise (ListVersions after) now w v e = same_numbers w v e
-numbers_rise (ReadVersion n) now w v e = same_numbers w v e
-numbers_rise (ListRuns after) now w v e = same_numbers w v e
 numbers_rise (PurgeState id) now w v e = purge_numbers w v (rules (PurgeState id) now (there w)).left e (purge_becomes w (may_write w.holder (holder_status w.holder w.runs) id))
 numbers_rise (LockAct id text) now w v e = lock_numbers w v id text (rules (LockAct id text) now (there w)).left e (lock_becomes id text w w.holder)
 numbers_rise (Unlock id) now w v e = unlock_numbers w v (rules (Unlock id) now (there w)).left e (unlock_becomes id w w.holder)
 numbers_rise ForceUnlock now w v e = unlock_numbers w v (rules ForceUnlock now (there w)).left e (force_becomes w w.holder)
 numbers_rise (MakeRun ask) now w v e = make_numbers w v ask now e
-numbers_rise (ReadRun n) now w v e = same_numbers w v e
 numbers_rise (ReportRun n action) now w v e = report_numbers w v n action now e

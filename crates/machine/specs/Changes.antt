@@ -1,5 +1,5 @@
 -- What a change does to a workspace, and when it is due: this is what a store's `apply` speaks of.
-use Rattle.std.specs.Prelude.{◌≡◌, ℕ, ◌+◌, List, [], ◌∷◌, ◌++◌, drop, map, cond, Option, Some, None, option_map}
+use Rattle.std.specs.Prelude.{◌≡◌, ℕ, ◌+◌, nat_lt, List, [], ◌∷◌, ◌++◌, filter, map, cond, Option, Some, None, option_map}
 use Rattle.machine.specs.Workspaces.{new_workspace}
 use Rattle.machine.specs.Settling.{started_if}
 use Rattle.machine.specs.Ranges.{IsInRange, IsMoment}
@@ -10,15 +10,21 @@ use Rattle.machine.specs.declared.acts.Edit.{Edit}
 use Rattle.machine.specs.declared.acts.Edit.TheVariants.{Make, Configure, Remove, AddVersion, Purge, Hold, Release, AddRun, Report}
 use Rattle.machine.specs.declared.acts.Change.{Change}
 use Rattle.machine.specs.declared.records.Holder.TheVariants.{Nobody}
+use Rattle.machine.specs.declared.records.Version.{Version}
 use Rattle.machine.specs.declared.records.Workspace.{Workspace}
+
+-- the versions that are left, where those up to a number go
+abbrev pub left_above : Option ℕ → List Version → List Version
+left_above None versions = versions
+left_above (Some outgoing) versions = filter (λ (v : Version). nat_lt outgoing v.number) versions
 
 -- the workspace after an edit
 abbrev pub edited : Edit → Option Workspace → Option Workspace
 edited (Make settings) w = Some (new_workspace settings)
 edited (Configure settings) w = option_map (λ (v : Workspace). with_settings v settings) w
 edited Remove w = None
-edited (AddVersion version gone) w =
-    option_map (λ (v : Workspace). record v { next_version = version.number + 1; versions = drop gone (v.versions ++ version ∷ []) }) w
+edited (AddVersion version outgoing) w =
+    option_map (λ (v : Workspace). record v { next_version = version.number + 1; versions = left_above outgoing (v.versions ++ version ∷ []) }) w
 edited Purge w = option_map purged w
 edited (Hold id text) w = option_map (locked id text) w
 edited (Release id) w = option_map (released id) w

@@ -1,8 +1,8 @@
 -- Custody, as laws of the rules: who writes, how long a lock holds, what becomes of versions, and that repeats change nothing.
 use Rattle.std.specs.Prelude.{◌≡◌, ◌≤◌, ◌⊎◌, ◌+◌, ℕ, Bool, List, [], Option, Some, None, IsSome, ⊤}
 use Rattle.basis.specs.Names.{run_id}
+use Rattle.basis.specs.declared.rows.Look.TheVariants as look
 use Rattle.basis.specs.declared.rows.StateHead.{StateHead}
-use Rattle.basis.specs.declared.refusals.Refusal.{Refusal}
 use Rattle.basis.specs.declared.runs.RunStatus.{RunStatus}
 use Rattle.basis.specs.declared.runs.RunStatus.TheVariants.{Applying}
 use Rattle.machine.specs.Records.{Seen, missing, there, standing}
@@ -10,7 +10,7 @@ use Rattle.machine.specs.Rules.{Outcome, refused, held, done, no_state, state, w
 use Rattle.machine.specs.Units.{version_of}
 use Rattle.machine.specs.Workspaces.{newest, holder_status, open_runs}
 use Rattle.machine.specs.declared.acts.Act.{Act}
-use Rattle.machine.specs.declared.acts.Act.TheVariants.{PutWorkspace, ReadWorkspace, DeleteWorkspace, UpdateState, ReadState, PurgeState, Lock as LockAct, Unlock, ForceUnlock, ListVersions, ReadVersion, ListRuns, MakeRun, ReadRun, ReportRun}
+use Rattle.machine.specs.declared.acts.Act.TheVariants.{Look, PutWorkspace, DeleteWorkspace, UpdateState, PurgeState, Lock as LockAct, Unlock, ForceUnlock, MakeRun, ReportRun}
 use Rattle.machine.specs.declared.records.Holder.{Holder}
 use Rattle.machine.specs.declared.records.Holder.TheVariants.{Nobody, Lock, Run}
 use Rattle.machine.specs.declared.records.Version.{Version}
@@ -46,19 +46,14 @@ RefusalsTellTheHolder = (act : Act) (now : ℕ) (w : Workspace) (holder : Holder
 -- an act that writes: an update or a purge, with this ID
 abbrev pub WritesWith : Act → Option (List ℕ) → Type 0
 WritesWith (PutWorkspace settings) id = ⊥
-WritesWith ReadWorkspace id = ⊥
+WritesWith (Look what) id = ⊥
 WritesWith (UpdateState head text given) id = given ≡ id
-WritesWith ReadState id = ⊥
 WritesWith (PurgeState given) id = given ≡ id
 WritesWith (LockAct asked text) id = ⊥
 WritesWith (Unlock asked) id = ⊥
 WritesWith ForceUnlock id = ⊥
 WritesWith DeleteWorkspace id = ⊥
-WritesWith (ListVersions after) id = ⊥
-WritesWith (ReadVersion n) id = ⊥
-WritesWith (ListRuns after) id = ⊥
 WritesWith (MakeRun ask) id = ⊥
-WritesWith (ReadRun n) id = ⊥
 WritesWith (ReportRun n action) id = ⊥
 
 -- the ID that the holder writes with: none while nobody holds, that of the lock, or that of a run, which is applying
@@ -80,19 +75,14 @@ VersionsChangeByTheId = (act : Act) (now : ℕ) (w v : Workspace) (own text : Li
 -- an act that releases the lock of this ID
 abbrev pub Releases : Act → List ℕ → Type 0
 Releases (PutWorkspace settings) own = ⊥
-Releases ReadWorkspace own = ⊥
+Releases (Look what) own = ⊥
 Releases (UpdateState head text id) own = ⊥
-Releases ReadState own = ⊥
 Releases (PurgeState id) own = ⊥
 Releases (LockAct id text) own = ⊥
 Releases (Unlock id) own = id ≡ own
 Releases ForceUnlock own = ⊤
 Releases DeleteWorkspace own = ⊥
-Releases (ListVersions after) own = ⊥
-Releases (ReadVersion n) own = ⊥
-Releases (ListRuns after) own = ⊥
 Releases (MakeRun ask) own = ⊥
-Releases (ReadRun n) own = ⊥
 Releases (ReportRun n action) own = ⊥
 
 -- a lock holds, with its first text, until an act releases it
@@ -122,13 +112,13 @@ WorkspacesBeginAnew = (act : Act) (now : ℕ) (room : Bool) (v : Workspace) → 
 abbrev pub WhatIsPostedIsRead : Type 0
 WhatIsPostedIsRead = (head : StateHead) (text : List ℕ) (id : Option (List ℕ)) (now later : ℕ) (w v : Workspace)
     → (rules (UpdateState head text id) now (there w)).answer ≡ done → (rules (UpdateState head text id) now (there w)).left ≡ Some v
-    → (rules ReadState later (there v)).answer ≡ state text
+    → (rules (Look look.State) later (there v)).answer ≡ state text
 
 -- after a purge there is nothing to give
 abbrev pub NothingIsReadOfAPurge : Type 0
 NothingIsReadOfAPurge = (id : Option (List ℕ)) (now later : ℕ) (w v : Workspace)
     → (rules (PurgeState id) now (there w)).answer ≡ done → (rules (PurgeState id) now (there w)).left ≡ Some v
-    → (rules ReadState later (there v)).answer ≡ no_state
+    → (rules (Look look.State) later (there v)).answer ≡ no_state
 
 -- no version is made: the next number stays, and what is left of the versions is as it was
 pub record KeepsVersions (w v : Workspace) : Type 0 where
@@ -151,19 +141,14 @@ NumbersRise = (act : Act) (now : ℕ) (w v : Workspace) → (rules act now (ther
 -- an act that changes nothing more where it comes again: every one but the creation of a run without a key
 abbrev pub IsRepeatable : Act → Type 0
 IsRepeatable (PutWorkspace settings) = ⊤
-IsRepeatable ReadWorkspace = ⊤
+IsRepeatable (Look what) = ⊤
 IsRepeatable (UpdateState head text id) = ⊤
-IsRepeatable ReadState = ⊤
 IsRepeatable (PurgeState id) = ⊤
 IsRepeatable (LockAct id text) = ⊤
 IsRepeatable (Unlock id) = ⊤
 IsRepeatable ForceUnlock = ⊤
 IsRepeatable DeleteWorkspace = ⊤
-IsRepeatable (ListVersions after) = ⊤
-IsRepeatable (ReadVersion n) = ⊤
-IsRepeatable (ListRuns after) = ⊤
 IsRepeatable (MakeRun ask) = IsSome ask.key
-IsRepeatable (ReadRun n) = ⊤
 IsRepeatable (ReportRun n action) = ⊤
 
 -- what was accepted and comes again, at whatever moment, to what it left, changes nothing more

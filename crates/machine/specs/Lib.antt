@@ -10,7 +10,9 @@ pub mod Records
 pub mod Ranges
 pub mod Showing
 pub mod Rules
+pub mod Needs
 pub mod Changes
+pub mod Meaning
 pub mod Units
 pub mod Tokens
 pub mod Keeping

@@ -1,5 +1,5 @@
 -- Pages of a list follow one another: what comes after a page's last item is what that page left out.
-use Rattle.std.specs.Prelude.{◌≡◌, ℕ, nat_lt, Bool, List, drop, filter, slice_get, Option, Some}
+use Rattle.std.specs.Prelude.{◌≡◌, ℕ, nat_lt, List, drop, filter, slice_get, Option, Some}
 use Rattle.std.specs.FinMap.{entries}
 use Rattle.machine.specs.Laws.{IsLawful}
 use Rattle.machine.specs.Showing.{comes_after}

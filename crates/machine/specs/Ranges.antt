@@ -1,10 +1,10 @@
 -- The ranges of what is asked.
-use Rattle.std.specs.Prelude.{ℕ, ◌^◌, ◌<◌, ◌≤◌, List, length, IfSome, IsTrue, ⊤}
+use Rattle.std.specs.Prelude.{ℕ, ◌^◌, ◌<◌, ◌≤◌, length, IfSome, IsTrue, ⊤}
 use Rattle.basis.specs.Names.{is_free_id, has_length}
 use Rattle.basis.specs.declared.rows.RunAsk.{RunAsk}
 use Rattle.basis.specs.declared.rows.StateHead.{StateHead}
 use Rattle.machine.specs.declared.acts.Act.{Act}
-use Rattle.machine.specs.declared.acts.Act.TheVariants.{PutWorkspace, ReadWorkspace, DeleteWorkspace, UpdateState, ReadState, PurgeState, Lock as LockAct, Unlock, ForceUnlock, ListVersions, ReadVersion, ListRuns, MakeRun, ReadRun, ReportRun}
+use Rattle.machine.specs.declared.acts.Act.TheVariants.{Look, PutWorkspace, DeleteWorkspace, UpdateState, PurgeState, Lock as LockAct, Unlock, ForceUnlock, MakeRun, ReportRun}
 
 -- what a state's head says is in range
 abbrev pub IsHead : StateHead → Type 0
@@ -21,17 +21,12 @@ IsMoment now = now ≤ 253_402_300_799
 -- the documents of an act are in their ranges
 abbrev pub IsInRange : Act → Type 0
 IsInRange (PutWorkspace settings) = ⊤
-IsInRange ReadWorkspace = ⊤
+IsInRange (Look what) = ⊤
 IsInRange (UpdateState head text id) = IsHead head
-IsInRange ReadState = ⊤
 IsInRange (PurgeState id) = ⊤
 IsInRange (LockAct id text) = IsTrue (is_free_id id)
 IsInRange (Unlock id) = ⊤
 IsInRange ForceUnlock = ⊤
 IsInRange DeleteWorkspace = ⊤
-IsInRange (ListVersions after) = ⊤
-IsInRange (ReadVersion n) = ⊤
-IsInRange (ListRuns after) = ⊤
 IsInRange (MakeRun ask) = IsRunAsk ask
-IsInRange (ReadRun n) = ⊤
 IsInRange (ReportRun n action) = ⊤

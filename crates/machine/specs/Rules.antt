@@ -1,9 +1,11 @@
 -- The rules: what an act on a workspace is answered, and the workspace after it. A refusal changes nothing.
-use Rattle.std.specs.Prelude.{ℕ, ◌+◌, Bool, true, false, not, ◌&&◌, nat_lt, ◌==◌, cond, List, [], ◌∷◌, ◌++◌, map, Option, Some, None, option_map}
+use Rattle.std.specs.Prelude.{ℕ, ◌+◌, Bool, false, not, ◌&&◌, nat_lt, ◌==◌, cond, List, [], ◌∷◌, ◌++◌, map, Option, Some, None}
 use Rattle.std.specs.Str.{bytes_eq}
 use Rattle.basis.specs.Numbers.{within}
 use Rattle.basis.specs.declared.refusals.Refusal.{Refusal}
 use Rattle.basis.specs.declared.refusals.Refusal.TheVariants.{NotFound, OtherLineage, OldSerial, OverLimit, WrongState, HeldByRun, OpenRuns, Locked}
+use Rattle.basis.specs.declared.rows.Look.{Look as AnyLook}
+use Rattle.basis.specs.declared.rows.Look.TheVariants as look
 use Rattle.basis.specs.declared.rows.Settings.{Settings}
 use Rattle.basis.specs.declared.rows.StateHead.{StateHead}
 use Rattle.basis.specs.declared.rows.RunAsk.{RunAsk}
@@ -25,7 +27,7 @@ use Rattle.machine.specs.Writing.{may_write}
 use Rattle.machine.specs.Settling.{settled}
 use Rattle.machine.specs.Succession.{Succession, first, same, other_lineage, old_serial, next, succession}
 use Rattle.machine.specs.declared.acts.Act.{Act}
-use Rattle.machine.specs.declared.acts.Act.TheVariants.{PutWorkspace, ReadWorkspace, DeleteWorkspace, UpdateState, ReadState, PurgeState, Lock as LockAct, Unlock, ForceUnlock, ListVersions, ReadVersion, ListRuns, MakeRun, ReadRun, ReportRun}
+use Rattle.machine.specs.declared.acts.Act.TheVariants.{Look, PutWorkspace, DeleteWorkspace, UpdateState, PurgeState, Lock as LockAct, Unlock, ForceUnlock, MakeRun, ReportRun}
 use Rattle.machine.specs.declared.acts.Shown.{Shown}
 use Rattle.machine.specs.declared.records.Holder.{Holder}
 use Rattle.machine.specs.declared.records.Holder.TheVariants.{Nobody, Lock, Run as HoldingRun}
@@ -116,7 +118,7 @@ state_answer None = no_state
 state_answer (Some v) = state v.text
 
 abbrev pub with_settings : Workspace → Settings → Workspace
-with_settings w settings = record w { auto_apply = settings.auto_apply }
+with_settings w settings = record w { settings = settings }
 
 -- a purge: every version goes, and the next number stays
 abbrev pub purged : Workspace → Workspace
@@ -222,7 +224,16 @@ by_step (Some status) n action w = told_with n (with_report n action status w)
 -- an action on a run: the one that it took last is answered again; auto-apply is the workspace's setting as it is now
 abbrev pub report : Option Run → ℕ → RunAction → Workspace → Ruling
 report None n action w = effect (refused NotFound) (Some w)
-report (Some r) n action w = cond (is_last action r.action) (told_already r w) (by_step (next_status r.plan_only w.auto_apply r.status action) n action w)
+report (Some r) n action w = cond (is_last action r.action) (told_already r w) (by_step (next_status r.plan_only w.settings.auto_apply r.status action) n action w)
+
+-- what is told of a workspace
+abbrev pub told : AnyLook → Workspace → Outcome
+told look.Workspace w = workspace (shown_of w)
+told look.State w = state_answer (newest w.versions)
+told (look.Version n) w = version_answer (version_of n w.versions)
+told (look.Versions after) w = versions (versions_listed after w.versions)
+told (look.Run n) w = run_answer (run_of n w.runs)
+told (look.Runs after) w = runs (runs_listed after w.runs)
 
 -- a workspace that is missing is made by PUT where there is room, and nothing else finds it
 abbrev pub rules_missing : Act → Bool → Ruling
@@ -231,19 +242,14 @@ rules_missing act room = effect (refused NotFound) None
 
 abbrev pub rules_there : Act → ℕ → Workspace → Ruling
 rules_there (PutWorkspace settings) now w = shown_with (with_settings w settings)
-rules_there ReadWorkspace now w = effect (workspace (shown_of w)) (Some w)
+rules_there (Look what) now w = effect (told what w) (Some w)
 rules_there (UpdateState head text id) now w = update w head text id now
-rules_there ReadState now w = effect (state_answer (newest w.versions)) (Some w)
 rules_there (PurgeState id) now w = purge (may_write w.holder (holder_status w.holder w.runs) id) w
 rules_there (LockAct id text) now w = lock w.holder id text w
 rules_there (Unlock id) now w = unlock w.holder id w
 rules_there ForceUnlock now w = force_unlock w.holder w
 rules_there DeleteWorkspace now w = delete w.holder w
-rules_there (ListVersions after) now w = effect (versions (versions_listed after w.versions)) (Some w)
-rules_there (ReadVersion n) now w = effect (version_answer (version_of n w.versions)) (Some w)
-rules_there (ListRuns after) now w = effect (runs (runs_listed after w.runs)) (Some w)
 rules_there (MakeRun ask) now w = make_run (keyed_run ask.key w.runs) w ask now
-rules_there (ReadRun n) now w = effect (run_answer (run_of n w.runs)) (Some w)
 rules_there (ReportRun n action) now w = report (run_of n w.runs) n action w
 
 -- the rules: of an act and a moment, on a workspace

@@ -1,6 +1,6 @@
 -- The steps of runs: three finite sets of a status, an action, and the status after it (HCP Terraform, 'Run States and
 -- Stages', a subset). An action that no step of a status has is refused there.
-use Rattle.std.specs.Prelude.{ℕ, Bool, true, false, ◌&&◌, List, [], ◌∷◌, find, Option, Some, None, option_map}
+use Rattle.std.specs.Prelude.{Bool, true, false, ◌&&◌, List, [], ◌∷◌, find, Option, Some, None, option_map}
 use Rattle.std.specs.Str.{bytes_eq}
 use Rattle.basis.specs.Runs.{status_word, action_word}
 use Rattle.basis.specs.declared.runs.RunStatus.{RunStatus}

@@ -27,11 +27,11 @@ holder_id (HoldingRun n) = Some (RunHolder n)
 
 -- a workspace as it is shown
 abbrev pub shown_of : Workspace → Shown
-shown_of w = record { auto_apply = w.auto_apply; holder = holder_id w.holder; version = option_map (λ (v : Version). v.number) (newest w.versions) }
+shown_of w = record { settings = w.settings; holder = holder_id w.holder; version = option_map (λ (v : Version). v.number) (newest w.versions) }
 
 -- with its name
 abbrev pub row_of : List ℕ → Shown → WsRow
-row_of name shown = record { auto_apply = shown.auto_apply; holder = shown.holder; name = name; version = shown.version }
+row_of name shown = record { settings = shown.settings; holder = shown.holder; name = name; version = shown.version }
 
 -- a version as it is listed; its size is the number of its text's bytes
 abbrev pub version_row : Version → VersionRow

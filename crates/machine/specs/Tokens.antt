@@ -50,7 +50,7 @@ org_limited limit None = effect Absent None
 org_limited limit (Some o) = effect Done (Some (with_limit o limit))
 
 abbrev pub token_of : List ℕ → Role → Token
-token_of digest role = record { digest = digest; role = role }
+token_of digest role = record { digest = digest; caller = record { role = role } }
 
 -- adding a token: neither its name nor its digest may be there
 abbrev pub with_token : Organization → List ℕ → Token → Organization

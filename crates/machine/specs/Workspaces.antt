@@ -1,5 +1,5 @@
 -- Parts of a workspace, and the laws that always hold of one.
-use Rattle.std.specs.Prelude.{ℕ, ◌-◌, Bool, false, ◌==◌, List, [], ◌∷◌, length, drop, filter, find, Option, Some, None, option_map}
+use Rattle.std.specs.Prelude.{ℕ, ◌+◌, ◌-◌, Bool, false, ◌==◌, List, [], ◌∷◌, length, take, drop, filter, find, Option, Some, None, option_map}
 use Rattle.std.specs.Str.{bytes_eq}
 use Rattle.basis.specs.Runs.{is_open}
 use Rattle.basis.specs.declared.rows.Settings.{Settings}
@@ -28,9 +28,13 @@ newest (v ∷ w ∷ vs) = newest (w ∷ vs)
 abbrev pub last_of : ℕ → List Version → List Version
 last_of most vs = drop (length vs - most) vs
 
+-- the greatest number of those that go as one more version comes and `most` are kept: that of the version before the last `most` less one
+abbrev pub outgoing : ℕ → List Version → Option ℕ
+outgoing most vs = option_map (λ (v : Version). v.number) (newest (take (length vs + 1 - most) vs))
+
 -- a workspace at its creation
 abbrev pub new_workspace : Settings → Workspace
-new_workspace settings = record { auto_apply = settings.auto_apply; holder = Nobody; released = None; next_version = 1; next_run = 1; versions = []; runs = [] }
+new_workspace settings = record { settings = settings; holder = Nobody; released = None; next_version = 1; next_run = 1; versions = []; runs = [] }
 
 -- the run of a number
 abbrev pub is_numbered : ℕ → Run → Bool

@@ -1,20 +1,20 @@
 //! What is asked of a workspace, what a decision needs of it, and what is decided.
-ghost use Rattle.std.specs.Prelude.{◌≡◌};
-ghost use Rattle.machine.specs.Units.{makes_workspace};
+ghost use Rattle.std.specs.Prelude.{◌≡◌, option_copied};
+ghost use Rattle.machine.specs.Needs.{needs, needs_of_look, nothing, needed_of};
 
 use crate::records::{Holder, Run, Version};
 use basis::{
-    Bytes, HolderId, Limit, LockId, Moment, Number, Refusal, RunAction, RunAsk, RunStatus,
+    Bytes, HolderId, Limit, LockId, Look, Moment, Number, Refusal, RunAction, RunAsk, RunStatus,
     Settings, StateHead, Text,
 };
 
 /// What is asked of one workspace, its documents read.
 #[derive(Drop)]
 pub enum Act {
+    /// Something is told of it, and nothing changes.
+    Look(Look),
     /// Makes the workspace, or sets the settings of the one that is there.
     PutWorkspace(Settings),
-    /// The workspace as it is shown.
-    ReadWorkspace,
     /// The workspace goes, with its versions and runs.
     DeleteWorkspace,
     /// Terraform's `POST` of a state, with the ID of the lock that the caller says it holds.
@@ -23,8 +23,6 @@ pub enum Act {
         text: Bytes,
         lock_id: Option<LockId>,
     },
-    /// Terraform's `GET` of the newest state.
-    ReadState,
     /// `DELETE` of a state: every version goes.
     PurgeState {
         lock_id: Option<LockId>,
@@ -38,33 +36,128 @@ pub enum Act {
     Unlock(LockId),
     /// `UNLOCK` of whatever lock holds.
     ForceUnlock,
-    /// The versions whose numbers come after this one, at most 50.
-    ListVersions(u64),
-    /// The text of the version of this number.
-    ReadVersion(Number),
-    /// The runs whose numbers come after this one, at most 50.
-    ListRuns(u64),
     /// Makes a run, or shows the one that has the key.
     MakeRun(RunAsk),
-    /// A run as it is shown.
-    ReadRun(Number),
     /// An action on a run.
     ReportRun(Number, RunAction),
 }
 
+/// What a decision on an act needs of its workspace besides the workspace's own row: a store is asked
+/// for nothing else.
+#[derive(Drop)]
+pub struct Needs<'a> {
+    /// Whether the act makes the workspace where there is none, so that the organization's workspaces
+    /// are counted there.
+    pub makes: bool,
+    /// Whether the status of the run that holds is needed.
+    pub holder_status: bool,
+    /// Whether the newest version is needed.
+    pub newest: bool,
+    /// The text that the newest version's text is compared with.
+    pub text: Option<&'a Bytes>,
+    /// Whether it is needed which versions go as one more comes.
+    pub outgoing: bool,
+    /// The number of the version that is asked of.
+    pub version: Option<Number>,
+    /// The number of the run that is asked of.
+    pub run: Option<Number>,
+    /// The key of the run that is asked of.
+    pub key: Option<&'a Text>,
+    /// Whether the first run that waits is needed.
+    pub waiting: bool,
+    /// Whether the number of open runs is needed.
+    pub open_runs: bool,
+}
+
+/// Nothing but the workspace's row is needed.
+fn nothing<'a>() -> Needs<'a>
+    ensures { needed_of result ≡ nothing }
+{
+    Needs {
+        makes: false,
+        holder_status: false,
+        newest: false,
+        text: None,
+        outgoing: false,
+        version: None,
+        run: None,
+        key: None,
+        waiting: false,
+        open_runs: false,
+    }
+}
+
+fn needs_of_look<'a>(look: Look) -> Needs<'a>
+    ensures { needed_of result ≡ needs_of_look look }
+{
+    match look {
+        Look::Workspace | Look::State => Needs {
+            newest: true,
+            ..nothing()
+        },
+        Look::Version(number) => Needs {
+            version: Some(number),
+            ..nothing()
+        },
+        Look::Run(number) => Needs {
+            run: Some(number),
+            ..nothing()
+        },
+        Look::Versions(_) | Look::Runs(_) => nothing(),
+    }
+}
+
+fn key_of(ask: &RunAsk) -> Option<&Text>
+    ensures { option_copied result ≡ ask.now.key }
+{
+    match &ask.key {
+        Some(key) => Some(key),
+        None => None,
+    }
+}
+
 impl Act {
-    /// Whether the act makes its workspace where there is none.
-    pub fn makes_workspace(&self) -> bool
-        ensures { result ≡ makes_workspace self.now }
+    /// What a decision on the act needs.
+    pub fn needs(&self) -> Needs<'_>
+        ensures { needed_of result ≡ needs self.now }
     {
         match self {
-            Act::PutWorkspace(_) => true,
-            Act::ReadWorkspace | Act::DeleteWorkspace => false,
-            Act::UpdateState { .. } | Act::ReadState | Act::PurgeState { .. } => false,
-            Act::Lock { .. } | Act::Unlock(_) | Act::ForceUnlock => false,
-            Act::ListVersions(_) | Act::ReadVersion(_) => false,
-            Act::ListRuns(_) | Act::MakeRun(_) => false,
-            Act::ReadRun(_) | Act::ReportRun(_, _) => false,
+            Act::Look(look) => needs_of_look(*look),
+            Act::PutWorkspace(_) => Needs {
+                makes: true,
+                newest: true,
+                ..nothing()
+            },
+            Act::DeleteWorkspace => Needs {
+                open_runs: true,
+                ..nothing()
+            },
+            Act::UpdateState { text, .. } => Needs {
+                holder_status: true,
+                newest: true,
+                text: Some(text),
+                outgoing: true,
+                ..nothing()
+            },
+            Act::PurgeState { .. } => Needs {
+                holder_status: true,
+                ..nothing()
+            },
+            Act::Lock { .. } => nothing(),
+            Act::Unlock(_) | Act::ForceUnlock => Needs {
+                waiting: true,
+                ..nothing()
+            },
+            Act::MakeRun(ask) => Needs {
+                key: key_of(ask),
+                open_runs: true,
+                ..nothing()
+            },
+            Act::ReportRun(number, _) => Needs {
+                run: Some(*number),
+                waiting: true,
+                ..nothing()
+            },
         }
     }
 }
@@ -79,10 +172,11 @@ pub struct Newest {
     pub is_same: bool,
 }
 
-/// What a decision needs of a workspace that is there.
+/// What a decision needs of a workspace that is there. A part that the act doesn't need is `None`, 0
+/// or false.
 #[derive(Drop)]
 pub struct WorkspaceUnit {
-    pub auto_apply: bool,
+    pub settings: Settings,
     pub holder: Holder,
     /// The status of the holding run.
     pub holder_status: Option<RunStatus>,
@@ -91,8 +185,8 @@ pub struct WorkspaceUnit {
     pub next_version: u64,
     pub next_run: u64,
     pub newest: Option<Newest>,
-    /// How many versions are kept.
-    pub versions: usize,
+    /// The greatest number of the versions that go as one more comes.
+    pub outgoing: Option<Number>,
     /// The first run that waits: queued, pending, and of the least number.
     pub first_waiting: Option<Number>,
     /// Whether the version that is asked of is kept.
@@ -115,7 +209,7 @@ pub enum Unit {
 /// A workspace as it is shown, but for its name.
 #[derive(Drop)]
 pub struct Shown {
-    pub auto_apply: bool,
+    pub settings: Settings,
     pub holder: Option<HolderId>,
     pub version: Option<Number>,
 }
@@ -148,10 +242,10 @@ pub enum Edit {
     Configure(Settings),
     /// The workspace goes, with its versions and runs.
     Remove,
-    /// Puts a version behind the others, and lets the oldest ones go, as many as `gone` says.
+    /// Puts a version behind the others, and lets those with numbers up to `outgoing` go.
     AddVersion {
         version: Version,
-        gone: usize,
+        outgoing: Option<Number>,
     },
     /// Takes every version away.
     Purge,

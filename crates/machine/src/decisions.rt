@@ -4,7 +4,8 @@ ghost use Rattle.std.specs.Str.{bytes_eq};
 ghost use Rattle.machine.specs.Units.{unit_of};
 ghost use Rattle.machine.specs.Records.{seen_in};
 ghost use Rattle.machine.specs.Laws.{IsLawfulOrganization};
-ghost use Rattle.machine.specs.Inner.Decisions.{decision_of, decision_missing, decided_update, decided_after, decided_version, decided_read, decided_purge, decided_idle, decided_delete, decided_version_read, decided_lock, decided_unlock, decided_force, decided_number_of_run, decided_make, decided_read_run, decided_step, decided_report, start_with, status_begun, begun_by, changing, start_now, holder_after, shown_now, shown_held, new_shown, Meets};
+ghost use Rattle.machine.specs.Inner.Decisions.{decision_of, decision_missing, decided_look, decided_update, decided_after, decided_version, decided_read, decided_purge, decided_idle, decided_delete, decided_version_read, decided_lock, decided_unlock, decided_force, decided_number_of_run, decided_make, decided_read_run, decided_step, decided_report, start_with, status_begun, begun_by, changing, shown_as, new_shown};
+ghost use Rattle.machine.specs.Meaning.{Meets};
 ghost use Rattle.machine.specs.Settling.{to_start};
 ghost use Rattle.machine.specs.Writing.{may_write, is_applying};
 ghost use Rattle.machine.specs.Succession.{lineages_differ};
@@ -24,13 +25,10 @@ use crate::acts::{Act, Answer, Change, Decision, Edit, Newest, Shown, Unit, Work
 use crate::records::{Holder, Run, Version};
 use crate::run_steps::next_status;
 use basis::{
-    Bytes, Down, HolderId, LockId, Moment, Number, Refusal, RunAction, RunAsk, RunStatus, Settings,
-    StateHead, Text, is_run_id,
+    Bytes, Down, HolderId, LockId, Look, Moment, Number, Refusal, RunAction, RunAsk, RunStatus,
+    Settings, StateHead, Text, is_run_id,
 };
 use std::alloc::Global;
-
-/// The most versions that a workspace keeps.
-pub const MAX_VERSIONS: usize = 100;
 
 /// The most open runs of a workspace.
 pub const MAX_OPEN_RUNS: usize = 100;
@@ -106,21 +104,6 @@ fn to_start(holder: &Holder, first_waiting: Option<Number>) -> Option<Number>
     }
 }
 
-fn start_now(unit: &WorkspaceUnit) -> Option<Number>
-    ensures { result ≡ start_now unit.now }
-{
-    to_start(&unit.holder, unit.first_waiting)
-}
-
-fn holder_after(start: Option<Number>, holder: &Holder) -> Result<Option<HolderId>, Down>
-    ensures { IfOk result (λ id. id ≡ holder_after start holder.now) }
-{
-    match start {
-        None => holder_id(holder),
-        Some(n) => Ok(Some(HolderId::Run(n))),
-    }
-}
-
 fn accept(answer: Answer, edit: Edit, start: Option<Number>) -> Decision
     ensures { result ≡ changing answer edit start }
 {
@@ -141,11 +124,11 @@ fn accept_again() -> Decision
 }
 
 fn shown(settings: Settings, unit: &WorkspaceUnit) -> Result<Shown, Down>
-    ensures { IfOk result (λ shown. shown ≡ shown_now settings.auto_apply unit.now) }
+    ensures { IfOk result (λ shown. shown ≡ shown_as settings unit.now) }
 {
     Ok(Shown {
-        auto_apply: settings.auto_apply,
-        holder: holder_after(start_now(unit), &unit.holder)?,
+        settings,
+        holder: holder_id(&unit.holder)?,
         version: number_of_newest(&unit.newest),
     })
 }
@@ -177,9 +160,8 @@ fn decide_version(
         created: now,
         text: text.clone()?,
     };
-    let gone = unit.versions.saturating_sub(MAX_VERSIONS - 1);
-    let edit = Edit::AddVersion { version, gone };
-    Ok(accept(Answer::Done, edit, start_now(unit)))
+    let outgoing = unit.outgoing;
+    Ok(accept(Answer::Done, Edit::AddVersion { version, outgoing }, None))
 }
 
 fn decide_after(
@@ -239,25 +221,14 @@ fn decide_put(unit: &WorkspaceUnit, settings: Settings) -> Result<Decision, Down
     ensures { IfOk result (λ decision. decision ≡ decision_of (Present unit.now) (PutWorkspace settings) 0) }
 {
     let shown = shown(settings, unit)?;
-    Ok(accept(
-        Answer::Workspace(shown),
-        Edit::Configure(settings),
-        start_now(unit),
-    ))
+    Ok(accept(Answer::Workspace(shown), Edit::Configure(settings), None))
 }
 
 fn decide_show(unit: &WorkspaceUnit) -> Result<Decision, Down>
-    ensures { IfOk result (λ decision. decision ≡ Accepted (ShownWorkspace (shown_held unit.now)) None) }
+    ensures { IfOk result (λ decision. decision ≡ Accepted (ShownWorkspace (shown_as unit.now.settings unit.now)) None) }
 {
-    let shown = Shown {
-        auto_apply: unit.auto_apply,
-        holder: holder_id(&unit.holder)?,
-        version: number_of_newest(&unit.newest),
-    };
-    Ok(Decision::Accepted {
-        answer: Answer::Workspace(shown),
-        change: None,
-    })
+    let shown = shown(unit.settings, unit)?;
+    Ok(tell(Answer::Workspace(shown)))
 }
 
 fn decide_purge(unit: &WorkspaceUnit, id: &Option<LockId>) -> Decision
@@ -266,7 +237,7 @@ fn decide_purge(unit: &WorkspaceUnit, id: &Option<LockId>) -> Decision
     let refused = may_write(&unit.holder, unit.holder_status, id);
     match refused {
         Some(refusal) => Decision::Refused(refusal),
-        None => accept(Answer::Done, Edit::Purge, start_now(unit)),
+        None => accept(Answer::Done, Edit::Purge, None),
     }
 }
 
@@ -451,7 +422,7 @@ pub(crate) fn new_run(number: Number, ask: &RunAsk, now: Moment) -> Result<Run, 
     })
 }
 
-// The run that starts once a run has come behind the others.
+// The run that starts once a run has come behind the others: no other one waits where nobody holds.
 fn start_with(unit: &WorkspaceUnit, run: &Run) -> Option<Number>
     ensures { result ≡ start_with unit.now run.now }
 {
@@ -460,7 +431,7 @@ fn start_with(unit: &WorkspaceUnit, run: &Run) -> Option<Number>
     } else {
         None
     };
-    to_start(&unit.holder, unit.first_waiting.or(own))
+    to_start(&unit.holder, own)
 }
 
 // A run comes behind the others, and is told as it is once one has started.
@@ -570,9 +541,23 @@ fn decide_report(unit: &WorkspaceUnit, n: Number, action: RunAction) -> Result<D
     if is_last(action, run.action) {
         return show_run(run);
     }
-    match next_status(run.plan_only, unit.auto_apply, run.status, action) {
+    match next_status(run.plan_only, unit.settings.auto_apply, run.status, action) {
         Some(status) => decide_step(unit, run, n, action, status),
         None => Ok(Decision::Refused(Refusal::WrongState)),
+    }
+}
+
+// What is told; nothing changes.
+fn decide_look(unit: &WorkspaceUnit, look: Look) -> Result<Decision, Down>
+    ensures { IfOk result (λ decision. decision ≡ decided_look look unit.now) }
+{
+    match look {
+        Look::Workspace => decide_show(unit),
+        Look::State => Ok(decide_read(&unit.newest)),
+        Look::Version(n) => Ok(decide_read_version(unit.has_version, n)),
+        Look::Versions(after) => Ok(tell(Answer::Versions(after))),
+        Look::Run(_) => decide_read_run(&unit.asked_run),
+        Look::Runs(after) => Ok(tell(Answer::Runs(after))),
     }
 }
 
@@ -580,24 +565,19 @@ fn decide_present(unit: &WorkspaceUnit, act: &Act, now: Moment) -> Result<Decisi
     ensures { IfOk result (λ decision. decision ≡ decision_of (Present unit.now) act.now now) }
 {
     match act {
+        Act::Look(look) => decide_look(unit, *look),
         Act::PutWorkspace(settings) => decide_put(unit, *settings),
-        Act::ReadWorkspace => decide_show(unit),
         Act::DeleteWorkspace => Ok(decide_delete(unit)),
         Act::UpdateState {
             head,
             text,
             lock_id,
         } => decide_update(unit, head, text, lock_id, now),
-        Act::ReadState => Ok(decide_read(&unit.newest)),
         Act::PurgeState { lock_id } => Ok(decide_purge(unit, lock_id)),
         Act::Lock { id, text } => decide_lock(&unit.holder, id, text),
         Act::Unlock(id) => decide_unlock(unit, id),
         Act::ForceUnlock => decide_force(unit),
-        Act::ListVersions(after) => Ok(tell(Answer::Versions(*after))),
-        Act::ReadVersion(n) => Ok(decide_read_version(unit.has_version, *n)),
-        Act::ListRuns(after) => Ok(tell(Answer::Runs(*after))),
         Act::MakeRun(ask) => decide_make(unit, ask, now),
-        Act::ReadRun(_) => decide_read_run(&unit.asked_run),
         Act::ReportRun(n, action) => decide_report(unit, *n, *action),
     }
 }
@@ -607,19 +587,14 @@ fn decide_missing(act: &Act, has_room: bool) -> Decision
 {
     match act {
         Act::PutWorkspace(settings) => decide_making(*settings, has_room),
-        Act::ReadWorkspace => Decision::Refused(Refusal::NotFound),
+        Act::Look(_) => Decision::Refused(Refusal::NotFound),
         Act::DeleteWorkspace => Decision::Refused(Refusal::NotFound),
         Act::UpdateState { .. } => Decision::Refused(Refusal::NotFound),
-        Act::ReadState => Decision::Refused(Refusal::NotFound),
         Act::PurgeState { .. } => Decision::Refused(Refusal::NotFound),
         Act::Lock { .. } => Decision::Refused(Refusal::NotFound),
         Act::Unlock(_) => Decision::Refused(Refusal::NotFound),
         Act::ForceUnlock => Decision::Refused(Refusal::NotFound),
-        Act::ListVersions(_) => Decision::Refused(Refusal::NotFound),
-        Act::ReadVersion(_) => Decision::Refused(Refusal::NotFound),
-        Act::ListRuns(_) => Decision::Refused(Refusal::NotFound),
         Act::MakeRun(_) => Decision::Refused(Refusal::NotFound),
-        Act::ReadRun(_) => Decision::Refused(Refusal::NotFound),
         Act::ReportRun(_, _) => Decision::Refused(Refusal::NotFound),
     }
 }
@@ -631,7 +606,7 @@ fn decide_making(settings: Settings, has_room: bool) -> Decision
         return Decision::Refused(Refusal::OverLimit);
     }
     let shown = Shown {
-        auto_apply: settings.auto_apply,
+        settings,
         holder: None,
         version: None,
     };

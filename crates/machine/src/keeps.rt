@@ -13,8 +13,8 @@ ghost use Rattle.machine.specs.declared.records.Organization.{Organization as An
 
 use crate::acts::{Act, Change, Unit};
 use basis::{
-    Bytes, Down, Items, Limit, Listing, Number, OrgName, Role, RunRow, Text, VersionRow, WsName,
-    WsRow,
+    Bytes, Caller, Down, Items, Limit, Listing, Number, OrgName, Role, RunRow, Text, VersionRow,
+    WsName, WsRow,
 };
 use std::alloc::Global;
 
@@ -58,15 +58,15 @@ pub trait Keep {
     fn records_are_lawful(&self)
         ensures { clean self.now → sound self.now → AreLawful (rows self.now) };
 
-    /// The role of the organization's token with this digest.
+    /// Who asks by the organization's token with this digest.
     fn caller(
         &mut self,
         alloc: Global,
         org: &OrgName,
         digest: &[u8; 32],
-    ) -> Result<Option<Role>, Down>
+    ) -> Result<Option<Caller>, Down>
         ensures looks { Looks rows clean sound self.old self.new }
-        ensures ok { clean self.new → sound self.old → IfOk result (λ role. role ≡ option_map (λ token. token.role) (caller_of (rows self.old org.now) digest.now)) };
+        ensures ok { clean self.new → sound self.old → IfOk result (λ caller. caller ≡ option_map (λ token. token.caller) (caller_of (rows self.old org.now) digest.now)) };
 
     /// What a decision on the act needs of the workspace. The organization is there.
     fn unit(&mut self, alloc: Global, org: &OrgName, ws: &WsName, act: &Act) -> Result<Unit, Down>

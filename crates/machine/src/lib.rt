@@ -11,8 +11,8 @@ pub mod plain;
 pub mod records;
 pub mod run_steps;
 
-pub use acts::{Act, Answer, Change, Decision, Edit, Newest, Shown, Unit, WorkspaceUnit};
-pub use decisions::{MAX_OPEN_RUNS, MAX_VERSIONS, decide};
+pub use acts::{Act, Answer, Change, Decision, Edit, Needs, Newest, Shown, Unit, WorkspaceUnit};
+pub use decisions::{MAX_OPEN_RUNS, decide};
 pub use keeps::{AdminAnswer, Keep, OrgRow};
 pub use laws::{
     accepted_acts_come_again, actions_come_again, holds_until_released, keyed_creations_come_again,
@@ -24,5 +24,5 @@ pub use laws::{
 };
 pub use maps::NameMap;
 pub use plain::PlainKeep;
-pub use records::{Holder, Organization, Run, Token, Version, Workspace};
+pub use records::{Holder, MAX_VERSIONS, Organization, Run, Token, Version, Workspace};
 pub use run_steps::next_status;

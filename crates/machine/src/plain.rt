@@ -8,24 +8,25 @@ ghost use Rattle.machine.specs.Records.{with_workspace, placed};
 ghost use Rattle.basis.specs.Listings.{listing_of};
 ghost use Rattle.machine.specs.Showing.{comes_after, shown_of, row_of, version_row, run_row, workspaces_listed, versions_listed, runs_listed};
 ghost use Rattle.machine.specs.Tokens.{token_with, has_digest, new_organization, org_added, org_limited, token_added, token_revoked, AreOrganizations};
-ghost use Rattle.machine.specs.Changes.{edited, changed_by};
+ghost use Rattle.machine.specs.Changes.{left_above, edited, changed_by};
 ghost use Rattle.machine.specs.Rules.{reported};
-ghost use Rattle.machine.specs.Units.{counted_for, is_text_of, asked_run, asked_version, newest_unit, workspace_unit, unit_of, version_of, text_of};
+ghost use Rattle.machine.specs.Needs.{needs, needed_of};
+ghost use Rattle.machine.specs.Units.{is_text, if_needed, has_version, asked_run, newest_unit, unit_for, unit_of, version_of, text_of};
 ghost use Rattle.basis.specs.declared.runs.RunStatus.TheVariants.{Planning};
 ghost use Rattle.machine.specs.Settling.{first_waiting, begun, started, started_if};
-ghost use Rattle.machine.specs.Workspaces.{newest, new_workspace, run_of, holder_status, is_keyed, keyed_run, open_runs};
+ghost use Rattle.machine.specs.Workspaces.{max_versions, newest, outgoing, new_workspace, run_of, holder_status, is_keyed, keyed_run, open_runs};
 ghost use Rattle.machine.specs.Inner.Places.{org_row, is_removal};
 ghost use Rattle.machine.specs.declared.records.Organization.{Organization as AnyOrganization};
 
-use crate::acts::{Act, Change, Edit, Newest, Unit, WorkspaceUnit};
+use crate::acts::{Act, Change, Edit, Needs, Newest, Unit, WorkspaceUnit};
 use crate::decisions::{holder_id, new_run};
 use crate::keeps::{AdminAnswer, Keep, OrgRow};
 use crate::maps::{Entry, NameMap};
-use crate::records::{Holder, Organization, Run, Token, Version, Workspace};
+use crate::records::{Holder, MAX_VERSIONS, Organization, Run, Token, Version, Workspace};
 use basis::numbers::MAX_LIMIT;
 use basis::{
-    Bytes, Down, Items, Limit, Listing, LockId, Moment, Number, OrgName, Role, RunAction, RunAsk,
-    RunRow, RunStatus, Settings, Text, VersionRow, WsName, WsRow,
+    Bytes, Caller, Down, Items, Limit, Listing, LockId, Moment, Number, OrgName, Role, RunAction,
+    RunAsk, RunRow, RunStatus, Settings, Text, VersionRow, WsName, WsRow,
 };
 use std::alloc::Global;
 use std::cmp::Ordering;
@@ -67,9 +68,9 @@ impl Keep for PlainKeep {
         _alloc: Global,
         org: &OrgName,
         digest: &[u8; 32],
-    ) -> Result<Option<Role>, Down> {
+    ) -> Result<Option<Caller>, Down> {
         match self.organizations.get(org.as_str()) {
-            Some(organization) => Ok(organization.role_with(digest)),
+            Some(organization) => Ok(organization.caller_with(digest)),
             None => Ok(None),
         }
     }
@@ -201,7 +202,7 @@ impl Keep for PlainKeep {
         let name = Text::copy_of(alloc, name.as_str())?;
         let token = Token {
             digest: *digest,
-            role,
+            caller: Caller { role },
         };
         self.organizations.add_token(org.as_str(), name, token)
     }
@@ -279,11 +280,11 @@ impl Organization {
         }
     }
 
-    fn role_with(&self, digest: &[u8; 32]) -> Option<Role>
-        ensures { result ≡ option_map (λ token. token.role) (token_with digest.now (map.entries self.now.tokens)) }
+    fn caller_with(&self, digest: &[u8; 32]) -> Option<Caller>
+        ensures { result ≡ option_map (λ token. token.caller) (token_with digest.now (map.entries self.now.tokens)) }
     {
         match token_with(digest, self.tokens.entries()) {
-            Some(token) => Some(token.role),
+            Some(token) => Some(token.caller),
             None => None,
         }
     }
@@ -297,10 +298,15 @@ impl Organization {
     fn unit(&self, ws: &str, act: &Act) -> Result<Unit, Down>
         ensures { IfOk result (λ unit. unit ≡ unit_of self.now ws.now act.now) }
     {
+        let needs = act.needs();
         match self.workspaces.get(ws) {
-            Some(workspace) => Ok(Unit::Present(workspace.unit(act)?)),
+            Some(workspace) => Ok(Unit::Present(workspace.unit(&needs)?)),
             None => Ok(Unit::Absent {
-                workspaces: counted_for(act, self.workspaces.entries().len()),
+                workspaces: if needs.makes {
+                    self.workspaces.entries().len()
+                } else {
+                    0
+                },
                 limit: self.limit,
             }),
         }
@@ -371,12 +377,21 @@ impl NameMap<Workspace> {
     }
 }
 
+// Lets the versions with numbers up to this one go.
+fn forget_up_to(versions: &mut Items<Version>, last: Number)
+    ensures { versions.new ≡ left_above (Some last) versions.old }
+{
+    versions
+        .items
+        .retain(|version| last.get() < version.number.get());
+}
+
 impl Workspace {
     fn new(alloc: Global, settings: Settings) -> Workspace
         ensures { result ≡ new_workspace settings }
     {
         Workspace {
-            auto_apply: settings.auto_apply,
+            settings,
             holder: Holder::Nobody,
             released: None,
             next_version: 1,
@@ -398,22 +413,30 @@ impl Workspace {
         }
     }
 
-    fn unit(&self, act: &Act) -> Result<WorkspaceUnit, Down>
-        ensures { IfOk result (λ unit. unit ≡ workspace_unit act.now self.now) }
+    fn holder_status_if(&self, needed: bool) -> Option<RunStatus>
+        ensures { result ≡ if_needed needed (holder_status self.now.holder self.now.runs) }
     {
+        if needed { self.holder_status() } else { None }
+    }
+
+    fn unit(&self, needs: &Needs<'_>) -> Result<WorkspaceUnit, Down>
+        ensures { IfOk result (λ unit. unit ≡ unit_for (needed_of needs.now) self.now) }
+    {
+        let versions = self.versions.as_slice();
+        let runs = self.runs.as_slice();
         Ok(WorkspaceUnit {
-            auto_apply: self.auto_apply,
+            settings: self.settings,
             holder: self.holder.clone()?,
-            holder_status: self.holder_status(),
+            holder_status: self.holder_status_if(needs.holder_status),
             released: self.released.clone()?,
             next_version: self.next_version,
             next_run: self.next_run,
-            newest: newest_of(act, self.versions.as_slice())?,
-            versions: self.versions.as_slice().len(),
-            first_waiting: first_waiting(self.runs.as_slice()),
-            has_version: has_version(act, self.versions.as_slice()),
-            asked_run: asked_run(act, self.runs.as_slice())?,
-            open_runs: open_runs(self.runs.as_slice()),
+            newest: newest_if(needs.newest, needs.text, versions)?,
+            outgoing: outgoing_if(needs.outgoing, versions),
+            first_waiting: first_waiting_if(needs.waiting, runs),
+            has_version: has_version(needs.version, versions),
+            asked_run: asked_run(needs.run, needs.key, runs)?,
+            open_runs: open_runs_if(needs.open_runs, runs),
         })
     }
 
@@ -426,12 +449,14 @@ impl Workspace {
         }
     }
 
-    fn add_version(&mut self, version: &Version, gone: usize) -> Result<(), Down>
-        ensures ok { OnOk result (Some self.new ≡ edited (Edit.AddVersion version.now gone) (Some self.old)) }
+    fn add_version(&mut self, version: &Version, outgoing: Option<Number>) -> Result<(), Down>
+        ensures ok { OnOk result (Some self.new ≡ edited (Edit.AddVersion version.now outgoing) (Some self.old)) }
         ensures err { OnErr result (self.new ≡ self.old) }
     {
         self.versions.push(version.clone()?)?;
-        self.versions.forget_first(gone);
+        if let Some(last) = outgoing {
+            forget_up_to(&mut self.versions, last);
+        }
         self.next_version = version.number.get() as u64 + 1;
         Ok(())
     }
@@ -486,10 +511,10 @@ impl Workspace {
     {
         match edit {
             Edit::Make(settings) => *self = Workspace::new(alloc, *settings),
-            Edit::Configure(settings) => self.auto_apply = settings.auto_apply,
+            Edit::Configure(settings) => self.settings = *settings,
             // The map of the workspaces lets it go.
             Edit::Remove => {}
-            Edit::AddVersion { version, gone } => self.add_version(version, *gone)?,
+            Edit::AddVersion { version, outgoing } => self.add_version(version, *outgoing)?,
             Edit::Purge => self.purge(),
             Edit::Hold { id, text } => self.hold(id, text)?,
             Edit::Release(id) => self.release(id)?,
@@ -571,52 +596,61 @@ fn recorded_status(is_it: bool, status: RunStatus, before: RunStatus) -> RunStat
     if is_it { status } else { before }
 }
 
-fn counted_for(act: &Act, count: usize) -> usize
-    ensures { result ≡ counted_for act.now count }
+fn is_text(asked: Option<&Bytes>, text: &Bytes) -> bool
+    ensures { result ≡ is_text (option_copied asked.entry) text.now }
 {
-    if act.makes_workspace() { count } else { 0 }
-}
-
-fn is_text_of(act: &Act, text: &Bytes) -> bool
-    ensures { result ≡ is_text_of act.now text.now }
-{
-    match act {
-        Act::UpdateState { text: asked, .. } => text.as_slice() == asked.as_slice(),
-        Act::PutWorkspace(_) => false,
-        Act::ReadWorkspace => false,
-        Act::ReadState => false,
-        Act::PurgeState { .. } => false,
-        Act::Lock { .. } => false,
-        Act::Unlock(_) => false,
-        Act::ForceUnlock => false,
-        Act::DeleteWorkspace => false,
-        Act::ListVersions(_) => false,
-        Act::ReadVersion(_) => false,
-        Act::ListRuns(_) => false,
-        Act::MakeRun(_) => false,
-        Act::ReadRun(_) => false,
-        Act::ReportRun(_, _) => false,
+    match asked {
+        Some(asked) => text.as_slice() == asked.as_slice(),
+        None => false,
     }
 }
 
-fn newest_unit(act: &Act, version: &Version) -> Result<Newest, Down>
-    ensures { IfOk result (λ unit. unit ≡ newest_unit act.now version.now) }
+fn newest_unit(text: Option<&Bytes>, version: &Version) -> Result<Newest, Down>
+    ensures { IfOk result (λ unit. unit ≡ newest_unit (option_copied text.entry) version.now) }
 {
     Ok(Newest {
         number: version.number,
         serial: version.serial,
         lineage: version.lineage.clone()?,
-        is_same: is_text_of(act, &version.text),
+        is_same: is_text(text, &version.text),
     })
 }
 
-fn newest_of(act: &Act, versions: &[Version]) -> Result<Option<Newest>, Down>
-    ensures { IfOk result (λ unit. unit ≡ option_map (newest_unit act.now) (newest versions.now)) }
+fn newest_of(text: Option<&Bytes>, versions: &[Version]) -> Result<Option<Newest>, Down>
+    ensures { IfOk result (λ unit. unit ≡ option_map (newest_unit (option_copied text.entry)) (newest versions.now)) }
 {
     match versions.last() {
-        Some(version) => Ok(Some(newest_unit(act, version)?)),
+        Some(version) => Ok(Some(newest_unit(text, version)?)),
         None => Ok(None),
     }
+}
+
+fn newest_if(
+    needed: bool,
+    text: Option<&Bytes>,
+    versions: &[Version],
+) -> Result<Option<Newest>, Down>
+    ensures { IfOk result (λ unit. unit ≡ if_needed needed (option_map (newest_unit (option_copied text.entry)) (newest versions.now))) }
+{
+    if needed {
+        newest_of(text, versions)
+    } else {
+        Ok(None)
+    }
+}
+
+// The greatest number of the versions that go as one more comes.
+fn outgoing(versions: &[Version]) -> Option<Number>
+    ensures { result ≡ outgoing max_versions versions.now }
+{
+    let going = versions.len().saturating_sub(MAX_VERSIONS - 1);
+    number_of_newest(&versions[..going])
+}
+
+fn outgoing_if(needed: bool, versions: &[Version]) -> Option<Number>
+    ensures { result ≡ if_needed needed (outgoing max_versions versions.now) }
+{
+    if needed { outgoing(versions) } else { None }
 }
 
 fn run_of(n: Number, runs: &[Run]) -> Option<&Run>
@@ -640,8 +674,8 @@ fn run_with_key<'a>(key: &Text, runs: &'a [Run]) -> Option<&'a Run>
     runs.iter().find(|run| is_keyed(key, run))
 }
 
-fn keyed_run<'a>(key: &Option<Text>, runs: &'a [Run]) -> Option<&'a Run>
-    ensures { option_copied result ≡ keyed_run key.now runs.now }
+fn keyed_run<'a>(key: Option<&Text>, runs: &'a [Run]) -> Option<&'a Run>
+    ensures { option_copied result ≡ keyed_run (option_copied key.entry) runs.now }
 {
     match key {
         None => None,
@@ -658,26 +692,13 @@ fn copy_of(run: Option<&Run>) -> Result<Option<Run>, Down>
     }
 }
 
-// The run that an act asks of.
-fn asked_run(act: &Act, runs: &[Run]) -> Result<Option<Run>, Down>
-    ensures { IfOk result (λ run. run ≡ asked_run act.now runs.now) }
+// The run that is asked of: by its number, or, where none is given, by its key.
+fn asked_run(number: Option<Number>, key: Option<&Text>, runs: &[Run]) -> Result<Option<Run>, Down>
+    ensures { IfOk result (λ run. run ≡ asked_run number (option_copied key.entry) runs.now) }
 {
-    match act {
-        Act::MakeRun(ask) => copy_of(keyed_run(&ask.key, runs)),
-        Act::ReadRun(n) => copy_of(run_of(*n, runs)),
-        Act::ReportRun(n, _) => copy_of(run_of(*n, runs)),
-        Act::PutWorkspace(_) => Ok(None),
-        Act::ReadWorkspace => Ok(None),
-        Act::DeleteWorkspace => Ok(None),
-        Act::ListVersions(_) => Ok(None),
-        Act::ReadVersion(_) => Ok(None),
-        Act::ListRuns(_) => Ok(None),
-        Act::UpdateState { .. } => Ok(None),
-        Act::ReadState => Ok(None),
-        Act::PurgeState { .. } => Ok(None),
-        Act::Lock { .. } => Ok(None),
-        Act::Unlock(_) => Ok(None),
-        Act::ForceUnlock => Ok(None),
+    match number {
+        Some(n) => copy_of(run_of(n, runs)),
+        None => copy_of(keyed_run(key, runs)),
     }
 }
 
@@ -685,6 +706,18 @@ fn open_runs(runs: &[Run]) -> usize
     ensures { result ≡ open_runs runs.now }
 {
     runs.iter().filter(|run| run.status.is_open()).count()
+}
+
+fn open_runs_if(needed: bool, runs: &[Run]) -> usize
+    ensures { result ≡ cond needed (open_runs runs.now) 0 }
+{
+    if needed { open_runs(runs) } else { 0 }
+}
+
+fn first_waiting_if(needed: bool, runs: &[Run]) -> Option<Number>
+    ensures { result ≡ if_needed needed (first_waiting runs.now) }
+{
+    if needed { first_waiting(runs) } else { None }
 }
 
 fn first_waiting(runs: &[Run]) -> Option<Number>
@@ -708,26 +741,13 @@ fn version_of(n: Number, versions: &[Version]) -> Option<&Version>
     found
 }
 
-// Whether the version that an act asks of is kept.
-fn has_version(act: &Act, versions: &[Version]) -> bool
-    ensures { result ≡ is_some (asked_version act.now versions.now) }
+// Whether a version of this number is kept, if one is asked of.
+fn has_version(number: Option<Number>, versions: &[Version]) -> bool
+    ensures { result ≡ has_version number versions.now }
 {
-    match act {
-        Act::ReadVersion(n) => version_of(*n, versions).is_some(),
-        Act::PutWorkspace(_) => false,
-        Act::ReadWorkspace => false,
-        Act::DeleteWorkspace => false,
-        Act::UpdateState { .. } => false,
-        Act::ReadState => false,
-        Act::PurgeState { .. } => false,
-        Act::Lock { .. } => false,
-        Act::Unlock(_) => false,
-        Act::ForceUnlock => false,
-        Act::ListVersions(_) => false,
-        Act::ListRuns(_) => false,
-        Act::MakeRun(_) => false,
-        Act::ReadRun(_) => false,
-        Act::ReportRun(_, _) => false,
+    match number {
+        Some(n) => version_of(n, versions).is_some(),
+        None => false,
     }
 }
 
@@ -748,7 +768,7 @@ fn workspace_row(alloc: Global, name: &str, workspace: &Workspace) -> Result<WsR
         return Err(Down);
     };
     Ok(WsRow {
-        auto_apply: workspace.auto_apply,
+        settings: workspace.settings,
         holder: holder_id(&workspace.holder)?,
         name,
         version: number_of_newest(workspace.versions.as_slice()),

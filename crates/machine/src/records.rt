@@ -3,7 +3,12 @@ ghost use Rattle.std.specs.Prelude.{◌≡◌};
 ghost use Rattle.machine.specs.Settling.{is_waiting};
 
 use crate::maps::NameMap;
-use basis::{Bytes, Items, Limit, LockId, Moment, Number, Role, RunAction, RunStatus, Text};
+use basis::{
+    Bytes, Caller, Items, Limit, LockId, Moment, Number, RunAction, RunStatus, Settings, Text,
+};
+
+/// The most versions that a workspace keeps.
+pub const MAX_VERSIONS: usize = 100;
 
 /// Who holds a workspace: nobody, a lock with the text that took it, or a run.
 #[derive(Clone, Drop)]
@@ -47,7 +52,7 @@ impl Run {
 /// What a workspace holds.
 #[derive(Drop)]
 pub struct Workspace {
-    pub auto_apply: bool,
+    pub settings: Settings,
     pub holder: Holder,
     /// The ID of the lock that was released last.
     pub released: Option<LockId>,
@@ -59,11 +64,11 @@ pub struct Workspace {
     pub runs: Items<Run>,
 }
 
-/// A bearer token: the SHA-256 of its secret, and its role.
+/// A bearer token: the SHA-256 of its secret, and who asks by it.
 #[derive(Clone, Copy)]
 pub struct Token {
     pub digest: [u8; 32],
-    pub role: Role,
+    pub caller: Caller,
 }
 
 /// All that custody keeps of one organization.

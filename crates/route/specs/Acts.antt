@@ -4,11 +4,13 @@ use Rattle.basis.specs.declared.refusals.Allow.{Allow}
 use Rattle.basis.specs.declared.refusals.Allow.TheVariants.{Lists, Workspaces, States, Runs, Actions}
 use Rattle.basis.specs.declared.refusals.Refusal.{Refusal}
 use Rattle.basis.specs.declared.refusals.Refusal.TheVariants.{NoMethod}
+use Rattle.basis.specs.declared.rows.Look.{Look as AnyLook}
+use Rattle.basis.specs.declared.rows.Look.TheVariants.{Workspace as WorkspaceLook, State as StateLook, Version as VersionLook, Versions as VersionsLook, Run as RunLook, Runs as RunsLook}
 use Rattle.basis.specs.Checks.{or_refused}
 use Rattle.route.specs.declared.acts.AskedAct.{AskedAct}
 use Rattle.route.specs.declared.acts.AskedAct.TheVariants.{ListWorkspaces, OfWorkspace}
 use Rattle.route.specs.declared.acts.WsAct.{WsAct}
-use Rattle.route.specs.declared.acts.WsAct.TheVariants.{Read, Put as PutWorkspace, Delete as DeleteWorkspace, ReadState, UpdateState, PurgeState, Lock as LockState, Unlock as UnlockState, ForceUnlock, ListVersions, ReadVersion, ListRuns, MakeRun, ReadRun, ReportRun}
+use Rattle.route.specs.declared.acts.WsAct.TheVariants.{Look, Put as PutWorkspace, Delete as DeleteWorkspace, UpdateState, PurgeState, Lock as LockState, Unlock as UnlockState, ForceUnlock, MakeRun, ReportRun}
 use Rattle.route.specs.declared.paths.Resource.{Resource}
 use Rattle.route.specs.declared.paths.Resource.TheVariants.{AllWorkspaces, Workspace, State, AllVersions, Version, AllRuns, Run, Action}
 use Rattle.route.specs.declared.verbs.Verb.{Verb}
@@ -32,7 +34,7 @@ listing_act verb = None
 
 -- of a workspace itself
 abbrev pub workspace_act : Verb → Option WsAct
-workspace_act Get = Some Read
+workspace_act Get = Some (Look WorkspaceLook)
 workspace_act Put = Some PutWorkspace
 workspace_act Delete = Some DeleteWorkspace
 workspace_act verb = None
@@ -44,7 +46,7 @@ unlock_of false = UnlockState
 
 -- of its state; the flag says whether the body is empty
 abbrev pub state_act : Verb → Bool → WsAct
-state_act Get bodyless = ReadState
+state_act Get bodyless = Look StateLook
 state_act Post bodyless = UpdateState
 state_act Put bodyless = UpdateState
 state_act Delete bodyless = PurgeState
@@ -53,14 +55,14 @@ state_act Unlock bodyless = unlock_of bodyless
 
 -- of its runs
 abbrev pub runs_act : Verb → Option WsAct
-runs_act Get = Some (ListRuns 0)
+runs_act Get = Some (Look (RunsLook 0))
 runs_act Post = Some MakeRun
 runs_act verb = None
 
 -- where GET is the only method
-abbrev pub got : WsAct → Verb → Option WsAct
-got act Get = Some act
-got act verb = None
+abbrev pub got : AnyLook → Verb → Option WsAct
+got look Get = Some (Look look)
+got look verb = None
 
 -- where POST is the only method
 abbrev pub posted : WsAct → Verb → Option WsAct
@@ -72,10 +74,10 @@ abbrev pub act_at : Resource → Verb → Bool → Option AskedAct
 act_at AllWorkspaces verb bodyless = listing_act verb
 act_at (Workspace ws) verb bodyless = option_map (OfWorkspace ws) (workspace_act verb)
 act_at (State ws) verb bodyless = Some (OfWorkspace ws (state_act verb bodyless))
-act_at (AllVersions ws) verb bodyless = option_map (OfWorkspace ws) (got (ListVersions 0) verb)
-act_at (Version ws number) verb bodyless = option_map (OfWorkspace ws) (got (ReadVersion number) verb)
+act_at (AllVersions ws) verb bodyless = option_map (OfWorkspace ws) (got (VersionsLook 0) verb)
+act_at (Version ws number) verb bodyless = option_map (OfWorkspace ws) (got (VersionLook number) verb)
 act_at (AllRuns ws) verb bodyless = option_map (OfWorkspace ws) (runs_act verb)
-act_at (Run ws number) verb bodyless = option_map (OfWorkspace ws) (got (ReadRun number) verb)
+act_at (Run ws number) verb bodyless = option_map (OfWorkspace ws) (got (RunLook number) verb)
 act_at (Action ws number action) verb bodyless = option_map (OfWorkspace ws) (posted (ReportRun number action) verb)
 
 -- the methods of each resource, as the field Allow lists them

@@ -1,6 +1,7 @@
--- The policy: the role that each act needs, and by which word a smaller role is refused.
+-- The policy: the role that each act needs, by which word a smaller role is refused, and whether a caller may.
 use Rattle.std.specs.Prelude.{if◌then◌else◌, Option, Some, None, Result, Ok, Err}
 use Rattle.basis.specs.Roles.{includes}
+use Rattle.basis.specs.declared.roles.Caller.{Caller}
 use Rattle.basis.specs.declared.roles.Role.{Role}
 use Rattle.basis.specs.declared.roles.Role.TheVariants.{Read, Write, Admin}
 use Rattle.basis.specs.declared.refusals.Refusal.{Refusal}
@@ -8,25 +9,20 @@ use Rattle.basis.specs.declared.refusals.Refusal.TheVariants.{NeedWrite, NeedAdm
 use Rattle.route.specs.declared.acts.AskedAct.{AskedAct}
 use Rattle.route.specs.declared.acts.AskedAct.TheVariants.{ListWorkspaces, OfWorkspace}
 use Rattle.route.specs.declared.acts.WsAct.{WsAct}
-use Rattle.route.specs.declared.acts.WsAct.TheVariants.{Read as ReadWorkspace, Put as PutWorkspace, Delete as DeleteWorkspace, ReadState, UpdateState, PurgeState, Lock, Unlock, ForceUnlock, ListVersions, ReadVersion, ListRuns, MakeRun, ReadRun, ReportRun}
+use Rattle.route.specs.declared.acts.WsAct.TheVariants.{Look, Put as PutWorkspace, Delete as DeleteWorkspace, UpdateState, PurgeState, Lock, Unlock, ForceUnlock, MakeRun, ReportRun}
 
 -- what only looks is read; what changes states, locks and runs is write; what makes or takes away
 -- workspaces and versions, and what frees another's lock, is admin
 abbrev pub least_role_on : WsAct → Role
-least_role_on ReadWorkspace = Read
+least_role_on (Look look) = Read
 least_role_on PutWorkspace = Admin
 least_role_on DeleteWorkspace = Admin
-least_role_on ReadState = Read
 least_role_on UpdateState = Write
 least_role_on PurgeState = Admin
 least_role_on Lock = Write
 least_role_on Unlock = Write
 least_role_on ForceUnlock = Admin
-least_role_on (ListVersions after) = Read
-least_role_on (ReadVersion number) = Read
-least_role_on (ListRuns after) = Read
 least_role_on MakeRun = Write
-least_role_on (ReadRun number) = Read
 least_role_on (ReportRun number action) = Write
 
 -- the least role for what is asked
@@ -43,6 +39,10 @@ need_of Admin = NeedAdmin
 -- the refusal of what is asked by a token of a role, or none
 abbrev pub role_refused : Role → AskedAct → Option Refusal
 role_refused role act = if includes role (least_role act) then None else Some (need_of (least_role act))
+
+-- the refusal of what a caller asks, or none: its role has to be enough
+abbrev pub caller_refused : Caller → AskedAct → Option Refusal
+caller_refused caller act = role_refused caller.role act
 
 -- let in, or refused so
 abbrev pub allowed_by : Option Refusal → Result (Unit {0}) Refusal

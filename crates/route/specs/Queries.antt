@@ -8,10 +8,11 @@ use Rattle.basis.specs.Numbers.{whole_of, within}
 use Rattle.basis.specs.declared.numbers.TheConstants.{MAX_NUMBER}
 use Rattle.basis.specs.declared.refusals.Refusal.{Refusal}
 use Rattle.basis.specs.declared.refusals.Refusal.TheVariants.{BadQuery}
+use Rattle.basis.specs.declared.rows.Look.TheVariants.{Versions, Runs}
 use Rattle.route.specs.declared.acts.AskedAct.{AskedAct}
 use Rattle.route.specs.declared.acts.AskedAct.TheVariants.{ListWorkspaces, OfWorkspace}
 use Rattle.route.specs.declared.acts.WsAct.{WsAct}
-use Rattle.route.specs.declared.acts.WsAct.TheVariants.{ListVersions, ListRuns}
+use Rattle.route.specs.declared.acts.WsAct.TheVariants.{Look}
 use Rattle.route.specs.declared.queries.Query.{Query}
 use Rattle.basis.specs.Checks.{or_refused}
 
@@ -89,8 +90,8 @@ listed_from name = ListWorkspaces (Some name)
 
 -- the act with the item after which its list begins; an act that lists nothing doesn't look at it
 abbrev pub ws_begun_after : WsAct → List ℕ → Option WsAct
-ws_begun_after (ListVersions from) text = option_map ListVersions (number_after text)
-ws_begun_after (ListRuns from) text = option_map ListRuns (number_after text)
+ws_begun_after (Look (Versions from)) text = option_map (λ after. Look (Versions after)) (number_after text)
+ws_begun_after (Look (Runs from)) text = option_map (λ after. Look (Runs after)) (number_after text)
 ws_begun_after act text = Some act
 
 -- the same of what is asked of the organization

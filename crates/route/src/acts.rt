@@ -1,6 +1,6 @@
 //! What a request asks, as its head says it; its body is unread.
 
-use basis::{LockId, Number, OrgName, RunAction, Secret, WsName};
+use basis::{LockId, Look, Number, OrgName, RunAction, Secret, WsName};
 
 /// What a message asks, and in whose name.
 #[derive(Drop)]
@@ -26,16 +26,14 @@ pub enum AskedAct {
 }
 
 /// What a request asks of one workspace.
-#[derive(Clone, Copy, PartialEq, Eq)]
+#[derive(Clone, Copy)]
 pub enum WsAct {
-    /// The workspace as it is shown.
-    Read,
+    /// Something is told of the workspace; nothing changes.
+    Look(Look),
     /// Makes the workspace, or gives it other settings.
     Put,
     /// Takes the workspace away.
     Delete,
-    /// The text of the newest version.
-    ReadState,
     /// Makes a new version.
     UpdateState,
     /// Takes all versions away.
@@ -46,16 +44,8 @@ pub enum WsAct {
     Unlock,
     /// UNLOCK with an empty body, whoever has the lock.
     ForceUnlock,
-    /// The versions whose numbers are greater.
-    ListVersions { after: u64 },
-    /// The text of a version.
-    ReadVersion(Number),
-    /// The runs whose numbers are greater.
-    ListRuns { after: u64 },
     /// Makes a run.
     MakeRun,
-    /// A run as it is shown.
-    ReadRun(Number),
     /// What is reported of a run, or asked of it.
     ReportRun(Number, RunAction),
 }

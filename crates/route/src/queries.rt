@@ -8,7 +8,7 @@ ghost use Rattle.route.specs.Queries.{query_read, lock_id_read, after_read, name
 
 use crate::acts::{AskedAct, WsAct};
 use basis::numbers::{MAX_NUMBER, whole_number};
-use basis::{LockId, Refusal, Text, Unfit, WsName};
+use basis::{LockId, Look, Refusal, Text, Unfit, WsName};
 use std::alloc::Global;
 use std::borrow::CowStr;
 
@@ -133,19 +133,20 @@ fn ws_begun_after(act: WsAct, text: &str) -> Option<WsAct>
     ensures { result ≡ ws_begun_after act text.now }
 {
     match act {
-        WsAct::ListVersions { .. } => {
+        WsAct::Look(Look::Versions(_)) => {
             let after = number_after(text)?;
-            Some(WsAct::ListVersions { after })
+            Some(WsAct::Look(Look::Versions(after)))
         }
-        WsAct::ListRuns { .. } => {
+        WsAct::Look(Look::Runs(_)) => {
             let after = number_after(text)?;
-            Some(WsAct::ListRuns { after })
+            Some(WsAct::Look(Look::Runs(after)))
         }
-        WsAct::Read | WsAct::Put | WsAct::Delete => Some(act),
-        WsAct::ReadState | WsAct::UpdateState | WsAct::PurgeState => Some(act),
+        WsAct::Look(Look::Workspace | Look::State) => Some(act),
+        WsAct::Look(Look::Version(_) | Look::Run(_)) => Some(act),
+        WsAct::Put | WsAct::Delete => Some(act),
+        WsAct::UpdateState | WsAct::PurgeState => Some(act),
         WsAct::Lock | WsAct::Unlock | WsAct::ForceUnlock => Some(act),
-        WsAct::ReadVersion(_) => Some(act),
-        WsAct::MakeRun | WsAct::ReadRun(_) | WsAct::ReportRun(_, _) => Some(act),
+        WsAct::MakeRun | WsAct::ReportRun(_, _) => Some(act),
     }
 }
 

@@ -5,7 +5,7 @@ ghost use Rattle.basis.specs.Inner.Checks.{Follows};
 
 use crate::acts::{AskedAct, WsAct};
 use crate::paths::Resource;
-use basis::{Allow, Refusal};
+use basis::{Allow, Look, Refusal};
 
 /// The act of a method on a resource, or what methods the resource has.
 pub fn act_asked(resource: Resource, method: &str, bodyless: bool) -> Result<AskedAct, Refusal>
@@ -52,10 +52,10 @@ fn act_at(resource: Resource, verb: Verb, bodyless: bool) -> Option<AskedAct>
         Resource::AllWorkspaces => return listing_act(verb),
         Resource::Workspace(ws) => (ws, workspace_act(verb)),
         Resource::State(ws) => (ws, Some(state_act(verb, bodyless))),
-        Resource::AllVersions(ws) => (ws, got(verb, WsAct::ListVersions { after: 0 })),
-        Resource::Version(ws, number) => (ws, got(verb, WsAct::ReadVersion(number))),
+        Resource::AllVersions(ws) => (ws, got(verb, Look::Versions(0))),
+        Resource::Version(ws, number) => (ws, got(verb, Look::Version(number))),
         Resource::AllRuns(ws) => (ws, runs_act(verb)),
-        Resource::Run(ws, number) => (ws, got(verb, WsAct::ReadRun(number))),
+        Resource::Run(ws, number) => (ws, got(verb, Look::Run(number))),
         Resource::Action(ws, number, action) => (
             ws,
             posted(verb, WsAct::ReportRun(number, action)),
@@ -79,7 +79,7 @@ fn workspace_act(verb: Verb) -> Option<WsAct>
     ensures { result ≡ workspace_act verb }
 {
     match verb {
-        Verb::Get => Some(WsAct::Read),
+        Verb::Get => Some(WsAct::Look(Look::Workspace)),
         Verb::Put => Some(WsAct::Put),
         Verb::Delete => Some(WsAct::Delete),
         Verb::Post | Verb::Lock | Verb::Unlock => None,
@@ -91,7 +91,7 @@ fn state_act(verb: Verb, bodyless: bool) -> WsAct
     ensures { result ≡ state_act verb bodyless }
 {
     match verb {
-        Verb::Get => WsAct::ReadState,
+        Verb::Get => WsAct::Look(Look::State),
         Verb::Post | Verb::Put => WsAct::UpdateState,
         Verb::Delete => WsAct::PurgeState,
         Verb::Lock => WsAct::Lock,
@@ -105,18 +105,18 @@ fn runs_act(verb: Verb) -> Option<WsAct>
     ensures { result ≡ runs_act verb }
 {
     match verb {
-        Verb::Get => Some(WsAct::ListRuns { after: 0 }),
+        Verb::Get => Some(WsAct::Look(Look::Runs(0))),
         Verb::Post => Some(WsAct::MakeRun),
         Verb::Put | Verb::Delete | Verb::Lock | Verb::Unlock => None,
     }
 }
 
 // Where GET is the only method.
-fn got(verb: Verb, act: WsAct) -> Option<WsAct>
-    ensures { result ≡ got act verb }
+fn got(verb: Verb, look: Look) -> Option<WsAct>
+    ensures { result ≡ got look verb }
 {
     match verb {
-        Verb::Get => Some(act),
+        Verb::Get => Some(WsAct::Look(look)),
         Verb::Post | Verb::Put | Verb::Delete | Verb::Lock | Verb::Unlock => None,
     }
 }

@@ -1,6 +1,7 @@
 -- Absent forms: what the same request asks on another workspace, and what stands at a place of a run.
 use Rattle.std.specs.Prelude.{if◌then◌else◌, codes, bytes_eq, option_and_then, option_map}
 use Rattle.std.proofs.Common.{◌≡◌, ℕ, zero, suc, Bool, true, false, ◌&&◌, List, [], ◌∷◌, take, slice_get, Option, Some, None, Result, Ok, Err, IfOk, OnOk, length, Vec, Global, refl, sym, ap, subst, ◌∙◌}
+use Rattle.basis.specs.declared.rows.Look.TheVariants as look
 use Rattle.basis.specs.Checks.{or_refused, and_then}
 use Rattle.basis.specs.Names.{is_org_name, is_ws_name}
 use Rattle.basis.specs.Numbers.{number_of}
@@ -18,7 +19,7 @@ use Rattle.route.specs.declared.acts.Asked.{Asked}
 use Rattle.route.specs.declared.acts.AskedAct.{AskedAct}
 use Rattle.route.specs.declared.acts.AskedAct.TheVariants.{ListWorkspaces, OfWorkspace}
 use Rattle.route.specs.declared.acts.WsAct.{WsAct}
-use Rattle.route.specs.declared.acts.WsAct.TheVariants.{ListVersions, ReadVersion, ReadRun, ReportRun}
+use Rattle.route.specs.declared.acts.WsAct.TheVariants.{Look, ReportRun}
 use Rattle.route.specs.declared.paths.OrgResource.{OrgResource}
 use Rattle.route.specs.declared.paths.Resource.{Resource}
 use Rattle.route.specs.declared.paths.Resource.TheVariants.{AllWorkspaces, Workspace, State, AllVersions, Version, AllRuns, Run, Action}
@@ -146,10 +147,10 @@ act_with : (ws : List ℕ) (resource : Resource) (verb : Verb) (bodyless : Bool)
 act_with ws AllWorkspaces verb bodyless = listed ws verb
 act_with ws (Workspace old) verb bodyless = moved old ws (workspace_act verb)
 act_with ws (State old) verb bodyless = refl
-act_with ws (AllVersions old) verb bodyless = moved old ws (got (ListVersions 0) verb)
-act_with ws (Version old number) verb bodyless = moved old ws (got (ReadVersion number) verb)
+act_with ws (AllVersions old) verb bodyless = moved old ws (got (look.Versions 0) verb)
+act_with ws (Version old number) verb bodyless = moved old ws (got (look.Version number) verb)
 act_with ws (AllRuns old) verb bodyless = moved old ws (runs_act verb)
-act_with ws (Run old number) verb bodyless = moved old ws (got (ReadRun number) verb)
+act_with ws (Run old number) verb bodyless = moved old ws (got (look.Run number) verb)
 act_with ws (Action old number action) verb bodyless = moved old ws (posted (ReportRun number action) verb)
 
 found_of : {A : Type 0} (refusal : Refusal) (o : Option A) (a : A) → or_refused refusal o ≡ Ok a → o ≡ Some a

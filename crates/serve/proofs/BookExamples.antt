@@ -3,6 +3,7 @@ use Rattle.std.proofs.Common.{◌≡◌, inl, inr, ℕ, Bool, true, false, List,
 use Rattle.std.specs.Prelude.{codes}
 use Rattle.std.specs.Fmt.{digits}
 use Rattle.std.specs.Str.{chars, is_utf8}
+use Rattle.basis.specs.declared.rows.Look.TheVariants as look
 use Rattle.basis.specs.Names.{run_id}
 use Rattle.basis.specs.declared.rows.RunAsk.{RunAsk}
 use Rattle.basis.specs.declared.runs.RunStatus.{RunStatus}
@@ -20,7 +21,7 @@ use Rattle.machine.specs.declared.records.Run.{Run}
 use Rattle.machine.specs.declared.records.Workspace.{Workspace}
 use Rattle.route.specs.declared.acts.AskedAct.TheVariants.{OfWorkspace}
 use Rattle.route.specs.declared.acts.WsAct.{WsAct}
-use Rattle.route.specs.declared.acts.WsAct.TheVariants.{Read, Put, Delete, UpdateState, PurgeState, Lock, Unlock, MakeRun, ReportRun}
+use Rattle.route.specs.declared.acts.WsAct.TheVariants.{Look, Put, Delete, UpdateState, PurgeState, Lock, Unlock, MakeRun, ReportRun}
 use Rattle.wire.specs.Replies.{empty_answer}
 use Rattle.serve.specs.Asks.{Ask, requests}
 use Rattle.serve.specs.Steps.{replies}
@@ -73,7 +74,7 @@ abbrev unlocks : Entry
 unlocks = accepted (asks Unlock None) (locked_before 2) (record empty { released = Some x1; next_version = 2 })
 
 abbrev reads : Entry
-reads = accepted (asks Read None) (record empty { released = Some x1; next_version = 2 }) (record empty { released = Some x1; next_version = 2 })
+reads = accepted (asks (Look look.Workspace) None) (record empty { released = Some x1; next_version = 2 }) (record empty { released = Some x1; next_version = 2 })
 
 -- a period begins behind the step after which it holds, and ends with the first after which it doesn't
 period_of_a_lock : periods (is_held (is_lock x1)) (locks ∷ posts ∷ unlocks ∷ reads ∷ []) ≡ (posts ∷ unlocks ∷ []) ∷ []
@@ -159,10 +160,10 @@ lock_ended_by_a_purge law =
     subst (λ (a : Act). Releases a x1) (is_one (PurgeAct (Some x1)) ends.0 ends.1) ends.2
 
 -- two runs are active
-two_active_runs : OneRunAtATime net (accepted (asks Read None) (held_by 1 Planning (run 2 Planned ∷ [])) (held_by 1 Planning (run 2 Planned ∷ [])) ∷ []) → ⊥
+two_active_runs : OneRunAtATime net (accepted (asks (Look look.Workspace) None) (held_by 1 Planning (run 2 Planned ∷ [])) (held_by 1 Planning (run 2 Planned ∷ [])) ∷ []) → ⊥
 two_active_runs law = omega (arith, law.0)
 
-one_active_run : OneRunAtATime net (accepted (asks Read None) (held_by 1 Planning (run 2 Pending ∷ [])) (held_by 1 Planning (run 2 Pending ∷ [])) ∷ [])
+one_active_run : OneRunAtATime net (accepted (asks (Look look.Workspace) None) (held_by 1 Planning (run 2 Pending ∷ [])) (held_by 1 Planning (run 2 Pending ∷ [])) ∷ [])
 one_active_run = (omega arith, tt)
 
 -- run 2 starts before run 1

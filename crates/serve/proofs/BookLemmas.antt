@@ -18,7 +18,7 @@ use Rattle.machine.specs.Workspaces.{run_of, holder_status}
 use Rattle.machine.specs.Custody.{IsRefusal, IsWriter, Releases, IsRepeatable}
 use Rattle.machine.specs.Queue.{is_active_run, Starts}
 use Rattle.machine.specs.declared.acts.Act.{Act}
-use Rattle.machine.specs.declared.acts.Act.TheVariants.{PutWorkspace as PutAct, ReadWorkspace as ReadWorkspaceAct, UpdateState as UpdateAct, ReadState as ReadAct, PurgeState as PurgeAct, Lock as LockAct, Unlock as UnlockAct, ForceUnlock as ForceUnlockAct, DeleteWorkspace as DeleteAct, ListVersions as ListVersionsAct, ReadVersion as ReadVersionAct, ListRuns as ListRunsAct, MakeRun as MakeRunAct, ReadRun as ReadRunAct, ReportRun as ReportRunAct}
+use Rattle.machine.specs.declared.acts.Act.TheVariants.{Look as LookAct, PutWorkspace as PutAct, UpdateState as UpdateAct, PurgeState as PurgeAct, Lock as LockAct, Unlock as UnlockAct, ForceUnlock as ForceUnlockAct, DeleteWorkspace as DeleteAct, MakeRun as MakeRunAct, ReportRun as ReportRunAct}
 use Rattle.machine.specs.declared.records.Holder.{Holder}
 use Rattle.machine.specs.declared.records.Holder.TheVariants.{Nobody, Lock as HeldLock, Run as HeldRun}
 use Rattle.machine.specs.declared.records.Run.{Run}
@@ -563,18 +563,13 @@ refused_missing : (act : Act) (now : ℕ) (room : Bool) → IsDoneOnce act → I
 refused_missing (MakeRunAct ask) now room once = tt
 refused_missing (ReportRunAct n action) now room once = tt
 refused_missing (PutAct settings) now room once = absurd once
-refused_missing ReadWorkspaceAct now room once = absurd once
+refused_missing (LookAct what) now room once = absurd once
 refused_missing DeleteAct now room once = absurd once
 refused_missing (UpdateAct head text id) now room once = absurd once
-refused_missing ReadAct now room once = absurd once
 refused_missing (PurgeAct id) now room once = absurd once
 refused_missing (LockAct id text) now room once = absurd once
 refused_missing (UnlockAct id) now room once = absurd once
 refused_missing ForceUnlockAct now room once = absurd once
-refused_missing (ListVersionsAct after) now room once = absurd once
-refused_missing (ReadVersionAct n) now room once = absurd once
-refused_missing (ListRunsAct after) now room once = absurd once
-refused_missing (ReadRunAct n) now room once = absurd once
 
 some_key : (o : Option (List ℕ)) → IsSome o → (key : List ℕ) × (o ≡ Some key)
 some_key None h = absurd (let none : ⊥ = cc in none)
@@ -587,18 +582,13 @@ done_again (MakeRunAct ask) now later w v u once range moment lawful accepted le
     keyed_creations_come_again ask ask key.0 now later reaches.0 w v u key.1 key.1 range lawful moment accepted left reaches.1 reaches.2
 done_again (ReportRunAct n action) now later w v u once range moment lawful accepted left reaches = actions_come_again n action now later reaches.0 w v u lawful moment accepted left reaches.1 reaches.2
 done_again (PutAct settings) now later w v u once range moment lawful accepted left reaches = absurd once
-done_again ReadWorkspaceAct now later w v u once range moment lawful accepted left reaches = absurd once
+done_again (LookAct what) now later w v u once range moment lawful accepted left reaches = absurd once
 done_again DeleteAct now later w v u once range moment lawful accepted left reaches = absurd once
 done_again (UpdateAct head text id) now later w v u once range moment lawful accepted left reaches = absurd once
-done_again ReadAct now later w v u once range moment lawful accepted left reaches = absurd once
 done_again (PurgeAct id) now later w v u once range moment lawful accepted left reaches = absurd once
 done_again (LockAct id text) now later w v u once range moment lawful accepted left reaches = absurd once
 done_again (UnlockAct id) now later w v u once range moment lawful accepted left reaches = absurd once
 done_again ForceUnlockAct now later w v u once range moment lawful accepted left reaches = absurd once
-done_again (ListVersionsAct after) now later w v u once range moment lawful accepted left reaches = absurd once
-done_again (ReadVersionAct n) now later w v u once range moment lawful accepted left reaches = absurd once
-done_again (ListRunsAct after) now later w v u once range moment lawful accepted left reaches = absurd once
-done_again (ReadRunAct n) now later w v u once range moment lawful accepted left reaches = absurd once
 
 reaches_kept : (ws : List ℕ) (v : Workspace) (f : Entry) (u x : Workspace) → IsLegal ws f → f.before ≡ Some u → f.after ≡ Some x → Reaches v u → Reaches v x
 reaches_kept ws v f u x legal b a reaches = by_goes legal.goes

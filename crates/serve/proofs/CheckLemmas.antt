@@ -7,7 +7,7 @@ use Rattle.basis.specs.Checks.{or_refused, and_then}
 use Rattle.basis.specs.Names.{is_free_id, has_length}
 use Rattle.basis.specs.declared.refusals.Refusal.{Refusal}
 use Rattle.basis.specs.declared.refusals.Refusal.TheVariants.{BadToken, BadState, BadLock, BadBody}
-use Rattle.basis.specs.declared.roles.Role.{Role}
+use Rattle.basis.specs.declared.roles.Caller.{Caller}
 use Rattle.basis.specs.declared.rows.RunAsk.{RunAsk}
 use Rattle.basis.specs.declared.rows.Settings.{Settings}
 use Rattle.basis.specs.declared.rows.StateHead.{StateHead}
@@ -21,17 +21,17 @@ use Rattle.machine.specs.Ranges.{IsHead, IsInRange}
 use Rattle.machine.specs.Records.{workspace_in}
 use Rattle.machine.specs.Tokens.{caller_of}
 use Rattle.machine.specs.declared.acts.Act.{Act}
-use Rattle.machine.specs.declared.acts.Act.TheVariants.{PutWorkspace as PutAct, ReadWorkspace as ReadWorkspaceAct, UpdateState as UpdateAct, ReadState as ReadAct, PurgeState as PurgeAct, Lock as LockAct, Unlock as UnlockAct, ForceUnlock as ForceUnlockAct, DeleteWorkspace as DeleteAct, ListVersions as ListVersionsAct, ReadVersion as ReadVersionAct, ListRuns as ListRunsAct, MakeRun as MakeRunAct, ReadRun as ReadRunAct, ReportRun as ReportRunAct}
+use Rattle.machine.specs.declared.acts.Act.TheVariants.{Look as LookAct, PutWorkspace as PutAct, UpdateState as UpdateAct, PurgeState as PurgeAct, Lock as LockAct, Unlock as UnlockAct, ForceUnlock as ForceUnlockAct, DeleteWorkspace as DeleteAct, MakeRun as MakeRunAct, ReportRun as ReportRunAct}
 use Rattle.machine.specs.declared.records.Token.{Token}
 use Rattle.machine.specs.declared.records.Organization.{Organization}
-use Rattle.route.specs.Policy.{role_refused, allowed_by}
+use Rattle.route.specs.Policy.{caller_refused, allowed_by}
 use Rattle.route.specs.declared.acts.Asked.{Asked}
 use Rattle.route.specs.declared.acts.AskedAct.{AskedAct}
 use Rattle.route.specs.declared.acts.AskedAct.TheVariants.{ListWorkspaces, OfWorkspace}
 use Rattle.route.specs.declared.acts.WsAct.{WsAct}
-use Rattle.route.specs.declared.acts.WsAct.TheVariants.{Read, Put, Delete, ReadState, UpdateState, PurgeState, Lock, Unlock, ForceUnlock, ListVersions, ReadVersion, ListRuns, MakeRun, ReadRun, ReportRun}
+use Rattle.route.specs.declared.acts.WsAct.TheVariants.{Look, Put, Delete, UpdateState, PurgeState, Lock, Unlock, ForceUnlock, MakeRun, ReportRun}
 use Rattle.serve.specs.Checks.{task_of, known_caller, may_do, in_reach, is_found, found_if, found, place, digest_checked, spelt, act_of, order, checked}
-use Rattle.serve.specs.Inner.Prepared.{known_role}
+use Rattle.serve.specs.Inner.Prepared.{caller_known}
 use Rattle.serve.specs.declared.prepared.Place.{Place}
 use Rattle.serve.specs.declared.prepared.Order.{Order}
 use Rattle.serve.specs.declared.prepared.Task.{Task}
@@ -64,42 +64,42 @@ after_role r asked content_md5 body = and_then (in_reach asked) (λ _. after_rea
 abbrev pub after_caller : Option Organization → Asked → Option (List ℕ) → List ℕ → Token → Result Task Refusal
 after_caller r asked content_md5 body token = and_then (may_do token asked) (λ _. after_role r asked content_md5 body)
 
-token_of_role : (x : Result Token Refusal) (role : Role) → and_then x (λ token. Ok token.role) ≡ Ok role → (token : Token) × (x ≡ Ok token) × (token.role ≡ role)
-token_of_role (Ok token) role e = (token, refl, let same : token.role ≡ role = cc in same)
-token_of_role (Err refusal) role e = absurd (let none : ⊥ = cc in none)
+token_of_caller : (x : Result Token Refusal) (caller : Caller) → and_then x (λ token. Ok token.caller) ≡ Ok caller → (token : Token) × (x ≡ Ok token) × (token.caller ≡ caller)
+token_of_caller (Ok token) caller e = (token, refl, let same : token.caller ≡ caller = cc in same)
+token_of_caller (Err refusal) caller e = absurd (let none : ⊥ = cc in none)
 
-no_token : (x : Result Token Refusal) (refusal : Refusal) → and_then x (λ token. Ok token.role) ≡ Err refusal → x ≡ Err refusal
+no_token : (x : Result Token Refusal) (refusal : Refusal) → and_then x (λ token. Ok token.caller) ≡ Err refusal → x ≡ Err refusal
 no_token (Ok token) refusal e = absurd (let none : ⊥ = cc in none)
 no_token (Err other) refusal e = let same : other ≡ refusal = cc in ap Err same
 
 module _ (r : Option Organization) (asked : Asked) (content_md5 : Option (List ℕ)) (body : List ℕ) where
-  pub caller_refused : (refusal : Refusal) → known_role r asked ≡ Err refusal → checked r asked content_md5 body ≡ Err refusal
-  caller_refused refusal e = after_err (known_caller r asked) (after_caller r asked content_md5 body) refusal (no_token (known_caller r asked) refusal e)
+  pub unknown_refused : (refusal : Refusal) → caller_known r asked ≡ Err refusal → checked r asked content_md5 body ≡ Err refusal
+  unknown_refused refusal e = after_err (known_caller r asked) (after_caller r asked content_md5 body) refusal (no_token (known_caller r asked) refusal e)
 
-  pub role_refuses : (role : Role) (refusal : Refusal) → known_role r asked ≡ Ok role → allowed_by (role_refused role asked.act) ≡ Err refusal → checked r asked content_md5 body ≡ Err refusal
-  role_refuses role refusal e h =
-      let t : (token : Token) × (known_caller r asked ≡ Ok token) × (token.role ≡ role) = token_of_role (known_caller r asked) role e in
+  pub role_refuses : (caller : Caller) (refusal : Refusal) → caller_known r asked ≡ Ok caller → allowed_by (caller_refused caller asked.act) ≡ Err refusal → checked r asked content_md5 body ≡ Err refusal
+  role_refuses caller refusal e h =
+      let t : (token : Token) × (known_caller r asked ≡ Ok token) × (token.caller ≡ caller) = token_of_caller (known_caller r asked) caller e in
       after_ok (known_caller r asked) (after_caller r asked content_md5 body) t.0 (Err refusal) t.1
-      (after_err (may_do t.0 asked) (λ _. after_role r asked content_md5 body) refusal (ap (λ (x : Role). allowed_by (role_refused x asked.act)) t.2 ∙ h))
+      (after_err (may_do t.0 asked) (λ _. after_role r asked content_md5 body) refusal (ap (λ (x : Caller). allowed_by (caller_refused x asked.act)) t.2 ∙ h))
 
-  pub past_role : (role : Role) (x : Result Task Refusal) → known_role r asked ≡ Ok role → allowed_by (role_refused role asked.act) ≡ Ok tt → after_role r asked content_md5 body ≡ x → checked r asked content_md5 body ≡ x
-  past_role role x e h rest =
-      let t : (token : Token) × (known_caller r asked ≡ Ok token) × (token.role ≡ role) = token_of_role (known_caller r asked) role e in
+  pub past_role : (caller : Caller) (x : Result Task Refusal) → caller_known r asked ≡ Ok caller → allowed_by (caller_refused caller asked.act) ≡ Ok tt → after_role r asked content_md5 body ≡ x → checked r asked content_md5 body ≡ x
+  past_role caller x e h rest =
+      let t : (token : Token) × (known_caller r asked ≡ Ok token) × (token.caller ≡ caller) = token_of_caller (known_caller r asked) caller e in
       after_ok (known_caller r asked) (after_caller r asked content_md5 body) t.0 x t.1
-      (after_ok (may_do t.0 asked) (λ _. after_role r asked content_md5 body) tt x (ap (λ (y : Role). allowed_by (role_refused y asked.act)) t.2 ∙ h) rest)
+      (after_ok (may_do t.0 asked) (λ _. after_role r asked content_md5 body) tt x (ap (λ (y : Caller). allowed_by (caller_refused y asked.act)) t.2 ∙ h) rest)
 
-  pub past_reach : (role : Role) (x : Result Task Refusal) → known_role r asked ≡ Ok role → allowed_by (role_refused role asked.act) ≡ Ok tt → in_reach asked ≡ Ok tt
+  pub past_reach : (caller : Caller) (x : Result Task Refusal) → caller_known r asked ≡ Ok caller → allowed_by (caller_refused caller asked.act) ≡ Ok tt → in_reach asked ≡ Ok tt
       → after_reach r asked content_md5 body ≡ x → checked r asked content_md5 body ≡ x
-  past_reach role x e h reached rest = past_role role x e h (after_ok (in_reach asked) (λ _. after_reach r asked content_md5 body) tt x reached rest)
+  past_reach caller x e h reached rest = past_role caller x e h (after_ok (in_reach asked) (λ _. after_reach r asked content_md5 body) tt x reached rest)
 
 -- who has a token is there
 caller_there : (r : Option Organization) (content_md5 : List ℕ) (token : Token) → or_refused BadToken (caller_of r content_md5) ≡ Ok token → IsSome r
 caller_there None content_md5 token e = absurd (let none : ⊥ = cc in none)
 caller_there (Some o) content_md5 token e = refl
 
-pub role_there : (r : Option Organization) (asked : Asked) (role : Role) → known_role r asked ≡ Ok role → IsSome r
-role_there r asked role e =
-    let t : (token : Token) × (known_caller r asked ≡ Ok token) × (token.role ≡ role) = token_of_role (known_caller r asked) role e in
+pub role_there : (r : Option Organization) (asked : Asked) (caller : Caller) → caller_known r asked ≡ Ok caller → IsSome r
+role_there r asked caller e =
+    let t : (token : Token) × (known_caller r asked ≡ Ok token) × (token.caller ≡ caller) = token_of_caller (known_caller r asked) caller e in
     caller_there r (sha256 asked.secret) t.0 t.1
 
 -- the documents of an act that is read are in their ranges
@@ -155,20 +155,15 @@ ask_in_range body (Some ask) act t e =
     (key_within (get_member (codes "key") is.members) ask.key is.key, message_most (get_member (codes "message") is.members) ask.message is.message)
 
 pub act_in_range : (what : WsAct) (id : Option (List ℕ)) (body : List ℕ) (act : Act) → act_of what id body ≡ Ok act → IsInRange act
-act_in_range Read id body act e = subst IsInRange (is_one ReadWorkspaceAct act e) tt
+act_in_range (Look what) id body act e = subst IsInRange (is_one (LookAct what) act e) tt
 act_in_range Put id body act e = put_in_range (settings_of body) act e
 act_in_range Delete id body act e = subst IsInRange (is_one DeleteAct act e) tt
-act_in_range ReadState id body act e = subst IsInRange (is_one ReadAct act e) tt
 act_in_range UpdateState id body act e = head_in_range body id (state_head body) act refl e
 act_in_range PurgeState id body act e = subst IsInRange (is_one (PurgeAct id) act e) tt
 act_in_range Lock id body act e = lock_in_range body (lock_id_of body) act refl e
 act_in_range Unlock id body act e = unlock_in_range (lock_id_of body) act e
 act_in_range ForceUnlock id body act e = subst IsInRange (is_one ForceUnlockAct act e) tt
-act_in_range (ListVersions after) id body act e = subst IsInRange (is_one (ListVersionsAct after) act e) tt
-act_in_range (ReadVersion number) id body act e = subst IsInRange (is_one (ReadVersionAct number) act e) tt
-act_in_range (ListRuns after) id body act e = subst IsInRange (is_one (ListRunsAct after) act e) tt
 act_in_range MakeRun id body act e = ask_in_range body (run_ask body) act refl e
-act_in_range (ReadRun number) id body act e = subst IsInRange (is_one (ReadRunAct number) act e) tt
 act_in_range (ReportRun number action) id body act e = subst IsInRange (is_one (ReportRunAct number action) act e) tt
 
 -- what an order that passed the checks is: the organization is there, and this act is asked of the workspace

@@ -20,7 +20,7 @@ use Rattle.machine.specs.Tokens.{new_organization, token_of, with_token, without
 use Rattle.machine.specs.declared.keeps.AdminAnswer.{AdminAnswer}
 use Rattle.machine.specs.declared.keeps.AdminAnswer.TheVariants.{Done, Exists, Absent}
 use Rattle.machine.specs.declared.acts.Act.{Act}
-use Rattle.machine.specs.declared.acts.Act.TheVariants.{PutWorkspace as PutAct, ReadWorkspace as ReadWorkspaceAct, UpdateState as UpdateAct, ReadState as ReadAct, PurgeState as PurgeAct, Lock as LockAct, Unlock as UnlockAct, ForceUnlock as ForceUnlockAct, DeleteWorkspace as DeleteAct, ListVersions as ListVersionsAct, ReadVersion as ReadVersionAct, ListRuns as ListRunsAct, MakeRun as MakeRunAct, ReadRun as ReadRunAct, ReportRun as ReportRunAct}
+use Rattle.machine.specs.declared.acts.Act.TheVariants.{Look as LookAct, PutWorkspace as PutAct, UpdateState as UpdateAct, PurgeState as PurgeAct, Lock as LockAct, Unlock as UnlockAct, ForceUnlock as ForceUnlockAct, DeleteWorkspace as DeleteAct, MakeRun as MakeRunAct, ReportRun as ReportRunAct}
 use Rattle.machine.specs.declared.records.Holder.{Holder}
 use Rattle.machine.specs.declared.records.Holder.TheVariants.{Lock as HeldLock}
 use Rattle.machine.specs.declared.records.Token.{Token}
@@ -33,7 +33,7 @@ use Rattle.route.specs.declared.acts.Asked.{Asked}
 use Rattle.route.specs.declared.acts.AskedAct.{AskedAct}
 use Rattle.route.specs.declared.acts.AskedAct.TheVariants.{ListWorkspaces, OfWorkspace}
 use Rattle.route.specs.declared.acts.WsAct.{WsAct}
-use Rattle.route.specs.declared.acts.WsAct.TheVariants.{Read, Put, Delete, ReadState, UpdateState, PurgeState, Lock, Unlock, ForceUnlock, ListVersions, ReadVersion, ListRuns, MakeRun, ReadRun, ReportRun}
+use Rattle.route.specs.declared.acts.WsAct.TheVariants.{Look, Put, Delete, UpdateState, PurgeState, Lock, Unlock, ForceUnlock, MakeRun, ReportRun}
 use Rattle.wire.specs.Replies.{Answer}
 use Rattle.serve.specs.declared.steps.Admin.{Admin}
 use Rattle.serve.specs.declared.steps.Admin.TheVariants.{OrgAdd, OrgLimit, OrgList, TokenAdd, TokenRevoke}
@@ -131,14 +131,13 @@ pub is_one : (a b : Act) → read_act a ≡ read_act b → b ≡ a
 is_one a b e = cc
 
 pub writes_by : (what : WsAct) (id : Option (List ℕ)) (body : List ℕ) (act : Act) (given : Option (List ℕ)) → act_of what id body ≡ Ok act → WritesWith act given → id ≡ given
-writes_by Read id body act given is writes = absurd (subst (λ (a : Act). WritesWith a given) (is_one ReadWorkspaceAct act is) writes)
+writes_by (Look what) id body act given is writes = absurd (subst (λ (a : Act). WritesWith a given) (is_one (LookAct what) act is) writes)
 writes_by Put id body act given is writes = by_settings (settings_of body) is
   where
     by_settings : (o : Option Settings) → spelt BadBody PutAct o ≡ Ok act → id ≡ given
     by_settings None is = absurd (let none : ⊥ = cc in none)
     by_settings (Some settings) is = absurd (subst (λ (a : Act). WritesWith a given) (is_one (PutAct settings) act is) writes)
 writes_by Delete id body act given is writes = absurd (subst (λ (a : Act). WritesWith a given) (is_one DeleteAct act is) writes)
-writes_by ReadState id body act given is writes = absurd (subst (λ (a : Act). WritesWith a given) (is_one ReadAct act is) writes)
 writes_by UpdateState id body act given is writes = by_head (state_head body) is
   where
     by_head : (o : Option StateHead) → spelt BadState (λ head. UpdateAct head body id) o ≡ Ok act → id ≡ given
@@ -156,15 +155,11 @@ writes_by Unlock id body act given is writes = by_id (lock_id_of body) is
     by_id None is = absurd (let none : ⊥ = cc in none)
     by_id (Some named) is = absurd (subst (λ (a : Act). WritesWith a given) (is_one (UnlockAct named) act is) writes)
 writes_by ForceUnlock id body act given is writes = absurd (subst (λ (a : Act). WritesWith a given) (is_one ForceUnlockAct act is) writes)
-writes_by (ListVersions after) id body act given is writes = absurd (subst (λ (a : Act). WritesWith a given) (is_one (ListVersionsAct after) act is) writes)
-writes_by (ReadVersion number) id body act given is writes = absurd (subst (λ (a : Act). WritesWith a given) (is_one (ReadVersionAct number) act is) writes)
-writes_by (ListRuns after) id body act given is writes = absurd (subst (λ (a : Act). WritesWith a given) (is_one (ListRunsAct after) act is) writes)
 writes_by MakeRun id body act given is writes = by_ask (run_ask body) is
   where
     by_ask : (o : Option RunAsk) → spelt BadBody MakeRunAct o ≡ Ok act → id ≡ given
     by_ask None is = absurd (let none : ⊥ = cc in none)
     by_ask (Some ask) is = absurd (subst (λ (a : Act). WritesWith a given) (is_one (MakeRunAct ask) act is) writes)
-writes_by (ReadRun number) id body act given is writes = absurd (subst (λ (a : Act). WritesWith a given) (is_one (ReadRunAct number) act is) writes)
 writes_by (ReportRun number action) id body act given is writes = absurd (subst (λ (a : Act). WritesWith a given) (is_one (ReportRunAct number action) act is) writes)
 
 -- a workspace that a step leaves as it is

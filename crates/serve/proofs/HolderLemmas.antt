@@ -22,7 +22,7 @@ use Rattle.route.specs.declared.acts.Asked.{Asked}
 use Rattle.route.specs.declared.acts.AskedAct.{AskedAct}
 use Rattle.route.specs.declared.acts.AskedAct.TheVariants.{ListWorkspaces, OfWorkspace}
 use Rattle.route.specs.declared.acts.WsAct.{WsAct}
-use Rattle.route.specs.declared.acts.WsAct.TheVariants.{Read, Put, Delete, ReadState, UpdateState, PurgeState, Lock, Unlock, ForceUnlock, ListVersions, ReadVersion, ListRuns, MakeRun, ReadRun, ReportRun}
+use Rattle.route.specs.declared.acts.WsAct.TheVariants.{Look, Put, Delete, UpdateState, PurgeState, Lock, Unlock, ForceUnlock, MakeRun, ReportRun}
 use Rattle.serve.specs.Checks.{task_of, require, known_caller, may_do, is_in_reach, in_reach, is_found, found_if, found, place, fits, digest_checked, spelt, act_of, checked}
 use Rattle.serve.specs.Steps.{answer_to, holder_text, seen_at, carried, request_step}
 use Rattle.serve.specs.Custody.{NamesIn, LockedTellsTheHolder}
@@ -74,20 +74,15 @@ spelt_other refusal f None apart e = apart (let same : refusal ≡ Locked = cc i
 spelt_other refusal f (Some a) apart e = let none : ⊥ = cc in none
 
 act_other : (act : WsAct) (id : Option (List ℕ)) (body : List ℕ) → IsOther (act_of act id body)
-act_other Read id body e = let none : ⊥ = cc in none
+act_other (Look what) id body e = let none : ⊥ = cc in none
 act_other Put id body e = spelt_other BadBody _ (settings_of body) (λ is. let none : ⊥ = cc in none) e
 act_other Delete id body e = let none : ⊥ = cc in none
-act_other ReadState id body e = let none : ⊥ = cc in none
 act_other UpdateState id body e = spelt_other BadState _ (state_head body) (λ is. let none : ⊥ = cc in none) e
 act_other PurgeState id body e = let none : ⊥ = cc in none
 act_other Lock id body e = spelt_other BadLock _ (lock_id_of body) (λ is. let none : ⊥ = cc in none) e
 act_other Unlock id body e = spelt_other BadLock _ (lock_id_of body) (λ is. let none : ⊥ = cc in none) e
 act_other ForceUnlock id body e = let none : ⊥ = cc in none
-act_other (ListVersions after) id body e = let none : ⊥ = cc in none
-act_other (ReadVersion number) id body e = let none : ⊥ = cc in none
-act_other (ListRuns after) id body e = let none : ⊥ = cc in none
 act_other MakeRun id body e = spelt_other BadBody _ (run_ask body) (λ is. let none : ⊥ = cc in none) e
-act_other (ReadRun number) id body e = let none : ⊥ = cc in none
 act_other (ReportRun number action) id body e = let none : ⊥ = cc in none
 
 ok_other : {A : Type 0} (a : A) → IsOther (Ok a)
@@ -100,7 +95,7 @@ task_other (At p) id body e = other_then (act_of p.act id body) _ (act_other p.a
 checked_other : (r : Option Organization) (asked : Asked) (content_md5 : Option (List ℕ)) (body : List ℕ) → IsOther (checked r asked content_md5 body)
 checked_other r asked content_md5 body =
     other_then (known_caller r asked) (after_caller r asked content_md5 body) (caller_other (caller_of r (sha256 asked.secret))) (λ token.
-    other_then (may_do token asked) (λ _. after_role r asked content_md5 body) (role_other (includes token.role (least_role asked.act)) (least_role asked.act)) (λ _.
+    other_then (may_do token asked) (λ _. after_role r asked content_md5 body) (role_other (includes token.caller.role (least_role asked.act)) (least_role asked.act)) (λ _.
     other_then (in_reach asked) (λ _. after_reach r asked content_md5 body) (required NotFound (is_in_reach asked) (λ is. let none : ⊥ = cc in none)) (λ _.
     other_then (found r asked.act) (after_names asked content_md5 body) (found_other r asked.act) (λ f.
     other_then (digest_checked content_md5 body) (λ _. task_of f asked.lock_id body) (required BadDigest (fits content_md5 body) (λ is. let none : ⊥ = cc in none)) (λ _.

@@ -3,6 +3,8 @@ use Rattle.std.specs.Prelude.{if◌then◌else◌}
 use Rattle.std.proofs.Common.{◌≡◌, ◌≢◌, ◌⊎◌, inl, inr, ℕ, Bool, true, false, ◌&&◌, ◌||◌, cond, List, Option, Some, None, Result, Ok, Err, is_some, refl, sym, ap, subst, ◌∙◌}
 use Rattle.std.specs.Prelude.{option_map}
 use Rattle.std.specs.FinMap.{get}
+use Rattle.basis.specs.declared.rows.Look.{Look as AnyLook}
+use Rattle.basis.specs.declared.rows.Look.TheVariants as look
 use Rattle.basis.specs.Checks.{and_then}
 use Rattle.basis.specs.declared.refusals.Refusal.{Refusal}
 use Rattle.basis.specs.declared.refusals.Refusal.TheVariants.{NotFound}
@@ -25,7 +27,7 @@ use Rattle.route.specs.declared.acts.Asked.{Asked}
 use Rattle.route.specs.declared.acts.AskedAct.{AskedAct}
 use Rattle.route.specs.declared.acts.AskedAct.TheVariants.{ListWorkspaces, OfWorkspace}
 use Rattle.route.specs.declared.acts.WsAct.{WsAct}
-use Rattle.route.specs.declared.acts.WsAct.TheVariants.{Read, Put, Delete, ReadState, UpdateState, PurgeState, Lock, Unlock, ForceUnlock, ListVersions, ReadVersion, ListRuns, MakeRun, ReadRun, ReportRun}
+use Rattle.route.specs.declared.acts.WsAct.TheVariants.{Look, Put, Delete, UpdateState, PurgeState, Lock, Unlock, ForceUnlock, MakeRun, ReportRun}
 use Rattle.wire.specs.Replies.{Answer}
 use Rattle.serve.specs.declared.steps.Admin.{Admin}
 use Rattle.serve.specs.declared.steps.Admin.TheVariants.{OrgAdd, OrgLimit, OrgList, TokenAdd, TokenRevoke}
@@ -34,7 +36,7 @@ use Rattle.serve.specs.declared.prepared.Task.{Task}
 use Rattle.serve.specs.declared.prepared.Task.TheVariants.{ListAll, Carry}
 use Rattle.serve.specs.Asks.{Ask, silent, requests, commands}
 use Rattle.serve.specs.Asks as ask
-use Rattle.serve.specs.Checks.{known_caller, may_do, is_in_reach, in_reach, require, makes, is_there, is_found, found_if, found, place, checked}
+use Rattle.serve.specs.Checks.{known_caller, may_do, is_in_reach, in_reach, require, makes, is_told_of, named_by, is_there, is_found, found_if, found, place, checked}
 use Rattle.serve.specs.Steps.{Said, replies, tells, answer_to, seen_at, ruled_in, carried, request_step, command_step, command_said, step}
 use Rattle.serve.specs.Laws.{RefusalsChangeNothing, OutOfReachIsNotFound, renamed, NeedsWorkspace, OutOfReachIsAsAbsent}
 use Rattle.serve.proofs.CheckLemmas.{after_ok, after_err, after_names, after_reach, after_role, after_caller}
@@ -127,22 +129,16 @@ out_of_reach_is_not_found r now asked content_md5 body token out known may =
     (after_ok (may_do token asked) (λ _. after_role r asked content_md5 body) tt (Err NotFound) may (out_after_role r asked content_md5 body out)))
 
 -- a workspace that is lacking isn't found
-none_of_none : (what : WsAct) → is_there what None ≡ false
-none_of_none Read = refl
-none_of_none Put = refl
-none_of_none Delete = refl
-none_of_none ReadState = refl
-none_of_none UpdateState = refl
-none_of_none PurgeState = refl
-none_of_none Lock = refl
-none_of_none Unlock = refl
-none_of_none ForceUnlock = refl
-none_of_none (ListVersions after) = refl
-none_of_none (ReadVersion number) = refl
-none_of_none (ListRuns after) = refl
-none_of_none MakeRun = refl
-none_of_none (ReadRun number) = refl
-none_of_none (ReportRun number action) = refl
+none_told : (what : AnyLook) → is_told_of what None ≡ false
+none_told look.Workspace = refl
+none_told look.State = refl
+none_told (look.Version number) = refl
+none_told (look.Versions after) = refl
+none_told (look.Run number) = refl
+none_told (look.Runs after) = refl
+
+none_of_none : (act : WsAct) → is_there act None ≡ false
+none_of_none act = none_told (named_by act)
 
 lacking : (c : Bool) (r : Option Organization) (ws : List ℕ) (what : WsAct) → workspace_in r ws ≡ None → c ≡ false → (c || is_there what (workspace_in r ws)) ≡ false
 lacking c r ws what none e = ap (λ (d : Bool). d || is_there what (workspace_in r ws)) e ∙ ap (is_there what) none ∙ none_of_none what
@@ -172,7 +168,7 @@ out_of_reach_is_as_absent r now asked content_md5 body org ws out needs none = a
     other = record asked { org = org; act = renamed asked.act ws }
 
     allowed : (token : Token) → may_do token asked ≡ may_do token other
-    allowed token = ap (λ (l : Role). allowed_by (if includes token.role l then None else Some (need_of l))) (sym (role_stays asked.act ws needs))
+    allowed token = ap (λ (l : Role). allowed_by (if includes token.caller.role l then None else Some (need_of l))) (sym (role_stays asked.act ws needs))
 
     judged : (x : Result (Unit {0}) Refusal) → and_then x (λ _. after_role r asked content_md5 body) ≡ and_then x (λ _. after_role r other content_md5 body)
     judged (Ok passed) = out_after_role r asked content_md5 body out ∙ sym (absent_after_role r asked content_md5 body org ws asked.act needs none)

@@ -14,7 +14,7 @@ use Rattle.machine.specs.Ranges.{IsInRange, IsMoment}
 use Rattle.machine.specs.Records.{workspace_in, count_of, seen_in, standing, with_workspace, placed}
 use Rattle.machine.specs.Rules.{Ruling, refused_by, rules}
 use Rattle.machine.specs.Units.{unit_of, unit_by}
-use Rattle.machine.specs.Inner.Decisions.{meaning, answered, holder_of, Meets, ChangeIsDue}
+use Rattle.machine.specs.Meaning.{meaning, answered, holder_of, Meets, ChangeIsDue}
 use Rattle.machine.specs.declared.acts.Act.{Act}
 use Rattle.machine.specs.declared.acts.Decision.{Decision}
 use Rattle.machine.specs.declared.acts.Answer.{Answer as ActAnswer}
@@ -29,10 +29,13 @@ use Rattle.machine.proofs.KeepLemmas.{standing_is}
 use Rattle.wire.specs.Replies.{Answer as Reply}
 use Rattle.serve.specs.Steps.{Answered, answer_to, seen_at, ruled_in, refusing}
 use Rattle.serve.specs.Inner.Prepared.{Foresees}
-use Rattle.serve.specs.Checks.{is_there}
-use Rattle.serve.specs.Inner.Units.{holder_in, look_of, is_present}
+use Rattle.serve.specs.Checks.{named_by, is_told_of, is_there}
+use Rattle.serve.specs.Inner.Units.{holder_in, is_present}
+use Rattle.basis.specs.declared.rows.Look.{Look as AnyLook}
+use Rattle.basis.specs.declared.rows.Look.TheVariants as look
+use Rattle.machine.specs.declared.acts.Act.TheVariants.{Look as LookAct}
 use Rattle.route.specs.declared.acts.WsAct.{WsAct}
-use Rattle.route.specs.declared.acts.WsAct.TheVariants.{Read, Put, Delete, ReadState, UpdateState, PurgeState, Lock, Unlock, ForceUnlock, ListVersions, ReadVersion, ListRuns, MakeRun, ReadRun, ReportRun}
+use Rattle.route.specs.declared.acts.WsAct.TheVariants.{Look, Put, Delete, UpdateState, PurgeState, Lock, Unlock, ForceUnlock, MakeRun, ReportRun}
 use Rattle.serve.specs.declared.prepared.Pending.{Pending}
 use Rattle.serve.specs.declared.prepared.Prepared.{Prepared}
 
@@ -126,40 +129,22 @@ pub refused_after : {E : Type 0} (refusal : Refusal) (r : Option Organization) (
 refused_after refusal r org want (Ok p) is known h = subst (λ (w : Answered). Foresees r org w p) (sym (is known)) (h r org)
 refused_after refusal r org want (Err fault) is known h = tt
 
--- whether what is asked of is there, by what was seen of it
-present_is : (o : Organization) (what : WsAct) (w : Option Workspace) → is_present what (unit_by o (look_of what) w) ≡ is_there what w
-present_is o Read None = refl
-present_is o Put None = refl
-present_is o Delete None = refl
-present_is o ReadState None = refl
-present_is o UpdateState None = refl
-present_is o PurgeState None = refl
-present_is o Lock None = refl
-present_is o Unlock None = refl
-present_is o ForceUnlock None = refl
-present_is o (ListVersions after) None = refl
-present_is o (ReadVersion number) None = refl
-present_is o (ListRuns after) None = refl
-present_is o MakeRun None = refl
-present_is o (ReadRun number) None = refl
-present_is o (ReportRun number action) None = refl
-present_is o Read (Some w) = refl
-present_is o Put (Some w) = refl
-present_is o Delete (Some w) = refl
-present_is o ReadState (Some w) = refl
-present_is o UpdateState (Some w) = refl
-present_is o PurgeState (Some w) = refl
-present_is o Lock (Some w) = refl
-present_is o Unlock (Some w) = refl
-present_is o ForceUnlock (Some w) = refl
-present_is o (ListVersions after) (Some w) = refl
-present_is o (ReadVersion number) (Some w) = refl
-present_is o (ListRuns after) (Some w) = refl
-present_is o MakeRun (Some w) = refl
-present_is o (ReadRun number) (Some w) = refl
-present_is o (ReportRun number action) (Some w) = refl
+-- whether what is told of is there, by what was seen of it
+present_is : (o : Organization) (what : AnyLook) (w : Option Workspace) → is_present what (unit_by o (LookAct what) w) ≡ is_told_of what w
+present_is o look.Workspace None = refl
+present_is o look.State None = refl
+present_is o (look.Version number) None = refl
+present_is o (look.Versions after) None = refl
+present_is o (look.Run number) None = refl
+present_is o (look.Runs after) None = refl
+present_is o look.Workspace (Some w) = refl
+present_is o look.State (Some w) = refl
+present_is o (look.Version number) (Some w) = refl
+present_is o (look.Versions after) (Some w) = refl
+present_is o (look.Run number) (Some w) = refl
+present_is o (look.Runs after) (Some w) = refl
 
-pub there_is : (r : Option Organization) (ws : List ℕ) (what : WsAct) (unit : AnyUnit) (b : Bool) → IsSome r → ((o : Organization) → r ≡ Some o → unit ≡ unit_of o ws (look_of what))
-    → b ≡ is_present what unit → b ≡ is_there what (workspace_in r ws)
-there_is None ws what unit b some seen h = absurd (let none : ⊥ = cc in none)
-there_is (Some o) ws what unit b some seen h = h ∙ ap (is_present what) (seen o refl) ∙ present_is o what (get o.workspaces ws)
+pub there_is : (r : Option Organization) (ws : List ℕ) (act : WsAct) (unit : AnyUnit) (b : Bool) → IsSome r → ((o : Organization) → r ≡ Some o → unit ≡ unit_of o ws (LookAct (named_by act)))
+    → b ≡ is_present (named_by act) unit → b ≡ is_there act (workspace_in r ws)
+there_is None ws act unit b some seen h = absurd (let none : ⊥ = cc in none)
+there_is (Some o) ws act unit b some seen h = h ∙ ap (is_present (named_by act)) (seen o refl) ∙ present_is o (named_by act) (get o.workspaces ws)

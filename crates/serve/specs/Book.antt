@@ -10,7 +10,7 @@ use Rattle.machine.specs.Queue.{is_active_run}
 use Rattle.machine.specs.Records.{workspace_in}
 use Rattle.machine.specs.Workspaces.{run_of}
 use Rattle.machine.specs.declared.acts.Act.{Act}
-use Rattle.machine.specs.declared.acts.Act.TheVariants.{PutWorkspace as PutAct, ReadWorkspace as ReadWorkspaceAct, UpdateState as UpdateAct, ReadState as ReadAct, PurgeState as PurgeAct, Lock as LockAct, Unlock as UnlockAct, ForceUnlock as ForceUnlockAct, DeleteWorkspace as DeleteAct, ListVersions as ListVersionsAct, ReadVersion as ReadVersionAct, ListRuns as ListRunsAct, MakeRun as MakeRunAct, ReadRun as ReadRunAct, ReportRun as ReportRunAct}
+use Rattle.machine.specs.declared.acts.Act.TheVariants.{Look as LookAct, PutWorkspace as PutAct, UpdateState as UpdateAct, PurgeState as PurgeAct, Lock as LockAct, Unlock as UnlockAct, ForceUnlock as ForceUnlockAct, DeleteWorkspace as DeleteAct, MakeRun as MakeRunAct, ReportRun as ReportRunAct}
 use Rattle.machine.specs.declared.records.Holder.{Holder}
 use Rattle.machine.specs.declared.records.Holder.TheVariants.{Nobody, Lock, Run as HoldingRun}
 use Rattle.machine.specs.declared.records.Run.{Run}
@@ -162,19 +162,14 @@ Repeats e f = (at : ℕ) × (f.ask ≡ asked_again at e.ask)
 -- the creation of a run with a key, and an action on a run
 abbrev pub IsDoneOnce : Act → Type 0
 IsDoneOnce (PutAct settings) = ⊥
-IsDoneOnce ReadWorkspaceAct = ⊥
+IsDoneOnce (LookAct what) = ⊥
 IsDoneOnce (UpdateAct head text id) = ⊥
-IsDoneOnce ReadAct = ⊥
 IsDoneOnce (PurgeAct id) = ⊥
 IsDoneOnce (LockAct id text) = ⊥
 IsDoneOnce (UnlockAct id) = ⊥
 IsDoneOnce ForceUnlockAct = ⊥
 IsDoneOnce DeleteAct = ⊥
-IsDoneOnce (ListVersionsAct after) = ⊥
-IsDoneOnce (ReadVersionAct n) = ⊥
-IsDoneOnce (ListRunsAct after) = ⊥
 IsDoneOnce (MakeRunAct ask) = IsSome ask.key
-IsDoneOnce (ReadRunAct n) = ⊥
 IsDoneOnce (ReportRunAct n action) = ⊤
 
 -- ---- custody

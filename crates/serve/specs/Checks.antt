@@ -3,6 +3,8 @@
 use Rattle.std.specs.Prelude.{ℕ, Bool, true, false, ◌||◌, List, Option, Some, None, Result, Ok, Err, is_some}
 use Rattle.std.specs.Str.{bytes_eq}
 use Rattle.basis.specs.Checks.{or_refused, and_then}
+use Rattle.basis.specs.declared.rows.Look.{Look as AnyLook}
+use Rattle.basis.specs.declared.rows.Look.TheVariants as look
 use Rattle.basis.specs.declared.refusals.Refusal.{Refusal}
 use Rattle.basis.specs.declared.refusals.Refusal.TheVariants.{BadToken, NotFound, BadDigest, BadState, BadLock, BadBody}
 use Rattle.sha2.specs.Sha256.{sha256}
@@ -13,16 +15,16 @@ use Rattle.machine.specs.Tokens.{caller_of}
 use Rattle.machine.specs.Units.{version_of}
 use Rattle.machine.specs.Workspaces.{run_of}
 use Rattle.machine.specs.declared.acts.Act.{Act}
-use Rattle.machine.specs.declared.acts.Act.TheVariants.{PutWorkspace as PutAct, ReadWorkspace as ReadWorkspaceAct, UpdateState as UpdateAct, ReadState as ReadAct, PurgeState as PurgeAct, Lock as LockAct, Unlock as UnlockAct, ForceUnlock as ForceUnlockAct, DeleteWorkspace as DeleteAct, ListVersions as ListVersionsAct, ReadVersion as ReadVersionAct, ListRuns as ListRunsAct, MakeRun as MakeRunAct, ReadRun as ReadRunAct, ReportRun as ReportRunAct}
+use Rattle.machine.specs.declared.acts.Act.TheVariants.{Look as LookAct, PutWorkspace as PutAct, UpdateState as UpdateAct, PurgeState as PurgeAct, Lock as LockAct, Unlock as UnlockAct, ForceUnlock as ForceUnlockAct, DeleteWorkspace as DeleteAct, MakeRun as MakeRunAct, ReportRun as ReportRunAct}
 use Rattle.machine.specs.declared.records.Token.{Token}
 use Rattle.machine.specs.declared.records.Workspace.{Workspace}
 use Rattle.machine.specs.declared.records.Organization.{Organization}
-use Rattle.route.specs.Policy.{role_refused, allowed_by}
+use Rattle.route.specs.Policy.{caller_refused, allowed_by}
 use Rattle.route.specs.declared.acts.Asked.{Asked}
 use Rattle.route.specs.declared.acts.AskedAct.{AskedAct}
 use Rattle.route.specs.declared.acts.AskedAct.TheVariants.{ListWorkspaces, OfWorkspace}
 use Rattle.route.specs.declared.acts.WsAct.{WsAct}
-use Rattle.route.specs.declared.acts.WsAct.TheVariants.{Read, Put, Delete, ReadState, UpdateState, PurgeState, Lock, Unlock, ForceUnlock, ListVersions, ReadVersion, ListRuns, MakeRun, ReadRun, ReportRun}
+use Rattle.route.specs.declared.acts.WsAct.TheVariants.{Look, Put, Delete, UpdateState, PurgeState, Lock, Unlock, ForceUnlock, MakeRun, ReportRun}
 use Rattle.serve.specs.declared.prepared.Place.{Place}
 use Rattle.serve.specs.declared.prepared.Order.{Order}
 use Rattle.serve.specs.declared.prepared.Found.{Found}
@@ -41,7 +43,7 @@ known_caller r asked = or_refused BadToken (caller_of r (sha256 asked.secret))
 
 -- the policy: why a token may not do what is asked, or none
 abbrev pub policy : Token → Asked → Option Refusal
-policy token asked = role_refused token.role asked.act
+policy token asked = caller_refused token.caller asked.act
 
 abbrev pub may_do : Token → Asked → Result (Unit {0}) Refusal
 may_do token asked = allowed_by (policy token asked)
@@ -56,20 +58,15 @@ in_reach asked = require NotFound (is_in_reach asked)
 
 -- an act on a workspace that needn't be there: it is made
 abbrev pub makes : WsAct → Bool
-makes Read = false
+makes (Look what) = false
 makes Put = true
 makes Delete = false
-makes ReadState = false
 makes UpdateState = false
 makes PurgeState = false
 makes Lock = false
 makes Unlock = false
 makes ForceUnlock = false
-makes (ListVersions after) = false
-makes (ReadVersion number) = false
-makes (ListRuns after) = false
 makes MakeRun = false
-makes (ReadRun number) = false
 makes (ReportRun number action) = false
 
 -- an act on the workspace of a name
@@ -86,23 +83,31 @@ abbrev pub keeps_version : ℕ → Option Workspace → Bool
 keeps_version number None = false
 keeps_version number (Some w) = is_some (version_of number w.versions)
 
--- what an act asks of is there: the workspace, and the version or the run that it names
+-- what is told of is there: the workspace, and the version or the run that is named
+abbrev pub is_told_of : AnyLook → Option Workspace → Bool
+is_told_of look.Workspace w = is_some w
+is_told_of look.State w = is_some w
+is_told_of (look.Version number) w = keeps_version number w
+is_told_of (look.Versions after) w = is_some w
+is_told_of (look.Run number) w = has_run number w
+is_told_of (look.Runs after) w = is_some w
+
+-- what an act asks of, as what would be told of it: what it names besides the workspace is a version or a run
+abbrev pub named_by : WsAct → AnyLook
+named_by (Look what) = what
+named_by Put = look.Versions 0
+named_by Delete = look.Versions 0
+named_by UpdateState = look.Versions 0
+named_by PurgeState = look.Versions 0
+named_by Lock = look.Versions 0
+named_by Unlock = look.Versions 0
+named_by ForceUnlock = look.Versions 0
+named_by MakeRun = look.Versions 0
+named_by (ReportRun number action) = look.Run number
+
+-- what an act asks of is there
 abbrev pub is_there : WsAct → Option Workspace → Bool
-is_there Read w = is_some w
-is_there Put w = is_some w
-is_there Delete w = is_some w
-is_there ReadState w = is_some w
-is_there UpdateState w = is_some w
-is_there PurgeState w = is_some w
-is_there Lock w = is_some w
-is_there Unlock w = is_some w
-is_there ForceUnlock w = is_some w
-is_there (ListVersions after) w = is_some w
-is_there (ReadVersion number) w = keeps_version number w
-is_there (ListRuns after) w = is_some w
-is_there MakeRun w = is_some w
-is_there (ReadRun number) w = has_run number w
-is_there (ReportRun number action) w = has_run number w
+is_there act w = is_told_of (named_by act) w
 
 -- names: what is asked of is there, or is to be made
 abbrev pub is_found : Option Organization → List ℕ → WsAct → Bool
@@ -130,20 +135,15 @@ spelt refusal f None = Err refusal
 spelt refusal f (Some a) = Ok (f a)
 
 abbrev pub act_of : WsAct → Option (List ℕ) → List ℕ → Result Act Refusal
-act_of Read id body = Ok ReadWorkspaceAct
+act_of (Look what) id body = Ok (LookAct what)
 act_of Put id body = spelt BadBody PutAct (settings_of body)
 act_of Delete id body = Ok DeleteAct
-act_of ReadState id body = Ok ReadAct
 act_of UpdateState id body = spelt BadState (λ head. UpdateAct head body id) (state_head body)
 act_of PurgeState id body = Ok (PurgeAct id)
 act_of Lock id body = spelt BadLock (λ held. LockAct held body) (lock_id_of body)
 act_of Unlock id body = spelt BadLock UnlockAct (lock_id_of body)
 act_of ForceUnlock id body = Ok ForceUnlockAct
-act_of (ListVersions after) id body = Ok (ListVersionsAct after)
-act_of (ReadVersion number) id body = Ok (ReadVersionAct number)
-act_of (ListRuns after) id body = Ok (ListRunsAct after)
 act_of MakeRun id body = spelt BadBody MakeRunAct (run_ask body)
-act_of (ReadRun number) id body = Ok (ReadRunAct number)
 act_of (ReportRun number action) id body = Ok (ReportRunAct number action)
 
 -- the same, its documents read

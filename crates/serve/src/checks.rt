@@ -6,29 +6,29 @@ ghost use Rattle.docs.specs.Documents.{settings_of, state_head, lock_id_of, run_
 ghost use Rattle.machine.specs.Keeping.{Looks};
 ghost use Rattle.machine.specs.Records.{workspace_in};
 ghost use Rattle.machine.specs.Units.{unit_of};
-ghost use Rattle.machine.specs.declared.acts.Act.TheVariants.{PutWorkspace, UpdateState, PurgeState, Lock, Unlock, MakeRun};
+ghost use Rattle.machine.specs.declared.acts.Act.TheVariants.{Look as LookAct, PutWorkspace, UpdateState, PurgeState, Lock, Unlock, MakeRun};
 ghost use Rattle.machine.specs.declared.records.Organization.{Organization};
-ghost use Rattle.serve.specs.Checks.{require, in_reach, makes, is_there, is_found, found, found_if, place, fits, digest_checked, spelt, act_of, task_of};
-ghost use Rattle.serve.specs.Inner.Prepared.{known_role};
+ghost use Rattle.serve.specs.Checks.{require, in_reach, makes, named_by, is_there, is_found, found, found_if, place, fits, digest_checked, spelt, act_of, task_of};
+ghost use Rattle.serve.specs.Inner.Prepared.{caller_known};
 ghost use Rattle.serve.specs.declared.prepared.Found.TheVariants.{Workspaces, At};
 ghost use Rattle.serve.specs.Inner.Prepared.{IsTaskInRange};
-ghost use Rattle.serve.specs.Inner.Units.{look_of, has_asked, is_present};
+ghost use Rattle.serve.specs.Inner.Units.{has_named, is_present};
 
 use crate::prepared::{Found, Order, Place, Task};
-use basis::{Bytes, Down, LockId, OrgName, Refusal, Role, WsName};
+use basis::{Bytes, Caller, Down, LockId, Look, OrgName, Refusal, WsName};
 use docs::{DocFault, digest_fits, read_lock, read_run, read_settings, read_state};
 use machine::{Act, Keep, Unit, WorkspaceUnit};
 use route::{Asked, AskedAct, WsAct, secret_digest};
 use std::alloc::Global;
 
-/// The role of the caller's token.
-pub fn known_caller<K: Keep>(alloc: Global, keep: &mut K, asked: &Asked) -> Result<Role, Refusal>
+/// Who asks by the token.
+pub fn known_caller<K: Keep>(alloc: Global, keep: &mut K, asked: &Asked) -> Result<Caller, Refusal>
     ensures looks { Looks K.rows K.clean K.sound keep.old keep.new }
-    ensures ok { K.clean keep.new → K.sound keep.old → Follows result (known_role (K.rows keep.old asked.now.caller) asked.now) }
+    ensures ok { K.clean keep.new → K.sound keep.old → Follows result (caller_known (K.rows keep.old asked.now.caller) asked.now) }
 {
     let secret = secret_digest(&asked.secret);
     match keep.caller(alloc, &asked.caller, &secret) {
-        Ok(Some(role)) => Ok(role),
+        Ok(Some(caller)) => Ok(caller),
         Ok(None) => Err(Refusal::BadToken),
         Err(Down) => Err(Refusal::Unavailable),
     }
@@ -53,53 +53,54 @@ fn makes(act: WsAct) -> bool
 {
     match act {
         WsAct::Put => true,
-        WsAct::Read | WsAct::Delete => false,
-        WsAct::ReadState | WsAct::UpdateState | WsAct::PurgeState => false,
+        WsAct::Look(_) | WsAct::Delete => false,
+        WsAct::UpdateState | WsAct::PurgeState => false,
         WsAct::Lock | WsAct::Unlock | WsAct::ForceUnlock => false,
-        WsAct::ListVersions { .. } | WsAct::ReadVersion(_) => false,
-        WsAct::ListRuns { .. } | WsAct::MakeRun => false,
-        WsAct::ReadRun(_) | WsAct::ReportRun(_, _) => false,
+        WsAct::MakeRun | WsAct::ReportRun(_, _) => false,
     }
 }
 
-// An act that asks for no more than whether what is asked of is there.
-fn look_of(act: WsAct) -> Act
-    ensures { result ≡ look_of act }
+// What an act asks of, as what would be told of it.
+fn named_by(act: WsAct) -> Look
+    ensures { result ≡ named_by act }
 {
     match act {
-        WsAct::ReadRun(number) => Act::ReadRun(number),
-        WsAct::ReportRun(number, _) => Act::ReadRun(number),
-        WsAct::Read | WsAct::Put | WsAct::Delete => Act::ReadState,
-        WsAct::ReadState | WsAct::UpdateState | WsAct::PurgeState => Act::ReadState,
-        WsAct::Lock | WsAct::Unlock | WsAct::ForceUnlock => Act::ReadState,
-        WsAct::ReadVersion(number) => Act::ReadVersion(number),
-        WsAct::ListVersions { .. } => Act::ReadState,
-        WsAct::ListRuns { .. } | WsAct::MakeRun => Act::ReadState,
+        WsAct::Look(look) => look,
+        WsAct::ReportRun(number, _) => Look::Run(number),
+        WsAct::Put | WsAct::Delete => Look::Versions(0),
+        WsAct::UpdateState | WsAct::PurgeState => Look::Versions(0),
+        WsAct::Lock | WsAct::Unlock | WsAct::ForceUnlock => Look::Versions(0),
+        WsAct::MakeRun => Look::Versions(0),
     }
 }
 
-// Whether it is there, once its workspace is: the version or the run that it names, too.
-fn has_asked(act: WsAct, unit: &WorkspaceUnit) -> bool
-    ensures { result ≡ has_asked act unit.now }
+// Whether what is told of is there, once its workspace is.
+fn has_named(look: Look, unit: &WorkspaceUnit) -> bool
+    ensures { result ≡ has_named look unit.now }
 {
-    match act {
-        WsAct::ReadRun(_) | WsAct::ReportRun(_, _) => unit.asked_run.is_some(),
-        WsAct::Read | WsAct::Put | WsAct::Delete => true,
-        WsAct::ReadState | WsAct::UpdateState | WsAct::PurgeState => true,
-        WsAct::Lock | WsAct::Unlock | WsAct::ForceUnlock => true,
-        WsAct::ReadVersion(_) => unit.has_version,
-        WsAct::ListVersions { .. } => true,
-        WsAct::ListRuns { .. } | WsAct::MakeRun => true,
+    match look {
+        Look::Version(_) => unit.has_version,
+        Look::Run(_) => unit.asked_run.is_some(),
+        Look::Workspace | Look::State => true,
+        Look::Versions(_) | Look::Runs(_) => true,
     }
 }
 
 fn is_present(unit: &Unit, act: &WsAct) -> bool
-    ensures { result ≡ is_present act.now unit.now }
+    ensures { result ≡ is_present (named_by act.now) unit.now }
 {
     match unit {
         Unit::Absent { .. } => false,
-        Unit::Present(unit) => has_asked(*act, unit),
+        Unit::Present(unit) => has_named(named_by(*act), unit),
     }
+}
+
+// An act that tells it.
+fn telling(act: WsAct) -> Act
+    ensures { result ≡ LookAct (named_by act) }
+{
+    let look = named_by(act);
+    Act::Look(look)
 }
 
 // What is seen of it.
@@ -112,9 +113,9 @@ fn look<K: Keep>(
 ) -> Result<Unit, Down>
     ensures looks { Looks K.rows K.clean K.sound keep.old keep.new }
     ensures ok { K.clean keep.new → K.sound keep.old → IfOk result (λ unit. (o : Organization) → K.rows keep.old org.now ≡ Some o
-        → unit ≡ unit_of o ws.now (look_of act)) }
+        → unit ≡ unit_of o ws.now (LookAct (named_by act))) }
 {
-    let look = look_of(act);
+    let look = telling(act);
     keep.unit(alloc, org, ws, &look)
 }
 
@@ -279,20 +280,15 @@ fn act_of(alloc: Global, act: WsAct, lock_id: &Option<LockId>, body: Bytes) -> R
     ensures { Follows result (act_of act lock_id.now body) }
 {
     match act {
-        WsAct::Read => Ok(Act::ReadWorkspace),
+        WsAct::Look(look) => Ok(Act::Look(look)),
         WsAct::Put => read_put(alloc, &body),
-        WsAct::ReadState => Ok(Act::ReadState),
         WsAct::UpdateState => read_update(alloc, lock_id, body),
         WsAct::PurgeState => read_purge(lock_id),
         WsAct::Lock => read_locking(alloc, body),
         WsAct::Unlock => read_unlocking(alloc, &body),
         WsAct::ForceUnlock => Ok(Act::ForceUnlock),
         WsAct::Delete => Ok(Act::DeleteWorkspace),
-        WsAct::ListVersions { after } => Ok(Act::ListVersions(after)),
-        WsAct::ReadVersion(number) => Ok(Act::ReadVersion(number)),
-        WsAct::ListRuns { after } => Ok(Act::ListRuns(after)),
         WsAct::MakeRun => read_making(alloc, &body),
-        WsAct::ReadRun(number) => Ok(Act::ReadRun(number)),
         WsAct::ReportRun(number, action) => Ok(Act::ReportRun(number, action)),
     }
 }

@@ -7,7 +7,7 @@ ghost use Rattle.machine.specs.Laws.{IsLawfulOrganization};
 ghost use Rattle.machine.specs.Ranges.{IsInRange};
 ghost use Rattle.machine.specs.Records.{workspace_in, seen_in};
 ghost use Rattle.machine.specs.Rules.{refused_by, rules};
-ghost use Rattle.machine.specs.Inner.Decisions.{meaning, answered, holder_of, ChangeIsDue};
+ghost use Rattle.machine.specs.Meaning.{meaning, answered, holder_of, ChangeIsDue};
 ghost use Rattle.machine.specs.declared.acts.Answer.TheVariants.{Workspace as ShownWorkspace, Run as ShownRun, Versions as ListedVersions, Runs as ListedRuns};
 ghost use Rattle.serve.specs.declared.prepared.Task.TheVariants.{ListAll, Carry};
 ghost use Rattle.machine.specs.declared.acts.Decision.TheVariants.{Accepted};
@@ -63,11 +63,11 @@ fn checked<K: Keep>(
     ensures range { IfOk result IsTaskInRange }
     ensures there { K.clean keep.new → K.sound keep.old → OnOk result (IsSome (K.rows keep.old asked.now.caller)) }
 {
-    let role = match known_caller(alloc, keep, asked) {
-        Ok(role) => role,
+    let caller = match known_caller(alloc, keep, asked) {
+        Ok(caller) => caller,
         Err(refusal) => return Err(refusal),
     };
-    if let Err(refusal) = allowed(asked, role) {
+    if let Err(refusal) = allowed(asked, &caller) {
         return Err(refusal);
     }
     if let Err(refusal) = in_reach(asked) {
@@ -140,7 +140,7 @@ fn workspace_reply(alloc: Global, ws: &WsName, shown: Shown) -> Result<Reply, Do
     ensures { IfOk result (λ reply. reply ≡ answer_to [] ws.now (answered (ShownWorkspace shown) None)) }
 {
     let row = WsRow {
-        auto_apply: shown.auto_apply,
+        settings: shown.settings,
         holder: shown.holder,
         name: ws.clone()?,
         version: shown.version,

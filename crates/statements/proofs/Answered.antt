@@ -1,11 +1,12 @@
 -- The first row of an answer, as a function of typed rows.
-use Rattle.std.proofs.Common.{◌≡◌, ℕ, ℤ, ◌<ℤ◌, Bool, true, false, List, [], ◌∷◌, map, filter, find, length, slice_get, Option, Some, None, option_map, refl, sym, ap, ◌∙◌, subst, arith, Less, Equal, Greater, int_cmp, is_eq, map-id, is_some}
+use Rattle.std.proofs.Common.{◌≡◌, ℕ, ℤ, ◌<ℤ◌, Bool, true, false, List, [], ◌∷◌, ◌++◌, map, filter, find, length, reverse, slice_get, Option, Some, None, option_map, refl, sym, ap, ◌∙◌, subst, arith, Less, Equal, Greater, int_cmp, is_eq, map-id, is_some}
 use Rattle.std.specs.List.{AllByRecursion, list_all, AllZip}
 use Rattle.std.specs.Option.{option_or}
 use Rattle.std.specs.Ordering.{ordering_then}
 use Rattle.std.specs.List.Sorted.{IsPermutation}
 use Rattle.std.proofs.lemmas.Cmp.{back_total, on_total, int_cmp_total}
 use Rattle.std.proofs.lemmas.Int.{ints}
+use Rattle.std.proofs.lemmas.Grind.{reverse_onto}
 use Rattle.std.proofs.lemmas.Option.{slice_get-map}
 use Rattle.std.proofs.lemmas.List.Elements.{All-from_recursion, recursion_from_All}
 use Rattle.std.proofs.lemmas.List.Sorted.{length_permutation, All-permutation, IsPermutation-sym}
@@ -47,9 +48,10 @@ module _ (text : List ℕ) (params : Row) (old new : State) (q : Query) (names :
       let got = (first_as text params old new old.now.schema refl (Select (plain_program q) names) m.0 m.1 m.2 row h).1 in
       (row ∷ got.0, got.1 Null, refl)
 
-head_is : {X : Type 0} (key : X → ℤ) (y : X) (zs : List X) → AllByRecursion (λ z. key y <ℤ key z) zs → slice_get (insert_sorted (λ a b. int_cmp (key b) (key a)) y zs) 0 ≡ option_or (slice_get zs 0) (Some y)
-head_is key y [] h = refl
-head_is key y (z ∷ zs) h = let low = h.0 in let above : int_cmp (key z) (key y) ≡ Greater = grind (arith, ints) in rw above refl
+-- a row whose key is below those of all others goes behind them where the order is turned
+goes_last : {X : Type 0} (key : X → ℤ) (y : X) (zs : List X) → AllByRecursion (λ z. key y <ℤ key z) zs → insert_sorted (λ a b. int_cmp (key b) (key a)) y zs ≡ zs ++ y ∷ []
+goes_last key y [] h = refl
+goes_last key y (z ∷ zs) h = let low = h.0 in let above : int_cmp (key z) (key y) ≡ Greater = grind (arith, ints) in rw above (ap (λ l. z ∷ l) (goes_last key y zs h.1))
 
 is_last : {X : Type 0} (y : X) (xs : List X) → is_some (last_in (y ∷ xs)) ≡ true
 is_last y [] = refl
@@ -63,13 +65,21 @@ last-cons : {X : Type 0} (x : X) (xs : List X) → last_in (x ∷ xs) ≡ option
 last-cons x [] = refl
 last-cons x (y ∷ xs) = or_kept x (last_in (y ∷ xs)) (is_last y xs)
 
--- the last of rows with rising keys comes first where the order is turned
-pub turned : {X : Type 0} (key : X → ℤ) (xs : List X) → IsKeyedBy key xs → slice_get (sort_by (λ a b. int_cmp (key b) (key a)) xs) 0 ≡ last_in xs
+first_before : {X : Type 0} (xs : List X) (x : X) → slice_get (xs ++ x ∷ []) 0 ≡ option_or (slice_get xs 0) (Some x)
+first_before [] x = refl
+first_before (y ∷ xs) x = refl
+
+first_back : {X : Type 0} (xs : List X) → slice_get (reverse xs) 0 ≡ last_in xs
+first_back [] = refl
+first_back (x ∷ xs) = ap (λ l. slice_get l 0) (reverse_onto xs x []) ∙ first_before (reverse xs) x ∙ ap (λ o. option_or o (Some x)) (first_back xs) ∙ sym (last-cons x xs)
+
+-- rows with rising keys stand the other way round where the order is turned
+pub turned : {X : Type 0} (key : X → ℤ) (xs : List X) → IsKeyedBy key xs → sort_by (λ a b. int_cmp (key b) (key a)) xs ≡ reverse xs
 turned key [] up = refl
 turned {X} key (x ∷ xs) up =
     let all = recursion_from_All (λ z. key x <ℤ key z) _ (All-permutation (λ z. key x <ℤ key z) xs (sort_by (λ a b. int_cmp (key b) (key a)) xs)
     (IsPermutation-sym _ _ (IsPermutation-sort_by (λ a b. int_cmp (key b) (key a)) (back_total (on_total key int_cmp_total)) xs)) (All-from_recursion (λ z. key x <ℤ key z) xs up.0)) in
-    head_is key x (sort_by (λ a b. int_cmp (key b) (key a)) xs) all ∙ ap (λ o. option_or o (Some x)) (turned key xs up.1) ∙ sym (last-cons x xs)
+    goes_last key x (sort_by (λ a b. int_cmp (key b) (key a)) xs) all ∙ ap (λ l. l ++ x ∷ []) (turned key xs up.1) ∙ sym (reverse_onto xs x [])
 
 -- ORDER BY rowid, or the other way round
 abbrev pub by_rowid : Bool → List (Term × Key)
@@ -96,33 +106,31 @@ module _ {R : Type 0} (cells : R → Row) (db : Trees) (tree : ℕ) (xs : List (
   abbrev show : Kept R → Row
   show x = eval_all rest.project (params ∷ stored cells x ∷ [])
 
-  picked : (ys : List (Kept R)) (rows : List Row) (descending : Bool) → ((l : List Row) → slice_get (page (point rest tree descending) params l) 0 ≡ slice_get l 0)
-      → map (λ r. r) rows ≡ page (point rest tree descending) params (map show ys) → slice_get rows 0 ≡ option_map show (slice_get ys 0)
-  picked ys rows descending first is = ap (λ l. slice_get l 0) (sym (map-id rows) ∙ is) ∙ first (map show ys) ∙ slice_get-map show ys 0
-
   pub first_is : ((l : List Row) → slice_get (page (point rest tree false) params l) 0 ≡ slice_get l 0) → (rows : List Row) → IsAnswer (point rest tree false) db params rows
       → slice_get rows 0 ≡ option_map show (find p xs)
   first_is first rows a =
-      picked (filter p xs) rows false first (answer_by_keys (point rest tree false) db params source p tests (λ r. r) show (λ x. refl) refl refl (λ x y. in_order (id_of x) (id_of y)) rows a)
-      ∙ ap (option_map show) (slice_get-filter p xs)
-
-  -- OFFSET passes over as many rows
-  pub nth_is : (n : ℕ) → ((l : List Row) → slice_get (page (point rest tree false) params l) 0 ≡ slice_get l n) → (rows : List Row) → IsAnswer (point rest tree false) db params rows
-      → slice_get rows 0 ≡ option_map show (slice_get (filter p xs) n)
-  nth_is n at rows a =
       let all = answer_by_keys (point rest tree false) db params source p tests (λ r. r) show (λ x. refl) refl refl (λ x y. in_order (id_of x) (id_of y)) rows a in
-      ap (λ l. slice_get l 0) (sym (map-id rows) ∙ all) ∙ at (map show (filter p xs)) ∙ slice_get-map show (filter p xs) n
+      ap (λ l. slice_get l 0) (sym (map-id rows) ∙ all) ∙ first (map show (filter p xs)) ∙ slice_get-map show (filter p xs) 0 ∙ ap (option_map show) (slice_get-filter p xs)
 
-  pub last_is : ((l : List Row) → slice_get (page (point rest tree true) params l) 0 ≡ slice_get l 0) → (rows : List Row) → IsAnswer (point rest tree true) db params rows
-      → slice_get rows 0 ≡ option_map show (last_in (filter p xs))
-  last_is first rows a =
+  -- the rows, that of the greatest rowid first
+  back_are : (rows : List Row) → IsAnswer (point rest tree true) db params rows → rows ≡ page (point rest tree true) params (map show (reverse (filter p xs)))
+  back_are rows a =
       let by = λ (x y : Kept R). int_cmp (id_of y) (id_of x) in
       let untied = λ (x y : Kept R) (h : int_cmp (id_of x) (id_of y) ≡ Less). differ x y h in
-      picked (sort_by by (filter p xs)) rows true first (answer_sorted (point rest tree true) db params source p tests (λ r. r) show (λ x. refl) refl refl by untied (λ x y. in_order (id_of y) (id_of x)) rows a)
-      ∙ ap (option_map show) (turned id_of (filter p xs) (ascending-filter (λ x y. id_of x <ℤ id_of y) p xs keyed))
+      sym (map-id rows) ∙ answer_sorted (point rest tree true) db params source p tests (λ r. r) show (λ x. refl) refl refl by untied (λ x y. in_order (id_of y) (id_of x)) rows a
+      ∙ ap (λ l. page (point rest tree true) params (map show l)) (turned id_of (filter p xs) (ascending-filter (λ x y. id_of x <ℤ id_of y) p xs keyed))
     where
       differ : (x y : Kept R) → int_cmp (id_of x) (id_of y) ≡ Less → IsNoTie (int_cmp (id_of y) (id_of x))
       differ x y h = let above : int_cmp (id_of y) (id_of x) ≡ Greater = grind (arith, ints) in record { apart = ap is_eq above }
+
+  -- OFFSET passes over as many rows
+  pub nth_back_is : (n : ℕ) → ((l : List Row) → slice_get (page (point rest tree true) params l) 0 ≡ slice_get l n) → (rows : List Row) → IsAnswer (point rest tree true) db params rows
+      → slice_get rows 0 ≡ option_map show (slice_get (reverse (filter p xs)) n)
+  nth_back_is n at rows a = ap (λ l. slice_get l 0) (back_are rows a) ∙ at (map show (reverse (filter p xs))) ∙ slice_get-map show (reverse (filter p xs)) n
+
+  pub last_is : ((l : List Row) → slice_get (page (point rest tree true) params l) 0 ≡ slice_get l 0) → (rows : List Row) → IsAnswer (point rest tree true) db params rows
+      → slice_get rows 0 ≡ option_map show (last_in (filter p xs))
+  last_is first rows a = nth_back_is 0 first rows a ∙ ap (option_map show) (first_back (filter p xs))
 
   module _ (collation : Collation) (argument : Term) where
     abbrev q : Query

@@ -52,7 +52,7 @@ fold-map : {A B C : Type 0} (g : C → B → C) (f : A → B) (start : C) (xs : 
 fold-map g f start [] = refl
 fold-map g f start (x ∷ xs) = fold-map g f (g start (f x)) xs
 
-numbered_given : (rows news : List Row) → numbered Given rows news ≡ news
+pub numbered_given : (rows news : List Row) → numbered Given rows news ≡ news
 numbered_given rows [] = refl
 numbered_given rows (r ∷ rs) = ap (λ l. r ∷ l) (numbered_given (put_row r rows) rs)
 

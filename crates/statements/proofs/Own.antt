@@ -1,7 +1,10 @@
 -- What a write to one of our tables leaves, whatever else stands in the database.
-use Rattle.std.proofs.Common.{◌≡◌, ◌≢◌, ◌^◌, ℕ, ℤ, Bool, true, false, List, [], ◌∷◌, ◌++◌, ◌/◌, map, drop, length, None, Ok, refl, sym, ap, ap₂, ◌∙◌, subst}
+use Rattle.std.proofs.Common.{◌≡◌, ◌≢◌, ◌^◌, ℕ, suc, ℤ, Bool, true, false, arith, List, [], ◌∷◌, ◌++◌, ◌/◌, map, filter, find, drop, length, not, ◌==◌, slice_get, option_map, is_some, None, Ok, refl, sym, ap, ap₂, ◌∙◌, subst}
 use Rattle.std.specs.Prelude.{nat_le}
 use Rattle.std.specs.List.{AllByRecursion, list_all}
+use Rattle.std.proofs.lemmas.Bool.{ne_eqb}
+use Rattle.std.proofs.lemmas.List.{length-map}
+use Rattle.std.proofs.lemmas.List.Sorted.{length_permutation}
 use Rattle.sqlite_value.specs.declared.value.Value.{Value}
 use Rattle.sqlite_value.specs.declared.value.Value.TheVariants.{Null, Int}
 use Rattle.sqlite_value.specs.Order.{Row}
@@ -26,7 +29,8 @@ use Rattle.sqlite.proofs.Callers.{one_step}
 use Rattle.sqlite.specs.State.{State, Executes}
 use Rattle.sqlite_keyed.specs.Keyed.{IsKeyedBy, insert_by, next_key}
 use Rattle.sqlite_keyed.specs.Lists.{update_where, delete_where}
-use Rattle.sqlite_keyed.proofs.SliceLemmas.{insert_next}
+use Rattle.sqlite_keyed.proofs.ListLemmas.{slice_get-filter}
+use Rattle.sqlite_keyed.proofs.SliceLemmas.{insert_next, is_some-map}
 use Rattle.sqlite_keyed.proofs.KeyedLemmas.{IsKeyedBy-insert_by}
 use Rattle.statements.specs.Place.{at_of, tree_of, IsOwn}
 use Rattle.statements.specs.Rows.{Kept, id_of, stored}
@@ -108,6 +112,14 @@ module _ {R : Type 0} (cells : R → Row) (table : Table) (casts : (r : R) → c
       let went = written s table own old.now.trees new.now.trees _ refl made.2 in
       (record { rows = went.rows ∙ rows; others = went.others }, made.3)
 
+  -- how many rows an UPDATE writes
+  pub count_updated : (q : Query) → Means s (Update (at_of s table.name) (plain_program q)) text → q.from ≡ inner here end → q.group ≡ None → q.distinct ≡ false → ((rows : List Row) → page q params rows ≡ rows)
+      → (p : Kept R → Bool) → ((x : Kept R) → list_all (holds (params ∷ stored cells x ∷ [])) q.filter ≡ p x) → count ≡ length (filter p xs)
+  count_updated q means from none all whole p tests =
+      let made = updates old new text params (at_of s table.name) (record table { tree = here }) own.place.found q means count ran in
+      let some = all_shown cells (overlay old.now.trees []) here xs seen keyed q from none all params p tests whole made.0 made.1 in
+      made.4 ∙ ap length some.2 ∙ length-map some.0 _ ∙ length_permutation (filter p xs) some.0 some.1
+
   pub delete_own : (q : Query) → Means s (Delete (at_of s table.name) (plain_program q)) text → q.from ≡ inner here end → q.group ≡ None → q.distinct ≡ false → ((rows : List Row) → page q params rows ≡ rows)
       → (p : Kept R → Bool) → ((x : Kept R) → list_all (holds (params ∷ stored cells x ∷ [])) q.filter ≡ p x)
       → ((x : Kept R) → eval_all q.project (params ∷ stored cells x ∷ []) ≡ Int (id_of x) ∷ []) → Left (delete_where p xs)
@@ -149,3 +161,11 @@ insert_others table old new own text params count ran terms width means uncounte
 -- a new row keeps the rowids rising
 pub keyed_next : {R : Type 0} (xs : List (Kept R)) (r : R) → IsKeyedBy id_of xs → IsKeyedBy id_of (xs ++ (next_key id_of xs, r) ∷ [])
 keyed_next xs r keyed = subst (IsKeyedBy id_of) (insert_next id_of xs (next_key id_of xs, r) keyed refl) (IsKeyedBy-insert_by id_of xs (next_key id_of xs, r) keyed)
+
+has_first : {X : Type 0} (xs : List X) → not (length xs == 0) ≡ is_some (slice_get xs 0)
+has_first [] = refl
+has_first (x ∷ xs) = let some : (suc (length xs) == 0) ≡ false = ne_eqb _ _ (omega arith) in rw some refl
+
+-- rows pass exactly if there is a first that does
+pub first_if_any : {X Y : Type 0} (p : X → Bool) (f : X → Y) (xs : List X) → not (length (filter p xs) == 0) ≡ is_some (option_map f (find p xs))
+first_if_any p f xs = has_first (filter p xs) ∙ ap is_some (slice_get-filter p xs) ∙ sym (is_some-map f (find p xs))

@@ -113,8 +113,8 @@ count_ws_core = from_table (One (CallStar (codes "count")) None (codes "count(*)
 abbrev pub newest_version_core : Core
 newest_version_core = from_table (shown_columns (codes "number" ∷ codes "serial" ∷ codes "lineage" ∷ codes "size" ∷ [])) (codes "version") (at_key (codes "org") (codes "ws"))
 
-abbrev pub nth_version_core : Core
-nth_version_core = from_table (shown_columns (codes "number" ∷ [])) (codes "version") (at_key (codes "org") (codes "ws"))
+abbrev pub version_back_core : Core
+version_back_core = from_table (shown_columns (codes "number" ∷ [])) (codes "version") (at_key (codes "org") (codes "ws"))
 
 abbrev pub version_number_core : Core
 version_number_core = from_table (shown_columns (codes "number" ∷ [])) (codes "version") (also (at_key (codes "org") (codes "ws")) (is_given (codes "number") 3))

@@ -1,5 +1,5 @@
 -- From what a text does to what a function of it promises.
-use Rattle.std.proofs.Common.{◌≡◌, ◌⊎◌, inl, ℕ, List, [], ◌∷◌, Option, Some, None, Result, Ok, Err, IfOk, OnOk, OnErr, refl, ap, subst, ◌∙◌}
+use Rattle.std.proofs.Common.{◌≡◌, ◌⊎◌, inl, ℕ, Bool, not, ◌==◌, List, [], ◌∷◌, Option, Some, None, Result, Ok, Err, IfOk, OnOk, OnErr, refl, ap, subst, ◌∙◌}
 use Rattle.std.specs.List.{AllZip}
 use Rattle.sqlite_value.specs.Order.{Row}
 use Rattle.sqlite.specs.State.{State, Executes, KeepsCommit, IsUnchanged, IsRolledBack}
@@ -8,7 +8,7 @@ use Rattle.statements.specs.Queries.{FirstRow, IsCalm, IsRead, AreRead, IsCount,
 use Rattle.statements.specs.Rows.{number}
 use Rattle.sqlite.specs.Effect.{Database}
 use Rattle.statements.specs.Making.{Alters}
-use Rattle.statements.specs.Steps.{Moves, Wrote}
+use Rattle.statements.specs.Steps.{Moves, Wrote, WroteAny}
 use Rattle.statements.specs.Tables.{Tables, Holds}
 
 pub moves_by : {X E : Type 0} (change : Tables → Tables) (old new : State) (text : List ℕ) (params : Row) (result : Result X E) → Wrote text params old new result
@@ -17,6 +17,16 @@ moves_by change old new text params (Ok x) wrote does =
     let ran = wrote.0.1 in
     (record { rows = λ t h. does wrote.0.0 t h ran.0; was_open = ran.1.was_open; is_open = ran.1.is_open; committed = ran.1.committed_is; inside = ran.1.mode }, tt)
 moves_by change old new text params (Err e) wrote does = (tt, wrote.1)
+
+-- a write that tells whether there were rows to write
+pub any_wrote : {E : Type 0} (old new : State) (text : List ℕ) (params : Row) (result : Result Bool E) → WroteAny text params old new result → Wrote text params old new result
+any_wrote old new text params (Ok any) wrote = ((wrote.0.0, wrote.0.1), tt)
+any_wrote old new text params (Err e) wrote = (tt, wrote.1)
+
+pub finds_by : {E : Type 0} (has : Tables → Bool) (old new : State) (text : List ℕ) (params : Row) (result : Result Bool E) → WroteAny text params old new result
+    → ((count : ℕ) (t : Tables) → Holds old.now t → Executes text params old new (Ok count) → not (count == 0) ≡ has t) → IfOk result (λ found. (t : Tables) → Holds old.now t → found ≡ has t)
+finds_by has old new text params (Ok any) wrote tells = λ t h. wrote.0.2 ∙ tells wrote.0.0 t h wrote.0.1.0
+finds_by has old new text params (Err e) wrote tells = tt
 
 pub ok_by : {X E : Type 0} (P : Type 0) (old new : State) (text : List ℕ) (params : Row) (result : Result X E) → Wrote text params old new result → ((count : ℕ) → Executes text params old new (Ok count) → P) → OnOk result P
 ok_by P old new text params (Ok x) wrote does = does wrote.0.0 wrote.0.1.0

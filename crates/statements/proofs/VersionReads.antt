@@ -9,15 +9,15 @@ use Rattle.statements.specs.Schema.{version_table}
 use Rattle.statements.specs.Rows.{version_cells, number}
 use Rattle.statements.specs.Tables.{Tables, Holds}
 use Rattle.statements.specs.Changes.{is_version, is_version_of}
-use Rattle.statements.specs.Finds.{head_of, newest_of, number_at, number_of, body_of, versions_of}
+use Rattle.statements.specs.Finds.{head_of, newest_of, number_back, number_of, body_of, versions_of}
 use Rattle.statements.specs.Queries.{FirstRow, FirstRows, Pins, IsHead, IsVersionHead, IsBody, IsNumber}
 use Rattle.statements.specs.declared.rows.VersionHead.{VersionHead}
 use Rattle.statements.specs.Listings.{version_head_of, versions_after, VersionsRise}
 use Rattle.statements.proofs.Listed.{by_column, numbered_are}
-use Rattle.statements.proofs.PointReads.{first_own, nth_own, last_own, count_own, first_behind}
+use Rattle.statements.proofs.PointReads.{first_own, last_own, nth_back_own, count_own, first_behind}
 use Rattle.statements.proofs.ReadBack.{number_read, blob_read, head_read, version_head_read}
 use Rattle.statements.proofs.Conditions.{two_texts, two_texts_number, two_texts_above}
-use Rattle.statements.proofs.VersionTexts.{list_versions_text, list_versions_means, list_versions_rest, list_versions_names, newest_version_text, newest_version_means, newest_version_rest, nth_version_text, nth_version_means, nth_version_rest, version_number_text, version_number_means, version_number_rest, version_body_text, version_body_means, version_body_rest, count_versions_text, count_versions_means, count_versions_rest}
+use Rattle.statements.proofs.VersionTexts.{list_versions_text, list_versions_means, list_versions_rest, list_versions_names, newest_version_text, newest_version_means, newest_version_rest, version_back_text, version_back_means, version_back_rest, version_number_text, version_number_means, version_number_rest, version_body_text, version_body_means, version_body_rest, count_versions_text, count_versions_means, count_versions_rest}
 
 module _ (old new : State) (t : Tables) (h : Holds old.now t) where
   pub newest_version_shows : (org ws : List ℕ) (row : Option Row) → FirstRow newest_version_text (Text org ∷ Text ws ∷ []) old new row → Pins IsHead row (newest_of org ws t)
@@ -25,10 +25,10 @@ module _ (old new : State) (t : Tables) (h : Holds old.now t) where
       last_own version_cells version_table old new h.ours.version t.versions h.versions h.versions_keyed newest_version_text (Text org ∷ Text ws ∷ []) row first newest_version_rest (codes "number" ∷ codes "serial" ∷ codes "lineage" ∷ codes "size" ∷ [])
       (is_version_of org ws) (λ x. two_texts x.1.org org x.1.ws ws) IsHead (λ x. head_of x.1.it) (λ x y told. head_read x.1.it y told) (newest_version_means old.now.schema _ _ h.ours.version.place) first_taken
 
-  pub nth_version_shows : (org ws : List ℕ) (place : ℕ) (row : Option Row) → FirstRow nth_version_text (Text org ∷ Text ws ∷ number place ∷ []) old new row → Pins IsNumber row (number_at org ws place t)
-  nth_version_shows org ws place row first =
-      nth_own version_cells version_table old new h.ours.version t.versions h.versions h.versions_keyed nth_version_text (Text org ∷ Text ws ∷ number place ∷ []) row first nth_version_rest (codes "number" ∷ [])
-      (is_version_of org ws) (λ x. two_texts x.1.org org x.1.ws ws) IsNumber (λ x. x.1.it.number) (λ x y told. number_read x.1.it.number y told) place (nth_version_means old.now.schema _ _ h.ours.version.place) (λ l. first_behind place l)
+  pub version_back_shows : (org ws : List ℕ) (place : ℕ) (row : Option Row) → FirstRow version_back_text (Text org ∷ Text ws ∷ number place ∷ []) old new row → Pins IsNumber row (number_back org ws place t)
+  version_back_shows org ws place row first =
+      nth_back_own version_cells version_table old new h.ours.version t.versions h.versions h.versions_keyed version_back_text (Text org ∷ Text ws ∷ number place ∷ []) row first version_back_rest (codes "number" ∷ [])
+      (is_version_of org ws) (λ x. two_texts x.1.org org x.1.ws ws) IsNumber (λ x. x.1.it.number) (λ x y told. number_read x.1.it.number y told) place (version_back_means old.now.schema _ _ h.ours.version.place) (λ l. first_behind place l)
 
   pub version_number_shows : (org ws : List ℕ) (n : ℕ) (row : Option Row) → FirstRow version_number_text (Text org ∷ Text ws ∷ number n ∷ []) old new row → Pins IsNumber row (number_of org ws n t)
   version_number_shows org ws n row first =

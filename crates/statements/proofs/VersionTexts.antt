@@ -41,21 +41,21 @@ newest_version_is_query = (newest_version_select, some_parsed (first newest_vers
 abbrev pub newest_version_rest : Query
 newest_version_rest = point_rest (is_at 1 0 ∷ is_at 2 1 ∷ []) (col 1 3 ∷ col 1 4 ∷ col 1 5 ∷ col 1 7 ∷ []) one_page
 
-abbrev pub nth_version_text : List ℕ
-nth_version_text = codes "SELECT number FROM version WHERE org = ?1 AND ws = ?2 ORDER BY rowid LIMIT 1 OFFSET ?3"
+abbrev pub version_back_text : List ℕ
+version_back_text = codes "SELECT number FROM version WHERE org = ?1 AND ws = ?2 ORDER BY rowid DESC LIMIT 1 OFFSET ?3"
 
-abbrev pub nth_version_select : ast.Select
-nth_version_select = st.select_from st.nth_version_core (st.by_rowid false) (Some (Integer (codes "1"))) (Some (Parameter 3))
+abbrev pub version_back_select : ast.Select
+version_back_select = st.select_from st.version_back_core (st.by_rowid true) (Some (Integer (codes "1"))) (Some (Parameter 3))
 
-nth_version_reads : first nth_version_text ≡ Ok (as_read (some_parsed (first nth_version_text)) (written.Select nth_version_select))
+version_back_reads : first version_back_text ≡ Ok (as_read (some_parsed (first version_back_text)) (written.Select version_back_select))
 unfolding everything
-nth_version_reads = refl
+version_back_reads = refl
 
-pub nth_version_is_query : IsQuery nth_version_text
-nth_version_is_query = (nth_version_select, some_parsed (first nth_version_text), nth_version_reads)
+pub version_back_is_query : IsQuery version_back_text
+version_back_is_query = (version_back_select, some_parsed (first version_back_text), version_back_reads)
 
-abbrev pub nth_version_rest : Query
-nth_version_rest = point_rest (is_at 1 0 ∷ is_at 2 1 ∷ []) (col 1 3 ∷ []) (one_page_at 2)
+abbrev pub version_back_rest : Query
+version_back_rest = point_rest (is_at 1 0 ∷ is_at 2 1 ∷ []) (col 1 3 ∷ []) (one_page_at 2)
 
 abbrev pub version_number_text : List ℕ
 version_number_text = codes "SELECT number FROM version WHERE org = ?1 AND ws = ?2 AND number = ?3 ORDER BY rowid"
@@ -189,22 +189,22 @@ module _ (s : Schema) (at tree : ℕ) (h : IsAt s (codes "version") version_tabl
   unfolding timed returning
   newest_version_means = means s (written.Select newest_version_select) _ refl (λ _. refl) newest_version_is newest_version_text (some_parsed (first newest_version_text)) newest_version_reads
 
-  nth_version_named : named s st.nth_version_core (st.by_rowid false) (one_page_at 2) ≡ Ok ((point_draft nth_version_rest tree false), (codes "number" ∷ []), (Some Binary ∷ []))
+  version_back_named : named s st.version_back_core (st.by_rowid true) (one_page_at 2) ≡ Ok ((point_draft version_back_rest tree true), (codes "number" ∷ []), (Some Binary ∷ []))
   unfolding everything
-  nth_version_named = rw (h.named, h.found, h.found, h.found, h.small) refl
+  version_back_named = rw (h.named, h.found, h.found, h.found, h.small) refl
 
-  nth_version_fits : program s [] (point_draft nth_version_rest tree false) ≡ Ok (plain_program (point nth_version_rest tree false))
+  version_back_fits : program s [] (point_draft version_back_rest tree true) ≡ Ok (plain_program (point version_back_rest tree true))
   unfolding everything
-  nth_version_fits = rw (h.low, h.treed) refl
+  version_back_fits = rw (h.low, h.treed) refl
 
-  nth_version_is : (base : ℕ) → command s [] base (written.Select nth_version_select) ≡ Ok (Select (plain_program (point nth_version_rest tree false)) (codes "number" ∷ []))
+  version_back_is : (base : ℕ) → command s [] base (written.Select version_back_select) ≡ Ok (Select (plain_program (point version_back_rest tree true)) (codes "number" ∷ []))
   unfolding everything
-  nth_version_is base =
-      read_is s nth_version_select st.nth_version_core (st.by_rowid false) (one_page_at 2) ((point_draft nth_version_rest tree false), (codes "number" ∷ []), (Some Binary ∷ [])) refl refl refl refl refl (λ again. refl) nth_version_named (plain_program (point nth_version_rest tree false)) nth_version_fits base
+  version_back_is base =
+      read_is s version_back_select st.version_back_core (st.by_rowid true) (one_page_at 2) ((point_draft version_back_rest tree true), (codes "number" ∷ []), (Some Binary ∷ [])) refl refl refl refl refl (λ again. refl) version_back_named (plain_program (point version_back_rest tree true)) version_back_fits base
 
-  pub nth_version_means : Means s (Select (plain_program (point nth_version_rest tree false)) (codes "number" ∷ [])) nth_version_text
+  pub version_back_means : Means s (Select (plain_program (point version_back_rest tree true)) (codes "number" ∷ [])) version_back_text
   unfolding timed returning
-  nth_version_means = means s (written.Select nth_version_select) _ refl (λ _. refl) nth_version_is nth_version_text (some_parsed (first nth_version_text)) nth_version_reads
+  version_back_means = means s (written.Select version_back_select) _ refl (λ _. refl) version_back_is version_back_text (some_parsed (first version_back_text)) version_back_reads
 
   version_number_named : named s st.version_number_core (st.by_rowid false) no_page ≡ Ok ((point_draft version_number_rest tree false), (codes "number" ∷ []), (Some Binary ∷ []))
   unfolding everything

@@ -1,5 +1,5 @@
 -- What a text that was run has done, in terms of the rows that its query answers.
-use Rattle.std.proofs.Common.{◌≡◌, ◌⊎◌, inl, inr, ℕ, ℤ, Bool, true, false, cond, MatchBool, List, [], slice_get, Some, None, Ok, Err, Result, refl, sym, ap, subst, ◌∙◌}
+use Rattle.std.proofs.Common.{◌≡◌, ◌⊎◌, inl, inr, ℕ, ℤ, Bool, true, false, cond, MatchBool, List, [], length, slice_get, unwrap_or, Some, None, Ok, Err, Result, refl, sym, ap, subst, ◌∙◌}
 use Rattle.sqlite_value.specs.declared.value.Value.TheVariants.{Null}
 use Rattle.sqlite_value.specs.Order.{Row}
 use Rattle.sqlite_sql.specs.Query.{Query, IsAnswer}
@@ -18,7 +18,9 @@ use Rattle.sqlite.specs.Rows.{Task, Written, stamped}
 use Rattle.sqlite.specs.Does.{Tally, Concludes}
 use Rattle.sqlite.specs.State.{State, mode_of, Executes}
 use Rattle.sqlite.proofs.Callers.{runs_as}
+use Rattle.std.proofs.lemmas.List.{length-map}
 use Rattle.statements.proofs.Meaning.{Means}
+use Rattle.statements.proofs.Edits.{numbered_given}
 
 -- a part that gave a value did not stop on the way
 went : {B E R : Type 0} {b : B} {Stops : E → Type 0} → ((stop : E) × Stops stop × (Ok b ≡ Err stop)) ⊎ R → R
@@ -46,9 +48,12 @@ module _ (old new : State) (text : List ℕ) (params : Row) (at : ℕ) (table : 
   ends : (w : Written) (tally : Tally) → Concludes task (mode_of old) None w (Ok (tally, new.now)) → new.now ≡ record { schema = old.now.schema; trees = w.trees }
   ends w tally h = ap (λ (p : Tally × Database). p.1) (same_value (went (went h).2).2)
 
+  tallied : (w : Written) (tally : Tally) → Concludes task (mode_of old) None w (Ok (tally, new.now)) → tally.rows ≡ Some (length w.rows)
+  tallied w tally h = ap (λ (p : Tally × Database). p.0.rows) (same_value (went (went h).2).2)
+
   pub updates : (q : Query) → Means old.now.schema (Update at (plain_program q)) text → (count : ℕ) → Executes text params old new (Ok count)
       → (rows : List Row) × IsAnswer q (overlay old.now.trees []) params rows
-      × Writes old.now.schema Enforced old.now.trees (edit_of old.now.trees table (ids_of rows) Given 1 rows) (Ok new.now.trees) × (new.now.schema ≡ old.now.schema)
+      × Writes old.now.schema Enforced old.now.trees (edit_of old.now.trees table (ids_of rows) Given 1 rows) (Ok new.now.trees) × (new.now.schema ≡ old.now.schema) × (count ≡ length rows)
   updates q m count ran =
       let w = runs_as text params old new old.now.schema refl (Update at (plain_program q)) m.0 m.1 count ran in
       let done = went (rw found at w.changed) in
@@ -57,7 +62,13 @@ module _ (old new : State) (text : List ℕ) (params : Row) (at : ℕ) (table : 
       let now = ends done.0 w.tally done.2 in
       let trees : done.0.trees ≡ edit.0 = ap (λ (it : Written). it.trees) (same_value edit.2) in
       let last : new.now.trees ≡ edit.0 = ap (λ (d : Database). d.trees) now ∙ trees in
-      (shown.0, shown.1.answer Null, subst (λ t. Writes old.now.schema Enforced old.now.trees (edit_of old.now.trees table (ids_of shown.0) Given 1 shown.0) (Ok t)) (sym last) edit.1, ap (λ (d : Database). d.schema) now)
+      let counted : count ≡ length (edit_of old.now.trees table (ids_of shown.0) Given 1 shown.0).news = w.counted ∙ ap (λ o. unwrap_or o 0) (tallied done.0 w.tally done.2) ∙ ap (λ (it : Written). length it.rows) (same_value edit.2) in (
+        shown.0,
+        shown.1.answer Null,
+        subst (λ t. Writes old.now.schema Enforced old.now.trees (edit_of old.now.trees table (ids_of shown.0) Given 1 shown.0) (Ok t)) (sym last) edit.1,
+        ap (λ (d : Database). d.schema) now,
+        counted ∙ ap length (numbered_given _ _) ∙ length-map shown.0 _,
+      )
 
   pub deletes : (q : Query) → Means old.now.schema (Delete at (plain_program q)) text → (count : ℕ) → Executes text params old new (Ok count)
       → (rows : List Row) × IsAnswer q (overlay old.now.trees []) params rows

@@ -1,5 +1,5 @@
 -- What the writes to the table ws do to its rows.
-use Rattle.std.proofs.Common.{ℕ, Bool, List, [], ◌∷◌, Ok, refl}
+use Rattle.std.proofs.Common.{◌≡◌, ℕ, Bool, not, ◌==◌, is_some, List, [], ◌∷◌, Ok, refl, ap, ◌∙◌}
 use Rattle.sqlite_value.specs.declared.value.Value.TheVariants.{Text, Blob}
 use Rattle.sqlite.specs.State.{State, Executes}
 use Rattle.sqlite_keyed.proofs.KeyedLemmas.{IsKeyedBy-update_where, IsKeyedBy-delete_where}
@@ -8,7 +8,8 @@ use Rattle.statements.specs.Schema.{ws_table}
 use Rattle.statements.specs.Rows.{Kept, id_of, WsRow, ws_cells, flag, number}
 use Rattle.statements.specs.Tables.{Tables, Holds, ws_tree}
 use Rattle.statements.specs.Changes.{is_ws, with_auto, held_by, released_from, with_next_version, with_next_run, new_workspace, ws_changed, ws_added, ws_removed}
-use Rattle.statements.proofs.Own.{update_own, delete_own, insert_own, keyed_next}
+use Rattle.statements.specs.Finds.{workspace_of}
+use Rattle.statements.proofs.Own.{update_own, count_updated, delete_own, insert_own, keyed_next, first_if_any}
 use Rattle.statements.proofs.Casts.{ws_casts}
 use Rattle.statements.proofs.Frames.{wss_written}
 use Rattle.statements.proofs.Conditions.{two_texts}
@@ -58,11 +59,23 @@ module _ (old new : State) (count : ℕ) (t : Tables) (h : Holds old.now t) wher
       (set_next_version_query (ws_tree old.now.schema)) (set_next_version_means old.now.schema _ _ h.ours.ws.place) refl refl refl (λ rows. refl) (is_ws org name) (λ x. two_texts x.1.org org x.1.name name) (λ (x : Kept WsRow). (x.0, record x.1 { it = with_next_version next x.1.it })) (λ x. refl) (λ x. refl) in
       wss_written old.now new.now left.1 t h _ left.0 (IsKeyedBy-update_where id_of (is_ws org name) (λ (x : Kept WsRow). (x.0, record x.1 { it = with_next_version next x.1.it })) (λ x. refl) t.wss h.wss_keyed)
 
+  pub set_next_version_finds : (org name : List ℕ) (next : ℕ) → Executes set_next_version_text (Text org ∷ Text name ∷ number next ∷ []) old new (Ok count) → not (count == 0) ≡ is_some (workspace_of org name t)
+  set_next_version_finds org name next ran =
+      let counted = count_updated ws_cells ws_table ws_casts old new h.ours.ws t.wss h.wss h.wss_keyed set_next_version_text (Text org ∷ Text name ∷ number next ∷ []) count ran
+      (set_next_version_query (ws_tree old.now.schema)) (set_next_version_means old.now.schema _ _ h.ours.ws.place) refl refl refl (λ rows. refl) (is_ws org name) (λ x. two_texts x.1.org org x.1.name name) in
+      ap (λ n. not (n == 0)) counted ∙ first_if_any (is_ws org name) (λ x. x.1.it) t.wss
+
   pub set_next_run_does : (org name : List ℕ) (next : ℕ) → Executes set_next_run_text (Text org ∷ Text name ∷ number next ∷ []) old new (Ok count) → Holds new.now (ws_changed (with_next_run next) org name t)
   set_next_run_does org name next ran =
       let left = update_own ws_cells ws_table ws_casts old new h.ours.ws t.wss h.wss h.wss_keyed set_next_run_text (Text org ∷ Text name ∷ number next ∷ []) count ran
       (set_next_run_query (ws_tree old.now.schema)) (set_next_run_means old.now.schema _ _ h.ours.ws.place) refl refl refl (λ rows. refl) (is_ws org name) (λ x. two_texts x.1.org org x.1.name name) (λ (x : Kept WsRow). (x.0, record x.1 { it = with_next_run next x.1.it })) (λ x. refl) (λ x. refl) in
       wss_written old.now new.now left.1 t h _ left.0 (IsKeyedBy-update_where id_of (is_ws org name) (λ (x : Kept WsRow). (x.0, record x.1 { it = with_next_run next x.1.it })) (λ x. refl) t.wss h.wss_keyed)
+
+  pub set_next_run_finds : (org name : List ℕ) (next : ℕ) → Executes set_next_run_text (Text org ∷ Text name ∷ number next ∷ []) old new (Ok count) → not (count == 0) ≡ is_some (workspace_of org name t)
+  set_next_run_finds org name next ran =
+      let counted = count_updated ws_cells ws_table ws_casts old new h.ours.ws t.wss h.wss h.wss_keyed set_next_run_text (Text org ∷ Text name ∷ number next ∷ []) count ran
+      (set_next_run_query (ws_tree old.now.schema)) (set_next_run_means old.now.schema _ _ h.ours.ws.place) refl refl refl (λ rows. refl) (is_ws org name) (λ x. two_texts x.1.org org x.1.name name) in
+      ap (λ n. not (n == 0)) counted ∙ first_if_any (is_ws org name) (λ x. x.1.it) t.wss
 
   pub remove_ws_does : (org name : List ℕ) → Executes remove_ws_text (Text org ∷ Text name ∷ []) old new (Ok count) → Holds new.now (ws_removed org name t)
   remove_ws_does org name ran =

@@ -1,5 +1,5 @@
 -- What each query reads of the rows.
-use Rattle.std.specs.Prelude.{ℕ, Bool, true, false, not, ◌&&◌, List, [], ◌∷◌, length, filter, find, slice_get, min, Option, Some, None, option_map}
+use Rattle.std.specs.Prelude.{ℕ, Bool, true, false, not, ◌&&◌, List, [], ◌∷◌, length, filter, reverse, find, slice_get, min, Option, Some, None, option_map}
 use Rattle.std.specs.Str.{bytes_eq}
 use Rattle.basis.specs.declared.roles.Role.{Role}
 use Rattle.basis.specs.declared.runs.RunStatus.{RunStatus}
@@ -44,9 +44,9 @@ head_of v = record { number = v.number; serial = v.serial; lineage = v.lineage; 
 abbrev pub newest_of : List ℕ → List ℕ → Tables → Option Head
 newest_of org ws t = option_map (λ x. head_of x.1.it) (last_in (filter (is_version_of org ws) t.versions))
 
--- the number of the version at a place, counted from 0 at the one that was added first
-abbrev pub number_at : List ℕ → List ℕ → ℕ → Tables → Option ℕ
-number_at org ws place t = option_map (λ x. x.1.it.number) (slice_get (filter (is_version_of org ws) t.versions) place)
+-- the number of the version at a place, counted from 0 at the one that was added last
+abbrev pub number_back : List ℕ → List ℕ → ℕ → Tables → Option ℕ
+number_back org ws place t = option_map (λ x. x.1.it.number) (slice_get (reverse (filter (is_version_of org ws) t.versions)) place)
 
 -- the number of a version, if it is there
 abbrev pub number_of : List ℕ → List ℕ → ℕ → Tables → Option ℕ

@@ -1,5 +1,5 @@
 -- What a statement does: it changes the rows of our tables by a function, or reads a value of them.
-use Rattle.std.specs.Prelude.{◌≡◌, ◌⊎◌, ℕ, List, IsTrue, Result, Ok, IfOk, OnOk, OnErr}
+use Rattle.std.specs.Prelude.{◌≡◌, ◌⊎◌, ℕ, Bool, not, ◌==◌, List, IsTrue, Result, Ok, IfOk, OnOk, OnErr}
 use Rattle.sqlite_value.specs.Order.{Row}
 use Rattle.sqlite.specs.State.{State, HasCleanDisk, IsUnchanged, IsRolledBack, KeepsCommit, ExecutesInside}
 use Rattle.statements.specs.Tables.{Tables, Holds}
@@ -29,3 +29,7 @@ ReadsWhere law read old new result =
 -- a text that was run in a transaction
 abbrev pub Wrote : {X E : Type 0} → List ℕ → Row → State → State → Result X E → Type 0
 Wrote text params old new result = OnOk result ((count : ℕ) × ExecutesInside 0 text params old new (Ok count)) × OnErr result (KeepsCommit old new)
+
+-- the same, and whether there were rows to write
+abbrev pub WroteAny : {E : Type 0} → List ℕ → Row → State → State → Result Bool E → Type 0
+WroteAny text params old new result = IfOk result (λ any. (count : ℕ) × ExecutesInside 0 text params old new (Ok count) × (any ≡ not (count == 0))) × OnErr result (KeepsCommit old new)

@@ -6,7 +6,7 @@ ghost use Rattle.sqlite.specs.Values.{bound};
 ghost use Rattle.sqlite.specs.Held.{state};
 ghost use Rattle.sqlite.specs.State.{HasCleanDisk, Survives, Shown};
 ghost use Rattle.statements.specs.Rows.{role_code, status_code, action_code, flag};
-ghost use Rattle.statements.specs.Steps.{Wrote};
+ghost use Rattle.statements.specs.Steps.{Wrote, WroteAny};
 ghost use Rattle.statements.specs.Queries.{IsQuery, FirstRow, FirstRows, IsCalm, IsRead, AreRead, IsNamedWorkspace, IsOrganization, IsVersionHead, IsFlag, IsTextOrNull, IsHolder, IsWorkspace, IsHead, IsRun, IsBody, IsNumber, IsRole, IsStatusCell, IsActionOrNull, IsStatus, IsCount};
 
 use crate::rows::{Head, Holder, NamedWorkspace, Organization, Run, VersionHead, Workspace};
@@ -27,6 +27,20 @@ pub(crate) fn write<S: Alter>(
 {
     tx.execute(sql, params)?;
     Ok(())
+}
+
+/// Runs a write in a transaction, and tells whether there were rows to write.
+pub(crate) fn update<S: Alter>(
+    tx: &mut Transaction<'_, S>,
+    sql: &str,
+    params: &[ValueRef<'_>],
+) -> Result<bool, Error>
+    ensures same_reference { tx.new.conn.ghost_name ≡ tx.old.conn.ghost_name }
+    ensures runs { HasCleanDisk (state S.Store tx.new.conn.now) → IsTrue (state S.Store tx.old.conn.now).in_transaction → WroteAny sql.now (bound params.now) (state S.Store tx.old.conn.now) (state S.Store tx.new.conn.now) result }
+    ensures survives { Survives (state S.Store tx.old.conn.now) (state S.Store tx.new.conn.now) (λ _. ⊥) }
+{
+    let count = tx.execute(sql, params)?;
+    Ok(count != 0)
 }
 
 /// The first row of a query's answer, or none.

@@ -5,7 +5,7 @@ ghost use Rattle.sqlite.specs.State.{Survives};
 ghost use Rattle.statements.specs.Steps.{ChangesBy, ReadsBy, ReadsWhere};
 ghost use Rattle.statements.specs.Changes.{new_version, version_added, versions_removed, versions_removed_below};
 ghost use Rattle.statements.specs.Listings.{versions_after, VersionsRise};
-ghost use Rattle.statements.specs.Finds.{newest_of, number_at, number_of, body_of, versions_of};
+ghost use Rattle.statements.specs.Finds.{newest_of, number_back, number_of, body_of, versions_of};
 
 use crate::calls::{
     body_of, count_of, first_row, first_rows, head_of, number_of, signed, version_heads_of, write,
@@ -54,11 +54,11 @@ pub fn list<S: Alter>(
     version_heads_of(alloc, rows)
 }
 
-const NTH_VERSION: &str =
-    "SELECT number FROM version WHERE org = ?1 AND ws = ?2 ORDER BY rowid LIMIT 1 OFFSET ?3";
+const VERSION_BACK: &str =
+    "SELECT number FROM version WHERE org = ?1 AND ws = ?2 ORDER BY rowid DESC LIMIT 1 OFFSET ?3";
 
-/// The number of the version of a workspace at a place, which counts from 0 at the one that was added first.
-pub fn number_at<S: Alter>(
+/// The number of the version of a workspace at a place, which counts from 0 at the one that was added last.
+pub fn number_back<S: Alter>(
     conn: &mut Connection<S>,
     org: &str,
     ws: &str,
@@ -66,11 +66,11 @@ pub fn number_at<S: Alter>(
 ) -> Result<Option<u64>, Error>
     requires place_fits { place < 2 ^ 63 }
     ensures mode { conn.old.in_transaction ≡ false → conn.new.in_transaction ≡ false }
-    ensures read { ReadsBy (number_at org.now ws.now place) (state S.Store conn.old) (state S.Store conn.new) result }
+    ensures read { ReadsBy (number_back org.now ws.now place) (state S.Store conn.old) (state S.Store conn.new) result }
     ensures survives { Survives (state S.Store conn.old) (state S.Store conn.new) (λ _. ⊥) }
 {
     let place = signed(place);
-    let row = first_row(conn, NTH_VERSION, params![org, ws, &place]);
+    let row = first_row(conn, VERSION_BACK, params![org, ws, &place]);
     number_of(row)
 }
 

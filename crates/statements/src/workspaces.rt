@@ -1,15 +1,16 @@
 //! Statements on the table ws.
-ghost use Rattle.std.specs.Prelude.{◌≡◌, false, ◌<◌, ◌^◌};
+ghost use Rattle.std.specs.Prelude.{◌≡◌, false, ◌<◌, ◌^◌, IsTrue, IfOk, is_some};
 ghost use Rattle.sqlite.specs.Held.{state};
-ghost use Rattle.sqlite.specs.State.{Survives};
+ghost use Rattle.sqlite.specs.State.{HasCleanDisk, Survives};
 ghost use Rattle.statements.specs.Steps.{ChangesBy, ReadsBy, ReadsWhere};
+ghost use Rattle.statements.specs.Tables.{Tables, Holds};
 ghost use Rattle.statements.specs.Changes.{with_auto, held_by, released_from, with_next_version, with_next_run, ws_changed, ws_added, ws_removed};
 ghost use Rattle.statements.specs.Listings.{workspaces_after, WorkspacesApart};
 ghost use Rattle.statements.specs.Finds.{workspace_of, workspaces_of};
 ghost use Rattle.statements.specs.declared.rows.Holder.TheVariants.{Nobody, Lock, Run as HeldByRun};
 
 use crate::calls::{
-    count_of, first_row, first_rows, named_workspaces_of, signed, workspace_of, write,
+    count_of, first_row, first_rows, named_workspaces_of, signed, update, workspace_of, write,
 };
 use crate::rows::{NamedWorkspace, Workspace};
 use basis::Items;
@@ -170,38 +171,40 @@ pub fn release_run<S: Alter>(
 
 const SET_NEXT_VERSION: &str = "UPDATE ws SET next_version = ?3 WHERE org = ?1 AND name = ?2";
 
-/// Sets the number of the next version of a workspace.
+/// Sets the number of the next version of a workspace, and tells whether there is such a workspace.
 pub fn set_next_version<S: Alter>(
     tx: &mut Transaction<'_, S>,
     org: &str,
     name: &str,
     next: u64,
-) -> Result<(), Error>
+) -> Result<bool, Error>
     requires next_fits { next < 2 ^ 63 }
     ensures same_reference { tx.new.conn.ghost_name ≡ tx.old.conn.ghost_name }
     ensures changed { ChangesBy (ws_changed (with_next_version next) org.now name.now) (state S.Store tx.old.conn.now) (state S.Store tx.new.conn.now) result }
+    ensures found { HasCleanDisk (state S.Store tx.new.conn.now) → IsTrue (state S.Store tx.old.conn.now).in_transaction → IfOk result (λ found. (t : Tables) → Holds (state S.Store tx.old.conn.now).now t → found ≡ is_some (workspace_of org.now name.now t)) }
     ensures survives { Survives (state S.Store tx.old.conn.now) (state S.Store tx.new.conn.now) (λ _. ⊥) }
 {
     let next = signed(next);
-    write(tx, SET_NEXT_VERSION, params![org, name, &next])
+    update(tx, SET_NEXT_VERSION, params![org, name, &next])
 }
 
 const SET_NEXT_RUN: &str = "UPDATE ws SET next_run = ?3 WHERE org = ?1 AND name = ?2";
 
-/// Sets the number of the next run of a workspace.
+/// Sets the number of the next run of a workspace, and tells whether there is such a workspace.
 pub fn set_next_run<S: Alter>(
     tx: &mut Transaction<'_, S>,
     org: &str,
     name: &str,
     next: u64,
-) -> Result<(), Error>
+) -> Result<bool, Error>
     requires next_fits { next < 2 ^ 63 }
     ensures same_reference { tx.new.conn.ghost_name ≡ tx.old.conn.ghost_name }
     ensures changed { ChangesBy (ws_changed (with_next_run next) org.now name.now) (state S.Store tx.old.conn.now) (state S.Store tx.new.conn.now) result }
+    ensures found { HasCleanDisk (state S.Store tx.new.conn.now) → IsTrue (state S.Store tx.old.conn.now).in_transaction → IfOk result (λ found. (t : Tables) → Holds (state S.Store tx.old.conn.now).now t → found ≡ is_some (workspace_of org.now name.now t)) }
     ensures survives { Survives (state S.Store tx.old.conn.now) (state S.Store tx.new.conn.now) (λ _. ⊥) }
 {
     let next = signed(next);
-    write(tx, SET_NEXT_RUN, params![org, name, &next])
+    update(tx, SET_NEXT_RUN, params![org, name, &next])
 }
 
 const REMOVE_WS: &str = "DELETE FROM ws WHERE org = ?1 AND name = ?2";

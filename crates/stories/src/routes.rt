@@ -1,6 +1,6 @@
 //! What a request asks, shown.
 use crate::failures::Failure;
-use basis::{Bytes, Refusal, Role, Text};
+use basis::{Bytes, Caller, Look, Refusal, Role, Text};
 use http::Method;
 use route::{Asked, AskedAct, Routes, WsAct, allowed, asked};
 use std::alloc::{AllocError, Global};
@@ -67,41 +67,54 @@ fn asked_by(alloc: Global, message: &Message) -> Result<Result<Asked, Refusal>, 
 // The least role that may.
 fn role_word(asked: &Asked) -> &'static str {
     for (role, word) in [(Role::Read, "read"), (Role::Write, "write")] {
-        if allowed(asked, role).is_ok() {
+        if allowed(asked, &Caller { role }).is_ok() {
             return word;
         }
     }
     "admin"
 }
 
+// The word of a look.
+fn look_word(look: &Look) -> &'static str {
+    match look {
+        Look::Workspace => "show workspace",
+        Look::State => "read state",
+        Look::Version(_) => "read version",
+        Look::Versions(_) => "list versions after",
+        Look::Run(_) => "read run",
+        Look::Runs(_) => "list runs after",
+    }
+}
+
 // The word of an act.
 fn act_word(act: &WsAct) -> &'static str {
     match act {
-        WsAct::Read => "show workspace",
+        WsAct::Look(look) => look_word(look),
         WsAct::Put => "put workspace",
         WsAct::Delete => "delete workspace",
-        WsAct::ReadState => "read state",
         WsAct::UpdateState => "update state",
         WsAct::PurgeState => "purge state",
         WsAct::Lock => "lock",
         WsAct::Unlock => "unlock",
         WsAct::ForceUnlock => "force unlock",
-        WsAct::ListVersions { .. } => "list versions after",
-        WsAct::ReadVersion(_) => "read version",
-        WsAct::ListRuns { .. } => "list runs after",
         WsAct::MakeRun => "make run",
-        WsAct::ReadRun(_) => "read run",
         WsAct::ReportRun(_, _) => "report",
+    }
+}
+
+// The number that a look names.
+fn number_in(look: &Look) -> Option<u64> {
+    match look {
+        Look::Workspace | Look::State => None,
+        Look::Version(number) | Look::Run(number) => Some(u64::from(number.get())),
+        Look::Versions(after) | Look::Runs(after) => Some(*after),
     }
 }
 
 // The number that an act names.
 fn number_of(act: &WsAct) -> Option<u64> {
     match act {
-        WsAct::ListVersions { after } => Some(*after),
-        WsAct::ListRuns { after } => Some(*after),
-        WsAct::ReadVersion(number) => Some(u64::from(number.get())),
-        WsAct::ReadRun(number) => Some(u64::from(number.get())),
+        WsAct::Look(look) => number_in(look),
         WsAct::ReportRun(number, _) => Some(u64::from(number.get())),
         _ => None,
     }

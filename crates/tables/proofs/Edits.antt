@@ -1,15 +1,12 @@
 -- What the rows denote after a change of a workspace.
-use Rattle.std.proofs.Common.{◌≡◌, ℕ, ◌+◌, ◌-◌, ◌<◌, ◌≤◌, nat_le, nat_lt, Bool, true, false, cond, List, [], ◌∷◌, ◌++◌, map, filter, length, drop, min, Option, Some, None, option_map, refl, sym, ap, subst, ◌∙◌, arith}
-use Rattle.std.proofs.lemmas.Bool.{leb-true, leb-false}
-use Rattle.std.proofs.lemmas.List.{length-map}
-use Rattle.sqlite_keyed.specs.Lists.{delete_where}
+use Rattle.std.proofs.Common.{◌≡◌, ℕ, ◌+◌, nat_lt, Bool, true, false, cond, List, [], ◌∷◌, ◌++◌, map, filter, Option, Some, None, option_map, refl, sym, ap, subst, ◌∙◌}
 use Rattle.basis.specs.declared.rows.Settings.{Settings}
 use Rattle.basis.specs.declared.rows.RunAsk.{RunAsk}
 use Rattle.basis.specs.declared.runs.RunStatus.{RunStatus}
 use Rattle.basis.specs.declared.runs.RunStatus.TheVariants.{Pending, Planning}
 use Rattle.basis.specs.declared.runs.RunAction.{RunAction}
 use Rattle.machine.specs.Settling.{begun, started, started_if}
-use Rattle.machine.specs.Changes.{edited, changed_by}
+use Rattle.machine.specs.Changes.{left_above, edited, changed_by}
 use Rattle.machine.specs.Rules.{with_settings, purged, locked, released, new_run, with_run, reported}
 use Rattle.machine.specs.Workspaces.{new_workspace}
 use Rattle.machine.specs.declared.acts.Edit.{Edit}
@@ -22,14 +19,14 @@ use Rattle.machine.specs.declared.records.Workspace.{Workspace}
 use Rattle.statements.specs.declared.rows.Holder.TheVariants.{Nobody, Lock, Run as HeldByRun}
 use Rattle.statements.specs.declared.rows.Workspace.{Workspace as WorkspaceCells}
 use Rattle.statements.specs.declared.rows.Run.{Run as RunCells}
-use Rattle.statements.specs.Rows.{Kept, VersionRow}
+use Rattle.statements.specs.Rows.{Version as VersionCells}
 use Rattle.statements.specs.Tables.{Tables}
-use Rattle.statements.specs.Changes.{with_auto, held_by, released_from, with_next_version, with_next_run, ws_changed, ws_added, new_version, versions_removed, versions_removed_below, new_run as new_run_cells, run_acted, is_version_of}
-use Rattle.statements.specs.Finds.{workspace_of, versions_of}
+use Rattle.statements.specs.Changes.{with_auto, held_by, released_from, with_next_version, with_next_run, ws_changed, ws_added, new_version, versions_removed, new_run as new_run_cells, run_acted}
+use Rattle.statements.specs.Finds.{workspace_of}
 use Rattle.tables.specs.Records.{version_in, run_in, workspace_in, versions_at, runs_at, workspace_by}
-use Rattle.tables.specs.Sound.{KeepsTheLast, IsSound}
-use Rattle.tables.specs.Inner.Edits.{removed_rows, made_rows, put_rows, emptied_rows, versioned_rows, run_rows, freed_rows, edited_rows, started_rows, changed_rows}
-use Rattle.tables.proofs.Lists.{drop_push, drop_beyond, cut_is}
+use Rattle.tables.specs.Inner.Edits.{removed_rows, made_rows, numbered_rows, added_rows, left_rows, if_there, versioned_rows, run_put, run_counted, run_rows, freed_rows, edited_rows, started_rows, changed_rows}
+use Rattle.tables.proofs.Lists.{below_gone}
+use Rattle.tables.proofs.Names.{is_pair}
 use Rattle.tables.proofs.Parts.{row_changed, row_unchanged, row_removed, row_left, row_added, row_added_other, versions_pushed, versions_pushed_other, versions_cut, versions_cut_other, versions_gone, versions_gone_other, runs_begun, runs_begun_other, runs_pushed, runs_pushed_other, runs_acted, runs_acted_other, runs_gone, runs_gone_other}
 use Rattle.tables.proofs.Sets.{Puts, puts_then, same_parts}
 
@@ -110,96 +107,70 @@ module _ (org ws : List ℕ) (t : Tables) where
         others = λ a b other. same_parts _ _ _ _ _ _ (row_unchanged org ws g t a b other) refl (runs_begun_other org ws t n a b other);
       }
 
-  -- ---- a version more
+  -- ---- a version more, a run more
 
-  abbrev one_more : Version → ℕ → Workspace → Workspace
-  one_more v gone w = record w { next_version = v.number + 1; versions = drop gone (w.versions ++ v ∷ []) }
-
-  -- what is counted is how many versions there are
-  pub count_is : IsSound t → (w : WorkspaceCells) → workspace_of org ws t ≡ Some w → versions_of org ws t ≡ length (versions_at t org ws)
-  count_is sound w e =
-      let is : workspace_by t org ws ≡ Some (workspace_in w (versions_at t org ws) (runs_at t org ws)) = ap (option_map (λ (c : WorkspaceCells). workspace_in c (versions_at t org ws) (runs_at t org ws))) e in
-      let most : length (versions_at t org ws) ≤ 100 = (sound.workspaces org ws _ is).lawful.versions.kept in
-      let same : length (versions_at t org ws) ≡ length (filter (is_version_of org ws) t.versions) = length-map (filter (is_version_of org ws) t.versions) (λ (x : Kept VersionRow). version_in x.1.it) in
-      least (length (filter (is_version_of org ws) t.versions)) (length (versions_at t org ws)) same most
+  -- of a workspace that is there what comes is put, and of one that isn't nothing
+  there_puts : (f : Workspace → Workspace) (after : Tables) → Puts org ws (option_map f (workspace_by t org ws)) t after → Puts org ws (option_map f (workspace_by t org ws)) t (if_there (workspace_of org ws t) after t)
+  there_puts f after puts = by_row (workspace_of org ws t) refl
     where
-      least : (n m : ℕ) → m ≡ n → m ≤ 100 → min n 9_223_372_036_854_775_807 ≡ m
-      least n m e h = omega arith
+      by_row : (r : Option WorkspaceCells) → workspace_of org ws t ≡ r → Puts org ws (option_map f (workspace_by t org ws)) t (if_there r after t)
+      by_row None e = record { orgs = refl; tokens = refl; own = no_row f (versions_at t org ws) (runs_at t org ws) (workspace_of org ws t) e; others = λ a b other. refl }
+      by_row (Some w) e = puts
 
-  module _ (v : Version) (gone : ℕ) where
-    put_puts : (next most : ℕ) → delete_where (λ (u : Version). nat_lt u.number (next - most)) (versions_at t org ws) ++ v ∷ [] ≡ drop gone (versions_at t org ws ++ v ∷ [])
-        → Puts org ws (option_map (one_more v gone) (workspace_by t org ws)) t (put_rows org ws v next most t)
-    put_puts next most cut =
-        let u : Tables = versions_removed_below org ws (next - most) t in
-        let new = new_version v.number v.serial v.lineage v.created v.text in
-        record {
+  abbrev one_more : Version → Option ℕ → Workspace → Workspace
+  one_more v outgoing w = record w { next_version = v.number + 1; versions = left_above outgoing (w.versions ++ v ∷ []) }
+
+  module _ (v : Version) where
+    abbrev new : VersionCells
+    new = new_version v.number v.serial v.lineage v.created v.text
+
+    abbrev numbered : Tables
+    numbered = numbered_rows org ws v t
+
+    abbrev added : Tables
+    added = added_rows org ws v numbered
+
+    added_versions : versions_at added org ws ≡ versions_at t org ws ++ v ∷ []
+    added_versions = versions_pushed org ws numbered new
+
+    left_versions : (outgoing : Option ℕ) → versions_at (left_rows outgoing org ws added) org ws ≡ left_above outgoing (versions_at t org ws ++ v ∷ [])
+    left_versions None = added_versions
+    left_versions (Some last) = versions_cut org ws added (last + 1) ∙ below_gone last (versions_at added org ws) ∙ ap (filter (λ (u : Version). nat_lt last u.number)) added_versions
+
+    left_others : (outgoing : Option ℕ) (a b : List ℕ) → is_pair org ws a b ≡ false → versions_at (left_rows outgoing org ws added) a b ≡ versions_at t a b
+    left_others None a b other = versions_pushed_other org ws numbered new a b other
+    left_others (Some last) a b other = versions_cut_other org ws added (last + 1) a b other ∙ versions_pushed_other org ws numbered new a b other
+
+    version_puts : (outgoing : Option ℕ) → Puts org ws (option_map (one_more v outgoing) (workspace_by t org ws)) t (versioned_rows org ws v outgoing t)
+    version_puts outgoing = there_puts (one_more v outgoing) (left_rows outgoing org ws added) (by_outgoing outgoing)
+      where
+        by_outgoing : (outgoing : Option ℕ) → Puts org ws (option_map (one_more v outgoing) (workspace_by t org ws)) t (left_rows outgoing org ws added)
+        by_outgoing None = record {
           orgs = refl;
           tokens = refl;
-          own = same_parts _ _ _ _ _ _ (row_changed org ws (with_next_version (v.number + 1)) t)
-              (versions_pushed org ws u new ∙ ap (λ (vs : List Version). vs ++ v ∷ []) (versions_cut org ws t (next - most)) ∙ cut) refl
-              ∙ changed_row (with_next_version (v.number + 1)) (one_more v gone) (versions_at t org ws) (drop gone (versions_at t org ws ++ v ∷ [])) (runs_at t org ws) (runs_at t org ws) (λ c. refl) (workspace_of org ws t);
-          others = λ a b other. same_parts _ _ _ _ _ _ (row_unchanged org ws (with_next_version (v.number + 1)) t a b other)
-              (versions_pushed_other org ws u new a b other ∙ versions_cut_other org ws t (next - most) a b other) refl;
+          own = same_parts _ _ _ _ _ _ (row_changed org ws (with_next_version (v.number + 1)) t) (left_versions None) refl
+              ∙ changed_row (with_next_version (v.number + 1)) (one_more v None) (versions_at t org ws) (left_above None (versions_at t org ws ++ v ∷ [])) (runs_at t org ws) (runs_at t org ws) (λ c. refl) (workspace_of org ws t);
+          others = λ a b other. same_parts _ _ _ _ _ _ (row_unchanged org ws (with_next_version (v.number + 1)) t a b other) (left_others None a b other) refl;
+        }
+        by_outgoing (Some last) = record {
+          orgs = refl;
+          tokens = refl;
+          own = same_parts _ _ _ _ _ _ (row_changed org ws (with_next_version (v.number + 1)) t) (left_versions (Some last)) refl
+              ∙ changed_row (with_next_version (v.number + 1)) (one_more v (Some last)) (versions_at t org ws) (left_above (Some last) (versions_at t org ws ++ v ∷ [])) (runs_at t org ws) (runs_at t org ws) (λ c. refl) (workspace_of org ws t);
+          others = λ a b other. same_parts _ _ _ _ _ _ (row_unchanged org ws (with_next_version (v.number + 1)) t a b other) (left_others (Some last) a b other) refl;
         }
 
-    emptied_puts : [] ≡ drop gone (versions_at t org ws ++ v ∷ []) → Puts org ws (option_map (one_more v gone) (workspace_by t org ws)) t (emptied_rows org ws v t)
-    emptied_puts none = record {
-      orgs = refl;
-      tokens = refl;
-      own = same_parts _ _ _ _ _ _ (row_changed org ws (with_next_version (v.number + 1)) t) (versions_gone org ws t ∙ none) refl
-          ∙ changed_row (with_next_version (v.number + 1)) (one_more v gone) (versions_at t org ws) (drop gone (versions_at t org ws ++ v ∷ [])) (runs_at t org ws) (runs_at t org ws) (λ c. refl) (workspace_of org ws t);
-      others = λ a b other. same_parts _ _ _ _ _ _ (row_unchanged org ws (with_next_version (v.number + 1)) t a b other) (versions_gone_other org ws t a b other) refl;
-    }
-
-    module _ (sound : IsSound t) where
-      versioned_puts : (r : Option WorkspaceCells) (count : ℕ) → workspace_of org ws t ≡ r → ((w : WorkspaceCells) → r ≡ Some w → count ≡ length (versions_at t org ws))
-          → Puts org ws (option_map (one_more v gone) (workspace_by t org ws)) t (versioned_rows org ws v gone r count t)
-      versioned_puts None count e counts = record {
-        orgs = refl;
-        tokens = refl;
-        own = no_row (one_more v gone) (versions_at t org ws) (runs_at t org ws) (workspace_of org ws t) e;
-        others = λ a b other. refl;
-      }
-      versioned_puts (Some w) count e counts = by_test (nat_le gone count) refl
-        where
-          stands : workspace_by t org ws ≡ Some (workspace_in w (versions_at t org ws) (runs_at t org ws))
-          stands = ap (option_map (λ (c : WorkspaceCells). workspace_in c (versions_at t org ws) (runs_at t org ws))) e
-
-          counted_as : count ≡ length (versions_at t org ws)
-          counted_as = counts w refl
-
-          follow : KeepsTheLast (workspace_in w (versions_at t org ws) (runs_at t org ws))
-          follow = sound.versions org ws _ stands
-
-          by_test : (b : Bool) → nat_le gone count ≡ b → Puts org ws (option_map (one_more v gone) (workspace_by t org ws)) t (cond b (put_rows org ws v w.next_version (count - gone) t) (emptied_rows org ws v t))
-          by_test true test =
-              let within : gone ≤ length (versions_at t org ws) = omega (arith, leb-true gone count test, counted_as) in
-              put_puts w.next_version (count - gone)
-              (ap (λ (n : ℕ). delete_where (λ (u : Version). nat_lt u.number (w.next_version - (n - gone))) (versions_at t org ws) ++ v ∷ []) counted_as
-              ∙ ap (λ (vs : List Version). vs ++ v ∷ []) (cut_is w.next_version gone (versions_at t org ws) follow within)
-              ∙ sym (drop_push gone (versions_at t org ws) v within))
-          by_test false test =
-              let over : length (versions_at t org ws) < gone = omega (arith, leb-false gone count test, counted_as) in
-              emptied_puts (sym (drop_beyond gone (versions_at t org ws) v over))
-
   module _ (number : ℕ) (ask : RunAsk) (created : ℕ) where
-    run_puts : (r : Option WorkspaceCells) → workspace_of org ws t ≡ r
-        → Puts org ws (option_map (with_run (new_run number ask created)) (workspace_by t org ws)) t (run_rows org ws number ask created r t)
-    run_puts None e = record {
-      orgs = refl;
-      tokens = refl;
-      own = no_row (with_run (new_run number ask created)) (versions_at t org ws) (runs_at t org ws) (workspace_of org ws t) e;
-      others = λ a b other. refl;
-    }
-    run_puts (Some w) e =
+    run_puts : Puts org ws (option_map (with_run (new_run number ask created)) (workspace_by t org ws)) t (run_rows org ws number ask created t)
+    run_puts =
         let new : RunCells = new_run_cells number ask.plan_only ask.key ask.message created (cond ask.plan_only Planning Pending) in
-        record {
+        there_puts (with_run (new_run number ask created)) (run_put org ws number ask created (run_counted org ws number t)) (record {
           orgs = refl;
           tokens = refl;
           own = same_parts _ _ _ _ _ _ (row_changed org ws (with_next_run (number + 1)) t) refl (runs_pushed org ws t new)
               ∙ changed_row (with_next_run (number + 1)) (with_run (new_run number ask created)) (versions_at t org ws) (versions_at t org ws) (runs_at t org ws) (runs_at t org ws ++ run_in new ∷ []) (λ c. refl) (workspace_of org ws t);
           others = λ a b other. same_parts _ _ _ _ _ _ (row_unchanged org ws (with_next_run (number + 1)) t a b other) refl (runs_pushed_other org ws t new a b other);
-        }
+        })
 
   module _ (n : ℕ) (action : RunAction) (status : RunStatus) where
     report_puts : (frees : Bool) → Puts org ws (option_map (after_report n action status frees) (workspace_by t org ws)) t (freed_rows frees org ws (run_acted status action org ws n t))
@@ -226,21 +197,19 @@ made_puts org ws t settings =
 module _ (org ws : List ℕ) (t : Tables) where
   -- ---- an edit
 
-  module _ (sound : IsSound t) where
-    pub edited_puts : (edit : Edit) → Puts org ws (edited edit (workspace_by t org ws)) t (edited_rows org ws edit t)
-    edited_puts (Make settings) = made_puts org ws t settings
-    edited_puts (Configure settings) = row_puts org ws t (with_auto settings.auto_apply) (λ (w : Workspace). with_settings w settings) (λ c vs rs. refl)
-    edited_puts Remove = removed_puts org ws t
-    edited_puts (AddVersion v gone) = versioned_puts org ws t v gone sound (workspace_of org ws t) (versions_of org ws t) refl (λ w e. count_is org ws t sound w e)
-    edited_puts Purge = purge_puts org ws t
-    edited_puts (Hold id text) = row_puts org ws t (held_by (Lock id text)) (locked id text) (λ c vs rs. refl)
-    edited_puts (Release id) = row_puts org ws t (released_from id) (released id) (λ c vs rs. refl)
-    edited_puts (AddRun number ask created) = run_puts org ws t number ask created (workspace_of org ws t) refl
-    edited_puts (Report number action status frees) = report_puts org ws t number action status frees
+  pub edited_puts : (edit : Edit) → Puts org ws (edited edit (workspace_by t org ws)) t (edited_rows org ws edit t)
+  edited_puts (Make settings) = made_puts org ws t settings
+  edited_puts (Configure settings) = row_puts org ws t (with_auto settings.auto_apply) (λ (w : Workspace). with_settings w settings) (λ c vs rs. refl)
+  edited_puts Remove = removed_puts org ws t
+  edited_puts (AddVersion v outgoing) = version_puts org ws t v outgoing
+  edited_puts Purge = purge_puts org ws t
+  edited_puts (Hold id text) = row_puts org ws t (held_by (Lock id text)) (locked id text) (λ c vs rs. refl)
+  edited_puts (Release id) = row_puts org ws t (released_from id) (released id) (λ c vs rs. refl)
+  edited_puts (AddRun number ask created) = run_puts org ws t number ask created
+  edited_puts (Report number action status frees) = report_puts org ws t number action status frees
 
-pub changed_puts : (org ws : List ℕ) (t : Tables) → IsSound t → (change : Change) → Puts org ws (changed_by change (workspace_by t org ws)) t (changed_rows org ws change t)
-changed_puts org ws t sound change =
-    let u : Tables = edited_rows org ws change.edit t in
-    let first : Puts org ws (edited change.edit (workspace_by t org ws)) t (edited_rows org ws change.edit t) = edited_puts org ws t sound change.edit in
+pub changed_puts : (org ws : List ℕ) (t : Tables) (change : Change) → Puts org ws (changed_by change (workspace_by t org ws)) t (changed_rows org ws change t)
+changed_puts org ws t change =
+    let first : Puts org ws (edited change.edit (workspace_by t org ws)) t (edited_rows org ws change.edit t) = edited_puts org ws t change.edit in
     let second : Puts org ws (option_map (started_if change.start) (workspace_by (edited_rows org ws change.edit t) org ws)) (edited_rows org ws change.edit t) (changed_rows org ws change t) = started_puts org ws (edited_rows org ws change.edit t) change.start in
     subst (λ (w : Option Workspace). Puts org ws (option_map (started_if change.start) w) t (changed_rows org ws change t)) first.own (puts_then org ws t (edited_rows org ws change.edit t) (changed_rows org ws change t) first second)

@@ -74,15 +74,15 @@ globex_has w = Some (record { limit = 1; tokens = empty; workspaces = from_entri
 abbrev acme_has : Workspace → Option Organization
 acme_has w = Some (record {
   limit = 10;
-  tokens = from_entries ((codes "ci", record { digest = codes "01234567890123456789012345678901"; role = Write }) ∷ []);
+  tokens = from_entries ((codes "ci", record { digest = codes "01234567890123456789012345678901"; caller = record { role = Write } }) ∷ []);
   workspaces = from_entries ((prod, w) ∷ []);
 })
 
 abbrev of_globex : Workspace
-of_globex = record { auto_apply = true; holder = Nobody; released = None; next_version = 2; next_run = 1; versions = version 1 s1 ∷ []; runs = [] }
+of_globex = record { settings = record { auto_apply = true }; holder = Nobody; released = None; next_version = 2; next_run = 1; versions = version 1 s1 ∷ []; runs = [] }
 
 abbrev of_acme : Workspace
-of_acme = record { auto_apply = false; holder = Lock x1 text; released = None; next_version = 3; next_run = 2; versions = version 1 s1 ∷ version 2 s2 ∷ []; runs = run 1 Pending ∷ [] }
+of_acme = record { settings = record { auto_apply = false }; holder = Lock x1 text; released = None; next_version = 3; next_run = 2; versions = version 1 s1 ∷ version 2 s2 ∷ []; runs = run 1 Pending ∷ [] }
 
 -- ---- records
 
@@ -97,7 +97,7 @@ no_record = refl
 
 -- ---- changes: the organization's own record has it, and that of the other is as before
 
-configured : record_of (edited_rows acme prod (Configure (record { auto_apply = true })) two) acme ≡ acme_has (record of_acme { auto_apply = true })
+configured : record_of (edited_rows acme prod (Configure (record { auto_apply = true })) two) acme ≡ acme_has (record of_acme { settings = record { auto_apply = true } })
 configured = refl
 
 configured_other : record_of (edited_rows acme prod (Configure (record { auto_apply = true })) two) globex ≡ globex_has of_globex
@@ -110,20 +110,20 @@ purged_other : record_of (edited_rows acme prod Purge two) globex ≡ globex_has
 purged_other = refl
 
 -- a third version comes, and none goes; or the oldest goes; or all go, and the third with them
-version_added : record_of (edited_rows acme prod (AddVersion (version 3 s1) 0) two) acme ≡ acme_has (record of_acme { next_version = 4; versions = version 1 s1 ∷ version 2 s2 ∷ version 3 s1 ∷ [] })
+version_added : record_of (edited_rows acme prod (AddVersion (version 3 s1) None) two) acme ≡ acme_has (record of_acme { next_version = 4; versions = version 1 s1 ∷ version 2 s2 ∷ version 3 s1 ∷ [] })
 version_added = refl
 
-oldest_gone : record_of (edited_rows acme prod (AddVersion (version 3 s1) 1) two) acme ≡ acme_has (record of_acme { next_version = 4; versions = version 2 s2 ∷ version 3 s1 ∷ [] })
+oldest_gone : record_of (edited_rows acme prod (AddVersion (version 3 s1) (Some 1)) two) acme ≡ acme_has (record of_acme { next_version = 4; versions = version 2 s2 ∷ version 3 s1 ∷ [] })
 oldest_gone = refl
 
-all_gone : record_of (edited_rows acme prod (AddVersion (version 3 s1) 3) two) acme ≡ acme_has (record of_acme { next_version = 4; versions = [] })
+all_gone : record_of (edited_rows acme prod (AddVersion (version 3 s1) (Some 3)) two) acme ≡ acme_has (record of_acme { next_version = 4; versions = [] })
 all_gone = refl
 
-version_added_other : record_of (edited_rows acme prod (AddVersion (version 3 s1) 1) two) globex ≡ globex_has of_globex
+version_added_other : record_of (edited_rows acme prod (AddVersion (version 3 s1) (Some 1)) two) globex ≡ globex_has of_globex
 version_added_other = refl
 
 -- of a workspace that isn't there nothing comes
-nothing_added : edited_rows globex (codes "dev") (AddVersion (version 1 s1) 0) two ≡ two
+nothing_added : edited_rows globex (codes "dev") (AddVersion (version 1 s1) None) two ≡ two
 nothing_added = refl
 
 -- a lock is released, and then the run that waits starts
@@ -158,15 +158,15 @@ canceled_and_freed = refl
 -- a workspace more, behind the other
 made : record_of (edited_rows acme (codes "dev") (Make (record { auto_apply = true })) two) acme ≡ Some (record {
   limit = 10;
-  tokens = from_entries ((codes "ci", record { digest = codes "01234567890123456789012345678901"; role = Write }) ∷ []);
-  workspaces = from_entries ((prod, of_acme) ∷ (codes "dev", record { auto_apply = true; holder = Nobody; released = None; next_version = 1; next_run = 1; versions = []; runs = [] }) ∷ []);
+  tokens = from_entries ((codes "ci", record { digest = codes "01234567890123456789012345678901"; caller = record { role = Write } }) ∷ []);
+  workspaces = from_entries ((prod, of_acme) ∷ (codes "dev", record { settings = record { auto_apply = true }; holder = Nobody; released = None; next_version = 1; next_run = 1; versions = []; runs = [] }) ∷ []);
 })
 made = refl
 
 -- a workspace goes with its versions and its run, and all that is left of it is nothing
 removed : record_of (edited_rows acme prod Remove two) acme ≡ Some (record {
   limit = 10;
-  tokens = from_entries ((codes "ci", record { digest = codes "01234567890123456789012345678901"; role = Write }) ∷ []);
+  tokens = from_entries ((codes "ci", record { digest = codes "01234567890123456789012345678901"; caller = record { role = Write } }) ∷ []);
   workspaces = empty;
 })
 removed = refl
@@ -179,7 +179,7 @@ removed_other = refl
 
 -- one that is made again begins anew
 made_anew : record_of (edited_rows acme prod (Make (record { auto_apply = true })) (edited_rows acme prod Remove two)) acme
-    ≡ acme_has (record { auto_apply = true; holder = Nobody; released = None; next_version = 1; next_run = 1; versions = []; runs = [] })
+    ≡ acme_has (record { settings = record { auto_apply = true }; holder = Nobody; released = None; next_version = 1; next_run = 1; versions = []; runs = [] })
 made_anew = refl
 
 -- ---- an operator's commands
@@ -187,7 +187,7 @@ made_anew = refl
 -- a limit below what there is: the workspace stays
 limited : record_of (org_capped acme 0 two) acme ≡ Some (record {
   limit = 0;
-  tokens = from_entries ((codes "ci", record { digest = codes "01234567890123456789012345678901"; role = Write }) ∷ []);
+  tokens = from_entries ((codes "ci", record { digest = codes "01234567890123456789012345678901"; caller = record { role = Write } }) ∷ []);
   workspaces = from_entries ((prod, of_acme) ∷ []);
 })
 limited = refl

@@ -1,11 +1,13 @@
 -- What the queries find is the part of the record that it stands for.
-use Rattle.std.proofs.Common.{◌≡◌, ℕ, suc, ◌+◌, ◌≤◌, Bool, true, false, not, ◌&&◌, ◌==◌, cond, List, [], ◌∷◌, map, filter, find, length, min, is_some, Option, Some, None, option_map, refl, sym, ap, subst, ap₂, ◌∙◌, arith}
+use Rattle.std.proofs.Common.{◌≡◌, ℕ, zero, suc, ◌+◌, ◌-◌, ◌≤◌, ◌<◌, nat_lt, Bool, true, false, not, ◌&&◌, ◌==◌, cond, List, [], ◌∷◌, map, filter, find, length, take, reverse, slice_get, min, is_some, Option, Some, None, option_map, refl, sym, ap, subst, ap₂, ◌∙◌, arith}
 use Rattle.std.specs.Str.{bytes_eq}
 use Rattle.std.specs.Option.{unwrap_or, option_or}
 use Rattle.std.specs.List.{AllByRecursion, list_any}
 use Rattle.std.specs.FinMap.{from_entries, entries, get, get-from_entries, len-insert, len-entries, len-empty, len}
-use Rattle.std.proofs.lemmas.Bool.{eqb-true, eq-eqb, ne_eqb}
-use Rattle.std.proofs.lemmas.List.{length-map}
+use Rattle.std.proofs.lemmas.Bool.{eqb-true, eq-eqb, ne_eqb, ltb-true, ltb-false}
+use Rattle.std.proofs.lemmas.List.{length-map, length-reverse, get_or-reverse}
+use Rattle.std.proofs.lemmas.Option.{slice_get-map, slice_get_past, slice_get-get_or}
+use Rattle.machine.proofs.CutLemmas.{last_taken}
 use Rattle.sqlite_keyed.specs.Rules.{AreApart}
 use Rattle.sqlite_keyed.proofs.ListLemmas.{filter_same}
 use Rattle.sqlite_keyed.proofs.SliceLemmas.{find-slice, filter-slice, any_is_found}
@@ -15,11 +17,11 @@ use Rattle.basis.specs.declared.runs.RunStatus.TheVariants.{Pending, Planning, P
 use Rattle.machine.specs.Order.{name_cmp}
 use Rattle.machine.specs.Laws.{Rises, is_pending}
 use Rattle.machine.specs.Settling.{first_waiting, is_waiting}
-use Rattle.machine.specs.Workspaces.{newest, is_numbered, run_of, has_key, is_keyed, keyed_run, holder_status, open_runs}
+use Rattle.machine.specs.Workspaces.{max_versions, newest, outgoing, is_numbered, run_of, has_key, is_keyed, keyed_run, holder_status, open_runs}
 use Rattle.machine.specs.Records.{count_of, workspace_in as seen_workspace}
-use Rattle.machine.specs.Units.{find_last, version_of, asked_version, text_of, asked_run, newest_unit, counted_for, unit_by, unit_of}
+use Rattle.machine.specs.Units.{find_last, version_of, has_version, text_of, is_text, if_needed, asked_run, newest_unit, unit_by, unit_of}
+use Rattle.machine.specs.Needs.{needs}
 use Rattle.machine.specs.declared.acts.Act.{Act}
-use Rattle.machine.specs.declared.acts.Act.TheVariants.{PutWorkspace, ReadWorkspace, DeleteWorkspace, UpdateState, ReadState, PurgeState, Lock as LockAct, Unlock, ForceUnlock, ListVersions, ReadVersion, ListRuns, MakeRun, ReadRun, ReportRun}
 use Rattle.machine.specs.declared.acts.Unit.TheVariants.{Absent, Present}
 use Rattle.machine.specs.declared.records.Version.{Version}
 use Rattle.machine.specs.declared.records.Run.{Run}
@@ -33,17 +35,16 @@ use Rattle.statements.specs.declared.rows.Workspace.{Workspace as WorkspaceCells
 use Rattle.statements.specs.Rows.{Kept, OrgRow, WsRow, VersionRow, RunRow}
 use Rattle.statements.specs.Tables.{Tables}
 use Rattle.statements.specs.Changes.{is_org, is_version_of, is_version, is_run_of, is_run, is_ws, is_ws_of}
-use Rattle.statements.specs.Finds.{last_in, counted, head_of, newest_of, body_of, number_of, versions_of, first_waiting_of, status_of, workspace_of, workspaces_of, cap_of}
+use Rattle.statements.specs.Finds.{last_in, counted, head_of, newest_of, body_of, number_of, number_back, first_waiting_of, status_of, workspace_of, workspaces_of, cap_of}
 use Rattle.statements.specs.Finds as finds
-use Rattle.tables.specs.Records.{version_in, run_in, holder_in, versions_at, runs_at, workspace_at, workspace_by, workspaces_at, organization_at, record_of}
+use Rattle.tables.specs.Records.{version_in, run_in, settings_in, holder_in, versions_at, runs_at, workspace_at, workspace_by, workspaces_at, organization_at, record_of}
 use Rattle.tables.specs.Sound.{IsSound}
-use Rattle.tables.proofs.Names.{same_name, pair_first, pair_second}
+use Rattle.tables.proofs.Names.{same_name, apart_name, pair_first, pair_second}
 use Rattle.tables.proofs.Lists.{found_passes}
 use Rattle.tables.proofs.Parts.{none_mapped}
 use Rattle.tables.proofs.Sets.{entry_found, got_workspace, workspace_there, one_of}
-use Rattle.tables.proofs.Edits.{count_is}
 use Rattle.tables.proofs.Lawful.{limit_there, found_holds}
-use Rattle.tables.specs.Inner.Units.{holder_status_in, is_found_text, newest_by, newest_in, has_version_in, keyed_cells_in, asked_run_in, unit_at, unit_in}
+use Rattle.tables.specs.Inner.Units.{holder_status_in, is_body, has_text, newest_by, newest_in, outgoing_in, has_version_in, keyed_cells_in, asked_run_in, unit_at, unit_in}
 
 -- ---- lists
 
@@ -75,6 +76,32 @@ newest-shown : {X : Type 0} (show : X → Version) (ys : List X) → option_map 
 newest-shown show [] = refl
 newest-shown show (y ∷ []) = refl
 newest-shown show (y ∷ z ∷ ys) = newest-shown show (z ∷ ys)
+
+-- one at a place from the last is the last of those that so many stand behind
+module _ {X : Type 0} (show : X → Version) where
+  place_back : (n : ℕ) (xs : List X) → option_map show (slice_get (reverse xs) n) ≡ newest (take (length (map show xs) + 1 - suc n) (map show xs))
+  place_back n xs = by_test (nat_lt n (length xs)) refl
+    where
+      within : (ys : List X) → n < length ys → option_map show (slice_get (reverse ys) n) ≡ newest (take (length (map show ys) + 1 - suc n) (map show ys))
+      within [] h = absurd (omega arith)
+      within (y ∷ ys) h =
+          let turned : slice_get (reverse (y ∷ ys)) n ≡ slice_get (y ∷ ys) (length (y ∷ ys) - 1 - n) =
+          slice_get-get_or (reverse (y ∷ ys)) n y (omega (arith, h, length-reverse (y ∷ ys))) ∙ ap Some (get_or-reverse (y ∷ ys) n y h) ∙ sym (slice_get-get_or (y ∷ ys) (length (y ∷ ys) - 1 - n) y (omega (arith, h))) in
+          ap (option_map show) turned
+          ∙ sym (slice_get-map show (y ∷ ys) (length (y ∷ ys) - 1 - n))
+          ∙ sym (last_taken (length (y ∷ ys) - 1 - n) (map show (y ∷ ys)) (omega (arith, h, length-map (y ∷ ys) show)))
+          ∙ ap (λ (m : ℕ). newest (take m (map show (y ∷ ys)))) (let same : suc (length (y ∷ ys) - 1 - n) ≡ length (map show (y ∷ ys)) + 1 - suc n = omega (arith, h, length-map (y ∷ ys) show) in same)
+
+      by_test : (b : Bool) → nat_lt n (length xs) ≡ b → option_map show (slice_get (reverse xs) n) ≡ newest (take (length (map show xs) + 1 - suc n) (map show xs))
+      by_test true e = within xs (ltb-true n (length xs) e)
+      by_test false e =
+          let over : length xs ≤ n = ltb-false n (length xs) e in
+          ap (option_map show) (slice_get_past (reverse xs) n (omega (arith, over, length-reverse xs)))
+          ∙ sym (ap (λ (m : ℕ). newest (take m (map show xs))) (let none : length (map show xs) + 1 - suc n ≡ 0 = omega (arith, over, length-map xs show) in none))
+
+-- texts of two sizes are two
+other_size : (xs ys : List ℕ) → (length xs == length ys) ≡ false → bytes_eq xs ys ≡ false
+other_size xs ys e = apart_name xs ys (λ same. absurd (let no_one : ⊥ = cc (sym (eq-eqb (length xs) (length ys) (ap length same)) ∙ e) in no_one))
 
 -- no row belongs to one that isn't there
 pub no_orphans : {A B : Type 0} (mine : A → Bool) (parent : A → B → Bool) (ps : List B) → ((x : A) → mine x ≡ true → list_any (parent x) ps ≡ false) → (xs : List A)
@@ -178,22 +205,9 @@ module _ (t : Tables) (org ws : List ℕ) where
   keyed_found (Some key) = run_found (finds.is_run_with_key org ws key) (is_keyed key) (λ x.
       three (bytes_eq x.1.org org) (bytes_eq x.1.ws ws) (finds.has_key key x.1.it.key) ∙ ap (λ (b : Bool). (bytes_eq x.1.org org && bytes_eq x.1.ws ws) && b) (key_same key x.1.it.key))
 
-  pub asked_run_found : (act : Act) → asked_run_in act org ws t ≡ asked_run act (runs_at t org ws)
-  asked_run_found (PutWorkspace settings) = refl
-  asked_run_found ReadWorkspace = refl
-  asked_run_found DeleteWorkspace = refl
-  asked_run_found (UpdateState head text id) = refl
-  asked_run_found ReadState = refl
-  asked_run_found (PurgeState id) = refl
-  asked_run_found (LockAct id text) = refl
-  asked_run_found (Unlock id) = refl
-  asked_run_found ForceUnlock = refl
-  asked_run_found (ListVersions after) = refl
-  asked_run_found (ReadVersion n) = refl
-  asked_run_found (ListRuns after) = refl
-  asked_run_found (MakeRun ask) = keyed_found ask.key
-  asked_run_found (ReadRun n) = numbered_found n
-  asked_run_found (ReportRun n action) = numbered_found n
+  pub asked_run_found : (number : Option ℕ) (key : Option (List ℕ)) → asked_run_in number key org ws t ≡ asked_run number key (runs_at t org ws)
+  asked_run_found None key = keyed_found key
+  asked_run_found (Some n) key = numbered_found n
 
   -- the count of open runs is exact, since there are no more than 100
   pub open_runs_found : open_runs (runs_at t org ws) ≤ 100 → finds.open_runs_of org ws t ≡ open_runs (runs_at t org ws)
@@ -223,33 +237,34 @@ module _ (t : Tables) (org ws : List ℕ) where
         ∙ ap is_some (find-slice (is_version_of org ws) (λ (x : Kept VersionRow). version_in x.1.it) (numbered n) t.versions)
         ∙ ap is_some (first_is_last 0 next n (versions_at t org ws) rise)
 
-    pub has_version_found : (act : Act) → has_version_in act org ws t ≡ is_some (asked_version act (versions_at t org ws))
-    has_version_found (PutWorkspace settings) = refl
-    has_version_found ReadWorkspace = refl
-    has_version_found DeleteWorkspace = refl
-    has_version_found (UpdateState head text id) = refl
-    has_version_found ReadState = refl
-    has_version_found (PurgeState id) = refl
-    has_version_found (LockAct id text) = refl
-    has_version_found (Unlock id) = refl
-    has_version_found ForceUnlock = refl
-    has_version_found (ListVersions after) = refl
-    has_version_found (ReadVersion n) = kept_found n
-    has_version_found (ListRuns after) = refl
-    has_version_found (MakeRun ask) = refl
-    has_version_found (ReadRun n) = refl
-    has_version_found (ReportRun n action) = refl
+    pub has_version_found : (number : Option ℕ) → has_version_in number org ws t ≡ has_version number (versions_at t org ws)
+    has_version_found None = refl
+    has_version_found (Some n) = kept_found n
 
-  -- the text of the newest version is found by its number
-  pub newest_unit_found : (next : ℕ) (act : Act) → Rises 0 (numbers (versions_at t org ws)) next → newest_in act org ws t ≡ option_map (newest_unit act) (newest (versions_at t org ws))
-  newest_unit_found next act rise = ap (option_map (newest_by act org ws t)) newest_found ∙ by_newest (newest (versions_at t org ws)) refl
+  -- the text of the newest version is found by its number, and one of another size isn't the asked one
+  pub newest_unit_found : (next : ℕ) (text : Option (List ℕ)) → Rises 0 (numbers (versions_at t org ws)) next → newest_in text org ws t ≡ option_map (newest_unit text) (newest (versions_at t org ws))
+  newest_unit_found next text rise = ap (option_map (newest_by text org ws t)) newest_found ∙ by_newest (newest (versions_at t org ws)) refl
     where
-      by_newest : (o : Option Version) → newest (versions_at t org ws) ≡ o → option_map (newest_by act org ws t) (option_map head_in o) ≡ option_map (newest_unit act) o
+      same_text : (v : Version) (asked : Option (List ℕ)) → body_of org ws v.number t ≡ Some v.text → has_text asked org ws (head_in v) t ≡ is_text asked v.text
+      same_text v None body = refl
+      same_text v (Some asked) body = by_size (length v.text == length asked) refl
+        where
+          by_size : (b : Bool) → (length v.text == length asked) ≡ b → cond b (is_body asked (body_of org ws v.number t)) false ≡ bytes_eq v.text asked
+          by_size true e = ap (is_body asked) body
+          by_size false e = sym (other_size v.text asked e)
+
+      by_newest : (o : Option Version) → newest (versions_at t org ws) ≡ o → option_map (newest_by text org ws t) (option_map head_in o) ≡ option_map (newest_unit text) o
       by_newest None e = refl
       by_newest (Some v) e =
           let body : body_of org ws v.number t ≡ Some v.text =
           body_found v.number ∙ ap (option_map (λ (u : Version). u.text)) (first_is_last 0 next v.number (versions_at t org ws) rise ∙ newest_is_last (versions_at t org ws) v e) in
-          ap (λ (text : Option (List ℕ)). Some (record { number = v.number; serial = v.serial; lineage = v.lineage; is_same = is_found_text act text })) body
+          ap (λ (same : Bool). Some (record { number = v.number; serial = v.serial; lineage = v.lineage; is_same = same })) (same_text v text body)
+
+  -- the greatest number of those that go is found by its place from the newest
+  pub outgoing_found : outgoing_in org ws t ≡ outgoing max_versions (versions_at t org ws)
+  outgoing_found =
+      mapped (λ (x : Kept VersionRow). version_in x.1.it) (λ (v : Version). v.number) (slice_get (reverse (filter (is_version_of org ws) t.versions)) (max_versions - 1))
+      ∙ ap (option_map (λ (v : Version). v.number)) (place_back (λ (x : Kept VersionRow). version_in x.1.it) (max_versions - 1) (filter (is_version_of org ws) t.versions))
 
 -- ---- counts
 
@@ -295,27 +310,27 @@ module _ (t : Tables) (sound : IsSound t) (org : List ℕ) where
       least n m e h = omega arith
 
   -- what a decision sees of a workspace is what the point queries find
-  pub unit_found : (o : Organization) (ws : List ℕ) (act : Act) → record_of t org ≡ Some o → unit_in act org ws t ≡ unit_of o ws act
+  pub unit_found : (o : Organization) (ws : List ℕ) (act : Act) → record_of t org ≡ Some o → unit_in (needs act) org ws t ≡ unit_of o ws act
   unit_found o ws act e = by_row (workspace_of org ws t) refl ∙ ap (unit_by o act) (sym (workspace_there t org ws o e))
     where
-      by_row : (r : Option WorkspaceCells) → workspace_of org ws t ≡ r → unit_at act org ws t r ≡ unit_by o act (option_map (workspace_at t org ws) r)
-      by_row None f = λ i. Absent (counted_for act (count_found o e i)) (unwrap_or (limit_there t org o e i) 0)
+      by_row : (r : Option WorkspaceCells) → workspace_of org ws t ≡ r → unit_at (needs act) org ws t r ≡ unit_by o act (option_map (workspace_at t org ws) r)
+      by_row None f = λ i. Absent (cond (needs act).makes (count_found o e i) 0) (unwrap_or (limit_there t org o e i) 0)
       by_row (Some w) f =
           let stands : workspace_by t org ws ≡ Some (workspace_at t org ws w) = ap (option_map (workspace_at t org ws)) f in
           let lawful = (sound.workspaces org ws _ stands).lawful in
           λ i. Present (record {
-            auto_apply = w.auto;
+            settings = settings_in w;
             holder = holder_in w.holder;
-            holder_status = holder_status_found t org ws w.holder i;
+            holder_status = if_needed (needs act).holder_status (holder_status_found t org ws w.holder i);
             released = w.released;
             next_version = w.next_version;
             next_run = w.next_run;
-            newest = newest_unit_found t org ws w.next_version act lawful.versions.rise i;
-            versions = count_is org ws t sound w f i;
-            first_waiting = first_waiting_found t org ws i;
-            has_version = has_version_found t org ws w.next_version lawful.versions.rise act i;
-            asked_run = asked_run_found t org ws act i;
-            open_runs = open_runs_found t org ws lawful.runs.open_runs i;
+            newest = if_needed (needs act).newest (newest_unit_found t org ws w.next_version (needs act).text lawful.versions.rise i);
+            outgoing = if_needed (needs act).outgoing (outgoing_found t org ws i);
+            first_waiting = if_needed (needs act).waiting (first_waiting_found t org ws i);
+            has_version = has_version_found t org ws w.next_version lawful.versions.rise (needs act).version i;
+            asked_run = asked_run_found t org ws (needs act).run (needs act).key i;
+            open_runs = cond (needs act).open_runs (open_runs_found t org ws lawful.runs.open_runs i) 0;
           })
 
   -- ---- the text of a version

@@ -4,36 +4,13 @@ use Rattle.sqlite.specs.Effect.{Database}
 use Rattle.sqlite.specs.State.{State, IsUnchanged, KeepsCommit}
 use Rattle.basis.specs.declared.roles.Role.{Role}
 use Rattle.machine.specs.Effects.{Effect, effect}
-use Rattle.machine.specs.declared.acts.Change.{Change}
 use Rattle.machine.specs.declared.keeps.AdminAnswer.{AdminAnswer}
 use Rattle.machine.specs.declared.keeps.AdminAnswer.TheVariants.{Done, Exists, Absent}
 use Rattle.statements.specs.Changes.{org_added, token_added}
 use Rattle.statements.specs.Finds.{cap_of}
 use Rattle.statements.specs.Tables.{Tables, Holds}
-use Rattle.tables.specs.Inner.Edits.{edited_rows, changed_rows, started_rows}
-use Rattle.tables.specs.Inner.Outgoing.{edited_by, changed_by}
 use Rattle.tables.specs.Inner.Looks.{Stays}
 use Rattle.tables.specs.Inner.Steps.{IsSettled, Commits, Manages, org_managed_by, org_managed, is_taken, token_managed_by, token_managed}
-use Rattle.tables.specs.declared.steps.Outgoing.{Outgoing}
-
--- rows that were looked at are those that are then changed
-pub change_goes : {X E : Type 0} (org ws : List ℕ) (change : Change) (out : Outgoing) (a b d : State) (result : Result X E) → IsSettled a → Stays a b
-    → (IsTrue b.is_open → (t : Tables) → Holds a.now t → edited_by out org ws change.edit t ≡ edited_rows org ws change.edit t)
-    → OnOk result (Commits (changed_by out org ws change) b d) × OnErr result (KeepsCommit b d) → OnOk result (Commits (changed_rows org ws change) a d) × OnErr result (KeepsCommit a d)
-change_goes org ws change out a b d (Ok x) settled stays means last =
-    let done = last.0 in (
-      record {
-        rows = λ t held.
-            let now : Holds a.now t = subst (λ (db : Database). Holds db t) (sym (settled (stays.was_open done.was_open))) held in
-            subst (Holds d.committed) (ap (started_rows org ws change.start) (means done.was_open t now))
-            (done.rows t (subst (λ (db : Database). Holds db t) (sym (stays.committed done.was_open)) held));
-        was_open = stays.was_open done.was_open;
-        is_open = done.is_open;
-      },
-      tt,
-    )
-change_goes org ws change out a b d (Err e) settled stays means last =
-    (tt, record { was_open = λ is. stays.was_open (last.1.was_open is); committed = λ is. last.1.committed is ∙ stays.committed (last.1.was_open is) })
 
 module _ (command : Tables → Effect AdminAnswer Tables) (a b d : State) (settled : IsSettled a) where
   -- nothing was changed
@@ -61,11 +38,12 @@ module _ (command : Tables → Effect AdminAnswer Tables) (a b d : State) (settl
       }
 
 pub unchanged_stays : (a b : State) → IsUnchanged a b → Stays a b
-unchanged_stays a b u = record { was_open = λ _. u.0.was_open; now = λ _. u.0.now_is; committed = λ _. u.0.committed_is }
+unchanged_stays a b u = record { was_open = λ _. u.0.was_open; is_open = λ _. u.0.is_open; now = λ _. u.0.now_is; committed = λ _. u.0.committed_is }
 
 pub stays_then : (a b d : State) → Stays a b → Stays b d → Stays a d
 stays_then a b d p q = record {
   was_open = λ is. p.was_open (q.was_open is);
+  is_open = λ is. q.is_open (p.is_open is);
   now = λ is. q.now is ∙ p.now (q.was_open is);
   committed = λ is. q.committed is ∙ p.committed (q.was_open is);
 }

@@ -4,10 +4,12 @@ use Rattle.sqlite.specs.Effect.{Database}
 use Rattle.sqlite.specs.State.{State}
 use Rattle.basis.specs.Names.{is_org_name, is_ws_name}
 use Rattle.basis.specs.declared.roles.Role.{Role}
+use Rattle.basis.specs.declared.roles.Caller.{Caller}
 use Rattle.machine.specs.Effects.{Effect, effect}
 use Rattle.machine.specs.Records.{workspace_in, placed, seen_in}
 use Rattle.machine.specs.Changes.{changed_by, IsDue}
 use Rattle.machine.specs.Units.{unit_of, text_of}
+use Rattle.machine.specs.Needs.{Needed, needs}
 use Rattle.machine.specs.Tokens as tokens
 use Rattle.machine.specs.Tokens.{caller_of, token_of}
 use Rattle.std.specs.FinMap.{get}
@@ -24,7 +26,7 @@ use Rattle.statements.specs.Finds.{cap_of, role_of_name, role_of_digest, body_of
 use Rattle.statements.specs.Tables.{Tables, Holds}
 use Rattle.statements.proofs.Decoding.{tables-held}
 use Rattle.tables.specs.Inner.Edits.{changed_rows}
-use Rattle.tables.specs.Records.{record_of}
+use Rattle.tables.specs.Records.{caller_by, record_of}
 use Rattle.std.specs.Option.{unwrap_or}
 use Rattle.basis.specs.Listings.{listing_of}
 use Rattle.basis.specs.declared.rows.Listing.{Listing}
@@ -58,13 +60,13 @@ module _ (db : Database) (a : State) (s : IsSoundKeep db a) where
 
   -- ---- looks
 
-  pub caller_told : (org digest : List ℕ) (role : Option Role) → IsTrue a.is_open × ((t : Tables) → Holds a.committed t → role ≡ role_of_digest org digest t)
-      → role ≡ option_map (λ (token : Token). token.role) (caller_of (records_of db org) digest)
-  caller_told org digest role told = told.1 now (held told.0) ∙ caller_found now s.store.sound org digest
+  pub caller_told : (org digest : List ℕ) (caller : Option Caller) → IsTrue a.is_open × ((t : Tables) → Holds a.committed t → caller ≡ caller_by org digest t)
+      → caller ≡ option_map (λ (token : Token). token.caller) (caller_of (records_of db org) digest)
+  caller_told org digest caller told = told.1 now (held told.0) ∙ caller_found now s.store.sound org digest
 
-  pub unit_told : (org ws : List ℕ) (act : Act) (unit : Unit) → IsTrue a.is_open × ((t : Tables) → Holds a.committed t → unit ≡ unit_in act org ws t)
+  pub unit_told : (org ws : List ℕ) (act : Act) (need : Needed) → need ≡ needs act → (unit : Unit) → IsTrue a.is_open × ((t : Tables) → Holds a.committed t → unit ≡ unit_in need org ws t)
       → (o : Organization) → records_of db org ≡ Some o → unit ≡ unit_of o ws act
-  unit_told org ws act unit told o there = told.1 now (held told.0) ∙ unit_found now s.store.sound org o ws act there
+  unit_told org ws act need same unit told o there = told.1 now (held told.0) ∙ ap (λ (n : Needed). unit_in n org ws now) same ∙ unit_found now s.store.sound org o ws act there
 
   pub text_told : (org ws : List ℕ) (n : ℕ) (text : Option (List ℕ)) → IsTrue a.is_open × ((t : Tables) → Holds a.committed t → text ≡ body_of org ws n t)
       → text ≡ text_of n (workspace_in (records_of db org) ws)

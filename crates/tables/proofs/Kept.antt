@@ -26,7 +26,7 @@ use Rattle.statements.specs.Changes.{is_org, is_token, has_digest, org_added, to
 use Rattle.statements.specs.Finds.{cap_of, role_of_name, role_of_digest}
 use Rattle.statements.specs.Making.{no_rows}
 use Rattle.tables.specs.Records.{workspace_by, organization_at, record_of}
-use Rattle.tables.specs.Sound.{KeepsTheLast, TellsVersion, IsOrgRow, IsTokenRow, IsSound}
+use Rattle.tables.specs.Sound.{TellsVersion, IsOrgRow, IsTokenRow, IsSound}
 use Rattle.tables.specs.Inner.Edits.{changed_rows}
 use Rattle.tables.proofs.Names.{same_name, apart_name, names_apart, is_pair, pair_first, pair_second}
 use Rattle.tables.proofs.Telling.{metas_changed}
@@ -34,7 +34,7 @@ use Rattle.tables.proofs.Parts.{none_mapped}
 use Rattle.tables.proofs.Sets.{Puts, workspace_there, one_of, put_own, put_other}
 use Rattle.tables.proofs.Edits.{changed_puts}
 use Rattle.tables.proofs.Lawful.{limit_there, limit_is}
-use Rattle.tables.proofs.Following.{rules_keep_the_last, count_within}
+use Rattle.tables.proofs.Counting.{count_within}
 use Rattle.tables.proofs.Owned.{AreOwned, sound_are_owned, changed_are_owned, any_pushed, apart_pushed, pair_turned}
 use Rattle.tables.proofs.Operators.{org_own, org_other}
 
@@ -94,7 +94,6 @@ changed_keeps org ws t sound change o named there due = record {
   token_rows = order.token_rows;
   counts = λ q p e. within q p e (bytes_eq q org) refl;
   workspaces = λ a b w e. named_there a b w e (is_pair org ws a b) refl;
-  versions = λ a b w e. kept_there a b w e (is_pair org ws a b) refl;
 }
   where
     u : Tables
@@ -104,7 +103,7 @@ changed_keeps org ws t sound change o named there due = record {
     after = changed_by change (workspace_by t org ws)
 
     puts : Puts org ws after t u
-    puts = changed_puts org ws t sound change
+    puts = changed_puts org ws t change
 
     order : AreInOrder u.orgs u.tokens
     order = subst (λ os. AreInOrder os u.tokens) (sym puts.orgs) (subst (λ ts. AreInOrder t.orgs ts) (sym puts.tokens) (sound_in_order t sound))
@@ -122,10 +121,6 @@ changed_keeps org ws t sound change o named there due = record {
     lawful_after = subst IsLawfulIfThere (sym ruled) (rules_are_lawful due.act due.now (seen_in o ws) due.range due.moment
         (subst IsLawfulIfThere (sym seen) (there_if IsLawful (workspace_by t org ws) (λ w e. (sound.workspaces org ws w e).lawful))))
 
-    kept_after : IfSome after KeepsTheLast
-    kept_after = subst (λ (w : Option Workspace). IfSome w KeepsTheLast) (sym ruled) (rules_keep_the_last due.act due.now (seen_in o ws)
-        (subst (λ (w : Option Workspace). IfSome w KeepsTheLast) (sym seen) (there_if KeepsTheLast (workspace_by t org ws) (sound.versions org ws))))
-
     own : (a b : List ℕ) (w : Workspace) → workspace_by u a b ≡ Some w → is_pair org ws a b ≡ true → after ≡ Some w
     own a b w e same = sym puts.own ∙ subst (λ (x : List ℕ). workspace_by u x ws ≡ Some w) (pair_first org ws a b same) (subst (λ (y : List ℕ). workspace_by u a y ≡ Some w) (pair_second org ws a b same) e)
 
@@ -135,10 +130,6 @@ changed_keeps org ws t sound change o named there due = record {
       lawful = if_there IsLawful after w lawful_after (own a b w e same);
     }
     named_there a b w e false other = sound.workspaces a b w (sym (puts.others a b other) ∙ e)
-
-    kept_there : (a b : List ℕ) (w : Workspace) → workspace_by u a b ≡ Some w → (c : Bool) → is_pair org ws a b ≡ c → KeepsTheLast w
-    kept_there a b w e true same = if_there KeepsTheLast after w kept_after (own a b w e same)
-    kept_there a b w e false other = sound.versions a b w (sym (puts.others a b other) ∙ e)
 
     within : (q : List ℕ) (p : Organization) → record_of u q ≡ Some p → (c : Bool) → bytes_eq q org ≡ c → count_of p ≤ 100_000
     within q p e true same =
@@ -173,7 +164,6 @@ org_added_keeps org limit t sound named most none = record {
   token_rows = sound.token_rows;
   counts = λ q o e. within q o e (bytes_eq q org) refl;
   workspaces = sound.workspaces;
-  versions = sound.versions;
 }
   where
     new : Kept OrgRow
@@ -209,7 +199,6 @@ token_added_keeps org name digest role t sound named long cap there unnamed unkn
   token_rows = all-append IsTokenRow t.tokens (new ∷ []) sound.token_rows (record { named = named; digest = long }, tt);
   counts = λ q o e. within q o (cap_of q t) refl e;
   workspaces = sound.workspaces;
-  versions = sound.versions;
 }
   where
     new : Kept TokenRow
@@ -240,5 +229,4 @@ no_rows_are_sound metas told = record {
   token_rows = tt;
   counts = λ org o e. absurd (let none : ⊥ = cc in none);
   workspaces = λ org name w e. absurd (let none : ⊥ = cc in none);
-  versions = λ org name w e. absurd (let none : ⊥ = cc in none);
 }

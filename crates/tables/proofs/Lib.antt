@@ -15,7 +15,7 @@ pub mod Listed
 pub mod OrgLists
 pub mod Limits
 pub mod Revoking
-pub mod Following
+pub mod Counting
 pub mod Owned
 pub mod Telling
 pub mod Kept

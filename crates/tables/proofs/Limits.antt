@@ -68,7 +68,6 @@ module _ (org : List ℕ) (limit : ℕ) where
         token_rows = sound.token_rows;
         counts = λ q o e. within q o e (bytes_eq q org) refl;
         workspaces = sound.workspaces;
-        versions = sound.versions;
       }
         where
           still : (q : List ℕ) → list_any (is_org q) (update_where (is_org org) recapped t.orgs) ≡ list_any (is_org q) t.orgs

@@ -24,7 +24,7 @@ use Rattle.statements.specs.Tables.{Tables}
 use Rattle.statements.specs.Changes.{is_ws_of, is_version_of, is_run_of}
 use Rattle.statements.specs.Finds.{cap_of, workspace_of}
 use Rattle.statements.specs.Listings.{comes_after, workspaces_by_name, workspace_at as named_at, version_head_of, VersionsRise, RunsRise}
-use Rattle.tables.specs.Records.{holder_in, version_in, run_in, versions_at, runs_at, workspace_at, workspaces_at, organization_at, record_of}
+use Rattle.tables.specs.Records.{settings_in, holder_in, version_in, run_in, versions_at, runs_at, workspace_at, workspaces_at, organization_at, record_of}
 use Rattle.tables.specs.Sound.{IsSound}
 use Rattle.tables.specs.Inner.Lists.{version_row_in, versions_listed_in, run_row_in, runs_listed_in, ws_row_in, workspaces_listed_in}
 use Rattle.tables.proofs.Sets.{entry_found}
@@ -133,7 +133,7 @@ module _ (t : Tables) (org : List ℕ) where
   -- a row as it is shown is the workspace as it is shown
   row_shown : (e : List ℕ × WorkspaceCells) → ws_row_in org t (named_at e) ≡ showing.row_of e.0 (showing.shown_of (workspace_at t org e.0 e.1))
   row_shown e =
-      ap (λ (version : Option ℕ). record { auto_apply = e.1.auto; holder = showing.holder_id (holder_in e.1.holder); name = e.0; version = version })
+      ap (λ (version : Option ℕ). record { settings = settings_in e.1; holder = showing.holder_id (holder_in e.1.holder); name = e.0; version = version })
       (ap (option_map (λ (h : Head). h.number)) (newest_found t org e.0) ∙ number_shown (newest (versions_at t org e.0)))
 
   record_entries : entries (workspaces_at t org) ≡ map (λ (e : List ℕ × WorkspaceCells). (e.0, workspace_at t org e.0 e.1)) (entries (workspaces_by_name org t))

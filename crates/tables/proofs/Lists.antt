@@ -1,9 +1,8 @@
--- What is found in a list after a write, and versions whose numbers follow one another.
-use Rattle.std.proofs.Common.{◌≡◌, ℕ, zero, suc, ◌+◌, ◌-◌, ◌<◌, ◌≤◌, nat_lt, Bool, true, false, not, cond, List, [], ◌∷◌, ◌++◌, map, filter, find, length, drop, Some, None, option_map, refl, ap, subst, ◌∙◌, arith}
-use Rattle.std.proofs.lemmas.Bool.{lt-ltb, le-ltb}
+-- What is found in a list after a write, and the versions above a number.
+use Rattle.std.proofs.Common.{◌≡◌, ℕ, ◌+◌, ◌<◌, ◌≤◌, nat_lt, Bool, true, false, not, cond, List, [], ◌∷◌, ◌++◌, map, filter, find, Some, None, option_map, refl, ap, subst, ◌∙◌, arith}
+use Rattle.std.proofs.lemmas.Bool.{lt-ltb, le-ltb, ltb-true, ltb-false}
 use Rattle.sqlite_keyed.specs.Lists.{update_where, delete_where}
 use Rattle.machine.specs.declared.records.Version.{Version}
-use Rattle.tables.specs.Sound.{Follow}
 
 module _ {X : Type 0} where
   pub found_passes : (p : X → Bool) (xs : List X) (x : X) → find p xs ≡ Some x → p x ≡ true
@@ -71,45 +70,17 @@ module _ {X : Type 0} where
           go true e more = rw (apart x e) more
           go false e more = ap (cond (p x) (Some x)) more
 
-  pub drop_push : (n : ℕ) (xs : List X) (x : X) → n ≤ length xs → drop n (xs ++ x ∷ []) ≡ drop n xs ++ x ∷ []
-  drop_push zero xs x h = refl
-  drop_push (suc n) [] x h = absurd (omega arith)
-  drop_push (suc n) (y ∷ ys) x h = drop_push n ys x (omega arith)
+-- ---- versions
 
-  pub drop_beyond : (n : ℕ) (xs : List X) (x : X) → length xs < n → drop n (xs ++ x ∷ []) ≡ []
-  drop_beyond zero xs x h = absurd (omega arith)
-  drop_beyond (suc zero) [] x h = refl
-  drop_beyond (suc (suc n)) [] x h = refl
-  drop_beyond (suc n) (y ∷ ys) x h = drop_beyond n ys x (omega arith)
-
--- ---- numbers that follow one another
-
-abbrev numbers : List Version → List ℕ
-numbers vs = map (λ (v : Version). v.number) vs
-
-length-numbers : (us : List Version) → length (numbers us) ≡ length us
-length-numbers [] = refl
-length-numbers (u ∷ us) = ap suc (length-numbers us)
-
-none_below : (next bound : ℕ) (vs : List Version) → Follow (numbers vs) next → bound + length vs ≤ next → delete_where (λ (v : Version). nat_lt v.number bound) vs ≡ vs
-none_below next bound [] follow h = refl
-none_below next bound (v ∷ vs) follow h =
-    let above : bound ≤ v.number = omega (arith, length-numbers vs, follow.0) in
-    rw (le-ltb v.number bound above) (ap (λ l. v ∷ l) (none_below next bound vs follow.1 (omega arith)))
-
--- the oldest ones go: those whose numbers are below that of the first one that stays
-pub cut_is : (next gone : ℕ) (vs : List Version) → Follow (numbers vs) next → gone ≤ length vs
-    → delete_where (λ (v : Version). nat_lt v.number (next - (length vs - gone))) vs ≡ drop gone vs
-cut_is next zero vs follow h = first vs follow
+not_below : (m n : ℕ) → not (nat_lt m (n + 1)) ≡ nat_lt n m
+not_below m n = by_test (nat_lt n m) refl
   where
-    first : (us : List Version) → Follow (numbers us) next → delete_where (λ (v : Version). nat_lt v.number (next - (length us - zero))) us ≡ us
-    first [] follow = refl
-    first (u ∷ us) follow = none_below next _ (u ∷ us) follow (omega (arith, length-numbers us, follow.0))
-cut_is next (suc gone) [] follow h = refl
-cut_is next (suc gone) (v ∷ vs) follow h =
-    let bound : ℕ = next - (length vs - gone) in
-    let below : v.number < bound = omega (arith, length-numbers vs, follow.0) in
-    let rest : delete_where (λ (u : Version). nat_lt u.number bound) vs ≡ drop gone vs = cut_is next gone vs follow.1 (omega arith) in
-    ap (λ (b : ℕ). delete_where (λ (u : Version). nat_lt u.number b) (v ∷ vs)) (let same : next - (length (v ∷ vs) - suc gone) ≡ bound = omega arith in same)
-    ∙ ap (λ (b : Bool). cond (not b) (v ∷ delete_where (λ (u : Version). nat_lt u.number bound) vs) (delete_where (λ (u : Version). nat_lt u.number bound) vs)) (lt-ltb v.number bound below)
-    ∙ rest
+    by_test : (b : Bool) → nat_lt n m ≡ b → not (nat_lt m (n + 1)) ≡ b
+    by_test true e = ap not (le-ltb m (n + 1) (let above : n < m = ltb-true n m e in omega (arith, above)))
+    by_test false e = ap not (lt-ltb m (n + 1) (let under : m ≤ n = ltb-false n m e in omega (arith, under)))
+
+-- those up to a number go, and those above it are left
+pub below_gone : (last : ℕ) (vs : List Version) → delete_where (λ (v : Version). nat_lt v.number (last + 1)) vs ≡ filter (λ (v : Version). nat_lt last v.number) vs
+below_gone last [] = refl
+below_gone last (v ∷ vs) = ap (λ (b : Bool). cond b (v ∷ delete_where (λ (u : Version). nat_lt u.number (last + 1)) vs) (delete_where (λ (u : Version). nat_lt u.number (last + 1)) vs)) (not_below v.number last)
+    ∙ ap (λ (us : List Version). cond (nat_lt last v.number) (v ∷ us) us) (below_gone last vs)

@@ -23,7 +23,7 @@ use Rattle.statements.specs.Tables.{Tables}
 use Rattle.statements.specs.Changes.{is_org, is_token, has_digest, is_ws_of}
 use Rattle.statements.specs.Changes as rows
 use Rattle.statements.specs.Finds.{cap_of, role_of_digest, role_of_name}
-use Rattle.tables.specs.Records.{token_in, is_token_of, tokens_at, workspace_at, workspaces_at, organization_at, record_of}
+use Rattle.tables.specs.Records.{caller_in, caller_by, token_in, is_token_of, tokens_at, workspace_at, workspaces_at, organization_at, record_of}
 use Rattle.tables.specs.Sound.{IsSound}
 use Rattle.tables.proofs.Lists.{found_passes, find_pushed, find_pushed_other}
 use Rattle.tables.proofs.Names.{same_name, name_is, apart_name, names_apart, pair_first, pair_is}
@@ -126,11 +126,11 @@ module _ (t : Tables) (sound : IsSound t) (org : List ℕ) where
       by_limit None e = none_found_there (find (has_digest org digest) t.tokens) refl e
       by_limit (Some cap) e = sym (digest_found digest org t.tokens sound.tokens_apart sound.digests_apart)
 
-  -- the role of a caller is that of the row with its digest
-  pub caller_found : (digest : List ℕ) → role_of_digest org digest t ≡ option_map (λ (token : Token). token.role) (caller_of (record_of t org) digest)
-  caller_found digest = mapped (find (has_digest org digest) t.tokens) ∙ ap (option_map (λ (token : Token). token.role)) (caller_is digest)
+  -- who asks is told by the row with the digest
+  pub caller_found : (digest : List ℕ) → caller_by org digest t ≡ option_map (λ (token : Token). token.caller) (caller_of (record_of t org) digest)
+  caller_found digest = mapped (find (has_digest org digest) t.tokens) ∙ ap (option_map (λ (token : Token). token.caller)) (caller_is digest)
     where
-      mapped : (o : Option (Kept TokenRow)) → option_map (λ (x : Kept TokenRow). x.1.it.role) o ≡ option_map (λ (token : Token). token.role) (option_map (λ (x : Kept TokenRow). token_in x.1.it) o)
+      mapped : (o : Option (Kept TokenRow)) → option_map caller_in (option_map (λ (x : Kept TokenRow). x.1.it.role) o) ≡ option_map (λ (token : Token). token.caller) (option_map (λ (x : Kept TokenRow). token_in x.1.it) o)
       mapped None = refl
       mapped (Some x) = refl
 

@@ -25,7 +25,7 @@ use Rattle.statements.specs.Tables.{Tables}
 use Rattle.statements.specs.Changes.{is_org, is_ws, is_version_of, is_version_below, is_run_of, is_run, with_auto, held_by, released_from, with_next_version, with_next_run, ws_changed, ws_added, new_workspace, new_version, version_added, versions_removed, versions_removed_below, new_run, run_added, run_changed_to, run_acted}
 use Rattle.statements.specs.Finds.{workspace_of, versions_of}
 use Rattle.tables.specs.Sound.{IsSound}
-use Rattle.tables.specs.Inner.Edits.{removed_rows, made_rows, put_rows, emptied_rows, versioned_rows, run_put, run_rows, freed_rows, edited_rows, started_rows, changed_rows}
+use Rattle.tables.specs.Inner.Edits.{removed_rows, made_rows, numbered_rows, added_rows, left_rows, if_there, run_put, run_counted, freed_rows, edited_rows, started_rows, changed_rows}
 use Rattle.tables.proofs.Names.{is_pair, pair_is, pair_first, pair_second, pair_apart}
 
 module _ {X : Type 0} where
@@ -179,18 +179,20 @@ module _ (org ws : List ℕ) where
       some_mapped None = refl
       some_mapped (Some x) = refl
 
-  owned_versioned : (v : Version) (gone : ℕ) (t : Tables) → AreOwned t → (r : Option WorkspaceCells) (count : ℕ) → workspace_of org ws t ≡ r → AreOwned (versioned_rows org ws v gone r count t)
-  owned_versioned v gone t owned None count e = owned
-  owned_versioned v gone t owned (Some w) count e = by_test (nat_le gone count)
-    where
-      by_test : (b : Bool) → AreOwned (cond b (put_rows org ws v w.next_version (count - gone) t) (emptied_rows org ws v t))
-      by_test true =
-          let cut = owned_cut org ws t owned (w.next_version - (count - gone)) in
-          owned_row org ws (version_added org ws (new_version v.number v.serial v.lineage v.created v.text) (versions_removed_below org ws (w.next_version - (count - gone)) t))
-          (owned_version org ws (versions_removed_below org ws (w.next_version - (count - gone)) t) cut (new_version v.number v.serial v.lineage v.created v.text) (row_there t w e)) (with_next_version (v.number + 1))
-      by_test false = owned_row org ws (versions_removed org ws t) (owned_purged org ws t owned) (with_next_version (v.number + 1))
+  owned_left : (outgoing : Option ℕ) (t : Tables) → AreOwned t → AreOwned (left_rows outgoing org ws t)
+  owned_left None t owned = owned
+  owned_left (Some last) t owned = owned_cut org ws t owned (last + 1)
 
-  owned_run_rows : (number : ℕ) (ask : RunAsk) (created : ℕ) (t : Tables) → AreOwned t → (r : Option WorkspaceCells) → workspace_of org ws t ≡ r → AreOwned (run_rows org ws number ask created r t)
+  owned_versioned : (v : Version) (outgoing : Option ℕ) (t : Tables) → AreOwned t → (r : Option WorkspaceCells) → workspace_of org ws t ≡ r
+      → AreOwned (if_there r (left_rows outgoing org ws (added_rows org ws v (numbered_rows org ws v t))) t)
+  owned_versioned v outgoing t owned None e = owned
+  owned_versioned v outgoing t owned (Some w) e =
+      let new : VersionCells = new_version v.number v.serial v.lineage v.created v.text in
+      owned_left outgoing (added_rows org ws v (numbered_rows org ws v t))
+      (owned_row org ws (version_added org ws new t) (owned_version org ws t owned new (row_there t w e)) (with_next_version (v.number + 1)))
+
+  owned_run_rows : (number : ℕ) (ask : RunAsk) (created : ℕ) (t : Tables) → AreOwned t → (r : Option WorkspaceCells) → workspace_of org ws t ≡ r
+      → AreOwned (if_there r (run_put org ws number ask created (run_counted org ws number t)) t)
   owned_run_rows number ask created t owned None e = owned
   owned_run_rows number ask created t owned (Some w) e =
       owned_row org ws (run_put org ws number ask created t)
@@ -204,7 +206,7 @@ module _ (org ws : List ℕ) where
   owned_edited t owned there (Make settings) = owned_made org ws t owned settings.auto_apply there
   owned_edited t owned there (Configure settings) = owned_row org ws t owned (with_auto settings.auto_apply)
   owned_edited t owned there Remove = owned_removed org ws t owned
-  owned_edited t owned there (AddVersion v gone) = owned_versioned v gone t owned (workspace_of org ws t) (versions_of org ws t) refl
+  owned_edited t owned there (AddVersion v outgoing) = owned_versioned v outgoing t owned (workspace_of org ws t) refl
   owned_edited t owned there Purge = owned_purged org ws t owned
   owned_edited t owned there (Hold id text) = owned_row org ws t owned (held_by (Lock id text))
   owned_edited t owned there (Release id) = owned_row org ws t owned (released_from id)

@@ -110,7 +110,6 @@ module _ (org name : List ℕ) (t : Tables) where
     token_rows = all-filter IsTokenRow (λ x. not (is_token org name x)) t.tokens sound.token_rows;
     counts = λ q o e. within q o (cap_of q t) refl e;
     workspaces = sound.workspaces;
-    versions = sound.versions;
   }
     where
       within : (q : List ℕ) (o : Organization) (c : Option ℕ) → cap_of q t ≡ c → option_map (organization_at left q) c ≡ Some o → count_of o ≤ 100_000

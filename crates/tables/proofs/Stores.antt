@@ -55,10 +55,10 @@ module _ (old new : Database) (s : IsSoundStore old) where
 
   module _ (org ws : List ℕ) (change : Change) (moves : (t : Tables) → Holds old t → Holds new (changed_rows org ws change t)) where
     pub store_changed_own : (o : Organization) → records_of old org ≡ Some o → records_of new org ≡ Some (placed o ws (changed_by change (get o.workspaces ws)))
-    store_changed_own o there = records_by new _ (moves rows_before s.holds) org ∙ changed_own org ws rows_before s.sound change o there
+    store_changed_own o there = records_by new _ (moves rows_before s.holds) org ∙ changed_own org ws rows_before change o there
 
     pub store_changed_other : (q : List ℕ) → q ≢ org → records_of new q ≡ records_of old q
-    store_changed_other q apart = records_by new _ (moves rows_before s.holds) q ∙ changed_other org ws rows_before s.sound change q apart
+    store_changed_other q apart = records_by new _ (moves rows_before s.holds) q ∙ changed_other org ws rows_before change q apart
 
     pub store_changed_keeps : (o : Organization) → IsTrue (is_ws_name ws) → records_of old org ≡ Some o → IsDue (seen_in o ws) change → IsSoundStore new
     store_changed_keeps o named there due = store_by new _ (moves rows_before s.holds) (changed_keeps org ws rows_before s.sound change o named there due)

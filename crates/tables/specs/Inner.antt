@@ -3,6 +3,5 @@ pub mod Edits
 pub mod Lists
 pub mod Looks
 pub mod Making
-pub mod Outgoing
 pub mod Steps
 pub mod Units

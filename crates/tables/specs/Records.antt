@@ -2,6 +2,9 @@
 use Rattle.std.specs.Prelude.{ℕ, Bool, List, map, filter, Option, option_map}
 use Rattle.std.specs.Str.{bytes_eq}
 use Rattle.std.specs.FinMap.{FinMap, from_entries}
+use Rattle.basis.specs.declared.roles.Role.{Role}
+use Rattle.basis.specs.declared.roles.Caller.{Caller}
+use Rattle.basis.specs.declared.rows.Settings.{Settings}
 use Rattle.machine.specs.Order.{name_cmp}
 use Rattle.machine.specs.declared.records.Holder.{Holder}
 use Rattle.machine.specs.declared.records.Holder.TheVariants.{Nobody, Lock, Run as HoldingRun}
@@ -19,9 +22,12 @@ use Rattle.statements.specs.declared.rows.Workspace.{Workspace as WorkspaceCells
 use Rattle.statements.specs.Rows.{Kept, TokenRow}
 use Rattle.statements.specs.Tables.{Tables}
 use Rattle.statements.specs.Changes.{is_ws_of, is_version_of, is_run_of}
-use Rattle.statements.specs.Finds.{cap_of, workspace_of}
+use Rattle.statements.specs.Finds.{cap_of, role_of_digest, workspace_of}
 
 -- ---- what cells denote
+
+abbrev pub settings_in : WorkspaceCells → Settings
+settings_in w = record { auto_apply = w.auto }
 
 abbrev pub holder_in : HolderCells → Holder
 holder_in cells.Nobody = Nobody
@@ -34,13 +40,16 @@ version_in v = record { number = v.number; serial = v.serial; lineage = v.lineag
 abbrev pub run_in : RunCells → Run
 run_in r = record { number = r.number; plan_only = r.plan_only; key = r.key; message = r.message; created = r.created; status = r.status; action = r.action }
 
+abbrev pub caller_in : Role → Caller
+caller_in role = record { role = role }
+
 abbrev pub token_in : TokenCells → Token
-token_in t = record { digest = t.digest; role = t.role }
+token_in t = record { digest = t.digest; caller = caller_in t.role }
 
 -- a workspace with its versions and runs, which have rows of their own
 abbrev pub workspace_in : WorkspaceCells → List Version → List Run → Workspace
 workspace_in w versions runs = record {
-  auto_apply = w.auto;
+  settings = settings_in w;
   holder = holder_in w.holder;
   released = w.released;
   next_version = w.next_version;
@@ -81,3 +90,7 @@ organization_at t org cap = record { limit = cap; tokens = tokens_at t org; work
 -- the record of an organization, if it has a row
 abbrev pub record_of : Tables → List ℕ → Option Organization
 record_of t org = option_map (organization_at t org) (cap_of org t)
+
+-- who asks by the organization's token with a digest, if it has a row
+abbrev pub caller_by : List ℕ → List ℕ → Tables → Option Caller
+caller_by org digest t = option_map caller_in (role_of_digest org digest t)

@@ -1,27 +1,17 @@
 -- When tables are sound.
-use Rattle.std.specs.Prelude.{◌≡◌, ◌≤◌, ◌+◌, ℕ, pos, true, List, [], ◌∷◌, length, map, Some, IsTrue, ⊤}
+use Rattle.std.specs.Prelude.{◌≡◌, ◌≤◌, ℕ, pos, true, List, [], ◌∷◌, length, Some, IsTrue}
 use Rattle.std.specs.List.{AllByRecursion, list_any}
 use Rattle.sqlite_keyed.specs.Rules.{AreApart}
 use Rattle.basis.specs.Names.{is_org_name}
 use Rattle.basis.specs.declared.numbers.TheConstants.{MAX_LIMIT}
 use Rattle.machine.specs.Laws.{IsNamedWorkspace}
 use Rattle.machine.specs.Records.{count_of}
-use Rattle.machine.specs.declared.records.Version.{Version}
 use Rattle.machine.specs.declared.records.Workspace.{Workspace}
 use Rattle.machine.specs.declared.records.Organization.{Organization}
 use Rattle.statements.specs.Rows.{Kept, OrgRow, TokenRow}
 use Rattle.statements.specs.Tables.{Tables}
 use Rattle.statements.specs.Changes.{is_org, is_token, has_digest, is_ws}
 use Rattle.tables.specs.Records.{workspace_by, record_of}
-
--- the numbers follow one another, up to the next one
-abbrev pub Follow : List ℕ → ℕ → Type 0
-Follow [] next = ⊤
-Follow (n ∷ ns) next = (n + length (n ∷ ns) ≡ next) × Follow ns next
-
--- the versions that a workspace keeps are the last ones that it got
-abbrev pub KeepsTheLast : Workspace → Type 0
-KeepsTheLast w = Follow (map (λ (v : Version). v.number) w.versions) w.next_version
 
 pub record IsOrgRow (x : Kept OrgRow) : Type 0 where
   pub named : IsTrue (is_org_name x.1.name)
@@ -56,4 +46,3 @@ pub record IsSound (t : Tables) : Type 0 where
   pub counts : (org : List ℕ) (o : Organization) → record_of t org ≡ Some o → count_of o ≤ MAX_LIMIT
   -- each workspace that the rows denote is lawful: of its versions and runs the numbers rise in the order of their rows
   pub workspaces : (org name : List ℕ) (w : Workspace) → workspace_by t org name ≡ Some w → IsNamedWorkspace name w
-  pub versions : (org name : List ℕ) (w : Workspace) → workspace_by t org name ≡ Some w → KeepsTheLast w

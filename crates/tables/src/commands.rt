@@ -1,39 +1,22 @@
 //! The calls of a store, over its connection: each with what it has to look at first.
-ghost use Rattle.std.specs.Prelude.{◌≡◌, false, IsTrue, OnOk, ◌^◌, ◌<◌};
+ghost use Rattle.std.specs.Prelude.{◌≡◌, false, option_map, IsTrue, OnOk, ◌^◌, ◌<◌};
 ghost use Rattle.sqlite.specs.Held.{state};
 ghost use Rattle.sqlite.specs.State.{HasCleanDisk};
-ghost use Rattle.statements.specs.Finds.{body_of, role_of_digest};
-ghost use Rattle.tables.specs.Inner.Edits.{changed_rows};
+ghost use Rattle.statements.specs.Finds.{body_of};
+ghost use Rattle.machine.specs.Needs.{needed_of};
+ghost use Rattle.tables.specs.Records.{caller_in, caller_by};
 ghost use Rattle.tables.specs.Inner.Units.{unit_in};
 ghost use Rattle.statements.specs.Listings.{OrgsApart, WorkspacesApart, VersionsRise, RunsRise};
 ghost use Rattle.tables.specs.Inner.Looks.{LooksBy, SeesBy};
 ghost use Rattle.tables.specs.Inner.Lists.{LooksWhere, versions_listed_in, runs_listed_in, workspaces_listed_in, organizations_listed_in};
-ghost use Rattle.tables.specs.Inner.Steps.{TransactsBy, ManagesBy, org_managed, limit_managed, token_managed, revocation_managed, is_taken};
+ghost use Rattle.tables.specs.Inner.Steps.{ManagesBy, org_managed, limit_managed, token_managed, revocation_managed, is_taken};
 
 use crate::{listings, looks, transactions};
-use basis::{Bytes, Items, Limit, Listing, Number, Role, RunRow, VersionRow, WsRow};
-use machine::{Act, AdminAnswer, Change, OrgRow, Unit};
+use basis::{Bytes, Caller, Items, Limit, Listing, Number, Role, RunRow, VersionRow, WsRow};
+use machine::{AdminAnswer, Needs, OrgRow, Unit};
 use sqlite::{Alter, Connection, Error};
 use statements::{organizations, tokens};
 use std::alloc::Global;
-
-/// Changes a workspace.
-pub(crate) fn apply<S: Alter>(
-    conn: &mut Connection<S>,
-    org: &str,
-    ws: &str,
-    change: &Change,
-) -> Result<(), Error>
-    requires idle { conn.old.in_transaction ≡ false }
-    ensures idle { conn.new.in_transaction ≡ false }
-    ensures so_far { HasCleanDisk (state S.Store conn.new) → HasCleanDisk (state S.Store conn.old) }
-    ensures done { TransactsBy (changed_rows org.now ws.now change.now) (state S.Store conn.old) (state S.Store conn.new) result }
-{
-    let idle = conn.is_autocommit();
-    prove!(idle);
-    let outgoing = looks::outgoing(conn, org, ws, &change.edit)?;
-    transactions::change(conn, org, ws, change, outgoing)
-}
 
 /// Adds an organization.
 pub(crate) fn org_add<S: Alter>(
@@ -141,20 +124,30 @@ pub(crate) fn token_revoke<S: Alter>(
     Ok(AdminAnswer::Done)
 }
 
-/// The role of the organization's token with this digest.
+/// Who asks by the organization's token with this digest.
 pub(crate) fn caller<S: Alter>(
     conn: &mut Connection<S>,
     org: &str,
     digest: &[u8],
-) -> Result<Option<Role>, Error>
+) -> Result<Option<Caller>, Error>
     requires idle { conn.old.in_transaction ≡ false }
     ensures idle { conn.new.in_transaction ≡ false }
     ensures so_far { HasCleanDisk (state S.Store conn.new) → HasCleanDisk (state S.Store conn.old) }
-    ensures looks { LooksBy (role_of_digest org.now digest.now) (state S.Store conn.old) (state S.Store conn.new) result }
+    ensures looks { LooksBy (caller_by org.now digest.now) (state S.Store conn.old) (state S.Store conn.new) result }
 {
     let idle = conn.is_autocommit();
     prove!(idle);
-    tokens::role_of_digest(conn, org, digest)
+    let role = tokens::role_of_digest(conn, org, digest)?;
+    Ok(caller_of(role))
+}
+
+fn caller_of(role: Option<Role>) -> Option<Caller>
+    ensures { result ≡ option_map caller_in role }
+{
+    match role {
+        None => None,
+        Some(role) => Some(Caller { role }),
+    }
 }
 
 /// What a decision on an act needs of a workspace.
@@ -163,16 +156,16 @@ pub(crate) fn unit<S: Alter>(
     alloc: Global,
     org: &str,
     ws: &str,
-    act: &Act,
+    needs: &Needs<'_>,
 ) -> Result<Unit, Error>
     requires idle { conn.old.in_transaction ≡ false }
     ensures idle { conn.new.in_transaction ≡ false }
     ensures so_far { HasCleanDisk (state S.Store conn.new) → HasCleanDisk (state S.Store conn.old) }
-    ensures looks { LooksBy (unit_in act.now org.now ws.now) (state S.Store conn.old) (state S.Store conn.new) result }
+    ensures looks { LooksBy (unit_in (needed_of needs.now) org.now ws.now) (state S.Store conn.old) (state S.Store conn.new) result }
 {
     let idle = conn.is_autocommit();
     prove!(idle);
-    looks::unit(conn, alloc, org, ws, act)
+    looks::unit(conn, alloc, org, ws, needs)
 }
 
 /// The text of a version, if it is kept.

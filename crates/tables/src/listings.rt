@@ -10,7 +10,7 @@ ghost use Rattle.tables.specs.Inner.Looks.{SeesBy};
 ghost use Rattle.tables.specs.Inner.Lists.{SeesWhere, version_row_in, versions_listed_in, run_row_in, runs_listed_in, newest_number_in, ws_row_in, workspaces_listed_in, org_row_in, organizations_listed_in};
 
 use crate::looks::{limit_of, lock_id_of, moment_of, number_of};
-use basis::{HolderId, Items, Listing, Number, RunRow, Text, VersionRow, WsName, WsRow};
+use basis::{HolderId, Items, Listing, Number, RunRow, Settings, Text, VersionRow, WsName, WsRow};
 use machine::OrgRow;
 use sqlite::{Alter, Connection, Error, ErrorCode};
 use statements::rows::{
@@ -167,7 +167,9 @@ fn ws_row<S: Alter>(
     let holder = holder_id_of(alloc, &workspace.it.holder)?;
     let name = ws_name_of(alloc, &workspace.name)?;
     Ok(WsRow {
-        auto_apply: workspace.it.auto,
+        settings: Settings {
+            auto_apply: workspace.it.auto,
+        },
         holder,
         name,
         version,

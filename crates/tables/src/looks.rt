@@ -1,20 +1,23 @@
 //! What is asked of the tables outside a transaction, by queries of one row each.
-ghost use Rattle.std.specs.Prelude.{◌≡◌, false, is_some, option_map, IsTrue, IfOk, OnOk, ◌^◌, ◌<◌, unwrap_or};
+ghost use Rattle.std.specs.Prelude.{◌≡◌, false, cond, is_some, option_map, option_copied, IsTrue, IfOk, OnOk, ◌^◌, ◌<◌, unwrap_or};
 ghost use Rattle.sqlite.specs.Held.{state};
 ghost use Rattle.sqlite.specs.State.{HasCleanDisk};
-ghost use Rattle.statements.specs.Finds.{body_of, number_of, status_of, run_of};
-ghost use Rattle.tables.specs.Records.{holder_in, run_in};
-ghost use Rattle.tables.specs.Inner.Units.{holder_status_in, is_found_text, newest_by, newest_in, has_version_in, keyed_cells_in, asked_cells_in, unit_in};
-ghost use Rattle.tables.specs.Inner.Outgoing.{outgoing_of, outgoing_below, outgoing_in, room_of, room_in, GoesBy};
-ghost use Rattle.tables.specs.Inner.Looks.{SeesBy, is_body, counted_in, absent_in, runs_in, around_in, unit_from, present_in};
+ghost use Rattle.statements.specs.Finds.{body_of, number_of, status_of, run_of, workspaces_of, first_waiting_of, open_runs_of};
+ghost use Rattle.machine.specs.Needs.{needed_of};
+ghost use Rattle.machine.specs.Units.{if_needed};
+ghost use Rattle.tables.specs.Records.{settings_in, holder_in, run_in};
+ghost use Rattle.tables.specs.Inner.Units.{holder_status_in, is_body, has_text, newest_by, newest_in, outgoing_in, has_version_in, keyed_cells_in, asked_cells_in, unit_in};
+ghost use Rattle.tables.specs.Inner.Looks.{SeesBy, absent_in, runs_in, around_in, unit_from, present_in};
 
-use crate::steps::Outgoing;
-use basis::{Bytes, Limit, LockId, Moment, Number, RunStatus, Text};
-use machine::{Act, Edit, Holder, Newest, Run, Unit, WorkspaceUnit};
+use basis::{Bytes, Limit, LockId, Moment, Number, RunStatus, Settings, Text};
+use machine::{Holder, MAX_VERSIONS, Needs, Newest, Run, Unit, WorkspaceUnit};
 use sqlite::{Alter, Connection, Error, ErrorCode};
 use statements::rows::{Head, Holder as HolderCells, Run as RunCells, Workspace as WorkspaceCells};
 use statements::{organizations, runs, versions, workspaces};
 use std::alloc::Global;
+
+/// How many versions stand behind the newest of those that go as one more comes.
+const VERSIONS_BEHIND: u64 = MAX_VERSIONS as u64 - 1;
 
 /// What a decision needs of the runs of a workspace.
 #[derive(Drop)]
@@ -29,7 +32,7 @@ struct RunsAround {
 #[derive(Drop)]
 struct Surroundings {
     newest: Option<Newest>,
-    versions: u64,
+    outgoing: Option<u64>,
     has_version: bool,
     runs: RunsAround,
 }
@@ -87,6 +90,25 @@ fn holder_status<S: Alter>(
     }
 }
 
+/// The status of the run that holds, where it is needed.
+fn holder_status_if<S: Alter>(
+    conn: &mut Connection<S>,
+    org: &str,
+    ws: &str,
+    needed: bool,
+    holder: &HolderCells,
+) -> Result<Option<RunStatus>, Error>
+    ensures mode { conn.old.in_transaction ≡ false → conn.new.in_transaction ≡ false }
+    ensures so_far { HasCleanDisk (state S.Store conn.new) → HasCleanDisk (state S.Store conn.old) }
+    ensures sees { SeesBy (λ t. if_needed needed (holder_status_in org.now ws.now holder.now t)) (state S.Store conn.old) (state S.Store conn.new) result }
+{
+    if needed {
+        holder_status(conn, org, ws, holder)
+    } else {
+        Ok(None)
+    }
+}
+
 /// Whether the text of a version is this one, byte for byte.
 fn is_text<S: Alter>(
     conn: &mut Connection<S>,
@@ -105,34 +127,25 @@ fn is_text<S: Alter>(
     }
 }
 
-/// Whether the text of a version is the one that an act brings.
-fn is_asked_text<S: Alter>(
+/// Whether a version has the text that it is compared with. Of one of another size the text isn't looked up.
+fn has_text<S: Alter>(
     conn: &mut Connection<S>,
     org: &str,
     ws: &str,
-    act: &Act,
-    number: u64,
+    text: Option<&Bytes>,
+    head: &Head,
 ) -> Result<bool, Error>
     ensures mode { conn.old.in_transaction ≡ false → conn.new.in_transaction ≡ false }
     ensures so_far { HasCleanDisk (state S.Store conn.new) → HasCleanDisk (state S.Store conn.old) }
-    ensures sees { SeesBy (λ t. is_found_text act.now (body_of org.now ws.now number t)) (state S.Store conn.old) (state S.Store conn.new) result }
+    ensures sees { SeesBy (has_text (option_copied text.entry) org.now ws.now head.now) (state S.Store conn.old) (state S.Store conn.new) result }
 {
-    match act {
-        Act::UpdateState { text, .. } => is_text(conn, org, ws, number, text),
-        Act::PutWorkspace(_) => Ok(false),
-        Act::ReadWorkspace => Ok(false),
-        Act::DeleteWorkspace => Ok(false),
-        Act::ReadState => Ok(false),
-        Act::PurgeState { .. } => Ok(false),
-        Act::Lock { .. } => Ok(false),
-        Act::Unlock(_) => Ok(false),
-        Act::ForceUnlock => Ok(false),
-        Act::ListVersions(_) => Ok(false),
-        Act::ReadVersion(_) => Ok(false),
-        Act::ListRuns(_) => Ok(false),
-        Act::MakeRun(_) => Ok(false),
-        Act::ReadRun(_) => Ok(false),
-        Act::ReportRun(..) => Ok(false),
+    let Some(text) = text else {
+        return Ok(false);
+    };
+    if head.size == text.as_slice().len() as u64 {
+        is_text(conn, org, ws, head.number, text)
+    } else {
+        Ok(false)
     }
 }
 
@@ -150,15 +163,15 @@ fn newest_as<S: Alter>(
     conn: &mut Connection<S>,
     org: &str,
     ws: &str,
-    act: &Act,
+    text: Option<&Bytes>,
     head: Head,
 ) -> Result<Newest, Error>
     ensures mode { conn.old.in_transaction ≡ false → conn.new.in_transaction ≡ false }
     ensures so_far { HasCleanDisk (state S.Store conn.new) → HasCleanDisk (state S.Store conn.old) }
-    ensures sees { SeesBy (λ t. newest_by act.now org.now ws.now t head) (state S.Store conn.old) (state S.Store conn.new) result }
+    ensures sees { SeesBy (λ t. newest_by (option_copied text.entry) org.now ws.now t head) (state S.Store conn.old) (state S.Store conn.new) result }
 {
     let number = number_of(head.number)?;
-    let is_same = is_asked_text(conn, org, ws, act, head.number)?;
+    let is_same = has_text(conn, org, ws, text, &head)?;
     Ok(Newest {
         number,
         serial: head.serial,
@@ -172,15 +185,52 @@ fn newest<S: Alter>(
     conn: &mut Connection<S>,
     org: &str,
     ws: &str,
-    act: &Act,
+    text: Option<&Bytes>,
 ) -> Result<Option<Newest>, Error>
     ensures mode { conn.old.in_transaction ≡ false → conn.new.in_transaction ≡ false }
     ensures so_far { HasCleanDisk (state S.Store conn.new) → HasCleanDisk (state S.Store conn.old) }
-    ensures sees { SeesBy (newest_in act.now org.now ws.now) (state S.Store conn.old) (state S.Store conn.new) result }
+    ensures sees { SeesBy (newest_in (option_copied text.entry) org.now ws.now) (state S.Store conn.old) (state S.Store conn.new) result }
 {
     match versions::newest(conn, org, ws)? {
         None => Ok(None),
-        Some(head) => Ok(Some(newest_as(conn, org, ws, act, head)?)),
+        Some(head) => Ok(Some(newest_as(conn, org, ws, text, head)?)),
+    }
+}
+
+/// The newest version, where it is needed.
+fn newest_if<S: Alter>(
+    conn: &mut Connection<S>,
+    org: &str,
+    ws: &str,
+    needed: bool,
+    text: Option<&Bytes>,
+) -> Result<Option<Newest>, Error>
+    ensures mode { conn.old.in_transaction ≡ false → conn.new.in_transaction ≡ false }
+    ensures so_far { HasCleanDisk (state S.Store conn.new) → HasCleanDisk (state S.Store conn.old) }
+    ensures sees { SeesBy (λ t. if_needed needed (newest_in (option_copied text.entry) org.now ws.now t)) (state S.Store conn.old) (state S.Store conn.new) result }
+{
+    if needed {
+        newest(conn, org, ws, text)
+    } else {
+        Ok(None)
+    }
+}
+
+/// The greatest number of the versions that go as one more comes, where it is needed.
+fn outgoing_if<S: Alter>(
+    conn: &mut Connection<S>,
+    org: &str,
+    ws: &str,
+    needed: bool,
+) -> Result<Option<u64>, Error>
+    ensures mode { conn.old.in_transaction ≡ false → conn.new.in_transaction ≡ false }
+    ensures so_far { HasCleanDisk (state S.Store conn.new) → HasCleanDisk (state S.Store conn.old) }
+    ensures sees { SeesBy (λ t. if_needed needed (outgoing_in org.now ws.now t)) (state S.Store conn.old) (state S.Store conn.new) result }
+{
+    if needed {
+        versions::number_back(conn, org, ws, VERSIONS_BEHIND)
+    } else {
+        Ok(None)
     }
 }
 
@@ -289,11 +339,11 @@ fn keyed_run<S: Alter>(
     conn: &mut Connection<S>,
     org: &str,
     ws: &str,
-    key: &Option<Text>,
+    key: Option<&Text>,
 ) -> Result<Option<RunCells>, Error>
     ensures mode { conn.old.in_transaction ≡ false → conn.new.in_transaction ≡ false }
     ensures so_far { HasCleanDisk (state S.Store conn.new) → HasCleanDisk (state S.Store conn.old) }
-    ensures sees { SeesBy (keyed_cells_in key.now org.now ws.now) (state S.Store conn.old) (state S.Store conn.new) result }
+    ensures sees { SeesBy (keyed_cells_in (option_copied key.entry) org.now ws.now) (state S.Store conn.old) (state S.Store conn.new) result }
 {
     match key {
         None => Ok(None),
@@ -301,33 +351,21 @@ fn keyed_run<S: Alter>(
     }
 }
 
-/// The run that an act asks of.
+/// The run that is asked of: by its number, or, where none is given, by its key.
 fn asked_run<S: Alter>(
     conn: &mut Connection<S>,
     org: &str,
     ws: &str,
-    act: &Act,
+    number: Option<Number>,
+    key: Option<&Text>,
 ) -> Result<Option<RunCells>, Error>
     ensures mode { conn.old.in_transaction ≡ false → conn.new.in_transaction ≡ false }
     ensures so_far { HasCleanDisk (state S.Store conn.new) → HasCleanDisk (state S.Store conn.old) }
-    ensures sees { SeesBy (asked_cells_in act.now org.now ws.now) (state S.Store conn.old) (state S.Store conn.new) result }
+    ensures sees { SeesBy (asked_cells_in number (option_copied key.entry) org.now ws.now) (state S.Store conn.old) (state S.Store conn.new) result }
 {
-    match act {
-        Act::MakeRun(ask) => keyed_run(conn, org, ws, &ask.key),
-        Act::ReadRun(number) => numbered_run(conn, org, ws, *number),
-        Act::ReportRun(number, _) => numbered_run(conn, org, ws, *number),
-        Act::PutWorkspace(_) => Ok(None),
-        Act::ReadWorkspace => Ok(None),
-        Act::DeleteWorkspace => Ok(None),
-        Act::UpdateState { .. } => Ok(None),
-        Act::ReadState => Ok(None),
-        Act::PurgeState { .. } => Ok(None),
-        Act::Lock { .. } => Ok(None),
-        Act::Unlock(_) => Ok(None),
-        Act::ForceUnlock => Ok(None),
-        Act::ListVersions(_) => Ok(None),
-        Act::ReadVersion(_) => Ok(None),
-        Act::ListRuns(_) => Ok(None),
+    match number {
+        None => keyed_run(conn, org, ws, key),
+        Some(number) => numbered_run(conn, org, ws, number),
     }
 }
 
@@ -347,57 +385,45 @@ fn is_kept<S: Alter>(
     Ok(found.is_some())
 }
 
-/// Whether the version that an act asks of is kept. Where an act asks of none, nothing is looked up.
+/// Whether the version that is asked of is kept, if one is asked of.
 fn has_version<S: Alter>(
     conn: &mut Connection<S>,
     org: &str,
     ws: &str,
-    act: &Act,
+    number: Option<Number>,
 ) -> Result<bool, Error>
     ensures mode { conn.old.in_transaction ≡ false → conn.new.in_transaction ≡ false }
     ensures so_far { HasCleanDisk (state S.Store conn.new) → HasCleanDisk (state S.Store conn.old) }
-    ensures sees { SeesBy (has_version_in act.now org.now ws.now) (state S.Store conn.old) (state S.Store conn.new) result }
+    ensures sees { SeesBy (has_version_in number org.now ws.now) (state S.Store conn.old) (state S.Store conn.new) result }
 {
-    match act {
-        Act::ReadVersion(number) => is_kept(conn, org, ws, *number),
-        Act::PutWorkspace(_) => Ok(false),
-        Act::ReadWorkspace => Ok(false),
-        Act::DeleteWorkspace => Ok(false),
-        Act::UpdateState { .. } => Ok(false),
-        Act::ReadState => Ok(false),
-        Act::PurgeState { .. } => Ok(false),
-        Act::Lock { .. } => Ok(false),
-        Act::Unlock(_) => Ok(false),
-        Act::ForceUnlock => Ok(false),
-        Act::ListVersions(_) => Ok(false),
-        Act::ListRuns(_) => Ok(false),
-        Act::MakeRun(_) => Ok(false),
-        Act::ReadRun(_) => Ok(false),
-        Act::ReportRun(..) => Ok(false),
+    match number {
+        None => Ok(false),
+        Some(number) => is_kept(conn, org, ws, number),
     }
 }
 
-/// How many workspaces an organization has, where an act makes one: for any other act they are not
+/// How many workspaces an organization has, where the act makes one: for any other act they are not
 /// counted.
-fn counted<S: Alter>(conn: &mut Connection<S>, org: &str, act: &Act) -> Result<u64, Error>
+fn count_if<S: Alter>(conn: &mut Connection<S>, org: &str, makes: bool) -> Result<u64, Error>
     ensures mode { conn.old.in_transaction ≡ false → conn.new.in_transaction ≡ false }
     ensures so_far { HasCleanDisk (state S.Store conn.new) → HasCleanDisk (state S.Store conn.old) }
-    ensures sees { SeesBy (counted_in act.now org.now) (state S.Store conn.old) (state S.Store conn.new) result }
+    ensures sees { SeesBy (λ t. cond makes (workspaces_of org.now t) 0) (state S.Store conn.old) (state S.Store conn.new) result }
 {
-    if !act.makes_workspace() {
-        return Ok(0);
+    if makes {
+        workspaces::count(conn, org)
+    } else {
+        Ok(0)
     }
-    workspaces::count(conn, org)
 }
 
-/// How many workspaces an organization has, where an act makes one, and how many it may have.
-fn absent<S: Alter>(conn: &mut Connection<S>, org: &str, act: &Act) -> Result<Unit, Error>
+/// How many workspaces an organization has, where the act makes one, and how many it may have.
+fn absent<S: Alter>(conn: &mut Connection<S>, org: &str, needs: &Needs<'_>) -> Result<Unit, Error>
     ensures mode { conn.old.in_transaction ≡ false → conn.new.in_transaction ≡ false }
     ensures so_far { HasCleanDisk (state S.Store conn.new) → HasCleanDisk (state S.Store conn.old) }
-    ensures sees { SeesBy (absent_in act.now org.now) (state S.Store conn.old) (state S.Store conn.new) result }
+    ensures sees { SeesBy (absent_in (needed_of needs.now) org.now) (state S.Store conn.old) (state S.Store conn.new) result }
     ensures is_open { HasCleanDisk (state S.Store conn.new) → OnOk result (IsTrue (state S.Store conn.new).is_open) }
 {
-    let count = counted(conn, org, act)?;
+    let count = count_if(conn, org, needs.makes)?;
     let cap = organizations::cap(conn, org)?;
     let limit = limit_of(cap)?;
     Ok(Unit::Absent {
@@ -406,23 +432,58 @@ fn absent<S: Alter>(conn: &mut Connection<S>, org: &str, act: &Act) -> Result<Un
     })
 }
 
+/// The first run that waits, where it is needed.
+fn first_waiting_if<S: Alter>(
+    conn: &mut Connection<S>,
+    org: &str,
+    ws: &str,
+    needed: bool,
+) -> Result<Option<u64>, Error>
+    ensures mode { conn.old.in_transaction ≡ false → conn.new.in_transaction ≡ false }
+    ensures so_far { HasCleanDisk (state S.Store conn.new) → HasCleanDisk (state S.Store conn.old) }
+    ensures sees { SeesBy (λ t. if_needed needed (first_waiting_of org.now ws.now t)) (state S.Store conn.old) (state S.Store conn.new) result }
+{
+    if needed {
+        runs::first_waiting(conn, org, ws)
+    } else {
+        Ok(None)
+    }
+}
+
+/// How many runs are open, where that is needed.
+fn open_runs_if<S: Alter>(
+    conn: &mut Connection<S>,
+    org: &str,
+    ws: &str,
+    needed: bool,
+) -> Result<u64, Error>
+    ensures mode { conn.old.in_transaction ≡ false → conn.new.in_transaction ≡ false }
+    ensures so_far { HasCleanDisk (state S.Store conn.new) → HasCleanDisk (state S.Store conn.old) }
+    ensures sees { SeesBy (λ t. cond needed (open_runs_of org.now ws.now t) 0) (state S.Store conn.old) (state S.Store conn.new) result }
+{
+    if needed {
+        runs::count_open(conn, org, ws)
+    } else {
+        Ok(0)
+    }
+}
+
 /// What a decision needs of the runs of a workspace.
 fn runs_around<S: Alter>(
     conn: &mut Connection<S>,
     org: &str,
     ws: &str,
-    act: &Act,
+    needs: &Needs<'_>,
     holder: &HolderCells,
 ) -> Result<RunsAround, Error>
     ensures mode { conn.old.in_transaction ≡ false → conn.new.in_transaction ≡ false }
     ensures so_far { HasCleanDisk (state S.Store conn.new) → HasCleanDisk (state S.Store conn.old) }
-    ensures sees { SeesBy (runs_in act.now org.now ws.now holder.now) (state S.Store conn.old) (state S.Store conn.new) result }
-    ensures is_open { HasCleanDisk (state S.Store conn.new) → OnOk result (IsTrue (state S.Store conn.new).is_open) }
+    ensures sees { SeesBy (runs_in (needed_of needs.now) org.now ws.now holder.now) (state S.Store conn.old) (state S.Store conn.new) result }
 {
-    let holder_status = holder_status(conn, org, ws, holder)?;
-    let first_waiting = runs::first_waiting(conn, org, ws)?;
-    let asked_run = asked_run(conn, org, ws, act)?;
-    let open_runs = runs::count_open(conn, org, ws)?;
+    let holder_status = holder_status_if(conn, org, ws, needs.holder_status, holder)?;
+    let first_waiting = first_waiting_if(conn, org, ws, needs.waiting)?;
+    let asked_run = asked_run(conn, org, ws, needs.run, needs.key)?;
+    let open_runs = open_runs_if(conn, org, ws, needs.open_runs)?;
     Ok(RunsAround {
         holder_status,
         first_waiting,
@@ -436,21 +497,20 @@ fn around<S: Alter>(
     conn: &mut Connection<S>,
     org: &str,
     ws: &str,
-    act: &Act,
+    needs: &Needs<'_>,
     holder: &HolderCells,
 ) -> Result<Surroundings, Error>
     ensures mode { conn.old.in_transaction ≡ false → conn.new.in_transaction ≡ false }
     ensures so_far { HasCleanDisk (state S.Store conn.new) → HasCleanDisk (state S.Store conn.old) }
-    ensures sees { SeesBy (around_in act.now org.now ws.now holder.now) (state S.Store conn.old) (state S.Store conn.new) result }
-    ensures is_open { HasCleanDisk (state S.Store conn.new) → OnOk result (IsTrue (state S.Store conn.new).is_open) }
+    ensures sees { SeesBy (around_in (needed_of needs.now) org.now ws.now holder.now) (state S.Store conn.old) (state S.Store conn.new) result }
 {
-    let newest = newest(conn, org, ws, act)?;
-    let versions = versions::count(conn, org, ws)?;
-    let has_version = has_version(conn, org, ws, act)?;
-    let runs = runs_around(conn, org, ws, act, holder)?;
+    let newest = newest_if(conn, org, ws, needs.newest, needs.text)?;
+    let outgoing = outgoing_if(conn, org, ws, needs.outgoing)?;
+    let has_version = has_version(conn, org, ws, needs.version)?;
+    let runs = runs_around(conn, org, ws, needs, holder)?;
     Ok(Surroundings {
         newest,
-        versions,
+        outgoing,
         has_version,
         runs,
     })
@@ -464,19 +524,22 @@ fn unit_by(
     ensures { IfOk result (λ unit. unit ≡ unit_from workspace around) }
 {
     let runs = around.runs;
+    let outgoing = optional_number_of(around.outgoing)?;
     let first_waiting = optional_number_of(runs.first_waiting)?;
     let asked_run = optional_run_as(runs.asked_run)?;
     let released = optional_lock_id_of(alloc, &workspace.released)?;
     let holder = holder_of(alloc, workspace.holder)?;
     Ok(WorkspaceUnit {
-        auto_apply: workspace.auto,
+        settings: Settings {
+            auto_apply: workspace.auto,
+        },
         holder,
         holder_status: runs.holder_status,
         released,
         next_version: workspace.next_version,
         next_run: workspace.next_run,
         newest: around.newest,
-        versions: around.versions as usize,
+        outgoing,
         first_waiting,
         has_version: around.has_version,
         asked_run,
@@ -489,113 +552,33 @@ fn present<S: Alter>(
     alloc: Global,
     org: &str,
     ws: &str,
-    act: &Act,
+    needs: &Needs<'_>,
     workspace: WorkspaceCells,
 ) -> Result<Unit, Error>
     ensures mode { conn.old.in_transaction ≡ false → conn.new.in_transaction ≡ false }
     ensures so_far { HasCleanDisk (state S.Store conn.new) → HasCleanDisk (state S.Store conn.old) }
-    ensures sees { SeesBy (present_in act.now org.now ws.now workspace) (state S.Store conn.old) (state S.Store conn.new) result }
-    ensures is_open { HasCleanDisk (state S.Store conn.new) → OnOk result (IsTrue (state S.Store conn.new).is_open) }
+    ensures sees { SeesBy (present_in (needed_of needs.now) org.now ws.now workspace) (state S.Store conn.old) (state S.Store conn.new) result }
 {
-    let around = around(conn, org, ws, act, &workspace.holder)?;
+    let around = around(conn, org, ws, needs, &workspace.holder)?;
     let unit = unit_by(alloc, workspace, around)?;
     Ok(Unit::Present(unit))
 }
 
-/// What a decision on an act needs of a workspace.
+/// What a decision that needs so much sees of a workspace.
 pub(crate) fn unit<S: Alter>(
     conn: &mut Connection<S>,
     alloc: Global,
     org: &str,
     ws: &str,
-    act: &Act,
+    needs: &Needs<'_>,
 ) -> Result<Unit, Error>
     ensures mode { conn.old.in_transaction ≡ false → conn.new.in_transaction ≡ false }
     ensures so_far { HasCleanDisk (state S.Store conn.new) → HasCleanDisk (state S.Store conn.old) }
-    ensures sees { SeesBy (unit_in act.now org.now ws.now) (state S.Store conn.old) (state S.Store conn.new) result }
+    ensures sees { SeesBy (unit_in (needed_of needs.now) org.now ws.now) (state S.Store conn.old) (state S.Store conn.new) result }
     ensures is_open { HasCleanDisk (state S.Store conn.new) → OnOk result (IsTrue (state S.Store conn.new).is_open) }
 {
     match workspaces::find(conn, org, ws)? {
-        None => absent(conn, org, act),
-        Some(workspace) => present(conn, alloc, org, ws, act, workspace),
-    }
-}
-
-/// Which versions of a workspace go, where so many are to go.
-fn outgoing_in<S: Alter>(
-    conn: &mut Connection<S>,
-    org: &str,
-    ws: &str,
-    gone: usize,
-) -> Result<Outgoing, Error>
-    ensures mode { conn.old.in_transaction ≡ false → conn.new.in_transaction ≡ false }
-    ensures so_far { HasCleanDisk (state S.Store conn.new) → HasCleanDisk (state S.Store conn.old) }
-    ensures sees { SeesBy (outgoing_in org.now ws.now gone) (state S.Store conn.old) (state S.Store conn.new) result }
-{
-    let workspace = workspaces::find(conn, org, ws)?;
-    let count = versions::count(conn, org, ws)?;
-    Ok(outgoing_by(gone as u64, workspace, count))
-}
-
-fn outgoing_by(gone: u64, workspace: Option<WorkspaceCells>, count: u64) -> Outgoing
-    ensures { result ≡ outgoing_of gone workspace count }
-{
-    match workspace {
-        None => Outgoing::Missing,
-        Some(workspace) => below(gone, workspace.next_version, count),
-    }
-}
-
-fn below(gone: u64, next: u64, count: u64) -> Outgoing
-    ensures { result ≡ outgoing_below gone next count }
-{
-    if gone <= count {
-        Outgoing::Below(next.saturating_sub(count - gone))
-    } else {
-        Outgoing::All
-    }
-}
-
-/// Whether there is a workspace for a run: then none of its versions goes.
-fn room<S: Alter>(conn: &mut Connection<S>, org: &str, ws: &str) -> Result<Outgoing, Error>
-    ensures mode { conn.old.in_transaction ≡ false → conn.new.in_transaction ≡ false }
-    ensures so_far { HasCleanDisk (state S.Store conn.new) → HasCleanDisk (state S.Store conn.old) }
-    ensures sees { SeesBy (room_in org.now ws.now) (state S.Store conn.old) (state S.Store conn.new) result }
-{
-    let workspace = workspaces::find(conn, org, ws)?;
-    Ok(room_by(workspace))
-}
-
-fn room_by(workspace: Option<WorkspaceCells>) -> Outgoing
-    ensures { result ≡ room_of workspace }
-{
-    match workspace {
-        None => Outgoing::Missing,
-        Some(_) => Outgoing::Below(0),
-    }
-}
-
-/// Which versions go by an edit, or that there is no workspace for what it adds: none go, if it
-/// isn't one that adds a version.
-pub(crate) fn outgoing<S: Alter>(
-    conn: &mut Connection<S>,
-    org: &str,
-    ws: &str,
-    edit: &Edit,
-) -> Result<Outgoing, Error>
-    ensures mode { conn.old.in_transaction ≡ false → conn.new.in_transaction ≡ false }
-    ensures so_far { HasCleanDisk (state S.Store conn.new) → HasCleanDisk (state S.Store conn.old) }
-    ensures sees { GoesBy org.now ws.now edit.now (state S.Store conn.old) (state S.Store conn.new) result }
-{
-    match edit {
-        Edit::AddVersion { gone, .. } => outgoing_in(conn, org, ws, *gone),
-        Edit::Make(_) => Ok(Outgoing::Missing),
-        Edit::Configure(_) => Ok(Outgoing::Missing),
-        Edit::Remove => Ok(Outgoing::Missing),
-        Edit::Purge => Ok(Outgoing::Missing),
-        Edit::Hold { .. } => Ok(Outgoing::Missing),
-        Edit::Release(_) => Ok(Outgoing::Missing),
-        Edit::AddRun { .. } => room(conn, org, ws),
-        Edit::Report { .. } => Ok(Outgoing::Missing),
+        None => absent(conn, org, needs),
+        Some(workspace) => present(conn, alloc, org, ws, needs, workspace),
     }
 }

@@ -4,23 +4,13 @@ ghost use Rattle.sqlite.specs.Held.{state};
 ghost use Rattle.sqlite.specs.State.{HasCleanDisk};
 ghost use Rattle.statements.specs.Steps.{ChangesBy};
 ghost use Rattle.statements.specs.Changes.{versions_removed_below, run_acted};
-ghost use Rattle.tables.specs.Inner.Edits.{removed_rows, made_rows, numbered_rows, emptied_rows, run_put, freed_rows};
-ghost use Rattle.tables.specs.Inner.Outgoing.{added_rows, put_above, put_by, run_counted, run_by, edited_by, begun_rows, changed_by};
+ghost use Rattle.tables.specs.Inner.Edits.{removed_rows, made_rows, numbered_rows, added_rows, versioned_rows, run_put, run_counted, run_rows, freed_rows, edited_rows, begun_rows, changed_rows};
+ghost use Rattle.tables.specs.Inner.Steps.{FindsIn};
 
 use basis::{Moment, Number, RunAction, RunAsk, RunStatus, Text};
 use machine::{Change, Edit, Version};
 use sqlite::{Alter, Error, Transaction};
 use statements::{runs, versions, workspaces};
-
-/// Which versions of a workspace go as a version or a run comes.
-#[derive(Clone, Copy)]
-pub(crate) enum Outgoing {
-    /// None: there is no workspace, so no version and no run comes.
-    Missing,
-    /// Those with numbers below this one: none of them, as a run comes.
-    Below(u64),
-    All,
-}
 
 /// Removes a workspace with its versions and runs.
 fn remove<S: Alter>(tx: &mut Transaction<'_, S>, org: &str, ws: &str) -> Result<(), Error>
@@ -65,7 +55,7 @@ fn add<S: Alter>(
     versions::add(tx, org, ws, number, serial, lineage, created, text)
 }
 
-/// The next version has the number behind this one's.
+/// The next version has the number behind this one's. There is a workspace for it, or nothing comes.
 fn count_on<S: Alter>(
     tx: &mut Transaction<'_, S>,
     org: &str,
@@ -75,77 +65,47 @@ fn count_on<S: Alter>(
     ensures same_reference { tx.new.conn.ghost_name ≡ tx.old.conn.ghost_name }
     ensures changed { ChangesBy (numbered_rows org.now ws.now version.now) (state S.Store tx.old.conn.now) (state S.Store tx.new.conn.now) result }
     ensures so_far { HasCleanDisk (state S.Store tx.new.conn.now) → HasCleanDisk (state S.Store tx.old.conn.now) }
+    ensures found { FindsIn org.now ws.now (state S.Store tx.old.conn.now) (state S.Store tx.new.conn.now) result }
 {
     let number = version.number.get() as u64;
-    workspaces::set_next_version(tx, org, ws, number + 1)
+    if !workspaces::set_next_version(tx, org, ws, number + 1)? {
+        return Err(Error::QueryReturnedNoRows);
+    }
+    Ok(())
 }
 
-/// Lets the versions with numbers below the least go.
+/// Lets the versions with numbers up to this one go.
 fn forget<S: Alter>(
     tx: &mut Transaction<'_, S>,
     org: &str,
     ws: &str,
-    least: u64,
+    last: Number,
 ) -> Result<(), Error>
     ensures same_reference { tx.new.conn.ghost_name ≡ tx.old.conn.ghost_name }
-    ensures changed { ChangesBy (versions_removed_below org.now ws.now least) (state S.Store tx.old.conn.now) (state S.Store tx.new.conn.now) result }
+    ensures changed { ChangesBy (versions_removed_below org.now ws.now (last + 1)) (state S.Store tx.old.conn.now) (state S.Store tx.new.conn.now) result }
     ensures so_far { HasCleanDisk (state S.Store tx.new.conn.now) → HasCleanDisk (state S.Store tx.old.conn.now) }
 {
-    if least > i64::MAX as u64 {
-        return Err(Error::IntegralValueOutOfRange(2));
-    }
-    versions::remove_below(tx, org, ws, least)
+    let last = last.get() as u64;
+    versions::remove_below(tx, org, ws, last + 1)
 }
 
-/// Lets the versions with numbers below the least go, and adds one behind the others.
-fn put_above<S: Alter>(
-    tx: &mut Transaction<'_, S>,
-    org: &str,
-    ws: &str,
-    version: &Version,
-    least: u64,
-) -> Result<(), Error>
-    ensures same_reference { tx.new.conn.ghost_name ≡ tx.old.conn.ghost_name }
-    ensures changed { ChangesBy (put_above org.now ws.now version.now least) (state S.Store tx.old.conn.now) (state S.Store tx.new.conn.now) result }
-    ensures so_far { HasCleanDisk (state S.Store tx.new.conn.now) → HasCleanDisk (state S.Store tx.old.conn.now) }
-{
-    forget(tx, org, ws, least)?;
-    add(tx, org, ws, version)?;
-    count_on(tx, org, ws, version)
-}
-
-/// Lets all versions go, the one that would come too.
-fn put_none<S: Alter>(
-    tx: &mut Transaction<'_, S>,
-    org: &str,
-    ws: &str,
-    version: &Version,
-) -> Result<(), Error>
-    ensures same_reference { tx.new.conn.ghost_name ≡ tx.old.conn.ghost_name }
-    ensures changed { ChangesBy (emptied_rows org.now ws.now version.now) (state S.Store tx.old.conn.now) (state S.Store tx.new.conn.now) result }
-    ensures so_far { HasCleanDisk (state S.Store tx.new.conn.now) → HasCleanDisk (state S.Store tx.old.conn.now) }
-{
-    versions::remove_all(tx, org, ws)?;
-    count_on(tx, org, ws, version)
-}
-
-/// Puts a version behind those that stay.
+/// Puts a version behind the others, and lets those with numbers up to `outgoing` go.
 fn put<S: Alter>(
     tx: &mut Transaction<'_, S>,
     org: &str,
     ws: &str,
     version: &Version,
-    outgoing: Outgoing,
+    outgoing: Option<Number>,
 ) -> Result<(), Error>
     ensures same_reference { tx.new.conn.ghost_name ≡ tx.old.conn.ghost_name }
-    ensures changed { ChangesBy (put_by outgoing org.now ws.now version.now) (state S.Store tx.old.conn.now) (state S.Store tx.new.conn.now) result }
+    ensures changed { ChangesBy (versioned_rows org.now ws.now version.now outgoing) (state S.Store tx.old.conn.now) (state S.Store tx.new.conn.now) result }
     ensures so_far { HasCleanDisk (state S.Store tx.new.conn.now) → HasCleanDisk (state S.Store tx.old.conn.now) }
 {
+    count_on(tx, org, ws, version)?;
+    add(tx, org, ws, version)?;
     match outgoing {
-        // It removes none.
-        Outgoing::Missing => forget(tx, org, ws, 0),
-        Outgoing::Below(least) => put_above(tx, org, ws, version, least),
-        Outgoing::All => put_none(tx, org, ws, version),
+        None => Ok(()),
+        Some(last) => forget(tx, org, ws, last),
     }
 }
 
@@ -200,25 +160,26 @@ fn put_run<S: Alter>(
     )
 }
 
-/// Puts a run behind the others; the next one has the number behind its.
+/// The next run has the number behind this one's. There is a workspace for it, or nothing comes.
 fn count_run<S: Alter>(
     tx: &mut Transaction<'_, S>,
     org: &str,
     ws: &str,
     number: Number,
-    ask: &RunAsk,
-    created: Moment,
 ) -> Result<(), Error>
     ensures same_reference { tx.new.conn.ghost_name ≡ tx.old.conn.ghost_name }
-    ensures changed { ChangesBy (run_counted org.now ws.now number ask.now created) (state S.Store tx.old.conn.now) (state S.Store tx.new.conn.now) result }
+    ensures changed { ChangesBy (run_counted org.now ws.now number) (state S.Store tx.old.conn.now) (state S.Store tx.new.conn.now) result }
     ensures so_far { HasCleanDisk (state S.Store tx.new.conn.now) → HasCleanDisk (state S.Store tx.old.conn.now) }
+    ensures found { FindsIn org.now ws.now (state S.Store tx.old.conn.now) (state S.Store tx.new.conn.now) result }
 {
-    put_run(tx, org, ws, number, ask, created)?;
     let number = number.get() as u64;
-    workspaces::set_next_run(tx, org, ws, number + 1)
+    if !workspaces::set_next_run(tx, org, ws, number + 1)? {
+        return Err(Error::QueryReturnedNoRows);
+    }
+    Ok(())
 }
 
-/// Adds a run, where there is a workspace.
+/// Adds a run behind the others.
 fn add_run<S: Alter>(
     tx: &mut Transaction<'_, S>,
     org: &str,
@@ -226,18 +187,13 @@ fn add_run<S: Alter>(
     number: Number,
     ask: &RunAsk,
     created: Moment,
-    outgoing: Outgoing,
 ) -> Result<(), Error>
     ensures same_reference { tx.new.conn.ghost_name ≡ tx.old.conn.ghost_name }
-    ensures changed { ChangesBy (run_by outgoing org.now ws.now number ask.now created) (state S.Store tx.old.conn.now) (state S.Store tx.new.conn.now) result }
+    ensures changed { ChangesBy (run_rows org.now ws.now number ask.now created) (state S.Store tx.old.conn.now) (state S.Store tx.new.conn.now) result }
     ensures so_far { HasCleanDisk (state S.Store tx.new.conn.now) → HasCleanDisk (state S.Store tx.old.conn.now) }
 {
-    match outgoing {
-        // It removes none.
-        Outgoing::Missing => forget(tx, org, ws, 0),
-        Outgoing::Below(_) => count_run(tx, org, ws, number, ask, created),
-        Outgoing::All => count_run(tx, org, ws, number, ask, created),
-    }
+    count_run(tx, org, ws, number)?;
+    put_run(tx, org, ws, number, ask, created)
 }
 
 /// Records an action on a run.
@@ -285,17 +241,16 @@ fn edit<S: Alter>(
     org: &str,
     ws: &str,
     edit: &Edit,
-    outgoing: Outgoing,
 ) -> Result<(), Error>
     ensures same_reference { tx.new.conn.ghost_name ≡ tx.old.conn.ghost_name }
-    ensures changed { ChangesBy (edited_by outgoing org.now ws.now edit.now) (state S.Store tx.old.conn.now) (state S.Store tx.new.conn.now) result }
+    ensures changed { ChangesBy (edited_rows org.now ws.now edit.now) (state S.Store tx.old.conn.now) (state S.Store tx.new.conn.now) result }
     ensures so_far { HasCleanDisk (state S.Store tx.new.conn.now) → HasCleanDisk (state S.Store tx.old.conn.now) }
 {
     match edit {
         Edit::Make(settings) => make(tx, org, ws, settings.auto_apply),
         Edit::Configure(settings) => workspaces::set_auto(tx, org, ws, settings.auto_apply),
         Edit::Remove => remove(tx, org, ws),
-        Edit::AddVersion { version, .. } => put(tx, org, ws, version, outgoing),
+        Edit::AddVersion { version, outgoing } => put(tx, org, ws, version, *outgoing),
         Edit::Purge => versions::remove_all(tx, org, ws),
         Edit::Hold { id, text } => {
             workspaces::hold_by_lock(tx, org, ws, id.as_str(), text.as_slice())
@@ -305,7 +260,7 @@ fn edit<S: Alter>(
             number,
             ask,
             created,
-        } => add_run(tx, org, ws, *number, ask, *created, outgoing),
+        } => add_run(tx, org, ws, *number, ask, *created),
         Edit::Report {
             number,
             action,
@@ -337,13 +292,12 @@ pub(crate) fn change<S: Alter>(
     org: &str,
     ws: &str,
     change: &Change,
-    outgoing: Outgoing,
 ) -> Result<(), Error>
     ensures same_reference { tx.new.conn.ghost_name ≡ tx.old.conn.ghost_name }
-    ensures changed { ChangesBy (changed_by outgoing org.now ws.now change.now) (state S.Store tx.old.conn.now) (state S.Store tx.new.conn.now) result }
+    ensures changed { ChangesBy (changed_rows org.now ws.now change.now) (state S.Store tx.old.conn.now) (state S.Store tx.new.conn.now) result }
     ensures so_far { HasCleanDisk (state S.Store tx.new.conn.now) → HasCleanDisk (state S.Store tx.old.conn.now) }
 {
-    edit(tx, org, ws, &change.edit, outgoing)?;
+    edit(tx, org, ws, &change.edit)?;
     match change.start {
         None => Ok(()),
         Some(number) => start(tx, org, ws, number),

@@ -10,11 +10,11 @@ ghost use Rattle.sqlite_schema.specs.declared.schema.Table.{Table};
 ghost use Rattle.statements.specs.Tables.{Tables, Holds};
 ghost use Rattle.tables.specs.Opening.{IsSoundKeep, any_there, all_there, is_meta, IsOther};
 
-use crate::commands;
 use crate::opening::{Fault, ready};
+use crate::{commands, transactions};
 use basis::numbers::{MAX_LIMIT, MAX_NUMBER};
 use basis::{
-    Bytes, Down, Limit, Listing, Number, OrgName, Role, RunRow, VersionRow, WsName, WsRow,
+    Bytes, Caller, Down, Limit, Listing, Number, OrgName, Role, RunRow, VersionRow, WsName, WsRow,
 };
 use machine::{Act, AdminAnswer, Change, Keep, Unit};
 use sqlite::{Alter, Connection, MemStore};
@@ -129,15 +129,16 @@ impl<S: Alter> Keep for SqlKeep<S> {
         _alloc: Global,
         org: &OrgName,
         digest: &[u8; 32],
-    ) -> Result<Option<Role>, Down> {
+    ) -> Result<Option<Caller>, Down> {
         match commands::caller(&mut self.conn, org.as_str(), digest.as_slice()) {
-            Ok(role) => Ok(role),
+            Ok(caller) => Ok(caller),
             Err(_) => Err(Down),
         }
     }
 
     fn unit(&mut self, alloc: Global, org: &OrgName, ws: &WsName, act: &Act) -> Result<Unit, Down> {
-        match commands::unit(&mut self.conn, alloc, org.as_str(), ws.as_str(), act) {
+        let needs = act.needs();
+        match commands::unit(&mut self.conn, alloc, org.as_str(), ws.as_str(), &needs) {
             Ok(unit) => Ok(unit),
             Err(_) => Err(Down),
         }
@@ -209,7 +210,7 @@ impl<S: Alter> Keep for SqlKeep<S> {
         ws: &WsName,
         change: &Change,
     ) -> Result<(), Down> {
-        match commands::apply(&mut self.conn, org.as_str(), ws.as_str(), change) {
+        match transactions::change(&mut self.conn, org.as_str(), ws.as_str(), change) {
             Ok(()) => {
                 self.seen = Snapshot::of(&self.conn);
                 Ok(())

@@ -3,11 +3,11 @@ ghost use Rattle.std.specs.Prelude.{◌≡◌, false, ◌<◌, ◌^◌, OnOk, On
 ghost use Rattle.sqlite.specs.Held.{state};
 ghost use Rattle.sqlite.specs.State.{HasCleanDisk, KeepsCommit};
 ghost use Rattle.statements.specs.Changes.{org_added, org_capped, token_added, token_removed};
-ghost use Rattle.tables.specs.Inner.Outgoing.{changed_by};
+ghost use Rattle.tables.specs.Inner.Edits.{changed_rows};
 ghost use Rattle.tables.specs.Inner.Making.{IsMade};
 ghost use Rattle.tables.specs.Inner.Steps.{TransactsBy};
 
-use crate::steps::{self, Outgoing};
+use crate::steps;
 use basis::{Limit, Role};
 use machine::Change;
 use sqlite::{Alter, Connection, Error};
@@ -34,17 +34,16 @@ pub(crate) fn change<S: Alter>(
     org: &str,
     ws: &str,
     change: &Change,
-    outgoing: Outgoing,
 ) -> Result<(), Error>
     requires idle { conn.old.in_transaction ≡ false }
     ensures idle { conn.new.in_transaction ≡ false }
     ensures so_far { HasCleanDisk (state S.Store conn.new) → HasCleanDisk (state S.Store conn.old) }
-    ensures done { TransactsBy (changed_by outgoing org.now ws.now change.now) (state S.Store conn.old) (state S.Store conn.new) result }
+    ensures done { TransactsBy (changed_rows org.now ws.now change.now) (state S.Store conn.old) (state S.Store conn.new) result }
 {
     let idle = conn.is_autocommit();
     prove!(idle);
     let mut tx = conn.transaction();
-    steps::change(&mut tx, org, ws, change, outgoing)?;
+    steps::change(&mut tx, org, ws, change)?;
     tx.commit()
 }
 

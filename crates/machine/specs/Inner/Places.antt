@@ -31,7 +31,7 @@ abbrev pub is_removal : Edit → Bool
 is_removal (Make settings) = false
 is_removal (Configure settings) = false
 is_removal Remove = true
-is_removal (AddVersion version gone) = false
+is_removal (AddVersion version outgoing) = false
 is_removal Purge = false
 is_removal (Hold id text) = false
 is_removal (Release id) = false

@@ -3,7 +3,7 @@ use Rattle.std.specs.Prelude.{◌≡◌, ℕ, Bool, List, Option, Some, None, Re
 use Rattle.std.specs.FinMap.{get}
 use Rattle.basis.specs.Checks.{and_then}
 use Rattle.basis.specs.declared.refusals.Refusal.{Refusal}
-use Rattle.basis.specs.declared.roles.Role.{Role}
+use Rattle.basis.specs.declared.roles.Caller.{Caller}
 use Rattle.machine.specs.Ranges.{IsInRange}
 use Rattle.machine.specs.Records.{seen_in, placed}
 use Rattle.serve.specs.declared.prepared.Task.{Task}
@@ -25,9 +25,9 @@ use Rattle.serve.specs.declared.prepared.Received.TheVariants.{Whole, Refused, U
 use Rattle.serve.specs.declared.prepared.Pending.{Pending}
 use Rattle.serve.specs.declared.prepared.Prepared.{Prepared}
 
--- the role of the caller's token
-abbrev pub known_role : Option Organization → Asked → Result Role Refusal
-known_role r asked = and_then (known_caller r asked) (λ token. Ok token.role)
+-- who asks by the token
+abbrev pub caller_known : Option Organization → Asked → Result Caller Refusal
+caller_known r asked = and_then (known_caller r asked) (λ token. Ok token.caller)
 
 -- the record of an organization after a change that is to follow, or as it is
 abbrev pub ChangesTo : Option Organization → List ℕ → Option Organization → Option Pending → Type 0

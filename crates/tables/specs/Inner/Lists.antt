@@ -16,7 +16,7 @@ use Rattle.statements.specs.Finds.{newest_of, workspaces_of}
 use Rattle.statements.specs.Listings.{organizations_in, workspaces_after, versions_after, runs_after}
 use Rattle.statements.specs.Tables.{Tables, Holds}
 use Rattle.tables.specs.Inner.Looks.{Stays}
-use Rattle.tables.specs.Records.{holder_in}
+use Rattle.tables.specs.Records.{settings_in, holder_in}
 
 -- no row changes, and the value is that of rows that obey a law; after a failure nothing is committed
 abbrev pub SeesWhere : {X E : Type 0} → (Tables → Type 0) → (Tables → X) → State → State → Result X E → Type 0
@@ -54,7 +54,7 @@ abbrev pub newest_number_in : List ℕ → List ℕ → Tables → Option ℕ
 newest_number_in org ws t = option_map (λ head. head.number) (newest_of org ws t)
 
 abbrev pub ws_row_in : List ℕ → Tables → NamedWorkspace → WsRow
-ws_row_in org t w = record { auto_apply = w.it.auto; holder = holder_id (holder_in w.it.holder); name = w.name; version = newest_number_in org w.name t }
+ws_row_in org t w = record { settings = settings_in w.it; holder = holder_id (holder_in w.it.holder); name = w.name; version = newest_number_in org w.name t }
 
 abbrev pub workspaces_listed_in : List ℕ → List ℕ → Tables → Listing WsRow
 workspaces_listed_in after org t = listing_of (map (ws_row_in org t) (workspaces_after org after asked_rows t))

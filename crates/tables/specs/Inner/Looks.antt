@@ -1,25 +1,25 @@
 -- What looks at a store leave and give.
-use Rattle.std.specs.Prelude.{◌≡◌, ℕ, Bool, false, List, Option, Some, None, option_map, IsTrue, Result, IfOk, OnOk, OnErr}
-use Rattle.std.specs.Str.{bytes_eq}
+use Rattle.std.specs.Prelude.{◌≡◌, ℕ, cond, List, option_map, IsTrue, Result, IfOk, OnOk, OnErr}
 use Rattle.sqlite.specs.State.{State, HasCleanDisk, KeepsCommit}
 use Rattle.std.specs.Option.{unwrap_or}
-use Rattle.machine.specs.Units.{counted_for}
-use Rattle.machine.specs.declared.acts.Act.{Act}
+use Rattle.machine.specs.Needs.{Needed}
+use Rattle.machine.specs.Units.{if_needed}
 use Rattle.machine.specs.declared.acts.Unit.{Unit}
 use Rattle.machine.specs.declared.acts.Unit.TheVariants.{Absent, Present}
 use Rattle.machine.specs.declared.acts.WorkspaceUnit.{WorkspaceUnit}
 use Rattle.statements.specs.declared.rows.Holder.{Holder as HolderCells}
 use Rattle.statements.specs.declared.rows.Workspace.{Workspace as WorkspaceCells}
-use Rattle.statements.specs.Finds.{cap_of, workspaces_of, versions_of, first_waiting_of, open_runs_of}
+use Rattle.statements.specs.Finds.{cap_of, workspaces_of, first_waiting_of, open_runs_of}
 use Rattle.statements.specs.Tables.{Tables, Holds}
-use Rattle.tables.specs.Records.{holder_in, run_in}
-use Rattle.tables.specs.Inner.Units.{holder_status_in, newest_in, has_version_in, asked_cells_in}
+use Rattle.tables.specs.Records.{settings_in, holder_in, run_in}
+use Rattle.tables.specs.Inner.Units.{holder_status_in, newest_in, outgoing_in, has_version_in, asked_cells_in}
 use Rattle.tables.specs.declared.looks.RunsAround.{RunsAround}
 use Rattle.tables.specs.declared.looks.Surroundings.{Surroundings}
 
 -- no row changes, as long as the store isn't shut
 pub record Stays (old new : State) : Type 0 where
   pub was_open : IsTrue new.is_open → IsTrue old.is_open
+  pub is_open : IsTrue old.is_open → IsTrue new.is_open
   pub now : IsTrue new.is_open → new.now ≡ old.now
   pub committed : IsTrue new.is_open → new.committed ≡ old.committed
 
@@ -32,41 +32,41 @@ SeesBy read old new result =
 abbrev pub LooksBy : {X E : Type 0} → (Tables → X) → State → State → Result X E → Type 0
 LooksBy read old new result = HasCleanDisk new → IfOk result (λ x. IsTrue old.is_open × ((t : Tables) → Holds old.committed t → x ≡ read t)) × KeepsCommit old new
 
--- whether the text that was found is this one
-abbrev pub is_body : List ℕ → Option (List ℕ) → Bool
-is_body text None = false
-is_body text (Some found) = bytes_eq found text
+-- how many workspaces an organization has, where the act makes one, and how many it may have
+abbrev pub absent_in : Needed → List ℕ → Tables → Unit
+absent_in need org t = Absent (cond need.makes (workspaces_of org t) 0) (unwrap_or (cap_of org t) 0)
 
--- how many workspaces an organization has, where an act makes one
-abbrev pub counted_in : Act → List ℕ → Tables → ℕ
-counted_in act org t = counted_for act (workspaces_of org t)
+abbrev pub runs_in : Needed → List ℕ → List ℕ → HolderCells → Tables → RunsAround
+runs_in need org ws holder t = record {
+  holder_status = if_needed need.holder_status (holder_status_in org ws holder t);
+  first_waiting = if_needed need.waiting (first_waiting_of org ws t);
+  asked_run = asked_cells_in need.run need.key org ws t;
+  open_runs = cond need.open_runs (open_runs_of org ws t) 0;
+}
 
-abbrev pub absent_in : Act → List ℕ → Tables → Unit
-absent_in act org t = Absent (counted_in act org t) (unwrap_or (cap_of org t) 0)
-
-abbrev pub runs_in : Act → List ℕ → List ℕ → HolderCells → Tables → RunsAround
-runs_in act org ws holder t =
-    record { holder_status = holder_status_in org ws holder t; first_waiting = first_waiting_of org ws t; asked_run = asked_cells_in act org ws t; open_runs = open_runs_of org ws t }
-
-abbrev pub around_in : Act → List ℕ → List ℕ → HolderCells → Tables → Surroundings
-around_in act org ws holder t =
-    record { newest = newest_in act org ws t; versions = versions_of org ws t; has_version = has_version_in act org ws t; runs = runs_in act org ws holder t }
+abbrev pub around_in : Needed → List ℕ → List ℕ → HolderCells → Tables → Surroundings
+around_in need org ws holder t = record {
+  newest = if_needed need.newest (newest_in need.text org ws t);
+  outgoing = if_needed need.outgoing (outgoing_in org ws t);
+  has_version = has_version_in need.version org ws t;
+  runs = runs_in need org ws holder t;
+}
 
 abbrev pub unit_from : WorkspaceCells → Surroundings → WorkspaceUnit
 unit_from w a = record {
-  auto_apply = w.auto;
+  settings = settings_in w;
   holder = holder_in w.holder;
   holder_status = a.runs.holder_status;
   released = w.released;
   next_version = w.next_version;
   next_run = w.next_run;
   newest = a.newest;
-  versions = a.versions;
+  outgoing = a.outgoing;
   first_waiting = a.runs.first_waiting;
   has_version = a.has_version;
   asked_run = option_map run_in a.runs.asked_run;
   open_runs = a.runs.open_runs;
 }
 
-abbrev pub present_in : Act → List ℕ → List ℕ → WorkspaceCells → Tables → Unit
-present_in act org ws w t = Present (unit_from w (around_in act org ws w.holder t))
+abbrev pub present_in : Needed → List ℕ → List ℕ → WorkspaceCells → Tables → Unit
+present_in need org ws w t = Present (unit_from w (around_in need org ws w.holder t))

@@ -1,12 +1,12 @@
 -- What calls of a store do to the committed rows.
-use Rattle.std.specs.Prelude.{◌≡◌, ℕ, Bool, cond, ◌||◌, List, is_some, Option, Some, None, IsTrue, Result, IfOk, OnOk, OnErr}
+use Rattle.std.specs.Prelude.{◌≡◌, ℕ, Bool, true, cond, ◌||◌, List, is_some, Option, Some, None, IsTrue, Result, IfOk, OnOk, OnErr}
 use Rattle.sqlite.specs.State.{State, HasCleanDisk, KeepsCommit}
 use Rattle.basis.specs.declared.roles.Role.{Role}
 use Rattle.machine.specs.Effects.{Effect, effect}
 use Rattle.machine.specs.declared.keeps.AdminAnswer.{AdminAnswer}
 use Rattle.machine.specs.declared.keeps.AdminAnswer.TheVariants.{Done, Exists, Absent}
 use Rattle.statements.specs.Changes.{org_added, org_capped, token_added, token_removed}
-use Rattle.statements.specs.Finds.{cap_of, role_of_name, role_of_digest}
+use Rattle.statements.specs.Finds.{cap_of, workspace_of, role_of_name, role_of_digest}
 use Rattle.statements.specs.Tables.{Tables, Holds}
 
 -- between transactions nothing waits to be committed
@@ -18,6 +18,10 @@ pub record Commits (change : Tables → Tables) (old new : State) : Type 0 where
   pub rows : (t : Tables) → Holds old.committed t → Holds new.committed (change t)
   pub was_open : IsTrue old.is_open
   pub is_open : IsTrue new.is_open
+
+-- a step that is done found a workspace
+abbrev pub FindsIn : {X E : Type 0} → List ℕ → List ℕ → State → State → Result X E → Type 0
+FindsIn org ws old new result = HasCleanDisk new → IsTrue old.in_transaction → OnOk result ((t : Tables) → Holds old.now t → is_some (workspace_of org ws t) ≡ true)
 
 -- one transaction: its change is committed, or nothing is
 abbrev pub TransactsBy : {X E : Type 0} → (Tables → Tables) → State → State → Result X E → Type 0

@@ -1,5 +1,3 @@
-use Rattle.std.proofs.Common.{◌∙◌, ap, sym}
-use Rattle.machine.specs.RunSteps.{queued_steps, step_in}
 use Rattle.machine.proofs.run_steps.next_of_queued.Goals as goal
 
 pub returns-in-Pending : goal.returns-in-Pending

@@ -1,6 +1,6 @@
 use Rattle.std.proofs.Common.{subst}
 use Rattle.machine.specs.Records.{seen_in}
-use Rattle.machine.specs.Inner.Decisions.{ChangeIsDue}
+use Rattle.machine.specs.Meaning.{ChangeIsDue}
 use Rattle.serve.proofs.RecordLemmas.{if_ok, refusal_foreseen}
 use Rattle.serve.proofs.requests.answer_decision.Goals as goal
 

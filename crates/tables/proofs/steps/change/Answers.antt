@@ -1,5 +1,5 @@
 use Rattle.sqlite.specs.Held.{state}
-use Rattle.tables.specs.Inner.Outgoing.{edited_by, begun_rows}
+use Rattle.tables.specs.Inner.Edits.{edited_rows, begun_rows}
 use Rattle.tables.proofs.KeepMoves.{moves_then}
 use Rattle.tables.proofs.steps.change.Goals as goal
 
@@ -12,5 +12,5 @@ returns-in-Some-clause-changed g c = rw c.in-Some.is (λ clean inside.
     let s1 = state g.S.Store c.edit.new.tx.conn.now in
     let s2 = state g.S.Store c.start.new.tx.conn.now in
     let one = (c.in_ok-edit.ensures.changed (c.start.ensures.so_far clean) inside).0 in
-    moves_then (edited_by c.args.outgoing c.args.org.now c.args.ws.now c.args.change.now.edit) (begun_rows c.args.org.now c.args.ws.now c.in-Some.number) s0 s1 s2 c.start.result one
+    moves_then (edited_rows c.args.org.now c.args.ws.now c.args.change.now.edit) (begun_rows c.args.org.now c.args.ws.now c.in-Some.number) s0 s1 s2 c.start.result one
     (c.start.ensures.changed clean one.inside))

@@ -1,0 +1,67 @@
+-- What an act needs of its workspace besides the workspace's own row: a store is asked for nothing else.
+use Rattle.std.specs.Prelude.{ℕ, Bool, true, false, List, Option, Some, None, option_copied}
+use Rattle.basis.specs.declared.rows.Look.{Look as AnyLook}
+use Rattle.basis.specs.declared.rows.Look.TheVariants as look
+use Rattle.machine.specs.declared.acts.Act.{Act}
+use Rattle.machine.specs.declared.acts.Act.TheVariants.{Look, PutWorkspace, DeleteWorkspace, UpdateState, PurgeState, Lock, Unlock, ForceUnlock, MakeRun, ReportRun}
+use Rattle.machine.specs.declared.acts.Needs.{Needs}
+
+pub record Needed : Type 0 where
+  -- the act makes the workspace where there is none: the organization's workspaces are counted there
+  pub makes : Bool
+  -- the status of the run that holds
+  pub holder_status : Bool
+  -- the newest version
+  pub newest : Bool
+  -- the text that the newest version's text is compared with
+  pub text : Option (List ℕ)
+  -- which versions go as one more comes
+  pub outgoing : Bool
+  -- the version of a number
+  pub version : Option ℕ
+  -- the run of a number, or the one that has a key
+  pub run : Option ℕ
+  pub key : Option (List ℕ)
+  -- the first run that waits
+  pub waiting : Bool
+  -- how many runs are open
+  pub open_runs : Bool
+
+abbrev pub nothing : Needed
+nothing = record { makes = false; holder_status = false; newest = false; text = None; outgoing = false; version = None; run = None; key = None; waiting = false; open_runs = false }
+
+-- what is told of a workspace needs what it tells
+abbrev pub needs_of_look : AnyLook → Needed
+needs_of_look look.Workspace = record nothing { newest = true }
+needs_of_look look.State = record nothing { newest = true }
+needs_of_look (look.Version n) = record nothing { version = Some n }
+needs_of_look (look.Versions after) = nothing
+needs_of_look (look.Run n) = record nothing { run = Some n }
+needs_of_look (look.Runs after) = nothing
+
+abbrev pub needs : Act → Needed
+needs (Look what) = needs_of_look what
+needs (PutWorkspace settings) = record nothing { makes = true; newest = true }
+needs DeleteWorkspace = record nothing { open_runs = true }
+needs (UpdateState head text id) = record nothing { holder_status = true; newest = true; text = Some text; outgoing = true }
+needs (PurgeState id) = record nothing { holder_status = true }
+needs (Lock id text) = nothing
+needs (Unlock id) = record nothing { waiting = true }
+needs ForceUnlock = record nothing { waiting = true }
+needs (MakeRun ask) = record nothing { key = ask.key; open_runs = true }
+needs (ReportRun n action) = record nothing { run = Some n; waiting = true }
+
+-- the same, as the code has it
+abbrev pub needed_of : Needs → Needed
+needed_of n = record {
+  makes = n.makes;
+  holder_status = n.holder_status;
+  newest = n.newest;
+  text = option_copied n.text;
+  outgoing = n.outgoing;
+  version = n.version;
+  run = n.run;
+  key = option_copied n.key;
+  waiting = n.waiting;
+  open_runs = n.open_runs;
+}

@@ -1,0 +1,59 @@
+-- The count of workspaces stays within the greatest limit.
+use Rattle.std.proofs.Common.{◌≡◌, ℕ, ◌+◌, ◌-◌, ◌<◌, ◌≤◌, nat_lt, Bool, true, false, cond, List, is_some, Option, Some, None, refl, sym, ap, subst, ◌∙◌, arith}
+use Rattle.std.specs.FinMap.{FinMap, get, len, len-insert, len-remove, len-entries}
+use Rattle.std.proofs.lemmas.Bool.{ltb-true}
+use Rattle.machine.specs.Order.{name_cmp}
+use Rattle.machine.specs.Records.{standing, seen_by, seen_in, count_of, with_workspace, placed}
+use Rattle.machine.specs.Changes.{changed_by, IsDue}
+use Rattle.machine.specs.Rules.{rules, rules_missing}
+use Rattle.machine.specs.declared.acts.Act.{Act}
+use Rattle.machine.specs.declared.acts.Act.TheVariants.{Look, PutWorkspace, DeleteWorkspace, UpdateState, PurgeState, Lock as LockAct, Unlock, ForceUnlock, MakeRun, ReportRun}
+use Rattle.machine.specs.declared.acts.Change.{Change}
+use Rattle.machine.specs.declared.records.Workspace.{Workspace}
+use Rattle.machine.specs.declared.records.Organization.{Organization}
+use Rattle.machine.proofs.KeepLemmas.{standing_is}
+use Rattle.machine.proofs.MapLemmas.{names_total}
+
+-- a workspace is made where there is room
+made_in_room : (act : Act) (room : Bool) (w : Workspace) → Some w ≡ (rules_missing act room).left → room ≡ true
+made_in_room (PutWorkspace settings) true w e = refl
+made_in_room (PutWorkspace settings) false w e = absurd (let none : ⊥ = cc in none)
+made_in_room (Look what) room w e = absurd (let none : ⊥ = cc in none)
+made_in_room DeleteWorkspace room w e = absurd (let none : ⊥ = cc in none)
+made_in_room (UpdateState head text id) room w e = absurd (let none : ⊥ = cc in none)
+made_in_room (PurgeState id) room w e = absurd (let none : ⊥ = cc in none)
+made_in_room (LockAct id text) room w e = absurd (let none : ⊥ = cc in none)
+made_in_room (Unlock id) room w e = absurd (let none : ⊥ = cc in none)
+made_in_room ForceUnlock room w e = absurd (let none : ⊥ = cc in none)
+made_in_room (MakeRun ask) room w e = absurd (let none : ⊥ = cc in none)
+made_in_room (ReportRun n action) room w e = absurd (let none : ⊥ = cc in none)
+
+len_with : (m : FinMap name_cmp Workspace) (name : List ℕ) (w : Option Workspace) (limit : ℕ) → len m ≤ limit → (is_some (get m name) ≡ false → is_some w ≡ true → len m < limit) → len (with_workspace m name w) ≤ limit
+len_with m name None limit within room = subst (λ (n : ℕ). n ≤ limit) (sym (len-remove names_total m name)) (fewer (is_some (get m name)))
+  where
+    fewer : (b : Bool) → cond b (len m - 1) (len m) ≤ limit
+    fewer true = omega arith
+    fewer false = within
+len_with m name (Some w) limit within room = subst (λ (n : ℕ). n ≤ limit) (sym (len-insert names_total m name w)) (more (is_some (get m name)) refl)
+  where
+    more : (b : Bool) → is_some (get m name) ≡ b → cond b (len m) (len m + 1) ≤ limit
+    more true e = within
+    more false e = let below : len m < limit = room e refl in omega arith
+
+-- the count grows only where it is below the organization's limit, which is none above the greatest
+pub count_within : (o : Organization) (ws : List ℕ) (change : Change) → IsDue (seen_in o ws) change → (most : ℕ) → o.limit ≤ most → count_of o ≤ most → count_of (placed o ws (changed_by change (get o.workspaces ws))) ≤ most
+count_within o ws change due most limit within =
+    subst (λ (n : ℕ). n ≤ most) (len-entries (with_workspace o.workspaces ws (changed_by change (get o.workspaces ws))))
+    (len_with o.workspaces ws (changed_by change (get o.workspaces ws)) most (subst (λ (n : ℕ). n ≤ most) (sym (len-entries o.workspaces)) within) (λ none some. subst (λ (n : ℕ). n < most) (sym (len-entries o.workspaces)) (room (get o.workspaces ws) (changed_by change (get o.workspaces ws)) refl refl none some)))
+  where
+    below : count_of o < o.limit → count_of o < most
+    below h = omega (arith, h, limit)
+
+    room : (v w : Option Workspace) → get o.workspaces ws ≡ v → changed_by change (get o.workspaces ws) ≡ w → is_some v ≡ false → is_some w ≡ true → count_of o < most
+    room (Some v) w e f none some = absurd (let no_one : ⊥ = cc in no_one)
+    room None None e f none some = absurd (let no_one : ⊥ = cc in no_one)
+    room None (Some w) e f none some =
+        let given : changed_by change (standing (seen_in o ws)) ≡ Some w = ap (changed_by change) (standing_is (nat_lt (count_of o) o.limit) (get o.workspaces ws)) ∙ f in
+        let ruled : Some w ≡ (rules due.act due.now (seen_in o ws)).left = sym given ∙ due.is in
+        let here : Some w ≡ (rules_missing due.act (nat_lt (count_of o) o.limit)).left = ruled ∙ ap (λ (v : Option Workspace). (rules due.act due.now (seen_by (nat_lt (count_of o) o.limit) v)).left) e in
+        below (ltb-true (count_of o) o.limit (made_in_room due.act (nat_lt (count_of o) o.limit) w here))
