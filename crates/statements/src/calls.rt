@@ -1,7 +1,7 @@
 //! How a text is run, and how the row that it gives is read.
 ghost use Rattle.std.specs.Prelude.{◌≡◌, false, ◌^◌, ◌<◌, pos, IsTrue, IfOk};
 ghost use Rattle.std.specs.List.{AllZip};
-ghost use Rattle.sqlite_value.specs.Order.{column};
+ghost use Rattle.sqlite_value.specs.Order.{column, Row as SqlRow};
 ghost use Rattle.sqlite.specs.Values.{bound};
 ghost use Rattle.sqlite.specs.Held.{state};
 ghost use Rattle.sqlite.specs.State.{HasCleanDisk, Survives, Shown};
@@ -133,70 +133,6 @@ fn holder_in(row: &Row) -> Result<Holder, Error>
     }
 }
 
-fn workspace_in(row: &Row) -> Result<Workspace, Error>
-    ensures { IfOk result (IsWorkspace row.now) }
-{
-    Ok(Workspace {
-        auto: row.get(0)?,
-        holder: holder_in(row)?,
-        released: optional_text(row, 5)?,
-        next_version: row.get(6)?,
-        next_run: row.get(7)?,
-    })
-}
-
-fn head_in(row: &Row) -> Result<Head, Error>
-    ensures { IfOk result (IsHead row.now) }
-{
-    Ok(Head {
-        number: row.get(0)?,
-        serial: row.get(1)?,
-        lineage: Text::new(row.get(2)?),
-        size: row.get(3)?,
-    })
-}
-
-fn named_workspace_in(row: &Row) -> Result<NamedWorkspace, Error>
-    ensures { IfOk result (IsNamedWorkspace row.now) }
-{
-    Ok(NamedWorkspace {
-        it: workspace_in(row)?,
-        name: Text::new(row.get(8)?),
-    })
-}
-
-fn organization_in(row: &Row) -> Result<Organization, Error>
-    ensures { IfOk result (IsOrganization row.now) }
-{
-    Ok(Organization {
-        name: Text::new(row.get(0)?),
-        cap: row.get(1)?,
-    })
-}
-
-fn version_head_in(row: &Row) -> Result<VersionHead, Error>
-    ensures { IfOk result (IsVersionHead row.now) }
-{
-    Ok(VersionHead {
-        number: row.get(0)?,
-        serial: row.get(1)?,
-        lineage: Text::new(row.get(2)?),
-        created: row.get(3)?,
-        size: row.get(4)?,
-    })
-}
-
-fn role_in(row: &Row) -> Result<Role, Error>
-    ensures { IfOk result (IsRole row.now) }
-{
-    match row.get::<u64>(0)? {
-        0 => Ok(Role::Read),
-        1 => Ok(Role::Write),
-        2 => Ok(Role::Admin),
-        _ => Err(Error::IntegralValueOutOfRange(0)),
-    }
-}
-
 fn status_in(row: &Row, at: usize) -> Result<RunStatus, Error>
     ensures { IfOk result (IsStatusCell (column row.now at)) }
 {
@@ -230,158 +166,160 @@ fn action_in(row: &Row, at: usize) -> Result<Option<RunAction>, Error>
     }
 }
 
-fn run_in(row: &Row) -> Result<Run, Error>
-    ensures { IfOk result (IsRun row.now) }
-{
-    Ok(Run {
-        number: row.get(0)?,
-        plan_only: row.get(1)?,
-        key: optional_text(row, 2)?,
-        message: Text::new(row.get(3)?),
-        created: row.get(4)?,
-        status: status_in(row, 5)?,
-        action: action_in(row, 6)?,
-    })
+/// A value that a row of an answer holds.
+pub(crate) trait Read: Sized {
+    // Whether the row holds this one.
+    ghost is_in: { SqlRow → Self → Type 0 };
+
+    fn of_row(row: &Row) -> Result<Self, Error>
+        ensures { IfOk result (is_in row.now) };
 }
 
-pub(crate) fn workspace_of(row: Result<Option<Row>, Error>) -> Result<Option<Workspace>, Error>
-    ensures { IsRead IsWorkspace row result }
+impl Read for Workspace {
+    ghost is_in = { IsWorkspace };
+
+    fn of_row(row: &Row) -> Result<Workspace, Error> {
+        Ok(Workspace {
+            auto: row.get(0)?,
+            holder: holder_in(row)?,
+            released: optional_text(row, 5)?,
+            next_version: row.get(6)?,
+            next_run: row.get(7)?,
+        })
+    }
+}
+
+impl Read for NamedWorkspace {
+    ghost is_in = { IsNamedWorkspace };
+
+    fn of_row(row: &Row) -> Result<NamedWorkspace, Error> {
+        Ok(NamedWorkspace {
+            it: Workspace::of_row(row)?,
+            name: Text::new(row.get(8)?),
+        })
+    }
+}
+
+impl Read for Organization {
+    ghost is_in = { IsOrganization };
+
+    fn of_row(row: &Row) -> Result<Organization, Error> {
+        Ok(Organization {
+            name: Text::new(row.get(0)?),
+            cap: row.get(1)?,
+        })
+    }
+}
+
+impl Read for Head {
+    ghost is_in = { IsHead };
+
+    fn of_row(row: &Row) -> Result<Head, Error> {
+        Ok(Head {
+            number: row.get(0)?,
+            serial: row.get(1)?,
+            lineage: Text::new(row.get(2)?),
+            size: row.get(3)?,
+        })
+    }
+}
+
+impl Read for VersionHead {
+    ghost is_in = { IsVersionHead };
+
+    fn of_row(row: &Row) -> Result<VersionHead, Error> {
+        Ok(VersionHead {
+            number: row.get(0)?,
+            serial: row.get(1)?,
+            lineage: Text::new(row.get(2)?),
+            created: row.get(3)?,
+            size: row.get(4)?,
+        })
+    }
+}
+
+impl Read for Run {
+    ghost is_in = { IsRun };
+
+    fn of_row(row: &Row) -> Result<Run, Error> {
+        Ok(Run {
+            number: row.get(0)?,
+            plan_only: row.get(1)?,
+            key: optional_text(row, 2)?,
+            message: Text::new(row.get(3)?),
+            created: row.get(4)?,
+            status: status_in(row, 5)?,
+            action: action_in(row, 6)?,
+        })
+    }
+}
+
+impl Read for Bytes {
+    ghost is_in = { IsBody };
+
+    fn of_row(row: &Row) -> Result<Bytes, Error> {
+        Ok(Bytes::new(row.get(0)?))
+    }
+}
+
+impl Read for u64 {
+    ghost is_in = { IsNumber };
+
+    fn of_row(row: &Row) -> Result<u64, Error> {
+        row.get(0)
+    }
+}
+
+impl Read for RunStatus {
+    ghost is_in = { IsStatus };
+
+    fn of_row(row: &Row) -> Result<RunStatus, Error> {
+        status_in(row, 0)
+    }
+}
+
+impl Read for Role {
+    ghost is_in = { IsRole };
+
+    fn of_row(row: &Row) -> Result<Role, Error> {
+        match row.get::<u64>(0)? {
+            0 => Ok(Role::Read),
+            1 => Ok(Role::Write),
+            2 => Ok(Role::Admin),
+            _ => Err(Error::IntegralValueOutOfRange(0)),
+        }
+    }
+}
+
+/// The value that the row holds, or none where there is no row.
+pub(crate) fn read_one<T: Read + Drop>(row: Result<Option<Row>, Error>) -> Result<Option<T>, Error>
+    ensures { IsRead T.Read.is_in row result }
 {
     match row? {
-        Some(row) => Ok(Some(workspace_in(&row)?)),
+        Some(row) => Ok(Some(T::of_row(&row)?)),
         None => Ok(None),
     }
 }
 
-pub(crate) fn head_of(row: Result<Option<Row>, Error>) -> Result<Option<Head>, Error>
-    ensures { IsRead IsHead row result }
-{
-    match row? {
-        Some(row) => Ok(Some(head_in(&row)?)),
-        None => Ok(None),
-    }
-}
-
-pub(crate) fn run_of(row: Result<Option<Row>, Error>) -> Result<Option<Run>, Error>
-    ensures { IsRead IsRun row result }
-{
-    match row? {
-        Some(row) => Ok(Some(run_in(&row)?)),
-        None => Ok(None),
-    }
-}
-
-pub(crate) fn body_of(row: Result<Option<Row>, Error>) -> Result<Option<Bytes>, Error>
-    ensures { IsRead IsBody row result }
-{
-    match row? {
-        Some(row) => Ok(Some(Bytes::new(row.get(0)?))),
-        None => Ok(None),
-    }
-}
-
-pub(crate) fn number_of(row: Result<Option<Row>, Error>) -> Result<Option<u64>, Error>
-    ensures { IsRead IsNumber row result }
-{
-    match row? {
-        Some(row) => Ok(Some(row.get(0)?)),
-        None => Ok(None),
-    }
-}
-
-pub(crate) fn role_of(row: Result<Option<Row>, Error>) -> Result<Option<Role>, Error>
-    ensures { IsRead IsRole row result }
-{
-    match row? {
-        Some(row) => Ok(Some(role_in(&row)?)),
-        None => Ok(None),
-    }
-}
-
-pub(crate) fn status_of(row: Result<Option<Row>, Error>) -> Result<Option<RunStatus>, Error>
-    ensures { IsRead IsStatus row result }
-{
-    match row? {
-        Some(row) => Ok(Some(status_in(&row, 0)?)),
-        None => Ok(None),
-    }
-}
-
-fn named_workspaces_in(alloc: Global, rows: &[Row]) -> Result<Items<NamedWorkspace>, Error>
-    ensures { IfOk result (AllZip IsNamedWorkspace rows.now) }
+fn read_each<T: Read + Drop>(alloc: Global, rows: &[Row]) -> Result<Items<T>, Error>
+    ensures { IfOk result (AllZip T.Read.is_in rows.now) }
 {
     let mut read = Vec::new(alloc);
     for row in rows {
-        read.push(named_workspace_in(row)?)?;
+        read.push(T::of_row(row)?)?;
     }
     Ok(Items::new(read))
 }
 
-pub(crate) fn named_workspaces_of(
+/// The values that the rows hold.
+pub(crate) fn read_all<T: Read + Drop>(
     alloc: Global,
     rows: Result<Items<Row>, Error>,
-) -> Result<Items<NamedWorkspace>, Error>
-    ensures { AreRead IsNamedWorkspace rows result }
+) -> Result<Items<T>, Error>
+    ensures { AreRead T.Read.is_in rows result }
 {
     let rows = rows?;
-    named_workspaces_in(alloc, rows.as_slice())
-}
-
-fn organizations_in(alloc: Global, rows: &[Row]) -> Result<Items<Organization>, Error>
-    ensures { IfOk result (AllZip IsOrganization rows.now) }
-{
-    let mut read = Vec::new(alloc);
-    for row in rows {
-        read.push(organization_in(row)?)?;
-    }
-    Ok(Items::new(read))
-}
-
-pub(crate) fn organizations_of(
-    alloc: Global,
-    rows: Result<Items<Row>, Error>,
-) -> Result<Items<Organization>, Error>
-    ensures { AreRead IsOrganization rows result }
-{
-    let rows = rows?;
-    organizations_in(alloc, rows.as_slice())
-}
-
-fn version_heads_in(alloc: Global, rows: &[Row]) -> Result<Items<VersionHead>, Error>
-    ensures { IfOk result (AllZip IsVersionHead rows.now) }
-{
-    let mut read = Vec::new(alloc);
-    for row in rows {
-        read.push(version_head_in(row)?)?;
-    }
-    Ok(Items::new(read))
-}
-
-pub(crate) fn version_heads_of(
-    alloc: Global,
-    rows: Result<Items<Row>, Error>,
-) -> Result<Items<VersionHead>, Error>
-    ensures { AreRead IsVersionHead rows result }
-{
-    let rows = rows?;
-    version_heads_in(alloc, rows.as_slice())
-}
-
-fn runs_in(alloc: Global, rows: &[Row]) -> Result<Items<Run>, Error>
-    ensures { IfOk result (AllZip IsRun rows.now) }
-{
-    let mut read = Vec::new(alloc);
-    for row in rows {
-        read.push(run_in(row)?)?;
-    }
-    Ok(Items::new(read))
-}
-
-pub(crate) fn runs_of(alloc: Global, rows: Result<Items<Row>, Error>) -> Result<Items<Run>, Error>
-    ensures { AreRead IsRun rows result }
-{
-    let rows = rows?;
-    runs_in(alloc, rows.as_slice())
+    read_each(alloc, rows.as_slice())
 }
 
 /// Zero stands for no row, which a count never gives.

@@ -9,7 +9,7 @@ ghost use Rattle.statements.specs.Schema.{meta_table, org_table, token_table, ws
 ghost use Rattle.statements.specs.Making.{AltersBy, GrowsBy, GrowsByAll, HasSchema, KeepsMade, LeavesOthers, HasMeta, version_set, version_of, version_in};
 ghost use Rattle.statements.specs.Rows.{Kept};
 
-use crate::calls::{first_row, number_of, write};
+use crate::calls::{first_row, read_one, write};
 use sqlite::{Alter, Connection, Error, Transaction};
 
 const MAKE_META: &str =
@@ -164,5 +164,5 @@ pub fn version<S: Alter>(conn: &mut Connection<S>) -> Result<Option<u64>, Error>
     ensures survives { Survives (state S.Store conn.old) (state S.Store conn.new) (λ _. ⊥) }
 {
     let row = first_row(conn, VERSION, &[]);
-    number_of(row)
+    read_one(row)
 }

@@ -7,7 +7,7 @@ ghost use Rattle.statements.specs.Changes.{org_added, org_capped};
 ghost use Rattle.statements.specs.Listings.{organizations_in, OrgsApart};
 ghost use Rattle.statements.specs.Finds.{cap_of};
 
-use crate::calls::{all_rows, first_row, number_of, organizations_of, signed, write};
+use crate::calls::{all_rows, first_row, read_all, read_one, signed, write};
 use crate::rows::Organization;
 use basis::Items;
 use sqlite::{Alter, Connection, Error, Transaction, params};
@@ -22,7 +22,7 @@ pub fn cap<S: Alter>(conn: &mut Connection<S>, name: &str) -> Result<Option<u64>
     ensures survives { Survives (state S.Store conn.old) (state S.Store conn.new) (λ _. ⊥) }
 {
     let row = first_row(conn, ORG_CAP, params![name]);
-    number_of(row)
+    read_one(row)
 }
 
 const LIST_ORGS: &str = "SELECT name, cap FROM org ORDER BY name";
@@ -34,7 +34,7 @@ pub fn list<S: Alter>(alloc: Global, conn: &mut Connection<S>) -> Result<Items<O
     ensures survives { Survives (state S.Store conn.old) (state S.Store conn.new) (λ _. ⊥) }
 {
     let rows = all_rows(conn, LIST_ORGS, &[]);
-    organizations_of(alloc, rows)
+    read_all(alloc, rows)
 }
 
 const ADD_ORG: &str = "INSERT INTO org (name, cap) VALUES (?1, ?2)";

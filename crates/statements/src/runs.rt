@@ -8,8 +8,8 @@ ghost use Rattle.statements.specs.Listings.{runs_after, RunsRise};
 ghost use Rattle.statements.specs.Finds.{first_waiting_of, status_of, run_of, keyed_run_of, open_runs_of};
 
 use crate::calls::{
-    action_number, count_of, first_row, first_rows, number_of, run_of, runs_of, signed,
-    status_number, status_of, write,
+    action_number, count_of, first_row, first_rows, read_all, read_one, signed, status_number,
+    write,
 };
 use crate::rows::Run;
 use basis::{Items, RunAction, RunStatus};
@@ -30,7 +30,7 @@ pub fn first_waiting<S: Alter>(
     ensures survives { Survives (state S.Store conn.old) (state S.Store conn.new) (λ _. ⊥) }
 {
     let row = first_row(conn, FIRST_WAITING, params![org, ws]);
-    number_of(row)
+    read_one(row)
 }
 
 const RUN_STATUS: &str =
@@ -50,7 +50,7 @@ pub fn status<S: Alter>(
 {
     let run = signed(run);
     let row = first_row(conn, RUN_STATUS, params![org, ws, &run]);
-    status_of(row)
+    read_one(row)
 }
 
 const FIND_RUN: &str =
@@ -70,7 +70,7 @@ pub fn find<S: Alter>(
 {
     let number = signed(number);
     let row = first_row(conn, FIND_RUN, params![org, ws, &number]);
-    run_of(row)
+    read_one(row)
 }
 
 const LIST_RUNS: &str =
@@ -92,7 +92,7 @@ pub fn list<S: Alter>(
 {
     let after = signed(after);
     let rows = first_rows(alloc, conn, LIST_RUNS, params![org, ws, &after], most);
-    runs_of(alloc, rows)
+    read_all(alloc, rows)
 }
 
 const FIND_KEYED_RUN: &str =
@@ -110,7 +110,7 @@ pub fn find_by_key<S: Alter>(
     ensures survives { Survives (state S.Store conn.old) (state S.Store conn.new) (λ _. ⊥) }
 {
     let row = first_row(conn, FIND_KEYED_RUN, params![org, ws, key]);
-    run_of(row)
+    read_one(row)
 }
 
 const COUNT_OPEN_RUNS: &str = "SELECT count(*) FROM run WHERE org = ?1 AND ws = ?2 AND status < 4";

@@ -6,7 +6,7 @@ ghost use Rattle.statements.specs.Steps.{ChangesBy, ReadsBy};
 ghost use Rattle.statements.specs.Changes.{token_added, token_removed};
 ghost use Rattle.statements.specs.Finds.{role_of_digest, role_of_name};
 
-use crate::calls::{first_row, role_number, role_of, write};
+use crate::calls::{first_row, read_one, role_number, write};
 use basis::Role;
 use sqlite::{Alter, Connection, Error, Transaction, params};
 
@@ -23,7 +23,7 @@ pub fn role_of_digest<S: Alter>(
     ensures survives { Survives (state S.Store conn.old) (state S.Store conn.new) (λ _. ⊥) }
 {
     let row = first_row(conn, TOKEN_ROLE, params![org, digest]);
-    role_of(row)
+    read_one(row)
 }
 
 const NAMED_TOKEN_ROLE: &str = "SELECT role FROM token WHERE org = ?1 AND name = ?2 ORDER BY rowid";
@@ -39,7 +39,7 @@ pub fn role_of_name<S: Alter>(
     ensures survives { Survives (state S.Store conn.old) (state S.Store conn.new) (λ _. ⊥) }
 {
     let row = first_row(conn, NAMED_TOKEN_ROLE, params![org, name]);
-    role_of(row)
+    read_one(row)
 }
 
 const ADD_TOKEN: &str = "INSERT INTO token (org, name, digest, role) VALUES (?1, ?2, ?3, ?4)";

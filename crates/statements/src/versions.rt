@@ -7,9 +7,7 @@ ghost use Rattle.statements.specs.Changes.{new_version, version_added, versions_
 ghost use Rattle.statements.specs.Listings.{versions_after, VersionsRise};
 ghost use Rattle.statements.specs.Finds.{newest_of, number_back, number_of, body_of, versions_of};
 
-use crate::calls::{
-    body_of, count_of, first_row, first_rows, head_of, number_of, signed, version_heads_of, write,
-};
+use crate::calls::{count_of, first_row, first_rows, read_all, read_one, signed, write};
 use crate::rows::{Head, VersionHead};
 use basis::{Bytes, Items};
 use sqlite::{Alter, Connection, Error, Transaction, params};
@@ -29,7 +27,7 @@ pub fn newest<S: Alter>(
     ensures survives { Survives (state S.Store conn.old) (state S.Store conn.new) (λ _. ⊥) }
 {
     let row = first_row(conn, NEWEST_VERSION, params![org, ws]);
-    head_of(row)
+    read_one(row)
 }
 
 const LIST_VERSIONS: &str =
@@ -51,7 +49,7 @@ pub fn list<S: Alter>(
 {
     let after = signed(after);
     let rows = first_rows(alloc, conn, LIST_VERSIONS, params![org, ws, &after], most);
-    version_heads_of(alloc, rows)
+    read_all(alloc, rows)
 }
 
 const VERSION_BACK: &str =
@@ -71,7 +69,7 @@ pub fn number_back<S: Alter>(
 {
     let place = signed(place);
     let row = first_row(conn, VERSION_BACK, params![org, ws, &place]);
-    number_of(row)
+    read_one(row)
 }
 
 const VERSION_NUMBER: &str =
@@ -91,7 +89,7 @@ pub fn find<S: Alter>(
 {
     let number = signed(number);
     let row = first_row(conn, VERSION_NUMBER, params![org, ws, &number]);
-    number_of(row)
+    read_one(row)
 }
 
 const VERSION_BODY: &str =
@@ -111,7 +109,7 @@ pub fn body<S: Alter>(
 {
     let number = signed(number);
     let row = first_row(conn, VERSION_BODY, params![org, ws, &number]);
-    body_of(row)
+    read_one(row)
 }
 
 const COUNT_VERSIONS: &str = "SELECT count(*) FROM version WHERE org = ?1 AND ws = ?2";

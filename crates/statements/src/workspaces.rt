@@ -9,9 +9,7 @@ ghost use Rattle.statements.specs.Listings.{workspaces_after, WorkspacesApart};
 ghost use Rattle.statements.specs.Finds.{workspace_of, workspaces_of};
 ghost use Rattle.statements.specs.declared.rows.Holder.TheVariants.{Nobody, Lock, Run as HeldByRun};
 
-use crate::calls::{
-    count_of, first_row, first_rows, named_workspaces_of, signed, update, workspace_of, write,
-};
+use crate::calls::{count_of, first_row, first_rows, read_all, read_one, signed, update, write};
 use crate::rows::{NamedWorkspace, Workspace};
 use basis::Items;
 use sqlite::{Alter, Connection, Error, Transaction, params};
@@ -31,7 +29,7 @@ pub fn find<S: Alter>(
     ensures survives { Survives (state S.Store conn.old) (state S.Store conn.new) (λ _. ⊥) }
 {
     let row = first_row(conn, FIND_WS, params![org, name]);
-    workspace_of(row)
+    read_one(row)
 }
 
 const LIST_WS: &str =
@@ -51,7 +49,7 @@ pub fn list<S: Alter>(
     ensures survives { Survives (state S.Store conn.old) (state S.Store conn.new) (λ _. ⊥) }
 {
     let rows = first_rows(alloc, conn, LIST_WS, params![org, after], most);
-    named_workspaces_of(alloc, rows)
+    read_all(alloc, rows)
 }
 
 const COUNT_WS: &str = "SELECT count(*) FROM ws WHERE org = ?1";

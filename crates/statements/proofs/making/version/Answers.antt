@@ -12,14 +12,14 @@ pub returns-clause-read : goal.returns-clause-read
 returns-clause-read g c clean =
     let old = state g.S.Store c.args.conn.now in
     let new = state g.S.Store c.first_row-row.new.conn in
-    reads_by version_in IsNumber old new version_text _ c.first_row-row.result c.number_of.result
-    (c.first_row-row.ensures.row version_is_query clean) (c.first_row-row.ensures.calm version_is_query clean) c.number_of.ensures (λ t holds row first. version_shows old new t holds row first)
+    reads_by version_in IsNumber old new version_text _ c.first_row-row.result c.read_one.result
+    (c.first_row-row.ensures.row version_is_query clean) (c.first_row-row.ensures.calm version_is_query clean) c.read_one.ensures (λ t holds row first. version_shows old new t holds row first)
 
 pub returns-clause-told : goal.returns-clause-told
 returns-clause-told g c clean =
     let old = state g.S.Store c.args.conn.now in
     let new = state g.S.Store c.first_row-row.new.conn in
-    one_read IsNumber old new version_text [] c.first_row-row.result c.number_of.result (c.first_row-row.ensures.row version_is_query clean) c.number_of.ensures
+    one_read IsNumber old new version_text [] c.first_row-row.result c.read_one.result (c.first_row-row.ensures.row version_is_query clean) c.read_one.ensures
     (λ (o : Option ℕ). (table : Table) (metas : List (Kept ℕ)) → HasMeta old.now table metas → o ≡ version_of metas)
     (λ o same table metas has. same (version_of metas) (version_told old new table metas has))
 

@@ -10,8 +10,8 @@ pub returns-clause-read : goal.returns-clause-read
 returns-clause-read g c clean =
     let old = state g.S.Store c.args.conn.now in
     let new = state g.S.Store c.first_row-row.new.conn in
-    reads_by (cap_of c.args.name.now) IsNumber old new org_cap_text _ c.first_row-row.result c.number_of.result
-    (rw c.params-to_sql.ensures at (c.first_row-row.ensures.row org_cap_is_query clean)) (c.first_row-row.ensures.calm org_cap_is_query clean) c.number_of.ensures
+    reads_by (cap_of c.args.name.now) IsNumber old new org_cap_text _ c.first_row-row.result c.read_one.result
+    (rw c.params-to_sql.ensures at (c.first_row-row.ensures.row org_cap_is_query clean)) (c.first_row-row.ensures.calm org_cap_is_query clean) c.read_one.ensures
     (λ t holds row first. org_cap_shows old new t holds c.args.name.now row first)
 
 pub returns-clause-survives : goal.returns-clause-survives

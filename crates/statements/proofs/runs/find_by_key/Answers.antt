@@ -10,8 +10,8 @@ pub returns-clause-read : goal.returns-clause-read
 returns-clause-read g c clean =
     let old = state g.S.Store c.args.conn.now in
     let new = state g.S.Store c.first_row-row.new.conn in
-    reads_by (keyed_run_of c.args.org.now c.args.ws.now c.args.key.now) IsRun old new find_keyed_run_text _ c.first_row-row.result c.run_of.result
-    (rw (c.params-to_sql.ensures, c.params-to_sql-2.ensures, c.params-to_sql-3.ensures) at (c.first_row-row.ensures.row find_keyed_run_is_query clean)) (c.first_row-row.ensures.calm find_keyed_run_is_query clean) c.run_of.ensures
+    reads_by (keyed_run_of c.args.org.now c.args.ws.now c.args.key.now) IsRun old new find_keyed_run_text _ c.first_row-row.result c.read_one.result
+    (rw (c.params-to_sql.ensures, c.params-to_sql-2.ensures, c.params-to_sql-3.ensures) at (c.first_row-row.ensures.row find_keyed_run_is_query clean)) (c.first_row-row.ensures.calm find_keyed_run_is_query clean) c.read_one.ensures
     (λ t holds row first. find_keyed_run_shows old new t holds c.args.org.now c.args.ws.now c.args.key.now row first)
 
 pub returns-clause-survives : goal.returns-clause-survives

@@ -12,8 +12,8 @@ pub returns-clause-read : goal.returns-clause-read
 returns-clause-read g c clean =
     let old = state g.S.Store c.args.conn.now in
     let new = state g.S.Store c.first_rows-rows.new.conn in
-    lists_by (RunsRise c.args.org.now c.args.ws.now) (runs_after c.args.org.now c.args.ws.now c.args.after c.args.most) IsRun old new (FirstRows c.args.most list_runs_text _ old new) c.first_rows-rows.result c.runs_of.result
-    (rw (c.params-to_sql.ensures, c.params-to_sql-2.ensures, c.params-to_sql-3.ensures, c.signed-after.ensures, to_z-of_z w64 (pos c.args.after) (record { sfits = c.requires.after_fits })) at (c.first_rows-rows.ensures.rows list_runs_is_query clean)) (c.first_rows-rows.ensures.calm list_runs_is_query clean) c.runs_of.ensures
+    lists_by (RunsRise c.args.org.now c.args.ws.now) (runs_after c.args.org.now c.args.ws.now c.args.after c.args.most) IsRun old new (FirstRows c.args.most list_runs_text _ old new) c.first_rows-rows.result c.read_all.result
+    (rw (c.params-to_sql.ensures, c.params-to_sql-2.ensures, c.params-to_sql-3.ensures, c.signed-after.ensures, to_z-of_z w64 (pos c.args.after) (record { sfits = c.requires.after_fits })) at (c.first_rows-rows.ensures.rows list_runs_is_query clean)) (c.first_rows-rows.ensures.calm list_runs_is_query clean) c.read_all.ensures
     (λ t holds rise rows runs first read. list_runs_shows old new t holds c.args.org.now c.args.ws.now c.args.after c.args.most rows runs rise first read)
 
 pub returns-clause-survives : goal.returns-clause-survives

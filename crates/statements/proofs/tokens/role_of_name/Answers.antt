@@ -10,8 +10,8 @@ pub returns-clause-read : goal.returns-clause-read
 returns-clause-read g c clean =
     let old = state g.S.Store c.args.conn.now in
     let new = state g.S.Store c.first_row-row.new.conn in
-    reads_by (role_of_name c.args.org.now c.args.name.now) IsRole old new named_token_role_text _ c.first_row-row.result c.role_of.result
-    (rw (c.params-to_sql.ensures, c.params-to_sql-2.ensures) at (c.first_row-row.ensures.row named_token_role_is_query clean)) (c.first_row-row.ensures.calm named_token_role_is_query clean) c.role_of.ensures
+    reads_by (role_of_name c.args.org.now c.args.name.now) IsRole old new named_token_role_text _ c.first_row-row.result c.read_one.result
+    (rw (c.params-to_sql.ensures, c.params-to_sql-2.ensures) at (c.first_row-row.ensures.row named_token_role_is_query clean)) (c.first_row-row.ensures.calm named_token_role_is_query clean) c.read_one.ensures
     (λ t holds row first. named_token_role_shows old new t holds c.args.org.now c.args.name.now row first)
 
 pub returns-clause-survives : goal.returns-clause-survives

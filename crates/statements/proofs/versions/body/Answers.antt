@@ -12,8 +12,8 @@ pub returns-clause-read : goal.returns-clause-read
 returns-clause-read g c clean =
     let old = state g.S.Store c.args.conn.now in
     let new = state g.S.Store c.first_row-row.new.conn in
-    reads_by (body_of c.args.org.now c.args.ws.now c.args.number) IsBody old new version_body_text _ c.first_row-row.result c.body_of.result
-    (rw (c.params-to_sql.ensures, c.params-to_sql-2.ensures, c.params-to_sql-3.ensures, c.signed-number.ensures, to_z-of_z w64 (pos c.args.number) (record { sfits = c.requires.number_fits })) at (c.first_row-row.ensures.row version_body_is_query clean)) (c.first_row-row.ensures.calm version_body_is_query clean) c.body_of.ensures
+    reads_by (body_of c.args.org.now c.args.ws.now c.args.number) IsBody old new version_body_text _ c.first_row-row.result c.read_one.result
+    (rw (c.params-to_sql.ensures, c.params-to_sql-2.ensures, c.params-to_sql-3.ensures, c.signed-number.ensures, to_z-of_z w64 (pos c.args.number) (record { sfits = c.requires.number_fits })) at (c.first_row-row.ensures.row version_body_is_query clean)) (c.first_row-row.ensures.calm version_body_is_query clean) c.read_one.ensures
     (λ t holds row first. version_body_shows old new t holds c.args.org.now c.args.ws.now c.args.number row first)
 
 pub returns-clause-survives : goal.returns-clause-survives
