@@ -6,7 +6,7 @@ use Rattle.std.proofs.lemmas.Bool.{leb-true}
 use Rattle.basis.specs.declared.refusals.Refusal.{Refusal}
 use Rattle.basis.specs.declared.rows.StateHead.{StateHead}
 use Rattle.machine.specs.Laws.{IsLawful, IsVersion, Rises, IsRun, is_pending, is_nobody, IsLawfulIfThere}
-use Rattle.machine.specs.Ranges.{IsHead}
+use Rattle.machine.specs.Ranges.{IsHeadInRange}
 use Rattle.machine.specs.Effects.{effect}
 use Rattle.machine.specs.Workspaces.{max_versions}
 use Rattle.machine.specs.Succession.{Succession, first, same, other_lineage, old_serial, next, succession}
@@ -56,7 +56,7 @@ number_left-is n m e = let p = tests (nat_le 1 n) (nat_le n max_number) n m e in
     tests false c n m e = absurd (let no : ⊥ = cc in no)
 
 version_is_lawful : (w : Workspace) (n : ℕ) (head : StateHead) (text : List ℕ) (now : ℕ) → number_left w.next_version ≡ Some n
-    → IsHead head → now ≤ 253_402_300_799 → IsLawful w → IsLawful (with_version w n head text now)
+    → IsHeadInRange head → now ≤ 253_402_300_799 → IsLawful w → IsLawful (with_version w n head text now)
 version_is_lawful w n head text now e range moment lawful =
     let v : Version = record { number = n; serial = head.serial; lineage = head.lineage; created = now; text = text } in
     let left : (n ≡ w.next_version) × (1 ≤ n) × (n ≤ max_number) = number_left-is w.next_version n e in
@@ -157,12 +157,12 @@ force_is_lawful (Lock id_held text) w e lawful = release_is_lawful id_held text 
 force_is_lawful (HoldingRun n) w e lawful = lawful
 
 number_is_lawful : (w : Workspace) (head : StateHead) (text : List ℕ) (now : ℕ) (n : Option ℕ) → number_left w.next_version ≡ n
-    → IsHead head → now ≤ 253_402_300_799 → IsLawful w → IsLawfulIfThere (numbered_update n w head text now).left
+    → IsHeadInRange head → now ≤ 253_402_300_799 → IsLawful w → IsLawfulIfThere (numbered_update n w head text now).left
 number_is_lawful w head text now None e range moment lawful = lawful
 number_is_lawful w head text now (Some n) e range moment lawful = still_is_lawful (with_version w n head text now) (version_is_lawful w n head text now e range moment lawful)
 
 succession_is_lawful : (w : Workspace) (head : StateHead) (text : List ℕ) (now : ℕ) (s : Succession)
-    → IsHead head → now ≤ 253_402_300_799 → IsLawful w → IsLawfulIfThere (by_succession s w head text now).left
+    → IsHeadInRange head → now ≤ 253_402_300_799 → IsLawful w → IsLawfulIfThere (by_succession s w head text now).left
 succession_is_lawful w head text now first range moment lawful = number_is_lawful w head text now (number_left w.next_version) refl range moment lawful
 succession_is_lawful w head text now same range moment lawful = lawful
 succession_is_lawful w head text now other_lineage range moment lawful = lawful
@@ -170,6 +170,6 @@ succession_is_lawful w head text now old_serial range moment lawful = lawful
 succession_is_lawful w head text now next range moment lawful = number_is_lawful w head text now (number_left w.next_version) refl range moment lawful
 
 pub update_is_lawful : (w : Workspace) (head : StateHead) (text : List ℕ) (now : ℕ) (m : Option Refusal)
-    → IsHead head → now ≤ 253_402_300_799 → IsLawful w → IsLawfulIfThere (by_may_write m w head text now).left
+    → IsHeadInRange head → now ≤ 253_402_300_799 → IsLawful w → IsLawfulIfThere (by_may_write m w head text now).left
 update_is_lawful w head text now (Some refusal) range moment lawful = lawful
 update_is_lawful w head text now None range moment lawful = succession_is_lawful w head text now (succession w.versions text head) range moment lawful

@@ -12,6 +12,7 @@ pub mod LawLemmas
 pub mod CutLemmas
 pub mod DecisionLemmas
 pub mod MapLemmas
+pub mod SamenessLemmas
 pub mod PlainLemmas
 pub mod CustodyLemmas
 pub mod RefusalLemmas

@@ -12,7 +12,7 @@ use Rattle.std.proofs.lemmas.Bool.{ltb-true, lt-ltb, le-ltb}
 use Rattle.machine.specs.Order.{name_cmp}
 use Rattle.machine.specs.Laws.{Rises}
 use Rattle.machine.specs.Showing.{comes_after}
-use Rattle.machine.specs.Pages.{WorkspacePagesFollow, VersionPagesFollow, RunPagesFollow}
+use Rattle.machine.specs.Paging.{WorkspacePagesFollow, VersionPagesFollow, RunPagesFollow}
 use Rattle.machine.specs.declared.records.Run.{Run}
 use Rattle.machine.specs.declared.records.Version.{Version}
 use Rattle.machine.specs.declared.records.Workspace.{Workspace}

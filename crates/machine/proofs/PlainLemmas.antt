@@ -22,7 +22,7 @@ use Rattle.machine.specs.declared.keeps.OrgRow.{OrgRow}
 use Rattle.machine.specs.Effects.{effect}
 use Rattle.machine.specs.Records.{count_of}
 use Rattle.machine.specs.Inner.Places.{org_row}
-use Rattle.machine.specs.Tokens.{token_revoked, without_token, is_row_of, Ascend, Tells, AreOrganizations}
+use Rattle.machine.specs.Tokens.{token_revoked, without_token, is_row_of, Ascend, TellsOrganization, AreOrganizations}
 use Rattle.machine.proofs.MapLemmas.{remove_absent, names_total, tied_names, below_apart, not_tied, both_first, both_second, is_true}
 use Rattle.machine.specs.declared.records.Version.{Version}
 use Rattle.machine.specs.Changes.{changed_by}
@@ -104,7 +104,7 @@ all_found [] sorted = tt
 all_found (e ∷ es) sorted =
     (rw (tied_itself names_total e.0) refl, found_later e es es (both_first _ _ sorted) (all_found es (both_second _ _ sorted)))
 
-rows_told : (m : FinMap name_cmp Organization) (fs : Entries) → AreFoundIn (entries m) fs → AllByRecursion (Tells (λ o. get m o)) (map row_at fs)
+rows_told : (m : FinMap name_cmp Organization) (fs : Entries) → AreFoundIn (entries m) fs → AllByRecursion (TellsOrganization (λ o. get m o)) (map row_at fs)
 rows_told m [] found = tt
 rows_told m (f ∷ fs) found =
     (subst (λ (r : Option Organization). IsSomeAnd r (λ (o : Organization). (count_of f.1 ≡ count_of o) × (f.1.limit ≡ o.limit))) (sym (get-entries m f.0 ∙ found.0)) (refl, refl), rows_told m fs found.1)

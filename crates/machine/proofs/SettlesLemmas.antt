@@ -4,7 +4,7 @@ use Rattle.std.specs.Prelude.{find, option_map}
 use Rattle.std.specs.List.{AllByRecursion}
 use Rattle.machine.specs.Workspaces.{run_of, is_numbered}
 use Rattle.machine.specs.Laws.{Rises}
-use Rattle.machine.specs.Settling.{is_waiting, first_waiting, to_start, started_if, settled, NoneWaits, Starts, Settles, SettlesOnce}
+use Rattle.machine.specs.Settling.{is_waiting, first_waiting, to_start, started_if, settled, NoneWaits, LeastStarts, Settles, SettlesOnce}
 use Rattle.machine.specs.declared.records.Holder.{Holder}
 use Rattle.machine.specs.declared.records.Holder.TheVariants.{Nobody, Lock, Run as HoldingRun}
 use Rattle.machine.specs.declared.records.Run.{Run}
@@ -59,7 +59,7 @@ numbered_itself low (r ∷ runs) next f found rise = passed (is_waiting r) found
         apart false t = more is
 
 -- the run that starts by the relation is the first that waits
-first_is : (low : ℕ) (w v : Workspace) → Rises low (map (λ (r : Run). r.number) w.runs) w.next_run → (s : Starts w v) → (o : Option Run) → find is_waiting w.runs ≡ o
+first_is : (low : ℕ) (w v : Workspace) → Rises low (map (λ (r : Run). r.number) w.runs) w.next_run → (s : LeastStarts w v) → (o : Option Run) → find is_waiting w.runs ≡ o
     → option_map (λ (r : Run). r.number) o ≡ Some s.run.number
 first_is low w v rise s None e =
     absurd (let waits : is_waiting s.run ≡ false = found_of_all (λ r. is_waiting r ≡ false) (is_numbered s.run.number) w.runs s.run (none_found w.runs e) s.there in

@@ -15,7 +15,7 @@ use Rattle.machine.proofs.RunRulings.{IsMade, IsReported, comes_to, make_comes, 
 use Rattle.basis.specs.declared.rows.RunAsk.{RunAsk}
 use Rattle.basis.specs.declared.runs.RunAction.{RunAction}
 use Rattle.machine.specs.Units.{find_last, version_of}
-use Rattle.machine.specs.Custody.{WhatIsPostedIsRead, NothingIsReadOfAPurge, KeepsVersions, MakesVersion, NumbersRise}
+use Rattle.machine.specs.Custody.{WhatIsPostedIsRead, NothingIsReadOfAPurge, KeepsVersions, GainsVersion, NumbersRise}
 use Rattle.machine.proofs.CustodyLemmas.{newest_with, versions_stay, lock_becomes, unlock_becomes, force_becomes, purge_becomes, Unlocks}
 use Rattle.machine.proofs.LawLemmas.{number_left-is}
 use Rattle.machine.proofs.PlainLemmas.{find_last_push}
@@ -98,7 +98,7 @@ found_or_made n k vs made u e =
     chosen false e = inr e
 
 abbrev Numbers : Workspace → Workspace → Type 0
-Numbers w v = (w.next_run ≤ v.next_run) × (KeepsVersions w v ⊎ MakesVersion w v)
+Numbers w v = (w.next_run ≤ v.next_run) × (KeepsVersions w v ⊎ GainsVersion w v)
 
 -- nothing is made, where the next numbers and the versions stay
 kept_numbers : (w v : Workspace) → v.next_run ≡ w.next_run → v.next_version ≡ w.next_version → v.versions ≡ w.versions → Numbers w v

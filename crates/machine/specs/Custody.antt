@@ -126,7 +126,7 @@ pub record KeepsVersions (w v : Workspace) : Type 0 where
   pub left : (n : ℕ) (u : Version) → version_of n v.versions ≡ Some u → version_of n w.versions ≡ Some u
 
 -- a version is made: it has the next number, which rises by one, and what is left of the others is as it was
-pub record MakesVersion (w v : Workspace) : Type 0 where
+pub record GainsVersion (w v : Workspace) : Type 0 where
   pub made : Version
   pub number : made.number ≡ w.next_version
   pub newest : newest v.versions ≡ Some made
@@ -136,7 +136,7 @@ pub record MakesVersion (w v : Workspace) : Type 0 where
 -- the next numbers never fall, that of versions rises exactly where one is made, and a version that stays is unchanged
 abbrev pub NumbersRise : Type 0
 NumbersRise = (act : Act) (now : ℕ) (w v : Workspace) → (rules act now (there w)).left ≡ Some v
-    → (w.next_run ≤ v.next_run) × (KeepsVersions w v ⊎ MakesVersion w v)
+    → (w.next_run ≤ v.next_run) × (KeepsVersions w v ⊎ GainsVersion w v)
 
 -- an act that changes nothing more where it comes again: every one but the creation of a run without a key
 abbrev pub IsRepeatable : Act → Type 0

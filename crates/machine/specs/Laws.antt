@@ -1,5 +1,5 @@
 -- The laws that always hold of a workspace and of an organization.
-use Rattle.std.specs.Prelude.{◌≡◌, ℕ, ◌^◌, ◌<◌, ◌≤◌, Bool, true, false, ◌&&◌, ◌||◌, ◌==◌, List, [], ◌∷◌, length, map, Option, Some, None, IfSome, IsSomeAnd, IsTrue, ⊤}
+use Rattle.std.specs.Prelude.{◌≡◌, ℕ, ◌+◌, ◌^◌, ◌<◌, ◌≤◌, Bool, true, false, ◌&&◌, ◌||◌, ◌==◌, List, [], ◌∷◌, length, map, Option, Some, None, IfSome, IsSomeAnd, IsTrue, ⊤}
 use Rattle.std.specs.List.{AllByRecursion, list_any}
 use Rattle.std.specs.Str.{bytes_eq}
 use Rattle.std.specs.FinMap.{get}
@@ -7,6 +7,8 @@ use Rattle.basis.specs.Names.{is_org_name, is_ws_name, is_free_id, has_length}
 use Rattle.basis.specs.declared.runs.RunStatus.{RunStatus}
 use Rattle.basis.specs.declared.runs.RunStatus.TheVariants.{Pending, Planning, Planned, Applying, Applied, PlannedAndFinished, Errored, Discarded, Canceled}
 use Rattle.basis.specs.declared.runs.RunAction.{RunAction}
+use Rattle.basis.specs.declared.numbers.TheConstants.{MAX_NUMBER}
+use Rattle.machine.specs.Ranges.{IsMoment}
 use Rattle.machine.specs.RunSteps.{RunStep, plan_only_steps, auto_apply_steps, confirmed_steps, is_status, is_action}
 use Rattle.machine.specs.Workspaces.{max_versions, max_open_runs, run_of, open_runs}
 use Rattle.machine.specs.declared.records.Holder.{Holder}
@@ -24,13 +26,13 @@ Rises low (n ∷ ns) next = (low < n) × (n < next) × Rises n ns next
 
 -- the range of the next number of a version or a run
 abbrev pub IsNext : ℕ → Type 0
-IsNext next = (1 ≤ next) × (next ≤ 1_000_000_001)
+IsNext next = (1 ≤ next) × (next ≤ MAX_NUMBER + 1)
 
 -- the parts of a version are in their ranges
 pub record IsVersion (v : Version) : Type 0 where
   pub serial : v.serial < 2 ^ 63
   pub lineage : length v.lineage ≤ 256
-  pub created : v.created ≤ 253_402_300_799
+  pub created : IsMoment v.created
 
 -- planning, planned or applying
 abbrev pub is_active : RunStatus → Bool
@@ -82,7 +84,7 @@ is_nobody (HoldingRun n) = false
 pub record IsRun (holder : Holder) (r : Run) : Type 0 where
   pub key : IfSome r.key (λ key. IsTrue (has_length 1 64 key))
   pub message : length r.message ≤ 1_000
-  pub created : r.created ≤ 253_402_300_799
+  pub created : IsMoment r.created
   pub action : IsWhereActionEnds r.plan_only r.action r.status
   pub active : r.plan_only ≡ false → is_active r.status ≡ holds holder r.number
   pub waiting : is_pending r.status ≡ true → (r.plan_only ≡ false) × (is_nobody holder ≡ false)

@@ -10,13 +10,14 @@ pub mod Records
 pub mod Ranges
 pub mod Showing
 pub mod Rules
+pub mod Sameness
 pub mod Needs
 pub mod Changes
 pub mod Meaning
 pub mod Units
 pub mod Tokens
 pub mod Keeping
-pub mod Pages
+pub mod Paging
 pub mod Custody
 pub mod Queue
 pub mod Inner

@@ -8,7 +8,7 @@ use Rattle.machine.specs.Records.{Seen, standing}
 use Rattle.machine.specs.Showing.{versions_after, runs_after}
 use Rattle.machine.specs.Rules.{Outcome, done, no_state, state, workspace, the_run, versions, runs, Ruling, refused_by, rules}
 use Rattle.machine.specs.Changes.{changed_by, IsDue}
-use Rattle.machine.specs.Units.{text_of}
+use Rattle.machine.specs.Units.{version_text}
 use Rattle.machine.specs.declared.acts.Act.{Act}
 use Rattle.machine.specs.declared.acts.Answer.{Answer}
 use Rattle.machine.specs.declared.acts.Answer.TheVariants.{Done, NoState, State, Workspace as ShownWorkspace, Run as ShownRun, Versions, Runs}
@@ -27,7 +27,7 @@ changed (Some change) w = changed_by change w
 abbrev pub answered : Answer → Option Workspace → Outcome
 answered Done w = done
 answered NoState w = no_state
-answered (State n) w = option_map_or state (text_of n w) no_state
+answered (State n) w = option_map_or state (version_text n w) no_state
 answered (ShownWorkspace shown) w = workspace shown
 answered (ShownRun r) w = the_run r
 answered (Versions after) w = versions (versions_after after w)

@@ -1,14 +1,15 @@
 -- The ranges of what is asked.
 use Rattle.std.specs.Prelude.{ℕ, ◌^◌, ◌<◌, ◌≤◌, length, IfSome, IsTrue, ⊤}
 use Rattle.basis.specs.Names.{is_free_id, has_length}
+use Rattle.basis.specs.declared.numbers.TheConstants.{MAX_MOMENT}
 use Rattle.basis.specs.declared.rows.RunAsk.{RunAsk}
 use Rattle.basis.specs.declared.rows.StateHead.{StateHead}
 use Rattle.machine.specs.declared.acts.Act.{Act}
 use Rattle.machine.specs.declared.acts.Act.TheVariants.{Look, PutWorkspace, DeleteWorkspace, UpdateState, PurgeState, Lock as LockAct, Unlock, ForceUnlock, MakeRun, ReportRun}
 
 -- what a state's head says is in range
-abbrev pub IsHead : StateHead → Type 0
-IsHead head = (head.serial < 2 ^ 63) × (length head.lineage ≤ 256)
+abbrev pub IsHeadInRange : StateHead → Type 0
+IsHeadInRange head = (head.serial < 2 ^ 63) × (length head.lineage ≤ 256)
 
 -- what the creation of a run asks is in range
 abbrev pub IsRunAsk : RunAsk → Type 0
@@ -16,13 +17,13 @@ IsRunAsk ask = IfSome ask.key (λ key. IsTrue (has_length 1 64 key)) × (length 
 
 -- a moment, in seconds since 1970
 abbrev pub IsMoment : ℕ → Type 0
-IsMoment now = now ≤ 253_402_300_799
+IsMoment now = now ≤ MAX_MOMENT
 
 -- the documents of an act are in their ranges
 abbrev pub IsInRange : Act → Type 0
 IsInRange (PutWorkspace settings) = ⊤
 IsInRange (Look what) = ⊤
-IsInRange (UpdateState head text id) = IsHead head
+IsInRange (UpdateState head text id) = IsHeadInRange head
 IsInRange (PurgeState id) = ⊤
 IsInRange (LockAct id text) = IsTrue (is_free_id id)
 IsInRange (Unlock id) = ⊤

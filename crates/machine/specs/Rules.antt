@@ -2,6 +2,7 @@
 use Rattle.std.specs.Prelude.{ℕ, ◌+◌, Bool, false, not, ◌&&◌, nat_lt, ◌==◌, cond, List, [], ◌∷◌, ◌++◌, map, Option, Some, None}
 use Rattle.std.specs.Str.{bytes_eq}
 use Rattle.basis.specs.Numbers.{within}
+use Rattle.basis.specs.declared.numbers.TheConstants.{MAX_NUMBER}
 use Rattle.basis.specs.declared.refusals.Refusal.{Refusal}
 use Rattle.basis.specs.declared.refusals.Refusal.TheVariants.{NotFound, OtherLineage, OldSerial, OverLimit, WrongState, HeldByRun, OpenRuns, Locked}
 use Rattle.basis.specs.declared.rows.Look.{Look as AnyLook}
@@ -62,7 +63,7 @@ Ruling = Effect Outcome (Option Workspace)
 
 -- the greatest number of a version or a run
 abbrev pub max_number : ℕ
-max_number = 1_000_000_000
+max_number = MAX_NUMBER
 
 -- an accepted update: the version gets the next number, and of too many versions the oldest go
 abbrev pub with_version : Workspace → ℕ → StateHead → List ℕ → ℕ → Workspace

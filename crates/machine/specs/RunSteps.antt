@@ -1,5 +1,5 @@
 -- The steps of runs: three finite sets of a status, an action, and the status after it (HCP Terraform, 'Run States and
--- Stages', a subset). An action that no step of a status has is refused there.
+-- Stages', a subset). An action that no run_step of a status has is refused there.
 use Rattle.std.specs.Prelude.{Bool, true, false, ◌&&◌, List, [], ◌∷◌, find, Option, Some, None, option_map}
 use Rattle.std.specs.Str.{bytes_eq}
 use Rattle.basis.specs.Runs.{status_word, action_word}
@@ -14,31 +14,31 @@ pub record RunStep : Type 0 where
   pub action : RunAction
   pub to : RunStatus
 
-abbrev pub step : RunStatus → RunAction → RunStatus → RunStep
-step from action to = record { from = from; action = action; to = to }
+abbrev pub run_step : RunStatus → RunAction → RunStatus → RunStep
+run_step from action to = record { from = from; action = action; to = to }
 
 -- of a plan-only run
 abbrev pub plan_only_steps : List RunStep
 plan_only_steps =
-    step Planning ReportPlanned PlannedAndFinished
-    ∷ step Planning ReportUnchanged PlannedAndFinished
-    ∷ step Planning Fail Errored
-    ∷ step Planning Cancel Canceled
+    run_step Planning ReportPlanned PlannedAndFinished
+    ∷ run_step Planning ReportUnchanged PlannedAndFinished
+    ∷ run_step Planning Fail Errored
+    ∷ run_step Planning Cancel Canceled
     ∷ []
 
 -- of a queued run, by where it goes once its plan is made
 abbrev pub queued_steps : RunStatus → List RunStep
 queued_steps planned =
-    step Pending Discard Discarded
-    ∷ step Planning ReportPlanned planned
-    ∷ step Planning ReportUnchanged PlannedAndFinished
-    ∷ step Planning Fail Errored
-    ∷ step Planning Cancel Canceled
-    ∷ step Planned Confirm Applying
-    ∷ step Planned Discard Discarded
-    ∷ step Applying ReportApplied Applied
-    ∷ step Applying Fail Errored
-    ∷ step Applying Cancel Canceled
+    run_step Pending Discard Discarded
+    ∷ run_step Planning ReportPlanned planned
+    ∷ run_step Planning ReportUnchanged PlannedAndFinished
+    ∷ run_step Planning Fail Errored
+    ∷ run_step Planning Cancel Canceled
+    ∷ run_step Planned Confirm Applying
+    ∷ run_step Planned Discard Discarded
+    ∷ run_step Applying ReportApplied Applied
+    ∷ run_step Applying Fail Errored
+    ∷ run_step Applying Cancel Canceled
     ∷ []
 
 -- of a queued run under auto-apply: it applies at once

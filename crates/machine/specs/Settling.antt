@@ -45,7 +45,7 @@ abbrev pub settled : Workspace → Workspace
 settled w = started_if (to_start w.holder (first_waiting w.runs)) w
 
 -- the waiting run of least number is planning and holds, and all else is as before
-pub record Starts (w v : Workspace) : Type 0 where
+pub record LeastStarts (w v : Workspace) : Type 0 where
   pub run : Run
   pub there : run_of run.number w.runs ≡ Some run
   pub waits : is_waiting run ≡ true
@@ -54,7 +54,7 @@ pub record Starts (w v : Workspace) : Type 0 where
 
 -- settling, as a relation of the workspaces before and after it: where somebody holds or none waits they are equal, and else a run starts
 abbrev pub Settles : Workspace → Workspace → Type 0
-Settles w v = (((w.holder ≡ Nobody → NoneWaits w.runs)) × (v ≡ w)) ⊎ ((w.holder ≡ Nobody) × Starts w v)
+Settles w v = (((w.holder ≡ Nobody → NoneWaits w.runs)) × (v ≡ w)) ⊎ ((w.holder ≡ Nobody) × LeastStarts w v)
 
 -- where numbers rise, as they do in a lawful workspace, it allows one workspace, and that is `settled`
 abbrev pub SettlesOnce : Type 0

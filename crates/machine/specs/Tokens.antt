@@ -77,12 +77,12 @@ abbrev pub Ascend : List OrgRow → Type 0
 Ascend [] = ⊤
 Ascend (row ∷ rows) = AllByRecursion (λ (later : OrgRow). is_lt (name_cmp row.name later.name) ≡ true) rows × Ascend rows
 
-abbrev pub Tells : (List ℕ → Option Organization) → OrgRow → Type 0
-Tells records row = IsSomeAnd (records row.name) (λ o. (row.workspaces ≡ count_of o) × (row.limit ≡ o.limit))
+abbrev pub TellsOrganization : (List ℕ → Option Organization) → OrgRow → Type 0
+TellsOrganization records row = IsSomeAnd (records row.name) (λ o. (row.workspaces ≡ count_of o) × (row.limit ≡ o.limit))
 
 pub record AreOrganizations (records : List ℕ → Option Organization) (rows : List OrgRow) : Type 0 where
   pub ascend : Ascend rows
-  pub told : AllByRecursion (Tells records) rows
+  pub told : AllByRecursion (TellsOrganization records) rows
   pub whole : (org : List ℕ) (o : Organization) → records org ≡ Some o → list_any (is_row_of org) rows ≡ true
 
 abbrev pub ListsOrganizations : (List ℕ → Option Organization) → AdminAnswer → Type 0

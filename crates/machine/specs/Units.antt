@@ -78,5 +78,5 @@ abbrev pub unit_of : Organization → List ℕ → Act → AnyUnit
 unit_of o name act = unit_by o act (get o.workspaces name)
 
 -- the text of a version, if the workspace is there and keeps it
-abbrev pub text_of : ℕ → Option Workspace → Option (List ℕ)
-text_of n w = option_and_then (λ (v : Workspace). option_map (λ (u : Version). u.text) (version_of n v.versions)) w
+abbrev pub version_text : ℕ → Option Workspace → Option (List ℕ)
+version_text n w = option_and_then (λ (v : Workspace). option_map (λ (u : Version). u.text) (version_of n v.versions)) w

@@ -628,8 +628,7 @@ fn decided(unit: &Unit, act: &Act, now: Moment) -> Result<Decision, Down>
 /// What becomes of an act at a moment, from what it needs of its workspace. Of a lawful organization
 /// it is what the rules say.
 pub fn decide(unit: &Unit, act: &Act, now: Moment) -> Result<Decision, Down>
-    ensures decision { IfOk result (λ decision. decision ≡ decision_of unit.now act.now now) }
-    ensures model { IfOk result (λ decision. (o : AnyOrganization) (name : List ℕ) → IsLawfulOrganization o → unit.now ≡ unit_of o name act.now
+    ensures { IfOk result (λ decision. (o : AnyOrganization) (name : List ℕ) → IsLawfulOrganization o → unit.now ≡ unit_of o name act.now
         → Meets (seen_in o name) act.now now decision) }
 {
     decided(unit, act, now)

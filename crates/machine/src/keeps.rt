@@ -8,7 +8,7 @@ ghost use Rattle.machine.specs.Showing.{workspaces_after, versions_after, runs_a
 ghost use Rattle.machine.specs.Tokens.{caller_of, org_added, org_limited, token_added, token_revoked, token_of, ListsOrganizations};
 ghost use Rattle.machine.specs.Records.{workspace_in, seen_in, placed};
 ghost use Rattle.machine.specs.Changes.{changed_by, IsDue};
-ghost use Rattle.machine.specs.Units.{unit_of, text_of};
+ghost use Rattle.machine.specs.Units.{unit_of, version_text};
 ghost use Rattle.machine.specs.declared.records.Organization.{Organization as AnyOrganization};
 
 use crate::acts::{Act, Change, Unit};
@@ -83,7 +83,7 @@ pub trait Keep {
         n: Number,
     ) -> Result<Option<Bytes>, Down>
         ensures looks { Looks rows clean sound self.old self.new }
-        ensures ok { clean self.new → sound self.old → IfOk result (λ text. text ≡ text_of n (workspace_in (rows self.old org.now) ws.now)) };
+        ensures ok { clean self.new → sound self.old → IfOk result (λ text. text ≡ version_text n (workspace_in (rows self.old org.now) ws.now)) };
 
     /// The organization's workspaces after a name, in the order of the names' bytes.
     fn workspaces(

@@ -1,6 +1,7 @@
 //! Laws of the rules, each the contract of a call that does nothing.
+ghost use Rattle.machine.specs.Sameness.{SameThingsAreEqualRecords};
 ghost use Rattle.machine.specs.Settling.{SettlesOnce};
-ghost use Rattle.machine.specs.Pages.{WorkspacePagesFollow, VersionPagesFollow, RunPagesFollow};
+ghost use Rattle.machine.specs.Paging.{WorkspacePagesFollow, VersionPagesFollow, RunPagesFollow};
 ghost use Rattle.machine.specs.Queue.{OneRunIsActive, PlanOnlyRunsStayOut, RunsStartInOrder, RunsStay, ActionsComeAgain, KeyedCreationsComeAgain};
 ghost use Rattle.machine.specs.Custody.{AcceptedActsComeAgain, HoldsUntilReleased, LockedWorkspacesStay, NothingIsReadOfAPurge, NumbersRise, RefusalsChangeNothing, RefusalsTellTheHolder, RepeatsChangeNothing, VersionsChangeByTheId, WhatIsPostedIsRead, WorkspacesBeginAnew, WorkspacesGoByDelete, WritesCarryTheId};
 
@@ -112,4 +113,10 @@ pub fn pages_follow()
     ensures workspaces { WorkspacePagesFollow }
     ensures versions { VersionPagesFollow }
     ensures runs { RunPagesFollow }
+{}
+
+/// Lawful organizations that hold the same things are equal records, in whatever order these were made:
+/// so two stores that hold the same have equal records.
+pub fn same_things_are_equal_records()
+    ensures { SameThingsAreEqualRecords }
 {}

@@ -11,7 +11,7 @@ ghost use Rattle.machine.specs.Tokens.{token_with, has_digest, new_organization,
 ghost use Rattle.machine.specs.Changes.{left_above, edited, changed_by};
 ghost use Rattle.machine.specs.Rules.{reported};
 ghost use Rattle.machine.specs.Needs.{needs, needed_of};
-ghost use Rattle.machine.specs.Units.{is_text, if_needed, has_version, asked_run, newest_unit, unit_for, unit_of, version_of, text_of};
+ghost use Rattle.machine.specs.Units.{is_text, if_needed, has_version, asked_run, newest_unit, unit_for, unit_of, version_of, version_text};
 ghost use Rattle.basis.specs.declared.runs.RunStatus.TheVariants.{Planning};
 ghost use Rattle.machine.specs.Settling.{first_waiting, begun, started, started_if};
 ghost use Rattle.machine.specs.Workspaces.{max_versions, newest, outgoing, new_workspace, run_of, holder_status, is_keyed, keyed_run, open_runs};
@@ -441,7 +441,7 @@ impl Workspace {
     }
 
     fn text_of(&self, n: Number) -> Result<Option<Bytes>, Down>
-        ensures { IfOk result (λ text. text ≡ text_of n (Some self.now)) }
+        ensures { IfOk result (λ text. text ≡ version_text n (Some self.now)) }
     {
         match version_of(n, self.versions.as_slice()) {
             Some(version) => Ok(Some(version.text.clone()?)),

@@ -5,7 +5,7 @@ use Rattle.std.proofs.lemmas.Slice.Eq.{bytes_eq-Decides}
 use Rattle.matchit.specs.Rows.{RowsOf}
 use Rattle.matchit.specs.Seek.{own, step, seek, has_slash}
 use Rattle.matchit.specs.Level.{IsText}
-use Rattle.route.specs.Paths.{parts_of, onto_first}
+use Rattle.route.specs.Paths.{path_parts, onto_first}
 use Rattle.route.specs.Inner.Kinds.{is_given}
 use Rattle.route.proofs.PartLemmas.{parts_single, parts_cut}
 use Rattle.route.proofs.WalkLemmas.{Cut, cut_path, all_words, steps, word_end, word_more, Lacks, lacks_own, lacks_step, AreNames, name_nothing, name_empty, name_last, name_more, seek_none}
@@ -24,12 +24,12 @@ onto_full : (b : ℕ) (parts : List (List ℕ)) → Full (onto_first b parts)
 onto_full b [] = record { first = b ∷ []; others = []; whole = refl }
 onto_full b (part ∷ parts) = record { first = b ∷ part; others = parts; whole = refl }
 
-pub parts_full : (path : List ℕ) → Full (parts_of path)
+pub parts_full : (path : List ℕ) → Full (path_parts path)
 parts_full [] = record { first = []; others = []; whole = refl }
 parts_full (b ∷ path) =
-    elim (b == 47) as (λ v. Full (cond v ([] ∷ parts_of path) (onto_first b (parts_of path)))) [
-      | true ↦ record { first = []; others = parts_of path; whole = refl }
-      | false ↦ onto_full b (parts_of path)
+    elim (b == 47) as (λ v. Full (cond v ([] ∷ path_parts path) (onto_first b (path_parts path)))) [
+      | true ↦ record { first = []; others = path_parts path; whole = refl }
+      | false ↦ onto_full b (path_parts path)
     ]
 
 pub differs : (p w : List ℕ) → bytes_eq p w ≡ false → w ≢ p
@@ -41,7 +41,7 @@ agrees p w h = (bytes_eq-Decides p w).0 h
 module _ {K : Type 0} where
   -- what rows say of a path's parts
   abbrev pub Reads : RowsOf K → (List (List ℕ) → Option K) → Type 0
-  Reads r meaning = (path : List ℕ) → IsText path → seek 0 r path ≡ meaning (parts_of path)
+  Reads r meaning = (path : List ℕ) → IsText path → seek 0 r path ≡ meaning (path_parts path)
 
   abbrev pub nothing : List (List ℕ) → Option K
   nothing parts = None
@@ -69,7 +69,7 @@ module _ {K : Type 0} where
       name_last r b p names (λ z. omega arith) plain ∙ e
 
   name_on : (r : RowsOf K) (next : List (List ℕ) → Option K) → AreNames r → Reads (step 47 (step 256 r)) next
-      → (p q : List ℕ) → IsText (p ++ 47 ∷ q) → has_slash p ≡ false → seek 0 r (p ++ 47 ∷ q) ≡ cond (is_given p) (next (parts_of q)) None
+      → (p q : List ℕ) → IsText (p ++ 47 ∷ q) → has_slash p ≡ false → seek 0 r (p ++ 47 ∷ q) ≡ cond (is_given p) (next (path_parts q)) None
   name_on r next names reads [] q text plain = name_empty r q names
   name_on r next names reads (b ∷ p) q text plain =
       let small : b < 256 = text.0 in
@@ -79,7 +79,7 @@ module _ {K : Type 0} where
       → Reads (step 47 (step 256 r)) next → Reads r (name_level end next)
   at_name r end next names e reads path text = by (cut_path path)
     where
-      by : (has_slash path ≡ false) ⊎ Cut path → seek 0 r path ≡ name_level end next (parts_of path)
+      by : (has_slash path ≡ false) ⊎ Cut path → seek 0 r path ≡ name_level end next (path_parts path)
       by (inl plain) = rw (parts_single path plain) (name_part r end names e path text plain)
       by (inr c) =
           let full = parts_full c.rest in
@@ -93,7 +93,7 @@ module _ {K : Type 0} where
       → Reads r (word_level ends nexts)
   at_words r ends nexts words ended reads path text = by (cut_path path)
     where
-      by : (has_slash path ≡ false) ⊎ Cut path → seek 0 r path ≡ word_level ends nexts (parts_of path)
+      by : (has_slash path ≡ false) ⊎ Cut path → seek 0 r path ≡ word_level ends nexts (path_parts path)
       by (inl plain) = rw (parts_single path plain) (word_end path r words plain ∙ ended path plain)
       by (inr c) =
           let full = parts_full c.rest in

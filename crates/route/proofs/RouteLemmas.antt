@@ -9,7 +9,7 @@ use Rattle.matchit.specs.declared.error.InsertError.{InsertError}
 use Rattle.matchit.specs.declared.error.InsertError.TheVariants.{Conflict, InvalidParam, InvalidParamSegment, InvalidCatchAll, OutOfMemory}
 use Rattle.matchit.proofs.RenameLemmas.{first-rename}
 use Rattle.route.specs.declared.routes.Kind.{Kind}
-use Rattle.route.specs.Paths.{parts_of}
+use Rattle.route.specs.Paths.{path_parts}
 use Rattle.route.specs.Inner.Kinds.{kind_at}
 use Rattle.route.specs.Inner.Table.{kind_in_route, table}
 use Rattle.route.proofs.TableLemmas.{table_reads}
@@ -19,11 +19,11 @@ text_from [] h = tt
 text_from (b ∷ path) h = (omega (arith, h 0), text_from path (λ i. h (suc i)))
 
 pub router_reads : (r : RowsOf (RouteOf Kind)) → rename kind_in_route r ≡ table → (path : List ℕ) → IsText path
-    → map_key kind_in_route (first r path) ≡ kind_at (parts_of path)
+    → map_key kind_in_route (first r path) ≡ kind_at (path_parts path)
 router_reads r e path text = sym (first-rename kind_in_route r path) ∙ rw e (table_reads path text)
 
 pub router_found : (r : RowsOf (RouteOf Kind)) → rename kind_in_route r ≡ table → (path : List ℕ) → IsText path
-    → (found : Option (RouteOf Kind)) → first r path ≡ found → map_key kind_in_route found ≡ kind_at (parts_of path)
+    → (found : Option (RouteOf Kind)) → first r path ≡ found → map_key kind_in_route found ≡ kind_at (path_parts path)
 router_found r e path text found f = rw f at (router_reads r e path text)
 
 -- a route that conflicts with none is refused for want of memory alone

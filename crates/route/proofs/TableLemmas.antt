@@ -6,7 +6,7 @@ use Rattle.matchit.specs.Seek.{own, step, has_slash, first}
 use Rattle.matchit.specs.Level.{IsText}
 use Rattle.route.specs.declared.routes.Kind.{Kind}
 use Rattle.route.specs.declared.routes.Kind.TheVariants.{ListsWorkspaces, IsWorkspace, IsState, ListsVersions, IsVersion, ListsRuns, IsRun, IsAction}
-use Rattle.route.specs.Paths.{parts_of}
+use Rattle.route.specs.Paths.{path_parts}
 use Rattle.route.specs.Inner.Kinds.{kind_at, kind_in, is_given}
 use Rattle.route.specs.Inner.Table.{table}
 use Rattle.route.proofs.WalkLemmas.{steps, Lacks, lacks_own, lacks_step}
@@ -164,5 +164,5 @@ table_shape (root ∷ version ∷ org ∷ word ∷ parts) =
     join3 (bytes_eq root []) (bytes_eq version (codes "v1")) (is_given org) (of_words (word ∷ parts))
     ∙ ap (λ kind. cond (bytes_eq root [] && bytes_eq version (codes "v1") && is_given org) kind None) (words_shape (word ∷ parts))
 
-pub table_reads : (path : List ℕ) → IsText path → first table path ≡ kind_at (parts_of path)
-table_reads path text = reads_table path text ∙ table_shape (parts_of path)
+pub table_reads : (path : List ℕ) → IsText path → first table path ≡ kind_at (path_parts path)
+table_reads path text = reads_table path text ∙ table_shape (path_parts path)

@@ -15,9 +15,9 @@ onto_first b [] = (b ∷ []) ∷ []
 onto_first b (part ∷ parts) = (b ∷ part) ∷ parts
 
 -- the parts of a path between its slashes (47)
-abbrev pub parts_of : List ℕ → List (List ℕ)
-parts_of [] = [] ∷ []
-parts_of (b ∷ bytes) = if b == 47 then [] ∷ parts_of bytes else onto_first b (parts_of bytes)
+abbrev pub path_parts : List ℕ → List (List ℕ)
+path_parts [] = [] ∷ []
+path_parts (b ∷ bytes) = if b == 47 then [] ∷ path_parts bytes else onto_first b (path_parts bytes)
 
 -- the action that a word names
 abbrev pub action_of : List ℕ → Option RunAction
@@ -81,4 +81,4 @@ resource_at (root ∷ version ∷ []) = None
 
 -- what a path names, or none where it is no route
 abbrev pub resource_of : List ℕ → Option OrgResource
-resource_of path = resource_at (parts_of path)
+resource_of path = resource_at (path_parts path)

@@ -29,8 +29,8 @@ abbrev pub after_key : List ℕ
 after_key = codes "after"
 
 -- the text that an encoded name or value stands for
-abbrev pub text_of : List ℕ → List ℕ
-text_of bytes = utf8_lossy (decode bytes)
+abbrev pub decoded_text : List ℕ → List ℕ
+decoded_text bytes = utf8_lossy (decode bytes)
 
 -- the value, where its name is the key
 abbrev pub value_if : List ℕ → List ℕ → List ℕ → List (List ℕ)
@@ -39,7 +39,7 @@ value_if key name value = if bytes_eq name key then value ∷ [] else []
 -- the values of a key in encoded pairs, in order
 abbrev pub values_in : List ℕ → List (List ℕ × List ℕ) → List (List ℕ)
 values_in key [] = []
-values_in key ((name, value) ∷ pairs) = value_if key (text_of name) (text_of value) ++ values_in key pairs
+values_in key ((name, value) ∷ pairs) = value_if key (decoded_text name) (decoded_text value) ++ values_in key pairs
 
 -- the values of a key in a query, in order
 abbrev pub values : List ℕ → List ℕ → List (List ℕ)

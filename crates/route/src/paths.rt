@@ -4,7 +4,7 @@ ghost use Rattle.basis.specs.Checks.{or_refused};
 ghost use Rattle.basis.specs.Inner.Checks.{Follows};
 ghost use Rattle.route.specs.Tokens.{org_of};
 ghost use Rattle.route.specs.Inner.Kinds.{ws_of, resource_in, resource_named, org_resource_named};
-ghost use Rattle.route.specs.Paths.{parts_of, resource_of, action_of};
+ghost use Rattle.route.specs.Paths.{path_parts, resource_of, action_of};
 
 use crate::routes::{Kind, Routes};
 use basis::{Number, OrgName, Refusal, RunAction, Unfit, WsName};
@@ -54,7 +54,7 @@ pub fn read_resource(alloc: Global, routes: &Routes, path: &str) -> Result<OrgRe
 
 // What a path of a kind names.
 fn org_resource_named(alloc: Global, kind: Kind, path: &str) -> Result<OrgResource, Refusal>
-    ensures { Follows result (or_refused Refusal.NoRoute (org_resource_named kind (parts_of path.now))) }
+    ensures { Follows result (or_refused Refusal.NoRoute (org_resource_named kind (path_parts path.now))) }
 {
     let org = match read_org(alloc, part(path, ORG_PART)) {
         Ok(org) => org,
@@ -68,7 +68,7 @@ fn org_resource_named(alloc: Global, kind: Kind, path: &str) -> Result<OrgResour
 
 // What a path of a kind names in its organization.
 fn resource_named(alloc: Global, kind: Kind, path: &str) -> Result<Resource, Refusal>
-    ensures { Follows result (or_refused Refusal.NoRoute (resource_named kind (parts_of path.now))) }
+    ensures { Follows result (or_refused Refusal.NoRoute (resource_named kind (path_parts path.now))) }
 {
     if kind == Kind::ListsWorkspaces {
         return Ok(Resource::AllWorkspaces);
@@ -84,7 +84,7 @@ fn resource_named(alloc: Global, kind: Kind, path: &str) -> Result<Resource, Ref
 
 // What a path of a kind names of a workspace.
 fn resource_in(kind: Kind, path: &str, ws: WsName) -> Option<Resource>
-    ensures { result ≡ resource_in kind (parts_of path.now) ws }
+    ensures { result ≡ resource_in kind (path_parts path.now) ws }
 {
     let number = Number::read(part(path, NUMBER_PART)).ok();
     match kind {
@@ -140,7 +140,7 @@ fn action_named(word: &str) -> Option<RunAction>
 
 // The part of a path by its index, between its slashes.
 fn part(path: &str, index: usize) -> &str
-    ensures { result.now ≡ get_or (parts_of path.now) index [] }
+    ensures { result.now ≡ get_or (path_parts path.now) index [] }
 {
     match path.split_once('/') {
         Some((first, rest)) => {

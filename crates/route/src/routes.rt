@@ -2,7 +2,7 @@
 ghost use Rattle.std.specs.Prelude.{◌≡◌, IfOk, IfErr};
 ghost use Rattle.matchit.specs.Router.{rename};
 ghost use Rattle.route.specs.Inner.Kinds.{kind_at};
-ghost use Rattle.route.specs.Paths.{parts_of};
+ghost use Rattle.route.specs.Paths.{path_parts};
 ghost use Rattle.route.specs.Inner.Table.{kind_in_route, table};
 
 use basis::Down;
@@ -27,7 +27,7 @@ impl Routes {
 
     /// The shape of a path's route. Only words and empty parts are looked at. It takes no memory.
     pub(crate) fn kind_of(&self, path: &str) -> Option<Kind>
-        ensures { result ≡ kind_at (parts_of path.now) }
+        ensures { result ≡ kind_at (path_parts path.now) }
     {
         match self.router.at(path) {
             Ok(found) => Some(*found.value),

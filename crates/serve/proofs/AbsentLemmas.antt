@@ -12,14 +12,14 @@ use Rattle.machine.specs.declared.records.Organization.{Organization}
 use Rattle.route.specs.Acts.{verb_of, listing_act, workspace_act, runs_act, got, posted, act_at, allow_of, act_asked, act_read}
 use Rattle.route.specs.Asks.{Asking, query_text, is_bodyless, asked_made, with_query, asked_at, asked_read, asking_of, asked_of, asks}
 use Rattle.route.specs.Asks as route
-use Rattle.route.specs.Paths.{parts_of, action_of, of_workspace, of_number, of_action, after_workspace, in_org, resource_at, resource_of}
+use Rattle.route.specs.Paths.{path_parts, action_of, of_workspace, of_number, of_action, after_workspace, in_org, resource_at, resource_of}
 use Rattle.route.specs.Queries.{query_read, lock_id_read, name_after, listed_from, ws_begun_after, begun_after, after_read}
 use Rattle.route.specs.Tokens.{bearer_token_read}
 use Rattle.route.specs.declared.acts.Asked.{Asked}
 use Rattle.route.specs.declared.acts.AskedAct.{AskedAct}
 use Rattle.route.specs.declared.acts.AskedAct.TheVariants.{ListWorkspaces, OfWorkspace}
 use Rattle.route.specs.declared.acts.WsAct.{WsAct}
-use Rattle.route.specs.declared.acts.WsAct.TheVariants.{Look, ReportRun}
+use Rattle.route.specs.declared.acts.WsAct.TheVariants.{ReportRun}
 use Rattle.route.specs.declared.paths.OrgResource.{OrgResource}
 use Rattle.route.specs.declared.paths.Resource.{Resource}
 use Rattle.route.specs.declared.paths.Resource.TheVariants.{AllWorkspaces, Workspace, State, AllVersions, Version, AllRuns, Run, Action}
@@ -37,7 +37,7 @@ use Rattle.serve.specs.declared.steps.Step.TheVariants.{Request}
 use Rattle.serve.specs.Asks.{Ask, requests, organization}
 use Rattle.serve.specs.Laws.{renamed}
 use Rattle.serve.specs.Steps.{Said, Answered as StepAnswered, replies, step, own_said, own_record}
-use Rattle.serve.specs.Service.{Asks, IsAsked, AreAsked, IsText, AreTexts, asked_by, ask_of, is_own, with_own, own_asks, replies_at, same_owner}
+use Rattle.serve.specs.Service.{Asks, IsAsked, AreAsked, IsSaidText, AreTexts, asked_by, ask_of, is_own, with_own, own_asks, replies_at, same_owner}
 use Rattle.serve.specs.Runs.{IsOwnMachine}
 use Rattle.serve.specs.AbsentForms.{IsFormOf, AnsweredRequest, record_before, RepliesAreThoseOfAbsentForms, OutOfReachRepliesNotFound}
 use Rattle.serve.proofs.CheckLemmas.{after_ok, passed}
@@ -206,7 +206,7 @@ asking_is (Ok other) asked e = let one : other ≡ asked = cc in ap read_as one
 asking_is (Err refusal) asked e = absurd (let none : ⊥ = cc in none)
 
 asks_instead : (message : Message) (asked : Asked) (path root version old_org org word old ws : List ℕ) (more : List (List ℕ)) → is_org_name org ≡ true → is_ws_name ws ≡ true
-    → parts_of message.path ≡ root ∷ version ∷ old_org ∷ word ∷ old ∷ more → parts_of path ≡ root ∷ version ∷ org ∷ word ∷ ws ∷ more → asked_of message ≡ asks asked
+    → path_parts message.path ≡ root ∷ version ∷ old_org ∷ word ∷ old ∷ more → path_parts path ≡ root ∷ version ∷ org ∷ word ∷ ws ∷ more → asked_of message ≡ asks asked
     → asked_of (record message { path = path }) ≡ asks (record asked { org = org; act = renamed asked.act ws })
 asks_instead message asked path root version old_org org word old ws more org_named ws_named before after e =
     let read : asked_read message ≡ Ok asked = asking_is (asked_read message) asked e in
@@ -271,7 +271,7 @@ form_asks at bytes other org ws awaited asked content_md5 body ask h form k =
     let same : record m.message { path = path_of n.to; query = query_of n.to } ≡ turned = ap (λ (q : Option (List ℕ)). record m.message { path = path_of n.to; query = q }) (n.query_stays ∙ sym moved_to.1) in
     let reads : Reads other (whole turned awaited) = subst (λ (x : Message). Reads other (whole x awaited)) same moved_to.2 in
     let asking : asked_of turned ≡ asks (record asked { org = org; act = renamed asked.act ws }) =
-    asks_instead m.message asked (path_of n.to) n.root n.version n.org_before org n.word n.ws_before ws n.more n.org_named n.ws_named (ap parts_of moved_to.0 ∙ n.path_before) n.path_after m.asks_it in
+    asks_instead m.message asked (path_of n.to) n.root n.version n.org_before org n.word n.ws_before ws n.more n.org_named n.ws_named (ap path_parts moved_to.0 ∙ n.path_before) n.path_after m.asks_it in
     k.is ∙ ap (ask_of at) (reads_one other k.reading (whole turned awaited) k.reads reads)
     ∙ ap (asked_by at awaited turned) asking
     ∙ ap (λ (d : Option (List ℕ)). requests at awaited (record asked { org = org; act = renamed asked.act ws }) d m.message.body) m.digest
@@ -281,7 +281,7 @@ form_asks at bytes other org ws awaited asked content_md5 body ask h form k =
 
 text_at : (org : List ℕ) (r : Option Organization) (steps : List Step) (asked : List Ask) (ts : List (List ℕ)) (k : ℕ) (s : Step) (text : List ℕ) (earlier : List Ask) (a : Ask)
     → AreAsked steps asked → AreTexts (own_said r (own_asks (organization org) asked)) (replies_at (organization org) asked ts) → slice_get steps k ≡ Some s → slice_get ts k ≡ Some text
-    → AreAsked (take k steps) earlier → IsAsked s a → is_own (organization org) a ≡ true → IsText (step (own_record r (own_asks (organization org) earlier)) a).answer text
+    → AreAsked (take k steps) earlier → IsAsked s a → is_own (organization org) a ≡ true → IsSaidText (step (own_record r (own_asks (organization org) earlier)) a).answer text
 text_at org r [] asked ts k s text earlier a are texts is_step is_text before asks_it own = absurd (let none : ⊥ = cc in none)
 text_at org r (x ∷ steps) [] ts k s text earlier a are texts is_step is_text before asks_it own = absurd are
 text_at org r (x ∷ steps) (b ∷ asked) [] k s text earlier a are texts is_step is_text before asks_it own = absurd (let none : ⊥ = cc in none)
@@ -292,16 +292,16 @@ text_at org r (x ∷ steps) (b ∷ asked) (t ∷ ts) zero s text [] a are texts 
     let texts_here : AreTexts (own_said r (b ∷ own_asks (organization org) asked)) (t ∷ replies_at (organization org) asked ts) =
     subst (λ (m : Bool). AreTexts (own_said r (with_own m b (own_asks (organization org) asked))) (with_own m t (replies_at (organization org) asked ts))) mine texts in
     let text_is : t ≡ text = cc in
-    subst (λ (y : Ask). IsText (step r y).answer text) same (subst (IsText (step r b).answer) text_is texts_here.0)
+    subst (λ (y : Ask). IsSaidText (step r y).answer text) same (subst (IsSaidText (step r b).answer) text_is texts_here.0)
 text_at org r (x ∷ steps) (b ∷ asked) (t ∷ ts) zero s text (c ∷ earlier) a are texts is_step is_text before asks_it own = absurd before
 text_at org r (x ∷ steps) (b ∷ asked) (t ∷ ts) (suc k) s text [] a are texts is_step is_text before asks_it own = absurd before
 text_at org r (x ∷ steps) (b ∷ asked) (t ∷ ts) (suc k) s text (c ∷ earlier) a are texts is_step is_text before asks_it own =
-    subst (λ (y : Ask). IsText (step (own_record r (with_own (is_own (organization org) y) y (own_asks (organization org) earlier))) a).answer text) (asked_one x b c are.0 before.0)
+    subst (λ (y : Ask). IsSaidText (step (own_record r (with_own (is_own (organization org) y) y (own_asks (organization org) earlier))) a).answer text) (asked_one x b c are.0 before.0)
     (by_owner (is_own (organization org) b) texts (λ q rest. text_at org q steps asked ts k s text earlier a are.1 rest is_step is_text before.1 asks_it own))
   where
     by_owner : (m : Bool) → AreTexts (own_said r (with_own m b (own_asks (organization org) asked))) (with_own m t (replies_at (organization org) asked ts))
-        → ((q : Option Organization) → AreTexts (own_said q (own_asks (organization org) asked)) (replies_at (organization org) asked ts) → IsText (step (own_record q (own_asks (organization org) earlier)) a).answer text)
-        → IsText (step (own_record r (with_own m b (own_asks (organization org) earlier))) a).answer text
+        → ((q : Option Organization) → AreTexts (own_said q (own_asks (organization org) asked)) (replies_at (organization org) asked ts) → IsSaidText (step (own_record q (own_asks (organization org) earlier)) a).answer text)
+        → IsSaidText (step (own_record r (with_own m b (own_asks (organization org) earlier))) a).answer text
     by_owner true here more = more (step r b).left here.1
     by_owner false here more = more r here
 
@@ -309,7 +309,7 @@ own_request : (org : List ℕ) → same_owner (organization org) (organization o
 own_request org = (bytes_eq-Decides org org).1 refl
 
 reply_at : (steps : List Step) (rows rows' : List ℕ → Option Organization) (texts : List (List ℕ)) (asked : List Ask) → AreAsked steps asked → ((org : List ℕ) → IsOwnMachine org asked rows rows' texts)
-    → (a : AnsweredRequest steps texts) → IsText (step (record_before rows a.asked.caller a.earlier) (requests a.at a.awaited a.asked a.content_md5 a.body)).answer a.text
+    → (a : AnsweredRequest steps texts) → IsSaidText (step (record_before rows a.asked.caller a.earlier) (requests a.at a.awaited a.asked a.content_md5 a.body)).answer a.text
 reply_at steps rows rows' texts asked are own a =
     text_at a.asked.caller (rows a.asked.caller) steps asked texts a.place (Request a.at a.bytes) a.text a.earlier (requests a.at a.awaited a.asked a.content_md5 a.body) are (own a.asked.caller).own_replies a.came a.replied a.came_earlier a.asks
     (own_request a.asked.caller)
@@ -321,13 +321,13 @@ absent_forms steps rows rows' texts asked are own a other org ws ask out needs l
     let is : ask ≡ requests a.at a.awaited (record a.asked { org = org; act = renamed a.asked.act ws }) a.content_md5 a.body = form_asks a.at a.bytes other org ws a.awaited a.asked a.content_md5 a.body ask a.asks form asks_it in
     let alike : (step r (requests a.at a.awaited a.asked a.content_md5 a.body)).answer ≡ (step r (requests a.at a.awaited (record a.asked { org = org; act = renamed a.asked.act ws }) a.content_md5 a.body)).answer =
     ap (λ (d : StepAnswered). replies a.awaited a.at d.answer) (out_of_reach_is_as_absent r a.at a.asked a.content_md5 a.body org ws out needs lacks) in
-    subst (λ (said : Said). IsText said a.text) (alike ∙ ap (λ (x : Ask). (step r x).answer) (sym is)) (reply_at steps rows rows' texts asked are own a)
+    subst (λ (said : Said). IsSaidText said a.text) (alike ∙ ap (λ (x : Ask). (step r x).answer) (sym is)) (reply_at steps rows rows' texts asked are own a)
 
 pub out_of_reach : (steps : List Step) (rows rows' : List ℕ → Option Organization) (texts : List (List ℕ)) (asked : List Ask) → AreAsked steps asked → ((org : List ℕ) → IsOwnMachine org asked rows rows' texts)
     → OutOfReachRepliesNotFound steps rows texts
 out_of_reach steps rows rows' texts asked are own a token out known may =
     let r : Option Organization = record_before rows a.asked.caller a.earlier in
-    subst (λ (d : StepAnswered). IsText (replies a.awaited a.at d.answer) a.text) (out_of_reach_is_not_found r a.at a.asked a.content_md5 a.body token out known may) (reply_at steps rows rows' texts asked are own a)
+    subst (λ (d : StepAnswered). IsSaidText (replies a.awaited a.at d.answer) a.text) (out_of_reach_is_not_found r a.at a.asked a.content_md5 a.body token out known may) (reply_at steps rows rows' texts asked are own a)
 
 -- of a whole run that was answered
 pub each_reply : {E : Type 0} (Law : List (List ℕ) → Type 0) (steps : List Step) (taken : ℕ) (old new : List ℕ → Option Organization) (res : Result (Vec (List ℕ) Global) E)

@@ -43,7 +43,7 @@ use Rattle.serve.specs.Checks.{spelt, act_of, checked}
 use Rattle.serve.specs.Steps.{Said, replies, answer_to, seen_at, carried, step}
 use Rattle.serve.specs.Service.{with_own, is_own, own_asks}
 use Rattle.serve.specs.Custody.{NamesIn, Names, CarriesId, IsActOn, ReleasesLock, asked_again, MayRepeat, IsAccepted}
-use Rattle.serve.specs.Book.{Entry, book, BooksAreOfTheRun, if_so, put_if, as_long_as, begun_periods, periods, PeriodsAreTheStepsBetween, InEachPeriod, is_lock, is_held, is_run, life, AsksOf, AsksFor, CarriesNoId, IsAcceptedUpdate, IsAcceptedPurge, next_version, MakesVersion, Writes, IsApplying, starts, Repeats, IsDoneOnce, LocksKeepOthersOut, RunsKeepOthersOut, NoIdWhereNobodyHolds, LocksEndByUnlock, OneRunAtATime, StartsRise, RepeatsLeaveIt, DoneOnceIsDone, OfEachBook}
+use Rattle.serve.specs.Book.{Entry, book, BooksAreOfTheRun, if_so, put_if, as_long_as, begun_periods, periods, PeriodsAreTheStepsBetween, InEachPeriod, is_lock, is_held, is_run, life, AsksOf, AsksFor, CarriesNoId, IsAcceptedUpdate, IsAcceptedPurge, next_version, MakesVersion, WritesState, IsApplying, starts, Repeats, IsDoneOnce, LocksKeepOthersOut, RunsKeepOthersOut, NoIdWhereNobodyHolds, LocksEndByUnlock, OneRunAtATime, StartsRise, RepeatsLeaveIt, DoneOnceIsDone, OfEachBook}
 use Rattle.serve.specs.Inner.Taking.{IsTimely, RunsTo}
 use Rattle.serve.proofs.CheckLemmas.{Passes, order_passes, list_passes, act_in_range}
 use Rattle.serve.proofs.RecordLemmas.{standing_at}
@@ -327,17 +327,17 @@ made_writer ws e h w lawful b makes = by_after e.after refl
         subst (IsOfWriter w) (sym (writes_by h.what h.asked.lock_id h.body h.act writes.0 h.spells writes.1)) (writes_carry_the_id h.act h.now w writes.0 writes.1 writes.2)
 
 -- where nothing is made of a step, no version is, and no purge is accepted
-none_made : (ws : List ℕ) (e : Entry) → Unruled ws e → Writes ws e → ⊥
+none_made : (ws : List ℕ) (e : Entry) → Unruled ws e → WritesState ws e → ⊥
 none_made ws e h (inl makes) = omega (arith, ap next_version h.stays, makes)
 none_made ws e h (inr purge) = h.refuses (asks_names ws PurgeState e.ask purge.0) purge.1
 
-written_by : (ws : List ℕ) (e : Entry) (w : Workspace) → IsLegal ws e → e.before ≡ Some w → Writes ws e → (h : Ruled ws e) × IsOfWriter w h.asked.lock_id
+written_by : (ws : List ℕ) (e : Entry) (w : Workspace) → IsLegal ws e → e.before ≡ Some w → WritesState ws e → (h : Ruled ws e) × IsOfWriter w h.asked.lock_id
 written_by ws e w legal b writes = by_goes legal.goes writes
   where
     lawful : IsLawful w
     lawful = subst IsLawfulIfThere b legal.first
 
-    by_goes : Goes ws e → Writes ws e → (h : Ruled ws e) × IsOfWriter w h.asked.lock_id
+    by_goes : Goes ws e → WritesState ws e → (h : Ruled ws e) × IsOfWriter w h.asked.lock_id
     by_goes (inl h) (inl makes) = (h, made_writer ws e h w lawful b makes)
     by_goes (inl h) (inr purge) = (h, purge_writer ws e h w b purge)
     by_goes (inr h) writes = absurd (none_made ws e h writes)

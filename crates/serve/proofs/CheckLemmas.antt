@@ -1,7 +1,6 @@
 -- The checks of a request in their order, and what an order that passed them is.
-use Rattle.std.proofs.Common.{◌≡◌, ℕ, ◌^◌, ◌<◌, ◌≤◌, Bool, true, false, ◌&&◌, ◌||◌, not, List, length, Option, Some, None, Result, Ok, Err, IsSome, IfSome, IsTrue, is_some, refl, sym, ap, subst, ◌∙◌, arith}
+use Rattle.std.proofs.Common.{◌≡◌, ℕ, ◌≤◌, Bool, true, false, List, length, Option, Some, None, Result, Ok, Err, IsSome, IfSome, IsTrue, refl, ap, subst, ◌∙◌, arith}
 use Rattle.std.specs.Prelude.{codes}
-use Rattle.std.specs.List.{starts_with}
 use Rattle.std.proofs.lemmas.Bool.{le-leb}
 use Rattle.basis.specs.Checks.{or_refused, and_then}
 use Rattle.basis.specs.Names.{is_free_id, has_length}
@@ -17,8 +16,7 @@ use Rattle.serde_json.specs.Find.{get_member}
 use Rattle.docs.specs.Documents.{state_head, lock_id_of, settings_of, run_ask}
 use Rattle.docs.specs.Readings.{IsState, IsLock, IsText, IsKey, IsAsk}
 use Rattle.docs.proofs.ReadingLemmas.{state_law, lock_law, ask_law}
-use Rattle.machine.specs.Ranges.{IsHead, IsInRange}
-use Rattle.machine.specs.Records.{workspace_in}
+use Rattle.machine.specs.Ranges.{IsInRange}
 use Rattle.machine.specs.Tokens.{caller_of}
 use Rattle.machine.specs.declared.acts.Act.{Act}
 use Rattle.machine.specs.declared.acts.Act.TheVariants.{Look as LookAct, PutWorkspace as PutAct, UpdateState as UpdateAct, PurgeState as PurgeAct, Lock as LockAct, Unlock as UnlockAct, ForceUnlock as ForceUnlockAct, DeleteWorkspace as DeleteAct, MakeRun as MakeRunAct, ReportRun as ReportRunAct}

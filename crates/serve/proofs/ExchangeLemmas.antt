@@ -1,5 +1,5 @@
 -- One exchange: the reply to what was read, and what is written in all.
-use Rattle.std.proofs.Common.{◌≡◌, ◌≢◌, ◌⊎◌, ℕ, ◌<◌, Bool, true, false, List, [], ◌++◌, length, Option, Some, None, Result, Ok, Err, IsTrue, IsErrOf, refl, sym, ap, subst, ◌∙◌, append_assoc, inl, inr, drop, cond, nat_le, take}
+use Rattle.std.proofs.Common.{◌≡◌, ◌≢◌, ℕ, ◌<◌, Bool, true, false, List, [], ◌++◌, length, ◌⊎◌, Option, Some, None, Result, Ok, Err, refl, sym, ap, subst, ◌∙◌, append_assoc, inl, inr}
 use Rattle.std.specs.Io.KnownBytes.{Appends, Consumes}
 use Rattle.std.specs.Str.{bytes_eq}
 use Rattle.std.proofs.lemmas.Slice.Eq.{bytes_eq-Decides}
@@ -11,19 +11,16 @@ use Rattle.route.specs.Asks as route
 use Rattle.wire.specs.declared.messages.Message.{Message}
 use Rattle.wire.specs.declared.messages.WireFault.{WireFault}
 use Rattle.wire.specs.declared.messages.WireFault.TheVariants.{Refused, Down, Ended, Read, Continue}
-use Rattle.wire.specs.declared.framing.Frame.{Frame}
-use Rattle.wire.specs.Heads.{HeadEnd, Unfinished, Long, Whole, head_end_of}
-use Rattle.wire.specs.Framing.{Verdict, refuses, accepts, IsJudged}
-use Rattle.wire.specs.Messages.{Reading, Reads, ReadsBy, unfinished, refused, whole, framed_message, reading_by, AwaitsContinue, AwaitsContinueBy}
-use Rattle.wire.specs.Links.{ReportsReceived, continue_if, continue_text, WritesPrefix, Writes, WritesContinue}
+use Rattle.wire.specs.Messages.{Reading, refused, whole}
+use Rattle.wire.specs.Links.{ReportsReceived, continue_if, WritesPrefix, Writes}
 use Rattle.wire.specs.Replies.{Answer, IsReplyText, refused_answer, unavailable_answer}
 use Rattle.serve.specs.Asks.{Ask, Owner, organization, unattributed, operator, silent, requests, commands, owner_of}
 use Rattle.serve.specs.Asks as ask
-use Rattle.serve.specs.Steps.{Said, replies}
+use Rattle.serve.specs.Steps.{replies}
 use Rattle.serve.specs.Inner.Prepared.{IsPrepared}
-use Rattle.serve.specs.Inner.Replying.{RepliesTo, ended_of}
-use Rattle.serve.specs.Service.{same_owner, asked_by, Asks, Carries, Stays, said_to, is_own, is_head, after_ask}
-use Rattle.serve.specs.Exchanges.{IsHead, IsAnswered, Exchanges, ChangesAtMostOne}
+use Rattle.serve.specs.Inner.Replying.{RepliesTo, read_so_far, ended_of}
+use Rattle.serve.specs.Service.{same_owner, asked_by, Carries, Stays, said_to, is_head, after_ask}
+use Rattle.serve.specs.Exchanges.{IsServed, IsUnavailable, IsAnswered, Exchanges, ChangesAtMostOne}
 use Rattle.serve.specs.declared.exchanges.LinkFault.{LinkFault}
 use Rattle.serve.specs.declared.exchanges.LinkFault.TheVariants.{Ended as LinkEnded, Read as LinkRead, Continue as LinkContinue, Write as LinkWrite}
 use Rattle.serve.specs.declared.prepared.Prepared.{Prepared}
@@ -73,95 +70,79 @@ pub stayed_one : (old new : List ℕ → Option Organization) → Stays old new 
 stayed_one old new stays = ([], (λ other apart. stays other))
 
 -- the reply to a message that is served
-pub served_reply : (now : ℕ) (received : List ℕ) (left before after : Option (List ℕ)) (message : Message) (read : Result Message WireFault) (old new : List ℕ → Option Organization) (reply : Answer)
-    → read ≡ Ok message
+pub served_reply : (now : ℕ) (message : Message) (old new : List ℕ → Option Organization) (reply : Answer)
     → ((awaited : Bool) → Carries (asked_by now awaited message (asked_of message)) old new × (said_to old (asked_by now awaited message (asked_of message)) ≡ replies awaited now reply))
-    → ReportsReceived received left before after read
-    → (awaited : Bool) × Appends before after (continue_if awaited) × ((text : List ℕ) → IsReplyText reply now text → IsAnswered now received old new awaited text)
-served_reply now received left before after message read old new reply is h told =
-    let t : (awaited : Bool) × Reads received (whole message awaited) × Appends before after (continue_if awaited) = subst (λ (r : Result Message WireFault). ReportsReceived received left before after r) is told in (
-      t.0,
-      t.2,
-      (λ text is_text. inl (record {
-        ask = asked_by now t.0 message (asked_of message);
-        asks = record { reading = whole message t.0; reads = t.1; is = refl };
-        carries = (h t.0).0;
-        answer = reply;
-        said = (h t.0).1;
-        is = is_text;
-      })),
-    )
-
--- where a message's reading says that `100 Continue` is awaited, it is
-awaited_by_rest : (frame : Frame) (rest : List ℕ) (message : Message) (b : Bool) → whole message true ≡ (cond b (whole (framed_message frame (take frame.body_len rest)) frame.awaits_continue) unfinished) → IsTrue frame.awaits_continue
-awaited_by_rest frame rest message true e = let is : true ≡ frame.awaits_continue = cc in sym is
-awaited_by_rest frame rest message false e = absurd (let none : ⊥ = cc in none)
-
-awaited_by : (head_end : HeadEnd) (bytes : List ℕ) (message : Message) → ReadsBy head_end bytes (whole message true) → AwaitsContinueBy head_end bytes
-awaited_by Unfinished bytes message e = absurd (let none : ⊥ = cc in none)
-awaited_by Long bytes message e = absurd (let none : ⊥ = cc in none)
-awaited_by (Whole n) bytes message (refuses refusal head, judged, e) = absurd (let none : ⊥ = cc in none)
-awaited_by (Whole n) bytes message (accepts frame, judged, e) = (frame, judged, awaited_by_rest frame (drop n bytes) message (nat_le frame.body_len (length (drop n bytes))) e)
-
-awaited_is : (bytes : List ℕ) (message : Message) (awaited : Bool) → Reads bytes (whole message awaited) → IsTrue awaited → AwaitsContinue bytes
-awaited_is bytes message awaited reads is = awaited_by (head_end_of bytes) bytes message (subst (λ (d : Bool). Reads bytes (whole message d)) is reads)
-
-unavailable_by : (now : ℕ) (received : List ℕ) (before after : Option (List ℕ)) (awaited without_body : Bool) (old new : List ℕ → Option Organization) (reply : Answer)
-    → Appends before after (continue_if awaited) → (IsTrue awaited → AwaitsContinue received) → (IsTrue without_body → IsHead received) → Stays old new → reply ≡ unavailable_answer without_body
-    → (awaited : Bool) × Appends before after (continue_if awaited) × ((text : List ℕ) → IsReplyText reply now text → IsAnswered now received old new awaited text)
-unavailable_by now received before after awaited without_body old new reply appends is_awaited head stays is = (
-  awaited,
-  appends,
-  (λ text is_text. inr (record {
-    stays = stays;
-    is_awaited = is_awaited;
-    without_body = without_body;
-    is_head = head;
-    is = subst (λ (a : Answer). IsReplyText a now text) is is_text;
+    → RepliesTo now (Ok message) old new reply
+served_reply now message old new reply h received left before after told = (
+  told.0,
+  told.2,
+  (λ text is_text. inl (record {
+    ask = asked_by now told.0 message (asked_of message);
+    asks = record { reading = whole message told.0; reads = told.1; is = refl };
+    carries = (h told.0).0;
+    answer = reply;
+    said = (h told.0).1;
+    is = is_text;
   })),
 )
 
-pub unavailable_message : (now : ℕ) (received : List ℕ) (left before after : Option (List ℕ)) (message : Message) (read : Result Message WireFault) (without_body : Bool) (old new : List ℕ → Option Organization) (reply : Answer)
-    → read ≡ Ok message → without_body ≡ is_head message → Stays old new → reply ≡ unavailable_answer without_body
-    → ReportsReceived received left before after read
-    → (awaited : Bool) × Appends before after (continue_if awaited) × ((text : List ℕ) → IsReplyText reply now text → IsAnswered now received old new awaited text)
-unavailable_message now received left before after message read without_body old new reply is head stays made told =
-    let t : (awaited : Bool) × Reads received (whole message awaited) × Appends before after (continue_if awaited) = subst (λ (r : Result Message WireFault). ReportsReceived received left before after r) is told in
-    unavailable_by now received before after t.0 without_body old new reply t.2 (awaited_is received message t.0 t.1) (λ e. inl (message, t.0, t.1, sym head ∙ e)) stays made
-
-never : {A : Type 0} → IsTrue false → A
-never e = absurd (let none : ⊥ = cc in none)
+-- memory or the store was refused past the reading of a message
+pub unavailable_message : (now : ℕ) (message : Message) (without_body : Bool) (old new : List ℕ → Option Organization) (reply : Answer)
+    → without_body ≡ is_head message → Stays old new → reply ≡ unavailable_answer without_body → RepliesTo now (Ok message) old new reply
+unavailable_message now message without_body old new reply head stays made received left before after told = (
+  told.0,
+  told.2,
+  (λ text is_text. inr (record {
+    stays = stays;
+    reads = told.1;
+    without_body = without_body;
+    shaped = (refl, head);
+    is = subst (λ (a : Answer). IsReplyText a now text) made is_text;
+  })),
+)
 
 pub refused_message : (refusal : Refusal) (is_head : Bool) (fault : WireFault) (reply : Answer)
     → fault ≡ Refused refusal is_head → reply ≡ refused_answer refusal (error_text refusal) is_head
     → (now : ℕ) (rows : List ℕ → Option Organization) → RepliesTo now (Err fault) rows rows reply
-refused_message refusal is_head fault reply is made now rows received left before after told =
-    let t : Reads received (refused refusal is_head) × Appends before after [] = subst (λ (f : WireFault). ReportsReceived received left before after (Err f)) is told in (
+refused_message refusal is_head fault reply is made now rows =
+    subst (λ (f : WireFault). RepliesTo now (Err f) rows rows reply) (sym is) (λ received left before after told. (
       false,
-      t.1,
+      told.1,
       (λ text is_text. inl (record {
         ask = ask.refused now false refusal is_head;
-        asks = record { reading = refused refusal is_head; reads = t.0; is = refl };
+        asks = record { reading = refused refusal is_head; reads = told.0; is = refl };
         carries = λ org. refl;
         answer = reply;
         said = ap (replies false now) (sym made);
         is = is_text;
       })),
-    )
+    ))
 
 pub unavailable_refusal : (refusal : Refusal) (is_head : Bool) (fault : WireFault) (reply : Answer)
     → fault ≡ Refused refusal is_head → reply ≡ unavailable_answer is_head
     → (now : ℕ) (rows : List ℕ → Option Organization) → RepliesTo now (Err fault) rows rows reply
-unavailable_refusal refusal is_head fault reply is made now rows received left before after told =
-    let t : Reads received (refused refusal is_head) × Appends before after [] = subst (λ (f : WireFault). ReportsReceived received left before after (Err f)) is told in
-    unavailable_by now received before after false is_head rows rows reply t.1 never
-    (λ e. inr (refusal, subst (λ (b : Bool). Reads received (refused refusal b)) e t.0)) (λ org. refl) made
+unavailable_refusal refusal is_head fault reply is made now rows =
+    subst (λ (f : WireFault). RepliesTo now (Err f) rows rows reply) (sym is) (λ received left before after told. (
+      false,
+      told.1,
+      (λ text is_text. inr (record {
+        stays = λ org. refl;
+        reads = told.0;
+        without_body = is_head;
+        shaped = (refl, refl);
+        is = subst (λ (a : Answer). IsReplyText a now text) made is_text;
+      })),
+    ))
+
+-- a 503 where memory was refused inside the reading
+unavailable_early : (now : ℕ) (received : List ℕ) (rows : List ℕ → Option Organization) (text : List ℕ) → IsReplyText (unavailable_answer false) now text → IsUnavailable now received rows rows None false text
+unavailable_early now received rows text is_text = record { stays = λ org. refl; reads = tt; without_body = false; shaped = (refl, refl); is = is_text }
 
 pub unavailable_reading : (fault : WireFault) (reply : Answer) → fault ≡ Down → reply ≡ unavailable_answer false
     → (now : ℕ) (rows : List ℕ → Option Organization) → RepliesTo now (Err fault) rows rows reply
-unavailable_reading fault reply is made now rows received left before after told =
-    let t : Appends before after [] = subst (λ (f : WireFault). ReportsReceived received left before after (Err f)) is told in
-    unavailable_by now received before after false false rows rows reply t never never (λ org. refl) made
+unavailable_reading fault reply is made now rows =
+    subst (λ (f : WireFault). RepliesTo now (Err f) rows rows reply) (sym is)
+    (λ received left before after told. (false, told, (λ text is_text. inr (unavailable_early now received rows text (subst (λ (a : Answer). IsReplyText a now text) made is_text)))))
 
 -- two pieces written one after the other
 appends_both : (a b c : Option (List ℕ)) (x y : List ℕ) → Appends a b x → Appends b c y → Appends a c (x ++ y)
@@ -174,6 +155,12 @@ appends_both (Some a) (Some b) (Some c) x y h k = k ∙ ap (λ (l : List ℕ). l
 abbrev Received : Option (List ℕ) → Option (List ℕ) → (List ℕ → Type 0) → Type 0
 Received old new P = (received : List ℕ) × Consumes old new received × P received
 
+-- whatever was read
+answered_by : (now : ℕ) (received : List ℕ) (old new : List ℕ → Option Organization) (reading : Option Reading) (awaited : Bool) (text : List ℕ)
+    → IsServed now received old new awaited text ⊎ IsUnavailable now received old new reading awaited text → IsAnswered now received old new awaited text
+answered_by now received old new reading awaited text (inl served) = inl served
+answered_by now received old new reading awaited text (inr unavailable) = inr (reading, unavailable)
+
 -- the whole reply is written
 pub all_written : (unread left : Option (List ℕ)) (now : ℕ) (read : Result Message WireFault) (old new : List ℕ → Option Organization) (reply : Answer) (a b c : Option (List ℕ))
     → Received unread left (λ received. ReportsReceived received left a b read) → RepliesTo now read old new reply
@@ -181,7 +168,7 @@ pub all_written : (unread left : Option (List ℕ)) (now : ℕ) (read : Result M
     → Received unread left (λ received. (awaited : Bool) × (text : List ℕ) × IsAnswered now received old new awaited text × Appends a c (continue_if awaited ++ text))
 all_written unread left now read old new reply a b c told answered h =
     let r = answered told.0 left a b told.2 in
-    (told.0, told.1, (r.0, h.0, r.2 h.0 h.1, appends_both a b c (continue_if r.0) h.0 r.1 h.2))
+    (told.0, told.1, (r.0, h.0, answered_by now told.0 old new (read_so_far read r.0) r.0 h.0 (r.2 h.0 h.1), appends_both a b c (continue_if r.0) h.0 r.1 h.2))
 
 -- a part of it
 pub part_written : (unread left : Option (List ℕ)) (now : ℕ) (read : Result Message WireFault) (old new : List ℕ → Option Organization) (reply : Answer) (a b c : Option (List ℕ))
@@ -191,7 +178,8 @@ pub part_written : (unread left : Option (List ℕ)) (now : ℕ) (read : Result 
 part_written unread left now read old new reply a b c told answered h =
     let r = answered told.0 left a b told.2 in
     let stops = h.2 in
-    (told.0, told.1, (r.0, stops.0, stops.1, stops.2, r.2 (stops.0 ++ stops.1) (subst (IsReplyText reply now) stops.3 h.1), appends_both a b c (continue_if r.0) stops.0 r.1 stops.4))
+    let answer = answered_by now told.0 old new (read_so_far read r.0) r.0 (stops.0 ++ stops.1) (r.2 (stops.0 ++ stops.1) (subst (IsReplyText reply now) stops.3 h.1)) in
+    (told.0, told.1, (r.0, stops.0, stops.1, stops.2, answer, appends_both a b c (continue_if r.0) stops.0 r.1 stops.4))
 
 -- no reply: what received is unfinished, or `100 Continue` wasn't taken
 pub no_reply : (unread left : Option (List ℕ)) (now : ℕ) (read : Result Message WireFault) (old new : List ℕ → Option Organization) (a b : Option (List ℕ)) (fault : LinkFault)
@@ -210,20 +198,14 @@ no_reply unread left now read old new a b LinkWrite told write ended failed cont
 pub refused_whole : {T E : Type 0} (now : ℕ) (left : Option (List ℕ)) (rows : List ℕ → Option Organization) (reply : Answer) (a b : Option (List ℕ)) (written : Result T E) → reply ≡ unavailable_answer false
     → (text : List ℕ) × IsReplyText reply now text × Writes a b text written → Exchanges now [] left rows rows a b (ended_of written)
 refused_whole now left rows reply a b (Ok done) is h =
-    (false, h.0, inr (record { stays = λ org. refl; is_awaited = never; without_body = false; is_head = never; is = subst (λ (x : Answer). IsReplyText x now h.0) is h.1 }), h.2)
+    (false, h.0, inr (None, unavailable_early now [] rows h.0 (subst (λ (x : Answer). IsReplyText x now h.0) is h.1)), h.2)
 refused_whole now left rows reply a b (Err fault) is h =
     let stops = h.2 in (
       false,
       stops.0,
       stops.1,
       stops.2,
-      inr (record {
-        stays = λ org. refl;
-        is_awaited = never;
-        without_body = false;
-        is_head = never;
-        is = subst (IsReplyText (unavailable_answer false) now) stops.3 (subst (λ (x : Answer). IsReplyText x now h.0) is h.1);
-      }),
+      inr (None, unavailable_early now [] rows (stops.0 ++ stops.1) (subst (IsReplyText (unavailable_answer false) now) stops.3 (subst (λ (x : Answer). IsReplyText x now h.0) is h.1))),
       stops.4,
     )
 

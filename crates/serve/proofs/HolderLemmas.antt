@@ -17,16 +17,15 @@ use Rattle.machine.specs.declared.records.Token.{Token}
 use Rattle.machine.specs.declared.records.Workspace.{Workspace}
 use Rattle.machine.specs.declared.records.Organization.{Organization}
 use Rattle.machine.proofs.RefusalLemmas.{refusals_tell_the_holder, never_refused_as_locked, missing_tells_no_holder}
-use Rattle.route.specs.Policy.{role_refused, allowed_by, least_role, need_of}
+use Rattle.route.specs.Policy.{allowed_by, least_role, need_of}
 use Rattle.route.specs.declared.acts.Asked.{Asked}
 use Rattle.route.specs.declared.acts.AskedAct.{AskedAct}
 use Rattle.route.specs.declared.acts.AskedAct.TheVariants.{ListWorkspaces, OfWorkspace}
 use Rattle.route.specs.declared.acts.WsAct.{WsAct}
 use Rattle.route.specs.declared.acts.WsAct.TheVariants.{Look, Put, Delete, UpdateState, PurgeState, Lock, Unlock, ForceUnlock, MakeRun, ReportRun}
 use Rattle.serve.specs.Checks.{task_of, require, known_caller, may_do, is_in_reach, in_reach, is_found, found_if, found, place, fits, digest_checked, spelt, act_of, checked}
-use Rattle.serve.specs.Steps.{answer_to, holder_text, seen_at, carried, request_step}
+use Rattle.serve.specs.Steps.{answer_to, holder_text, seen_at, carried}
 use Rattle.serve.specs.Custody.{NamesIn, LockedTellsTheHolder}
-use Rattle.serve.specs.declared.prepared.Order.{Order}
 use Rattle.serve.specs.declared.prepared.Task.{Task}
 use Rattle.serve.specs.declared.prepared.Task.TheVariants.{ListAll, Carry}
 use Rattle.serve.specs.declared.prepared.Found.{Found}

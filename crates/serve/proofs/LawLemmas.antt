@@ -1,6 +1,6 @@
 -- Refusals change nothing, and what is out of reach is told as what isn't there.
 use Rattle.std.specs.Prelude.{if◌then◌else◌}
-use Rattle.std.proofs.Common.{◌≡◌, ◌≢◌, ◌⊎◌, inl, inr, ℕ, Bool, true, false, ◌&&◌, ◌||◌, cond, List, Option, Some, None, Result, Ok, Err, is_some, refl, sym, ap, subst, ◌∙◌}
+use Rattle.std.proofs.Common.{◌≡◌, ◌≢◌, ℕ, Bool, true, false, ◌||◌, cond, List, Option, Some, None, Result, Ok, Err, is_some, refl, sym, ap, ◌∙◌}
 use Rattle.std.specs.Prelude.{option_map}
 use Rattle.std.specs.FinMap.{get}
 use Rattle.basis.specs.declared.rows.Look.{Look as AnyLook}
@@ -9,7 +9,7 @@ use Rattle.basis.specs.Checks.{and_then}
 use Rattle.basis.specs.declared.refusals.Refusal.{Refusal}
 use Rattle.basis.specs.declared.refusals.Refusal.TheVariants.{NotFound}
 use Rattle.machine.specs.Effects.{effect}
-use Rattle.machine.specs.Records.{workspace_in, standing, placed}
+use Rattle.machine.specs.Records.{workspace_in, placed}
 use Rattle.machine.specs.Rules.{Outcome, refused, held, done, no_state, state, workspace, the_run, versions, runs, Ruling, rules}
 use Rattle.machine.specs.Custody.{IsRefusal}
 use Rattle.machine.specs.Tokens.{token_of, with_token, without_token, has_digest}
@@ -27,18 +27,16 @@ use Rattle.route.specs.declared.acts.Asked.{Asked}
 use Rattle.route.specs.declared.acts.AskedAct.{AskedAct}
 use Rattle.route.specs.declared.acts.AskedAct.TheVariants.{ListWorkspaces, OfWorkspace}
 use Rattle.route.specs.declared.acts.WsAct.{WsAct}
-use Rattle.route.specs.declared.acts.WsAct.TheVariants.{Look, Put, Delete, UpdateState, PurgeState, Lock, Unlock, ForceUnlock, MakeRun, ReportRun}
 use Rattle.wire.specs.Replies.{Answer}
 use Rattle.serve.specs.declared.steps.Admin.{Admin}
 use Rattle.serve.specs.declared.steps.Admin.TheVariants.{OrgAdd, OrgLimit, OrgList, TokenAdd, TokenRevoke}
-use Rattle.serve.specs.declared.prepared.Order.{Order}
 use Rattle.serve.specs.declared.prepared.Task.{Task}
 use Rattle.serve.specs.declared.prepared.Task.TheVariants.{ListAll, Carry}
 use Rattle.serve.specs.Asks.{Ask, silent, requests, commands}
 use Rattle.serve.specs.Asks as ask
-use Rattle.serve.specs.Checks.{known_caller, may_do, is_in_reach, in_reach, require, makes, is_told_of, named_by, is_there, is_found, found_if, found, place, checked}
-use Rattle.serve.specs.Steps.{Said, replies, tells, answer_to, seen_at, ruled_in, carried, request_step, command_step, command_said, step}
-use Rattle.serve.specs.Laws.{RefusalsChangeNothing, OutOfReachIsNotFound, renamed, NeedsWorkspace, OutOfReachIsAsAbsent}
+use Rattle.serve.specs.Checks.{known_caller, may_do, is_in_reach, in_reach, require, makes, is_told_of, named_by, is_there, found_if, found, place, checked}
+use Rattle.serve.specs.Steps.{replies, tells, answer_to, seen_at, ruled_in, carried, request_step, command_step, command_said}
+use Rattle.serve.specs.Laws.{RefusedStepsChangeNothing, OutOfReachIsNotFound, renamed, NeedsWorkspace, OutOfReachIsAsAbsent}
 use Rattle.serve.proofs.CheckLemmas.{after_ok, after_err, after_names, after_reach, after_role, after_caller}
 use Rattle.serve.proofs.RecordLemmas.{placed_same, standing_at}
 
@@ -102,7 +100,7 @@ no_reply (TokenRevoke org name) a awaited now answer e = let none : ⊥ = cc in 
 answer_is : (awaited also : Bool) (at now : ℕ) (a b : Answer) → replies awaited at a ≡ replies also now b → a ≡ b
 answer_is awaited also at now a b e = cc
 
-pub refusals_change_nothing : RefusalsChangeNothing
+pub refusals_change_nothing : RefusedStepsChangeNothing
 refusals_change_nothing r silent = ((λ awaited at answer refusal e is. refl), (λ answer e apart. refl))
 refusals_change_nothing r (ask.refused at awaited refusal is_head) = ((λ awaited at answer refusal e is. refl), (λ answer e apart. refl))
 refusals_change_nothing r (requests at awaited asked content_md5 body) = (

@@ -1,5 +1,6 @@
 pub mod CheckLemmas
 pub mod RecordLemmas
+pub mod JudgingLemmas
 pub mod TakenLemmas
 pub mod RunLemmas
 pub mod ExchangeLemmas

@@ -1,5 +1,5 @@
 -- Records that stay as they are, and answers that are foreseen.
-use Rattle.std.proofs.Common.{◌≡◌, ◌≢◌, ℕ, Bool, cond, List, Option, Some, None, Result, Ok, Err, IsSome, IfSome, IfOk, OnOk, is_some, nat_lt, refl, sym, ap, subst, ◌∙◌}
+use Rattle.std.proofs.Common.{◌≡◌, ◌≢◌, ℕ, Bool, cond, List, Option, Some, None, Result, Ok, Err, IsSome, IfOk, OnOk, nat_lt, refl, sym, ap, subst, ◌∙◌}
 use Rattle.std.specs.Prelude.{option_map}
 use Rattle.std.specs.Ordering.{is_eq}
 use Rattle.std.specs.declared.cmp.Ordering.{Ordering}
@@ -8,7 +8,6 @@ use Rattle.std.specs.FinMap.{FinMap, get, insert, get-insert, same_map}
 use Rattle.basis.specs.declared.refusals.Refusal.{Refusal}
 use Rattle.basis.specs.declared.refusals.Refusal.TheVariants.{Unavailable}
 use Rattle.machine.specs.Order.{name_cmp}
-use Rattle.machine.specs.Effects.{effect}
 use Rattle.machine.specs.Laws.{IsLawfulOrganization}
 use Rattle.machine.specs.Ranges.{IsInRange, IsMoment}
 use Rattle.machine.specs.Records.{workspace_in, count_of, seen_in, standing, with_workspace, placed}
@@ -35,7 +34,6 @@ use Rattle.basis.specs.declared.rows.Look.{Look as AnyLook}
 use Rattle.basis.specs.declared.rows.Look.TheVariants as look
 use Rattle.machine.specs.declared.acts.Act.TheVariants.{Look as LookAct}
 use Rattle.route.specs.declared.acts.WsAct.{WsAct}
-use Rattle.route.specs.declared.acts.WsAct.TheVariants.{Look, Put, Delete, UpdateState, PurgeState, Lock, Unlock, ForceUnlock, MakeRun, ReportRun}
 use Rattle.serve.specs.declared.prepared.Pending.{Pending}
 use Rattle.serve.specs.declared.prepared.Prepared.{Prepared}
 

@@ -1,9 +1,10 @@
 -- A run one step longer, and runs that agree.
 use Rattle.std.specs.Prelude.{⊤}
-use Rattle.std.proofs.Common.{◌≡◌, ℕ, suc, ◌+◌, Bool, true, false, List, [], ◌∷◌, ◌++◌, length, take, get_or, ◌<◌, Option, Some, None, Result, Ok, Err, IfOk, OnOk, Vec, Global, refl, sym, ap, subst, ◌∙◌, arith}
+use Rattle.std.proofs.Common.{◌≡◌, ℕ, suc, ◌+◌, Bool, true, false, List, [], ◌∷◌, ◌++◌, length, take, get_or, ◌<◌, Option, None, Result, Ok, Err, IfOk, OnOk, Vec, Global, refl, sym, ap, subst, ◌∙◌, arith}
 use Rattle.std.proofs.lemmas.Slice.Eq.{bytes_eq-Decides}
 use Rattle.std.proofs.lemmas.List.{take_more, length-take-le}
 use Rattle.machine.specs.declared.records.Organization.{Organization}
+use Rattle.std.proofs.Math.Path.{fun_ext}
 use Rattle.std.proofs.Math.Seq.{take-length}
 use Rattle.wire.proofs.ReadingLemmas.{reads_one}
 use Rattle.wire.proofs.ReplyLemmas.{one_reply}
@@ -15,8 +16,8 @@ use Rattle.serve.specs.declared.steps.Admin.TheVariants.{OrgAdd, OrgLimit, OrgLi
 use Rattle.machine.specs.declared.keeps.AdminAnswer.{AdminAnswer}
 use Rattle.serve.specs.Asks.{Ask, silent, refused, requests, commands, Owner, organization, unattributed, operator, commanded_of, owner_of}
 use Rattle.serve.specs.Steps.{Said, nothing, replies, tells, lists, command_step, command_said, step, own_said, own_record}
-use Rattle.serve.specs.Service.{IsAsked, AreAsked, AreTexts, IsText, ask_of, same_owner, is_own, with_own, own_asks, replies_at, record_for, after_ask, said_to}
-use Rattle.serve.specs.Runs.{IsOwnMachine, IsOwnRecord, AreOwnReplies}
+use Rattle.serve.specs.Service.{IsAsked, AreAsked, AreTexts, IsSaidText, ask_of, same_owner, is_own, with_own, own_asks, replies_at, record_for, after_ask, records_after, IsListed, said_to}
+use Rattle.serve.specs.Runs.{IsOwnMachine, IsOwnRecord, AreOwnReplies, ListsAreTold}
 use Rattle.serve.specs.Inner.Taking.{IsTaken, RunsTo, IsTimely}
 use Rattle.serve.specs.Laws.{TwoWorlds, own_steps, SameStepsAskTheSame}
 use Rattle.std.specs.List.{AllByRecursion}
@@ -86,9 +87,9 @@ owner_is operator operator e = refl
 
 -- what is said to the owner of one step more
 said_more : (b : Bool) (owner : Owner) (rows : List ℕ → Option Organization) (a : Ask) (text : List ℕ) → is_own owner a ≡ b
-    → IsText (said_to rows a) text → AreTexts (own_said (record_for rows owner) (with_own b a [])) (with_own b text [])
+    → IsSaidText (said_to rows a) text → AreTexts (own_said (record_for rows owner) (with_own b a [])) (with_own b text [])
 said_more true owner rows a text e is =
-    (subst (λ (o : Owner). IsText (step (record_for rows o) a).answer text) (sym (owner_is owner (owner_of a) e)) is, tt)
+    (subst (λ (o : Owner). IsSaidText (step (record_for rows o) a).answer text) (sym (owner_is owner (owner_of a) e)) is, tt)
 said_more false owner rows a text e is = tt
 
 -- the record that the owner's next step reads is what its own run has left
@@ -134,8 +135,28 @@ own_so_far (organization org) asked old mid rows = rows org
 own_so_far unattributed asked old mid rows = sym (all_still unattributed nobody_still asked None)
 own_so_far operator asked old mid rows = sym (all_still operator operator_still asked None)
 
+-- each record after a list of what is asked
+abbrev run_records : (List ℕ → Option Organization) → List Ask → List ℕ → Option Organization
+run_records records [] = records
+run_records records (a ∷ asked) = run_records (records_after a records) asked
+
+run_record_is : (asked : List Ask) (records : List ℕ → Option Organization) (org : List ℕ) → run_records records asked org ≡ own_record (records org) (own_asks (organization org) asked)
+run_record_is [] records org = refl
+run_record_is (a ∷ asked) records org = run_record_is asked (records_after a records) org ∙ first (is_own (organization org) a)
+  where
+    first : (b : Bool) → own_record (after_ask b a (records org)) (own_asks (organization org) asked) ≡ own_record (records org) (with_own b a (own_asks (organization org) asked))
+    first true = refl
+    first false = refl
+
+lists_push : (records : List ℕ → Option Organization) (asked : List Ask) (ts : List (List ℕ)) (a : Ask) (t : List ℕ) → length asked ≡ length ts
+    → ListsAreTold records asked ts → IsListed (run_records records asked) a t → ListsAreTold records (asked ++ a ∷ []) (ts ++ t ∷ [])
+lists_push records [] [] a t e h is = (is, tt)
+lists_push records [] (u ∷ ts) a t e h is = absurd (omega arith)
+lists_push records (b ∷ asked) [] a t e h is = absurd h
+lists_push records (b ∷ asked) (u ∷ ts) a t e h is = (h.0, lists_push (records_after b records) asked ts a t (omega arith) h.1 is)
+
 pub runs_none : (rows : List ℕ → Option Organization) → RunsTo [] rows rows []
-runs_none rows = record { asked = []; are = tt; timely = tt; rows = λ org. refl; texts = λ owner. tt }
+runs_none rows = record { asked = []; are = tt; timely = tt; rows = λ org. refl; texts = λ owner. tt; listed = tt }
 
 pub runs_more : (steps : List Step) (s : Step) (old mid new : List ℕ → Option Organization) (ts : List (List ℕ)) (text : List ℕ)
     → length ts ≡ length steps → RunsTo steps old mid ts → IsTaken s text mid new → RunsTo (steps ++ s ∷ []) old new (ts ++ text ∷ [])
@@ -166,6 +187,8 @@ runs_more steps s old mid new ts text len run taken =
           subst (λ (x : List Said). AreTexts x (replies_at owner (asked ++ a ∷ []) (ts ++ text ∷ []))) (sym said)
           (subst (λ (x : List (List ℕ)). AreTexts (own_said (record_for old owner) (own_asks owner asked) ++ own_said (own_record (record_for old owner) (own_asks owner asked)) (with_own (is_own owner a) a [])) x)
           (sym (replies_at-push owner asked a ts text even)) all);
+      listed = lists_push old asked ts a text even run.listed
+          (subst (λ (records : List ℕ → Option Organization). IsListed records a text) (fun_ext (λ org. run.rows org ∙ sym (run_record_is asked old org))) taken.listed);
     }
 
 -- what a step asks is one thing
@@ -215,7 +238,7 @@ own_of_one org r (a ∷ asked) = chosen (is_own (organization org) a) refl (λ q
     chosen false own rest = rest r
 
 -- a thing said has one text
-one_text : (said : Said) (x y : List ℕ) → IsOfOne said → IsText said x → IsText said y → x ≡ y
+one_text : (said : Said) (x y : List ℕ) → IsOfOne said → IsSaidText said x → IsSaidText said y → x ≡ y
 one_text lists x y of_one h k = absurd of_one
 one_text nothing x y of_one h k = h ∙ sym k
 one_text (replies awaited at answer) x y of_one h k = h.2 ∙ ap (λ (r : List ℕ). continue_if awaited ++ r) (one_reply answer at h.0 k.0 h.1 k.1) ∙ sym k.2
@@ -257,6 +280,15 @@ replies_given steps taken old new (Ok given) h all owner = λ asked are.
     let run : RunsTo steps old new h.0 = subst (λ (xs : List Step). RunsTo xs old new h.0) whole h.1 in
     subst (λ (ts : List (List ℕ)). AreOwnReplies asked old ts owner) (sym h.2) (texts_by steps old new h.0 run asked are owner)
 replies_given steps taken old new (Err e) h all owner = tt
+
+pub lists_given : {E : Type 0} (steps : List Step) (taken : ℕ) (old new : List ℕ → Option Organization) (res : Result (Vec (List ℕ) Global) E)
+    → (replies : List (List ℕ)) × RunsTo (take taken steps) old new replies × IfOk res (λ given. given.items ≡ replies) → OnOk res (taken ≡ length steps)
+    → IfOk res (λ given. (asked : List Ask) → AreAsked steps asked → ListsAreTold old asked given.items)
+lists_given steps taken old new (Ok given) h all = λ asked are.
+    let whole : take taken steps ≡ steps = ap (λ (n : ℕ). take n steps) all ∙ take-length steps in
+    let run : RunsTo steps old new h.0 = subst (λ (xs : List Step). RunsTo xs old new h.0) whole h.1 in
+    subst (λ (ts : List (List ℕ)). ListsAreTold old asked ts) (sym h.2) (subst (λ (x : List Ask). ListsAreTold old x h.0) (all_asked_one steps run.asked asked run.are are) run.listed)
+lists_given steps taken old new (Err e) h all = tt
 
 pub whole_taken : (steps : List Step) (taken : ℕ) (asked : List Ask) → taken ≡ length steps → AreAsked steps asked → AreAsked (take taken steps) asked
 whole_taken steps taken asked all are = subst (λ (xs : List Step). AreAsked xs asked) (sym (ap (λ (n : ℕ). take n steps) all ∙ take-length steps)) are

@@ -1,5 +1,5 @@
 -- One step taken: what it asks is carried out, and this is the text of what is said.
-use Rattle.std.proofs.Common.{◌≡◌, ℕ, Bool, false, List, [], ◌++◌, Option, Some, Result, IfOk, refl, sym, ap, subst, ◌∙◌}
+use Rattle.std.proofs.Common.{◌≡◌, ℕ, Bool, false, List, [], ◌++◌, Option, Result, IfOk, refl, sym, ap, subst, ◌∙◌}
 use Rattle.basis.specs.declared.refusals.Refusal.{Refusal}
 use Rattle.docs.specs.Bodies.{error_text}
 use Rattle.machine.specs.declared.records.Organization.{Organization}
@@ -15,8 +15,8 @@ use Rattle.serve.specs.Asks.{Ask, silent, requests, commands, organization}
 use Rattle.serve.specs.Asks as ask
 use Rattle.serve.specs.Inner.Prepared.{IsPrepared, Foresees}
 use Rattle.serve.specs.Steps.{request_step}
-use Rattle.serve.specs.Service.{asked_by, Asks, Carries, Stays, said_to, IsText, after_ask, is_own, ask_of}
-use Rattle.serve.specs.Service.{IsAsked, IsAdminAnswer, admin_word}
+use Rattle.serve.specs.Service.{asked_by, Asks, Carries, Stays, said_to, IsSaidText, after_ask, is_own, ask_of}
+use Rattle.serve.specs.Service.{IsAsked, IsAdminAnswer, admin_word, ListsAll, IsListedBy, IsListed}
 use Rattle.serve.specs.Inner.Taking.{IsTaken, IsOnOne, IsTimely}
 use Rattle.serve.specs.declared.steps.Step.{Step}
 use Rattle.serve.specs.declared.steps.Step.TheVariants.{Command, Request}
@@ -28,16 +28,16 @@ use Rattle.machine.specs.Ranges.{IsMoment}
 
 -- what is said of what is prepared
 pub said_is : (rows : List ℕ → Option Organization) (at : ℕ) (awaited : Bool) (message : Message) (asking : Asking) (p : Prepared) (text : List ℕ)
-    → IsPrepared rows (asked_by at awaited message asking) p → IsReplyText p.reply at text → IsText (said_to rows (asked_by at awaited message asking)) (continue_if awaited ++ text)
+    → IsPrepared rows (asked_by at awaited message asking) p → IsReplyText p.reply at text → IsSaidText (said_to rows (asked_by at awaited message asking)) (continue_if awaited ++ text)
 said_is rows at awaited message (route.refused refusal) p text h is = (text, subst (λ (a : Answer). IsReplyText a at text) h.0 is, refl)
 said_is rows at awaited message (asks asked) p text h is = (text, subst (λ (a : Answer). IsReplyText a at text) h.answer is, refl)
 
 said_bytes : (rows : List ℕ → Option Organization) (at : ℕ) (awaited : Bool) (message : Message) (p : Prepared) (interim bytes : List ℕ)
     → IsPrepared rows (asked_by at awaited message (asked_of message)) p → interim ≡ continue_if awaited
     → (text : List ℕ) × IsReplyText p.reply at text × (bytes ≡ interim ++ text)
-    → IsText (said_to rows (asked_by at awaited message (asked_of message))) bytes
+    → IsSaidText (said_to rows (asked_by at awaited message (asked_of message))) bytes
 said_bytes rows at awaited message p interim bytes prepared e h =
-    subst (λ (b : List ℕ). IsText (said_to rows (asked_by at awaited message (asked_of message))) b) (sym (h.2 ∙ ap (λ (f : List ℕ). f ++ h.0) e))
+    subst (λ (b : List ℕ). IsSaidText (said_to rows (asked_by at awaited message (asked_of message))) b) (sym (h.2 ∙ ap (λ (f : List ℕ). f ++ h.0) e))
     (said_is rows at awaited message (asked_of message) p h.0 prepared h.1)
 
 -- what is prepared stays so over rows that stay
@@ -56,7 +56,7 @@ pub message_taken : (old mid new : List ℕ → Option Organization) (at : ℕ) 
     → Stays old mid → IsPrepared old (asked_by at awaited message (asked_of message)) p
     → ((a : Ask) → IsPrepared mid a p → Carries a mid new)
     → interim ≡ continue_if awaited → (text : List ℕ) × IsReplyText p.reply at text × (bytes ≡ interim ++ text)
-    → Carries (asked_by at awaited message (asked_of message)) old new × IsText (said_to old (asked_by at awaited message (asked_of message))) bytes
+    → Carries (asked_by at awaited message (asked_of message)) old new × IsSaidText (said_to old (asked_by at awaited message (asked_of message))) bytes
 message_taken old mid new at awaited message p interim bytes stays prepared carried e h =
     let a : Ask = asked_by at awaited message (asked_of message) in
     (carries_after old mid new a stays (carried a (prepared_after old mid a p stays prepared)), said_bytes old at awaited message p interim bytes prepared e h)
@@ -65,8 +65,8 @@ message_taken old mid new at awaited message p interim bytes stays prepared carr
 pub whole_taken : {E : Type 0} (old new : List ℕ → Option Organization) (at : ℕ) (bytes : List ℕ) (message : Message) (interim : List ℕ) (res : Result (List ℕ) E)
     → (awaited : Bool) × Reads bytes (whole message awaited) × (interim ≡ continue_if awaited)
     → IfOk res (λ text. (awaited : Bool) → interim ≡ continue_if awaited
-    → Carries (asked_by at awaited message (asked_of message)) old new × IsText (said_to old (asked_by at awaited message (asked_of message))) text)
-    → IfOk res (λ text. (a : Ask) × Asks at bytes a × Carries a old new × IsText (said_to old a) text)
+    → Carries (asked_by at awaited message (asked_of message)) old new × IsSaidText (said_to old (asked_by at awaited message (asked_of message))) text)
+    → IfOk res (λ text. (a : Ask) × Asks at bytes a × Carries a old new × IsSaidText (said_to old a) text)
 whole_taken old new at bytes message interim res came h =
     if_ok res (λ text taken.
     let both = taken came.0 came.2 in
@@ -76,7 +76,7 @@ whole_taken old new at bytes message interim res came h =
 pub refused_taken : {E : Type 0} (rows : List ℕ → Option Organization) (at : ℕ) (bytes : List ℕ) (refusal : Refusal) (is_head : Bool) (reply : Answer) (interim : List ℕ) (res : Result (List ℕ) E)
     → Reads bytes (wire.refused refusal is_head) → reply ≡ refused_answer refusal (error_text refusal) is_head → interim ≡ []
     → IfOk res (λ b. (text : List ℕ) × IsReplyText reply at text × (b ≡ interim ++ text))
-    → IfOk res (λ text. (a : Ask) × Asks at bytes a × Carries a rows rows × IsText (said_to rows a) text)
+    → IfOk res (λ text. (a : Ask) × Asks at bytes a × Carries a rows rows × IsSaidText (said_to rows a) text)
 refused_taken rows at bytes refusal is_head reply interim res reads is none h =
     if_ok res (λ b made. (
       ask.refused at false refusal is_head,
@@ -87,12 +87,12 @@ refused_taken rows at bytes refusal is_head reply interim res reads is none h =
 
 -- an unfinished message
 pub silence_taken : (rows : List ℕ → Option Organization) (at : ℕ) (bytes text : List ℕ) → Reads bytes unfinished → text ≡ []
-    → (a : Ask) × Asks at bytes a × Carries a rows rows × IsText (said_to rows a) text
+    → (a : Ask) × Asks at bytes a × Carries a rows rows × IsSaidText (said_to rows a) text
 silence_taken rows at bytes text reads none = (silent, record { reading = unfinished; reads = reads; is = refl }, (λ org. refl), none)
 
 -- an operator's command
 pub command_taken : {E : Type 0} (s : Step) (at : ℕ) (command : Admin) (old new : List ℕ → Option Organization) (res : Result (List ℕ) E) → s ≡ Command at command
-    → IfOk res (λ text. (at : ℕ) → Carries (commands at command) old new × IsText (said_to old (commands at command)) text)
+    → IfOk res (λ text. (at : ℕ) → Carries (commands at command) old new × IsSaidText (said_to old (commands at command)) text × IsListedBy old command text)
     → IfOk res (λ text. IsTaken s text old new)
 command_taken s at command old new res is h =
     if_ok res (λ text taken. record {
@@ -101,6 +101,7 @@ command_taken s at command old new res is h =
       timely = tt;
       carries = (taken at).0;
       text_is = (taken at).1;
+      listed = (taken at).2;
     }) h
 
 -- the moment of what is asked is that of the step
@@ -113,9 +114,25 @@ reading_timely at unfinished moment = tt
 reading_timely at (wire.refused refusal head) moment = tt
 reading_timely at (whole message awaited) moment = asking_timely at awaited message (asked_of message) moment
 
+-- no request asks for the list of all organizations
+asking_listed : (at : ℕ) (awaited : Bool) (message : Message) (asking : Asking) (records : List ℕ → Option Organization) (text : List ℕ) → IsListed records (asked_by at awaited message asking) text
+asking_listed at awaited message (route.refused refusal) records text = tt
+asking_listed at awaited message (asks asked) records text = tt
+
+pub reading_listed : (at : ℕ) (reading : Reading) (records : List ℕ → Option Organization) (text : List ℕ) → IsListed records (ask_of at reading) text
+reading_listed at unfinished records text = tt
+reading_listed at (wire.refused refusal head) records text = tt
+reading_listed at (whole message awaited) records text = asking_listed at awaited message (asked_of message) records text
+
+-- the list of all organizations
+pub list_taken : (old new : List ℕ → Option Organization) (command : Admin) (text : List ℕ) → command ≡ OrgList → Stays old new → ListsAll old text
+    → (at : ℕ) → Carries (commands at command) old new × IsSaidText (said_to old (commands at command)) text × IsListedBy old command text
+list_taken old new command text is stays listed at =
+    subst (λ (c : Admin). Carries (commands at c) old new × IsSaidText (said_to old (commands at c)) text × IsListedBy old c text) (sym is) (stays, (listed.0, listed.2), listed)
+
 -- a request
 pub request_taken : {E : Type 0} (s : Step) (at : ℕ) (bytes came : List ℕ) (old new : List ℕ → Option Organization) (res : Result (List ℕ) E) → s ≡ Request at bytes → came ≡ bytes → IsMoment at
-    → IfOk res (λ text. (ask : Ask) × Asks at came ask × Carries ask old new × IsText (said_to old ask) text)
+    → IfOk res (λ text. (ask : Ask) × Asks at came ask × Carries ask old new × IsSaidText (said_to old ask) text)
     → IfOk res (λ text. IsTaken s text old new)
 request_taken s at bytes came old new res is same moment h =
     if_ok res (λ text taken. record {
@@ -124,11 +141,12 @@ request_taken s at bytes came old new res is same moment h =
       timely = subst IsTimely (sym taken.1.is) (reading_timely at taken.1.reading moment);
       carries = taken.2;
       text_is = taken.3;
+      listed = subst (λ (a : Ask). IsListed old a text) (sym taken.1.is) (reading_listed at taken.1.reading old text);
     }) h
 
 -- the word of a command on one organization
 pub word_taken : (rows : List ℕ → Option Organization) (command : Admin) (answer : AdminAnswer) (text : List ℕ) (at : ℕ) → IsAdminAnswer rows command answer → text ≡ admin_word answer → IsOnOne command
-    → IsText (said_to rows (commands at command)) text
+    → IsSaidText (said_to rows (commands at command)) text
 word_taken rows (OrgAdd org limit) answer text at is made one = made ∙ ap admin_word is
 word_taken rows (OrgLimit org limit) answer text at is made one = made ∙ ap admin_word is
 word_taken rows OrgList answer text at is made one = absurd one

@@ -6,7 +6,7 @@ use Rattle.docs.specs.Bodies.{error_text}
 use Rattle.machine.specs.Records.{workspace_in}
 use Rattle.machine.specs.declared.records.Token.{Token}
 use Rattle.machine.specs.declared.records.Organization.{Organization}
-use Rattle.route.specs.Paths.{parts_of}
+use Rattle.route.specs.Paths.{path_parts}
 use Rattle.route.specs.declared.acts.Asked.{Asked}
 use Rattle.wire.specs.Replies.{refused_answer}
 use Rattle.wire.specs.Retargeting.{SameButTarget}
@@ -16,7 +16,7 @@ use Rattle.serve.specs.declared.steps.Step.TheVariants.{Request}
 use Rattle.serve.specs.Asks.{Ask, requests, organization}
 use Rattle.serve.specs.Checks.{is_in_reach, known_caller, may_do}
 use Rattle.serve.specs.Laws.{NeedsWorkspace}
-use Rattle.serve.specs.Service.{Asks, AreAsked, IsText, own_asks}
+use Rattle.serve.specs.Service.{Asks, AreAsked, IsSaidText, own_asks}
 use Rattle.serve.specs.Steps.{replies, step, own_record}
 
 -- one target names what another does, but for the workspace, and for the organization or not: the parts of the path are else the same, and so is the query
@@ -31,8 +31,8 @@ pub record NamesInstead (target aim org ws : List ℕ) : Type 0 where
   pub word : List ℕ
   pub ws_before : List ℕ
   pub more : List (List ℕ)
-  pub path_before : parts_of (path_of from) ≡ root ∷ version ∷ org_before ∷ word ∷ ws_before ∷ more
-  pub path_after : parts_of (path_of to) ≡ root ∷ version ∷ org ∷ word ∷ ws ∷ more
+  pub path_before : path_parts (path_of from) ≡ root ∷ version ∷ org_before ∷ word ∷ ws_before ∷ more
+  pub path_after : path_parts (path_of to) ≡ root ∷ version ∷ org ∷ word ∷ ws ∷ more
   pub query_stays : query_of to ≡ query_of from
   pub org_named : is_org_name org ≡ true
   pub ws_named : is_ws_name ws ≡ true
@@ -69,10 +69,10 @@ record_before rows org earlier = own_record (rows org) (own_asks (organization o
 abbrev pub RepliesAreThoseOfAbsentForms : List Step → (List ℕ → Option Organization) → List (List ℕ) → Type 0
 RepliesAreThoseOfAbsentForms steps rows texts = (a : AnsweredRequest steps texts) (other org ws : List ℕ) (ask : Ask) → is_in_reach a.asked ≡ false → NeedsWorkspace a.asked.act
     → workspace_in (record_before rows a.asked.caller a.earlier) ws ≡ None → IsFormOf a.bytes other org ws → Asks a.at other ask
-    → IsText (step (record_before rows a.asked.caller a.earlier) ask).answer a.text
+    → IsSaidText (step (record_before rows a.asked.caller a.earlier) ask).answer a.text
 
 -- and whatever it asks, PUT of a workspace and the list of workspaces too: where its caller is known and has the role, the reply is the text of not-found
 abbrev pub OutOfReachRepliesNotFound : List Step → (List ℕ → Option Organization) → List (List ℕ) → Type 0
 OutOfReachRepliesNotFound steps rows texts = (a : AnsweredRequest steps texts) (token : Token) → is_in_reach a.asked ≡ false
     → known_caller (record_before rows a.asked.caller a.earlier) a.asked ≡ Ok token → may_do token a.asked ≡ Ok tt
-    → IsText (replies a.awaited a.at (refused_answer NotFound (error_text NotFound) false)) a.text
+    → IsSaidText (replies a.awaited a.at (refused_answer NotFound (error_text NotFound) false)) a.text

@@ -1,5 +1,5 @@
 -- What a step asks, and whose step it is.
-use Rattle.std.specs.Prelude.{ℕ, Bool, List, Option, Some, None}
+use Rattle.std.specs.Prelude.{ℕ, Bool, List, Option}
 use Rattle.basis.specs.declared.refusals.Refusal.{Refusal}
 use Rattle.route.specs.declared.acts.Asked.{Asked}
 use Rattle.serve.specs.declared.steps.Admin.{Admin}
@@ -11,7 +11,7 @@ pub data Ask : Type 0 where
   silent : Ask
   -- nothing of any organization: it is refused by what its bytes say; the last flag says that the method is HEAD
   refused : ℕ → Bool → Refusal → Bool → Ask
-  -- an act, in the name of the organization of a token, with the content_md5 of the body, if it has one, and the body
+  -- an act, in the name of the organization of a token, with the field Content-MD5, where it is sent, and the body
   requests : ℕ → Bool → Asked → Option (List ℕ) → List ℕ → Ask
   -- an operator's command
   commands : ℕ → Admin → Ask

@@ -143,8 +143,8 @@ abbrev pub MakesVersion : Entry → Type 0
 MakesVersion e = next_version e.before < next_version e.after
 
 -- it makes a version, or is an accepted purge
-abbrev pub Writes : List ℕ → Entry → Type 0
-Writes ws e = MakesVersion e ⊎ IsAcceptedPurge ws e
+abbrev pub WritesState : List ℕ → Entry → Type 0
+WritesState ws e = MakesVersion e ⊎ IsAcceptedPurge ws e
 
 -- a run was applying
 abbrev pub IsApplying : ℕ → Option Workspace → Type 0
@@ -176,11 +176,11 @@ IsDoneOnce (ReportRunAct n action) = ⊤
 
 -- in the period of a lock, a step that makes a version, or is an accepted purge, carried its ID
 abbrev pub LocksKeepOthersOut : List ℕ → List Entry → Type 0
-LocksKeepOthersOut ws es = (id : List ℕ) → InEachPeriod (is_held (is_lock id)) (λ e. Writes ws e → Names e.ask ws × CarriesId e.ask id) es
+LocksKeepOthersOut ws es = (id : List ℕ) → InEachPeriod (is_held (is_lock id)) (λ e. WritesState ws e → Names e.ask ws × CarriesId e.ask id) es
 
 -- in the period of a run, such a step carried `run-` and its number, and the run was applying
 abbrev pub RunsKeepOthersOut : List ℕ → List Entry → Type 0
-RunsKeepOthersOut ws es = (n : ℕ) → InEachPeriod (is_held (is_run n)) (λ e. Writes ws e → Names e.ask ws × CarriesId e.ask (run_id n) × IsApplying n e.before) es
+RunsKeepOthersOut ws es = (n : ℕ) → InEachPeriod (is_held (is_run n)) (λ e. WritesState ws e → Names e.ask ws × CarriesId e.ask (run_id n) × IsApplying n e.before) es
 
 -- while nobody holds, an accepted update or purge carried no ID
 abbrev pub NoIdWhereNobodyHolds : List ℕ → List Entry → Type 0

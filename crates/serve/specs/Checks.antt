@@ -121,7 +121,7 @@ abbrev pub found : Option Organization → AskedAct → Result Found Refusal
 found r (ListWorkspaces after) = Ok (Workspaces after)
 found r (OfWorkspace ws act) = found_if (is_found r ws act) (place ws act)
 
--- Content-MD5, where it is sent, is the content_md5 of the body
+-- Content-MD5, where it is sent, is the MD5 of the body (RFC 1864)
 abbrev pub fits : Option (List ℕ) → List ℕ → Bool
 fits None body = true
 fits (Some field) body = digest_fits field body
@@ -155,7 +155,7 @@ abbrev pub task_of : Found → Option (List ℕ) → List ℕ → Result Task Re
 task_of (Workspaces after) id body = Ok (ListAll after)
 task_of (At p) id body = and_then (act_of p.act id body) (λ act. Ok (Carry (order p.ws act)))
 
--- the checks in their order: the caller, the role, the organization, the names, the content_md5, the document
+-- the checks in their order: the caller, the role, the organization, the names, the digest, the document
 abbrev pub checked : Option Organization → Asked → Option (List ℕ) → List ℕ → Result Task Refusal
 checked r asked content_md5 body =
     and_then (known_caller r asked) (λ token.

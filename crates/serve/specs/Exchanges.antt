@@ -1,10 +1,8 @@
--- One exchange: what is written for the bytes that received, and the records afterwards.
-use Rattle.std.specs.Prelude.{◌≡◌, ◌≢◌, ℕ, ◌<◌, ◌++◌, ◌⊎◌, Bool, true, List, length, Option, Result, Ok, Err, IsTrue}
+-- One exchange: what is written for the bytes that were received, and the records afterwards.
+use Rattle.std.specs.Prelude.{◌≡◌, ◌≢◌, ℕ, ◌<◌, ◌++◌, ◌⊎◌, Bool, false, List, length, Option, Some, None, IfSome, Result, Ok, Err}
 use Rattle.std.specs.Io.KnownBytes.{Appends, IsAtEnd}
-use Rattle.basis.specs.declared.refusals.Refusal.{Refusal}
 use Rattle.machine.specs.declared.records.Organization.{Organization}
-use Rattle.wire.specs.declared.messages.Message.{Message}
-use Rattle.wire.specs.Messages.{Reads, unfinished, refused, whole, AwaitsContinue}
+use Rattle.wire.specs.Messages.{Reading, Reads, unfinished, refused, whole, AwaitsContinue}
 use Rattle.wire.specs.Links.{continue_if, continue_text, WritesPrefix, WritesContinue}
 use Rattle.wire.specs.Replies.{Answer, IsReplyText, unavailable_answer}
 use Rattle.serve.specs.Asks.{Ask}
@@ -22,23 +20,27 @@ pub record IsServed (now : ℕ) (received : List ℕ) (old new : List ℕ → Op
   pub said : said_to old ask ≡ replies awaited now answer
   pub is : IsReplyText answer now text
 
--- the head that received was parsed, and its method is HEAD
-abbrev pub IsHead : List ℕ → Type 0
-IsHead received = ((message : Message) × (awaited : Bool) × Reads received (whole message awaited) × IsTrue (is_head message)) ⊎ ((refusal : Refusal) × Reads received (refused refusal true))
+-- whether `100 Continue` goes before a reply that says so where memory or the store refused, and whether its body is left out, by what
+-- was read: neither where memory was refused inside the reading; past it the line goes before it where it is awaited, and the
+-- body is left out where the method is HEAD
+abbrev pub IsShapedBy : Option Reading → Bool → Bool → Type 0
+IsShapedBy None awaited without_body = (awaited ≡ false) × (without_body ≡ false)
+IsShapedBy (Some unfinished) awaited without_body = ⊥
+IsShapedBy (Some (refused refusal head)) awaited without_body = (awaited ≡ false) × (without_body ≡ head)
+IsShapedBy (Some (whole message due)) awaited without_body = (awaited ≡ due) × (without_body ≡ is_head message)
 
--- memory or the store refused: nothing changes, and the reply's text says so. `100 Continue` is written only where it is
--- awaited, and the body is left out only where the method is HEAD
-pub record IsUnavailable (now : ℕ) (received : List ℕ) (old new : List ℕ → Option Organization) (awaited : Bool) (text : List ℕ) : Type 0 where
+-- memory or the store refused, inside the reading (none) or past it: nothing changes, and the reply's text says so
+pub record IsUnavailable (now : ℕ) (received : List ℕ) (old new : List ℕ → Option Organization) (reading : Option Reading) (awaited : Bool) (text : List ℕ) : Type 0 where
   pub stays : Stays old new
-  pub is_awaited : IsTrue awaited → AwaitsContinue received
+  pub reads : IfSome reading (Reads received)
   pub without_body : Bool
-  pub is_head : IsTrue without_body → IsHead received
+  pub shaped : IsShapedBy reading awaited without_body
   pub is : IsReplyText (unavailable_answer without_body) now text
 
 abbrev pub IsAnswered : ℕ → List ℕ → (List ℕ → Option Organization) → (List ℕ → Option Organization) → Bool → List ℕ → Type 0
-IsAnswered now received old new awaited text = IsServed now received old new awaited text ⊎ IsUnavailable now received old new awaited text
+IsAnswered now received old new awaited text = IsServed now received old new awaited text ⊎ ((reading : Option Reading) × IsUnavailable now received old new reading awaited text)
 
--- what an exchange answers, by the bytes that received of the reader, and those that it has left: the records before and after,
+-- what an exchange answers, by the bytes that were received from the reader, and those that it has left: the records before and after,
 -- and what was written before and after. After `Write` `100 Continue` is whole where it is awaited, and the reply's text isn't
 abbrev pub Exchanges : ℕ → List ℕ → Option (List ℕ) → (List ℕ → Option Organization) → (List ℕ → Option Organization) → Option (List ℕ) → Option (List ℕ) → {T : Type 0} → Result T LinkFault → Type 0
 Exchanges now received left old new before after (Ok done) =

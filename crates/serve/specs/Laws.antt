@@ -1,9 +1,7 @@
 -- Laws of steps and runs.
-use Rattle.std.specs.Prelude.{◌≡◌, ◌≢◌, ℕ, Bool, false, true, List, [], ◌∷◌, Option, Some, None, Ok, ⊤}
-use Rattle.basis.specs.Checks.{and_then}
+use Rattle.std.specs.Prelude.{◌≡◌, ◌≢◌, ℕ, Bool, false, List, [], ◌∷◌, Option, Some, None, Ok}
 use Rattle.basis.specs.declared.refusals.Refusal.{Refusal}
 use Rattle.basis.specs.declared.refusals.Refusal.TheVariants.{NotFound}
-use Rattle.machine.specs.Effects.{effect}
 use Rattle.machine.specs.Records.{workspace_in}
 use Rattle.machine.specs.declared.keeps.AdminAnswer.{AdminAnswer}
 use Rattle.machine.specs.declared.keeps.AdminAnswer.TheVariants.{Done}
@@ -12,12 +10,11 @@ use Rattle.machine.specs.declared.records.Organization.{Organization}
 use Rattle.route.specs.declared.acts.Asked.{Asked}
 use Rattle.route.specs.declared.acts.AskedAct.{AskedAct}
 use Rattle.route.specs.declared.acts.AskedAct.TheVariants.{ListWorkspaces, OfWorkspace}
-use Rattle.route.specs.declared.acts.WsAct.{WsAct}
 use Rattle.wire.specs.Replies.{Answer}
 use Rattle.serve.specs.declared.steps.Step.{Step}
 use Rattle.serve.specs.Asks.{Ask, organization}
 use Rattle.serve.specs.Checks.{makes, is_in_reach, known_caller, may_do}
-use Rattle.serve.specs.Steps.{Said, replies, tells, refusing, request_step, step}
+use Rattle.serve.specs.Steps.{replies, tells, refusing, request_step, step}
 use Rattle.serve.specs.Service.{AreAsked, with_own, is_own, own_asks, replies_at}
 use Rattle.serve.specs.Runs.{IsOwnMachine}
 
@@ -45,8 +42,8 @@ SameStepsAskTheSame = (org : List ℕ) (steps others : List Step) (asked other :
     → own_steps org steps asked ≡ own_steps org others other → own_asks (organization org) asked ≡ own_asks (organization org) other
 
 -- a refusal leaves the record equal, of every step: a reply that refuses, and a command that isn't answered as done
-abbrev pub RefusalsChangeNothing : Type 0
-RefusalsChangeNothing = (r : Option Organization) (ask : Ask) → ((awaited : Bool) (at : ℕ) (answer : Answer) (refusal : Refusal)
+abbrev pub RefusedStepsChangeNothing : Type 0
+RefusedStepsChangeNothing = (r : Option Organization) (ask : Ask) → ((awaited : Bool) (at : ℕ) (answer : Answer) (refusal : Refusal)
     → (step r ask).answer ≡ replies awaited at answer → answer.refusal ≡ Some refusal → (step r ask).left ≡ r)
     × ((answer : AdminAnswer) → (step r ask).answer ≡ tells answer → answer ≢ Done → (step r ask).left ≡ r)
 

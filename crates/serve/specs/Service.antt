@@ -1,8 +1,8 @@
 -- Steps as their bytes say them, and whole runs of them over the records of all organizations.
-use Rattle.std.specs.Prelude.{◌≡◌, ℕ, Bool, true, false, List, [], ◌∷◌, ◌++◌, Option, Some, None, codes, decimal, ⊤}
+use Rattle.std.specs.Prelude.{◌≡◌, ℕ, Bool, true, false, List, [], ◌∷◌, ◌++◌, Option, None, codes, decimal, ⊤}
 use Rattle.std.specs.Str.{bytes_eq}
 use Rattle.machine.specs.declared.keeps.AdminAnswer.{AdminAnswer}
-use Rattle.machine.specs.Tokens.{ListsOrganizations}
+use Rattle.machine.specs.Tokens.{AreOrganizations, ListsOrganizations}
 use Rattle.machine.specs.declared.keeps.AdminAnswer.TheVariants.{Done, Exists, Absent, Organizations}
 use Rattle.machine.specs.declared.keeps.OrgRow.{OrgRow}
 use Rattle.machine.specs.declared.records.Organization.{Organization}
@@ -69,17 +69,17 @@ admin_word Absent = codes "refused absent\n"
 admin_word (Organizations rows) = []
 
 -- the text of what is said
-abbrev pub IsText : Said → List ℕ → Type 0
-IsText nothing text = text ≡ []
-IsText (replies awaited at answer) text = (reply : List ℕ) × IsReplyText answer at reply × (text ≡ continue_if awaited ++ reply)
-IsText (tells answer) text = text ≡ admin_word answer
-IsText lists text = (rows : List OrgRow) × (text ≡ org_lines rows)
+abbrev pub IsSaidText : Said → List ℕ → Type 0
+IsSaidText nothing text = text ≡ []
+IsSaidText (replies awaited at answer) text = (reply : List ℕ) × IsReplyText answer at reply × (text ≡ continue_if awaited ++ reply)
+IsSaidText (tells answer) text = text ≡ admin_word answer
+IsSaidText lists text = (rows : List OrgRow) × (text ≡ org_lines rows)
 
 abbrev pub AreTexts : List Said → List (List ℕ) → Type 0
 AreTexts [] [] = ⊤
 AreTexts [] (t ∷ ts) = ⊥
 AreTexts (s ∷ said) [] = ⊥
-AreTexts (s ∷ said) (t ∷ ts) = IsText s t × AreTexts said ts
+AreTexts (s ∷ said) (t ∷ ts) = IsSaidText s t × AreTexts said ts
 
 -- the same owner
 abbrev pub same_owner : Owner → Owner → Bool
@@ -123,9 +123,13 @@ abbrev pub after_ask : Bool → Ask → Option Organization → Option Organizat
 after_ask true ask r = (step r ask).left
 after_ask false ask r = r
 
+-- each record after what is asked
+abbrev pub records_after : Ask → (List ℕ → Option Organization) → List ℕ → Option Organization
+records_after ask records org = after_ask (is_own (organization org) ask) ask (records org)
+
 -- what is asked is carried out: each record afterwards
 abbrev pub Carries : Ask → (List ℕ → Option Organization) → (List ℕ → Option Organization) → Type 0
-Carries ask old new = (org : List ℕ) → new org ≡ after_ask (is_own (organization org) ask) ask (old org)
+Carries ask old new = (org : List ℕ) → new org ≡ records_after ask old org
 
 -- what is said to the one who asks, by the records before
 abbrev pub said_to : (List ℕ → Option Organization) → Ask → Said
@@ -139,6 +143,24 @@ IsAdminAnswer rows (OrgLimit org limit) answer = answer ≡ (command_step (rows 
 IsAdminAnswer rows OrgList answer = ListsOrganizations rows answer
 IsAdminAnswer rows (TokenAdd org name role secret) answer = answer ≡ (command_step (rows org) (TokenAdd org name role secret)).answer
 IsAdminAnswer rows (TokenRevoke org name) answer = answer ≡ (command_step (rows org) (TokenRevoke org name)).answer
+
+-- the text that lists all organizations: exactly those whose records are there
+abbrev pub ListsAll : (List ℕ → Option Organization) → List ℕ → Type 0
+ListsAll records text = (rows : List OrgRow) × AreOrganizations records rows × (text ≡ org_lines rows)
+
+-- where a command asks for the list of all organizations, the text is it
+abbrev pub IsListedBy : (List ℕ → Option Organization) → Admin → List ℕ → Type 0
+IsListedBy records (OrgAdd org limit) text = ⊤
+IsListedBy records (OrgLimit org limit) text = ⊤
+IsListedBy records OrgList text = ListsAll records text
+IsListedBy records (TokenAdd org name role secret) text = ⊤
+IsListedBy records (TokenRevoke org name) text = ⊤
+
+abbrev pub IsListed : (List ℕ → Option Organization) → Ask → List ℕ → Type 0
+IsListed records silent text = ⊤
+IsListed records (refused at awaited refusal is_head) text = ⊤
+IsListed records (requests at awaited asked content_md5 body) text = ⊤
+IsListed records (commands at command) text = IsListedBy records command text
 
 -- no record changes
 abbrev pub Stays : (List ℕ → Option Organization) → (List ℕ → Option Organization) → Type 0

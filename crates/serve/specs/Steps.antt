@@ -9,12 +9,10 @@ use Rattle.machine.specs.Rules.{Outcome, refused, held, done, no_state, state, w
 use Rattle.machine.specs.Showing.{row_of, run_row, workspaces_after}
 use Rattle.machine.specs.Records.{Seen, missing, seen_in, placed}
 use Rattle.machine.specs.Tokens.{Managed, org_added, org_limited, token_added, token_revoked, token_of}
-use Rattle.machine.specs.declared.acts.Shown.{Shown}
 use Rattle.machine.specs.declared.keeps.AdminAnswer.{AdminAnswer}
 use Rattle.machine.specs.declared.keeps.AdminAnswer.TheVariants.{Done}
 use Rattle.machine.specs.declared.records.Holder.{Holder}
 use Rattle.machine.specs.declared.records.Holder.TheVariants.{Nobody, Lock as HeldLock, Run as HeldRun}
-use Rattle.machine.specs.declared.records.Run.{Run}
 use Rattle.machine.specs.declared.records.Organization.{Organization}
 use Rattle.route.specs.declared.acts.Asked.{Asked}
 use Rattle.wire.specs.Replies.{Answer, empty_answer, no_content_answer, document_answer, refused_answer}
@@ -23,7 +21,6 @@ use Rattle.serve.specs.declared.steps.Admin.TheVariants.{OrgAdd, OrgLimit, OrgLi
 use Rattle.serve.specs.Asks.{Ask, silent, requests, commands}
 use Rattle.serve.specs.Asks as ask
 use Rattle.serve.specs.Checks.{checked}
-use Rattle.serve.specs.declared.prepared.Order.{Order}
 use Rattle.serve.specs.declared.prepared.Task.{Task}
 use Rattle.serve.specs.declared.prepared.Task.TheVariants.{ListAll, Carry}
 

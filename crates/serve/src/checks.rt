@@ -1,20 +1,22 @@
 //! The checks of a request from the token on, each by itself.
-ghost use Rattle.std.specs.Prelude.{◌≡◌, ℕ, List, IsSome, Some, IfOk, Ok};
+ghost use Rattle.std.specs.Prelude.{◌≡◌, ◌≢◌, ℕ, cond, List, IsSome, Some, IfOk, Ok};
 ghost use Rattle.basis.specs.Inner.Checks.{Follows};
-ghost use Rattle.basis.specs.declared.refusals.Refusal.TheVariants.{BadBody, BadLock, BadState};
+ghost use Rattle.basis.specs.declared.refusals.Refusal.TheVariants.{BadBody, BadLock, BadState, NotFound, Unavailable};
 ghost use Rattle.docs.specs.Documents.{settings_of, state_head, lock_id_of, run_ask};
 ghost use Rattle.machine.specs.Keeping.{Looks};
 ghost use Rattle.machine.specs.Records.{workspace_in};
 ghost use Rattle.machine.specs.Units.{unit_of};
 ghost use Rattle.machine.specs.declared.acts.Act.TheVariants.{Look as LookAct, PutWorkspace, UpdateState, PurgeState, Lock, Unlock, MakeRun};
 ghost use Rattle.machine.specs.declared.records.Organization.{Organization};
-ghost use Rattle.serve.specs.Checks.{require, in_reach, makes, named_by, is_there, is_found, found, found_if, place, fits, digest_checked, spelt, act_of, task_of};
+ghost use Rattle.serve.specs.Checks.{require, in_reach, makes, named_by, is_there, is_found, place, fits, digest_checked, spelt, act_of, task_of};
 ghost use Rattle.serve.specs.Inner.Prepared.{caller_known};
-ghost use Rattle.serve.specs.declared.prepared.Found.TheVariants.{Workspaces, At};
+ghost use Rattle.serve.specs.declared.prepared.Found.TheVariants.{At};
+ghost use Rattle.serve.specs.declared.prepared.Task.TheVariants.{ListAll};
+ghost use Rattle.serve.specs.Inner.Judging.{named, judged_task, missed};
 ghost use Rattle.serve.specs.Inner.Prepared.{IsTaskInRange};
 ghost use Rattle.serve.specs.Inner.Units.{has_named, is_present};
 
-use crate::prepared::{Found, Order, Place, Task};
+use crate::prepared::{Order, Place, Task};
 use basis::{Bytes, Caller, Down, LockId, Look, OrgName, Refusal, WsName};
 use docs::{DocFault, digest_fits, read_lock, read_run, read_settings, read_state};
 use machine::{Act, Keep, Unit, WorkspaceUnit};
@@ -135,18 +137,6 @@ fn is_there<K: Keep>(
     Ok(is_present(&unit, &act))
 }
 
-fn found_if(is_found: bool, ws: &WsName, act: WsAct) -> Result<Found, Refusal>
-    ensures { Follows result (found_if is_found (place ws.now act)) }
-{
-    if !is_found {
-        return Err(Refusal::NotFound);
-    }
-    match ws.clone() {
-        Ok(ws) => Ok(Found::At(Place { ws, act })),
-        Err(_) => Err(Refusal::Unavailable),
-    }
-}
-
 // Whether what is asked of is there, or is to be made.
 fn is_found<K: Keep>(
     alloc: Global,
@@ -163,31 +153,36 @@ fn is_found<K: Keep>(
     Ok(makes(act) || there)
 }
 
-fn found_list(after: &Option<WsName>) -> Result<Found, Refusal>
-    ensures { Follows result (Ok (Workspaces after.now)) }
+// What is missed before anything is judged: what is asked of, where it isn't there, or else what was refused.
+fn missed_by(is_found: bool, refusal: Refusal) -> Refusal
+    ensures { result ≡ cond is_found refusal NotFound }
 {
-    match after.clone() {
-        Ok(after) => Ok(Found::Workspaces(after)),
-        Err(_) => Err(Refusal::Unavailable),
-    }
+    if is_found { refusal } else { Refusal::NotFound }
 }
 
-/// What is found of what is asked: what it asks of is there, or is to be made.
-pub fn found<K: Keep>(
+/// What a request is refused for, whose digest or document was refused: that what it asks of isn't
+/// there comes first. `Unavailable` is want of memory.
+pub fn missed<K: Keep>(
     alloc: Global,
     keep: &mut K,
     org: &OrgName,
     asked: &AskedAct,
-) -> Result<Found, Refusal>
+    refusal: Refusal,
+) -> Refusal
     ensures looks { Looks K.rows K.clean K.sound keep.old keep.new }
+    ensures known { result ≢ Unavailable → refusal ≢ Unavailable }
     ensures ok { K.clean keep.new → K.sound keep.old → IsSome (K.rows keep.old org.now)
-        → Follows result (found (K.rows keep.old org.now) asked.now) }
+        → result ≢ Unavailable → result ≡ missed (K.rows keep.old org.now) asked.now refusal }
 {
+    match refusal {
+        Refusal::Unavailable => return Refusal::Unavailable,
+        _ => {}
+    }
     match asked {
-        AskedAct::ListWorkspaces { after } => found_list(after),
+        AskedAct::ListWorkspaces { .. } => refusal,
         AskedAct::OfWorkspace(ws, act) => match is_found(alloc, keep, org, ws, *act) {
-            Ok(is_found) => found_if(is_found, ws, *act),
-            Err(Down) => Err(Refusal::Unavailable),
+            Ok(is_found) => missed_by(is_found, refusal),
+            Err(Down) => Refusal::Unavailable,
         },
     }
 }
@@ -201,8 +196,8 @@ fn fits(content_md5: &Option<Bytes>, body: &Bytes) -> bool
     }
 }
 
-/// Whether Content-MD5, where it is sent, is the content_md5 of the body (RFC 1864).
-pub fn digest_checked(content_md5: &Option<Bytes>, body: &Bytes) -> Result<(), Refusal>
+/// Whether Content-MD5, where it is sent, is the MD5 of the body (RFC 1864).
+fn digest_checked(content_md5: &Option<Bytes>, body: &Bytes) -> Result<(), Refusal>
     ensures { result ≡ digest_checked content_md5.now body.now }
 {
     let is_fit = fits(content_md5, body);
@@ -308,18 +303,69 @@ fn order_of(
     }
 }
 
-/// What is to be done, once what is asked of was found.
-pub fn task_of(
+fn place_of(ws: &WsName, act: WsAct) -> Result<Place, Refusal>
+    ensures { Follows result (Ok (place ws.now act)) }
+{
+    match ws.clone() {
+        Ok(ws) => Ok(Place { ws, act }),
+        Err(_) => Err(Refusal::Unavailable),
+    }
+}
+
+fn list_after(after: &Option<WsName>) -> Result<Task, Refusal>
+    ensures ok { Follows result (Ok (ListAll after.now)) }
+    ensures range { IfOk result IsTaskInRange }
+{
+    match after.clone() {
+        Ok(after) => Ok(Task::ListAll(after)),
+        Err(_) => Err(Refusal::Unavailable),
+    }
+}
+
+fn order_at(
     alloc: Global,
-    found: Found,
+    ws: &WsName,
+    act: WsAct,
     lock_id: &Option<LockId>,
     body: Bytes,
 ) -> Result<Task, Refusal>
-    ensures ok { Follows result (task_of found lock_id.now body) }
+    ensures ok { Follows result (task_of (At (place ws.now act)) lock_id.now body) }
     ensures range { IfOk result IsTaskInRange }
 {
-    match found {
-        Found::Workspaces(after) => Ok(Task::ListAll(after)),
-        Found::At(place) => order_of(alloc, place, lock_id, body),
+    match place_of(ws, act) {
+        Ok(place) => order_of(alloc, place, lock_id, body),
+        Err(refusal) => Err(refusal),
     }
+}
+
+fn spelt(
+    alloc: Global,
+    asked: &AskedAct,
+    lock_id: &Option<LockId>,
+    body: Bytes,
+) -> Result<Task, Refusal>
+    ensures ok { Follows result (task_of (named asked.now) lock_id.now body) }
+    ensures range { IfOk result IsTaskInRange }
+{
+    match asked {
+        AskedAct::ListWorkspaces { after } => list_after(after),
+        AskedAct::OfWorkspace(ws, act) => order_at(alloc, ws, *act, lock_id, body),
+    }
+}
+
+/// What is to be done where what is asked of is there: the digest, then the document.
+pub fn judged(
+    alloc: Global,
+    asked: &AskedAct,
+    content_md5: &Option<Bytes>,
+    lock_id: &Option<LockId>,
+    body: Bytes,
+) -> Result<Task, Refusal>
+    ensures ok { Follows result (judged_task asked.now content_md5.now lock_id.now body) }
+    ensures range { IfOk result IsTaskInRange }
+{
+    if let Err(refusal) = digest_checked(content_md5, &body) {
+        return Err(refusal);
+    }
+    spelt(alloc, asked, lock_id, body)
 }

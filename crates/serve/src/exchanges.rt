@@ -118,6 +118,7 @@ pub fn exchange<K: Keep, I: Inlet, O: Outlet>(
         → Stays (K.rows keep.old) (K.rows keep.new) }
     ensures others { K.clean keep.new → K.sound keep.old → ChangesAtMostOne (K.rows keep.old) (K.rows keep.new) }
     ensures read { (I.broken inlet.new ≡ true) ↔ IsErrOf result LinkFault.Read }
+    ensures end { I.ended inlet.old ≡ false → ((I.ended inlet.new ≡ true) ↔ IsErrOf result LinkFault.Ended) }
     ensures written { (O.broken outlet.new ≡ true) ↔ (IsErrOf result LinkFault.Continue ⊎ IsErrOf result LinkFault.Write) }
 {
     let read = read_message(alloc, inlet, outlet);

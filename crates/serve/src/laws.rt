@@ -1,5 +1,5 @@
 //! Laws of steps and runs, each the contract of a call that does nothing.
-ghost use Rattle.serve.specs.Laws.{OneAsking, TwoWorlds, SameStepsAskTheSame, RefusalsChangeNothing, OutOfReachIsNotFound, OutOfReachIsAsAbsent};
+ghost use Rattle.serve.specs.Laws.{OneAsking, TwoWorlds, SameStepsAskTheSame, RefusedStepsChangeNothing, OutOfReachIsNotFound, OutOfReachIsAsAbsent};
 ghost use Rattle.serve.specs.Custody.{StepsChangeWhatTheyName, LocksAreKept, StepsAreRepeatable, RepeatsLeaveTheWorkspace, LockedTellsTheHolder, SameBytesAskAgain, RequestsChangeTheirWorkspaceAlone};
 ghost use Rattle.serve.specs.Book.{BooksAreOfTheRun, PeriodsAreTheStepsBetween};
 
@@ -22,7 +22,7 @@ pub fn same_steps_ask_the_same()
 
 /// A refusal leaves the record equal, of every step.
 pub fn refusals_change_nothing()
-    ensures { RefusalsChangeNothing }
+    ensures { RefusedStepsChangeNothing }
 {}
 
 /// A request whose caller and role pass, and which is out of the caller's reach, is answered

@@ -8,7 +8,7 @@ ghost use Rattle.route.specs.Asks.{asked_of};
 ghost use Rattle.serve.specs.Asks.{Ask};
 ghost use Rattle.machine.specs.Keeping.{Looks};
 ghost use Rattle.serve.specs.Inner.Prepared.{IsPrepared, IsReceived};
-ghost use Rattle.serve.specs.Service.{is_head, asked_by, Asks, Carries, Stays, said_to, IsText};
+ghost use Rattle.serve.specs.Service.{is_head, asked_by, Asks, Carries, Stays, said_to, IsSaidText};
 
 use crate::prepared::{Prepared, Received};
 use crate::requests::request;
@@ -113,7 +113,7 @@ fn take_message<K: Keep>(
     ensures kept { K.clean keep.new → K.sound keep.old → K.sound keep.new }
     ensures ok { K.clean keep.new → K.sound keep.old → IfOk result (λ text. (awaited : Bool) → interim.items ≡ continue_if awaited
         → Carries (asked_by at awaited message (asked_of message)) (K.rows keep.old) (K.rows keep.new)
-        × IsText (said_to (K.rows keep.old) (asked_by at awaited message (asked_of message))) text) }
+        × IsSaidText (said_to (K.rows keep.old) (asked_by at awaited message (asked_of message))) text) }
     ensures err { K.clean keep.new → OnErr result (Stays (K.rows keep.old) (K.rows keep.new)) }
 {
     let prepared = prepare(alloc, keep, routes, at, message)?;
@@ -133,7 +133,7 @@ pub fn take_request<K: Keep>(
     ensures so_far { K.clean keep.new → K.clean keep.old }
     ensures kept { K.clean keep.new → K.sound keep.old → K.sound keep.new }
     ensures ok { K.clean keep.new → K.sound keep.old → IfOk result (λ text. (ask : Ask) × Asks at bytes.now ask
-        × Carries ask (K.rows keep.old) (K.rows keep.new) × IsText (said_to (K.rows keep.old) ask) text) }
+        × Carries ask (K.rows keep.old) (K.rows keep.new) × IsSaidText (said_to (K.rows keep.old) ask) text) }
     ensures err { K.clean keep.new → OnErr result (Stays (K.rows keep.old) (K.rows keep.new)) }
 {
     match read_bytes(alloc, bytes)? {

@@ -1,6 +1,5 @@
 //! A request of an organization: the checks in their order, and the answer of the rules.
 ghost use Rattle.std.specs.Prelude.{◌≡◌, ◌≢◌, ℕ, List, [], Option, Some, None, Ok, IsSome, IfOk, OnOk, option_map, option_copied};
-ghost use Rattle.basis.specs.Inner.Checks.{Follows};
 ghost use Rattle.docs.specs.Bodies.{error_text, ws_text};
 ghost use Rattle.machine.specs.Keeping.{Looks};
 ghost use Rattle.machine.specs.Laws.{IsLawfulOrganization};
@@ -12,12 +11,12 @@ ghost use Rattle.machine.specs.declared.acts.Answer.TheVariants.{Workspace as Sh
 ghost use Rattle.serve.specs.declared.prepared.Task.TheVariants.{ListAll, Carry};
 ghost use Rattle.machine.specs.declared.acts.Decision.TheVariants.{Accepted};
 ghost use Rattle.machine.specs.declared.records.Organization.{Organization};
-ghost use Rattle.serve.specs.Checks.{checked};
 ghost use Rattle.serve.specs.Steps.{refusing, holder_text, answer_to, ruled_in, carried, request_step};
+ghost use Rattle.serve.specs.Inner.Judging.{Stands};
 ghost use Rattle.serve.specs.Inner.Prepared.{Foresees, IsTaskInRange};
 ghost use Rattle.serve.specs.Inner.Units.{holder_in};
 
-use crate::checks::{digest_checked, found, in_reach, known_caller, task_of};
+use crate::checks::{in_reach, judged, known_caller, missed};
 use crate::prepared::{Order, Pending, Prepared, Task};
 use basis::numbers::MAX_MOMENT;
 use basis::{Bytes, Down, Moment, OrgName, Refusal, RunRow, WsName, WsRow};
@@ -49,8 +48,9 @@ pub fn request<K: Keep>(
     }
 }
 
-/// What is to be done, once the checks have passed in their order, or the refusal of the
-/// first that fails; `Unavailable` is want of memory.
+/// What is to be done, or the refusal of the first check that fails; `Unavailable` is want of memory.
+/// Where digest and document pass, whether what is asked of is there is left to the rules, which
+/// refuse what isn't there just so: a good request looks at its workspace once.
 fn checked<K: Keep>(
     alloc: Global,
     keep: &mut K,
@@ -59,7 +59,7 @@ fn checked<K: Keep>(
     body: Bytes,
 ) -> Result<Task, Refusal>
     ensures looks { Looks K.rows K.clean K.sound keep.old keep.new }
-    ensures ok { K.clean keep.new → K.sound keep.old → Follows result (checked (K.rows keep.old asked.now.caller) asked.now content_md5.now body) }
+    ensures ok { K.clean keep.new → K.sound keep.old → Stands result (K.rows keep.old asked.now.caller) asked.now content_md5.now body }
     ensures range { IfOk result IsTaskInRange }
     ensures there { K.clean keep.new → K.sound keep.old → OnOk result (IsSome (K.rows keep.old asked.now.caller)) }
 {
@@ -73,14 +73,10 @@ fn checked<K: Keep>(
     if let Err(refusal) = in_reach(asked) {
         return Err(refusal);
     }
-    let found = match found(alloc, keep, &asked.caller, &asked.act) {
-        Ok(found) => found,
-        Err(refusal) => return Err(refusal),
-    };
-    if let Err(refusal) = digest_checked(content_md5, &body) {
-        return Err(refusal);
+    match judged(alloc, &asked.act, content_md5, &asked.lock_id, body) {
+        Ok(task) => Ok(task),
+        Err(refusal) => Err(missed(alloc, keep, &asked.caller, &asked.act, refusal)),
     }
-    task_of(alloc, found, &asked.lock_id, body)
 }
 
 /// A refusal: its word, and nothing changes.

@@ -6,13 +6,14 @@ ghost use Rattle.serve.specs.Exchanges.{Exchanges, ChangesAtMostOne};
 ghost use Rattle.serve.specs.Inner.Replying.{ended_of};
 ghost use Rattle.serve.specs.Inner.Taking.{IsTaken, RunsTo};
 ghost use Rattle.serve.specs.Asks.{Ask, commands, unattributed, operator};
-ghost use Rattle.serve.specs.Service.{IsText, Stays, Carries, said_to, AreAsked, IsAdminAnswer, org_lines};
+ghost use Rattle.serve.specs.Service.{IsSaidText, Stays, Carries, said_to, AreAsked, IsAdminAnswer, ListsAll, IsListedBy, org_lines};
 ghost use Rattle.serve.specs.Inner.Taking.{IsOnOne};
 ghost use Rattle.machine.specs.Keeping.{Looks};
+ghost use Rattle.machine.specs.declared.keeps.AdminAnswer.TheVariants.{Organizations};
 ghost use Rattle.machine.specs.declared.keeps.OrgRow.{OrgRow};
 ghost use Rattle.serve.specs.AbsentForms.{RepliesAreThoseOfAbsentForms, OutOfReachRepliesNotFound};
 ghost use Rattle.serve.specs.Book.{LocksKeepOthersOut, RunsKeepOthersOut, NoIdWhereNobodyHolds, LocksEndByUnlock, OneRunAtATime, StartsRise, RepeatsLeaveIt, DoneOnceIsDone, OfEachBook};
-ghost use Rattle.serve.specs.Runs.{IsOwnMachine, IsOwnRecord, AreOwnReplies};
+ghost use Rattle.serve.specs.Runs.{IsOwnMachine, IsOwnRecord, AreOwnReplies, ListsAreTold};
 
 use crate::commands::{admin_word, command, org_lines};
 use crate::exchanges::{LinkFault, exchange};
@@ -33,7 +34,7 @@ fn take_word<K: Keep>(alloc: Global, keep: &mut K, asked: &Admin) -> Result<Byte
     ensures so_far { K.clean keep.new → K.clean keep.old }
     ensures kept { K.clean keep.new → K.sound keep.old → K.sound keep.new }
     ensures ok { K.clean keep.new → K.sound keep.old → IfOk result (λ text. (at : ℕ) → Carries (commands at asked.now) (K.rows keep.old) (K.rows keep.new)
-        × (IsOnOne asked.now → IsText (said_to (K.rows keep.old) (commands at asked.now)) text)) }
+        × (IsOnOne asked.now → IsSaidText (said_to (K.rows keep.old) (commands at asked.now)) text)) }
     ensures err { K.clean keep.new → OnErr result (Stays (K.rows keep.old) (K.rows keep.new)) }
 {
     let mut text = Vec::with_capacity(alloc, MAX_ADMIN_WORD)?;
@@ -43,7 +44,7 @@ fn take_word<K: Keep>(alloc: Global, keep: &mut K, asked: &Admin) -> Result<Byte
 }
 
 fn list_lines(alloc: Global, answer: &AdminAnswer) -> Result<Bytes, Down>
-    ensures { IfOk result (λ text. (rows : List OrgRow) × (text ≡ org_lines rows)) }
+    ensures { IfOk result (λ text. (rows : List OrgRow) × (answer.now ≡ Organizations rows) × (text ≡ org_lines rows)) }
 {
     match answer {
         AdminAnswer::Organizations(rows) => Ok(Bytes::new(org_lines(alloc, rows.as_slice())?)),
@@ -54,7 +55,7 @@ fn list_lines(alloc: Global, answer: &AdminAnswer) -> Result<Bytes, Down>
 /// The list of all organizations, which changes nothing.
 fn take_list<K: Keep>(alloc: Global, keep: &mut K) -> Result<Bytes, Down>
     ensures looks { Looks K.rows K.clean K.sound keep.old keep.new }
-    ensures ok { IfOk result (λ text. (rows : List OrgRow) × (text ≡ org_lines rows)) }
+    ensures ok { K.clean keep.new → K.sound keep.old → IfOk result (ListsAll (K.rows keep.old)) }
 {
     let answer = keep.org_list(alloc)?;
     list_lines(alloc, &answer)
@@ -64,7 +65,7 @@ fn take_command<K: Keep>(alloc: Global, keep: &mut K, asked: &Admin) -> Result<B
     ensures so_far { K.clean keep.new → K.clean keep.old }
     ensures kept { K.clean keep.new → K.sound keep.old → K.sound keep.new }
     ensures ok { K.clean keep.new → K.sound keep.old → IfOk result (λ text. (at : ℕ) → Carries (commands at asked.now) (K.rows keep.old) (K.rows keep.new)
-        × IsText (said_to (K.rows keep.old) (commands at asked.now)) text) }
+        × IsSaidText (said_to (K.rows keep.old) (commands at asked.now)) text × IsListedBy (K.rows keep.old) asked.now text) }
     ensures err { K.clean keep.new → OnErr result (Stays (K.rows keep.old) (K.rows keep.new)) }
 {
     match asked {
@@ -220,6 +221,9 @@ impl<K: Keep> Service<K> {
             → Stays (K.rows self.old.keep) (K.rows self.new.keep) }
         ensures others { K.clean self.new.keep → K.sound self.old.keep → ChangesAtMostOne (K.rows self.old.keep) (K.rows self.new.keep) }
         ensures read { (I.broken inlet.new ≡ true) ↔ IsErrOf result LinkFault.Read }
+
+        // Where a read has told the input's end, it ended inside the message: an unfinished message is never answered.
+        ensures end { I.ended inlet.old ≡ false → ((I.ended inlet.new ≡ true) ↔ IsErrOf result LinkFault.Ended) }
         ensures written { (O.broken outlet.new ≡ true) ↔ (IsErrOf result LinkFault.Continue ⊎ IsErrOf result LinkFault.Write) }
         ensures taken { self.new.taken ≡ self.old.taken }
     {
@@ -292,9 +296,13 @@ impl<K: Keep> Service<K> {
         ensures unattributed { K.clean self.new.keep → K.sound self.old.keep → IfOk result (λ replies. (asked : List Ask) → AreAsked steps.now asked
             → AreOwnReplies asked (K.rows self.old.keep) replies.items unattributed) }
 
-        // The list of all organizations is outside of isolation: the replies to those steps are lists (`admin` says of which).
+        // The list of all organizations is outside of isolation: the replies to those steps are lists.
         ensures lists { K.clean self.new.keep → K.sound self.old.keep → IfOk result (λ replies. (asked : List Ask) → AreAsked steps.now asked
             → AreOwnReplies asked (K.rows self.old.keep) replies.items operator) }
+
+        // Each such list is that of the records at its step.
+        ensures lists_told { K.clean self.new.keep → K.sound self.old.keep → IfOk result (λ replies. (asked : List Ask) → AreAsked steps.now asked
+            → ListsAreTold (K.rows self.old.keep) asked replies.items) }
 
         // Also after `Down`, each organization's record is that of its own machine, run over its own steps of those taken.
         ensures rows { K.clean self.new.keep → K.sound self.old.keep → (asked : List Ask) → AreAsked (take self.new.taken steps.now) asked

@@ -12,7 +12,7 @@ use Rattle.wire.specs.declared.messages.WireFault.TheVariants.{Ended, Read, Cont
 use Rattle.wire.specs.Heads.{HeadEnd, Unfinished, Whole, head_end_of}
 use Rattle.wire.specs.Framing.{Verdict, refuses, accepts, IsJudged}
 use Rattle.wire.specs.Inner.Spans.{Frames}
-use Rattle.wire.specs.Messages.{Reading, unfinished, refused, whole, framed_message, reading_by, ReadsBy, Reads, AwaitsContinueBy, AwaitsContinue, IsAwaited}
+use Rattle.wire.specs.Messages.{Reading, unfinished, refused, whole, framed_message, reading_by, ReadsByEnd, Reads, AwaitsContinueBy, AwaitsContinue, IsAwaited}
 use Rattle.wire.specs.Links.{continue_text, continue_if, WritesPrefix, Writes, WritesContinue, ReportsReceived, ReportsInput}
 use Rattle.wire.specs.Inner.Bodies.{Finishes, refusal_fault}
 use Rattle.wire.proofs.LinkLemmas.{Appends-none}
@@ -32,7 +32,7 @@ judged_more received more n v h j = let J : List ℕ → Type 0 = λ head. IsJud
 pub rests : (received more : List ℕ) (n : ℕ) (v : Verdict) → head_end_of received ≡ Whole n → n ≤ length received → IsJudged (take n received) v
     → Reads (received ++ more) (reading_by v (drop n received ++ more))
 rests received more n v e h j =
-    let F : HeadEnd → Type 0 = λ head_end. ReadsBy head_end (received ++ more) (reading_by v (drop n received ++ more)) in
+    let F : HeadEnd → Type 0 = λ head_end. ReadsByEnd head_end (received ++ more) (reading_by v (drop n received ++ more)) in
     subst F (sym (head_end_is received more n e))
     (v, judged_more received more n v h j, ap (reading_by v) (sym (drop-append-le n received more h)))
 

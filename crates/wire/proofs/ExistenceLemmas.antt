@@ -9,11 +9,11 @@ use Rattle.wire.specs.declared.heads.TheConstants.{MAX_HEAD}
 use Rattle.wire.specs.declared.framing.TheConstants.{MAX_FEEDS}
 use Rattle.wire.specs.Heads.{HeadEnd, Unfinished, Long, Whole, head_end_by, head_end_of, head_len, feeds_of}
 use Rattle.wire.specs.Framing.{Verdict, verdict_of, malformed, crowded, parsed, parts_of, IsJudged}
-use Rattle.wire.specs.Messages.{Reading, unfinished, refused, reading_by, ReadsBy, Reads}
+use Rattle.wire.specs.Messages.{Reading, unfinished, refused, reading_by, ReadsByEnd, Reads}
 use Rattle.wire.proofs.HeadLemmas.{head_end_whole, long_some}
 
 by_head_end : (head_end : HeadEnd) (bytes : List ℕ) → ((n : ℕ) → head_end ≡ Whole n → (v : Verdict) × IsJudged (take n bytes) v)
-    → (r : Reading) × ReadsBy head_end bytes r
+    → (r : Reading) × ReadsByEnd head_end bytes r
 by_head_end Unfinished bytes f = (unfinished, refl)
 by_head_end Long bytes f = (refused HeadTooLarge false, refl)
 by_head_end (Whole n) bytes f = let j = f n refl in (reading_by j.0 (drop n bytes), (j.0, j.1, refl))

@@ -1,4 +1,4 @@
--- One field more: what it adds to the values of a name.
+-- One field more: what it adds to the field_values of a name.
 use Rattle.std.proofs.Common.{◌≡◌, ℕ, ◌+◌, ◌<◌, List, [], ◌∷◌, ◌++◌, length, take, get_or, Bool, true, false, cond, ◌||◌, refl, sym, ap, subst, ◌∙◌, arith, add-one, length-append}
 use Rattle.std.proofs.lemmas.List.{map-append}
 use Rattle.std.proofs.Math.Seq.{take-suc}
@@ -9,15 +9,15 @@ use Rattle.httparse.specs.declared.spans.HeaderSpan.{HeaderSpan}
 use Rattle.httparse.specs.Spans.{span_bytes, header_bytes, IsWithin}
 use Rattle.wire.specs.declared.fields.Lookup.{Lookup}
 use Rattle.wire.specs.declared.fields.Lookup.TheVariants.{Absent, Once, Again}
-use Rattle.wire.specs.Fields.{Fields, values, is_named, is_field, has_value}
+use Rattle.wire.specs.Fields.{Fields, field_values, is_named, is_field, has_value}
 use Rattle.wire.specs.Inner.Spans.{fields_at, LooksUp}
 
-values-append : (name : List ℕ) (xs ys : Fields) → values name (xs ++ ys) ≡ values name xs ++ values name ys
-values-append name [] ys = refl
-values-append name (f ∷ xs) ys = both (is_named name f) (values-append name xs ys)
+field_values-append : (name : List ℕ) (xs ys : Fields) → field_values name (xs ++ ys) ≡ field_values name xs ++ field_values name ys
+field_values-append name [] ys = refl
+field_values-append name (f ∷ xs) ys = both (is_named name f) (field_values-append name xs ys)
   where
-    both : (b : Bool) → values name (xs ++ ys) ≡ values name xs ++ values name ys
-        → cond b (f.1 ∷ values name (xs ++ ys)) (values name (xs ++ ys)) ≡ cond b (f.1 ∷ values name xs) (values name xs) ++ values name ys
+    both : (b : Bool) → field_values name (xs ++ ys) ≡ field_values name xs ++ field_values name ys
+        → cond b (f.1 ∷ field_values name (xs ++ ys)) (field_values name (xs ++ ys)) ≡ cond b (f.1 ∷ field_values name xs) (field_values name xs) ++ field_values name ys
     both true e = ap (λ z. f.1 ∷ z) e
     both false e = e
 
@@ -39,19 +39,19 @@ fields_more head spans i d h = rw (add-one, take-suc spans i d h) (map-append (h
 
 pub values_yes : (name head : List ℕ) (spans : List HeaderSpan) (i : ℕ) (d : HeaderSpan) (b : Bool) → i < length spans
     → b ≡ is_named name (header_bytes head (get_or spans i d)) → b ≡ true
-    → values name (fields_at head (take (i + 1) spans)) ≡ values name (fields_at head (take i spans)) ++ span_bytes head (get_or spans i d).value ∷ []
+    → field_values name (fields_at head (take (i + 1) spans)) ≡ field_values name (fields_at head (take i spans)) ++ span_bytes head (get_or spans i d).value ∷ []
 values_yes name head spans i d b h is t =
     let f = header_bytes head (get_or spans i d) in
-    ap (values name) (fields_more head spans i d h) ∙ values-append name (fields_at head (take i spans)) (f ∷ [])
-    ∙ ap (λ t. values name (fields_at head (take i spans)) ++ cond t (f.1 ∷ []) []) (sym is ∙ t)
+    ap (field_values name) (fields_more head spans i d h) ∙ field_values-append name (fields_at head (take i spans)) (f ∷ [])
+    ∙ ap (λ t. field_values name (fields_at head (take i spans)) ++ cond t (f.1 ∷ []) []) (sym is ∙ t)
 
 pub values_no : (name head : List ℕ) (spans : List HeaderSpan) (i : ℕ) (d : HeaderSpan) (b : Bool) → i < length spans
     → b ≡ is_named name (header_bytes head (get_or spans i d)) → b ≡ false
-    → values name (fields_at head (take (i + 1) spans)) ≡ values name (fields_at head (take i spans)) ++ []
+    → field_values name (fields_at head (take (i + 1) spans)) ≡ field_values name (fields_at head (take i spans)) ++ []
 values_no name head spans i d b h is t =
     let f = header_bytes head (get_or spans i d) in
-    ap (values name) (fields_more head spans i d h) ∙ values-append name (fields_at head (take i spans)) (f ∷ [])
-    ∙ ap (λ t. values name (fields_at head (take i spans)) ++ cond t (f.1 ∷ []) []) (sym is ∙ t)
+    ap (field_values name) (fields_more head spans i d h) ∙ field_values-append name (fields_at head (take i spans)) (f ∷ [])
+    ∙ ap (λ t. field_values name (fields_at head (take i spans)) ++ cond t (f.1 ∷ []) []) (sym is ∙ t)
 
 pub has_more : (name wanted head : List ℕ) (spans : List HeaderSpan) (i : ℕ) (d : HeaderSpan) (b : Bool) → i < length spans
     → b ≡ is_field name wanted (header_bytes head (get_or spans i d))

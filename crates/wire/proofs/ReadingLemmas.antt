@@ -5,7 +5,7 @@ use Rattle.std.proofs.lemmas.Bool.{leb-true, le-leb}
 use Rattle.httparse.proofs.GrammarLemmas.{request_unique}
 use Rattle.wire.specs.Heads.{HeadEnd, Unfinished, Long, Whole, head_end_of}
 use Rattle.wire.specs.Framing.{HeadParse, crowded, malformed, parsed, ParsesAs, parts_of, Verdict, refuses, accepts, verdict_of, IsJudged}
-use Rattle.wire.specs.Messages.{Reading, unfinished, whole, framed_message, reading_by, ReadsBy, Reads, AwaitsContinueBy, AwaitsContinue}
+use Rattle.wire.specs.Messages.{Reading, unfinished, whole, framed_message, reading_by, ReadsByEnd, Reads, AwaitsContinueBy, AwaitsContinue}
 use Rattle.wire.proofs.HeadLemmas.{head_end_more, head_end_within}
 
 pub parses_one : (head : List ℕ) (a b : HeadParse) → ParsesAs head a → ParsesAs head b → a ≡ b
@@ -24,7 +24,7 @@ parses_one head (parsed a) (parsed b) p q =
 pub judged_one : (head : List ℕ) (v w : Verdict) → IsJudged head v → IsJudged head w → v ≡ w
 judged_one head v w p q = p.2 ∙ ap verdict_of (parses_one head p.0 q.0 p.1 q.1) ∙ sym q.2
 
-reads_one_by : (head_end : HeadEnd) (bytes : List ℕ) (r s : Reading) → ReadsBy head_end bytes r → ReadsBy head_end bytes s → r ≡ s
+reads_one_by : (head_end : HeadEnd) (bytes : List ℕ) (r s : Reading) → ReadsByEnd head_end bytes r → ReadsByEnd head_end bytes s → r ≡ s
 reads_one_by Unfinished bytes r s p q = p ∙ sym q
 reads_one_by Long bytes r s p q = p ∙ sym q
 reads_one_by (Whole n) bytes r s p q =
@@ -53,7 +53,7 @@ by_more (accepts frame) rest more r e u = by_test (nat_le frame.body_len (length
     by_test false t = absurd (u (e ∙ rw t refl))
 
 reads_more_by : (head_end : HeadEnd) (bytes more : List ℕ) (r : Reading) → ((n : ℕ) → head_end ≡ Whole n → n ≤ length bytes)
-    → ReadsBy head_end bytes r → r ≢ unfinished → ReadsBy head_end (bytes ++ more) r
+    → ReadsByEnd head_end bytes r → r ≢ unfinished → ReadsByEnd head_end (bytes ++ more) r
 reads_more_by Unfinished bytes more r within p u = p
 reads_more_by Long bytes more r within p u = p
 reads_more_by (Whole n) bytes more r within p u =
@@ -65,12 +65,12 @@ reads_more_by (Whole n) bytes more r within p u =
     )
 
 open_head_end : (bytes : List ℕ) (r : Reading) → Reads bytes r → r ≢ unfinished → head_end_of bytes ≢ Unfinished
-open_head_end bytes r p u e = let F : HeadEnd → Type 0 = λ head_end. ReadsBy head_end bytes r in u (subst F e p)
+open_head_end bytes r p u e = let F : HeadEnd → Type 0 = λ head_end. ReadsByEnd head_end bytes r in u (subst F e p)
 
 -- once a string is read, bytes that follow change nothing
 pub reads_more : (bytes more : List ℕ) (r : Reading) → Reads bytes r → r ≢ unfinished → Reads (bytes ++ more) r
 reads_more bytes more r p u =
-    let F : HeadEnd → Type 0 = λ head_end. ReadsBy head_end (bytes ++ more) r in
+    let F : HeadEnd → Type 0 = λ head_end. ReadsByEnd head_end (bytes ++ more) r in
     subst F (sym (head_end_more bytes more (open_head_end bytes r p u)))
     (reads_more_by (head_end_of bytes) bytes more r (λ n e. head_end_within bytes n e) p u)
 

@@ -16,7 +16,7 @@ use Rattle.wire.specs.declared.framing.Frame.{Frame}
 use Rattle.wire.specs.declared.messages.Message.{Message}
 use Rattle.wire.specs.Heads.{has_feed, empty_line, text_len, head_len, HeadEnd, Whole, head_end_by, head_end_of, feeds_of}
 use Rattle.wire.specs.Framing.{Parts, parts_of, crowded, parsed, is_without_host, repeats_a_field, is_framed_twice, is_chunked, length_refusal, content_length, max_body, refusal_of, frame_of, Verdict, refuses, accepts, judged_by, judged}
-use Rattle.wire.specs.Messages.{unfinished, refused, whole, framed_message, reading_by, ReadsBy, Reads}
+use Rattle.wire.specs.Messages.{unfinished, refused, whole, framed_message, reading_by, ReadsByEnd, Reads}
 use Rattle.wire.specs.Targets.{origin_of, path_of, query_of}
 use Rattle.wire.specs.Retargeting.{RetargetedReads}
 use Rattle.wire.proofs.FeedLemmas.{count, count-append, feeds_blank, same_break}
@@ -183,7 +183,7 @@ printed_reads h behind is size few =
     let ends = printed_end h behind is size in
     let front : take (length (print_request h)) (print_request h ++ behind) ≡ print_request h = take-append_seam (print_request h) behind in
     let back : drop (length (print_request h)) (print_request h ++ behind) ≡ behind = drop-append_seam (print_request h) behind in
-    subst (λ (e : HeadEnd). ReadsBy e (print_request h ++ behind) (reading_by (judged (parts_of h)) behind)) (sym ends) (
+    subst (λ (e : HeadEnd). ReadsByEnd e (print_request h ++ behind) (reading_by (judged (parts_of h)) behind)) (sym ends) (
       judged (parts_of h),
       (
         parsed (parts_of h),
@@ -199,7 +199,7 @@ printed_reads h behind is size few =
 printed_crowded : (h : RequestHead) (behind : List ℕ) → IsRequestHead h → length (print_request h) ≤ MAX_HEAD → MAX_FEEDS < feeds_of (print_request h) → Reads (print_request h ++ behind) (refused HeadTooLarge false)
 printed_crowded h behind is size many =
     let front : take (length (print_request h)) (print_request h ++ behind) ≡ print_request h = take-append_seam (print_request h) behind in
-    subst (λ (e : HeadEnd). ReadsBy e (print_request h ++ behind) (refused HeadTooLarge false)) (sym (printed_end h behind is size))
+    subst (λ (e : HeadEnd). ReadsByEnd e (print_request h ++ behind) (refused HeadTooLarge false)) (sym (printed_end h behind is size))
     (refuses HeadTooLarge false, (crowded, subst (λ (head : List ℕ). MAX_FEEDS < feeds_of head) (sym front) many, refl), refl)
 
 -- the verdict doesn't hang on the target, where it has one of its forms

@@ -10,7 +10,7 @@ use Rattle.basis.specs.declared.refusals.Refusal.TheVariants.{BadMessage, NoLeng
 use Rattle.wire.specs.declared.framing.TheConstants.{MAX_FEEDS, MAX_STATE_BODY, MAX_OTHER_BODY}
 use Rattle.wire.specs.declared.framing.Frame.{Frame}
 use Rattle.wire.specs.Heads.{feeds_of}
-use Rattle.wire.specs.Fields.{Fields, has_value, is_there, stands_twice, value_of}
+use Rattle.wire.specs.Fields.{Fields, has_value, has_field, stands_twice, value_of}
 use Rattle.wire.specs.Targets.{origin_of, path_of, query_of}
 
 -- the request line and the fields, each with its name and its value without the white space around it
@@ -37,7 +37,7 @@ ParsesAs head (parsed parts) =
 
 -- HTTP/1.1 without a host, or two hosts
 abbrev pub is_without_host : ℕ → Fields → Bool
-is_without_host minor fields = (minor == 1 && not (is_there (codes "host") fields)) || stands_twice (codes "host") fields
+is_without_host minor fields = (minor == 1 && not (has_field (codes "host") fields)) || stands_twice (codes "host") fields
 
 -- two fields of a name that may stand once
 abbrev pub repeats_a_field : Fields → Bool
@@ -47,11 +47,11 @@ repeats_a_field fields =
     || stands_twice (codes "content-md5") fields
 
 abbrev pub is_chunked : Fields → Bool
-is_chunked fields = is_there (codes "transfer-encoding") fields
+is_chunked fields = has_field (codes "transfer-encoding") fields
 
 -- a body with a length and chunks
 abbrev pub is_framed_twice : Fields → Bool
-is_framed_twice fields = is_chunked fields && is_there (codes "content-length") fields
+is_framed_twice fields = is_chunked fields && has_field (codes "content-length") fields
 
 -- one decimal digit or more
 abbrev pub is_length : List ℕ → Bool

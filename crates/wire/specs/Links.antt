@@ -1,10 +1,15 @@
 -- What a reader gave and a writer took, and what the reading of a message reports.
-use Rattle.std.specs.Prelude.{◌≡◌, ℕ, ◌<◌, List, [], ◌∷◌, ◌++◌, length, Bool, true, false, Option, Result, Ok, Err, codes, ⊤}
+use Rattle.std.specs.Prelude.{◌≡◌, ℕ, ◌<◌, nat_lt, ◌==◌, ◌&&◌, List, [], ◌∷◌, ◌++◌, length, Bool, true, false, Option, Result, Ok, Err, codes, ⊤}
 use Rattle.std.specs.Io.KnownBytes.{Appends, IsAtEnd}
 use Rattle.wire.specs.declared.messages.Message.{Message}
 use Rattle.wire.specs.declared.messages.WireFault.{WireFault}
 use Rattle.wire.specs.declared.messages.WireFault.TheVariants.{Ended, Read, Continue, Refused, Down}
 use Rattle.wire.specs.Messages.{Reads, unfinished, refused, whole, AwaitsContinue, IsAwaited}
+
+-- a read told the end of the input: it gave nothing, and there was room
+abbrev pub tells_end : {E : Type 0} → Result ℕ E → ℕ → Bool
+tells_end (Ok count) room = count == 0 && nat_lt 0 room
+tells_end (Err fault) room = false
 
 -- CR LF
 abbrev pub line_end : List ℕ

@@ -29,14 +29,14 @@ reading_by (refuses refusal is_head) rest = refused refusal is_head
 reading_by (accepts frame) rest =
     if nat_le frame.body_len (length rest) then whole (framed_message frame (take frame.body_len rest)) frame.awaits_continue else unfinished
 
-abbrev pub ReadsBy : HeadEnd → List ℕ → Reading → Type 0
-ReadsBy Unfinished bytes reading = reading ≡ unfinished
-ReadsBy Long bytes reading = reading ≡ refused HeadTooLarge false
-ReadsBy (Whole n) bytes reading =
+abbrev pub ReadsByEnd : HeadEnd → List ℕ → Reading → Type 0
+ReadsByEnd Unfinished bytes reading = reading ≡ unfinished
+ReadsByEnd Long bytes reading = reading ≡ refused HeadTooLarge false
+ReadsByEnd (Whole n) bytes reading =
     (verdict : Verdict) × IsJudged (take n bytes) verdict × (reading ≡ reading_by verdict (drop n bytes))
 
 abbrev pub Reads : List ℕ → Reading → Type 0
-Reads bytes reading = ReadsBy (head_end_of bytes) bytes reading
+Reads bytes reading = ReadsByEnd (head_end_of bytes) bytes reading
 
 -- the head is whole and not refused, and the client awaits a `100 Continue` (RFC 9110, section 10.1.1)
 abbrev pub AwaitsContinueBy : HeadEnd → List ℕ → Type 0

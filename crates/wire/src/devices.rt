@@ -1,7 +1,8 @@
 //! What a message is read from and a reply is written to.
-ghost use Rattle.std.specs.Prelude.{◌≡◌, ℕ, ◌<◌, List, Bool, false, length, Option, IfOk, is_err};
+ghost use Rattle.std.specs.Prelude.{◌≡◌, ◌||◌, ℕ, ◌<◌, List, Bool, false, length, Option, Ok, IfOk, is_err};
 ghost use Rattle.std.specs.Io.{ReadsAtMost, WritesAtMost};
 ghost use Rattle.std.specs.Io.KnownBytes.{ReadConsumes, WriteAppends};
+ghost use Rattle.wire.specs.Links.{tells_end};
 
 use std::error::Error;
 use std::fmt;
@@ -30,6 +31,9 @@ pub trait Inlet {
 
     ghost broken: { Self → Bool };
 
+    // A read has told the input's end.
+    ghost ended: { Self → Bool };
+
     fn failed(&self) -> bool
         ensures { result ≡ broken self.now };
 
@@ -38,6 +42,7 @@ pub trait Inlet {
         requires { broken self.old ≡ false }
         ensures bound { ReadsAtMost result buf.new }
         ensures bytes { ReadConsumes (left self.old) (left self.new) result buf.new }
+        ensures end { ended self.new ≡ (tells_end result (length buf.new) || ended self.old) }
         ensures cause { broken self.new ≡ is_err result };
 }
 
@@ -60,21 +65,31 @@ pub trait Outlet {
         ensures cause { broken self.new ≡ is_err result };
 }
 
+/// Whether a read told the input's end: it gave nothing into a buffer that has room.
+pub fn tells_end(count: usize, room: usize) -> bool
+    ensures { result ≡ tells_end {E = Broken} (Ok count) room }
+{
+    count == 0 && room > 0
+}
+
 /// A reader of std.
 #[derive(Drop)]
 pub struct FromRead<R: Read> {
     reader: R,
     has_failed: bool,
+    has_ended: bool,
 }
 
 impl<R: Read> FromRead<R> {
     pub fn new(reader: R) -> FromRead<R>
         ensures sound { ⟦<FromRead<R> as Inlet>⟧.broken result ≡ false }
+        ensures goes_on { ⟦<FromRead<R> as Inlet>⟧.ended result ≡ false }
         ensures left { ⟦<FromRead<R> as Inlet>⟧.left result ≡ R.remaining reader }
     {
         FromRead {
             reader,
             has_failed: false,
+            has_ended: false,
         }
     }
 
@@ -90,13 +105,18 @@ impl<R: Read> Inlet for FromRead<R> {
 
     ghost broken = { λ s. s.has_failed };
 
+    ghost ended = { λ s. s.has_ended };
+
     fn failed(&self) -> bool {
         self.has_failed
     }
 
     fn read(&mut self, buf: &mut [u8]) -> Result<usize, Broken> {
         match self.reader.read(buf) {
-            Ok(count) => Ok(count),
+            Ok(count) => {
+                self.has_ended = tells_end(count, buf.len()) || self.has_ended;
+                Ok(count)
+            }
             Err(_) => {
                 self.has_failed = true;
                 Err(Broken)

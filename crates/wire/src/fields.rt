@@ -3,7 +3,7 @@ ghost use Rattle.std.specs.Prelude.{◌≡◌, ◌<◌, ◌≤◌, ◌^◌, ℕ,
 ghost use Rattle.std.specs.Option.{option_copied};
 ghost use Rattle.std.specs.Str.{str_eq_ignore_ascii_case};
 ghost use Rattle.httparse.specs.Spans.{header_bytes, IsHeaderWithin};
-ghost use Rattle.wire.specs.Fields.{values, is_named, is_there, stands_twice, value_of, has_value, is_field};
+ghost use Rattle.wire.specs.Fields.{field_values, is_named, has_field, stands_twice, value_of, has_value, is_field};
 ghost use Rattle.wire.specs.Inner.Spans.{fields_at, AreWithin, LooksUp};
 
 use httparse::spans::{HeaderSpan, Span};
@@ -18,7 +18,7 @@ pub enum Lookup {
 
 pub fn look_up(head: &[u8], fields: &[HeaderSpan], name: &[u8]) -> Lookup
     requires { AreWithin head.now fields.now }
-    ensures { LooksUp head.now (values name.now (fields_at head.now fields.now)) result }
+    ensures { LooksUp head.now (field_values name.now (fields_at head.now fields.now)) result }
 {
     let mut found = Lookup::Absent;
     for field in fields {
@@ -45,7 +45,7 @@ pub fn value<'b>(head: &'b [u8], fields: &[HeaderSpan], name: &[u8]) -> Option<&
 
 pub fn is_there(head: &[u8], fields: &[HeaderSpan], name: &[u8]) -> bool
     requires { AreWithin head.now fields.now }
-    ensures { result ≡ is_there name.now (fields_at head.now fields.now) }
+    ensures { result ≡ has_field name.now (fields_at head.now fields.now) }
 {
     match look_up(head, fields, name) {
         Lookup::Absent => false,

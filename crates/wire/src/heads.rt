@@ -39,6 +39,7 @@ pub fn read_head<I: Inlet>(alloc: Global, inlet: &mut I) -> Result<ReceivedHead,
     requires { I.broken inlet.old ≡ false }
     ensures found { (received : List ℕ) × Consumes (I.left inlet.old) (I.left inlet.new) received × Finds received (I.left inlet.new) result }
     ensures cause { (I.broken inlet.new ≡ true) ↔ IsErrOf result HeadFault.Failed }
+    ensures end { I.ended inlet.old ≡ false → ((I.ended inlet.new ≡ true) ↔ IsErrOf result HeadFault.Ended) }
 {
     let mut bytes = Vec::new(alloc);
     let mut chunk = [0; CHUNK];

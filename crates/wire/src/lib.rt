@@ -15,7 +15,7 @@ mod replies;
 mod sending;
 mod targets;
 
-pub use devices::{Broken, FromRead, Inlet, Outlet, ToWrite};
+pub use devices::{Broken, FromRead, Inlet, Outlet, ToWrite, tells_end};
 pub use laws::{one_reading, one_text, retargeted_reads, some_reading, stays_awaited, stays_read};
 pub use messages::{Message, WireFault};
 pub use reading::read_message;

@@ -34,6 +34,7 @@ pub fn read_message<I: Inlet, O: Outlet>(
         × ReportsReceived received (I.left inlet.new) (O.written outlet.old) (O.written outlet.new) result }
     ensures known { IfSome (I.left inlet.old) (λ bytes. ReportsInput bytes (O.written outlet.old) (O.written outlet.new) result) }
     ensures read { (I.broken inlet.new ≡ true) ↔ IsErrOf result WireFault.Read }
+    ensures end { I.ended inlet.old ≡ false → ((I.ended inlet.new ≡ true) ↔ IsErrOf result WireFault.Ended) }
     ensures written { (O.broken outlet.new ≡ true) ↔ IsErrOf result WireFault.Continue }
 {
     read_through(alloc, inlet, outlet)
@@ -50,6 +51,7 @@ fn read_through<I: Inlet, O: Outlet>(
     ensures answer { (received : List ℕ) × Consumes (I.left inlet.old) (I.left inlet.new) received
         × ReportsReceived received (I.left inlet.new) (O.written outlet.old) (O.written outlet.new) result }
     ensures read { (I.broken inlet.new ≡ true) ↔ IsErrOf result WireFault.Read }
+    ensures end { I.ended inlet.old ≡ false → ((I.ended inlet.new ≡ true) ↔ IsErrOf result WireFault.Ended) }
     ensures written { (O.broken outlet.new ≡ true) ↔ IsErrOf result WireFault.Continue }
 {
     match read_head(alloc, inlet) {
@@ -72,6 +74,7 @@ fn read_on<I: Inlet, O: Outlet>(
     ensures answer { (received : List ℕ) × Consumes (I.left inlet.old) (I.left inlet.new) received
         × ReportsReceived (received_head.bytes ++ received) (I.left inlet.new) (O.written outlet.old) (O.written outlet.new) result }
     ensures read { (I.broken inlet.new ≡ true) ↔ IsErrOf result WireFault.Read }
+    ensures end { I.ended inlet.old ≡ false → ((I.ended inlet.new ≡ true) ↔ IsErrOf result WireFault.Ended) }
     ensures written { (O.broken outlet.new ≡ true) ↔ IsErrOf result WireFault.Continue }
 {
     let (head, rest) = received_head.bytes.as_slice().split_at(received_head.len);
@@ -94,6 +97,7 @@ fn finish<I: Inlet, O: Outlet>(
     ensures finished { (received : List ℕ) × Consumes (I.left inlet.old) (I.left inlet.new) received
         × Finishes frame (rest.now ++ received) (I.left inlet.new) (O.written outlet.old) (O.written outlet.new) result }
     ensures read { (I.broken inlet.new ≡ true) ↔ IsErrOf result WireFault.Read }
+    ensures end { I.ended inlet.old ≡ false → ((I.ended inlet.new ≡ true) ↔ IsErrOf result WireFault.Ended) }
     ensures written { (O.broken outlet.new ≡ true) ↔ IsErrOf result WireFault.Continue }
 {
     let Some(mut body) = begun(alloc, frame.body_len, rest) else {
@@ -144,6 +148,7 @@ fn fill<I: Inlet>(body: &mut Vec<u8>, len: usize, inlet: &mut I) -> Result<(), B
     ensures filled { (received : List ℕ) × Consumes (I.left inlet.old) (I.left inlet.new) received
         × Fills (body.old.items ++ received) len (I.left inlet.new) body.new.items result }
     ensures cause { (I.broken inlet.new ≡ true) ↔ (result ≡ Err BodyFault.Failed) }
+    ensures end { I.ended inlet.old ≡ false → ((I.ended inlet.new ≡ true) ↔ (result ≡ Err BodyFault.Ended)) }
 {
     let mut chunk = [0; CHUNK];
     'filling: while body.len() < len {

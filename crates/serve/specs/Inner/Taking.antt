@@ -5,8 +5,8 @@ use Rattle.serve.specs.declared.steps.Step.{Step}
 use Rattle.serve.specs.declared.steps.Admin.{Admin}
 use Rattle.serve.specs.declared.steps.Admin.TheVariants.{OrgAdd, OrgLimit, OrgList, TokenAdd, TokenRevoke}
 use Rattle.serve.specs.Asks.{Ask, Owner, silent, requests, commands}
-use Rattle.serve.specs.Service.{IsAsked, AreAsked, Carries, said_to, IsText}
-use Rattle.serve.specs.Runs.{IsOwnRecord, AreOwnReplies}
+use Rattle.serve.specs.Service.{IsAsked, AreAsked, Carries, said_to, IsSaidText, IsListed}
+use Rattle.serve.specs.Runs.{IsOwnRecord, AreOwnReplies, ListsAreTold}
 use Rattle.std.specs.List.{AllByRecursion}
 use Rattle.machine.specs.Ranges.{IsMoment}
 use Rattle.serve.specs.Asks as ask
@@ -24,7 +24,8 @@ pub record IsTaken (s : Step) (text : List ℕ) (old new : List ℕ → Option O
   pub is : IsAsked s ask
   pub timely : IsTimely ask
   pub carries : Carries ask old new
-  pub text_is : IsText (said_to old ask) text
+  pub text_is : IsSaidText (said_to old ask) text
+  pub listed : IsListed old ask text
 
 pub record RunsTo (steps : List Step) (old new : List ℕ → Option Organization) (replies : List (List ℕ)) : Type 0 where
   pub asked : List Ask
@@ -32,6 +33,7 @@ pub record RunsTo (steps : List Step) (old new : List ℕ → Option Organizatio
   pub timely : AllByRecursion IsTimely asked
   pub rows : (org : List ℕ) → IsOwnRecord asked old new org
   pub texts : (owner : Owner) → AreOwnReplies asked old replies owner
+  pub listed : ListsAreTold old asked replies
 
 -- a command on one organization
 abbrev pub IsOnOne : Admin → Type 0

@@ -1,4 +1,4 @@
-use Rattle.serve.proofs.ExchangeLemmas.{all_written, part_written, no_reply}
+use Rattle.serve.proofs.ExchangeLemmas.{all_written, part_written}
 use Rattle.serve.proofs.exchanges.exchange.Goals as goal
 
 pub returns-in-Ok-write_reply-clause-told : goal.returns-in-Ok-write_reply-clause-told

@@ -7,17 +7,19 @@ use Rattle.serve.proofs.ExchangeLemmas.{served_reply, unavailable_message, answe
 use Rattle.serve.proofs.exchanges.reply_to.Goals as goal
 
 pub returns-in-Ok-answer-clause-ok : goal.returns-in-Ok-answer-clause-ok
-returns-in-Ok-answer-clause-ok g c = λ clean sound received left before after.
-    served_reply c.args.now received left before after c.in-Ok.message c.args.read (g.K.Keep.rows c.args.keep.now) (g.K.Keep.rows c.answer.new.keep) c.in-Ok-answer.reply c.in-Ok.is (c.in-Ok-answer.ensures.ok clean sound)
+returns-in-Ok-answer-clause-ok g c = λ clean sound.
+    subst (λ (r : Result Message WireFault). RepliesTo c.args.now r (g.K.Keep.rows c.args.keep.now) (g.K.Keep.rows c.answer.new.keep) c.in-Ok-answer.reply) (sym c.in-Ok.is)
+    (served_reply c.args.now c.in-Ok.message (g.K.Keep.rows c.args.keep.now) (g.K.Keep.rows c.answer.new.keep) c.in-Ok-answer.reply (c.in-Ok-answer.ensures.ok clean sound))
 
 pub returns-in-Ok-answer-clause-others : goal.returns-in-Ok-answer-clause-others
 returns-in-Ok-answer-clause-others g c = λ clean sound.
     answered_one c.args.now c.in-Ok.message (g.K.Keep.rows c.args.keep.now) (g.K.Keep.rows c.answer.new.keep) c.in-Ok-answer.reply (c.in-Ok-answer.ensures.ok clean sound)
 
 pub returns-in-Err-answer-clause-ok : goal.returns-in-Err-answer-clause-ok
-returns-in-Err-answer-clause-ok g c = λ clean sound received left before after.
-    unavailable_message c.args.now received left before after c.in-Ok.message c.args.read c.is_head-is_head.result (g.K.Keep.rows c.args.keep.now) (g.K.Keep.rows c.answer.new.keep) c.unavailable.result c.in-Ok.is
-    c.is_head-is_head.ensures (c.in-Err-answer.ensures.err clean) c.unavailable.ensures
+returns-in-Err-answer-clause-ok g c = λ clean sound.
+    subst (λ (r : Result Message WireFault). RepliesTo c.args.now r (g.K.Keep.rows c.args.keep.now) (g.K.Keep.rows c.answer.new.keep) c.unavailable.result) (sym c.in-Ok.is)
+    (unavailable_message c.args.now c.in-Ok.message c.is_head-is_head.result (g.K.Keep.rows c.args.keep.now) (g.K.Keep.rows c.answer.new.keep) c.unavailable.result c.is_head-is_head.ensures
+    (c.in-Err-answer.ensures.err clean) c.unavailable.ensures)
 
 pub returns-in-Err-answer-clause-others : goal.returns-in-Err-answer-clause-others
 returns-in-Err-answer-clause-others g c = λ clean sound. stayed_one (g.K.Keep.rows c.args.keep.now) (g.K.Keep.rows c.answer.new.keep) (c.in-Err-answer.ensures.err clean)

@@ -1,4 +1,4 @@
-use Rattle.std.proofs.Common.{Bool, false}
+use Rattle.std.proofs.Common.{false}
 use Rattle.route.specs.Asks.{asked_of}
 use Rattle.serve.specs.Service.{asked_by}
 use Rattle.serve.proofs.TakenLemmas.{prepared_after, message_taken}

@@ -1,47 +1,30 @@
-use Rattle.std.proofs.Common.{Ok, Err, IsSome, Option, Some, IfOk, subst, sym, ◌≡◌, ◌∙◌, refl}
-use Rattle.basis.specs.Inner.Checks.{Follows}
+use Rattle.std.proofs.Common.{Err, IsSome, Option, ap, subst, sym, ◌≡◌, ◌∙◌, refl}
 use Rattle.machine.specs.declared.records.Organization.{Organization}
-use Rattle.serve.specs.Checks.{found, digest_checked, task_of}
-use Rattle.serve.proofs.CheckLemmas.{past_reach, after_ok, after_err, after_names, role_there}
+use Rattle.serve.specs.Steps.{carried}
+use Rattle.serve.specs.Inner.Judging.{missed}
+use Rattle.serve.proofs.CheckLemmas.{past_reach, after_reach, role_there}
+use Rattle.serve.proofs.JudgingLemmas.{judged_stands, missed_stands}
 use Rattle.serve.proofs.requests.checked.Goals as goal
 
-pub returns-in-Err-found-clause-ok : goal.returns-in-Err-found-clause-ok
-returns-in-Err-found-clause-ok g c = λ clean sound apart.
+pub returns-in-Ok-judged-clause-ok : goal.returns-in-Ok-judged-clause-ok
+returns-in-Ok-judged-clause-ok g c = λ clean sound now.
     let asked = c.args.asked.now in
     let r = g.K.Keep.rows c.args.keep.now asked.caller in
-    let before : g.K.Keep.clean c.known_caller.new.keep = c.found.ensures.looks.so_far clean in
-    let known = c.in-Ok.ensures.ok before sound in
-    let same : g.K.Keep.rows c.known_caller.new.keep asked.caller ≡ r = c.known_caller.ensures.looks.same before asked.caller in
-    let some : IsSome (g.K.Keep.rows c.known_caller.new.keep asked.caller) = subst IsSome (sym same) (role_there r asked c.in-Ok.caller known) in
-    let missed = c.in-Err-found.ensures.ok clean (c.known_caller.ensures.looks.kept before sound) some apart in
-    past_reach r asked c.args.content_md5.now c.args.body c.in-Ok.caller (Err c.in-Err-found.refusal) known (sym c.allowed.ensures ∙ c.in_default.is) (sym c.in_reach.ensures ∙ c.in_default-in_reach.is)
-    (after_err (found r asked.act) (after_names asked c.args.content_md5.now c.args.body) c.in-Err-found.refusal (subst (λ (x : Option Organization). found x asked.act ≡ Err c.in-Err-found.refusal) same missed))
+    let known = c.in-Ok.ensures.ok clean sound in
+    let reached = past_reach r asked c.args.content_md5.now c.args.body c.in-Ok.caller (after_reach r asked c.args.content_md5.now c.args.body) known
+    (sym c.allowed.ensures ∙ c.in_default.is) (sym c.in_reach.ensures ∙ c.in_default-in_reach.is) refl in
+    judged_stands asked.caller r asked.act c.args.content_md5.now asked.lock_id c.args.body c.in-Ok-judged.task (role_there r asked c.in-Ok.caller known) c.in-Ok-judged.ensures.ok now
+    ∙ ap (carried asked.caller now r) (sym reached)
 
-pub returns-in-Err-digest_checked-clause-ok : goal.returns-in-Err-digest_checked-clause-ok
-returns-in-Err-digest_checked-clause-ok g c = λ clean sound apart.
+pub returns-in-Err-judged-clause-ok : goal.returns-in-Err-judged-clause-ok
+returns-in-Err-judged-clause-ok g c = λ clean sound apart.
     let asked = c.args.asked.now in
     let r = g.K.Keep.rows c.args.keep.now asked.caller in
-    let before : g.K.Keep.clean c.known_caller.new.keep = c.found.ensures.looks.so_far clean in
+    let before : g.K.Keep.clean c.known_caller.new.keep = c.missed.ensures.looks.so_far clean in
     let known = c.in-Ok.ensures.ok before sound in
     let same : g.K.Keep.rows c.known_caller.new.keep asked.caller ≡ r = c.known_caller.ensures.looks.same before asked.caller in
     let some : IsSome (g.K.Keep.rows c.known_caller.new.keep asked.caller) = subst IsSome (sym same) (role_there r asked c.in-Ok.caller known) in
-    let met = c.in-Ok-found.ensures.ok clean (c.known_caller.ensures.looks.kept before sound) some in
-    past_reach r asked c.args.content_md5.now c.args.body c.in-Ok.caller (Err c.in-Err-digest_checked.refusal) known (sym c.allowed.ensures ∙ c.in_default.is) (sym c.in_reach.ensures ∙ c.in_default-in_reach.is)
-    (after_ok (found r asked.act) (after_names asked c.args.content_md5.now c.args.body) c.in-Ok-found.found (Err c.in-Err-digest_checked.refusal)
-    (subst (λ (x : Option Organization). found x asked.act ≡ Ok c.in-Ok-found.found) same met)
-    (after_err (digest_checked c.args.content_md5.now c.args.body) _ c.in-Err-digest_checked.refusal (sym c.digest_checked.ensures ∙ c.in-Err-digest_checked.is)))
-
-pub returns-clause-ok : goal.returns-clause-ok
-returns-clause-ok g c = λ clean sound.
-    let asked = c.args.asked.now in
-    let r = g.K.Keep.rows c.args.keep.now asked.caller in
-    let before : g.K.Keep.clean c.known_caller.new.keep = c.found.ensures.looks.so_far clean in
-    let known = c.in-Ok.ensures.ok before sound in
-    let same : g.K.Keep.rows c.known_caller.new.keep asked.caller ≡ r = c.known_caller.ensures.looks.same before asked.caller in
-    let some : IsSome (g.K.Keep.rows c.known_caller.new.keep asked.caller) = subst IsSome (sym same) (role_there r asked c.in-Ok.caller known) in
-    let met = c.in-Ok-found.ensures.ok clean (c.known_caller.ensures.looks.kept before sound) some in
-    let made = task_of c.in-Ok-found.found asked.lock_id c.args.body in
-    subst (Follows c.task_of.result) (sym (past_reach r asked c.args.content_md5.now c.args.body c.in-Ok.caller made known (sym c.allowed.ensures ∙ c.in_default.is) (sym c.in_reach.ensures ∙ c.in_default-in_reach.is)
-    (after_ok (found r asked.act) (after_names asked c.args.content_md5.now c.args.body) c.in-Ok-found.found made
-    (subst (λ (x : Option Organization). found x asked.act ≡ Ok c.in-Ok-found.found) same met)
-    (after_ok (digest_checked c.args.content_md5.now c.args.body) _ tt made (sym c.digest_checked.ensures ∙ c.in_default-digest_checked.is) refl)))) c.task_of.ensures.ok
+    let missing = c.missed.ensures.ok clean (c.known_caller.ensures.looks.kept before sound) some apart in
+    past_reach r asked c.args.content_md5.now c.args.body c.in-Ok.caller (Err c.missed.result) known (sym c.allowed.ensures ∙ c.in_default.is) (sym c.in_reach.ensures ∙ c.in_default-in_reach.is)
+    (missed_stands r asked.act c.args.content_md5.now asked.lock_id c.args.body c.in-Err-judged.refusal (c.in-Err-judged.ensures.ok (c.missed.ensures.known apart))
+    ∙ ap Err (ap (λ (x : Option Organization). missed x asked.act c.in-Err-judged.refusal) (sym same) ∙ sym missing))

@@ -1,9 +1,7 @@
-use Rattle.std.proofs.Common.{Ok, Err, Result, IsSome, Option, subst, sym, ◌≡◌, ap}
-use Rattle.basis.specs.declared.refusals.Refusal.{Refusal}
+use Rattle.std.proofs.Common.{Ok, IsSome, Option, subst, sym, ◌≡◌, ap}
 use Rattle.machine.specs.declared.records.Organization.{Organization}
 use Rattle.serve.specs.Steps.{carried}
 use Rattle.serve.specs.Inner.Prepared.{Foresees}
-use Rattle.serve.specs.declared.prepared.Task.{Task}
 use Rattle.serve.proofs.RecordLemmas.{if_ok, refused_after}
 use Rattle.serve.proofs.requests.request.Goals as goal
 
@@ -16,7 +14,7 @@ returns-in-Ok-clause-ok g c = λ clean sound.
     let some : IsSome (g.K.Keep.rows c.checked.new.keep org) = subst IsSome (sym same) (c.in-Ok.ensures.there before sound) in
     if_ok c.perform.result
     (λ p foreseen.
-    subst (λ (x : Result Task Refusal). Foresees r org (carried org c.args.at r x) p) (sym (c.in-Ok.ensures.ok before sound))
+    subst (λ answered. Foresees r org answered p) (c.in-Ok.ensures.ok before sound c.args.at)
     (subst (λ (x : Option Organization). Foresees x org (carried org c.args.at x (Ok c.in-Ok.task)) p) same (foreseen some c.in-Ok.ensures.range)))
     (c.perform.ensures.ok clean (c.checked.ensures.looks.kept before sound))
 

@@ -5,6 +5,7 @@ use Rattle.wire.proofs.reading.fill.Given as goal
 abbrev pub invariant-filling : goal.invariant-filling
 invariant-filling g l = record {
   sound : g.I.Inlet.broken l.inlet ≡ false;
+  goes_on : g.I.Inlet.ended l.initial.inlet ≡ false → g.I.Inlet.ended l.inlet ≡ false;
   received : (received : List ℕ) × Consumes (g.I.Inlet.left l.initial.inlet) (g.I.Inlet.left l.inlet) received × (l.body.items ≡ l.initial.body.items ++ received);
   short : length l.body.items ≤ l.len;
   room : l.len ≤ vec_capacity l.body;

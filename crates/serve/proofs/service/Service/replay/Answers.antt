@@ -1,5 +1,5 @@
 use Rattle.serve.specs.Asks.{unattributed, operator}
-use Rattle.serve.proofs.RunLemmas.{replies_given, orgs_given, rows_by}
+use Rattle.serve.proofs.RunLemmas.{replies_given, lists_given, orgs_given, rows_by}
 use Rattle.serve.proofs.service.Service.replay.Goals as goal
 use Rattle.serve.proofs.AbsentLemmas.{absent_forms, out_of_reach, each_reply}
 use Rattle.serve.proofs.BookLemmas as book
@@ -18,6 +18,10 @@ returns-clause-unattributed g c = λ clean sound.
 pub returns-clause-lists : goal.returns-clause-lists
 returns-clause-lists g c = λ clean sound.
     replies_given c.args.steps.now c.run_all.new.self.taken (g.K.Keep.rows c.args.self.now.keep) (g.K.Keep.rows c.run_all.new.self.keep) c.run_all.result (c.run_all.ensures.ran clean sound) c.run_all.ensures.all operator
+
+pub returns-clause-lists_told : goal.returns-clause-lists_told
+returns-clause-lists_told g c = λ clean sound.
+    lists_given c.args.steps.now c.run_all.new.self.taken (g.K.Keep.rows c.args.self.now.keep) (g.K.Keep.rows c.run_all.new.self.keep) c.run_all.result (c.run_all.ensures.ran clean sound) c.run_all.ensures.all
 
 pub returns-clause-rows : goal.returns-clause-rows
 returns-clause-rows g c = λ clean sound asked are org.

@@ -1,0 +1,36 @@
+-- When two records hold the same things, in whatever order these were made: then they are equal.
+use Rattle.std.specs.Prelude.{◌≡◌, ◌↔◌, ◌⊎◌, ℕ, List, [], ◌∷◌, Option, Some, None, ⊤}
+use Rattle.std.specs.FinMap.{get}
+use Rattle.machine.specs.Laws.{IsLawfulOrganization}
+use Rattle.machine.specs.declared.records.Version.{Version}
+use Rattle.machine.specs.declared.records.Run.{Run}
+use Rattle.machine.specs.declared.records.Workspace.{Workspace}
+use Rattle.machine.specs.declared.records.Organization.{Organization}
+
+-- one of the list
+abbrev pub IsOneOf : {A : Type 0} → A → List A → Type 0
+IsOneOf x [] = ⊥
+IsOneOf x (y ∷ ys) = (x ≡ y) ⊎ IsOneOf x ys
+
+-- the same settings, holder, numbers and released ID; and what is a version or a run of the one is one of the other
+pub record HoldTheSame (w v : Workspace) : Type 0 where
+  pub settings : w.settings ≡ v.settings
+  pub holder : w.holder ≡ v.holder
+  pub released : w.released ≡ v.released
+  pub next_version : w.next_version ≡ v.next_version
+  pub next_run : w.next_run ≡ v.next_run
+  pub versions : (x : Version) → IsOneOf x w.versions ↔ IsOneOf x v.versions
+  pub runs : (x : Run) → IsOneOf x w.runs ↔ IsOneOf x v.runs
+
+-- both are there and hold the same, or neither is there
+abbrev pub HoldTheSameIfThere : Option Workspace → Option Workspace → Type 0
+HoldTheSameIfThere None None = ⊤
+HoldTheSameIfThere None (Some v) = ⊥
+HoldTheSameIfThere (Some w) None = ⊥
+HoldTheSameIfThere (Some w) (Some v) = HoldTheSame w v
+
+-- lawful organizations of one limit, of which each token and each workspace of a name is the same, are equal
+abbrev pub SameThingsAreEqualRecords : Type 0
+SameThingsAreEqualRecords = (o p : Organization) → IsLawfulOrganization o → IsLawfulOrganization p
+    → o.limit ≡ p.limit → ((name : List ℕ) → get o.tokens name ≡ get p.tokens name)
+    → ((ws : List ℕ) → HoldTheSameIfThere (get o.workspaces ws) (get p.workspaces ws)) → o ≡ p

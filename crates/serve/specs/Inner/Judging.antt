@@ -1,0 +1,33 @@
+-- Contracts between functions: what is judged_task before anything is looked up, and what is looked up where it is refused.
+use Rattle.std.specs.Prelude.{◌≡◌, ◌≢◌, ℕ, cond, List, Option, Result, Ok, Err}
+use Rattle.basis.specs.Checks.{and_then}
+use Rattle.basis.specs.declared.refusals.Refusal.{Refusal}
+use Rattle.basis.specs.declared.refusals.Refusal.TheVariants.{NotFound, Unavailable}
+use Rattle.machine.specs.declared.records.Organization.{Organization}
+use Rattle.route.specs.declared.acts.Asked.{Asked}
+use Rattle.route.specs.declared.acts.AskedAct.{AskedAct}
+use Rattle.route.specs.declared.acts.AskedAct.TheVariants.{ListWorkspaces, OfWorkspace}
+use Rattle.serve.specs.Checks.{is_found, place, digest_checked, task_of, checked}
+use Rattle.serve.specs.Steps.{carried}
+use Rattle.serve.specs.declared.prepared.Found.{Found}
+use Rattle.serve.specs.declared.prepared.Found.TheVariants.{Workspaces, At}
+use Rattle.serve.specs.declared.prepared.Task.{Task}
+
+-- what is asked of, as if it were there
+abbrev pub named : AskedAct → Found
+named (ListWorkspaces after) = Workspaces after
+named (OfWorkspace ws act) = At (place ws act)
+
+-- the digest and the document
+abbrev pub judged_task : AskedAct → Option (List ℕ) → Option (List ℕ) → List ℕ → Result Task Refusal
+judged_task asked content_md5 id body = and_then (digest_checked content_md5 body) (λ _. task_of (named asked) id body)
+
+-- what isn't there is told before a refused digest or document
+abbrev pub missed : Option Organization → AskedAct → Refusal → Refusal
+missed r (ListWorkspaces after) refusal = refusal
+missed r (OfWorkspace ws act) refusal = cond (is_found r ws act) refusal NotFound
+
+-- what is to be done is answered as what passed the checks, at each moment; what is refused is refused by them
+abbrev pub Stands : Result Task Refusal → Option Organization → Asked → Option (List ℕ) → List ℕ → Type 0
+Stands (Ok task) r asked content_md5 body = (now : ℕ) → carried asked.caller now r (Ok task) ≡ carried asked.caller now r (checked r asked content_md5 body)
+Stands (Err refusal) r asked content_md5 body = refusal ≢ Unavailable → checked r asked content_md5 body ≡ Err refusal
