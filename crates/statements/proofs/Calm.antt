@@ -17,7 +17,7 @@ use Rattle.sqlite.specs.Effect.{Database, RefusesToRead}
 use Rattle.sqlite.specs.Listing.{understood, reads_listing, if_select, is_select, listing_schema}
 use Rattle.sqlite.specs.State.{State, IsUnchanged, IsRolledBack, QueriesRow, Shown, ShowsRows, FailsToQuery, FailsToShow, IsNotRun, CommitsShowing, store_error, Survives}
 use Rattle.sqlite_ast.specs.declared.Statement.TheVariants as written
-use Rattle.statements.specs.Queries.{IsQuery}
+use Rattle.statements.specs.Inner.Calls.{IsQuery}
 
 module _ (text : List ℕ) (is : IsQuery text) where
   compiled_silent : (s : Schema) (c : Compiled) → compiled s text ≡ Ok c → c.returning ≡ None

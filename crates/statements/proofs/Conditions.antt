@@ -15,8 +15,8 @@ use Rattle.basis.specs.declared.runs.RunStatus.{RunStatus}
 use Rattle.basis.specs.declared.runs.RunStatus.TheVariants.{Pending, Planning, Planned, Applying, Applied, PlannedAndFinished, Errored, Discarded, Canceled}
 use Rattle.statements.specs.Rows.{flag, status_code}
 use Rattle.basis.specs.Runs.{is_open}
-use Rattle.statements.specs.Finds.{is_pending, has_key}
-use Rattle.statements.specs.Listings.{comes_after}
+use Rattle.statements.specs.Finds.{is_pending_of, is_key_of}
+use Rattle.statements.specs.Listings.{is_behind}
 use Rattle.sqlite_typed.proofs.TestLemmas.{at_texts, at_blobs, at_ints, then_term, last_term}
 
 pub same_text : (a b : List ℕ) → is_true (binary (Compare Eq Binary) (Text a) (Text b)) ≡ bytes_eq a b
@@ -59,7 +59,7 @@ pub two_texts_above : (a b c d : List ℕ) (m n : ℕ)
 two_texts_above a b c d m n =
     then_term (same_text a b) (then_term (same_text c d) (last_term (at_ints _ Gt (pos m) (pos n) ∙ below_is n m))) ∙ and_again (bytes_eq a b) (bytes_eq c d) (nat_lt n m)
 
-pub text_after : (a b c d : List ℕ) → (is_true (binary (Compare Eq Binary) (Text a) (Text b)) && (is_true (binary (Compare Gt Binary) (Text c) (Text d)) && true)) ≡ (bytes_eq a b && comes_after d c)
+pub text_after : (a b c d : List ℕ) → (is_true (binary (Compare Eq Binary) (Text a) (Text b)) && (is_true (binary (Compare Gt Binary) (Text c) (Text d)) && true)) ≡ (bytes_eq a b && is_behind d c)
 text_after a b c d = then_term (same_text a b) (last_term (at_texts _ Gt c d))
 
 pub text_blob : (a b c d : List ℕ) → (is_true (binary (Compare Eq Binary) (Text a) (Text b)) && (is_true (binary (Compare Eq Binary) (Blob c) (Blob d)) && true)) ≡ (bytes_eq a b && bytes_eq c d)
@@ -68,7 +68,7 @@ text_blob a b c d = then_term (same_text a b) (last_term (same_blob c d))
 pub one_text : (a b : List ℕ) → (is_true (binary (Compare Eq Binary) (Text a) (Text b)) && true) ≡ bytes_eq a b
 one_text a b = last_term (same_text a b)
 
-pending_is : (s : RunStatus) → eqb (status_code s) 0 ≡ is_pending s
+pending_is : (s : RunStatus) → eqb (status_code s) 0 ≡ is_pending_of s
 pending_is Pending = refl
 pending_is Planning = refl
 pending_is Planned = refl
@@ -86,19 +86,19 @@ unset_is false = refl
 pub waits : (a b c d : List ℕ) (s : RunStatus) (planned : Bool)
     → (is_true (binary (Compare Eq Binary) (Text a) (Text b)) && (is_true (binary (Compare Eq Binary) (Text c) (Text d))
     && (is_true (binary (Compare Eq Binary) (Int (pos (status_code s))) (Int (pos 0))) && (is_true (binary (Compare Eq Binary) (flag planned) (Int (pos 0))) && true))))
-    ≡ (bytes_eq a b && (bytes_eq c d && (is_pending s && not planned)))
+    ≡ (bytes_eq a b && (bytes_eq c d && (is_pending_of s && not planned)))
 waits a b c d s planned =
     then_term (same_text a b) (then_term (same_text c d) (then_term (same_number (status_code s) 0 ∙ pending_is s) (last_term (at_ints _ Eq (if planned then pos 1 else pos 0) (pos 0) ∙ unset_is planned))))
 
 -- what is compared with NULL is never true
-key_is : (key : List ℕ) (o : Option (List ℕ)) → is_true (binary (Compare Eq Binary) (or_null Text o) (Text key)) ≡ has_key key o
+key_is : (key : List ℕ) (o : Option (List ℕ)) → is_true (binary (Compare Eq Binary) (or_null Text o) (Text key)) ≡ is_key_of key o
 unfolding binary
 key_is key None = refl
 key_is key (Some k) = same_text k key
 
 pub two_texts_key : (a b c d key : List ℕ) (o : Option (List ℕ))
     → (is_true (binary (Compare Eq Binary) (Text a) (Text b)) && (is_true (binary (Compare Eq Binary) (Text c) (Text d)) && (is_true (binary (Compare Eq Binary) (or_null Text o) (Text key)) && true)))
-    ≡ (bytes_eq a b && (bytes_eq c d && has_key key o))
+    ≡ (bytes_eq a b && (bytes_eq c d && is_key_of key o))
 two_texts_key a b c d key o = then_term (same_text a b) (then_term (same_text c d) (last_term (key_is key o)))
 
 open_is : (s : RunStatus) → nat_lt (status_code s) 4 ≡ is_open s

@@ -7,9 +7,10 @@ use Rattle.sqlite.specs.Effect.{Database}
 use Rattle.basis.specs.declared.runs.RunAction.{RunAction}
 use Rattle.statements.specs.declared.rows.Holder.{Holder}
 use Rattle.statements.specs.declared.rows.Holder.TheVariants.{Nobody, Lock, Run as HeldByRun}
-use Rattle.statements.specs.Rows.{Kept, TokenRow, WsRow, RunRow, stored, meta_cells, org_cells, token_cells, ws_cells, version_cells, run_cells, number, action_code, kind_cell, lock_id_cell, lock_text_cell, run_cell}
-use Rattle.statements.specs.Tables.{Tables, Holds}
-use Rattle.statements.specs.Decode.{kept_by, meta_at, org_at, token_at, ws_at, version_at, run_at, tables_of, holder_at, action_at}
+use Rattle.statements.specs.Rows.{Kept, TokenRow, WsRow, RunRow, stored, token_cells, ws_cells, run_cells, number, action_code, kind_cell, lock_id_cell, lock_text_cell, run_cell}
+use Rattle.statements.specs.Tables.{Layout, Tables, Holds, rows_of, tables_of, meta_layout, org_layout, token_layout, ws_layout, version_layout, run_layout}
+use Rattle.statements.specs.Decode.{kept_by, token_at, ws_at, run_at, holder_at, action_at}
+use Rattle.statements.proofs.Held.{IsHeld, metas_held, orgs_held, tokens_held, wss_held, versions_held, runs_held}
 use Rattle.statements.proofs.Codes.{role_back, status_back, action_back}
 
 flag_back : (b : Bool) → not (int_eq (cond b (pos 1) (pos 0)) (pos 0)) ≡ b
@@ -60,13 +61,17 @@ run_back x = λ i. (
   },
 )
 
+-- the rows of a table are read back from its tree
+rows_back : {R : Type 0} (layout : Layout R) (db : Database) (xs : List (Kept R)) → ((x : Kept R) → kept_by layout.read (stored layout.cells x) ≡ x) → IsHeld layout db xs → rows_of layout db ≡ xs
+rows_back layout db xs back held = ap (map (kept_by layout.read)) held.rows ∙ map_back (stored layout.cells) (kept_by layout.read) back xs
+
 -- a database holds the rows of one `Tables` at most, and these are they
 pub tables-held : (db : Database) (t : Tables) → Holds db t → tables_of db ≡ t
 tables-held db t h = λ i. record {
-  metas = (ap (map (kept_by meta_at)) h.metas ∙ map_back (stored meta_cells) (kept_by meta_at) (λ x. refl) t.metas) i;
-  orgs = (ap (map (kept_by org_at)) h.orgs ∙ map_back (stored org_cells) (kept_by org_at) (λ x. refl) t.orgs) i;
-  tokens = (ap (map (kept_by token_at)) h.tokens ∙ map_back (stored token_cells) (kept_by token_at) token_back t.tokens) i;
-  wss = (ap (map (kept_by ws_at)) h.wss ∙ map_back (stored ws_cells) (kept_by ws_at) ws_back t.wss) i;
-  versions = (ap (map (kept_by version_at)) h.versions ∙ map_back (stored version_cells) (kept_by version_at) (λ x. refl) t.versions) i;
-  runs = (ap (map (kept_by run_at)) h.runs ∙ map_back (stored run_cells) (kept_by run_at) run_back t.runs) i;
+  metas = rows_back meta_layout db t.metas (λ x. refl) (metas_held db t h) i;
+  orgs = rows_back org_layout db t.orgs (λ x. refl) (orgs_held db t h) i;
+  tokens = rows_back token_layout db t.tokens token_back (tokens_held db t h) i;
+  wss = rows_back ws_layout db t.wss ws_back (wss_held db t h) i;
+  versions = rows_back version_layout db t.versions (λ x. refl) (versions_held db t h) i;
+  runs = rows_back run_layout db t.runs run_back (runs_held db t h) i;
 }

@@ -1,124 +1,77 @@
 -- A database holds the rows of our tables after one of the tables has got other rows.
-use Rattle.std.proofs.Common.{◌≡◌, ℕ, List, map, arith, sym, ◌∙◌, subst}
+use Rattle.std.proofs.Common.{◌≡◌, ◌≢◌, ℕ, zero, suc, ◌<◌, List, [], ◌∷◌, map, slice_get, Some, arith, refl, sym, ap, ◌∙◌, subst}
+use Rattle.std.specs.List.{AllByRecursion}
+use Rattle.sqlite_value.specs.Order.{Row}
 use Rattle.sqlite_schema.specs.declared.schema.Schema.{Schema}
+use Rattle.sqlite_schema.specs.declared.schema.Table.{Table}
 use Rattle.sqlite_keyed.specs.Keyed.{IsKeyedBy}
+use Rattle.sqlite_keyed.proofs.ListLemmas.{all_weaker, all-slice_get}
 use Rattle.sqlite.specs.Effect.{Database}
-use Rattle.statements.specs.Schema.{meta_table, org_table, token_table, ws_table, version_table, run_table}
-use Rattle.statements.specs.Rows.{Kept, id_of, OrgRow, TokenRow, WsRow, VersionRow, RunRow, stored, meta_cells, org_cells, token_cells, ws_cells, version_cells, run_cells}
-use Rattle.statements.specs.Tables.{Tables, Holds, IsOurs, meta_tree, org_tree, token_tree, ws_tree, version_tree, run_tree}
+use Rattle.statements.specs.Place.{tree_of, IsOwn, AreOwn}
+use Rattle.statements.specs.Rows.{Kept, id_of, OrgRow, TokenRow, WsRow, VersionRow, RunRow, stored}
+use Rattle.statements.specs.Tables.{Layout, Tables, Holds, HasRows, StoredTable, stored_tables, tables_in, our_tables, rowid_of, meta_layout, org_layout, token_layout, ws_layout, version_layout, run_layout}
+use Rattle.statements.proofs.Held.{rows_keyed}
 use Rattle.statements.proofs.Own.{Leads}
 
-module _ (old new : Database) (same : new.schema ≡ old.schema) (t : Tables) (h : Holds old t) where
+-- the table at a place with other rows
+abbrev with_rows : ℕ → List Row → List StoredTable → List StoredTable
+with_rows n rows [] = []
+with_rows zero rows (x ∷ xs) = record x { rows = rows } ∷ xs
+with_rows (suc n) rows (x ∷ xs) = x ∷ with_rows n rows xs
+
+module _ (old new : Database) (same : new.schema ≡ old.schema) where
   abbrev s : Schema
   s = old.schema
 
-  abbrev o : IsOurs s
-  o = h.ours
+  abbrev now : Database
+  now = record { schema = s; trees = new.trees }
 
-  abbrev now : Tables → Type 0
-  now u = Holds (record { schema = s; trees = new.trees }) u
+  module _ (table : Table) (rows : List Row) (w : Leads s (tree_of s table.name) rows old.trees new.trees) (keyed : IsKeyedBy rowid_of rows) where
+    others_stay : (xs : List StoredTable) → AllByRecursion (IsOwn s) (tables_in xs) → AllByRecursion (λ (b : Table). tree_of s b.name ≢ tree_of s table.name) (tables_in xs)
+        → AllByRecursion (HasRows old) xs → AllByRecursion (HasRows now) xs
+    others_stay [] own apart h = tt
+    others_stay (x ∷ xs) own apart h = (record { rows = w.others x.table own.0 apart.0 ∙ h.0.rows; keyed = h.0.keyed }, others_stay xs own.1 apart.1 h.1)
 
-  back : (u : Tables) → now u → Holds new u
-  back u = subst (λ k. Holds (record { schema = k; trees = new.trees }) u) (sym same)
+    -- the table at a place has the new rows, and each other those that it had, since their trees ascend
+    one_written : (n : ℕ) (xs : List StoredTable) → slice_get (tables_in xs) n ≡ Some table → AreOwn s (tables_in xs) → AllByRecursion (HasRows old) xs → AllByRecursion (HasRows now) (with_rows n rows xs)
+    one_written n [] is ours h = tt
+    one_written zero (x ∷ xs) is ours h =
+        let this : x.table ≡ table = cc in
+        let above : AllByRecursion (λ (b : Table). tree_of s table.name < tree_of s b.name) (tables_in xs) = subst (λ (a : Table). AllByRecursion (λ (b : Table). tree_of s a.name < tree_of s b.name) (tables_in xs)) this ours.order.0 in
+        let apart = all_weaker _ (λ (b : Table). tree_of s b.name ≢ tree_of s table.name) (λ b low e. absurd (omega (arith, low, e))) (tables_in xs) above in
+        (record { rows = ap (λ (a : Table). new.trees (tree_of s a.name)) this ∙ w.rows; keyed = keyed }, others_stay xs ours.own.1 apart h.1)
+    one_written (suc n) (x ∷ xs) is ours h =
+        let below : tree_of s x.table.name < tree_of s table.name = all-slice_get (λ (b : Table). tree_of s x.table.name < tree_of s b.name) (tables_in xs) n table is ours.order.0 in (
+          record { rows = w.others x.table ours.own.0 (λ e. absurd (omega (arith, below, e))) ∙ h.0.rows; keyed = h.0.keyed },
+          one_written n xs is (record { own = ours.own.1; order = ours.order.1 }) h.1,
+        )
 
-  pub metas_written : (xs : List (Kept ℕ)) → Leads s (meta_tree s) (map (stored meta_cells) xs) old.trees new.trees → IsKeyedBy id_of xs → Holds new (record t { metas = xs })
-  metas_written xs w keyed = back (record t { metas = xs }) (record {
-    ours = o;
-    metas = w.rows;
-    orgs = w.others org_table o.org (λ is. absurd (omega (arith, o.org_after))) ∙ h.orgs;
-    tokens = w.others token_table o.token (λ is. absurd (omega (arith, o.org_after, o.token_after))) ∙ h.tokens;
-    wss = w.others ws_table o.ws (λ is. absurd (omega (arith, o.org_after, o.token_after, o.ws_after))) ∙ h.wss;
-    versions = w.others version_table o.version (λ is. absurd (omega (arith, o.org_after, o.token_after, o.ws_after, o.version_after))) ∙ h.versions;
-    runs = w.others run_table o.run (λ is. absurd (omega (arith, o.org_after, o.token_after, o.ws_after, o.version_after, o.run_after))) ∙ h.runs;
-    metas_keyed = keyed;
-    orgs_keyed = h.orgs_keyed;
-    tokens_keyed = h.tokens_keyed;
-    wss_keyed = h.wss_keyed;
-    versions_keyed = h.versions_keyed;
-    runs_keyed = h.runs_keyed;
-  })
+  module _ (t : Tables) (h : Holds old t) where
+    -- the rows of a table of ours were written, and the database then holds `u`
+    abbrev Written : {R : Type 0} → Layout R → List (Kept R) → Tables → Type 0
+    Written layout xs u = Leads s (tree_of s layout.table.name) (map (stored layout.cells) xs) old.trees new.trees → IsKeyedBy id_of xs → Holds new u
 
-  pub orgs_written : (xs : List (Kept OrgRow)) → Leads s (org_tree s) (map (stored org_cells) xs) old.trees new.trees → IsKeyedBy id_of xs → Holds new (record t { orgs = xs })
-  orgs_written xs w keyed = back (record t { orgs = xs }) (record {
-    ours = o;
-    metas = w.others meta_table o.meta (λ is. absurd (omega (arith, o.org_after))) ∙ h.metas;
-    orgs = w.rows;
-    tokens = w.others token_table o.token (λ is. absurd (omega (arith, o.token_after))) ∙ h.tokens;
-    wss = w.others ws_table o.ws (λ is. absurd (omega (arith, o.token_after, o.ws_after))) ∙ h.wss;
-    versions = w.others version_table o.version (λ is. absurd (omega (arith, o.token_after, o.ws_after, o.version_after))) ∙ h.versions;
-    runs = w.others run_table o.run (λ is. absurd (omega (arith, o.token_after, o.ws_after, o.version_after, o.run_after))) ∙ h.runs;
-    metas_keyed = h.metas_keyed;
-    orgs_keyed = keyed;
-    tokens_keyed = h.tokens_keyed;
-    wss_keyed = h.wss_keyed;
-    versions_keyed = h.versions_keyed;
-    runs_keyed = h.runs_keyed;
-  })
+    written : {R : Type 0} (layout : Layout R) (n : ℕ) (xs : List (Kept R)) (u : Tables) → slice_get our_tables n ≡ Some layout.table → with_rows n (map (stored layout.cells) xs) (stored_tables t) ≡ stored_tables u → Written layout xs u
+    written layout n xs u at is w keyed =
+        subst (λ k. Holds (record { schema = k; trees = new.trees }) u) (sym same) (record {
+          ours = h.ours;
+          rows = subst (AllByRecursion (HasRows now)) is (one_written layout.table (map (stored layout.cells) xs) w (rows_keyed layout xs keyed) n (stored_tables t) at h.ours h.rows);
+        })
 
-  pub tokens_written : (xs : List (Kept TokenRow)) → Leads s (token_tree s) (map (stored token_cells) xs) old.trees new.trees → IsKeyedBy id_of xs → Holds new (record t { tokens = xs })
-  tokens_written xs w keyed = back (record t { tokens = xs }) (record {
-    ours = o;
-    metas = w.others meta_table o.meta (λ is. absurd (omega (arith, o.org_after, o.token_after))) ∙ h.metas;
-    orgs = w.others org_table o.org (λ is. absurd (omega (arith, o.token_after))) ∙ h.orgs;
-    tokens = w.rows;
-    wss = w.others ws_table o.ws (λ is. absurd (omega (arith, o.ws_after))) ∙ h.wss;
-    versions = w.others version_table o.version (λ is. absurd (omega (arith, o.ws_after, o.version_after))) ∙ h.versions;
-    runs = w.others run_table o.run (λ is. absurd (omega (arith, o.ws_after, o.version_after, o.run_after))) ∙ h.runs;
-    metas_keyed = h.metas_keyed;
-    orgs_keyed = h.orgs_keyed;
-    tokens_keyed = keyed;
-    wss_keyed = h.wss_keyed;
-    versions_keyed = h.versions_keyed;
-    runs_keyed = h.runs_keyed;
-  })
+    pub metas_written : (xs : List (Kept ℕ)) → Written meta_layout xs (record t { metas = xs })
+    metas_written xs = written meta_layout 0 xs (record t { metas = xs }) refl refl
 
-  pub wss_written : (xs : List (Kept WsRow)) → Leads s (ws_tree s) (map (stored ws_cells) xs) old.trees new.trees → IsKeyedBy id_of xs → Holds new (record t { wss = xs })
-  wss_written xs w keyed = back (record t { wss = xs }) (record {
-    ours = o;
-    metas = w.others meta_table o.meta (λ is. absurd (omega (arith, o.org_after, o.token_after, o.ws_after))) ∙ h.metas;
-    orgs = w.others org_table o.org (λ is. absurd (omega (arith, o.token_after, o.ws_after))) ∙ h.orgs;
-    tokens = w.others token_table o.token (λ is. absurd (omega (arith, o.ws_after))) ∙ h.tokens;
-    wss = w.rows;
-    versions = w.others version_table o.version (λ is. absurd (omega (arith, o.version_after))) ∙ h.versions;
-    runs = w.others run_table o.run (λ is. absurd (omega (arith, o.version_after, o.run_after))) ∙ h.runs;
-    metas_keyed = h.metas_keyed;
-    orgs_keyed = h.orgs_keyed;
-    tokens_keyed = h.tokens_keyed;
-    wss_keyed = keyed;
-    versions_keyed = h.versions_keyed;
-    runs_keyed = h.runs_keyed;
-  })
+    pub orgs_written : (xs : List (Kept OrgRow)) → Written org_layout xs (record t { orgs = xs })
+    orgs_written xs = written org_layout 1 xs (record t { orgs = xs }) refl refl
 
-  pub versions_written : (xs : List (Kept VersionRow)) → Leads s (version_tree s) (map (stored version_cells) xs) old.trees new.trees → IsKeyedBy id_of xs → Holds new (record t { versions = xs })
-  versions_written xs w keyed = back (record t { versions = xs }) (record {
-    ours = o;
-    metas = w.others meta_table o.meta (λ is. absurd (omega (arith, o.org_after, o.token_after, o.ws_after, o.version_after))) ∙ h.metas;
-    orgs = w.others org_table o.org (λ is. absurd (omega (arith, o.token_after, o.ws_after, o.version_after))) ∙ h.orgs;
-    tokens = w.others token_table o.token (λ is. absurd (omega (arith, o.ws_after, o.version_after))) ∙ h.tokens;
-    wss = w.others ws_table o.ws (λ is. absurd (omega (arith, o.version_after))) ∙ h.wss;
-    versions = w.rows;
-    runs = w.others run_table o.run (λ is. absurd (omega (arith, o.run_after))) ∙ h.runs;
-    metas_keyed = h.metas_keyed;
-    orgs_keyed = h.orgs_keyed;
-    tokens_keyed = h.tokens_keyed;
-    wss_keyed = h.wss_keyed;
-    versions_keyed = keyed;
-    runs_keyed = h.runs_keyed;
-  })
+    pub tokens_written : (xs : List (Kept TokenRow)) → Written token_layout xs (record t { tokens = xs })
+    tokens_written xs = written token_layout 2 xs (record t { tokens = xs }) refl refl
 
-  pub runs_written : (xs : List (Kept RunRow)) → Leads s (run_tree s) (map (stored run_cells) xs) old.trees new.trees → IsKeyedBy id_of xs → Holds new (record t { runs = xs })
-  runs_written xs w keyed = back (record t { runs = xs }) (record {
-    ours = o;
-    metas = w.others meta_table o.meta (λ is. absurd (omega (arith, o.org_after, o.token_after, o.ws_after, o.version_after, o.run_after))) ∙ h.metas;
-    orgs = w.others org_table o.org (λ is. absurd (omega (arith, o.token_after, o.ws_after, o.version_after, o.run_after))) ∙ h.orgs;
-    tokens = w.others token_table o.token (λ is. absurd (omega (arith, o.ws_after, o.version_after, o.run_after))) ∙ h.tokens;
-    wss = w.others ws_table o.ws (λ is. absurd (omega (arith, o.version_after, o.run_after))) ∙ h.wss;
-    versions = w.others version_table o.version (λ is. absurd (omega (arith, o.run_after))) ∙ h.versions;
-    runs = w.rows;
-    metas_keyed = h.metas_keyed;
-    orgs_keyed = h.orgs_keyed;
-    tokens_keyed = h.tokens_keyed;
-    wss_keyed = h.wss_keyed;
-    versions_keyed = h.versions_keyed;
-    runs_keyed = keyed;
-  })
+    pub wss_written : (xs : List (Kept WsRow)) → Written ws_layout xs (record t { wss = xs })
+    wss_written xs = written ws_layout 3 xs (record t { wss = xs }) refl refl
+
+    pub versions_written : (xs : List (Kept VersionRow)) → Written version_layout xs (record t { versions = xs })
+    versions_written xs = written version_layout 4 xs (record t { versions = xs }) refl refl
+
+    pub runs_written : (xs : List (Kept RunRow)) → Written run_layout xs (record t { runs = xs })
+    runs_written xs = written run_layout 5 xs (record t { runs = xs }) refl refl

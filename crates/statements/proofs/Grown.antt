@@ -13,7 +13,7 @@ use Rattle.sqlite_schema.specs.Names.{same_name, table_named}
 use Rattle.sqlite_catalog.specs.Change.{next_tree, past_views, KeepsRows}
 use Rattle.sqlite.specs.Effect.{Database}
 use Rattle.sqlite_keyed.proofs.ListLemmas.{all-append, all_weaker, all-slice_get}
-use Rattle.statements.specs.Place.{at_of, tree_of, IsAt, IsOwn}
+use Rattle.statements.specs.Place.{at_of, tree_of, StandsAt, IsOwn}
 use Rattle.statements.specs.Making.{AreMade, KeepsTables}
 
 -- the table stands behind those that were there, with the next tree and no row; what stands behind it refers to nothing
@@ -91,7 +91,7 @@ same_itself : (name : List ℕ) → same_name name name ≡ true
 unfolding same_name
 same_itself name = ap is_eq (tied_itself nat_list_cmp_total (map Rattle.std.specs.Char.to_ascii_lowercase name))
 
-module _ (s : Schema) (name : List ℕ) (table : Table) (at tree : ℕ) (h : IsAt s name table at tree) where
+module _ (s : Schema) (name : List ℕ) (table : Table) (at tree : ℕ) (h : StandsAt s name table at tree) where
   pub at_is : at_of s name ≡ at
   at_is = ap (λ o. unwrap_or o 0) h.named
 
@@ -99,9 +99,9 @@ module _ (s : Schema) (name : List ℕ) (table : Table) (at tree : ℕ) (h : IsA
   tree_is = ap (λ n. unwrap_or (option_map (λ (t : Table). t.tree) (slice_get s.tables n)) 0) at_is ∙ ap (λ o. unwrap_or (option_map (λ (t : Table). t.tree) o) 0) h.found
 
 -- a table that stands somewhere, and refers to nothing there, is one of ours
-own_at : (s : Schema) (table : Table) (at tree : ℕ) → IsAt s table.name table at tree → AllByRecursion (λ (t : Table). t.tree ≡ tree → t.references ≡ []) s.tables → IsOwn s table
+own_at : (s : Schema) (table : Table) (at tree : ℕ) → StandsAt s table.name table at tree → AllByRecursion (λ (t : Table). t.tree ≡ tree → t.references ≡ []) s.tables → IsOwn s table
 own_at s table at tree h bare = record {
-  place = subst (λ n. IsAt s table.name table n (tree_of s table.name)) (sym (at_is s table.name table at tree h)) (subst (λ n. IsAt s table.name table at n) (sym (tree_is s table.name table at tree h)) h);
+  place = subst (λ n. StandsAt s table.name table n (tree_of s table.name)) (sym (at_is s table.name table at tree h)) (subst (λ n. StandsAt s table.name table at n) (sym (tree_is s table.name table at tree h)) h);
   bare = subst (λ n. AllByRecursion (λ (t : Table). t.tree ≡ n → t.references ≡ []) s.tables) (sym (tree_is s table.name table at tree h)) bare;
 }
 
@@ -122,7 +122,7 @@ module _ (table : Table) (loose : table.references ≡ []) (old new : Database) 
     abbrev tree : ℕ
     tree = tree_of old.schema other.name
 
-    stays_at : IsAt new.schema other.name other at tree
+    stays_at : StandsAt new.schema other.name other at tree
     stays_at = record {
       named = ap (position_from (λ (t : Table). same_name t.name other.name) 0) g.tables ∙ position_front _ 0 at old.schema.tables (added ∷ g.more) own.place.named;
       found = ap (λ l. slice_get l at) g.tables ∙ get_front old.schema.tables (added ∷ g.more) at _ own.place.found;
@@ -146,7 +146,7 @@ module _ (table : Table) (loose : table.references ≡ []) (old new : Database) 
   apart_from : (t : Table) → t.tree < next_tree old.schema → (t.tree == next_tree old.schema) ≡ false
   apart_from t low = grind (arith, nat_tests)
 
-  added_at : IsAt new.schema table.name table (length old.schema.tables) (next_tree old.schema)
+  added_at : StandsAt new.schema table.name table (length old.schema.tables) (next_tree old.schema)
   added_at = record {
     named = ap (position_from (λ (t : Table). same_name t.name table.name) 0) g.tables ∙ position_behind _ 0 old.schema.tables added g.more g.free (same_itself table.name) ∙ ap Some (plus_none (length old.schema.tables));
     found = ap (λ l. slice_get l (length old.schema.tables)) g.tables ∙ get_behind old.schema.tables added g.more;
@@ -184,7 +184,7 @@ module _ (table : Table) (loose : table.references ≡ []) (old new : Database) 
   order_all (t ∷ ts) h k = (above_one t h.0 ts h.1 k.0, order_all ts h.1 k.1)
 
   pub made_grown : (ts : List Table) → AreMade ts old → AreMade (ts ++ table ∷ []) new
-  made_grown ts m = record { own = own_all ts m.own; empty = empty_all ts m.own m.empty; order = order_all ts m.own m.order }
+  made_grown ts m = record { own = record { own = own_all ts m.own.own; order = order_all ts m.own.own m.own.order }; empty = empty_all ts m.own.own m.empty }
 
   -- the tree is none of a table that was there
   pub added_apart : AllByRecursion (λ (t : Table). t.tree ≢ tree_of new.schema table.name) old.schema.tables

@@ -9,6 +9,7 @@ pub mod Decoding
 pub mod Edits
 pub mod Frames
 pub mod Grown
+pub mod Held
 pub mod KeyedLists
 pub mod Lead
 pub mod Listed

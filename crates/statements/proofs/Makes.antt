@@ -309,7 +309,7 @@ module _ (old new : Database) (is : new.schema.tables ≡ old.schema.tables) (ro
       (λ a b low. let x = same_tree a old.schema new.schema is in let y = same_tree b old.schema new.schema is in omega arith) ts h
 
   made_same : (ts : List Table) → AreMade ts old → AreMade ts new
-  made_same ts m = record { own = own_same ts m.own; empty = empty_same ts m.own m.empty; order = order_same ts m.order }
+  made_same ts m = record { own = record { own = own_same ts m.own.own; order = order_same ts m.own.order }; empty = empty_same ts m.own.own m.empty }
 
 indexes_at : (old new : State) (text : List ℕ) (place : Option Table) (tally : Tally)
     → AtPlace (λ table. Defines (mode_of old) (MakesIndex text old.now table)) place (Ok (tally, new.now))

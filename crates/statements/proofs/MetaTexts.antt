@@ -25,12 +25,12 @@ use Rattle.sqlite.specs.State.{State, Executes}
 use Rattle.sqlite_keyed.proofs.KeyedLemmas.{IsKeyedBy-insert_by}
 use Rattle.sqlite_typed.proofs.TestLemmas.{at_ints, last_term}
 use Rattle.sqlite_sql.specs.declared.ops.CompareOp.TheVariants as compare
-use Rattle.statements.specs.Place.{IsAt, tree_of}
+use Rattle.statements.specs.Place.{StandsAt, tree_of}
 use Rattle.statements.specs.Schema.{meta_table}
 use Rattle.statements.specs.Rows.{Kept, id_of, stored, meta_cells}
 use Rattle.statements.specs.Tables.{Tables, Holds}
-use Rattle.statements.specs.Making.{LeavesOthers, HasMeta, like_meta, version_set, version_of, version_in}
-use Rattle.statements.specs.Queries.{IsQuery, FirstRow, Pins, IsNumber}
+use Rattle.statements.specs.Making.{LeavesOthers, HasMeta, like_meta, version_set, told_version, version_in}
+use Rattle.statements.specs.Inner.Calls.{IsQuery, FirstRow, Pins, IsNumber}
 use Rattle.statements.proofs.SyntaxTrees as st
 use Rattle.statements.proofs.Meaning.{Means, means, some_parsed, as_read}
 use Rattle.statements.proofs.Reading.{read_is}
@@ -40,6 +40,7 @@ use Rattle.statements.proofs.Commands.{is_number, point_rest, point_draft, no_pa
 use Rattle.statements.proofs.Own.{put_own, insert_others, stored_tree}
 use Rattle.statements.proofs.Casts.{meta_casts}
 use Rattle.statements.proofs.Frames.{metas_written}
+use Rattle.statements.proofs.Held.{metas_held}
 use Rattle.statements.proofs.PointReads.{pinned}
 use Rattle.statements.proofs.ReadBack.{number_read}
 
@@ -75,7 +76,7 @@ version_is_query = (version_select, some_parsed (first version_text), version_re
 abbrev version_rest : Query
 version_rest = point_rest (is_number 0 1 ∷ []) (col 1 2 ∷ []) no_page
 
-module _ (s : Schema) (at tree : ℕ) (h : IsAt s (codes "meta") meta_table at tree) where
+module _ (s : Schema) (at tree : ℕ) (h : StandsAt s (codes "meta") meta_table at tree) where
   set_version_is : (base : ℕ) → command s [] base set_version ≡ Ok (Insert at (Values set_version_terms 3))
   unfolding everything
   set_version_is base = rw (h.named, h.found) refl
@@ -85,7 +86,7 @@ module _ (s : Schema) (at tree : ℕ) (h : IsAt s (codes "meta") meta_table at t
   set_version_means = means s set_version _ (rw (h.named, h.found) refl) (λ _. refl) set_version_is set_version_text (some_parsed (first set_version_text)) set_version_reads
 
 -- the query of the version, over each table of meta's columns
-module _ (s : Schema) (at tree : ℕ) (table : Table) (h : IsAt s (codes "meta") (like_meta table) at tree) where
+module _ (s : Schema) (at tree : ℕ) (table : Table) (h : StandsAt s (codes "meta") (like_meta table) at tree) where
   version_named : named s version_core (st.by_rowid false) no_page ≡ Ok (point_draft version_rest tree false, (codes "version" ∷ []), (Some Binary ∷ []))
   unfolding everything
   version_named = rw (h.named, h.found, h.found, h.found, h.small) refl
@@ -103,7 +104,7 @@ module _ (s : Schema) (at tree : ℕ) (table : Table) (h : IsAt s (codes "meta")
   unfolding timed returning
   version_means = means s (written.Select version_select) _ refl (λ _. refl) version_is version_text (some_parsed (first version_text)) version_reads
 
-pub version_told : (old new : State) (table : Table) (metas : List (Kept ℕ)) → HasMeta old.now table metas → (row : Option Row) → FirstRow version_text [] old new row → Pins IsNumber row (version_of metas)
+pub version_told : (old new : State) (table : Table) (metas : List (Kept ℕ)) → HasMeta old.now table metas → (row : Option Row) → FirstRow version_text [] old new row → Pins IsNumber row (told_version metas)
 version_told old new table metas has row first =
     let tree = tree_of old.now.schema meta_table.name in
     let got = answered version_text [] old new (point version_rest tree false) (codes "version" ∷ []) (version_means old.now.schema _ _ table has.place) row first in
@@ -113,14 +114,15 @@ version_told old new table metas has row first =
 
 -- what tables hold is a case of it
 pub has_meta : (db : Database) (t : Tables) → Holds db t → HasMeta db meta_table t.metas
-has_meta db t h = record { place = h.ours.meta.place; rows = h.metas; keyed = h.metas_keyed }
+has_meta db t h = let held = metas_held db t h in record { place = held.own.place; rows = held.rows; keyed = held.keyed }
 
 module _ (old new : State) (t : Tables) (h : Holds old.now t) where
   pub set_version_does : (count : ℕ) → Executes set_version_text [] old new (Ok count) → Holds new.now (version_set t)
   set_version_does count ran =
-      let left = put_own meta_cells meta_table meta_casts old new h.ours.meta t.metas h.metas h.metas_keyed set_version_text [] count ran
-      set_version_terms 3 (set_version_means old.now.schema _ _ h.ours.meta.place) refl refl (pos 1, 1) refl in
-      metas_written old.now new.now left.1 t h _ left.0 (IsKeyedBy-insert_by id_of t.metas (pos 1, 1) h.metas_keyed)
+      let held = metas_held old.now t h in
+      let left = put_own meta_cells meta_table meta_casts old new held.own t.metas held.rows held.keyed set_version_text [] count ran
+      set_version_terms 3 (set_version_means old.now.schema _ _ held.own.place) refl refl (pos 1, 1) refl in
+      metas_written old.now new.now left.1 t h _ left.0 (IsKeyedBy-insert_by id_of t.metas (pos 1, 1) held.keyed)
 
   pub version_shows : (row : Option Row) → FirstRow version_text [] old new row → Pins IsNumber row (version_in t)
   version_shows = version_told old new meta_table t.metas (has_meta old.now t h)

@@ -25,57 +25,57 @@ use Rattle.sqlite_typed.proofs.TestLemmas.{same_bytes, turn_eq}
 use Rattle.statements.specs.Place.{tree_of, IsOwn}
 use Rattle.statements.specs.Rows.{Kept, id_of, OrgRow, WsRow, stored}
 use Rattle.statements.specs.Changes.{is_org, is_ws_of, is_ws}
-use Rattle.statements.specs.Queries.{FirstRows}
-use Rattle.statements.specs.Listings.{name_cmp, comes_after}
+use Rattle.statements.specs.Inner.Calls.{FirstRows}
+use Rattle.statements.specs.Listings.{text_cmp, is_behind}
 use Rattle.statements.proofs.Meaning.{Means}
 use Rattle.statements.proofs.Writes.{plain_program}
 use Rattle.statements.proofs.Sorting.{filter_both, filter-sort_by, entries_sorted_by}
 use Rattle.statements.proofs.Listed.{listing, first_rows_are, all_rows_are, read_as}
 
-pub by_text : (a b : List ℕ) → ordering_then (value_cmp (Text a) (Text b)) Equal ≡ name_cmp a b
+pub by_text : (a b : List ℕ) → ordering_then (value_cmp (Text a) (Text b)) Equal ≡ text_cmp a b
 by_text a b = then-Equal _ ∙ value_cmp-Text a b
 
 -- what is not below a name that comes after another one comes after it too
-still_after : (a x y : List ℕ) → comes_after a x ≡ true → is_gt (name_cmp x y) ≡ false → comes_after a y ≡ true
-still_after a x y h up = go (name_cmp a x) (name_cmp x y) refl refl h up
+still_after : (a x y : List ℕ) → is_behind a x ≡ true → is_gt (text_cmp x y) ≡ false → is_behind a y ≡ true
+still_after a x y h up = go (text_cmp a x) (text_cmp x y) refl refl h up
   where
-    go : (o p : Ordering) → name_cmp a x ≡ o → name_cmp x y ≡ p → is_lt o ≡ true → is_gt p ≡ false → comes_after a y ≡ true
+    go : (o p : Ordering) → text_cmp a x ≡ o → text_cmp x y ≡ p → is_lt o ≡ true → is_gt p ≡ false → is_behind a y ≡ true
     go Less Less e f s t = ap is_lt (nat_list_cmp_total.trans a x y e f)
     go Less Equal e f s t = ap is_lt (sym (alike_right nat_list_cmp_total x y a f) ∙ e)
     go Less Greater e f s t = absurd (true≢false t)
     go Equal p e f s t = absurd (true≢false (sym s))
     go Greater p e f s t = absurd (true≢false (sym s))
 
-names_differ : (a b : List ℕ) → bytes_eq b a ≡ false → is_eq (name_cmp a b) ≡ false
-names_differ a b h = turn_eq name_cmp nat_list_cmp_total a b ∙ is_eq-slice_cmp b a ∙ h
+names_differ : (a b : List ℕ) → bytes_eq b a ≡ false → is_eq (text_cmp a b) ≡ false
+names_differ a b h = turn_eq text_cmp nat_list_cmp_total a b ∙ is_eq-slice_cmp b a ∙ h
 
-pub orgs_apart : (xs : List (Kept OrgRow)) → AreApart (λ a b. is_org a.1.name b) xs → IsAscending (λ x y. is_eq (name_cmp x.1.name y.1.name) ≡ false) xs
-orgs_apart xs apart = ascending_weaker (λ a b. is_org a.1.name b ≡ false) (λ x y. is_eq (name_cmp x.1.name y.1.name) ≡ false) (λ x y h. names_differ x.1.name y.1.name h) xs apart
+pub orgs_apart : (xs : List (Kept OrgRow)) → AreApart (λ a b. is_org a.1.name b) xs → IsAscending (λ x y. is_eq (text_cmp x.1.name y.1.name) ≡ false) xs
+orgs_apart xs apart = ascending_weaker (λ a b. is_org a.1.name b ≡ false) (λ x y. is_eq (text_cmp x.1.name y.1.name) ≡ false) (λ x y h. names_differ x.1.name y.1.name h) xs apart
 
 same_text : (a b : List ℕ) → bytes_eq a b ≡ true → a ≡ b
 same_text a b h = same_bytes a b (is_eq-slice_cmp a b ∙ h)
 
-own_names : (org : List ℕ) (x y : Kept WsRow) → is_ws_of org x ≡ true → is_ws_of org y ≡ true → is_ws x.1.org x.1.name y ≡ false → is_eq (name_cmp x.1.name y.1.name) ≡ false
+own_names : (org : List ℕ) (x y : Kept WsRow) → is_ws_of org x ≡ true → is_ws_of org y ≡ true → is_ws x.1.org x.1.name y ≡ false → is_eq (text_cmp x.1.name y.1.name) ≡ false
 own_names org x y mine yours apart =
     let one : bytes_eq y.1.org x.1.org ≡ true = ap (bytes_eq y.1.org) (same_text x.1.org org mine) ∙ yours in
     names_differ x.1.name y.1.name (sym (ap (λ b. b && bytes_eq y.1.name x.1.name) one) ∙ apart)
 
 -- the workspaces of one organization have different names
-pub wss_apart : (org : List ℕ) (xs : List (Kept WsRow)) → AreApart (λ a b. is_ws a.1.org a.1.name b) xs → IsAscending (λ x y. is_eq (name_cmp x.1.name y.1.name) ≡ false) (filter (is_ws_of org) xs)
+pub wss_apart : (org : List ℕ) (xs : List (Kept WsRow)) → AreApart (λ a b. is_ws a.1.org a.1.name b) xs → IsAscending (λ x y. is_eq (text_cmp x.1.name y.1.name) ≡ false) (filter (is_ws_of org) xs)
 wss_apart org [] apart = tt
 wss_apart org (x ∷ xs) apart = go (is_ws_of org x) refl (wss_apart org xs apart.1)
   where
-    below : is_ws_of org x ≡ true → (ys : List (Kept WsRow)) → AllByRecursion (λ y. is_ws x.1.org x.1.name y ≡ false) ys → AllByRecursion (λ y. is_eq (name_cmp x.1.name y.1.name) ≡ false) (filter (is_ws_of org) ys)
+    below : is_ws_of org x ≡ true → (ys : List (Kept WsRow)) → AllByRecursion (λ y. is_ws x.1.org x.1.name y ≡ false) ys → AllByRecursion (λ y. is_eq (text_cmp x.1.name y.1.name) ≡ false) (filter (is_ws_of org) ys)
     below mine [] all = tt
     below mine (y ∷ ys) all = pick (is_ws_of org y) refl (below mine ys all.1)
       where
-        pick : (b : Bool) → is_ws_of org y ≡ b → AllByRecursion (λ z. is_eq (name_cmp x.1.name z.1.name) ≡ false) (filter (is_ws_of org) ys)
-            → AllByRecursion (λ z. is_eq (name_cmp x.1.name z.1.name) ≡ false) (cond b (y ∷ filter (is_ws_of org) ys) (filter (is_ws_of org) ys))
+        pick : (b : Bool) → is_ws_of org y ≡ b → AllByRecursion (λ z. is_eq (text_cmp x.1.name z.1.name) ≡ false) (filter (is_ws_of org) ys)
+            → AllByRecursion (λ z. is_eq (text_cmp x.1.name z.1.name) ≡ false) (cond b (y ∷ filter (is_ws_of org) ys) (filter (is_ws_of org) ys))
         pick true e more = (own_names org x y mine e all.0, more)
         pick false e more = more
 
-    go : (b : Bool) → is_ws_of org x ≡ b → IsAscending (λ x y. is_eq (name_cmp x.1.name y.1.name) ≡ false) (filter (is_ws_of org) xs)
-        → IsAscending (λ x y. is_eq (name_cmp x.1.name y.1.name) ≡ false) (cond b (x ∷ filter (is_ws_of org) xs) (filter (is_ws_of org) xs))
+    go : (b : Bool) → is_ws_of org x ≡ b → IsAscending (λ x y. is_eq (text_cmp x.1.name y.1.name) ≡ false) (filter (is_ws_of org) xs)
+        → IsAscending (λ x y. is_eq (text_cmp x.1.name y.1.name) ≡ false) (cond b (x ∷ filter (is_ws_of org) xs) (filter (is_ws_of org) xs))
     go true e more = (below e xs apart.0, more)
     go false e more = more
 
@@ -90,18 +90,18 @@ module _ {R : Type 0} (cells : R → Row) (table : Table) (old new : State) (own
   entry x = (name_of x, value_of x)
 
   abbrev by_name : Kept R → Kept R → Ordering
-  by_name x y = name_cmp (name_of x) (name_of y)
+  by_name x y = text_cmp (name_of x) (name_of y)
 
   abbrev show : Kept R → Row
   show x = eval_all rest.project (params ∷ stored cells x ∷ [])
 
   module _ (is : (x y : Kept R) → output_cmp (listing rest place column) (output (listing rest place column) (params ∷ stored cells x ∷ [])) (output (listing rest place column) (params ∷ stored cells y ∷ [])) ≡ by_name x y)
       (means : Means old.now.schema (Select (plain_program (listing rest place column)) names) text) (whole : (l : List Row) → page (listing rest place column) params l ≡ l) where
-    pub names_after : (mine : Kept R → Bool) (after : List ℕ) → ((x : Kept R) → list_all (holds (params ∷ stored cells x ∷ [])) rest.filter ≡ (mine x && comes_after after (name_of x)))
+    pub names_after : (mine : Kept R → Bool) (after : List ℕ) → ((x : Kept R) → list_all (holds (params ∷ stored cells x ∷ [])) rest.filter ≡ (mine x && is_behind after (name_of x)))
         → IsAscending (λ x y. is_eq (by_name x y) ≡ false) (filter mine xs) → (most : ℕ) (rows : List Row) (ys : List X) → FirstRows most text params old new rows → AllZip Is rows ys
-        → ys ≡ take most (map shape (filter (λ e. comes_after after e.0) (entries (from_entries {R = name_cmp} (map entry (filter mine xs))))))
+        → ys ≡ take most (map shape (filter (λ e. is_behind after e.0) (entries (from_entries {R = text_cmp} (map entry (filter mine xs))))))
     names_after mine after tests apart most rows ys first read =
-        let later = λ (x : Kept R). comes_after after (name_of x) in
+        let later = λ (x : Kept R). is_behind after (name_of x) in
         let p = λ (x : Kept R). mine x && later x in
         let both = filter_both mine later xs in
         let untied = subst (IsAscending (λ x y. is_eq (by_name x y) ≡ false)) (sym both) (ascending-filter (λ x y. is_eq (by_name x y) ≡ false) later (filter mine xs) apart) in
@@ -110,13 +110,13 @@ module _ {R : Type 0} (cells : R → Row) (table : Table) (old new : State) (own
         ap (sort_by by_name) both ∙ sym (filter-sort_by by_name later (λ x y. still_after after (name_of x) (name_of y)) (filter mine xs)) in
         let all = sort_by by_name (filter mine xs) in
         let taken : rows ≡ map show (take most (filter later all)) = listed ∙ ap (λ l. take most (map show l)) sorted ∙ take-map show most (filter later all) in
-        let shaped : map (λ x. shape (entry x)) (filter later all) ≡ map shape (filter (λ e. comes_after after e.0) (entries (from_entries {R = name_cmp} (map entry (filter mine xs))))) =
-        sym (map-map shape entry (filter later all)) ∙ ap (map shape) (sym (filter-map (λ e. comes_after after e.0) entry all)
-        ∙ ap (filter (λ e. comes_after after e.0)) (sym (entries_sorted_by name_cmp nat_list_cmp_total name_of value_of (filter mine xs) apart))) in
+        let shaped : map (λ x. shape (entry x)) (filter later all) ≡ map shape (filter (λ e. is_behind after e.0) (entries (from_entries {R = text_cmp} (map entry (filter mine xs))))) =
+        sym (map-map shape entry (filter later all)) ∙ ap (map shape) (sym (filter-map (λ e. is_behind after e.0) entry all)
+        ∙ ap (filter (λ e. is_behind after e.0)) (sym (entries_sorted_by text_cmp nat_list_cmp_total name_of value_of (filter mine xs) apart))) in
         read_as Is show (λ x. shape (entry x)) back (take most (filter later all)) rows ys taken read ∙ sym (take-map (λ x. shape (entry x)) most (filter later all)) ∙ ap (take most) shaped
 
     pub all_names : ((x : Kept R) → list_all (holds (params ∷ stored cells x ∷ [])) rest.filter ≡ true) → IsAscending (λ x y. is_eq (by_name x y) ≡ false) xs
-        → (rows : List Row) (ys : List X) → Shown text params old new rows → AllZip Is rows ys → ys ≡ map shape (entries (from_entries {R = name_cmp} (map entry xs)))
+        → (rows : List Row) (ys : List X) → Shown text params old new rows → AllZip Is rows ys → ys ≡ map shape (entries (from_entries {R = text_cmp} (map entry xs)))
     all_names tests apart rows ys shown read =
         let any = λ (x : Kept R). true in
         let each : filter any xs ≡ xs = filter_all any xs (all_of (λ x. any x ≡ true) (λ x. refl) xs) in
@@ -124,4 +124,4 @@ module _ {R : Type 0} (cells : R → Row) (table : Table) (old new : State) (own
         let listed = all_rows_are cells table old new own xs held keyed text params rest column names any tests by_name is untied means whole Is (λ x. shape (entry x)) back rows shown in
         let sorted : rows ≡ map show (sort_by by_name xs) = listed ∙ ap (λ l. map show (sort_by by_name l)) each in
         read_as Is show (λ x. shape (entry x)) back (sort_by by_name xs) rows ys sorted read
-        ∙ sym (map-map shape entry (sort_by by_name xs)) ∙ ap (map shape) (sym (entries_sorted_by name_cmp nat_list_cmp_total name_of value_of xs apart))
+        ∙ sym (map-map shape entry (sort_by by_name xs)) ∙ ap (map shape) (sym (entries_sorted_by text_cmp nat_list_cmp_total name_of value_of xs apart))

@@ -6,12 +6,13 @@ use Rattle.sqlite_value.specs.Order.{Row}
 use Rattle.sqlite.specs.State.{State, Shown}
 use Rattle.statements.specs.Schema.{org_table}
 use Rattle.statements.specs.Rows.{org_cells}
-use Rattle.statements.specs.Tables.{Tables, Holds}
+use Rattle.statements.specs.Tables.{Tables, Holds, org_layout}
 use Rattle.statements.specs.Changes.{is_org}
 use Rattle.statements.specs.Finds.{cap_of}
-use Rattle.statements.specs.Queries.{FirstRow, Pins, IsNumber, IsOrganization}
+use Rattle.statements.specs.Inner.Calls.{FirstRow, Pins, IsNumber, IsOrganization}
 use Rattle.statements.specs.declared.rows.Organization.{Organization}
-use Rattle.statements.specs.Listings.{organization_at, organizations_in, OrgsApart}
+use Rattle.statements.specs.Listings.{organization_row, organizations_in, OrgsApart}
+use Rattle.statements.proofs.Held.{IsHeld, orgs_held}
 use Rattle.statements.proofs.NameLists.{by_text, orgs_apart, all_names}
 use Rattle.statements.proofs.PointReads.{first_own}
 use Rattle.statements.proofs.ReadBack.{number_read, organization_read}
@@ -19,13 +20,16 @@ use Rattle.statements.proofs.Conditions.{one_text}
 use Rattle.statements.proofs.OrgTexts.{list_orgs_text, list_orgs_means, list_orgs_rest, list_orgs_names, org_cap_text, org_cap_means, org_cap_rest}
 
 module _ (old new : State) (t : Tables) (h : Holds old.now t) where
+  abbrev held : IsHeld org_layout old.now t.orgs
+  held = orgs_held old.now t h
+
   pub org_cap_shows : (name : List ℕ) (row : Option Row) → FirstRow org_cap_text (Text name ∷ []) old new row → Pins IsNumber row (cap_of name t)
   org_cap_shows name row first =
-      first_own org_cells org_table old new h.ours.org t.orgs h.orgs h.orgs_keyed org_cap_text (Text name ∷ []) row first org_cap_rest (codes "cap" ∷ [])
-      (is_org name) (λ x. one_text x.1.name name) IsNumber (λ x. x.1.cap) (λ x y told. number_read x.1.cap y told) (org_cap_means old.now.schema _ _ h.ours.org.place) (λ l. refl)
+      first_own org_cells org_table old new held.own t.orgs held.rows held.keyed org_cap_text (Text name ∷ []) row first org_cap_rest (codes "cap" ∷ [])
+      (is_org name) (λ x. one_text x.1.name name) IsNumber (λ x. x.1.cap) (λ x y told. number_read x.1.cap y told) (org_cap_means old.now.schema _ _ held.own.place) (λ l. refl)
 
   pub list_orgs_shows : (rows : List Row) (orgs : List Organization) → OrgsApart t → Shown list_orgs_text [] old new rows → AllZip IsOrganization rows orgs → orgs ≡ organizations_in t
   list_orgs_shows rows orgs apart shown read =
-      all_names org_cells org_table old new h.ours.org t.orgs h.orgs h.orgs_keyed list_orgs_text [] list_orgs_rest 1 list_orgs_names
-      IsOrganization (λ x. x.1.name) (λ x. x.1.cap) organization_at (λ x y told. organization_read x.1.name x.1.cap y told)
-      (λ x y. by_text x.1.name y.1.name) (list_orgs_means old.now.schema _ _ h.ours.org.place) (λ l. refl) (λ x. refl) (orgs_apart t.orgs apart) rows orgs shown read
+      all_names org_cells org_table old new held.own t.orgs held.rows held.keyed list_orgs_text [] list_orgs_rest 1 list_orgs_names
+      IsOrganization (λ x. x.1.name) (λ x. x.1.cap) organization_row (λ x y told. organization_read x.1.name x.1.cap y told)
+      (λ x y. by_text x.1.name y.1.name) (list_orgs_means old.now.schema _ _ held.own.place) (λ l. refl) (λ x. refl) (orgs_apart t.orgs apart) rows orgs shown read

@@ -13,9 +13,9 @@ use Rattle.sqlite_resolve.specs.Compile.{first, command, timed, returning}
 use Rattle.sqlite_resolve.specs.Select.{named}
 use Rattle.sqlite_resolve.specs.Program.{program}
 use Rattle.sqlite_tied.specs.Compute.{everything}
-use Rattle.statements.specs.Place.{IsAt}
+use Rattle.statements.specs.Place.{StandsAt}
 use Rattle.statements.specs.Schema.{org_table}
-use Rattle.statements.specs.Queries.{IsQuery}
+use Rattle.statements.specs.Inner.Calls.{IsQuery}
 use Rattle.statements.proofs.SyntaxTrees as st
 use Rattle.statements.proofs.Meaning.{Means, means, some_parsed, as_read}
 use Rattle.statements.proofs.Reading.{read_is}
@@ -79,7 +79,7 @@ list_orgs_rest = point_rest [] (col 1 1 ∷ col 1 2 ∷ []) no_page
 abbrev pub list_orgs_names : List (List ℕ)
 list_orgs_names = codes "name" ∷ codes "cap" ∷ []
 
-module _ (s : Schema) (at tree : ℕ) (h : IsAt s (codes "org") org_table at tree) where
+module _ (s : Schema) (at tree : ℕ) (h : StandsAt s (codes "org") org_table at tree) where
   list_orgs_named : named s st.list_orgs_core (st.by_column (codes "name")) no_page ≡ Ok ((listing_draft list_orgs_rest tree 1), list_orgs_names, (Some Binary ∷ Some Binary ∷ []))
   unfolding everything
   list_orgs_named = rw (h.named, h.found, h.found, h.found, h.found) refl

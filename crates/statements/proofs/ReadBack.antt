@@ -16,7 +16,7 @@ use Rattle.statements.specs.declared.rows.Run.{Run}
 use Rattle.statements.specs.Rows.{Version, number, flag, role_code, status_code, action_code, kind_cell, lock_id_cell, lock_text_cell, run_cell}
 use Rattle.statements.specs.Finds.{head_of}
 use Rattle.statements.specs.Listings.{version_head_of}
-use Rattle.statements.specs.Queries.{IsFlag, IsTextOrNull, IsHolder, IsWorkspace, IsNamedWorkspace, IsOrganization, IsHead, IsVersionHead, IsActionOrNull, IsRun}
+use Rattle.statements.specs.Inner.Calls.{IsFlagCell, IsTextOrNull, AreHolderCells, IsWorkspace, IsNamedRow, IsOrganization, IsHeadRow, IsVersionHead, IsActionOrNull, IsRunRow}
 use Rattle.statements.proofs.Codes.{same_role, same_status, same_action}
 
 same_code : (m n : ℕ) → number m ≡ number n → m ≡ n
@@ -37,7 +37,7 @@ role_read a b e = sym (same_role a b (same_code _ _ e))
 pub status_read : (a b : RunStatus) → number (status_code a) ≡ number (status_code b) → b ≡ a
 status_read a b e = sym (same_status a b (same_code _ _ e))
 
-flag_read : (b c : Bool) → IsFlag (flag b) c → c ≡ b
+flag_read : (b c : Bool) → IsFlagCell (flag b) c → c ≡ b
 flag_read true c told = let same : told.0 ≡ pos 1 = let e = told.1 in cc in told.2 ∙ ap (λ n. not (int_eq n (pos 0))) same
 flag_read false c told = let same : told.0 ≡ pos 0 = let e = told.1 in cc in told.2 ∙ ap (λ n. not (int_eq n (pos 0))) same
 
@@ -53,7 +53,7 @@ other_code m n e apart = apart (same_code m n e)
 zero_one : (A : Type 0) → number 0 ≡ number 1 → A
 zero_one A e = absurd (let f = same_code 0 1 e in cc)
 
-holder_read : (h g : Holder) → IsHolder (kind_cell h) (lock_id_cell h) (lock_text_cell h) (run_cell h) g → g ≡ h
+holder_read : (h g : Holder) → AreHolderCells (kind_cell h) (lock_id_cell h) (lock_text_cell h) (run_cell h) g → g ≡ h
 holder_read Nobody Nobody told = refl
 holder_read Nobody (Lock i t) told = absurd (let f = same_code 0 1 told.0 in cc)
 holder_read Nobody (HeldByRun n) told = absurd (let f = same_code 0 2 told.0 in cc)
@@ -75,7 +75,7 @@ workspace_read w v told = λ i. record {
 }
 
 pub named_workspace_read : (name : List ℕ) (w : Workspace) (v : NamedWorkspace)
-    → IsNamedWorkspace (flag w.auto ∷ kind_cell w.holder ∷ lock_id_cell w.holder ∷ lock_text_cell w.holder ∷ run_cell w.holder ∷ or_null cell.Text w.released ∷ number w.next_version ∷ number w.next_run ∷ cell.Text name ∷ []) v
+    → IsNamedRow (flag w.auto ∷ kind_cell w.holder ∷ lock_id_cell w.holder ∷ lock_text_cell w.holder ∷ run_cell w.holder ∷ or_null cell.Text w.released ∷ number w.next_version ∷ number w.next_run ∷ cell.Text name ∷ []) v
     → v ≡ record { name = name; it = w }
 named_workspace_read name w v told =
     let it = workspace_read w v.it (record { auto = told.it.auto; holder = told.it.holder; released = told.it.released; next_version = told.it.next_version; next_run = told.it.next_run }) in
@@ -93,7 +93,7 @@ version_head_read v h told = λ i. record {
   size = number_read (length v.body) h.size told.size i;
 }
 
-pub head_read : (v : Version) (h : Head) → IsHead (number v.number ∷ number v.serial ∷ cell.Text v.lineage ∷ number (length v.body) ∷ []) h → h ≡ head_of v
+pub head_read : (v : Version) (h : Head) → IsHeadRow (number v.number ∷ number v.serial ∷ cell.Text v.lineage ∷ number (length v.body) ∷ []) h → h ≡ head_of v
 head_read v h told = λ i. record {
   number = number_read v.number h.number told.number_is i;
   serial = number_read v.serial h.serial told.serial i;
@@ -108,7 +108,7 @@ action_read (Some a) None told = absurd (cc)
 action_read (Some a) (Some b) told = ap Some (sym (same_action a b (same_code _ _ told)))
 
 pub run_read : (r q : Run)
-    → IsRun (number r.number ∷ flag r.plan_only ∷ or_null cell.Text r.key ∷ cell.Text r.message ∷ number r.created ∷ number (status_code r.status) ∷ or_null (λ a. number (action_code a)) r.action ∷ []) q → q ≡ r
+    → IsRunRow (number r.number ∷ flag r.plan_only ∷ or_null cell.Text r.key ∷ cell.Text r.message ∷ number r.created ∷ number (status_code r.status) ∷ or_null (λ a. number (action_code a)) r.action ∷ []) q → q ≡ r
 run_read r q told = λ i. record {
   number = number_read r.number q.number told.number_is i;
   plan_only = flag_read r.plan_only q.plan_only told.plan_only i;

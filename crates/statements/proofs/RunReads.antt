@@ -7,12 +7,13 @@ use Rattle.sqlite_keyed.proofs.ListLemmas.{first_taken}
 use Rattle.sqlite.specs.State.{State}
 use Rattle.statements.specs.Schema.{run_table}
 use Rattle.statements.specs.Rows.{run_cells, number}
-use Rattle.statements.specs.Tables.{Tables, Holds}
-use Rattle.statements.specs.Changes.{is_run, is_run_of}
-use Rattle.statements.specs.Finds.{is_waiting, first_waiting_of, status_of, is_run_with_key, is_open_run_of, run_of, keyed_run_of, open_runs_of}
-use Rattle.statements.specs.Queries.{FirstRow, FirstRows, Pins, IsNumber, IsStatus, IsRun}
+use Rattle.statements.specs.Tables.{Tables, Holds, run_layout}
+use Rattle.statements.specs.Changes.{is_run_row, is_run_of}
+use Rattle.statements.specs.Finds.{is_waiting_of, first_waiting_of, status_at_number, is_run_with_key, is_open_run_of, run_at_number, keyed_run_of, open_runs_of}
+use Rattle.statements.specs.Inner.Calls.{FirstRow, FirstRows, Pins, IsNumber, IsStatus, IsRunRow}
 use Rattle.statements.specs.declared.rows.Run.{Run}
-use Rattle.statements.specs.Listings.{runs_after, RunsRise}
+use Rattle.statements.specs.Listings.{run_rows_after, RunsRise}
+use Rattle.statements.proofs.Held.{IsHeld, runs_held}
 use Rattle.statements.proofs.Listed.{by_column, numbered_are}
 use Rattle.statements.proofs.PointReads.{first_own, count_own}
 use Rattle.statements.proofs.ReadBack.{number_read, status_read, run_read}
@@ -20,34 +21,37 @@ use Rattle.statements.proofs.Conditions.{two_texts_number, two_texts_above, two_
 use Rattle.statements.proofs.RunTexts.{list_runs_text, list_runs_means, list_runs_rest, first_waiting_text, first_waiting_means, first_waiting_rest, run_status_text, run_status_means, run_status_rest, run_names, find_run_text, find_run_means, find_run_rest, find_keyed_run_text, find_keyed_run_means, find_keyed_run_rest, count_open_runs_text, count_open_runs_means, count_open_runs_rest}
 
 module _ (old new : State) (t : Tables) (h : Holds old.now t) where
+  abbrev held : IsHeld run_layout old.now t.runs
+  held = runs_held old.now t h
+
   pub first_waiting_shows : (org ws : List ℕ) (row : Option Row) → FirstRow first_waiting_text (Text org ∷ Text ws ∷ []) old new row → Pins IsNumber row (first_waiting_of org ws t)
   first_waiting_shows org ws row first =
-      first_own run_cells run_table old new h.ours.run t.runs h.runs h.runs_keyed first_waiting_text (Text org ∷ Text ws ∷ []) row first first_waiting_rest (codes "number" ∷ [])
-      (is_waiting org ws) (λ x. waits x.1.org org x.1.ws ws x.1.it.status x.1.it.plan_only) IsNumber (λ x. x.1.it.number) (λ x y told. number_read x.1.it.number y told) (first_waiting_means old.now.schema _ _ h.ours.run.place) first_taken
+      first_own run_cells run_table old new held.own t.runs held.rows held.keyed first_waiting_text (Text org ∷ Text ws ∷ []) row first first_waiting_rest (codes "number" ∷ [])
+      (is_waiting_of org ws) (λ x. waits x.1.org org x.1.ws ws x.1.it.status x.1.it.plan_only) IsNumber (λ x. x.1.it.number) (λ x y told. number_read x.1.it.number y told) (first_waiting_means old.now.schema _ _ held.own.place) first_taken
 
-  pub run_status_shows : (org ws : List ℕ) (run : ℕ) (row : Option Row) → FirstRow run_status_text (Text org ∷ Text ws ∷ number run ∷ []) old new row → Pins IsStatus row (status_of org ws run t)
+  pub run_status_shows : (org ws : List ℕ) (run : ℕ) (row : Option Row) → FirstRow run_status_text (Text org ∷ Text ws ∷ number run ∷ []) old new row → Pins IsStatus row (status_at_number org ws run t)
   run_status_shows org ws run row first =
-      first_own run_cells run_table old new h.ours.run t.runs h.runs h.runs_keyed run_status_text (Text org ∷ Text ws ∷ number run ∷ []) row first run_status_rest (codes "status" ∷ [])
-      (is_run org ws run) (λ x. two_texts_number x.1.org org x.1.ws ws x.1.it.number run) IsStatus (λ x. x.1.it.status) (λ x y told. status_read x.1.it.status y told) (run_status_means old.now.schema _ _ h.ours.run.place) (λ l. refl)
+      first_own run_cells run_table old new held.own t.runs held.rows held.keyed run_status_text (Text org ∷ Text ws ∷ number run ∷ []) row first run_status_rest (codes "status" ∷ [])
+      (is_run_row org ws run) (λ x. two_texts_number x.1.org org x.1.ws ws x.1.it.number run) IsStatus (λ x. x.1.it.status) (λ x y told. status_read x.1.it.status y told) (run_status_means old.now.schema _ _ held.own.place) (λ l. refl)
 
-  pub find_run_shows : (org ws : List ℕ) (n : ℕ) (row : Option Row) → FirstRow find_run_text (Text org ∷ Text ws ∷ number n ∷ []) old new row → Pins IsRun row (run_of org ws n t)
+  pub find_run_shows : (org ws : List ℕ) (n : ℕ) (row : Option Row) → FirstRow find_run_text (Text org ∷ Text ws ∷ number n ∷ []) old new row → Pins IsRunRow row (run_at_number org ws n t)
   find_run_shows org ws n row first =
-      first_own run_cells run_table old new h.ours.run t.runs h.runs h.runs_keyed find_run_text (Text org ∷ Text ws ∷ number n ∷ []) row first find_run_rest run_names
-      (is_run org ws n) (λ x. two_texts_number x.1.org org x.1.ws ws x.1.it.number n) IsRun (λ x. x.1.it) (λ x y told. run_read x.1.it y told) (find_run_means old.now.schema _ _ h.ours.run.place) (λ l. refl)
+      first_own run_cells run_table old new held.own t.runs held.rows held.keyed find_run_text (Text org ∷ Text ws ∷ number n ∷ []) row first find_run_rest run_names
+      (is_run_row org ws n) (λ x. two_texts_number x.1.org org x.1.ws ws x.1.it.number n) IsRunRow (λ x. x.1.it) (λ x y told. run_read x.1.it y told) (find_run_means old.now.schema _ _ held.own.place) (λ l. refl)
 
-  pub find_keyed_run_shows : (org ws key : List ℕ) (row : Option Row) → FirstRow find_keyed_run_text (Text org ∷ Text ws ∷ Text key ∷ []) old new row → Pins IsRun row (keyed_run_of org ws key t)
+  pub find_keyed_run_shows : (org ws key : List ℕ) (row : Option Row) → FirstRow find_keyed_run_text (Text org ∷ Text ws ∷ Text key ∷ []) old new row → Pins IsRunRow row (keyed_run_of org ws key t)
   find_keyed_run_shows org ws key row first =
-      first_own run_cells run_table old new h.ours.run t.runs h.runs h.runs_keyed find_keyed_run_text (Text org ∷ Text ws ∷ Text key ∷ []) row first find_keyed_run_rest run_names
-      (is_run_with_key org ws key) (λ x. two_texts_key x.1.org org x.1.ws ws key x.1.it.key) IsRun (λ x. x.1.it) (λ x y told. run_read x.1.it y told) (find_keyed_run_means old.now.schema _ _ h.ours.run.place) (λ l. refl)
+      first_own run_cells run_table old new held.own t.runs held.rows held.keyed find_keyed_run_text (Text org ∷ Text ws ∷ Text key ∷ []) row first find_keyed_run_rest run_names
+      (is_run_with_key org ws key) (λ x. two_texts_key x.1.org org x.1.ws ws key x.1.it.key) IsRunRow (λ x. x.1.it) (λ x y told. run_read x.1.it y told) (find_keyed_run_means old.now.schema _ _ held.own.place) (λ l. refl)
 
-  pub list_runs_shows : (org ws : List ℕ) (after most : ℕ) (rows : List Row) (runs : List Run) → RunsRise org ws t → FirstRows most list_runs_text (Text org ∷ Text ws ∷ number after ∷ []) old new rows → AllZip IsRun rows runs
-      → runs ≡ runs_after org ws after most t
+  pub list_runs_shows : (org ws : List ℕ) (after most : ℕ) (rows : List Row) (runs : List Run) → RunsRise org ws t → FirstRows most list_runs_text (Text org ∷ Text ws ∷ number after ∷ []) old new rows → AllZip IsRunRow rows runs
+      → runs ≡ run_rows_after org ws after most t
   list_runs_shows org ws after most rows runs rise first read =
-      numbered_are run_cells run_table old new h.ours.run t.runs h.runs h.runs_keyed list_runs_text (Text org ∷ Text ws ∷ number after ∷ []) list_runs_rest 3 run_names
-      IsRun (λ r. r.number) (λ x. x.1.it) (is_run_of org ws) after (λ x. two_texts_above x.1.org org x.1.ws ws x.1.it.number after) (λ x y told. run_read x.1.it y told)
-      (λ x y. by_column x.1.it.number y.1.it.number) (list_runs_means old.now.schema _ _ h.ours.run.place) (λ l. refl) most rows runs rise first read
+      numbered_are run_cells run_table old new held.own t.runs held.rows held.keyed list_runs_text (Text org ∷ Text ws ∷ number after ∷ []) list_runs_rest 3 run_names
+      IsRunRow (λ r. r.number) (λ x. x.1.it) (is_run_of org ws) after (λ x. two_texts_above x.1.org org x.1.ws ws x.1.it.number after) (λ x y told. run_read x.1.it y told)
+      (λ x y. by_column x.1.it.number y.1.it.number) (list_runs_means old.now.schema _ _ held.own.place) (λ l. refl) most rows runs rise first read
 
   pub count_open_runs_shows : (org ws : List ℕ) (row : Option Row) → FirstRow count_open_runs_text (Text org ∷ Text ws ∷ []) old new row → row ≡ Some (number (open_runs_of org ws t) ∷ [])
   count_open_runs_shows org ws row first =
-      count_own run_cells run_table old new h.ours.run t.runs h.runs h.runs_keyed count_open_runs_text (Text org ∷ Text ws ∷ []) row first count_open_runs_rest (codes "count(*)" ∷ [])
-      (is_open_run_of org ws) (λ x. two_texts_open x.1.org org x.1.ws ws x.1.it.status) (count_open_runs_means old.now.schema _ _ h.ours.run.place) (λ l. refl)
+      count_own run_cells run_table old new held.own t.runs held.rows held.keyed count_open_runs_text (Text org ∷ Text ws ∷ []) row first count_open_runs_rest (codes "count(*)" ∷ [])
+      (is_open_run_of org ws) (λ x. two_texts_open x.1.org org x.1.ws ws x.1.it.status) (count_open_runs_means old.now.schema _ _ held.own.place) (λ l. refl)

@@ -14,9 +14,9 @@ use Rattle.sqlite_resolve.specs.Compile.{first, command, timed, returning}
 use Rattle.sqlite_resolve.specs.Select.{named}
 use Rattle.sqlite_resolve.specs.Program.{program}
 use Rattle.sqlite_tied.specs.Compute.{everything}
-use Rattle.statements.specs.Place.{IsAt}
+use Rattle.statements.specs.Place.{StandsAt}
 use Rattle.statements.specs.Schema.{run_table}
-use Rattle.statements.specs.Queries.{IsQuery}
+use Rattle.statements.specs.Inner.Calls.{IsQuery}
 use Rattle.statements.proofs.SyntaxTrees as st
 use Rattle.statements.proofs.Meaning.{Means, means, some_parsed, as_read}
 use Rattle.statements.proofs.Reading.{read_is}
@@ -167,7 +167,7 @@ list_runs_is_query = (list_runs_select, some_parsed (first list_runs_text), list
 abbrev pub list_runs_rest : Query
 list_runs_rest = point_rest (is_at 1 0 ∷ is_at 2 1 ∷ is_above 3 2 ∷ []) run_shown no_page
 
-module _ (s : Schema) (at tree : ℕ) (h : IsAt s (codes "run") run_table at tree) where
+module _ (s : Schema) (at tree : ℕ) (h : StandsAt s (codes "run") run_table at tree) where
   list_runs_named : named s st.list_runs_core (st.by_column (codes "number")) no_page ≡ Ok ((listing_draft list_runs_rest tree 3), run_names, (Some Binary ∷ Some Binary ∷ Some Binary ∷ Some Binary ∷ Some Binary ∷ Some Binary ∷ Some Binary ∷ []))
   unfolding everything
   list_runs_named = rw (h.named, h.found, h.found, h.found, h.found) refl

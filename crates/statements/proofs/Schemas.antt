@@ -9,8 +9,8 @@ use Rattle.sqlite.proofs.InsideLemmas.{keeps_then}
 use Rattle.statements.specs.Place.{IsOwn, tree_of}
 use Rattle.statements.specs.Schema.{meta_table}
 use Rattle.statements.specs.Steps.{Moves}
-use Rattle.statements.specs.Tables.{Holds}
-use Rattle.statements.specs.Making.{AreMade, KeepsTables, GrowsBy, GrowsByAll, KeepsMade, LeavesOthers, HasSchema, Alters, our_tables, no_rows, version_set}
+use Rattle.statements.specs.Tables.{Holds, no_rows, our_tables}
+use Rattle.statements.specs.Making.{AreMade, KeepsTables, GrowsBy, GrowsByAll, KeepsMade, LeavesOthers, HasSchema, Alters, version_set}
 use Rattle.statements.proofs.Begin.{none_made, holds_none}
 use Rattle.statements.proofs.Grown.{tree_stays}
 use Rattle.statements.proofs.Makes.{tables_kept_then, kept_then, front}
@@ -40,14 +40,14 @@ pub grown_then : (xs ys : List Table) (a b c : Database) → GrowsByAll xs a b �
 grown_then xs ys a b c g h = record {
   made = λ ts m. subst (λ l. AreMade l c) (append_assoc ts xs ys) (h.made (ts ++ xs) (g.made ts m));
   kept = tables_kept_then a b c g.kept h.kept;
-  apart = all-append _ xs ys (moved_apart a b c h.kept xs (g.made [] (none_made a)).own g.apart) (front_apart a b c g.kept ys h.apart);
+  apart = all-append _ xs ys (moved_apart a b c h.kept xs (g.made [] (none_made a)).own.own g.apart) (front_apart a b c g.kept ys h.apart);
 }
 
 -- the last step: the version is set
 pub schema_set : (a b c : Database) → GrowsByAll our_tables a b → ((t : _) → Holds b t → Holds c (version_set t)) → LeavesOthers meta_table b c → HasSchema a c
 schema_set a b c g sets leaves =
     let made = g.made [] (none_made a) in
-    let left = leaves made.own.0 in
+    let left = leaves made.own.own.0 in
     let rows = (front (λ (t : Table). t.tree ≢ tree_of b.schema meta_table.name → c.trees t.tree ≡ b.trees t.tree) a.schema.tables g.kept.more
     (subst (AllByRecursion (λ (t : Table). t.tree ≢ tree_of b.schema meta_table.name → c.trees t.tree ≡ b.trees t.tree)) g.kept.tables left.1)).0 in
     record {

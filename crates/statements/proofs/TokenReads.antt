@@ -5,22 +5,26 @@ use Rattle.sqlite_value.specs.Order.{Row}
 use Rattle.sqlite.specs.State.{State}
 use Rattle.statements.specs.Schema.{token_table}
 use Rattle.statements.specs.Rows.{token_cells}
-use Rattle.statements.specs.Tables.{Tables, Holds}
-use Rattle.statements.specs.Changes.{is_token, has_digest}
+use Rattle.statements.specs.Tables.{Tables, Holds, token_layout}
+use Rattle.statements.specs.Changes.{is_token, is_digest_of}
 use Rattle.statements.specs.Finds.{role_of_digest, role_of_name}
-use Rattle.statements.specs.Queries.{FirstRow, Pins, IsRole}
+use Rattle.statements.specs.Inner.Calls.{FirstRow, Pins, IsRole}
+use Rattle.statements.proofs.Held.{IsHeld, tokens_held}
 use Rattle.statements.proofs.PointReads.{first_own}
 use Rattle.statements.proofs.ReadBack.{role_read}
 use Rattle.statements.proofs.Conditions.{two_texts, text_blob}
 use Rattle.statements.proofs.TokenTexts.{token_role_text, token_role_means, token_role_rest, named_token_role_text, named_token_role_means, named_token_role_rest}
 
 module _ (old new : State) (t : Tables) (h : Holds old.now t) where
+  abbrev held : IsHeld token_layout old.now t.tokens
+  held = tokens_held old.now t h
+
   pub token_role_shows : (org digest : List ℕ) (row : Option Row) → FirstRow token_role_text (Text org ∷ Blob digest ∷ []) old new row → Pins IsRole row (role_of_digest org digest t)
   token_role_shows org digest row first =
-      first_own token_cells token_table old new h.ours.token t.tokens h.tokens h.tokens_keyed token_role_text (Text org ∷ Blob digest ∷ []) row first token_role_rest (codes "role" ∷ [])
-      (has_digest org digest) (λ x. text_blob x.1.org org x.1.it.digest digest) IsRole (λ x. x.1.it.role) (λ x y told. role_read x.1.it.role y told) (token_role_means old.now.schema _ _ h.ours.token.place) (λ l. refl)
+      first_own token_cells token_table old new held.own t.tokens held.rows held.keyed token_role_text (Text org ∷ Blob digest ∷ []) row first token_role_rest (codes "role" ∷ [])
+      (is_digest_of org digest) (λ x. text_blob x.1.org org x.1.it.digest digest) IsRole (λ x. x.1.it.role) (λ x y told. role_read x.1.it.role y told) (token_role_means old.now.schema _ _ held.own.place) (λ l. refl)
 
   pub named_token_role_shows : (org name : List ℕ) (row : Option Row) → FirstRow named_token_role_text (Text org ∷ Text name ∷ []) old new row → Pins IsRole row (role_of_name org name t)
   named_token_role_shows org name row first =
-      first_own token_cells token_table old new h.ours.token t.tokens h.tokens h.tokens_keyed named_token_role_text (Text org ∷ Text name ∷ []) row first named_token_role_rest (codes "role" ∷ [])
-      (is_token org name) (λ x. two_texts x.1.org org x.1.name name) IsRole (λ x. x.1.it.role) (λ x y told. role_read x.1.it.role y told) (named_token_role_means old.now.schema _ _ h.ours.token.place) (λ l. refl)
+      first_own token_cells token_table old new held.own t.tokens held.rows held.keyed named_token_role_text (Text org ∷ Text name ∷ []) row first named_token_role_rest (codes "role" ∷ [])
+      (is_token org name) (λ x. two_texts x.1.org org x.1.name name) IsRole (λ x. x.1.it.role) (λ x y told. role_read x.1.it.role y told) (named_token_role_means old.now.schema _ _ held.own.place) (λ l. refl)

@@ -13,9 +13,9 @@ use Rattle.sqlite_resolve.specs.Compile.{first, command, timed, returning}
 use Rattle.sqlite_resolve.specs.Select.{named}
 use Rattle.sqlite_resolve.specs.Program.{program}
 use Rattle.sqlite_tied.specs.Compute.{everything}
-use Rattle.statements.specs.Place.{IsAt}
+use Rattle.statements.specs.Place.{StandsAt}
 use Rattle.statements.specs.Schema.{token_table}
-use Rattle.statements.specs.Queries.{IsQuery}
+use Rattle.statements.specs.Inner.Calls.{IsQuery}
 use Rattle.statements.proofs.SyntaxTrees as st
 use Rattle.statements.proofs.Meaning.{Means, means, some_parsed, as_read}
 use Rattle.statements.proofs.Reading.{read_is}
@@ -75,7 +75,7 @@ remove_token_reads = refl
 abbrev pub remove_token_query : ℕ → Query
 remove_token_query tree = delete_query tree (is_at 1 0 ∷ is_at 2 1 ∷ [])
 
-module _ (s : Schema) (at tree : ℕ) (h : IsAt s (codes "token") token_table at tree) where
+module _ (s : Schema) (at tree : ℕ) (h : StandsAt s (codes "token") token_table at tree) where
   add_token_is : (base : ℕ) → command s [] base st.add_token ≡ Ok (Insert at (Values add_token_terms 5))
   unfolding everything
   add_token_is base = rw (h.named, h.found) refl

@@ -4,10 +4,12 @@ use Rattle.sqlite_value.specs.declared.value.Value.TheVariants.{Text, Blob}
 use Rattle.sqlite.specs.State.{State, Executes}
 use Rattle.sqlite_keyed.proofs.KeyedLemmas.{IsKeyedBy-delete_where}
 use Rattle.basis.specs.declared.roles.Role.{Role}
+use Rattle.statements.specs.Place.{tree_of}
 use Rattle.statements.specs.Schema.{token_table}
 use Rattle.statements.specs.Rows.{id_of, TokenRow, token_cells, number, role_code}
-use Rattle.statements.specs.Tables.{Tables, Holds, token_tree}
-use Rattle.statements.specs.Changes.{is_token, token_added, token_removed}
+use Rattle.statements.specs.Tables.{Tables, Holds, token_layout}
+use Rattle.statements.specs.Changes.{is_token, token_row_added, token_removed}
+use Rattle.statements.proofs.Held.{IsHeld, tokens_held}
 use Rattle.statements.proofs.Own.{delete_own, insert_own, keyed_next}
 use Rattle.statements.proofs.Casts.{token_casts}
 use Rattle.statements.proofs.Frames.{tokens_written}
@@ -15,15 +17,18 @@ use Rattle.statements.proofs.Conditions.{two_texts}
 use Rattle.statements.proofs.TokenTexts.{add_token_text, add_token_means, add_token_terms, remove_token_text, remove_token_means, remove_token_query}
 
 module _ (old new : State) (count : ℕ) (t : Tables) (h : Holds old.now t) where
-  pub add_token_does : (org name digest : List ℕ) (role : Role) → Executes add_token_text (Text org ∷ Text name ∷ Blob digest ∷ number (role_code role) ∷ []) old new (Ok count) → Holds new.now (token_added org name digest role t)
+  abbrev held : IsHeld token_layout old.now t.tokens
+  held = tokens_held old.now t h
+
+  pub add_token_does : (org name digest : List ℕ) (role : Role) → Executes add_token_text (Text org ∷ Text name ∷ Blob digest ∷ number (role_code role) ∷ []) old new (Ok count) → Holds new.now (token_row_added org name digest role t)
   add_token_does org name digest role ran =
       let row : TokenRow = record { org = org; name = name; it = record { digest = digest; role = role } } in
-      let left = insert_own token_cells token_table token_casts old new h.ours.token t.tokens h.tokens h.tokens_keyed add_token_text (Text org ∷ Text name ∷ Blob digest ∷ number (role_code role) ∷ []) count ran
-      add_token_terms 5 (add_token_means old.now.schema _ _ h.ours.token.place) refl refl row refl in
-      tokens_written old.now new.now left.1 t h _ left.0 (keyed_next t.tokens row h.tokens_keyed)
+      let left = insert_own token_cells token_table token_casts old new held.own t.tokens held.rows held.keyed add_token_text (Text org ∷ Text name ∷ Blob digest ∷ number (role_code role) ∷ []) count ran
+      add_token_terms 5 (add_token_means old.now.schema _ _ held.own.place) refl refl row refl in
+      tokens_written old.now new.now left.1 t h _ left.0 (keyed_next t.tokens row held.keyed)
 
   pub remove_token_does : (org name : List ℕ) → Executes remove_token_text (Text org ∷ Text name ∷ []) old new (Ok count) → Holds new.now (token_removed org name t)
   remove_token_does org name ran =
-      let left = delete_own token_cells token_table token_casts old new h.ours.token t.tokens h.tokens h.tokens_keyed remove_token_text (Text org ∷ Text name ∷ []) count ran
-      (remove_token_query (token_tree old.now.schema)) (remove_token_means old.now.schema _ _ h.ours.token.place) refl refl refl (λ rows. refl) (is_token org name) (λ x. two_texts x.1.org org x.1.name name) (λ x. refl) in
-      tokens_written old.now new.now left.1 t h _ left.0 (IsKeyedBy-delete_where id_of (is_token org name) t.tokens h.tokens_keyed)
+      let left = delete_own token_cells token_table token_casts old new held.own t.tokens held.rows held.keyed remove_token_text (Text org ∷ Text name ∷ []) count ran
+      (remove_token_query (tree_of old.now.schema token_table.name)) (remove_token_means old.now.schema _ _ held.own.place) refl refl refl (λ rows. refl) (is_token org name) (λ x. two_texts x.1.org org x.1.name name) (λ x. refl) in
+      tokens_written old.now new.now left.1 t h _ left.0 (IsKeyedBy-delete_where id_of (is_token org name) t.tokens held.keyed)

@@ -4,11 +4,11 @@ use Rattle.std.specs.List.{AllZip}
 use Rattle.sqlite_value.specs.Order.{Row}
 use Rattle.sqlite.specs.State.{State, Executes, KeepsCommit, IsUnchanged, IsRolledBack}
 use Rattle.sqlite.specs.declared.error.Error.{Error}
-use Rattle.statements.specs.Queries.{FirstRow, IsCalm, IsRead, AreRead, IsCount, IsNumber, Pins}
+use Rattle.statements.specs.Inner.Calls.{Wrote, WroteAny, FirstRow, IsCalm, IsRead, AreRead, IsCount, IsNumber, Pins}
 use Rattle.statements.specs.Rows.{number}
 use Rattle.sqlite.specs.Effect.{Database}
 use Rattle.statements.specs.Making.{Alters}
-use Rattle.statements.specs.Steps.{Moves, Wrote, WroteAny}
+use Rattle.statements.specs.Steps.{Moves}
 use Rattle.statements.specs.Tables.{Tables, Holds}
 
 pub moves_by : {X E : Type 0} (change : Tables → Tables) (old new : State) (text : List ℕ) (params : Row) (result : Result X E) → Wrote text params old new result

@@ -14,9 +14,9 @@ use Rattle.sqlite_resolve.specs.Compile.{first, command, timed, returning}
 use Rattle.sqlite_resolve.specs.Select.{named}
 use Rattle.sqlite_resolve.specs.Program.{program}
 use Rattle.sqlite_tied.specs.Compute.{everything}
-use Rattle.statements.specs.Place.{IsAt}
+use Rattle.statements.specs.Place.{StandsAt}
 use Rattle.statements.specs.Schema.{version_table}
-use Rattle.statements.specs.Queries.{IsQuery}
+use Rattle.statements.specs.Inner.Calls.{IsQuery}
 use Rattle.statements.proofs.SyntaxTrees as st
 use Rattle.statements.proofs.Meaning.{Means, means, some_parsed, as_read}
 use Rattle.statements.proofs.Reading.{read_is}
@@ -154,7 +154,7 @@ list_versions_rest = point_rest (is_at 1 0 ∷ is_at 2 1 ∷ is_above 3 2 ∷ []
 abbrev pub list_versions_names : List (List ℕ)
 list_versions_names = codes "number" ∷ codes "serial" ∷ codes "lineage" ∷ codes "created" ∷ codes "size" ∷ []
 
-module _ (s : Schema) (at tree : ℕ) (h : IsAt s (codes "version") version_table at tree) where
+module _ (s : Schema) (at tree : ℕ) (h : StandsAt s (codes "version") version_table at tree) where
   list_versions_named : named s st.list_versions_core (st.by_column (codes "number")) no_page ≡ Ok ((listing_draft list_versions_rest tree 3), list_versions_names, (Some Binary ∷ Some Binary ∷ Some Binary ∷ Some Binary ∷ Some Binary ∷ []))
   unfolding everything
   list_versions_named = rw (h.named, h.found, h.found, h.found, h.found) refl

@@ -13,9 +13,9 @@ use Rattle.sqlite_resolve.specs.Compile.{first, command, timed, returning}
 use Rattle.sqlite_resolve.specs.Select.{named}
 use Rattle.sqlite_resolve.specs.Program.{program}
 use Rattle.sqlite_tied.specs.Compute.{everything}
-use Rattle.statements.specs.Place.{IsAt}
+use Rattle.statements.specs.Place.{StandsAt}
 use Rattle.statements.specs.Schema.{ws_table}
-use Rattle.statements.specs.Queries.{IsQuery}
+use Rattle.statements.specs.Inner.Calls.{IsQuery}
 use Rattle.statements.proofs.SyntaxTrees as st
 use Rattle.statements.proofs.Meaning.{Means, means, some_parsed, as_read}
 use Rattle.statements.proofs.Reading.{read_is}
@@ -165,7 +165,7 @@ list_ws_rest = point_rest (is_at 1 0 ∷ is_above 2 1 ∷ []) (col 1 3 ∷ col 1
 abbrev pub list_ws_names : List (List ℕ)
 list_ws_names = codes "auto" ∷ codes "kind" ∷ codes "lock_id" ∷ codes "lock_text" ∷ codes "run" ∷ codes "released" ∷ codes "next_version" ∷ codes "next_run" ∷ codes "name" ∷ []
 
-module _ (s : Schema) (at tree : ℕ) (h : IsAt s (codes "ws") ws_table at tree) where
+module _ (s : Schema) (at tree : ℕ) (h : StandsAt s (codes "ws") ws_table at tree) where
   list_ws_named : named s st.list_ws_core (st.by_column (codes "name")) no_page ≡ Ok ((listing_draft list_ws_rest tree 2), list_ws_names, (Some Binary ∷ Some Binary ∷ Some Binary ∷ Some Binary ∷ Some Binary ∷ Some Binary ∷ Some Binary ∷ Some Binary ∷ Some Binary ∷ []))
   unfolding everything
   list_ws_named = rw (h.named, h.found, h.found, h.found, h.found) refl

@@ -22,8 +22,8 @@ with_next r xs = xs ++ (next_key id_of xs, r) ∷ []
 abbrev pub is_org : List ℕ → Kept OrgRow → Bool
 is_org name x = bytes_eq x.1.name name
 
-abbrev pub org_added : List ℕ → ℕ → Tables → Tables
-org_added name cap t = record t { orgs = with_next (record { name = name; cap = cap }) t.orgs }
+abbrev pub org_row_added : List ℕ → ℕ → Tables → Tables
+org_row_added name cap t = record t { orgs = with_next (record { name = name; cap = cap }) t.orgs }
 
 -- the organization may have so many workspaces
 abbrev pub org_capped : List ℕ → ℕ → Tables → Tables
@@ -34,11 +34,11 @@ org_capped name cap t = record t { orgs = update_where (is_org name) (λ x. (x.0
 abbrev pub is_token : List ℕ → List ℕ → Kept TokenRow → Bool
 is_token org name x = bytes_eq x.1.org org && bytes_eq x.1.name name
 
-abbrev pub has_digest : List ℕ → List ℕ → Kept TokenRow → Bool
-has_digest org digest x = bytes_eq x.1.org org && bytes_eq x.1.it.digest digest
+abbrev pub is_digest_of : List ℕ → List ℕ → Kept TokenRow → Bool
+is_digest_of org digest x = bytes_eq x.1.org org && bytes_eq x.1.it.digest digest
 
-abbrev pub token_added : List ℕ → List ℕ → List ℕ → Role → Tables → Tables
-token_added org name digest role t = record t { tokens = with_next (record { org = org; name = name; it = record { digest = digest; role = role } }) t.tokens }
+abbrev pub token_row_added : List ℕ → List ℕ → List ℕ → Role → Tables → Tables
+token_row_added org name digest role t = record t { tokens = with_next (record { org = org; name = name; it = record { digest = digest; role = role } }) t.tokens }
 
 abbrev pub token_removed : List ℕ → List ℕ → Tables → Tables
 token_removed org name t = record t { tokens = delete_where (is_token org name) t.tokens }
@@ -72,11 +72,11 @@ abbrev pub with_next_run : ℕ → Workspace → Workspace
 with_next_run n w = record w { next_run = n }
 
 -- a workspace that nobody holds or held, whose versions and runs begin at 1
-abbrev pub new_workspace : Bool → Workspace
-new_workspace auto = record { auto = auto; holder = Nobody; released = None; next_version = 1; next_run = 1 }
+abbrev pub workspace_made : Bool → Workspace
+workspace_made auto = record { auto = auto; holder = Nobody; released = None; next_version = 1; next_run = 1 }
 
 abbrev pub ws_added : List ℕ → List ℕ → Bool → Tables → Tables
-ws_added org name auto t = record t { wss = with_next (record { org = org; name = name; it = new_workspace auto }) t.wss }
+ws_added org name auto t = record t { wss = with_next (record { org = org; name = name; it = workspace_made auto }) t.wss }
 
 abbrev pub ws_removed : List ℕ → List ℕ → Tables → Tables
 ws_removed org name t = record t { wss = delete_where (is_ws org name) t.wss }
@@ -109,19 +109,19 @@ versions_removed org ws t = record t { versions = delete_where (is_version_of or
 abbrev pub is_run_of : List ℕ → List ℕ → Kept RunRow → Bool
 is_run_of org ws x = bytes_eq x.1.org org && bytes_eq x.1.ws ws
 
-abbrev pub is_run : List ℕ → List ℕ → ℕ → Kept RunRow → Bool
-is_run org ws n x = bytes_eq x.1.org org && (bytes_eq x.1.ws ws && x.1.it.number == n)
+abbrev pub is_run_row : List ℕ → List ℕ → ℕ → Kept RunRow → Bool
+is_run_row org ws n x = bytes_eq x.1.org org && (bytes_eq x.1.ws ws && x.1.it.number == n)
 
 abbrev pub run_changed_to : RunStatus → List ℕ → List ℕ → ℕ → Tables → Tables
-run_changed_to status org ws n t = record t { runs = update_where (is_run org ws n) (λ x. (x.0, record x.1 { it = record x.1.it { status = status } })) t.runs }
+run_changed_to status org ws n t = record t { runs = update_where (is_run_row org ws n) (λ x. (x.0, record x.1 { it = record x.1.it { status = status } })) t.runs }
 
 -- the run took this action last, and it left the run in this status
 abbrev pub run_acted : RunStatus → RunAction → List ℕ → List ℕ → ℕ → Tables → Tables
-run_acted status action org ws n t = record t { runs = update_where (is_run org ws n) (λ x. (x.0, record x.1 { it = record x.1.it { status = status; action = Some action } })) t.runs }
+run_acted status action org ws n t = record t { runs = update_where (is_run_row org ws n) (λ x. (x.0, record x.1 { it = record x.1.it { status = status; action = Some action } })) t.runs }
 
 -- a run on which nothing has acted
-abbrev pub new_run : ℕ → Bool → Option (List ℕ) → List ℕ → ℕ → RunStatus → Run
-new_run number plan_only key message created status = record { number = number; plan_only = plan_only; key = key; message = message; created = created; status = status; action = None }
+abbrev pub run_made : ℕ → Bool → Option (List ℕ) → List ℕ → ℕ → RunStatus → Run
+run_made number plan_only key message created status = record { number = number; plan_only = plan_only; key = key; message = message; created = created; status = status; action = None }
 
 abbrev pub run_added : List ℕ → List ℕ → Run → Tables → Tables
 run_added org ws it t = record t { runs = with_next (record { org = org; ws = ws; it = it }) t.runs }

@@ -1,9 +1,8 @@
--- The typed rows that trees have: `tables_of` is theirs for every database that holds any.
-use Rattle.std.specs.Prelude.{ℕ, zero, suc, pos, Bool, not, List, map, unsigned_abs, ◌==◌, if◌then◌else◌}
+-- The typed row that a row of a tree stands for.
+use Rattle.std.specs.Prelude.{ℕ, zero, suc, pos, Bool, not, List, unsigned_abs, ◌==◌, if◌then◌else◌}
 use Rattle.std.specs.Ordering.{int_eq}
 use Rattle.sqlite_value.specs.Order.{Row, column}
 use Rattle.sqlite_typed.specs.Columns.{int_of, bytes_of, unless_null}
-use Rattle.sqlite.specs.Effect.{Database}
 use Rattle.basis.specs.declared.roles.Role.{Role}
 use Rattle.basis.specs.declared.roles.Role.TheVariants.{Read, Write, Admin}
 use Rattle.basis.specs.declared.runs.RunStatus.{RunStatus}
@@ -13,7 +12,6 @@ use Rattle.basis.specs.declared.runs.RunAction.TheVariants.{ReportPlanned, Repor
 use Rattle.statements.specs.declared.rows.Holder.{Holder}
 use Rattle.statements.specs.declared.rows.Holder.TheVariants.{Nobody, Lock, Run as HeldByRun}
 use Rattle.statements.specs.Rows.{Kept, OrgRow, TokenRow, WsRow, VersionRow, RunRow}
-use Rattle.statements.specs.Tables.{Tables, meta_tree, org_tree, token_tree, ws_tree, version_tree, run_tree}
 
 abbrev pub number_at : Row → ℕ → ℕ
 number_at r at = unsigned_abs (int_of (column r at))
@@ -90,15 +88,4 @@ run_at r = record {
     status = status_at (number_at r 8);
     action = unless_null (λ v. action_at (unsigned_abs (int_of v))) (column r 9);
   };
-}
-
--- the rows of our tables in a database
-abbrev pub tables_of : Database → Tables
-tables_of db = record {
-  metas = map (kept_by meta_at) (db.trees (meta_tree db.schema));
-  orgs = map (kept_by org_at) (db.trees (org_tree db.schema));
-  tokens = map (kept_by token_at) (db.trees (token_tree db.schema));
-  wss = map (kept_by ws_at) (db.trees (ws_tree db.schema));
-  versions = map (kept_by version_at) (db.trees (version_tree db.schema));
-  runs = map (kept_by run_at) (db.trees (run_tree db.schema));
 }

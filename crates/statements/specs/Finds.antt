@@ -10,7 +10,7 @@ use Rattle.statements.specs.declared.rows.Head.{Head}
 use Rattle.statements.specs.declared.rows.Run.{Run}
 use Rattle.statements.specs.Rows.{Version, Kept, RunRow}
 use Rattle.statements.specs.Tables.{Tables}
-use Rattle.statements.specs.Changes.{is_org, is_token, has_digest, is_ws_of, is_ws, is_version_of, is_version, is_run}
+use Rattle.statements.specs.Changes.{is_org, is_token, is_digest_of, is_ws_of, is_ws, is_version_of, is_version, is_run_row}
 
 -- the last of a list
 abbrev pub last_in : {X : Type 0} → List X → Option X
@@ -26,7 +26,7 @@ abbrev pub cap_of : List ℕ → Tables → Option ℕ
 cap_of org t = option_map (λ x. x.1.cap) (find (is_org org) t.orgs)
 
 abbrev pub role_of_digest : List ℕ → List ℕ → Tables → Option Role
-role_of_digest org digest t = option_map (λ x. x.1.it.role) (find (has_digest org digest) t.tokens)
+role_of_digest org digest t = option_map (λ x. x.1.it.role) (find (is_digest_of org digest) t.tokens)
 
 abbrev pub role_of_name : List ℕ → List ℕ → Tables → Option Role
 role_of_name org name t = option_map (λ x. x.1.it.role) (find (is_token org name) t.tokens)
@@ -49,8 +49,8 @@ abbrev pub number_back : List ℕ → List ℕ → ℕ → Tables → Option ℕ
 number_back org ws place t = option_map (λ x. x.1.it.number) (slice_get (reverse (filter (is_version_of org ws) t.versions)) place)
 
 -- the number of a version, if it is there
-abbrev pub number_of : List ℕ → List ℕ → ℕ → Tables → Option ℕ
-number_of org ws n t = option_map (λ x. x.1.it.number) (find (is_version org ws n) t.versions)
+abbrev pub version_at_number : List ℕ → List ℕ → ℕ → Tables → Option ℕ
+version_at_number org ws n t = option_map (λ x. x.1.it.number) (find (is_version org ws n) t.versions)
 
 abbrev pub body_of : List ℕ → List ℕ → ℕ → Tables → Option (List ℕ)
 body_of org ws n t = option_map (λ x. x.1.it.body) (find (is_version org ws n) t.versions)
@@ -58,31 +58,31 @@ body_of org ws n t = option_map (λ x. x.1.it.body) (find (is_version org ws n) 
 abbrev pub versions_of : List ℕ → List ℕ → Tables → ℕ
 versions_of org ws t = counted (filter (is_version_of org ws) t.versions)
 
-abbrev pub is_pending : RunStatus → Bool
-is_pending Pending = true
-is_pending _ = false
+abbrev pub is_pending_of : RunStatus → Bool
+is_pending_of Pending = true
+is_pending_of _ = false
 
 -- a queued run that is pending
-abbrev pub is_waiting : List ℕ → List ℕ → Kept RunRow → Bool
-is_waiting org ws x = bytes_eq x.1.org org && (bytes_eq x.1.ws ws && (is_pending x.1.it.status && not x.1.it.plan_only))
+abbrev pub is_waiting_of : List ℕ → List ℕ → Kept RunRow → Bool
+is_waiting_of org ws x = bytes_eq x.1.org org && (bytes_eq x.1.ws ws && (is_pending_of x.1.it.status && not x.1.it.plan_only))
 
 -- the number of the waiting run that was added first
 abbrev pub first_waiting_of : List ℕ → List ℕ → Tables → Option ℕ
-first_waiting_of org ws t = option_map (λ x. x.1.it.number) (find (is_waiting org ws) t.runs)
+first_waiting_of org ws t = option_map (λ x. x.1.it.number) (find (is_waiting_of org ws) t.runs)
 
-abbrev pub status_of : List ℕ → List ℕ → ℕ → Tables → Option RunStatus
-status_of org ws n t = option_map (λ x. x.1.it.status) (find (is_run org ws n) t.runs)
+abbrev pub status_at_number : List ℕ → List ℕ → ℕ → Tables → Option RunStatus
+status_at_number org ws n t = option_map (λ x. x.1.it.status) (find (is_run_row org ws n) t.runs)
 
-abbrev pub run_of : List ℕ → List ℕ → ℕ → Tables → Option Run
-run_of org ws n t = option_map (λ x. x.1.it) (find (is_run org ws n) t.runs)
+abbrev pub run_at_number : List ℕ → List ℕ → ℕ → Tables → Option Run
+run_at_number org ws n t = option_map (λ x. x.1.it) (find (is_run_row org ws n) t.runs)
 
 -- a run without a key has none of them
-abbrev pub has_key : List ℕ → Option (List ℕ) → Bool
-has_key key None = false
-has_key key (Some k) = bytes_eq k key
+abbrev pub is_key_of : List ℕ → Option (List ℕ) → Bool
+is_key_of key None = false
+is_key_of key (Some k) = bytes_eq k key
 
 abbrev pub is_run_with_key : List ℕ → List ℕ → List ℕ → Kept RunRow → Bool
-is_run_with_key org ws key x = bytes_eq x.1.org org && (bytes_eq x.1.ws ws && has_key key x.1.it.key)
+is_run_with_key org ws key x = bytes_eq x.1.org org && (bytes_eq x.1.ws ws && is_key_of key x.1.it.key)
 
 abbrev pub keyed_run_of : List ℕ → List ℕ → List ℕ → Tables → Option Run
 keyed_run_of org ws key t = option_map (λ x. x.1.it) (find (is_run_with_key org ws key) t.runs)

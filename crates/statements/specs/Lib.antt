@@ -4,7 +4,7 @@ pub mod Finds
 pub mod Listings
 pub mod Making
 pub mod Place
-pub mod Queries
+pub mod Inner
 pub mod Rows
 pub mod Schema
 pub mod Steps

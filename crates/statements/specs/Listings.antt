@@ -16,11 +16,11 @@ use Rattle.statements.specs.Tables.{Tables}
 use Rattle.statements.specs.Changes.{is_org, is_ws_of, is_ws, is_version_of, is_run_of}
 
 -- the order of names: that of their bytes
-abbrev pub name_cmp : List ℕ → List ℕ → Ordering
-name_cmp = slice_cmp nat_cmp
+abbrev pub text_cmp : List ℕ → List ℕ → Ordering
+text_cmp = slice_cmp nat_cmp
 
-abbrev pub comes_after : List ℕ → List ℕ → Bool
-comes_after a name = is_lt (name_cmp a name)
+abbrev pub is_behind : List ℕ → List ℕ → Bool
+is_behind a name = is_lt (text_cmp a name)
 
 -- each number is below all that follow
 abbrev pub Rise : List ℕ → Type 0
@@ -28,30 +28,30 @@ Rise = IsAscending (λ m n. m < n)
 
 -- ---- organizations
 
-abbrev pub caps : Tables → FinMap name_cmp ℕ
+abbrev pub caps : Tables → FinMap text_cmp ℕ
 caps t = from_entries (map (λ x. (x.1.name, x.1.cap)) t.orgs)
 
-abbrev pub organization_at : List ℕ × ℕ → Organization
-organization_at e = record { name = e.0; cap = e.1 }
+abbrev pub organization_row : List ℕ × ℕ → Organization
+organization_row e = record { name = e.0; cap = e.1 }
 
 -- in the order of their names
 abbrev pub organizations_in : Tables → List Organization
-organizations_in t = map organization_at (entries (caps t))
+organizations_in t = map organization_row (entries (caps t))
 
 abbrev pub OrgsApart : Tables → Type 0
 OrgsApart t = AreApart (λ a b. is_org a.1.name b) t.orgs
 
 -- ---- workspaces
 
-abbrev pub workspaces_by_name : List ℕ → Tables → FinMap name_cmp Workspace
+abbrev pub workspaces_by_name : List ℕ → Tables → FinMap text_cmp Workspace
 workspaces_by_name org t = from_entries (map (λ x. (x.1.name, x.1.it)) (filter (is_ws_of org) t.wss))
 
-abbrev pub workspace_at : List ℕ × Workspace → NamedWorkspace
-workspace_at e = record { name = e.0; it = e.1 }
+abbrev pub named_row : List ℕ × Workspace → NamedWorkspace
+named_row e = record { name = e.0; it = e.1 }
 
 -- those of an organization that come after a name, in the order of their names, no more than so many
-abbrev pub workspaces_after : List ℕ → List ℕ → ℕ → Tables → List NamedWorkspace
-workspaces_after org after most t = take most (map workspace_at (filter (λ e. comes_after after e.0) (entries (workspaces_by_name org t))))
+abbrev pub workspace_rows_after : List ℕ → List ℕ → ℕ → Tables → List NamedWorkspace
+workspace_rows_after org after most t = take most (map named_row (filter (λ e. is_behind after e.0) (entries (workspaces_by_name org t))))
 
 abbrev pub WorkspacesApart : Tables → Type 0
 WorkspacesApart t = AreApart (λ a b. is_ws a.1.org a.1.name b) t.wss
@@ -62,16 +62,16 @@ abbrev pub version_head_of : Version → VersionHead
 version_head_of v = record { number = v.number; serial = v.serial; lineage = v.lineage; created = v.created; size = length v.body }
 
 -- those of a workspace whose numbers are above this one, no more than so many
-abbrev pub versions_after : List ℕ → List ℕ → ℕ → ℕ → Tables → List VersionHead
-versions_after org ws after most t = take most (filter (λ v. nat_lt after v.number) (map (λ x. version_head_of x.1.it) (filter (is_version_of org ws) t.versions)))
+abbrev pub version_rows_after : List ℕ → List ℕ → ℕ → ℕ → Tables → List VersionHead
+version_rows_after org ws after most t = take most (filter (λ v. nat_lt after v.number) (map (λ x. version_head_of x.1.it) (filter (is_version_of org ws) t.versions)))
 
 abbrev pub VersionsRise : List ℕ → List ℕ → Tables → Type 0
 VersionsRise org ws t = Rise (map (λ x. x.1.it.number) (filter (is_version_of org ws) t.versions))
 
 -- ---- runs
 
-abbrev pub runs_after : List ℕ → List ℕ → ℕ → ℕ → Tables → List Run
-runs_after org ws after most t = take most (filter (λ r. nat_lt after r.number) (map (λ x. x.1.it) (filter (is_run_of org ws) t.runs)))
+abbrev pub run_rows_after : List ℕ → List ℕ → ℕ → ℕ → Tables → List Run
+run_rows_after org ws after most t = take most (filter (λ r. nat_lt after r.number) (map (λ x. x.1.it) (filter (is_run_of org ws) t.runs)))
 
 abbrev pub RunsRise : List ℕ → List ℕ → Tables → Type 0
 RunsRise org ws t = Rise (map (λ x. x.1.it.number) (filter (is_run_of org ws) t.runs))

@@ -1,22 +1,20 @@
 -- How the tables are made, in a database that may hold tables of others.
-use Rattle.std.specs.Prelude.{◌≡◌, ◌≢◌, ◌<◌, ℕ, pos, List, [], ◌∷◌, ◌++◌, map, IsTrue, Result, OnOk, OnErr, Option, option_map}
+use Rattle.std.specs.Prelude.{◌≡◌, ◌≢◌, ℕ, pos, List, [], ◌∷◌, ◌++◌, map, IsTrue, Result, OnOk, OnErr, Option, option_map}
 use Rattle.std.specs.List.{AllByRecursion}
-use Rattle.sqlite_trees.specs.Tree.{IsAscending}
 use Rattle.sqlite_schema.specs.declared.schema.Table.{Table}
 use Rattle.sqlite_catalog.specs.Change.{KeepsRows}
 use Rattle.sqlite.specs.Effect.{Database}
 use Rattle.sqlite.specs.State.{State, HasCleanDisk, KeepsCommit}
 use Rattle.sqlite_keyed.specs.Keyed.{IsKeyedBy, insert_by, get_by}
-use Rattle.statements.specs.Place.{at_of, tree_of, IsAt, IsOwn}
-use Rattle.statements.specs.Schema.{meta_table, org_table, token_table, ws_table, version_table, run_table}
+use Rattle.statements.specs.Place.{at_of, tree_of, StandsAt, IsOwn, AreOwn}
+use Rattle.statements.specs.Schema.{meta_table}
 use Rattle.statements.specs.Rows.{Kept, id_of, stored, meta_cells}
-use Rattle.statements.specs.Tables.{Tables, Holds, meta_tree}
+use Rattle.statements.specs.Tables.{Tables, Holds, no_rows}
 
 -- These tables of ours stand in the schema, made in this order, each with no row.
 pub record AreMade (tables : List Table) (db : Database) : Type 0 where
-  pub own : AllByRecursion (IsOwn db.schema) tables
+  pub own : AreOwn db.schema tables
   pub empty : AllByRecursion (λ (t : Table). db.trees (tree_of db.schema t.name) ≡ []) tables
-  pub order : IsAscending (λ (a b : Table). tree_of db.schema a.name < tree_of db.schema b.name) tables
 
 -- Each table that was there stands where it stood, and keeps its rows.
 pub record KeepsTables (old new : Database) : Type 0 where
@@ -58,13 +56,6 @@ abbrev pub LeavesOthers : Table → Database → Database → Type 0
 LeavesOthers table old new =
     IsOwn old.schema table → (new.schema ≡ old.schema) × AllByRecursion (λ (t : Table). t.tree ≢ tree_of old.schema table.name → new.trees t.tree ≡ old.trees t.tree) old.schema.tables
 
--- the tables of schema 1, in the order in which they are made
-abbrev pub our_tables : List Table
-our_tables = meta_table ∷ org_table ∷ token_table ∷ ws_table ∷ version_table ∷ run_table ∷ []
-
-abbrev pub no_rows : Tables
-no_rows = record { metas = []; orgs = []; tokens = []; wss = []; versions = []; runs = [] }
-
 -- the only row of meta, whose rowid is 1
 abbrev pub version_set : Tables → Tables
 version_set t = record t { metas = insert_by id_of t.metas (pos 1, 1) }
@@ -75,11 +66,11 @@ pub record HasSchema (old new : Database) : Type 0 where
   pub kept : KeepsTables old new
 
 -- the version in row 1 of meta
-abbrev pub version_of : List (Kept ℕ) → Option ℕ
-version_of metas = option_map (λ x. x.1) (get_by id_of metas (pos 1))
+abbrev pub told_version : List (Kept ℕ) → Option ℕ
+told_version metas = option_map (λ x. x.1) (get_by id_of metas (pos 1))
 
 abbrev pub version_in : Tables → Option ℕ
-version_in t = version_of t.metas
+version_in t = told_version t.metas
 
 -- a table of meta's name and columns, whatever it checks, refers to and keeps unique
 abbrev pub like_meta : Table → Table
@@ -87,6 +78,6 @@ like_meta t = record t { name = meta_table.name; columns = meta_table.columns; k
 
 -- The name meta means such a table, which has these rows, in the order of their rowids; whatever else the database has.
 pub record HasMeta (db : Database) (table : Table) (metas : List (Kept ℕ)) : Type 0 where
-  pub place : IsAt db.schema meta_table.name (like_meta table) (at_of db.schema meta_table.name) (meta_tree db.schema)
-  pub rows : db.trees (meta_tree db.schema) ≡ map (stored meta_cells) metas
+  pub place : StandsAt db.schema meta_table.name (like_meta table) (at_of db.schema meta_table.name) (tree_of db.schema meta_table.name)
+  pub rows : db.trees (tree_of db.schema meta_table.name) ≡ map (stored meta_cells) metas
   pub keyed : IsKeyedBy id_of metas

@@ -1,6 +1,7 @@
 -- Where a table stands in a schema, whatever other tables, indexes and views stand there too.
-use Rattle.std.specs.Prelude.{◌≡◌, ◌^◌, ℕ, nat_le, nat_lt, true, false, List, [], ◌==◌, find, slice_get, Some, option_map, unwrap_or}
+use Rattle.std.specs.Prelude.{◌≡◌, ◌<◌, ◌^◌, ℕ, nat_le, nat_lt, true, false, List, [], ◌==◌, find, slice_get, Some, option_map, unwrap_or}
 use Rattle.std.specs.List.{AllByRecursion}
+use Rattle.sqlite_trees.specs.Tree.{IsAscending}
 use Rattle.sqlite_schema.specs.declared.schema.Schema.{Schema}
 use Rattle.sqlite_schema.specs.declared.schema.Table.{Table}
 use Rattle.sqlite_schema.specs.Names.{table_named}
@@ -14,7 +15,7 @@ abbrev pub tree_of : Schema → List ℕ → ℕ
 tree_of s name = unwrap_or (option_map (λ (t : Table). t.tree) (slice_get s.tables (at_of s name))) 0
 
 -- The name means the table at this place, which has this tree. A tree stands below those of computed tables.
-pub record IsAt (s : Schema) (name : List ℕ) (table : Table) (at tree : ℕ) : Type 0 where
+pub record StandsAt (s : Schema) (name : List ℕ) (table : Table) (at tree : ℕ) : Type 0 where
   pub named : table_named s name ≡ Some at
   pub found : slice_get s.tables at ≡ Some (record table { tree = tree })
   pub treed : find (λ (t : Table). t.tree == tree) s.tables ≡ Some (record table { tree = tree })
@@ -23,5 +24,10 @@ pub record IsAt (s : Schema) (name : List ℕ) (table : Table) (at tree : ℕ) :
 
 -- The schema has the table under its name, and it refers to no other.
 pub record IsOwn (s : Schema) (table : Table) : Type 0 where
-  pub place : IsAt s table.name table (at_of s table.name) (tree_of s table.name)
+  pub place : StandsAt s table.name table (at_of s table.name) (tree_of s table.name)
   pub bare : AllByRecursion (λ (t : Table). t.tree ≡ tree_of s table.name → t.references ≡ []) s.tables
+
+-- Each of these tables stands somewhere in the schema, and no two have one tree: they were made in this order.
+pub record AreOwn (s : Schema) (tables : List Table) : Type 0 where
+  pub own : AllByRecursion (IsOwn s) tables
+  pub order : IsAscending (λ (a b : Table). tree_of s a.name < tree_of s b.name) tables

@@ -1,7 +1,6 @@
 -- What a statement does: it changes the rows of our tables by a function, or reads a value of them.
-use Rattle.std.specs.Prelude.{◌≡◌, ◌⊎◌, ℕ, Bool, not, ◌==◌, List, IsTrue, Result, Ok, IfOk, OnOk, OnErr}
-use Rattle.sqlite_value.specs.Order.{Row}
-use Rattle.sqlite.specs.State.{State, HasCleanDisk, IsUnchanged, IsRolledBack, KeepsCommit, ExecutesInside}
+use Rattle.std.specs.Prelude.{◌≡◌, ◌⊎◌, IsTrue, Result, IfOk, OnOk, OnErr}
+use Rattle.sqlite.specs.State.{State, HasCleanDisk, IsUnchanged, IsRolledBack, KeepsCommit}
 use Rattle.statements.specs.Tables.{Tables, Holds}
 
 -- The rows change by the function, inside the transaction, which goes on.
@@ -25,11 +24,3 @@ ReadsBy read old new result =
 abbrev pub ReadsWhere : {X E : Type 0} → (Tables → Type 0) → (Tables → X) → State → State → Result X E → Type 0
 ReadsWhere law read old new result =
     HasCleanDisk new → IfOk result (λ x. (t : Tables) → Holds old.now t → law t → x ≡ read t) × (OnOk result (IsUnchanged old new) × OnErr result (IsUnchanged old new ⊎ IsRolledBack old new))
-
--- a text that was run in a transaction
-abbrev pub Wrote : {X E : Type 0} → List ℕ → Row → State → State → Result X E → Type 0
-Wrote text params old new result = OnOk result ((count : ℕ) × ExecutesInside 0 text params old new (Ok count)) × OnErr result (KeepsCommit old new)
-
--- the same, and whether there were rows to write
-abbrev pub WroteAny : {E : Type 0} → List ℕ → Row → State → State → Result Bool E → Type 0
-WroteAny text params old new result = IfOk result (λ any. (count : ℕ) × ExecutesInside 0 text params old new (Ok count) × (any ≡ not (count == 0))) × OnErr result (KeepsCommit old new)

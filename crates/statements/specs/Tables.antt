@@ -1,12 +1,42 @@
--- The rows of all tables, and the databases that hold them.
-use Rattle.std.specs.Prelude.{◌≡◌, ◌<◌, ℕ, List, map}
+-- The tables of schema 1 with their rows, and the databases that hold them.
+use Rattle.std.specs.Prelude.{◌≡◌, ℕ, ℤ, List, [], ◌∷◌, map}
+use Rattle.std.specs.List.{AllByRecursion}
+use Rattle.sqlite_value.specs.Order.{Row, column}
+use Rattle.sqlite_typed.specs.Columns.{int_of}
 use Rattle.sqlite_schema.specs.declared.schema.Schema.{Schema}
+use Rattle.sqlite_schema.specs.declared.schema.Table.{Table}
 use Rattle.sqlite_keyed.specs.Keyed.{IsKeyedBy}
 use Rattle.sqlite.specs.Effect.{Database}
-use Rattle.statements.specs.Place.{tree_of, IsOwn}
+use Rattle.statements.specs.Place.{tree_of, AreOwn}
 use Rattle.statements.specs.Schema.{meta_table, org_table, token_table, ws_table, version_table, run_table}
-use Rattle.statements.specs.Rows.{Kept, id_of, OrgRow, TokenRow, WsRow, VersionRow, RunRow, stored, meta_cells, org_cells, token_cells, ws_cells, version_cells, run_cells}
+use Rattle.statements.specs.Rows.{Kept, OrgRow, TokenRow, WsRow, VersionRow, RunRow, stored, meta_cells, org_cells, token_cells, ws_cells, version_cells, run_cells}
+use Rattle.statements.specs.Decode.{kept_by, meta_at, org_at, token_at, ws_at, version_at, run_at}
 
+-- A table of ours: its definition, the cells that keep a row, and the row that cells keep.
+pub record Layout (R : Type 0) : Type 0 where
+  pub table : Table
+  pub cells : R → Row
+  pub read : Row → R
+
+abbrev pub meta_layout : Layout ℕ
+meta_layout = record { table = meta_table; cells = meta_cells; read = meta_at }
+
+abbrev pub org_layout : Layout OrgRow
+org_layout = record { table = org_table; cells = org_cells; read = org_at }
+
+abbrev pub token_layout : Layout TokenRow
+token_layout = record { table = token_table; cells = token_cells; read = token_at }
+
+abbrev pub ws_layout : Layout WsRow
+ws_layout = record { table = ws_table; cells = ws_cells; read = ws_at }
+
+abbrev pub version_layout : Layout VersionRow
+version_layout = record { table = version_table; cells = version_cells; read = version_at }
+
+abbrev pub run_layout : Layout RunRow
+run_layout = record { table = run_table; cells = run_cells; read = run_at }
+
+-- the rows of our tables
 pub record Tables : Type 0 where
   pub metas : List (Kept ℕ)
   pub orgs : List (Kept OrgRow)
@@ -15,50 +45,57 @@ pub record Tables : Type 0 where
   pub versions : List (Kept VersionRow)
   pub runs : List (Kept RunRow)
 
-abbrev pub meta_tree : Schema → ℕ
-meta_tree s = tree_of s meta_table.name
+abbrev pub no_rows : Tables
+no_rows = record { metas = []; orgs = []; tokens = []; wss = []; versions = []; runs = [] }
 
-abbrev pub org_tree : Schema → ℕ
-org_tree s = tree_of s org_table.name
+-- a table, and the rows that its tree keeps
+pub record StoredTable : Type 0 where
+  pub table : Table
+  pub rows : List Row
 
-abbrev pub token_tree : Schema → ℕ
-token_tree s = tree_of s token_table.name
+abbrev pub stored_table : {R : Type 0} → Layout R → List (Kept R) → StoredTable
+stored_table layout xs = record { table = layout.table; rows = map (stored layout.cells) xs }
 
-abbrev pub ws_tree : Schema → ℕ
-ws_tree s = tree_of s ws_table.name
+-- our tables with these rows, in the order in which they are made
+abbrev pub stored_tables : Tables → List StoredTable
+stored_tables t =
+    stored_table meta_layout t.metas ∷ stored_table org_layout t.orgs ∷ stored_table token_layout t.tokens ∷ stored_table ws_layout t.wss
+    ∷ stored_table version_layout t.versions ∷ stored_table run_layout t.runs ∷ []
 
-abbrev pub version_tree : Schema → ℕ
-version_tree s = tree_of s version_table.name
+abbrev pub tables_in : List StoredTable → List Table
+tables_in = map (λ (x : StoredTable). x.table)
 
-abbrev pub run_tree : Schema → ℕ
-run_tree s = tree_of s run_table.name
+-- the tables of schema 1, in the order in which they are made
+abbrev pub our_tables : List Table
+our_tables = tables_in (stored_tables no_rows)
 
--- Each table of schema 1 stands somewhere in the schema, and no two have one tree: they were made in this order.
-pub record IsOurs (s : Schema) : Type 0 where
-  pub meta : IsOwn s meta_table
-  pub org : IsOwn s org_table
-  pub token : IsOwn s token_table
-  pub ws : IsOwn s ws_table
-  pub version : IsOwn s version_table
-  pub run : IsOwn s run_table
-  pub org_after : meta_tree s < org_tree s
-  pub token_after : org_tree s < token_tree s
-  pub ws_after : token_tree s < ws_tree s
-  pub version_after : ws_tree s < version_tree s
-  pub run_after : version_tree s < run_tree s
+abbrev pub IsOurs : Schema → Type 0
+IsOurs s = AreOwn s our_tables
 
--- The database has these rows in our tables, in the order of their rowids; whatever else it has.
+abbrev pub rowid_of : Row → ℤ
+rowid_of r = int_of (column r 0)
+
+-- The table's tree has these rows, in the order of their rowids.
+pub record HasRows (db : Database) (x : StoredTable) : Type 0 where
+  pub rows : db.trees (tree_of db.schema x.table.name) ≡ x.rows
+  pub keyed : IsKeyedBy rowid_of x.rows
+
+-- The database has our tables with these rows; whatever else it has.
 pub record Holds (db : Database) (t : Tables) : Type 0 where
   pub ours : IsOurs db.schema
-  pub metas : db.trees (meta_tree db.schema) ≡ map (stored meta_cells) t.metas
-  pub orgs : db.trees (org_tree db.schema) ≡ map (stored org_cells) t.orgs
-  pub tokens : db.trees (token_tree db.schema) ≡ map (stored token_cells) t.tokens
-  pub wss : db.trees (ws_tree db.schema) ≡ map (stored ws_cells) t.wss
-  pub versions : db.trees (version_tree db.schema) ≡ map (stored version_cells) t.versions
-  pub runs : db.trees (run_tree db.schema) ≡ map (stored run_cells) t.runs
-  pub metas_keyed : IsKeyedBy id_of t.metas
-  pub orgs_keyed : IsKeyedBy id_of t.orgs
-  pub tokens_keyed : IsKeyedBy id_of t.tokens
-  pub wss_keyed : IsKeyedBy id_of t.wss
-  pub versions_keyed : IsKeyedBy id_of t.versions
-  pub runs_keyed : IsKeyedBy id_of t.runs
+  pub rows : AllByRecursion (HasRows db) (stored_tables t)
+
+-- the typed rows that a table's tree stands for
+abbrev pub rows_of : {R : Type 0} → Layout R → Database → List (Kept R)
+rows_of layout db = map (kept_by layout.read) (db.trees (tree_of db.schema layout.table.name))
+
+-- the rows of our tables in a database: they are those that it holds, if it holds any
+abbrev pub tables_of : Database → Tables
+tables_of db = record {
+  metas = rows_of meta_layout db;
+  orgs = rows_of org_layout db;
+  tokens = rows_of token_layout db;
+  wss = rows_of ws_layout db;
+  versions = rows_of version_layout db;
+  runs = rows_of run_layout db;
+}

@@ -6,8 +6,7 @@ ghost use Rattle.sqlite.specs.Values.{bound};
 ghost use Rattle.sqlite.specs.Held.{state};
 ghost use Rattle.sqlite.specs.State.{HasCleanDisk, Survives, Shown};
 ghost use Rattle.statements.specs.Rows.{role_code, status_code, action_code, flag};
-ghost use Rattle.statements.specs.Steps.{Wrote, WroteAny};
-ghost use Rattle.statements.specs.Queries.{IsQuery, FirstRow, FirstRows, IsCalm, IsRead, AreRead, IsNamedWorkspace, IsOrganization, IsVersionHead, IsFlag, IsTextOrNull, IsHolder, IsWorkspace, IsHead, IsRun, IsBody, IsNumber, IsRole, IsStatusCell, IsActionOrNull, IsStatus, IsCount};
+ghost use Rattle.statements.specs.Inner.Calls.{Wrote, WroteAny, IsQuery, FirstRow, FirstRows, IsCalm, IsRead, AreRead, IsNamedRow, IsOrganization, IsVersionHead, IsFlagCell, IsTextOrNull, AreHolderCells, IsWorkspace, IsHeadRow, IsRunRow, IsBody, IsNumber, IsRole, IsStatusCell, IsActionOrNull, IsStatus, IsCount};
 
 use crate::rows::{Head, Holder, NamedWorkspace, Organization, Run, VersionHead, Workspace};
 use basis::{Bytes, Items, Role, RunAction, RunStatus, Text};
@@ -120,7 +119,7 @@ fn optional_text(row: &Row, at: usize) -> Result<Option<Text>, Error>
 }
 
 fn holder_in(row: &Row) -> Result<Holder, Error>
-    ensures { IfOk result (IsHolder (column row.now 1) (column row.now 2) (column row.now 3) (column row.now 4)) }
+    ensures { IfOk result (AreHolderCells (column row.now 1) (column row.now 2) (column row.now 3) (column row.now 4)) }
 {
     match row.get::<u64>(1)? {
         0 => Ok(Holder::Nobody),
@@ -190,7 +189,7 @@ impl Read for Workspace {
 }
 
 impl Read for NamedWorkspace {
-    ghost is_in = { IsNamedWorkspace };
+    ghost is_in = { IsNamedRow };
 
     fn of_row(row: &Row) -> Result<NamedWorkspace, Error> {
         Ok(NamedWorkspace {
@@ -212,7 +211,7 @@ impl Read for Organization {
 }
 
 impl Read for Head {
-    ghost is_in = { IsHead };
+    ghost is_in = { IsHeadRow };
 
     fn of_row(row: &Row) -> Result<Head, Error> {
         Ok(Head {
@@ -239,7 +238,7 @@ impl Read for VersionHead {
 }
 
 impl Read for Run {
-    ghost is_in = { IsRun };
+    ghost is_in = { IsRunRow };
 
     fn of_row(row: &Row) -> Result<Run, Error> {
         Ok(Run {

@@ -6,7 +6,7 @@ ghost use Rattle.sqlite.specs.Held.{state};
 ghost use Rattle.sqlite.specs.State.{HasCleanDisk, Survives};
 ghost use Rattle.statements.specs.Steps.{ChangesBy, ReadsBy};
 ghost use Rattle.statements.specs.Schema.{meta_table, org_table, token_table, ws_table, version_table, run_table};
-ghost use Rattle.statements.specs.Making.{AltersBy, GrowsBy, GrowsByAll, HasSchema, KeepsMade, LeavesOthers, HasMeta, version_set, version_of, version_in};
+ghost use Rattle.statements.specs.Making.{AltersBy, GrowsBy, GrowsByAll, HasSchema, KeepsMade, LeavesOthers, HasMeta, version_set, told_version, version_in};
 ghost use Rattle.statements.specs.Rows.{Kept};
 
 use crate::calls::{first_row, read_one, write};
@@ -160,7 +160,7 @@ const VERSION: &str = "SELECT version FROM meta WHERE one = 1 ORDER BY rowid";
 pub fn version<S: Alter>(conn: &mut Connection<S>) -> Result<Option<u64>, Error>
     ensures mode { conn.old.in_transaction ≡ false → conn.new.in_transaction ≡ false }
     ensures read { ReadsBy version_in (state S.Store conn.old) (state S.Store conn.new) result }
-    ensures told { HasCleanDisk (state S.Store conn.new) → IfOk result (λ version. (table : Table) (metas : List (Kept ℕ)) → HasMeta (state S.Store conn.old).now table metas → version ≡ version_of metas) }
+    ensures told { HasCleanDisk (state S.Store conn.new) → IfOk result (λ version. (table : Table) (metas : List (Kept ℕ)) → HasMeta (state S.Store conn.old).now table metas → version ≡ told_version metas) }
     ensures survives { Survives (state S.Store conn.old) (state S.Store conn.new) (λ _. ⊥) }
 {
     let row = first_row(conn, VERSION, &[]);

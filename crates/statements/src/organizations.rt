@@ -3,7 +3,7 @@ ghost use Rattle.std.specs.Prelude.{◌≡◌, false, ◌<◌, ◌^◌};
 ghost use Rattle.sqlite.specs.Held.{state};
 ghost use Rattle.sqlite.specs.State.{Survives};
 ghost use Rattle.statements.specs.Steps.{ChangesBy, ReadsBy, ReadsWhere};
-ghost use Rattle.statements.specs.Changes.{org_added, org_capped};
+ghost use Rattle.statements.specs.Changes.{org_row_added, org_capped};
 ghost use Rattle.statements.specs.Listings.{organizations_in, OrgsApart};
 ghost use Rattle.statements.specs.Finds.{cap_of};
 
@@ -43,7 +43,7 @@ const ADD_ORG: &str = "INSERT INTO org (name, cap) VALUES (?1, ?2)";
 pub fn add<S: Alter>(tx: &mut Transaction<'_, S>, name: &str, cap: u64) -> Result<(), Error>
     requires cap_fits { cap < 2 ^ 63 }
     ensures same_reference { tx.new.conn.ghost_name ≡ tx.old.conn.ghost_name }
-    ensures changed { ChangesBy (org_added name.now cap) (state S.Store tx.old.conn.now) (state S.Store tx.new.conn.now) result }
+    ensures changed { ChangesBy (org_row_added name.now cap) (state S.Store tx.old.conn.now) (state S.Store tx.new.conn.now) result }
     ensures survives { Survives (state S.Store tx.old.conn.now) (state S.Store tx.new.conn.now) (λ _. ⊥) }
 {
     let cap = signed(cap);

@@ -3,9 +3,9 @@ ghost use Rattle.std.specs.Prelude.{◌≡◌, false, option_map, ◌<◌, ◌^�
 ghost use Rattle.sqlite.specs.Held.{state};
 ghost use Rattle.sqlite.specs.State.{Survives};
 ghost use Rattle.statements.specs.Steps.{ChangesBy, ReadsBy, ReadsWhere};
-ghost use Rattle.statements.specs.Changes.{run_changed_to, run_acted, run_added, new_run, runs_removed};
-ghost use Rattle.statements.specs.Listings.{runs_after, RunsRise};
-ghost use Rattle.statements.specs.Finds.{first_waiting_of, status_of, run_of, keyed_run_of, open_runs_of};
+ghost use Rattle.statements.specs.Changes.{run_changed_to, run_acted, run_added, run_made, runs_removed};
+ghost use Rattle.statements.specs.Listings.{run_rows_after, RunsRise};
+ghost use Rattle.statements.specs.Finds.{first_waiting_of, status_at_number, run_at_number, keyed_run_of, open_runs_of};
 
 use crate::calls::{
     action_number, count_of, first_row, first_rows, read_all, read_one, signed, status_number,
@@ -45,7 +45,7 @@ pub fn status<S: Alter>(
 ) -> Result<Option<RunStatus>, Error>
     requires run_fits { run < 2 ^ 63 }
     ensures mode { conn.old.in_transaction ≡ false → conn.new.in_transaction ≡ false }
-    ensures read { ReadsBy (status_of org.now ws.now run) (state S.Store conn.old) (state S.Store conn.new) result }
+    ensures read { ReadsBy (status_at_number org.now ws.now run) (state S.Store conn.old) (state S.Store conn.new) result }
     ensures survives { Survives (state S.Store conn.old) (state S.Store conn.new) (λ _. ⊥) }
 {
     let run = signed(run);
@@ -65,7 +65,7 @@ pub fn find<S: Alter>(
 ) -> Result<Option<Run>, Error>
     requires number_fits { number < 2 ^ 63 }
     ensures mode { conn.old.in_transaction ≡ false → conn.new.in_transaction ≡ false }
-    ensures read { ReadsBy (run_of org.now ws.now number) (state S.Store conn.old) (state S.Store conn.new) result }
+    ensures read { ReadsBy (run_at_number org.now ws.now number) (state S.Store conn.old) (state S.Store conn.new) result }
     ensures survives { Survives (state S.Store conn.old) (state S.Store conn.new) (λ _. ⊥) }
 {
     let number = signed(number);
@@ -87,7 +87,7 @@ pub fn list<S: Alter>(
 ) -> Result<Items<Run>, Error>
     requires after_fits { after < 2 ^ 63 }
     ensures mode { conn.old.in_transaction ≡ false → conn.new.in_transaction ≡ false }
-    ensures read { ReadsWhere (RunsRise org.now ws.now) (runs_after org.now ws.now after most) (state S.Store conn.old) (state S.Store conn.new) result }
+    ensures read { ReadsWhere (RunsRise org.now ws.now) (run_rows_after org.now ws.now after most) (state S.Store conn.old) (state S.Store conn.new) result }
     ensures survives { Survives (state S.Store conn.old) (state S.Store conn.new) (λ _. ⊥) }
 {
     let after = signed(after);
@@ -187,7 +187,7 @@ pub fn add<'v, S: Alter>(
     requires number_fits { number < 2 ^ 63 }
     requires created_fits { created < 2 ^ 63 }
     ensures same_reference { tx.new.conn.ghost_name ≡ tx.old.conn.ghost_name }
-    ensures changed { ChangesBy (run_added org.now ws.now (new_run number plan_only (option_map (λ s. s.now) key.entry) message.now created status)) (state S.Store tx.old.conn.now) (state S.Store tx.new.conn.now) result }
+    ensures changed { ChangesBy (run_added org.now ws.now (run_made number plan_only (option_map (λ s. s.now) key.entry) message.now created status)) (state S.Store tx.old.conn.now) (state S.Store tx.new.conn.now) result }
     ensures survives { Survives (state S.Store tx.old.conn.now) (state S.Store tx.new.conn.now) (λ _. ⊥) }
 {
     let number = signed(number);

@@ -3,7 +3,7 @@ ghost use Rattle.std.specs.Prelude.{◌≡◌, false};
 ghost use Rattle.sqlite.specs.Held.{state};
 ghost use Rattle.sqlite.specs.State.{Survives};
 ghost use Rattle.statements.specs.Steps.{ChangesBy, ReadsBy};
-ghost use Rattle.statements.specs.Changes.{token_added, token_removed};
+ghost use Rattle.statements.specs.Changes.{token_row_added, token_removed};
 ghost use Rattle.statements.specs.Finds.{role_of_digest, role_of_name};
 
 use crate::calls::{first_row, read_one, role_number, write};
@@ -53,7 +53,7 @@ pub fn add<'v, S: Alter>(
     role: Role,
 ) -> Result<(), Error>
     ensures same_reference { tx.new.conn.ghost_name ≡ tx.old.conn.ghost_name }
-    ensures changed { ChangesBy (token_added org.now name.now digest.now role) (state S.Store tx.old.conn.now) (state S.Store tx.new.conn.now) result }
+    ensures changed { ChangesBy (token_row_added org.now name.now digest.now role) (state S.Store tx.old.conn.now) (state S.Store tx.new.conn.now) result }
     ensures survives { Survives (state S.Store tx.old.conn.now) (state S.Store tx.new.conn.now) (λ _. ⊥) }
 {
     let role = role_number(role);

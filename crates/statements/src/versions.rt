@@ -4,8 +4,8 @@ ghost use Rattle.sqlite.specs.Held.{state};
 ghost use Rattle.sqlite.specs.State.{Survives};
 ghost use Rattle.statements.specs.Steps.{ChangesBy, ReadsBy, ReadsWhere};
 ghost use Rattle.statements.specs.Changes.{new_version, version_added, versions_removed, versions_removed_below};
-ghost use Rattle.statements.specs.Listings.{versions_after, VersionsRise};
-ghost use Rattle.statements.specs.Finds.{newest_of, number_back, number_of, body_of, versions_of};
+ghost use Rattle.statements.specs.Listings.{version_rows_after, VersionsRise};
+ghost use Rattle.statements.specs.Finds.{newest_of, number_back, version_at_number, body_of, versions_of};
 
 use crate::calls::{count_of, first_row, first_rows, read_all, read_one, signed, write};
 use crate::rows::{Head, VersionHead};
@@ -44,7 +44,7 @@ pub fn list<S: Alter>(
 ) -> Result<Items<VersionHead>, Error>
     requires after_fits { after < 2 ^ 63 }
     ensures mode { conn.old.in_transaction ≡ false → conn.new.in_transaction ≡ false }
-    ensures read { ReadsWhere (VersionsRise org.now ws.now) (versions_after org.now ws.now after most) (state S.Store conn.old) (state S.Store conn.new) result }
+    ensures read { ReadsWhere (VersionsRise org.now ws.now) (version_rows_after org.now ws.now after most) (state S.Store conn.old) (state S.Store conn.new) result }
     ensures survives { Survives (state S.Store conn.old) (state S.Store conn.new) (λ _. ⊥) }
 {
     let after = signed(after);
@@ -84,7 +84,7 @@ pub fn find<S: Alter>(
 ) -> Result<Option<u64>, Error>
     requires number_fits { number < 2 ^ 63 }
     ensures mode { conn.old.in_transaction ≡ false → conn.new.in_transaction ≡ false }
-    ensures read { ReadsBy (number_of org.now ws.now number) (state S.Store conn.old) (state S.Store conn.new) result }
+    ensures read { ReadsBy (version_at_number org.now ws.now number) (state S.Store conn.old) (state S.Store conn.new) result }
     ensures survives { Survives (state S.Store conn.old) (state S.Store conn.new) (λ _. ⊥) }
 {
     let number = signed(number);

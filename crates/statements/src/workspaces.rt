@@ -5,7 +5,7 @@ ghost use Rattle.sqlite.specs.State.{HasCleanDisk, Survives};
 ghost use Rattle.statements.specs.Steps.{ChangesBy, ReadsBy, ReadsWhere};
 ghost use Rattle.statements.specs.Tables.{Tables, Holds};
 ghost use Rattle.statements.specs.Changes.{with_auto, held_by, released_from, with_next_version, with_next_run, ws_changed, ws_added, ws_removed};
-ghost use Rattle.statements.specs.Listings.{workspaces_after, WorkspacesApart};
+ghost use Rattle.statements.specs.Listings.{workspace_rows_after, WorkspacesApart};
 ghost use Rattle.statements.specs.Finds.{workspace_of, workspaces_of};
 ghost use Rattle.statements.specs.declared.rows.Holder.TheVariants.{Nobody, Lock, Run as HeldByRun};
 
@@ -45,7 +45,7 @@ pub fn list<S: Alter>(
     most: usize,
 ) -> Result<Items<NamedWorkspace>, Error>
     ensures mode { conn.old.in_transaction ≡ false → conn.new.in_transaction ≡ false }
-    ensures read { ReadsWhere WorkspacesApart (workspaces_after org.now after.now most) (state S.Store conn.old) (state S.Store conn.new) result }
+    ensures read { ReadsWhere WorkspacesApart (workspace_rows_after org.now after.now most) (state S.Store conn.old) (state S.Store conn.new) result }
     ensures survives { Survives (state S.Store conn.old) (state S.Store conn.new) (λ _. ⊥) }
 {
     let rows = first_rows(alloc, conn, LIST_WS, params![org, after], most);

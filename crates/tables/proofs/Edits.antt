@@ -21,9 +21,9 @@ use Rattle.statements.specs.declared.rows.Workspace.{Workspace as WorkspaceCells
 use Rattle.statements.specs.declared.rows.Run.{Run as RunCells}
 use Rattle.statements.specs.Rows.{Version as VersionCells}
 use Rattle.statements.specs.Tables.{Tables}
-use Rattle.statements.specs.Changes.{with_auto, held_by, released_from, with_next_version, with_next_run, ws_changed, ws_added, new_version, versions_removed, new_run as new_run_cells, run_acted}
+use Rattle.statements.specs.Changes.{with_auto, held_by, released_from, with_next_version, with_next_run, ws_changed, ws_added, new_version, versions_removed, run_made as new_run_cells, run_acted}
 use Rattle.statements.specs.Finds.{workspace_of}
-use Rattle.tables.specs.Records.{version_in, run_in, workspace_in, versions_at, runs_at, workspace_by}
+use Rattle.tables.specs.Records.{run_of_cells, workspace_of_cells, versions_at, runs_at, workspace_by}
 use Rattle.tables.specs.Inner.Edits.{removed_rows, made_rows, numbered_rows, added_rows, left_rows, if_there, versioned_rows, run_put, run_counted, run_rows, freed_rows, edited_rows, started_rows, changed_rows}
 use Rattle.tables.proofs.Lists.{below_gone}
 use Rattle.tables.proofs.Names.{is_pair}
@@ -33,8 +33,8 @@ use Rattle.tables.proofs.Sets.{Puts, puts_then, same_parts}
 -- ---- the parts of a workspace that is changed
 
 changed_row : (g : WorkspaceCells → WorkspaceCells) (f : Workspace → Workspace) (vs us : List Version) (rs ss : List Run)
-    → ((c : WorkspaceCells) → workspace_in (g c) us ss ≡ f (workspace_in c vs rs)) → (row : Option WorkspaceCells)
-    → option_map (λ (c : WorkspaceCells). workspace_in c us ss) (option_map g row) ≡ option_map f (option_map (λ (c : WorkspaceCells). workspace_in c vs rs) row)
+    → ((c : WorkspaceCells) → workspace_of_cells (g c) us ss ≡ f (workspace_of_cells c vs rs)) → (row : Option WorkspaceCells)
+    → option_map (λ (c : WorkspaceCells). workspace_of_cells c us ss) (option_map g row) ≡ option_map f (option_map (λ (c : WorkspaceCells). workspace_of_cells c vs rs) row)
 changed_row g f vs us rs ss same None = refl
 changed_row g f vs us rs ss same (Some c) = ap Some (same c)
 
@@ -43,7 +43,7 @@ kept_row None = refl
 kept_row (Some c) = refl
 
 no_row : (f : Workspace → Workspace) (vs : List Version) (rs : List Run) (row : Option WorkspaceCells) → row ≡ None
-    → option_map (λ (c : WorkspaceCells). workspace_in c vs rs) row ≡ option_map f (option_map (λ (c : WorkspaceCells). workspace_in c vs rs) row)
+    → option_map (λ (c : WorkspaceCells). workspace_of_cells c vs rs) row ≡ option_map f (option_map (λ (c : WorkspaceCells). workspace_of_cells c vs rs) row)
 no_row f vs rs None e = refl
 no_row f vs rs (Some c) e = absurd (let none : ⊥ = cc in none)
 
@@ -56,7 +56,7 @@ module _ (org ws : List ℕ) (t : Tables) where
   row = workspace_of org ws t
 
   -- what the row holds, and nothing else
-  row_puts : (g : WorkspaceCells → WorkspaceCells) (f : Workspace → Workspace) → ((c : WorkspaceCells) (vs : List Version) (rs : List Run) → workspace_in (g c) vs rs ≡ f (workspace_in c vs rs))
+  row_puts : (g : WorkspaceCells → WorkspaceCells) (f : Workspace → Workspace) → ((c : WorkspaceCells) (vs : List Version) (rs : List Run) → workspace_of_cells (g c) vs rs ≡ f (workspace_of_cells c vs rs))
       → Puts org ws (option_map f (workspace_by t org ws)) t (ws_changed g org ws t)
   row_puts g f same = record {
     orgs = refl;
@@ -168,7 +168,7 @@ module _ (org ws : List ℕ) (t : Tables) where
           orgs = refl;
           tokens = refl;
           own = same_parts _ _ _ _ _ _ (row_changed org ws (with_next_run (number + 1)) t) refl (runs_pushed org ws t new)
-              ∙ changed_row (with_next_run (number + 1)) (with_run (new_run number ask created)) (versions_at t org ws) (versions_at t org ws) (runs_at t org ws) (runs_at t org ws ++ run_in new ∷ []) (λ c. refl) (workspace_of org ws t);
+              ∙ changed_row (with_next_run (number + 1)) (with_run (new_run number ask created)) (versions_at t org ws) (versions_at t org ws) (runs_at t org ws) (runs_at t org ws ++ run_of_cells new ∷ []) (λ c. refl) (workspace_of org ws t);
           others = λ a b other. same_parts _ _ _ _ _ _ (row_unchanged org ws (with_next_run (number + 1)) t a b other) refl (runs_pushed_other org ws t new a b other);
         })
 

@@ -1,5 +1,5 @@
 -- What the queries find is the part of the record that it stands for.
-use Rattle.std.proofs.Common.{◌≡◌, ℕ, zero, suc, ◌+◌, ◌-◌, ◌≤◌, ◌<◌, nat_lt, Bool, true, false, not, ◌&&◌, ◌==◌, cond, List, [], ◌∷◌, map, filter, find, length, take, reverse, slice_get, min, is_some, Option, Some, None, option_map, refl, sym, ap, subst, ap₂, ◌∙◌, arith}
+use Rattle.std.proofs.Common.{◌≡◌, ℕ, suc, ◌+◌, ◌-◌, ◌≤◌, ◌<◌, nat_lt, Bool, true, false, not, ◌&&◌, ◌==◌, cond, List, [], ◌∷◌, map, filter, find, length, take, reverse, slice_get, min, is_some, Option, Some, None, option_map, refl, sym, ap, subst, ap₂, ◌∙◌, arith}
 use Rattle.std.specs.Str.{bytes_eq}
 use Rattle.std.specs.Option.{unwrap_or, option_or}
 use Rattle.std.specs.List.{AllByRecursion, list_any}
@@ -19,7 +19,7 @@ use Rattle.machine.specs.Laws.{Rises, is_pending}
 use Rattle.machine.specs.Settling.{first_waiting, is_waiting}
 use Rattle.machine.specs.Workspaces.{max_versions, newest, outgoing, is_numbered, run_of, has_key, is_keyed, keyed_run, holder_status, open_runs}
 use Rattle.machine.specs.Records.{count_of, workspace_in as seen_workspace}
-use Rattle.machine.specs.Units.{find_last, version_of, has_version, text_of, is_text, if_needed, asked_run, newest_unit, unit_by, unit_of}
+use Rattle.machine.specs.Units.{find_last, version_of, has_version, version_text, is_text, if_needed, asked_run, newest_unit, unit_by, unit_of}
 use Rattle.machine.specs.Needs.{needs}
 use Rattle.machine.specs.declared.acts.Act.{Act}
 use Rattle.machine.specs.declared.acts.Unit.TheVariants.{Absent, Present}
@@ -34,10 +34,10 @@ use Rattle.statements.specs.declared.rows.Holder.TheVariants as cells
 use Rattle.statements.specs.declared.rows.Workspace.{Workspace as WorkspaceCells}
 use Rattle.statements.specs.Rows.{Kept, OrgRow, WsRow, VersionRow, RunRow}
 use Rattle.statements.specs.Tables.{Tables}
-use Rattle.statements.specs.Changes.{is_org, is_version_of, is_version, is_run_of, is_run, is_ws, is_ws_of}
-use Rattle.statements.specs.Finds.{last_in, counted, head_of, newest_of, body_of, number_of, number_back, first_waiting_of, status_of, workspace_of, workspaces_of, cap_of}
+use Rattle.statements.specs.Changes.{is_org, is_version_of, is_version, is_run_of, is_run_row, is_ws, is_ws_of}
+use Rattle.statements.specs.Finds.{last_in, counted, head_of, newest_of, body_of, version_at_number, number_back, first_waiting_of, status_at_number, workspace_of, workspaces_of, cap_of}
 use Rattle.statements.specs.Finds as finds
-use Rattle.tables.specs.Records.{version_in, run_in, settings_in, holder_in, versions_at, runs_at, workspace_at, workspace_by, workspaces_at, organization_at, record_of}
+use Rattle.tables.specs.Records.{version_of_cells, run_of_cells, settings_of_cells, holder_of_cells, versions_at, runs_at, workspace_at, workspace_by, workspaces_at, organization_at, record_of}
 use Rattle.tables.specs.Sound.{IsSound}
 use Rattle.tables.proofs.Names.{same_name, apart_name, pair_first, pair_second}
 use Rattle.tables.proofs.Lists.{found_passes}
@@ -148,7 +148,7 @@ newest_is_last (u ∷ w ∷ vs) v e = ap (λ (o : Option Version). option_or o (
 abbrev head_in : Version → Head
 head_in v = record { number = v.number; serial = v.serial; lineage = v.lineage; size = length v.text }
 
-pending_same : (s : RunStatus) → finds.is_pending s ≡ is_pending s
+pending_same : (s : RunStatus) → finds.is_pending_of s ≡ is_pending s
 pending_same Pending = refl
 pending_same Planning = refl
 pending_same Planned = refl
@@ -159,7 +159,7 @@ pending_same Errored = refl
 pending_same Discarded = refl
 pending_same Canceled = refl
 
-key_same : (key : List ℕ) (own : Option (List ℕ)) → finds.has_key key own ≡ has_key key own
+key_same : (key : List ℕ) (own : Option (List ℕ)) → finds.is_key_of key own ≡ has_key key own
 key_same key None = refl
 key_same key (Some own) = refl
 
@@ -167,43 +167,43 @@ key_same key (Some own) = refl
 
 module _ (t : Tables) (org ws : List ℕ) where
   pub newest_found : newest_of org ws t ≡ option_map head_in (newest (versions_at t org ws))
-  newest_found = mapped (λ (x : Kept VersionRow). version_in x.1.it) head_in (last_in (filter (is_version_of org ws) t.versions))
-      ∙ ap (option_map head_in) (newest-shown (λ (x : Kept VersionRow). version_in x.1.it) (filter (is_version_of org ws) t.versions))
+  newest_found = mapped (λ (x : Kept VersionRow). version_of_cells x.1.it) head_in (last_in (filter (is_version_of org ws) t.versions))
+      ∙ ap (option_map head_in) (newest-shown (λ (x : Kept VersionRow). version_of_cells x.1.it) (filter (is_version_of org ws) t.versions))
 
   pub body_found : (n : ℕ) → body_of org ws n t ≡ option_map (λ (v : Version). v.text) (find (numbered n) (versions_at t org ws))
   body_found n =
-      ap (option_map (λ (x : Kept VersionRow). x.1.it.body)) (find_same (is_version org ws n) (λ x. is_version_of org ws x && numbered n (version_in x.1.it)) (λ x. three (bytes_eq x.1.org org) (bytes_eq x.1.ws ws) (x.1.it.number == n)) t.versions)
-      ∙ mapped (λ (x : Kept VersionRow). version_in x.1.it) (λ (v : Version). v.text) (find (λ x. is_version_of org ws x && numbered n (version_in x.1.it)) t.versions)
-      ∙ ap (option_map (λ (v : Version). v.text)) (find-slice (is_version_of org ws) (λ (x : Kept VersionRow). version_in x.1.it) (numbered n) t.versions)
+      ap (option_map (λ (x : Kept VersionRow). x.1.it.body)) (find_same (is_version org ws n) (λ x. is_version_of org ws x && numbered n (version_of_cells x.1.it)) (λ x. three (bytes_eq x.1.org org) (bytes_eq x.1.ws ws) (x.1.it.number == n)) t.versions)
+      ∙ mapped (λ (x : Kept VersionRow). version_of_cells x.1.it) (λ (v : Version). v.text) (find (λ x. is_version_of org ws x && numbered n (version_of_cells x.1.it)) t.versions)
+      ∙ ap (option_map (λ (v : Version). v.text)) (find-slice (is_version_of org ws) (λ (x : Kept VersionRow). version_of_cells x.1.it) (numbered n) t.versions)
 
   pub first_waiting_found : first_waiting_of org ws t ≡ first_waiting (runs_at t org ws)
   first_waiting_found =
-      ap (option_map (λ (x : Kept RunRow). x.1.it.number)) (find_same (finds.is_waiting org ws) (λ x. is_run_of org ws x && is_waiting (run_in x.1.it))
-      (λ x. three (bytes_eq x.1.org org) (bytes_eq x.1.ws ws) (finds.is_pending x.1.it.status && not x.1.it.plan_only)
+      ap (option_map (λ (x : Kept RunRow). x.1.it.number)) (find_same (finds.is_waiting_of org ws) (λ x. is_run_of org ws x && is_waiting (run_of_cells x.1.it))
+      (λ x. three (bytes_eq x.1.org org) (bytes_eq x.1.ws ws) (finds.is_pending_of x.1.it.status && not x.1.it.plan_only)
       ∙ ap (λ (b : Bool). (bytes_eq x.1.org org && bytes_eq x.1.ws ws) && (b && not x.1.it.plan_only)) (pending_same x.1.it.status)) t.runs)
-      ∙ mapped (λ (x : Kept RunRow). run_in x.1.it) (λ (r : Run). r.number) (find (λ x. is_run_of org ws x && is_waiting (run_in x.1.it)) t.runs)
-      ∙ ap (option_map (λ (r : Run). r.number)) (find-slice (is_run_of org ws) (λ (x : Kept RunRow). run_in x.1.it) is_waiting t.runs)
+      ∙ mapped (λ (x : Kept RunRow). run_of_cells x.1.it) (λ (r : Run). r.number) (find (λ x. is_run_of org ws x && is_waiting (run_of_cells x.1.it)) t.runs)
+      ∙ ap (option_map (λ (r : Run). r.number)) (find-slice (is_run_of org ws) (λ (x : Kept RunRow). run_of_cells x.1.it) is_waiting t.runs)
 
-  pub status_found : (n : ℕ) → status_of org ws n t ≡ option_map (λ (r : Run). r.status) (run_of n (runs_at t org ws))
+  pub status_found : (n : ℕ) → status_at_number org ws n t ≡ option_map (λ (r : Run). r.status) (run_of n (runs_at t org ws))
   status_found n =
-      ap (option_map (λ (x : Kept RunRow). x.1.it.status)) (find_same (is_run org ws n) (λ x. is_run_of org ws x && (run_in x.1.it).number == n) (λ x. three (bytes_eq x.1.org org) (bytes_eq x.1.ws ws) (x.1.it.number == n)) t.runs)
-      ∙ mapped (λ (x : Kept RunRow). run_in x.1.it) (λ (r : Run). r.status) (find (λ x. is_run_of org ws x && (run_in x.1.it).number == n) t.runs)
-      ∙ ap (option_map (λ (r : Run). r.status)) (find-slice (is_run_of org ws) (λ (x : Kept RunRow). run_in x.1.it) (λ (r : Run). r.number == n) t.runs)
+      ap (option_map (λ (x : Kept RunRow). x.1.it.status)) (find_same (is_run_row org ws n) (λ x. is_run_of org ws x && (run_of_cells x.1.it).number == n) (λ x. three (bytes_eq x.1.org org) (bytes_eq x.1.ws ws) (x.1.it.number == n)) t.runs)
+      ∙ mapped (λ (x : Kept RunRow). run_of_cells x.1.it) (λ (r : Run). r.status) (find (λ x. is_run_of org ws x && (run_of_cells x.1.it).number == n) t.runs)
+      ∙ ap (option_map (λ (r : Run). r.status)) (find-slice (is_run_of org ws) (λ (x : Kept RunRow). run_of_cells x.1.it) (λ (r : Run). r.number == n) t.runs)
 
   -- the run of a row that passes a test of its own
-  run_found : (p : Kept RunRow → Bool) (q : Run → Bool) → ((x : Kept RunRow) → p x ≡ (is_run_of org ws x && q (run_in x.1.it))) → option_map run_in (option_map (λ (x : Kept RunRow). x.1.it) (find p t.runs)) ≡ find q (runs_at t org ws)
+  run_found : (p : Kept RunRow → Bool) (q : Run → Bool) → ((x : Kept RunRow) → p x ≡ (is_run_of org ws x && q (run_of_cells x.1.it))) → option_map run_of_cells (option_map (λ (x : Kept RunRow). x.1.it) (find p t.runs)) ≡ find q (runs_at t org ws)
   run_found p q same =
-      sym (mapped (λ (x : Kept RunRow). x.1.it) run_in (find p t.runs))
-      ∙ ap (option_map (λ (x : Kept RunRow). run_in x.1.it)) (find_same p (λ x. is_run_of org ws x && q (run_in x.1.it)) same t.runs)
-      ∙ find-slice (is_run_of org ws) (λ (x : Kept RunRow). run_in x.1.it) q t.runs
+      sym (mapped (λ (x : Kept RunRow). x.1.it) run_of_cells (find p t.runs))
+      ∙ ap (option_map (λ (x : Kept RunRow). run_of_cells x.1.it)) (find_same p (λ x. is_run_of org ws x && q (run_of_cells x.1.it)) same t.runs)
+      ∙ find-slice (is_run_of org ws) (λ (x : Kept RunRow). run_of_cells x.1.it) q t.runs
 
-  numbered_found : (n : ℕ) → option_map run_in (finds.run_of org ws n t) ≡ run_of n (runs_at t org ws)
-  numbered_found n = run_found (is_run org ws n) (is_numbered n) (λ x. three (bytes_eq x.1.org org) (bytes_eq x.1.ws ws) (x.1.it.number == n))
+  numbered_found : (n : ℕ) → option_map run_of_cells (finds.run_at_number org ws n t) ≡ run_of n (runs_at t org ws)
+  numbered_found n = run_found (is_run_row org ws n) (is_numbered n) (λ x. three (bytes_eq x.1.org org) (bytes_eq x.1.ws ws) (x.1.it.number == n))
 
-  keyed_found : (key : Option (List ℕ)) → option_map run_in (keyed_cells_in key org ws t) ≡ keyed_run key (runs_at t org ws)
+  keyed_found : (key : Option (List ℕ)) → option_map run_of_cells (keyed_cells_in key org ws t) ≡ keyed_run key (runs_at t org ws)
   keyed_found None = refl
   keyed_found (Some key) = run_found (finds.is_run_with_key org ws key) (is_keyed key) (λ x.
-      three (bytes_eq x.1.org org) (bytes_eq x.1.ws ws) (finds.has_key key x.1.it.key) ∙ ap (λ (b : Bool). (bytes_eq x.1.org org && bytes_eq x.1.ws ws) && b) (key_same key x.1.it.key))
+      three (bytes_eq x.1.org org) (bytes_eq x.1.ws ws) (finds.is_key_of key x.1.it.key) ∙ ap (λ (b : Bool). (bytes_eq x.1.org org && bytes_eq x.1.ws ws) && b) (key_same key x.1.it.key))
 
   pub asked_run_found : (number : Option ℕ) (key : Option (List ℕ)) → asked_run_in number key org ws t ≡ asked_run number key (runs_at t org ws)
   asked_run_found None key = keyed_found key
@@ -215,26 +215,26 @@ module _ (t : Tables) (org ws : List ℕ) where
     where
       same : open_runs (runs_at t org ws) ≡ length (filter (finds.is_open_run_of org ws) t.runs)
       same =
-          ap length (sym (filter-slice (is_run_of org ws) (λ (x : Kept RunRow). run_in x.1.it) (λ (r : Run). is_open r.status) t.runs))
-          ∙ length-map (filter (λ (x : Kept RunRow). is_run_of org ws x && is_open x.1.it.status) t.runs) (λ (x : Kept RunRow). run_in x.1.it)
+          ap length (sym (filter-slice (is_run_of org ws) (λ (x : Kept RunRow). run_of_cells x.1.it) (λ (r : Run). is_open r.status) t.runs))
+          ∙ length-map (filter (λ (x : Kept RunRow). is_run_of org ws x && is_open x.1.it.status) t.runs) (λ (x : Kept RunRow). run_of_cells x.1.it)
           ∙ ap length (sym (filter_same (finds.is_open_run_of org ws) (λ (x : Kept RunRow). is_run_of org ws x && is_open x.1.it.status) (λ x. three (bytes_eq x.1.org org) (bytes_eq x.1.ws ws) (is_open x.1.it.status)) t.runs))
 
       least : (n m : ℕ) → m ≡ n → m ≤ 100 → min n 9_223_372_036_854_775_807 ≡ m
       least n m e h = omega arith
 
-  pub holder_status_found : (holder : HolderCells) → holder_status_in org ws holder t ≡ holder_status (holder_in holder) (runs_at t org ws)
+  pub holder_status_found : (holder : HolderCells) → holder_status_in org ws holder t ≡ holder_status (holder_of_cells holder) (runs_at t org ws)
   holder_status_found cells.Nobody = refl
   holder_status_found (cells.Lock id text) = refl
   holder_status_found (cells.Run n) = status_found n
 
   -- the version that is asked of is kept where it has a row
   module _ (next : ℕ) (rise : Rises 0 (numbers (versions_at t org ws)) next) where
-    kept_found : (n : ℕ) → is_some (number_of org ws n t) ≡ is_some (version_of n (versions_at t org ws))
+    kept_found : (n : ℕ) → is_some (version_at_number org ws n t) ≡ is_some (version_of n (versions_at t org ws))
     kept_found n =
         found_as (λ (x : Kept VersionRow). x.1.it.number) (find (is_version org ws n) t.versions)
-        ∙ ap is_some (find_same (is_version org ws n) (λ x. is_version_of org ws x && numbered n (version_in x.1.it)) (λ x. three (bytes_eq x.1.org org) (bytes_eq x.1.ws ws) (x.1.it.number == n)) t.versions)
-        ∙ sym (found_as (λ (x : Kept VersionRow). version_in x.1.it) (find (λ x. is_version_of org ws x && numbered n (version_in x.1.it)) t.versions))
-        ∙ ap is_some (find-slice (is_version_of org ws) (λ (x : Kept VersionRow). version_in x.1.it) (numbered n) t.versions)
+        ∙ ap is_some (find_same (is_version org ws n) (λ x. is_version_of org ws x && numbered n (version_of_cells x.1.it)) (λ x. three (bytes_eq x.1.org org) (bytes_eq x.1.ws ws) (x.1.it.number == n)) t.versions)
+        ∙ sym (found_as (λ (x : Kept VersionRow). version_of_cells x.1.it) (find (λ x. is_version_of org ws x && numbered n (version_of_cells x.1.it)) t.versions))
+        ∙ ap is_some (find-slice (is_version_of org ws) (λ (x : Kept VersionRow). version_of_cells x.1.it) (numbered n) t.versions)
         ∙ ap is_some (first_is_last 0 next n (versions_at t org ws) rise)
 
     pub has_version_found : (number : Option ℕ) → has_version_in number org ws t ≡ has_version number (versions_at t org ws)
@@ -263,8 +263,8 @@ module _ (t : Tables) (org ws : List ℕ) where
   -- the greatest number of those that go is found by its place from the newest
   pub outgoing_found : outgoing_in org ws t ≡ outgoing max_versions (versions_at t org ws)
   outgoing_found =
-      mapped (λ (x : Kept VersionRow). version_in x.1.it) (λ (v : Version). v.number) (slice_get (reverse (filter (is_version_of org ws) t.versions)) (max_versions - 1))
-      ∙ ap (option_map (λ (v : Version). v.number)) (place_back (λ (x : Kept VersionRow). version_in x.1.it) (max_versions - 1) (filter (is_version_of org ws) t.versions))
+      mapped (λ (x : Kept VersionRow). version_of_cells x.1.it) (λ (v : Version). v.number) (slice_get (reverse (filter (is_version_of org ws) t.versions)) (max_versions - 1))
+      ∙ ap (option_map (λ (v : Version). v.number)) (place_back (λ (x : Kept VersionRow). version_of_cells x.1.it) (max_versions - 1) (filter (is_version_of org ws) t.versions))
 
 -- ---- counts
 
@@ -319,8 +319,8 @@ module _ (t : Tables) (sound : IsSound t) (org : List ℕ) where
           let stands : workspace_by t org ws ≡ Some (workspace_at t org ws w) = ap (option_map (workspace_at t org ws)) f in
           let lawful = (sound.workspaces org ws _ stands).lawful in
           λ i. Present (record {
-            settings = settings_in w;
-            holder = holder_in w.holder;
+            settings = settings_of_cells w;
+            holder = holder_of_cells w.holder;
             holder_status = if_needed (needs act).holder_status (holder_status_found t org ws w.holder i);
             released = w.released;
             next_version = w.next_version;
@@ -355,11 +355,11 @@ module _ (t : Tables) (sound : IsSound t) (org : List ℕ) where
   none_is ws e = any_is_found (is_ws org ws) t.wss ∙ ap is_some (none_mapped (λ (x : Kept WsRow). x.1.it) (find (is_ws org ws) t.wss) e)
 
   pub no_versions : (ws : List ℕ) → workspace_of org ws t ≡ None → versions_at t org ws ≡ []
-  no_versions ws e = ap (map (λ (x : Kept VersionRow). version_in x.1.it)) (no_orphans (is_version_of org ws) (λ x. is_ws x.1.org x.1.ws) t.wss
+  no_versions ws e = ap (map (λ (x : Kept VersionRow). version_of_cells x.1.it)) (no_orphans (is_version_of org ws) (λ x. is_ws x.1.org x.1.ws) t.wss
       (λ x f. ap₂ (λ (a b : List ℕ). list_any (is_ws a b) t.wss) (pair_first org ws x.1.org x.1.ws f) (pair_second org ws x.1.org x.1.ws f) ∙ none_is ws e) t.versions sound.versions_owned)
 
   pub no_runs : (ws : List ℕ) → workspace_of org ws t ≡ None → runs_at t org ws ≡ []
-  no_runs ws e = ap (map (λ (x : Kept RunRow). run_in x.1.it)) (no_orphans (is_run_of org ws) (λ x. is_ws x.1.org x.1.ws) t.wss
+  no_runs ws e = ap (map (λ (x : Kept RunRow). run_of_cells x.1.it)) (no_orphans (is_run_of org ws) (λ x. is_ws x.1.org x.1.ws) t.wss
       (λ x f. ap₂ (λ (a b : List ℕ). list_any (is_ws a b) t.wss) (pair_first org ws x.1.org x.1.ws f) (pair_second org ws x.1.org x.1.ws f) ∙ none_is ws e) t.runs sound.runs_owned)
 
   pub seen_in_rows : (ws : List ℕ) → seen_workspace (record_of t org) ws ≡ workspace_by t org ws
@@ -369,10 +369,10 @@ module _ (t : Tables) (sound : IsSound t) (org : List ℕ) where
       by_limit None e = sym (ap (option_map (workspace_at t org ws)) (no_workspace ws e))
       by_limit (Some cap) e = got_workspace t org ws
 
-  pub text_found : (ws : List ℕ) (n : ℕ) → body_of org ws n t ≡ text_of n (seen_workspace (record_of t org) ws)
-  text_found ws n = body_found t org ws n ∙ by_row (workspace_of org ws t) refl ∙ ap (text_of n) (sym (seen_in_rows ws))
+  pub text_found : (ws : List ℕ) (n : ℕ) → body_of org ws n t ≡ version_text n (seen_workspace (record_of t org) ws)
+  text_found ws n = body_found t org ws n ∙ by_row (workspace_of org ws t) refl ∙ ap (version_text n) (sym (seen_in_rows ws))
     where
-      by_row : (r : Option WorkspaceCells) → workspace_of org ws t ≡ r → option_map (λ (v : Version). v.text) (find (numbered n) (versions_at t org ws)) ≡ text_of n (option_map (workspace_at t org ws) r)
+      by_row : (r : Option WorkspaceCells) → workspace_of org ws t ≡ r → option_map (λ (v : Version). v.text) (find (numbered n) (versions_at t org ws)) ≡ version_text n (option_map (workspace_at t org ws) r)
       by_row None e = ap (λ (vs : List Version). option_map (λ (v : Version). v.text) (find (numbered n) vs)) (no_versions ws e)
       by_row (Some w) e =
           let stands : workspace_by t org ws ≡ Some (workspace_at t org ws w) = ap (option_map (workspace_at t org ws)) e in

@@ -1,20 +1,20 @@
 -- From what was looked at and one transaction to a command.
-use Rattle.std.proofs.Common.{◌≡◌, ℕ, Bool, true, false, cond, List, is_some, is_none, Option, Some, None, IsTrue, Result, Ok, Err, OnOk, OnErr, refl, sym, ap, ◌∙◌, subst}
+use Rattle.std.proofs.Common.{◌≡◌, ℕ, Bool, true, false, cond, List, is_some, is_none, Option, Some, None, IsTrue, refl, sym, ap, ◌∙◌, subst}
 use Rattle.sqlite.specs.Effect.{Database}
-use Rattle.sqlite.specs.State.{State, IsUnchanged, KeepsCommit}
+use Rattle.sqlite.specs.State.{State, IsUnchanged}
 use Rattle.basis.specs.declared.roles.Role.{Role}
 use Rattle.machine.specs.Effects.{Effect, effect}
 use Rattle.machine.specs.declared.keeps.AdminAnswer.{AdminAnswer}
 use Rattle.machine.specs.declared.keeps.AdminAnswer.TheVariants.{Done, Exists, Absent}
-use Rattle.statements.specs.Changes.{org_added, token_added}
-use Rattle.statements.specs.Finds.{cap_of}
+use Rattle.statements.specs.Changes.{org_row_added, org_capped, token_row_added, token_removed}
+use Rattle.statements.specs.Finds.{cap_of, role_of_name}
 use Rattle.statements.specs.Tables.{Tables, Holds}
-use Rattle.tables.specs.Inner.Looks.{Stays}
-use Rattle.tables.specs.Inner.Steps.{IsSettled, Commits, Manages, org_managed_by, org_managed, is_taken, token_managed_by, token_managed}
+use Rattle.tables.specs.Inner.Looks.{StaysSeen}
+use Rattle.tables.specs.Inner.Steps.{IsSettled, Commits, Manages, org_managed_by, org_managed, limit_managed_by, limit_managed, is_taken, token_managed_by, token_managed, revocation_managed_by, revocation_managed}
 
 module _ (command : Tables → Effect AdminAnswer Tables) (a b d : State) (settled : IsSettled a) where
   -- nothing was changed
-  pub manages_none : (answer : AdminAnswer) → IsTrue a.is_open → IsTrue b.is_open → Stays a b → ((t : Tables) → Holds a.now t → command t ≡ effect answer t) → Manages command a b answer
+  pub manages_none : (answer : AdminAnswer) → IsTrue a.is_open → IsTrue b.is_open → StaysSeen a b → ((t : Tables) → Holds a.now t → command t ≡ effect answer t) → Manages command a b answer
   manages_none answer was is stays means = record {
     answer_is = λ t held. sym (ap (λ (m : Effect AdminAnswer Tables). m.answer) (means t (subst (λ (db : Database). Holds db t) (sym (settled was)) held)));
     rows = λ t held.
@@ -25,7 +25,7 @@ module _ (command : Tables → Effect AdminAnswer Tables) (a b d : State) (settl
   }
 
   -- the change was made
-  pub manages_one : (f : Tables → Tables) (answer : AdminAnswer) → Stays a b → Commits f b d → ((t : Tables) → Holds a.now t → command t ≡ effect answer (f t)) → Manages command a d answer
+  pub manages_one : (f : Tables → Tables) (answer : AdminAnswer) → StaysSeen a b → Commits f b d → ((t : Tables) → Holds a.now t → command t ≡ effect answer (f t)) → Manages command a d answer
   manages_one f answer stays done means =
       let was = stays.was_open done.was_open in
       record {
@@ -37,10 +37,10 @@ module _ (command : Tables → Effect AdminAnswer Tables) (a b d : State) (settl
         is_open = done.is_open;
       }
 
-pub unchanged_stays : (a b : State) → IsUnchanged a b → Stays a b
+pub unchanged_stays : (a b : State) → IsUnchanged a b → StaysSeen a b
 unchanged_stays a b u = record { was_open = λ _. u.0.was_open; is_open = λ _. u.0.is_open; now = λ _. u.0.now_is; committed = λ _. u.0.committed_is }
 
-pub stays_then : (a b d : State) → Stays a b → Stays b d → Stays a d
+pub stays_then : (a b d : State) → StaysSeen a b → StaysSeen b d → StaysSeen a d
 stays_then a b d p q = record {
   was_open = λ is. p.was_open (q.was_open is);
   is_open = λ is. q.is_open (p.is_open is);
@@ -58,11 +58,19 @@ pub org_there : (org : List ℕ) (limit : ℕ) (t : Tables) (o : Option ℕ) →
 org_there org limit t None is e = absurd (cc)
 org_there org limit t (Some cap) is e = ap (λ c. org_managed_by c org limit t) (sym e)
 
-pub org_missing : (org : List ℕ) (limit : ℕ) (t : Tables) (o : Option ℕ) → is_some o ≡ false → o ≡ cap_of org t → org_managed org limit t ≡ effect Done (org_added org limit t)
+pub org_missing : (org : List ℕ) (limit : ℕ) (t : Tables) (o : Option ℕ) → is_some o ≡ false → o ≡ cap_of org t → org_managed org limit t ≡ effect Done (org_row_added org limit t)
 org_missing org limit t None is e = ap (λ c. org_managed_by c org limit t) (sym e)
 org_missing org limit t (Some cap) is e = absurd (cc)
 
+pub limit_there : (org : List ℕ) (limit : ℕ) (t : Tables) (o : Option ℕ) → is_none o ≡ false → o ≡ cap_of org t → limit_managed org limit t ≡ effect Done (org_capped org limit t)
+limit_there org limit t None is e = absurd (cc)
+limit_there org limit t (Some cap) is e = ap (λ c. limit_managed_by c org limit t) (sym e)
+
 -- ---- a token
+
+pub revocation_there : (org name : List ℕ) (t : Tables) (o : Option Role) → is_none o ≡ false → o ≡ role_of_name org name t → revocation_managed org name t ≡ effect Done (token_removed org name t)
+revocation_there org name t None is e = absurd (cc)
+revocation_there org name t (Some role) is e = ap (λ r. revocation_managed_by r org name t) (sym e)
 
 module _ (org name digest : List ℕ) (role : Role) (t : Tables) where
   pub token_nowhere : (o : Option ℕ) → is_none o ≡ true → o ≡ cap_of org t → token_managed org name digest role t ≡ effect Absent t
@@ -70,6 +78,6 @@ module _ (org name digest : List ℕ) (role : Role) (t : Tables) where
   token_nowhere (Some cap) is e = absurd (cc)
 
   pub token_there : (o : Option ℕ) (taken : Bool) → is_none o ≡ false → o ≡ cap_of org t → taken ≡ is_taken org name digest t
-      → token_managed org name digest role t ≡ cond taken (effect Exists t) (effect Done (token_added org name digest role t))
+      → token_managed org name digest role t ≡ cond taken (effect Exists t) (effect Done (token_row_added org name digest role t))
   token_there None taken is e f = absurd (cc)
   token_there (Some cap) taken is e f = λ i. token_managed_by (sym e i) (sym f i) org name digest role t

@@ -8,7 +8,7 @@ use Rattle.basis.specs.declared.roles.Caller.{Caller}
 use Rattle.machine.specs.Effects.{Effect, effect}
 use Rattle.machine.specs.Records.{workspace_in, placed, seen_in}
 use Rattle.machine.specs.Changes.{changed_by, IsDue}
-use Rattle.machine.specs.Units.{unit_of, text_of}
+use Rattle.machine.specs.Units.{unit_of, version_text}
 use Rattle.machine.specs.Needs.{Needed, needs}
 use Rattle.machine.specs.Tokens as tokens
 use Rattle.machine.specs.Tokens.{caller_of, token_of}
@@ -20,10 +20,9 @@ use Rattle.machine.specs.declared.records.Token.{Token}
 use Rattle.machine.specs.declared.records.Organization.{Organization}
 use Rattle.machine.specs.declared.keeps.AdminAnswer.{AdminAnswer}
 use Rattle.machine.specs.declared.keeps.AdminAnswer.TheVariants.{Done, Exists, Absent}
-use Rattle.statements.specs.Changes.{org_added, org_capped, token_added, token_removed}
-use Rattle.statements.specs.Decode.{tables_of}
+use Rattle.statements.specs.Changes.{org_row_added, org_capped, token_row_added, token_removed}
 use Rattle.statements.specs.Finds.{cap_of, role_of_name, role_of_digest, body_of}
-use Rattle.statements.specs.Tables.{Tables, Holds}
+use Rattle.statements.specs.Tables.{Tables, Holds, tables_of}
 use Rattle.statements.proofs.Decoding.{tables-held}
 use Rattle.tables.specs.Inner.Edits.{changed_rows}
 use Rattle.tables.specs.Records.{caller_by, record_of}
@@ -69,7 +68,7 @@ module _ (db : Database) (a : State) (s : IsSoundKeep db a) where
   unit_told org ws act need same unit told o there = told.1 now (held told.0) ∙ ap (λ (n : Needed). unit_in n org ws now) same ∙ unit_found now s.store.sound org o ws act there
 
   pub text_told : (org ws : List ℕ) (n : ℕ) (text : Option (List ℕ)) → IsTrue a.is_open × ((t : Tables) → Holds a.committed t → text ≡ body_of org ws n t)
-      → text ≡ text_of n (workspace_in (records_of db org) ws)
+      → text ≡ version_text n (workspace_in (records_of db org) ws)
   text_told org ws n text told = told.1 now (held told.0) ∙ text_found now s.store.sound org ws n
 
   -- ---- lists
@@ -129,21 +128,21 @@ module _ (db : Database) (a : State) (s : IsSoundKeep db a) where
       org_told = go (cap_of org now) refl
         where
           go : (c : Option ℕ) → cap_of org now ≡ c → effect answer (records_of b.committed org) ≡ tokens.org_added limit (records_of db org)
-          go None e = ap (λ x. effect x (records_of b.committed org)) (org_answer None e) ∙ store_org_done db b.committed s.store org limit (at_all (org_added org limit) (org_left None e)) e
+          go None e = ap (λ x. effect x (records_of b.committed org)) (org_answer None e) ∙ store_org_done db b.committed s.store org limit (at_all (org_row_added org limit) (org_left None e)) e
           go (Some cap) e = ap (λ x. effect x (records_of b.committed org)) (org_answer (Some cap) e) ∙ ap (effect Exists) (records_by b.committed now (org_left (Some cap) e) org) ∙ org_exists now s.store.sound org limit cap e
 
       pub org_others : (q : List ℕ) → q ≢ org → records_of b.committed q ≡ records_of db q
       org_others q apart = go (cap_of org now) refl
         where
           go : (c : Option ℕ) → cap_of org now ≡ c → records_of b.committed q ≡ records_of db q
-          go None e = store_org_other db b.committed s.store org limit (at_all (org_added org limit) (org_left None e)) q apart
+          go None e = store_org_other db b.committed s.store org limit (at_all (org_row_added org limit) (org_left None e)) q apart
           go (Some cap) e = records_by b.committed now (org_left (Some cap) e) q
 
       pub org_keeps : IsTrue (is_org_name org) → limit ≤ 100_000 → IsSoundKeep b.committed b
       org_keeps named most = record { store = go (cap_of org now) refl; tied = λ _. refl }
         where
           go : (c : Option ℕ) → cap_of org now ≡ c → IsSoundStore b.committed
-          go None e = store_org_keeps db b.committed s.store org limit (at_all (org_added org limit) (org_left None e)) named most e
+          go None e = store_org_keeps db b.committed s.store org limit (at_all (org_row_added org limit) (org_left None e)) named most e
           go (Some cap) e = store_by b.committed now (org_left (Some cap) e) s.store.sound
 
     -- ---- the limit of an organization
@@ -239,7 +238,7 @@ module _ (db : Database) (a : State) (s : IsSoundKeep db a) where
               let t = told_by (Some cap) None (Some r) e f h in told_as answer Exists (records_of db org) t.0 (token_known now s.store.sound org name digest role cap e r h) (records_by b.committed now t.1 org)
           go (Some cap) None None e f h =
               let t = told_by (Some cap) None None e f h in
-              told_as answer Done (records_of b.committed org) t.0 (store_token_done db b.committed s.store org name digest role (at_all (token_added org name digest role) t.1) cap e f h) refl
+              told_as answer Done (records_of b.committed org) t.0 (store_token_done db b.committed s.store org name digest role (at_all (token_row_added org name digest role) t.1) cap e f h) refl
 
       pub token_others : (q : List ℕ) → q ≢ org → records_of b.committed q ≡ records_of db q
       token_others q apart = go (cap_of org now) (role_of_name org name now) (role_of_digest org digest now) refl refl refl
@@ -248,7 +247,7 @@ module _ (db : Database) (a : State) (s : IsSoundKeep db a) where
           go None n d e f h = records_by b.committed now (told_by None n d e f h).1 q
           go (Some cap) (Some r) d e f h = records_by b.committed now (told_by (Some cap) (Some r) d e f h).1 q
           go (Some cap) None (Some r) e f h = records_by b.committed now (told_by (Some cap) None (Some r) e f h).1 q
-          go (Some cap) None None e f h = store_token_other db b.committed s.store org name digest role (at_all (token_added org name digest role) (told_by (Some cap) None None e f h).1) q apart
+          go (Some cap) None None e f h = store_token_other db b.committed s.store org name digest role (at_all (token_row_added org name digest role) (told_by (Some cap) None None e f h).1) q apart
 
       pub token_keeps : IsTrue (is_org_name name) → length digest ≡ 32 → IsSoundKeep b.committed b
       token_keeps named long = record { store = go (cap_of org now) (role_of_name org name now) (role_of_digest org digest now) refl refl refl; tied = λ _. refl }
@@ -258,4 +257,4 @@ module _ (db : Database) (a : State) (s : IsSoundKeep db a) where
           go (Some cap) (Some r) d e f h = store_by b.committed now (told_by (Some cap) (Some r) d e f h).1 s.store.sound
           go (Some cap) None (Some r) e f h = store_by b.committed now (told_by (Some cap) None (Some r) e f h).1 s.store.sound
           go (Some cap) None None e f h =
-              store_token_keeps db b.committed s.store org name digest role (at_all (token_added org name digest role) (told_by (Some cap) None None e f h).1) cap e named long f h
+              store_token_keeps db b.committed s.store org name digest role (at_all (token_row_added org name digest role) (told_by (Some cap) None None e f h).1) cap e named long f h

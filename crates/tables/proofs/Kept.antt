@@ -21,10 +21,9 @@ use Rattle.machine.specs.declared.records.Organization.{Organization}
 use Rattle.machine.proofs.RuleLemmas.{rules_are_lawful}
 use Rattle.machine.proofs.KeepLemmas.{standing_is}
 use Rattle.statements.specs.Rows.{Kept, id_of, OrgRow, TokenRow}
-use Rattle.statements.specs.Tables.{Tables}
-use Rattle.statements.specs.Changes.{is_org, is_token, has_digest, org_added, token_added}
+use Rattle.statements.specs.Tables.{Tables, no_rows}
+use Rattle.statements.specs.Changes.{is_org, is_token, is_digest_of, org_row_added, token_row_added}
 use Rattle.statements.specs.Finds.{cap_of, role_of_name, role_of_digest}
-use Rattle.statements.specs.Making.{no_rows}
 use Rattle.tables.specs.Records.{workspace_by, organization_at, record_of}
 use Rattle.tables.specs.Sound.{TellsVersion, IsOrgRow, IsTokenRow, IsSound}
 use Rattle.tables.specs.Inner.Edits.{changed_rows}
@@ -42,7 +41,7 @@ use Rattle.tables.proofs.Operators.{org_own, org_other}
 record AreInOrder (orgs : List (Kept OrgRow)) (tokens : List (Kept TokenRow)) : Type 0 where
   orgs_apart : AreApart (λ a b. is_org a.1.name b) orgs
   tokens_apart : AreApart (λ a b. is_token a.1.org a.1.name b) tokens
-  digests_apart : AreApart (λ a b. has_digest a.1.org a.1.it.digest b) tokens
+  digests_apart : AreApart (λ a b. is_digest_of a.1.org a.1.it.digest b) tokens
   tokens_owned : AllByRecursion (λ x. list_any (is_org x.1.org) orgs ≡ true) tokens
   org_rows : AllByRecursion IsOrgRow orgs
   token_rows : AllByRecursion IsTokenRow tokens
@@ -149,7 +148,7 @@ turned : (a b : List ℕ) → bytes_eq a b ≡ false → bytes_eq b a ≡ false
 turned a b e = apart_name b a (λ same. names_apart a b e (sym same))
 
 -- an organization more leaves sound tables sound
-pub org_added_keeps : (org : List ℕ) (limit : ℕ) (t : Tables) → IsSound t → IsTrue (is_org_name org) → limit ≤ 100_000 → cap_of org t ≡ None → IsSound (org_added org limit t)
+pub org_added_keeps : (org : List ℕ) (limit : ℕ) (t : Tables) → IsSound t → IsTrue (is_org_name org) → limit ≤ 100_000 → cap_of org t ≡ None → IsSound (org_row_added org limit t)
 org_added_keeps org limit t sound named most none = record {
   told = sound.told;
   orgs_apart = apart_pushed (λ a b. is_org a.1.name b) t.orgs new sound.orgs_apart (all_weaker (λ x. is_org org x ≡ false) (λ x. is_org x.1.name new ≡ false) (λ x e. turned x.1.name org e) t.orgs (no_row t org none));
@@ -172,24 +171,24 @@ org_added_keeps org limit t sound named most none = record {
     none_yet : count_of (new_organization limit) ≡ 0
     none_yet = sym (len-entries (empty {X = Workspace} {R = name_cmp})) ∙ len-empty name_cmp Workspace
 
-    within : (q : List ℕ) (o : Organization) → record_of (org_added org limit t) q ≡ Some o → (c : Bool) → bytes_eq q org ≡ c → count_of o ≤ 100_000
+    within : (q : List ℕ) (o : Organization) → record_of (org_row_added org limit t) q ≡ Some o → (c : Bool) → bytes_eq q org ≡ c → count_of o ≤ 100_000
     within q o e true same =
-        let here : record_of (org_added org limit t) org ≡ Some o = subst (λ (x : List ℕ). record_of (org_added org limit t) x ≡ Some o) (same_name q org same) e in
+        let here : record_of (org_row_added org limit t) org ≡ Some o = subst (λ (x : List ℕ). record_of (org_row_added org limit t) x ≡ Some o) (same_name q org same) e in
         subst (λ (r : Organization). count_of r ≤ 100_000) (one_of (new_organization limit) o (sym (org_own t sound org limit none) ∙ here)) (subst (λ (n : ℕ). n ≤ 100_000) (sym none_yet) (omega arith))
     within q o e false other = sound.counts q o (sym (org_other t sound org limit q (names_apart q org other)) ∙ e)
 
 -- a token more leaves sound tables sound
 pub token_added_keeps : (org name digest : List ℕ) (role : Role) (t : Tables) → IsSound t → IsTrue (is_org_name name) → length digest ≡ 32 → (cap : ℕ) → cap_of org t ≡ Some cap
-    → role_of_name org name t ≡ None → role_of_digest org digest t ≡ None → IsSound (token_added org name digest role t)
+    → role_of_name org name t ≡ None → role_of_digest org digest t ≡ None → IsSound (token_row_added org name digest role t)
 token_added_keeps org name digest role t sound named long cap there unnamed unknown = record {
   told = sound.told;
   orgs_apart = sound.orgs_apart;
   tokens_apart = apart_pushed (λ a b. is_token a.1.org a.1.name b) t.tokens new sound.tokens_apart
       (all_weaker (λ x. is_token org name x ≡ false) (λ x. is_token x.1.org x.1.name new ≡ false) (λ x e. pair_turned org name x.1.org x.1.name e) t.tokens
       (none_from_any (is_token org name) t.tokens (any_is_found (is_token org name) t.tokens ∙ ap is_some (none_mapped (λ (x : Kept TokenRow). x.1.it.role) (find (is_token org name) t.tokens) unnamed))));
-  digests_apart = apart_pushed (λ a b. has_digest a.1.org a.1.it.digest b) t.tokens new sound.digests_apart
-      (all_weaker (λ x. has_digest org digest x ≡ false) (λ x. has_digest x.1.org x.1.it.digest new ≡ false) (λ x e. pair_turned org digest x.1.org x.1.it.digest e) t.tokens
-      (none_from_any (has_digest org digest) t.tokens (any_is_found (has_digest org digest) t.tokens ∙ ap is_some (none_mapped (λ (x : Kept TokenRow). x.1.it.role) (find (has_digest org digest) t.tokens) unknown))));
+  digests_apart = apart_pushed (λ a b. is_digest_of a.1.org a.1.it.digest b) t.tokens new sound.digests_apart
+      (all_weaker (λ x. is_digest_of org digest x ≡ false) (λ x. is_digest_of x.1.org x.1.it.digest new ≡ false) (λ x e. pair_turned org digest x.1.org x.1.it.digest e) t.tokens
+      (none_from_any (is_digest_of org digest) t.tokens (any_is_found (is_digest_of org digest) t.tokens ∙ ap is_some (none_mapped (λ (x : Kept TokenRow). x.1.it.role) (find (is_digest_of org digest) t.tokens) unknown))));
   wss_apart = sound.wss_apart;
   tokens_owned = all-append (λ x. list_any (is_org x.1.org) t.orgs ≡ true) t.tokens (new ∷ []) sound.tokens_owned (org_there t org cap there, tt);
   wss_owned = sound.wss_owned;
@@ -204,10 +203,10 @@ token_added_keeps org name digest role t sound named long cap there unnamed unkn
     new : Kept TokenRow
     new = (next_key id_of t.tokens, record { org = org; name = name; it = record { digest = digest; role = role } })
 
-    within : (q : List ℕ) (o : Organization) (c : Option ℕ) → cap_of q t ≡ c → option_map (organization_at (token_added org name digest role t) q) c ≡ Some o → count_of o ≤ 100_000
+    within : (q : List ℕ) (o : Organization) (c : Option ℕ) → cap_of q t ≡ c → option_map (organization_at (token_row_added org name digest role t) q) c ≡ Some o → count_of o ≤ 100_000
     within q o None f e = absurd (let none : ⊥ = cc in none)
     within q o (Some c) f e =
-        subst (λ (r : Organization). count_of r ≤ 100_000) (one_of (organization_at (token_added org name digest role t) q c) o e) (sound.counts q (organization_at t q c) (ap (option_map (organization_at t q)) f))
+        subst (λ (r : Organization). count_of r ≤ 100_000) (one_of (organization_at (token_row_added org name digest role t) q c) o e) (sound.counts q (organization_at t q c) (ap (option_map (organization_at t q)) f))
 
 -- ---- tables with no row
 

@@ -10,9 +10,9 @@ use Rattle.machine.specs.declared.records.Token.{Token}
 use Rattle.machine.specs.declared.records.Organization.{Organization}
 use Rattle.statements.specs.Rows.{Kept, OrgRow, TokenRow}
 use Rattle.statements.specs.Tables.{Tables}
-use Rattle.statements.specs.Changes.{is_org, is_token, has_digest}
+use Rattle.statements.specs.Changes.{is_org, is_token, is_digest_of}
 use Rattle.statements.specs.Finds.{cap_of}
-use Rattle.tables.specs.Records.{token_in, organization_at, record_of}
+use Rattle.tables.specs.Records.{token_of_cells, organization_at, record_of}
 use Rattle.tables.specs.Sound.{IsOrgRow, IsTokenRow, IsSound}
 use Rattle.tables.specs.Laws.{SoundTablesAreLawful}
 use Rattle.tables.proofs.Lists.{found_passes}
@@ -62,23 +62,23 @@ limit_is t sound org o e = by_row (find (is_org org) t.orgs) refl (limit_there t
         let same : x.1.cap ≡ o.limit = cc in
         subst (λ (n : ℕ). n ≤ 100_000) same (found_holds IsOrgRow (is_org org) t.orgs x sound.org_rows f).limit
 
-pub token_there : (t : Tables) (org name : List ℕ) (o : Organization) → record_of t org ≡ Some o → get o.tokens name ≡ option_map (λ (x : Kept TokenRow). token_in x.1.it) (find (is_token org name) t.tokens)
+pub token_there : (t : Tables) (org name : List ℕ) (o : Organization) → record_of t org ≡ Some o → get o.tokens name ≡ option_map (λ (x : Kept TokenRow). token_of_cells x.1.it) (find (is_token org name) t.tokens)
 token_there t org name o e = by_limit (cap_of org t) e
   where
-    by_limit : (cap : Option ℕ) → option_map (organization_at t org) cap ≡ Some o → get o.tokens name ≡ option_map (λ (x : Kept TokenRow). token_in x.1.it) (find (is_token org name) t.tokens)
+    by_limit : (cap : Option ℕ) → option_map (organization_at t org) cap ≡ Some o → get o.tokens name ≡ option_map (λ (x : Kept TokenRow). token_of_cells x.1.it) (find (is_token org name) t.tokens)
     by_limit None e = absurd (let none : ⊥ = cc in none)
-    by_limit (Some cap) e = subst (λ (p : Organization). get p.tokens name ≡ option_map (λ (x : Kept TokenRow). token_in x.1.it) (find (is_token org name) t.tokens)) (one_of (organization_at t org cap) o e) (got_token t org name)
+    by_limit (Some cap) e = subst (λ (p : Organization). get p.tokens name ≡ option_map (λ (x : Kept TokenRow). token_of_cells x.1.it) (find (is_token org name) t.tokens)) (one_of (organization_at t org cap) o e) (got_token t org name)
 
 -- a token of a record has a row
 record Found (t : Tables) (org name : List ℕ) (token : Token) : Type 0 where
   row : Kept TokenRow
   found : find (is_token org name) t.tokens ≡ Some row
-  is : token_in row.1.it ≡ token
+  is : token_of_cells row.1.it ≡ token
 
-found_token : (t : Tables) (org name : List ℕ) (token : Token) → option_map (λ (x : Kept TokenRow). token_in x.1.it) (find (is_token org name) t.tokens) ≡ Some token → Found t org name token
+found_token : (t : Tables) (org name : List ℕ) (token : Token) → option_map (λ (x : Kept TokenRow). token_of_cells x.1.it) (find (is_token org name) t.tokens) ≡ Some token → Found t org name token
 found_token t org name token e = by_row (find (is_token org name) t.tokens) refl e
   where
-    by_row : (row : Option (Kept TokenRow)) → find (is_token org name) t.tokens ≡ row → option_map (λ (x : Kept TokenRow). token_in x.1.it) row ≡ Some token → Found t org name token
+    by_row : (row : Option (Kept TokenRow)) → find (is_token org name) t.tokens ≡ row → option_map (λ (x : Kept TokenRow). token_of_cells x.1.it) row ≡ Some token → Found t org name token
     by_row None f e = absurd (let none : ⊥ = cc in none)
     by_row (Some x) f e = record { row = x; found = f; is = cc }
 
@@ -99,7 +99,7 @@ sound_is_lawful t sound org o e = record {
       let q = found_passes (is_token org other) t.tokens y.row y.found in
       let orgs : y.row.1.org ≡ x.row.1.org = pair_first org other y.row.1.org y.row.1.name q ∙ sym (pair_first org name x.row.1.org x.row.1.name p) in
       let digests : y.row.1.it.digest ≡ x.row.1.it.digest = ap (λ (u : Token). u.digest) y.is ∙ sym same ∙ sym (ap (λ (u : Token). u.digest) x.is) in
-      let rows : x.row ≡ y.row = apart_one (λ a b. has_digest a.1.org a.1.it.digest b) (is_token org name) (is_token org other) t.tokens x.row y.row sound.digests_apart x.found y.found
+      let rows : x.row ≡ y.row = apart_one (λ a b. is_digest_of a.1.org a.1.it.digest b) (is_token org name) (is_token org other) t.tokens x.row y.row sound.digests_apart x.found y.found
       (and_from _ _ (subst (λ (n : List ℕ). bytes_eq n x.row.1.org ≡ true) (sym orgs) (name_is x.row.1.org)) (subst (λ (n : List ℕ). bytes_eq n x.row.1.it.digest ≡ true) (sym digests) (name_is x.row.1.it.digest)))
       (and_from _ _ (subst (λ (n : List ℕ). bytes_eq x.row.1.org n ≡ true) (sym orgs) (name_is x.row.1.org)) (subst (λ (n : List ℕ). bytes_eq x.row.1.it.digest n ≡ true) (sym digests) (name_is x.row.1.it.digest))) in
       sym (pair_second org name x.row.1.org x.row.1.name p) ∙ ap (λ (r : Kept TokenRow). r.1.name) rows ∙ pair_second org other y.row.1.org y.row.1.name q;

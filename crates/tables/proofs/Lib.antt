@@ -25,3 +25,4 @@ pub mod Examples
 pub mod Stores
 pub mod KeepShown
 pub mod KeepMemory
+pub mod Climbing

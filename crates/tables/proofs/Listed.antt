@@ -23,8 +23,8 @@ use Rattle.statements.specs.Rows.{Kept, WsRow, VersionRow, RunRow}
 use Rattle.statements.specs.Tables.{Tables}
 use Rattle.statements.specs.Changes.{is_ws_of, is_version_of, is_run_of}
 use Rattle.statements.specs.Finds.{cap_of, workspace_of}
-use Rattle.statements.specs.Listings.{comes_after, workspaces_by_name, workspace_at as named_at, version_head_of, VersionsRise, RunsRise}
-use Rattle.tables.specs.Records.{settings_in, holder_in, version_in, run_in, versions_at, runs_at, workspace_at, workspaces_at, organization_at, record_of}
+use Rattle.statements.specs.Listings.{is_behind, workspaces_by_name, named_row as named_at, version_head_of, VersionsRise, RunsRise}
+use Rattle.tables.specs.Records.{settings_of_cells, holder_of_cells, version_of_cells, run_of_cells, versions_at, runs_at, workspace_at, workspaces_at, organization_at, record_of}
 use Rattle.tables.specs.Sound.{IsSound}
 use Rattle.tables.specs.Inner.Lists.{version_row_in, versions_listed_in, run_row_in, runs_listed_in, ws_row_in, workspaces_listed_in}
 use Rattle.tables.proofs.Sets.{entry_found}
@@ -54,13 +54,13 @@ module _ (t : Tables) (org ws : List ℕ) where
   versions_rows : (after : ℕ) → versions_listed_in after org ws t ≡ showing.versions_listed after (versions_at t org ws)
   versions_rows after =
       listed_all version_row_in (filter (λ v. nat_lt after v.number) (map (λ (x : Kept VersionRow). version_head_of x.1.it) (filter (is_version_of org ws) t.versions)))
-      ∙ ap listing_of (shown_rows (λ (x : Kept VersionRow). version_head_of x.1.it) version_row_in (λ (x : Kept VersionRow). version_in x.1.it) showing.version_row (λ v. nat_lt after v.number) (λ (v : Version). nat_lt after v.number) (λ x. refl)
+      ∙ ap listing_of (shown_rows (λ (x : Kept VersionRow). version_head_of x.1.it) version_row_in (λ (x : Kept VersionRow). version_of_cells x.1.it) showing.version_row (λ v. nat_lt after v.number) (λ (v : Version). nat_lt after v.number) (λ x. refl)
       (filter (is_version_of org ws) t.versions) (every _ (λ x. refl) (filter (is_version_of org ws) t.versions)))
 
   runs_rows : (after : ℕ) → runs_listed_in after org ws t ≡ showing.runs_listed after (runs_at t org ws)
   runs_rows after =
       listed_all run_row_in (filter (λ r. nat_lt after r.number) (map (λ (x : Kept RunRow). x.1.it) (filter (is_run_of org ws) t.runs)))
-      ∙ ap listing_of (shown_rows (λ (x : Kept RunRow). x.1.it) run_row_in (λ (x : Kept RunRow). run_in x.1.it) showing.run_row (λ r. nat_lt after r.number) (λ (r : Run). nat_lt after r.number) (λ x. refl)
+      ∙ ap listing_of (shown_rows (λ (x : Kept RunRow). x.1.it) run_row_in (λ (x : Kept RunRow). run_of_cells x.1.it) showing.run_row (λ r. nat_lt after r.number) (λ (r : Run). nat_lt after r.number) (λ x. refl)
       (filter (is_run_of org ws) t.runs) (every _ (λ x. refl) (filter (is_run_of org ws) t.runs)))
 
   module _ (sound : IsSound t) where
@@ -82,14 +82,14 @@ module _ (t : Tables) (org ws : List ℕ) where
 
     -- their numbers rise in the order of their rows
     pub versions_rise : VersionsRise org ws t
-    versions_rise = subst (IsAscending (λ (m n : ℕ). m < n)) (same_names (λ (x : Kept VersionRow). version_in x.1.it) (λ (v : Version). v.number) (λ (x : Kept VersionRow). x.1.it.number) (λ x. refl) (filter (is_version_of org ws) t.versions)) (by_row (workspace_of org ws t) refl)
+    versions_rise = subst (IsAscending (λ (m n : ℕ). m < n)) (same_names (λ (x : Kept VersionRow). version_of_cells x.1.it) (λ (v : Version). v.number) (λ (x : Kept VersionRow). x.1.it.number) (λ x. refl) (filter (is_version_of org ws) t.versions)) (by_row (workspace_of org ws t) refl)
       where
         by_row : (r : Option WorkspaceCells) → workspace_of org ws t ≡ r → IsAscending (λ (m n : ℕ). m < n) (version_numbers (versions_at t org ws))
         by_row None e = subst (λ (vs : List Version). IsAscending (λ (m n : ℕ). m < n) (version_numbers vs)) (sym (no_versions t sound org ws e)) tt
         by_row (Some w) e = rising 0 w.next_version (version_numbers (versions_at t org ws)) (sound.workspaces org ws (workspace_at t org ws w) (ap (option_map (workspace_at t org ws)) e)).lawful.versions.rise
 
     pub runs_rise : RunsRise org ws t
-    runs_rise = subst (IsAscending (λ (m n : ℕ). m < n)) (same_names (λ (x : Kept RunRow). run_in x.1.it) (λ (r : Run). r.number) (λ (x : Kept RunRow). x.1.it.number) (λ x. refl) (filter (is_run_of org ws) t.runs)) (by_row (workspace_of org ws t) refl)
+    runs_rise = subst (IsAscending (λ (m n : ℕ). m < n)) (same_names (λ (x : Kept RunRow). run_of_cells x.1.it) (λ (r : Run). r.number) (λ (x : Kept RunRow). x.1.it.number) (λ x. refl) (filter (is_run_of org ws) t.runs)) (by_row (workspace_of org ws t) refl)
       where
         by_row : (r : Option WorkspaceCells) → workspace_of org ws t ≡ r → IsAscending (λ (m n : ℕ). m < n) (run_numbers (runs_at t org ws))
         by_row None e = subst (λ (rs : List Run). IsAscending (λ (m n : ℕ). m < n) (run_numbers rs)) (sym (no_runs t sound org ws e)) tt
@@ -122,7 +122,7 @@ number_shown : (o : Option Version) → option_map (λ (h : Head). h.number) (op
 number_shown None = refl
 number_shown (Some v) = refl
 
-comes_after_all : (name : List ℕ) → IsTrue (is_ws_name name) → comes_after [] name ≡ true
+comes_after_all : (name : List ℕ) → IsTrue (is_ws_name name) → is_behind [] name ≡ true
 comes_after_all [] named = absurd (let none : ⊥ = cc in none)
 comes_after_all (c ∷ cs) named = refl
 
@@ -133,7 +133,7 @@ module _ (t : Tables) (org : List ℕ) where
   -- a row as it is shown is the workspace as it is shown
   row_shown : (e : List ℕ × WorkspaceCells) → ws_row_in org t (named_at e) ≡ showing.row_of e.0 (showing.shown_of (workspace_at t org e.0 e.1))
   row_shown e =
-      ap (λ (version : Option ℕ). record { settings = settings_in e.1; holder = showing.holder_id (holder_in e.1.holder); name = e.0; version = version })
+      ap (λ (version : Option ℕ). record { settings = settings_of_cells e.1; holder = showing.holder_id (holder_of_cells e.1.holder); name = e.0; version = version })
       (ap (option_map (λ (h : Head). h.number)) (newest_found t org e.0) ∙ number_shown (newest (versions_at t org e.0)))
 
   record_entries : entries (workspaces_at t org) ≡ map (λ (e : List ℕ × WorkspaceCells). (e.0, workspace_at t org e.0 e.1)) (entries (workspaces_by_name org t))
@@ -151,17 +151,17 @@ module _ (t : Tables) (org : List ℕ) where
         (λ e found. (sound.workspaces org e.0 (workspace_at t org e.0 e.1) (ap (option_map (workspace_at t org e.0)) (sym (row_of_name e.0) ∙ get-entries (workspaces_by_name org t) e.0 ∙ found))).named)
         (entries (workspaces_by_name org t)) (all_found (entries (workspaces_by_name org t)) (entries_sorted (workspaces_by_name org t)))
 
-    passes : (after : Option (List ℕ)) (e : List ℕ × WorkspaceCells) → IsTrue (is_ws_name e.0) → comes_after (unwrap_or after []) e.0 ≡ showing.comes_after after e.0
+    passes : (after : Option (List ℕ)) (e : List ℕ × WorkspaceCells) → IsTrue (is_ws_name e.0) → is_behind (unwrap_or after []) e.0 ≡ showing.comes_after after e.0
     passes None e named = comes_after_all e.0 named
     passes (Some a) e named = refl
 
     workspaces_rows : (after : Option (List ℕ)) → workspaces_listed_in (unwrap_or after []) org t ≡ showing.workspaces_listed after (entries (workspaces_at t org))
     workspaces_rows after =
-        listed_all (ws_row_in org t) (map named_at (filter (λ e. comes_after (unwrap_or after []) e.0) (entries (workspaces_by_name org t))))
-        ∙ ap listing_of (mapped (filter (λ e. comes_after (unwrap_or after []) e.0) (entries (workspaces_by_name org t)))
-        ∙ ap (map (λ (e : List ℕ × WorkspaceCells). ws_row_in org t (named_at e))) (ap (filter (λ (e : List ℕ × WorkspaceCells). comes_after (unwrap_or after []) e.0)) (sym (itself (entries (workspaces_by_name org t)))))
+        listed_all (ws_row_in org t) (map named_at (filter (λ e. is_behind (unwrap_or after []) e.0) (entries (workspaces_by_name org t))))
+        ∙ ap listing_of (mapped (filter (λ e. is_behind (unwrap_or after []) e.0) (entries (workspaces_by_name org t)))
+        ∙ ap (map (λ (e : List ℕ × WorkspaceCells). ws_row_in org t (named_at e))) (ap (filter (λ (e : List ℕ × WorkspaceCells). is_behind (unwrap_or after []) e.0)) (sym (itself (entries (workspaces_by_name org t)))))
         ∙ shown_rows (λ (e : List ℕ × WorkspaceCells). e) (λ (e : List ℕ × WorkspaceCells). ws_row_in org t (named_at e)) (λ (e : List ℕ × WorkspaceCells). (e.0, workspace_at t org e.0 e.1))
-        (λ (e : List ℕ × Workspace). showing.row_of e.0 (showing.shown_of e.1)) (λ (e : List ℕ × WorkspaceCells). comes_after (unwrap_or after []) e.0) (λ (e : List ℕ × Workspace). showing.comes_after after e.0) row_shown
+        (λ (e : List ℕ × Workspace). showing.row_of e.0 (showing.shown_of e.1)) (λ (e : List ℕ × WorkspaceCells). is_behind (unwrap_or after []) e.0) (λ (e : List ℕ × Workspace). showing.comes_after after e.0) row_shown
         (entries (workspaces_by_name org t)) (all_weaker (λ (e : List ℕ × WorkspaceCells). IsTrue (is_ws_name e.0)) _ (λ e named. passes after e named) (entries (workspaces_by_name org t)) are_named))
         ∙ ap (showing.workspaces_listed after) (sym record_entries)
       where

@@ -20,10 +20,10 @@ use Rattle.machine.specs.declared.records.Organization.{Organization}
 use Rattle.machine.proofs.MapLemmas.{names_total, names_same, get_own, get_other}
 use Rattle.statements.specs.Rows.{Kept, id_of, OrgRow, TokenRow, WsRow}
 use Rattle.statements.specs.Tables.{Tables}
-use Rattle.statements.specs.Changes.{is_org, is_token, has_digest, is_ws_of}
+use Rattle.statements.specs.Changes.{is_org, is_token, is_digest_of, is_ws_of}
 use Rattle.statements.specs.Changes as rows
 use Rattle.statements.specs.Finds.{cap_of, role_of_digest, role_of_name}
-use Rattle.tables.specs.Records.{caller_in, caller_by, token_in, is_token_of, tokens_at, workspace_at, workspaces_at, organization_at, record_of}
+use Rattle.tables.specs.Records.{caller_of_role, caller_by, token_of_cells, is_token_of, tokens_at, workspace_at, workspaces_at, organization_at, record_of}
 use Rattle.tables.specs.Sound.{IsSound}
 use Rattle.tables.proofs.Lists.{found_passes, find_pushed, find_pushed_other}
 use Rattle.tables.proofs.Names.{same_name, name_is, apart_name, names_apart, pair_first, pair_is}
@@ -62,10 +62,10 @@ module _ (digest : List ℕ) where
 
   module _ (org : List ℕ) where
     abbrev made : List (Kept TokenRow) → FinMap name_cmp Token
-    made xs = from_entries (map (λ (x : Kept TokenRow). (x.1.name, token_in x.1.it)) (filter (is_token_of org) xs))
+    made xs = from_entries (map (λ (x : Kept TokenRow). (x.1.name, token_of_cells x.1.it)) (filter (is_token_of org) xs))
 
-    digest_found : (xs : List (Kept TokenRow)) → AreApart (λ a b. is_token a.1.org a.1.name b) xs → AreApart (λ a b. has_digest a.1.org a.1.it.digest b) xs
-        → with_it (entries (made xs)) ≡ option_map (λ (x : Kept TokenRow). token_in x.1.it) (find (has_digest org digest) xs)
+    digest_found : (xs : List (Kept TokenRow)) → AreApart (λ a b. is_token a.1.org a.1.name b) xs → AreApart (λ a b. is_digest_of a.1.org a.1.it.digest b) xs
+        → with_it (entries (made xs)) ≡ option_map (λ (x : Kept TokenRow). token_of_cells x.1.it) (find (is_digest_of org digest) xs)
     digest_found [] names digests = ap with_it no_entries
       where
         no_length : (es : List (List ℕ × Token)) → 0 ≡ length es → es ≡ []
@@ -77,28 +77,28 @@ module _ (digest : List ℕ) where
     digest_found (x ∷ xs) names digests = go (is_token_of org x) (bytes_eq x.1.it.digest digest) refl refl (digest_found xs names.1 digests.1)
       where
         go : (a b : Bool) → is_token_of org x ≡ a → bytes_eq x.1.it.digest digest ≡ b
-            → with_it (entries (made xs)) ≡ option_map (λ (y : Kept TokenRow). token_in y.1.it) (find (has_digest org digest) xs)
-            → with_it (entries (from_entries {R = name_cmp} (map (λ (y : Kept TokenRow). (y.1.name, token_in y.1.it)) (cond a (x ∷ filter (is_token_of org) xs) (filter (is_token_of org) xs)))))
-            ≡ option_map (λ (y : Kept TokenRow). token_in y.1.it) (cond (a && b) (Some x) (find (has_digest org digest) xs))
+            → with_it (entries (made xs)) ≡ option_map (λ (y : Kept TokenRow). token_of_cells y.1.it) (find (is_digest_of org digest) xs)
+            → with_it (entries (from_entries {R = name_cmp} (map (λ (y : Kept TokenRow). (y.1.name, token_of_cells y.1.it)) (cond a (x ∷ filter (is_token_of org) xs) (filter (is_token_of org) xs)))))
+            ≡ option_map (λ (y : Kept TokenRow). token_of_cells y.1.it) (cond (a && b) (Some x) (find (is_digest_of org digest) xs))
         go false b d e more = more
         go true b d e more = inside b e
           where
             name_free : find_entry name_cmp x.1.name (entries (made xs)) ≡ None
             name_free =
                 sym (get-entries (made xs) x.1.name)
-                ∙ get-from_entries names_total (map (λ (y : Kept TokenRow). (y.1.name, token_in y.1.it)) (filter (is_token_of org) xs)) x.1.name
-                ∙ entry_found (is_token_of org) (λ (y : Kept TokenRow). y.1.name) (λ (y : Kept TokenRow). token_in y.1.it) x.1.name xs
-                ∙ ap (option_map (λ (y : Kept TokenRow). token_in y.1.it)) (none_found (is_token org x.1.name) xs (subst (λ (n : List ℕ). AllByRecursion (λ y. is_token n x.1.name y ≡ false) xs) (same_name x.1.org org d) names.0))
+                ∙ get-from_entries names_total (map (λ (y : Kept TokenRow). (y.1.name, token_of_cells y.1.it)) (filter (is_token_of org) xs)) x.1.name
+                ∙ entry_found (is_token_of org) (λ (y : Kept TokenRow). y.1.name) (λ (y : Kept TokenRow). token_of_cells y.1.it) x.1.name xs
+                ∙ ap (option_map (λ (y : Kept TokenRow). token_of_cells y.1.it)) (none_found (is_token org x.1.name) xs (subst (λ (n : List ℕ). AllByRecursion (λ y. is_token n x.1.name y ≡ false) xs) (same_name x.1.org org d) names.0))
 
-            inside : (c : Bool) → bytes_eq x.1.it.digest digest ≡ c → with_it (entries (insert (made xs) x.1.name (token_in x.1.it))) ≡ option_map (λ (y : Kept TokenRow). token_in y.1.it) (cond c (Some x) (find (has_digest org digest) xs))
+            inside : (c : Bool) → bytes_eq x.1.it.digest digest ≡ c → with_it (entries (insert (made xs) x.1.name (token_of_cells x.1.it))) ≡ option_map (λ (y : Kept TokenRow). token_of_cells y.1.it) (cond c (Some x) (find (is_digest_of org digest) xs))
             inside true f =
-                let alone : find (has_digest org digest) xs ≡ None =
-                none_found (has_digest org digest) xs (subst (λ (n : List ℕ). AllByRecursion (λ y. has_digest org n y ≡ false) xs) (same_name x.1.it.digest digest f) (subst (λ (n : List ℕ). AllByRecursion (λ y. has_digest n x.1.it.digest y ≡ false) xs) (same_name x.1.org org d) digests.0)) in
-                ap with_it (entries-insert names_total (made xs) x.1.name (token_in x.1.it))
-                ∙ put_there x.1.name (token_in x.1.it) f (entries (made xs)) name_free (more ∙ ap (option_map (λ (y : Kept TokenRow). token_in y.1.it)) alone)
+                let alone : find (is_digest_of org digest) xs ≡ None =
+                none_found (is_digest_of org digest) xs (subst (λ (n : List ℕ). AllByRecursion (λ y. is_digest_of org n y ≡ false) xs) (same_name x.1.it.digest digest f) (subst (λ (n : List ℕ). AllByRecursion (λ y. is_digest_of n x.1.it.digest y ≡ false) xs) (same_name x.1.org org d) digests.0)) in
+                ap with_it (entries-insert names_total (made xs) x.1.name (token_of_cells x.1.it))
+                ∙ put_there x.1.name (token_of_cells x.1.it) f (entries (made xs)) name_free (more ∙ ap (option_map (λ (y : Kept TokenRow). token_of_cells y.1.it)) alone)
             inside false f =
-                ap with_it (entries-insert names_total (made xs) x.1.name (token_in x.1.it))
-                ∙ put_away x.1.name (token_in x.1.it) f (entries (made xs)) name_free ∙ more
+                ap with_it (entries-insert names_total (made xs) x.1.name (token_of_cells x.1.it))
+                ∙ put_away x.1.name (token_of_cells x.1.it) f (entries (made xs)) name_free ∙ more
 
 -- ---- callers
 
@@ -111,26 +111,26 @@ module _ (t : Tables) (sound : IsSound t) (org : List ℕ) where
   no_workspaces e = no_orphans (is_ws_of org) (λ x. is_org x.1.org) t.orgs
       (λ x f. ap (λ (n : List ℕ). list_any (is_org n) t.orgs) (same_name x.1.org org f) ∙ none_there t sound org e) t.wss sound.wss_owned
 
-  pub caller_is : (digest : List ℕ) → option_map (λ (x : Kept TokenRow). token_in x.1.it) (find (has_digest org digest) t.tokens) ≡ caller_of (record_of t org) digest
+  pub caller_is : (digest : List ℕ) → option_map (λ (x : Kept TokenRow). token_of_cells x.1.it) (find (is_digest_of org digest) t.tokens) ≡ caller_of (record_of t org) digest
   caller_is digest = by_limit (cap_of org t) refl
     where
-      none_found_there : (o : Option (Kept TokenRow)) → find (has_digest org digest) t.tokens ≡ o → cap_of org t ≡ None → option_map (λ (x : Kept TokenRow). token_in x.1.it) o ≡ None
+      none_found_there : (o : Option (Kept TokenRow)) → find (is_digest_of org digest) t.tokens ≡ o → cap_of org t ≡ None → option_map (λ (x : Kept TokenRow). token_of_cells x.1.it) o ≡ None
       none_found_there None f e = refl
       none_found_there (Some x) f e =
-          let own : x.1.org ≡ org = pair_first org digest x.1.org x.1.it.digest (found_passes (has_digest org digest) t.tokens x f) in
-          let owned : list_any (is_org x.1.org) t.orgs ≡ true = found_holds (λ (y : Kept TokenRow). list_any (is_org y.1.org) t.orgs ≡ true) (has_digest org digest) t.tokens x sound.tokens_owned f in
+          let own : x.1.org ≡ org = pair_first org digest x.1.org x.1.it.digest (found_passes (is_digest_of org digest) t.tokens x f) in
+          let owned : list_any (is_org x.1.org) t.orgs ≡ true = found_holds (λ (y : Kept TokenRow). list_any (is_org y.1.org) t.orgs ≡ true) (is_digest_of org digest) t.tokens x sound.tokens_owned f in
           let there : list_any (is_org org) t.orgs ≡ true = subst (λ (n : List ℕ). list_any (is_org n) t.orgs ≡ true) own owned in
           absurd (let no_one : ⊥ = cc (sym there ∙ none_there t sound org e) in no_one)
 
-      by_limit : (cap : Option ℕ) → cap_of org t ≡ cap → option_map (λ (x : Kept TokenRow). token_in x.1.it) (find (has_digest org digest) t.tokens) ≡ caller_of (option_map (organization_at t org) cap) digest
-      by_limit None e = none_found_there (find (has_digest org digest) t.tokens) refl e
+      by_limit : (cap : Option ℕ) → cap_of org t ≡ cap → option_map (λ (x : Kept TokenRow). token_of_cells x.1.it) (find (is_digest_of org digest) t.tokens) ≡ caller_of (option_map (organization_at t org) cap) digest
+      by_limit None e = none_found_there (find (is_digest_of org digest) t.tokens) refl e
       by_limit (Some cap) e = sym (digest_found digest org t.tokens sound.tokens_apart sound.digests_apart)
 
   -- who asks is told by the row with the digest
   pub caller_found : (digest : List ℕ) → caller_by org digest t ≡ option_map (λ (token : Token). token.caller) (caller_of (record_of t org) digest)
-  caller_found digest = mapped (find (has_digest org digest) t.tokens) ∙ ap (option_map (λ (token : Token). token.caller)) (caller_is digest)
+  caller_found digest = mapped (find (is_digest_of org digest) t.tokens) ∙ ap (option_map (λ (token : Token). token.caller)) (caller_is digest)
     where
-      mapped : (o : Option (Kept TokenRow)) → option_map caller_in (option_map (λ (x : Kept TokenRow). x.1.it.role) o) ≡ option_map (λ (token : Token). token.caller) (option_map (λ (x : Kept TokenRow). token_in x.1.it) o)
+      mapped : (o : Option (Kept TokenRow)) → option_map caller_of_role (option_map (λ (x : Kept TokenRow). x.1.it.role) o) ≡ option_map (λ (token : Token). token.caller) (option_map (λ (x : Kept TokenRow). token_of_cells x.1.it) o)
       mapped None = refl
       mapped (Some x) = refl
 
@@ -146,21 +146,21 @@ module _ (t : Tables) (sound : IsSound t) (org : List ℕ) (limit : ℕ) where
   pub org_exists : (cap : ℕ) → cap_of org t ≡ Some cap → effect Exists (record_of t org) ≡ org_added limit (record_of t org)
   org_exists cap e = subst (λ (r : Option Organization). effect Exists r ≡ org_added limit r) (sym (record_there t org cap e)) refl
 
-  pub org_own : cap_of org t ≡ None → record_of (rows.org_added org limit t) org ≡ Some (new_organization limit)
+  pub org_own : cap_of org t ≡ None → record_of (rows.org_row_added org limit t) org ≡ Some (new_organization limit)
   org_own e =
       ap (λ (o : Option (Kept OrgRow)). option_map (organization_at t org) (option_map (λ (x : Kept OrgRow). x.1.cap) o))
       (find_pushed (is_org org) t.orgs (next_key id_of t.orgs, record { name = org; cap = limit }) (none_mapped (λ (x : Kept OrgRow). x.1.cap) _ e) (name_is org))
       ∙ (λ i. Some (record {
         limit = limit;
-        tokens = from_entries {R = name_cmp} (map (λ (x : Kept TokenRow). (x.1.name, token_in x.1.it)) (no_tokens t sound org e i));
+        tokens = from_entries {R = name_cmp} (map (λ (x : Kept TokenRow). (x.1.name, token_of_cells x.1.it)) (no_tokens t sound org e i));
         workspaces = from_entries {R = name_cmp} (map (λ (x : Kept WsRow). (x.1.name, workspace_at t org x.1.name x.1.it)) (no_workspaces t sound org e i));
       }))
 
   -- where no organization has the name, the new one is there
-  pub org_done : cap_of org t ≡ None → effect Done (record_of (rows.org_added org limit t) org) ≡ org_added limit (record_of t org)
+  pub org_done : cap_of org t ≡ None → effect Done (record_of (rows.org_row_added org limit t) org) ≡ org_added limit (record_of t org)
   org_done e = ap (effect Done) (org_own e) ∙ sym (ap (org_added limit) (record_missing t org e))
 
-  pub org_other : (q : List ℕ) → q ≢ org → record_of (rows.org_added org limit t) q ≡ record_of t q
+  pub org_other : (q : List ℕ) → q ≢ org → record_of (rows.org_row_added org limit t) q ≡ record_of t q
   org_other q apart =
       ap (λ (o : Option (Kept OrgRow)). option_map (organization_at t q) (option_map (λ (x : Kept OrgRow). x.1.cap) o))
       (find_pushed_other (is_org q) t.orgs (next_key id_of t.orgs, record { name = org; cap = limit }) (apart_name org q (λ same. apart (sym same))))
@@ -173,14 +173,14 @@ found_same f (Some a) = refl
 
 -- a name is one of a token's where it has a row
 pub named_in_rows : (t : Tables) (org name : List ℕ) → is_some (get (tokens_at t org) name) ≡ is_some (role_of_name org name t)
-named_in_rows t org name = ap is_some (got_token t org name) ∙ found_same (λ (x : Kept TokenRow). token_in x.1.it) (find (is_token org name) t.tokens) ∙ sym (found_same (λ (x : Kept TokenRow). x.1.it.role) (find (is_token org name) t.tokens))
+named_in_rows t org name = ap is_some (got_token t org name) ∙ found_same (λ (x : Kept TokenRow). token_of_cells x.1.it) (find (is_token org name) t.tokens) ∙ sym (found_same (λ (x : Kept TokenRow). x.1.it.role) (find (is_token org name) t.tokens))
 
 module _ (t : Tables) (sound : IsSound t) (org name digest : List ℕ) (role : Role) where
   abbrev new_token : Token
   new_token = token_of digest role
 
   abbrev added : Tables
-  added = rows.token_added org name digest role t
+  added = rows.token_row_added org name digest role t
 
   new_row : Kept TokenRow
   new_row = (next_key id_of t.tokens, record { org = org; name = name; it = record { digest = digest; role = role } })
@@ -195,7 +195,7 @@ module _ (t : Tables) (sound : IsSound t) (org name digest : List ℕ) (role : R
     digest_is : is_some (token_with digest (entries (tokens_at t org))) ≡ is_some (role_of_digest org digest t)
     digest_is =
         ap is_some (digest_found digest org t.tokens sound.tokens_apart sound.digests_apart)
-        ∙ found_same (λ (x : Kept TokenRow). token_in x.1.it) (find (has_digest org digest) t.tokens) ∙ sym (found_same (λ (x : Kept TokenRow). x.1.it.role) (find (has_digest org digest) t.tokens))
+        ∙ found_same (λ (x : Kept TokenRow). token_of_cells x.1.it) (find (is_digest_of org digest) t.tokens) ∙ sym (found_same (λ (x : Kept TokenRow). x.1.it.role) (find (is_digest_of org digest) t.tokens))
 
     by_tests : (a b : Bool) → is_some (role_of_name org name t) ≡ a → is_some (role_of_digest org digest t) ≡ b
         → token_added name new_token (record_of t org) ≡ cond (a || b) (effect Exists (Some before)) (effect Done (Some (with_token before name new_token)))
@@ -222,11 +222,11 @@ module _ (t : Tables) (sound : IsSound t) (org name digest : List ℕ) (role : R
           by_name : (q : List ℕ) (b : Bool) → bytes_eq q name ≡ b → get (tokens_at added org) q ≡ get (insert (tokens_at t org) name new_token) q
           by_name q true e = subst (λ (n : List ℕ). get (tokens_at added org) n ≡ get (insert (tokens_at t org) name new_token) n) (sym (same_name q name e))
               (got_token added org name
-              ∙ ap (option_map (λ (x : Kept TokenRow). token_in x.1.it)) (find_pushed (is_token org name) t.tokens _ (none_mapped (λ (x : Kept TokenRow). x.1.it.role) _ unnamed) (pair_is org name))
+              ∙ ap (option_map (λ (x : Kept TokenRow). token_of_cells x.1.it)) (find_pushed (is_token org name) t.tokens _ (none_mapped (λ (x : Kept TokenRow). x.1.it.role) _ unnamed) (pair_is org name))
               ∙ sym (get_own (tokens_at t org) name new_token))
           by_name q false e =
               got_token added org q
-              ∙ ap (option_map (λ (x : Kept TokenRow). token_in x.1.it)) (find_pushed_other (is_token org q) t.tokens _ (ap₂ ◌&&◌ (name_is org) (apart_name name q (λ same. names_apart q name e (sym same)))))
+              ∙ ap (option_map (λ (x : Kept TokenRow). token_of_cells x.1.it)) (find_pushed_other (is_token org q) t.tokens _ (ap₂ ◌&&◌ (name_is org) (apart_name name q (λ same. names_apart q name e (sym same)))))
               ∙ sym (got_token t org q) ∙ sym (get_other (tokens_at t org) name new_token q (names_apart q name e))
 
       pub token_own : record_of added org ≡ Some (with_token before name new_token)
@@ -240,7 +240,7 @@ module _ (t : Tables) (sound : IsSound t) (org name digest : List ℕ) (role : R
   token_other q apart = by_limit (cap_of q t)
     where
       same_tokens : tokens_at added q ≡ tokens_at t q
-      same_tokens = ap (λ es. from_entries {R = name_cmp} es) (slice-push_other (is_token_of q) (λ (x : Kept TokenRow). (x.1.name, token_in x.1.it)) t.tokens _ (apart_name org q (λ same. apart (sym same))))
+      same_tokens = ap (λ es. from_entries {R = name_cmp} es) (slice-push_other (is_token_of q) (λ (x : Kept TokenRow). (x.1.name, token_of_cells x.1.it)) t.tokens _ (apart_name org q (λ same. apart (sym same))))
 
       by_limit : (c : Option ℕ) → option_map (organization_at added q) c ≡ option_map (organization_at t q) c
       by_limit None = refl

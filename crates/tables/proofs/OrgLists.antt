@@ -6,14 +6,14 @@ use Rattle.std.specs.FinMap.{entries, get, entries_sorted, get-entries, get-from
 use Rattle.std.specs.FinMap.Entries.{find as find_entry, is_sorted}
 use Rattle.machine.specs.Order.{name_cmp}
 use Rattle.machine.specs.Records.{count_of}
-use Rattle.machine.specs.Tokens.{is_row_of, Ascend, Tells, AreOrganizations}
+use Rattle.machine.specs.Tokens.{is_row_of, Ascend, TellsOrganization, AreOrganizations}
 use Rattle.machine.specs.declared.keeps.OrgRow.{OrgRow}
 use Rattle.machine.specs.declared.records.Organization.{Organization}
 use Rattle.machine.proofs.MapLemmas.{names_total}
 use Rattle.statements.specs.Rows.{Kept, OrgRow as OrgCells}
 use Rattle.statements.specs.Tables.{Tables}
 use Rattle.statements.specs.Finds.{cap_of, workspaces_of}
-use Rattle.statements.specs.Listings.{caps, organization_at as cells_at}
+use Rattle.statements.specs.Listings.{caps, organization_row as cells_at}
 use Rattle.tables.specs.Records.{organization_at, record_of}
 use Rattle.tables.specs.Sound.{IsSound}
 use Rattle.tables.specs.Inner.Lists.{org_row_in, organizations_listed_in}
@@ -61,12 +61,12 @@ module _ (t : Tables) where
   rows_mapped (e ∷ es) = ap (λ rows. row_at e ∷ rows) (rows_mapped es)
 
   module _ (sound : IsSound t) where
-    tells : (e : List ℕ × ℕ) → find_entry name_cmp e.0 (entries (caps t)) ≡ Some e.1 → Tells (record_of t) (row_at e)
+    tells : (e : List ℕ × ℕ) → find_entry name_cmp e.0 (entries (caps t)) ≡ Some e.1 → TellsOrganization (record_of t) (row_at e)
     tells e found =
         let there : record_of t e.0 ≡ Some (organization_at t e.0 e.1) = record_there t e.0 e.1 (sym (cap_found e.0) ∙ get-entries (caps t) e.0 ∙ found) in
         subst (λ (r : Option Organization). IsSomeAnd r (λ o. (workspaces_of e.0 t ≡ count_of o) × (e.1 ≡ o.limit))) (sym there) (count_found t sound e.0 (organization_at t e.0 e.1) there, refl)
 
-    all_told : (es : List (List ℕ × ℕ)) → AllByRecursion (λ (e : List ℕ × ℕ). find_entry name_cmp e.0 (entries (caps t)) ≡ Some e.1) es → AllByRecursion (Tells (record_of t)) (map row_at es)
+    all_told : (es : List (List ℕ × ℕ)) → AllByRecursion (λ (e : List ℕ × ℕ). find_entry name_cmp e.0 (entries (caps t)) ≡ Some e.1) es → AllByRecursion (TellsOrganization (record_of t)) (map row_at es)
     all_told [] found = tt
     all_told (e ∷ es) found = (tells e found.0, all_told es found.1)
 

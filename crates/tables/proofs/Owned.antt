@@ -1,5 +1,5 @@
 -- Which rows stand apart, and which belong to a row that is there, after a change of a workspace.
-use Rattle.std.proofs.Common.{◌≡◌, ℕ, ◌+◌, ◌-◌, nat_le, Bool, true, false, not, ◌||◌, cond, List, [], ◌∷◌, ◌++◌, find, is_some, Option, Some, None, option_map, refl, sym, ap, subst, ◌∙◌}
+use Rattle.std.proofs.Common.{◌≡◌, ℕ, ◌+◌, Bool, true, false, not, ◌||◌, cond, List, [], ◌∷◌, ◌++◌, find, is_some, Option, Some, None, option_map, refl, sym, ap, subst, ◌∙◌}
 use Rattle.std.specs.List.{AllByRecursion, list_any}
 use Rattle.std.proofs.lemmas.Bool.{false_from_ne_true}
 use Rattle.sqlite_keyed.specs.Keyed.{next_key}
@@ -22,8 +22,8 @@ use Rattle.statements.specs.declared.rows.Run.{Run as RunCells}
 use Rattle.statements.specs.Rows.{Version as VersionCells}
 use Rattle.statements.specs.Rows.{Kept, id_of, WsRow}
 use Rattle.statements.specs.Tables.{Tables}
-use Rattle.statements.specs.Changes.{is_org, is_ws, is_version_of, is_version_below, is_run_of, is_run, with_auto, held_by, released_from, with_next_version, with_next_run, ws_changed, ws_added, new_workspace, new_version, version_added, versions_removed, versions_removed_below, new_run, run_added, run_changed_to, run_acted}
-use Rattle.statements.specs.Finds.{workspace_of, versions_of}
+use Rattle.statements.specs.Changes.{is_org, is_ws, is_version_of, is_version_below, is_run_of, is_run_row, with_auto, held_by, released_from, with_next_version, with_next_run, ws_changed, ws_added, workspace_made, new_version, version_added, versions_removed, versions_removed_below, run_made, run_added, run_changed_to, run_acted}
+use Rattle.statements.specs.Finds.{workspace_of}
 use Rattle.tables.specs.Sound.{IsSound}
 use Rattle.tables.specs.Inner.Edits.{removed_rows, made_rows, numbered_rows, added_rows, left_rows, if_there, run_put, run_counted, freed_rows, edited_rows, started_rows, changed_rows}
 use Rattle.tables.proofs.Names.{is_pair, pair_is, pair_first, pair_second, pair_apart}
@@ -120,7 +120,7 @@ module _ (org ws : List ℕ) (t : Tables) (owned : AreOwned t) where
     wss_apart = owned.wss_apart;
     wss_owned = owned.wss_owned;
     versions_owned = owned.versions_owned;
-    runs_owned = all_updated (λ x. list_any (is_ws x.1.org x.1.ws) t.wss ≡ true) (is_run org ws n) (λ x. (x.0, record x.1 { it = record x.1.it { status = Planning } })) (λ x h. h) t.runs owned.runs_owned;
+    runs_owned = all_updated (λ x. list_any (is_ws x.1.org x.1.ws) t.wss ≡ true) (is_run_row org ws n) (λ x. (x.0, record x.1 { it = record x.1.it { status = Planning } })) (λ x h. h) t.runs owned.runs_owned;
   }
 
   owned_run : (r : RunCells) → list_any (is_ws org ws) t.wss ≡ true → AreOwned (run_added org ws r t)
@@ -136,7 +136,7 @@ module _ (org ws : List ℕ) (t : Tables) (owned : AreOwned t) where
     wss_apart = owned.wss_apart;
     wss_owned = owned.wss_owned;
     versions_owned = owned.versions_owned;
-    runs_owned = all_updated (λ x. list_any (is_ws x.1.org x.1.ws) t.wss ≡ true) (is_run org ws n) (λ x. (x.0, record x.1 { it = record x.1.it { status = status; action = Some action } })) (λ x h. h) t.runs owned.runs_owned;
+    runs_owned = all_updated (λ x. list_any (is_ws x.1.org x.1.ws) t.wss ≡ true) (is_run_row org ws n) (λ x. (x.0, record x.1 { it = record x.1.it { status = status; action = Some action } })) (λ x h. h) t.runs owned.runs_owned;
   }
 
   owned_removed : AreOwned (removed_rows org ws t)
@@ -166,7 +166,7 @@ module _ (org ws : List ℕ) (t : Tables) (owned : AreOwned t) where
   }
     where
       new : Kept WsRow
-      new = (next_key id_of t.wss, record { org = org; name = ws; it = new_workspace auto })
+      new = (next_key id_of t.wss, record { org = org; name = ws; it = workspace_made auto })
 
 owned_made : (org ws : List ℕ) (t : Tables) → AreOwned t → (auto : Bool) → list_any (is_org org) t.orgs ≡ true → AreOwned (made_rows org ws auto t)
 owned_made org ws t owned auto there = owned_added org ws (removed_rows org ws t) (owned_removed org ws t owned) auto (all_deleted (is_ws org ws) t.wss) there
@@ -196,7 +196,7 @@ module _ (org ws : List ℕ) where
   owned_run_rows number ask created t owned None e = owned
   owned_run_rows number ask created t owned (Some w) e =
       owned_row org ws (run_put org ws number ask created t)
-      (owned_run org ws t owned (new_run number ask.plan_only ask.key ask.message created (cond ask.plan_only Planning Pending)) (row_there t w e)) (with_next_run (number + 1))
+      (owned_run org ws t owned (run_made number ask.plan_only ask.key ask.message created (cond ask.plan_only Planning Pending)) (row_there t w e)) (with_next_run (number + 1))
 
   owned_freed : (frees : Bool) (t : Tables) → AreOwned t → AreOwned (freed_rows frees org ws t)
   owned_freed true t owned = owned_row org ws t owned (held_by Nobody)

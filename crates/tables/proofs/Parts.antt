@@ -17,9 +17,9 @@ use Rattle.statements.specs.declared.rows.Run.{Run as RunCells}
 use Rattle.statements.specs.Rows.{Version as VersionCells}
 use Rattle.statements.specs.Rows.{Kept, id_of, WsRow, VersionRow, RunRow}
 use Rattle.statements.specs.Tables.{Tables}
-use Rattle.statements.specs.Changes.{is_ws, ws_changed, ws_added, ws_removed, new_workspace, is_version_of, is_version_below, version_added, versions_removed, versions_removed_below, is_run_of, is_run, run_changed_to, run_acted, run_added, runs_removed}
+use Rattle.statements.specs.Changes.{is_ws, ws_changed, ws_added, ws_removed, workspace_made, is_version_of, is_version_below, version_added, versions_removed, versions_removed_below, is_run_of, is_run_row, run_changed_to, run_acted, run_added, runs_removed}
 use Rattle.statements.specs.Finds.{workspace_of}
-use Rattle.tables.specs.Records.{version_in, run_in, versions_at, runs_at}
+use Rattle.tables.specs.Records.{version_of_cells, run_of_cells, versions_at, runs_at}
 use Rattle.tables.proofs.Lists.{find_changed, find_unchanged, find_deleted, find_left, find_pushed, find_pushed_other, filter_deleted}
 use Rattle.tables.proofs.Names.{is_pair, pair_is, pair_apart}
 
@@ -78,67 +78,67 @@ module _ (org ws : List ℕ) where
     pub row_left : (a b : List ℕ) → is_pair org ws a b ≡ false → workspace_of a b (ws_removed org ws t) ≡ workspace_of a b t
     row_left a b other = ap (option_map (λ (x : Kept WsRow). x.1.it)) (find_left (is_ws a b) (is_ws org ws) (λ x. pair_apart org ws a b x.1.org x.1.name other) t.wss)
 
-    pub row_added : (auto : Bool) → workspace_of org ws t ≡ None → workspace_of org ws (ws_added org ws auto t) ≡ Some (new_workspace auto)
+    pub row_added : (auto : Bool) → workspace_of org ws t ≡ None → workspace_of org ws (ws_added org ws auto t) ≡ Some (workspace_made auto)
     row_added auto none = ap (option_map (λ (x : Kept WsRow). x.1.it)) (find_pushed (is_ws org ws) t.wss _ (none_mapped (λ (x : Kept WsRow). x.1.it) _ none) (pair_is org ws))
 
     pub row_added_other : (auto : Bool) (a b : List ℕ) → is_pair org ws a b ≡ false → workspace_of a b (ws_added org ws auto t) ≡ workspace_of a b t
     row_added_other auto a b other =
-        ap (option_map (λ (x : Kept WsRow). x.1.it)) (find_pushed_other (is_ws a b) t.wss (next_key id_of t.wss, record { org = org; name = ws; it = new_workspace auto }) (pair_apart org ws a b org ws other (pair_is org ws)))
+        ap (option_map (λ (x : Kept WsRow). x.1.it)) (find_pushed_other (is_ws a b) t.wss (next_key id_of t.wss, record { org = org; name = ws; it = workspace_made auto }) (pair_apart org ws a b org ws other (pair_is org ws)))
 
     -- ---- its versions
 
-    pub versions_pushed : (v : VersionCells) → versions_at (version_added org ws v t) org ws ≡ versions_at t org ws ++ version_in v ∷ []
-    versions_pushed v = slice-push_mine (is_version_of org ws) (λ x. version_in x.1.it) t.versions (next_key id_of t.versions, record { org = org; ws = ws; it = v }) (pair_is org ws)
+    pub versions_pushed : (v : VersionCells) → versions_at (version_added org ws v t) org ws ≡ versions_at t org ws ++ version_of_cells v ∷ []
+    versions_pushed v = slice-push_mine (is_version_of org ws) (λ x. version_of_cells x.1.it) t.versions (next_key id_of t.versions, record { org = org; ws = ws; it = v }) (pair_is org ws)
 
     pub versions_pushed_other : (v : VersionCells) (a b : List ℕ) → is_pair org ws a b ≡ false → versions_at (version_added org ws v t) a b ≡ versions_at t a b
-    versions_pushed_other v a b other = slice-push_other (is_version_of a b) (λ x. version_in x.1.it) t.versions (next_key id_of t.versions, record { org = org; ws = ws; it = v }) (pair_apart org ws a b org ws other (pair_is org ws))
+    versions_pushed_other v a b other = slice-push_other (is_version_of a b) (λ x. version_of_cells x.1.it) t.versions (next_key id_of t.versions, record { org = org; ws = ws; it = v }) (pair_apart org ws a b org ws other (pair_is org ws))
 
     pub versions_cut : (n : ℕ) → versions_at (versions_removed_below org ws n t) org ws ≡ delete_where (λ (v : Version). nat_lt v.number n) (versions_at t org ws)
     versions_cut n =
-        ap (λ xs. map (λ (x : Kept VersionRow). version_in x.1.it) (filter (is_version_of org ws) xs)) (filter_same (λ x. not (is_version_below org ws n x)) (λ x. not (is_version_of org ws x && nat_lt x.1.it.number n)) (λ x. and_three (bytes_eq x.1.org org) (bytes_eq x.1.ws ws) (nat_lt x.1.it.number n)) t.versions)
-        ∙ slice-delete_mine (is_version_of org ws) (λ (x : Kept VersionRow). version_in x.1.it) (λ (v : Version). nat_lt v.number n) t.versions
+        ap (λ xs. map (λ (x : Kept VersionRow). version_of_cells x.1.it) (filter (is_version_of org ws) xs)) (filter_same (λ x. not (is_version_below org ws n x)) (λ x. not (is_version_of org ws x && nat_lt x.1.it.number n)) (λ x. and_three (bytes_eq x.1.org org) (bytes_eq x.1.ws ws) (nat_lt x.1.it.number n)) t.versions)
+        ∙ slice-delete_mine (is_version_of org ws) (λ (x : Kept VersionRow). version_of_cells x.1.it) (λ (v : Version). nat_lt v.number n) t.versions
 
     pub versions_cut_other : (n : ℕ) (a b : List ℕ) → is_pair org ws a b ≡ false → versions_at (versions_removed_below org ws n t) a b ≡ versions_at t a b
     versions_cut_other n a b other =
-        slice-delete_other (is_version_of a b) (λ x. version_in x.1.it) (is_version_below org ws n) (λ x e. pair_apart org ws a b x.1.org x.1.ws other (first_two (bytes_eq x.1.org org) (bytes_eq x.1.ws ws) (nat_lt x.1.it.number n) e)) t.versions
+        slice-delete_other (is_version_of a b) (λ x. version_of_cells x.1.it) (is_version_below org ws n) (λ x e. pair_apart org ws a b x.1.org x.1.ws other (first_two (bytes_eq x.1.org org) (bytes_eq x.1.ws ws) (nat_lt x.1.it.number n) e)) t.versions
 
     pub versions_gone : versions_at (versions_removed org ws t) org ws ≡ []
-    versions_gone = ap (map (λ (x : Kept VersionRow). version_in x.1.it)) (filter_deleted (is_version_of org ws) t.versions)
+    versions_gone = ap (map (λ (x : Kept VersionRow). version_of_cells x.1.it)) (filter_deleted (is_version_of org ws) t.versions)
 
     pub versions_gone_other : (a b : List ℕ) → is_pair org ws a b ≡ false → versions_at (versions_removed org ws t) a b ≡ versions_at t a b
-    versions_gone_other a b other = slice-delete_other (is_version_of a b) (λ x. version_in x.1.it) (is_version_of org ws) (λ x e. pair_apart org ws a b x.1.org x.1.ws other e) t.versions
+    versions_gone_other a b other = slice-delete_other (is_version_of a b) (λ x. version_of_cells x.1.it) (is_version_of org ws) (λ x e. pair_apart org ws a b x.1.org x.1.ws other e) t.versions
 
     -- ---- its runs
 
     pub runs_begun : (n : ℕ) → runs_at (run_changed_to Planning org ws n t) org ws ≡ map (begun n) (runs_at t org ws)
     runs_begun n =
-        ap (λ xs. map (λ (x : Kept RunRow). run_in x.1.it) (filter (is_run_of org ws) xs)) (map_same (λ (x : Kept RunRow). cond (is_run org ws n x) (planned x) x) (λ (x : Kept RunRow). cond (is_run_of org ws x && x.1.it.number == n) (planned x) x) (λ x. ap (λ (b : Bool). cond b (planned x) x) (three (bytes_eq x.1.org org) (bytes_eq x.1.ws ws) (x.1.it.number == n))) t.runs)
-        ∙ slice-update_mine (is_run_of org ws) (λ (x : Kept RunRow). run_in x.1.it) (λ (r : Run). r.number == n) planned (λ (r : Run). record r { status = Planning }) (λ x. refl) (λ x. refl) t.runs
+        ap (λ xs. map (λ (x : Kept RunRow). run_of_cells x.1.it) (filter (is_run_of org ws) xs)) (map_same (λ (x : Kept RunRow). cond (is_run_row org ws n x) (planned x) x) (λ (x : Kept RunRow). cond (is_run_of org ws x && x.1.it.number == n) (planned x) x) (λ x. ap (λ (b : Bool). cond b (planned x) x) (three (bytes_eq x.1.org org) (bytes_eq x.1.ws ws) (x.1.it.number == n))) t.runs)
+        ∙ slice-update_mine (is_run_of org ws) (λ (x : Kept RunRow). run_of_cells x.1.it) (λ (r : Run). r.number == n) planned (λ (r : Run). record r { status = Planning }) (λ x. refl) (λ x. refl) t.runs
         ∙ map_same (λ (r : Run). cond (r.number == n) (record r { status = Planning }) r) (begun n) (λ r. status_of_begun (r.number == n) r) (runs_at t org ws)
 
     pub runs_begun_other : (n : ℕ) (a b : List ℕ) → is_pair org ws a b ≡ false → runs_at (run_changed_to Planning org ws n t) a b ≡ runs_at t a b
     runs_begun_other n a b other =
-        slice-update_other (is_run_of a b) (λ x. run_in x.1.it) (is_run org ws n) (λ x e. pair_apart org ws a b x.1.org x.1.ws other (first_two (bytes_eq x.1.org org) (bytes_eq x.1.ws ws) (x.1.it.number == n) e)) planned (λ x. refl) t.runs
+        slice-update_other (is_run_of a b) (λ x. run_of_cells x.1.it) (is_run_row org ws n) (λ x e. pair_apart org ws a b x.1.org x.1.ws other (first_two (bytes_eq x.1.org org) (bytes_eq x.1.ws ws) (x.1.it.number == n) e)) planned (λ x. refl) t.runs
 
-    pub runs_pushed : (r : RunCells) → runs_at (run_added org ws r t) org ws ≡ runs_at t org ws ++ run_in r ∷ []
-    runs_pushed r = slice-push_mine (is_run_of org ws) (λ x. run_in x.1.it) t.runs (next_key id_of t.runs, record { org = org; ws = ws; it = r }) (pair_is org ws)
+    pub runs_pushed : (r : RunCells) → runs_at (run_added org ws r t) org ws ≡ runs_at t org ws ++ run_of_cells r ∷ []
+    runs_pushed r = slice-push_mine (is_run_of org ws) (λ x. run_of_cells x.1.it) t.runs (next_key id_of t.runs, record { org = org; ws = ws; it = r }) (pair_is org ws)
 
     pub runs_pushed_other : (r : RunCells) (a b : List ℕ) → is_pair org ws a b ≡ false → runs_at (run_added org ws r t) a b ≡ runs_at t a b
-    runs_pushed_other r a b other = slice-push_other (is_run_of a b) (λ x. run_in x.1.it) t.runs (next_key id_of t.runs, record { org = org; ws = ws; it = r }) (pair_apart org ws a b org ws other (pair_is org ws))
+    runs_pushed_other r a b other = slice-push_other (is_run_of a b) (λ x. run_of_cells x.1.it) t.runs (next_key id_of t.runs, record { org = org; ws = ws; it = r }) (pair_apart org ws a b org ws other (pair_is org ws))
 
     module _ (status : RunStatus) (action : RunAction) (n : ℕ) where
       pub runs_acted : runs_at (run_acted status action org ws n t) org ws ≡ map (reported n action status) (runs_at t org ws)
       runs_acted =
-          ap (λ xs. map (λ (x : Kept RunRow). run_in x.1.it) (filter (is_run_of org ws) xs)) (map_same (λ (x : Kept RunRow). cond (is_run org ws n x) (acted status action x) x) (λ (x : Kept RunRow). cond (is_run_of org ws x && x.1.it.number == n) (acted status action x) x) (λ x. ap (λ (b : Bool). cond b (acted status action x) x) (three (bytes_eq x.1.org org) (bytes_eq x.1.ws ws) (x.1.it.number == n))) t.runs)
-          ∙ slice-update_mine (is_run_of org ws) (λ (x : Kept RunRow). run_in x.1.it) (λ (r : Run). r.number == n) (acted status action) (λ (r : Run). record r { status = status; action = Some action }) (λ x. refl) (λ x. refl) t.runs
+          ap (λ xs. map (λ (x : Kept RunRow). run_of_cells x.1.it) (filter (is_run_of org ws) xs)) (map_same (λ (x : Kept RunRow). cond (is_run_row org ws n x) (acted status action x) x) (λ (x : Kept RunRow). cond (is_run_of org ws x && x.1.it.number == n) (acted status action x) x) (λ x. ap (λ (b : Bool). cond b (acted status action x) x) (three (bytes_eq x.1.org org) (bytes_eq x.1.ws ws) (x.1.it.number == n))) t.runs)
+          ∙ slice-update_mine (is_run_of org ws) (λ (x : Kept RunRow). run_of_cells x.1.it) (λ (r : Run). r.number == n) (acted status action) (λ (r : Run). record r { status = status; action = Some action }) (λ x. refl) (λ x. refl) t.runs
           ∙ map_same (λ (r : Run). cond (r.number == n) (record r { status = status; action = Some action }) r) (reported n action status) (λ r. status_of_acted action status (r.number == n) r) (runs_at t org ws)
 
       pub runs_acted_other : (a b : List ℕ) → is_pair org ws a b ≡ false → runs_at (run_acted status action org ws n t) a b ≡ runs_at t a b
       runs_acted_other a b other =
-          slice-update_other (is_run_of a b) (λ x. run_in x.1.it) (is_run org ws n) (λ x e. pair_apart org ws a b x.1.org x.1.ws other (first_two (bytes_eq x.1.org org) (bytes_eq x.1.ws ws) (x.1.it.number == n) e)) (acted status action) (λ x. refl) t.runs
+          slice-update_other (is_run_of a b) (λ x. run_of_cells x.1.it) (is_run_row org ws n) (λ x e. pair_apart org ws a b x.1.org x.1.ws other (first_two (bytes_eq x.1.org org) (bytes_eq x.1.ws ws) (x.1.it.number == n) e)) (acted status action) (λ x. refl) t.runs
 
     pub runs_gone : runs_at (runs_removed org ws t) org ws ≡ []
-    runs_gone = ap (map (λ (x : Kept RunRow). run_in x.1.it)) (filter_deleted (is_run_of org ws) t.runs)
+    runs_gone = ap (map (λ (x : Kept RunRow). run_of_cells x.1.it)) (filter_deleted (is_run_of org ws) t.runs)
 
     pub runs_gone_other : (a b : List ℕ) → is_pair org ws a b ≡ false → runs_at (runs_removed org ws t) a b ≡ runs_at t a b
-    runs_gone_other a b other = slice-delete_other (is_run_of a b) (λ x. run_in x.1.it) (is_run_of org ws) (λ x e. pair_apart org ws a b x.1.org x.1.ws other e) t.runs
+    runs_gone_other a b other = slice-delete_other (is_run_of a b) (λ x. run_of_cells x.1.it) (is_run_of org ws) (λ x e. pair_apart org ws a b x.1.org x.1.ws other e) t.runs

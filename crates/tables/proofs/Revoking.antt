@@ -16,9 +16,9 @@ use Rattle.machine.specs.declared.records.Organization.{Organization}
 use Rattle.machine.proofs.MapLemmas.{names_total, names_same, removed_own, removed_other}
 use Rattle.statements.specs.Rows.{Kept, TokenRow}
 use Rattle.statements.specs.Tables.{Tables}
-use Rattle.statements.specs.Changes.{is_org, is_token, has_digest, token_removed}
+use Rattle.statements.specs.Changes.{is_org, is_token, is_digest_of, token_removed}
 use Rattle.statements.specs.Finds.{cap_of, role_of_name}
-use Rattle.tables.specs.Records.{token_in, is_token_of, tokens_at, workspaces_at, organization_at, record_of}
+use Rattle.tables.specs.Records.{token_of_cells, is_token_of, tokens_at, workspaces_at, organization_at, record_of}
 use Rattle.tables.specs.Sound.{IsTokenRow, IsSound}
 use Rattle.tables.proofs.Names.{same_name, apart_name, names_apart, pair_first, pair_apart}
 use Rattle.tables.proofs.Lists.{found_passes, find_deleted, find_left}
@@ -32,12 +32,12 @@ module _ (org name : List ℕ) (t : Tables) where
   left = token_removed org name t
 
   got_removed : get (tokens_at left org) name ≡ None
-  got_removed = got_token left org name ∙ ap (option_map (λ (x : Kept TokenRow). token_in x.1.it)) (find_deleted (is_token org name) t.tokens)
+  got_removed = got_token left org name ∙ ap (option_map (λ (x : Kept TokenRow). token_of_cells x.1.it)) (find_deleted (is_token org name) t.tokens)
 
   got_others : (q : List ℕ) → bytes_eq q name ≡ false → get (tokens_at left org) q ≡ get (tokens_at t org) q
   got_others q other =
       got_token left org q
-      ∙ ap (option_map (λ (x : Kept TokenRow). token_in x.1.it)) (find_left (is_token org q) (is_token org name) (λ x e. pair_apart org name org q x.1.org x.1.name (other_ws org name q other) e) t.tokens)
+      ∙ ap (option_map (λ (x : Kept TokenRow). token_of_cells x.1.it)) (find_left (is_token org q) (is_token org name) (λ x e. pair_apart org name org q x.1.org x.1.name (other_ws org name q other) e) t.tokens)
       ∙ sym (got_token t org q)
 
   tokens_left : tokens_at left org ≡ remove (tokens_at t org) name
@@ -87,7 +87,7 @@ module _ (org name : List ℕ) (t : Tables) where
   revoke_other q apart = by_limit (cap_of q t)
     where
       same_tokens : tokens_at left q ≡ tokens_at t q
-      same_tokens = ap (λ es. from_entries {R = name_cmp} es) (slice-delete_other (is_token_of q) (λ (x : Kept TokenRow). (x.1.name, token_in x.1.it)) (is_token org name)
+      same_tokens = ap (λ es. from_entries {R = name_cmp} es) (slice-delete_other (is_token_of q) (λ (x : Kept TokenRow). (x.1.name, token_of_cells x.1.it)) (is_token org name)
           (λ x e. apart_name x.1.org q (λ same. apart (sym same ∙ pair_first org name x.1.org x.1.name e))) t.tokens)
 
       by_limit : (c : Option ℕ) → option_map (organization_at left q) c ≡ option_map (organization_at t q) c
@@ -100,7 +100,7 @@ module _ (org name : List ℕ) (t : Tables) where
     told = sound.told;
     orgs_apart = sound.orgs_apart;
     tokens_apart = apart_delete (λ a b. is_token a.1.org a.1.name b) (is_token org name) t.tokens sound.tokens_apart;
-    digests_apart = apart_delete (λ a b. has_digest a.1.org a.1.it.digest b) (is_token org name) t.tokens sound.digests_apart;
+    digests_apart = apart_delete (λ a b. is_digest_of a.1.org a.1.it.digest b) (is_token org name) t.tokens sound.digests_apart;
     wss_apart = sound.wss_apart;
     tokens_owned = all-filter (λ x. list_any (is_org x.1.org) t.orgs ≡ true) (λ x. not (is_token org name x)) t.tokens sound.tokens_owned;
     wss_owned = sound.wss_owned;

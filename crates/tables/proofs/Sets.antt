@@ -16,7 +16,7 @@ use Rattle.statements.specs.Rows.{Kept, OrgRow, TokenRow, WsRow}
 use Rattle.statements.specs.Tables.{Tables}
 use Rattle.statements.specs.Changes.{is_org, is_token, is_ws, is_ws_of}
 use Rattle.statements.specs.Finds.{cap_of}
-use Rattle.tables.specs.Records.{workspace_in, workspace_at, workspace_by, is_token_of, token_in, tokens_at, workspaces_at, organization_at, record_of}
+use Rattle.tables.specs.Records.{workspace_of_cells, workspace_at, workspace_by, is_token_of, token_of_cells, tokens_at, workspaces_at, organization_at, record_of}
 use Rattle.tables.proofs.Lists.{found_passes}
 use Rattle.tables.proofs.Names.{same_name, name_is, apart_name, names_apart, is_pair, pair_second, tied}
 
@@ -45,10 +45,10 @@ module _ (t : Tables) (org name : List ℕ) where
       ∙ entry_found (is_ws_of org) (λ (x : Kept WsRow). x.1.name) (λ (x : Kept WsRow). workspace_at t org x.1.name x.1.it) name t.wss
       ∙ row_is (find (is_ws org name) t.wss) refl
 
-  pub got_token : get (tokens_at t org) name ≡ option_map (λ (x : Kept TokenRow). token_in x.1.it) (find (is_token org name) t.tokens)
+  pub got_token : get (tokens_at t org) name ≡ option_map (λ (x : Kept TokenRow). token_of_cells x.1.it) (find (is_token org name) t.tokens)
   got_token =
-      get-from_entries names_total (map (λ (x : Kept TokenRow). (x.1.name, token_in x.1.it)) (filter (is_token_of org) t.tokens)) name
-      ∙ entry_found (is_token_of org) (λ (x : Kept TokenRow). x.1.name) (λ (x : Kept TokenRow). token_in x.1.it) name t.tokens
+      get-from_entries names_total (map (λ (x : Kept TokenRow). (x.1.name, token_of_cells x.1.it)) (filter (is_token_of org) t.tokens)) name
+      ∙ entry_found (is_token_of org) (λ (x : Kept TokenRow). x.1.name) (λ (x : Kept TokenRow). token_of_cells x.1.it) name t.tokens
 
 pub one_of : (a b : Organization) → Some a ≡ Some b → a ≡ b
 one_of a b e = cc
@@ -64,7 +64,7 @@ workspace_there t org name o e = by_limit (cap_of org t) e
 -- ---- a workspace from its parts
 
 abbrev by_parts : Option WorkspaceCells → List Version → List Run → Option Workspace
-by_parts row versions runs = option_map (λ (w : WorkspaceCells). workspace_in w versions runs) row
+by_parts row versions runs = option_map (λ (w : WorkspaceCells). workspace_of_cells w versions runs) row
 
 pub same_parts : (row other : Option WorkspaceCells) (vs us : List Version) (rs ss : List Run) → row ≡ other → vs ≡ us → rs ≡ ss → by_parts row vs rs ≡ by_parts other us ss
 same_parts row other vs us rs ss e f g = λ i. by_parts (e i) (f i) (g i)
@@ -97,7 +97,7 @@ module _ (org ws : List ℕ) (w : Option Workspace) (t u : Tables) (puts : Puts 
   same_orgs q = ap (λ orgs. option_map (λ (x : Kept OrgRow). x.1.cap) (find (is_org q) orgs)) puts.orgs
 
   same_tokens : (q : List ℕ) → tokens_at u q ≡ tokens_at t q
-  same_tokens q = ap (λ tokens. from_entries {R = name_cmp} (map (λ (x : Kept TokenRow). (x.1.name, token_in x.1.it)) (filter (is_token_of q) tokens))) puts.tokens
+  same_tokens q = ap (λ tokens. from_entries {R = name_cmp} (map (λ (x : Kept TokenRow). (x.1.name, token_of_cells x.1.it)) (filter (is_token_of q) tokens))) puts.tokens
 
   put_workspaces : workspaces_at u org ≡ with_workspace (workspaces_at t org) ws w
   put_workspaces = same_map names_total names_same _ _ (λ q. by_name q (bytes_eq q ws) refl)

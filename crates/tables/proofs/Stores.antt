@@ -13,10 +13,9 @@ use Rattle.machine.specs.declared.acts.Change.{Change}
 use Rattle.machine.specs.declared.keeps.AdminAnswer.TheVariants.{Done}
 use Rattle.machine.specs.declared.records.Organization.{Organization}
 use Rattle.statements.specs.Changes as rows
-use Rattle.statements.specs.Decode.{tables_of}
 use Rattle.statements.specs.Finds.{cap_of, role_of_name, role_of_digest}
-use Rattle.statements.specs.Making.{no_rows, version_set}
-use Rattle.statements.specs.Tables.{Tables, Holds}
+use Rattle.statements.specs.Making.{version_set}
+use Rattle.statements.specs.Tables.{Tables, Holds, no_rows, tables_of}
 use Rattle.statements.proofs.Decoding.{tables-held}
 use Rattle.tables.specs.Inner.Edits.{changed_rows}
 use Rattle.tables.specs.Records.{record_of}
@@ -65,7 +64,7 @@ module _ (old new : Database) (s : IsSoundStore old) where
 
   -- ---- an organization more
 
-  module _ (org : List ℕ) (limit : ℕ) (moves : (t : Tables) → Holds old t → Holds new (rows.org_added org limit t)) where
+  module _ (org : List ℕ) (limit : ℕ) (moves : (t : Tables) → Holds old t → Holds new (rows.org_row_added org limit t)) where
     pub store_org_done : cap_of org rows_before ≡ None → effect Done (records_of new org) ≡ org_added limit (records_of old org)
     store_org_done none = ap (effect Done) (records_by new _ (moves rows_before s.holds) org) ∙ org_done rows_before s.sound org limit none
 
@@ -77,7 +76,7 @@ module _ (old new : Database) (s : IsSoundStore old) where
 
   -- ---- a token more
 
-  module _ (org name digest : List ℕ) (role : Role) (moves : (t : Tables) → Holds old t → Holds new (rows.token_added org name digest role t)) where
+  module _ (org name digest : List ℕ) (role : Role) (moves : (t : Tables) → Holds old t → Holds new (rows.token_row_added org name digest role t)) where
     pub store_token_done : (cap : ℕ) → cap_of org rows_before ≡ Some cap → role_of_name org name rows_before ≡ None → role_of_digest org digest rows_before ≡ None
         → effect Done (records_of new org) ≡ token_added name (token_of digest role) (records_of old org)
     store_token_done cap there unnamed unknown =

@@ -7,11 +7,10 @@ use Rattle.machine.specs.declared.acts.Change.{Change}
 use Rattle.statements.specs.declared.rows.Workspace.{Workspace as WorkspaceCells}
 use Rattle.sqlite.specs.State.{State}
 use Rattle.statements.specs.Changes.{run_acted}
-use Rattle.statements.specs.Decode.{tables_of}
 use Rattle.statements.specs.Finds.{workspace_of}
 use Rattle.statements.specs.Making.{version_in}
 use Rattle.statements.specs.Rows.{Kept, id_of}
-use Rattle.statements.specs.Tables.{Tables}
+use Rattle.statements.specs.Tables.{Tables, tables_of}
 use Rattle.tables.specs.Inner.Edits.{numbered_rows, added_rows, left_rows, if_there, run_put, run_counted, freed_rows, edited_rows, started_rows, changed_rows}
 use Rattle.tables.specs.Sound.{TellsVersion}
 use Rattle.tables.specs.Stores.{IsSoundStore}

@@ -4,3 +4,4 @@ pub mod Opening
 pub mod Records
 pub mod Sound
 pub mod Stores
+pub mod Versions

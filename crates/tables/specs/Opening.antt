@@ -15,8 +15,8 @@ use Rattle.sqlite_schema.specs.Names.{table_named}
 use Rattle.sqlite.specs.Effect.{Database}
 use Rattle.sqlite.specs.State.{State}
 use Rattle.statements.specs.Schema.{meta_table}
-use Rattle.statements.specs.Making.{our_tables, version_in}
-use Rattle.statements.specs.Tables.{Tables, Holds}
+use Rattle.statements.specs.Making.{version_in}
+use Rattle.statements.specs.Tables.{Tables, Holds, our_tables}
 use Rattle.tables.specs.Stores.{IsSoundStore}
 
 -- The database that was seen last is sound, and it is what the connection has committed, as long as no fault has shut it.
@@ -24,15 +24,15 @@ pub record IsSoundKeep (seen : Database) (s : State) : Type 0 where
   pub store : IsSoundStore seen
   pub tied : IsTrue s.is_open → s.committed ≡ seen
 
-abbrev pub is_there : Schema → Table → Bool
-is_there s t = is_some (table_named s t.name)
+abbrev pub is_in_schema : Schema → Table → Bool
+is_in_schema s t = is_some (table_named s t.name)
 
 -- whether one of our tables is there, or all are
 abbrev pub any_there : Schema → Bool
-any_there s = list_any (is_there s) our_tables
+any_there s = list_any (is_in_schema s) our_tables
 
 abbrev pub all_there : Schema → Bool
-all_there s = list_all (is_there s) our_tables
+all_there s = list_all (is_in_schema s) our_tables
 
 -- ---- whether the table meta has the columns of ours
 

@@ -26,31 +26,31 @@ use Rattle.statements.specs.Finds.{cap_of, role_of_digest, workspace_of}
 
 -- ---- what cells denote
 
-abbrev pub settings_in : WorkspaceCells → Settings
-settings_in w = record { auto_apply = w.auto }
+abbrev pub settings_of_cells : WorkspaceCells → Settings
+settings_of_cells w = record { auto_apply = w.auto }
 
-abbrev pub holder_in : HolderCells → Holder
-holder_in cells.Nobody = Nobody
-holder_in (cells.Lock id text) = Lock id text
-holder_in (cells.Run n) = HoldingRun n
+abbrev pub holder_of_cells : HolderCells → Holder
+holder_of_cells cells.Nobody = Nobody
+holder_of_cells (cells.Lock id text) = Lock id text
+holder_of_cells (cells.Run n) = HoldingRun n
 
-abbrev pub version_in : VersionCells → Version
-version_in v = record { number = v.number; serial = v.serial; lineage = v.lineage; created = v.created; text = v.body }
+abbrev pub version_of_cells : VersionCells → Version
+version_of_cells v = record { number = v.number; serial = v.serial; lineage = v.lineage; created = v.created; text = v.body }
 
-abbrev pub run_in : RunCells → Run
-run_in r = record { number = r.number; plan_only = r.plan_only; key = r.key; message = r.message; created = r.created; status = r.status; action = r.action }
+abbrev pub run_of_cells : RunCells → Run
+run_of_cells r = record { number = r.number; plan_only = r.plan_only; key = r.key; message = r.message; created = r.created; status = r.status; action = r.action }
 
-abbrev pub caller_in : Role → Caller
-caller_in role = record { role = role }
+abbrev pub caller_of_role : Role → Caller
+caller_of_role role = record { role = role }
 
-abbrev pub token_in : TokenCells → Token
-token_in t = record { digest = t.digest; caller = caller_in t.role }
+abbrev pub token_of_cells : TokenCells → Token
+token_of_cells t = record { digest = t.digest; caller = caller_of_role t.role }
 
 -- a workspace with its versions and runs, which have rows of their own
-abbrev pub workspace_in : WorkspaceCells → List Version → List Run → Workspace
-workspace_in w versions runs = record {
-  settings = settings_in w;
-  holder = holder_in w.holder;
+abbrev pub workspace_of_cells : WorkspaceCells → List Version → List Run → Workspace
+workspace_of_cells w versions runs = record {
+  settings = settings_of_cells w;
+  holder = holder_of_cells w.holder;
   released = w.released;
   next_version = w.next_version;
   next_run = w.next_run;
@@ -62,14 +62,14 @@ workspace_in w versions runs = record {
 
 -- the versions of a workspace, in the order in which their rows were added
 abbrev pub versions_at : Tables → List ℕ → List ℕ → List Version
-versions_at t org ws = map (λ x. version_in x.1.it) (filter (is_version_of org ws) t.versions)
+versions_at t org ws = map (λ x. version_of_cells x.1.it) (filter (is_version_of org ws) t.versions)
 
 abbrev pub runs_at : Tables → List ℕ → List ℕ → List Run
-runs_at t org ws = map (λ x. run_in x.1.it) (filter (is_run_of org ws) t.runs)
+runs_at t org ws = map (λ x. run_of_cells x.1.it) (filter (is_run_of org ws) t.runs)
 
 -- the workspace that a row denotes
 abbrev pub workspace_at : Tables → List ℕ → List ℕ → WorkspaceCells → Workspace
-workspace_at t org ws cells_of = workspace_in cells_of (versions_at t org ws) (runs_at t org ws)
+workspace_at t org ws cells_of = workspace_of_cells cells_of (versions_at t org ws) (runs_at t org ws)
 
 -- the workspace of an organization and a name, if it has a row
 abbrev pub workspace_by : Tables → List ℕ → List ℕ → Option Workspace
@@ -79,7 +79,7 @@ abbrev pub is_token_of : List ℕ → Kept TokenRow → Bool
 is_token_of org x = bytes_eq x.1.org org
 
 abbrev pub tokens_at : Tables → List ℕ → FinMap name_cmp Token
-tokens_at t org = from_entries (map (λ x. (x.1.name, token_in x.1.it)) (filter (is_token_of org) t.tokens))
+tokens_at t org = from_entries (map (λ x. (x.1.name, token_of_cells x.1.it)) (filter (is_token_of org) t.tokens))
 
 abbrev pub workspaces_at : Tables → List ℕ → FinMap name_cmp Workspace
 workspaces_at t org = from_entries (map (λ x. (x.1.name, workspace_at t org x.1.name x.1.it)) (filter (is_ws_of org) t.wss))
@@ -93,4 +93,4 @@ record_of t org = option_map (organization_at t org) (cap_of org t)
 
 -- who asks by the organization's token with a digest, if it has a row
 abbrev pub caller_by : List ℕ → List ℕ → Tables → Option Caller
-caller_by org digest t = option_map caller_in (role_of_digest org digest t)
+caller_by org digest t = option_map caller_of_role (role_of_digest org digest t)

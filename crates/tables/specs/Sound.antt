@@ -10,7 +10,7 @@ use Rattle.machine.specs.declared.records.Workspace.{Workspace}
 use Rattle.machine.specs.declared.records.Organization.{Organization}
 use Rattle.statements.specs.Rows.{Kept, OrgRow, TokenRow}
 use Rattle.statements.specs.Tables.{Tables}
-use Rattle.statements.specs.Changes.{is_org, is_token, has_digest, is_ws}
+use Rattle.statements.specs.Changes.{is_org, is_token, is_digest_of, is_ws}
 use Rattle.tables.specs.Records.{workspace_by, record_of}
 
 pub record IsOrgRow (x : Kept OrgRow) : Type 0 where
@@ -32,7 +32,7 @@ pub record IsSound (t : Tables) : Type 0 where
   -- an organization has one row, so has a token and a workspace; no two tokens of an organization have one digest
   pub orgs_apart : AreApart (λ a b. is_org a.1.name b) t.orgs
   pub tokens_apart : AreApart (λ a b. is_token a.1.org a.1.name b) t.tokens
-  pub digests_apart : AreApart (λ a b. has_digest a.1.org a.1.it.digest b) t.tokens
+  pub digests_apart : AreApart (λ a b. is_digest_of a.1.org a.1.it.digest b) t.tokens
   pub wss_apart : AreApart (λ a b. is_ws a.1.org a.1.name b) t.wss
   -- no row lacks the one that it belongs to
   pub tokens_owned : AllByRecursion (λ x. list_any (is_org x.1.org) t.orgs ≡ true) t.tokens

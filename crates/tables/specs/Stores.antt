@@ -2,8 +2,7 @@
 use Rattle.std.specs.Prelude.{ℕ, List, Option}
 use Rattle.sqlite.specs.Effect.{Database}
 use Rattle.machine.specs.declared.records.Organization.{Organization}
-use Rattle.statements.specs.Decode.{tables_of}
-use Rattle.statements.specs.Tables.{Holds}
+use Rattle.statements.specs.Tables.{Holds, tables_of}
 use Rattle.tables.specs.Records.{record_of}
 use Rattle.tables.specs.Sound.{IsSound}
 

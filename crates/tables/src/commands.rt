@@ -4,10 +4,10 @@ ghost use Rattle.sqlite.specs.Held.{state};
 ghost use Rattle.sqlite.specs.State.{HasCleanDisk};
 ghost use Rattle.statements.specs.Finds.{body_of};
 ghost use Rattle.machine.specs.Needs.{needed_of};
-ghost use Rattle.tables.specs.Records.{caller_in, caller_by};
+ghost use Rattle.tables.specs.Records.{caller_of_role, caller_by};
 ghost use Rattle.tables.specs.Inner.Units.{unit_in};
 ghost use Rattle.statements.specs.Listings.{OrgsApart, WorkspacesApart, VersionsRise, RunsRise};
-ghost use Rattle.tables.specs.Inner.Looks.{LooksBy, SeesBy};
+ghost use Rattle.tables.specs.Inner.Looks.{LooksBy, Sees};
 ghost use Rattle.tables.specs.Inner.Lists.{LooksWhere, versions_listed_in, runs_listed_in, workspaces_listed_in, organizations_listed_in};
 ghost use Rattle.tables.specs.Inner.Steps.{ManagesBy, org_managed, limit_managed, token_managed, revocation_managed, is_taken};
 
@@ -67,9 +67,7 @@ fn is_taken<S: Alter>(
     name: &str,
     digest: &[u8],
 ) -> Result<bool, Error>
-    ensures mode { conn.old.in_transaction ≡ false → conn.new.in_transaction ≡ false }
-    ensures so_far { HasCleanDisk (state S.Store conn.new) → HasCleanDisk (state S.Store conn.old) }
-    ensures sees { SeesBy (is_taken org.now name.now digest.now) (state S.Store conn.old) (state S.Store conn.new) result }
+    ensures looks { Sees (is_taken org.now name.now digest.now) (state S.Store conn.old) (state S.Store conn.new) result }
     ensures is_open { HasCleanDisk (state S.Store conn.new) → OnOk result (IsTrue (state S.Store conn.new).is_open) }
 {
     let named = tokens::role_of_name(conn, org, name)?;
@@ -142,7 +140,7 @@ pub(crate) fn caller<S: Alter>(
 }
 
 fn caller_of(role: Option<Role>) -> Option<Caller>
-    ensures { result ≡ option_map caller_in role }
+    ensures { result ≡ option_map caller_of_role role }
 {
     match role {
         None => None,

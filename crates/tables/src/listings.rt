@@ -5,9 +5,9 @@ ghost use Rattle.sqlite.specs.State.{HasCleanDisk};
 ghost use Rattle.basis.specs.Listings.{listing_of};
 ghost use Rattle.machine.specs.Showing.{holder_id};
 ghost use Rattle.statements.specs.Listings.{OrgsApart, WorkspacesApart, VersionsRise, RunsRise};
-ghost use Rattle.tables.specs.Records.{holder_in};
-ghost use Rattle.tables.specs.Inner.Looks.{SeesBy};
-ghost use Rattle.tables.specs.Inner.Lists.{SeesWhere, version_row_in, versions_listed_in, run_row_in, runs_listed_in, newest_number_in, ws_row_in, workspaces_listed_in, org_row_in, organizations_listed_in};
+ghost use Rattle.tables.specs.Records.{holder_of_cells};
+ghost use Rattle.tables.specs.Inner.Looks.{Sees};
+ghost use Rattle.tables.specs.Inner.Lists.{SeesLawful, version_row_in, versions_listed_in, run_row_in, runs_listed_in, newest_number_in, ws_row_in, workspaces_listed_in, org_row_in, organizations_listed_in};
 
 use crate::looks::{limit_of, lock_id_of, moment_of, number_of};
 use basis::{HolderId, Items, Listing, Number, RunRow, Settings, Text, VersionRow, WsName, WsRow};
@@ -64,9 +64,7 @@ pub(crate) fn list_of_versions<S: Alter>(
     after: u64,
 ) -> Result<Listing<VersionRow>, Error>
     requires after_fits { after < 2 ^ 63 }
-    ensures mode { conn.old.in_transaction ≡ false → conn.new.in_transaction ≡ false }
-    ensures so_far { HasCleanDisk (state S.Store conn.new) → HasCleanDisk (state S.Store conn.old) }
-    ensures sees { SeesWhere (VersionsRise org.now ws.now) (versions_listed_in after org.now ws.now) (state S.Store conn.old) (state S.Store conn.new) result }
+    ensures looks { SeesLawful (VersionsRise org.now ws.now) (versions_listed_in after org.now ws.now) (state S.Store conn.old) (state S.Store conn.new) result }
     ensures is_open { HasCleanDisk (state S.Store conn.new) → OnOk result (IsTrue (state S.Store conn.new).is_open) }
 {
     let heads = versions::list(alloc, conn, org, ws, after, ASKED_ROWS)?;
@@ -106,9 +104,7 @@ pub(crate) fn list_of_runs<S: Alter>(
     after: u64,
 ) -> Result<Listing<RunRow>, Error>
     requires after_fits { after < 2 ^ 63 }
-    ensures mode { conn.old.in_transaction ≡ false → conn.new.in_transaction ≡ false }
-    ensures so_far { HasCleanDisk (state S.Store conn.new) → HasCleanDisk (state S.Store conn.old) }
-    ensures sees { SeesWhere (RunsRise org.now ws.now) (runs_listed_in after org.now ws.now) (state S.Store conn.old) (state S.Store conn.new) result }
+    ensures looks { SeesLawful (RunsRise org.now ws.now) (runs_listed_in after org.now ws.now) (state S.Store conn.old) (state S.Store conn.new) result }
     ensures is_open { HasCleanDisk (state S.Store conn.new) → OnOk result (IsTrue (state S.Store conn.new).is_open) }
 {
     let rows = runs::list(alloc, conn, org, ws, after, ASKED_ROWS)?;
@@ -121,9 +117,7 @@ fn newest_number<S: Alter>(
     org: &str,
     ws: &str,
 ) -> Result<Option<Number>, Error>
-    ensures mode { conn.old.in_transaction ≡ false → conn.new.in_transaction ≡ false }
-    ensures so_far { HasCleanDisk (state S.Store conn.new) → HasCleanDisk (state S.Store conn.old) }
-    ensures sees { SeesBy (newest_number_in org.now ws.now) (state S.Store conn.old) (state S.Store conn.new) result }
+    ensures looks { Sees (newest_number_in org.now ws.now) (state S.Store conn.old) (state S.Store conn.new) result }
     ensures is_open { HasCleanDisk (state S.Store conn.new) → OnOk result (IsTrue (state S.Store conn.new).is_open) }
 {
     match versions::newest(conn, org, ws)? {
@@ -133,7 +127,7 @@ fn newest_number<S: Alter>(
 }
 
 fn holder_id_of(alloc: Global, holder: &HolderCells) -> Result<Option<HolderId>, Error>
-    ensures { IfOk result (λ id. id ≡ holder_id (holder_in holder.now)) }
+    ensures { IfOk result (λ id. id ≡ holder_id (holder_of_cells holder.now)) }
 {
     match holder {
         HolderCells::Nobody => Ok(None),
@@ -158,9 +152,7 @@ fn ws_row<S: Alter>(
     org: &str,
     workspace: &NamedWorkspace,
 ) -> Result<WsRow, Error>
-    ensures mode { conn.old.in_transaction ≡ false → conn.new.in_transaction ≡ false }
-    ensures so_far { HasCleanDisk (state S.Store conn.new) → HasCleanDisk (state S.Store conn.old) }
-    ensures sees { SeesBy (λ t. ws_row_in org.now t workspace.now) (state S.Store conn.old) (state S.Store conn.new) result }
+    ensures looks { Sees (λ t. ws_row_in org.now t workspace.now) (state S.Store conn.old) (state S.Store conn.new) result }
     ensures is_open { HasCleanDisk (state S.Store conn.new) → OnOk result (IsTrue (state S.Store conn.new).is_open) }
 {
     let version = newest_number(conn, org, workspace.name.as_str())?;
@@ -182,9 +174,7 @@ fn list_workspaces<S: Alter>(
     org: &str,
     workspaces: &[NamedWorkspace],
 ) -> Result<Listing<WsRow>, Error>
-    ensures mode { conn.old.in_transaction ≡ false → conn.new.in_transaction ≡ false }
-    ensures so_far { HasCleanDisk (state S.Store conn.new) → HasCleanDisk (state S.Store conn.old) }
-    ensures sees { SeesBy (λ t. listing_of (map (ws_row_in org.now t) workspaces.now)) (state S.Store conn.old) (state S.Store conn.new) result }
+    ensures looks { Sees (λ t. listing_of (map (ws_row_in org.now t) workspaces.now)) (state S.Store conn.old) (state S.Store conn.new) result }
     ensures stays_open { HasCleanDisk (state S.Store conn.new) → OnOk result (IsTrue (state S.Store conn.old).is_open → IsTrue (state S.Store conn.new).is_open) }
 {
     let mut list = Listing::new(alloc);
@@ -202,9 +192,7 @@ pub(crate) fn list_of_workspaces<S: Alter>(
     org: &str,
     after: &str,
 ) -> Result<Listing<WsRow>, Error>
-    ensures mode { conn.old.in_transaction ≡ false → conn.new.in_transaction ≡ false }
-    ensures so_far { HasCleanDisk (state S.Store conn.new) → HasCleanDisk (state S.Store conn.old) }
-    ensures sees { SeesWhere WorkspacesApart (workspaces_listed_in after.now org.now) (state S.Store conn.old) (state S.Store conn.new) result }
+    ensures looks { SeesLawful WorkspacesApart (workspaces_listed_in after.now org.now) (state S.Store conn.old) (state S.Store conn.new) result }
     ensures is_open { HasCleanDisk (state S.Store conn.new) → OnOk result (IsTrue (state S.Store conn.new).is_open) }
 {
     let rows = workspaces::list(alloc, conn, org, after, ASKED_ROWS)?;
@@ -216,9 +204,7 @@ fn org_row<S: Alter>(
     conn: &mut Connection<S>,
     organization: &OrganizationCells,
 ) -> Result<OrgRow, Error>
-    ensures mode { conn.old.in_transaction ≡ false → conn.new.in_transaction ≡ false }
-    ensures so_far { HasCleanDisk (state S.Store conn.new) → HasCleanDisk (state S.Store conn.old) }
-    ensures sees { SeesBy (λ t. org_row_in t organization.now) (state S.Store conn.old) (state S.Store conn.new) result }
+    ensures looks { Sees (λ t. org_row_in t organization.now) (state S.Store conn.old) (state S.Store conn.new) result }
     ensures is_open { HasCleanDisk (state S.Store conn.new) → OnOk result (IsTrue (state S.Store conn.new).is_open) }
 {
     let count = workspaces::count(conn, organization.name.as_str())?;
@@ -246,9 +232,7 @@ fn list_organizations<S: Alter>(
     alloc: Global,
     organizations: &[OrganizationCells],
 ) -> Result<Items<OrgRow>, Error>
-    ensures mode { conn.old.in_transaction ≡ false → conn.new.in_transaction ≡ false }
-    ensures so_far { HasCleanDisk (state S.Store conn.new) → HasCleanDisk (state S.Store conn.old) }
-    ensures sees { SeesBy (λ t. map (org_row_in t) organizations.now) (state S.Store conn.old) (state S.Store conn.new) result }
+    ensures looks { Sees (λ t. map (org_row_in t) organizations.now) (state S.Store conn.old) (state S.Store conn.new) result }
     ensures stays_open { HasCleanDisk (state S.Store conn.new) → OnOk result (IsTrue (state S.Store conn.old).is_open → IsTrue (state S.Store conn.new).is_open) }
 {
     let mut rows = Items::new(Vec::new(alloc));
@@ -264,9 +248,7 @@ pub(crate) fn list_of_organizations<S: Alter>(
     conn: &mut Connection<S>,
     alloc: Global,
 ) -> Result<Items<OrgRow>, Error>
-    ensures mode { conn.old.in_transaction ≡ false → conn.new.in_transaction ≡ false }
-    ensures so_far { HasCleanDisk (state S.Store conn.new) → HasCleanDisk (state S.Store conn.old) }
-    ensures sees { SeesWhere OrgsApart organizations_listed_in (state S.Store conn.old) (state S.Store conn.new) result }
+    ensures looks { SeesLawful OrgsApart organizations_listed_in (state S.Store conn.old) (state S.Store conn.new) result }
     ensures is_open { HasCleanDisk (state S.Store conn.new) → OnOk result (IsTrue (state S.Store conn.new).is_open) }
 {
     let rows = organizations::list(alloc, conn)?;

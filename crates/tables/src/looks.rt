@@ -2,12 +2,12 @@
 ghost use Rattle.std.specs.Prelude.{◌≡◌, false, cond, is_some, option_map, option_copied, IsTrue, IfOk, OnOk, ◌^◌, ◌<◌, unwrap_or};
 ghost use Rattle.sqlite.specs.Held.{state};
 ghost use Rattle.sqlite.specs.State.{HasCleanDisk};
-ghost use Rattle.statements.specs.Finds.{body_of, number_of, status_of, run_of, workspaces_of, first_waiting_of, open_runs_of};
+ghost use Rattle.statements.specs.Finds.{body_of, version_at_number, status_at_number, run_at_number, workspaces_of, first_waiting_of, open_runs_of};
 ghost use Rattle.machine.specs.Needs.{needed_of};
 ghost use Rattle.machine.specs.Units.{if_needed};
-ghost use Rattle.tables.specs.Records.{settings_in, holder_in, run_in};
+ghost use Rattle.tables.specs.Records.{settings_of_cells, holder_of_cells, run_of_cells};
 ghost use Rattle.tables.specs.Inner.Units.{holder_status_in, is_body, has_text, newest_by, newest_in, outgoing_in, has_version_in, keyed_cells_in, asked_cells_in, unit_in};
-ghost use Rattle.tables.specs.Inner.Looks.{SeesBy, absent_in, runs_in, around_in, unit_from, present_in};
+ghost use Rattle.tables.specs.Inner.Looks.{Sees, absent_in, runs_in, around_in, unit_from, present_in};
 
 use basis::{Bytes, Limit, LockId, Moment, Number, RunStatus, Settings, Text};
 use machine::{Holder, MAX_VERSIONS, Needs, Newest, Run, Unit, WorkspaceUnit};
@@ -44,9 +44,7 @@ pub(crate) fn body<S: Alter>(
     ws: &str,
     number: u64,
 ) -> Result<Option<Bytes>, Error>
-    ensures mode { conn.old.in_transaction ≡ false → conn.new.in_transaction ≡ false }
-    ensures so_far { HasCleanDisk (state S.Store conn.new) → HasCleanDisk (state S.Store conn.old) }
-    ensures sees { SeesBy (body_of org.now ws.now number) (state S.Store conn.old) (state S.Store conn.new) result }
+    ensures looks { Sees (body_of org.now ws.now number) (state S.Store conn.old) (state S.Store conn.new) result }
     ensures is_open { HasCleanDisk (state S.Store conn.new) → OnOk result (IsTrue (state S.Store conn.new).is_open) }
 {
     if number > i64::MAX as u64 {
@@ -62,9 +60,7 @@ fn status<S: Alter>(
     ws: &str,
     run: u64,
 ) -> Result<Option<RunStatus>, Error>
-    ensures mode { conn.old.in_transaction ≡ false → conn.new.in_transaction ≡ false }
-    ensures so_far { HasCleanDisk (state S.Store conn.new) → HasCleanDisk (state S.Store conn.old) }
-    ensures sees { SeesBy (status_of org.now ws.now run) (state S.Store conn.old) (state S.Store conn.new) result }
+    ensures looks { Sees (status_at_number org.now ws.now run) (state S.Store conn.old) (state S.Store conn.new) result }
 {
     if run > i64::MAX as u64 {
         return Err(Error::IntegralValueOutOfRange(0));
@@ -79,9 +75,7 @@ fn holder_status<S: Alter>(
     ws: &str,
     holder: &HolderCells,
 ) -> Result<Option<RunStatus>, Error>
-    ensures mode { conn.old.in_transaction ≡ false → conn.new.in_transaction ≡ false }
-    ensures so_far { HasCleanDisk (state S.Store conn.new) → HasCleanDisk (state S.Store conn.old) }
-    ensures sees { SeesBy (holder_status_in org.now ws.now holder.now) (state S.Store conn.old) (state S.Store conn.new) result }
+    ensures looks { Sees (holder_status_in org.now ws.now holder.now) (state S.Store conn.old) (state S.Store conn.new) result }
 {
     match holder {
         HolderCells::Nobody => Ok(None),
@@ -98,9 +92,7 @@ fn holder_status_if<S: Alter>(
     needed: bool,
     holder: &HolderCells,
 ) -> Result<Option<RunStatus>, Error>
-    ensures mode { conn.old.in_transaction ≡ false → conn.new.in_transaction ≡ false }
-    ensures so_far { HasCleanDisk (state S.Store conn.new) → HasCleanDisk (state S.Store conn.old) }
-    ensures sees { SeesBy (λ t. if_needed needed (holder_status_in org.now ws.now holder.now t)) (state S.Store conn.old) (state S.Store conn.new) result }
+    ensures looks { Sees (λ t. if_needed needed (holder_status_in org.now ws.now holder.now t)) (state S.Store conn.old) (state S.Store conn.new) result }
 {
     if needed {
         holder_status(conn, org, ws, holder)
@@ -117,9 +109,7 @@ fn is_text<S: Alter>(
     number: u64,
     text: &Bytes,
 ) -> Result<bool, Error>
-    ensures mode { conn.old.in_transaction ≡ false → conn.new.in_transaction ≡ false }
-    ensures so_far { HasCleanDisk (state S.Store conn.new) → HasCleanDisk (state S.Store conn.old) }
-    ensures sees { SeesBy (λ t. is_body text.now (body_of org.now ws.now number t)) (state S.Store conn.old) (state S.Store conn.new) result }
+    ensures looks { Sees (λ t. is_body text.now (body_of org.now ws.now number t)) (state S.Store conn.old) (state S.Store conn.new) result }
 {
     match body(conn, org, ws, number)? {
         None => Ok(false),
@@ -135,9 +125,7 @@ fn has_text<S: Alter>(
     text: Option<&Bytes>,
     head: &Head,
 ) -> Result<bool, Error>
-    ensures mode { conn.old.in_transaction ≡ false → conn.new.in_transaction ≡ false }
-    ensures so_far { HasCleanDisk (state S.Store conn.new) → HasCleanDisk (state S.Store conn.old) }
-    ensures sees { SeesBy (has_text (option_copied text.entry) org.now ws.now head.now) (state S.Store conn.old) (state S.Store conn.new) result }
+    ensures looks { Sees (has_text (option_copied text.entry) org.now ws.now head.now) (state S.Store conn.old) (state S.Store conn.new) result }
 {
     let Some(text) = text else {
         return Ok(false);
@@ -166,9 +154,7 @@ fn newest_as<S: Alter>(
     text: Option<&Bytes>,
     head: Head,
 ) -> Result<Newest, Error>
-    ensures mode { conn.old.in_transaction ≡ false → conn.new.in_transaction ≡ false }
-    ensures so_far { HasCleanDisk (state S.Store conn.new) → HasCleanDisk (state S.Store conn.old) }
-    ensures sees { SeesBy (λ t. newest_by (option_copied text.entry) org.now ws.now t head) (state S.Store conn.old) (state S.Store conn.new) result }
+    ensures looks { Sees (λ t. newest_by (option_copied text.entry) org.now ws.now t head) (state S.Store conn.old) (state S.Store conn.new) result }
 {
     let number = number_of(head.number)?;
     let is_same = has_text(conn, org, ws, text, &head)?;
@@ -187,9 +173,7 @@ fn newest<S: Alter>(
     ws: &str,
     text: Option<&Bytes>,
 ) -> Result<Option<Newest>, Error>
-    ensures mode { conn.old.in_transaction ≡ false → conn.new.in_transaction ≡ false }
-    ensures so_far { HasCleanDisk (state S.Store conn.new) → HasCleanDisk (state S.Store conn.old) }
-    ensures sees { SeesBy (newest_in (option_copied text.entry) org.now ws.now) (state S.Store conn.old) (state S.Store conn.new) result }
+    ensures looks { Sees (newest_in (option_copied text.entry) org.now ws.now) (state S.Store conn.old) (state S.Store conn.new) result }
 {
     match versions::newest(conn, org, ws)? {
         None => Ok(None),
@@ -205,9 +189,7 @@ fn newest_if<S: Alter>(
     needed: bool,
     text: Option<&Bytes>,
 ) -> Result<Option<Newest>, Error>
-    ensures mode { conn.old.in_transaction ≡ false → conn.new.in_transaction ≡ false }
-    ensures so_far { HasCleanDisk (state S.Store conn.new) → HasCleanDisk (state S.Store conn.old) }
-    ensures sees { SeesBy (λ t. if_needed needed (newest_in (option_copied text.entry) org.now ws.now t)) (state S.Store conn.old) (state S.Store conn.new) result }
+    ensures looks { Sees (λ t. if_needed needed (newest_in (option_copied text.entry) org.now ws.now t)) (state S.Store conn.old) (state S.Store conn.new) result }
 {
     if needed {
         newest(conn, org, ws, text)
@@ -223,9 +205,7 @@ fn outgoing_if<S: Alter>(
     ws: &str,
     needed: bool,
 ) -> Result<Option<u64>, Error>
-    ensures mode { conn.old.in_transaction ≡ false → conn.new.in_transaction ≡ false }
-    ensures so_far { HasCleanDisk (state S.Store conn.new) → HasCleanDisk (state S.Store conn.old) }
-    ensures sees { SeesBy (λ t. if_needed needed (outgoing_in org.now ws.now t)) (state S.Store conn.old) (state S.Store conn.new) result }
+    ensures looks { Sees (λ t. if_needed needed (outgoing_in org.now ws.now t)) (state S.Store conn.old) (state S.Store conn.new) result }
 {
     if needed {
         versions::number_back(conn, org, ws, VERSIONS_BEHIND)
@@ -262,7 +242,7 @@ fn optional_lock_id_of(alloc: Global, id: &Option<Text>) -> Result<Option<LockId
 }
 
 fn holder_of(alloc: Global, holder: HolderCells) -> Result<Holder, Error>
-    ensures { IfOk result (λ read. read ≡ holder_in holder) }
+    ensures { IfOk result (λ read. read ≡ holder_of_cells holder) }
 {
     match holder {
         HolderCells::Nobody => Ok(Holder::Nobody),
@@ -297,7 +277,7 @@ pub(crate) fn moment_of(seconds: u64) -> Result<Moment, Error>
 }
 
 fn run_as(run: RunCells) -> Result<Run, Error>
-    ensures { IfOk result (λ read. read ≡ run_in run) }
+    ensures { IfOk result (λ read. read ≡ run_of_cells run) }
 {
     Ok(Run {
         number: number_of(run.number)?,
@@ -311,7 +291,7 @@ fn run_as(run: RunCells) -> Result<Run, Error>
 }
 
 fn optional_run_as(run: Option<RunCells>) -> Result<Option<Run>, Error>
-    ensures { IfOk result (λ read. read ≡ option_map run_in run) }
+    ensures { IfOk result (λ read. read ≡ option_map run_of_cells run) }
 {
     match run {
         None => Ok(None),
@@ -326,9 +306,7 @@ fn numbered_run<S: Alter>(
     ws: &str,
     number: Number,
 ) -> Result<Option<RunCells>, Error>
-    ensures mode { conn.old.in_transaction ≡ false → conn.new.in_transaction ≡ false }
-    ensures so_far { HasCleanDisk (state S.Store conn.new) → HasCleanDisk (state S.Store conn.old) }
-    ensures sees { SeesBy (run_of org.now ws.now number) (state S.Store conn.old) (state S.Store conn.new) result }
+    ensures looks { Sees (run_at_number org.now ws.now number) (state S.Store conn.old) (state S.Store conn.new) result }
 {
     let number = number.get() as u64;
     runs::find(conn, org, ws, number)
@@ -341,9 +319,7 @@ fn keyed_run<S: Alter>(
     ws: &str,
     key: Option<&Text>,
 ) -> Result<Option<RunCells>, Error>
-    ensures mode { conn.old.in_transaction ≡ false → conn.new.in_transaction ≡ false }
-    ensures so_far { HasCleanDisk (state S.Store conn.new) → HasCleanDisk (state S.Store conn.old) }
-    ensures sees { SeesBy (keyed_cells_in (option_copied key.entry) org.now ws.now) (state S.Store conn.old) (state S.Store conn.new) result }
+    ensures looks { Sees (keyed_cells_in (option_copied key.entry) org.now ws.now) (state S.Store conn.old) (state S.Store conn.new) result }
 {
     match key {
         None => Ok(None),
@@ -359,9 +335,7 @@ fn asked_run<S: Alter>(
     number: Option<Number>,
     key: Option<&Text>,
 ) -> Result<Option<RunCells>, Error>
-    ensures mode { conn.old.in_transaction ≡ false → conn.new.in_transaction ≡ false }
-    ensures so_far { HasCleanDisk (state S.Store conn.new) → HasCleanDisk (state S.Store conn.old) }
-    ensures sees { SeesBy (asked_cells_in number (option_copied key.entry) org.now ws.now) (state S.Store conn.old) (state S.Store conn.new) result }
+    ensures looks { Sees (asked_cells_in number (option_copied key.entry) org.now ws.now) (state S.Store conn.old) (state S.Store conn.new) result }
 {
     match number {
         None => keyed_run(conn, org, ws, key),
@@ -376,9 +350,7 @@ fn is_kept<S: Alter>(
     ws: &str,
     number: Number,
 ) -> Result<bool, Error>
-    ensures mode { conn.old.in_transaction ≡ false → conn.new.in_transaction ≡ false }
-    ensures so_far { HasCleanDisk (state S.Store conn.new) → HasCleanDisk (state S.Store conn.old) }
-    ensures sees { SeesBy (λ t. is_some (number_of org.now ws.now number t)) (state S.Store conn.old) (state S.Store conn.new) result }
+    ensures looks { Sees (λ t. is_some (version_at_number org.now ws.now number t)) (state S.Store conn.old) (state S.Store conn.new) result }
 {
     let number = number.get() as u64;
     let found = versions::find(conn, org, ws, number)?;
@@ -392,9 +364,7 @@ fn has_version<S: Alter>(
     ws: &str,
     number: Option<Number>,
 ) -> Result<bool, Error>
-    ensures mode { conn.old.in_transaction ≡ false → conn.new.in_transaction ≡ false }
-    ensures so_far { HasCleanDisk (state S.Store conn.new) → HasCleanDisk (state S.Store conn.old) }
-    ensures sees { SeesBy (has_version_in number org.now ws.now) (state S.Store conn.old) (state S.Store conn.new) result }
+    ensures looks { Sees (has_version_in number org.now ws.now) (state S.Store conn.old) (state S.Store conn.new) result }
 {
     match number {
         None => Ok(false),
@@ -405,9 +375,7 @@ fn has_version<S: Alter>(
 /// How many workspaces an organization has, where the act makes one: for any other act they are not
 /// counted.
 fn count_if<S: Alter>(conn: &mut Connection<S>, org: &str, makes: bool) -> Result<u64, Error>
-    ensures mode { conn.old.in_transaction ≡ false → conn.new.in_transaction ≡ false }
-    ensures so_far { HasCleanDisk (state S.Store conn.new) → HasCleanDisk (state S.Store conn.old) }
-    ensures sees { SeesBy (λ t. cond makes (workspaces_of org.now t) 0) (state S.Store conn.old) (state S.Store conn.new) result }
+    ensures looks { Sees (λ t. cond makes (workspaces_of org.now t) 0) (state S.Store conn.old) (state S.Store conn.new) result }
 {
     if makes {
         workspaces::count(conn, org)
@@ -418,9 +386,7 @@ fn count_if<S: Alter>(conn: &mut Connection<S>, org: &str, makes: bool) -> Resul
 
 /// How many workspaces an organization has, where the act makes one, and how many it may have.
 fn absent<S: Alter>(conn: &mut Connection<S>, org: &str, needs: &Needs<'_>) -> Result<Unit, Error>
-    ensures mode { conn.old.in_transaction ≡ false → conn.new.in_transaction ≡ false }
-    ensures so_far { HasCleanDisk (state S.Store conn.new) → HasCleanDisk (state S.Store conn.old) }
-    ensures sees { SeesBy (absent_in (needed_of needs.now) org.now) (state S.Store conn.old) (state S.Store conn.new) result }
+    ensures looks { Sees (absent_in (needed_of needs.now) org.now) (state S.Store conn.old) (state S.Store conn.new) result }
     ensures is_open { HasCleanDisk (state S.Store conn.new) → OnOk result (IsTrue (state S.Store conn.new).is_open) }
 {
     let count = count_if(conn, org, needs.makes)?;
@@ -439,9 +405,7 @@ fn first_waiting_if<S: Alter>(
     ws: &str,
     needed: bool,
 ) -> Result<Option<u64>, Error>
-    ensures mode { conn.old.in_transaction ≡ false → conn.new.in_transaction ≡ false }
-    ensures so_far { HasCleanDisk (state S.Store conn.new) → HasCleanDisk (state S.Store conn.old) }
-    ensures sees { SeesBy (λ t. if_needed needed (first_waiting_of org.now ws.now t)) (state S.Store conn.old) (state S.Store conn.new) result }
+    ensures looks { Sees (λ t. if_needed needed (first_waiting_of org.now ws.now t)) (state S.Store conn.old) (state S.Store conn.new) result }
 {
     if needed {
         runs::first_waiting(conn, org, ws)
@@ -457,9 +421,7 @@ fn open_runs_if<S: Alter>(
     ws: &str,
     needed: bool,
 ) -> Result<u64, Error>
-    ensures mode { conn.old.in_transaction ≡ false → conn.new.in_transaction ≡ false }
-    ensures so_far { HasCleanDisk (state S.Store conn.new) → HasCleanDisk (state S.Store conn.old) }
-    ensures sees { SeesBy (λ t. cond needed (open_runs_of org.now ws.now t) 0) (state S.Store conn.old) (state S.Store conn.new) result }
+    ensures looks { Sees (λ t. cond needed (open_runs_of org.now ws.now t) 0) (state S.Store conn.old) (state S.Store conn.new) result }
 {
     if needed {
         runs::count_open(conn, org, ws)
@@ -476,9 +438,7 @@ fn runs_around<S: Alter>(
     needs: &Needs<'_>,
     holder: &HolderCells,
 ) -> Result<RunsAround, Error>
-    ensures mode { conn.old.in_transaction ≡ false → conn.new.in_transaction ≡ false }
-    ensures so_far { HasCleanDisk (state S.Store conn.new) → HasCleanDisk (state S.Store conn.old) }
-    ensures sees { SeesBy (runs_in (needed_of needs.now) org.now ws.now holder.now) (state S.Store conn.old) (state S.Store conn.new) result }
+    ensures looks { Sees (runs_in (needed_of needs.now) org.now ws.now holder.now) (state S.Store conn.old) (state S.Store conn.new) result }
 {
     let holder_status = holder_status_if(conn, org, ws, needs.holder_status, holder)?;
     let first_waiting = first_waiting_if(conn, org, ws, needs.waiting)?;
@@ -500,9 +460,7 @@ fn around<S: Alter>(
     needs: &Needs<'_>,
     holder: &HolderCells,
 ) -> Result<Surroundings, Error>
-    ensures mode { conn.old.in_transaction ≡ false → conn.new.in_transaction ≡ false }
-    ensures so_far { HasCleanDisk (state S.Store conn.new) → HasCleanDisk (state S.Store conn.old) }
-    ensures sees { SeesBy (around_in (needed_of needs.now) org.now ws.now holder.now) (state S.Store conn.old) (state S.Store conn.new) result }
+    ensures looks { Sees (around_in (needed_of needs.now) org.now ws.now holder.now) (state S.Store conn.old) (state S.Store conn.new) result }
 {
     let newest = newest_if(conn, org, ws, needs.newest, needs.text)?;
     let outgoing = outgoing_if(conn, org, ws, needs.outgoing)?;
@@ -555,9 +513,7 @@ fn present<S: Alter>(
     needs: &Needs<'_>,
     workspace: WorkspaceCells,
 ) -> Result<Unit, Error>
-    ensures mode { conn.old.in_transaction ≡ false → conn.new.in_transaction ≡ false }
-    ensures so_far { HasCleanDisk (state S.Store conn.new) → HasCleanDisk (state S.Store conn.old) }
-    ensures sees { SeesBy (present_in (needed_of needs.now) org.now ws.now workspace) (state S.Store conn.old) (state S.Store conn.new) result }
+    ensures looks { Sees (present_in (needed_of needs.now) org.now ws.now workspace) (state S.Store conn.old) (state S.Store conn.new) result }
 {
     let around = around(conn, org, ws, needs, &workspace.holder)?;
     let unit = unit_by(alloc, workspace, around)?;
@@ -572,9 +528,7 @@ pub(crate) fn unit<S: Alter>(
     ws: &str,
     needs: &Needs<'_>,
 ) -> Result<Unit, Error>
-    ensures mode { conn.old.in_transaction ≡ false → conn.new.in_transaction ≡ false }
-    ensures so_far { HasCleanDisk (state S.Store conn.new) → HasCleanDisk (state S.Store conn.old) }
-    ensures sees { SeesBy (unit_in (needed_of needs.now) org.now ws.now) (state S.Store conn.old) (state S.Store conn.new) result }
+    ensures looks { Sees (unit_in (needed_of needs.now) org.now ws.now) (state S.Store conn.old) (state S.Store conn.new) result }
     ensures is_open { HasCleanDisk (state S.Store conn.new) → OnOk result (IsTrue (state S.Store conn.new).is_open) }
 {
     match workspaces::find(conn, org, ws)? {

@@ -1,14 +1,15 @@
 //! How a database is made ready for a store.
-ghost use Rattle.std.specs.Prelude.{◌≡◌, true, false, OnOk, OnErr, IfOk, IfErr};
+ghost use Rattle.std.specs.Prelude.{◌≡◌, true, false, ℕ, List, OnOk, OnErr, IfOk, IfErr};
 ghost use Rattle.sqlite.specs.Held.{state};
 ghost use Rattle.sqlite.specs.State.{HasCleanDisk, KeepsCommit};
 ghost use Rattle.statements.specs.Place.{IsOwn};
 ghost use Rattle.statements.specs.Schema.{meta_table};
 ghost use Rattle.tables.specs.Opening.{any_there, all_there, is_integer_column, is_null, is_plain_column, tells_version, is_first_key, has_none, is_meta, IsOther};
-ghost use Rattle.tables.specs.Inner.Making.{IsMade, IsTold, is_first};
+ghost use Rattle.tables.specs.Inner.Making.{IsMade, IsTold, found_in, TellsFound, FindsOurs, StepsFrom, IsClimbed, IsOnWay};
+ghost use Rattle.tables.specs.Versions.{HoldsVersion, version_records};
 
 use crate::transactions;
-use sqlite::{Alter, Connection};
+use sqlite::{Alter, Connection, Error};
 use sqlite_schema::schema::{Column, Kind, Schema};
 use sqlite_value::keys::Collation;
 use sqlite_value::value::Value;
@@ -20,6 +21,20 @@ pub enum Fault {
     /// Some of the tables are there, but not those of this version.
     Schema,
     Down,
+}
+
+/// The newest version of the schema.
+const NEWEST: u64 = 1;
+
+/// What a database has of ours.
+#[derive(Clone, Copy)]
+enum Found {
+    /// None of the tables.
+    Nothing,
+    /// The tables of this version.
+    Version(u64),
+    /// Some of the tables, but those of no version.
+    Other,
 }
 
 fn any_there(schema: &Schema) -> bool
@@ -121,61 +136,112 @@ fn is_meta(schema: &Schema) -> bool
     }
 }
 
-fn is_first(version: Option<u64>) -> bool
-    ensures { result ≡ is_first version }
+/// What is found where meta tells this version.
+fn found_in(version: Option<u64>) -> Found
+    ensures { result ≡ found_in version }
 {
     match version {
-        None => false,
-        Some(version) => version == 1,
+        None => Found::Other,
+        Some(version) => {
+            if 1 <= version && version <= NEWEST {
+                Found::Version(version)
+            } else {
+                Found::Other
+            }
+        }
     }
 }
 
-/// Whether the database tells the version 1.
-fn has_first<S: Alter>(conn: &mut Connection<S>) -> Result<(), Fault>
+/// Which version meta tells.
+fn find_version<S: Alter>(conn: &mut Connection<S>) -> Result<Found, Error>
     requires idle { conn.old.in_transaction ≡ false }
     ensures idle { conn.new.in_transaction ≡ false }
     ensures so_far { HasCleanDisk (state S.Store conn.new) → HasCleanDisk (state S.Store conn.old) }
-    ensures told { HasCleanDisk (state S.Store conn.new) → OnOk result (IsTold (state S.Store conn.old) (state S.Store conn.new)) }
+    ensures found { HasCleanDisk (state S.Store conn.new) → IfOk result (λ found. TellsFound found (state S.Store conn.old) (state S.Store conn.new)) }
     ensures err { HasCleanDisk (state S.Store conn.new) → OnErr result (KeepsCommit (state S.Store conn.old) (state S.Store conn.new)) }
-    ensures other { HasCleanDisk (state S.Store conn.new) → IfErr result (λ fault. fault ≡ Fault.Schema → IsOther (state S.Store conn.old)) }
 {
     let idle = conn.is_autocommit();
     prove!(idle);
     match making::version(conn) {
-        Ok(version) => {
-            if is_first(version) {
-                Ok(())
-            } else {
-                Err(Fault::Schema)
-            }
-        }
-        Err(_) => Err(Fault::Down),
+        Ok(version) => Ok(found_in(version)),
+        Err(error) => Err(error),
     }
 }
 
-/// Makes the tables where none of them is there, and otherwise looks whether they are those of this version.
+/// Finds what a database has of ours.
+fn find<S: Alter>(conn: &mut Connection<S>) -> Result<Found, Error>
+    requires idle { conn.old.in_transaction ≡ false }
+    ensures idle { conn.new.in_transaction ≡ false }
+    ensures so_far { HasCleanDisk (state S.Store conn.new) → HasCleanDisk (state S.Store conn.old) }
+    ensures found { HasCleanDisk (state S.Store conn.new) → IfOk result (λ found. FindsOurs found (state S.Store conn.old) (state S.Store conn.new)) }
+    ensures err { HasCleanDisk (state S.Store conn.new) → OnErr result (KeepsCommit (state S.Store conn.old) (state S.Store conn.new)) }
+    ensures nothing { HasCleanDisk (state S.Store conn.new) → IfOk result (λ found. found ≡ Found.Nothing → conn.new ≡ conn.old) }
+    ensures foreign { any_there (state S.Store conn.old).now.schema ≡ true → is_meta (state S.Store conn.old).now.schema ≡ false → IfOk result (λ found. found ≡ Found.Other) × IfErr result (λ _. ⊥) }
+    ensures missing { any_there (state S.Store conn.old).now.schema ≡ true → all_there (state S.Store conn.old).now.schema ≡ false → IfOk result (λ found. found ≡ Found.Other) × IfErr result (λ _. ⊥) }
+{
+    if !any_there(conn.schema()) {
+        return Ok(Found::Nothing);
+    }
+    if !all_there(conn.schema()) {
+        return Ok(Found::Other);
+    }
+    if !is_meta(conn.schema()) {
+        return Ok(Found::Other);
+    }
+    find_version(conn)
+}
+
+/// Takes a database of a version to the next one, in one transaction.
+fn step<S: Alter>(_conn: &mut Connection<S>, from: u64) -> Result<(), Error>
+    requires idle { _conn.old.in_transaction ≡ false }
+    ensures idle { _conn.new.in_transaction ≡ false }
+    ensures so_far { HasCleanDisk (state S.Store _conn.new) → HasCleanDisk (state S.Store _conn.old) }
+    ensures done { HasCleanDisk (state S.Store _conn.new) → StepsFrom from (state S.Store _conn.old) (state S.Store _conn.new) result }
+{
+    match from {
+        // No version has a next one yet.
+        _ => Err(Error::InvalidQuery),
+    }
+}
+
+/// Takes a database of a version to the newest one, a step at a time.
+fn climb<S: Alter>(conn: &mut Connection<S>, from: u64) -> Result<(), Error>
+    requires idle { conn.old.in_transaction ≡ false }
+    ensures idle { conn.new.in_transaction ≡ false }
+    ensures so_far { HasCleanDisk (state S.Store conn.new) → HasCleanDisk (state S.Store conn.old) }
+    ensures climbed { HasCleanDisk (state S.Store conn.new) → OnOk result (IsClimbed from (state S.Store conn.old) (state S.Store conn.new)) × OnErr result (IsOnWay from (state S.Store conn.old) (state S.Store conn.new)) }
+    ensures newest { from ≡ NEWEST → (conn.new ≡ conn.old) × IfErr result (λ _. ⊥) }
+{
+    for at in from..NEWEST {
+        step(conn, at)?;
+    }
+    Ok(())
+}
+
+/// Makes the newest version where none of the tables is there, and otherwise takes the version that is there to it.
 pub(crate) fn ready<S: Alter>(conn: &mut Connection<S>) -> Result<(), Fault>
     requires idle { conn.old.in_transaction ≡ false }
     ensures idle { conn.new.in_transaction ≡ false }
     ensures so_far { HasCleanDisk (state S.Store conn.new) → HasCleanDisk (state S.Store conn.old) }
     ensures made { HasCleanDisk (state S.Store conn.new) → OnOk result (any_there (state S.Store conn.old).now.schema ≡ false → IsMade (state S.Store conn.old) (state S.Store conn.new)) }
-    ensures told { HasCleanDisk (state S.Store conn.new) → OnOk result (any_there (state S.Store conn.old).now.schema ≡ true → IsTold (state S.Store conn.old) (state S.Store conn.new)) }
+    ensures told { HasCleanDisk (state S.Store conn.new) → OnOk result (any_there (state S.Store conn.old).now.schema ≡ true → IsTold 1 (state S.Store conn.old) (state S.Store conn.new)) }
+    ensures climbed { HasCleanDisk (state S.Store conn.new) → OnOk result ((n : ℕ) → HoldsVersion n (state S.Store conn.old).now
+        → HoldsVersion NEWEST (state S.Store conn.new).committed × ((o : List ℕ) → version_records NEWEST (state S.Store conn.new).committed o ≡ version_records n (state S.Store conn.old).now o)) }
     ensures err { HasCleanDisk (state S.Store conn.new) → OnErr result (KeepsCommit (state S.Store conn.old) (state S.Store conn.new)) }
     ensures other { HasCleanDisk (state S.Store conn.new) → IfErr result (λ fault. fault ≡ Fault.Schema → (any_there (state S.Store conn.old).now.schema ≡ true) × IsOther (state S.Store conn.old)) }
     ensures foreign { any_there (state S.Store conn.old).now.schema ≡ true → is_meta (state S.Store conn.old).now.schema ≡ false → IfErr result (λ fault. fault ≡ Fault.Schema) × IfOk result (λ _. ⊥) }
     ensures missing { any_there (state S.Store conn.old).now.schema ≡ true → all_there (state S.Store conn.old).now.schema ≡ false → IfErr result (λ fault. fault ≡ Fault.Schema) × IfOk result (λ _. ⊥) }
 {
-    if !any_there(conn.schema()) {
-        return match transactions::make(conn) {
+    match find(conn) {
+        Ok(Found::Nothing) => match transactions::make(conn) {
             Ok(()) => Ok(()),
             Err(_) => Err(Fault::Down),
-        };
+        },
+        Ok(Found::Version(version)) => match climb(conn, version) {
+            Ok(()) => Ok(()),
+            Err(_) => Err(Fault::Down),
+        },
+        Ok(Found::Other) => Err(Fault::Schema),
+        Err(_) => Err(Fault::Down),
     }
-    if !all_there(conn.schema()) {
-        return Err(Fault::Schema);
-    }
-    if !is_meta(conn.schema()) {
-        return Err(Fault::Schema);
-    }
-    has_first(conn)
 }

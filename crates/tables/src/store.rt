@@ -4,11 +4,12 @@ ghost use Rattle.std.specs.Option.{unwrap_or};
 ghost use Rattle.sqlite.specs.Held.{state};
 ghost use Rattle.sqlite.specs.State.{HasCleanDisk, KeepsCommit};
 ghost use Rattle.tables.specs.Stores.{records_of, IsSoundStore};
-ghost use Rattle.statements.specs.Making.{HasMeta, version_of, version_in, KeepsTables};
+ghost use Rattle.statements.specs.Making.{HasMeta, told_version, version_in, KeepsTables};
 ghost use Rattle.statements.specs.Rows.{Kept};
 ghost use Rattle.sqlite_schema.specs.declared.schema.Table.{Table};
 ghost use Rattle.statements.specs.Tables.{Tables, Holds};
 ghost use Rattle.tables.specs.Opening.{IsSoundKeep, any_there, all_there, is_meta, IsOther};
+ghost use Rattle.tables.specs.Versions.{HoldsVersion, version_records};
 
 use crate::opening::{Fault, ready};
 use crate::{commands, transactions};
@@ -58,7 +59,8 @@ pub struct Unopened<S: Alter> {
 
 impl<S: Alter> SqlKeep<S> {
     /// Opens a database. One that has none of the tables gets them all, in one transaction; each
-    /// table of others that it holds stays as it is. One that has them stays as it is.
+    /// table of others that it holds stays as it is. One that has them stays as it is; one of an
+    /// earlier version, of which there is none yet, is taken to the newest, a step at a time.
     pub fn open(mut conn: Connection<S>) -> Result<SqlKeep<S>, Unopened<S>>
         requires idle { conn.in_transaction ≡ false }
         ensures so_far { IfOk result (λ keep. ⟦<SqlKeep<S> as Keep>⟧.clean keep → HasCleanDisk (state S.Store conn)) }
@@ -73,7 +75,9 @@ impl<S: Alter> SqlKeep<S> {
         ensures version { IfOk result (λ keep. ⟦<SqlKeep<S> as Keep>⟧.clean keep → any_there (state S.Store conn).now.schema ≡ true
             → (t : Tables) → Holds (state S.Store conn).now t → version_in t ≡ Some 1) }
         ensures tells { IfOk result (λ keep. ⟦<SqlKeep<S> as Keep>⟧.clean keep → any_there (state S.Store conn).now.schema ≡ true
-            → (table : Table) (metas : List (Kept ℕ)) → HasMeta (state S.Store conn).now table metas → version_of metas ≡ Some 1) }
+            → (table : Table) (metas : List (Kept ℕ)) → HasMeta (state S.Store conn).now table metas → told_version metas ≡ Some 1) }
+        ensures climbed { IfOk result (λ keep. ⟦<SqlKeep<S> as Keep>⟧.clean keep → (n : ℕ) → HoldsVersion n (state S.Store conn).now
+            → ⟦<SqlKeep<S> as Keep>⟧.sound keep × ((o : List ℕ) → ⟦<SqlKeep<S> as Keep>⟧.rows keep o ≡ version_records n (state S.Store conn).now o)) }
         ensures back { IfErr result (λ unopened. HasCleanDisk (state S.Store unopened.conn) → KeepsCommit (state S.Store conn) (state S.Store unopened.conn)) }
         ensures other { IfErr result (λ unopened. HasCleanDisk (state S.Store unopened.conn) → unopened.fault ≡ Fault.Schema
             → (any_there (state S.Store conn).now.schema ≡ true) × IsOther (state S.Store conn)) }

@@ -2,7 +2,7 @@
 ghost use Rattle.std.specs.Prelude.{◌≡◌, false, ◌<◌, ◌^◌, OnOk, OnErr};
 ghost use Rattle.sqlite.specs.Held.{state};
 ghost use Rattle.sqlite.specs.State.{HasCleanDisk, KeepsCommit};
-ghost use Rattle.statements.specs.Changes.{org_added, org_capped, token_added, token_removed};
+ghost use Rattle.statements.specs.Changes.{org_row_added, org_capped, token_row_added, token_removed};
 ghost use Rattle.tables.specs.Inner.Edits.{changed_rows};
 ghost use Rattle.tables.specs.Inner.Making.{IsMade};
 ghost use Rattle.tables.specs.Inner.Steps.{TransactsBy};
@@ -56,7 +56,7 @@ pub(crate) fn add_organization<S: Alter>(
     requires idle { conn.old.in_transaction ≡ false }
     ensures idle { conn.new.in_transaction ≡ false }
     ensures so_far { HasCleanDisk (state S.Store conn.new) → HasCleanDisk (state S.Store conn.old) }
-    ensures done { TransactsBy (org_added org.now limit) (state S.Store conn.old) (state S.Store conn.new) result }
+    ensures done { TransactsBy (org_row_added org.now limit) (state S.Store conn.old) (state S.Store conn.new) result }
 {
     let cap = limit.get() as u64;
     let idle = conn.is_autocommit();
@@ -96,7 +96,7 @@ pub(crate) fn add_token<S: Alter>(
     requires idle { conn.old.in_transaction ≡ false }
     ensures idle { conn.new.in_transaction ≡ false }
     ensures so_far { HasCleanDisk (state S.Store conn.new) → HasCleanDisk (state S.Store conn.old) }
-    ensures done { TransactsBy (token_added org.now name.now digest.now role) (state S.Store conn.old) (state S.Store conn.new) result }
+    ensures done { TransactsBy (token_row_added org.now name.now digest.now role) (state S.Store conn.old) (state S.Store conn.new) result }
 {
     let idle = conn.is_autocommit();
     prove!(idle);

@@ -9,7 +9,7 @@ use Rattle.machine.specs.declared.records.Version.{Version}
 use Rattle.statements.specs.declared.rows.Holder.TheVariants.{Nobody, Lock, Run as HeldByRun}
 use Rattle.statements.specs.declared.rows.Workspace.{Workspace as WorkspaceCells}
 use Rattle.statements.specs.Tables.{Tables}
-use Rattle.statements.specs.Changes.{with_auto, held_by, released_from, with_next_version, with_next_run, ws_changed, ws_added, ws_removed, new_version, version_added, versions_removed, versions_removed_below, new_run, run_added, runs_removed, run_changed_to, run_acted}
+use Rattle.statements.specs.Changes.{with_auto, held_by, released_from, with_next_version, with_next_run, ws_changed, ws_added, ws_removed, new_version, version_added, versions_removed, versions_removed_below, run_made, run_added, runs_removed, run_changed_to, run_acted}
 use Rattle.statements.specs.Finds.{workspace_of}
 
 -- a workspace goes with its versions and runs, which go before it
@@ -43,7 +43,7 @@ versioned_rows org ws v outgoing t = if_there (workspace_of org ws t) (left_rows
 
 -- a run comes behind the others: a plan-only run plans at once, and a queued one is pending
 abbrev pub run_put : List ℕ → List ℕ → ℕ → RunAsk → ℕ → Tables → Tables
-run_put org ws number ask created t = run_added org ws (new_run number ask.plan_only ask.key ask.message created (cond ask.plan_only Planning Pending)) t
+run_put org ws number ask created t = run_added org ws (run_made number ask.plan_only ask.key ask.message created (cond ask.plan_only Planning Pending)) t
 
 abbrev pub run_counted : List ℕ → List ℕ → ℕ → Tables → Tables
 run_counted org ws number t = ws_changed (with_next_run (number + 1)) org ws t

@@ -1,5 +1,5 @@
 -- What lists read of the rows.
-use Rattle.std.specs.Prelude.{◌≡◌, ℕ, List, map, Option, option_map, IsTrue, Result, IfOk, OnOk, OnErr}
+use Rattle.std.specs.Prelude.{◌≡◌, ℕ, false, List, map, Option, option_map, IsTrue, Result, IfOk, OnOk, OnErr}
 use Rattle.sqlite.specs.State.{State, HasCleanDisk, KeepsCommit}
 use Rattle.basis.specs.Listings.{listing_of}
 use Rattle.basis.specs.declared.rows.Listing.{Listing}
@@ -13,15 +13,21 @@ use Rattle.statements.specs.declared.rows.Organization.{Organization as Organiza
 use Rattle.statements.specs.declared.rows.Run.{Run as RunCells}
 use Rattle.statements.specs.declared.rows.VersionHead.{VersionHead}
 use Rattle.statements.specs.Finds.{newest_of, workspaces_of}
-use Rattle.statements.specs.Listings.{organizations_in, workspaces_after, versions_after, runs_after}
+use Rattle.statements.specs.Listings.{organizations_in, workspace_rows_after, version_rows_after, run_rows_after}
 use Rattle.statements.specs.Tables.{Tables, Holds}
-use Rattle.tables.specs.Inner.Looks.{Stays}
-use Rattle.tables.specs.Records.{settings_in, holder_in}
+use Rattle.tables.specs.Inner.Looks.{StaysSeen}
+use Rattle.tables.specs.Records.{settings_of_cells, holder_of_cells}
 
 -- no row changes, and the value is that of rows that obey a law; after a failure nothing is committed
 abbrev pub SeesWhere : {X E : Type 0} → (Tables → Type 0) → (Tables → X) → State → State → Result X E → Type 0
 SeesWhere law read old new result =
-    HasCleanDisk new → IfOk result (λ x. IsTrue new.is_open → (t : Tables) → Holds old.now t → law t → x ≡ read t) × (OnOk result (Stays old new) × OnErr result (KeepsCommit old new))
+    HasCleanDisk new → IfOk result (λ x. IsTrue new.is_open → (t : Tables) → Holds old.now t → law t → x ≡ read t) × (OnOk result (StaysSeen old new) × OnErr result (KeepsCommit old new))
+
+-- such a look by queries: no transaction begins, and the disk was clean so far
+pub record SeesLawful {X E : Type 0} (law : Tables → Type 0) (read : Tables → X) (old new : State) (result : Result X E) : Type 0 where
+  pub mode : old.in_transaction ≡ false → new.in_transaction ≡ false
+  pub so_far : HasCleanDisk new → HasCleanDisk old
+  pub sees : SeesWhere law read old new result
 
 -- such a look at the committed rows
 abbrev pub LooksWhere : {X E : Type 0} → (Tables → Type 0) → (Tables → X) → State → State → Result X E → Type 0
@@ -38,7 +44,7 @@ abbrev pub version_row_in : VersionHead → VersionRow
 version_row_in v = record { created = v.created; lineage = v.lineage; number = v.number; serial = v.serial; size = v.size }
 
 abbrev pub versions_listed_in : ℕ → List ℕ → List ℕ → Tables → Listing VersionRow
-versions_listed_in after org ws t = listing_of (map version_row_in (versions_after org ws after asked_rows t))
+versions_listed_in after org ws t = listing_of (map version_row_in (version_rows_after org ws after asked_rows t))
 
 -- ---- runs
 
@@ -46,7 +52,7 @@ abbrev pub run_row_in : RunCells → RunRow
 run_row_in r = record { action = r.action; created = r.created; key = r.key; message = r.message; number = r.number; plan_only = r.plan_only; status = r.status }
 
 abbrev pub runs_listed_in : ℕ → List ℕ → List ℕ → Tables → Listing RunRow
-runs_listed_in after org ws t = listing_of (map run_row_in (runs_after org ws after asked_rows t))
+runs_listed_in after org ws t = listing_of (map run_row_in (run_rows_after org ws after asked_rows t))
 
 -- ---- workspaces
 
@@ -54,10 +60,10 @@ abbrev pub newest_number_in : List ℕ → List ℕ → Tables → Option ℕ
 newest_number_in org ws t = option_map (λ head. head.number) (newest_of org ws t)
 
 abbrev pub ws_row_in : List ℕ → Tables → NamedWorkspace → WsRow
-ws_row_in org t w = record { settings = settings_in w.it; holder = holder_id (holder_in w.it.holder); name = w.name; version = newest_number_in org w.name t }
+ws_row_in org t w = record { settings = settings_of_cells w.it; holder = holder_id (holder_of_cells w.it.holder); name = w.name; version = newest_number_in org w.name t }
 
 abbrev pub workspaces_listed_in : List ℕ → List ℕ → Tables → Listing WsRow
-workspaces_listed_in after org t = listing_of (map (ws_row_in org t) (workspaces_after org after asked_rows t))
+workspaces_listed_in after org t = listing_of (map (ws_row_in org t) (workspace_rows_after org after asked_rows t))
 
 -- ---- organizations
 

@@ -1,5 +1,5 @@
 -- What looks at a store leave and give.
-use Rattle.std.specs.Prelude.{◌≡◌, ℕ, cond, List, option_map, IsTrue, Result, IfOk, OnOk, OnErr}
+use Rattle.std.specs.Prelude.{◌≡◌, ℕ, false, cond, List, option_map, IsTrue, Result, IfOk, OnOk, OnErr}
 use Rattle.sqlite.specs.State.{State, HasCleanDisk, KeepsCommit}
 use Rattle.std.specs.Option.{unwrap_or}
 use Rattle.machine.specs.Needs.{Needed}
@@ -11,13 +11,13 @@ use Rattle.statements.specs.declared.rows.Holder.{Holder as HolderCells}
 use Rattle.statements.specs.declared.rows.Workspace.{Workspace as WorkspaceCells}
 use Rattle.statements.specs.Finds.{cap_of, workspaces_of, first_waiting_of, open_runs_of}
 use Rattle.statements.specs.Tables.{Tables, Holds}
-use Rattle.tables.specs.Records.{settings_in, holder_in, run_in}
+use Rattle.tables.specs.Records.{settings_of_cells, holder_of_cells, run_of_cells}
 use Rattle.tables.specs.Inner.Units.{holder_status_in, newest_in, outgoing_in, has_version_in, asked_cells_in}
 use Rattle.tables.specs.declared.looks.RunsAround.{RunsAround}
 use Rattle.tables.specs.declared.looks.Surroundings.{Surroundings}
 
 -- no row changes, as long as the store isn't shut
-pub record Stays (old new : State) : Type 0 where
+pub record StaysSeen (old new : State) : Type 0 where
   pub was_open : IsTrue new.is_open → IsTrue old.is_open
   pub is_open : IsTrue old.is_open → IsTrue new.is_open
   pub now : IsTrue new.is_open → new.now ≡ old.now
@@ -26,7 +26,13 @@ pub record Stays (old new : State) : Type 0 where
 -- no row changes, and the value is that of the rows; after a failure nothing is committed
 abbrev pub SeesBy : {X E : Type 0} → (Tables → X) → State → State → Result X E → Type 0
 SeesBy read old new result =
-    HasCleanDisk new → IfOk result (λ x. IsTrue new.is_open → (t : Tables) → Holds old.now t → x ≡ read t) × (OnOk result (Stays old new) × OnErr result (KeepsCommit old new))
+    HasCleanDisk new → IfOk result (λ x. IsTrue new.is_open → (t : Tables) → Holds old.now t → x ≡ read t) × (OnOk result (StaysSeen old new) × OnErr result (KeepsCommit old new))
+
+-- a look at the tables by queries: no transaction begins, the disk was clean so far, no row changes, and the value is that of the rows
+pub record Sees {X E : Type 0} (read : Tables → X) (old new : State) (result : Result X E) : Type 0 where
+  pub mode : old.in_transaction ≡ false → new.in_transaction ≡ false
+  pub so_far : HasCleanDisk new → HasCleanDisk old
+  pub sees : SeesBy read old new result
 
 -- a look: nothing is committed, and the value is that of the committed rows
 abbrev pub LooksBy : {X E : Type 0} → (Tables → X) → State → State → Result X E → Type 0
@@ -54,8 +60,8 @@ around_in need org ws holder t = record {
 
 abbrev pub unit_from : WorkspaceCells → Surroundings → WorkspaceUnit
 unit_from w a = record {
-  settings = settings_in w;
-  holder = holder_in w.holder;
+  settings = settings_of_cells w;
+  holder = holder_of_cells w.holder;
   holder_status = a.runs.holder_status;
   released = w.released;
   next_version = w.next_version;
@@ -64,7 +70,7 @@ unit_from w a = record {
   outgoing = a.outgoing;
   first_waiting = a.runs.first_waiting;
   has_version = a.has_version;
-  asked_run = option_map run_in a.runs.asked_run;
+  asked_run = option_map run_of_cells a.runs.asked_run;
   open_runs = a.runs.open_runs;
 }
 

@@ -1,10 +1,16 @@
--- A database that was made ready with schema 1, or that has it already.
-use Rattle.std.specs.Prelude.{◌≡◌, ◌==◌, ℕ, Bool, false, List, Option, Some, None, IsTrue}
+-- A database that was made ready with the newest version of the schema, or that was taken to it from the version that it had.
+use Rattle.std.specs.Prelude.{◌≡◌, ◌≤◌, ◌+◌, ◌&&◌, if◌then◌else◌, ℕ, nat_le, true, false, List, Option, Some, None, IsTrue, Result, OnOk, OnErr}
 use Rattle.sqlite_schema.specs.declared.schema.Table.{Table}
-use Rattle.sqlite.specs.State.{State}
-use Rattle.statements.specs.Making.{HasSchema, HasMeta, version_of, version_in}
+use Rattle.sqlite.specs.Effect.{Database}
+use Rattle.sqlite.specs.State.{State, KeepsCommit}
+use Rattle.statements.specs.Making.{HasSchema, HasMeta, told_version, version_in}
 use Rattle.statements.specs.Rows.{Kept}
 use Rattle.statements.specs.Tables.{Tables, Holds}
+use Rattle.tables.specs.declared.opening.TheConstants.{NEWEST}
+use Rattle.tables.specs.declared.opening.Found.{Found}
+use Rattle.tables.specs.declared.opening.Found.TheVariants.{Nothing, Version, Other}
+use Rattle.tables.specs.Opening.{any_there, IsOther}
+use Rattle.tables.specs.Versions.{HoldsVersion, version_records}
 
 -- all tables were made beside those of others, and that is committed
 pub record IsMade (old new : State) : Type 0 where
@@ -12,14 +18,59 @@ pub record IsMade (old new : State) : Type 0 where
   pub was_open : IsTrue old.is_open
   pub is_open : IsTrue new.is_open
 
--- meta tells the version 1, and no row changes
-pub record IsTold (old new : State) : Type 0 where
-  pub version : (t : Tables) → Holds old.now t → version_in t ≡ Some 1
-  pub tells : (table : Table) (metas : List (Kept ℕ)) → HasMeta old.now table metas → version_of metas ≡ Some 1
+-- ---- what a database has
+
+-- what is found where meta tells this version
+abbrev pub found_in : Option ℕ → Found
+found_in None = Other
+found_in (Some version) = if nat_le 1 version && nat_le version NEWEST then Version version else Other
+
+-- meta tells this version, and no row changes
+pub record IsTold (n : ℕ) (old new : State) : Type 0 where
+  pub least : 1 ≤ n
+  pub most : n ≤ NEWEST
+  pub version : (t : Tables) → Holds old.now t → version_in t ≡ Some n
+  pub tells : (table : Table) (metas : List (Kept ℕ)) → HasMeta old.now table metas → told_version metas ≡ Some n
   pub was_open : IsTrue old.is_open
   pub is_open : IsTrue new.is_open
   pub same : new.committed ≡ old.now
 
-abbrev pub is_first : Option ℕ → Bool
-is_first None = false
-is_first (Some version) = version == 1
+-- what was found where some of our tables are there
+abbrev pub TellsFound : Found → State → State → Type 0
+TellsFound Nothing old new = ⊥
+TellsFound (Version n) old new = IsTold n old new
+TellsFound Other old new = IsOther old × KeepsCommit old new
+
+-- what was found in a database
+abbrev pub FindsOurs : Found → State → State → Type 0
+FindsOurs Nothing old new = any_there old.now.schema ≡ false
+FindsOurs (Version n) old new = (any_there old.now.schema ≡ true) × IsTold n old new
+FindsOurs Other old new = (any_there old.now.schema ≡ true) × IsOther old × KeepsCommit old new
+
+-- ---- from a version to a later one
+
+-- A database of a version has become one of another, with the same records.
+pub record Becomes (from to : ℕ) (old new : Database) : Type 0 where
+  pub holds : HoldsVersion from old → HoldsVersion to new
+  pub records : HoldsVersion from old → (org : List ℕ) → version_records to new org ≡ version_records from old org
+
+-- such is what the connection has committed, as long as no fault has shut it
+pub record Climbs (from to : ℕ) (old new : State) : Type 0 where
+  pub was_open : IsTrue new.is_open → IsTrue old.is_open
+  pub becomes : IsTrue new.is_open → Becomes from to old.committed new.committed
+
+-- a step to the next version, or none
+abbrev pub StepsFrom : {X E : Type 0} → ℕ → State → State → Result X E → Type 0
+StepsFrom from old new result = OnOk result (Climbs from (from + 1) old new × IsTrue new.is_open) × OnErr result (KeepsCommit old new)
+
+-- the newest version is reached
+pub record IsClimbed (from : ℕ) (old new : State) : Type 0 where
+  pub climbs : from ≤ NEWEST → Climbs from NEWEST old new
+  pub is_open : IsTrue old.is_open → IsTrue new.is_open
+
+-- a version on the way is reached
+pub record IsOnWay (from : ℕ) (old new : State) : Type 0 where
+  pub to : ℕ
+  pub least : from ≤ to
+  pub most : to ≤ NEWEST
+  pub climbs : Climbs from to old new

@@ -5,7 +5,7 @@ use Rattle.basis.specs.declared.roles.Role.{Role}
 use Rattle.machine.specs.Effects.{Effect, effect}
 use Rattle.machine.specs.declared.keeps.AdminAnswer.{AdminAnswer}
 use Rattle.machine.specs.declared.keeps.AdminAnswer.TheVariants.{Done, Exists, Absent}
-use Rattle.statements.specs.Changes.{org_added, org_capped, token_added, token_removed}
+use Rattle.statements.specs.Changes.{org_row_added, org_capped, token_row_added, token_removed}
 use Rattle.statements.specs.Finds.{cap_of, workspace_of, role_of_name, role_of_digest}
 use Rattle.statements.specs.Tables.{Tables, Holds}
 
@@ -30,7 +30,7 @@ TransactsBy change old new result = HasCleanDisk new → OnOk result (Commits ch
 -- ---- an operator's commands: the answer, and the rows after it
 
 abbrev pub org_managed_by : Option ℕ → List ℕ → ℕ → Tables → Effect AdminAnswer Tables
-org_managed_by None org limit t = effect Done (org_added org limit t)
+org_managed_by None org limit t = effect Done (org_row_added org limit t)
 org_managed_by (Some cap) org limit t = effect Exists t
 
 abbrev pub org_managed : List ℕ → ℕ → Tables → Effect AdminAnswer Tables
@@ -42,7 +42,7 @@ is_taken org name digest t = is_some (role_of_name org name t) || is_some (role_
 
 abbrev pub token_managed_by : Option ℕ → Bool → List ℕ → List ℕ → List ℕ → Role → Tables → Effect AdminAnswer Tables
 token_managed_by None taken org name digest role t = effect Absent t
-token_managed_by (Some cap) taken org name digest role t = cond taken (effect Exists t) (effect Done (token_added org name digest role t))
+token_managed_by (Some cap) taken org name digest role t = cond taken (effect Exists t) (effect Done (token_row_added org name digest role t))
 
 abbrev pub token_managed : List ℕ → List ℕ → List ℕ → Role → Tables → Effect AdminAnswer Tables
 token_managed org name digest role t = token_managed_by (cap_of org t) (is_taken org name digest t) org name digest role t

@@ -16,14 +16,14 @@ use Rattle.statements.specs.declared.rows.Holder.TheVariants as cells
 use Rattle.statements.specs.declared.rows.Workspace.{Workspace as WorkspaceCells}
 use Rattle.statements.specs.declared.rows.Run.{Run as RunCells}
 use Rattle.statements.specs.Tables.{Tables}
-use Rattle.statements.specs.Finds.{cap_of, workspace_of, workspaces_of, newest_of, number_back, body_of, number_of, first_waiting_of, status_of, run_of, keyed_run_of, open_runs_of}
-use Rattle.tables.specs.Records.{settings_in, holder_in, run_in}
+use Rattle.statements.specs.Finds.{cap_of, workspace_of, workspaces_of, newest_of, number_back, body_of, version_at_number, first_waiting_of, status_at_number, run_at_number, keyed_run_of, open_runs_of}
+use Rattle.tables.specs.Records.{settings_of_cells, holder_of_cells, run_of_cells}
 
 -- the status of the run that holds
 abbrev pub holder_status_in : List ℕ → List ℕ → HolderCells → Tables → Option RunStatus
 holder_status_in org ws cells.Nobody t = None
 holder_status_in org ws (cells.Lock id text) t = None
-holder_status_in org ws (cells.Run n) t = status_of org ws n t
+holder_status_in org ws (cells.Run n) t = status_at_number org ws n t
 
 -- whether the text that was found is this one
 abbrev pub is_body : List ℕ → Option (List ℕ) → Bool
@@ -48,7 +48,7 @@ outgoing_in org ws t = number_back org ws (max_versions - 1) t
 -- whether the version that is asked of has a row
 abbrev pub has_version_in : Option ℕ → List ℕ → List ℕ → Tables → Bool
 has_version_in None org ws t = false
-has_version_in (Some n) org ws t = is_some (number_of org ws n t)
+has_version_in (Some n) org ws t = is_some (version_at_number org ws n t)
 
 -- the row of the run that has a key, if a key is given
 abbrev pub keyed_cells_in : Option (List ℕ) → List ℕ → List ℕ → Tables → Option RunCells
@@ -57,17 +57,17 @@ keyed_cells_in (Some key) org ws t = keyed_run_of org ws key t
 
 -- the row of the run that is asked of: by its number, or, where none is given, by its key
 abbrev pub asked_cells_in : Option ℕ → Option (List ℕ) → List ℕ → List ℕ → Tables → Option RunCells
-asked_cells_in (Some n) key org ws t = run_of org ws n t
+asked_cells_in (Some n) key org ws t = run_at_number org ws n t
 asked_cells_in None key org ws t = keyed_cells_in key org ws t
 
 abbrev pub asked_run_in : Option ℕ → Option (List ℕ) → List ℕ → List ℕ → Tables → Option Run
-asked_run_in n key org ws t = option_map run_in (asked_cells_in n key org ws t)
+asked_run_in n key org ws t = option_map run_of_cells (asked_cells_in n key org ws t)
 
 abbrev pub unit_at : Needed → List ℕ → List ℕ → Tables → Option WorkspaceCells → AnyUnit
 unit_at need org ws t None = Absent (cond need.makes (workspaces_of org t) 0) (unwrap_or (cap_of org t) 0)
 unit_at need org ws t (Some w) = Present (record {
-  settings = settings_in w;
-  holder = holder_in w.holder;
+  settings = settings_of_cells w;
+  holder = holder_of_cells w.holder;
   holder_status = if_needed need.holder_status (holder_status_in org ws w.holder t);
   released = w.released;
   next_version = w.next_version;

@@ -2,7 +2,8 @@ use Rattle.std.proofs.Common.{[], ◌∷◌, arith}
 use Rattle.sqlite.specs.Held.{state}
 use Rattle.sqlite.specs.State.{HasCleanDisk}
 use Rattle.statements.specs.Schema.{meta_table, org_table, token_table, ws_table, version_table, run_table}
-use Rattle.statements.specs.Making.{GrowsByAll, our_tables}
+use Rattle.statements.specs.Making.{GrowsByAll}
+use Rattle.statements.specs.Tables.{our_tables}
 use Rattle.statements.proofs.Schemas.{grown_then, alters_join, schema_more}
 use Rattle.statements.proofs.making.make_schema.Goals as goal
 

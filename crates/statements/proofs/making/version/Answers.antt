@@ -1,9 +1,9 @@
 use Rattle.sqlite.specs.Held.{state}
 use Rattle.std.proofs.Common.{◌≡◌, ℕ, List, [], Option}
 use Rattle.sqlite_schema.specs.declared.schema.Table.{Table}
-use Rattle.statements.specs.Making.{HasMeta, version_of, version_in}
+use Rattle.statements.specs.Making.{HasMeta, told_version, version_in}
 use Rattle.statements.specs.Rows.{Kept}
-use Rattle.statements.specs.Queries.{IsNumber}
+use Rattle.statements.specs.Inner.Calls.{IsNumber}
 use Rattle.statements.proofs.Transactions.{reads_by, one_read}
 use Rattle.statements.proofs.MetaTexts.{version_text, version_is_query, version_told, version_shows}
 use Rattle.statements.proofs.making.version.Goals as goal
@@ -20,8 +20,8 @@ returns-clause-told g c clean =
     let old = state g.S.Store c.args.conn.now in
     let new = state g.S.Store c.first_row-row.new.conn in
     one_read IsNumber old new version_text [] c.first_row-row.result c.read_one.result (c.first_row-row.ensures.row version_is_query clean) c.read_one.ensures
-    (λ (o : Option ℕ). (table : Table) (metas : List (Kept ℕ)) → HasMeta old.now table metas → o ≡ version_of metas)
-    (λ o same table metas has. same (version_of metas) (version_told old new table metas has))
+    (λ (o : Option ℕ). (table : Table) (metas : List (Kept ℕ)) → HasMeta old.now table metas → o ≡ told_version metas)
+    (λ o same table metas has. same (told_version metas) (version_told old new table metas has))
 
 pub returns-clause-survives : goal.returns-clause-survives
 returns-clause-survives g c = c.first_row-row.ensures.survives version_is_query

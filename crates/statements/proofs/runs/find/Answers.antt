@@ -1,8 +1,8 @@
 use Rattle.std.proofs.Common.{pos, w64}
 use Rattle.std.proofs.lemmas.Int.{to_z-of_z}
 use Rattle.sqlite.specs.Held.{state}
-use Rattle.statements.specs.Finds.{run_of}
-use Rattle.statements.specs.Queries.{IsRun}
+use Rattle.statements.specs.Finds.{run_at_number}
+use Rattle.statements.specs.Inner.Calls.{IsRunRow}
 use Rattle.statements.proofs.Transactions.{reads_by}
 use Rattle.statements.proofs.RunTexts.{find_run_text, find_run_is_query}
 use Rattle.statements.proofs.RunReads.{find_run_shows}
@@ -12,7 +12,7 @@ pub returns-clause-read : goal.returns-clause-read
 returns-clause-read g c clean =
     let old = state g.S.Store c.args.conn.now in
     let new = state g.S.Store c.first_row-row.new.conn in
-    reads_by (run_of c.args.org.now c.args.ws.now c.args.number) IsRun old new find_run_text _ c.first_row-row.result c.read_one.result
+    reads_by (run_at_number c.args.org.now c.args.ws.now c.args.number) IsRunRow old new find_run_text _ c.first_row-row.result c.read_one.result
     (rw (c.params-to_sql.ensures, c.params-to_sql-2.ensures, c.params-to_sql-3.ensures, c.signed-number.ensures, to_z-of_z w64 (pos c.args.number) (record { sfits = c.requires.number_fits })) at (c.first_row-row.ensures.row find_run_is_query clean)) (c.first_row-row.ensures.calm find_run_is_query clean) c.read_one.ensures
     (λ t holds row first. find_run_shows old new t holds c.args.org.now c.args.ws.now c.args.number row first)
 

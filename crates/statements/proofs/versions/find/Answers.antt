@@ -1,8 +1,8 @@
 use Rattle.std.proofs.Common.{pos, w64}
 use Rattle.std.proofs.lemmas.Int.{to_z-of_z}
 use Rattle.sqlite.specs.Held.{state}
-use Rattle.statements.specs.Finds.{number_of}
-use Rattle.statements.specs.Queries.{IsNumber}
+use Rattle.statements.specs.Finds.{version_at_number}
+use Rattle.statements.specs.Inner.Calls.{IsNumber}
 use Rattle.statements.proofs.Transactions.{reads_by}
 use Rattle.statements.proofs.VersionTexts.{version_number_text, version_number_is_query}
 use Rattle.statements.proofs.VersionReads.{version_number_shows}
@@ -12,7 +12,7 @@ pub returns-clause-read : goal.returns-clause-read
 returns-clause-read g c clean =
     let old = state g.S.Store c.args.conn.now in
     let new = state g.S.Store c.first_row-row.new.conn in
-    reads_by (number_of c.args.org.now c.args.ws.now c.args.number) IsNumber old new version_number_text _ c.first_row-row.result c.read_one.result
+    reads_by (version_at_number c.args.org.now c.args.ws.now c.args.number) IsNumber old new version_number_text _ c.first_row-row.result c.read_one.result
     (rw (c.params-to_sql.ensures, c.params-to_sql-2.ensures, c.params-to_sql-3.ensures, c.signed-number.ensures, to_z-of_z w64 (pos c.args.number) (record { sfits = c.requires.number_fits })) at (c.first_row-row.ensures.row version_number_is_query clean)) (c.first_row-row.ensures.calm version_number_is_query clean) c.read_one.ensures
     (λ t holds row first. version_number_shows old new t holds c.args.org.now c.args.ws.now c.args.number row first)
 

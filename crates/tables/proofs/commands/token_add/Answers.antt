@@ -3,7 +3,7 @@ use Rattle.sqlite.specs.Effect.{Database}
 use Rattle.sqlite.specs.Held.{state}
 use Rattle.machine.specs.Effects.{effect}
 use Rattle.machine.specs.declared.keeps.AdminAnswer.TheVariants.{Done, Exists}
-use Rattle.statements.specs.Changes.{token_added}
+use Rattle.statements.specs.Changes.{token_row_added}
 use Rattle.statements.specs.Tables.{Holds}
 use Rattle.tables.specs.Inner.Steps.{token_managed}
 use Rattle.tables.proofs.KeepCommits.{settled_by}
@@ -21,12 +21,12 @@ returns-then-branch-clause-done g c clean =
     let b = state g.S.Store c.cap.new.conn in
     let d = state g.S.Store c.is_taken.new.conn in
     let settled = settled_by g.S.Store h c.is_autocommit-idle.result c.is_autocommit-idle.ensures.value c.is_autocommit-idle.ensures.settled c.requires.idle in
-    let cap = c.in_ok-cap.ensures.read (c.is_taken.ensures.so_far clean) in
-    let taken = c.in_ok-is_taken.ensures.sees clean in
+    let cap = c.in_ok-cap.ensures.read (c.is_taken.ensures.looks.so_far clean) in
+    let taken = c.in_ok-is_taken.ensures.looks.sees clean in
     let is_open = c.in_ok-is_taken.ensures.is_open clean in
     let there : is_none c.in_ok-cap.cap ≡ false = search rules in (
       manages_none (token_managed org name digest role) a d d settled Exists cap.1.0.0.was_open is_open (stays_then a b d (unchanged_stays a b cap.1.0) taken.1.0)
-          (λ t held. subst (λ x. token_managed org name digest role t ≡ cond x (effect Exists t) (effect Done (token_added org name digest role t))) c.if-branch.true
+          (λ t held. subst (λ x. token_managed org name digest role t ≡ cond x (effect Exists t) (effect Done (token_row_added org name digest role t))) c.if-branch.true
           (token_there org name digest role t c.in_ok-cap.cap c.in_ok-is_taken.field-0 there (cap.0 t held) (taken.0 is_open t (subst (λ (db : Database). Holds db t) (sym cap.1.0.0.now_is) held)))),
       tt,
     )
@@ -44,12 +44,12 @@ returns-clause-done g c clean =
     let e = state g.S.Store c.add_token.new.conn in
     let settled = settled_by g.S.Store h c.is_autocommit-idle.result c.is_autocommit-idle.ensures.value c.is_autocommit-idle.ensures.settled c.requires.idle in
     let clean2 = c.add_token.ensures.so_far clean in
-    let cap = c.in_ok-cap.ensures.read (c.is_taken.ensures.so_far clean2) in
-    let taken = c.in_ok-is_taken.ensures.sees clean2 in
+    let cap = c.in_ok-cap.ensures.read (c.is_taken.ensures.looks.so_far clean2) in
+    let taken = c.in_ok-is_taken.ensures.looks.sees clean2 in
     let is_open = c.in_ok-is_taken.ensures.is_open clean2 in
     let there : is_none c.in_ok-cap.cap ≡ false = search rules in (
-      manages_one (token_managed org name digest role) a d e settled (token_added org name digest role) Done (stays_then a b d (unchanged_stays a b cap.1.0) taken.1.0) (c.in_ok-add_token.ensures.done clean).0
-          (λ t held. subst (λ x. token_managed org name digest role t ≡ cond x (effect Exists t) (effect Done (token_added org name digest role t))) c.if-branch.false
+      manages_one (token_managed org name digest role) a d e settled (token_row_added org name digest role) Done (stays_then a b d (unchanged_stays a b cap.1.0) taken.1.0) (c.in_ok-add_token.ensures.done clean).0
+          (λ t held. subst (λ x. token_managed org name digest role t ≡ cond x (effect Exists t) (effect Done (token_row_added org name digest role t))) c.if-branch.false
           (token_there org name digest role t c.in_ok-cap.cap c.in_ok-is_taken.field-0 there (cap.0 t held) (taken.0 is_open t (subst (λ (db : Database). Holds db t) (sym cap.1.0.0.now_is) held)))),
       tt,
     )

@@ -1,7 +1,7 @@
 use Rattle.std.proofs.Common.{rules}
 use Rattle.sqlite.specs.Held.{state}
 use Rattle.sqlite.specs.State.{HasCleanDisk}
-use Rattle.statements.specs.Changes.{token_added}
+use Rattle.statements.specs.Changes.{token_row_added}
 use Rattle.tables.proofs.KeepMoves.{clean_before}
 use Rattle.tables.proofs.KeepCommits.{settled_by, inside_by, commits_by}
 use Rattle.tables.proofs.transactions.add_token.Goals as goal
@@ -16,5 +16,5 @@ returns-clause-done g c clean =
     let before = clean_before (state g.S.Store l) (state g.S.Store m) _ c.commit.ensures.survives late in
     let settled = settled_by g.S.Store h c.is_autocommit-idle.result c.is_autocommit-idle.ensures.value c.is_autocommit-idle.ensures.settled c.requires.idle in
     let moved = (c.in_ok-add.ensures.changed before (inside_by c.args.conn.now c.transaction-tx.result.conn.now c.transaction-tx.ensures.begun)).0 in
-    let all = commits_by g.S.Store h k l m settled c.transaction-tx.ensures.begun (token_added c.args.org.now c.args.name.now c.args.digest.now c.args.role) c.commit.result moved (c.commit.ensures.ok late) (c.commit.ensures.err late) in
+    let all = commits_by g.S.Store h k l m settled c.transaction-tx.ensures.begun (token_row_added c.args.org.now c.args.name.now c.args.digest.now c.args.role) c.commit.result moved (c.commit.ensures.ok late) (c.commit.ensures.err late) in
     search (rules, all)

@@ -15,3 +15,8 @@ returns-in-Err-clause-sound g c clean schema = sound_is_not_other (state g.S.Sto
 
 pub returns-in-Ok-clause-tells : goal.returns-in-Ok-clause-tells
 returns-in-Ok-clause-tells g c clean there = (c.in-Ok.ensures.told clean there).tells
+
+pub returns-in-Ok-clause-climbed : goal.returns-in-Ok-clause-climbed
+returns-in-Ok-clause-climbed g c = rw c.of-seen.ensures (λ clean n h.
+    let is = c.in-Ok.ensures.climbed clean n h in
+    (record { store = is.0; tied = λ _. refl }, is.1))

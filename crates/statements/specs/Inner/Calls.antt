@@ -1,5 +1,5 @@
--- What a query gives: the first row of its answer, or none, and the value that this row is read as.
-use Rattle.std.specs.Prelude.{◌≡◌, ◌⊎◌, ◌≤◌, length, ⊤, ℕ, ℤ, pos, Bool, not, List, [], Option, Some, None, Result, Ok, Err, OnOk, OnErr}
+-- What a text that is run does; what a query gives: the first row of its answer, or none, and the value that this row is read as.
+use Rattle.std.specs.Prelude.{◌≡◌, ◌⊎◌, ◌≤◌, ◌==◌, length, ⊤, ℕ, ℤ, pos, Bool, not, List, [], Option, Some, None, Result, Ok, Err, IfOk, OnOk, OnErr}
 use Rattle.std.specs.List.{AllZip}
 use Rattle.std.specs.Ordering.{int_eq}
 use Rattle.sqlite_ast.specs.declared.Select.{Select}
@@ -21,7 +21,15 @@ use Rattle.statements.specs.declared.rows.Head.{Head}
 use Rattle.statements.specs.declared.rows.VersionHead.{VersionHead}
 use Rattle.statements.specs.declared.rows.Run.{Run}
 use Rattle.statements.specs.Rows.{number, role_code, status_code, action_code}
-use Rattle.sqlite.specs.State.{State, IsUnchanged, IsRolledBack, QueriesRow, Shown, Begins}
+use Rattle.sqlite.specs.State.{State, IsUnchanged, IsRolledBack, KeepsCommit, ExecutesInside, QueriesRow, Shown, Begins}
+
+-- a text that was run in a transaction
+abbrev pub Wrote : {X E : Type 0} → List ℕ → Row → State → State → Result X E → Type 0
+Wrote text params old new result = OnOk result ((count : ℕ) × ExecutesInside 0 text params old new (Ok count)) × OnErr result (KeepsCommit old new)
+
+-- the same, and whether there were rows to write
+abbrev pub WroteAny : {E : Type 0} → List ℕ → Row → State → State → Result Bool E → Type 0
+WroteAny text params old new result = IfOk result (λ any. (count : ℕ) × ExecutesInside 0 text params old new (Ok count) × (any ≡ not (count == 0))) × OnErr result (KeepsCommit old new)
 
 -- the text is a SELECT, in each schema
 abbrev pub IsQuery : List ℕ → Type 0
@@ -56,27 +64,27 @@ AreRead Is (Ok rows) (Ok xs) = AllZip Is rows xs
 
 -- ---- how a row is read
 
-abbrev pub IsFlag : Value → Bool → Type 0
-IsFlag v b = (n : ℤ) × (v ≡ cell.Int n) × (b ≡ not (int_eq n (pos 0)))
+abbrev pub IsFlagCell : Value → Bool → Type 0
+IsFlagCell v b = (n : ℤ) × (v ≡ cell.Int n) × (b ≡ not (int_eq n (pos 0)))
 
 abbrev pub IsTextOrNull : Value → Option (List ℕ) → Type 0
 IsTextOrNull v None = v ≡ cell.Null
 IsTextOrNull v (Some t) = v ≡ cell.Text t
 
 -- the columns are kind, lock_id, lock_text and run
-abbrev pub IsHolder : Value → Value → Value → Value → Holder → Type 0
-IsHolder kind id text run Nobody = kind ≡ number 0
-IsHolder kind id text run (Lock i t) = (kind ≡ number 1) × (id ≡ cell.Text i) × (text ≡ cell.Blob t)
-IsHolder kind id text run (HeldByRun n) = (kind ≡ number 2) × (run ≡ number n)
+abbrev pub AreHolderCells : Value → Value → Value → Value → Holder → Type 0
+AreHolderCells kind id text run Nobody = kind ≡ number 0
+AreHolderCells kind id text run (Lock i t) = (kind ≡ number 1) × (id ≡ cell.Text i) × (text ≡ cell.Blob t)
+AreHolderCells kind id text run (HeldByRun n) = (kind ≡ number 2) × (run ≡ number n)
 
 pub record IsWorkspace (row : Row) (w : Workspace) : Type 0 where
-  pub auto : IsFlag (column row 0) w.auto
-  pub holder : IsHolder (column row 1) (column row 2) (column row 3) (column row 4) w.holder
+  pub auto : IsFlagCell (column row 0) w.auto
+  pub holder : AreHolderCells (column row 1) (column row 2) (column row 3) (column row 4) w.holder
   pub released : IsTextOrNull (column row 5) w.released
   pub next_version : column row 6 ≡ number w.next_version
   pub next_run : column row 7 ≡ number w.next_run
 
-pub record IsNamedWorkspace (row : Row) (w : NamedWorkspace) : Type 0 where
+pub record IsNamedRow (row : Row) (w : NamedWorkspace) : Type 0 where
   pub it : IsWorkspace row w.it
   pub name : column row 8 ≡ cell.Text w.name
 
@@ -84,7 +92,7 @@ pub record IsOrganization (row : Row) (o : Organization) : Type 0 where
   pub name : column row 0 ≡ cell.Text o.name
   pub cap : column row 1 ≡ number o.cap
 
-pub record IsHead (row : Row) (h : Head) : Type 0 where
+pub record IsHeadRow (row : Row) (h : Head) : Type 0 where
   pub number_is : column row 0 ≡ number h.number
   pub serial : column row 1 ≡ number h.serial
   pub lineage : column row 2 ≡ cell.Text h.lineage
@@ -104,9 +112,9 @@ abbrev pub IsActionOrNull : Value → Option RunAction → Type 0
 IsActionOrNull v None = v ≡ cell.Null
 IsActionOrNull v (Some action) = v ≡ number (action_code action)
 
-pub record IsRun (row : Row) (r : Run) : Type 0 where
+pub record IsRunRow (row : Row) (r : Run) : Type 0 where
   pub number_is : column row 0 ≡ number r.number
-  pub plan_only : IsFlag (column row 1) r.plan_only
+  pub plan_only : IsFlagCell (column row 1) r.plan_only
   pub key : IsTextOrNull (column row 2) r.key
   pub message : column row 3 ≡ cell.Text r.message
   pub created : column row 4 ≡ number r.created

@@ -1,0 +1,46 @@
+-- One table of ours, as a database that holds our rows has it.
+use Rattle.std.proofs.Common.{◌≡◌, ℕ, List, map, slice_get, option_map, Some, refl, ap, ◌∙◌}
+use Rattle.std.proofs.lemmas.Option.{slice_get-map}
+use Rattle.sqlite_keyed.specs.Keyed.{IsKeyedBy}
+use Rattle.sqlite_keyed.proofs.ListLemmas.{all-slice_get, ascending-map, ascending_from_map}
+use Rattle.sqlite.specs.Effect.{Database}
+use Rattle.statements.specs.Place.{tree_of, IsOwn}
+use Rattle.statements.specs.Rows.{Kept, id_of, stored}
+use Rattle.statements.specs.Tables.{Layout, Tables, Holds, HasRows, StoredTable, stored_table, stored_tables, our_tables, rowid_of, meta_layout, org_layout, token_layout, ws_layout, version_layout, run_layout}
+
+-- the table stands in the schema, and its tree has these rows in the order of their rowids
+pub record IsHeld {R : Type 0} (layout : Layout R) (db : Database) (xs : List (Kept R)) : Type 0 where
+  pub own : IsOwn db.schema layout.table
+  pub rows : db.trees (tree_of db.schema layout.table.name) ≡ map (stored layout.cells) xs
+  pub keyed : IsKeyedBy id_of xs
+
+pub rows_keyed : {R : Type 0} (layout : Layout R) (xs : List (Kept R)) → IsKeyedBy id_of xs → IsKeyedBy rowid_of (map (stored layout.cells) xs)
+rows_keyed layout xs = ascending-map _ (stored layout.cells) xs
+
+module _ (db : Database) (t : Tables) (h : Holds db t) where
+  held_at : {R : Type 0} (layout : Layout R) (n : ℕ) (xs : List (Kept R)) → slice_get (stored_tables t) n ≡ Some (stored_table layout xs) → IsHeld layout db xs
+  held_at layout n xs is =
+      let has = all-slice_get (HasRows db) (stored_tables t) n (stored_table layout xs) is h.rows in
+      record {
+        own = all-slice_get (IsOwn db.schema) our_tables n layout.table (slice_get-map (λ (x : StoredTable). x.table) (stored_tables t) n ∙ ap (option_map (λ (x : StoredTable). x.table)) is) h.ours.own;
+        rows = has.rows;
+        keyed = ascending_from_map _ (stored layout.cells) xs has.keyed;
+      }
+
+  pub metas_held : IsHeld meta_layout db t.metas
+  metas_held = held_at meta_layout 0 t.metas refl
+
+  pub orgs_held : IsHeld org_layout db t.orgs
+  orgs_held = held_at org_layout 1 t.orgs refl
+
+  pub tokens_held : IsHeld token_layout db t.tokens
+  tokens_held = held_at token_layout 2 t.tokens refl
+
+  pub wss_held : IsHeld ws_layout db t.wss
+  wss_held = held_at ws_layout 3 t.wss refl
+
+  pub versions_held : IsHeld version_layout db t.versions
+  versions_held = held_at version_layout 4 t.versions refl
+
+  pub runs_held : IsHeld run_layout db t.runs
+  runs_held = held_at run_layout 5 t.runs refl

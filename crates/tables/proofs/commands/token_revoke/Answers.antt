@@ -1,0 +1,24 @@
+use Rattle.std.proofs.Common.{rules, ◌≡◌, false, is_none}
+use Rattle.sqlite.specs.Held.{state}
+use Rattle.machine.specs.declared.keeps.AdminAnswer.TheVariants.{Done}
+use Rattle.statements.specs.Changes.{token_removed}
+use Rattle.tables.specs.Inner.Steps.{revocation_managed}
+use Rattle.tables.proofs.KeepCommits.{settled_by}
+use Rattle.tables.proofs.KeepManaged.{manages_one, unchanged_stays, revocation_there}
+use Rattle.tables.proofs.commands.token_revoke.Goals as goal
+
+pub returns-clause-done : goal.returns-clause-done
+returns-clause-done g c clean =
+    let h = c.args.conn.now in
+    let org = c.args.org.now in
+    let name = c.args.name.now in
+    let a = state g.S.Store h in
+    let b = state g.S.Store c.role_of_name.new.conn in
+    let d = state g.S.Store c.remove_token.new.conn in
+    let settled = settled_by g.S.Store h c.is_autocommit-idle.result c.is_autocommit-idle.ensures.value c.is_autocommit-idle.ensures.settled c.requires.idle in
+    let role = c.in_ok-role.ensures.read (c.remove_token.ensures.so_far clean) in
+    let found : is_none c.in_ok-role.role ≡ false = search rules in (
+      manages_one (revocation_managed org name) a b d settled (token_removed org name) Done (unchanged_stays a b role.1.0) (c.in_ok-remove_token.ensures.done clean).0
+          (λ t held. revocation_there org name t c.in_ok-role.role found (role.0 t held)),
+      tt,
+    )
