@@ -7,77 +7,77 @@ use Rattle.basis.specs.declared.roles.Role.TheVariants.{Write}
 use Rattle.serve.specs.declared.steps.Admin.TheVariants.{OrgAdd, OrgLimit, OrgList, TokenAdd, TokenRevoke}
 use Rattle.serve.specs.declared.steps.Step.TheVariants.{Request, Command}
 use Rattle.clap.proofs.OnLiterals.{clap_on_literals}
-use Rattle.program.specs.Frames.{frame_of}
+use Rattle.program.specs.Frames.{first_frame}
 use Rattle.program.specs.Orders.{carries, adds_token, serves, replays}
 use Rattle.program.specs.Secrets.{secret_in}
 use Rattle.program.specs.Words.{asked_in}
 
 -- an organization with the limit that it has at first, and what follows the line
-organization_added : frame_of (codes "at 1700000000 admin org-add acme\nat 5") ≡ Some (Command 1_700_000_000 (OrgAdd (codes "acme") 200), codes "at 5")
+organization_added : first_frame (codes "at 1700000000 admin org-add acme\nat 5") ≡ Some (Command 1_700_000_000 (OrgAdd (codes "acme") 200), codes "at 5")
 unfolding chars is_utf8 encode
 organization_added = refl
 
-limit_given : frame_of (codes "at 0 admin org-add a-1 100000\n") ≡ Some (Command 0 (OrgAdd (codes "a-1") 100_000), [])
+limit_given : first_frame (codes "at 0 admin org-add a-1 100000\n") ≡ Some (Command 0 (OrgAdd (codes "a-1") 100_000), [])
 unfolding chars is_utf8 encode
 limit_given = refl
 
-token_added : frame_of (codes "at 1 admin token-add acme ci write writewritewrite1\n")
+token_added : first_frame (codes "at 1 admin token-add acme ci write writewritewrite1\n")
     ≡ Some (Command 1 (TokenAdd (codes "acme") (codes "ci") Write (codes "writewritewrite1")), [])
 unfolding chars is_utf8 encode
 token_added = refl
 
 -- the operator's other commands
-limit_set : frame_of (codes "at 1 admin org-limit acme 1\n") ≡ Some (Command 1 (OrgLimit (codes "acme") 1), [])
+limit_set : first_frame (codes "at 1 admin org-limit acme 1\n") ≡ Some (Command 1 (OrgLimit (codes "acme") 1), [])
 unfolding chars is_utf8 encode
 limit_set = refl
 
-organizations_listed : frame_of (codes "at 1 admin org-list\n") ≡ Some (Command 1 OrgList, [])
+organizations_listed : first_frame (codes "at 1 admin org-list\n") ≡ Some (Command 1 OrgList, [])
 unfolding chars is_utf8 encode
 organizations_listed = refl
 
-token_revoked : frame_of (codes "at 1 admin token-revoke acme ci\n") ≡ Some (Command 1 (TokenRevoke (codes "acme") (codes "ci")), [])
+token_revoked : first_frame (codes "at 1 admin token-revoke acme ci\n") ≡ Some (Command 1 (TokenRevoke (codes "acme") (codes "ci")), [])
 unfolding chars is_utf8 encode
 token_revoked = refl
 
 -- a request of so many bytes, whatever they are, and the line feed behind them
-request_taken : frame_of (codes "at 253402300799 http 3\na\nb\n!") ≡ Some (Request 253_402_300_799 (codes "a\nb"), codes "!")
+request_taken : first_frame (codes "at 253402300799 http 3\na\nb\n!") ≡ Some (Request 253_402_300_799 (codes "a\nb"), codes "!")
 unfolding chars is_utf8 encode
 request_taken = refl
 
-no_bytes : frame_of (codes "at 7 http 0\n\n") ≡ Some (Request 7 [], [])
+no_bytes : first_frame (codes "at 7 http 0\n\n") ≡ Some (Request 7 [], [])
 unfolding chars is_utf8 encode
 no_bytes = refl
 
 -- bad ones: no line feed, a leading zero, two spaces, a moment too late, a byte too few, a word too many
-line_cut : frame_of (codes "at 1 admin org-add acme") ≡ None
+line_cut : first_frame (codes "at 1 admin org-add acme") ≡ None
 unfolding chars is_utf8 encode
 line_cut = refl
 
-leading_zero : frame_of (codes "at 01 admin org-add acme\n") ≡ None
+leading_zero : first_frame (codes "at 01 admin org-add acme\n") ≡ None
 unfolding chars is_utf8 encode
 leading_zero = refl
 
-two_spaces : frame_of (codes "at 1  admin org-add acme\n") ≡ None
+two_spaces : first_frame (codes "at 1  admin org-add acme\n") ≡ None
 unfolding chars is_utf8 encode
 two_spaces = refl
 
-too_late : frame_of (codes "at 253402300800 admin org-add acme\n") ≡ None
+too_late : first_frame (codes "at 253402300800 admin org-add acme\n") ≡ None
 unfolding chars is_utf8 encode
 too_late = refl
 
-byte_missing : frame_of (codes "at 1 http 3\nab\n") ≡ None
+byte_missing : first_frame (codes "at 1 http 3\nab\n") ≡ None
 unfolding chars is_utf8 encode
 byte_missing = refl
 
-word_too_many : frame_of (codes "at 1 admin org-add acme 1 2\n") ≡ None
+word_too_many : first_frame (codes "at 1 admin org-add acme 1 2\n") ≡ None
 unfolding chars is_utf8 encode
 word_too_many = refl
 
-limit_too_great : frame_of (codes "at 1 admin org-add acme 100001\n") ≡ None
+limit_too_great : first_frame (codes "at 1 admin org-add acme 100001\n") ≡ None
 unfolding chars is_utf8 encode
 limit_too_great = refl
 
-unknown_command : frame_of (codes "at 1 admin org-lists\n") ≡ None
+unknown_command : first_frame (codes "at 1 admin org-lists\n") ≡ None
 unfolding chars is_utf8 encode
 unknown_command = refl
 

@@ -1,15 +1,15 @@
 -- Frames one after another: one more, and no other reading.
 use Rattle.std.proofs.Common.{◌≡◌, ℕ, List, [], ◌∷◌, ◌++◌, Bool, true, false, Option, Some, None, refl, ap, subst, append_assoc, append-nil, nat_eq, length, sym, ◌∙◌, arith, ◌≢◌, eqb-true}
 use Rattle.serve.specs.declared.steps.Step.{Step}
-use Rattle.program.specs.Frames.{frame_of, Ends, AreFrames, IsOnlyReading}
+use Rattle.program.specs.Frames.{first_frame, Ends, AreFrames, IsOnlyReading}
 
 pub one_more : (bytes : List ℕ) (steps : List Step) (step : Step) (rest left : List ℕ)
     → ((more : List Step) (is_bad : Bool) → AreFrames rest more is_bad → AreFrames bytes (steps ++ more) is_bad)
-    → frame_of rest ≡ Some (step, left)
+    → first_frame rest ≡ Some (step, left)
     → (more : List Step) (is_bad : Bool) → AreFrames left more is_bad → AreFrames bytes ((steps ++ step ∷ []) ++ more) is_bad
 one_more bytes steps step rest left h e more is_bad k = rw append_assoc (h (step ∷ more) is_bad (left, e, k))
 
-no_frame : (bytes : List ℕ) (is_bad : Bool) → Ends bytes is_bad → frame_of bytes ≡ None
+no_frame : (bytes : List ℕ) (is_bad : Bool) → Ends bytes is_bad → first_frame bytes ≡ None
 no_frame bytes false h = rw h refl
 no_frame bytes true h = h.1
 
@@ -30,7 +30,7 @@ only_reading bytes [] is_bad h [] other g = (refl, same_end bytes is_bad other h
 only_reading bytes [] is_bad h (t ∷ others) other (left, f, g) = absurd (apart _ _ (no_frame bytes is_bad h) f)
 only_reading bytes (s ∷ steps) is_bad (rest, e, h) [] other g = absurd (apart _ _ (no_frame bytes other g) e)
 only_reading bytes (s ∷ steps) is_bad (rest, e, h) (t ∷ others) other (left, f, g) =
-    let pair = same_found (frame_of bytes) (s, rest) (t, left) e f in
+    let pair = same_found (first_frame bytes) (s, rest) (t, left) e f in
     let P : List ℕ → Type 0 = λ bs. AreFrames bs others other in
     let (tail, end) = only_reading rest steps is_bad h others other (subst P (ap (λ (p : Step × List ℕ). p.1) pair) g) in
     let head : t ≡ s = ap (λ (p : Step × List ℕ). p.0) pair in

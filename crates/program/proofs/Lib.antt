@@ -4,3 +4,5 @@ pub mod WordLemmas
 mod ReplayLemmas
 mod ServingLemmas
 mod OutcomeLemmas
+mod OutsideLemmas
+mod ErrorLemmas

@@ -6,11 +6,11 @@ use Rattle.serve.specs.Asks.{Ask, Owner, organization, unattributed, operator}
 use Rattle.serve.specs.Steps.{own_said}
 use Rattle.serve.specs.Service.{AreAsked, AreTexts, own_asks, replies_at}
 use Rattle.serve.specs.Runs.{IsOwnMachine, AreOwnReplies}
-use Rattle.program.specs.Replies.{no_rows, AreReplies}
+use Rattle.program.specs.Replies.{no_records, AreReplies}
 
 own_replies : (rows after : List ℕ → Option Organization) (asked : List Ask) (replies : List (List ℕ)) → ((org : List ℕ) → rows org ≡ None)
     → ((org : List ℕ) → IsOwnMachine org asked rows after replies) → AreOwnReplies asked rows replies unattributed → AreOwnReplies asked rows replies operator
-    → (owner : Owner) → AreOwnReplies asked no_rows replies owner
+    → (owner : Owner) → AreOwnReplies asked no_records replies owner
 own_replies rows after asked replies none some own_said_to lists unattributed = own_said_to
 own_replies rows after asked replies none some own_said_to lists operator = lists
 own_replies rows after asked replies none some own_said_to lists (organization org) =

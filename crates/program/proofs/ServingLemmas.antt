@@ -9,12 +9,20 @@ use Rattle.serve.specs.declared.steps.Step.{Step}
 use Rattle.serve.specs.declared.steps.Step.TheVariants.{Request, Command}
 use Rattle.serve.specs.Exchanges.{Exchanges, IsAnswered, IsServed, IsUnavailable}
 use Rattle.machine.specs.Ranges.{IsMoment}
-use Rattle.serve.specs.Service.{Stays, IsText, said_to}
+use Rattle.serve.specs.Service.{Stays, IsSaidText, IsListed, said_to}
 use Rattle.serve.specs.Inner.Taking.{IsTaken, IsTimely, RunsTo}
 use Rattle.serve.specs.Steps.{Said}
 use Rattle.serve.proofs.RunLemmas.{runs_none, runs_more}
-use Rattle.serve.proofs.TakenLemmas.{reading_timely}
-use Rattle.program.specs.Serving.{AreRequests, Serves}
+use Rattle.serve.proofs.TakenLemmas.{reading_timely, reading_listed}
+use Rattle.serve.specs.Asks.{Ask}
+use Rattle.machine.specs.declared.keeps.Keep as keep
+use Rattle.wire.specs.declared.devices.Inlet as inlet
+use Rattle.wire.specs.declared.devices.Outlet as outlet
+use Rattle.program.specs.declared.endings.Ending.{Ending}
+use Rattle.program.specs.declared.endings.Ending.TheVariants as ending
+use Rattle.program.specs.declared.outside.Connections as connections
+use Rattle.program.specs.declared.outside.Clock as clock
+use Rattle.program.specs.Serving.{AreRequests, Serves, State, Answers, AnswersAll, Listens, ListensAt}
 use Rattle.program.specs.Inner.Serving.{TakesOne, ServesTo}
 
 answered : (now : ℕ) (received : List ℕ) (old new : List ℕ → Option Organization) (awaited : Bool) (text : List ℕ) → IsMoment now → IsAnswered now received old new awaited text → TakesOne old new
@@ -27,10 +35,11 @@ answered now received old new awaited text moment (inl served) = inl (
     is = served.asks;
     timely = subst IsTimely (sym served.asks.is) (reading_timely now served.asks.reading moment);
     carries = served.carries;
-    text_is = subst (λ (s : Said). IsText s (continue_if awaited ++ text)) (sym served.said) (text, served.is, refl);
+    text_is = subst (λ (s : Said). IsSaidText s (continue_if awaited ++ text)) (sym served.said) (text, served.is, refl);
+    listed = subst (λ (a : Ask). IsListed old a (continue_if awaited ++ text)) (sym served.asks.is) (reading_listed now served.asks.reading old (continue_if awaited ++ text));
   },
 )
-answered now received old new awaited text moment (inr down) = inr down.stays
+answered now received old new awaited text moment (inr down) = inr down.1.stays
 
 -- one exchange takes at most one request
 pub taken_of : {T : Type 0} (now : ℕ) (received : List ℕ) (left : Option (List ℕ)) (old new : List ℕ → Option Organization) (before after : Option (List ℕ)) (res : Result T LinkFault)
@@ -75,6 +84,7 @@ serves_more count old mid new so_far (inr stays) = record {
     timely = so_far.run.timely;
     rows = λ org. stays org ∙ so_far.run.rows org;
     texts = so_far.run.texts;
+    listed = so_far.run.listed;
   };
 }
 
@@ -87,3 +97,23 @@ serves_of count most old new le so_far = record {
   are = so_far.run.are;
   rows = so_far.run.rows;
 }
+
+-- one connection more behind those that were answered
+module _ {K N C R W : Type 0} (k : keep.Ghosts K) (n : connections.Ghosts N R W) (c : clock.Ghosts C) (i : inlet.Ghosts R) (o : outlet.Ghosts W) where
+  pub answers_more : (moments : List ℕ) (at : ℕ) (old mid new : State N C K) → AnswersAll k n c i o moments old mid → Answers k n c i o at mid new → AnswersAll k n c i o (moments ++ at ∷ []) old new
+  answers_more [] at old mid new so_far one = (new, subst (λ (s : State N C K). Answers k n c i o at s new) so_far one, refl)
+  answers_more (m ∷ moments) at old mid new so_far one = (so_far.0, so_far.1, answers_more moments at so_far.0 mid new so_far.2 one)
+
+pub one_more : (moments : List ℕ) (at count : ℕ) → length moments ≡ count → length (moments ++ at ∷ []) ≡ count + 1
+one_more moments at count is = length-push moments at ∙ ap (λ n. n + 1) is
+
+-- where the port is known there is one
+pub listens_at : (port : ℕ) (e : Ending) (old new : Option (List ℕ)) → ListensAt port e old new → Listens e old new
+listens_at port ending.Done old new h = (port, h)
+listens_at port ending.Down old new h = inr (port, h)
+listens_at port ending.Unprinted old new h = tt
+listens_at port ending.Exists old new h = absurd h
+listens_at port ending.Absent old new h = absurd h
+listens_at port ending.Usage old new h = absurd h
+listens_at port ending.BadFrame old new h = absurd h
+listens_at port ending.Schema old new h = absurd h

@@ -15,12 +15,12 @@ status_of Down = 3
 status_of Unprinted = 3
 
 -- the line that says so, without its line feed
-abbrev pub line_of : Ending → List ℕ
-line_of Done = codes "ok"
-line_of Exists = codes "refused exists"
-line_of Absent = codes "refused absent"
-line_of Usage = codes "refused usage"
-line_of Schema = codes "refused schema"
-line_of Down = codes "refused down"
-line_of BadFrame = []
-line_of Unprinted = []
+abbrev pub ending_line : Ending → List ℕ
+ending_line Done = codes "ok"
+ending_line Exists = codes "refused exists"
+ending_line Absent = codes "refused absent"
+ending_line Usage = codes "refused usage"
+ending_line Schema = codes "refused schema"
+ending_line Down = codes "refused down"
+ending_line BadFrame = []
+ending_line Unprinted = []

@@ -5,7 +5,7 @@ use Rattle.serve.specs.declared.steps.Step.TheVariants.{Request as RequestStep, 
 use Rattle.program.specs.declared.headings.Heading.{Heading}
 use Rattle.program.specs.declared.headings.Heading.TheVariants.{Request, Command}
 use Rattle.program.specs.Headings.{heading_of}
-use Rattle.program.specs.Lines.{line_of, message_of, words_of}
+use Rattle.program.specs.Lines.{first_line, message_of, words_of}
 
 -- the step that a heading and the bytes after its line make, and the bytes after the frame
 abbrev pub step_of : Heading → List ℕ → Option (Step × List ℕ)
@@ -17,18 +17,18 @@ abbrev pub line_heading : List ℕ → Option Heading
 line_heading line = option_and_then heading_of (words_of line)
 
 -- the step of the first frame and the bytes after it; none where the bytes begin with no frame
-abbrev pub frame_of : List ℕ → Option (Step × List ℕ)
-frame_of bytes = option_and_then (λ found. option_and_then (λ heading. step_of heading found.1) (line_heading found.0)) (line_of bytes)
+abbrev pub first_frame : List ℕ → Option (Step × List ℕ)
+first_frame bytes = option_and_then (λ found. option_and_then (λ heading. step_of heading found.1) (line_heading found.0)) (first_line bytes)
 
 -- nothing stands at the end, or bytes that begin with no frame: a bad one
 abbrev pub Ends : List ℕ → Bool → Type 0
 Ends bytes false = bytes ≡ []
-Ends bytes true = (bytes ≢ []) × (frame_of bytes ≡ None)
+Ends bytes true = (bytes ≢ []) × (first_frame bytes ≡ None)
 
 -- the bytes are the frames of these steps, one after another, and a bad frame follows or none
 abbrev pub AreFrames : List ℕ → List Step → Bool → Type 0
 AreFrames bytes [] is_bad = Ends bytes is_bad
-AreFrames bytes (step ∷ steps) is_bad = (rest : List ℕ) × (frame_of bytes ≡ Some (step, rest)) × AreFrames rest steps is_bad
+AreFrames bytes (step ∷ steps) is_bad = (rest : List ℕ) × (first_frame bytes ≡ Some (step, rest)) × AreFrames rest steps is_bad
 
 -- no other steps, and no other end, can be read from the bytes
 abbrev pub IsOnlyReading : List ℕ → List Step → Bool → Type 0

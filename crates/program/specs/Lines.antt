@@ -9,8 +9,8 @@ abbrev pub parted : ℕ → List ℕ → List ℕ × List ℕ
 parted n bytes = (take n bytes, drop (suc n) bytes)
 
 -- the first line and what comes after its line feed (10); none without a line feed, or with more than 4,096 bytes before it
-abbrev pub line_of : List ℕ → Option (List ℕ × List ℕ)
-line_of bytes = option_and_then (λ n. cond (nat_le n 4096) (Some (parted n bytes)) None) (position (λ b. b == 10) bytes)
+abbrev pub first_line : List ℕ → Option (List ℕ × List ℕ)
+first_line bytes = option_and_then (λ n. cond (nat_le n 4096) (Some (parted n bytes)) None) (position (λ b. b == 10) bytes)
 
 -- so many bytes and what comes after the line feed (10) behind them; none where no line feed stands there
 abbrev pub message_of : ℕ → List ℕ → Option (List ℕ × List ℕ)

@@ -40,8 +40,8 @@ abbrev pub port_of : List ℕ → Option ℕ
 port_of word = option_and_then (within 1 65_535) (whole_of word)
 
 -- a number of connections: 1 to 1,000,000
-abbrev pub count_of : List ℕ → Option ℕ
-count_of word = option_and_then (within 1 1_000_000) (whole_of word)
+abbrev pub connections_of : List ℕ → Option ℕ
+connections_of word = option_and_then (within 1 1_000_000) (whole_of word)
 
 -- the limit that is given, or 200 where none is
 abbrev pub limit_or_first : Option (List ℕ) → Option ℕ
@@ -71,7 +71,7 @@ token_asked given =
 
 abbrev pub serving_asked : List ℕ → Given → Option Asked
 serving_asked db given =
-    option_and_then (λ port. option_map (λ count. serves db port count) (option_and_then count_of given.count)) (option_and_then port_of given.port)
+    option_and_then (λ port. option_map (λ count. serves db port count) (option_and_then connections_of given.count)) (option_and_then port_of given.port)
 
 -- a command on a file
 abbrev pub file_asked : List ℕ → List ℕ → Given → Option Asked
@@ -81,8 +81,8 @@ file_asked command db given =
     (option_map (λ c. carries db c) (command_in command given)))
 
 -- what a command of this name asks for with these values
-abbrev pub asked_of : List ℕ → Given → Option Asked
-asked_of command given =
+abbrev pub asked_with : List ℕ → Given → Option Asked
+asked_with command given =
     cond (bytes_eq command (codes "replay")) (Some replays) (option_and_then (λ db. file_asked command db given) given.db)
 
 -- the values of a command's arguments

@@ -1,8 +1,9 @@
--- What the program does for each kind of words: how it ends, and what stands on both streams then. Of a
--- stream that took not all that was to be printed nothing is said.
-use Rattle.std.specs.Prelude.{◌≡◌, ◌<◌, ◌⊎◌, ◌+◌, ◌++◌, ℕ, List, [], ◌∷◌, ⊤, Option, Some, None, IfSome, true, false, length, is_some}
+-- What the program does for each kind of words: how it ends, what stands on both streams then, and what lies at
+-- each path. Of a stream that took not all that was to be printed nothing is said.
+use Rattle.std.specs.Prelude.{◌≡◌, ◌≢◌, ◌<◌, ◌⊎◌, ◌+◌, ◌++◌, ℕ, List, [], ◌∷◌, ⊤, Option, Some, None, IfSome, true, false, length, is_some}
 use Rattle.std.specs.Io.KnownBytes.{Appends}
 use Rattle.std.specs.List.{flat_map}
+use Rattle.machine.specs.declared.keeps.Keep as keep
 use Rattle.machine.specs.declared.keeps.OrgRow.{OrgRow}
 use Rattle.serve.specs.declared.steps.Step.{Step}
 use Rattle.serve.specs.declared.steps.Admin.{Admin}
@@ -14,12 +15,19 @@ use Rattle.serve.specs.Asks.{commands}
 use Rattle.serve.specs.Service.{Carries as CarriesOut, IsAdminAnswer, Stays, org_line}
 use Rattle.program.specs.declared.endings.Ending.{Ending}
 use Rattle.program.specs.declared.endings.Ending.TheVariants as ending
-use Rattle.program.specs.Endings.{line_of}
+use Rattle.program.specs.Endings.{ending_line}
+use Rattle.program.specs.Errors.{GetsFront, GetsConnectionLines, log_line, secret_line}
 use Rattle.program.specs.Frames.{AreFrames}
+use Rattle.program.specs.declared.outside.Files as files
 use Rattle.program.specs.Orders.{Asked, carries, adds_token, serves, replays}
+use Rattle.program.specs.Paths.{AllStay, OthersStay}
 use Rattle.program.specs.Replies.{printed, bad_frame_text, answer_line, AreReplies, Replays}
 use Rattle.program.specs.Secrets.{secret_in}
-use Rattle.program.specs.Serving.{listening_line}
+use Rattle.program.specs.Serving.{listening_line, Serves, state, AnswersAtPort}
+use Rattle.program.specs.declared.outside.Clock as clock
+use Rattle.program.specs.declared.outside.Connections as connections
+use Rattle.wire.specs.declared.devices.Inlet as inlet
+use Rattle.wire.specs.declared.devices.Outlet as outlet
 use Rattle.program.specs.Words.{asked_in, AskForHelp, AreNoCommand}
 
 -- a stream: what it holds before and after
@@ -39,11 +47,11 @@ GetsSome stream = (text : List ℕ) × (0 < length text) × Gets stream text
 
 -- the line that says how the program ends
 abbrev pub Says : Ending → Stream → Type 0
-Says e output = Gets output (answer_line (line_of e))
+Says e output = Gets output (answer_line (ending_line e))
 
 -- the line of an ending was printed, or not all of it was taken
 abbrev pub IsSaid : Ending → Ending → Option (List ℕ) → Option (List ℕ) → Type 0
-IsSaid e result old new = ((result ≡ e) × Appends old new (answer_line (line_of e))) ⊎ (result ≡ ending.Unprinted)
+IsSaid e result old new = ((result ≡ e) × Appends old new (answer_line (ending_line e))) ⊎ (result ≡ ending.Unprinted)
 
 -- an answer of one line to an operator's command, or why there is none
 abbrev pub AnswersLine : Ending → Stream → Type 0
@@ -65,12 +73,12 @@ AnswersList ending.Unprinted output = ⊤
 AnswersList e output = ⊥
 
 -- an operator's command on a file
-abbrev pub Carries : Admin → Ending → Stream → Type 0
-Carries OrgList e output = AnswersList e output
-Carries (OrgAdd org limit) e output = AnswersLine e output
-Carries (OrgLimit org limit) e output = AnswersLine e output
-Carries (TokenAdd org name role secret) e output = AnswersLine e output
-Carries (TokenRevoke org name) e output = AnswersLine e output
+abbrev pub AnswersCommand : Admin → Ending → Stream → Type 0
+AnswersCommand OrgList e output = AnswersList e output
+AnswersCommand (OrgAdd org limit) e output = AnswersLine e output
+AnswersCommand (OrgLimit org limit) e output = AnswersLine e output
+AnswersCommand (TokenAdd org name role secret) e output = AnswersLine e output
+AnswersCommand (TokenRevoke org name) e output = AnswersLine e output
 
 -- the word of an answer is told; a list has none
 abbrev pub TellsWord : AdminAnswer → Ending → Stream → Type 0
@@ -85,18 +93,18 @@ TellsList (answer.Organizations rows) e output = ((e ≡ ending.Done) × Gets ou
 TellsList word e output = ⊤
 
 -- an answer to an operator's command is told
-abbrev pub Tells : Admin → AdminAnswer → Ending → Stream → Type 0
-Tells OrgList answer e output = TellsList answer e output
-Tells (OrgAdd org limit) answer e output = TellsWord answer e output
-Tells (OrgLimit org limit) answer e output = TellsWord answer e output
-Tells (TokenAdd org name role secret) answer e output = TellsWord answer e output
-Tells (TokenRevoke org name) answer e output = TellsWord answer e output
+abbrev pub TellsAnswer : Admin → AdminAnswer → Ending → Stream → Type 0
+TellsAnswer OrgList answer e output = TellsList answer e output
+TellsAnswer (OrgAdd org limit) answer e output = TellsWord answer e output
+TellsAnswer (OrgLimit org limit) answer e output = TellsWord answer e output
+TellsAnswer (TokenAdd org name role secret) answer e output = TellsWord answer e output
+TellsAnswer (TokenRevoke org name) answer e output = TellsWord answer e output
 
 -- an operator's command was carried out, each record as the machine leaves it, and its answer by the records before was
 -- told; or memory or the store refused, and no record changed
 abbrev pub IsOperated : Admin → (List ℕ → Option Organization) → (List ℕ → Option Organization) → Ending → Stream → Type 0
 IsOperated command old new e output =
-    ((answer : AdminAnswer) × (at : ℕ) × CarriesOut (commands at command) old new × IsAdminAnswer old command answer × Tells command answer e output)
+    ((answer : AdminAnswer) × (at : ℕ) × CarriesOut (commands at command) old new × IsAdminAnswer old command answer × TellsAnswer command answer e output)
     ⊎ (Stays old new × IsSaid ending.Down e output.old output.new)
 
 -- `refused usage` on the standard output, and why on the error stream
@@ -127,7 +135,7 @@ AddsToken input e output errors =
 abbrev pub ServesAt : Ending → Stream → Type 0
 ServesAt ending.Done output = (port : ℕ) × Gets output (listening_line port)
 ServesAt ending.Schema output = Says ending.Schema output
-ServesAt ending.Down output = Says ending.Down output ⊎ ((port : ℕ) × Gets output (listening_line port ++ answer_line (line_of ending.Down)))
+ServesAt ending.Down output = Says ending.Down output ⊎ ((port : ℕ) × Gets output (listening_line port ++ answer_line (ending_line ending.Down)))
 ServesAt ending.Unprinted output = ⊤
 ServesAt e output = ⊥
 
@@ -146,7 +154,7 @@ ReplaysFrames input e output errors = ⊥
 
 -- what is asked for is done, or it is said why not
 abbrev pub Does : Asked → Option (List ℕ) → Ending → Stream → Stream → Type 0
-Does (carries db command) input e output errors = Carries command e output
+Does (carries db command) input e output errors = AnswersCommand command e output
 Does (adds_token db org name role) input e output errors = AddsToken input e output errors
 Does (serves db port count) input e output errors = ServesAt e output
 Does replays input e output errors = ReplaysFrames input e output errors
@@ -160,7 +168,95 @@ RefusesWords words ending.Down output errors = Says ending.Down output
 RefusesWords words ending.Unprinted output errors = ⊤
 RefusesWords words e output errors = ⊥
 
--- the program by its words
-abbrev pub Runs : List (List ℕ) → Option (List ℕ) → Ending → Stream → Stream → Type 0
-Runs words input e output errors =
+-- what is printed, by the words
+abbrev pub Prints : List (List ℕ) → Option (List ℕ) → Ending → Stream → Stream → Type 0
+Prints words input e output errors =
     ((asked : Asked) × (asked_in words ≡ Some asked) × Does asked input e output errors) ⊎ RefusesWords words e output errors
+
+-- the input is known, and this is its secret
+abbrev pub IsSecretOf : Option (List ℕ) → List ℕ → Type 0
+IsSecretOf input secret = IfSome input (λ bytes. secret_in bytes ≡ Some secret)
+
+-- the log of a file is copied into it, or the error stream is told that it stays beside it
+abbrev pub TellsOfLog : Type 0 → Stream → Type 0
+TellsOfLog IsCopied errors = (IsCopied × (errors.new ≡ errors.old)) ⊎ GetsFront errors.old errors.new log_line
+
+module _ {K F : Type 0} (k : keep.Ghosts K) (f : files.Ghosts F K) where
+  -- what lies at a path isn't opened, and at each path all stays: memory or the store refuses, or it is of another schema
+  abbrev pub RefusesToOpen : List ℕ → F → F → Ending → Stream → Stream → Type 0
+  RefusesToOpen path old new e output errors =
+      AllStay f.holds old new × (errors.new ≡ errors.old) × (IsSaid ending.Down e output.old output.new ⊎ (f.is_other old path × IsSaid ending.Schema e output.old output.new))
+
+  -- an operator's command was carried out on what lay at a path; what that left lies there now, and nothing else changed
+  pub record Operates (path : List ℕ) (command : Admin) (old new : F) (e : Ending) (output errors : Stream) : Type 0 where
+    pub before : K
+    pub after : K
+    pub found : f.holds old path before
+    pub left : f.holds new path after
+    pub others : OthersStay f.holds path old new
+    pub so_far : k.clean after → k.clean before
+    pub kept : k.clean after → k.sound before → k.sound after
+    pub model : k.clean after → k.sound before → IsOperated command (k.rows before) (k.rows after) e output
+    pub log : TellsOfLog (f.copied new path after) errors
+
+  abbrev pub OperatesAt : List ℕ → Admin → F → F → Ending → Stream → Stream → Type 0
+  OperatesAt path command old new e output errors = Operates path command old new e output errors ⊎ RefusesToOpen path old new e output errors
+
+  -- a token is added at a path with the secret of the input; or there is none, or it isn't read, and nothing changes
+  abbrev pub AddsTokenAt : List ℕ → (List ℕ → Admin) → Option (List ℕ) → F → F → Ending → Stream → Stream → Type 0
+  AddsTokenAt path adding input old new e output errors =
+      ((secret : List ℕ) × IsSecretOf input secret × OperatesAt path (adding secret) old new e output errors)
+      ⊎ (AllStay f.holds old new × ((HasNoSecret input × RefusesUsage e output errors × GetsFront errors.old errors.new secret_line)
+      ⊎ (RefusesDown e output × (errors.new ≡ errors.old))))
+
+-- what the program stands on besides its streams
+pub record Outside (F N C : Type 0) : Type 0 where
+  pub files : F
+  pub network : N
+  pub clock : C
+
+abbrev pub outside : {F N C : Type 0} → F → N → C → Outside F N C
+outside files network clock = record { files = files; network = network; clock = clock }
+
+-- neither the network nor the clock is used
+abbrev pub IsAlone : {F N C : Type 0} → Outside F N C → Outside F N C → Type 0
+IsAlone old new = (new.network ≡ old.network) × (new.clock ≡ old.clock)
+
+-- `refused down` is printed where serving ended so, and nothing more where it didn't
+abbrev pub SaysServed : Ending → Ending → Option (List ℕ) → Option (List ℕ) → Type 0
+SaysServed served e old new =
+    ((served ≡ ending.Down) × IsSaid ending.Down e old new) ⊎ ((served ≢ ending.Down) × (e ≡ served) × (new ≡ old))
+
+module _ {K F N C R W : Type 0} (k : keep.Ghosts K) (f : files.Ghosts F K) (n : connections.Ghosts N R W) (c : clock.Ghosts C) (i : inlet.Ghosts R) (o : outlet.Ghosts W) where
+  -- connections are answered from what lay at a path; what they left lies there now, and nothing else changed
+  pub record ServesFrom (path : List ℕ) (port count : ℕ) (old new : Outside F N C) (e : Ending) (output errors : Stream) : Type 0 where
+    pub before : K
+    pub after : K
+    pub found : f.holds old.files path before
+    pub left : f.holds new.files path after
+    pub others : OthersStay f.holds path old.files new.files
+    pub so_far : k.clean after → k.clean before
+    pub kept : k.clean after → k.sound before → k.sound after
+    pub serves : k.clean after → k.sound before → Serves count (k.rows before) (k.rows after)
+    pub served : Ending
+    pub told : Option (List ℕ)
+    pub answers : AnswersAtPort k n c i o port count (state old.network old.clock before) (state new.network new.clock after) served output.old told
+    pub says : SaysServed served e told output.new
+    pub lines : Option (List ℕ)
+    pub tells : GetsConnectionLines errors.old lines
+    pub log : TellsOfLog (f.copied new.files path after) (stream lines errors.new)
+
+  -- what is asked for is done to what lies at its path, and to nothing else
+  abbrev pub Leaves : Asked → Option (List ℕ) → Outside F N C → Outside F N C → Ending → Stream → Stream → Type 0
+  Leaves (carries db command) input old new e output errors = OperatesAt k f db command old.files new.files e output errors × IsAlone old new
+  Leaves (adds_token db org name role) input old new e output errors =
+      AddsTokenAt k f db (TokenAdd org name role) input old.files new.files e output errors × IsAlone old new
+  Leaves (serves db port count) input old new e output errors =
+      ServesFrom db port count old new e output errors ⊎ (RefusesToOpen k f db old.files new.files e output errors × IsAlone old new)
+  Leaves replays input old new e output errors = new ≡ old
+
+  -- the program by its words: how it ends, what is printed, and what the program stands on before and after
+  pub record Runs (words : List (List ℕ)) (input : Option (List ℕ)) (old new : Outside F N C) (e : Ending) (output errors : Stream) : Type 0 where
+    pub prints : Prints words input e output errors
+    pub leaves : ((asked : Asked) × (asked_in words ≡ Some asked) × Leaves asked input old new e output errors)
+        ⊎ (RefusesWords words e output errors × (new ≡ old))

@@ -27,14 +27,14 @@ abbrev pub answer_line : List ℕ → List ℕ
 answer_line words = words ++ 10 ∷ []
 
 -- no organization is there
-abbrev pub no_rows : List ℕ → Option Organization
-no_rows org = None
+abbrev pub no_records : List ℕ → Option Organization
+no_records org = None
 
 -- the replies to these steps over an empty store: one for each, and at the places of the steps of an
 -- organization, and of nobody, those that its own machine says; the operator's are lists
 pub record AreReplies (steps : List Step) (replies : List (List ℕ)) : Type 0 where
   pub one_each : length replies ≡ length steps
-  pub own : (asked : List Ask) → AreAsked steps asked → (owner : Owner) → AreOwnReplies asked no_rows replies owner
+  pub own : (asked : List Ask) → AreAsked steps asked → (owner : Owner) → AreOwnReplies asked no_records replies owner
 
 -- the replies to the frames of the bytes, and the place of the bad frame behind them, counted from 1
 abbrev pub AnswersFrames : List ℕ → List (List ℕ) → Option ℕ → Type 0

@@ -1,7 +1,7 @@
 -- The secret of a new token, on standard input.
 use Rattle.std.specs.Prelude.{ℕ, List, [], ◌∷◌, Option, Some, None, cond, option_and_then}
 use Rattle.basis.specs.Names.{is_secret}
-use Rattle.program.specs.Lines.{line_of, text_of}
+use Rattle.program.specs.Lines.{first_line, text_of}
 
 -- a line, where nothing follows its line feed
 abbrev pub alone : List ℕ × List ℕ → Option (List ℕ)
@@ -14,7 +14,7 @@ line_or_all bytes (Some found) = alone found
 line_or_all bytes None = Some bytes
 
 abbrev pub only_line : List ℕ → Option (List ℕ)
-only_line bytes = line_or_all bytes (line_of bytes)
+only_line bytes = line_or_all bytes (first_line bytes)
 
 -- a text that is a secret
 abbrev pub if_secret : List ℕ → Option (List ℕ)

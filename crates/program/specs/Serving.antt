@@ -1,16 +1,23 @@
--- The loop of `serve`: what it prints, and the records that it leaves.
-use Rattle.std.specs.Prelude.{◌≡◌, ◌≤◌, ℕ, List, [], ◌∷◌, ◌++◌, ◌⊎◌, ⊤, Bool, true, false, Option, Result, Ok, Err, codes, decimal, length}
-use Rattle.std.specs.Io.KnownBytes.{Appends}
+-- The loop of `serve`: what it prints, the connections that it answers, and the records that it leaves.
+use Rattle.std.specs.Prelude.{◌≡◌, ◌<◌, ◌≤◌, ℕ, List, [], ◌∷◌, ◌++◌, ◌⊎◌, ⊤, Bool, true, false, Option, Some, None, Result, Ok, Err, codes, decimal, length}
+use Rattle.std.specs.Io.KnownBytes.{Appends, Consumes}
+use Rattle.basis.specs.declared.memory.Down.{Down}
+use Rattle.machine.specs.declared.keeps.Keep as keep
 use Rattle.machine.specs.declared.records.Organization.{Organization}
 use Rattle.serve.specs.declared.exchanges.LinkFault.{LinkFault}
 use Rattle.serve.specs.declared.exchanges.LinkFault.TheVariants.{Ended, Read, Continue, Write}
 use Rattle.serve.specs.declared.steps.Step.{Step}
 use Rattle.serve.specs.declared.steps.Step.TheVariants.{Request, Command}
 use Rattle.serve.specs.Asks.{Ask}
+use Rattle.serve.specs.Exchanges.{Exchanges}
 use Rattle.serve.specs.Service.{AreAsked}
 use Rattle.serve.specs.Runs.{IsOwnRecord}
 use Rattle.program.specs.declared.endings.Ending.{Ending}
 use Rattle.program.specs.declared.endings.Ending.TheVariants as ending
+use Rattle.program.specs.declared.outside.Connections as connections
+use Rattle.program.specs.declared.outside.Clock as clock
+use Rattle.wire.specs.declared.devices.Inlet as inlet
+use Rattle.wire.specs.declared.devices.Outlet as outlet
 
 -- `listening 127.0.0.1:PORT` and a line feed (10)
 abbrev pub listening_line : ℕ → List ℕ
@@ -23,6 +30,78 @@ Listens ending.Done old new = (port : ℕ) × Appends old new (listening_line po
 Listens ending.Down old new = (new ≡ old) ⊎ ((port : ℕ) × Appends old new (listening_line port))
 Listens ending.Unprinted old new = ⊤
 Listens other old new = ⊥
+
+-- the same, where the port is known
+abbrev pub ListensAt : ℕ → Ending → Option (List ℕ) → Option (List ℕ) → Type 0
+ListensAt port ending.Done old new = Appends old new (listening_line port)
+ListensAt port ending.Down old new = Appends old new (listening_line port)
+ListensAt port ending.Unprinted old new = ⊤
+ListensAt port other old new = ⊥
+
+-- the address that is listened at: 127.0.0.1
+abbrev pub loopback : List ℕ
+loopback = 127 ∷ 0 ∷ 0 ∷ 1 ∷ []
+
+-- the network, the clock and the store, between two connections
+pub record State (N C K : Type 0) : Type 0 where
+  pub network : N
+  pub clock : C
+  pub store : K
+
+abbrev pub state : {N C K : Type 0} → N → C → K → State N C K
+state network clock store = record { network = network; clock = clock; store = store }
+
+-- no connection is accepted, or the clock tells no moment for it: the network and the clock before and after
+abbrev pub AcceptsNone : {N C R W : Type 0} → connections.Ghosts N R W → clock.Ghosts C → N → N → C → C → Type 0
+AcceptsNone {N} {C} {R} {W} n c network network' clock clock' =
+    ((refused : Down) × n.accepts network (Err refused) network' × (clock' ≡ clock))
+    ⊎ ((reader : R) × (writer : W) × n.accepts network (Ok (reader, writer)) network' × c.tells clock None clock')
+
+module _ {K N R W : Type 0} (k : keep.Ghosts K) (n : connections.Ghosts N R W) (i : inlet.Ghosts R) (o : outlet.Ghosts W) where
+  -- a connection with these two sides is answered by one exchange at this moment, and ended: the network and the store
+  -- before and after
+  pub record AnswersOne (at : ℕ) (reader : R) (writer : W) (network network' : N) (store store' : K) : Type 0 where
+    pub read : R
+    pub written : W
+    pub result : Result (Unit {0}) LinkFault
+    pub so_far : k.clean store' → k.clean store
+    pub kept : k.clean store' → k.sound store → k.sound store'
+    pub exchanges : k.clean store' → k.sound store → (received : List ℕ) × Consumes (i.left reader) (i.left read) received
+        × Exchanges at received (i.left read) (k.rows store) (k.rows store') (o.written writer) (o.written written) result
+    pub ends : n.ends network read written network'
+
+module _ {K N C R W : Type 0} (k : keep.Ghosts K) (n : connections.Ghosts N R W) (c : clock.Ghosts C) (i : inlet.Ghosts R) (o : outlet.Ghosts W) where
+  -- a connection is accepted, the clock tells this moment, and the connection is answered
+  pub record Answers (at : ℕ) (old new : State N C K) : Type 0 where
+    pub reader : R
+    pub writer : W
+    pub network : N
+    pub accepts : n.accepts old.network (Ok (reader, writer)) network
+    pub tells : c.tells old.clock (Some at) new.clock
+    pub answers : AnswersOne k n i o at reader writer network new.network old.store new.store
+
+  -- connections are answered in turn, one at each of these moments
+  abbrev pub AnswersAll : List ℕ → State N C K → State N C K → Type 0
+  AnswersAll [] old new = new ≡ old
+  AnswersAll (at ∷ moments) old new = (mid : State N C K) × Answers at old mid × AnswersAll moments mid new
+
+  -- so many connections are answered; or fewer, since no further one is accepted; or none, where the line wasn't printed
+  abbrev pub AnswersCount : ℕ → State N C K → State N C K → Ending → Type 0
+  AnswersCount count old new ending.Done = (moments : List ℕ) × (length moments ≡ count) × AnswersAll moments old new
+  AnswersCount count old new ending.Down =
+      (moments : List ℕ) × (last : State N C K) × (length moments < count) × AnswersAll moments old last
+      × AcceptsNone n c last.network new.network last.clock new.clock × (new.store ≡ last.store)
+  AnswersCount count old new ending.Unprinted = new ≡ old
+  AnswersCount count old new other = ⊥
+
+  -- the loopback address is bound at a port, and nothing else is; the port that it gave is told, and so many connections
+  -- are answered; or it can't be bound
+  abbrev pub AnswersAtPort : ℕ → ℕ → State N C K → State N C K → Ending → Option (List ℕ) → Option (List ℕ) → Type 0
+  AnswersAtPort port count old new e before after =
+      ((bound : N) × (given : ℕ) × n.binds old.network loopback port (Ok given) bound
+      × AnswersCount count (state bound old.clock old.store) new e × ListensAt given e before after)
+      ⊎ ((refused : Down) × n.binds old.network loopback port (Err refused) new.network
+      × (new.clock ≡ old.clock) × (new.store ≡ old.store) × (e ≡ ending.Down) × (after ≡ before))
 
 -- every step is a request
 abbrev pub AreRequests : List Step → Type 0

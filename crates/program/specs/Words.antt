@@ -10,7 +10,7 @@ use Rattle.clap.specs.declared.error.kind.ErrorKind.{ErrorKind}
 use Rattle.clap.specs.declared.error.kind.ErrorKind.TheVariants as kind
 use Rattle.program.specs.declared.words.Unasked.{Unasked}
 use Rattle.program.specs.declared.words.Unasked.TheVariants.{Help, Words, Value, Down}
-use Rattle.program.specs.Orders.{Asked, asked_of, given_in}
+use Rattle.program.specs.Orders.{Asked, asked_with, given_in}
 
 -- the bytes of each word
 abbrev pub words_bytes : List (String Global) → List (List ℕ)
@@ -95,12 +95,12 @@ abbrev pub faults : List (List ℕ) → List ErrorKind
 faults words = fault_of custody words
 
 -- what the command and the values that `clap` finds ask for
-abbrev pub asked_by : Option (Text × List Row) → Option Asked
-asked_by found = option_and_then (λ f. asked_of f.0 (given_in f.1)) found
+abbrev pub asked_by_command : Option (Text × List Row) → Option Asked
+asked_by_command found = option_and_then (λ f. asked_with f.0 (given_in f.1)) found
 
 -- what the words ask for; nothing where they aren't those of a command, or a value isn't of its form
 abbrev pub asked_in : List (List ℕ) → Option Asked
-asked_in words = cond (is_empty (faults words)) (asked_by (subcommand_of custody words)) None
+asked_in words = cond (is_empty (faults words)) (asked_by_command (subcommand_of custody words)) None
 
 -- help is asked for
 abbrev pub AskForHelp : List (List ℕ) → Type 0

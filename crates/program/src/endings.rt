@@ -1,7 +1,7 @@
 //! How the program ends: its exit status, and the line that says so.
 
 ghost use Rattle.std.specs.Prelude.{◌≡◌, ◌≢◌};
-ghost use Rattle.program.specs.Endings.{status_of, line_of};
+ghost use Rattle.program.specs.Endings.{status_of, ending_line};
 
 use std::io::ErrorKind;
 
@@ -41,7 +41,7 @@ impl Ending {
 
     /// The line on standard output that says so, without its line feed; where none is due it is empty.
     pub fn line(self) -> &'static str
-        ensures { result.now ≡ line_of self }
+        ensures { result.now ≡ ending_line self }
     {
         match self {
             Ending::Done => "ok",

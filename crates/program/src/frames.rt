@@ -1,6 +1,6 @@
 //! Frames of standard input, one after another.
 ghost use Rattle.std.specs.Prelude.{◌≡◌, ◌<◌, ◌≤◌, length, Some, None, IfOk, IsErrOf};
-ghost use Rattle.program.specs.Frames.{step_of, line_heading, frame_of, AreFrames, IsOnlyReading};
+ghost use Rattle.program.specs.Frames.{step_of, line_heading, first_frame, AreFrames, IsOnlyReading};
 
 use crate::headings::Heading;
 use crate::lines::{split_line, split_message, split_words};
@@ -42,8 +42,8 @@ fn read_step(alloc: Global, heading: Heading, rest: &[u8]) -> Result<(Step, &[u8
 }
 
 fn read_frame(alloc: Global, bytes: &[u8]) -> Result<(Step, &[u8]), Unfit>
-    ensures ok { IfOk result (λ found. frame_of bytes.now ≡ Some (found.0, found.1.now)) }
-    ensures syntax { IsErrOf result Unfit.Syntax → frame_of bytes.now ≡ None }
+    ensures ok { IfOk result (λ found. first_frame bytes.now ≡ Some (found.0, found.1.now)) }
+    ensures syntax { IsErrOf result Unfit.Syntax → first_frame bytes.now ≡ None }
     ensures shorter { IfOk result (λ found. length found.1.now < length bytes.now) }
 {
     let Some((line, rest)) = split_line(bytes) else {

@@ -3,6 +3,7 @@
 
 mod commands;
 pub mod endings;
+mod errors;
 pub mod frames;
 pub mod headings;
 pub mod lines;

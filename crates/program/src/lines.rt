@@ -1,6 +1,6 @@
 //! Lines, the words of a line, and messages whose length is known.
 ghost use Rattle.std.specs.Prelude.{◌≡◌, ◌<◌, ◌==◌, ℕ, List, length, map, take, drop, suc, position, Some, None, IfSome, IfOk, IsErrOf, option_map};
-ghost use Rattle.program.specs.Lines.{line_of, message_of, text_of, words_in, words_of, bytes_of};
+ghost use Rattle.program.specs.Lines.{first_line, message_of, text_of, words_in, words_of, bytes_of};
 
 use basis::Unfit;
 use std::alloc::{AllocError, Global};
@@ -26,7 +26,7 @@ fn line_end(bytes: &[u8]) -> Option<usize>
 
 /// The first line and what comes after its line feed.
 pub fn split_line(bytes: &[u8]) -> Option<(&[u8], &[u8])>
-    ensures parts { option_map (λ found. (found.0.now, found.1.now)) result ≡ line_of bytes.now }
+    ensures parts { option_map (λ found. (found.0.now, found.1.now)) result ≡ first_line bytes.now }
     ensures shorter { IfSome result (λ found. length found.1.now < length bytes.now) }
 {
     match line_end(bytes) {

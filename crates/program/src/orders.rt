@@ -2,7 +2,7 @@
 ghost use Rattle.std.specs.Prelude.{◌≡◌, ◌≤◌, ℕ, List, Option, Some, None, IfOk, IsErrOf, option_map, option_copied, option_and_then, IfSome};
 ghost use Rattle.basis.specs.Numbers.{whole_of, within};
 ghost use Rattle.clap.specs.Words.{found_of, first_value};
-ghost use Rattle.program.specs.Orders.{limit_or_first, command_on, command_in, token_in, token_asked, serving_asked, file_asked, asked_of, given_found, given_of, text_in, said_by, with_secret, port_of, count_of, carries};
+ghost use Rattle.program.specs.Orders.{limit_or_first, command_on, command_in, token_in, token_asked, serving_asked, file_asked, asked_with, given_found, given_of, text_in, said_by, with_secret, port_of, connections_of, carries};
 ghost use Rattle.program.specs.Commands.{limit_of, limit_command, revoke_command};
 
 use crate::commands;
@@ -178,7 +178,7 @@ fn port_of(value: Option<&str>) -> Option<u16>
 }
 
 fn count_of(value: Option<&str>) -> Option<u32>
-    ensures { result ≡ option_and_then count_of (text_in value.entry) }
+    ensures { result ≡ option_and_then connections_of (text_in value.entry) }
 {
     let number = number_up_to(value?, MAX_COUNT)?;
     Some(number as u32)
@@ -229,8 +229,8 @@ fn on_file<'a>(
 impl<'a> Order<'a> {
     /// What a command of this name asks for with these values.
     pub fn read(alloc: Global, command: &str, values: &Values<'a>) -> Result<Order<'a>, Unfit>
-        ensures ok { IfOk result (λ order. asked_of command.now (given_of values.now) ≡ Some (said_by order)) }
-        ensures syntax { IsErrOf result Unfit.Syntax → asked_of command.now (given_of values.now) ≡ None }
+        ensures ok { IfOk result (λ order. asked_with command.now (given_of values.now) ≡ Some (said_by order)) }
+        ensures syntax { IsErrOf result Unfit.Syntax → asked_with command.now (given_of values.now) ≡ None }
     {
         if command == "replay" {
             return Ok(Order::Replay);

@@ -1,5 +1,8 @@
 //! What the program stands on besides its streams: files of databases, connections and a clock.
-ghost use Rattle.std.specs.Prelude.{◌≡◌, ℕ, List, false, IfOk};
+ghost use Rattle.std.specs.Prelude.{◌≡◌, ℕ, List, Option, Result, false, IfOk, OnOk, OnErr, IsErrOf};
+ghost use Rattle.std.specs.Net.Addr.{ipv4_octets};
+ghost use Rattle.basis.specs.declared.memory.Down.{Down as AnyDown};
+ghost use Rattle.program.specs.Paths.{AllStay, OthersStay};
 
 use basis::{Down, Moment};
 use std::net::Ipv4Addr;
@@ -8,16 +11,28 @@ use wire::{Inlet, Outlet};
 
 /// Where databases lie, each by its path; a database that was opened is a `K`.
 pub trait Files<K> {
-    // What a store has that was opened at a path.
-    ghost opens: { Self → List ℕ → K → Type 0 };
+    // What a store has is what lies at a path: in its file, and in the log beside it.
+    ghost holds: { Self → List ℕ → K → Type 0 };
+
+    // And all of it lies in the file alone, the log copied into it.
+    ghost copied: { Self → List ℕ → K → Type 0 };
+
+    // A database of another schema lies at a path.
+    ghost is_other: { Self → List ℕ → Type 0 };
 
     /// Opens the store of a path. A database that isn't there is made, with no organization; one of
     /// another schema stays as it is.
     fn open(&mut self, path: &str) -> Result<K, Fault>
-        ensures opened { IfOk result (λ store. opens self.old path.now store) };
+        ensures opened { IfOk result (λ store. holds self.old path.now store) }
+        ensures others { OthersStay holds path.now self.old self.new }
+        ensures refused { OnErr result (AllStay holds self.old self.new) }
+        ensures schema { IsErrOf result Fault.Schema → is_other self.old path.now };
 
-    /// Closes the store that was opened at a path. After an error all that was committed stays.
-    fn close(&mut self, path: &str, store: K) -> Result<(), Down>;
+    /// Closes a store: what it has lies at the path then. After an error its log stays beside the file.
+    fn close(&mut self, path: &str, store: K) -> Result<(), Down>
+        ensures closed { holds self.new path.now store }
+        ensures copied { OnOk result (copied self.new path.now store) }
+        ensures others { OthersStay holds path.now self.old self.new };
 }
 
 /// What peers connect to; each connection is a reader and a writer.
@@ -26,19 +41,35 @@ pub trait Connections {
 
     type Writer: Outlet + Drop;
 
+    // What binds the octets of an address, and a port: the network before, the result, the network after.
+    ghost binds: { Self → List ℕ → ℕ → Result ℕ AnyDown → Self → Type 0 };
+
+    // What accepts a connection: the network before, its two sides or none, the network after.
+    ghost accepts: { Self → Result (Self.Reader × Self.Writer) AnyDown → Self → Type 0 };
+
+    // What ends a connection, its two sides as they are left.
+    ghost ends: { Self → Self.Reader → Self.Writer → Self → Type 0 };
+
     /// Listens at an address and a port, and gives the port that is listened at.
-    fn bind(&mut self, address: Ipv4Addr, port: u16) -> Result<u16, Down>;
+    fn bind(&mut self, address: Ipv4Addr, port: u16) -> Result<u16, Down>
+        ensures { binds self.old (ipv4_octets address) port result self.new };
 
     /// The next connection. Neither side of it has failed.
     fn accept(&mut self) -> Result<(Self::Reader, Self::Writer), Down>
-        ensures { IfOk result (λ sides. (Self.Reader.broken sides.0 ≡ false) × (Self.Writer.broken sides.1 ≡ false)) };
+        ensures sound { IfOk result (λ sides. (Self.Reader.broken sides.0 ≡ false) × (Self.Writer.broken sides.1 ≡ false)) }
+        ensures accepted { accepts self.old result self.new };
 
     /// Ends a connection, and lets the peer read its reply.
-    fn finish(&mut self, reader: Self::Reader, writer: Self::Writer);
+    fn finish(&mut self, reader: Self::Reader, writer: Self::Writer)
+        ensures { ends self.old reader writer self.new };
 }
 
 /// What tells the moment.
 pub trait Clock {
+    // What tells a moment, or none: the clock before and after.
+    ghost tells: { Self → Option ℕ → Self → Type 0 };
+
     /// The moment, unless it can't be read or is out of range.
-    fn now(&mut self) -> Option<Moment>;
+    fn now(&mut self) -> Option<Moment>
+        ensures { tells self.old result self.new };
 }

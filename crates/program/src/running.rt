@@ -1,15 +1,18 @@
 //! The program's commands, from its words to its exit status.
-ghost use Rattle.std.specs.Prelude.{◌≡◌, ◌≢◌, ◌<◌, ℕ, List, length, string_bytes, IfOk, OnOk, OnErr, Some, None};
+ghost use Rattle.std.specs.Prelude.{◌≡◌, ◌≢◌, ◌<◌, ◌⊎◌, ℕ, List, length, string_bytes, IfOk, OnOk, OnErr, Some, None};
 ghost use Rattle.std.specs.Io.KnownBytes.{Appends};
 ghost use Rattle.program.specs.Endings.{status_of};
-ghost use Rattle.program.specs.Orders.{said_by};
-ghost use Rattle.program.specs.Outcomes.{stream, IsSaid, AnswersLine, AnswersList, TellsWord, TellsList, Tells, IsOperated, Carries, RefusesUsage, AddsToken, ServesAt, Does, RefusesWords, Runs};
+ghost use Rattle.program.specs.Errors.{GetsFront, GetsConnectionLines};
+ghost use Rattle.program.specs.Orders.{said_by, with_secret};
+ghost use Rattle.program.specs.Outcomes.{stream, IsSaid, AnswersLine, AnswersList, TellsWord, TellsList, TellsAnswer, IsOperated, AnswersCommand, RefusesUsage, AddsToken, ServesAt, Does, RefusesWords, Prints, OperatesAt, AddsTokenAt, ServesFrom, RefusesToOpen, outside, IsAlone, SaysServed, TellsOfLog, Leaves, Runs};
 ghost use Rattle.program.specs.Inner.Outcomes.{IsSaidWhy};
-ghost use Rattle.program.specs.Serving.{Listens};
+ghost use Rattle.program.specs.Paths.{AllStay, OthersStay};
+ghost use Rattle.program.specs.Serving.{Listens, Serves, state, AnswersAtPort};
 ghost use Rattle.program.specs.Words.{words_bytes, IsWhy, AskForHelp, AreNoCommand};
 ghost use Rattle.program.specs.declared.endings.Ending.{Ending};
 
 use crate::endings::Ending;
+use crate::errors::write_text;
 use crate::orders::{NewToken, Order};
 use crate::outside::{Clock, Connections, Files};
 use crate::replays::{read_all, replay_frames};
@@ -40,15 +43,19 @@ const LOG_STAYS: &str =
     "custody: the log could not be copied into the file: keep the file and its log together\n";
 
 fn note<E: Write>(errors: &mut E, text: &str) -> io::Result<()>
-    ensures { OnOk result (Appends (E.contents errors.old) (E.contents errors.new) text.now) }
+    ensures whole { OnOk result (Appends (E.contents errors.old) (E.contents errors.new) text.now) }
+    ensures front { GetsFront (E.contents errors.old) (E.contents errors.new) text.now }
 {
-    errors.write_all(text.as_bytes())?;
-    errors.flush()
+    match write_text(errors, text.as_bytes()) {
+        Ok(()) => errors.flush(),
+        Err(error) => Err(error),
+    }
 }
 
 /// Says why on the error stream, and the ending on standard output.
 fn say_why<O: Write, E: Write>(output: &mut O, errors: &mut E, ending: Ending, why: &str) -> Ending
-    ensures { 0 < length why.now → IsSaidWhy ending result (stream (O.contents output.old) (O.contents output.new)) (stream (E.contents errors.old) (E.contents errors.new)) }
+    ensures said { 0 < length why.now → IsSaidWhy ending result (stream (O.contents output.old) (O.contents output.new)) (stream (E.contents errors.old) (E.contents errors.new)) }
+    ensures front { GetsFront (E.contents errors.old) (E.contents errors.new) why.now }
 {
     let noted = note(errors, why);
     let said = say(output, ending);
@@ -84,8 +91,8 @@ fn say_word<O: Write>(output: &mut O, answer: &AdminAnswer) -> Ending
 }
 
 fn say_answer<O: Write>(output: &mut O, command: &Admin, answer: &AdminAnswer) -> Ending
-    ensures line { Carries command.now result (stream (O.contents output.old) (O.contents output.new)) }
-    ensures tells { Tells command.now answer.now result (stream (O.contents output.old) (O.contents output.new)) }
+    ensures line { AnswersCommand command.now result (stream (O.contents output.old) (O.contents output.new)) }
+    ensures tells { TellsAnswer command.now answer.now result (stream (O.contents output.old) (O.contents output.new)) }
 {
     match command {
         Admin::OrgList => say_list(output, answer),
@@ -97,7 +104,7 @@ fn say_answer<O: Write>(output: &mut O, command: &Admin, answer: &AdminAnswer) -
 }
 
 fn say_down<O: Write>(output: &mut O, command: &Admin) -> Ending
-    ensures line { Carries command.now result (stream (O.contents output.old) (O.contents output.new)) }
+    ensures line { AnswersCommand command.now result (stream (O.contents output.old) (O.contents output.new)) }
     ensures down { IsSaid Ending.Down result (O.contents output.old) (O.contents output.new) }
 {
     match command {
@@ -114,8 +121,8 @@ fn say_answered<O: Write>(
     command: &Admin,
     answered: &Result<AdminAnswer, Down>,
 ) -> Ending
-    ensures line { Carries command.now result (stream (O.contents output.old) (O.contents output.new)) }
-    ensures tells { IfOk answered.now (λ answer. Tells command.now answer result (stream (O.contents output.old) (O.contents output.new))) }
+    ensures line { AnswersCommand command.now result (stream (O.contents output.old) (O.contents output.new)) }
+    ensures tells { IfOk answered.now (λ answer. TellsAnswer command.now answer result (stream (O.contents output.old) (O.contents output.new))) }
     ensures down { OnErr answered.now (IsSaid Ending.Down result (O.contents output.old) (O.contents output.new)) }
 {
     match answered {
@@ -125,7 +132,8 @@ fn say_answered<O: Write>(
 }
 
 fn say_schema<O: Write>(output: &mut O, command: &Admin) -> Ending
-    ensures { Carries command.now result (stream (O.contents output.old) (O.contents output.new)) }
+    ensures line { AnswersCommand command.now result (stream (O.contents output.old) (O.contents output.new)) }
+    ensures schema { IsSaid Ending.Schema result (O.contents output.old) (O.contents output.new) }
 {
     match command {
         Admin::OrgList => say(output, Ending::Schema),
@@ -146,7 +154,7 @@ fn operate<K: Keep, O: Write>(
 ) -> (Ending, K)
     ensures so_far { K.clean result.1 → K.clean keep }
     ensures kept { K.clean result.1 → K.sound keep → K.sound result.1 }
-    ensures line { Carries command.now result.0 (stream (O.contents output.old) (O.contents output.new)) }
+    ensures line { AnswersCommand command.now result.0 (stream (O.contents output.old) (O.contents output.new)) }
     ensures model { K.clean result.1 → K.sound keep → IsOperated command.now (K.rows keep) (K.rows result.1) result.0 (stream (O.contents output.old) (O.contents output.new)) }
 {
     let mut service = Service::new(keep);
@@ -156,7 +164,11 @@ fn operate<K: Keep, O: Write>(
     (ending, keep)
 }
 
-fn close_after<K: Keep, F: Files<K>, E: Write>(files: &mut F, db: &str, store: K, errors: &mut E) {
+fn close_after<K: Keep, F: Files<K>, E: Write>(files: &mut F, db: &str, store: K, errors: &mut E)
+    ensures closed { F.holds files.new db.now store }
+    ensures others { OthersStay F.holds db.now files.old files.new }
+    ensures log { TellsOfLog (F.copied files.new db.now store) (stream (E.contents errors.old) (E.contents errors.new)) }
+{
     if files.close(db, store).is_err() {
         let _ = note(errors, LOG_STAYS);
     }
@@ -170,7 +182,8 @@ fn carry_out<K: Keep, F: Files<K>, O: Write, E: Write>(
     output: &mut O,
     errors: &mut E,
 ) -> Ending
-    ensures { Carries command.now result (stream (O.contents output.old) (O.contents output.new)) }
+    ensures line { AnswersCommand command.now result (stream (O.contents output.old) (O.contents output.new)) }
+    ensures operates { OperatesAt K.Keep F.Files db.now command.now files.old files.new result (stream (O.contents output.old) (O.contents output.new)) (stream (E.contents errors.old) (E.contents errors.new)) }
 {
     let store = match files.open(db) {
         Ok(store) => store,
@@ -191,7 +204,8 @@ fn add_token<K: Keep, F: Files<K>, O: Write, E: Write>(
     output: &mut O,
     errors: &mut E,
 ) -> Ending
-    ensures { AnswersLine result (stream (O.contents output.old) (O.contents output.new)) }
+    ensures line { AnswersLine result (stream (O.contents output.old) (O.contents output.new)) }
+    ensures operates { OperatesAt K.Keep F.Files db.now (with_secret token secret) files.old files.new result (stream (O.contents output.old) (O.contents output.new)) (stream (E.contents errors.old) (E.contents errors.new)) }
 {
     let command = token.with_secret(secret);
     carry_out(alloc, files, db, &command, output, errors)
@@ -206,7 +220,8 @@ fn read_and_add<K: Keep, F: Files<K>, I: Read, O: Write, E: Write>(
     output: &mut O,
     errors: &mut E,
 ) -> Ending
-    ensures { AddsToken (I.remaining input.old) result (stream (O.contents output.old) (O.contents output.new)) (stream (E.contents errors.old) (E.contents errors.new)) }
+    ensures line { AddsToken (I.remaining input.old) result (stream (O.contents output.old) (O.contents output.new)) (stream (E.contents errors.old) (E.contents errors.new)) }
+    ensures adds { AddsTokenAt K.Keep F.Files db.now (with_secret token) (I.remaining input.old) files.old files.new result (stream (O.contents output.old) (O.contents output.new)) (stream (E.contents errors.old) (E.contents errors.new)) }
 {
     let Ok(bytes) = read_all(alloc, input) else {
         return say(output, Ending::Down);
@@ -228,10 +243,15 @@ fn serve_at<K: Keep, N: Connections, C: Clock, O: Write, E: Write>(
     output: &mut O,
     errors: &mut E,
 ) -> Ending
-    ensures { Listens result (O.contents output.old) (O.contents output.new) }
+    ensures so_far { K.clean service.new.keep → K.clean service.old.keep }
+    ensures kept { K.clean service.new.keep → K.sound service.old.keep → K.sound service.new.keep }
+    ensures serves { K.clean service.new.keep → K.sound service.old.keep → Serves count (K.rows service.old.keep) (K.rows service.new.keep) }
+    ensures listens { Listens result (O.contents output.old) (O.contents output.new) }
+    ensures answers { AnswersAtPort K.Keep N.Connections C.Clock N.Reader.Inlet N.Writer.Outlet port count (state network.old clock.old service.old.keep) (state network.new clock.new service.new.keep) result (O.contents output.old) (O.contents output.new) }
+    ensures tells { GetsConnectionLines (E.contents errors.old) (E.contents errors.new) }
 {
     match network.bind(Ipv4Addr::LOCALHOST, port) {
-        Ok(port) => serve_loop(alloc, network, port, service, count, clock, output, errors),
+        Ok(given) => serve_loop(alloc, network, given, service, count, clock, output, errors),
         Err(_) => Ending::Down,
     }
 }
@@ -239,6 +259,7 @@ fn serve_at<K: Keep, N: Connections, C: Clock, O: Write, E: Write>(
 fn say_served<O: Write>(output: &mut O, ending: Ending) -> Ending
     ensures down { ending ≡ Ending.Down → IsSaid Ending.Down result (O.contents output.old) (O.contents output.new) }
     ensures other { ending ≢ Ending.Down → (result ≡ ending) × (O.contents output.new ≡ O.contents output.old) }
+    ensures says { SaysServed ending result (O.contents output.old) (O.contents output.new) }
 {
     match ending {
         Ending::Down => say(output, Ending::Down),
@@ -257,14 +278,16 @@ fn serve<K: Keep, F: Files<K>, N: Connections, C: Clock, O: Write, E: Write>(
     output: &mut O,
     errors: &mut E,
 ) -> Ending
-    ensures { ServesAt result (stream (O.contents output.old) (O.contents output.new)) }
+    ensures line { ServesAt result (stream (O.contents output.old) (O.contents output.new)) }
+    ensures serves { ServesFrom K.Keep F.Files N.Connections C.Clock N.Reader.Inlet N.Writer.Outlet db.now port count (outside files.old network.old clock.old) (outside files.new network.new clock.new) result (stream (O.contents output.old) (O.contents output.new)) (stream (E.contents errors.old) (E.contents errors.new))
+        ⊎ (RefusesToOpen K.Keep F.Files db.now files.old files.new result (stream (O.contents output.old) (O.contents output.new)) (stream (E.contents errors.old) (E.contents errors.new)) × IsAlone (outside files.old network.old clock.old) (outside files.new network.new clock.new)) }
 {
-    let store = match files.open(db) {
-        Ok(store) => store,
+    let keep = match files.open(db) {
+        Ok(keep) => keep,
         Err(Fault::Schema) => return say(output, Ending::Schema),
         Err(Fault::Down) => return say(output, Ending::Down),
     };
-    let mut service = Service::new(store);
+    let mut service = Service::new(keep);
     let ending = serve_at(
         alloc,
         network,
@@ -275,7 +298,8 @@ fn serve<K: Keep, F: Files<K>, N: Connections, C: Clock, O: Write, E: Write>(
         output,
         errors,
     );
-    close_after(files, db, service.into_keep(), errors);
+    let keep = service.into_keep();
+    close_after(files, db, keep, errors);
     say_served(output, ending)
 }
 
@@ -289,7 +313,8 @@ fn run_order<K: Keep, F: Files<K>, N: Connections, C: Clock, I: Read, O: Write, 
     output: &mut O,
     errors: &mut E,
 ) -> Ending
-    ensures { Does (said_by order.entry) (I.remaining input.old) result (stream (O.contents output.old) (O.contents output.new)) (stream (E.contents errors.old) (E.contents errors.new)) }
+    ensures does { Does (said_by order.entry) (I.remaining input.old) result (stream (O.contents output.old) (O.contents output.new)) (stream (E.contents errors.old) (E.contents errors.new)) }
+    ensures leaves { Leaves K.Keep F.Files N.Connections C.Clock N.Reader.Inlet N.Writer.Outlet (said_by order.entry) (I.remaining input.old) (outside files.old network.old clock.old) (outside files.new network.new clock.new) result (stream (O.contents output.old) (O.contents output.new)) (stream (E.contents errors.old) (E.contents errors.new)) }
 {
     match order {
         Order::Carry { db, command } => carry_out(alloc, files, db, &command, output, errors),
@@ -369,7 +394,7 @@ fn run<K: Keep, F: Files<K>, N: Connections, C: Clock, I: Read, O: Write, E: Wri
     output: &mut O,
     errors: &mut E,
 ) -> Ending
-    ensures { Runs (words_bytes words.now) (I.remaining input.old) result (stream (O.contents output.old) (O.contents output.new)) (stream (E.contents errors.old) (E.contents errors.new)) }
+    ensures { Runs K.Keep F.Files N.Connections C.Clock N.Reader.Inlet N.Writer.Outlet (words_bytes words.now) (I.remaining input.old) (outside files.old network.old clock.old) (outside files.new network.new clock.new) result (stream (O.contents output.old) (O.contents output.new)) (stream (E.contents errors.old) (E.contents errors.new)) }
 {
     match read_words(alloc, words) {
         Ok(order) => run_order(alloc, files, network, clock, order, input, output, errors),
@@ -389,7 +414,7 @@ pub fn run_words<K: Keep, F: Files<K>, N: Connections, C: Clock, I: Read, O: Wri
     output: &mut O,
     errors: &mut E,
 ) -> u8
-    ensures { (ending : Ending) × (result ≡ status_of ending) × Runs (words_bytes words.now) (I.remaining input.old) ending (stream (O.contents output.old) (O.contents output.new)) (stream (E.contents errors.old) (E.contents errors.new)) }
+    ensures { (ending : Ending) × (result ≡ status_of ending) × Runs K.Keep F.Files N.Connections C.Clock N.Reader.Inlet N.Writer.Outlet (words_bytes words.now) (I.remaining input.old) (outside files.old network.old clock.old) (outside files.new network.new clock.new) ending (stream (O.contents output.old) (O.contents output.new)) (stream (E.contents errors.old) (E.contents errors.new)) }
 {
     run(alloc, files, network, clock, words, input, output, errors).status()
 }

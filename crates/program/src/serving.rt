@@ -1,11 +1,15 @@
 //! The loop of `serve`: connections one after the other, each one exchange.
 
-ghost use Rattle.std.specs.Prelude.{◌≡◌, ◌++◌, ℕ, IfOk, OnOk, false};
-ghost use Rattle.std.specs.Io.KnownBytes.{Appends};
-ghost use Rattle.program.specs.Serving.{listening_line, Listens, Serves, fault_text, down_line, fault_line};
+ghost use Rattle.std.specs.Prelude.{◌≡◌, ◌++◌, ℕ, List, Ok, Some, IfOk, OnOk, OnErr, false};
+ghost use Rattle.std.specs.Io.KnownBytes.{Appends, Consumes};
+ghost use Rattle.serve.specs.Exchanges.{Exchanges};
+ghost use Rattle.wire.specs.Links.{Writes};
+ghost use Rattle.program.specs.Errors.{GetsConnectionLines};
+ghost use Rattle.program.specs.Serving.{listening_line, ListensAt, Serves, fault_text, down_line, fault_line, state, AcceptsNone, AnswersOne, Answers, AnswersCount};
 ghost use Rattle.program.specs.Inner.Serving.{TakesOne};
 
 use crate::endings::Ending;
+use crate::errors::write_line;
 use crate::outside::{Clock, Connections};
 use basis::numbers::MAX_MOMENT;
 use basis::{Down, Moment};
@@ -51,25 +55,24 @@ fn fault_text(fault: LinkFault) -> &'static str
     }
 }
 
+const DOWN: &str = "memory or the store was refused, answered 503";
+
 fn tell_down<E: Write>(errors: &mut E, place: u32, is_down: bool) -> io::Result<()>
-    ensures { OnOk result (Appends (E.contents errors.old) (E.contents errors.new) (down_line place is_down)) }
+    ensures { Writes (E.contents errors.old) (E.contents errors.new) (down_line place is_down) result }
 {
     if is_down {
-        writeln!(
-            errors,
-            "custody: connection {place}: memory or the store was refused, answered 503"
-        )
+        write_line(errors, place, DOWN)
     } else {
         Ok(())
     }
 }
 
 fn tell_fault<E: Write>(errors: &mut E, place: u32, ended: Result<(), LinkFault>) -> io::Result<()>
-    ensures { OnOk result (Appends (E.contents errors.old) (E.contents errors.new) (fault_line place ended)) }
+    ensures { Writes (E.contents errors.old) (E.contents errors.new) (fault_line place ended) result }
 {
     match ended {
         Ok(()) => Ok(()),
-        Err(fault) => writeln!(errors, "custody: connection {place}: {}", fault_text(fault)),
+        Err(fault) => write_line(errors, place, fault_text(fault)),
     }
 }
 
@@ -80,11 +83,17 @@ fn tell<E: Write>(
     ended: Result<(), LinkFault>,
     is_down: bool,
 ) -> io::Result<()>
-    ensures { OnOk result (Appends (E.contents errors.old) (E.contents errors.new) (down_line place is_down ++ fault_line place ended)) }
+    ensures whole { OnOk result (Appends (E.contents errors.old) (E.contents errors.new) (down_line place is_down ++ fault_line place ended)) }
+    ensures only { GetsConnectionLines (E.contents errors.old) (E.contents errors.new) }
 {
-    tell_down(errors, place, is_down)?;
-    tell_fault(errors, place, ended)?;
-    errors.flush()
+    match tell_down(errors, place, is_down) {
+        Ok(()) => {}
+        Err(error) => return Err(error),
+    }
+    match tell_fault(errors, place, ended) {
+        Ok(()) => errors.flush(),
+        Err(error) => Err(error),
+    }
 }
 
 fn exchange_one<K: Keep, I: Inlet, O: Outlet>(
@@ -99,6 +108,8 @@ fn exchange_one<K: Keep, I: Inlet, O: Outlet>(
     ensures so_far { K.clean service.new.keep → K.clean service.old.keep }
     ensures kept { K.clean service.new.keep → K.sound service.old.keep → K.sound service.new.keep }
     ensures takes { K.clean service.new.keep → K.sound service.old.keep → TakesOne (K.rows service.old.keep) (K.rows service.new.keep) }
+    ensures told { K.clean service.new.keep → K.sound service.old.keep → (received : List ℕ) × Consumes (I.left inlet.old) (I.left inlet.new) received
+        × Exchanges now received (I.left inlet.new) (K.rows service.old.keep) (K.rows service.new.keep) (O.written outlet.old) (O.written outlet.new) result }
 {
     prove!(now.seconds() <= MAX_MOMENT);
     service.exchange(alloc, now, inlet, outlet)
@@ -119,6 +130,8 @@ fn serve_one<K: Keep, N: Connections, E: Write>(
     ensures so_far { K.clean service.new.keep → K.clean service.old.keep }
     ensures kept { K.clean service.new.keep → K.sound service.old.keep → K.sound service.new.keep }
     ensures takes { K.clean service.new.keep → K.sound service.old.keep → TakesOne (K.rows service.old.keep) (K.rows service.new.keep) }
+    ensures answers { AnswersOne K.Keep N.Connections N.Reader.Inlet N.Writer.Outlet now reader writer network.old network.new service.old.keep service.new.keep }
+    ensures tells { GetsConnectionLines (E.contents errors.old) (E.contents errors.new) }
 {
     let mut inlet = reader;
     let mut watch = Watch {
@@ -141,13 +154,42 @@ fn accept<N: Connections, C: Clock>(
     network: &mut N,
     clock: &mut C,
 ) -> Result<(N::Reader, N::Writer, Moment), Down>
-    ensures { IfOk result (λ found. (N.Reader.broken found.0 ≡ false) × (N.Writer.broken found.1 ≡ false)) }
+    ensures sound { IfOk result (λ found. (N.Reader.broken found.0 ≡ false) × (N.Writer.broken found.1 ≡ false)) }
+    ensures accepted { IfOk result (λ found. N.accepts network.old (Ok (found.0, found.1)) network.new × C.tells clock.old (Some found.2) clock.new) }
+    ensures refused { OnErr result (AcceptsNone N.Connections C.Clock network.old network.new clock.old clock.new) }
 {
-    let (reader, writer) = network.accept()?;
+    let (reader, writer) = match network.accept() {
+        Ok(sides) => sides,
+        Err(refused) => return Err(refused),
+    };
     match clock.now() {
         Some(now) => Ok((reader, writer, now)),
         None => Err(Down),
     }
+}
+
+// The next connection is accepted, answered and ended.
+fn serve_next<K: Keep, N: Connections, C: Clock, E: Write>(
+    alloc: Global,
+    network: &mut N,
+    service: &mut Service<K>,
+    clock: &mut C,
+    place: u32,
+    errors: &mut E,
+) -> Result<(), Down>
+    ensures so_far { K.clean service.new.keep → K.clean service.old.keep }
+    ensures kept { K.clean service.new.keep → K.sound service.old.keep → K.sound service.new.keep }
+    ensures takes { K.clean service.new.keep → K.sound service.old.keep → TakesOne (K.rows service.old.keep) (K.rows service.new.keep) }
+    ensures answers { OnOk result ((at : ℕ) × Answers K.Keep N.Connections C.Clock N.Reader.Inlet N.Writer.Outlet at (state network.old clock.old service.old.keep) (state network.new clock.new service.new.keep)) }
+    ensures refused { OnErr result (AcceptsNone N.Connections C.Clock network.old network.new clock.old clock.new × (service.new.keep ≡ service.old.keep)) }
+    ensures tells { GetsConnectionLines (E.contents errors.old) (E.contents errors.new) }
+{
+    let (reader, writer, now) = match accept(network, clock) {
+        Ok(found) => found,
+        Err(refused) => return Err(refused),
+    };
+    serve_one(alloc, service, now, network, reader, writer, place, errors);
+    Ok(())
 }
 
 /// Says at which port it listens, and then answers so many connections, one after the other, each with
@@ -167,25 +209,18 @@ pub fn serve_loop<K: Keep, N: Connections, C: Clock, O: Write, E: Write>(
     ensures so_far { K.clean service.new.keep → K.clean service.old.keep }
     ensures kept { K.clean service.new.keep → K.sound service.old.keep → K.sound service.new.keep }
     ensures serves { K.clean service.new.keep → K.sound service.old.keep → Serves count (K.rows service.old.keep) (K.rows service.new.keep) }
-    ensures listens { Listens result (O.contents output.old) (O.contents output.new) }
+    ensures answers { AnswersCount K.Keep N.Connections C.Clock N.Reader.Inlet N.Writer.Outlet count (state network.old clock.old service.old.keep) (state network.new clock.new service.new.keep) result }
+    ensures listens { ListensAt port result (O.contents output.old) (O.contents output.new) }
+    ensures tells { GetsConnectionLines (E.contents errors.old) (E.contents errors.new) }
 {
     if print_listening(output, port).is_err() {
         return Ending::Unprinted;
     }
     'connections: for place in 0..count {
-        let Ok((reader, writer, now)) = accept(network, clock) else {
-            return Ending::Down;
-        };
-        serve_one(
-            alloc,
-            service,
-            now,
-            network,
-            reader,
-            writer,
-            place + 1,
-            errors,
-        );
+        match serve_next(alloc, network, service, clock, place + 1, errors) {
+            Ok(()) => {}
+            Err(_) => return Ending::Down,
+        }
     }
     Ending::Done
 }

@@ -3,7 +3,7 @@
 ghost use Rattle.std.specs.Prelude.{◌≡◌, ◌⊎◌, IfOk, IfErr, IsErrOf, None, Some, [], codes, ℕ, List};
 ghost use Rattle.clap.specs.Words.{app_of, subcommand_of, subcommand_rows_of, HasKind, FailsBy, App, Rule, new_app, with_rule, with_subcommand};
 ghost use Rattle.program.specs.Orders.{said_by};
-ghost use Rattle.program.specs.Words.{words_bytes, database, organization, option_rule, value_rule, org_add, org_limit, org_list, token_add, token_revoke, serve, replay, bare, custody, faults, asked_by, asked_in, with_organizations, with_tokens, with_running, IsWhy, IsArg, IsCommand};
+ghost use Rattle.program.specs.Words.{words_bytes, database, organization, option_rule, value_rule, org_add, org_limit, org_list, token_add, token_revoke, serve, replay, bare, custody, faults, asked_by_command, asked_in, with_organizations, with_tokens, with_running, IsWhy, IsArg, IsCommand};
 
 use crate::orders::{Order, Values};
 use basis::Unfit;
@@ -212,8 +212,8 @@ fn unmatched(error: Error) -> Unasked
 }
 
 fn ordered<'a>(alloc: Global, matches: &ArgMatches<'a>) -> Result<Order<'a>, Unfit>
-    ensures ok { IfOk result (λ order. asked_by (subcommand_rows_of matches.now) ≡ Some (said_by order)) }
-    ensures syntax { IsErrOf result Unfit.Syntax → asked_by (subcommand_rows_of matches.now) ≡ None }
+    ensures ok { IfOk result (λ order. asked_by_command (subcommand_rows_of matches.now) ≡ Some (said_by order)) }
+    ensures syntax { IsErrOf result Unfit.Syntax → asked_by_command (subcommand_rows_of matches.now) ≡ None }
 {
     match matches.subcommand() {
         Some((name, inner)) => Order::read(alloc, name, &Values::of(inner)),

@@ -4,7 +4,7 @@ ghost use Rattle.std.specs.Prelude.{◌≡◌, None, false};
 use arrayvec::ArrayVec;
 use std::io;
 use std::io::Write;
-use wire::{Broken, Inlet, Outlet};
+use wire::{Broken, Inlet, Outlet, tells_end};
 
 /// Gives so many bytes a read, and fails at one of its reads; at none where that is 0.
 #[derive(Drop)]
@@ -14,6 +14,7 @@ pub struct Cuts<'a> {
     pub reads: u32,
     fails_at: u32,
     has_failed: bool,
+    has_ended: bool,
 }
 
 pub fn make_cuts(rest: &[u8], step: usize, fails_at: u32) -> Cuts<'_>
@@ -25,6 +26,7 @@ pub fn make_cuts(rest: &[u8], step: usize, fails_at: u32) -> Cuts<'_>
         reads: 0,
         fails_at,
         has_failed: false,
+        has_ended: false,
     }
 }
 
@@ -32,6 +34,8 @@ impl Inlet for Cuts<'_> {
     ghost left = { λ _. None };
 
     ghost broken = { λ s. s.has_failed };
+
+    ghost ended = { λ s. s.has_ended };
 
     fn failed(&self) -> bool {
         self.has_failed
@@ -47,6 +51,7 @@ impl Inlet for Cuts<'_> {
         let (piece, rest) = self.rest.split_at(count);
         buf[..count].copy_from_slice(piece);
         self.rest = rest;
+        self.has_ended = tells_end(count, buf.len()) || self.has_ended;
         Ok(count)
     }
 }

@@ -172,6 +172,8 @@ fn ends_with_status_3_where_the_error_stream_fails(rt: HostRuntime) -> Result<()
 struct Standing(Option<Moment>);
 
 impl Clock for Standing {
+    ghost tells = { λ _ _ _. ⊤ };
+
     fn now(&mut self) -> Option<Moment> {
         self.0
     }
@@ -185,7 +187,11 @@ struct Memory {
 }
 
 impl Files<SqlKeep<MemStore>> for Memory {
-    ghost opens = { λ _ _ _. ⊤ };
+    ghost holds = { λ _ _ _. ⊤ };
+
+    ghost copied = { λ _ _ _. ⊤ };
+
+    ghost is_other = { λ _ _. ⊤ };
 
     fn open(&mut self, _path: &str) -> Result<SqlKeep<MemStore>, Fault> {
         match SqlKeep::in_memory(self.alloc) {
@@ -212,6 +218,12 @@ impl Connections for Peers {
     type Reader = FromRead<&'static [u8]>;
 
     type Writer = ToWrite<Vec<u8>>;
+
+    ghost binds = { λ _ _ _ _ _. ⊤ };
+
+    ghost accepts = { λ _ _ _. ⊤ };
+
+    ghost ends = { λ _ _ _ _. ⊤ };
 
     fn bind(&mut self, _address: Ipv4Addr, port: u16) -> Result<u16, Down> {
         Ok(port)

@@ -1,4 +1,6 @@
 //! The clock of the system.
+ghost use Rattle.std.specs.Prelude.{⊤};
+
 use basis::Moment;
 use program::outside::Clock;
 use std::rt::HostRuntime;
@@ -17,6 +19,9 @@ impl<'a> SystemClock<'a> {
 }
 
 impl Clock for SystemClock<'_> {
+    // No contract says what the clock of the system tells.
+    ghost tells = { λ _ _ _. ⊤ };
+
     fn now(&mut self) -> Option<Moment> {
         let now = SystemTime::now(self.rt).ok()?;
         let since = now.duration_since(UNIX_EPOCH).ok()?;

@@ -1,13 +1,13 @@
 //! Databases in files.
-ghost use Rattle.std.specs.Prelude.{IfOk};
+ghost use Rattle.std.specs.Prelude.{◌≡◌, true, ⊤, is_some, IfOk};
 ghost use Rattle.sqlite_wal.specs.Files.{image_at};
-ghost use Rattle.system.specs.Files.{OpensOn};
+ghost use Rattle.system.specs.Files.{OpensOn, IsClosedOn};
 
 use basis::Down;
 use machine::Keep;
 use program::outside::Files;
 use sqlite::Connection;
-use sqlite_disk::{Start, Unknown};
+use sqlite_disk::{Disk, Start, Unknown};
 use sqlite_std_file::FileFrom;
 use sqlite_store::FileStore;
 use std::rt::HostRuntime;
@@ -31,12 +31,17 @@ pub fn open_file<S: Start>(rt: &HostRuntime, path: &str, start: S) -> Result<Fil
     }
 }
 
-/// Closes the file, its log copied into it. After an error all that was committed stands in the file
-/// and its log together.
-pub fn close_file<S: Start>(keep: FileKeep<S>) -> Result<(), Down> {
-    match keep.close().close() {
-        Ok(()) => Ok(()),
-        Err(_) => Err(Down),
+/// Closes the store, its log copied into the file, and gives the two files back. After an error all that
+/// was committed stands in the file and its log together.
+pub fn close_file<S: Start>(keep: FileKeep<S>) -> Result<sqlite_disk::Files<FileFrom<S>>, Down>
+    ensures { IfOk result (λ files. IsClosedOn ⟦<FileFrom<S> as Disk>⟧ files (⟦<FileKeep<S> as Keep>⟧.rows keep) (⟦<FileKeep<S> as Keep>⟧.sound keep)) }
+{
+    match keep.close().close_files() {
+        Ok(files) => Ok(files),
+        Err((_, store)) => {
+            drop(store.close());
+            Err(Down)
+        }
     }
 }
 
@@ -64,8 +69,14 @@ impl<'a> DiskFiles<'a, Unknown> {
 }
 
 impl<S: Start> Files<FileKeep<S>> for DiskFiles<'_, S> {
-    // Nothing ties what is found to the path.
-    ghost opens = { λ _ _ store. ⟦<FileKeep<S> as Keep>⟧.clean store → OpensOn (image_at S.Start) (⟦<FileKeep<S> as Keep>⟧.rows store) (⟦<FileKeep<S> as Keep>⟧.sound store) };
+    // Nothing ties what is found to the path: until a file is opened, whatever path it has, it is that of `start`. Of
+    // what lies at paths afterwards nothing is said here.
+    ghost holds = { λ files _ store. is_some files.start ≡ true → ⟦<FileKeep<S> as Keep>⟧.clean store → OpensOn (image_at S.Start) (⟦<FileKeep<S> as Keep>⟧.rows store) (⟦<FileKeep<S> as Keep>⟧.sound store) };
+
+    ghost copied = { λ _ _ store. (closed : _) × IsClosedOn ⟦<FileFrom<S> as Disk>⟧ closed (⟦<FileKeep<S> as Keep>⟧.rows store) (⟦<FileKeep<S> as Keep>⟧.sound store) };
+
+    // Which fault comes when isn't told.
+    ghost is_other = { λ _ _. ⊤ };
 
     fn open(&mut self, path: &str) -> Result<FileKeep<S>, Fault> {
         match self.start.take() {
@@ -75,6 +86,13 @@ impl<S: Start> Files<FileKeep<S>> for DiskFiles<'_, S> {
     }
 
     fn close(&mut self, _path: &str, store: FileKeep<S>) -> Result<(), Down> {
-        close_file(store)
+        self.start = None;
+        match close_file(store) {
+            Ok(files) => {
+                drop(files);
+                Ok(())
+            }
+            Err(down) => Err(down),
+        }
     }
 }

@@ -1,7 +1,7 @@
 //! The program over the files, the sockets and the clock of the system.
 ghost use Rattle.std.specs.Prelude.{◌≡◌};
 ghost use Rattle.program.specs.Endings.{status_of};
-ghost use Rattle.program.specs.Outcomes.{stream, Runs};
+ghost use Rattle.program.specs.Outcomes.{stream, Prints};
 ghost use Rattle.program.specs.Words.{words_bytes};
 ghost use Rattle.program.specs.declared.endings.Ending.{Ending};
 
@@ -24,7 +24,7 @@ fn run_over<K: Keep, F: Files<K>, I: Read, O: Write, E: Write>(
     output: &mut O,
     errors: &mut E,
 ) -> u8
-    ensures { (ending : Ending) × (result ≡ status_of ending) × Runs (words_bytes words.now) (I.remaining input.old) ending (stream (O.contents output.old) (O.contents output.new)) (stream (E.contents errors.old) (E.contents errors.new)) }
+    ensures { (ending : Ending) × (result ≡ status_of ending) × Prints (words_bytes words.now) (I.remaining input.old) ending (stream (O.contents output.old) (O.contents output.new)) (stream (E.contents errors.old) (E.contents errors.new)) }
 {
     let mut network = TcpSockets::new(rt);
     let mut clock = SystemClock::new(rt);
@@ -48,7 +48,7 @@ fn run_from<S: Start, I: Read, O: Write, E: Write>(
     output: &mut O,
     errors: &mut E,
 ) -> u8
-    ensures { (ending : Ending) × (result ≡ status_of ending) × Runs (words_bytes words.now) (I.remaining input.old) ending (stream (O.contents output.old) (O.contents output.new)) (stream (E.contents errors.old) (E.contents errors.new)) }
+    ensures { (ending : Ending) × (result ≡ status_of ending) × Prints (words_bytes words.now) (I.remaining input.old) ending (stream (O.contents output.old) (O.contents output.new)) (stream (E.contents errors.old) (E.contents errors.new)) }
 {
     let mut files = DiskFiles::new(rt, start);
     run_over(rt, &mut files, words, input, output, errors)
@@ -62,7 +62,7 @@ pub fn run_here<I: Read, O: Write, E: Write>(
     output: &mut O,
     errors: &mut E,
 ) -> u8
-    ensures { (ending : Ending) × (result ≡ status_of ending) × Runs (words_bytes words.now) (I.remaining input.old) ending (stream (O.contents output.old) (O.contents output.new)) (stream (E.contents errors.old) (E.contents errors.new)) }
+    ensures { (ending : Ending) × (result ≡ status_of ending) × Prints (words_bytes words.now) (I.remaining input.old) ending (stream (O.contents output.old) (O.contents output.new)) (stream (E.contents errors.old) (E.contents errors.new)) }
 {
     run_from(rt, Unknown, words, input, output, errors)
 }

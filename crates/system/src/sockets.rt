@@ -1,4 +1,6 @@
 //! Connections over TCP.
+ghost use Rattle.std.specs.Prelude.{⊤};
+
 use basis::Down;
 use program::outside::Connections;
 use std::io;
@@ -47,6 +49,13 @@ impl Connections for TcpSockets<'_> {
     type Reader = FromRead<TcpStream>;
 
     type Writer = ToWrite<TcpStream>;
+
+    // No contract says what a socket does.
+    ghost binds = { λ _ _ _ _ _. ⊤ };
+
+    ghost accepts = { λ _ _ _. ⊤ };
+
+    ghost ends = { λ _ _ _ _. ⊤ };
 
     fn bind(&mut self, address: Ipv4Addr, port: u16) -> Result<u16, Down> {
         let Ok(listener) = TcpListener::bind(self.rt, (address, port)) else {

@@ -1,5 +1,7 @@
-use Rattle.std.proofs.Common.{rules, arith, inr}
-use Rattle.program.proofs.ServingLemmas.{serves_none, serves_more, serves_of}
+use Rattle.std.proofs.Common.{ℕ, ◌<◌, arith, refl, sym, subst, ◌++◌, ◌∷◌, []}
+use Rattle.program.specs.Serving.{state}
+use Rattle.program.proofs.ErrorLemmas.{gets_none, gets_then}
+use Rattle.program.proofs.ServingLemmas.{serves_none, serves_more, serves_of, answers_more, one_more}
 use Rattle.program.proofs.serving.serve_loop.Goals as goal
 
 pub returns-then-is_err-clause-serves : goal.returns-then-is_err-clause-serves
@@ -10,19 +12,44 @@ connections-init g c = record {
   so_far = λ clean. clean;
   kept = λ clean sound. sound;
   serves = λ clean sound. serves_none (g.K.Keep.rows c.args.service.now.keep);
+  answers = ([], refl, refl);
+  tells = gets_none (g.E.Write.contents c.args.errors.now);
 }
 
 pub connections-preserved : goal.connections-preserved
-connections-preserved g c = record {
-  so_far = λ clean. c.connections.invariant.so_far (c.serve_one.ensures.so_far clean);
-  kept = λ clean sound. c.serve_one.ensures.kept clean (c.connections.invariant.kept (c.serve_one.ensures.so_far clean) sound);
-  serves = λ clean sound. serves_more c.connections.place (g.K.Keep.rows c.args.service.now.keep) (g.K.Keep.rows c.connections.service.keep) (g.K.Keep.rows c.serve_one.new.service.keep)
-      (c.connections.invariant.serves (c.serve_one.ensures.so_far clean) sound)
-      (c.serve_one.ensures.takes clean (c.connections.invariant.kept (c.serve_one.ensures.so_far clean) sound));
-}
+connections-preserved g c =
+    let so_far = c.connections.invariant.answers in
+    let one = c.in-Ok.ensures.answers in
+    record {
+      so_far = λ clean. c.connections.invariant.so_far (c.in-Ok.ensures.so_far clean);
+      kept = λ clean sound. c.in-Ok.ensures.kept clean (c.connections.invariant.kept (c.in-Ok.ensures.so_far clean) sound);
+      serves = λ clean sound. serves_more c.connections.place (g.K.Keep.rows c.args.service.now.keep) (g.K.Keep.rows c.connections.service.keep) (g.K.Keep.rows c.serve_next.new.service.keep)
+          (c.connections.invariant.serves (c.in-Ok.ensures.so_far clean) sound)
+          (c.in-Ok.ensures.takes clean (c.connections.invariant.kept (c.in-Ok.ensures.so_far clean) sound));
+      answers = (
+        so_far.0 ++ one.0 ∷ [],
+        one_more so_far.0 one.0 c.connections.place so_far.1,
+        answers_more g.K.Keep g.N.Connections g.C.Clock g.N.Reader.Inlet g.N.Writer.Outlet so_far.0 one.0
+            (state c.args.network.now c.args.clock.now c.args.service.now.keep) (state c.connections.network c.connections.clock c.connections.service.keep)
+            (state c.serve_next.new.network c.serve_next.new.clock c.serve_next.new.service.keep) so_far.2 one.1,
+      );
+      tells = gets_then _ _ _ c.connections.invariant.tells c.in-Ok.ensures.tells;
+    }
 
-pub returns-in_default-clause-listens : goal.returns-in_default-clause-listens
-returns-in_default-clause-listens g c = inr (c.args.port, search rules)
+pub returns-in-Err-clause-answers : goal.returns-in-Err-clause-answers
+returns-in-Err-clause-answers g c =
+    let so_far = c.connections.invariant.answers in
+    let none = c.in-Err.ensures.refused in (
+      so_far.0,
+      state c.connections.network c.connections.clock c.connections.service.keep,
+      subst (λ (n : ℕ). n < c.args.count) (sym so_far.1) c.connections-test.true,
+      so_far.2,
+      none.0,
+      none.1,
+    )
 
-pub returns-clause-listens : goal.returns-clause-listens
-returns-clause-listens g c = (c.args.port, search rules)
+pub returns-in-Err-clause-tells : goal.returns-in-Err-clause-tells
+returns-in-Err-clause-tells g c = gets_then _ _ _ c.connections.invariant.tells c.in-Err.ensures.tells
+
+pub returns-then-is_err-clause-tells : goal.returns-then-is_err-clause-tells
+returns-then-is_err-clause-tells g c = gets_none (g.E.Write.contents c.args.errors.now)

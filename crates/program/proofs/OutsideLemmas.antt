@@ -1,0 +1,41 @@
+-- What lies at paths, from an open to a close.
+use Rattle.std.proofs.Common.{◌≡◌, ℕ, List, Option, sym, subst}
+use Rattle.machine.specs.declared.keeps.Keep as keep
+use Rattle.wire.specs.declared.devices.Inlet as inlet
+use Rattle.wire.specs.declared.devices.Outlet as outlet
+use Rattle.program.specs.declared.endings.Ending.{Ending}
+use Rattle.program.specs.declared.outside.Clock as clock
+use Rattle.program.specs.declared.outside.Connections as connections
+use Rattle.program.specs.declared.outside.Files as files
+use Rattle.program.specs.Errors.{GetsConnectionLines}
+use Rattle.program.specs.Outcomes.{stream, outside, ServesFrom, SaysServed, TellsOfLog}
+use Rattle.program.specs.Paths.{OthersStay}
+use Rattle.program.specs.Serving.{Serves, state, AnswersAtPort}
+
+module _ {K F N C R W : Type 0} (k : keep.Ghosts K) (f : files.Ghosts F K) (n : connections.Ghosts N R W) (c : clock.Ghosts C) (i : inlet.Ghosts R) (o : outlet.Ghosts W) where
+  -- a store is opened at a path, connections are answered from it, and it is closed there
+  pub serves_from : (path : List ℕ) (port count : ℕ) (old mid new : F) (network network' : N) (time time' : C) (opened from to closed : K) (served e : Ending) (out told last before lines after : Option (List ℕ))
+      → from ≡ opened → closed ≡ to → f.holds old path opened → OthersStay f.holds path old mid
+      → (k.clean to → k.clean from) → (k.clean to → k.sound from → k.sound to)
+      → (k.clean to → k.sound from → Serves count (k.rows from) (k.rows to))
+      → AnswersAtPort k n c i o port count (state network time from) (state network' time' to) served out told
+      → f.holds new path closed → OthersStay f.holds path mid new → SaysServed served e told last
+      → GetsConnectionLines before lines → TellsOfLog (f.copied new path closed) (stream lines after)
+      → ServesFrom k f n c i o path port count (outside old network time) (outside new network' time') e (stream out last) (stream before after)
+  serves_from path port count old mid new network network' time time' opened from to closed served e out told last before lines after begins closes found first so_far kept rows answers left second says tells log = record {
+    before = from;
+    after = to;
+    found = subst (λ (s : K). f.holds old path s) (sym begins) found;
+    left = subst (λ (s : K). f.holds new path s) closes left;
+    others = λ other store differs held. second other store differs (first other store differs held);
+    so_far = so_far;
+    kept = kept;
+    serves = rows;
+    served = served;
+    told = told;
+    answers = answers;
+    says = says;
+    lines = lines;
+    tells = tells;
+    log = subst (λ (s : K). TellsOfLog (f.copied new path s) (stream lines after)) closes log;
+  }

@@ -1,0 +1,5 @@
+use Rattle.std.proofs.Common.{refl}
+use Rattle.program.proofs.running.run_order.Goals as goal
+
+pub returns-in-Carry-clause-leaves : goal.returns-in-Carry-clause-leaves
+returns-in-Carry-clause-leaves g c = rw c.in-Carry.is (c.carry_out.ensures.operates, (refl, refl))

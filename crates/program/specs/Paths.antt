@@ -1,0 +1,10 @@
+-- What lies at paths, and what of it stays. `holds` says that what a store has is what lies at a path.
+use Rattle.std.specs.Prelude.{◌≢◌, ℕ, List}
+
+-- what lies at each path stays
+abbrev pub AllStay : {F K : Type 0} → (F → List ℕ → K → Type 0) → F → F → Type 0
+AllStay {F} {K} holds old new = (path : List ℕ) (store : K) → holds old path store → holds new path store
+
+-- what lies at each path but this one stays
+abbrev pub OthersStay : {F K : Type 0} → (F → List ℕ → K → Type 0) → List ℕ → F → F → Type 0
+OthersStay {F} {K} holds path old new = (other : List ℕ) (store : K) → other ≢ path → holds old other store → holds new other store

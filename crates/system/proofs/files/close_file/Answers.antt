@@ -1,0 +1,24 @@
+use Rattle.std.proofs.Common.{◌≡◌, ℕ, List, Option}
+use Rattle.std.specs.Prelude.{IsTrue}
+use Rattle.sqlite_disk.specs.declared.Disk as disk
+use Rattle.sqlite_disk.specs.declared.Files.{Files}
+use Rattle.sqlite_store.specs.declared.store.FileStore.{FileStore}
+use Rattle.sqlite.specs.Closing.{IsCopied}
+use Rattle.sqlite.specs.Files.{file_state}
+use Rattle.sqlite.specs.Held.{Held}
+use Rattle.machine.specs.declared.records.Organization.{Organization}
+use Rattle.tables.specs.Stores.{records_of}
+use Rattle.system.specs.Files.{ClosesOn}
+use Rattle.system.proofs.files.close_file.Goals as goal
+
+closes_on : {D : Type 0} {g : disk.Ghosts D} (c : Held (FileStore D g)) (files : Files D) (rows : List ℕ → Option Organization) (IsSound : Type 0) → IsCopied c files
+    → (IsSound → IsTrue (file_state c).is_open → (org : List ℕ) → records_of (file_state c).committed org ≡ rows org) → ClosesOn g files rows IsSound
+closes_on c files rows IsSound copied told = record {
+  committed = (file_state c).committed;
+  records = λ sound. told sound copied.was_open;
+  seen = copied.seen;
+  left = copied.left;
+}
+
+pub returns-in-Ok : goal.returns-in-Ok
+returns-in-Ok g c clean = closes_on c.close.result c.in-Ok.files _ _ (c.in-Ok.ensures.copied clean) c.close.ensures.rows
