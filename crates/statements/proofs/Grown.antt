@@ -13,14 +13,14 @@ use Rattle.sqlite_schema.specs.Names.{same_name, table_named}
 use Rattle.sqlite_catalog.specs.Change.{next_tree, past_views, KeepsRows}
 use Rattle.sqlite.specs.Effect.{Database}
 use Rattle.sqlite_keyed.proofs.ListLemmas.{all-append, all_weaker, all-slice_get}
-use Rattle.statements.specs.Place.{at_of, tree_of, StandsAt, IsOwn}
+use Rattle.statements.specs.Place.{at_of, tree_of, RefersPassively, StandsAt, IsOwn}
 use Rattle.statements.specs.Making.{AreMade, KeepsTables}
 
--- the table stands behind those that were there, with the next tree and no row; what stands behind it refers to nothing
+-- the table stands behind those that were there, with the next tree and no row; the references of what stands behind it are passive
 pub record Grown (table : Table) (old new : Database) : Type 0 where
   pub more : List Table
   pub tables : new.schema.tables ≡ old.schema.tables ++ (record table { tree = next_tree old.schema } ∷ more)
-  pub loose : AllByRecursion (λ (t : Table). t.references ≡ []) more
+  pub loose : AllByRecursion (λ (t : Table). RefersPassively t) more
   pub empty : new.trees (next_tree old.schema) ≡ []
   pub others : KeepsRows old.schema.tables old.trees new.trees
   pub free : table_named old.schema table.name ≡ None
@@ -98,22 +98,22 @@ module _ (s : Schema) (name : List ℕ) (table : Table) (at tree : ℕ) (h : Sta
   pub tree_is : tree_of s name ≡ tree
   tree_is = ap (λ n. unwrap_or (option_map (λ (t : Table). t.tree) (slice_get s.tables n)) 0) at_is ∙ ap (λ o. unwrap_or (option_map (λ (t : Table). t.tree) o) 0) h.found
 
--- a table that stands somewhere, and refers to nothing there, is one of ours
-own_at : (s : Schema) (table : Table) (at tree : ℕ) → StandsAt s table.name table at tree → AllByRecursion (λ (t : Table). t.tree ≡ tree → t.references ≡ []) s.tables → IsOwn s table
+-- a table that stands somewhere, and whose references are passive there, is one of ours
+own_at : (s : Schema) (table : Table) (at tree : ℕ) → StandsAt s table.name table at tree → AllByRecursion (λ (t : Table). t.tree ≡ tree → RefersPassively t) s.tables → IsOwn s table
 own_at s table at tree h bare = record {
   place = subst (λ n. StandsAt s table.name table n (tree_of s table.name)) (sym (at_is s table.name table at tree h)) (subst (λ n. StandsAt s table.name table at n) (sym (tree_is s table.name table at tree h)) h);
-  bare = subst (λ n. AllByRecursion (λ (t : Table). t.tree ≡ n → t.references ≡ []) s.tables) (sym (tree_is s table.name table at tree h)) bare;
+  bare = subst (λ n. AllByRecursion (λ (t : Table). t.tree ≡ n → RefersPassively t) s.tables) (sym (tree_is s table.name table at tree h)) bare;
 }
 
-module _ (table : Table) (loose : table.references ≡ []) (old new : Database) (g : Grown table old new) where
+module _ (table : Table) (loose : RefersPassively table) (old new : Database) (g : Grown table old new) where
   abbrev added : Table
   added = record table { tree = next_tree old.schema }
 
-  behind_loose : (tree : ℕ) → AllByRecursion (λ (t : Table). t.tree ≡ tree → t.references ≡ []) (added ∷ g.more)
-  behind_loose tree = (λ _. loose, all_weaker (λ (t : Table). t.references ≡ []) (λ (t : Table). t.tree ≡ tree → t.references ≡ []) (λ t h _. h) g.more g.loose)
+  behind_loose : (tree : ℕ) → AllByRecursion (λ (t : Table). t.tree ≡ tree → RefersPassively t) (added ∷ g.more)
+  behind_loose tree = (λ _. loose, all_weaker (λ (t : Table). RefersPassively t) (λ (t : Table). t.tree ≡ tree → RefersPassively t) (λ t h _. h) g.more g.loose)
 
-  whole_bare : (tree : ℕ) → AllByRecursion (λ (t : Table). t.tree ≡ tree → t.references ≡ []) old.schema.tables → AllByRecursion (λ (t : Table). t.tree ≡ tree → t.references ≡ []) new.schema.tables
-  whole_bare tree h = subst (AllByRecursion (λ (t : Table). t.tree ≡ tree → t.references ≡ [])) (sym g.tables) (all-append _ old.schema.tables (added ∷ g.more) h (behind_loose tree))
+  whole_bare : (tree : ℕ) → AllByRecursion (λ (t : Table). t.tree ≡ tree → RefersPassively t) old.schema.tables → AllByRecursion (λ (t : Table). t.tree ≡ tree → RefersPassively t) new.schema.tables
+  whole_bare tree h = subst (AllByRecursion (λ (t : Table). t.tree ≡ tree → RefersPassively t)) (sym g.tables) (all-append _ old.schema.tables (added ∷ g.more) h (behind_loose tree))
 
   module _ (other : Table) (own : IsOwn old.schema other) where
     abbrev at : ℕ
@@ -159,7 +159,7 @@ module _ (table : Table) (loose : table.references ≡ []) (old new : Database) 
 
   own_added : IsOwn new.schema table
   own_added = own_at new.schema table _ _ added_at
-      (whole_bare (next_tree old.schema) (all_weaker (λ (t : Table). t.tree < next_tree old.schema) (λ (t : Table). t.tree ≡ next_tree old.schema → t.references ≡ []) (λ t low same. absurd (omega arith)) old.schema.tables (trees_below old.schema)))
+      (whole_bare (next_tree old.schema) (all_weaker (λ (t : Table). t.tree < next_tree old.schema) (λ (t : Table). t.tree ≡ next_tree old.schema → RefersPassively t) (λ t low same. absurd (omega arith)) old.schema.tables (trees_below old.schema)))
 
   tree_added : tree_of new.schema table.name ≡ next_tree old.schema
   tree_added = tree_is new.schema table.name table _ _ added_at

@@ -35,7 +35,7 @@ use Rattle.sqlite.specs.Listing.{understood, reads_listing, if_select, is_select
 use Rattle.sqlite.specs.State.{State, mode_of, Executes, ExecutesIn, Runs, Writes, shows_rows, is_pragma, text_of}
 use Rattle.sqlite_keyed.proofs.ListLemmas.{all-slice_get, ascending_weaker}
 use Rattle.statements.specs.Making.{AreMade, KeepsTables, GrowsBy, KeepsMade}
-use Rattle.statements.specs.Place.{IsOwn, at_of, tree_of}
+use Rattle.statements.specs.Place.{IsPassive, RefersPassively, IsOwn, at_of, tree_of}
 use Rattle.statements.proofs.Meaning.{as_read}
 use Rattle.statements.proofs.Grown.{Grown, made_grown, added_apart}
 
@@ -195,7 +195,7 @@ module _ (table : Table) (text : List ℕ) (defines : table_defined_by text ≡ 
         record {
           more = last ∷ [];
           tables = is;
-          loose = (ap refs_of (sym two.defined) ∙ sequence_refs, tt);
+          loose = (subst (AllByRecursion IsPassive) (sym (ap refs_of (sym two.defined) ∙ sequence_refs)) tt, tt);
           empty = kept.1.0 ∙ one.empty;
           others = kept_then old.schema.tables old.trees made.trees new.trees one.others kept.0;
           free = free_is;
@@ -215,7 +215,7 @@ module _ (table : Table) (text : List ℕ) (defines : table_defined_by text ≡ 
         }
   ]
 
-module _ (table : Table) (loose : table.references ≡ []) (def : TableText) (text : List ℕ) (p : Parsed) (reads : first text ≡ Ok (as_read p (written.CreateTable (fresh_table def))))
+module _ (table : Table) (loose : RefersPassively table) (def : TableText) (text : List ℕ) (p : Parsed) (reads : first text ≡ Ok (as_read p (written.CreateTable (fresh_table def))))
     (whole : slice_range text p.start p.end ≡ text) (defines : table_defined_by text ≡ Ok table) where
   quiet : (s : Schema) (base : ℕ) → returning s base (written.CreateTable (fresh_table def)) ≡ Ok None
   unfolding returning

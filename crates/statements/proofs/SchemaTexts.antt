@@ -56,7 +56,7 @@ make_meta_reads = refl
 
 pub make_meta_does : (old new : State) (params : Row) (count : ℕ) → Executes make_meta_text params old new (Ok count) → GrowsBy meta_table old.now new.now
 unfolding everything
-make_meta_does = makes_behind meta_table refl (table_text (some_parsed (first make_meta_text)).statement) make_meta_text (some_parsed (first make_meta_text)) make_meta_reads refl make_meta_defines
+make_meta_does = makes_behind meta_table tt (table_text (some_parsed (first make_meta_text)).statement) make_meta_text (some_parsed (first make_meta_text)) make_meta_reads refl make_meta_defines
 
 make_org_defines : table_defined_by make_org_text ≡ Ok org_table
 unfolding everything
@@ -68,7 +68,7 @@ make_org_reads = refl
 
 pub make_org_does : (old new : State) (params : Row) (count : ℕ) → Executes make_org_text params old new (Ok count) → GrowsBy org_table old.now new.now
 unfolding everything
-make_org_does = makes_behind org_table refl (table_text (some_parsed (first make_org_text)).statement) make_org_text (some_parsed (first make_org_text)) make_org_reads refl make_org_defines
+make_org_does = makes_behind org_table tt (table_text (some_parsed (first make_org_text)).statement) make_org_text (some_parsed (first make_org_text)) make_org_reads refl make_org_defines
 
 make_token_defines : table_defined_by make_token_text ≡ Ok token_table
 unfolding everything
@@ -80,7 +80,7 @@ make_token_reads = refl
 
 pub make_token_does : (old new : State) (params : Row) (count : ℕ) → Executes make_token_text params old new (Ok count) → GrowsBy token_table old.now new.now
 unfolding everything
-make_token_does = makes_behind token_table refl (table_text (some_parsed (first make_token_text)).statement) make_token_text (some_parsed (first make_token_text)) make_token_reads refl make_token_defines
+make_token_does = makes_behind token_table tt (table_text (some_parsed (first make_token_text)).statement) make_token_text (some_parsed (first make_token_text)) make_token_reads refl make_token_defines
 
 make_ws_defines : table_defined_by make_ws_text ≡ Ok ws_table
 unfolding everything
@@ -92,7 +92,7 @@ make_ws_reads = refl
 
 pub make_ws_does : (old new : State) (params : Row) (count : ℕ) → Executes make_ws_text params old new (Ok count) → GrowsBy ws_table old.now new.now
 unfolding everything
-make_ws_does = makes_behind ws_table refl (table_text (some_parsed (first make_ws_text)).statement) make_ws_text (some_parsed (first make_ws_text)) make_ws_reads refl make_ws_defines
+make_ws_does = makes_behind ws_table tt (table_text (some_parsed (first make_ws_text)).statement) make_ws_text (some_parsed (first make_ws_text)) make_ws_reads refl make_ws_defines
 
 make_version_defines : table_defined_by make_version_text ≡ Ok version_table
 unfolding everything
@@ -104,7 +104,7 @@ make_version_reads = refl
 
 pub make_version_does : (old new : State) (params : Row) (count : ℕ) → Executes make_version_text params old new (Ok count) → GrowsBy version_table old.now new.now
 unfolding everything
-make_version_does = makes_behind version_table refl (table_text (some_parsed (first make_version_text)).statement) make_version_text (some_parsed (first make_version_text)) make_version_reads refl make_version_defines
+make_version_does = makes_behind version_table tt (table_text (some_parsed (first make_version_text)).statement) make_version_text (some_parsed (first make_version_text)) make_version_reads refl make_version_defines
 
 make_run_defines : table_defined_by make_run_text ≡ Ok run_table
 unfolding everything
@@ -116,7 +116,7 @@ make_run_reads = refl
 
 pub make_run_does : (old new : State) (params : Row) (count : ℕ) → Executes make_run_text params old new (Ok count) → GrowsBy run_table old.now new.now
 unfolding everything
-make_run_does = makes_behind run_table refl (table_text (some_parsed (first make_run_text)).statement) make_run_text (some_parsed (first make_run_text)) make_run_reads refl make_run_defines
+make_run_does = makes_behind run_table tt (table_text (some_parsed (first make_run_text)).statement) make_run_text (some_parsed (first make_run_text)) make_run_reads refl make_run_defines
 
 make_run_index_reads : first make_run_index_text ≡ Ok (as_read (some_parsed (first make_run_index_text)) (written.CreateIndex (fresh_index (index_text (some_parsed (first make_run_index_text)).statement))))
 unfolding everything

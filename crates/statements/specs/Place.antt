@@ -1,7 +1,10 @@
 -- Where a table stands in a schema, whatever other tables, indexes and views stand there too.
-use Rattle.std.specs.Prelude.{◌≡◌, ◌<◌, ◌^◌, ℕ, nat_le, nat_lt, true, false, List, [], ◌==◌, find, slice_get, Some, option_map, unwrap_or}
+use Rattle.std.specs.Prelude.{◌≡◌, ◌<◌, ◌^◌, ◌&&◌, ℕ, nat_le, nat_lt, Bool, true, false, List, ◌==◌, find, slice_get, Some, option_map, unwrap_or}
 use Rattle.std.specs.List.{AllByRecursion}
 use Rattle.sqlite_trees.specs.Tree.{IsAscending}
+use Rattle.sqlite_schema.specs.declared.schema.Action.{Action}
+use Rattle.sqlite_schema.specs.declared.schema.Action.TheVariants.{NoAction, Restrict, Cascade, SetNull, SetDefault}
+use Rattle.sqlite_schema.specs.declared.schema.Reference.{Reference}
 use Rattle.sqlite_schema.specs.declared.schema.Schema.{Schema}
 use Rattle.sqlite_schema.specs.declared.schema.Table.{Table}
 use Rattle.sqlite_schema.specs.Names.{table_named}
@@ -22,10 +25,25 @@ pub record StandsAt (s : Schema) (name : List ℕ) (table : Table) (at tree : �
   pub low : nat_le (2 ^ 31) tree ≡ false
   pub small : nat_lt tree (2 ^ 31) ≡ true
 
--- The schema has the table under its name, and it refers to no other.
+-- Where a row goes or gets another key, those that refer to it stay as they are, or its going is refused.
+abbrev pub is_passive : Action → Bool
+is_passive NoAction = true
+is_passive Restrict = true
+is_passive Cascade = false
+is_passive SetNull = false
+is_passive SetDefault = false
+
+abbrev pub IsPassive : Reference → Type 0
+IsPassive ref = (is_passive ref.on_delete && is_passive ref.on_update) ≡ true
+
+-- no write elsewhere changes a row of this table
+abbrev pub RefersPassively : Table → Type 0
+RefersPassively table = AllByRecursion IsPassive table.references
+
+-- The schema has the table under its name, and its references are passive.
 pub record IsOwn (s : Schema) (table : Table) : Type 0 where
   pub place : StandsAt s table.name table (at_of s table.name) (tree_of s table.name)
-  pub bare : AllByRecursion (λ (t : Table). t.tree ≡ tree_of s table.name → t.references ≡ []) s.tables
+  pub bare : AllByRecursion (λ (t : Table). t.tree ≡ tree_of s table.name → RefersPassively t) s.tables
 
 -- Each of these tables stands somewhere in the schema, and no two have one tree: they were made in this order.
 pub record AreOwn (s : Schema) (tables : List Table) : Type 0 where
