@@ -8,8 +8,8 @@ use Rattle.sqlite_rules.specs.Cast.{cast, cast_all}
 use Rattle.sqlite_typed.specs.Columns.{or_null}
 use Rattle.statements.specs.declared.rows.Holder.{Holder}
 use Rattle.statements.specs.declared.rows.Holder.TheVariants.{Nobody, Lock, Run as HeldByRun}
-use Rattle.statements.specs.Schema.{meta_table, org_table, token_table, ws_table, version_table, run_table}
-use Rattle.statements.specs.Rows.{OrgRow, TokenRow, WsRow, VersionRow, RunRow, kind_cell, lock_id_cell, run_cell, meta_cells, org_cells, token_cells, ws_cells, version_cells, run_cells, number, action_code}
+use Rattle.statements.specs.Schema.{meta_table, org_table, token_table, ws_table, version_table, run_table, page_table, vpage_table}
+use Rattle.statements.specs.Rows.{OrgRow, TokenRow, WsRow, VersionRow, RunRow, PageRow, VpageRow, kind_cell, lock_id_cell, run_cell, meta_cells, org_cells, token_cells, ws_cells, version_cells, run_cells, page_cells, vpage_cells, number, action_code}
 use Rattle.basis.specs.declared.runs.RunAction.{RunAction}
 use Rattle.statements.proofs.Own.{cast_int, cast_null}
 
@@ -61,3 +61,9 @@ pub run_casts : (r : RunRow) → cast_all run_table.columns (run_cells r) ≡ ru
 run_casts r =
     then_cell refl (then_cell refl (then_cell (cast_int _) (then_cell (cast_int _) (then_cell (cast_text r.it.key) (then_cell refl (then_cell (cast_int _) (then_cell (cast_int _)
     (then_cell (cast_action r.it.action) refl))))))))
+
+pub page_casts : (r : PageRow) → cast_all page_table.columns (page_cells r) ≡ page_cells r
+page_casts r = then_cell refl (then_cell (cast_int _) (then_cell refl (then_cell (cast_int _) refl)))
+
+pub vpage_casts : (r : VpageRow) → cast_all vpage_table.columns (vpage_cells r) ≡ vpage_cells r
+vpage_casts r = then_cell refl (then_cell refl (then_cell (cast_int _) (then_cell (cast_int _) (then_cell refl (then_cell (cast_int _) refl)))))

@@ -8,9 +8,9 @@ use Rattle.basis.specs.declared.runs.RunAction.{RunAction}
 use Rattle.statements.specs.declared.rows.Holder.{Holder}
 use Rattle.statements.specs.declared.rows.Holder.TheVariants.{Nobody, Lock, Run as HeldByRun}
 use Rattle.statements.specs.Rows.{Kept, TokenRow, WsRow, RunRow, stored, token_cells, ws_cells, run_cells, number, action_code, kind_cell, lock_id_cell, lock_text_cell, run_cell}
-use Rattle.statements.specs.Tables.{Layout, Tables, Holds, rows_of, tables_of, meta_layout, org_layout, token_layout, ws_layout, version_layout, run_layout}
+use Rattle.statements.specs.Tables.{Layout, Tables, Holds, rows_of, tables_of, meta_layout, org_layout, token_layout, ws_layout, version_layout, run_layout, page_layout, vpage_layout}
 use Rattle.statements.specs.Decode.{kept_by, token_at, ws_at, run_at, holder_at, action_at}
-use Rattle.statements.proofs.Held.{IsHeld, metas_held, orgs_held, tokens_held, wss_held, versions_held, runs_held}
+use Rattle.statements.proofs.Held.{IsHeld, metas_held, orgs_held, tokens_held, wss_held, versions_held, runs_held, pages_held, vpages_held}
 use Rattle.statements.proofs.Codes.{role_back, status_back, action_back}
 
 flag_back : (b : Bool) → not (int_eq (cond b (pos 1) (pos 0)) (pos 0)) ≡ b
@@ -74,4 +74,6 @@ tables-held db t h = λ i. record {
   wss = rows_back ws_layout db t.wss ws_back (wss_held db t h) i;
   versions = rows_back version_layout db t.versions (λ x. refl) (versions_held db t h) i;
   runs = rows_back run_layout db t.runs run_back (runs_held db t h) i;
+  pages = rows_back page_layout db t.pages (λ x. refl) (pages_held db t h) i;
+  vpages = rows_back vpage_layout db t.vpages (λ x. refl) (vpages_held db t h) i;
 }

@@ -8,8 +8,8 @@ use Rattle.sqlite_keyed.specs.Keyed.{IsKeyedBy}
 use Rattle.sqlite_keyed.proofs.ListLemmas.{all_weaker, all-slice_get}
 use Rattle.sqlite.specs.Effect.{Database}
 use Rattle.statements.specs.Place.{tree_of, IsOwn, AreOwn}
-use Rattle.statements.specs.Rows.{Kept, id_of, OrgRow, TokenRow, WsRow, VersionRow, RunRow, stored}
-use Rattle.statements.specs.Tables.{Layout, Tables, Holds, HasRows, StoredTable, stored_tables, tables_in, our_tables, rowid_of, meta_layout, org_layout, token_layout, ws_layout, version_layout, run_layout}
+use Rattle.statements.specs.Rows.{Kept, id_of, OrgRow, TokenRow, WsRow, VersionRow, RunRow, PageRow, VpageRow, stored}
+use Rattle.statements.specs.Tables.{Layout, Tables, Holds, HasRows, StoredTable, stored_tables, tables_in, our_tables, rowid_of, meta_layout, org_layout, token_layout, ws_layout, version_layout, run_layout, page_layout, vpage_layout}
 use Rattle.statements.proofs.Held.{rows_keyed}
 use Rattle.statements.proofs.Own.{Leads}
 
@@ -75,3 +75,9 @@ module _ (old new : Database) (same : new.schema ≡ old.schema) where
 
     pub runs_written : (xs : List (Kept RunRow)) → Written run_layout xs (record t { runs = xs })
     runs_written xs = written run_layout 5 xs (record t { runs = xs }) refl refl
+
+    pub pages_written : (xs : List (Kept PageRow)) → Written page_layout xs (record t { pages = xs })
+    pages_written xs = written page_layout 6 xs (record t { pages = xs }) refl refl
+
+    pub vpages_written : (xs : List (Kept VpageRow)) → Written vpage_layout xs (record t { vpages = xs })
+    vpages_written xs = written vpage_layout 7 xs (record t { vpages = xs }) refl refl

@@ -6,7 +6,7 @@ use Rattle.sqlite_keyed.proofs.ListLemmas.{all-slice_get, ascending-map, ascendi
 use Rattle.sqlite.specs.Effect.{Database}
 use Rattle.statements.specs.Place.{tree_of, IsOwn}
 use Rattle.statements.specs.Rows.{Kept, id_of, stored}
-use Rattle.statements.specs.Tables.{Layout, Tables, Holds, HasRows, StoredTable, stored_table, stored_tables, our_tables, rowid_of, meta_layout, org_layout, token_layout, ws_layout, version_layout, run_layout}
+use Rattle.statements.specs.Tables.{Layout, Tables, Holds, HasRows, StoredTable, stored_table, stored_tables, our_tables, rowid_of, meta_layout, org_layout, token_layout, ws_layout, version_layout, run_layout, page_layout, vpage_layout}
 
 -- the table stands in the schema, and its tree has these rows in the order of their rowids
 pub record IsHeld {R : Type 0} (layout : Layout R) (db : Database) (xs : List (Kept R)) : Type 0 where
@@ -44,3 +44,9 @@ module _ (db : Database) (t : Tables) (h : Holds db t) where
 
   pub runs_held : IsHeld run_layout db t.runs
   runs_held = held_at run_layout 5 t.runs refl
+
+  pub pages_held : IsHeld page_layout db t.pages
+  pages_held = held_at page_layout 6 t.pages refl
+
+  pub vpages_held : IsHeld vpage_layout db t.vpages
+  vpages_held = held_at vpage_layout 7 t.vpages refl

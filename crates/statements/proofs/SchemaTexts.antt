@@ -8,7 +8,7 @@ use Rattle.sqlite_ast.specs.declared.Statement.TheVariants as written
 use Rattle.sqlite_resolve.specs.Compile.{first, table_defined_by}
 use Rattle.sqlite.specs.State.{State, Executes}
 use Rattle.sqlite_tied.specs.Compute.{everything}
-use Rattle.statements.specs.Schema.{meta_table, org_table, token_table, ws_table, version_table, run_table}
+use Rattle.statements.specs.Schema.{meta_table, org_table, token_table, ws_table, version_table, run_table, page_table, vpage_table}
 use Rattle.statements.specs.Making.{GrowsBy, KeepsMade}
 use Rattle.statements.proofs.Meaning.{some_parsed, as_read}
 use Rattle.statements.proofs.Makes.{fresh_table, fresh_index, makes_behind, makes_index}
@@ -40,11 +40,20 @@ make_version_text = codes "CREATE TABLE version (org TEXT NOT NULL, ws TEXT NOT 
 abbrev pub make_run_text : List ℕ
 make_run_text = codes "CREATE TABLE run (org TEXT NOT NULL, ws TEXT NOT NULL, number INTEGER NOT NULL, plan_only INTEGER NOT NULL, rkey TEXT, message TEXT NOT NULL, created INTEGER NOT NULL, status INTEGER NOT NULL CHECK (status BETWEEN 0 AND 8), action INTEGER CHECK (action BETWEEN 0 AND 6), PRIMARY KEY (org, ws, number), UNIQUE (org, ws, rkey)) STRICT"
 
+abbrev pub make_page_text : List ℕ
+make_page_text = codes "CREATE TABLE page (pkey BLOB NOT NULL, twin INTEGER NOT NULL, bytes BLOB NOT NULL, uses INTEGER NOT NULL CHECK (uses >= 1), PRIMARY KEY (pkey, twin)) STRICT"
+
+abbrev pub make_vpage_text : List ℕ
+make_vpage_text = codes "CREATE TABLE vpage (org TEXT NOT NULL, ws TEXT NOT NULL, number INTEGER NOT NULL, place INTEGER NOT NULL, pkey BLOB NOT NULL, twin INTEGER NOT NULL, PRIMARY KEY (org, ws, number, place), FOREIGN KEY (pkey, twin) REFERENCES page (pkey, twin) ON DELETE RESTRICT) STRICT"
+
 abbrev pub make_run_index_text : List ℕ
 make_run_index_text = codes "CREATE INDEX run_by_status ON run (org, ws, status, number)"
 
 abbrev pub make_version_index_text : List ℕ
 make_version_index_text = codes "CREATE INDEX version_head ON version (org, ws, number, serial, lineage, created, size)"
+
+abbrev pub make_vpage_index_text : List ℕ
+make_vpage_index_text = codes "CREATE INDEX vpage_page ON vpage (pkey, twin)"
 
 make_meta_defines : table_defined_by make_meta_text ≡ Ok meta_table
 unfolding everything
@@ -118,6 +127,30 @@ pub make_run_does : (old new : State) (params : Row) (count : ℕ) → Executes 
 unfolding everything
 make_run_does = makes_behind run_table tt (table_text (some_parsed (first make_run_text)).statement) make_run_text (some_parsed (first make_run_text)) make_run_reads refl make_run_defines
 
+make_page_defines : table_defined_by make_page_text ≡ Ok page_table
+unfolding everything
+make_page_defines = refl
+
+make_page_reads : first make_page_text ≡ Ok (as_read (some_parsed (first make_page_text)) (written.CreateTable (fresh_table (table_text (some_parsed (first make_page_text)).statement))))
+unfolding everything
+make_page_reads = refl
+
+pub make_page_does : (old new : State) (params : Row) (count : ℕ) → Executes make_page_text params old new (Ok count) → GrowsBy page_table old.now new.now
+unfolding everything
+make_page_does = makes_behind page_table tt (table_text (some_parsed (first make_page_text)).statement) make_page_text (some_parsed (first make_page_text)) make_page_reads refl make_page_defines
+
+make_vpage_defines : table_defined_by make_vpage_text ≡ Ok vpage_table
+unfolding everything
+make_vpage_defines = refl
+
+make_vpage_reads : first make_vpage_text ≡ Ok (as_read (some_parsed (first make_vpage_text)) (written.CreateTable (fresh_table (table_text (some_parsed (first make_vpage_text)).statement))))
+unfolding everything
+make_vpage_reads = refl
+
+pub make_vpage_does : (old new : State) (params : Row) (count : ℕ) → Executes make_vpage_text params old new (Ok count) → GrowsBy vpage_table old.now new.now
+unfolding everything
+make_vpage_does = makes_behind vpage_table (refl, tt) (table_text (some_parsed (first make_vpage_text)).statement) make_vpage_text (some_parsed (first make_vpage_text)) make_vpage_reads refl make_vpage_defines
+
 make_run_index_reads : first make_run_index_text ≡ Ok (as_read (some_parsed (first make_run_index_text)) (written.CreateIndex (fresh_index (index_text (some_parsed (first make_run_index_text)).statement))))
 unfolding everything
 make_run_index_reads = refl
@@ -133,3 +166,11 @@ make_version_index_reads = refl
 pub make_version_index_does : (old new : State) (params : Row) (count : ℕ) → Executes make_version_index_text params old new (Ok count) → KeepsMade old.now new.now
 unfolding everything
 make_version_index_does = makes_index (index_text (some_parsed (first make_version_index_text)).statement) make_version_index_text (some_parsed (first make_version_index_text)) make_version_index_reads refl
+
+make_vpage_index_reads : first make_vpage_index_text ≡ Ok (as_read (some_parsed (first make_vpage_index_text)) (written.CreateIndex (fresh_index (index_text (some_parsed (first make_vpage_index_text)).statement))))
+unfolding everything
+make_vpage_index_reads = refl
+
+pub make_vpage_index_does : (old new : State) (params : Row) (count : ℕ) → Executes make_vpage_index_text params old new (Ok count) → KeepsMade old.now new.now
+unfolding everything
+make_vpage_index_does = makes_index (index_text (some_parsed (first make_vpage_index_text)).statement) make_vpage_index_text (some_parsed (first make_vpage_index_text)) make_vpage_index_reads refl

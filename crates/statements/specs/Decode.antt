@@ -11,7 +11,7 @@ use Rattle.basis.specs.declared.runs.RunAction.{RunAction}
 use Rattle.basis.specs.declared.runs.RunAction.TheVariants.{ReportPlanned, ReportUnchanged, Fail, Confirm, ReportApplied, Discard, Cancel}
 use Rattle.statements.specs.declared.rows.Holder.{Holder}
 use Rattle.statements.specs.declared.rows.Holder.TheVariants.{Nobody, Lock, Run as HeldByRun}
-use Rattle.statements.specs.Rows.{Kept, OrgRow, TokenRow, WsRow, VersionRow, RunRow}
+use Rattle.statements.specs.Rows.{Kept, OrgRow, TokenRow, WsRow, VersionRow, RunRow, PageRow, VpageRow}
 
 abbrev pub number_at : Row → ℕ → ℕ
 number_at r at = unsigned_abs (int_of (column r at))
@@ -89,3 +89,9 @@ run_at r = record {
     action = unless_null (λ v. action_at (unsigned_abs (int_of v))) (column r 9);
   };
 }
+
+abbrev pub page_at : Row → PageRow
+page_at r = record { key = bytes_at r 1; twin = number_at r 2; bytes = bytes_at r 3; uses = number_at r 4 }
+
+abbrev pub vpage_at : Row → VpageRow
+vpage_at r = record { org = bytes_at r 1; ws = bytes_at r 2; number = number_at r 3; place = number_at r 4; key = bytes_at r 5; twin = number_at r 6 }

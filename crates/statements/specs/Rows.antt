@@ -59,6 +59,22 @@ pub record RunRow : Type 0 where
   pub ws : List ℕ
   pub it : Run
 
+-- a page of texts, and how often it is named
+pub record PageRow : Type 0 where
+  pub key : List ℕ
+  pub twin : ℕ
+  pub bytes : List ℕ
+  pub uses : ℕ
+
+-- the page at a place of a version's text, by its key and twin number
+pub record VpageRow : Type 0 where
+  pub org : List ℕ
+  pub ws : List ℕ
+  pub number : ℕ
+  pub place : ℕ
+  pub key : List ℕ
+  pub twin : ℕ
+
 -- ---- cells
 
 abbrev pub number : ℕ → Value
@@ -133,6 +149,12 @@ abbrev pub run_cells : RunRow → Row
 run_cells r =
     cell.Text r.org ∷ cell.Text r.ws ∷ number r.it.number ∷ flag r.it.plan_only ∷ or_null cell.Text r.it.key ∷ cell.Text r.it.message ∷ number r.it.created
     ∷ number (status_code r.it.status) ∷ or_null (λ a. number (action_code a)) r.it.action ∷ []
+
+abbrev pub page_cells : PageRow → Row
+page_cells r = cell.Blob r.key ∷ number r.twin ∷ cell.Blob r.bytes ∷ number r.uses ∷ []
+
+abbrev pub vpage_cells : VpageRow → Row
+vpage_cells r = cell.Text r.org ∷ cell.Text r.ws ∷ number r.number ∷ number r.place ∷ cell.Blob r.key ∷ number r.twin ∷ []
 
 -- meta's column `one` is its rowid, and the row keeps Null in its place
 abbrev pub meta_cells : ℕ → Row

@@ -8,6 +8,7 @@ use Rattle.sqlite_sql.specs.Term.{Term, lit, col, op1, op2}
 use Rattle.sqlite_sql.specs.declared.ops.CompareOp.TheVariants.{Eq, Le, Ge}
 use Rattle.sqlite_sql.specs.declared.ops.BinaryOp.TheVariants.{Compare, And, Is}
 use Rattle.sqlite_sql.specs.declared.ops.UnaryOp.TheVariants.{Not}
+use Rattle.sqlite_schema.specs.declared.schema.Action.TheVariants.{NoAction, Restrict}
 use Rattle.sqlite_schema.specs.declared.schema.Column.{Column}
 use Rattle.sqlite_schema.specs.declared.schema.Kind.{Kind}
 use Rattle.sqlite_schema.specs.declared.schema.Kind.TheVariants.{Integer, Text, Blob}
@@ -72,6 +73,28 @@ run_table = keyed_table (codes "run")
     ∷ column (codes "action") Integer false ∷ [])
     (1 ∷ 2 ∷ 3 ∷ []) ((1 ∷ 2 ∷ 3 ∷ []) ∷ (1 ∷ 2 ∷ 5 ∷ []) ∷ []) (plain ∷ plain ∷ [])
     (is_between 8 0 8 ∷ is_between 9 0 6 ∷ [])
+
+-- the pages of texts, each by its key and the number that tells it from others of that key
+abbrev pub page_table : Table
+page_table = keyed_table (codes "page")
+    (column (codes "pkey") Blob true ∷ column (codes "twin") Integer true ∷ column (codes "bytes") Blob true ∷ column (codes "uses") Integer true ∷ [])
+    (1 ∷ 2 ∷ []) ((1 ∷ 2 ∷ []) ∷ []) (plain ∷ []) (op2 (Compare Ge Binary) (col 1 4) (lit (Int (pos 1))) ∷ [])
+
+-- Which page stands at which place of a version's text. A page that is named can't go.
+abbrev pub vpage_table : Table
+vpage_table = record (keyed_table (codes "vpage")
+    (column (codes "org") Text true ∷ column (codes "ws") Text true ∷ column (codes "number") Integer true ∷ column (codes "place") Integer true
+    ∷ column (codes "pkey") Blob true ∷ column (codes "twin") Integer true ∷ [])
+    (1 ∷ 2 ∷ 3 ∷ 4 ∷ []) ((1 ∷ 2 ∷ 3 ∷ 4 ∷ []) ∷ []) (plain ∷ []) []) {
+      references = record {
+        columns = 5 ∷ 6 ∷ [];
+        parent = codes "page";
+        parent_columns = codes "pkey" ∷ codes "twin" ∷ [];
+        on_delete = Restrict;
+        on_update = NoAction;
+        is_deferred = false;
+      } ∷ [];
+    }
 
 -- the one row of meta has 1 in the column `one`, which is the rowid
 abbrev pub meta_table : Table

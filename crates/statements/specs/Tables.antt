@@ -8,9 +8,9 @@ use Rattle.sqlite_schema.specs.declared.schema.Table.{Table}
 use Rattle.sqlite_keyed.specs.Keyed.{IsKeyedBy}
 use Rattle.sqlite.specs.Effect.{Database}
 use Rattle.statements.specs.Place.{tree_of, AreOwn}
-use Rattle.statements.specs.Schema.{meta_table, org_table, token_table, ws_table, version_table, run_table}
-use Rattle.statements.specs.Rows.{Kept, OrgRow, TokenRow, WsRow, VersionRow, RunRow, stored, meta_cells, org_cells, token_cells, ws_cells, version_cells, run_cells}
-use Rattle.statements.specs.Decode.{kept_by, meta_at, org_at, token_at, ws_at, version_at, run_at}
+use Rattle.statements.specs.Schema.{meta_table, org_table, token_table, ws_table, version_table, run_table, page_table, vpage_table}
+use Rattle.statements.specs.Rows.{Kept, OrgRow, TokenRow, WsRow, VersionRow, RunRow, PageRow, VpageRow, stored, meta_cells, org_cells, token_cells, ws_cells, version_cells, run_cells, page_cells, vpage_cells}
+use Rattle.statements.specs.Decode.{kept_by, meta_at, org_at, token_at, ws_at, version_at, run_at, page_at, vpage_at}
 
 -- A table of ours: its definition, the cells that keep a row, and the row that cells keep.
 pub record Layout (R : Type 0) : Type 0 where
@@ -36,6 +36,12 @@ version_layout = record { table = version_table; cells = version_cells; read = v
 abbrev pub run_layout : Layout RunRow
 run_layout = record { table = run_table; cells = run_cells; read = run_at }
 
+abbrev pub page_layout : Layout PageRow
+page_layout = record { table = page_table; cells = page_cells; read = page_at }
+
+abbrev pub vpage_layout : Layout VpageRow
+vpage_layout = record { table = vpage_table; cells = vpage_cells; read = vpage_at }
+
 -- the rows of our tables
 pub record Tables : Type 0 where
   pub metas : List (Kept ℕ)
@@ -44,9 +50,11 @@ pub record Tables : Type 0 where
   pub wss : List (Kept WsRow)
   pub versions : List (Kept VersionRow)
   pub runs : List (Kept RunRow)
+  pub pages : List (Kept PageRow)
+  pub vpages : List (Kept VpageRow)
 
 abbrev pub no_rows : Tables
-no_rows = record { metas = []; orgs = []; tokens = []; wss = []; versions = []; runs = [] }
+no_rows = record { metas = []; orgs = []; tokens = []; wss = []; versions = []; runs = []; pages = []; vpages = [] }
 
 -- a table, and the rows that its tree keeps
 pub record StoredTable : Type 0 where
@@ -60,7 +68,7 @@ stored_table layout xs = record { table = layout.table; rows = map (stored layou
 abbrev pub stored_tables : Tables → List StoredTable
 stored_tables t =
     stored_table meta_layout t.metas ∷ stored_table org_layout t.orgs ∷ stored_table token_layout t.tokens ∷ stored_table ws_layout t.wss
-    ∷ stored_table version_layout t.versions ∷ stored_table run_layout t.runs ∷ []
+    ∷ stored_table version_layout t.versions ∷ stored_table run_layout t.runs ∷ stored_table page_layout t.pages ∷ stored_table vpage_layout t.vpages ∷ []
 
 abbrev pub tables_in : List StoredTable → List Table
 tables_in = map (λ (x : StoredTable). x.table)
@@ -98,4 +106,6 @@ tables_of db = record {
   wss = rows_of ws_layout db;
   versions = rows_of version_layout db;
   runs = rows_of run_layout db;
+  pages = rows_of page_layout db;
+  vpages = rows_of vpage_layout db;
 }

@@ -5,7 +5,7 @@ ghost use Rattle.sqlite_trees.specs.View.{doubt};
 ghost use Rattle.sqlite.specs.Held.{state};
 ghost use Rattle.sqlite.specs.State.{HasCleanDisk, Survives};
 ghost use Rattle.statements.specs.Steps.{ChangesBy, ReadsBy};
-ghost use Rattle.statements.specs.Schema.{meta_table, org_table, token_table, ws_table, version_table, run_table};
+ghost use Rattle.statements.specs.Schema.{meta_table, org_table, token_table, ws_table, version_table, run_table, page_table, vpage_table};
 ghost use Rattle.statements.specs.Making.{AltersBy, GrowsBy, GrowsByAll, HasSchema, KeepsMade, LeavesOthers, HasMeta, version_set, told_version, version_in};
 ghost use Rattle.statements.specs.Rows.{Kept};
 
@@ -84,6 +84,30 @@ fn make_run<S: Alter>(tx: &mut Transaction<'_, S>) -> Result<(), Error>
     write(tx, MAKE_RUN, &[])
 }
 
+const MAKE_PAGE: &str =
+    "CREATE TABLE page (pkey BLOB NOT NULL, twin INTEGER NOT NULL, bytes BLOB NOT NULL, uses INTEGER NOT NULL CHECK (uses >= 1), PRIMARY KEY (pkey, twin)) STRICT";
+
+/// Makes the table of pages.
+fn make_page<S: Alter>(tx: &mut Transaction<'_, S>) -> Result<(), Error>
+    ensures same_reference { tx.new.conn.ghost_name ≡ tx.old.conn.ghost_name }
+    ensures made { AltersBy (GrowsBy page_table) (state S.Store tx.old.conn.now) (state S.Store tx.new.conn.now) result }
+    ensures survives { Survives (state S.Store tx.old.conn.now) (state S.Store tx.new.conn.now) (λ _. ⊥) }
+{
+    write(tx, MAKE_PAGE, &[])
+}
+
+const MAKE_VPAGE: &str =
+    "CREATE TABLE vpage (org TEXT NOT NULL, ws TEXT NOT NULL, number INTEGER NOT NULL, place INTEGER NOT NULL, pkey BLOB NOT NULL, twin INTEGER NOT NULL, PRIMARY KEY (org, ws, number, place), FOREIGN KEY (pkey, twin) REFERENCES page (pkey, twin) ON DELETE RESTRICT) STRICT";
+
+/// Makes the table of the pages that stand in the texts of versions.
+fn make_vpage<S: Alter>(tx: &mut Transaction<'_, S>) -> Result<(), Error>
+    ensures same_reference { tx.new.conn.ghost_name ≡ tx.old.conn.ghost_name }
+    ensures made { AltersBy (GrowsBy vpage_table) (state S.Store tx.old.conn.now) (state S.Store tx.new.conn.now) result }
+    ensures survives { Survives (state S.Store tx.old.conn.now) (state S.Store tx.new.conn.now) (λ _. ⊥) }
+{
+    write(tx, MAKE_VPAGE, &[])
+}
+
 const MAKE_RUN_INDEX: &str = "CREATE INDEX run_by_status ON run (org, ws, status, number)";
 
 /// Makes the index by which a waiting run is found.
@@ -105,6 +129,17 @@ fn make_version_index<S: Alter>(tx: &mut Transaction<'_, S>) -> Result<(), Error
     ensures survives { Survives (state S.Store tx.old.conn.now) (state S.Store tx.new.conn.now) (λ _. ⊥) }
 {
     write(tx, MAKE_VERSION_INDEX, &[])
+}
+
+const MAKE_VPAGE_INDEX: &str = "CREATE INDEX vpage_page ON vpage (pkey, twin)";
+
+/// Makes the index by which it is known whether a page is still named, when it goes.
+fn make_vpage_index<S: Alter>(tx: &mut Transaction<'_, S>) -> Result<(), Error>
+    ensures same_reference { tx.new.conn.ghost_name ≡ tx.old.conn.ghost_name }
+    ensures made { AltersBy KeepsMade (state S.Store tx.old.conn.now) (state S.Store tx.new.conn.now) result }
+    ensures survives { Survives (state S.Store tx.old.conn.now) (state S.Store tx.new.conn.now) (λ _. ⊥) }
+{
+    write(tx, MAKE_VPAGE_INDEX, &[])
 }
 
 /// Makes the tables of names: the version, organizations, tokens and workspaces.
@@ -131,6 +166,17 @@ fn make_states<S: Alter>(tx: &mut Transaction<'_, S>) -> Result<(), Error>
     make_version_index(tx)
 }
 
+/// Makes the tables of pages and of where they stand, and the index on these.
+fn make_pages<S: Alter>(tx: &mut Transaction<'_, S>) -> Result<(), Error>
+    ensures same_reference { tx.new.conn.ghost_name ≡ tx.old.conn.ghost_name }
+    ensures made { AltersBy (GrowsByAll (page_table ∷ vpage_table ∷ [])) (state S.Store tx.old.conn.now) (state S.Store tx.new.conn.now) result }
+    ensures clean { doubt (state S.Store tx.old.conn.now).is_clean ≤ doubt (state S.Store tx.new.conn.now).is_clean }
+{
+    make_page(tx)?;
+    make_vpage(tx)?;
+    make_vpage_index(tx)
+}
+
 const SET_VERSION: &str = "INSERT INTO meta (one, version) VALUES (1, 1)";
 
 /// Says that the database has schema 1.
@@ -151,6 +197,7 @@ pub fn make_schema<S: Alter>(tx: &mut Transaction<'_, S>) -> Result<(), Error>
 {
     make_names(tx)?;
     make_states(tx)?;
+    make_pages(tx)?;
     set_version(tx)
 }
 
