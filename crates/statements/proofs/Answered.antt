@@ -35,7 +35,7 @@ use Rattle.sqlite_keyed.proofs.ListLemmas.{ascending-filter, slice_get-filter}
 use Rattle.sqlite_keyed.proofs.SortLemmas.{IsPermutation-sort_by}
 use Rattle.sqlite_typed.proofs.AnswerLemmas.{Source, last_table, at_end, answer_by_keys, answer_sorted, IsNoTie, count_is}
 use Rattle.statements.specs.Rows.{Kept, id_of, stored}
-use Rattle.statements.specs.Inner.Calls.{FirstRow}
+use Rattle.statements.specs.Calls.{FirstRow}
 use Rattle.statements.specs.Finds.{last_in}
 use Rattle.statements.proofs.Meaning.{Means}
 use Rattle.statements.proofs.Writes.{plain_program}

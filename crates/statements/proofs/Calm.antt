@@ -15,9 +15,9 @@ use Rattle.sqlite.specs.declared.error.Error.{Error}
 use Rattle.sqlite.specs.declared.error.Error.TheVariants.{QueryReturnedNoRows}
 use Rattle.sqlite.specs.Effect.{Database, RefusesToRead}
 use Rattle.sqlite.specs.Listing.{understood, reads_listing, if_select, is_select, listing_schema}
-use Rattle.sqlite.specs.State.{State, IsUnchanged, IsRolledBack, QueriesRow, Shown, ShowsRows, FailsToQuery, FailsToShow, IsNotRun, CommitsShowing, store_error, Survives}
+use Rattle.sqlite.specs.State.{State, IsUnchanged, IsRolledBack, QueriesRow, QueriesRowInside, Shown, ShowsRows, FailsToQuery, FailsToShow, IsNotRun, CommitsShowing, store_error, Survives}
 use Rattle.sqlite_ast.specs.declared.Statement.TheVariants as written
-use Rattle.statements.specs.Inner.Calls.{IsQuery}
+use Rattle.statements.specs.Calls.{IsQuery}
 
 module _ (text : List ℕ) (is : IsQuery text) where
   compiled_silent : (s : Schema) (c : Compiled) → compiled s text ≡ Ok c → c.returning ≡ None
@@ -101,6 +101,22 @@ module _ (text : List ℕ) (is : IsQuery text) where
   unfolding QueriesRow
   error_calm params old new e (inl failed) = failed_calm params old new e failed
   error_calm params old new e (inr h) = inl (shown_calm params old new [] h.1)
+
+  -- inside a transaction
+
+  inside_none : (params : Row) (old new : State) → QueriesRowInside text params old new (Err QueryReturnedNoRows) → QueriesRow text params old new (Err QueryReturnedNoRows)
+  inside_none params old new (inl none) = none
+  inside_none params old new (inr late) = absurd (let e = late.4 in cc)
+
+  pub inside_none_shown : (params : Row) (old new : State) → QueriesRowInside text params old new (Err QueryReturnedNoRows) → Shown text params old new []
+  inside_none_shown params old new h = none_shown params old new (inside_none params old new h)
+
+  pub inside_none_calm : (params : Row) (old new : State) → QueriesRowInside text params old new (Err QueryReturnedNoRows) → IsUnchanged old new
+  inside_none_calm params old new h = none_calm params old new (inside_none params old new h)
+
+  pub inside_error_calm : (params : Row) (old new : State) (e : Error) → QueriesRowInside text params old new (Err e) → IsUnchanged old new ⊎ IsRolledBack old new
+  inside_error_calm params old new e (inl failed) = error_calm params old new e failed
+  inside_error_calm params old new e (inr late) = inl late.5
 
   commits_none : (params : Row) (s : State) (db : Trees) → CommitsShowing text params s db → ⊥
   unfolding CommitsShowing

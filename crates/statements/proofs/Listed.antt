@@ -27,7 +27,7 @@ use Rattle.sqlite_keyed.proofs.SortLemmas.{HasNoTies, sorted_is-sort_by, sort_by
 use Rattle.sqlite_typed.proofs.AnswerLemmas.{Source, last_table, at_end, matches_are}
 use Rattle.statements.specs.Place.{tree_of, IsOwn}
 use Rattle.statements.specs.Rows.{Kept, id_of, stored}
-use Rattle.statements.specs.Inner.Calls.{FirstRows}
+use Rattle.statements.specs.Calls.{FirstRows}
 use Rattle.statements.specs.Listings.{Rise}
 use Rattle.statements.proofs.Meaning.{Means}
 use Rattle.statements.proofs.Writes.{plain_program}

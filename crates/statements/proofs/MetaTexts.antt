@@ -30,7 +30,7 @@ use Rattle.statements.specs.Schema.{meta_table}
 use Rattle.statements.specs.Rows.{Kept, id_of, stored, meta_cells}
 use Rattle.statements.specs.Tables.{Tables, Holds}
 use Rattle.statements.specs.Making.{LeavesOthers, HasMeta, like_meta, version_set, told_version, version_in}
-use Rattle.statements.specs.Inner.Calls.{IsQuery, FirstRow, Pins, IsNumber}
+use Rattle.statements.specs.Calls.{IsQuery, FirstRow, Pins, IsNumber}
 use Rattle.statements.proofs.SyntaxTrees as st
 use Rattle.statements.proofs.Meaning.{Means, means, some_parsed, as_read}
 use Rattle.statements.proofs.Reading.{read_is}

@@ -25,7 +25,7 @@ use Rattle.sqlite_typed.proofs.TestLemmas.{same_bytes, turn_eq}
 use Rattle.statements.specs.Place.{tree_of, IsOwn}
 use Rattle.statements.specs.Rows.{Kept, id_of, OrgRow, WsRow, stored}
 use Rattle.statements.specs.Changes.{is_org, is_ws_of, is_ws}
-use Rattle.statements.specs.Inner.Calls.{FirstRows}
+use Rattle.statements.specs.Calls.{FirstRows}
 use Rattle.statements.specs.Listings.{text_cmp, is_behind}
 use Rattle.statements.proofs.Meaning.{Means}
 use Rattle.statements.proofs.Writes.{plain_program}

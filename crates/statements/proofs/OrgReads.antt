@@ -9,7 +9,7 @@ use Rattle.statements.specs.Rows.{org_cells}
 use Rattle.statements.specs.Tables.{Tables, Holds, org_layout}
 use Rattle.statements.specs.Changes.{is_org}
 use Rattle.statements.specs.Finds.{cap_of}
-use Rattle.statements.specs.Inner.Calls.{FirstRow, Pins, IsNumber, IsOrganization}
+use Rattle.statements.specs.Calls.{FirstRow, Pins, IsNumber, IsOrganization}
 use Rattle.statements.specs.declared.rows.Organization.{Organization}
 use Rattle.statements.specs.Listings.{organization_row, organizations_in, OrgsApart}
 use Rattle.statements.proofs.Held.{IsHeld, orgs_held}

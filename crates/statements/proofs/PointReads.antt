@@ -16,7 +16,7 @@ use Rattle.sqlite_keyed.specs.Keyed.{IsKeyedBy}
 use Rattle.statements.specs.Place.{tree_of, IsOwn}
 use Rattle.statements.specs.Rows.{Kept, id_of, stored}
 use Rattle.statements.specs.Finds.{last_in}
-use Rattle.statements.specs.Inner.Calls.{FirstRow, Pins}
+use Rattle.statements.specs.Calls.{FirstRow, Pins}
 use Rattle.statements.proofs.Meaning.{Means}
 use Rattle.statements.proofs.Writes.{plain_program}
 use Rattle.statements.proofs.Own.{stored_tree}

@@ -13,7 +13,7 @@ use Rattle.sqlite.specs.Listing.{understood, reads_listing, IsSourceOf}
 use Rattle.sqlite.specs.State.{State, HasCleanDisk, IsUnchanged, IsRolledBack, Fails, Survives, Shown, ShowsRows, Begins, CommitsShowing}
 use Rattle.sqlite.proofs.Callers.{given_begin, unchanged_then}
 use Rattle.sqlite.proofs.StateLemmas.{survives_then}
-use Rattle.statements.specs.Inner.Calls.{IsQuery, FirstRows}
+use Rattle.statements.specs.Calls.{IsQuery, FirstRows}
 use Rattle.statements.proofs.Calm.{silent, survives_query}
 
 clean_before : (a b : State) (P : Rattle.sqlite_trees.specs.Tree.Trees → Type 0) → Survives a b P → HasCleanDisk b → HasCleanDisk a

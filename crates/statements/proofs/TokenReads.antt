@@ -8,7 +8,7 @@ use Rattle.statements.specs.Rows.{token_cells}
 use Rattle.statements.specs.Tables.{Tables, Holds, token_layout}
 use Rattle.statements.specs.Changes.{is_token, is_digest_of}
 use Rattle.statements.specs.Finds.{role_of_digest, role_of_name}
-use Rattle.statements.specs.Inner.Calls.{FirstRow, Pins, IsRole}
+use Rattle.statements.specs.Calls.{FirstRow, Pins, IsRole}
 use Rattle.statements.proofs.Held.{IsHeld, tokens_held}
 use Rattle.statements.proofs.PointReads.{first_own}
 use Rattle.statements.proofs.ReadBack.{role_read}

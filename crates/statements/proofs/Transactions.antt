@@ -4,7 +4,7 @@ use Rattle.std.specs.List.{AllZip}
 use Rattle.sqlite_value.specs.Order.{Row}
 use Rattle.sqlite.specs.State.{State, Executes, KeepsCommit, IsUnchanged, IsRolledBack}
 use Rattle.sqlite.specs.declared.error.Error.{Error}
-use Rattle.statements.specs.Inner.Calls.{Wrote, WroteAny, FirstRow, IsCalm, IsRead, AreRead, IsCount, IsNumber, Pins}
+use Rattle.statements.specs.Calls.{Wrote, WroteAny, FirstRow, IsCalm, IsRead, AreRead, IsCount, IsNumber, Pins}
 use Rattle.statements.specs.Rows.{number}
 use Rattle.sqlite.specs.Effect.{Database}
 use Rattle.statements.specs.Making.{Alters}

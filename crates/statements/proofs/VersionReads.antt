@@ -10,7 +10,7 @@ use Rattle.statements.specs.Rows.{version_cells, number}
 use Rattle.statements.specs.Tables.{Tables, Holds, version_layout}
 use Rattle.statements.specs.Changes.{is_version, is_version_of}
 use Rattle.statements.specs.Finds.{head_of, newest_of, number_back, version_at_number, body_of, versions_of}
-use Rattle.statements.specs.Inner.Calls.{FirstRow, FirstRows, Pins, IsHeadRow, IsVersionHead, IsBody, IsNumber}
+use Rattle.statements.specs.Calls.{FirstRow, FirstRows, Pins, IsHeadRow, IsVersionHead, IsBody, IsNumber}
 use Rattle.statements.specs.declared.rows.VersionHead.{VersionHead}
 use Rattle.statements.specs.Listings.{version_head_of, version_rows_after, VersionsRise}
 use Rattle.statements.proofs.Held.{IsHeld, versions_held}

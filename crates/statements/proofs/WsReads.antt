@@ -9,7 +9,7 @@ use Rattle.statements.specs.Rows.{ws_cells, number}
 use Rattle.statements.specs.Tables.{Tables, Holds, ws_layout}
 use Rattle.statements.specs.Changes.{is_ws, is_ws_of}
 use Rattle.statements.specs.Finds.{workspace_of, workspaces_of}
-use Rattle.statements.specs.Inner.Calls.{FirstRow, FirstRows, Pins, IsWorkspace, IsNamedRow}
+use Rattle.statements.specs.Calls.{FirstRow, FirstRows, Pins, IsWorkspace, IsNamedRow}
 use Rattle.statements.specs.declared.rows.NamedWorkspace.{NamedWorkspace}
 use Rattle.statements.specs.Listings.{named_row, workspace_rows_after, WorkspacesApart}
 use Rattle.statements.proofs.Held.{IsHeld, wss_held}

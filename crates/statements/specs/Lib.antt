@@ -1,10 +1,10 @@
+pub mod Calls
 pub mod Changes
 pub mod Decode
 pub mod Finds
 pub mod Listings
 pub mod Making
 pub mod Place
-pub mod Inner
 pub mod Rows
 pub mod Schema
 pub mod Steps

@@ -6,7 +6,7 @@ ghost use Rattle.sqlite.specs.Values.{bound};
 ghost use Rattle.sqlite.specs.Held.{state};
 ghost use Rattle.sqlite.specs.State.{HasCleanDisk, Survives, Shown};
 ghost use Rattle.statements.specs.Rows.{role_code, status_code, action_code, flag};
-ghost use Rattle.statements.specs.Inner.Calls.{Wrote, WroteAny, IsQuery, FirstRow, FirstRows, IsCalm, IsRead, AreRead, IsNamedRow, IsOrganization, IsVersionHead, IsFlagCell, IsTextOrNull, AreHolderCells, IsWorkspace, IsHeadRow, IsRunRow, IsBody, IsNumber, IsRole, IsStatusCell, IsActionOrNull, IsStatus, IsCount};
+ghost use Rattle.statements.specs.Calls.{Wrote, WroteAny, IsQuery, FirstRow, FirstRows, IsCalm, IsRead, AreRead, IsNamedRow, IsOrganization, IsVersionHead, IsFlagCell, IsTextOrNull, AreHolderCells, IsWorkspace, IsHeadRow, IsRunRow, IsBody, IsNumber, IsRole, IsStatusCell, IsActionOrNull, IsStatus, IsCount};
 
 use crate::rows::{Head, Holder, NamedWorkspace, Organization, Run, VersionHead, Workspace};
 use basis::{Bytes, Items, Role, RunAction, RunStatus, Text};
@@ -15,7 +15,7 @@ use sqlite::{Alter, Connection, Error, Row, Transaction};
 use std::alloc::Global;
 
 /// Runs a write in a transaction.
-pub(crate) fn write<S: Alter>(
+pub fn write<S: Alter>(
     tx: &mut Transaction<'_, S>,
     sql: &str,
     params: &[ValueRef<'_>],
@@ -43,7 +43,7 @@ pub(crate) fn update<S: Alter>(
 }
 
 /// The first row of a query's answer, or none.
-pub(crate) fn first_row<S: Alter>(
+pub fn first_row<S: Alter>(
     conn: &mut Connection<S>,
     sql: &str,
     params: &[ValueRef<'_>],
@@ -54,6 +54,24 @@ pub(crate) fn first_row<S: Alter>(
     ensures survives { IsQuery sql.now → Survives (state S.Store conn.old) (state S.Store conn.new) (λ _. ⊥) }
 {
     match conn.query_row(sql, params) {
+        Ok(row) => Ok(Some(row)),
+        Err(Error::QueryReturnedNoRows) => Ok(None),
+        Err(error) => Err(error),
+    }
+}
+
+/// The first row of a query's answer inside a transaction, or none.
+pub fn first_row_inside<S: Alter>(
+    tx: &mut Transaction<'_, S>,
+    sql: &str,
+    params: &[ValueRef<'_>],
+) -> Result<Option<Row>, Error>
+    ensures same_reference { tx.new.conn.ghost_name ≡ tx.old.conn.ghost_name }
+    ensures row { IsQuery sql.now → HasCleanDisk (state S.Store tx.new.conn.now) → IfOk result (FirstRow sql.now (bound params.now) (state S.Store tx.old.conn.now) (state S.Store tx.new.conn.now)) }
+    ensures calm { IsQuery sql.now → HasCleanDisk (state S.Store tx.new.conn.now) → IsCalm (state S.Store tx.old.conn.now) (state S.Store tx.new.conn.now) result }
+    ensures survives { Survives (state S.Store tx.old.conn.now) (state S.Store tx.new.conn.now) (λ _. ⊥) }
+{
+    match tx.query_row(sql, params) {
         Ok(row) => Ok(Some(row)),
         Err(Error::QueryReturnedNoRows) => Ok(None),
         Err(error) => Err(error),
@@ -102,7 +120,7 @@ pub(crate) fn all_rows<S: Alter>(
 }
 
 /// A number as SQL has it.
-pub(crate) fn signed(n: u64) -> i64
+pub fn signed(n: u64) -> i64
     requires { n < 2 ^ 63 }
     ensures { result ≡ pos n }
 {
@@ -166,7 +184,7 @@ fn action_in(row: &Row, at: usize) -> Result<Option<RunAction>, Error>
 }
 
 /// A value that a row of an answer holds.
-pub(crate) trait Read: Sized {
+pub trait Read: Sized {
     // Whether the row holds this one.
     ghost is_in: { SqlRow → Self → Type 0 };
 
@@ -291,7 +309,7 @@ impl Read for Role {
 }
 
 /// The value that the row holds, or none where there is no row.
-pub(crate) fn read_one<T: Read + Drop>(row: Result<Option<Row>, Error>) -> Result<Option<T>, Error>
+pub fn read_one<T: Read + Drop>(row: Result<Option<Row>, Error>) -> Result<Option<T>, Error>
     ensures { IsRead T.Read.is_in row result }
 {
     match row? {

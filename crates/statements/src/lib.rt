@@ -2,7 +2,7 @@
 //! text's meaning over typed rows, in every schema in which the tables stand somewhere.
 #![tactic(auto)]
 
-mod calls;
+pub mod calls;
 pub mod making;
 pub mod organizations;
 pub mod rows;

@@ -46,6 +46,8 @@ fn any_there(schema: &Schema) -> bool
         || schema.table_named(b"ws".as_slice()).is_some()
         || schema.table_named(b"version".as_slice()).is_some()
         || schema.table_named(b"run".as_slice()).is_some()
+        || schema.table_named(b"page".as_slice()).is_some()
+        || schema.table_named(b"vpage".as_slice()).is_some()
 }
 
 fn all_there(schema: &Schema) -> bool
@@ -57,6 +59,8 @@ fn all_there(schema: &Schema) -> bool
         && schema.table_named(b"ws".as_slice()).is_some()
         && schema.table_named(b"version".as_slice()).is_some()
         && schema.table_named(b"run".as_slice()).is_some()
+        && schema.table_named(b"page".as_slice()).is_some()
+        && schema.table_named(b"vpage".as_slice()).is_some()
 }
 
 /// Whether a column has this name, and takes integers alone.

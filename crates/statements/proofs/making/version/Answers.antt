@@ -3,7 +3,7 @@ use Rattle.std.proofs.Common.{◌≡◌, ℕ, List, [], Option}
 use Rattle.sqlite_schema.specs.declared.schema.Table.{Table}
 use Rattle.statements.specs.Making.{HasMeta, told_version, version_in}
 use Rattle.statements.specs.Rows.{Kept}
-use Rattle.statements.specs.Inner.Calls.{IsNumber}
+use Rattle.statements.specs.Calls.{IsNumber}
 use Rattle.statements.proofs.Transactions.{reads_by, one_read}
 use Rattle.statements.proofs.MetaTexts.{version_text, version_is_query, version_told, version_shows}
 use Rattle.statements.proofs.making.version.Goals as goal

@@ -1,6 +1,6 @@
 use Rattle.sqlite.specs.Held.{state}
 use Rattle.statements.specs.Finds.{cap_of}
-use Rattle.statements.specs.Inner.Calls.{IsNumber}
+use Rattle.statements.specs.Calls.{IsNumber}
 use Rattle.statements.proofs.Transactions.{reads_by}
 use Rattle.statements.proofs.OrgTexts.{org_cap_text, org_cap_is_query}
 use Rattle.statements.proofs.OrgReads.{org_cap_shows}

@@ -2,7 +2,7 @@ use Rattle.std.proofs.Common.{[]}
 use Rattle.sqlite.specs.Held.{state}
 use Rattle.sqlite.specs.State.{Shown}
 use Rattle.statements.specs.Listings.{organizations_in, OrgsApart}
-use Rattle.statements.specs.Inner.Calls.{IsOrganization}
+use Rattle.statements.specs.Calls.{IsOrganization}
 use Rattle.statements.proofs.Transactions.{lists_by}
 use Rattle.statements.proofs.OrgTexts.{list_orgs_text, list_orgs_is_query}
 use Rattle.statements.proofs.OrgReads.{list_orgs_shows}

@@ -2,7 +2,7 @@ use Rattle.std.proofs.Common.{pos, w64}
 use Rattle.std.proofs.lemmas.Int.{to_z-of_z}
 use Rattle.sqlite.specs.Held.{state}
 use Rattle.statements.specs.Finds.{run_at_number}
-use Rattle.statements.specs.Inner.Calls.{IsRunRow}
+use Rattle.statements.specs.Calls.{IsRunRow}
 use Rattle.statements.proofs.Transactions.{reads_by}
 use Rattle.statements.proofs.RunTexts.{find_run_text, find_run_is_query}
 use Rattle.statements.proofs.RunReads.{find_run_shows}

@@ -1,6 +1,6 @@
 use Rattle.sqlite.specs.Held.{state}
 use Rattle.statements.specs.Finds.{keyed_run_of}
-use Rattle.statements.specs.Inner.Calls.{IsRunRow}
+use Rattle.statements.specs.Calls.{IsRunRow}
 use Rattle.statements.proofs.Transactions.{reads_by}
 use Rattle.statements.proofs.RunTexts.{find_keyed_run_text, find_keyed_run_is_query}
 use Rattle.statements.proofs.RunReads.{find_keyed_run_shows}

@@ -1,6 +1,6 @@
 use Rattle.sqlite.specs.Held.{state}
 use Rattle.statements.specs.Finds.{first_waiting_of}
-use Rattle.statements.specs.Inner.Calls.{IsNumber}
+use Rattle.statements.specs.Calls.{IsNumber}
 use Rattle.statements.proofs.Transactions.{reads_by}
 use Rattle.statements.proofs.RunTexts.{first_waiting_text, first_waiting_is_query}
 use Rattle.statements.proofs.RunReads.{first_waiting_shows}

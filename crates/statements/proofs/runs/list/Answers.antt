@@ -2,7 +2,7 @@ use Rattle.std.proofs.Common.{pos, w64}
 use Rattle.std.proofs.lemmas.Int.{to_z-of_z}
 use Rattle.sqlite.specs.Held.{state}
 use Rattle.statements.specs.Listings.{run_rows_after, RunsRise}
-use Rattle.statements.specs.Inner.Calls.{IsRunRow, FirstRows}
+use Rattle.statements.specs.Calls.{IsRunRow, FirstRows}
 use Rattle.statements.proofs.Transactions.{lists_by}
 use Rattle.statements.proofs.RunTexts.{list_runs_text, list_runs_is_query}
 use Rattle.statements.proofs.RunReads.{list_runs_shows}

@@ -2,7 +2,7 @@ use Rattle.std.proofs.Common.{pos, w64}
 use Rattle.std.proofs.lemmas.Int.{to_z-of_z}
 use Rattle.sqlite.specs.Held.{state}
 use Rattle.statements.specs.Finds.{status_at_number}
-use Rattle.statements.specs.Inner.Calls.{IsStatus}
+use Rattle.statements.specs.Calls.{IsStatus}
 use Rattle.statements.proofs.Transactions.{reads_by}
 use Rattle.statements.proofs.RunTexts.{run_status_text, run_status_is_query}
 use Rattle.statements.proofs.RunReads.{run_status_shows}

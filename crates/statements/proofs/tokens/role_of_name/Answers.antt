@@ -1,6 +1,6 @@
 use Rattle.sqlite.specs.Held.{state}
 use Rattle.statements.specs.Finds.{role_of_name}
-use Rattle.statements.specs.Inner.Calls.{IsRole}
+use Rattle.statements.specs.Calls.{IsRole}
 use Rattle.statements.proofs.Transactions.{reads_by}
 use Rattle.statements.proofs.TokenTexts.{named_token_role_text, named_token_role_is_query}
 use Rattle.statements.proofs.TokenReads.{named_token_role_shows}

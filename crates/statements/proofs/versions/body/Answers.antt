@@ -2,7 +2,7 @@ use Rattle.std.proofs.Common.{pos, w64}
 use Rattle.std.proofs.lemmas.Int.{to_z-of_z}
 use Rattle.sqlite.specs.Held.{state}
 use Rattle.statements.specs.Finds.{body_of}
-use Rattle.statements.specs.Inner.Calls.{IsBody}
+use Rattle.statements.specs.Calls.{IsBody}
 use Rattle.statements.proofs.Transactions.{reads_by}
 use Rattle.statements.proofs.VersionTexts.{version_body_text, version_body_is_query}
 use Rattle.statements.proofs.VersionReads.{version_body_shows}

@@ -2,7 +2,7 @@ use Rattle.std.proofs.Common.{pos, w64}
 use Rattle.std.proofs.lemmas.Int.{to_z-of_z}
 use Rattle.sqlite.specs.Held.{state}
 use Rattle.statements.specs.Finds.{version_at_number}
-use Rattle.statements.specs.Inner.Calls.{IsNumber}
+use Rattle.statements.specs.Calls.{IsNumber}
 use Rattle.statements.proofs.Transactions.{reads_by}
 use Rattle.statements.proofs.VersionTexts.{version_number_text, version_number_is_query}
 use Rattle.statements.proofs.VersionReads.{version_number_shows}

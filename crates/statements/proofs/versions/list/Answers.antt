@@ -2,7 +2,7 @@ use Rattle.std.proofs.Common.{pos, w64}
 use Rattle.std.proofs.lemmas.Int.{to_z-of_z}
 use Rattle.sqlite.specs.Held.{state}
 use Rattle.statements.specs.Listings.{version_rows_after, VersionsRise}
-use Rattle.statements.specs.Inner.Calls.{IsVersionHead, FirstRows}
+use Rattle.statements.specs.Calls.{IsVersionHead, FirstRows}
 use Rattle.statements.proofs.Transactions.{lists_by}
 use Rattle.statements.proofs.VersionTexts.{list_versions_text, list_versions_is_query}
 use Rattle.statements.proofs.VersionReads.{list_versions_shows}

@@ -1,6 +1,6 @@
 use Rattle.sqlite.specs.Held.{state}
 use Rattle.statements.specs.Finds.{newest_of}
-use Rattle.statements.specs.Inner.Calls.{IsHeadRow}
+use Rattle.statements.specs.Calls.{IsHeadRow}
 use Rattle.statements.proofs.Transactions.{reads_by}
 use Rattle.statements.proofs.VersionTexts.{newest_version_text, newest_version_is_query}
 use Rattle.statements.proofs.VersionReads.{newest_version_shows}

@@ -1,6 +1,6 @@
 use Rattle.sqlite.specs.Held.{state}
 use Rattle.statements.specs.Finds.{workspace_of}
-use Rattle.statements.specs.Inner.Calls.{IsWorkspace}
+use Rattle.statements.specs.Calls.{IsWorkspace}
 use Rattle.statements.proofs.Transactions.{reads_by}
 use Rattle.statements.proofs.WsTexts.{find_ws_text, find_ws_is_query}
 use Rattle.statements.proofs.WsReads.{find_ws_shows}

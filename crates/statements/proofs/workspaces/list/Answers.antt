@@ -1,6 +1,6 @@
 use Rattle.sqlite.specs.Held.{state}
 use Rattle.statements.specs.Listings.{workspace_rows_after, WorkspacesApart}
-use Rattle.statements.specs.Inner.Calls.{IsNamedRow, FirstRows}
+use Rattle.statements.specs.Calls.{IsNamedRow, FirstRows}
 use Rattle.statements.proofs.Transactions.{lists_by}
 use Rattle.statements.proofs.WsTexts.{list_ws_text, list_ws_is_query}
 use Rattle.statements.proofs.WsReads.{list_ws_shows}
