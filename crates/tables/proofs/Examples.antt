@@ -66,6 +66,8 @@ two = record {
       ∷ (pos 3, record { org = acme; ws = prod; it = record { number = 2; serial = 2; lineage = codes "a1"; created = 1_700_000_000; body = s2 } })
       ∷ [];
   runs = (pos 1, record { org = acme; ws = prod; it = record { number = 1; plan_only = false; key = None; message = codes "go"; created = 1_700_000_000; status = Pending; action = None } }) ∷ [];
+  pages = [];
+  vpages = [];
 }
 
 abbrev globex_has : Workspace → Option Organization

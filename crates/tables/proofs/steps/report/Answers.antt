@@ -14,3 +14,6 @@ returns-then-frees-clause-changed g c = rw c.if-frees.true (λ clean inside.
     let one = (c.in_ok-act.ensures.changed (clean_before s1 s2 _ c.release_run.ensures.survives clean) inside).0 in
     moves_then (run_acted c.args.status c.args.action org ws c.args.number) (ws_changed (held_by Nobody) org ws) s0 s1 s2 c.release_run.result one
     (c.release_run.ensures.changed clean one.inside))
+
+pub returns-else-frees-clause-changed : goal.returns-else-frees-clause-changed
+returns-else-frees-clause-changed g c = rw c.if-frees.false c.in_ok-act.ensures.changed

@@ -2,6 +2,7 @@ use Rattle.std.proofs.Common.{refl, sym, ap, subst}
 use Rattle.sqlite.specs.Effect.{Database}
 use Rattle.sqlite.specs.Held.{state}
 use Rattle.tables.specs.Stores.{records_of, IsSoundStore}
+use Rattle.tables.proofs.Stores.{first_store_is_sound, first_store_is_empty}
 use Rattle.tables.proofs.Telling.{sound_is_not_other}
 use Rattle.tables.proofs.store.SqlKeep.open.Goals as goal
 
@@ -20,3 +21,8 @@ pub returns-in-Ok-clause-climbed : goal.returns-in-Ok-clause-climbed
 returns-in-Ok-clause-climbed g c = rw c.of-seen.ensures (λ clean n h.
     let is = c.in-Ok.ensures.climbed clean n h in
     (record { store = is.0; tied = λ _. refl }, is.1))
+
+pub returns-in-Ok-clause-fresh : goal.returns-in-Ok-clause-fresh
+returns-in-Ok-clause-fresh g c = rw c.of-seen.ensures (λ clean none.
+    let made = c.in-Ok.ensures.made clean none in
+    (record { store = first_store_is_sound _ made.schema.holds; tied = λ _. refl }, first_store_is_empty _ made.schema.holds))
