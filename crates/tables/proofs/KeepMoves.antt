@@ -1,5 +1,5 @@
 -- Steps inside one transaction, one after the other.
-use Rattle.std.proofs.Common.{◌≡◌, ◌≤◌, ℕ, true, List, is_some, Option, Some, None, Result, Ok, Err, OnOk, OnErr, ◌∙◌, arith}
+use Rattle.std.proofs.Common.{◌≡◌, ◌≤◌, ℕ, true, List, is_some, IsTrue, Option, Some, None, Result, Ok, Err, OnOk, OnErr, ◌∙◌, arith}
 use Rattle.sqlite_trees.specs.View.{doubt}
 use Rattle.sqlite_trees.specs.Tree.{Trees}
 use Rattle.sqlite_trees.specs.declared.store.Store.{Ghosts}
@@ -11,7 +11,7 @@ use Rattle.statements.specs.declared.rows.Workspace.{Workspace}
 use Rattle.statements.specs.Finds.{workspace_of}
 use Rattle.statements.specs.Tables.{Tables, Holds}
 use Rattle.tables.specs.Inner.Edits.{if_there}
-use Rattle.tables.specs.Inner.Steps.{FindsIn, StepsBy}
+use Rattle.tables.specs.Inner.Steps.{StepsBy}
 
 pub clean_before : (a b : State) (C : Trees → Type 0) → Survives a b C → HasCleanDisk b → HasCleanDisk a
 clean_before a b C s clean = let low : doubt a.is_clean ≤ doubt b.is_clean = s.clean in omega (arith, low, clean)
@@ -65,9 +65,10 @@ module _ {S : Type 0} (g : Ghosts S) where
   }
 
   -- steps of which the first found the workspace
-  pub steps_there : {X Y Z E F : Type 0} (org ws : List ℕ) (f : Tables → Tables) (a b c : Transaction S) (x : X) (result : Result Z F) → FindsIn {E = E} org ws (state g a.conn.now) (state g b.conn.now) (Ok x)
+  pub steps_there : {Z F : Type 0} (org ws : List ℕ) (f : Tables → Tables) (a b c : Transaction S) (result : Result Z F)
+      → (HasCleanDisk (state g b.conn.now) → IsTrue (state g a.conn.now).in_transaction → (t : Tables) → Holds (state g a.conn.now).now t → is_some (workspace_of org ws t) ≡ true)
       → (HasCleanDisk (state g c.conn.now) → HasCleanDisk (state g b.conn.now)) → StepsBy g f a c result → StepsBy g (λ t. if_there (workspace_of org ws t) (f t) t) a c result
-  steps_there org ws f a b c x result found so_far all = record {
+  steps_there org ws f a b c result found so_far all = record {
     same_reference = all.same_reference;
     changed = λ clean inside. moves_there org ws f (state g a.conn.now) (state g c.conn.now) (found (so_far clean) inside) result (all.changed clean inside);
     so_far = all.so_far;
