@@ -1,10 +1,14 @@
 -- How the tables are made, in a database that may hold tables of others.
-use Rattle.std.specs.Prelude.{◌≡◌, ◌≢◌, ℕ, pos, List, [], ◌∷◌, ◌++◌, map, IsTrue, Result, OnOk, OnErr, Option, option_map}
+use Rattle.std.specs.Prelude.{◌≡◌, ◌≢◌, ◌≤◌, ℕ, pos, List, [], ◌∷◌, ◌++◌, map, IsTrue, Result, OnOk, OnErr, Option, option_map}
 use Rattle.std.specs.List.{AllByRecursion}
 use Rattle.sqlite_schema.specs.declared.schema.Table.{Table}
 use Rattle.sqlite_catalog.specs.Change.{KeepsRows}
+use Rattle.sqlite_trees.specs.declared.store.Store.{Ghosts}
+use Rattle.sqlite_trees.specs.View.{doubt}
 use Rattle.sqlite.specs.Effect.{Database}
+use Rattle.sqlite.specs.Held.{state}
 use Rattle.sqlite.specs.State.{State, HasCleanDisk, KeepsCommit}
+use Rattle.sqlite.specs.declared.transaction.Transaction.{Transaction}
 use Rattle.sqlite_keyed.specs.Keyed.{IsKeyedBy, insert_by, get_by}
 use Rattle.statements.specs.Place.{at_of, tree_of, StandsAt, IsOwn, AreOwn}
 use Rattle.statements.specs.Schema.{meta_table}
@@ -50,6 +54,12 @@ pub record Alters (Change : Database → Database → Type 0) (old new : State) 
 -- after a failure nothing is committed
 abbrev pub AltersBy : {X E : Type 0} → (Database → Database → Type 0) → State → State → Result X E → Type 0
 AltersBy Change old new result = HasCleanDisk new → IsTrue old.in_transaction → OnOk result (Alters Change old new) × OnErr result (KeepsCommit old new)
+
+-- What making tables promises: the transaction stays that of the same connection, the schema changes so, and no fault is forgotten.
+pub record MakesBy {S X E : Type 0} (g : Ghosts S) (Change : Database → Database → Type 0) (old new : Transaction S) (result : Result X E) : Type 0 where
+  pub same_reference : new.conn.ghost_name ≡ old.conn.ghost_name
+  pub made : AltersBy Change (state g old.conn.now) (state g new.conn.now) result
+  pub clean : doubt (state g old.conn.now).is_clean ≤ doubt (state g new.conn.now).is_clean
 
 -- Only the rows of the table differ, if it is one of ours.
 abbrev pub LeavesOthers : Table → Database → Database → Type 0

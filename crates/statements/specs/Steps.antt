@@ -1,6 +1,9 @@
 -- What a statement does: it changes the rows of our tables by a function, or reads a value of them.
-use Rattle.std.specs.Prelude.{◌≡◌, ◌⊎◌, IsTrue, Result, IfOk, OnOk, OnErr}
-use Rattle.sqlite.specs.State.{State, HasCleanDisk, IsUnchanged, IsRolledBack, KeepsCommit}
+use Rattle.std.specs.Prelude.{◌≡◌, ◌⊎◌, false, IsTrue, Result, IfOk, OnOk, OnErr}
+use Rattle.sqlite_trees.specs.declared.store.Store.{Ghosts}
+use Rattle.sqlite.specs.Held.{Held, state}
+use Rattle.sqlite.specs.State.{State, HasCleanDisk, IsUnchanged, IsRolledBack, KeepsCommit, Survives}
+use Rattle.sqlite.specs.declared.transaction.Transaction.{Transaction}
 use Rattle.statements.specs.Tables.{Tables, Holds}
 
 -- The rows change by the function, inside the transaction, which goes on.
@@ -15,6 +18,12 @@ pub record Moves (change : Tables → Tables) (old new : State) : Type 0 where
 abbrev pub ChangesBy : {X E : Type 0} → (Tables → Tables) → State → State → Result X E → Type 0
 ChangesBy change old new result = HasCleanDisk new → IsTrue old.in_transaction → OnOk result (Moves change old new) × OnErr result (KeepsCommit old new)
 
+-- What a write promises: the transaction stays that of the same connection, the rows change by the function, and what the disk has promised stays.
+pub record WritesBy {S X E : Type 0} (g : Ghosts S) (change : Tables → Tables) (old new : Transaction S) (result : Result X E) : Type 0 where
+  pub same_reference : new.conn.ghost_name ≡ old.conn.ghost_name
+  pub changed : ChangesBy change (state g old.conn.now) (state g new.conn.now) result
+  pub survives : Survives (state g old.conn.now) (state g new.conn.now) (λ _. ⊥)
+
 -- a read outside a transaction: nothing changes, and the value is that of the rows
 abbrev pub ReadsBy : {X E : Type 0} → (Tables → X) → State → State → Result X E → Type 0
 ReadsBy read old new result =
@@ -24,3 +33,15 @@ ReadsBy read old new result =
 abbrev pub ReadsWhere : {X E : Type 0} → (Tables → Type 0) → (Tables → X) → State → State → Result X E → Type 0
 ReadsWhere law read old new result =
     HasCleanDisk new → IfOk result (λ x. (t : Tables) → Holds old.now t → law t → x ≡ read t) × (OnOk result (IsUnchanged old new) × OnErr result (IsUnchanged old new ⊎ IsRolledBack old new))
+
+-- What a read promises: no transaction begins, the value is that of the rows, and what the disk has promised stays.
+pub record QueriesBy {S X E : Type 0} (g : Ghosts S) (value : Tables → X) (old new : Held S) (result : Result X E) : Type 0 where
+  pub mode : old.in_transaction ≡ false → new.in_transaction ≡ false
+  pub read : ReadsBy value (state g old) (state g new) result
+  pub survives : Survives (state g old) (state g new) (λ _. ⊥)
+
+-- such a read of rows that obey a law
+pub record QueriesWhere {S X E : Type 0} (g : Ghosts S) (law : Tables → Type 0) (value : Tables → X) (old new : Held S) (result : Result X E) : Type 0 where
+  pub mode : old.in_transaction ≡ false → new.in_transaction ≡ false
+  pub read : ReadsWhere law value (state g old) (state g new) result
+  pub survives : Survives (state g old) (state g new) (λ _. ⊥)

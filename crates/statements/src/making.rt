@@ -1,12 +1,11 @@
 //! Statements that make the tables of schema 1, and those on the table meta, which tells the version.
-ghost use Rattle.std.specs.Prelude.{◌≡◌, ◌≤◌, ℕ, false, List, [], ◌∷◌, IsTrue, IfOk, OnOk};
+ghost use Rattle.std.specs.Prelude.{◌≡◌, ℕ, List, [], ◌∷◌, IsTrue, IfOk, OnOk};
 ghost use Rattle.sqlite_schema.specs.declared.schema.Table.{Table};
-ghost use Rattle.sqlite_trees.specs.View.{doubt};
 ghost use Rattle.sqlite.specs.Held.{state};
 ghost use Rattle.sqlite.specs.State.{HasCleanDisk, Survives};
-ghost use Rattle.statements.specs.Steps.{ChangesBy, ReadsBy};
+ghost use Rattle.statements.specs.Steps.{WritesBy, QueriesBy};
 ghost use Rattle.statements.specs.Schema.{meta_table, org_table, token_table, ws_table, version_table, run_table, page_table, vpage_table};
-ghost use Rattle.statements.specs.Making.{AltersBy, GrowsBy, GrowsByAll, HasSchema, KeepsMade, LeavesOthers, HasMeta, version_set, told_version, version_in};
+ghost use Rattle.statements.specs.Making.{AltersBy, MakesBy, GrowsBy, GrowsByAll, HasSchema, KeepsMade, LeavesOthers, HasMeta, version_set, told_version, version_in};
 ghost use Rattle.statements.specs.Rows.{Kept};
 
 use crate::calls::{first_row, read_one, write};
@@ -144,9 +143,7 @@ fn make_vpage_index<S: Alter>(tx: &mut Transaction<'_, S>) -> Result<(), Error>
 
 /// Makes the tables of names: the version, organizations, tokens and workspaces.
 fn make_names<S: Alter>(tx: &mut Transaction<'_, S>) -> Result<(), Error>
-    ensures same_reference { tx.new.conn.ghost_name ≡ tx.old.conn.ghost_name }
-    ensures made { AltersBy (GrowsByAll (meta_table ∷ org_table ∷ token_table ∷ ws_table ∷ [])) (state S.Store tx.old.conn.now) (state S.Store tx.new.conn.now) result }
-    ensures clean { doubt (state S.Store tx.old.conn.now).is_clean ≤ doubt (state S.Store tx.new.conn.now).is_clean }
+    ensures { MakesBy S.Store (GrowsByAll (meta_table ∷ org_table ∷ token_table ∷ ws_table ∷ [])) tx.old tx.new result }
 {
     make_meta(tx)?;
     make_org(tx)?;
@@ -156,9 +153,7 @@ fn make_names<S: Alter>(tx: &mut Transaction<'_, S>) -> Result<(), Error>
 
 /// Makes the tables of versions and runs, and an index on each.
 fn make_states<S: Alter>(tx: &mut Transaction<'_, S>) -> Result<(), Error>
-    ensures same_reference { tx.new.conn.ghost_name ≡ tx.old.conn.ghost_name }
-    ensures made { AltersBy (GrowsByAll (version_table ∷ run_table ∷ [])) (state S.Store tx.old.conn.now) (state S.Store tx.new.conn.now) result }
-    ensures clean { doubt (state S.Store tx.old.conn.now).is_clean ≤ doubt (state S.Store tx.new.conn.now).is_clean }
+    ensures { MakesBy S.Store (GrowsByAll (version_table ∷ run_table ∷ [])) tx.old tx.new result }
 {
     make_version(tx)?;
     make_run(tx)?;
@@ -168,9 +163,7 @@ fn make_states<S: Alter>(tx: &mut Transaction<'_, S>) -> Result<(), Error>
 
 /// Makes the tables of pages and of where they stand, and the index on these.
 fn make_pages<S: Alter>(tx: &mut Transaction<'_, S>) -> Result<(), Error>
-    ensures same_reference { tx.new.conn.ghost_name ≡ tx.old.conn.ghost_name }
-    ensures made { AltersBy (GrowsByAll (page_table ∷ vpage_table ∷ [])) (state S.Store tx.old.conn.now) (state S.Store tx.new.conn.now) result }
-    ensures clean { doubt (state S.Store tx.old.conn.now).is_clean ≤ doubt (state S.Store tx.new.conn.now).is_clean }
+    ensures { MakesBy S.Store (GrowsByAll (page_table ∷ vpage_table ∷ [])) tx.old tx.new result }
 {
     make_page(tx)?;
     make_vpage(tx)?;
@@ -181,19 +174,15 @@ const SET_VERSION: &str = "INSERT INTO meta (one, version) VALUES (1, 1)";
 
 /// Says that the database has schema 1.
 fn set_version<S: Alter>(tx: &mut Transaction<'_, S>) -> Result<(), Error>
-    ensures same_reference { tx.new.conn.ghost_name ≡ tx.old.conn.ghost_name }
-    ensures changed { ChangesBy version_set (state S.Store tx.old.conn.now) (state S.Store tx.new.conn.now) result }
+    ensures writes { WritesBy S.Store version_set tx.old tx.new result }
     ensures others { HasCleanDisk (state S.Store tx.new.conn.now) → IsTrue (state S.Store tx.old.conn.now).in_transaction → OnOk result (LeavesOthers meta_table (state S.Store tx.old.conn.now).now (state S.Store tx.new.conn.now).now) }
-    ensures survives { Survives (state S.Store tx.old.conn.now) (state S.Store tx.new.conn.now) (λ _. ⊥) }
 {
     write(tx, SET_VERSION, &[])
 }
 
 /// Makes schema 1: its tables, and the row that tells its version.
 pub fn make_schema<S: Alter>(tx: &mut Transaction<'_, S>) -> Result<(), Error>
-    ensures same_reference { tx.new.conn.ghost_name ≡ tx.old.conn.ghost_name }
-    ensures made { AltersBy HasSchema (state S.Store tx.old.conn.now) (state S.Store tx.new.conn.now) result }
-    ensures clean { doubt (state S.Store tx.old.conn.now).is_clean ≤ doubt (state S.Store tx.new.conn.now).is_clean }
+    ensures { MakesBy S.Store HasSchema tx.old tx.new result }
 {
     make_names(tx)?;
     make_states(tx)?;
@@ -205,10 +194,8 @@ const VERSION: &str = "SELECT version FROM meta WHERE one = 1 ORDER BY rowid";
 
 /// The version of the schema, if the database tells one.
 pub fn version<S: Alter>(conn: &mut Connection<S>) -> Result<Option<u64>, Error>
-    ensures mode { conn.old.in_transaction ≡ false → conn.new.in_transaction ≡ false }
-    ensures read { ReadsBy version_in (state S.Store conn.old) (state S.Store conn.new) result }
+    ensures reads { QueriesBy S.Store version_in conn.old conn.new result }
     ensures told { HasCleanDisk (state S.Store conn.new) → IfOk result (λ version. (table : Table) (metas : List (Kept ℕ)) → HasMeta (state S.Store conn.old).now table metas → version ≡ told_version metas) }
-    ensures survives { Survives (state S.Store conn.old) (state S.Store conn.new) (λ _. ⊥) }
 {
     let row = first_row(conn, VERSION, &[]);
     read_one(row)

@@ -1,8 +1,6 @@
 //! Statements on the table org.
-ghost use Rattle.std.specs.Prelude.{◌≡◌, false, ◌<◌, ◌^◌};
-ghost use Rattle.sqlite.specs.Held.{state};
-ghost use Rattle.sqlite.specs.State.{Survives};
-ghost use Rattle.statements.specs.Steps.{ChangesBy, ReadsBy, ReadsWhere};
+ghost use Rattle.std.specs.Prelude.{◌<◌, ◌^◌};
+ghost use Rattle.statements.specs.Steps.{WritesBy, QueriesBy, QueriesWhere};
 ghost use Rattle.statements.specs.Changes.{org_row_added, org_capped};
 ghost use Rattle.statements.specs.Listings.{organizations_in, OrgsApart};
 ghost use Rattle.statements.specs.Finds.{cap_of};
@@ -17,9 +15,7 @@ const ORG_CAP: &str = "SELECT cap FROM org WHERE name = ?1 ORDER BY rowid";
 
 /// How many workspaces an organization may have, if there is one of the name.
 pub fn cap<S: Alter>(conn: &mut Connection<S>, name: &str) -> Result<Option<u64>, Error>
-    ensures mode { conn.old.in_transaction ≡ false → conn.new.in_transaction ≡ false }
-    ensures read { ReadsBy (cap_of name.now) (state S.Store conn.old) (state S.Store conn.new) result }
-    ensures survives { Survives (state S.Store conn.old) (state S.Store conn.new) (λ _. ⊥) }
+    ensures { QueriesBy S.Store (cap_of name.now) conn.old conn.new result }
 {
     let row = first_row(conn, ORG_CAP, params![name]);
     read_one(row)
@@ -29,9 +25,7 @@ const LIST_ORGS: &str = "SELECT name, cap FROM org ORDER BY name";
 
 /// All organizations, in the order of their names.
 pub fn list<S: Alter>(alloc: Global, conn: &mut Connection<S>) -> Result<Items<Organization>, Error>
-    ensures mode { conn.old.in_transaction ≡ false → conn.new.in_transaction ≡ false }
-    ensures read { ReadsWhere OrgsApart organizations_in (state S.Store conn.old) (state S.Store conn.new) result }
-    ensures survives { Survives (state S.Store conn.old) (state S.Store conn.new) (λ _. ⊥) }
+    ensures { QueriesWhere S.Store OrgsApart organizations_in conn.old conn.new result }
 {
     let rows = all_rows(conn, LIST_ORGS, &[]);
     read_all(alloc, rows)
@@ -42,9 +36,7 @@ const ADD_ORG: &str = "INSERT INTO org (name, cap) VALUES (?1, ?2)";
 /// Adds an organization, and how many workspaces it may have.
 pub fn add<S: Alter>(tx: &mut Transaction<'_, S>, name: &str, cap: u64) -> Result<(), Error>
     requires cap_fits { cap < 2 ^ 63 }
-    ensures same_reference { tx.new.conn.ghost_name ≡ tx.old.conn.ghost_name }
-    ensures changed { ChangesBy (org_row_added name.now cap) (state S.Store tx.old.conn.now) (state S.Store tx.new.conn.now) result }
-    ensures survives { Survives (state S.Store tx.old.conn.now) (state S.Store tx.new.conn.now) (λ _. ⊥) }
+    ensures { WritesBy S.Store (org_row_added name.now cap) tx.old tx.new result }
 {
     let cap = signed(cap);
     write(tx, ADD_ORG, params![name, &cap])
@@ -55,9 +47,7 @@ const SET_CAP: &str = "UPDATE org SET cap = ?2 WHERE name = ?1";
 /// Sets how many workspaces an organization may have.
 pub fn set_cap<S: Alter>(tx: &mut Transaction<'_, S>, name: &str, cap: u64) -> Result<(), Error>
     requires cap_fits { cap < 2 ^ 63 }
-    ensures same_reference { tx.new.conn.ghost_name ≡ tx.old.conn.ghost_name }
-    ensures changed { ChangesBy (org_capped name.now cap) (state S.Store tx.old.conn.now) (state S.Store tx.new.conn.now) result }
-    ensures survives { Survives (state S.Store tx.old.conn.now) (state S.Store tx.new.conn.now) (λ _. ⊥) }
+    ensures { WritesBy S.Store (org_capped name.now cap) tx.old tx.new result }
 {
     let cap = signed(cap);
     write(tx, SET_CAP, params![name, &cap])

@@ -1,8 +1,6 @@
 //! Statements on the table run.
-ghost use Rattle.std.specs.Prelude.{◌≡◌, false, option_map, ◌<◌, ◌^◌};
-ghost use Rattle.sqlite.specs.Held.{state};
-ghost use Rattle.sqlite.specs.State.{Survives};
-ghost use Rattle.statements.specs.Steps.{ChangesBy, ReadsBy, ReadsWhere};
+ghost use Rattle.std.specs.Prelude.{option_map, ◌<◌, ◌^◌};
+ghost use Rattle.statements.specs.Steps.{WritesBy, QueriesBy, QueriesWhere};
 ghost use Rattle.statements.specs.Changes.{run_changed_to, run_acted, run_added, run_made, runs_removed};
 ghost use Rattle.statements.specs.Listings.{run_rows_after, RunsRise};
 ghost use Rattle.statements.specs.Finds.{first_waiting_of, status_at_number, run_at_number, keyed_run_of, open_runs_of};
@@ -25,9 +23,7 @@ pub fn first_waiting<S: Alter>(
     org: &str,
     ws: &str,
 ) -> Result<Option<u64>, Error>
-    ensures mode { conn.old.in_transaction ≡ false → conn.new.in_transaction ≡ false }
-    ensures read { ReadsBy (first_waiting_of org.now ws.now) (state S.Store conn.old) (state S.Store conn.new) result }
-    ensures survives { Survives (state S.Store conn.old) (state S.Store conn.new) (λ _. ⊥) }
+    ensures { QueriesBy S.Store (first_waiting_of org.now ws.now) conn.old conn.new result }
 {
     let row = first_row(conn, FIRST_WAITING, params![org, ws]);
     read_one(row)
@@ -44,9 +40,7 @@ pub fn status<S: Alter>(
     run: u64,
 ) -> Result<Option<RunStatus>, Error>
     requires run_fits { run < 2 ^ 63 }
-    ensures mode { conn.old.in_transaction ≡ false → conn.new.in_transaction ≡ false }
-    ensures read { ReadsBy (status_at_number org.now ws.now run) (state S.Store conn.old) (state S.Store conn.new) result }
-    ensures survives { Survives (state S.Store conn.old) (state S.Store conn.new) (λ _. ⊥) }
+    ensures { QueriesBy S.Store (status_at_number org.now ws.now run) conn.old conn.new result }
 {
     let run = signed(run);
     let row = first_row(conn, RUN_STATUS, params![org, ws, &run]);
@@ -64,9 +58,7 @@ pub fn find<S: Alter>(
     number: u64,
 ) -> Result<Option<Run>, Error>
     requires number_fits { number < 2 ^ 63 }
-    ensures mode { conn.old.in_transaction ≡ false → conn.new.in_transaction ≡ false }
-    ensures read { ReadsBy (run_at_number org.now ws.now number) (state S.Store conn.old) (state S.Store conn.new) result }
-    ensures survives { Survives (state S.Store conn.old) (state S.Store conn.new) (λ _. ⊥) }
+    ensures { QueriesBy S.Store (run_at_number org.now ws.now number) conn.old conn.new result }
 {
     let number = signed(number);
     let row = first_row(conn, FIND_RUN, params![org, ws, &number]);
@@ -86,9 +78,7 @@ pub fn list<S: Alter>(
     most: usize,
 ) -> Result<Items<Run>, Error>
     requires after_fits { after < 2 ^ 63 }
-    ensures mode { conn.old.in_transaction ≡ false → conn.new.in_transaction ≡ false }
-    ensures read { ReadsWhere (RunsRise org.now ws.now) (run_rows_after org.now ws.now after most) (state S.Store conn.old) (state S.Store conn.new) result }
-    ensures survives { Survives (state S.Store conn.old) (state S.Store conn.new) (λ _. ⊥) }
+    ensures { QueriesWhere S.Store (RunsRise org.now ws.now) (run_rows_after org.now ws.now after most) conn.old conn.new result }
 {
     let after = signed(after);
     let rows = first_rows(alloc, conn, LIST_RUNS, params![org, ws, &after], most);
@@ -105,9 +95,7 @@ pub fn find_by_key<S: Alter>(
     ws: &str,
     key: &str,
 ) -> Result<Option<Run>, Error>
-    ensures mode { conn.old.in_transaction ≡ false → conn.new.in_transaction ≡ false }
-    ensures read { ReadsBy (keyed_run_of org.now ws.now key.now) (state S.Store conn.old) (state S.Store conn.new) result }
-    ensures survives { Survives (state S.Store conn.old) (state S.Store conn.new) (λ _. ⊥) }
+    ensures { QueriesBy S.Store (keyed_run_of org.now ws.now key.now) conn.old conn.new result }
 {
     let row = first_row(conn, FIND_KEYED_RUN, params![org, ws, key]);
     read_one(row)
@@ -117,9 +105,7 @@ const COUNT_OPEN_RUNS: &str = "SELECT count(*) FROM run WHERE org = ?1 AND ws = 
 
 /// How many runs of a workspace are open.
 pub fn count_open<S: Alter>(conn: &mut Connection<S>, org: &str, ws: &str) -> Result<u64, Error>
-    ensures mode { conn.old.in_transaction ≡ false → conn.new.in_transaction ≡ false }
-    ensures read { ReadsBy (open_runs_of org.now ws.now) (state S.Store conn.old) (state S.Store conn.new) result }
-    ensures survives { Survives (state S.Store conn.old) (state S.Store conn.new) (λ _. ⊥) }
+    ensures { QueriesBy S.Store (open_runs_of org.now ws.now) conn.old conn.new result }
 {
     let row = first_row(conn, COUNT_OPEN_RUNS, params![org, ws]);
     count_of(row)
@@ -137,9 +123,7 @@ pub fn set_status<S: Alter>(
     status: RunStatus,
 ) -> Result<(), Error>
     requires run_fits { run < 2 ^ 63 }
-    ensures same_reference { tx.new.conn.ghost_name ≡ tx.old.conn.ghost_name }
-    ensures changed { ChangesBy (run_changed_to status org.now ws.now run) (state S.Store tx.old.conn.now) (state S.Store tx.new.conn.now) result }
-    ensures survives { Survives (state S.Store tx.old.conn.now) (state S.Store tx.new.conn.now) (λ _. ⊥) }
+    ensures { WritesBy S.Store (run_changed_to status org.now ws.now run) tx.old tx.new result }
 {
     let run = signed(run);
     let status = status_number(status);
@@ -159,9 +143,7 @@ pub fn record_action<S: Alter>(
     action: RunAction,
 ) -> Result<(), Error>
     requires run_fits { run < 2 ^ 63 }
-    ensures same_reference { tx.new.conn.ghost_name ≡ tx.old.conn.ghost_name }
-    ensures changed { ChangesBy (run_acted status action org.now ws.now run) (state S.Store tx.old.conn.now) (state S.Store tx.new.conn.now) result }
-    ensures survives { Survives (state S.Store tx.old.conn.now) (state S.Store tx.new.conn.now) (λ _. ⊥) }
+    ensures { WritesBy S.Store (run_acted status action org.now ws.now run) tx.old tx.new result }
 {
     let run = signed(run);
     let status = status_number(status);
@@ -186,9 +168,7 @@ pub fn add<'v, S: Alter>(
 ) -> Result<(), Error>
     requires number_fits { number < 2 ^ 63 }
     requires created_fits { created < 2 ^ 63 }
-    ensures same_reference { tx.new.conn.ghost_name ≡ tx.old.conn.ghost_name }
-    ensures changed { ChangesBy (run_added org.now ws.now (run_made number plan_only (option_map (λ s. s.now) key.entry) message.now created status)) (state S.Store tx.old.conn.now) (state S.Store tx.new.conn.now) result }
-    ensures survives { Survives (state S.Store tx.old.conn.now) (state S.Store tx.new.conn.now) (λ _. ⊥) }
+    ensures { WritesBy S.Store (run_added org.now ws.now (run_made number plan_only (option_map (λ s. s.now) key.entry) message.now created status)) tx.old tx.new result }
 {
     let number = signed(number);
     let created = signed(created);
@@ -204,9 +184,7 @@ const REMOVE_RUNS: &str = "DELETE FROM run WHERE org = ?1 AND ws = ?2";
 
 /// Removes the runs of a workspace.
 pub fn remove_all<S: Alter>(tx: &mut Transaction<'_, S>, org: &str, ws: &str) -> Result<(), Error>
-    ensures same_reference { tx.new.conn.ghost_name ≡ tx.old.conn.ghost_name }
-    ensures changed { ChangesBy (runs_removed org.now ws.now) (state S.Store tx.old.conn.now) (state S.Store tx.new.conn.now) result }
-    ensures survives { Survives (state S.Store tx.old.conn.now) (state S.Store tx.new.conn.now) (λ _. ⊥) }
+    ensures { WritesBy S.Store (runs_removed org.now ws.now) tx.old tx.new result }
 {
     write(tx, REMOVE_RUNS, params![org, ws])
 }

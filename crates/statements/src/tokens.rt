@@ -1,8 +1,5 @@
 //! Statements on the table token.
-ghost use Rattle.std.specs.Prelude.{◌≡◌, false};
-ghost use Rattle.sqlite.specs.Held.{state};
-ghost use Rattle.sqlite.specs.State.{Survives};
-ghost use Rattle.statements.specs.Steps.{ChangesBy, ReadsBy};
+ghost use Rattle.statements.specs.Steps.{WritesBy, QueriesBy};
 ghost use Rattle.statements.specs.Changes.{token_row_added, token_removed};
 ghost use Rattle.statements.specs.Finds.{role_of_digest, role_of_name};
 
@@ -18,9 +15,7 @@ pub fn role_of_digest<S: Alter>(
     org: &str,
     digest: &[u8],
 ) -> Result<Option<Role>, Error>
-    ensures mode { conn.old.in_transaction ≡ false → conn.new.in_transaction ≡ false }
-    ensures read { ReadsBy (role_of_digest org.now digest.now) (state S.Store conn.old) (state S.Store conn.new) result }
-    ensures survives { Survives (state S.Store conn.old) (state S.Store conn.new) (λ _. ⊥) }
+    ensures { QueriesBy S.Store (role_of_digest org.now digest.now) conn.old conn.new result }
 {
     let row = first_row(conn, TOKEN_ROLE, params![org, digest]);
     read_one(row)
@@ -34,9 +29,7 @@ pub fn role_of_name<S: Alter>(
     org: &str,
     name: &str,
 ) -> Result<Option<Role>, Error>
-    ensures mode { conn.old.in_transaction ≡ false → conn.new.in_transaction ≡ false }
-    ensures read { ReadsBy (role_of_name org.now name.now) (state S.Store conn.old) (state S.Store conn.new) result }
-    ensures survives { Survives (state S.Store conn.old) (state S.Store conn.new) (λ _. ⊥) }
+    ensures { QueriesBy S.Store (role_of_name org.now name.now) conn.old conn.new result }
 {
     let row = first_row(conn, NAMED_TOKEN_ROLE, params![org, name]);
     read_one(row)
@@ -52,9 +45,7 @@ pub fn add<'v, S: Alter>(
     digest: &'v [u8],
     role: Role,
 ) -> Result<(), Error>
-    ensures same_reference { tx.new.conn.ghost_name ≡ tx.old.conn.ghost_name }
-    ensures changed { ChangesBy (token_row_added org.now name.now digest.now role) (state S.Store tx.old.conn.now) (state S.Store tx.new.conn.now) result }
-    ensures survives { Survives (state S.Store tx.old.conn.now) (state S.Store tx.new.conn.now) (λ _. ⊥) }
+    ensures { WritesBy S.Store (token_row_added org.now name.now digest.now role) tx.old tx.new result }
 {
     let role = role_number(role);
     write(tx, ADD_TOKEN, params![org, name, digest, &role])
@@ -64,9 +55,7 @@ const REMOVE_TOKEN: &str = "DELETE FROM token WHERE org = ?1 AND name = ?2";
 
 /// Removes a token.
 pub fn remove<S: Alter>(tx: &mut Transaction<'_, S>, org: &str, name: &str) -> Result<(), Error>
-    ensures same_reference { tx.new.conn.ghost_name ≡ tx.old.conn.ghost_name }
-    ensures changed { ChangesBy (token_removed org.now name.now) (state S.Store tx.old.conn.now) (state S.Store tx.new.conn.now) result }
-    ensures survives { Survives (state S.Store tx.old.conn.now) (state S.Store tx.new.conn.now) (λ _. ⊥) }
+    ensures { WritesBy S.Store (token_removed org.now name.now) tx.old tx.new result }
 {
     write(tx, REMOVE_TOKEN, params![org, name])
 }

@@ -1,8 +1,6 @@
 //! Statements on the table version.
-ghost use Rattle.std.specs.Prelude.{◌≡◌, false, ◌<◌, ◌^◌};
-ghost use Rattle.sqlite.specs.Held.{state};
-ghost use Rattle.sqlite.specs.State.{Survives};
-ghost use Rattle.statements.specs.Steps.{ChangesBy, ReadsBy, ReadsWhere};
+ghost use Rattle.std.specs.Prelude.{◌<◌, ◌^◌};
+ghost use Rattle.statements.specs.Steps.{WritesBy, QueriesBy, QueriesWhere};
 ghost use Rattle.statements.specs.Changes.{new_version, version_added, versions_removed, versions_removed_below};
 ghost use Rattle.statements.specs.Listings.{version_rows_after, VersionsRise};
 ghost use Rattle.statements.specs.Finds.{newest_of, number_back, version_at_number, body_of, versions_of};
@@ -22,9 +20,7 @@ pub fn newest<S: Alter>(
     org: &str,
     ws: &str,
 ) -> Result<Option<Head>, Error>
-    ensures mode { conn.old.in_transaction ≡ false → conn.new.in_transaction ≡ false }
-    ensures read { ReadsBy (newest_of org.now ws.now) (state S.Store conn.old) (state S.Store conn.new) result }
-    ensures survives { Survives (state S.Store conn.old) (state S.Store conn.new) (λ _. ⊥) }
+    ensures { QueriesBy S.Store (newest_of org.now ws.now) conn.old conn.new result }
 {
     let row = first_row(conn, NEWEST_VERSION, params![org, ws]);
     read_one(row)
@@ -43,9 +39,7 @@ pub fn list<S: Alter>(
     most: usize,
 ) -> Result<Items<VersionHead>, Error>
     requires after_fits { after < 2 ^ 63 }
-    ensures mode { conn.old.in_transaction ≡ false → conn.new.in_transaction ≡ false }
-    ensures read { ReadsWhere (VersionsRise org.now ws.now) (version_rows_after org.now ws.now after most) (state S.Store conn.old) (state S.Store conn.new) result }
-    ensures survives { Survives (state S.Store conn.old) (state S.Store conn.new) (λ _. ⊥) }
+    ensures { QueriesWhere S.Store (VersionsRise org.now ws.now) (version_rows_after org.now ws.now after most) conn.old conn.new result }
 {
     let after = signed(after);
     let rows = first_rows(alloc, conn, LIST_VERSIONS, params![org, ws, &after], most);
@@ -63,9 +57,7 @@ pub fn number_back<S: Alter>(
     place: u64,
 ) -> Result<Option<u64>, Error>
     requires place_fits { place < 2 ^ 63 }
-    ensures mode { conn.old.in_transaction ≡ false → conn.new.in_transaction ≡ false }
-    ensures read { ReadsBy (number_back org.now ws.now place) (state S.Store conn.old) (state S.Store conn.new) result }
-    ensures survives { Survives (state S.Store conn.old) (state S.Store conn.new) (λ _. ⊥) }
+    ensures { QueriesBy S.Store (number_back org.now ws.now place) conn.old conn.new result }
 {
     let place = signed(place);
     let row = first_row(conn, VERSION_BACK, params![org, ws, &place]);
@@ -83,9 +75,7 @@ pub fn find<S: Alter>(
     number: u64,
 ) -> Result<Option<u64>, Error>
     requires number_fits { number < 2 ^ 63 }
-    ensures mode { conn.old.in_transaction ≡ false → conn.new.in_transaction ≡ false }
-    ensures read { ReadsBy (version_at_number org.now ws.now number) (state S.Store conn.old) (state S.Store conn.new) result }
-    ensures survives { Survives (state S.Store conn.old) (state S.Store conn.new) (λ _. ⊥) }
+    ensures { QueriesBy S.Store (version_at_number org.now ws.now number) conn.old conn.new result }
 {
     let number = signed(number);
     let row = first_row(conn, VERSION_NUMBER, params![org, ws, &number]);
@@ -103,9 +93,7 @@ pub fn body<S: Alter>(
     number: u64,
 ) -> Result<Option<Bytes>, Error>
     requires number_fits { number < 2 ^ 63 }
-    ensures mode { conn.old.in_transaction ≡ false → conn.new.in_transaction ≡ false }
-    ensures read { ReadsBy (body_of org.now ws.now number) (state S.Store conn.old) (state S.Store conn.new) result }
-    ensures survives { Survives (state S.Store conn.old) (state S.Store conn.new) (λ _. ⊥) }
+    ensures { QueriesBy S.Store (body_of org.now ws.now number) conn.old conn.new result }
 {
     let number = signed(number);
     let row = first_row(conn, VERSION_BODY, params![org, ws, &number]);
@@ -116,9 +104,7 @@ const COUNT_VERSIONS: &str = "SELECT count(*) FROM version WHERE org = ?1 AND ws
 
 /// How many versions a workspace has.
 pub fn count<S: Alter>(conn: &mut Connection<S>, org: &str, ws: &str) -> Result<u64, Error>
-    ensures mode { conn.old.in_transaction ≡ false → conn.new.in_transaction ≡ false }
-    ensures read { ReadsBy (versions_of org.now ws.now) (state S.Store conn.old) (state S.Store conn.new) result }
-    ensures survives { Survives (state S.Store conn.old) (state S.Store conn.new) (λ _. ⊥) }
+    ensures { QueriesBy S.Store (versions_of org.now ws.now) conn.old conn.new result }
 {
     let row = first_row(conn, COUNT_VERSIONS, params![org, ws]);
     count_of(row)
@@ -141,9 +127,7 @@ pub fn add<'v, S: Alter>(
     requires number_fits { number < 2 ^ 63 }
     requires serial_fits { serial < 2 ^ 63 }
     requires created_fits { created < 2 ^ 63 }
-    ensures same_reference { tx.new.conn.ghost_name ≡ tx.old.conn.ghost_name }
-    ensures changed { ChangesBy (version_added org.now ws.now (new_version number serial lineage.now created body.now)) (state S.Store tx.old.conn.now) (state S.Store tx.new.conn.now) result }
-    ensures survives { Survives (state S.Store tx.old.conn.now) (state S.Store tx.new.conn.now) (λ _. ⊥) }
+    ensures { WritesBy S.Store (version_added org.now ws.now (new_version number serial lineage.now created body.now)) tx.old tx.new result }
 {
     let number = signed(number);
     let serial = signed(serial);
@@ -167,9 +151,7 @@ pub fn remove_below<S: Alter>(
     least: u64,
 ) -> Result<(), Error>
     requires least_fits { least < 2 ^ 63 }
-    ensures same_reference { tx.new.conn.ghost_name ≡ tx.old.conn.ghost_name }
-    ensures changed { ChangesBy (versions_removed_below org.now ws.now least) (state S.Store tx.old.conn.now) (state S.Store tx.new.conn.now) result }
-    ensures survives { Survives (state S.Store tx.old.conn.now) (state S.Store tx.new.conn.now) (λ _. ⊥) }
+    ensures { WritesBy S.Store (versions_removed_below org.now ws.now least) tx.old tx.new result }
 {
     let least = signed(least);
     write(tx, REMOVE_VERSIONS_BELOW, params![org, ws, &least])
@@ -179,9 +161,7 @@ const REMOVE_VERSIONS: &str = "DELETE FROM version WHERE org = ?1 AND ws = ?2";
 
 /// Removes the versions of a workspace.
 pub fn remove_all<S: Alter>(tx: &mut Transaction<'_, S>, org: &str, ws: &str) -> Result<(), Error>
-    ensures same_reference { tx.new.conn.ghost_name ≡ tx.old.conn.ghost_name }
-    ensures changed { ChangesBy (versions_removed org.now ws.now) (state S.Store tx.old.conn.now) (state S.Store tx.new.conn.now) result }
-    ensures survives { Survives (state S.Store tx.old.conn.now) (state S.Store tx.new.conn.now) (λ _. ⊥) }
+    ensures { WritesBy S.Store (versions_removed org.now ws.now) tx.old tx.new result }
 {
     write(tx, REMOVE_VERSIONS, params![org, ws])
 }

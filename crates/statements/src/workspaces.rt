@@ -1,8 +1,8 @@
 //! Statements on the table ws.
-ghost use Rattle.std.specs.Prelude.{◌≡◌, false, ◌<◌, ◌^◌, IsTrue, IfOk, is_some};
+ghost use Rattle.std.specs.Prelude.{◌≡◌, ◌<◌, ◌^◌, IsTrue, IfOk, is_some};
 ghost use Rattle.sqlite.specs.Held.{state};
-ghost use Rattle.sqlite.specs.State.{HasCleanDisk, Survives};
-ghost use Rattle.statements.specs.Steps.{ChangesBy, ReadsBy, ReadsWhere};
+ghost use Rattle.sqlite.specs.State.{HasCleanDisk};
+ghost use Rattle.statements.specs.Steps.{WritesBy, QueriesBy, QueriesWhere};
 ghost use Rattle.statements.specs.Tables.{Tables, Holds};
 ghost use Rattle.statements.specs.Changes.{with_auto, held_by, released_from, with_next_version, with_next_run, ws_changed, ws_added, ws_removed};
 ghost use Rattle.statements.specs.Listings.{workspace_rows_after, WorkspacesApart};
@@ -24,9 +24,7 @@ pub fn find<S: Alter>(
     org: &str,
     name: &str,
 ) -> Result<Option<Workspace>, Error>
-    ensures mode { conn.old.in_transaction ≡ false → conn.new.in_transaction ≡ false }
-    ensures read { ReadsBy (workspace_of org.now name.now) (state S.Store conn.old) (state S.Store conn.new) result }
-    ensures survives { Survives (state S.Store conn.old) (state S.Store conn.new) (λ _. ⊥) }
+    ensures { QueriesBy S.Store (workspace_of org.now name.now) conn.old conn.new result }
 {
     let row = first_row(conn, FIND_WS, params![org, name]);
     read_one(row)
@@ -44,9 +42,7 @@ pub fn list<S: Alter>(
     after: &str,
     most: usize,
 ) -> Result<Items<NamedWorkspace>, Error>
-    ensures mode { conn.old.in_transaction ≡ false → conn.new.in_transaction ≡ false }
-    ensures read { ReadsWhere WorkspacesApart (workspace_rows_after org.now after.now most) (state S.Store conn.old) (state S.Store conn.new) result }
-    ensures survives { Survives (state S.Store conn.old) (state S.Store conn.new) (λ _. ⊥) }
+    ensures { QueriesWhere S.Store WorkspacesApart (workspace_rows_after org.now after.now most) conn.old conn.new result }
 {
     let rows = first_rows(alloc, conn, LIST_WS, params![org, after], most);
     read_all(alloc, rows)
@@ -56,9 +52,7 @@ const COUNT_WS: &str = "SELECT count(*) FROM ws WHERE org = ?1";
 
 /// How many workspaces an organization has.
 pub fn count<S: Alter>(conn: &mut Connection<S>, org: &str) -> Result<u64, Error>
-    ensures mode { conn.old.in_transaction ≡ false → conn.new.in_transaction ≡ false }
-    ensures read { ReadsBy (workspaces_of org.now) (state S.Store conn.old) (state S.Store conn.new) result }
-    ensures survives { Survives (state S.Store conn.old) (state S.Store conn.new) (λ _. ⊥) }
+    ensures { QueriesBy S.Store (workspaces_of org.now) conn.old conn.new result }
 {
     let row = first_row(conn, COUNT_WS, params![org]);
     count_of(row)
@@ -74,9 +68,7 @@ pub fn add<S: Alter>(
     name: &str,
     auto: bool,
 ) -> Result<(), Error>
-    ensures same_reference { tx.new.conn.ghost_name ≡ tx.old.conn.ghost_name }
-    ensures changed { ChangesBy (ws_added org.now name.now auto) (state S.Store tx.old.conn.now) (state S.Store tx.new.conn.now) result }
-    ensures survives { Survives (state S.Store tx.old.conn.now) (state S.Store tx.new.conn.now) (λ _. ⊥) }
+    ensures { WritesBy S.Store (ws_added org.now name.now auto) tx.old tx.new result }
 {
     write(tx, ADD_WS, params![org, name, auto])
 }
@@ -90,9 +82,7 @@ pub fn set_auto<S: Alter>(
     name: &str,
     auto: bool,
 ) -> Result<(), Error>
-    ensures same_reference { tx.new.conn.ghost_name ≡ tx.old.conn.ghost_name }
-    ensures changed { ChangesBy (ws_changed (with_auto auto) org.now name.now) (state S.Store tx.old.conn.now) (state S.Store tx.new.conn.now) result }
-    ensures survives { Survives (state S.Store tx.old.conn.now) (state S.Store tx.new.conn.now) (λ _. ⊥) }
+    ensures { WritesBy S.Store (ws_changed (with_auto auto) org.now name.now) tx.old tx.new result }
 {
     write(tx, SET_AUTO, params![org, name, auto])
 }
@@ -108,9 +98,7 @@ pub fn hold_by_lock<S: Alter>(
     id: &str,
     text: &[u8],
 ) -> Result<(), Error>
-    ensures same_reference { tx.new.conn.ghost_name ≡ tx.old.conn.ghost_name }
-    ensures changed { ChangesBy (ws_changed (held_by (Lock id.now text.now)) org.now name.now) (state S.Store tx.old.conn.now) (state S.Store tx.new.conn.now) result }
-    ensures survives { Survives (state S.Store tx.old.conn.now) (state S.Store tx.new.conn.now) (λ _. ⊥) }
+    ensures { WritesBy S.Store (ws_changed (held_by (Lock id.now text.now)) org.now name.now) tx.old tx.new result }
 {
     write(tx, HOLD_BY_LOCK, params![org, name, id, text])
 }
@@ -126,9 +114,7 @@ pub fn hold_by_run<S: Alter>(
     run: u64,
 ) -> Result<(), Error>
     requires run_fits { run < 2 ^ 63 }
-    ensures same_reference { tx.new.conn.ghost_name ≡ tx.old.conn.ghost_name }
-    ensures changed { ChangesBy (ws_changed (held_by (HeldByRun run)) org.now name.now) (state S.Store tx.old.conn.now) (state S.Store tx.new.conn.now) result }
-    ensures survives { Survives (state S.Store tx.old.conn.now) (state S.Store tx.new.conn.now) (λ _. ⊥) }
+    ensures { WritesBy S.Store (ws_changed (held_by (HeldByRun run)) org.now name.now) tx.old tx.new result }
 {
     let run = signed(run);
     write(tx, HOLD_BY_RUN, params![org, name, &run])
@@ -144,9 +130,7 @@ pub fn release_lock<S: Alter>(
     name: &str,
     id: &str,
 ) -> Result<(), Error>
-    ensures same_reference { tx.new.conn.ghost_name ≡ tx.old.conn.ghost_name }
-    ensures changed { ChangesBy (ws_changed (released_from id.now) org.now name.now) (state S.Store tx.old.conn.now) (state S.Store tx.new.conn.now) result }
-    ensures survives { Survives (state S.Store tx.old.conn.now) (state S.Store tx.new.conn.now) (λ _. ⊥) }
+    ensures { WritesBy S.Store (ws_changed (released_from id.now) org.now name.now) tx.old tx.new result }
 {
     write(tx, RELEASE_LOCK, params![org, name, id])
 }
@@ -160,9 +144,7 @@ pub fn release_run<S: Alter>(
     org: &str,
     name: &str,
 ) -> Result<(), Error>
-    ensures same_reference { tx.new.conn.ghost_name ≡ tx.old.conn.ghost_name }
-    ensures changed { ChangesBy (ws_changed (held_by Nobody) org.now name.now) (state S.Store tx.old.conn.now) (state S.Store tx.new.conn.now) result }
-    ensures survives { Survives (state S.Store tx.old.conn.now) (state S.Store tx.new.conn.now) (λ _. ⊥) }
+    ensures { WritesBy S.Store (ws_changed (held_by Nobody) org.now name.now) tx.old tx.new result }
 {
     write(tx, RELEASE_RUN, params![org, name])
 }
@@ -177,10 +159,8 @@ pub fn set_next_version<S: Alter>(
     next: u64,
 ) -> Result<bool, Error>
     requires next_fits { next < 2 ^ 63 }
-    ensures same_reference { tx.new.conn.ghost_name ≡ tx.old.conn.ghost_name }
-    ensures changed { ChangesBy (ws_changed (with_next_version next) org.now name.now) (state S.Store tx.old.conn.now) (state S.Store tx.new.conn.now) result }
+    ensures writes { WritesBy S.Store (ws_changed (with_next_version next) org.now name.now) tx.old tx.new result }
     ensures found { HasCleanDisk (state S.Store tx.new.conn.now) → IsTrue (state S.Store tx.old.conn.now).in_transaction → IfOk result (λ found. (t : Tables) → Holds (state S.Store tx.old.conn.now).now t → found ≡ is_some (workspace_of org.now name.now t)) }
-    ensures survives { Survives (state S.Store tx.old.conn.now) (state S.Store tx.new.conn.now) (λ _. ⊥) }
 {
     let next = signed(next);
     update(tx, SET_NEXT_VERSION, params![org, name, &next])
@@ -196,10 +176,8 @@ pub fn set_next_run<S: Alter>(
     next: u64,
 ) -> Result<bool, Error>
     requires next_fits { next < 2 ^ 63 }
-    ensures same_reference { tx.new.conn.ghost_name ≡ tx.old.conn.ghost_name }
-    ensures changed { ChangesBy (ws_changed (with_next_run next) org.now name.now) (state S.Store tx.old.conn.now) (state S.Store tx.new.conn.now) result }
+    ensures writes { WritesBy S.Store (ws_changed (with_next_run next) org.now name.now) tx.old tx.new result }
     ensures found { HasCleanDisk (state S.Store tx.new.conn.now) → IsTrue (state S.Store tx.old.conn.now).in_transaction → IfOk result (λ found. (t : Tables) → Holds (state S.Store tx.old.conn.now).now t → found ≡ is_some (workspace_of org.now name.now t)) }
-    ensures survives { Survives (state S.Store tx.old.conn.now) (state S.Store tx.new.conn.now) (λ _. ⊥) }
 {
     let next = signed(next);
     update(tx, SET_NEXT_RUN, params![org, name, &next])
@@ -209,9 +187,7 @@ const REMOVE_WS: &str = "DELETE FROM ws WHERE org = ?1 AND name = ?2";
 
 /// Removes a workspace. Its versions and runs have rows of their own.
 pub fn remove<S: Alter>(tx: &mut Transaction<'_, S>, org: &str, name: &str) -> Result<(), Error>
-    ensures same_reference { tx.new.conn.ghost_name ≡ tx.old.conn.ghost_name }
-    ensures changed { ChangesBy (ws_removed org.now name.now) (state S.Store tx.old.conn.now) (state S.Store tx.new.conn.now) result }
-    ensures survives { Survives (state S.Store tx.old.conn.now) (state S.Store tx.new.conn.now) (λ _. ⊥) }
+    ensures { WritesBy S.Store (ws_removed org.now name.now) tx.old tx.new result }
 {
     write(tx, REMOVE_WS, params![org, name])
 }

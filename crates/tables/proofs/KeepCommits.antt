@@ -22,9 +22,6 @@ failed a c d e was same (inl fails) =
 failed a c d e was same (inr late) =
     let kept = late.2.0 in record { was_open = λ _. was kept.was_open; committed = λ _. kept.committed_is ∙ same kept.was_open }
 
-pub settled_by : {S : Type 0} (g : Ghosts S) (h : Held S) (told : Bool) → told ≡ not h.in_transaction → (IsTrue told → IsSettled (state g h)) → h.in_transaction ≡ false → IsSettled (state g h)
-settled_by g h told value settles idle = settles (subst IsTrue (sym (value ∙ ap not idle)) refl)
-
 pub inside_by : {S : Type 0} (h k : Held S) → k ≡ record h { in_transaction = true } → IsTrue k.in_transaction
 inside_by h k begun = subst (λ x. IsTrue x.in_transaction) (sym begun) refl
 

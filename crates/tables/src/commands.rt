@@ -11,6 +11,7 @@ ghost use Rattle.tables.specs.Inner.Looks.{LooksBy, Sees};
 ghost use Rattle.tables.specs.Inner.Lists.{LooksWhere, versions_listed_in, runs_listed_in, workspaces_listed_in, organizations_listed_in};
 ghost use Rattle.tables.specs.Inner.Steps.{ManagesBy, org_managed, limit_managed, token_managed, revocation_managed, is_taken};
 
+use crate::transactions::assert_settled;
 use crate::{listings, looks, transactions};
 use basis::{Bytes, Caller, Items, Limit, Listing, Number, Role, RunRow, VersionRow, WsRow};
 use machine::{AdminAnswer, Needs, OrgRow, Unit};
@@ -29,8 +30,7 @@ pub(crate) fn org_add<S: Alter>(
     ensures so_far { HasCleanDisk (state S.Store conn.new) → HasCleanDisk (state S.Store conn.old) }
     ensures done { ManagesBy (org_managed org.now limit) (state S.Store conn.old) (state S.Store conn.new) result }
 {
-    let idle = conn.is_autocommit();
-    prove!(idle);
+    assert_settled(conn);
     let cap = organizations::cap(conn, org)?;
     if cap.is_some() {
         return Ok(AdminAnswer::Exists);
@@ -50,8 +50,7 @@ pub(crate) fn org_limit<S: Alter>(
     ensures so_far { HasCleanDisk (state S.Store conn.new) → HasCleanDisk (state S.Store conn.old) }
     ensures done { ManagesBy (limit_managed org.now limit) (state S.Store conn.old) (state S.Store conn.new) result }
 {
-    let idle = conn.is_autocommit();
-    prove!(idle);
+    assert_settled(conn);
     let cap = organizations::cap(conn, org)?;
     if cap.is_none() {
         return Ok(AdminAnswer::Absent);
@@ -88,8 +87,7 @@ pub(crate) fn token_add<S: Alter>(
     ensures so_far { HasCleanDisk (state S.Store conn.new) → HasCleanDisk (state S.Store conn.old) }
     ensures done { ManagesBy (token_managed org.now name.now digest.now role) (state S.Store conn.old) (state S.Store conn.new) result }
 {
-    let idle = conn.is_autocommit();
-    prove!(idle);
+    assert_settled(conn);
     let cap = organizations::cap(conn, org)?;
     if cap.is_none() {
         return Ok(AdminAnswer::Absent);
@@ -112,8 +110,7 @@ pub(crate) fn token_revoke<S: Alter>(
     ensures so_far { HasCleanDisk (state S.Store conn.new) → HasCleanDisk (state S.Store conn.old) }
     ensures done { ManagesBy (revocation_managed org.now name.now) (state S.Store conn.old) (state S.Store conn.new) result }
 {
-    let idle = conn.is_autocommit();
-    prove!(idle);
+    assert_settled(conn);
     let role = tokens::role_of_name(conn, org, name)?;
     if role.is_none() {
         return Ok(AdminAnswer::Absent);
@@ -133,8 +130,7 @@ pub(crate) fn caller<S: Alter>(
     ensures so_far { HasCleanDisk (state S.Store conn.new) → HasCleanDisk (state S.Store conn.old) }
     ensures looks { LooksBy (caller_by org.now digest.now) (state S.Store conn.old) (state S.Store conn.new) result }
 {
-    let idle = conn.is_autocommit();
-    prove!(idle);
+    assert_settled(conn);
     let role = tokens::role_of_digest(conn, org, digest)?;
     Ok(caller_of(role))
 }
@@ -161,8 +157,7 @@ pub(crate) fn unit<S: Alter>(
     ensures so_far { HasCleanDisk (state S.Store conn.new) → HasCleanDisk (state S.Store conn.old) }
     ensures looks { LooksBy (unit_in (needed_of needs.now) org.now ws.now) (state S.Store conn.old) (state S.Store conn.new) result }
 {
-    let idle = conn.is_autocommit();
-    prove!(idle);
+    assert_settled(conn);
     looks::unit(conn, alloc, org, ws, needs)
 }
 
@@ -179,8 +174,7 @@ pub(crate) fn text<S: Alter>(
     ensures looks { LooksBy (body_of org.now ws.now number) (state S.Store conn.old) (state S.Store conn.new) result }
 {
     let number = number.get() as u64;
-    let idle = conn.is_autocommit();
-    prove!(idle);
+    assert_settled(conn);
     looks::body(conn, org, ws, number)
 }
 
@@ -196,8 +190,7 @@ pub(crate) fn workspaces<S: Alter>(
     ensures so_far { HasCleanDisk (state S.Store conn.new) → HasCleanDisk (state S.Store conn.old) }
     ensures looks { LooksWhere WorkspacesApart (workspaces_listed_in after.now org.now) (state S.Store conn.old) (state S.Store conn.new) result }
 {
-    let idle = conn.is_autocommit();
-    prove!(idle);
+    assert_settled(conn);
     listings::list_of_workspaces(conn, alloc, org, after)
 }
 
@@ -215,8 +208,7 @@ pub(crate) fn versions<S: Alter>(
     ensures so_far { HasCleanDisk (state S.Store conn.new) → HasCleanDisk (state S.Store conn.old) }
     ensures looks { LooksWhere (VersionsRise org.now ws.now) (versions_listed_in after org.now ws.now) (state S.Store conn.old) (state S.Store conn.new) result }
 {
-    let idle = conn.is_autocommit();
-    prove!(idle);
+    assert_settled(conn);
     listings::list_of_versions(conn, alloc, org, ws, after)
 }
 
@@ -234,8 +226,7 @@ pub(crate) fn runs<S: Alter>(
     ensures so_far { HasCleanDisk (state S.Store conn.new) → HasCleanDisk (state S.Store conn.old) }
     ensures looks { LooksWhere (RunsRise org.now ws.now) (runs_listed_in after org.now ws.now) (state S.Store conn.old) (state S.Store conn.new) result }
 {
-    let idle = conn.is_autocommit();
-    prove!(idle);
+    assert_settled(conn);
     listings::list_of_runs(conn, alloc, org, ws, after)
 }
 
@@ -249,7 +240,6 @@ pub(crate) fn org_list<S: Alter>(
     ensures so_far { HasCleanDisk (state S.Store conn.new) → HasCleanDisk (state S.Store conn.old) }
     ensures looks { LooksWhere OrgsApart organizations_listed_in (state S.Store conn.old) (state S.Store conn.new) result }
 {
-    let idle = conn.is_autocommit();
-    prove!(idle);
+    assert_settled(conn);
     listings::list_of_organizations(conn, alloc)
 }

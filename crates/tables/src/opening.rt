@@ -8,7 +8,7 @@ ghost use Rattle.tables.specs.Opening.{any_there, all_there, is_integer_column, 
 ghost use Rattle.tables.specs.Inner.Making.{IsMade, IsTold, found_in, TellsFound, FindsOurs, StepsFrom, IsClimbed, IsOnWay};
 ghost use Rattle.tables.specs.Versions.{HoldsVersion, version_records};
 
-use crate::transactions;
+use crate::transactions::{self, assert_settled};
 use sqlite::{Alter, Connection, Error};
 use sqlite_schema::schema::{Column, Kind, Schema};
 use sqlite_value::keys::Collation;
@@ -164,8 +164,7 @@ fn find_version<S: Alter>(conn: &mut Connection<S>) -> Result<Found, Error>
     ensures found { HasCleanDisk (state S.Store conn.new) → IfOk result (λ found. TellsFound found (state S.Store conn.old) (state S.Store conn.new)) }
     ensures err { HasCleanDisk (state S.Store conn.new) → OnErr result (KeepsCommit (state S.Store conn.old) (state S.Store conn.new)) }
 {
-    let idle = conn.is_autocommit();
-    prove!(idle);
+    assert_settled(conn);
     match making::version(conn) {
         Ok(version) => Ok(found_in(version)),
         Err(error) => Err(error),

@@ -1,11 +1,9 @@
 //! What a change of a workspace does to the tables, inside one transaction.
 ghost use Rattle.std.specs.Prelude.{◌≡◌, ◌+◌, ◌<◌, ◌^◌, cond, option_map};
 ghost use Rattle.sqlite.specs.Held.{state};
-ghost use Rattle.sqlite.specs.State.{HasCleanDisk};
-ghost use Rattle.statements.specs.Steps.{ChangesBy};
 ghost use Rattle.statements.specs.Changes.{versions_removed_below, run_acted};
 ghost use Rattle.tables.specs.Inner.Edits.{removed_rows, made_rows, numbered_rows, added_rows, versioned_rows, run_put, run_counted, run_rows, freed_rows, edited_rows, begun_rows, changed_rows};
-ghost use Rattle.tables.specs.Inner.Steps.{FindsIn};
+ghost use Rattle.tables.specs.Inner.Steps.{FindsIn, StepsBy};
 
 use basis::{Moment, Number, RunAction, RunAsk, RunStatus, Text};
 use machine::{Change, Edit, Version};
@@ -14,9 +12,7 @@ use statements::{runs, versions, workspaces};
 
 /// Removes a workspace with its versions and runs.
 fn remove<S: Alter>(tx: &mut Transaction<'_, S>, org: &str, ws: &str) -> Result<(), Error>
-    ensures same_reference { tx.new.conn.ghost_name ≡ tx.old.conn.ghost_name }
-    ensures changed { ChangesBy (removed_rows org.now ws.now) (state S.Store tx.old.conn.now) (state S.Store tx.new.conn.now) result }
-    ensures so_far { HasCleanDisk (state S.Store tx.new.conn.now) → HasCleanDisk (state S.Store tx.old.conn.now) }
+    ensures { StepsBy S.Store (removed_rows org.now ws.now) tx.old tx.new result }
 {
     versions::remove_all(tx, org, ws)?;
     runs::remove_all(tx, org, ws)?;
@@ -25,9 +21,7 @@ fn remove<S: Alter>(tx: &mut Transaction<'_, S>, org: &str, ws: &str) -> Result<
 
 /// Makes a workspace. It has no versions and no runs.
 fn make<S: Alter>(tx: &mut Transaction<'_, S>, org: &str, ws: &str, auto: bool) -> Result<(), Error>
-    ensures same_reference { tx.new.conn.ghost_name ≡ tx.old.conn.ghost_name }
-    ensures changed { ChangesBy (made_rows org.now ws.now auto) (state S.Store tx.old.conn.now) (state S.Store tx.new.conn.now) result }
-    ensures so_far { HasCleanDisk (state S.Store tx.new.conn.now) → HasCleanDisk (state S.Store tx.old.conn.now) }
+    ensures { StepsBy S.Store (made_rows org.now ws.now auto) tx.old tx.new result }
 {
     remove(tx, org, ws)?;
     workspaces::add(tx, org, ws, auto)
@@ -40,9 +34,7 @@ fn add<S: Alter>(
     ws: &str,
     version: &Version,
 ) -> Result<(), Error>
-    ensures same_reference { tx.new.conn.ghost_name ≡ tx.old.conn.ghost_name }
-    ensures changed { ChangesBy (added_rows org.now ws.now version.now) (state S.Store tx.old.conn.now) (state S.Store tx.new.conn.now) result }
-    ensures so_far { HasCleanDisk (state S.Store tx.new.conn.now) → HasCleanDisk (state S.Store tx.old.conn.now) }
+    ensures { StepsBy S.Store (added_rows org.now ws.now version.now) tx.old tx.new result }
 {
     let serial = version.serial;
     if serial > i64::MAX as u64 {
@@ -62,9 +54,7 @@ fn count_on<S: Alter>(
     ws: &str,
     version: &Version,
 ) -> Result<(), Error>
-    ensures same_reference { tx.new.conn.ghost_name ≡ tx.old.conn.ghost_name }
-    ensures changed { ChangesBy (numbered_rows org.now ws.now version.now) (state S.Store tx.old.conn.now) (state S.Store tx.new.conn.now) result }
-    ensures so_far { HasCleanDisk (state S.Store tx.new.conn.now) → HasCleanDisk (state S.Store tx.old.conn.now) }
+    ensures steps { StepsBy S.Store (numbered_rows org.now ws.now version.now) tx.old tx.new result }
     ensures found { FindsIn org.now ws.now (state S.Store tx.old.conn.now) (state S.Store tx.new.conn.now) result }
 {
     let number = version.number.get() as u64;
@@ -81,9 +71,7 @@ fn forget<S: Alter>(
     ws: &str,
     last: Number,
 ) -> Result<(), Error>
-    ensures same_reference { tx.new.conn.ghost_name ≡ tx.old.conn.ghost_name }
-    ensures changed { ChangesBy (versions_removed_below org.now ws.now (last + 1)) (state S.Store tx.old.conn.now) (state S.Store tx.new.conn.now) result }
-    ensures so_far { HasCleanDisk (state S.Store tx.new.conn.now) → HasCleanDisk (state S.Store tx.old.conn.now) }
+    ensures { StepsBy S.Store (versions_removed_below org.now ws.now (last + 1)) tx.old tx.new result }
 {
     let last = last.get() as u64;
     versions::remove_below(tx, org, ws, last + 1)
@@ -97,9 +85,7 @@ fn put<S: Alter>(
     version: &Version,
     outgoing: Option<Number>,
 ) -> Result<(), Error>
-    ensures same_reference { tx.new.conn.ghost_name ≡ tx.old.conn.ghost_name }
-    ensures changed { ChangesBy (versioned_rows org.now ws.now version.now outgoing) (state S.Store tx.old.conn.now) (state S.Store tx.new.conn.now) result }
-    ensures so_far { HasCleanDisk (state S.Store tx.new.conn.now) → HasCleanDisk (state S.Store tx.old.conn.now) }
+    ensures { StepsBy S.Store (versioned_rows org.now ws.now version.now outgoing) tx.old tx.new result }
 {
     count_on(tx, org, ws, version)?;
     add(tx, org, ws, version)?;
@@ -138,9 +124,7 @@ fn put_run<S: Alter>(
     ask: &RunAsk,
     created: Moment,
 ) -> Result<(), Error>
-    ensures same_reference { tx.new.conn.ghost_name ≡ tx.old.conn.ghost_name }
-    ensures changed { ChangesBy (run_put org.now ws.now number ask.now created) (state S.Store tx.old.conn.now) (state S.Store tx.new.conn.now) result }
-    ensures so_far { HasCleanDisk (state S.Store tx.new.conn.now) → HasCleanDisk (state S.Store tx.old.conn.now) }
+    ensures { StepsBy S.Store (run_put org.now ws.now number ask.now created) tx.old tx.new result }
 {
     let number = number.get() as u64;
     let created = created.seconds();
@@ -167,9 +151,7 @@ fn count_run<S: Alter>(
     ws: &str,
     number: Number,
 ) -> Result<(), Error>
-    ensures same_reference { tx.new.conn.ghost_name ≡ tx.old.conn.ghost_name }
-    ensures changed { ChangesBy (run_counted org.now ws.now number) (state S.Store tx.old.conn.now) (state S.Store tx.new.conn.now) result }
-    ensures so_far { HasCleanDisk (state S.Store tx.new.conn.now) → HasCleanDisk (state S.Store tx.old.conn.now) }
+    ensures steps { StepsBy S.Store (run_counted org.now ws.now number) tx.old tx.new result }
     ensures found { FindsIn org.now ws.now (state S.Store tx.old.conn.now) (state S.Store tx.new.conn.now) result }
 {
     let number = number.get() as u64;
@@ -188,9 +170,7 @@ fn add_run<S: Alter>(
     ask: &RunAsk,
     created: Moment,
 ) -> Result<(), Error>
-    ensures same_reference { tx.new.conn.ghost_name ≡ tx.old.conn.ghost_name }
-    ensures changed { ChangesBy (run_rows org.now ws.now number ask.now created) (state S.Store tx.old.conn.now) (state S.Store tx.new.conn.now) result }
-    ensures so_far { HasCleanDisk (state S.Store tx.new.conn.now) → HasCleanDisk (state S.Store tx.old.conn.now) }
+    ensures { StepsBy S.Store (run_rows org.now ws.now number ask.now created) tx.old tx.new result }
 {
     count_run(tx, org, ws, number)?;
     put_run(tx, org, ws, number, ask, created)
@@ -205,9 +185,7 @@ fn act<S: Alter>(
     action: RunAction,
     status: RunStatus,
 ) -> Result<(), Error>
-    ensures same_reference { tx.new.conn.ghost_name ≡ tx.old.conn.ghost_name }
-    ensures changed { ChangesBy (run_acted status action org.now ws.now number) (state S.Store tx.old.conn.now) (state S.Store tx.new.conn.now) result }
-    ensures so_far { HasCleanDisk (state S.Store tx.new.conn.now) → HasCleanDisk (state S.Store tx.old.conn.now) }
+    ensures { StepsBy S.Store (run_acted status action org.now ws.now number) tx.old tx.new result }
 {
     let number = number.get() as u64;
     runs::record_action(tx, org, ws, number, status, action)
@@ -223,9 +201,7 @@ fn report<S: Alter>(
     status: RunStatus,
     frees: bool,
 ) -> Result<(), Error>
-    ensures same_reference { tx.new.conn.ghost_name ≡ tx.old.conn.ghost_name }
-    ensures changed { ChangesBy (λ t. freed_rows frees org.now ws.now (run_acted status action org.now ws.now number t)) (state S.Store tx.old.conn.now) (state S.Store tx.new.conn.now) result }
-    ensures so_far { HasCleanDisk (state S.Store tx.new.conn.now) → HasCleanDisk (state S.Store tx.old.conn.now) }
+    ensures { StepsBy S.Store (λ t. freed_rows frees org.now ws.now (run_acted status action org.now ws.now number t)) tx.old tx.new result }
 {
     act(tx, org, ws, number, action, status)?;
     if frees {
@@ -242,9 +218,7 @@ fn edit<S: Alter>(
     ws: &str,
     edit: &Edit,
 ) -> Result<(), Error>
-    ensures same_reference { tx.new.conn.ghost_name ≡ tx.old.conn.ghost_name }
-    ensures changed { ChangesBy (edited_rows org.now ws.now edit.now) (state S.Store tx.old.conn.now) (state S.Store tx.new.conn.now) result }
-    ensures so_far { HasCleanDisk (state S.Store tx.new.conn.now) → HasCleanDisk (state S.Store tx.old.conn.now) }
+    ensures { StepsBy S.Store (edited_rows org.now ws.now edit.now) tx.old tx.new result }
 {
     match edit {
         Edit::Make(settings) => make(tx, org, ws, settings.auto_apply),
@@ -277,9 +251,7 @@ fn start<S: Alter>(
     ws: &str,
     number: Number,
 ) -> Result<(), Error>
-    ensures same_reference { tx.new.conn.ghost_name ≡ tx.old.conn.ghost_name }
-    ensures changed { ChangesBy (begun_rows org.now ws.now number) (state S.Store tx.old.conn.now) (state S.Store tx.new.conn.now) result }
-    ensures so_far { HasCleanDisk (state S.Store tx.new.conn.now) → HasCleanDisk (state S.Store tx.old.conn.now) }
+    ensures { StepsBy S.Store (begun_rows org.now ws.now number) tx.old tx.new result }
 {
     let number = number.get() as u64;
     workspaces::hold_by_run(tx, org, ws, number)?;
@@ -293,9 +265,7 @@ pub(crate) fn change<S: Alter>(
     ws: &str,
     change: &Change,
 ) -> Result<(), Error>
-    ensures same_reference { tx.new.conn.ghost_name ≡ tx.old.conn.ghost_name }
-    ensures changed { ChangesBy (changed_rows org.now ws.now change.now) (state S.Store tx.old.conn.now) (state S.Store tx.new.conn.now) result }
-    ensures so_far { HasCleanDisk (state S.Store tx.new.conn.now) → HasCleanDisk (state S.Store tx.old.conn.now) }
+    ensures { StepsBy S.Store (changed_rows org.now ws.now change.now) tx.old tx.new result }
 {
     edit(tx, org, ws, &change.edit)?;
     match change.start {

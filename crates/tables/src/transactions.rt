@@ -1,18 +1,38 @@
 //! The transactions of a store, each as one function: its change is committed, or nothing is.
-ghost use Rattle.std.specs.Prelude.{◌≡◌, false, ◌<◌, ◌^◌, OnOk, OnErr};
+ghost use Rattle.std.specs.Prelude.{◌≡◌, true, false, ◌<◌, ◌^◌, OnOk, OnErr};
 ghost use Rattle.sqlite.specs.Held.{state};
 ghost use Rattle.sqlite.specs.State.{HasCleanDisk, KeepsCommit};
 ghost use Rattle.statements.specs.Changes.{org_row_added, org_capped, token_row_added, token_removed};
 ghost use Rattle.tables.specs.Inner.Edits.{changed_rows};
 ghost use Rattle.tables.specs.Inner.Making.{IsMade};
-ghost use Rattle.tables.specs.Inner.Steps.{TransactsBy};
+ghost use Rattle.tables.specs.Inner.Steps.{IsSettled, TransactsBy};
 
 use crate::steps;
 use basis::{Limit, Role};
 use machine::Change;
-use sqlite::{Alter, Connection, Error};
+use sqlite::{Alter, Connection, Error, Transaction};
 use statements::making::make_schema;
 use statements::{organizations, tokens};
+
+/// Nothing waits to be committed where no transaction is open. It does nothing but show that.
+pub(crate) fn assert_settled<S: Alter>(conn: &Connection<S>)
+    requires idle { conn.now.in_transaction ≡ false }
+    ensures { IsSettled (state S.Store conn.now) }
+{
+    let idle = conn.is_autocommit();
+    prove!(idle);
+}
+
+/// Begins a transaction where none is open.
+fn begin<S: Alter>(conn: &mut Connection<S>) -> Transaction<'_, S>
+    requires idle { conn.old.in_transaction ≡ false }
+    ensures same_reference { result.conn.ghost_name ≡ conn.entry.ghost_name }
+    ensures begun { result.conn.now ≡ record conn.old { in_transaction = true } }
+    ensures settled { IsSettled (state S.Store conn.old) }
+{
+    assert_settled(conn);
+    conn.transaction()
+}
 
 /// Makes the tables of schema 1, and says that the database has it.
 pub(crate) fn make<S: Alter>(conn: &mut Connection<S>) -> Result<(), Error>
@@ -21,9 +41,7 @@ pub(crate) fn make<S: Alter>(conn: &mut Connection<S>) -> Result<(), Error>
     ensures so_far { HasCleanDisk (state S.Store conn.new) → HasCleanDisk (state S.Store conn.old) }
     ensures made { HasCleanDisk (state S.Store conn.new) → OnOk result (IsMade (state S.Store conn.old) (state S.Store conn.new)) × OnErr result (KeepsCommit (state S.Store conn.old) (state S.Store conn.new)) }
 {
-    let idle = conn.is_autocommit();
-    prove!(idle);
-    let mut tx = conn.transaction();
+    let mut tx = begin(conn);
     make_schema(&mut tx)?;
     tx.commit()
 }
@@ -40,9 +58,7 @@ pub(crate) fn change<S: Alter>(
     ensures so_far { HasCleanDisk (state S.Store conn.new) → HasCleanDisk (state S.Store conn.old) }
     ensures done { TransactsBy (changed_rows org.now ws.now change.now) (state S.Store conn.old) (state S.Store conn.new) result }
 {
-    let idle = conn.is_autocommit();
-    prove!(idle);
-    let mut tx = conn.transaction();
+    let mut tx = begin(conn);
     steps::change(&mut tx, org, ws, change)?;
     tx.commit()
 }
@@ -59,9 +75,7 @@ pub(crate) fn add_organization<S: Alter>(
     ensures done { TransactsBy (org_row_added org.now limit) (state S.Store conn.old) (state S.Store conn.new) result }
 {
     let cap = limit.get() as u64;
-    let idle = conn.is_autocommit();
-    prove!(idle);
-    let mut tx = conn.transaction();
+    let mut tx = begin(conn);
     organizations::add(&mut tx, org, cap)?;
     tx.commit()
 }
@@ -78,9 +92,7 @@ pub(crate) fn set_limit<S: Alter>(
     ensures done { TransactsBy (org_capped org.now limit) (state S.Store conn.old) (state S.Store conn.new) result }
 {
     let cap = limit.get() as u64;
-    let idle = conn.is_autocommit();
-    prove!(idle);
-    let mut tx = conn.transaction();
+    let mut tx = begin(conn);
     organizations::set_cap(&mut tx, org, cap)?;
     tx.commit()
 }
@@ -98,9 +110,7 @@ pub(crate) fn add_token<S: Alter>(
     ensures so_far { HasCleanDisk (state S.Store conn.new) → HasCleanDisk (state S.Store conn.old) }
     ensures done { TransactsBy (token_row_added org.now name.now digest.now role) (state S.Store conn.old) (state S.Store conn.new) result }
 {
-    let idle = conn.is_autocommit();
-    prove!(idle);
-    let mut tx = conn.transaction();
+    let mut tx = begin(conn);
     tokens::add(&mut tx, org, name, digest, role)?;
     tx.commit()
 }
@@ -116,9 +126,7 @@ pub(crate) fn remove_token<S: Alter>(
     ensures so_far { HasCleanDisk (state S.Store conn.new) → HasCleanDisk (state S.Store conn.old) }
     ensures done { TransactsBy (token_removed org.now name.now) (state S.Store conn.old) (state S.Store conn.new) result }
 {
-    let idle = conn.is_autocommit();
-    prove!(idle);
-    let mut tx = conn.transaction();
+    let mut tx = begin(conn);
     tokens::remove(&mut tx, org, name)?;
     tx.commit()
 }

@@ -1,12 +1,16 @@
 -- What calls of a store do to the committed rows.
 use Rattle.std.specs.Prelude.{◌≡◌, ℕ, Bool, true, cond, ◌||◌, List, is_some, Option, Some, None, IsTrue, Result, IfOk, OnOk, OnErr}
+use Rattle.sqlite_trees.specs.declared.store.Store.{Ghosts}
+use Rattle.sqlite.specs.Held.{state}
 use Rattle.sqlite.specs.State.{State, HasCleanDisk, KeepsCommit}
+use Rattle.sqlite.specs.declared.transaction.Transaction.{Transaction}
 use Rattle.basis.specs.declared.roles.Role.{Role}
 use Rattle.machine.specs.Effects.{Effect, effect}
 use Rattle.machine.specs.declared.keeps.AdminAnswer.{AdminAnswer}
 use Rattle.machine.specs.declared.keeps.AdminAnswer.TheVariants.{Done, Exists, Absent}
 use Rattle.statements.specs.Changes.{org_row_added, org_capped, token_row_added, token_removed}
 use Rattle.statements.specs.Finds.{cap_of, workspace_of, role_of_name, role_of_digest}
+use Rattle.statements.specs.Steps.{ChangesBy}
 use Rattle.statements.specs.Tables.{Tables, Holds}
 
 -- between transactions nothing waits to be committed
@@ -22,6 +26,12 @@ pub record Commits (change : Tables → Tables) (old new : State) : Type 0 where
 -- a step that is done found a workspace
 abbrev pub FindsIn : {X E : Type 0} → List ℕ → List ℕ → State → State → Result X E → Type 0
 FindsIn org ws old new result = HasCleanDisk new → IsTrue old.in_transaction → OnOk result ((t : Tables) → Holds old.now t → is_some (workspace_of org ws t) ≡ true)
+
+-- A step of a transaction: the transaction stays that of the same connection, the rows change by the function, and the disk was clean so far.
+pub record StepsBy {S X E : Type 0} (g : Ghosts S) (change : Tables → Tables) (old new : Transaction S) (result : Result X E) : Type 0 where
+  pub same_reference : new.conn.ghost_name ≡ old.conn.ghost_name
+  pub changed : ChangesBy change (state g old.conn.now) (state g new.conn.now) result
+  pub so_far : HasCleanDisk (state g new.conn.now) → HasCleanDisk (state g old.conn.now)
 
 -- one transaction: its change is committed, or nothing is
 abbrev pub TransactsBy : {X E : Type 0} → (Tables → Tables) → State → State → Result X E → Type 0

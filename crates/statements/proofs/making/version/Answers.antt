@@ -8,12 +8,16 @@ use Rattle.statements.proofs.Transactions.{reads_by, one_read}
 use Rattle.statements.proofs.MetaTexts.{version_text, version_is_query, version_told, version_shows}
 use Rattle.statements.proofs.making.version.Goals as goal
 
-pub returns-clause-read : goal.returns-clause-read
-returns-clause-read g c clean =
-    let old = state g.S.Store c.args.conn.now in
-    let new = state g.S.Store c.first_row-row.new.conn in
-    reads_by version_in IsNumber old new version_text _ c.first_row-row.result c.read_one.result
-    (c.first_row-row.ensures.row version_is_query clean) (c.first_row-row.ensures.calm version_is_query clean) c.read_one.ensures (λ t holds row first. version_shows old new t holds row first)
+pub returns-clause-reads : goal.returns-clause-reads
+returns-clause-reads g c = record {
+  mode = c.first_row-row.ensures.mode;
+  read = λ clean.
+      let old = state g.S.Store c.args.conn.now in
+      let new = state g.S.Store c.first_row-row.new.conn in
+      reads_by version_in IsNumber old new version_text _ c.first_row-row.result c.read_one.result
+      (c.first_row-row.ensures.row version_is_query clean) (c.first_row-row.ensures.calm version_is_query clean) c.read_one.ensures (λ t holds row first. version_shows old new t holds row first);
+  survives = c.first_row-row.ensures.survives version_is_query;
+}
 
 pub returns-clause-told : goal.returns-clause-told
 returns-clause-told g c clean =
@@ -22,6 +26,3 @@ returns-clause-told g c clean =
     one_read IsNumber old new version_text [] c.first_row-row.result c.read_one.result (c.first_row-row.ensures.row version_is_query clean) c.read_one.ensures
     (λ (o : Option ℕ). (table : Table) (metas : List (Kept ℕ)) → HasMeta old.now table metas → o ≡ told_version metas)
     (λ o same table metas has. same (told_version metas) (version_told old new table metas has))
-
-pub returns-clause-survives : goal.returns-clause-survives
-returns-clause-survives g c = c.first_row-row.ensures.survives version_is_query

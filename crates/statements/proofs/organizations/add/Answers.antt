@@ -7,10 +7,14 @@ use Rattle.statements.proofs.OrgTexts.{add_org_text}
 use Rattle.statements.proofs.OrgWrites.{add_org_does}
 use Rattle.statements.proofs.organizations.add.Goals as goal
 
-pub returns-clause-changed : goal.returns-clause-changed
-returns-clause-changed g c clean inside =
-    let old = state g.S.Store c.args.tx.now.conn.now in
-    let new = state g.S.Store c.write.new.tx.conn.now in
-    moves_by (org_row_added c.args.name.now c.args.cap) old new add_org_text _ c.write.result
-    (rw (c.params-to_sql.ensures, c.params-to_sql-2.ensures, c.signed-cap.ensures, to_z-of_z w64 (pos c.args.cap) (record { sfits = c.requires.cap_fits })) at (c.write.ensures.runs clean inside))
-    (λ count t holds ran. add_org_does old new count t holds c.args.name.now c.args.cap ran)
+pub returns : goal.returns
+returns g c = record {
+  same_reference = c.write.ensures.same_reference;
+  changed = λ clean inside.
+      let old = state g.S.Store c.args.tx.now.conn.now in
+      let new = state g.S.Store c.write.new.tx.conn.now in
+      moves_by (org_row_added c.args.name.now c.args.cap) old new add_org_text _ c.write.result
+      (rw (c.params-to_sql.ensures, c.params-to_sql-2.ensures, c.signed-cap.ensures, to_z-of_z w64 (pos c.args.cap) (record { sfits = c.requires.cap_fits })) at (c.write.ensures.runs clean inside))
+      (λ count t holds ran. add_org_does old new count t holds c.args.name.now c.args.cap ran);
+  survives = c.write.ensures.survives;
+}

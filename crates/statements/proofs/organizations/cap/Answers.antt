@@ -6,13 +6,14 @@ use Rattle.statements.proofs.OrgTexts.{org_cap_text, org_cap_is_query}
 use Rattle.statements.proofs.OrgReads.{org_cap_shows}
 use Rattle.statements.proofs.organizations.cap.Goals as goal
 
-pub returns-clause-read : goal.returns-clause-read
-returns-clause-read g c clean =
-    let old = state g.S.Store c.args.conn.now in
-    let new = state g.S.Store c.first_row-row.new.conn in
-    reads_by (cap_of c.args.name.now) IsNumber old new org_cap_text _ c.first_row-row.result c.read_one.result
-    (rw c.params-to_sql.ensures at (c.first_row-row.ensures.row org_cap_is_query clean)) (c.first_row-row.ensures.calm org_cap_is_query clean) c.read_one.ensures
-    (λ t holds row first. org_cap_shows old new t holds c.args.name.now row first)
-
-pub returns-clause-survives : goal.returns-clause-survives
-returns-clause-survives g c = c.first_row-row.ensures.survives org_cap_is_query
+pub returns : goal.returns
+returns g c = record {
+  mode = c.first_row-row.ensures.mode;
+  read = λ clean.
+      let old = state g.S.Store c.args.conn.now in
+      let new = state g.S.Store c.first_row-row.new.conn in
+      reads_by (cap_of c.args.name.now) IsNumber old new org_cap_text _ c.first_row-row.result c.read_one.result
+      (rw c.params-to_sql.ensures at (c.first_row-row.ensures.row org_cap_is_query clean)) (c.first_row-row.ensures.calm org_cap_is_query clean) c.read_one.ensures
+      (λ t holds row first. org_cap_shows old new t holds c.args.name.now row first);
+  survives = c.first_row-row.ensures.survives org_cap_is_query;
+}

@@ -9,10 +9,14 @@ use Rattle.statements.proofs.RunTexts.{add_run_text}
 use Rattle.statements.proofs.RunWrites.{add_run_does}
 use Rattle.statements.proofs.runs.add.Goals as goal
 
-pub returns-clause-changed : goal.returns-clause-changed
-returns-clause-changed g c clean inside =
-    let old = state g.S.Store c.args.tx.now.conn.now in
-    let new = state g.S.Store c.write.new.tx.conn.now in
-    moves_by (run_added c.args.org.now c.args.ws.now (run_made c.args.number c.args.plan_only (option_map (λ s. s.now) c.args.key) c.args.message.now c.args.created c.args.status)) old new add_run_text _ c.write.result
-    (rw (to_z-of_z w64 (pos c.args.number) (record { sfits = c.requires.number_fits }), optional_text c.args.key, bound_text (option_map (λ s. s.now) c.args.key), c.signed-created.ensures, to_z-of_z w64 (pos c.args.created) (record { sfits = c.requires.created_fits }), c.status_number-status.ensures, to_z-of_z w64 (pos (status_code c.args.status)) (status_fits c.args.status)) at (rw (c.params-to_sql.ensures, c.params-to_sql-2.ensures, c.params-to_sql-3.ensures, c.params-to_sql-4.ensures, c.params-to_sql-5.ensures, c.params-to_sql-6.ensures, c.params-to_sql-7.ensures, c.params-to_sql-8.ensures, c.signed-number.ensures) at (c.write.ensures.runs clean inside)))
-    (λ count t holds ran. add_run_does old new count t holds c.args.org.now c.args.ws.now c.args.number c.args.plan_only (option_map (λ s. s.now) c.args.key) c.args.message.now c.args.created c.args.status ran)
+pub returns : goal.returns
+returns g c = record {
+  same_reference = c.write.ensures.same_reference;
+  changed = λ clean inside.
+      let old = state g.S.Store c.args.tx.now.conn.now in
+      let new = state g.S.Store c.write.new.tx.conn.now in
+      moves_by (run_added c.args.org.now c.args.ws.now (run_made c.args.number c.args.plan_only (option_map (λ s. s.now) c.args.key) c.args.message.now c.args.created c.args.status)) old new add_run_text _ c.write.result
+      (rw (to_z-of_z w64 (pos c.args.number) (record { sfits = c.requires.number_fits }), optional_text c.args.key, bound_text (option_map (λ s. s.now) c.args.key), c.signed-created.ensures, to_z-of_z w64 (pos c.args.created) (record { sfits = c.requires.created_fits }), c.status_number-status.ensures, to_z-of_z w64 (pos (status_code c.args.status)) (status_fits c.args.status)) at (rw (c.params-to_sql.ensures, c.params-to_sql-2.ensures, c.params-to_sql-3.ensures, c.params-to_sql-4.ensures, c.params-to_sql-5.ensures, c.params-to_sql-6.ensures, c.params-to_sql-7.ensures, c.params-to_sql-8.ensures, c.signed-number.ensures) at (c.write.ensures.runs clean inside)))
+      (λ count t holds ran. add_run_does old new count t holds c.args.org.now c.args.ws.now c.args.number c.args.plan_only (option_map (λ s. s.now) c.args.key) c.args.message.now c.args.created c.args.status ran);
+  survives = c.write.ensures.survives;
+}

@@ -6,13 +6,14 @@ use Rattle.statements.proofs.RunTexts.{first_waiting_text, first_waiting_is_quer
 use Rattle.statements.proofs.RunReads.{first_waiting_shows}
 use Rattle.statements.proofs.runs.first_waiting.Goals as goal
 
-pub returns-clause-read : goal.returns-clause-read
-returns-clause-read g c clean =
-    let old = state g.S.Store c.args.conn.now in
-    let new = state g.S.Store c.first_row-row.new.conn in
-    reads_by (first_waiting_of c.args.org.now c.args.ws.now) IsNumber old new first_waiting_text _ c.first_row-row.result c.read_one.result
-    (rw (c.params-to_sql.ensures, c.params-to_sql-2.ensures) at (c.first_row-row.ensures.row first_waiting_is_query clean)) (c.first_row-row.ensures.calm first_waiting_is_query clean) c.read_one.ensures
-    (λ t holds row first. first_waiting_shows old new t holds c.args.org.now c.args.ws.now row first)
-
-pub returns-clause-survives : goal.returns-clause-survives
-returns-clause-survives g c = c.first_row-row.ensures.survives first_waiting_is_query
+pub returns : goal.returns
+returns g c = record {
+  mode = c.first_row-row.ensures.mode;
+  read = λ clean.
+      let old = state g.S.Store c.args.conn.now in
+      let new = state g.S.Store c.first_row-row.new.conn in
+      reads_by (first_waiting_of c.args.org.now c.args.ws.now) IsNumber old new first_waiting_text _ c.first_row-row.result c.read_one.result
+      (rw (c.params-to_sql.ensures, c.params-to_sql-2.ensures) at (c.first_row-row.ensures.row first_waiting_is_query clean)) (c.first_row-row.ensures.calm first_waiting_is_query clean) c.read_one.ensures
+      (λ t holds row first. first_waiting_shows old new t holds c.args.org.now c.args.ws.now row first);
+  survives = c.first_row-row.ensures.survives first_waiting_is_query;
+}

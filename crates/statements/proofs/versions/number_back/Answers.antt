@@ -8,13 +8,14 @@ use Rattle.statements.proofs.VersionTexts.{version_back_text, version_back_is_qu
 use Rattle.statements.proofs.VersionReads.{version_back_shows}
 use Rattle.statements.proofs.versions.number_back.Goals as goal
 
-pub returns-clause-read : goal.returns-clause-read
-returns-clause-read g c clean =
-    let old = state g.S.Store c.args.conn.now in
-    let new = state g.S.Store c.first_row-row.new.conn in
-    reads_by (number_back c.args.org.now c.args.ws.now c.args.place) IsNumber old new version_back_text _ c.first_row-row.result c.read_one.result
-    (rw (c.params-to_sql.ensures, c.params-to_sql-2.ensures, c.params-to_sql-3.ensures, c.signed-place.ensures, to_z-of_z w64 (pos c.args.place) (record { sfits = c.requires.place_fits })) at (c.first_row-row.ensures.row version_back_is_query clean)) (c.first_row-row.ensures.calm version_back_is_query clean) c.read_one.ensures
-    (λ t holds row first. version_back_shows old new t holds c.args.org.now c.args.ws.now c.args.place row first)
-
-pub returns-clause-survives : goal.returns-clause-survives
-returns-clause-survives g c = c.first_row-row.ensures.survives version_back_is_query
+pub returns : goal.returns
+returns g c = record {
+  mode = c.first_row-row.ensures.mode;
+  read = λ clean.
+      let old = state g.S.Store c.args.conn.now in
+      let new = state g.S.Store c.first_row-row.new.conn in
+      reads_by (number_back c.args.org.now c.args.ws.now c.args.place) IsNumber old new version_back_text _ c.first_row-row.result c.read_one.result
+      (rw (c.params-to_sql.ensures, c.params-to_sql-2.ensures, c.params-to_sql-3.ensures, c.signed-place.ensures, to_z-of_z w64 (pos c.args.place) (record { sfits = c.requires.place_fits })) at (c.first_row-row.ensures.row version_back_is_query clean)) (c.first_row-row.ensures.calm version_back_is_query clean) c.read_one.ensures
+      (λ t holds row first. version_back_shows old new t holds c.args.org.now c.args.ws.now c.args.place row first);
+  survives = c.first_row-row.ensures.survives version_back_is_query;
+}

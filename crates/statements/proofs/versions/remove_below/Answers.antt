@@ -7,10 +7,14 @@ use Rattle.statements.proofs.VersionTexts.{remove_versions_below_text}
 use Rattle.statements.proofs.VersionWrites.{remove_versions_below_does}
 use Rattle.statements.proofs.versions.remove_below.Goals as goal
 
-pub returns-clause-changed : goal.returns-clause-changed
-returns-clause-changed g c clean inside =
-    let old = state g.S.Store c.args.tx.now.conn.now in
-    let new = state g.S.Store c.write.new.tx.conn.now in
-    moves_by (versions_removed_below c.args.org.now c.args.ws.now c.args.least) old new remove_versions_below_text _ c.write.result
-    (rw (c.params-to_sql.ensures, c.params-to_sql-2.ensures, c.params-to_sql-3.ensures, c.signed-least.ensures, to_z-of_z w64 (pos c.args.least) (record { sfits = c.requires.least_fits })) at (c.write.ensures.runs clean inside))
-    (λ count t holds ran. remove_versions_below_does old new count t holds c.args.org.now c.args.ws.now c.args.least ran)
+pub returns : goal.returns
+returns g c = record {
+  same_reference = c.write.ensures.same_reference;
+  changed = λ clean inside.
+      let old = state g.S.Store c.args.tx.now.conn.now in
+      let new = state g.S.Store c.write.new.tx.conn.now in
+      moves_by (versions_removed_below c.args.org.now c.args.ws.now c.args.least) old new remove_versions_below_text _ c.write.result
+      (rw (c.params-to_sql.ensures, c.params-to_sql-2.ensures, c.params-to_sql-3.ensures, c.signed-least.ensures, to_z-of_z w64 (pos c.args.least) (record { sfits = c.requires.least_fits })) at (c.write.ensures.runs clean inside))
+      (λ count t holds ran. remove_versions_below_does old new count t holds c.args.org.now c.args.ws.now c.args.least ran);
+  survives = c.write.ensures.survives;
+}

@@ -6,10 +6,14 @@ use Rattle.statements.proofs.WsTexts.{hold_by_lock_text}
 use Rattle.statements.proofs.WsWrites.{hold_by_lock_does}
 use Rattle.statements.proofs.workspaces.hold_by_lock.Goals as goal
 
-pub returns-clause-changed : goal.returns-clause-changed
-returns-clause-changed g c clean inside =
-    let old = state g.S.Store c.args.tx.now.conn.now in
-    let new = state g.S.Store c.write.new.tx.conn.now in
-    moves_by (ws_changed (held_by (Lock c.args.id.now c.args.text.now)) c.args.org.now c.args.name.now) old new hold_by_lock_text _ c.write.result
-    (rw (c.params-to_sql.ensures, c.params-to_sql-2.ensures, c.params-to_sql-3.ensures, c.params-to_sql-4.ensures) at (c.write.ensures.runs clean inside))
-    (λ count t holds ran. hold_by_lock_does old new count t holds c.args.org.now c.args.name.now c.args.id.now c.args.text.now ran)
+pub returns : goal.returns
+returns g c = record {
+  same_reference = c.write.ensures.same_reference;
+  changed = λ clean inside.
+      let old = state g.S.Store c.args.tx.now.conn.now in
+      let new = state g.S.Store c.write.new.tx.conn.now in
+      moves_by (ws_changed (held_by (Lock c.args.id.now c.args.text.now)) c.args.org.now c.args.name.now) old new hold_by_lock_text _ c.write.result
+      (rw (c.params-to_sql.ensures, c.params-to_sql-2.ensures, c.params-to_sql-3.ensures, c.params-to_sql-4.ensures) at (c.write.ensures.runs clean inside))
+      (λ count t holds ran. hold_by_lock_does old new count t holds c.args.org.now c.args.name.now c.args.id.now c.args.text.now ran);
+  survives = c.write.ensures.survives;
+}

@@ -6,10 +6,14 @@ use Rattle.statements.proofs.WsTexts.{release_run_text}
 use Rattle.statements.proofs.WsWrites.{release_run_does}
 use Rattle.statements.proofs.workspaces.release_run.Goals as goal
 
-pub returns-clause-changed : goal.returns-clause-changed
-returns-clause-changed g c clean inside =
-    let old = state g.S.Store c.args.tx.now.conn.now in
-    let new = state g.S.Store c.write.new.tx.conn.now in
-    moves_by (ws_changed (held_by Nobody) c.args.org.now c.args.name.now) old new release_run_text _ c.write.result
-    (rw (c.params-to_sql.ensures, c.params-to_sql-2.ensures) at (c.write.ensures.runs clean inside))
-    (λ count t holds ran. release_run_does old new count t holds c.args.org.now c.args.name.now ran)
+pub returns : goal.returns
+returns g c = record {
+  same_reference = c.write.ensures.same_reference;
+  changed = λ clean inside.
+      let old = state g.S.Store c.args.tx.now.conn.now in
+      let new = state g.S.Store c.write.new.tx.conn.now in
+      moves_by (ws_changed (held_by Nobody) c.args.org.now c.args.name.now) old new release_run_text _ c.write.result
+      (rw (c.params-to_sql.ensures, c.params-to_sql-2.ensures) at (c.write.ensures.runs clean inside))
+      (λ count t holds ran. release_run_does old new count t holds c.args.org.now c.args.name.now ran);
+  survives = c.write.ensures.survives;
+}

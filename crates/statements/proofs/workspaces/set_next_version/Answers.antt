@@ -8,13 +8,17 @@ use Rattle.statements.proofs.WsTexts.{set_next_version_text}
 use Rattle.statements.proofs.WsWrites.{set_next_version_does, set_next_version_finds}
 use Rattle.statements.proofs.workspaces.set_next_version.Goals as goal
 
-pub returns-clause-changed : goal.returns-clause-changed
-returns-clause-changed g c clean inside =
-    let old = state g.S.Store c.args.tx.now.conn.now in
-    let new = state g.S.Store c.update.new.tx.conn.now in
-    moves_by (ws_changed (with_next_version c.args.next) c.args.org.now c.args.name.now) old new set_next_version_text _ c.update.result
-    (any_wrote old new set_next_version_text _ c.update.result (rw (c.params-to_sql.ensures, c.params-to_sql-2.ensures, c.params-to_sql-3.ensures, c.signed-next.ensures, to_z-of_z w64 (pos c.args.next) (record { sfits = c.requires.next_fits })) at (c.update.ensures.runs clean inside)))
-    (λ count t holds ran. set_next_version_does old new count t holds c.args.org.now c.args.name.now c.args.next ran)
+pub returns-clause-writes : goal.returns-clause-writes
+returns-clause-writes g c = record {
+  same_reference = c.update.ensures.same_reference;
+  changed = λ clean inside.
+      let old = state g.S.Store c.args.tx.now.conn.now in
+      let new = state g.S.Store c.update.new.tx.conn.now in
+      moves_by (ws_changed (with_next_version c.args.next) c.args.org.now c.args.name.now) old new set_next_version_text _ c.update.result
+      (any_wrote old new set_next_version_text _ c.update.result (rw (c.params-to_sql.ensures, c.params-to_sql-2.ensures, c.params-to_sql-3.ensures, c.signed-next.ensures, to_z-of_z w64 (pos c.args.next) (record { sfits = c.requires.next_fits })) at (c.update.ensures.runs clean inside)))
+      (λ count t holds ran. set_next_version_does old new count t holds c.args.org.now c.args.name.now c.args.next ran);
+  survives = c.update.ensures.survives;
+}
 
 pub returns-clause-found : goal.returns-clause-found
 returns-clause-found g c clean inside =

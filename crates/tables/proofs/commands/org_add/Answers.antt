@@ -3,7 +3,6 @@ use Rattle.sqlite.specs.Held.{state}
 use Rattle.machine.specs.declared.keeps.AdminAnswer.TheVariants.{Done}
 use Rattle.statements.specs.Changes.{org_row_added}
 use Rattle.tables.specs.Inner.Steps.{org_managed}
-use Rattle.tables.proofs.KeepCommits.{settled_by}
 use Rattle.tables.proofs.KeepManaged.{manages_one, unchanged_stays, org_missing}
 use Rattle.tables.proofs.commands.org_add.Goals as goal
 
@@ -15,7 +14,7 @@ returns-clause-done g c clean =
     let a = state g.S.Store h in
     let b = state g.S.Store c.cap.new.conn in
     let d = state g.S.Store c.add_organization.new.conn in
-    let settled = settled_by g.S.Store h c.is_autocommit-idle.result c.is_autocommit-idle.ensures.value c.is_autocommit-idle.ensures.settled c.requires.idle in
+    let settled = c.assert_settled.ensures in
     let cap = c.in_ok-cap.ensures.read (c.add_organization.ensures.so_far clean) in
     let found : is_some c.in_ok-cap.cap ≡ false = search rules in (
       manages_one (org_managed org limit) a b d settled (org_row_added org limit) Done (unchanged_stays a b cap.1.0) (c.in_ok-add_organization.ensures.done clean).0

@@ -3,7 +3,6 @@ use Rattle.sqlite.specs.Held.{state}
 use Rattle.machine.specs.declared.keeps.AdminAnswer.TheVariants.{Done}
 use Rattle.statements.specs.Changes.{org_capped}
 use Rattle.tables.specs.Inner.Steps.{limit_managed}
-use Rattle.tables.proofs.KeepCommits.{settled_by}
 use Rattle.tables.proofs.KeepManaged.{manages_one, unchanged_stays, limit_there}
 use Rattle.tables.proofs.commands.org_limit.Goals as goal
 
@@ -15,7 +14,7 @@ returns-clause-done g c clean =
     let a = state g.S.Store h in
     let b = state g.S.Store c.cap.new.conn in
     let d = state g.S.Store c.set_limit.new.conn in
-    let settled = settled_by g.S.Store h c.is_autocommit-idle.result c.is_autocommit-idle.ensures.value c.is_autocommit-idle.ensures.settled c.requires.idle in
+    let settled = c.assert_settled.ensures in
     let cap = c.in_ok-cap.ensures.read (c.set_limit.ensures.so_far clean) in
     let found : is_none c.in_ok-cap.cap ≡ false = search rules in (
       manages_one (limit_managed org limit) a b d settled (org_capped org limit) Done (unchanged_stays a b cap.1.0) (c.in_ok-set_limit.ensures.done clean).0

@@ -6,7 +6,6 @@ use Rattle.machine.specs.declared.keeps.AdminAnswer.TheVariants.{Done, Exists}
 use Rattle.statements.specs.Changes.{token_row_added}
 use Rattle.statements.specs.Tables.{Holds}
 use Rattle.tables.specs.Inner.Steps.{token_managed}
-use Rattle.tables.proofs.KeepCommits.{settled_by}
 use Rattle.tables.proofs.KeepManaged.{manages_none, manages_one, unchanged_stays, stays_then, token_there}
 use Rattle.tables.proofs.commands.token_add.Goals as goal
 
@@ -20,7 +19,7 @@ returns-then-branch-clause-done g c clean =
     let a = state g.S.Store h in
     let b = state g.S.Store c.cap.new.conn in
     let d = state g.S.Store c.is_taken.new.conn in
-    let settled = settled_by g.S.Store h c.is_autocommit-idle.result c.is_autocommit-idle.ensures.value c.is_autocommit-idle.ensures.settled c.requires.idle in
+    let settled = c.assert_settled.ensures in
     let cap = c.in_ok-cap.ensures.read (c.is_taken.ensures.looks.so_far clean) in
     let taken = c.in_ok-is_taken.ensures.looks.sees clean in
     let is_open = c.in_ok-is_taken.ensures.is_open clean in
@@ -42,7 +41,7 @@ returns-clause-done g c clean =
     let b = state g.S.Store c.cap.new.conn in
     let d = state g.S.Store c.is_taken.new.conn in
     let e = state g.S.Store c.add_token.new.conn in
-    let settled = settled_by g.S.Store h c.is_autocommit-idle.result c.is_autocommit-idle.ensures.value c.is_autocommit-idle.ensures.settled c.requires.idle in
+    let settled = c.assert_settled.ensures in
     let clean2 = c.add_token.ensures.so_far clean in
     let cap = c.in_ok-cap.ensures.read (c.is_taken.ensures.looks.so_far clean2) in
     let taken = c.in_ok-is_taken.ensures.looks.sees clean2 in

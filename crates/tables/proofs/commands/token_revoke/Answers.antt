@@ -3,7 +3,6 @@ use Rattle.sqlite.specs.Held.{state}
 use Rattle.machine.specs.declared.keeps.AdminAnswer.TheVariants.{Done}
 use Rattle.statements.specs.Changes.{token_removed}
 use Rattle.tables.specs.Inner.Steps.{revocation_managed}
-use Rattle.tables.proofs.KeepCommits.{settled_by}
 use Rattle.tables.proofs.KeepManaged.{manages_one, unchanged_stays, revocation_there}
 use Rattle.tables.proofs.commands.token_revoke.Goals as goal
 
@@ -15,7 +14,7 @@ returns-clause-done g c clean =
     let a = state g.S.Store h in
     let b = state g.S.Store c.role_of_name.new.conn in
     let d = state g.S.Store c.remove_token.new.conn in
-    let settled = settled_by g.S.Store h c.is_autocommit-idle.result c.is_autocommit-idle.ensures.value c.is_autocommit-idle.ensures.settled c.requires.idle in
+    let settled = c.assert_settled.ensures in
     let role = c.in_ok-role.ensures.read (c.remove_token.ensures.so_far clean) in
     let found : is_none c.in_ok-role.role ≡ false = search rules in (
       manages_one (revocation_managed org name) a b d settled (token_removed org name) Done (unchanged_stays a b role.1.0) (c.in_ok-remove_token.ensures.done clean).0

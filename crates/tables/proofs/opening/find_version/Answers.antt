@@ -1,12 +1,11 @@
 use Rattle.sqlite.specs.Held.{state}
 use Rattle.tables.proofs.Climbing.{tells_by}
-use Rattle.tables.proofs.KeepCommits.{settled_by}
 use Rattle.tables.proofs.opening.find_version.Goals as goal
 
 pub returns-in-Ok-clause-found : goal.returns-in-Ok-clause-found
 returns-in-Ok-clause-found g c clean =
     let old = state g.S.Store c.args.conn.now in
     let new = state g.S.Store c.version.new.conn in
-    let settled = settled_by g.S.Store c.args.conn.now c.is_autocommit-idle.result c.is_autocommit-idle.ensures.value c.is_autocommit-idle.ensures.settled c.requires.idle in
-    let read = c.in-Ok.ensures.read clean in
+    let settled = c.assert_settled.ensures in
+    let read = c.in-Ok.ensures.reads.read clean in
     rw c.found_in.ensures (tells_by c.in-Ok.version old new settled read.1.0 read.0 (c.in-Ok.ensures.told clean))
