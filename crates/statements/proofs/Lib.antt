@@ -7,6 +7,7 @@ pub mod Commands
 pub mod Conditions
 pub mod Decoding
 pub mod Edits
+pub mod Found
 pub mod Frames
 pub mod Grown
 pub mod Held

@@ -37,13 +37,13 @@ use Rattle.statements.specs.Tables.{Tables}
 use Rattle.statements.specs.Changes.{is_org, is_version_of, is_version, is_run_of, is_run_row, is_ws, is_ws_of}
 use Rattle.statements.specs.Finds.{last_in, counted, head_of, newest_of, body_of, version_at_number, number_back, first_waiting_of, status_at_number, workspace_of, workspaces_of, cap_of}
 use Rattle.statements.specs.Finds as finds
+use Rattle.statements.proofs.Found.{found_passes, found_holds}
 use Rattle.tables.specs.Records.{version_of_cells, run_of_cells, settings_of_cells, holder_of_cells, versions_at, runs_at, workspace_at, workspace_by, workspaces_at, organization_at, record_of}
 use Rattle.tables.specs.Sound.{IsSound}
 use Rattle.tables.proofs.Names.{same_name, apart_name, pair_first, pair_second}
-use Rattle.tables.proofs.Lists.{found_passes}
 use Rattle.tables.proofs.Parts.{none_mapped}
 use Rattle.tables.proofs.Sets.{entry_found, got_workspace, workspace_there, one_of}
-use Rattle.tables.proofs.Lawful.{limit_there, found_holds}
+use Rattle.tables.proofs.Lawful.{limit_there}
 use Rattle.tables.specs.Inner.Units.{holder_status_in, is_body, has_text, newest_by, newest_in, outgoing_in, has_version_in, keyed_cells_in, asked_run_in, unit_at, unit_in}
 
 -- ---- lists

@@ -24,6 +24,7 @@ use Rattle.statements.specs.Rows.{Kept, id_of, OrgRow, TokenRow}
 use Rattle.statements.specs.Tables.{Tables, no_rows}
 use Rattle.statements.specs.Changes.{is_org, is_token, is_digest_of, org_row_added, token_row_added}
 use Rattle.statements.specs.Finds.{cap_of, role_of_name, role_of_digest}
+use Rattle.statements.proofs.Found.{apart_pushed}
 use Rattle.tables.specs.Records.{workspace_by, organization_at, record_of}
 use Rattle.tables.specs.Sound.{TellsVersion, IsOrgRow, IsTokenRow, IsSound}
 use Rattle.tables.specs.Inner.Edits.{changed_rows}
@@ -34,7 +35,7 @@ use Rattle.tables.proofs.Sets.{Puts, workspace_there, one_of, put_own, put_other
 use Rattle.tables.proofs.Edits.{changed_puts}
 use Rattle.tables.proofs.Lawful.{limit_there, limit_is}
 use Rattle.tables.proofs.Counting.{count_within}
-use Rattle.tables.proofs.Owned.{AreOwned, sound_are_owned, changed_are_owned, any_pushed, apart_pushed, pair_turned}
+use Rattle.tables.proofs.Owned.{AreOwned, sound_are_owned, changed_are_owned, any_pushed, pair_turned}
 use Rattle.tables.proofs.Operators.{org_own, org_other}
 
 -- the laws of organizations' and tokens' rows alone

@@ -12,38 +12,12 @@ use Rattle.statements.specs.Rows.{Kept, OrgRow, TokenRow}
 use Rattle.statements.specs.Tables.{Tables}
 use Rattle.statements.specs.Changes.{is_org, is_token, is_digest_of}
 use Rattle.statements.specs.Finds.{cap_of}
+use Rattle.statements.proofs.Found.{found_passes, found_holds, apart_one}
 use Rattle.tables.specs.Records.{token_of_cells, organization_at, record_of}
 use Rattle.tables.specs.Sound.{IsOrgRow, IsTokenRow, IsSound}
 use Rattle.tables.specs.Laws.{SoundTablesAreLawful}
-use Rattle.tables.proofs.Lists.{found_passes}
 use Rattle.tables.proofs.Names.{name_is, pair_first, pair_second}
 use Rattle.tables.proofs.Sets.{got_token, workspace_there, one_of}
-
-module _ {X : Type 0} where
-  pub found_holds : (P : X → Type 0) (p : X → Bool) (xs : List X) (x : X) → AllByRecursion P xs → find p xs ≡ Some x → P x
-  found_holds P p [] x all e = absurd (let none : ⊥ = cc in none)
-  found_holds P p (y ∷ ys) x all e = go (p y) e (found_holds P p ys x all.1)
-    where
-      go : (b : Bool) → cond b (Some y) (find p ys) ≡ Some x → (find p ys ≡ Some x → P x) → P x
-      go true e more = let same : y ≡ x = cc in subst P same all.0
-      go false e more = more e
-
-  -- of rows that are apart, two that clash are one
-  pub apart_one : (clash : X → X → Bool) (p q : X → Bool) (xs : List X) (x y : X) → AreApart clash xs → find p xs ≡ Some x → find q xs ≡ Some y → clash x y ≡ true → clash y x ≡ true → x ≡ y
-  apart_one clash p q [] x y apart e f c d = absurd (let none : ⊥ = cc in none)
-  apart_one clash p q (z ∷ zs) x y apart e f c d = go (p z) (q z) e f (λ e f. apart_one clash p q zs x y apart.1 e f c d)
-    where
-      go : (a b : Bool) → cond a (Some z) (find p zs) ≡ Some x → cond b (Some z) (find q zs) ≡ Some y → (find p zs ≡ Some x → find q zs ≡ Some y → x ≡ y) → x ≡ y
-      go true true e f more = cc
-      go true false e f more =
-          let same : z ≡ x = cc in
-          let none : clash z y ≡ false = found_holds (λ w. clash z w ≡ false) q zs y apart.0 f in
-          absurd (let no_one : ⊥ = cc (sym (subst (λ (w : X). clash w y ≡ false) same none) ∙ c) in no_one)
-      go false true e f more =
-          let same : z ≡ y = cc in
-          let none : clash z x ≡ false = found_holds (λ w. clash z w ≡ false) p zs x apart.0 e in
-          absurd (let no_one : ⊥ = cc (sym (subst (λ (w : X). clash w x ≡ false) same none) ∙ d) in no_one)
-      go false false e f more = more e f
 
 -- the limit of a record is in the organization's row
 pub limit_there : (t : Tables) (org : List ℕ) (o : Organization) → record_of t org ≡ Some o → cap_of org t ≡ Some o.limit

@@ -14,12 +14,12 @@ use Rattle.statements.specs.Rows.{Kept, OrgRow}
 use Rattle.statements.specs.Tables.{Tables}
 use Rattle.statements.specs.Changes.{is_org, org_capped}
 use Rattle.statements.specs.Finds.{cap_of}
+use Rattle.statements.proofs.Found.{find_changed, find_unchanged, all_updated}
 use Rattle.tables.specs.Records.{organization_at, record_of}
 use Rattle.tables.specs.Sound.{IsOrgRow, IsSound}
 use Rattle.tables.proofs.Names.{same_name, apart_name, names_apart}
-use Rattle.tables.proofs.Lists.{find_changed, find_unchanged}
 use Rattle.tables.proofs.Sets.{one_of}
-use Rattle.tables.proofs.Owned.{all_updated, any_updated}
+use Rattle.tables.proofs.Owned.{any_updated}
 use Rattle.tables.proofs.Operators.{record_there, record_missing}
 
 module _ (org : List ℕ) (limit : ℕ) where

@@ -23,13 +23,12 @@ use Rattle.statements.specs.Tables.{Tables}
 use Rattle.statements.specs.Changes.{is_org, is_token, is_digest_of, is_ws_of}
 use Rattle.statements.specs.Changes as rows
 use Rattle.statements.specs.Finds.{cap_of, role_of_digest, role_of_name}
+use Rattle.statements.proofs.Found.{found_passes, find_pushed, find_pushed_other, found_holds}
 use Rattle.tables.specs.Records.{caller_of_role, caller_by, token_of_cells, is_token_of, tokens_at, workspace_at, workspaces_at, organization_at, record_of}
 use Rattle.tables.specs.Sound.{IsSound}
-use Rattle.tables.proofs.Lists.{found_passes, find_pushed, find_pushed_other}
 use Rattle.tables.proofs.Names.{same_name, name_is, apart_name, names_apart, pair_first, pair_is}
 use Rattle.tables.proofs.Parts.{none_mapped}
 use Rattle.tables.proofs.Sets.{entry_found, got_token}
-use Rattle.tables.proofs.Lawful.{found_holds}
 use Rattle.tables.proofs.Finding.{none_found, no_orphans, none_there}
 
 -- ---- the first token with a digest, of a map

@@ -24,15 +24,12 @@ use Rattle.statements.specs.Rows.{Kept, id_of, WsRow}
 use Rattle.statements.specs.Tables.{Tables}
 use Rattle.statements.specs.Changes.{is_org, is_ws, is_version_of, is_version_below, is_run_of, is_run_row, with_auto, held_by, released_from, with_next_version, with_next_run, ws_changed, ws_added, workspace_made, new_version, version_added, versions_removed, versions_removed_below, run_made, run_added, run_changed_to, run_acted}
 use Rattle.statements.specs.Finds.{workspace_of}
+use Rattle.statements.proofs.Found.{all_updated, apart_pushed}
 use Rattle.tables.specs.Sound.{IsSound}
 use Rattle.tables.specs.Inner.Edits.{removed_rows, made_rows, numbered_rows, added_rows, left_rows, if_there, run_put, run_counted, freed_rows, edited_rows, started_rows, changed_rows}
 use Rattle.tables.proofs.Names.{is_pair, pair_is, pair_first, pair_second, pair_apart}
 
 module _ {X : Type 0} where
-  pub all_updated : (P : X → Type 0) (p : X → Bool) (f : X → X) → ((x : X) → P x → P (f x)) → (xs : List X) → AllByRecursion P xs → AllByRecursion P (update_where p f xs)
-  all_updated P p f keeps [] all = tt
-  all_updated P p f keeps (x ∷ xs) all = (elim (p x) as (λ b. P (cond b (f x) x)) [ true ↦ keeps x all.0 | false ↦ all.0 ], all_updated P p f keeps xs all.1)
-
   all_deleted : (p : X → Bool) (xs : List X) → AllByRecursion (λ x. p x ≡ false) (delete_where p xs)
   all_deleted p [] = tt
   all_deleted p (x ∷ xs) = go (p x) refl (all_deleted p xs)
@@ -60,9 +57,6 @@ module _ {X : Type 0} where
       go : (b : Bool) → (b || list_any q ys) ≡ true → (list_any q ys ≡ true → list_any q (ys ++ x ∷ []) ≡ true) → (b || list_any q (ys ++ x ∷ [])) ≡ true
       go true e more = refl
       go false e more = more e
-
-  pub apart_pushed : (clash : X → X → Bool) (xs : List X) (x : X) → AreApart clash xs → AllByRecursion (λ y. clash y x ≡ false) xs → AreApart clash (xs ++ x ∷ [])
-  apart_pushed clash xs x apart all = ascending-append (λ a b. clash a b ≡ false) xs (x ∷ []) apart (tt, tt) (all_weaker (λ y. clash y x ≡ false) (λ y. AllByRecursion (λ b. clash y b ≡ false) (x ∷ [])) (λ y e. (e, tt)) xs all)
 
 pub pair_turned : (a b p q : List ℕ) → is_pair a b p q ≡ false → is_pair p q a b ≡ false
 pair_turned a b p q e = false_from_ne_true (is_pair p q a b) (λ same.

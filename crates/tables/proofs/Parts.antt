@@ -19,8 +19,8 @@ use Rattle.statements.specs.Rows.{Kept, id_of, WsRow, VersionRow, RunRow}
 use Rattle.statements.specs.Tables.{Tables}
 use Rattle.statements.specs.Changes.{is_ws, ws_changed, ws_added, ws_removed, workspace_made, is_version_of, is_version_below, version_added, versions_removed, versions_removed_below, is_run_of, is_run_row, run_changed_to, run_acted, run_added, runs_removed}
 use Rattle.statements.specs.Finds.{workspace_of}
+use Rattle.statements.proofs.Found.{find_changed, find_unchanged, find_deleted, find_left, find_pushed, find_pushed_other, filter_deleted}
 use Rattle.tables.specs.Records.{version_of_cells, run_of_cells, versions_at, runs_at}
-use Rattle.tables.proofs.Lists.{find_changed, find_unchanged, find_deleted, find_left, find_pushed, find_pushed_other, filter_deleted}
 use Rattle.tables.proofs.Names.{is_pair, pair_is, pair_apart}
 
 map_map : {A B C D : Type 0} (f : A → B) (g : B → C) (h : A → D) (k : D → C) → ((a : A) → g (f a) ≡ k (h a)) → (o : Option A) → option_map g (option_map f o) ≡ option_map k (option_map h o)

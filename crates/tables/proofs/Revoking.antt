@@ -18,12 +18,11 @@ use Rattle.statements.specs.Rows.{Kept, TokenRow}
 use Rattle.statements.specs.Tables.{Tables}
 use Rattle.statements.specs.Changes.{is_org, is_token, is_digest_of, token_removed}
 use Rattle.statements.specs.Finds.{cap_of, role_of_name}
+use Rattle.statements.proofs.Found.{found_passes, find_deleted, find_left, found_holds}
 use Rattle.tables.specs.Records.{token_of_cells, is_token_of, tokens_at, workspaces_at, organization_at, record_of}
 use Rattle.tables.specs.Sound.{IsTokenRow, IsSound}
 use Rattle.tables.proofs.Names.{same_name, apart_name, names_apart, pair_first, pair_apart}
-use Rattle.tables.proofs.Lists.{found_passes, find_deleted, find_left}
 use Rattle.tables.proofs.Sets.{got_token, one_of, other_ws}
-use Rattle.tables.proofs.Lawful.{found_holds}
 use Rattle.tables.proofs.Finding.{none_there}
 use Rattle.tables.proofs.Operators.{record_there, record_missing, named_in_rows}
 

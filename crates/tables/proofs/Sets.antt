@@ -16,8 +16,8 @@ use Rattle.statements.specs.Rows.{Kept, OrgRow, TokenRow, WsRow}
 use Rattle.statements.specs.Tables.{Tables}
 use Rattle.statements.specs.Changes.{is_org, is_token, is_ws, is_ws_of}
 use Rattle.statements.specs.Finds.{cap_of}
+use Rattle.statements.proofs.Found.{found_passes}
 use Rattle.tables.specs.Records.{workspace_of_cells, workspace_at, workspace_by, is_token_of, token_of_cells, tokens_at, workspaces_at, organization_at, record_of}
-use Rattle.tables.proofs.Lists.{found_passes}
 use Rattle.tables.proofs.Names.{same_name, name_is, apart_name, names_apart, is_pair, pair_second, tied}
 
 -- ---- what a name gives

@@ -1,0 +1,49 @@
+-- What the queries on the table page read of its rows.
+use Rattle.std.proofs.Common.{◌≡◌, ℕ, pos, true, ◌&&◌, List, [], ◌∷◌, Option, codes, refl}
+use Rattle.std.specs.Str.{bytes_eq}
+use Rattle.sqlite_value.specs.declared.keys.Collation.TheVariants.{Binary}
+use Rattle.sqlite_value.specs.declared.value.Value.TheVariants.{Blob}
+use Rattle.sqlite_value.specs.Order.{Row}
+use Rattle.sqlite_sql.specs.declared.ops.CompareOp.TheVariants.{Eq}
+use Rattle.sqlite_sql.specs.declared.ops.BinaryOp.TheVariants.{Compare}
+use Rattle.sqlite_sql.specs.Ops.{is_true, binary}
+use Rattle.sqlite_typed.proofs.TestLemmas.{then_term, last_term}
+use Rattle.sqlite.specs.State.{State}
+use Rattle.statements.specs.Schema.{page_table}
+use Rattle.statements.specs.Rows.{page_cells, number}
+use Rattle.statements.specs.Tables.{Tables, Holds, page_layout}
+use Rattle.statements.specs.Calls.{FirstRow, Pins, IsNumber, IsBody}
+use Rattle.statements.proofs.Held.{IsHeld, pages_held}
+use Rattle.statements.proofs.PointReads.{first_own}
+use Rattle.statements.proofs.ReadBack.{number_read, blob_read}
+use Rattle.statements.proofs.Conditions.{same_blob}
+use Rattle.pages.specs.declared.rows.PageUse.{PageUse}
+use Rattle.pages.specs.Rows.{is_page, is_equal_page, page_bytes, page_uses, page_use, equal_page}
+use Rattle.pages.specs.Inner.Calls.{IsPageUse}
+use Rattle.pages.proofs.PageTexts.{page_bytes_text, page_bytes_means, page_bytes_rest, page_uses_text, page_uses_means, page_uses_rest, equal_page_text, equal_page_means, equal_page_rest}
+use Rattle.pages.proofs.PageWrites.{blob_number}
+
+two_blobs : (a b c d : List ℕ) → (is_true (binary (Compare Eq Binary) (Blob a) (Blob b)) && (is_true (binary (Compare Eq Binary) (Blob c) (Blob d)) && true)) ≡ (bytes_eq a b && bytes_eq c d)
+two_blobs a b c d = then_term (same_blob a b) (last_term (same_blob c d))
+
+page_use_read : (twin uses : ℕ) (found : PageUse) → IsPageUse (number twin ∷ number uses ∷ []) found → found ≡ record { twin = twin; uses = uses }
+page_use_read twin uses found told = λ i. record { twin = number_read twin found.twin told.twin i; uses = number_read uses found.uses told.uses i }
+
+module _ (old new : State) (t : Tables) (h : Holds old.now t) where
+  abbrev held : IsHeld page_layout old.now t.pages
+  held = pages_held old.now t h
+
+  pub page_bytes_shows : (key : List ℕ) (twin : ℕ) (row : Option Row) → FirstRow page_bytes_text (Blob key ∷ number twin ∷ []) old new row → Pins IsBody row (page_bytes key twin t)
+  page_bytes_shows key twin row first =
+      first_own page_cells page_table old new held.own t.pages held.rows held.keyed page_bytes_text (Blob key ∷ number twin ∷ []) row first page_bytes_rest (codes "bytes" ∷ [])
+      (is_page key twin) (λ x. blob_number x.1.key key x.1.twin twin) IsBody (λ x. x.1.bytes) (λ x y told. blob_read x.1.bytes y told) (page_bytes_means old.now.schema _ _ held.own.place) (λ l. refl)
+
+  pub page_uses_shows : (key : List ℕ) (twin : ℕ) (row : Option Row) → FirstRow page_uses_text (Blob key ∷ number twin ∷ []) old new row → Pins IsNumber row (page_uses key twin t)
+  page_uses_shows key twin row first =
+      first_own page_cells page_table old new held.own t.pages held.rows held.keyed page_uses_text (Blob key ∷ number twin ∷ []) row first page_uses_rest (codes "uses" ∷ [])
+      (is_page key twin) (λ x. blob_number x.1.key key x.1.twin twin) IsNumber (λ x. x.1.uses) (λ x y told. number_read x.1.uses y told) (page_uses_means old.now.schema _ _ held.own.place) (λ l. refl)
+
+  pub equal_page_shows : (key bytes : List ℕ) (row : Option Row) → FirstRow equal_page_text (Blob key ∷ Blob bytes ∷ []) old new row → Pins IsPageUse row (equal_page key bytes t)
+  equal_page_shows key bytes row first =
+      first_own page_cells page_table old new held.own t.pages held.rows held.keyed equal_page_text (Blob key ∷ Blob bytes ∷ []) row first equal_page_rest (codes "twin" ∷ codes "uses" ∷ [])
+      (is_equal_page key bytes) (λ x. two_blobs x.1.key key x.1.bytes bytes) IsPageUse page_use (λ x y told. page_use_read x.1.twin x.1.uses y told) (equal_page_means old.now.schema _ _ held.own.place) (λ l. refl)

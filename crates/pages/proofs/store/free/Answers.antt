@@ -1,0 +1,40 @@
+use Rattle.std.proofs.Common.{◌≡◌, Some, None, refl, sym, ◌∙◌}
+use Rattle.sqlite.specs.Held.{state}
+use Rattle.pages.specs.Rows.{page_uses}
+use Rattle.pages.specs.Puts.{twin_limit}
+use Rattle.pages.proofs.FreeTwins.{free_on, free_here, free_begin}
+use Rattle.pages.proofs.Looking.{clean_before, as_it_is, one_look, looks_then, still_holds}
+use Rattle.pages.proofs.store.free.Goals as goal
+
+pub twins-init : goal.twins-init
+twins-init g c = (refl, record { so_far = λ clean. clean; looks = λ _. as_it_is (state g.S.Store c.args.tx.now.conn.now); left = λ _ t _. free_begin c.args.key.now t })
+
+pub returns-in-None-clause-twin : goal.returns-in-None-clause-twin
+returns-in-None-clause-twin g c clean t holds =
+    let key = c.args.key.now in
+    let s0 = state g.S.Store c.args.tx.now.conn.now in
+    let s1 = state g.S.Store c.twins.tx.conn.now in
+    let s2 = state g.S.Store c.uses.new.tx.conn.now in
+    let so_far = c.twins.invariant.1 in
+    let clean1 = clean_before s1 s2 _ c.uses.ensures.survives clean in
+    let read = c.in_ok-found.ensures.read clean in
+    let none : page_uses key c.twins.twin t ≡ None = sym (read.0 t (still_holds s0 s1 (so_far.looks clean1) t holds)) ∙ c.in-None.is in
+    sym (free_here key twin_limit c.twins.twin t c.twins-test.true none) ∙ so_far.left clean1 t holds
+
+pub twins-preserved : goal.twins-preserved
+twins-preserved g c =
+    let key = c.args.key.now in
+    let s0 = state g.S.Store c.args.tx.now.conn.now in
+    let s1 = state g.S.Store c.twins.tx.conn.now in
+    let s2 = state g.S.Store c.uses.new.tx.conn.now in
+    let so_far = c.twins.invariant.1 in
+    let before = clean_before s1 s2 _ c.uses.ensures.survives in (
+      c.in_ok-found.ensures.same_reference ∙ c.twins.invariant.0,
+      record {
+        so_far = λ clean. so_far.so_far (before clean);
+        looks = λ clean. looks_then s0 s1 s2 (so_far.looks (before clean)) (one_look s1 s2 (c.in_ok-found.ensures.read clean).1.0);
+        left = λ clean t holds.
+            let there : page_uses key c.twins.twin t ≡ Some c.in-Some.field-0 = sym ((c.in_ok-found.ensures.read clean).0 t (still_holds s0 s1 (so_far.looks (before clean)) t holds)) ∙ c.in-Some.is in
+            sym (free_on key twin_limit c.twins.twin t c.twins-test.true c.in-Some.field-0 there) ∙ so_far.left (before clean) t holds;
+      },
+    )

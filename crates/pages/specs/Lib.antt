@@ -1,0 +1,4 @@
+pub mod Inner
+pub mod Pages
+pub mod Puts
+pub mod Rows

@@ -1,0 +1,37 @@
+-- What the statements on the table page change and read of its rows.
+use Rattle.std.specs.Prelude.{ℕ, Bool, ◌&&◌, ◌==◌, List, find, Option, option_map}
+use Rattle.std.specs.Str.{bytes_eq}
+use Rattle.sqlite_keyed.specs.Lists.{update_where, delete_where}
+use Rattle.statements.specs.Rows.{Kept, PageRow}
+use Rattle.statements.specs.Tables.{Tables}
+use Rattle.statements.specs.Changes.{with_next}
+use Rattle.pages.specs.declared.rows.PageUse.{PageUse}
+
+-- the page of a key and a twin number
+abbrev pub is_page : List ℕ → ℕ → Kept PageRow → Bool
+is_page key twin x = bytes_eq x.1.key key && x.1.twin == twin
+
+-- a page of the key with these bytes
+abbrev pub is_equal_page : List ℕ → List ℕ → Kept PageRow → Bool
+is_equal_page key bytes x = bytes_eq x.1.key key && bytes_eq x.1.bytes bytes
+
+abbrev pub page_added : List ℕ → ℕ → List ℕ → Tables → Tables
+page_added key twin bytes t = record t { pages = with_next (record { key = key; twin = twin; bytes = bytes; uses = 1 }) t.pages }
+
+abbrev pub page_used : List ℕ → ℕ → ℕ → Tables → Tables
+page_used key twin uses t = record t { pages = update_where (is_page key twin) (λ x. (x.0, record x.1 { uses = uses })) t.pages }
+
+abbrev pub page_removed : List ℕ → ℕ → Tables → Tables
+page_removed key twin t = record t { pages = delete_where (is_page key twin) t.pages }
+
+abbrev pub page_bytes : List ℕ → ℕ → Tables → Option (List ℕ)
+page_bytes key twin t = option_map (λ x. x.1.bytes) (find (is_page key twin) t.pages)
+
+abbrev pub page_uses : List ℕ → ℕ → Tables → Option ℕ
+page_uses key twin t = option_map (λ x. x.1.uses) (find (is_page key twin) t.pages)
+
+abbrev pub page_use : Kept PageRow → PageUse
+page_use x = record { twin = x.1.twin; uses = x.1.uses }
+
+abbrev pub equal_page : List ℕ → List ℕ → Tables → Option PageUse
+equal_page key bytes t = option_map page_use (find (is_equal_page key bytes) t.pages)

@@ -1,0 +1,9 @@
+//! Pages of texts, shared by all organizations: a page is kept once, under its key and a twin number, with how often it is in use.
+#![tactic(auto)]
+
+pub mod keys;
+mod rows;
+mod store;
+
+pub use keys::{PageKey, ShaKey};
+pub use store::{PageId, get, put, release, same};

@@ -1,0 +1,137 @@
+//! Statements on the table page.
+ghost use Rattle.std.specs.Prelude.{◌≡◌, false, ◌<◌, ◌^◌};
+ghost use Rattle.sqlite.specs.Held.{state};
+ghost use Rattle.sqlite.specs.State.{Survives};
+ghost use Rattle.statements.specs.Steps.{ChangesBy, ReadsBy};
+ghost use Rattle.pages.specs.Rows.{page_added, page_used, page_removed, page_bytes, page_uses, equal_page};
+ghost use Rattle.pages.specs.Inner.Calls.{IsPageUse};
+
+use basis::Bytes;
+use sqlite::{Alter, Connection, Error, Row, Transaction, params};
+use statements::calls::{Read, first_row, first_row_inside, read_one, signed, write};
+
+/// The twin number of a page, and how often it is in use.
+#[derive(Clone, Copy)]
+pub(crate) struct PageUse {
+    pub twin: u64,
+    pub uses: u64,
+}
+
+impl Read for PageUse {
+    ghost is_in = { IsPageUse };
+
+    fn of_row(row: &Row) -> Result<PageUse, Error> {
+        Ok(PageUse {
+            twin: row.get(0)?,
+            uses: row.get(1)?,
+        })
+    }
+}
+
+const ADD_PAGE: &str = "INSERT INTO page (pkey, twin, bytes, uses) VALUES (?1, ?2, ?3, 1)";
+
+/// Adds a page in its first use.
+pub(crate) fn add<'v, S: Alter>(
+    tx: &mut Transaction<'_, S>,
+    key: &'v [u8],
+    twin: u64,
+    bytes: &'v [u8],
+) -> Result<(), Error>
+    requires twin_fits { twin < 2 ^ 63 }
+    ensures same_reference { tx.new.conn.ghost_name ≡ tx.old.conn.ghost_name }
+    ensures changed { ChangesBy (page_added key.now twin bytes.now) (state S.Store tx.old.conn.now) (state S.Store tx.new.conn.now) result }
+    ensures survives { Survives (state S.Store tx.old.conn.now) (state S.Store tx.new.conn.now) (λ _. ⊥) }
+{
+    let twin = signed(twin);
+    write(tx, ADD_PAGE, params![key, &twin, bytes])
+}
+
+const SET_PAGE_USES: &str = "UPDATE page SET uses = ?3 WHERE pkey = ?1 AND twin = ?2";
+
+/// A page is in use so often.
+pub(crate) fn set_uses<'v, S: Alter>(
+    tx: &mut Transaction<'_, S>,
+    key: &'v [u8],
+    twin: u64,
+    uses: u64,
+) -> Result<(), Error>
+    requires twin_fits { twin < 2 ^ 63 }
+    requires uses_fit { uses < 2 ^ 63 }
+    ensures same_reference { tx.new.conn.ghost_name ≡ tx.old.conn.ghost_name }
+    ensures changed { ChangesBy (page_used key.now twin uses) (state S.Store tx.old.conn.now) (state S.Store tx.new.conn.now) result }
+    ensures survives { Survives (state S.Store tx.old.conn.now) (state S.Store tx.new.conn.now) (λ _. ⊥) }
+{
+    let twin = signed(twin);
+    let uses = signed(uses);
+    write(tx, SET_PAGE_USES, params![key, &twin, &uses])
+}
+
+const REMOVE_PAGE: &str = "DELETE FROM page WHERE pkey = ?1 AND twin = ?2";
+
+/// Removes a page.
+pub(crate) fn remove<'v, S: Alter>(
+    tx: &mut Transaction<'_, S>,
+    key: &'v [u8],
+    twin: u64,
+) -> Result<(), Error>
+    requires twin_fits { twin < 2 ^ 63 }
+    ensures same_reference { tx.new.conn.ghost_name ≡ tx.old.conn.ghost_name }
+    ensures changed { ChangesBy (page_removed key.now twin) (state S.Store tx.old.conn.now) (state S.Store tx.new.conn.now) result }
+    ensures survives { Survives (state S.Store tx.old.conn.now) (state S.Store tx.new.conn.now) (λ _. ⊥) }
+{
+    let twin = signed(twin);
+    write(tx, REMOVE_PAGE, params![key, &twin])
+}
+
+const PAGE_BYTES: &str = "SELECT bytes FROM page WHERE pkey = ?1 AND twin = ?2 ORDER BY rowid";
+
+/// The bytes of a page.
+pub(crate) fn bytes<'v, S: Alter>(
+    conn: &mut Connection<S>,
+    key: &'v [u8],
+    twin: u64,
+) -> Result<Option<Bytes>, Error>
+    requires twin_fits { twin < 2 ^ 63 }
+    ensures mode { conn.old.in_transaction ≡ false → conn.new.in_transaction ≡ false }
+    ensures read { ReadsBy (page_bytes key.now twin) (state S.Store conn.old) (state S.Store conn.new) result }
+    ensures survives { Survives (state S.Store conn.old) (state S.Store conn.new) (λ _. ⊥) }
+{
+    let twin = signed(twin);
+    let row = first_row(conn, PAGE_BYTES, params![key, &twin]);
+    read_one(row)
+}
+
+const PAGE_USES: &str = "SELECT uses FROM page WHERE pkey = ?1 AND twin = ?2 ORDER BY rowid";
+
+/// How often a page is in use, if it is there.
+pub(crate) fn uses<'v, S: Alter>(
+    tx: &mut Transaction<'_, S>,
+    key: &'v [u8],
+    twin: u64,
+) -> Result<Option<u64>, Error>
+    requires twin_fits { twin < 2 ^ 63 }
+    ensures same_reference { tx.new.conn.ghost_name ≡ tx.old.conn.ghost_name }
+    ensures read { ReadsBy (page_uses key.now twin) (state S.Store tx.old.conn.now) (state S.Store tx.new.conn.now) result }
+    ensures survives { Survives (state S.Store tx.old.conn.now) (state S.Store tx.new.conn.now) (λ _. ⊥) }
+{
+    let twin = signed(twin);
+    let row = first_row_inside(tx, PAGE_USES, params![key, &twin]);
+    read_one(row)
+}
+
+const EQUAL_PAGE: &str =
+    "SELECT twin, uses FROM page WHERE pkey = ?1 AND bytes = ?2 ORDER BY rowid";
+
+/// The page of this key that has these bytes.
+pub(crate) fn equal<S: Alter>(
+    tx: &mut Transaction<'_, S>,
+    key: &[u8],
+    bytes: &[u8],
+) -> Result<Option<PageUse>, Error>
+    ensures same_reference { tx.new.conn.ghost_name ≡ tx.old.conn.ghost_name }
+    ensures read { ReadsBy (equal_page key.now bytes.now) (state S.Store tx.old.conn.now) (state S.Store tx.new.conn.now) result }
+    ensures survives { Survives (state S.Store tx.old.conn.now) (state S.Store tx.new.conn.now) (λ _. ⊥) }
+{
+    let row = first_row_inside(tx, EQUAL_PAGE, params![key, bytes]);
+    read_one(row)
+}

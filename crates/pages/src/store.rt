@@ -1,0 +1,211 @@
+//! Pages are put, read, compared and released.
+ghost use Rattle.std.specs.Prelude.{◌≡◌, ◌+◌, false, ◌<◌, ◌^◌, IsSome, IfOk, OnOk};
+ghost use Rattle.sqlite.specs.Held.{state};
+ghost use Rattle.sqlite.specs.State.{HasCleanDisk};
+ghost use Rattle.statements.specs.Steps.{ChangesBy};
+ghost use Rattle.statements.specs.Tables.{Tables, Holds};
+ghost use Rattle.pages.specs.Rows.{page_added, page_used, page_bytes};
+ghost use Rattle.pages.specs.Puts.{free_twin, twin_found, twin_for, put_found, page_put, lessened, released_found, page_released, is_bytes_of};
+ghost use Rattle.pages.specs.Pages.{PutsBy, ReleasesBy, GetsBy};
+ghost use Rattle.pages.specs.Inner.Calls.{OnlyLooks, TellsBy};
+
+use crate::keys::PageKey;
+use crate::rows::{PageUse, add, bytes, equal, remove, set_uses, uses};
+use basis::Bytes;
+use sqlite::{Alter, Connection, Error, Transaction};
+
+/// The name of a page: its key, and the number that tells it from other pages of that key.
+#[derive(Clone, Copy, PartialEq, Eq)]
+pub struct PageId {
+    pub key: [u8; 32],
+    pub twin: u64,
+}
+
+/// How many twin numbers there are: SQL has no integer of this size or above.
+const TWINS: u64 = 9_223_372_036_854_775_808;
+
+/// The greatest number of uses, and the greatest twin number.
+const MOST: u64 = TWINS - 1;
+
+/// The places of the columns in the table page.
+const TWIN_COLUMN: usize = 1;
+
+const USES_COLUMN: usize = 3;
+
+/// The least number under which no page of this key is kept.
+fn free<S: Alter>(tx: &mut Transaction<'_, S>, key: &[u8]) -> Result<u64, Error>
+    ensures same_reference { tx.new.conn.ghost_name ≡ tx.old.conn.ghost_name }
+    ensures looks { OnlyLooks (state S.Store tx.old.conn.now) (state S.Store tx.new.conn.now) result }
+    ensures twin { TellsBy (free_twin key.now) (state S.Store tx.old.conn.now) (state S.Store tx.new.conn.now) result }
+    ensures fits { IfOk result (λ twin. twin < 2 ^ 63) }
+    ensures so_far { HasCleanDisk (state S.Store tx.new.conn.now) → HasCleanDisk (state S.Store tx.old.conn.now) }
+{
+    'twins: for twin in 0..TWINS {
+        let found = uses(tx, key, twin)?;
+        match found {
+            None => return Ok(twin),
+            Some(_) => {}
+        }
+    }
+    Err(Error::IntegralValueOutOfRange(TWIN_COLUMN))
+}
+
+/// One use more of a page that is there.
+fn use_again<S: Alter>(
+    tx: &mut Transaction<'_, S>,
+    key: &[u8],
+    found: PageUse,
+) -> Result<u64, Error>
+    ensures same_reference { tx.new.conn.ghost_name ≡ tx.old.conn.ghost_name }
+    ensures changed { ChangesBy (page_used key.now found.twin (found.uses + 1)) (state S.Store tx.old.conn.now) (state S.Store tx.new.conn.now) result }
+    ensures twin { IfOk result (λ twin. twin ≡ found.twin) }
+    ensures fits { IfOk result (λ twin. twin < 2 ^ 63) }
+    ensures so_far { HasCleanDisk (state S.Store tx.new.conn.now) → HasCleanDisk (state S.Store tx.old.conn.now) }
+{
+    if found.twin > MOST {
+        return Err(Error::IntegralValueOutOfRange(TWIN_COLUMN));
+    }
+    if found.uses >= MOST {
+        return Err(Error::IntegralValueOutOfRange(USES_COLUMN));
+    }
+    set_uses(tx, key, found.twin, found.uses + 1)?;
+    Ok(found.twin)
+}
+
+/// A page under the least number that is free.
+fn add_new<S: Alter>(tx: &mut Transaction<'_, S>, key: &[u8], page: &[u8]) -> Result<u64, Error>
+    ensures same_reference { tx.new.conn.ghost_name ≡ tx.old.conn.ghost_name }
+    ensures changed { ChangesBy (λ t. page_added key.now (free_twin key.now t) page.now t) (state S.Store tx.old.conn.now) (state S.Store tx.new.conn.now) result }
+    ensures twin { TellsBy (free_twin key.now) (state S.Store tx.old.conn.now) (state S.Store tx.new.conn.now) result }
+    ensures fits { IfOk result (λ twin. twin < 2 ^ 63) }
+    ensures so_far { HasCleanDisk (state S.Store tx.new.conn.now) → HasCleanDisk (state S.Store tx.old.conn.now) }
+{
+    let twin = free(tx, key)?;
+    add(tx, key, twin, page)?;
+    Ok(twin)
+}
+
+fn put_beside<S: Alter>(
+    tx: &mut Transaction<'_, S>,
+    key: &[u8],
+    found: Option<PageUse>,
+    page: &[u8],
+) -> Result<u64, Error>
+    ensures same_reference { tx.new.conn.ghost_name ≡ tx.old.conn.ghost_name }
+    ensures changed { ChangesBy (put_found key.now page.now found) (state S.Store tx.old.conn.now) (state S.Store tx.new.conn.now) result }
+    ensures twin { TellsBy (twin_found key.now found) (state S.Store tx.old.conn.now) (state S.Store tx.new.conn.now) result }
+    ensures fits { IfOk result (λ twin. twin < 2 ^ 63) }
+    ensures so_far { HasCleanDisk (state S.Store tx.new.conn.now) → HasCleanDisk (state S.Store tx.old.conn.now) }
+{
+    match found {
+        Some(found) => use_again(tx, key, found),
+        None => add_new(tx, key, page),
+    }
+}
+
+fn put_under<S: Alter>(tx: &mut Transaction<'_, S>, key: &[u8], page: &[u8]) -> Result<u64, Error>
+    ensures same_reference { tx.new.conn.ghost_name ≡ tx.old.conn.ghost_name }
+    ensures changed { ChangesBy (page_put key.now page.now) (state S.Store tx.old.conn.now) (state S.Store tx.new.conn.now) result }
+    ensures twin { TellsBy (twin_for key.now page.now) (state S.Store tx.old.conn.now) (state S.Store tx.new.conn.now) result }
+    ensures fits { IfOk result (λ twin. twin < 2 ^ 63) }
+    ensures so_far { HasCleanDisk (state S.Store tx.new.conn.now) → HasCleanDisk (state S.Store tx.old.conn.now) }
+{
+    let found = equal(tx, key, page)?;
+    put_beside(tx, key, found, page)
+}
+
+/// Puts a page into use once more, and keeps it if none with its bytes is kept.
+/// Where its uses or its twin number would pass 9,223,372,036,854,775,807, it is an error.
+pub fn put<K: PageKey, S: Alter>(tx: &mut Transaction<'_, S>, page: &[u8]) -> Result<PageId, Error>
+    ensures same_reference { tx.new.conn.ghost_name ≡ tx.old.conn.ghost_name }
+    ensures changed { ChangesBy (page_put (K.key_of page.now) page.now) (state S.Store tx.old.conn.now) (state S.Store tx.new.conn.now) result }
+    ensures twin { IfOk result (λ id. (id.key ≡ K.key_of page.now) × (id.twin < 2 ^ 63)) }
+    ensures tells { HasCleanDisk (state S.Store tx.new.conn.now) → IfOk result (λ id. (t : Tables) → Holds (state S.Store tx.old.conn.now).now t → id.twin ≡ twin_for (K.key_of page.now) page.now t) }
+    ensures puts { PutsBy K.key_of page.now (state S.Store tx.old.conn.now) (state S.Store tx.new.conn.now) result }
+    ensures so_far { HasCleanDisk (state S.Store tx.new.conn.now) → HasCleanDisk (state S.Store tx.old.conn.now) }
+{
+    let key = K::key(page);
+    let twin = put_under(tx, key.as_slice(), page)?;
+    Ok(PageId { key, twin })
+}
+
+/// The bytes of a page. It is an error where the page isn't there.
+pub fn get<S: Alter>(conn: &mut Connection<S>, id: &PageId) -> Result<Bytes, Error>
+    ensures mode { conn.old.in_transaction ≡ false → conn.new.in_transaction ≡ false }
+    ensures gets { GetsBy (page_bytes id.now.key id.now.twin) (state S.Store conn.old) (state S.Store conn.new) result }
+    ensures so_far { HasCleanDisk (state S.Store conn.new) → HasCleanDisk (state S.Store conn.old) }
+{
+    if id.twin > MOST {
+        return Err(Error::IntegralValueOutOfRange(TWIN_COLUMN));
+    }
+    match bytes(conn, id.key.as_slice(), id.twin)? {
+        Some(bytes) => Ok(bytes),
+        None => Err(Error::QueryReturnedNoRows),
+    }
+}
+
+/// Whether a page's bytes are these. It is an error where the page isn't there.
+pub fn same<S: Alter>(conn: &mut Connection<S>, id: &PageId, page: &[u8]) -> Result<bool, Error>
+    ensures mode { conn.old.in_transaction ≡ false → conn.new.in_transaction ≡ false }
+    ensures gets { GetsBy (is_bytes_of id.now.key id.now.twin page.now) (state S.Store conn.old) (state S.Store conn.new) result }
+    ensures so_far { HasCleanDisk (state S.Store conn.new) → HasCleanDisk (state S.Store conn.old) }
+{
+    let bytes = get(conn, id)?;
+    Ok(bytes.as_slice() == page)
+}
+
+/// One use less of a page that is used so often. It goes with the last.
+fn lessen<S: Alter>(
+    tx: &mut Transaction<'_, S>,
+    key: &[u8],
+    twin: u64,
+    uses: u64,
+) -> Result<(), Error>
+    requires twin_fits { twin < 2 ^ 63 }
+    ensures same_reference { tx.new.conn.ghost_name ≡ tx.old.conn.ghost_name }
+    ensures changed { ChangesBy (lessened key.now twin uses) (state S.Store tx.old.conn.now) (state S.Store tx.new.conn.now) result }
+    ensures so_far { HasCleanDisk (state S.Store tx.new.conn.now) → HasCleanDisk (state S.Store tx.old.conn.now) }
+{
+    if uses > MOST {
+        return Err(Error::IntegralValueOutOfRange(USES_COLUMN));
+    }
+    if uses > 1 {
+        set_uses(tx, key, twin, uses - 1)
+    } else {
+        remove(tx, key, twin)
+    }
+}
+
+fn release_found<S: Alter>(
+    tx: &mut Transaction<'_, S>,
+    key: &[u8],
+    twin: u64,
+    uses: Option<u64>,
+) -> Result<(), Error>
+    requires twin_fits { twin < 2 ^ 63 }
+    ensures same_reference { tx.new.conn.ghost_name ≡ tx.old.conn.ghost_name }
+    ensures changed { ChangesBy (released_found key.now twin uses) (state S.Store tx.old.conn.now) (state S.Store tx.new.conn.now) result }
+    ensures found { OnOk result (IsSome uses) }
+    ensures so_far { HasCleanDisk (state S.Store tx.new.conn.now) → HasCleanDisk (state S.Store tx.old.conn.now) }
+{
+    match uses {
+        Some(uses) => lessen(tx, key, twin, uses),
+        None => Err(Error::QueryReturnedNoRows),
+    }
+}
+
+/// Takes one use of a page, and the page with the last. It is an error where the page isn't there.
+pub fn release<S: Alter>(tx: &mut Transaction<'_, S>, id: &PageId) -> Result<(), Error>
+    ensures same_reference { tx.new.conn.ghost_name ≡ tx.old.conn.ghost_name }
+    ensures changed { ChangesBy (page_released id.now.key id.now.twin) (state S.Store tx.old.conn.now) (state S.Store tx.new.conn.now) result }
+    ensures releases { ReleasesBy id.now.key id.now.twin (state S.Store tx.old.conn.now) (state S.Store tx.new.conn.now) result }
+    ensures so_far { HasCleanDisk (state S.Store tx.new.conn.now) → HasCleanDisk (state S.Store tx.old.conn.now) }
+{
+    let twin = id.twin;
+    if twin > MOST {
+        return Err(Error::IntegralValueOutOfRange(TWIN_COLUMN));
+    }
+    let key = id.key.as_slice();
+    let found = uses(tx, key, twin)?;
+    release_found(tx, key, twin, found)
+}
