@@ -1,5 +1,5 @@
 -- Lines on the error stream, one behind the other.
-use Rattle.std.proofs.Common.{◌≡◌, ◌⊎◌, ◌++◌, ◌∷◌, [], ℕ, List, Option, Bool, true, false, Result, Ok, Err, OnOk, sym, subst, inl, inr, append_assoc, ap, refl}
+use Rattle.std.proofs.Common.{◌≡◌, ◌++◌, ◌∷◌, [], ℕ, List, Option, Bool, true, false, Result, Ok, Err, OnOk, sym, subst, inl, inr, append_assoc, ap, refl}
 use Rattle.std.proofs.lemmas.List.{append-nil}
 use Rattle.std.specs.Io.KnownBytes.{Appends, Keeps}
 use Rattle.wire.specs.Links.{Writes, WritesPrefix}

@@ -106,9 +106,18 @@ token_asked : asked_in (codes "token-add" ∷ codes "--db" ∷ codes "t.db" ∷ 
 unfolding clap_on_literals chars is_utf8 encode
 token_asked = refl
 
-serving_asked : asked_in (codes "serve" ∷ codes "--db" ∷ codes "t.db" ∷ codes "--port" ∷ codes "8090" ∷ codes "--count" ∷ codes "3" ∷ []) ≡ Some (serves (codes "t.db") 8090 3)
+serving_asked : asked_in (codes "serve" ∷ codes "--db" ∷ codes "t.db" ∷ codes "--port" ∷ codes "8090" ∷ codes "--count" ∷ codes "3" ∷ []) ≡ Some (serves (codes "t.db") 8090 3 (record { idle = 10; most = 120 }))
 unfolding clap_on_literals chars is_utf8 encode
 serving_asked = refl
+
+timeouts_given : asked_in (codes "serve" ∷ codes "--db" ∷ codes "t.db" ∷ codes "--most" ∷ codes "3600" ∷ codes "--idle=1" ∷ codes "--port" ∷ codes "8090" ∷ codes "--count" ∷ codes "3" ∷ [])
+    ≡ Some (serves (codes "t.db") 8090 3 (record { idle = 1; most = 3_600 }))
+unfolding clap_on_literals chars is_utf8 encode
+timeouts_given = refl
+
+no_such_seconds : asked_in (codes "serve" ∷ codes "--db" ∷ codes "t.db" ∷ codes "--port" ∷ codes "8090" ∷ codes "--count" ∷ codes "3" ∷ codes "--idle" ∷ codes "3601" ∷ []) ≡ None
+unfolding clap_on_literals chars is_utf8 encode
+no_such_seconds = refl
 
 frames_asked : asked_in (codes "replay" ∷ []) ≡ Some replays
 unfolding clap_on_literals chars is_utf8 encode

@@ -1,5 +1,5 @@
 -- What stands on the streams, by how the program ends.
-use Rattle.std.proofs.Common.{◌≡◌, ◌⊎◌, ◌≢◌, ◌++◌, ℕ, List, Option, Some, None, IfSome, IfOk, Result, Ok, Err, refl, sym, subst, inl, inr, ap}
+use Rattle.std.proofs.Common.{◌≡◌, ◌⊎◌, ◌≢◌, ℕ, List, Option, Some, None, IfSome, IfOk, Result, Ok, Err, refl, sym, subst, inl, inr}
 use Rattle.std.specs.Prelude.{OnErr}
 use Rattle.basis.specs.declared.memory.Down.{Down as BasisDown}
 use Rattle.machine.specs.declared.keeps.AdminAnswer.{AdminAnswer}

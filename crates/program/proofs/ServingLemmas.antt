@@ -7,10 +7,10 @@ use Rattle.serve.specs.declared.exchanges.LinkFault.{LinkFault}
 use Rattle.serve.specs.declared.exchanges.LinkFault.TheVariants.{Ended, Read, Continue, Write}
 use Rattle.serve.specs.declared.steps.Step.{Step}
 use Rattle.serve.specs.declared.steps.Step.TheVariants.{Request, Command}
-use Rattle.serve.specs.Exchanges.{Exchanges, IsAnswered, IsServed, IsUnavailable}
+use Rattle.serve.specs.Exchanges.{Exchanges, IsAnswered}
 use Rattle.machine.specs.Ranges.{IsMoment}
-use Rattle.serve.specs.Service.{Stays, IsSaidText, IsListed, said_to}
-use Rattle.serve.specs.Inner.Taking.{IsTaken, IsTimely, RunsTo}
+use Rattle.serve.specs.Service.{Stays, IsSaidText, IsListed}
+use Rattle.serve.specs.Inner.Taking.{IsTimely}
 use Rattle.serve.specs.Steps.{Said}
 use Rattle.serve.proofs.RunLemmas.{runs_none, runs_more}
 use Rattle.serve.proofs.TakenLemmas.{reading_timely, reading_listed}
@@ -22,6 +22,7 @@ use Rattle.program.specs.declared.endings.Ending.{Ending}
 use Rattle.program.specs.declared.endings.Ending.TheVariants as ending
 use Rattle.program.specs.declared.outside.Connections as connections
 use Rattle.program.specs.declared.outside.Clock as clock
+use Rattle.program.specs.declared.timeouts.Timeouts.{Timeouts}
 use Rattle.program.specs.Serving.{AreRequests, Serves, State, Answers, AnswersAll, Listens, ListensAt}
 use Rattle.program.specs.Inner.Serving.{TakesOne, ServesTo}
 
@@ -100,9 +101,9 @@ serves_of count most old new le so_far = record {
 
 -- one connection more behind those that were answered
 module _ {K N C R W : Type 0} (k : keep.Ghosts K) (n : connections.Ghosts N R W) (c : clock.Ghosts C) (i : inlet.Ghosts R) (o : outlet.Ghosts W) where
-  pub answers_more : (moments : List ℕ) (at : ℕ) (old mid new : State N C K) → AnswersAll k n c i o moments old mid → Answers k n c i o at mid new → AnswersAll k n c i o (moments ++ at ∷ []) old new
-  answers_more [] at old mid new so_far one = (new, subst (λ (s : State N C K). Answers k n c i o at s new) so_far one, refl)
-  answers_more (m ∷ moments) at old mid new so_far one = (so_far.0, so_far.1, answers_more moments at so_far.0 mid new so_far.2 one)
+  pub answers_more : (timeouts : Timeouts) (moments : List ℕ) (at : ℕ) (old mid new : State N C K) → AnswersAll k n c i o timeouts moments old mid → Answers k n c i o timeouts at mid new → AnswersAll k n c i o timeouts (moments ++ at ∷ []) old new
+  answers_more timeouts [] at old mid new so_far one = (new, subst (λ (s : State N C K). Answers k n c i o timeouts at s new) so_far one, refl)
+  answers_more timeouts (m ∷ moments) at old mid new so_far one = (so_far.0, so_far.1, answers_more timeouts moments at so_far.0 mid new so_far.2 one)
 
 pub one_more : (moments : List ℕ) (at count : ℕ) → length moments ≡ count → length (moments ++ at ∷ []) ≡ count + 1
 one_more moments at count is = length-push moments at ∙ ap (λ n. n + 1) is

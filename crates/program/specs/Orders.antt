@@ -13,6 +13,7 @@ use Rattle.program.specs.declared.orders.NewToken.{NewToken}
 use Rattle.program.specs.declared.orders.Values.{Values}
 use Rattle.program.specs.declared.orders.Order.{Order}
 use Rattle.program.specs.declared.orders.Order.TheVariants.{Carry, AddToken, Serve, Replay}
+use Rattle.program.specs.declared.timeouts.Timeouts.{Timeouts}
 
 -- what is asked for; a database is named by the path of its file
 pub data Asked : Type 0 where
@@ -20,8 +21,8 @@ pub data Asked : Type 0 where
   carries : List ℕ → Operator.Admin → Asked
   -- a token of this organization, name and role, its secret aside
   adds_token : List ℕ → List ℕ → List ℕ → Role → Asked
-  -- to serve at a port, so many connections
-  serves : List ℕ → ℕ → ℕ → Asked
+  -- to serve at a port, so many connections, each waited for no longer than these timeouts
+  serves : List ℕ → ℕ → ℕ → Timeouts → Asked
   -- to answer frames
   replays : Asked
 
@@ -34,6 +35,8 @@ pub record Given : Type 0 where
   pub role : Option (List ℕ)
   pub port : Option (List ℕ)
   pub count : Option (List ℕ)
+  pub idle : Option (List ℕ)
+  pub most : Option (List ℕ)
 
 -- a port: 1 to 65,535
 abbrev pub port_of : List ℕ → Option ℕ
@@ -42,6 +45,15 @@ port_of word = option_and_then (within 1 65_535) (whole_of word)
 -- a number of connections: 1 to 1,000,000
 abbrev pub connections_of : List ℕ → Option ℕ
 connections_of word = option_and_then (within 1 1_000_000) (whole_of word)
+
+-- a time to wait: 1 to 3,600 seconds
+abbrev pub seconds_of : List ℕ → Option ℕ
+seconds_of word = option_and_then (within 1 3_600) (whole_of word)
+
+-- the seconds that are given, or the usual ones where none are
+abbrev pub seconds_or : ℕ → Option (List ℕ) → Option ℕ
+seconds_or usual (Some word) = seconds_of word
+seconds_or usual None = Some usual
 
 -- the limit that is given, or 200 where none is
 abbrev pub limit_or_first : Option (List ℕ) → Option ℕ
@@ -69,9 +81,14 @@ abbrev pub token_asked : Given → Option NewToken
 token_asked given =
     option_and_then (λ org. option_and_then (λ name. option_and_then (λ role. token_in org name (role_of role)) given.role) given.name) given.org
 
+-- 10 seconds for a read or a write, and 120 for an exchange, unless others are given
+abbrev pub timeouts_asked : Given → Option Timeouts
+timeouts_asked given =
+    option_and_then (λ idle. option_map (λ most. record { idle = idle; most = most }) (seconds_or 120 given.most)) (seconds_or 10 given.idle)
+
 abbrev pub serving_asked : List ℕ → Given → Option Asked
 serving_asked db given =
-    option_and_then (λ port. option_map (λ count. serves db port count) (option_and_then connections_of given.count)) (option_and_then port_of given.port)
+    option_and_then (λ port. option_and_then (λ count. option_map (λ timeouts. serves db port count timeouts) (timeouts_asked given)) (option_and_then connections_of given.count)) (option_and_then port_of given.port)
 
 -- a command on a file
 abbrev pub file_asked : List ℕ → List ℕ → Given → Option Asked
@@ -95,6 +112,8 @@ given_in rows = record {
   role = first_of (codes "role") rows;
   port = first_of (codes "port") rows;
   count = first_of (codes "count") rows;
+  idle = first_of (codes "idle") rows;
+  most = first_of (codes "most") rows;
 }
 
 -- the same, of what a parse found
@@ -107,6 +126,8 @@ given_found found = record {
   role = first_value found (codes "role");
   port = first_value found (codes "port");
   count = first_value found (codes "count");
+  idle = first_value found (codes "idle");
+  most = first_value found (codes "most");
 }
 
 abbrev pub text_in : Option (Bor (List ℕ)) → Option (List ℕ)
@@ -121,13 +142,15 @@ given_of values = record {
   role = text_in values.role;
   port = text_in values.port;
   count = text_in values.count;
+  idle = text_in values.idle;
+  most = text_in values.most;
 }
 
 -- what an order says
 abbrev pub said_by : Order → Asked
 said_by (Carry db command) = carries db.now command
 said_by (AddToken db token) = adds_token db.now token.org token.name token.role
-said_by (Serve db port count) = serves db.now port count
+said_by (Serve db port count timeouts) = serves db.now port count timeouts
 said_by Replay = replays
 
 -- the command that adds a token with a secret

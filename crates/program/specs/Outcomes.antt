@@ -26,6 +26,7 @@ use Rattle.program.specs.Secrets.{secret_in}
 use Rattle.program.specs.Serving.{listening_line, Serves, state, AnswersAtPort}
 use Rattle.program.specs.declared.outside.Clock as clock
 use Rattle.program.specs.declared.outside.Connections as connections
+use Rattle.program.specs.declared.timeouts.Timeouts.{Timeouts}
 use Rattle.wire.specs.declared.devices.Inlet as inlet
 use Rattle.wire.specs.declared.devices.Outlet as outlet
 use Rattle.program.specs.Words.{asked_in, AskForHelp, AreNoCommand}
@@ -156,7 +157,7 @@ ReplaysFrames input e output errors = ⊥
 abbrev pub Does : Asked → Option (List ℕ) → Ending → Stream → Stream → Type 0
 Does (carries db command) input e output errors = AnswersCommand command e output
 Does (adds_token db org name role) input e output errors = AddsToken input e output errors
-Does (serves db port count) input e output errors = ServesAt e output
+Does (serves db port count timeouts) input e output errors = ServesAt e output
 Does replays input e output errors = ReplaysFrames input e output errors
 
 -- words that ask for nothing that is carried out: for help, whose text goes to the error stream; or for
@@ -228,8 +229,9 @@ SaysServed served e old new =
     ((served ≡ ending.Down) × IsSaid ending.Down e old new) ⊎ ((served ≢ ending.Down) × (e ≡ served) × (new ≡ old))
 
 module _ {K F N C R W : Type 0} (k : keep.Ghosts K) (f : files.Ghosts F K) (n : connections.Ghosts N R W) (c : clock.Ghosts C) (i : inlet.Ghosts R) (o : outlet.Ghosts W) where
-  -- connections are answered from what lay at a path; what they left lies there now, and nothing else changed
-  pub record ServesFrom (path : List ℕ) (port count : ℕ) (old new : Outside F N C) (e : Ending) (output errors : Stream) : Type 0 where
+  -- connections are answered from what lay at a path, each with these timeouts; what they left lies there now, and
+  -- nothing else changed
+  pub record ServesFrom (path : List ℕ) (port : ℕ) (timeouts : Timeouts) (count : ℕ) (old new : Outside F N C) (e : Ending) (output errors : Stream) : Type 0 where
     pub before : K
     pub after : K
     pub found : f.holds old.files path before
@@ -240,7 +242,7 @@ module _ {K F N C R W : Type 0} (k : keep.Ghosts K) (f : files.Ghosts F K) (n : 
     pub serves : k.clean after → k.sound before → Serves count (k.rows before) (k.rows after)
     pub served : Ending
     pub told : Option (List ℕ)
-    pub answers : AnswersAtPort k n c i o port count (state old.network old.clock before) (state new.network new.clock after) served output.old told
+    pub answers : AnswersAtPort k n c i o port timeouts count (state old.network old.clock before) (state new.network new.clock after) served output.old told
     pub says : SaysServed served e told output.new
     pub lines : Option (List ℕ)
     pub tells : GetsConnectionLines errors.old lines
@@ -251,8 +253,8 @@ module _ {K F N C R W : Type 0} (k : keep.Ghosts K) (f : files.Ghosts F K) (n : 
   Leaves (carries db command) input old new e output errors = OperatesAt k f db command old.files new.files e output errors × IsAlone old new
   Leaves (adds_token db org name role) input old new e output errors =
       AddsTokenAt k f db (TokenAdd org name role) input old.files new.files e output errors × IsAlone old new
-  Leaves (serves db port count) input old new e output errors =
-      ServesFrom db port count old new e output errors ⊎ (RefusesToOpen k f db old.files new.files e output errors × IsAlone old new)
+  Leaves (serves db port count timeouts) input old new e output errors =
+      ServesFrom db port timeouts count old new e output errors ⊎ (RefusesToOpen k f db old.files new.files e output errors × IsAlone old new)
   Leaves replays input old new e output errors = new ≡ old
 
   -- the program by its words: how it ends, what is printed, and what the program stands on before and after

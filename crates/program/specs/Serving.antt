@@ -16,6 +16,7 @@ use Rattle.program.specs.declared.endings.Ending.{Ending}
 use Rattle.program.specs.declared.endings.Ending.TheVariants as ending
 use Rattle.program.specs.declared.outside.Connections as connections
 use Rattle.program.specs.declared.outside.Clock as clock
+use Rattle.program.specs.declared.timeouts.Timeouts.{Timeouts}
 use Rattle.wire.specs.declared.devices.Inlet as inlet
 use Rattle.wire.specs.declared.devices.Outlet as outlet
 
@@ -51,11 +52,12 @@ pub record State (N C K : Type 0) : Type 0 where
 abbrev pub state : {N C K : Type 0} → N → C → K → State N C K
 state network clock store = record { network = network; clock = clock; store = store }
 
--- no connection is accepted, or the clock tells no moment for it: the network and the clock before and after
-abbrev pub AcceptsNone : {N C R W : Type 0} → connections.Ghosts N R W → clock.Ghosts C → N → N → C → C → Type 0
-AcceptsNone {N} {C} {R} {W} n c network network' clock clock' =
-    ((refused : Down) × n.accepts network (Err refused) network' × (clock' ≡ clock))
-    ⊎ ((reader : R) × (writer : W) × n.accepts network (Ok (reader, writer)) network' × c.tells clock None clock')
+-- no connection is accepted with these timeouts, or the clock tells no moment for it: the network and the clock before
+-- and after
+abbrev pub AcceptsNone : {N C R W : Type 0} → connections.Ghosts N R W → clock.Ghosts C → Timeouts → N → N → C → C → Type 0
+AcceptsNone {N} {C} {R} {W} n c timeouts network network' clock clock' =
+    ((refused : Down) × n.accepts network timeouts (Err refused) network' × (clock' ≡ clock))
+    ⊎ ((reader : R) × (writer : W) × n.accepts network timeouts (Ok (reader, writer)) network' × c.tells clock None clock')
 
 module _ {K N R W : Type 0} (k : keep.Ghosts K) (n : connections.Ghosts N R W) (i : inlet.Ghosts R) (o : outlet.Ghosts W) where
   -- a connection with these two sides is answered by one exchange at this moment, and ended: the network and the store
@@ -71,35 +73,35 @@ module _ {K N R W : Type 0} (k : keep.Ghosts K) (n : connections.Ghosts N R W) (
     pub ends : n.ends network read written network'
 
 module _ {K N C R W : Type 0} (k : keep.Ghosts K) (n : connections.Ghosts N R W) (c : clock.Ghosts C) (i : inlet.Ghosts R) (o : outlet.Ghosts W) where
-  -- a connection is accepted, the clock tells this moment, and the connection is answered
-  pub record Answers (at : ℕ) (old new : State N C K) : Type 0 where
+  -- a connection is accepted with these timeouts, the clock tells this moment, and the connection is answered
+  pub record Answers (timeouts : Timeouts) (at : ℕ) (old new : State N C K) : Type 0 where
     pub reader : R
     pub writer : W
     pub network : N
-    pub accepts : n.accepts old.network (Ok (reader, writer)) network
+    pub accepts : n.accepts old.network timeouts (Ok (reader, writer)) network
     pub tells : c.tells old.clock (Some at) new.clock
     pub answers : AnswersOne k n i o at reader writer network new.network old.store new.store
 
-  -- connections are answered in turn, one at each of these moments
-  abbrev pub AnswersAll : List ℕ → State N C K → State N C K → Type 0
-  AnswersAll [] old new = new ≡ old
-  AnswersAll (at ∷ moments) old new = (mid : State N C K) × Answers at old mid × AnswersAll moments mid new
+  -- connections are answered in turn, one at each of these moments, each with these timeouts
+  abbrev pub AnswersAll : Timeouts → List ℕ → State N C K → State N C K → Type 0
+  AnswersAll timeouts [] old new = new ≡ old
+  AnswersAll timeouts (at ∷ moments) old new = (mid : State N C K) × Answers timeouts at old mid × AnswersAll timeouts moments mid new
 
   -- so many connections are answered; or fewer, since no further one is accepted; or none, where the line wasn't printed
-  abbrev pub AnswersCount : ℕ → State N C K → State N C K → Ending → Type 0
-  AnswersCount count old new ending.Done = (moments : List ℕ) × (length moments ≡ count) × AnswersAll moments old new
-  AnswersCount count old new ending.Down =
-      (moments : List ℕ) × (last : State N C K) × (length moments < count) × AnswersAll moments old last
-      × AcceptsNone n c last.network new.network last.clock new.clock × (new.store ≡ last.store)
-  AnswersCount count old new ending.Unprinted = new ≡ old
-  AnswersCount count old new other = ⊥
+  abbrev pub AnswersCount : Timeouts → ℕ → State N C K → State N C K → Ending → Type 0
+  AnswersCount timeouts count old new ending.Done = (moments : List ℕ) × (length moments ≡ count) × AnswersAll timeouts moments old new
+  AnswersCount timeouts count old new ending.Down =
+      (moments : List ℕ) × (last : State N C K) × (length moments < count) × AnswersAll timeouts moments old last
+      × AcceptsNone n c timeouts last.network new.network last.clock new.clock × (new.store ≡ last.store)
+  AnswersCount timeouts count old new ending.Unprinted = new ≡ old
+  AnswersCount timeouts count old new other = ⊥
 
   -- the loopback address is bound at a port, and nothing else is; the port that it gave is told, and so many connections
   -- are answered; or it can't be bound
-  abbrev pub AnswersAtPort : ℕ → ℕ → State N C K → State N C K → Ending → Option (List ℕ) → Option (List ℕ) → Type 0
-  AnswersAtPort port count old new e before after =
+  abbrev pub AnswersAtPort : ℕ → Timeouts → ℕ → State N C K → State N C K → Ending → Option (List ℕ) → Option (List ℕ) → Type 0
+  AnswersAtPort port timeouts count old new e before after =
       ((bound : N) × (given : ℕ) × n.binds old.network loopback port (Ok given) bound
-      × AnswersCount count (state bound old.clock old.store) new e × ListensAt given e before after)
+      × AnswersCount timeouts count (state bound old.clock old.store) new e × ListensAt given e before after)
       ⊎ ((refused : Down) × n.binds old.network loopback port (Err refused) new.network
       × (new.clock ≡ old.clock) × (new.store ≡ old.store) × (e ≡ ending.Down) × (after ≡ before))
 

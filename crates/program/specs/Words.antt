@@ -51,9 +51,13 @@ token_add = with_rule (with_rule (with_rule (with_rule (new_app (codes "token-ad
 abbrev pub token_revoke : App
 token_revoke = with_rule (with_rule (with_rule (new_app (codes "token-revoke")) database) organization) (value_rule (codes "name"))
 
--- `serve --db PATH --port P --count N`
+-- `[--idle SECONDS] [--most SECONDS]` behind the rest
+abbrev pub with_timeouts : App → App
+with_timeouts app = with_rule (with_rule app (option_rule (codes "idle") false)) (option_rule (codes "most") false)
+
+-- `serve --db PATH --port P --count N [--idle SECONDS] [--most SECONDS]`
 abbrev pub serve : App
-serve = with_rule (with_rule (with_rule (new_app (codes "serve")) database) (option_rule (codes "port") true)) (option_rule (codes "count") true)
+serve = with_timeouts (with_rule (with_rule (with_rule (new_app (codes "serve")) database) (option_rule (codes "port") true)) (option_rule (codes "count") true))
 
 -- `replay`
 abbrev pub replay : App

@@ -14,4 +14,5 @@ pub mod replies;
 pub mod running;
 mod secrets;
 pub mod serving;
+pub mod timeouts;
 mod words;

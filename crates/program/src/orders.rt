@@ -2,10 +2,11 @@
 ghost use Rattle.std.specs.Prelude.{◌≡◌, ◌≤◌, ℕ, List, Option, Some, None, IfOk, IsErrOf, option_map, option_copied, option_and_then, IfSome};
 ghost use Rattle.basis.specs.Numbers.{whole_of, within};
 ghost use Rattle.clap.specs.Words.{found_of, first_value};
-ghost use Rattle.program.specs.Orders.{limit_or_first, command_on, command_in, token_in, token_asked, serving_asked, file_asked, asked_with, given_found, given_of, text_in, said_by, with_secret, port_of, connections_of, carries};
+ghost use Rattle.program.specs.Orders.{limit_or_first, command_on, command_in, token_in, token_asked, seconds_or, timeouts_asked, serving_asked, file_asked, asked_with, given_found, given_of, text_in, said_by, with_secret, port_of, connections_of, carries};
 ghost use Rattle.program.specs.Commands.{limit_of, limit_command, revoke_command};
 
 use crate::commands;
+use crate::timeouts::{IDLE_SECONDS, MOST_SECONDS, Seconds, Timeouts};
 use basis::numbers::{FIRST_LIMIT, whole_number};
 use basis::{Limit, OrgName, Role, Secret, Unfit};
 use clap::ArgMatches;
@@ -57,11 +58,22 @@ impl NewToken {
 #[derive(Drop)]
 pub enum Order<'a> {
     /// To carry out an operator's command on a file.
-    Carry { db: &'a str, command: Admin },
+    Carry {
+        db: &'a str,
+        command: Admin,
+    },
     /// To add a token on a file, once its secret is read.
-    AddToken { db: &'a str, token: NewToken },
+    AddToken {
+        db: &'a str,
+        token: NewToken,
+    },
     /// To answer so many connections from a file, at a port of the loopback address.
-    Serve { db: &'a str, port: u16, count: u32 },
+    Serve {
+        db: &'a str,
+        port: u16,
+        count: u32,
+        timeouts: Timeouts,
+    },
     /// To answer frames over a database in memory.
     Replay,
 }
@@ -76,6 +88,8 @@ pub struct Values<'a> {
     role: Option<&'a str>,
     port: Option<&'a str>,
     count: Option<&'a str>,
+    idle: Option<&'a str>,
+    most: Option<&'a str>,
 }
 
 impl<'a> Values<'a> {
@@ -90,6 +104,8 @@ impl<'a> Values<'a> {
             role: matches.get_str("role"),
             port: matches.get_str("port"),
             count: matches.get_str("count"),
+            idle: matches.get_str("idle"),
+            most: matches.get_str("most"),
         }
     }
 }
@@ -184,12 +200,35 @@ fn count_of(value: Option<&str>) -> Option<u32>
     Some(number as u32)
 }
 
+fn seconds_or(value: Option<&str>, usual: Seconds) -> Option<Seconds>
+    ensures { result ≡ seconds_or usual (text_in value.entry) }
+{
+    match value {
+        Some(value) => whole_number(value).and_then(Seconds::new),
+        None => Some(usual),
+    }
+}
+
+fn timeouts_of(values: &Values<'_>) -> Option<Timeouts>
+    ensures { result ≡ timeouts_asked (given_of values.now) }
+{
+    let idle = seconds_or(values.idle, Seconds::new(IDLE_SECONDS).unwrap())?;
+    let most = seconds_or(values.most, Seconds::new(MOST_SECONDS).unwrap())?;
+    Some(Timeouts { idle, most })
+}
+
 fn serving<'a>(db: &'a str, values: &Values<'a>) -> Option<Order<'a>>
     ensures { option_map said_by result ≡ serving_asked db.entry.now (given_of values.now) }
 {
     let port = port_of(values.port)?;
     let count = count_of(values.count)?;
-    Some(Order::Serve { db, port, count })
+    let timeouts = timeouts_of(values)?;
+    Some(Order::Serve {
+        db,
+        port,
+        count,
+        timeouts,
+    })
 }
 
 fn carrying<'a>(

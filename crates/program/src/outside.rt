@@ -2,8 +2,10 @@
 ghost use Rattle.std.specs.Prelude.{◌≡◌, ℕ, List, Option, Result, false, IfOk, OnOk, OnErr, IsErrOf};
 ghost use Rattle.std.specs.Net.Addr.{ipv4_octets};
 ghost use Rattle.basis.specs.declared.memory.Down.{Down as AnyDown};
+ghost use Rattle.program.specs.declared.timeouts.Timeouts.{Timeouts as AnyTimeouts};
 ghost use Rattle.program.specs.Paths.{AllStay, OthersStay};
 
+use crate::timeouts::Timeouts;
 use basis::{Down, Moment};
 use std::net::Ipv4Addr;
 use tables::Fault;
@@ -44,8 +46,9 @@ pub trait Connections {
     // What binds the octets of an address, and a port: the network before, the result, the network after.
     ghost binds: { Self → List ℕ → ℕ → Result ℕ AnyDown → Self → Type 0 };
 
-    // What accepts a connection: the network before, its two sides or none, the network after.
-    ghost accepts: { Self → Result (Self.Reader × Self.Writer) AnyDown → Self → Type 0 };
+    // What accepts a connection that is waited for no longer than these timeouts: the network before, its two sides or
+    // none, the network after.
+    ghost accepts: { Self → AnyTimeouts → Result (Self.Reader × Self.Writer) AnyDown → Self → Type 0 };
 
     // What ends a connection, its two sides as they are left.
     ghost ends: { Self → Self.Reader → Self.Writer → Self → Type 0 };
@@ -54,10 +57,11 @@ pub trait Connections {
     fn bind(&mut self, address: Ipv4Addr, port: u16) -> Result<u16, Down>
         ensures { binds self.old (ipv4_octets address) port result self.new };
 
-    /// The next connection. Neither side of it has failed.
-    fn accept(&mut self) -> Result<(Self::Reader, Self::Writer), Down>
+    /// The next connection. Neither side of it has failed; a read or a write that the timeouts end
+    /// fails.
+    fn accept(&mut self, timeouts: &Timeouts) -> Result<(Self::Reader, Self::Writer), Down>
         ensures sound { IfOk result (λ sides. (Self.Reader.broken sides.0 ≡ false) × (Self.Writer.broken sides.1 ≡ false)) }
-        ensures accepted { accepts self.old result self.new };
+        ensures accepted { accepts self.old timeouts.now result self.new };
 
     /// Ends a connection, and lets the peer read its reply.
     fn finish(&mut self, reader: Self::Reader, writer: Self::Writer)

@@ -19,6 +19,7 @@ use crate::replays::{read_all, replay_frames};
 use crate::replies::{print_organizations, say};
 use crate::secrets::read_secret;
 use crate::serving::serve_loop;
+use crate::timeouts::Timeouts;
 use crate::words::{Unasked, read_words};
 use basis::{Down, Moment, Secret, Unfit};
 use clap::Error;
@@ -32,7 +33,7 @@ use tables::Fault;
 
 /// What a value among the words has to be.
 const FORMS: &str =
-    "custody: a value isn't of its form: ORG and NAME are 1 to 40 of a-z, 0-9 and '-', the first a letter; ROLE is read, write or admin; a limit of workspaces is 0 to 100000, a port 1 to 65535, a count 1 to 1000000; numbers have no leading zero\n";
+    "custody: a value isn't of its form: ORG and NAME are 1 to 40 of a-z, 0-9 and '-', the first a letter; ROLE is read, write or admin; a limit of workspaces is 0 to 100000, a port 1 to 65535, a count 1 to 1000000, seconds 1 to 3600; numbers have no leading zero\n";
 
 /// What a secret has to be.
 const SECRET_FORM: &str =
@@ -240,6 +241,7 @@ fn serve_at<K: Keep, N: Connections, C: Clock, O: Write, E: Write>(
     service: &mut Service<K>,
     port: u16,
     count: u32,
+    timeouts: &Timeouts,
     output: &mut O,
     errors: &mut E,
 ) -> Ending
@@ -247,11 +249,13 @@ fn serve_at<K: Keep, N: Connections, C: Clock, O: Write, E: Write>(
     ensures kept { K.clean service.new.keep → K.sound service.old.keep → K.sound service.new.keep }
     ensures serves { K.clean service.new.keep → K.sound service.old.keep → Serves count (K.rows service.old.keep) (K.rows service.new.keep) }
     ensures listens { Listens result (O.contents output.old) (O.contents output.new) }
-    ensures answers { AnswersAtPort K.Keep N.Connections C.Clock N.Reader.Inlet N.Writer.Outlet port count (state network.old clock.old service.old.keep) (state network.new clock.new service.new.keep) result (O.contents output.old) (O.contents output.new) }
+    ensures answers { AnswersAtPort K.Keep N.Connections C.Clock N.Reader.Inlet N.Writer.Outlet port timeouts.now count (state network.old clock.old service.old.keep) (state network.new clock.new service.new.keep) result (O.contents output.old) (O.contents output.new) }
     ensures tells { GetsConnectionLines (E.contents errors.old) (E.contents errors.new) }
 {
     match network.bind(Ipv4Addr::LOCALHOST, port) {
-        Ok(given) => serve_loop(alloc, network, given, service, count, clock, output, errors),
+        Ok(given) => serve_loop(
+            alloc, network, given, service, count, timeouts, clock, output, errors,
+        ),
         Err(_) => Ending::Down,
     }
 }
@@ -275,11 +279,12 @@ fn serve<K: Keep, F: Files<K>, N: Connections, C: Clock, O: Write, E: Write>(
     db: &str,
     port: u16,
     count: u32,
+    timeouts: &Timeouts,
     output: &mut O,
     errors: &mut E,
 ) -> Ending
     ensures line { ServesAt result (stream (O.contents output.old) (O.contents output.new)) }
-    ensures serves { ServesFrom K.Keep F.Files N.Connections C.Clock N.Reader.Inlet N.Writer.Outlet db.now port count (outside files.old network.old clock.old) (outside files.new network.new clock.new) result (stream (O.contents output.old) (O.contents output.new)) (stream (E.contents errors.old) (E.contents errors.new))
+    ensures serves { ServesFrom K.Keep F.Files N.Connections C.Clock N.Reader.Inlet N.Writer.Outlet db.now port timeouts.now count (outside files.old network.old clock.old) (outside files.new network.new clock.new) result (stream (O.contents output.old) (O.contents output.new)) (stream (E.contents errors.old) (E.contents errors.new))
         ⊎ (RefusesToOpen K.Keep F.Files db.now files.old files.new result (stream (O.contents output.old) (O.contents output.new)) (stream (E.contents errors.old) (E.contents errors.new)) × IsAlone (outside files.old network.old clock.old) (outside files.new network.new clock.new)) }
 {
     let keep = match files.open(db) {
@@ -295,6 +300,7 @@ fn serve<K: Keep, F: Files<K>, N: Connections, C: Clock, O: Write, E: Write>(
         &mut service,
         port,
         count,
+        timeouts,
         output,
         errors,
     );
@@ -321,8 +327,13 @@ fn run_order<K: Keep, F: Files<K>, N: Connections, C: Clock, I: Read, O: Write, 
         Order::AddToken { db, token } => {
             read_and_add(alloc, files, db, token, input, output, errors)
         }
-        Order::Serve { db, port, count } => serve(
-            alloc, files, network, clock, db, port, count, output, errors,
+        Order::Serve {
+            db,
+            port,
+            count,
+            timeouts,
+        } => serve(
+            alloc, files, network, clock, db, port, count, &timeouts, output, errors,
         ),
         Order::Replay => replay_frames(alloc, input, output, errors),
     }

@@ -11,6 +11,7 @@ ghost use Rattle.program.specs.Inner.Serving.{TakesOne};
 use crate::endings::Ending;
 use crate::errors::write_line;
 use crate::outside::{Clock, Connections};
+use crate::timeouts::Timeouts;
 use basis::numbers::MAX_MOMENT;
 use basis::{Down, Moment};
 use machine::Keep;
@@ -152,13 +153,14 @@ fn print_listening<O: Write>(output: &mut O, port: u16) -> io::Result<()>
 
 fn accept<N: Connections, C: Clock>(
     network: &mut N,
+    timeouts: &Timeouts,
     clock: &mut C,
 ) -> Result<(N::Reader, N::Writer, Moment), Down>
     ensures sound { IfOk result (λ found. (N.Reader.broken found.0 ≡ false) × (N.Writer.broken found.1 ≡ false)) }
-    ensures accepted { IfOk result (λ found. N.accepts network.old (Ok (found.0, found.1)) network.new × C.tells clock.old (Some found.2) clock.new) }
-    ensures refused { OnErr result (AcceptsNone N.Connections C.Clock network.old network.new clock.old clock.new) }
+    ensures accepted { IfOk result (λ found. N.accepts network.old timeouts.now (Ok (found.0, found.1)) network.new × C.tells clock.old (Some found.2) clock.new) }
+    ensures refused { OnErr result (AcceptsNone N.Connections C.Clock timeouts.now network.old network.new clock.old clock.new) }
 {
-    let (reader, writer) = match network.accept() {
+    let (reader, writer) = match network.accept(timeouts) {
         Ok(sides) => sides,
         Err(refused) => return Err(refused),
     };
@@ -172,6 +174,7 @@ fn accept<N: Connections, C: Clock>(
 fn serve_next<K: Keep, N: Connections, C: Clock, E: Write>(
     alloc: Global,
     network: &mut N,
+    timeouts: &Timeouts,
     service: &mut Service<K>,
     clock: &mut C,
     place: u32,
@@ -180,11 +183,11 @@ fn serve_next<K: Keep, N: Connections, C: Clock, E: Write>(
     ensures so_far { K.clean service.new.keep → K.clean service.old.keep }
     ensures kept { K.clean service.new.keep → K.sound service.old.keep → K.sound service.new.keep }
     ensures takes { K.clean service.new.keep → K.sound service.old.keep → TakesOne (K.rows service.old.keep) (K.rows service.new.keep) }
-    ensures answers { OnOk result ((at : ℕ) × Answers K.Keep N.Connections C.Clock N.Reader.Inlet N.Writer.Outlet at (state network.old clock.old service.old.keep) (state network.new clock.new service.new.keep)) }
-    ensures refused { OnErr result (AcceptsNone N.Connections C.Clock network.old network.new clock.old clock.new × (service.new.keep ≡ service.old.keep)) }
+    ensures answers { OnOk result ((at : ℕ) × Answers K.Keep N.Connections C.Clock N.Reader.Inlet N.Writer.Outlet timeouts.now at (state network.old clock.old service.old.keep) (state network.new clock.new service.new.keep)) }
+    ensures refused { OnErr result (AcceptsNone N.Connections C.Clock timeouts.now network.old network.new clock.old clock.new × (service.new.keep ≡ service.old.keep)) }
     ensures tells { GetsConnectionLines (E.contents errors.old) (E.contents errors.new) }
 {
-    let (reader, writer, now) = match accept(network, clock) {
+    let (reader, writer, now) = match accept(network, timeouts, clock) {
         Ok(found) => found,
         Err(refused) => return Err(refused),
     };
@@ -194,14 +197,15 @@ fn serve_next<K: Keep, N: Connections, C: Clock, E: Write>(
 
 /// Says at which port it listens, and then answers so many connections, one after the other, each with
 /// one exchange. The network listens at that port already. A connection that ends in a fault of its link
-/// counts, and a line of the error stream tells the fault. An accept that fails, or a clock out of range,
-/// ends it.
+/// counts, and a line of the error stream tells the fault; so does one that the timeouts end. An accept
+/// that fails, or a clock out of range, ends it.
 pub fn serve_loop<K: Keep, N: Connections, C: Clock, O: Write, E: Write>(
     alloc: Global,
     network: &mut N,
     port: u16,
     service: &mut Service<K>,
     count: u32,
+    timeouts: &Timeouts,
     clock: &mut C,
     output: &mut O,
     errors: &mut E,
@@ -209,7 +213,7 @@ pub fn serve_loop<K: Keep, N: Connections, C: Clock, O: Write, E: Write>(
     ensures so_far { K.clean service.new.keep → K.clean service.old.keep }
     ensures kept { K.clean service.new.keep → K.sound service.old.keep → K.sound service.new.keep }
     ensures serves { K.clean service.new.keep → K.sound service.old.keep → Serves count (K.rows service.old.keep) (K.rows service.new.keep) }
-    ensures answers { AnswersCount K.Keep N.Connections C.Clock N.Reader.Inlet N.Writer.Outlet count (state network.old clock.old service.old.keep) (state network.new clock.new service.new.keep) result }
+    ensures answers { AnswersCount K.Keep N.Connections C.Clock N.Reader.Inlet N.Writer.Outlet timeouts.now count (state network.old clock.old service.old.keep) (state network.new clock.new service.new.keep) result }
     ensures listens { ListensAt port result (O.contents output.old) (O.contents output.new) }
     ensures tells { GetsConnectionLines (E.contents errors.old) (E.contents errors.new) }
 {
@@ -217,7 +221,7 @@ pub fn serve_loop<K: Keep, N: Connections, C: Clock, O: Write, E: Write>(
         return Ending::Unprinted;
     }
     'connections: for place in 0..count {
-        match serve_next(alloc, network, service, clock, place + 1, errors) {
+        match serve_next(alloc, network, timeouts, service, clock, place + 1, errors) {
             Ok(()) => {}
             Err(_) => return Ending::Down,
         }

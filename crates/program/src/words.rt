@@ -3,7 +3,7 @@
 ghost use Rattle.std.specs.Prelude.{◌≡◌, ◌⊎◌, IfOk, IfErr, IsErrOf, None, Some, [], codes, ℕ, List};
 ghost use Rattle.clap.specs.Words.{app_of, subcommand_of, subcommand_rows_of, HasKind, FailsBy, App, Rule, new_app, with_rule, with_subcommand};
 ghost use Rattle.program.specs.Orders.{said_by};
-ghost use Rattle.program.specs.Words.{words_bytes, database, organization, option_rule, value_rule, org_add, org_limit, org_list, token_add, token_revoke, serve, replay, bare, custody, faults, asked_by_command, asked_in, with_organizations, with_tokens, with_running, IsWhy, IsArg, IsCommand};
+ghost use Rattle.program.specs.Words.{words_bytes, database, organization, option_rule, value_rule, org_add, org_limit, org_list, token_add, token_revoke, serve, replay, bare, custody, faults, asked_by_command, asked_in, with_organizations, with_tokens, with_running, with_timeouts, IsWhy, IsArg, IsCommand};
 
 use crate::orders::{Order, Values};
 use basis::Unfit;
@@ -141,7 +141,18 @@ fn serve<'a>(alloc: Global) -> Result<Command<'a>, AllocError>
     let bare = command(alloc, "serve", about);
     let on_file = with_arg(bare, database(alloc))?;
     let at_port = with_arg(on_file, option(alloc, "port", true, "P", port_help))?;
-    with_arg(at_port, option(alloc, "count", true, "N", count_help))
+    let counted = with_arg(at_port, option(alloc, "count", true, "N", count_help))?;
+    with_timeouts(alloc, counted)
+}
+
+fn with_timeouts<'a>(alloc: Global, bare: Command<'a>) -> Result<Command<'a>, AllocError>
+    ensures { (app : App) → IsCommand bare.entry app → IfOk result (λ whole. IsCommand whole (with_timeouts app)) }
+{
+    let idle_help =
+        "A read or a write that gets nothing through for so long ends its connection: 1 to 3600; 10 without";
+    let most_help = "A connection that lasts longer is ended: 1 to 3600; 120 without";
+    let waiting = with_arg(bare, option(alloc, "idle", false, "SECONDS", idle_help))?;
+    with_arg(waiting, option(alloc, "most", false, "SECONDS", most_help))
 }
 
 fn replay<'a>(alloc: Global) -> Command<'a>

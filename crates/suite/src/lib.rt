@@ -11,6 +11,8 @@ mod machine_tests;
 #[cfg(test)]
 mod program_tests;
 #[cfg(test)]
+mod refusing;
+#[cfg(test)]
 mod serve_tests;
 #[cfg(test)]
 mod steps;

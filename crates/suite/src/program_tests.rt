@@ -1,5 +1,5 @@
 //! The program over streams that break, over fakes in memory, and over the files and sockets of the system.
-ghost use Rattle.std.specs.Prelude.{⊤};
+ghost use Rattle.std.specs.Prelude.{⊤, None};
 
 use crate::steps::{NOW, WITH_STATE, steps_of, takes};
 use basis::{Down, Moment};
@@ -10,6 +10,7 @@ use program::replays::run_frames;
 use program::replies::say;
 use program::running::run_words;
 use program::serving::serve_loop;
+use program::timeouts::{IDLE_SECONDS, MAX_SECONDS, MOST_SECONDS, Seconds, Timeouts};
 use serve::Service;
 use sqlite::MemStore;
 use std::alloc::Global;
@@ -18,10 +19,11 @@ use std::io::{ErrorKind, Read, Write};
 use std::net::{Ipv4Addr, Shutdown, TcpListener, TcpStream};
 use std::os::unix::fs::PermissionsExt;
 use std::test::Fail;
-use std::{fs, io};
-use system::{SystemClock, TcpSockets, run_here};
+use std::time::Duration;
+use std::{fs, io, thread};
+use system::{SystemClock, TcpSockets, TimedStream, run_here};
 use tables::{Fault, SqlKeep};
-use wire::{FromRead, ToWrite};
+use wire::{Broken, FromRead, Inlet, Outlet, ToWrite};
 
 fn check(holds: bool, what: &'static str) -> Result<(), Fail> {
     if holds { Ok(()) } else { Err(Fail::from(what)) }
@@ -221,7 +223,7 @@ impl Connections for Peers {
 
     ghost binds = { λ _ _ _ _ _. ⊤ };
 
-    ghost accepts = { λ _ _ _. ⊤ };
+    ghost accepts = { λ _ _ _ _. ⊤ };
 
     ghost ends = { λ _ _ _ _. ⊤ };
 
@@ -229,7 +231,10 @@ impl Connections for Peers {
         Ok(port)
     }
 
-    fn accept(&mut self) -> Result<(FromRead<&'static [u8]>, ToWrite<Vec<u8>>), Down> {
+    fn accept(
+        &mut self,
+        _timeouts: &Timeouts,
+    ) -> Result<(FromRead<&'static [u8]>, ToWrite<Vec<u8>>), Down> {
         if self.left == 0 {
             return Err(Down);
         }
@@ -322,11 +327,18 @@ fn a_log_that_stays_is_told(rt: HostRuntime) -> Result<(), Fail> {
     check_left(&left, 0, b"ok\n", LOG_STAYS)
 }
 
+fn timeouts(idle: u64, most: u64) -> Result<Timeouts, Fail> {
+    let idle = Seconds::new(idle).ok_or("a time to wait")?;
+    let most = Seconds::new(most).ok_or("a time to last")?;
+    Ok(Timeouts { idle, most })
+}
+
 // How a loop over one peer ends by this clock.
 fn ending_by(
     alloc: Global,
     service: &mut Service<SqlKeep<MemStore>>,
     clock: Option<Moment>,
+    timeouts: &Timeouts,
 ) -> Ending {
     let mut network = Peers {
         alloc,
@@ -342,6 +354,7 @@ fn ending_by(
         8090,
         service,
         1,
+        timeouts,
         &mut clock,
         &mut output,
         &mut errors,
@@ -350,9 +363,10 @@ fn ending_by(
 
 #[test]
 fn a_clock_out_of_range_ends_it(rt: HostRuntime) -> Result<(), Fail> {
+    let usual = timeouts(IDLE_SECONDS, MOST_SECONDS)?;
     let mut service = Service::new(SqlKeep::in_memory(rt.alloc())?);
-    let untimed = ending_by(rt.alloc(), &mut service, None);
-    let timed = ending_by(rt.alloc(), &mut service, Moment::new(NOW));
+    let untimed = ending_by(rt.alloc(), &mut service, None, &usual);
+    let timed = ending_by(rt.alloc(), &mut service, Moment::new(NOW), &usual);
     drop(service.into_keep());
     check(untimed == Ending::Down, "a clock that can't be read")?;
     check(timed == Ending::Done, "a peer that leaves")
@@ -401,12 +415,13 @@ fn listening_at(alloc: Global, port: u16, output: &[u8]) -> Result<(), Fail> {
 }
 
 // So many connections are answered, and this is told of them.
-fn served(
+fn served<N: Connections>(
     alloc: Global,
-    network: &mut TcpSockets<'_>,
+    network: &mut N,
     port: u16,
     service: &mut Service<SqlKeep<MemStore>>,
     count: u32,
+    timeouts: &Timeouts,
     told: &[u8],
 ) -> Result<(), Fail> {
     let mut clock = Standing(Moment::new(NOW));
@@ -418,6 +433,7 @@ fn served(
         port,
         service,
         count,
+        timeouts,
         &mut clock,
         &mut output,
         &mut errors,
@@ -432,7 +448,8 @@ fn loopback(rt: &HostRuntime, service: &mut Service<SqlKeep<MemStore>>) -> Resul
     let mut network = TcpSockets::new(rt);
     let port = network.bind(Ipv4Addr::LOCALHOST, 0)?;
     let mut peer = asking(rt, port, GET)?;
-    served(rt.alloc(), &mut network, port, service, 1, b"")?;
+    let usual = timeouts(IDLE_SECONDS, MOST_SECONDS)?;
+    served(rt.alloc(), &mut network, port, service, 1, &usual, b"")?;
     check_reply(rt.alloc(), &mut peer, STATE)
 }
 
@@ -482,7 +499,8 @@ fn rude_peers(rt: &HostRuntime, service: &mut Service<SqlKeep<MemStore>>) -> Res
     leave(rt, port, b"G")?;
     let mut flooding = flood(rt, port)?;
     let mut peer = asking(rt, port, GET)?;
-    served(rt.alloc(), &mut network, port, service, 4, TWO_LEFT)?;
+    let usual = timeouts(IDLE_SECONDS, MOST_SECONDS)?;
+    served(rt.alloc(), &mut network, port, service, 4, &usual, TWO_LEFT)?;
     check_reply(rt.alloc(), &mut peer, STATE)?;
     check_status(&mut flooding, b"HTTP/1.1 413")
 }
@@ -491,6 +509,170 @@ fn rude_peers(rt: &HostRuntime, service: &mut Service<SqlKeep<MemStore>>) -> Res
 fn rude_peers_end_nothing(rt: HostRuntime) -> Result<(), Fail> {
     let mut service = Service::new(SqlKeep::in_memory(rt.alloc())?);
     let done = rude_peers(&rt, &mut service);
+    drop(service.into_keep());
+    done
+}
+
+// A reader whose peer sends one byte more before each read, 0.9 seconds after the read before it.
+#[derive(Drop)]
+struct Trickle<'a, I: Inlet> {
+    rt: &'a HostRuntime,
+    inlet: I,
+    peer: Option<&'a TcpStream>,
+}
+
+impl<I: Inlet> Inlet for Trickle<'_, I> {
+    ghost left = { λ _. None };
+
+    ghost broken = { λ s. I.broken s.inlet };
+
+    ghost ended = { λ s. I.ended s.inlet };
+
+    fn failed(&self) -> bool {
+        self.inlet.failed()
+    }
+
+    fn read(&mut self, buf: &mut [u8]) -> Result<usize, Broken> {
+        if let Some(mut peer) = self.peer {
+            thread::sleep(self.rt, Duration::from_millis(900));
+            let _ = peer.write(b"G");
+        }
+        self.inlet.read(buf)
+    }
+}
+
+// A writer that begins with more than anybody takes who doesn't read.
+#[derive(Drop)]
+struct Stuffed<O: Outlet> {
+    outlet: O,
+    is_stuffed: bool,
+}
+
+fn stuff<O: Outlet>(outlet: &mut O) {
+    let piece = [b' '; 4096];
+    for _ in 0..65_536 {
+        if outlet.failed() {
+            return;
+        }
+        let _ = outlet.write(&piece);
+    }
+}
+
+impl<O: Outlet> Outlet for Stuffed<O> {
+    ghost written = { λ _. None };
+
+    ghost broken = { λ s. O.broken s.outlet };
+
+    fn failed(&self) -> bool {
+        self.outlet.failed()
+    }
+
+    fn write(&mut self, piece: &[u8]) -> Result<usize, Broken> {
+        if self.is_stuffed {
+            stuff(&mut self.outlet);
+        }
+        if self.outlet.failed() {
+            return Err(Broken);
+        }
+        self.outlet.write(piece)
+    }
+}
+
+// The first peer says nothing. The second trickles, or doesn't read what is more than a reply.
+#[derive(Drop)]
+struct Slow<'a> {
+    rt: &'a HostRuntime,
+    network: TcpSockets<'a>,
+    place: u32,
+    trickling: Option<&'a TcpStream>,
+}
+
+impl<'a> Connections for Slow<'a> {
+    type Reader = Trickle<'a, FromRead<TimedStream<'a>>>;
+
+    type Writer = Stuffed<ToWrite<TimedStream<'a>>>;
+
+    ghost binds = { λ _ _ _ _ _. ⊤ };
+
+    ghost accepts = { λ _ _ _ _. ⊤ };
+
+    ghost ends = { λ _ _ _ _. ⊤ };
+
+    fn bind(&mut self, address: Ipv4Addr, port: u16) -> Result<u16, Down> {
+        self.network.bind(address, port)
+    }
+
+    fn accept(&mut self, timeouts: &Timeouts) -> Result<(Self::Reader, Self::Writer), Down> {
+        let (inlet, outlet) = match self.network.accept(timeouts) {
+            Ok(sides) => sides,
+            Err(refused) => return Err(refused),
+        };
+        self.place = self.place.saturating_add(1);
+        let is_second = self.place == 2;
+        let reader = Trickle {
+            rt: self.rt,
+            inlet,
+            peer: if is_second { self.trickling } else { None },
+        };
+        let writer = Stuffed {
+            outlet,
+            is_stuffed: is_second && self.trickling.is_none(),
+        };
+        Ok((reader, writer))
+    }
+
+    fn finish(&mut self, reader: Self::Reader, writer: Self::Writer) {
+        self.network.finish(reader.inlet, writer.outlet);
+    }
+}
+
+const SILENT_AND_TRICKLING: &[u8] =
+    b"custody: connection 1: a read failed\ncustody: connection 2: a read failed\n";
+
+const SILENT_AND_DEAF: &[u8] =
+    b"custody: connection 1: a read failed\ncustody: connection 2: the reply could not be written whole\n";
+
+// Two slow peers, of which the second trickles or is deaf, and one that reads its reply.
+fn slow_peers(
+    rt: &HostRuntime,
+    service: &mut Service<SqlKeep<MemStore>>,
+    trickles: bool,
+    timeouts: &Timeouts,
+    told: &[u8],
+) -> Result<(), Fail> {
+    add_state(rt.alloc(), service)?;
+    let mut network = TcpSockets::new(rt);
+    let port = network.bind(Ipv4Addr::LOCALHOST, 0)?;
+    let silent = sending(rt, port, b"")?;
+    let second = sending(rt, port, if trickles { b"" } else { GET })?;
+    let mut peer = asking(rt, port, GET)?;
+    let mut slow = Slow {
+        rt,
+        network,
+        place: 0,
+        trickling: if trickles { Some(&second) } else { None },
+    };
+    served(rt.alloc(), &mut slow, port, service, 3, timeouts, told)?;
+    drop(silent);
+    check_reply(rt.alloc(), &mut peer, STATE)
+}
+
+// Each read and write waits a second, whatever time is left.
+#[test]
+fn idle_peers_stop_nothing(rt: HostRuntime) -> Result<(), Fail> {
+    let timeouts = timeouts(1, MAX_SECONDS)?;
+    let mut service = Service::new(SqlKeep::in_memory(rt.alloc())?);
+    let done = slow_peers(&rt, &mut service, false, &timeouts, SILENT_AND_DEAF);
+    drop(service.into_keep());
+    done
+}
+
+// An exchange lasts a second, however long a read may wait.
+#[test]
+fn exchanges_last_no_longer_than_they_may(rt: HostRuntime) -> Result<(), Fail> {
+    let timeouts = timeouts(MAX_SECONDS, 1)?;
+    let mut service = Service::new(SqlKeep::in_memory(rt.alloc())?);
+    let done = slow_peers(&rt, &mut service, true, &timeouts, SILENT_AND_TRICKLING);
     drop(service.into_keep());
     done
 }

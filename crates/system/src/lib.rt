@@ -5,8 +5,10 @@ mod clock;
 mod files;
 mod running;
 mod sockets;
+mod streams;
 
 pub use clock::SystemClock;
 pub use files::{DiskFiles, FileKeep, close_file, open_file};
 pub use running::run_here;
 pub use sockets::{LINGER_READS, LINGER_SECONDS, TcpSockets};
+pub use streams::TimedStream;

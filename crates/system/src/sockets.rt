@@ -1,14 +1,16 @@
 //! Connections over TCP.
 ghost use Rattle.std.specs.Prelude.{⊤};
 
+use crate::streams::TimedStream;
 use basis::Down;
 use program::outside::Connections;
+use program::timeouts::Timeouts;
 use std::io;
 use std::io::Read;
-use std::net::{Ipv4Addr, Shutdown, TcpListener, TcpStream};
+use std::net::{Ipv4Addr, TcpListener};
 use std::rt::HostRuntime;
 use std::time::Duration;
-use wire::{FromRead, ToWrite};
+use wire::{FromRead, Inlet, Outlet, ToWrite};
 
 /// The seconds that a peer may wait with its next byte, once its reply is written.
 pub const LINGER_SECONDS: u64 = 1;
@@ -32,28 +34,26 @@ impl<'a> TcpSockets<'a> {
 
 // Lets the peer read its reply: what it still sends is read and dropped, within bounds, since a connection
 // that is closed over unread bytes is reset (RFC 9112, section 9.6).
-fn linger(stream: &TcpStream) -> io::Result<()> {
-    stream.shutdown(Shutdown::Write)?;
-    stream.set_read_timeout(Some(Duration::from_secs(LINGER_SECONDS)))?;
-    let mut reader = stream;
+fn linger(stream: &mut TimedStream<'_>) -> io::Result<()> {
+    stream.end_writing(Duration::from_secs(LINGER_SECONDS))?;
     let mut dropped = [0u8; 4096];
     for _ in 0..LINGER_READS {
-        if reader.read(&mut dropped)? == 0 {
+        if stream.read(&mut dropped)? == 0 {
             return Ok(());
         }
     }
     Ok(())
 }
 
-impl Connections for TcpSockets<'_> {
-    type Reader = FromRead<TcpStream>;
+impl<'a> Connections for TcpSockets<'a> {
+    type Reader = FromRead<TimedStream<'a>>;
 
-    type Writer = ToWrite<TcpStream>;
+    type Writer = ToWrite<TimedStream<'a>>;
 
     // No contract says what a socket does.
     ghost binds = { λ _ _ _ _ _. ⊤ };
 
-    ghost accepts = { λ _ _ _. ⊤ };
+    ghost accepts = { λ _ _ _ _. ⊤ };
 
     ghost ends = { λ _ _ _ _. ⊤ };
 
@@ -68,20 +68,27 @@ impl Connections for TcpSockets<'_> {
         Ok(addr.port())
     }
 
-    fn accept(&mut self) -> Result<(FromRead<TcpStream>, ToWrite<TcpStream>), Down> {
+    fn accept(
+        &mut self,
+        timeouts: &Timeouts,
+    ) -> Result<(FromRead<TimedStream<'a>>, ToWrite<TimedStream<'a>>), Down> {
         let Some(listener) = &self.listener else {
             return Err(Down);
         };
         let Ok((stream, _)) = listener.accept() else {
             return Err(Down);
         };
-        match stream.try_clone() {
-            Ok(other) => Ok((FromRead::new(stream), ToWrite::new(other))),
+        match TimedStream::sides(self.rt, stream, timeouts) {
+            Ok((reader, writer)) => Ok((FromRead::new(reader), ToWrite::new(writer))),
             Err(_) => Err(Down),
         }
     }
 
-    fn finish(&mut self, reader: FromRead<TcpStream>, _writer: ToWrite<TcpStream>) {
-        let _ = linger(&reader.into_inner());
+    // Where the link failed there is no reply to be read.
+    fn finish(&mut self, reader: FromRead<TimedStream<'a>>, writer: ToWrite<TimedStream<'a>>) {
+        if reader.failed() || writer.failed() {
+            return;
+        }
+        let _ = linger(&mut reader.into_inner());
     }
 }

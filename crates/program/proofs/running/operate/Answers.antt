@@ -1,4 +1,4 @@
-use Rattle.std.proofs.Common.{sym, subst, rules}
+use Rattle.std.proofs.Common.{sym, subst}
 use Rattle.program.specs.Outcomes.{IsOperated, stream}
 use Rattle.program.proofs.OutcomeLemmas.{operated}
 use Rattle.program.proofs.running.operate.Goals as goal

@@ -1,4 +1,3 @@
-use Rattle.std.proofs.Common.{rules}
 use Rattle.program.proofs.ServingLemmas.{taken_of}
 use Rattle.program.proofs.serving.exchange_one.Goals as goal
 

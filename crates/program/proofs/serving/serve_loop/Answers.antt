@@ -29,7 +29,7 @@ connections-preserved g c =
       answers = (
         so_far.0 ++ one.0 ∷ [],
         one_more so_far.0 one.0 c.connections.place so_far.1,
-        answers_more g.K.Keep g.N.Connections g.C.Clock g.N.Reader.Inlet g.N.Writer.Outlet so_far.0 one.0
+        answers_more g.K.Keep g.N.Connections g.C.Clock g.N.Reader.Inlet g.N.Writer.Outlet c.args.timeouts.now so_far.0 one.0
             (state c.args.network.now c.args.clock.now c.args.service.now.keep) (state c.connections.network c.connections.clock c.connections.service.keep)
             (state c.serve_next.new.network c.serve_next.new.clock c.serve_next.new.service.keep) so_far.2 one.1,
       );

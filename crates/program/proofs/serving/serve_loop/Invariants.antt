@@ -11,6 +11,6 @@ invariant-connections g l = record {
   kept : g.K.Keep.clean l.service.keep → g.K.Keep.sound l.fn.service.keep → g.K.Keep.sound l.service.keep;
   serves : g.K.Keep.clean l.service.keep → g.K.Keep.sound l.fn.service.keep → ServesTo l.place (g.K.Keep.rows l.fn.service.keep) (g.K.Keep.rows l.service.keep);
   answers : (moments : List ℕ) × (length moments ≡ l.place)
-      × AnswersAll g.K.Keep g.N.Connections g.C.Clock g.N.Reader.Inlet g.N.Writer.Outlet moments (state l.fn.network l.fn.clock l.fn.service.keep) (state l.network l.clock l.service.keep);
+      × AnswersAll g.K.Keep g.N.Connections g.C.Clock g.N.Reader.Inlet g.N.Writer.Outlet l.fn.timeouts moments (state l.fn.network l.fn.clock l.fn.service.keep) (state l.network l.clock l.service.keep);
   tells : GetsConnectionLines (g.E.Write.contents l.fn.errors) (g.E.Write.contents l.errors);
 }

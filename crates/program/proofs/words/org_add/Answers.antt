@@ -1,4 +1,3 @@
-use Rattle.std.proofs.Common.{rules}
 use Rattle.program.proofs.words.org_add.Goals as goal
 
 pub returns : goal.returns

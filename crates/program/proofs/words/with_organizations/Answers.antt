@@ -1,4 +1,3 @@
-use Rattle.std.proofs.Common.{rules}
 use Rattle.program.proofs.words.with_organizations.Goals as goal
 
 pub returns : goal.returns
