@@ -7,6 +7,7 @@ mod devices;
 mod failures;
 mod files;
 mod lines;
+mod memories;
 mod messages;
 mod plays;
 mod programs;

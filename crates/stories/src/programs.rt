@@ -9,12 +9,13 @@ use system::run_here;
 
 /// What a step of the program does.
 #[derive(Clone, Copy)]
-enum Does {
+pub enum Does {
     Forgets,
     Writes,
     MakesTable,
     IsAbsent,
     IsSame,
+    Connects,
     Runs,
 }
 
@@ -24,10 +25,12 @@ const WORDS: &[(&str, Does)] = &[
     ("table", Does::MakesTable),
     ("absent", Does::IsAbsent),
     ("same", Does::IsSame),
+    ("peer", Does::Connects),
     ("$", Does::Runs),
 ];
 
-fn words_of<'a>(head: &Part<'a>) -> Option<(Does, &'a str)> {
+/// What a step does, and the words behind that.
+pub fn words_of<'a>(head: &Part<'a>) -> Option<(Does, &'a str)> {
     let (first, rest) = match head.text.split_once(' ') {
         Some(words) => words,
         None => (head.text, ""),
@@ -66,13 +69,14 @@ fn make_table(rt: &HostRuntime, path: &str, sql: &str) -> Result<(), Error> {
 
 /// What a command left.
 #[derive(Drop)]
-struct Left {
-    status: u8,
-    output: Vec<u8>,
-    errors: Vec<u8>,
+pub struct Left {
+    pub status: u8,
+    pub output: Vec<u8>,
+    pub errors: Vec<u8>,
 }
 
-fn split(alloc: Global, words: &str) -> Result<Vec<String>, AllocError> {
+/// The words, parted by single blanks.
+pub fn split(alloc: Global, words: &str) -> Result<Vec<String>, AllocError> {
     let mut all = Vec::new(alloc);
     if words.is_empty() {
         return Ok(all);
@@ -95,7 +99,8 @@ fn ran(rt: &HostRuntime, words: &[String], mut input: &[u8]) -> Left {
     }
 }
 
-fn compare(alloc: Global, line: usize, due: &[u8], came: &[u8]) -> Result<(), Failure> {
+/// That these bytes are those that are due.
+pub fn compare(alloc: Global, line: usize, due: &[u8], came: &[u8]) -> Result<(), Failure> {
     if due == came {
         return Ok(());
     }
@@ -136,8 +141,8 @@ fn compare_errors(
     Ok(())
 }
 
-// What a command left, compared with what is due.
-fn compare_left(
+/// What a command left, compared with what is due.
+pub fn compare_left(
     alloc: Global,
     answer: &Part<'_>,
     parts: &[Part<'_>],
@@ -155,18 +160,27 @@ fn compare_left(
     compare_errors(alloc, answer, parts, left.errors.as_slice())
 }
 
+/// The line `=` of a step, and what stands behind it.
+pub fn answer_of<'s, 'a>(
+    head: &Part<'_>,
+    parts: &'s [Part<'a>],
+) -> Result<(&'s Part<'a>, &'s [Part<'a>]), Failure> {
+    let [answer, parts @ ..] = parts else {
+        return Err(Failure::from(head.unread("nothing is due")));
+    };
+    if answer.mark != Mark::Answer {
+        return Err(Failure::from(head.unread("what is due stands first")));
+    }
+    Ok((answer, parts))
+}
+
 fn run_step(
     rt: &HostRuntime,
     head: &Part<'_>,
     words: &str,
     parts: &[Part<'_>],
 ) -> Result<(), Failure> {
-    let [answer, parts @ ..] = parts else {
-        return Err(Failure::from(head.unread("no exit status is given")));
-    };
-    if answer.mark != Mark::Answer {
-        return Err(Failure::from(head.unread("the exit status stands first")));
-    }
+    let (answer, parts) = answer_of(head, parts)?;
     let words = split(rt.alloc(), words)?;
     let left = ran(rt, words.as_slice(), head.written());
     compare_left(rt.alloc(), answer, parts, &left)
@@ -239,6 +253,9 @@ impl Files {
             Some((Does::IsAbsent, path)) => is_absent(rt, head, path),
             Some((Does::IsSame, path)) => self.is_same(rt, head, path),
             Some((Does::Runs, words)) => run_step(rt, head, words, parts),
+            Some((Does::Connects, _)) => Err(Failure::from(head.unread(
+                "no file is made or looked at where peers connect",
+            ))),
             None => Err(Failure::from(head.unread(
                 "a story of the program has steps of the program alone",
             ))),

@@ -1,11 +1,13 @@
 //! A story run by its kind: of a store, of the program, or of values.
 use crate::failures::Failure;
 use crate::files::run_in_file;
+use crate::memories::{Memory, Place, WAY, place_of};
 use crate::plays::play_of;
 use crate::programs::{Files, is_of_program};
 use crate::texts::{Book, Part, Plot, Story};
 use crate::values::{is_of_values, take_value};
 use crate::ways::run_in_memory;
+use std::alloc::Global;
 
 // The earlier stories and this one, in turn.
 fn run_store(rt: &HostRuntime, book: &Book<'_>, story: &Story<'_>) -> Result<(), Failure> {
@@ -21,7 +23,8 @@ fn take_all(rt: &HostRuntime, files: &mut Files, plots: &[Plot<'_>]) -> Result<(
     Ok(())
 }
 
-fn run_program(rt: &HostRuntime, book: &Book<'_>, story: &Story<'_>) -> Result<(), Failure> {
+// Over the files, the sockets and the clock of the system.
+fn run_here(rt: &HostRuntime, book: &Book<'_>, story: &Story<'_>) -> Result<(), Failure> {
     let mut files = Files::new(rt.alloc());
     for place in story.before.as_slice() {
         if let Some(earlier) = book.stories.get(*place) {
@@ -29,6 +32,28 @@ fn run_program(rt: &HostRuntime, book: &Book<'_>, story: &Story<'_>) -> Result<(
         }
     }
     take_all(rt, &mut files, story.plots.as_slice())
+}
+
+// In memory, where earlier stories don't come first.
+fn run_alone(alloc: Global, story: &Story<'_>) -> Result<(), Failure> {
+    let mut memory = Memory::new(alloc);
+    for plot in story.plots.as_slice() {
+        if let Err(failure) = memory.take(alloc, plot) {
+            return Err(failure.on(WAY));
+        }
+    }
+    Ok(())
+}
+
+fn run_program(rt: &HostRuntime, book: &Book<'_>, story: &Story<'_>) -> Result<(), Failure> {
+    match place_of(story) {
+        Place::Memory => run_alone(rt.alloc(), story),
+        Place::Files => run_here(rt, book, story),
+        Place::Both => {
+            run_alone(rt.alloc(), story)?;
+            run_here(rt, book, story)
+        }
+    }
 }
 
 fn run_values(rt: &HostRuntime, story: &Story<'_>) -> Result<(), Failure> {

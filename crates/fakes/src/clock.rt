@@ -1,0 +1,19 @@
+//! A clock that stands.
+ghost use Rattle.std.specs.Prelude.{◌≡◌};
+
+use basis::Moment;
+use program::outside::Clock;
+
+/// A clock that tells one moment, or none, whenever it is asked.
+#[derive(Drop)]
+pub struct StandingClock {
+    pub moment: Option<Moment>,
+}
+
+impl Clock for StandingClock {
+    ghost tells = { λ old told new. (told ≡ old.moment) × (new ≡ old) };
+
+    fn now(&mut self) -> Option<Moment> {
+        self.moment
+    }
+}

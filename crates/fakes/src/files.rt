@@ -1,0 +1,55 @@
+//! A database in memory, in the place of one in a file.
+ghost use Rattle.std.specs.Prelude.{◌≡◌, Some};
+ghost use Rattle.fakes.specs.Files.{IsKeptStore};
+
+use basis::Down;
+use machine::{Keep, PlainKeep};
+use program::outside::Files;
+use std::alloc::Global;
+use tables::Fault;
+
+/// A database at one path, in memory; nothing is opened or kept at another.
+#[derive(Drop)]
+pub struct MemoryFile<'a> {
+    alloc: Global,
+    path: &'a str,
+    store: Option<PlainKeep>,
+}
+
+impl<'a> MemoryFile<'a> {
+    /// A path at which nothing lies yet.
+    pub fn new(alloc: Global, path: &'a str) -> MemoryFile<'a> {
+        MemoryFile {
+            alloc,
+            path,
+            store: None,
+        }
+    }
+}
+
+impl Files<PlainKeep> for MemoryFile<'_> {
+    // Of other paths nothing is said.
+    ghost holds = { λ files path store. path ≡ files.path.now → IsKeptStore ⟦<PlainKeep as Keep>⟧ files.store store };
+
+    ghost copied = { λ files path store. (path ≡ files.path.now) × (files.store ≡ Some store) };
+
+    ghost is_other = { λ _ _. ⊥ };
+
+    fn open(&mut self, path: &str) -> Result<PlainKeep, Fault> {
+        if path != self.path {
+            return Err(Fault::Down);
+        }
+        match self.store.take() {
+            Some(store) => Ok(store),
+            None => Ok(PlainKeep::new(self.alloc)),
+        }
+    }
+
+    fn close(&mut self, path: &str, store: PlainKeep) -> Result<(), Down> {
+        if path != self.path {
+            return Err(Down);
+        }
+        self.store = Some(store);
+        Ok(())
+    }
+}

@@ -1,0 +1,76 @@
+//! Peers in memory, in the place of those that connect to a socket.
+ghost use Rattle.std.specs.Prelude.{◌≡◌, ◌++◌, ◌∷◌, ◌⊎◌, [], Ok, Some, true, IfSome, OnOk};
+ghost use Rattle.std.specs.Net.Addr.{ipv4_octets};
+ghost use Rattle.fakes.specs.Peers.{AcceptsNext, IsBound};
+
+use basis::{Bytes, Down};
+use program::outside::Connections;
+use program::timeouts::Timeouts;
+use std::alloc::Global;
+use std::net::Ipv4Addr;
+use wire::{FromRead, Inlet, Outlet, ToWrite};
+
+/// Peers that connect one after the other. Each has sent its bytes, and sends no more.
+#[derive(Drop)]
+pub struct MemoryPeers<'a> {
+    alloc: Global,
+    waiting: &'a [&'a [u8]],
+    /// The address and the port that were bound last.
+    pub bound: Option<(Ipv4Addr, u16)>,
+    /// The timeouts of the connection that was accepted last.
+    pub timeouts: Option<Timeouts>,
+    /// What each peer got, in turn.
+    pub got: Vec<Bytes>,
+    /// Whether what a peer got wasn't kept, since memory was refused.
+    pub is_lost: bool,
+}
+
+impl<'a> MemoryPeers<'a> {
+    /// Peers that have sent these bytes, and got nothing yet.
+    pub fn new(alloc: Global, waiting: &'a [&'a [u8]]) -> MemoryPeers<'a> {
+        MemoryPeers {
+            alloc,
+            waiting,
+            bound: None,
+            timeouts: None,
+            got: Vec::new(alloc),
+            is_lost: false,
+        }
+    }
+}
+
+impl<'a> Connections for MemoryPeers<'a> {
+    type Reader = FromRead<&'a [u8]>;
+
+    type Writer = ToWrite<Vec<u8>>;
+
+    ghost binds = { λ old address port result new. (result ≡ Ok port) × IsBound new.bound address port };
+
+    ghost accepts = { λ old timeouts result new. AcceptsNext ⟦<FromRead<&'a [u8]> as Inlet>⟧ ⟦<ToWrite<Vec<u8>> as Outlet>⟧ old.waiting.now result new.waiting.now × OnOk result (new.timeouts ≡ Some timeouts) };
+
+    ghost ends = { λ old _ writer new. (new.is_lost ≡ true) ⊎ IfSome (⟦<ToWrite<Vec<u8>> as Outlet>⟧.written writer) (λ bytes. new.got.items ≡ old.got.items ++ bytes ∷ []) };
+
+    fn bind(&mut self, address: Ipv4Addr, port: u16) -> Result<u16, Down> {
+        self.bound = Some((address, port));
+        Ok(port)
+    }
+
+    fn accept(
+        &mut self,
+        timeouts: &Timeouts,
+    ) -> Result<(FromRead<&'a [u8]>, ToWrite<Vec<u8>>), Down> {
+        let [sent, rest @ ..] = self.waiting else {
+            return Err(Down);
+        };
+        self.waiting = rest;
+        self.timeouts = Some(*timeouts);
+        Ok((FromRead::new(*sent), ToWrite::new(Vec::new(self.alloc))))
+    }
+
+    fn finish(&mut self, _reader: FromRead<&'a [u8]>, writer: ToWrite<Vec<u8>>) {
+        let bytes = Bytes::new(writer.into_inner());
+        if self.got.push(bytes).is_err() {
+            self.is_lost = true;
+        }
+    }
+}
