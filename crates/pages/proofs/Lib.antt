@@ -1,4 +1,3 @@
-pub mod Examples
 pub mod FreeTwins
 pub mod Looking
 pub mod PageLaws
