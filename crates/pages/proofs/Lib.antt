@@ -1,3 +1,4 @@
+pub mod Examples
 pub mod FreeTwins
 pub mod Looking
 pub mod PageLaws
