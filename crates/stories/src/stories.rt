@@ -45,9 +45,22 @@ fn run_alone(alloc: Global, story: &Story<'_>) -> Result<(), Failure> {
     Ok(())
 }
 
+// A story with peers comes after no other.
+fn check_alone(story: &Story<'_>) -> Result<(), Failure> {
+    match first_head(story) {
+        Some(head) if !story.before.is_empty() => Err(Failure::from(head.unread(
+            "a story with peers comes after no other",
+        ))),
+        _ => Ok(()),
+    }
+}
+
 fn run_program(rt: &HostRuntime, book: &Book<'_>, story: &Story<'_>) -> Result<(), Failure> {
     match place_of(story) {
-        Place::Memory => run_alone(rt.alloc(), story),
+        Place::Memory => {
+            check_alone(story)?;
+            run_alone(rt.alloc(), story)
+        }
         Place::Files => run_here(rt, book, story),
         Place::Both => {
             run_alone(rt.alloc(), story)?;
