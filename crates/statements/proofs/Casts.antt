@@ -55,7 +55,7 @@ ws_casts r =
 
 pub version_casts : (r : VersionRow) → cast_all version_table.columns (version_cells r) ≡ version_cells r
 version_casts r =
-    then_cell refl (then_cell refl (then_cell (cast_int _) (then_cell (cast_int _) (then_cell refl (then_cell (cast_int _) (then_cell (cast_int _) (then_cell refl refl)))))))
+    then_cell refl (then_cell refl (then_cell (cast_int _) (then_cell (cast_int _) (then_cell refl (then_cell (cast_int _) (then_cell (cast_int _) refl))))))
 
 pub run_casts : (r : RunRow) → cast_all run_table.columns (run_cells r) ≡ run_cells r
 run_casts r =

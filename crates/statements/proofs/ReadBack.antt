@@ -84,21 +84,21 @@ named_workspace_read name w v told =
 pub organization_read : (name : List ℕ) (cap : ℕ) (o : Organization) → IsOrganization (cell.Text name ∷ number cap ∷ []) o → o ≡ record { name = name; cap = cap }
 organization_read name cap o told = λ i. record { name = text_read name o.name told.name i; cap = number_read cap o.cap told.cap i }
 
-pub version_head_read : (v : Version) (h : VersionHead) → IsVersionHead (number v.number ∷ number v.serial ∷ cell.Text v.lineage ∷ number v.created ∷ number (length v.body) ∷ []) h → h ≡ version_head_of v
+pub version_head_read : (v : Version) (h : VersionHead) → IsVersionHead (number v.number ∷ number v.serial ∷ cell.Text v.lineage ∷ number v.created ∷ number v.size ∷ []) h → h ≡ version_head_of v
 version_head_read v h told = λ i. record {
   number = number_read v.number h.number told.number_is i;
   serial = number_read v.serial h.serial told.serial i;
   lineage = text_read v.lineage h.lineage told.lineage i;
   created = number_read v.created h.created told.created i;
-  size = number_read (length v.body) h.size told.size i;
+  size = number_read v.size h.size told.size i;
 }
 
-pub head_read : (v : Version) (h : Head) → IsHeadRow (number v.number ∷ number v.serial ∷ cell.Text v.lineage ∷ number (length v.body) ∷ []) h → h ≡ head_of v
+pub head_read : (v : Version) (h : Head) → IsHeadRow (number v.number ∷ number v.serial ∷ cell.Text v.lineage ∷ number v.size ∷ []) h → h ≡ head_of v
 head_read v h told = λ i. record {
   number = number_read v.number h.number told.number_is i;
   serial = number_read v.serial h.serial told.serial i;
   lineage = text_read v.lineage h.lineage told.lineage i;
-  size = number_read (length v.body) h.size told.size i;
+  size = number_read v.size h.size told.size i;
 }
 
 action_read : (o p : Option RunAction) → IsActionOrNull (or_null (λ a. number (action_code a)) o) p → p ≡ o

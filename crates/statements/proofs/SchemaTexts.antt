@@ -35,7 +35,7 @@ abbrev pub make_ws_text : List ℕ
 make_ws_text = codes "CREATE TABLE ws (org TEXT NOT NULL, name TEXT NOT NULL, auto INTEGER NOT NULL, kind INTEGER NOT NULL CHECK (kind BETWEEN 0 AND 2), lock_id TEXT CHECK ((lock_id IS NOT NULL) = (kind = 1)), lock_text BLOB CHECK ((lock_text IS NOT NULL) = (kind = 1)), run INTEGER CHECK ((run IS NOT NULL) = (kind = 2)), released TEXT, next_version INTEGER NOT NULL, next_run INTEGER NOT NULL, PRIMARY KEY (org, name)) STRICT"
 
 abbrev pub make_version_text : List ℕ
-make_version_text = codes "CREATE TABLE version (org TEXT NOT NULL, ws TEXT NOT NULL, number INTEGER NOT NULL, serial INTEGER NOT NULL, lineage TEXT NOT NULL, created INTEGER NOT NULL, size INTEGER NOT NULL, body BLOB NOT NULL, PRIMARY KEY (org, ws, number)) STRICT"
+make_version_text = codes "CREATE TABLE version (org TEXT NOT NULL, ws TEXT NOT NULL, number INTEGER NOT NULL, serial INTEGER NOT NULL, lineage TEXT NOT NULL, created INTEGER NOT NULL, size INTEGER NOT NULL, PRIMARY KEY (org, ws, number)) STRICT"
 
 abbrev pub make_run_text : List ℕ
 make_run_text = codes "CREATE TABLE run (org TEXT NOT NULL, ws TEXT NOT NULL, number INTEGER NOT NULL, plan_only INTEGER NOT NULL, rkey TEXT, message TEXT NOT NULL, created INTEGER NOT NULL, status INTEGER NOT NULL CHECK (status BETWEEN 0 AND 8), action INTEGER CHECK (action BETWEEN 0 AND 6), PRIMARY KEY (org, ws, number), UNIQUE (org, ws, rkey)) STRICT"

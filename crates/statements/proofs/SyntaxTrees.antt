@@ -113,26 +113,23 @@ count_ws_core = from_table (One (CallStar (codes "count")) None (codes "count(*)
 abbrev pub newest_version_core : Core
 newest_version_core = from_table (shown_columns (codes "number" ∷ codes "serial" ∷ codes "lineage" ∷ codes "size" ∷ [])) (codes "version") (at_key (codes "org") (codes "ws"))
 
+abbrev pub oldest_below_core : Core
+oldest_below_core = from_table (shown_columns (codes "number" ∷ codes "serial" ∷ codes "lineage" ∷ codes "size" ∷ [])) (codes "version") (also (at_key (codes "org") (codes "ws")) (Two Lt (named (codes "number")) (Parameter 3)))
+
 abbrev pub version_back_core : Core
 version_back_core = from_table (shown_columns (codes "number" ∷ [])) (codes "version") (at_key (codes "org") (codes "ws"))
 
-abbrev pub version_number_core : Core
-version_number_core = from_table (shown_columns (codes "number" ∷ [])) (codes "version") (also (at_key (codes "org") (codes "ws")) (is_given (codes "number") 3))
-
-abbrev pub version_body_core : Core
-version_body_core = from_table (shown_columns (codes "body" ∷ [])) (codes "version") (also (at_key (codes "org") (codes "ws")) (is_given (codes "number") 3))
+abbrev pub version_size_core : Core
+version_size_core = from_table (shown_columns (codes "size" ∷ [])) (codes "version") (also (at_key (codes "org") (codes "ws")) (is_given (codes "number") 3))
 
 abbrev pub count_versions_core : Core
 count_versions_core = from_table (One (CallStar (codes "count")) None (codes "count(*)") ∷ []) (codes "version") (at_key (codes "org") (codes "ws"))
 
 abbrev pub add_version : Statement
-add_version = insert (codes "version") (codes "org" ∷ codes "ws" ∷ codes "number" ∷ codes "serial" ∷ codes "lineage" ∷ codes "created" ∷ codes "size" ∷ codes "body" ∷ []) (Parameter 1 ∷ Parameter 2 ∷ Parameter 3 ∷ Parameter 4 ∷ Parameter 5 ∷ Parameter 6 ∷ Parameter 7 ∷ Parameter 8 ∷ [])
+add_version = insert (codes "version") (codes "org" ∷ codes "ws" ∷ codes "number" ∷ codes "serial" ∷ codes "lineage" ∷ codes "created" ∷ codes "size" ∷ []) (Parameter 1 ∷ Parameter 2 ∷ Parameter 3 ∷ Parameter 4 ∷ Parameter 5 ∷ Parameter 6 ∷ Parameter 7 ∷ [])
 
-abbrev pub remove_versions_below : Statement
-remove_versions_below = delete (codes "version") (also (at_key (codes "org") (codes "ws")) (Two Lt (named (codes "number")) (Parameter 3)))
-
-abbrev pub remove_versions : Statement
-remove_versions = delete (codes "version") (at_key (codes "org") (codes "ws"))
+abbrev pub remove_version : Statement
+remove_version = delete (codes "version") (also (at_key (codes "org") (codes "ws")) (is_given (codes "number") 3))
 
 abbrev pub add_token : Statement
 add_token = insert (codes "token") (codes "org" ∷ codes "name" ∷ codes "digest" ∷ codes "role" ∷ []) (Parameter 1 ∷ Parameter 2 ∷ Parameter 3 ∷ Parameter 4 ∷ [])

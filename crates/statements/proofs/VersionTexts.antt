@@ -41,6 +41,22 @@ newest_version_is_query = (newest_version_select, some_parsed (first newest_vers
 abbrev pub newest_version_rest : Query
 newest_version_rest = point_rest (is_at 1 0 ∷ is_at 2 1 ∷ []) (col 1 3 ∷ col 1 4 ∷ col 1 5 ∷ col 1 7 ∷ []) one_page
 
+abbrev pub oldest_below_text : List ℕ
+oldest_below_text = codes "SELECT number, serial, lineage, size FROM version WHERE org = ?1 AND ws = ?2 AND number < ?3 ORDER BY rowid LIMIT 1"
+
+abbrev pub oldest_below_select : ast.Select
+oldest_below_select = st.select st.oldest_below_core (st.by_rowid false) (Some (Integer (codes "1")))
+
+oldest_below_reads : first oldest_below_text ≡ Ok (as_read (some_parsed (first oldest_below_text)) (written.Select oldest_below_select))
+unfolding everything
+oldest_below_reads = refl
+
+pub oldest_below_is_query : IsQuery oldest_below_text
+oldest_below_is_query = (oldest_below_select, some_parsed (first oldest_below_text), oldest_below_reads)
+
+abbrev pub oldest_below_rest : Query
+oldest_below_rest = point_rest (is_at 1 0 ∷ is_at 2 1 ∷ is_below 3 2 ∷ []) (col 1 3 ∷ col 1 4 ∷ col 1 5 ∷ col 1 7 ∷ []) one_page
+
 abbrev pub version_back_text : List ℕ
 version_back_text = codes "SELECT number FROM version WHERE org = ?1 AND ws = ?2 ORDER BY rowid DESC LIMIT 1 OFFSET ?3"
 
@@ -57,37 +73,21 @@ version_back_is_query = (version_back_select, some_parsed (first version_back_te
 abbrev pub version_back_rest : Query
 version_back_rest = point_rest (is_at 1 0 ∷ is_at 2 1 ∷ []) (col 1 3 ∷ []) (one_page_at 2)
 
-abbrev pub version_number_text : List ℕ
-version_number_text = codes "SELECT number FROM version WHERE org = ?1 AND ws = ?2 AND number = ?3 ORDER BY rowid"
+abbrev pub version_size_text : List ℕ
+version_size_text = codes "SELECT size FROM version WHERE org = ?1 AND ws = ?2 AND number = ?3 ORDER BY rowid"
 
-abbrev pub version_number_select : ast.Select
-version_number_select = st.select st.version_number_core (st.by_rowid false) None
+abbrev pub version_size_select : ast.Select
+version_size_select = st.select st.version_size_core (st.by_rowid false) None
 
-version_number_reads : first version_number_text ≡ Ok (as_read (some_parsed (first version_number_text)) (written.Select version_number_select))
+version_size_reads : first version_size_text ≡ Ok (as_read (some_parsed (first version_size_text)) (written.Select version_size_select))
 unfolding everything
-version_number_reads = refl
+version_size_reads = refl
 
-pub version_number_is_query : IsQuery version_number_text
-version_number_is_query = (version_number_select, some_parsed (first version_number_text), version_number_reads)
+pub version_size_is_query : IsQuery version_size_text
+version_size_is_query = (version_size_select, some_parsed (first version_size_text), version_size_reads)
 
-abbrev pub version_number_rest : Query
-version_number_rest = point_rest (is_at 1 0 ∷ is_at 2 1 ∷ is_at 3 2 ∷ []) (col 1 3 ∷ []) no_page
-
-abbrev pub version_body_text : List ℕ
-version_body_text = codes "SELECT body FROM version WHERE org = ?1 AND ws = ?2 AND number = ?3 ORDER BY rowid"
-
-abbrev pub version_body_select : ast.Select
-version_body_select = st.select st.version_body_core (st.by_rowid false) None
-
-version_body_reads : first version_body_text ≡ Ok (as_read (some_parsed (first version_body_text)) (written.Select version_body_select))
-unfolding everything
-version_body_reads = refl
-
-pub version_body_is_query : IsQuery version_body_text
-version_body_is_query = (version_body_select, some_parsed (first version_body_text), version_body_reads)
-
-abbrev pub version_body_rest : Query
-version_body_rest = point_rest (is_at 1 0 ∷ is_at 2 1 ∷ is_at 3 2 ∷ []) (col 1 8 ∷ []) no_page
+abbrev pub version_size_rest : Query
+version_size_rest = point_rest (is_at 1 0 ∷ is_at 2 1 ∷ is_at 3 2 ∷ []) (col 1 7 ∷ []) no_page
 
 abbrev pub count_versions_text : List ℕ
 count_versions_text = codes "SELECT count(*) FROM version WHERE org = ?1 AND ws = ?2"
@@ -106,34 +106,24 @@ abbrev pub count_versions_rest : Query
 count_versions_rest = point_rest (is_at 1 0 ∷ is_at 2 1 ∷ []) [] no_page
 
 abbrev pub add_version_text : List ℕ
-add_version_text = codes "INSERT INTO version (org, ws, number, serial, lineage, created, size, body) VALUES (?1, ?2, ?3, ?4, ?5, ?6, ?7, ?8)"
+add_version_text = codes "INSERT INTO version (org, ws, number, serial, lineage, created, size) VALUES (?1, ?2, ?3, ?4, ?5, ?6, ?7)"
 
 add_version_reads : first add_version_text ≡ Ok (as_read (some_parsed (first add_version_text)) st.add_version)
 unfolding everything
 add_version_reads = refl
 
 abbrev pub add_version_terms : List Term
-add_version_terms = lit Null ∷ col 0 0 ∷ col 0 1 ∷ col 0 2 ∷ col 0 3 ∷ col 0 4 ∷ col 0 5 ∷ col 0 6 ∷ col 0 7 ∷ []
+add_version_terms = lit Null ∷ col 0 0 ∷ col 0 1 ∷ col 0 2 ∷ col 0 3 ∷ col 0 4 ∷ col 0 5 ∷ col 0 6 ∷ []
 
-abbrev pub remove_versions_below_text : List ℕ
-remove_versions_below_text = codes "DELETE FROM version WHERE org = ?1 AND ws = ?2 AND number < ?3"
+abbrev pub remove_version_text : List ℕ
+remove_version_text = codes "DELETE FROM version WHERE org = ?1 AND ws = ?2 AND number = ?3"
 
-remove_versions_below_reads : first remove_versions_below_text ≡ Ok (as_read (some_parsed (first remove_versions_below_text)) st.remove_versions_below)
+remove_version_reads : first remove_version_text ≡ Ok (as_read (some_parsed (first remove_version_text)) st.remove_version)
 unfolding everything
-remove_versions_below_reads = refl
+remove_version_reads = refl
 
-abbrev pub remove_versions_below_query : ℕ → Query
-remove_versions_below_query tree = delete_query tree (is_at 1 0 ∷ is_at 2 1 ∷ is_below 3 2 ∷ [])
-
-abbrev pub remove_versions_text : List ℕ
-remove_versions_text = codes "DELETE FROM version WHERE org = ?1 AND ws = ?2"
-
-remove_versions_reads : first remove_versions_text ≡ Ok (as_read (some_parsed (first remove_versions_text)) st.remove_versions)
-unfolding everything
-remove_versions_reads = refl
-
-abbrev pub remove_versions_query : ℕ → Query
-remove_versions_query tree = delete_query tree (is_at 1 0 ∷ is_at 2 1 ∷ [])
+abbrev pub remove_version_query : ℕ → Query
+remove_version_query tree = delete_query tree (is_at 1 0 ∷ is_at 2 1 ∷ is_at 3 2 ∷ [])
 
 abbrev pub list_versions_text : List ℕ
 list_versions_text = codes "SELECT number, serial, lineage, created, size FROM version WHERE org = ?1 AND ws = ?2 AND number > ?3 ORDER BY number"
@@ -189,6 +179,23 @@ module _ (s : Schema) (at tree : ℕ) (h : StandsAt s (codes "version") version_
   unfolding timed returning
   newest_version_means = means s (written.Select newest_version_select) _ refl (λ _. refl) newest_version_is newest_version_text (some_parsed (first newest_version_text)) newest_version_reads
 
+  oldest_below_named : named s st.oldest_below_core (st.by_rowid false) one_page ≡ Ok ((point_draft oldest_below_rest tree false), (codes "number" ∷ codes "serial" ∷ codes "lineage" ∷ codes "size" ∷ []), (Some Binary ∷ Some Binary ∷ Some Binary ∷ Some Binary ∷ []))
+  unfolding everything
+  oldest_below_named = rw (h.named, h.found, h.found, h.found, h.small) refl
+
+  oldest_below_fits : program s [] (point_draft oldest_below_rest tree false) ≡ Ok (plain_program (point oldest_below_rest tree false))
+  unfolding everything
+  oldest_below_fits = rw (h.low, h.treed) refl
+
+  oldest_below_is : (base : ℕ) → command s [] base (written.Select oldest_below_select) ≡ Ok (Select (plain_program (point oldest_below_rest tree false)) (codes "number" ∷ codes "serial" ∷ codes "lineage" ∷ codes "size" ∷ []))
+  unfolding everything
+  oldest_below_is base =
+      read_is s oldest_below_select st.oldest_below_core (st.by_rowid false) one_page ((point_draft oldest_below_rest tree false), (codes "number" ∷ codes "serial" ∷ codes "lineage" ∷ codes "size" ∷ []), (Some Binary ∷ Some Binary ∷ Some Binary ∷ Some Binary ∷ [])) refl refl refl refl refl (λ again. refl) oldest_below_named (plain_program (point oldest_below_rest tree false)) oldest_below_fits base
+
+  pub oldest_below_means : Means s (Select (plain_program (point oldest_below_rest tree false)) (codes "number" ∷ codes "serial" ∷ codes "lineage" ∷ codes "size" ∷ [])) oldest_below_text
+  unfolding timed returning
+  oldest_below_means = means s (written.Select oldest_below_select) _ refl (λ _. refl) oldest_below_is oldest_below_text (some_parsed (first oldest_below_text)) oldest_below_reads
+
   version_back_named : named s st.version_back_core (st.by_rowid true) (one_page_at 2) ≡ Ok ((point_draft version_back_rest tree true), (codes "number" ∷ []), (Some Binary ∷ []))
   unfolding everything
   version_back_named = rw (h.named, h.found, h.found, h.found, h.small) refl
@@ -206,39 +213,22 @@ module _ (s : Schema) (at tree : ℕ) (h : StandsAt s (codes "version") version_
   unfolding timed returning
   version_back_means = means s (written.Select version_back_select) _ refl (λ _. refl) version_back_is version_back_text (some_parsed (first version_back_text)) version_back_reads
 
-  version_number_named : named s st.version_number_core (st.by_rowid false) no_page ≡ Ok ((point_draft version_number_rest tree false), (codes "number" ∷ []), (Some Binary ∷ []))
+  version_size_named : named s st.version_size_core (st.by_rowid false) no_page ≡ Ok ((point_draft version_size_rest tree false), (codes "size" ∷ []), (Some Binary ∷ []))
   unfolding everything
-  version_number_named = rw (h.named, h.found, h.found, h.found, h.small) refl
+  version_size_named = rw (h.named, h.found, h.found, h.found, h.small) refl
 
-  version_number_fits : program s [] (point_draft version_number_rest tree false) ≡ Ok (plain_program (point version_number_rest tree false))
+  version_size_fits : program s [] (point_draft version_size_rest tree false) ≡ Ok (plain_program (point version_size_rest tree false))
   unfolding everything
-  version_number_fits = rw (h.low, h.treed) refl
+  version_size_fits = rw (h.low, h.treed) refl
 
-  version_number_is : (base : ℕ) → command s [] base (written.Select version_number_select) ≡ Ok (Select (plain_program (point version_number_rest tree false)) (codes "number" ∷ []))
+  version_size_is : (base : ℕ) → command s [] base (written.Select version_size_select) ≡ Ok (Select (plain_program (point version_size_rest tree false)) (codes "size" ∷ []))
   unfolding everything
-  version_number_is base =
-      read_is s version_number_select st.version_number_core (st.by_rowid false) no_page ((point_draft version_number_rest tree false), (codes "number" ∷ []), (Some Binary ∷ [])) refl refl refl refl refl (λ again. refl) version_number_named (plain_program (point version_number_rest tree false)) version_number_fits base
+  version_size_is base =
+      read_is s version_size_select st.version_size_core (st.by_rowid false) no_page ((point_draft version_size_rest tree false), (codes "size" ∷ []), (Some Binary ∷ [])) refl refl refl refl refl (λ again. refl) version_size_named (plain_program (point version_size_rest tree false)) version_size_fits base
 
-  pub version_number_means : Means s (Select (plain_program (point version_number_rest tree false)) (codes "number" ∷ [])) version_number_text
+  pub version_size_means : Means s (Select (plain_program (point version_size_rest tree false)) (codes "size" ∷ [])) version_size_text
   unfolding timed returning
-  version_number_means = means s (written.Select version_number_select) _ refl (λ _. refl) version_number_is version_number_text (some_parsed (first version_number_text)) version_number_reads
-
-  version_body_named : named s st.version_body_core (st.by_rowid false) no_page ≡ Ok ((point_draft version_body_rest tree false), (codes "body" ∷ []), (Some Binary ∷ []))
-  unfolding everything
-  version_body_named = rw (h.named, h.found, h.found, h.found, h.small) refl
-
-  version_body_fits : program s [] (point_draft version_body_rest tree false) ≡ Ok (plain_program (point version_body_rest tree false))
-  unfolding everything
-  version_body_fits = rw (h.low, h.treed) refl
-
-  version_body_is : (base : ℕ) → command s [] base (written.Select version_body_select) ≡ Ok (Select (plain_program (point version_body_rest tree false)) (codes "body" ∷ []))
-  unfolding everything
-  version_body_is base =
-      read_is s version_body_select st.version_body_core (st.by_rowid false) no_page ((point_draft version_body_rest tree false), (codes "body" ∷ []), (Some Binary ∷ [])) refl refl refl refl refl (λ again. refl) version_body_named (plain_program (point version_body_rest tree false)) version_body_fits base
-
-  pub version_body_means : Means s (Select (plain_program (point version_body_rest tree false)) (codes "body" ∷ [])) version_body_text
-  unfolding timed returning
-  version_body_means = means s (written.Select version_body_select) _ refl (λ _. refl) version_body_is version_body_text (some_parsed (first version_body_text)) version_body_reads
+  version_size_means = means s (written.Select version_size_select) _ refl (λ _. refl) version_size_is version_size_text (some_parsed (first version_size_text)) version_size_reads
 
   count_versions_named : named s st.count_versions_core [] no_page ≡ Ok ((tally_draft count_versions_rest tree Binary (lit Null)), (codes "count(*)" ∷ []), (None ∷ []))
   unfolding everything
@@ -257,26 +247,18 @@ module _ (s : Schema) (at tree : ℕ) (h : StandsAt s (codes "version") version_
   unfolding timed returning
   count_versions_means = means s (written.Select count_versions_select) _ refl (λ _. refl) count_versions_is count_versions_text (some_parsed (first count_versions_text)) count_versions_reads
 
-  add_version_is : (base : ℕ) → command s [] base st.add_version ≡ Ok (Insert at (Values add_version_terms 9))
+  add_version_is : (base : ℕ) → command s [] base st.add_version ≡ Ok (Insert at (Values add_version_terms 8))
   unfolding everything
   add_version_is base = rw (h.named, h.found) refl
 
-  pub add_version_means : Means s (Insert at (Values add_version_terms 9)) add_version_text
+  pub add_version_means : Means s (Insert at (Values add_version_terms 8)) add_version_text
   unfolding everything
   add_version_means = means s st.add_version _ (rw (h.named, h.found) refl) (λ _. refl) add_version_is add_version_text (some_parsed (first add_version_text)) add_version_reads
 
-  remove_versions_below_is : (base : ℕ) → command s [] base st.remove_versions_below ≡ Ok (Delete at (plain_program (remove_versions_below_query tree)))
+  remove_version_is : (base : ℕ) → command s [] base st.remove_version ≡ Ok (Delete at (plain_program (remove_version_query tree)))
   unfolding everything
-  remove_versions_below_is base = rw (h.named, h.found, h.found, h.found, h.treed, h.low) refl
+  remove_version_is base = rw (h.named, h.found, h.found, h.found, h.treed, h.low) refl
 
-  pub remove_versions_below_means : Means s (Delete at (plain_program (remove_versions_below_query tree))) remove_versions_below_text
+  pub remove_version_means : Means s (Delete at (plain_program (remove_version_query tree))) remove_version_text
   unfolding everything
-  remove_versions_below_means = means s st.remove_versions_below _ refl (λ _. refl) remove_versions_below_is remove_versions_below_text (some_parsed (first remove_versions_below_text)) remove_versions_below_reads
-
-  remove_versions_is : (base : ℕ) → command s [] base st.remove_versions ≡ Ok (Delete at (plain_program (remove_versions_query tree)))
-  unfolding everything
-  remove_versions_is base = rw (h.named, h.found, h.found, h.found, h.treed, h.low) refl
-
-  pub remove_versions_means : Means s (Delete at (plain_program (remove_versions_query tree))) remove_versions_text
-  unfolding everything
-  remove_versions_means = means s st.remove_versions _ refl (λ _. refl) remove_versions_is remove_versions_text (some_parsed (first remove_versions_text)) remove_versions_reads
+  remove_version_means = means s st.remove_version _ refl (λ _. refl) remove_version_is remove_version_text (some_parsed (first remove_version_text)) remove_version_reads

@@ -92,17 +92,14 @@ is_version org ws n x = bytes_eq x.1.org org && (bytes_eq x.1.ws ws && x.1.it.nu
 abbrev pub is_version_below : List ℕ → List ℕ → ℕ → Kept VersionRow → Bool
 is_version_below org ws n x = bytes_eq x.1.org org && (bytes_eq x.1.ws ws && nat_lt x.1.it.number n)
 
-abbrev pub new_version : ℕ → ℕ → List ℕ → ℕ → List ℕ → Version
-new_version number serial lineage created body = record { number = number; serial = serial; lineage = lineage; created = created; body = body }
+abbrev pub new_version : ℕ → ℕ → List ℕ → ℕ → ℕ → Version
+new_version number serial lineage created size = record { number = number; serial = serial; lineage = lineage; created = created; size = size }
 
 abbrev pub version_added : List ℕ → List ℕ → Version → Tables → Tables
 version_added org ws it t = record t { versions = with_next (record { org = org; ws = ws; it = it }) t.versions }
 
-abbrev pub versions_removed_below : List ℕ → List ℕ → ℕ → Tables → Tables
-versions_removed_below org ws n t = record t { versions = delete_where (is_version_below org ws n) t.versions }
-
-abbrev pub versions_removed : List ℕ → List ℕ → Tables → Tables
-versions_removed org ws t = record t { versions = delete_where (is_version_of org ws) t.versions }
+abbrev pub version_removed : List ℕ → List ℕ → ℕ → Tables → Tables
+version_removed org ws n t = record t { versions = delete_where (is_version org ws n) t.versions }
 
 -- ---- runs
 

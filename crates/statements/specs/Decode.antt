@@ -72,7 +72,7 @@ abbrev pub version_at : Row → VersionRow
 version_at r = record {
   org = bytes_at r 1;
   ws = bytes_at r 2;
-  it = record { number = number_at r 3; serial = number_at r 4; lineage = bytes_at r 5; created = number_at r 6; body = bytes_at r 8 };
+  it = record { number = number_at r 3; serial = number_at r 4; lineage = bytes_at r 5; created = number_at r 6; size = number_at r 7 };
 }
 
 abbrev pub run_at : Row → RunRow

@@ -10,7 +10,7 @@ use Rattle.statements.specs.declared.rows.Head.{Head}
 use Rattle.statements.specs.declared.rows.Run.{Run}
 use Rattle.statements.specs.Rows.{Version, Kept, RunRow}
 use Rattle.statements.specs.Tables.{Tables}
-use Rattle.statements.specs.Changes.{is_org, is_token, is_digest_of, is_ws_of, is_ws, is_version_of, is_version, is_run_row}
+use Rattle.statements.specs.Changes.{is_org, is_token, is_digest_of, is_ws_of, is_ws, is_version_of, is_version, is_version_below, is_run_row}
 
 -- the last of a list
 abbrev pub last_in : {X : Type 0} → List X → Option X
@@ -38,7 +38,7 @@ abbrev pub workspaces_of : List ℕ → Tables → ℕ
 workspaces_of org t = counted (filter (is_ws_of org) t.wss)
 
 abbrev pub head_of : Version → Head
-head_of v = record { number = v.number; serial = v.serial; lineage = v.lineage; size = length v.body }
+head_of v = record { number = v.number; serial = v.serial; lineage = v.lineage; size = v.size }
 
 -- the version that was added last
 abbrev pub newest_of : List ℕ → List ℕ → Tables → Option Head
@@ -48,12 +48,13 @@ newest_of org ws t = option_map (λ x. head_of x.1.it) (last_in (filter (is_vers
 abbrev pub number_back : List ℕ → List ℕ → ℕ → Tables → Option ℕ
 number_back org ws place t = option_map (λ x. x.1.it.number) (slice_get (reverse (filter (is_version_of org ws) t.versions)) place)
 
--- the number of a version, if it is there
-abbrev pub version_at_number : List ℕ → List ℕ → ℕ → Tables → Option ℕ
-version_at_number org ws n t = option_map (λ x. x.1.it.number) (find (is_version org ws n) t.versions)
+-- of the versions with numbers below this one, that which was added first
+abbrev pub oldest_below : List ℕ → List ℕ → ℕ → Tables → Option Head
+oldest_below org ws n t = option_map (λ x. head_of x.1.it) (find (is_version_below org ws n) t.versions)
 
-abbrev pub body_of : List ℕ → List ℕ → ℕ → Tables → Option (List ℕ)
-body_of org ws n t = option_map (λ x. x.1.it.body) (find (is_version org ws n) t.versions)
+-- how many bytes the text of a version has, if it is there
+abbrev pub size_of : List ℕ → List ℕ → ℕ → Tables → Option ℕ
+size_of org ws n t = option_map (λ x. x.1.it.size) (find (is_version org ws n) t.versions)
 
 abbrev pub versions_of : List ℕ → List ℕ → Tables → ℕ
 versions_of org ws t = counted (filter (is_version_of org ws) t.versions)

@@ -59,7 +59,7 @@ WorkspacesApart t = AreApart (λ a b. is_ws a.1.org a.1.name b) t.wss
 -- ---- versions
 
 abbrev pub version_head_of : Version → VersionHead
-version_head_of v = record { number = v.number; serial = v.serial; lineage = v.lineage; created = v.created; size = length v.body }
+version_head_of v = record { number = v.number; serial = v.serial; lineage = v.lineage; created = v.created; size = v.size }
 
 -- those of a workspace whose numbers are above this one, no more than so many
 abbrev pub version_rows_after : List ℕ → List ℕ → ℕ → ℕ → Tables → List VersionHead

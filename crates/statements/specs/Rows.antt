@@ -1,5 +1,5 @@
 -- The rows of the tables as typed values, and the cells that keep them.
-use Rattle.std.specs.Prelude.{ℕ, ℤ, pos, Bool, List, [], ◌∷◌, length, if◌then◌else◌}
+use Rattle.std.specs.Prelude.{ℕ, ℤ, pos, Bool, List, [], ◌∷◌, if◌then◌else◌}
 use Rattle.sqlite_value.specs.declared.value.Value.{Value}
 use Rattle.sqlite_value.specs.declared.value.Value.TheVariants as cell
 use Rattle.sqlite_value.specs.Order.{Row}
@@ -20,13 +20,13 @@ pub record Token : Type 0 where
   pub digest : List ℕ
   pub role : Role
 
--- a version of a workspace's state; the moment is in seconds since 1970 (UTC)
+-- A version of a workspace's state: its text stands in pages, and the row has the number of its bytes. The moment is in seconds since 1970 (UTC).
 pub record Version : Type 0 where
   pub number : ℕ
   pub serial : ℕ
   pub lineage : List ℕ
   pub created : ℕ
-  pub body : List ℕ
+  pub size : ℕ
 
 -- a row with its rowid
 abbrev pub Kept : Type 0 → Type 0
@@ -140,10 +140,9 @@ ws_cells r =
     cell.Text r.org ∷ cell.Text r.name ∷ flag r.it.auto ∷ kind_cell r.it.holder ∷ lock_id_cell r.it.holder ∷ lock_text_cell r.it.holder ∷ run_cell r.it.holder
     ∷ or_null cell.Text r.it.released ∷ number r.it.next_version ∷ number r.it.next_run ∷ []
 
--- the column size has the number of the text's bytes
 abbrev pub version_cells : VersionRow → Row
 version_cells r =
-    cell.Text r.org ∷ cell.Text r.ws ∷ number r.it.number ∷ number r.it.serial ∷ cell.Text r.it.lineage ∷ number r.it.created ∷ number (length r.it.body) ∷ cell.Blob r.it.body ∷ []
+    cell.Text r.org ∷ cell.Text r.ws ∷ number r.it.number ∷ number r.it.serial ∷ cell.Text r.it.lineage ∷ number r.it.created ∷ number r.it.size ∷ []
 
 abbrev pub run_cells : RunRow → Row
 run_cells r =

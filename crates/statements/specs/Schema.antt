@@ -63,7 +63,7 @@ ws_table = keyed_table (codes "ws")
 abbrev pub version_table : Table
 version_table = keyed_table (codes "version")
     (column (codes "org") Text true ∷ column (codes "ws") Text true ∷ column (codes "number") Integer true ∷ column (codes "serial") Integer true
-    ∷ column (codes "lineage") Text true ∷ column (codes "created") Integer true ∷ column (codes "size") Integer true ∷ column (codes "body") Blob true ∷ [])
+    ∷ column (codes "lineage") Text true ∷ column (codes "created") Integer true ∷ column (codes "size") Integer true ∷ [])
     (1 ∷ 2 ∷ 3 ∷ []) ((1 ∷ 2 ∷ 3 ∷ []) ∷ []) (plain ∷ []) []
 
 abbrev pub run_table : Table

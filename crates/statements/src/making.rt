@@ -60,7 +60,7 @@ fn make_ws<S: Alter>(tx: &mut Transaction<'_, S>) -> Result<(), Error>
 }
 
 const MAKE_VERSION: &str =
-    "CREATE TABLE version (org TEXT NOT NULL, ws TEXT NOT NULL, number INTEGER NOT NULL, serial INTEGER NOT NULL, lineage TEXT NOT NULL, created INTEGER NOT NULL, size INTEGER NOT NULL, body BLOB NOT NULL, PRIMARY KEY (org, ws, number)) STRICT";
+    "CREATE TABLE version (org TEXT NOT NULL, ws TEXT NOT NULL, number INTEGER NOT NULL, serial INTEGER NOT NULL, lineage TEXT NOT NULL, created INTEGER NOT NULL, size INTEGER NOT NULL, PRIMARY KEY (org, ws, number)) STRICT";
 
 /// Makes the table of versions of states.
 fn make_version<S: Alter>(tx: &mut Transaction<'_, S>) -> Result<(), Error>

@@ -1,13 +1,17 @@
 //! Statements on the table version.
-ghost use Rattle.std.specs.Prelude.{◌<◌, ◌^◌};
-ghost use Rattle.statements.specs.Steps.{WritesBy, QueriesBy, QueriesWhere};
-ghost use Rattle.statements.specs.Changes.{new_version, version_added, versions_removed, versions_removed_below};
+ghost use Rattle.std.specs.Prelude.{◌≡◌, ◌<◌, ◌^◌};
+ghost use Rattle.sqlite.specs.Held.{state};
+ghost use Rattle.sqlite.specs.State.{Survives};
+ghost use Rattle.statements.specs.Steps.{WritesBy, ReadsBy, QueriesBy, QueriesWhere};
+ghost use Rattle.statements.specs.Changes.{new_version, version_added, version_removed};
 ghost use Rattle.statements.specs.Listings.{version_rows_after, VersionsRise};
-ghost use Rattle.statements.specs.Finds.{newest_of, number_back, version_at_number, body_of, versions_of};
+ghost use Rattle.statements.specs.Finds.{newest_of, number_back, oldest_below, size_of, versions_of};
 
-use crate::calls::{count_of, first_row, first_rows, read_all, read_one, signed, write};
+use crate::calls::{
+    count_of, first_row, first_row_inside, first_rows, read_all, read_one, signed, write,
+};
 use crate::rows::{Head, VersionHead};
-use basis::{Bytes, Items};
+use basis::Items;
 use sqlite::{Alter, Connection, Error, Transaction, params};
 use std::alloc::Global;
 
@@ -64,39 +68,58 @@ pub fn number_back<S: Alter>(
     read_one(row)
 }
 
-const VERSION_NUMBER: &str =
-    "SELECT number FROM version WHERE org = ?1 AND ws = ?2 AND number = ?3 ORDER BY rowid";
+const VERSION_SIZE: &str =
+    "SELECT size FROM version WHERE org = ?1 AND ws = ?2 AND number = ?3 ORDER BY rowid";
 
-/// The number of a version, if it is there.
-pub fn find<S: Alter>(
+/// How many bytes the text of a version has, if it is there.
+pub fn size<S: Alter>(
     conn: &mut Connection<S>,
     org: &str,
     ws: &str,
     number: u64,
 ) -> Result<Option<u64>, Error>
     requires number_fits { number < 2 ^ 63 }
-    ensures { QueriesBy S.Store (version_at_number org.now ws.now number) conn.old conn.new result }
+    ensures { QueriesBy S.Store (size_of org.now ws.now number) conn.old conn.new result }
 {
     let number = signed(number);
-    let row = first_row(conn, VERSION_NUMBER, params![org, ws, &number]);
+    let row = first_row(conn, VERSION_SIZE, params![org, ws, &number]);
     read_one(row)
 }
 
-const VERSION_BODY: &str =
-    "SELECT body FROM version WHERE org = ?1 AND ws = ?2 AND number = ?3 ORDER BY rowid";
-
-/// The text of a version.
-pub fn body<S: Alter>(
-    conn: &mut Connection<S>,
+/// The same inside a transaction.
+pub fn size_inside<S: Alter>(
+    tx: &mut Transaction<'_, S>,
     org: &str,
     ws: &str,
     number: u64,
-) -> Result<Option<Bytes>, Error>
+) -> Result<Option<u64>, Error>
     requires number_fits { number < 2 ^ 63 }
-    ensures { QueriesBy S.Store (body_of org.now ws.now number) conn.old conn.new result }
+    ensures same_reference { tx.new.conn.ghost_name ≡ tx.old.conn.ghost_name }
+    ensures reads { ReadsBy (size_of org.now ws.now number) (state S.Store tx.old.conn.now) (state S.Store tx.new.conn.now) result }
+    ensures survives { Survives (state S.Store tx.old.conn.now) (state S.Store tx.new.conn.now) (λ _. ⊥) }
 {
     let number = signed(number);
-    let row = first_row(conn, VERSION_BODY, params![org, ws, &number]);
+    let row = first_row_inside(tx, VERSION_SIZE, params![org, ws, &number]);
+    read_one(row)
+}
+
+const OLDEST_VERSION_BELOW: &str =
+    "SELECT number, serial, lineage, size FROM version WHERE org = ?1 AND ws = ?2 AND number < ?3 ORDER BY rowid LIMIT 1";
+
+/// Of the versions of a workspace with numbers below this one, that which was added first, without its text.
+pub fn oldest_below<S: Alter>(
+    tx: &mut Transaction<'_, S>,
+    org: &str,
+    ws: &str,
+    number: u64,
+) -> Result<Option<Head>, Error>
+    requires number_fits { number < 2 ^ 63 }
+    ensures same_reference { tx.new.conn.ghost_name ≡ tx.old.conn.ghost_name }
+    ensures reads { ReadsBy (oldest_below org.now ws.now number) (state S.Store tx.old.conn.now) (state S.Store tx.new.conn.now) result }
+    ensures survives { Survives (state S.Store tx.old.conn.now) (state S.Store tx.new.conn.now) (λ _. ⊥) }
+{
+    let number = signed(number);
+    let row = first_row_inside(tx, OLDEST_VERSION_BELOW, params![org, ws, &number]);
     read_one(row)
 }
 
@@ -111,9 +134,9 @@ pub fn count<S: Alter>(conn: &mut Connection<S>, org: &str, ws: &str) -> Result<
 }
 
 const ADD_VERSION: &str =
-    "INSERT INTO version (org, ws, number, serial, lineage, created, size, body) VALUES (?1, ?2, ?3, ?4, ?5, ?6, ?7, ?8)";
+    "INSERT INTO version (org, ws, number, serial, lineage, created, size) VALUES (?1, ?2, ?3, ?4, ?5, ?6, ?7)";
 
-/// Adds a version with its text. `created` is in seconds since 1970 (UTC).
+/// Adds a version whose text has so many bytes. `created` is in seconds since 1970 (UTC).
 pub fn add<'v, S: Alter>(
     tx: &mut Transaction<'_, S>,
     org: &'v str,
@@ -122,46 +145,37 @@ pub fn add<'v, S: Alter>(
     serial: u64,
     lineage: &'v str,
     created: u64,
-    body: &'v [u8],
+    size: u64,
 ) -> Result<(), Error>
     requires number_fits { number < 2 ^ 63 }
     requires serial_fits { serial < 2 ^ 63 }
     requires created_fits { created < 2 ^ 63 }
-    ensures { WritesBy S.Store (version_added org.now ws.now (new_version number serial lineage.now created body.now)) tx.old tx.new result }
+    requires size_fits { size < 2 ^ 63 }
+    ensures { WritesBy S.Store (version_added org.now ws.now (new_version number serial lineage.now created size)) tx.old tx.new result }
 {
     let number = signed(number);
     let serial = signed(serial);
     let created = signed(created);
-    let size = signed(body.len() as u64);
+    let size = signed(size);
     write(
         tx,
         ADD_VERSION,
-        params![org, ws, &number, &serial, lineage, &created, &size, body],
+        params![org, ws, &number, &serial, lineage, &created, &size],
     )
 }
 
-const REMOVE_VERSIONS_BELOW: &str =
-    "DELETE FROM version WHERE org = ?1 AND ws = ?2 AND number < ?3";
+const REMOVE_VERSION: &str = "DELETE FROM version WHERE org = ?1 AND ws = ?2 AND number = ?3";
 
-/// Removes the versions of a workspace with numbers below this one.
-pub fn remove_below<S: Alter>(
+/// Removes a version. The pages of its text are named in rows of their own.
+pub fn remove<S: Alter>(
     tx: &mut Transaction<'_, S>,
     org: &str,
     ws: &str,
-    least: u64,
+    number: u64,
 ) -> Result<(), Error>
-    requires least_fits { least < 2 ^ 63 }
-    ensures { WritesBy S.Store (versions_removed_below org.now ws.now least) tx.old tx.new result }
+    requires number_fits { number < 2 ^ 63 }
+    ensures { WritesBy S.Store (version_removed org.now ws.now number) tx.old tx.new result }
 {
-    let least = signed(least);
-    write(tx, REMOVE_VERSIONS_BELOW, params![org, ws, &least])
-}
-
-const REMOVE_VERSIONS: &str = "DELETE FROM version WHERE org = ?1 AND ws = ?2";
-
-/// Removes the versions of a workspace.
-pub fn remove_all<S: Alter>(tx: &mut Transaction<'_, S>, org: &str, ws: &str) -> Result<(), Error>
-    ensures { WritesBy S.Store (versions_removed org.now ws.now) tx.old tx.new result }
-{
-    write(tx, REMOVE_VERSIONS, params![org, ws])
+    let number = signed(number);
+    write(tx, REMOVE_VERSION, params![org, ws, &number])
 }
