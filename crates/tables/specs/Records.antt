@@ -23,6 +23,7 @@ use Rattle.statements.specs.Rows.{Kept, TokenRow}
 use Rattle.statements.specs.Tables.{Tables}
 use Rattle.statements.specs.Changes.{is_ws_of, is_version_of, is_run_of}
 use Rattle.statements.specs.Finds.{cap_of, role_of_digest, workspace_of}
+use Rattle.texts.specs.Texts.{text_of}
 
 -- ---- what cells denote
 
@@ -34,8 +35,9 @@ holder_of_cells cells.Nobody = Nobody
 holder_of_cells (cells.Lock id text) = Lock id text
 holder_of_cells (cells.Run n) = HoldingRun n
 
-abbrev pub version_of_cells : VersionCells → Version
-version_of_cells v = record { number = v.number; serial = v.serial; lineage = v.lineage; created = v.created; text = v.body }
+-- the cells have the number of the text's bytes, and the text stands in pages
+abbrev pub version_of_cells : List ℕ → VersionCells → Version
+version_of_cells text v = record { number = v.number; serial = v.serial; lineage = v.lineage; created = v.created; text = text }
 
 abbrev pub run_of_cells : RunCells → Run
 run_of_cells r = record { number = r.number; plan_only = r.plan_only; key = r.key; message = r.message; created = r.created; status = r.status; action = r.action }
@@ -60,9 +62,13 @@ workspace_of_cells w versions runs = record {
 
 -- ---- what rows denote
 
+-- the version of a workspace that a row denotes
+abbrev pub version_at : Tables → List ℕ → List ℕ → VersionCells → Version
+version_at t org ws v = version_of_cells (text_of org ws v.number v.size t) v
+
 -- the versions of a workspace, in the order in which their rows were added
 abbrev pub versions_at : Tables → List ℕ → List ℕ → List Version
-versions_at t org ws = map (λ x. version_of_cells x.1.it) (filter (is_version_of org ws) t.versions)
+versions_at t org ws = map (λ x. version_at t org ws x.1.it) (filter (is_version_of org ws) t.versions)
 
 abbrev pub runs_at : Tables → List ℕ → List ℕ → List Run
 runs_at t org ws = map (λ x. run_of_cells x.1.it) (filter (is_run_of org ws) t.runs)

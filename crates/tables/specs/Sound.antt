@@ -1,5 +1,5 @@
 -- When tables are sound.
-use Rattle.std.specs.Prelude.{◌≡◌, ◌≤◌, ℕ, pos, true, List, [], ◌∷◌, length, Some, IsTrue}
+use Rattle.std.specs.Prelude.{◌≡◌, ◌≤◌, ◌<◌, ℕ, pos, true, List, [], ◌∷◌, length, Some, IsSomeAnd, IsTrue}
 use Rattle.std.specs.List.{AllByRecursion, list_any}
 use Rattle.sqlite_keyed.specs.Rules.{AreApart}
 use Rattle.basis.specs.Names.{is_org_name}
@@ -8,9 +8,11 @@ use Rattle.machine.specs.Laws.{IsNamedWorkspace}
 use Rattle.machine.specs.Records.{count_of}
 use Rattle.machine.specs.declared.records.Workspace.{Workspace}
 use Rattle.machine.specs.declared.records.Organization.{Organization}
-use Rattle.statements.specs.Rows.{Kept, OrgRow, TokenRow}
+use Rattle.statements.specs.Rows.{Kept, OrgRow, TokenRow, VersionRow, VpageRow}
 use Rattle.statements.specs.Tables.{Tables}
 use Rattle.statements.specs.Changes.{is_org, is_token, is_digest_of, is_ws}
+use Rattle.statements.specs.Finds.{size_of}
+use Rattle.texts.specs.Texts.{pages_for, IsWhole, HasSoundPlaces}
 use Rattle.tables.specs.Records.{workspace_by, record_of}
 
 pub record IsOrgRow (x : Kept OrgRow) : Type 0 where
@@ -25,6 +27,14 @@ pub record IsTokenRow (x : Kept TokenRow) : Type 0 where
 -- meta has the one row of a database of this version
 abbrev pub TellsVersion : ℕ → Tables → Type 0
 TellsVersion n t = t.metas ≡ (pos 1, n) ∷ []
+
+-- a place of a version that has a row, below the number of the pages of its text
+abbrev pub IsPlaced : Tables → Kept VpageRow → Type 0
+IsPlaced t x = IsSomeAnd (size_of x.1.org x.1.ws x.1.number t) (λ size. x.1.place < pages_for size)
+
+-- each page of the version's text is there
+abbrev pub HasText : Tables → Kept VersionRow → Type 0
+HasText t x = IsWhole x.1.org x.1.ws x.1.it.number x.1.it.size t
 
 pub record IsSound (t : Tables) : Type 0 where
   -- the tables are those of version 1, and meta says so
@@ -44,5 +54,10 @@ pub record IsSound (t : Tables) : Type 0 where
   pub token_rows : AllByRecursion IsTokenRow t.tokens
   -- no organization has more workspaces than the greatest limit; where its limit was lowered, it may have more than that
   pub counts : (org : List ℕ) (o : Organization) → record_of t org ≡ Some o → count_of o ≤ MAX_LIMIT
+  -- The pages are sound, the uses of each are the places that name it, and each place of a version has one row; none but those of versions
+  -- has one, and the text of each version is whole.
+  pub places : HasSoundPlaces t
+  pub placed : AllByRecursion (IsPlaced t) t.vpages
+  pub texts : AllByRecursion (HasText t) t.versions
   -- each workspace that the rows denote is lawful: of its versions and runs the numbers rise in the order of their rows
   pub workspaces : (org name : List ℕ) (w : Workspace) → workspace_by t org name ≡ Some w → IsNamedWorkspace name w

@@ -1,5 +1,5 @@
 -- What a change does to the rows, by the changes that statements make.
-use Rattle.std.specs.Prelude.{ℕ, ◌+◌, Bool, cond, List, Option, Some, None}
+use Rattle.std.specs.Prelude.{◌≡◌, ℕ, zero, suc, ◌+◌, Bool, true, cond, List, length, Option, Some, None, is_some, ⊤}
 use Rattle.basis.specs.declared.rows.RunAsk.{RunAsk}
 use Rattle.basis.specs.declared.runs.RunStatus.TheVariants.{Pending, Planning}
 use Rattle.machine.specs.declared.acts.Edit.{Edit}
@@ -9,12 +9,48 @@ use Rattle.machine.specs.declared.records.Version.{Version}
 use Rattle.statements.specs.declared.rows.Holder.TheVariants.{Nobody, Lock, Run as HeldByRun}
 use Rattle.statements.specs.declared.rows.Workspace.{Workspace as WorkspaceCells}
 use Rattle.statements.specs.Tables.{Tables}
-use Rattle.statements.specs.Changes.{with_auto, held_by, released_from, with_next_version, with_next_run, ws_changed, ws_added, ws_removed, new_version, version_added, versions_removed, versions_removed_below, run_made, run_added, runs_removed, run_changed_to, run_acted}
-use Rattle.statements.specs.Finds.{workspace_of}
+use Rattle.statements.specs.Changes.{with_auto, held_by, released_from, with_next_version, with_next_run, ws_changed, ws_added, ws_removed, new_version, version_added, version_removed, run_made, run_added, runs_removed, run_changed_to, run_acted}
+use Rattle.statements.specs.Finds.{workspace_of, oldest_below, size_of}
+use Rattle.statements.specs.declared.rows.Head.{Head}
+use Rattle.texts.specs.Texts.{pages_for, text_added, text_removed, TwinsFit}
+use Rattle.basis.specs.declared.numbers.TheConstants.{MAX_NUMBER}
+
+-- ---- versions that go
+
+-- a version goes with its text
+abbrev pub version_gone : List ℕ → List ℕ → Head → Tables → Tables
+version_gone org ws head t = text_removed org ws head.number head.size (version_removed org ws head.number t)
+
+abbrev pub first_gone : List ℕ → List ℕ → Option Head → Tables → Tables
+first_gone org ws None t = t
+first_gone org ws (Some head) t = version_gone org ws head t
+
+-- of the versions with numbers below this one, that which was added first goes, if there is one
+abbrev pub oldest_gone : List ℕ → List ℕ → ℕ → Tables → Tables
+oldest_gone org ws below t = first_gone org ws (oldest_below org ws below t) t
+
+-- so many go, one after the other
+unfoldable pub so_many_gone : ℕ → List ℕ → List ℕ → ℕ → Tables → Tables
+so_many_gone zero org ws below t = t
+so_many_gone (suc many) org ws below t = oldest_gone org ws below (so_many_gone many org ws below t)
+
+-- no more versions go at once: a workspace keeps so many, and one more has come before others go
+abbrev pub most_gone : ℕ
+most_gone = 101
+
+-- the versions with numbers below this one go
+unfoldable pub gone_below : List ℕ → List ℕ → ℕ → Tables → Tables
+gone_below org ws below t = so_many_gone most_gone org ws below t
+
+-- all versions go: no number is above the greatest
+abbrev pub all_gone : List ℕ → List ℕ → Tables → Tables
+all_gone org ws t = gone_below org ws (MAX_NUMBER + 1) t
+
+-- ---- edits
 
 -- a workspace goes with its versions and runs, which go before it
 abbrev pub removed_rows : List ℕ → List ℕ → Tables → Tables
-removed_rows org ws t = ws_removed org ws (runs_removed org ws (versions_removed org ws t))
+removed_rows org ws t = ws_removed org ws (runs_removed org ws (all_gone org ws t))
 
 -- a new workspace has no versions and no runs: whatever rows of its name there are go first
 abbrev pub made_rows : List ℕ → List ℕ → Bool → Tables → Tables
@@ -23,23 +59,32 @@ made_rows org ws auto t = ws_added org ws auto (removed_rows org ws t)
 abbrev pub numbered_rows : List ℕ → List ℕ → Version → Tables → Tables
 numbered_rows org ws v t = ws_changed (with_next_version (v.number + 1)) org ws t
 
--- a version comes behind the others
-abbrev pub added_rows : List ℕ → List ℕ → Version → Tables → Tables
-added_rows org ws v t = version_added org ws (new_version v.number v.serial v.lineage v.created v.text) t
+abbrev pub row_added : List ℕ → List ℕ → Version → Tables → Tables
+row_added org ws v t = version_added org ws (new_version v.number v.serial v.lineage v.created (length v.text)) t
+
+-- a version comes behind the others, with its text
+abbrev pub added_rows : (List ℕ → List ℕ) → List ℕ → List ℕ → Version → Tables → Tables
+added_rows key_of org ws v t = text_added key_of org ws v.number v.text (row_added org ws v t)
 
 -- those up to a number go
 abbrev pub left_rows : Option ℕ → List ℕ → List ℕ → Tables → Tables
 left_rows None org ws t = t
-left_rows (Some last) org ws t = versions_removed_below org ws (last + 1) t
+left_rows (Some last) org ws t = gone_below org ws (last + 1) t
+
+-- a version comes, and those up to a number go
+abbrev pub versioned_rows : (List ℕ → List ℕ) → List ℕ → List ℕ → Version → Option ℕ → Tables → Tables
+versioned_rows key_of org ws v outgoing t = left_rows outgoing org ws (added_rows key_of org ws v (numbered_rows org ws v t))
+
+-- A version can come: its workspace is there, none has its number, and each page of its text has a twin number that SQL has.
+pub record TakesVersion (key_of : List ℕ → List ℕ) (org ws : List ℕ) (v : Version) (t : Tables) : Type 0 where
+  pub there : is_some (workspace_of org ws t) ≡ true
+  pub fresh : size_of org ws v.number t ≡ None
+  pub fits : TwinsFit key_of org ws v.number v.text (pages_for (length v.text)) (row_added org ws v (numbered_rows org ws v t))
 
 -- what comes of a workspace that is there: of one that isn't nothing does
 abbrev pub if_there : Option WorkspaceCells → Tables → Tables → Tables
 if_there None after t = t
 if_there (Some w) after t = after
-
--- a version comes, and those up to a number go
-abbrev pub versioned_rows : List ℕ → List ℕ → Version → Option ℕ → Tables → Tables
-versioned_rows org ws v outgoing t = if_there (workspace_of org ws t) (left_rows outgoing org ws (added_rows org ws v (numbered_rows org ws v t))) t
 
 -- a run comes behind the others: a plan-only run plans at once, and a queued one is pending
 abbrev pub run_put : List ℕ → List ℕ → ℕ → RunAsk → ℕ → Tables → Tables
@@ -56,16 +101,16 @@ abbrev pub freed_rows : Bool → List ℕ → List ℕ → Tables → Tables
 freed_rows frees org ws t = cond frees (ws_changed (held_by Nobody) org ws t) t
 
 -- after an edit
-abbrev pub edited_rows : List ℕ → List ℕ → Edit → Tables → Tables
-edited_rows org ws (Make settings) t = made_rows org ws settings.auto_apply t
-edited_rows org ws (Configure settings) t = ws_changed (with_auto settings.auto_apply) org ws t
-edited_rows org ws Remove t = removed_rows org ws t
-edited_rows org ws (AddVersion version outgoing) t = versioned_rows org ws version outgoing t
-edited_rows org ws Purge t = versions_removed org ws t
-edited_rows org ws (Hold id text) t = ws_changed (held_by (Lock id text)) org ws t
-edited_rows org ws (Release id) t = ws_changed (released_from id) org ws t
-edited_rows org ws (AddRun number ask created) t = run_rows org ws number ask created t
-edited_rows org ws (Report number action status frees) t = freed_rows frees org ws (run_acted status action org ws number t)
+abbrev pub edited_rows : (List ℕ → List ℕ) → List ℕ → List ℕ → Edit → Tables → Tables
+edited_rows key_of org ws (Make settings) t = made_rows org ws settings.auto_apply t
+edited_rows key_of org ws (Configure settings) t = ws_changed (with_auto settings.auto_apply) org ws t
+edited_rows key_of org ws Remove t = removed_rows org ws t
+edited_rows key_of org ws (AddVersion version outgoing) t = versioned_rows key_of org ws version outgoing t
+edited_rows key_of org ws Purge t = all_gone org ws t
+edited_rows key_of org ws (Hold id text) t = ws_changed (held_by (Lock id text)) org ws t
+edited_rows key_of org ws (Release id) t = ws_changed (released_from id) org ws t
+edited_rows key_of org ws (AddRun number ask created) t = run_rows org ws number ask created t
+edited_rows key_of org ws (Report number action status frees) t = freed_rows frees org ws (run_acted status action org ws number t)
 
 -- the run holds, and is planning
 abbrev pub begun_rows : List ℕ → List ℕ → ℕ → Tables → Tables
@@ -77,5 +122,17 @@ started_rows org ws None t = t
 started_rows org ws (Some n) t = begun_rows org ws n t
 
 -- after a change
-abbrev pub changed_rows : List ℕ → List ℕ → Change → Tables → Tables
-changed_rows org ws change t = started_rows org ws change.start (edited_rows org ws change.edit t)
+abbrev pub changed_rows : (List ℕ → List ℕ) → List ℕ → List ℕ → Change → Tables → Tables
+changed_rows key_of org ws change t = started_rows org ws change.start (edited_rows key_of org ws change.edit t)
+
+-- what has to hold of the rows for an edit, where it is done
+abbrev pub TakesEdit : (List ℕ → List ℕ) → List ℕ → List ℕ → Edit → Tables → Type 0
+TakesEdit key_of org ws (AddVersion version outgoing) t = TakesVersion key_of org ws version t
+TakesEdit key_of org ws (Make settings) t = ⊤
+TakesEdit key_of org ws (Configure settings) t = ⊤
+TakesEdit key_of org ws Remove t = ⊤
+TakesEdit key_of org ws Purge t = ⊤
+TakesEdit key_of org ws (Hold id text) t = ⊤
+TakesEdit key_of org ws (Release id) t = ⊤
+TakesEdit key_of org ws (AddRun number ask created) t = ⊤
+TakesEdit key_of org ws (Report number action status frees) t = ⊤

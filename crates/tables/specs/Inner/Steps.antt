@@ -23,9 +23,13 @@ pub record Commits (change : Tables → Tables) (old new : State) : Type 0 where
   pub was_open : IsTrue old.is_open
   pub is_open : IsTrue new.is_open
 
+-- a step that is done tells this of the rows before it
+abbrev pub TellsIn : {X E : Type 0} → (Tables → Type 0) → State → State → Result X E → Type 0
+TellsIn law old new result = HasCleanDisk new → IsTrue old.in_transaction → OnOk result ((t : Tables) → Holds old.now t → law t)
+
 -- a step that is done found a workspace
 abbrev pub FindsIn : {X E : Type 0} → List ℕ → List ℕ → State → State → Result X E → Type 0
-FindsIn org ws old new result = HasCleanDisk new → IsTrue old.in_transaction → OnOk result ((t : Tables) → Holds old.now t → is_some (workspace_of org ws t) ≡ true)
+FindsIn org ws old new result = TellsIn (λ t. is_some (workspace_of org ws t) ≡ true) old new result
 
 -- A step of a transaction: the transaction stays that of the same connection, the rows change by the function, and the disk was clean so far.
 pub record StepsBy {S X E : Type 0} (g : Ghosts S) (change : Tables → Tables) (old new : Transaction S) (result : Result X E) : Type 0 where
@@ -36,6 +40,10 @@ pub record StepsBy {S X E : Type 0} (g : Ghosts S) (change : Tables → Tables) 
 -- one transaction: its change is committed, or nothing is
 abbrev pub TransactsBy : {X E : Type 0} → (Tables → Tables) → State → State → Result X E → Type 0
 TransactsBy change old new result = HasCleanDisk new → OnOk result (Commits change old new) × OnErr result (KeepsCommit old new)
+
+-- a transaction that is done tells this of the rows that were committed before it
+abbrev pub TellsCommitted : {X E : Type 0} → (Tables → Type 0) → State → State → Result X E → Type 0
+TellsCommitted law old new result = HasCleanDisk new → OnOk result ((t : Tables) → Holds old.committed t → law t)
 
 -- ---- an operator's commands: the answer, and the rows after it
 

@@ -1,7 +1,6 @@
 -- What a decision sees of a workspace, from what the queries find.
 use Rattle.std.specs.Prelude.{ℕ, Bool, false, ◌==◌, ◌-◌, cond, List, length, Option, Some, None, is_some, option_map}
 use Rattle.std.specs.Option.{unwrap_or}
-use Rattle.std.specs.Str.{bytes_eq}
 use Rattle.basis.specs.declared.runs.RunStatus.{RunStatus}
 use Rattle.machine.specs.Needs.{Needed}
 use Rattle.machine.specs.Units.{if_needed}
@@ -16,7 +15,8 @@ use Rattle.statements.specs.declared.rows.Holder.TheVariants as cells
 use Rattle.statements.specs.declared.rows.Workspace.{Workspace as WorkspaceCells}
 use Rattle.statements.specs.declared.rows.Run.{Run as RunCells}
 use Rattle.statements.specs.Tables.{Tables}
-use Rattle.statements.specs.Finds.{cap_of, workspace_of, workspaces_of, newest_of, number_back, body_of, version_at_number, first_waiting_of, status_at_number, run_at_number, keyed_run_of, open_runs_of}
+use Rattle.statements.specs.Finds.{cap_of, workspace_of, workspaces_of, newest_of, number_back, size_of, first_waiting_of, status_at_number, run_at_number, keyed_run_of, open_runs_of}
+use Rattle.texts.specs.Texts.{pages_for, text_of, are_pieces}
 use Rattle.tables.specs.Records.{settings_of_cells, holder_of_cells, run_of_cells}
 
 -- the status of the run that holds
@@ -25,15 +25,14 @@ holder_status_in org ws cells.Nobody t = None
 holder_status_in org ws (cells.Lock id text) t = None
 holder_status_in org ws (cells.Run n) t = status_at_number org ws n t
 
--- whether the text that was found is this one
-abbrev pub is_body : List ℕ → Option (List ℕ) → Bool
-is_body text None = false
-is_body text (Some found) = bytes_eq found text
+-- the text of a version, if it has a row
+abbrev pub text_in : List ℕ → List ℕ → ℕ → Tables → Option (List ℕ)
+text_in org ws n t = option_map (λ size. text_of org ws n size t) (size_of org ws n t)
 
 -- whether a version has the text that it is compared with: of a version of another size the text isn't looked up
 abbrev pub has_text : Option (List ℕ) → List ℕ → List ℕ → Head → Tables → Bool
 has_text None org ws head t = false
-has_text (Some text) org ws head t = cond (head.size == length text) (is_body text (body_of org ws head.number t)) false
+has_text (Some text) org ws head t = cond (head.size == length text) (are_pieces org ws head.number text (pages_for (length text)) t) false
 
 abbrev pub newest_by : Option (List ℕ) → List ℕ → List ℕ → Tables → Head → Newest
 newest_by text org ws t head = record { number = head.number; serial = head.serial; lineage = head.lineage; is_same = has_text text org ws head t }
@@ -48,7 +47,7 @@ outgoing_in org ws t = number_back org ws (max_versions - 1) t
 -- whether the version that is asked of has a row
 abbrev pub has_version_in : Option ℕ → List ℕ → List ℕ → Tables → Bool
 has_version_in None org ws t = false
-has_version_in (Some n) org ws t = is_some (version_at_number org ws n t)
+has_version_in (Some n) org ws t = is_some (size_of org ws n t)
 
 -- the row of the run that has a key, if a key is given
 abbrev pub keyed_cells_in : Option (List ℕ) → List ℕ → List ℕ → Tables → Option RunCells
