@@ -2,10 +2,9 @@
 ghost use Rattle.std.specs.Prelude.{◌≡◌, false, option_map, IsTrue, OnOk, ◌^◌, ◌<◌};
 ghost use Rattle.sqlite.specs.Held.{state};
 ghost use Rattle.sqlite.specs.State.{HasCleanDisk};
-ghost use Rattle.statements.specs.Finds.{body_of};
 ghost use Rattle.machine.specs.Needs.{needed_of};
 ghost use Rattle.tables.specs.Records.{caller_of_role, caller_by};
-ghost use Rattle.tables.specs.Inner.Units.{unit_in};
+ghost use Rattle.tables.specs.Inner.Units.{text_in, unit_in};
 ghost use Rattle.statements.specs.Listings.{OrgsApart, WorkspacesApart, VersionsRise, RunsRise};
 ghost use Rattle.tables.specs.Inner.Looks.{LooksBy, Sees};
 ghost use Rattle.tables.specs.Inner.Lists.{LooksWhere, versions_listed_in, runs_listed_in, workspaces_listed_in, organizations_listed_in};
@@ -164,6 +163,7 @@ pub(crate) fn unit<S: Alter>(
 /// The text of a version, if it is kept.
 pub(crate) fn text<S: Alter>(
     conn: &mut Connection<S>,
+    alloc: Global,
     org: &str,
     ws: &str,
     number: Number,
@@ -171,11 +171,11 @@ pub(crate) fn text<S: Alter>(
     requires idle { conn.old.in_transaction ≡ false }
     ensures idle { conn.new.in_transaction ≡ false }
     ensures so_far { HasCleanDisk (state S.Store conn.new) → HasCleanDisk (state S.Store conn.old) }
-    ensures looks { LooksBy (body_of org.now ws.now number) (state S.Store conn.old) (state S.Store conn.new) result }
+    ensures looks { LooksBy (text_in org.now ws.now number) (state S.Store conn.old) (state S.Store conn.new) result }
 {
     let number = number.get() as u64;
     assert_settled(conn);
-    looks::body(conn, org, ws, number)
+    looks::text(conn, alloc, org, ws, number)
 }
 
 /// The workspaces of an organization that come after a name. All come after the empty one.

@@ -1,12 +1,13 @@
 //! What is asked of the tables outside a transaction, by queries of one row each.
-ghost use Rattle.std.specs.Prelude.{◌≡◌, false, cond, is_some, option_map, option_copied, IsTrue, IfOk, OnOk, ◌^◌, ◌<◌, unwrap_or};
+ghost use Rattle.std.specs.Prelude.{◌≡◌, length, false, cond, is_some, option_map, option_copied, IsTrue, IfOk, OnOk, ◌^◌, ◌<◌, unwrap_or};
 ghost use Rattle.sqlite.specs.Held.{state};
 ghost use Rattle.sqlite.specs.State.{HasCleanDisk};
-ghost use Rattle.statements.specs.Finds.{body_of, version_at_number, status_at_number, run_at_number, workspaces_of, first_waiting_of, open_runs_of};
+ghost use Rattle.statements.specs.Finds.{size_of, status_at_number, run_at_number, workspaces_of, first_waiting_of, open_runs_of};
 ghost use Rattle.machine.specs.Needs.{needed_of};
 ghost use Rattle.machine.specs.Units.{if_needed};
+ghost use Rattle.texts.specs.Texts.{pages_for, are_pieces};
 ghost use Rattle.tables.specs.Records.{settings_of_cells, holder_of_cells, run_of_cells};
-ghost use Rattle.tables.specs.Inner.Units.{holder_status_in, is_body, has_text, newest_by, newest_in, outgoing_in, has_version_in, keyed_cells_in, asked_cells_in, unit_in};
+ghost use Rattle.tables.specs.Inner.Units.{holder_status_in, text_in, has_text, newest_by, newest_in, outgoing_in, has_version_in, keyed_cells_in, asked_cells_in, unit_in};
 ghost use Rattle.tables.specs.Inner.Looks.{Sees, absent_in, runs_in, around_in, unit_from, present_in};
 
 use basis::{Bytes, Limit, LockId, Moment, Number, RunStatus, Settings, Text};
@@ -38,19 +39,23 @@ struct Surroundings {
 }
 
 /// The text of a version, if it is kept.
-pub(crate) fn body<S: Alter>(
+pub(crate) fn text<S: Alter>(
     conn: &mut Connection<S>,
+    alloc: Global,
     org: &str,
     ws: &str,
     number: u64,
 ) -> Result<Option<Bytes>, Error>
-    ensures looks { Sees (body_of org.now ws.now number) (state S.Store conn.old) (state S.Store conn.new) result }
+    ensures looks { Sees (text_in org.now ws.now number) (state S.Store conn.old) (state S.Store conn.new) result }
     ensures is_open { HasCleanDisk (state S.Store conn.new) → OnOk result (IsTrue (state S.Store conn.new).is_open) }
 {
     if number > i64::MAX as u64 {
         return Err(Error::IntegralValueOutOfRange(0));
     }
-    versions::body(conn, org, ws, number)
+    match versions::size(conn, org, ws, number)? {
+        None => Ok(None),
+        Some(size) => Ok(Some(texts::text(alloc, conn, org, ws, number, size)?)),
+    }
 }
 
 /// The status of a run.
@@ -101,7 +106,7 @@ fn holder_status_if<S: Alter>(
     }
 }
 
-/// Whether the text of a version is this one, byte for byte.
+/// Whether the text of a version, which has the size of this one, is this one, byte for byte.
 fn is_text<S: Alter>(
     conn: &mut Connection<S>,
     org: &str,
@@ -109,12 +114,12 @@ fn is_text<S: Alter>(
     number: u64,
     text: &Bytes,
 ) -> Result<bool, Error>
-    ensures looks { Sees (λ t. is_body text.now (body_of org.now ws.now number t)) (state S.Store conn.old) (state S.Store conn.new) result }
+    ensures looks { Sees (are_pieces org.now ws.now number text.now (pages_for (length text.now))) (state S.Store conn.old) (state S.Store conn.new) result }
 {
-    match body(conn, org, ws, number)? {
-        None => Ok(false),
-        Some(found) => Ok(found.as_slice() == text.as_slice()),
+    if number > i64::MAX as u64 {
+        return Err(Error::IntegralValueOutOfRange(0));
     }
+    texts::same_text(conn, org, ws, number, text.as_slice())
 }
 
 /// Whether a version has the text that it is compared with. Of one of another size the text isn't looked up.
@@ -350,11 +355,11 @@ fn is_kept<S: Alter>(
     ws: &str,
     number: Number,
 ) -> Result<bool, Error>
-    ensures looks { Sees (λ t. is_some (version_at_number org.now ws.now number t)) (state S.Store conn.old) (state S.Store conn.new) result }
+    ensures looks { Sees (λ t. is_some (size_of org.now ws.now number t)) (state S.Store conn.old) (state S.Store conn.new) result }
 {
     let number = number.get() as u64;
-    let found = versions::find(conn, org, ws, number)?;
-    Ok(found.is_some())
+    let size = versions::size(conn, org, ws, number)?;
+    Ok(size.is_some())
 }
 
 /// Whether the version that is asked of is kept, if one is asked of.

@@ -1,20 +1,96 @@
 //! What a change of a workspace does to the tables, inside one transaction.
-ghost use Rattle.std.specs.Prelude.{◌≡◌, ◌+◌, ◌<◌, ◌^◌, cond, option_map};
+ghost use Rattle.std.specs.Prelude.{◌≡◌, ◌+◌, ◌<◌, ◌^◌, cond, option_map, None};
 ghost use Rattle.sqlite.specs.Held.{state};
-ghost use Rattle.statements.specs.Changes.{versions_removed_below, run_acted};
-ghost use Rattle.tables.specs.Inner.Edits.{removed_rows, made_rows, numbered_rows, added_rows, versioned_rows, run_put, run_counted, run_rows, freed_rows, edited_rows, begun_rows, changed_rows};
-ghost use Rattle.tables.specs.Inner.Steps.{FindsIn, StepsBy};
+ghost use Rattle.statements.specs.Changes.{run_acted};
+ghost use Rattle.statements.specs.Finds.{size_of};
+ghost use Rattle.tables.specs.Inner.Edits.{version_gone, oldest_gone, gone_below, all_gone, removed_rows, made_rows, numbered_rows, row_added, added_rows, versioned_rows, run_put, run_counted, run_rows, freed_rows, edited_rows, begun_rows, changed_rows, FitsTwins, TakesVersion, TakesEdit};
+ghost use Rattle.tables.specs.Inner.Steps.{TellsIn, FindsIn, FindsOldest, StepsBy};
 
+use basis::numbers::MAX_NUMBER;
 use basis::{Moment, Number, RunAction, RunAsk, RunStatus, Text};
-use machine::{Change, Edit, Version};
+use machine::{Change, Edit, MAX_VERSIONS, Version};
+use pages::PageKey;
 use sqlite::{Alter, Error, Transaction};
+use statements::rows::Head;
 use statements::{runs, versions, workspaces};
+
+/// The most versions that go at once: a workspace keeps so many, and one more has come before others go.
+const MOST_GONE: usize = MAX_VERSIONS + 1;
+
+/// No version has this number or a greater one.
+const BEYOND: u64 = MAX_NUMBER as u64 + 1;
+
+/// Removes a version with its text.
+fn remove_version<S: Alter>(
+    tx: &mut Transaction<'_, S>,
+    org: &str,
+    ws: &str,
+    head: &Head,
+) -> Result<(), Error>
+    ensures { StepsBy S.Store (version_gone org.now ws.now head.now) tx.old tx.new result }
+{
+    let number = head.number;
+    let size = head.size;
+    if number > i64::MAX as u64 || size > i64::MAX as u64 {
+        return Err(Error::IntegralValueOutOfRange(0));
+    }
+    versions::remove(tx, org, ws, number)?;
+    texts::remove_text(tx, org, ws, number, size)
+}
+
+/// Of the versions with numbers below this one, that which was added first goes. It tells whether there was one.
+fn remove_oldest<S: Alter>(
+    tx: &mut Transaction<'_, S>,
+    org: &str,
+    ws: &str,
+    below: u64,
+) -> Result<bool, Error>
+    requires below_fits { below < 2 ^ 63 }
+    ensures steps { StepsBy S.Store (oldest_gone org.now ws.now below) tx.old tx.new result }
+    ensures found { FindsOldest org.now ws.now below (state S.Store tx.old.conn.now) (state S.Store tx.new.conn.now) result }
+{
+    match versions::oldest_below(tx, org, ws, below)? {
+        None => Ok(false),
+        Some(head) => {
+            remove_version(tx, org, ws, &head)?;
+            Ok(true)
+        }
+    }
+}
+
+/// The versions with numbers below this one go, one after the other.
+fn remove_below<S: Alter>(
+    tx: &mut Transaction<'_, S>,
+    org: &str,
+    ws: &str,
+    below: u64,
+) -> Result<(), Error>
+    requires below_fits { below < 2 ^ 63 }
+    ensures { StepsBy S.Store (gone_below org.now ws.now below) tx.old tx.new result }
+{
+    if !remove_oldest(tx, org, ws, below)? {
+        return Ok(());
+    }
+    for _ in 1..MOST_GONE {
+        if !remove_oldest(tx, org, ws, below)? {
+            return Ok(());
+        }
+    }
+    Ok(())
+}
+
+/// The versions of a workspace go, with their texts.
+fn purge<S: Alter>(tx: &mut Transaction<'_, S>, org: &str, ws: &str) -> Result<(), Error>
+    ensures { StepsBy S.Store (all_gone org.now ws.now) tx.old tx.new result }
+{
+    remove_below(tx, org, ws, BEYOND)
+}
 
 /// Removes a workspace with its versions and runs.
 fn remove<S: Alter>(tx: &mut Transaction<'_, S>, org: &str, ws: &str) -> Result<(), Error>
     ensures { StepsBy S.Store (removed_rows org.now ws.now) tx.old tx.new result }
 {
-    versions::remove_all(tx, org, ws)?;
+    purge(tx, org, ws)?;
     runs::remove_all(tx, org, ws)?;
     workspaces::remove(tx, org, ws)
 }
@@ -27,14 +103,31 @@ fn make<S: Alter>(tx: &mut Transaction<'_, S>, org: &str, ws: &str, auto: bool) 
     workspaces::add(tx, org, ws, auto)
 }
 
-/// Adds a version behind the others.
-fn add<S: Alter>(
+/// No version has this number yet, or nothing comes.
+fn assert_new<S: Alter>(
+    tx: &mut Transaction<'_, S>,
+    org: &str,
+    ws: &str,
+    number: Number,
+) -> Result<(), Error>
+    ensures steps { StepsBy S.Store (λ t. t) tx.old tx.new result }
+    ensures fresh { TellsIn (λ t. size_of org.now ws.now number t ≡ None) (state S.Store tx.old.conn.now) (state S.Store tx.new.conn.now) result }
+{
+    let number = number.get() as u64;
+    match versions::size_inside(tx, org, ws, number)? {
+        None => Ok(()),
+        Some(_) => Err(Error::InvalidQuery),
+    }
+}
+
+/// Adds the row of a version behind the others.
+fn add_row<S: Alter>(
     tx: &mut Transaction<'_, S>,
     org: &str,
     ws: &str,
     version: &Version,
 ) -> Result<(), Error>
-    ensures { StepsBy S.Store (added_rows org.now ws.now version.now) tx.old tx.new result }
+    ensures { StepsBy S.Store (row_added org.now ws.now version.now) tx.old tx.new result }
 {
     let serial = version.serial;
     if serial > i64::MAX as u64 {
@@ -43,8 +136,24 @@ fn add<S: Alter>(
     let number = version.number.get() as u64;
     let lineage = version.lineage.as_str();
     let created = version.created.seconds();
+    let size = version.text.as_slice().len() as u64;
+    versions::add(tx, org, ws, number, serial, lineage, created, size)
+}
+
+/// Adds a version behind the others, with its text.
+fn add<K: PageKey, S: Alter>(
+    tx: &mut Transaction<'_, S>,
+    org: &str,
+    ws: &str,
+    version: &Version,
+) -> Result<(), Error>
+    ensures steps { StepsBy S.Store (added_rows K.key_of org.now ws.now version.now) tx.old tx.new result }
+    ensures fits { TellsIn (FitsTwins K.key_of org.now ws.now version.now) (state S.Store tx.old.conn.now) (state S.Store tx.new.conn.now) result }
+{
+    let number = version.number.get() as u64;
     let text = version.text.as_slice();
-    versions::add(tx, org, ws, number, serial, lineage, created, text)
+    add_row(tx, org, ws, version)?;
+    texts::add_text::<K, S>(tx, org, ws, number, text)
 }
 
 /// The next version has the number behind this one's. There is a workspace for it, or nothing comes.
@@ -71,24 +180,26 @@ fn forget<S: Alter>(
     ws: &str,
     last: Number,
 ) -> Result<(), Error>
-    ensures { StepsBy S.Store (versions_removed_below org.now ws.now (last + 1)) tx.old tx.new result }
+    ensures { StepsBy S.Store (gone_below org.now ws.now (last + 1)) tx.old tx.new result }
 {
     let last = last.get() as u64;
-    versions::remove_below(tx, org, ws, last + 1)
+    remove_below(tx, org, ws, last + 1)
 }
 
 /// Puts a version behind the others, and lets those with numbers up to `outgoing` go.
-fn put<S: Alter>(
+fn put<K: PageKey, S: Alter>(
     tx: &mut Transaction<'_, S>,
     org: &str,
     ws: &str,
     version: &Version,
     outgoing: Option<Number>,
 ) -> Result<(), Error>
-    ensures { StepsBy S.Store (versioned_rows org.now ws.now version.now outgoing) tx.old tx.new result }
+    ensures steps { StepsBy S.Store (versioned_rows K.key_of org.now ws.now version.now outgoing) tx.old tx.new result }
+    ensures takes { TellsIn (TakesVersion K.key_of org.now ws.now version.now) (state S.Store tx.old.conn.now) (state S.Store tx.new.conn.now) result }
 {
     count_on(tx, org, ws, version)?;
-    add(tx, org, ws, version)?;
+    assert_new(tx, org, ws, version.number)?;
+    add::<K, S>(tx, org, ws, version)?;
     match outgoing {
         None => Ok(()),
         Some(last) => forget(tx, org, ws, last),
@@ -212,20 +323,21 @@ fn report<S: Alter>(
 }
 
 /// Edits a workspace.
-fn edit<S: Alter>(
+fn edit<K: PageKey, S: Alter>(
     tx: &mut Transaction<'_, S>,
     org: &str,
     ws: &str,
     edit: &Edit,
 ) -> Result<(), Error>
-    ensures { StepsBy S.Store (edited_rows org.now ws.now edit.now) tx.old tx.new result }
+    ensures steps { StepsBy S.Store (edited_rows K.key_of org.now ws.now edit.now) tx.old tx.new result }
+    ensures takes { TellsIn (TakesEdit K.key_of org.now ws.now edit.now) (state S.Store tx.old.conn.now) (state S.Store tx.new.conn.now) result }
 {
     match edit {
         Edit::Make(settings) => make(tx, org, ws, settings.auto_apply),
         Edit::Configure(settings) => workspaces::set_auto(tx, org, ws, settings.auto_apply),
         Edit::Remove => remove(tx, org, ws),
-        Edit::AddVersion { version, outgoing } => put(tx, org, ws, version, *outgoing),
-        Edit::Purge => versions::remove_all(tx, org, ws),
+        Edit::AddVersion { version, outgoing } => put::<K, S>(tx, org, ws, version, *outgoing),
+        Edit::Purge => purge(tx, org, ws),
         Edit::Hold { id, text } => {
             workspaces::hold_by_lock(tx, org, ws, id.as_str(), text.as_slice())
         }
@@ -259,15 +371,16 @@ fn start<S: Alter>(
 }
 
 /// Changes a workspace.
-pub(crate) fn change<S: Alter>(
+pub(crate) fn change<K: PageKey, S: Alter>(
     tx: &mut Transaction<'_, S>,
     org: &str,
     ws: &str,
     change: &Change,
 ) -> Result<(), Error>
-    ensures { StepsBy S.Store (changed_rows org.now ws.now change.now) tx.old tx.new result }
+    ensures steps { StepsBy S.Store (changed_rows K.key_of org.now ws.now change.now) tx.old tx.new result }
+    ensures takes { TellsIn (TakesEdit K.key_of org.now ws.now change.now.edit) (state S.Store tx.old.conn.now) (state S.Store tx.new.conn.now) result }
 {
-    edit(tx, org, ws, &change.edit)?;
+    edit::<K, S>(tx, org, ws, &change.edit)?;
     match change.start {
         None => Ok(()),
         Some(number) => start(tx, org, ws, number),

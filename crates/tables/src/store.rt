@@ -18,29 +18,33 @@ use basis::{
     Bytes, Caller, Down, Limit, Listing, Number, OrgName, Role, RunRow, VersionRow, WsName, WsRow,
 };
 use machine::{Act, AdminAnswer, Change, Keep, Unit};
+use pages::PageKey;
 use sqlite::{Alter, Connection, MemStore};
 use std::alloc::Global;
+use std::marker::PhantomData;
 use std::snapshot::Snapshot;
 
-/// The store of all organizations in tables of a database.
+/// The store of all organizations in tables of a database. `K` says by which keys it names the pages of texts.
 #[derive(Drop)]
-pub struct SqlKeep<S: Alter> {
+pub struct SqlKeep<S: Alter, K: PageKey> {
     conn: Connection<S>,
     // The connection when its rows were seen last. A store that a fault of the disk has shut stands for those.
     seen: Snapshot<Connection<S>>,
+    // what names the pages of texts
+    key: PhantomData<K>,
     ghost idle: { conn.in_transaction ≡ false },
 }
 
-impl SqlKeep<MemStore> {
+impl<K: PageKey> SqlKeep<MemStore, K> {
     /// What is promised of a store in memory always holds.
     pub fn is_always_clean(&self)
-        ensures { ⟦<SqlKeep<MemStore> as Keep>⟧.clean self.now }
+        ensures { ⟦<SqlKeep<MemStore, K> as Keep>⟧.clean self.now }
     {}
 
     /// The store with no organization, in memory.
-    pub fn in_memory(alloc: Global) -> Result<SqlKeep<MemStore>, Down>
-        ensures empty { IfOk result (λ keep. (o : List ℕ) → ⟦<SqlKeep<MemStore> as Keep>⟧.rows keep o ≡ None) }
-        ensures sound { IfOk result (λ keep. ⟦<SqlKeep<MemStore> as Keep>⟧.sound keep) }
+    pub fn in_memory(alloc: Global) -> Result<SqlKeep<MemStore, K>, Down>
+        ensures empty { IfOk result (λ keep. (o : List ℕ) → ⟦<SqlKeep<MemStore, K> as Keep>⟧.rows keep o ≡ None) }
+        ensures sound { IfOk result (λ keep. ⟦<SqlKeep<MemStore, K> as Keep>⟧.sound keep) }
     {
         let conn = Connection::open_in_memory(alloc)?;
         match SqlKeep::open(conn) {
@@ -57,27 +61,27 @@ pub struct Unopened<S: Alter> {
     pub conn: Connection<S>,
 }
 
-impl<S: Alter> SqlKeep<S> {
+impl<S: Alter, K: PageKey> SqlKeep<S, K> {
     /// Opens a database. One that has none of the tables gets them all, in one transaction; each
     /// table of others that it holds stays as it is. One that has them stays as it is; one of an
     /// earlier version, of which there is none yet, is taken to the newest, a step at a time.
-    pub fn open(mut conn: Connection<S>) -> Result<SqlKeep<S>, Unopened<S>>
+    pub fn open(mut conn: Connection<S>) -> Result<SqlKeep<S, K>, Unopened<S>>
         requires idle { conn.in_transaction ≡ false }
-        ensures so_far { IfOk result (λ keep. ⟦<SqlKeep<S> as Keep>⟧.clean keep → HasCleanDisk (state S.Store conn)) }
-        ensures fresh { IfOk result (λ keep. ⟦<SqlKeep<S> as Keep>⟧.clean keep → any_there (state S.Store conn).now.schema ≡ false
-            → ⟦<SqlKeep<S> as Keep>⟧.sound keep × ((o : List ℕ) → ⟦<SqlKeep<S> as Keep>⟧.rows keep o ≡ None)) }
-        ensures others { IfOk result (λ keep. ⟦<SqlKeep<S> as Keep>⟧.clean keep → any_there (state S.Store conn).now.schema ≡ false
+        ensures so_far { IfOk result (λ keep. ⟦<SqlKeep<S, K> as Keep>⟧.clean keep → HasCleanDisk (state S.Store conn)) }
+        ensures fresh { IfOk result (λ keep. ⟦<SqlKeep<S, K> as Keep>⟧.clean keep → any_there (state S.Store conn).now.schema ≡ false
+            → ⟦<SqlKeep<S, K> as Keep>⟧.sound keep × ((o : List ℕ) → ⟦<SqlKeep<S, K> as Keep>⟧.rows keep o ≡ None)) }
+        ensures others { IfOk result (λ keep. ⟦<SqlKeep<S, K> as Keep>⟧.clean keep → any_there (state S.Store conn).now.schema ≡ false
             → KeepsTables (state S.Store conn).now (state S.Store keep.conn).committed) }
-        ensures held { IfOk result (λ keep. ⟦<SqlKeep<S> as Keep>⟧.clean keep → any_there (state S.Store conn).now.schema ≡ true
-            → (IsSoundStore (state S.Store conn).now → ⟦<SqlKeep<S> as Keep>⟧.sound keep) × ((o : List ℕ) → ⟦<SqlKeep<S> as Keep>⟧.rows keep o ≡ records_of (state S.Store conn).now o)) }
-        ensures stays { IfOk result (λ keep. ⟦<SqlKeep<S> as Keep>⟧.clean keep → any_there (state S.Store conn).now.schema ≡ true
+        ensures held { IfOk result (λ keep. ⟦<SqlKeep<S, K> as Keep>⟧.clean keep → any_there (state S.Store conn).now.schema ≡ true
+            → (IsSoundStore (state S.Store conn).now → ⟦<SqlKeep<S, K> as Keep>⟧.sound keep) × ((o : List ℕ) → ⟦<SqlKeep<S, K> as Keep>⟧.rows keep o ≡ records_of (state S.Store conn).now o)) }
+        ensures stays { IfOk result (λ keep. ⟦<SqlKeep<S, K> as Keep>⟧.clean keep → any_there (state S.Store conn).now.schema ≡ true
             → (state S.Store keep.conn).committed ≡ (state S.Store conn).now) }
-        ensures version { IfOk result (λ keep. ⟦<SqlKeep<S> as Keep>⟧.clean keep → any_there (state S.Store conn).now.schema ≡ true
+        ensures version { IfOk result (λ keep. ⟦<SqlKeep<S, K> as Keep>⟧.clean keep → any_there (state S.Store conn).now.schema ≡ true
             → (t : Tables) → Holds (state S.Store conn).now t → version_in t ≡ Some 1) }
-        ensures tells { IfOk result (λ keep. ⟦<SqlKeep<S> as Keep>⟧.clean keep → any_there (state S.Store conn).now.schema ≡ true
+        ensures tells { IfOk result (λ keep. ⟦<SqlKeep<S, K> as Keep>⟧.clean keep → any_there (state S.Store conn).now.schema ≡ true
             → (table : Table) (metas : List (Kept ℕ)) → HasMeta (state S.Store conn).now table metas → told_version metas ≡ Some 1) }
-        ensures climbed { IfOk result (λ keep. ⟦<SqlKeep<S> as Keep>⟧.clean keep → (n : ℕ) → HoldsVersion n (state S.Store conn).now
-            → ⟦<SqlKeep<S> as Keep>⟧.sound keep × ((o : List ℕ) → ⟦<SqlKeep<S> as Keep>⟧.rows keep o ≡ version_records n (state S.Store conn).now o)) }
+        ensures climbed { IfOk result (λ keep. ⟦<SqlKeep<S, K> as Keep>⟧.clean keep → (n : ℕ) → HoldsVersion n (state S.Store conn).now
+            → ⟦<SqlKeep<S, K> as Keep>⟧.sound keep × ((o : List ℕ) → ⟦<SqlKeep<S, K> as Keep>⟧.rows keep o ≡ version_records n (state S.Store conn).now o)) }
         ensures back { IfErr result (λ unopened. HasCleanDisk (state S.Store unopened.conn) → KeepsCommit (state S.Store conn) (state S.Store unopened.conn)) }
         ensures other { IfErr result (λ unopened. HasCleanDisk (state S.Store unopened.conn) → unopened.fault ≡ Fault.Schema
             → (any_there (state S.Store conn).now.schema ≡ true) × IsOther (state S.Store conn)) }
@@ -91,7 +95,11 @@ impl<S: Alter> SqlKeep<S> {
         match ready(&mut conn) {
             Ok(()) => {
                 let seen = Snapshot::of(&conn);
-                Ok(SqlKeep { conn, seen })
+                Ok(SqlKeep {
+                    conn,
+                    seen,
+                    key: PhantomData,
+                })
             }
             Err(fault) => Err(Unopened { fault, conn }),
         }
@@ -100,11 +108,15 @@ impl<S: Alter> SqlKeep<S> {
     /// Gives the connection back.
     pub fn close(self) -> Connection<S>
         ensures same { result ≡ self.conn }
-        ensures rows { ⟦<SqlKeep<S> as Keep>⟧.sound self → IsTrue (state S.Store result).is_open
-            → (o : List ℕ) → records_of (state S.Store result).committed o ≡ ⟦<SqlKeep<S> as Keep>⟧.rows self o }
+        ensures rows { ⟦<SqlKeep<S, K> as Keep>⟧.sound self → IsTrue (state S.Store result).is_open
+            → (o : List ℕ) → records_of (state S.Store result).committed o ≡ ⟦<SqlKeep<S, K> as Keep>⟧.rows self o }
         ensures idle { result.in_transaction ≡ false }
     {
-        let SqlKeep { conn, seen: _ } = self;
+        let SqlKeep {
+            conn,
+            seen: _,
+            key: _,
+        } = self;
         conn
     }
 }
@@ -119,7 +131,7 @@ fn name_after(after: Option<&WsName>) -> &str
     }
 }
 
-impl<S: Alter> Keep for SqlKeep<S> {
+impl<S: Alter, K: PageKey> Keep for SqlKeep<S, K> {
     ghost rows = { λ keep. records_of (state S.Store keep.seen.value).committed };
 
     ghost clean = { λ keep. HasCleanDisk (state S.Store keep.conn) };
@@ -150,12 +162,12 @@ impl<S: Alter> Keep for SqlKeep<S> {
 
     fn text(
         &mut self,
-        _alloc: Global,
+        alloc: Global,
         org: &OrgName,
         ws: &WsName,
         n: Number,
     ) -> Result<Option<Bytes>, Down> {
-        match commands::text(&mut self.conn, org.as_str(), ws.as_str(), n) {
+        match commands::text(&mut self.conn, alloc, org.as_str(), ws.as_str(), n) {
             Ok(text) => Ok(text),
             Err(_) => Err(Down),
         }
@@ -214,7 +226,7 @@ impl<S: Alter> Keep for SqlKeep<S> {
         ws: &WsName,
         change: &Change,
     ) -> Result<(), Down> {
-        match transactions::change(&mut self.conn, org.as_str(), ws.as_str(), change) {
+        match transactions::change::<K, S>(&mut self.conn, org.as_str(), ws.as_str(), change) {
             Ok(()) => {
                 self.seen = Snapshot::of(&self.conn);
                 Ok(())

@@ -3,13 +3,14 @@ ghost use Rattle.std.specs.Prelude.{◌≡◌, true, false, ◌<◌, ◌^◌, On
 ghost use Rattle.sqlite.specs.Held.{state};
 ghost use Rattle.sqlite.specs.State.{HasCleanDisk, KeepsCommit};
 ghost use Rattle.statements.specs.Changes.{org_row_added, org_capped, token_row_added, token_removed};
-ghost use Rattle.tables.specs.Inner.Edits.{changed_rows};
+ghost use Rattle.tables.specs.Inner.Edits.{changed_rows, TakesEdit};
 ghost use Rattle.tables.specs.Inner.Making.{IsMade};
-ghost use Rattle.tables.specs.Inner.Steps.{IsSettled, TransactsBy};
+ghost use Rattle.tables.specs.Inner.Steps.{IsSettled, TransactsBy, TellsCommitted};
 
 use crate::steps;
 use basis::{Limit, Role};
 use machine::Change;
+use pages::PageKey;
 use sqlite::{Alter, Connection, Error, Transaction};
 use statements::making::make_schema;
 use statements::{organizations, tokens};
@@ -47,7 +48,7 @@ pub(crate) fn make<S: Alter>(conn: &mut Connection<S>) -> Result<(), Error>
 }
 
 /// Changes a workspace.
-pub(crate) fn change<S: Alter>(
+pub(crate) fn change<K: PageKey, S: Alter>(
     conn: &mut Connection<S>,
     org: &str,
     ws: &str,
@@ -56,10 +57,11 @@ pub(crate) fn change<S: Alter>(
     requires idle { conn.old.in_transaction ≡ false }
     ensures idle { conn.new.in_transaction ≡ false }
     ensures so_far { HasCleanDisk (state S.Store conn.new) → HasCleanDisk (state S.Store conn.old) }
-    ensures done { TransactsBy (changed_rows org.now ws.now change.now) (state S.Store conn.old) (state S.Store conn.new) result }
+    ensures done { TransactsBy (changed_rows K.key_of org.now ws.now change.now) (state S.Store conn.old) (state S.Store conn.new) result }
+    ensures takes { TellsCommitted (TakesEdit K.key_of org.now ws.now change.now.edit) (state S.Store conn.old) (state S.Store conn.new) result }
 {
     let mut tx = begin(conn);
-    steps::change(&mut tx, org, ws, change)?;
+    steps::change::<K, S>(&mut tx, org, ws, change)?;
     tx.commit()
 }
 

@@ -1,0 +1,6 @@
+pub mod AddedLaws
+pub mod PieceLaws
+pub mod PieceLists
+pub mod PlaceLaws
+pub mod RemovedLaws
+pub mod TextLaws

@@ -3,4 +3,4 @@
 
 mod texts;
 
-pub use texts::PAGE_BYTES;
+pub use texts::{PAGE_BYTES, add_text, remove_text, same_text, text};

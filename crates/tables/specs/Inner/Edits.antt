@@ -75,11 +75,15 @@ left_rows (Some last) org ws t = gone_below org ws (last + 1) t
 abbrev pub versioned_rows : (List ℕ → List ℕ) → List ℕ → List ℕ → Version → Option ℕ → Tables → Tables
 versioned_rows key_of org ws v outgoing t = left_rows outgoing org ws (added_rows key_of org ws v (numbered_rows org ws v t))
 
+-- each page of the text of a new version gets a twin number that SQL has
+abbrev pub FitsTwins : (List ℕ → List ℕ) → List ℕ → List ℕ → Version → Tables → Type 0
+FitsTwins key_of org ws v t = TwinsFit key_of org ws v.number v.text (pages_for (length v.text)) (row_added org ws v t)
+
 -- A version can come: its workspace is there, none has its number, and each page of its text has a twin number that SQL has.
 pub record TakesVersion (key_of : List ℕ → List ℕ) (org ws : List ℕ) (v : Version) (t : Tables) : Type 0 where
   pub there : is_some (workspace_of org ws t) ≡ true
   pub fresh : size_of org ws v.number t ≡ None
-  pub fits : TwinsFit key_of org ws v.number v.text (pages_for (length v.text)) (row_added org ws v (numbered_rows org ws v t))
+  pub fits : FitsTwins key_of org ws v (numbered_rows org ws v t)
 
 -- what comes of a workspace that is there: of one that isn't nothing does
 abbrev pub if_there : Option WorkspaceCells → Tables → Tables → Tables

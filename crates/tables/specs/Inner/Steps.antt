@@ -1,5 +1,5 @@
 -- What calls of a store do to the committed rows.
-use Rattle.std.specs.Prelude.{◌≡◌, ℕ, Bool, true, cond, ◌||◌, List, is_some, Option, Some, None, IsTrue, Result, IfOk, OnOk, OnErr}
+use Rattle.std.specs.Prelude.{◌≡◌, ℕ, Bool, true, false, cond, ◌||◌, List, is_some, Option, Some, None, IsTrue, Result, IfOk, OnOk, OnErr}
 use Rattle.sqlite_trees.specs.declared.store.Store.{Ghosts}
 use Rattle.sqlite.specs.Held.{state}
 use Rattle.sqlite.specs.State.{State, HasCleanDisk, KeepsCommit}
@@ -9,7 +9,7 @@ use Rattle.machine.specs.Effects.{Effect, effect}
 use Rattle.machine.specs.declared.keeps.AdminAnswer.{AdminAnswer}
 use Rattle.machine.specs.declared.keeps.AdminAnswer.TheVariants.{Done, Exists, Absent}
 use Rattle.statements.specs.Changes.{org_row_added, org_capped, token_row_added, token_removed}
-use Rattle.statements.specs.Finds.{cap_of, workspace_of, role_of_name, role_of_digest}
+use Rattle.statements.specs.Finds.{cap_of, workspace_of, oldest_below, role_of_name, role_of_digest}
 use Rattle.statements.specs.Steps.{ChangesBy}
 use Rattle.statements.specs.Tables.{Tables, Holds}
 
@@ -30,6 +30,10 @@ TellsIn law old new result = HasCleanDisk new → IsTrue old.in_transaction → 
 -- a step that is done found a workspace
 abbrev pub FindsIn : {X E : Type 0} → List ℕ → List ℕ → State → State → Result X E → Type 0
 FindsIn org ws old new result = TellsIn (λ t. is_some (workspace_of org ws t) ≡ true) old new result
+
+-- a step that is done and tells that there was none found none
+abbrev pub FindsOldest : {E : Type 0} → List ℕ → List ℕ → ℕ → State → State → Result Bool E → Type 0
+FindsOldest org ws below old new result = HasCleanDisk new → IsTrue old.in_transaction → IfOk result (λ found. found ≡ false → (t : Tables) → Holds old.now t → oldest_below org ws below t ≡ None)
 
 -- A step of a transaction: the transaction stays that of the same connection, the rows change by the function, and the disk was clean so far.
 pub record StepsBy {S X E : Type 0} (g : Ghosts S) (change : Tables → Tables) (old new : Transaction S) (result : Result X E) : Type 0 where

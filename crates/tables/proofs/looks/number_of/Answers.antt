@@ -1,0 +1,1 @@
+use Rattle.tables.proofs.TextRows.{AreTexts}
