@@ -1,5 +1,5 @@
 -- What the rows denote after a change of a workspace.
-use Rattle.std.proofs.Common.{◌≡◌, ℕ, ◌+◌, nat_lt, Bool, true, false, cond, List, [], ◌∷◌, ◌++◌, map, filter, Option, Some, None, option_map, refl, sym, ap, subst, ◌∙◌}
+use Rattle.std.proofs.Common.{◌≡◌, ℕ, ◌+◌, nat_lt, Bool, true, false, cond, List, [], ◌∷◌, ◌++◌, map, filter, find, Option, Some, None, option_map, refl, sym, ap, subst, ◌∙◌}
 use Rattle.basis.specs.declared.rows.Settings.{Settings}
 use Rattle.basis.specs.declared.rows.RunAsk.{RunAsk}
 use Rattle.basis.specs.declared.runs.RunStatus.{RunStatus}
@@ -19,15 +19,16 @@ use Rattle.machine.specs.declared.records.Workspace.{Workspace}
 use Rattle.statements.specs.declared.rows.Holder.TheVariants.{Nobody, Lock, Run as HeldByRun}
 use Rattle.statements.specs.declared.rows.Workspace.{Workspace as WorkspaceCells}
 use Rattle.statements.specs.declared.rows.Run.{Run as RunCells}
-use Rattle.statements.specs.Rows.{Version as VersionCells}
+use Rattle.statements.specs.Rows.{Kept, WsRow, RunRow}
 use Rattle.statements.specs.Tables.{Tables}
-use Rattle.statements.specs.Changes.{with_auto, held_by, released_from, with_next_version, with_next_run, ws_changed, ws_added, new_version, versions_removed, run_made as new_run_cells, run_acted}
+use Rattle.statements.specs.Changes.{is_ws, is_run_of, with_auto, held_by, released_from, with_next_version, with_next_run, ws_changed, ws_added, runs_removed, run_made as new_run_cells, run_acted}
 use Rattle.statements.specs.Finds.{workspace_of}
 use Rattle.tables.specs.Records.{run_of_cells, workspace_of_cells, versions_at, runs_at, workspace_by}
-use Rattle.tables.specs.Inner.Edits.{removed_rows, made_rows, numbered_rows, added_rows, left_rows, if_there, versioned_rows, run_put, run_counted, run_rows, freed_rows, edited_rows, started_rows, changed_rows}
-use Rattle.tables.proofs.Lists.{below_gone}
-use Rattle.tables.proofs.Names.{is_pair}
-use Rattle.tables.proofs.Parts.{row_changed, row_unchanged, row_removed, row_left, row_added, row_added_other, versions_pushed, versions_pushed_other, versions_cut, versions_cut_other, versions_gone, versions_gone_other, runs_begun, runs_begun_other, runs_pushed, runs_pushed_other, runs_acted, runs_acted_other, runs_gone, runs_gone_other}
+use Rattle.tables.specs.Inner.Edits.{all_gone, removed_rows, made_rows, numbered_rows, if_there, versioned_rows, run_put, run_counted, run_rows, freed_rows, edited_rows, started_rows, changed_rows, TakesVersion, TakesEdit}
+use Rattle.tables.specs.Sound.{IsSound}
+use Rattle.tables.proofs.TextRows.{Becomes, versions_carried}
+use Rattle.tables.proofs.VersionEdits.{all_go, versions_come}
+use Rattle.tables.proofs.Parts.{row_changed, row_unchanged, row_removed, row_left, row_added, row_added_other, runs_begun, runs_begun_other, runs_pushed, runs_pushed_other, runs_acted, runs_acted_other, runs_gone, runs_gone_other}
 use Rattle.tables.proofs.Sets.{Puts, puts_then, same_parts}
 
 -- ---- the parts of a workspace that is changed
@@ -61,8 +62,8 @@ module _ (org ws : List ℕ) (t : Tables) where
   row_puts g f same = record {
     orgs = refl;
     tokens = refl;
-    own = same_parts _ _ _ _ _ _ (row_changed org ws g t) refl refl ∙ changed_row g f (versions_at t org ws) (versions_at t org ws) (runs_at t org ws) (runs_at t org ws) (λ c. same c (versions_at t org ws) (runs_at t org ws)) (workspace_of org ws t);
-    others = λ a b other. same_parts _ _ _ _ _ _ (row_unchanged org ws g t a b other) refl refl;
+    own = same_parts _ _ _ _ _ _ (row_changed org ws g t) (versions_carried t (ws_changed g org ws t) refl refl refl org ws) refl ∙ changed_row g f (versions_at t org ws) (versions_at t org ws) (runs_at t org ws) (runs_at t org ws) (λ c. same c (versions_at t org ws) (runs_at t org ws)) (workspace_of org ws t);
+    others = λ a b other. same_parts _ _ _ _ _ _ (row_unchanged org ws g t a b other) (versions_carried t (ws_changed g org ws t) refl refl refl a b) refl;
   }
 
   -- a workspace where there is no row of its name
@@ -70,26 +71,44 @@ module _ (org ws : List ℕ) (t : Tables) where
   added_puts settings none no_version no_run = record {
     orgs = refl;
     tokens = refl;
-    own = same_parts _ _ _ _ _ _ (row_added org ws t settings.auto_apply none) no_version no_run;
-    others = λ a b other. same_parts _ _ _ _ _ _ (row_added_other org ws t settings.auto_apply a b other) refl refl;
+    own = same_parts _ _ _ _ _ _ (row_added org ws t settings.auto_apply none) (versions_carried t (ws_added org ws settings.auto_apply t) refl refl refl org ws ∙ no_version) no_run;
+    others = λ a b other. same_parts _ _ _ _ _ _ (row_added_other org ws t settings.auto_apply a b other) (versions_carried t (ws_added org ws settings.auto_apply t) refl refl refl a b) refl;
   }
 
-  removed_puts : Puts org ws None t (removed_rows org ws t)
-  removed_puts = record {
-    orgs = refl;
-    tokens = refl;
-    own = same_parts _ _ _ _ _ _ (row_removed org ws t) (versions_gone org ws t) (runs_gone org ws t);
-    others = λ a b other. same_parts _ _ _ _ _ _ (row_left org ws t a b other) (versions_gone_other org ws t a b other) (runs_gone_other org ws t a b other);
-  }
+  -- the row and the runs of a workspace stay as its versions go
+  module _ (sound : IsSound t) where
+    abbrev purged_rows : Tables
+    purged_rows = all_gone org ws t
 
-  purge_puts : Puts org ws (option_map purged (workspace_by t org ws)) t (versions_removed org ws t)
-  purge_puts = record {
-    orgs = refl;
-    tokens = refl;
-    own = same_parts _ _ _ _ _ _ (sym (kept_row (workspace_of org ws t))) (versions_gone org ws t) refl
-        ∙ changed_row (λ c. c) purged (versions_at t org ws) [] (runs_at t org ws) (runs_at t org ws) (λ c. refl) (workspace_of org ws t);
-    others = λ a b other. same_parts _ _ _ _ _ _ refl (versions_gone_other org ws t a b other) refl;
-  }
+    gone : Becomes (λ vs. []) org ws t purged_rows
+    gone = all_go org ws t sound
+
+    same_row : (a b : List ℕ) → workspace_of a b purged_rows ≡ workspace_of a b t
+    same_row a b = ap (λ (wss : List (Kept WsRow)). option_map (λ (x : Kept WsRow). x.1.it) (find (is_ws a b) wss)) gone.rest.wss
+
+    same_runs : (a b : List ℕ) → runs_at purged_rows a b ≡ runs_at t a b
+    same_runs a b = ap (λ (rs : List (Kept RunRow)). map (λ (x : Kept RunRow). run_of_cells x.1.it) (filter (is_run_of a b) rs)) gone.rest.runs
+
+    removed_puts : Puts org ws None t (removed_rows org ws t)
+    removed_puts = record {
+      orgs = gone.rest.orgs;
+      tokens = gone.rest.tokens;
+      own = same_parts _ _ _ _ _ _ (row_removed org ws (runs_removed org ws purged_rows)) (versions_carried purged_rows (removed_rows org ws t) refl refl refl org ws ∙ gone.own) (runs_gone org ws purged_rows);
+      others = λ a b other. same_parts _ _ _ _ _ _ (row_left org ws (runs_removed org ws purged_rows) a b other ∙ same_row a b)
+          (versions_carried purged_rows (removed_rows org ws t) refl refl refl a b ∙ gone.others a b other) (runs_gone_other org ws purged_rows a b other ∙ same_runs a b);
+    }
+
+    removed_versions : versions_at (removed_rows org ws t) org ws ≡ []
+    removed_versions = versions_carried purged_rows (removed_rows org ws t) refl refl refl org ws ∙ gone.own
+
+    purge_puts : Puts org ws (option_map purged (workspace_by t org ws)) t purged_rows
+    purge_puts = record {
+      orgs = gone.rest.orgs;
+      tokens = gone.rest.tokens;
+      own = same_parts _ _ _ _ _ _ (same_row org ws ∙ sym (kept_row (workspace_of org ws t))) gone.own (same_runs org ws)
+          ∙ changed_row (λ c. c) purged (versions_at t org ws) [] (runs_at t org ws) (runs_at t org ws) (λ c. refl) (workspace_of org ws t);
+      others = λ a b other. same_parts _ _ _ _ _ _ (same_row a b) (gone.others a b other) (same_runs a b);
+    }
 
   started_puts : (start : Option ℕ) → Puts org ws (option_map (started_if start) (workspace_by t org ws)) t (started_rows org ws start t)
   started_puts None = record { orgs = refl; tokens = refl; own = kept (workspace_by t org ws); others = λ a b other. refl }
@@ -102,9 +121,9 @@ module _ (org ws : List ℕ) (t : Tables) where
       record {
         orgs = refl;
         tokens = refl;
-        own = same_parts _ _ _ _ _ _ (row_changed org ws g t) refl (runs_begun org ws t n)
+        own = same_parts _ _ _ _ _ _ (row_changed org ws g t) (versions_carried t (started_rows org ws (Some n) t) refl refl refl org ws) (runs_begun org ws t n)
             ∙ changed_row (held_by (HeldByRun n)) (started n) (versions_at t org ws) (versions_at t org ws) (runs_at t org ws) (map (begun n) (runs_at t org ws)) (λ c. refl) (workspace_of org ws t);
-        others = λ a b other. same_parts _ _ _ _ _ _ (row_unchanged org ws g t a b other) refl (runs_begun_other org ws t n a b other);
+        others = λ a b other. same_parts _ _ _ _ _ _ (row_unchanged org ws g t a b other) (versions_carried t (started_rows org ws (Some n) t) refl refl refl a b) (runs_begun_other org ws t n a b other);
       }
 
   -- ---- a version more, a run more
@@ -120,45 +139,32 @@ module _ (org ws : List ℕ) (t : Tables) where
   abbrev one_more : Version → Option ℕ → Workspace → Workspace
   one_more v outgoing w = record w { next_version = v.number + 1; versions = left_above outgoing (w.versions ++ v ∷ []) }
 
-  module _ (v : Version) where
-    abbrev new : VersionCells
-    new = new_version v.number v.serial v.lineage v.created v.text
+  module _ (sound : IsSound t) (key_of : List ℕ → List ℕ) (v : Version) (takes : TakesVersion key_of org ws v t) (outgoing : Option ℕ) where
+    abbrev with_number : Tables
+    with_number = numbered_rows org ws v t
 
-    abbrev numbered : Tables
-    numbered = numbered_rows org ws v t
+    abbrev versioned : Tables
+    versioned = versioned_rows key_of org ws v outgoing t
 
-    abbrev added : Tables
-    added = added_rows org ws v numbered
+    come : Becomes (λ vs. left_above outgoing (vs ++ v ∷ [])) org ws with_number versioned
+    come = versions_come org ws t sound key_of v takes outgoing
 
-    added_versions : versions_at added org ws ≡ versions_at t org ws ++ v ∷ []
-    added_versions = versions_pushed org ws numbered new
+    come_row : (a b : List ℕ) → workspace_of a b versioned ≡ workspace_of a b with_number
+    come_row a b = ap (λ (wss : List (Kept WsRow)). option_map (λ (x : Kept WsRow). x.1.it) (find (is_ws a b) wss)) come.rest.wss
 
-    left_versions : (outgoing : Option ℕ) → versions_at (left_rows outgoing org ws added) org ws ≡ left_above outgoing (versions_at t org ws ++ v ∷ [])
-    left_versions None = added_versions
-    left_versions (Some last) = versions_cut org ws added (last + 1) ∙ below_gone last (versions_at added org ws) ∙ ap (filter (λ (u : Version). nat_lt last u.number)) added_versions
+    come_runs : (a b : List ℕ) → runs_at versioned a b ≡ runs_at t a b
+    come_runs a b = ap (λ (rs : List (Kept RunRow)). map (λ (x : Kept RunRow). run_of_cells x.1.it) (filter (is_run_of a b) rs)) come.rest.runs
 
-    left_others : (outgoing : Option ℕ) (a b : List ℕ) → is_pair org ws a b ≡ false → versions_at (left_rows outgoing org ws added) a b ≡ versions_at t a b
-    left_others None a b other = versions_pushed_other org ws numbered new a b other
-    left_others (Some last) a b other = versions_cut_other org ws added (last + 1) a b other ∙ versions_pushed_other org ws numbered new a b other
-
-    version_puts : (outgoing : Option ℕ) → Puts org ws (option_map (one_more v outgoing) (workspace_by t org ws)) t (versioned_rows org ws v outgoing t)
-    version_puts outgoing = there_puts (one_more v outgoing) (left_rows outgoing org ws added) (by_outgoing outgoing)
-      where
-        by_outgoing : (outgoing : Option ℕ) → Puts org ws (option_map (one_more v outgoing) (workspace_by t org ws)) t (left_rows outgoing org ws added)
-        by_outgoing None = record {
-          orgs = refl;
-          tokens = refl;
-          own = same_parts _ _ _ _ _ _ (row_changed org ws (with_next_version (v.number + 1)) t) (left_versions None) refl
-              ∙ changed_row (with_next_version (v.number + 1)) (one_more v None) (versions_at t org ws) (left_above None (versions_at t org ws ++ v ∷ [])) (runs_at t org ws) (runs_at t org ws) (λ c. refl) (workspace_of org ws t);
-          others = λ a b other. same_parts _ _ _ _ _ _ (row_unchanged org ws (with_next_version (v.number + 1)) t a b other) (left_others None a b other) refl;
-        }
-        by_outgoing (Some last) = record {
-          orgs = refl;
-          tokens = refl;
-          own = same_parts _ _ _ _ _ _ (row_changed org ws (with_next_version (v.number + 1)) t) (left_versions (Some last)) refl
-              ∙ changed_row (with_next_version (v.number + 1)) (one_more v (Some last)) (versions_at t org ws) (left_above (Some last) (versions_at t org ws ++ v ∷ [])) (runs_at t org ws) (runs_at t org ws) (λ c. refl) (workspace_of org ws t);
-          others = λ a b other. same_parts _ _ _ _ _ _ (row_unchanged org ws (with_next_version (v.number + 1)) t a b other) (left_others (Some last) a b other) refl;
-        }
+    version_puts : Puts org ws (option_map (one_more v outgoing) (workspace_by t org ws)) t versioned
+    version_puts = record {
+      orgs = come.rest.orgs;
+      tokens = come.rest.tokens;
+      own = same_parts _ _ _ _ _ _ (come_row org ws ∙ row_changed org ws (with_next_version (v.number + 1)) t)
+          (come.own ∙ ap (λ (vs : List Version). left_above outgoing (vs ++ v ∷ [])) (versions_carried t with_number refl refl refl org ws)) (come_runs org ws)
+          ∙ changed_row (with_next_version (v.number + 1)) (one_more v outgoing) (versions_at t org ws) (left_above outgoing (versions_at t org ws ++ v ∷ [])) (runs_at t org ws) (runs_at t org ws) (λ c. refl) (workspace_of org ws t);
+      others = λ a b other. same_parts _ _ _ _ _ _ (come_row a b ∙ row_unchanged org ws (with_next_version (v.number + 1)) t a b other)
+          (come.others a b other ∙ versions_carried t with_number refl refl refl a b) (come_runs a b);
+    }
 
   module _ (number : ℕ) (ask : RunAsk) (created : ℕ) where
     run_puts : Puts org ws (option_map (with_run (new_run number ask created)) (workspace_by t org ws)) t (run_rows org ws number ask created t)
@@ -167,9 +173,9 @@ module _ (org ws : List ℕ) (t : Tables) where
         there_puts (with_run (new_run number ask created)) (run_put org ws number ask created (run_counted org ws number t)) (record {
           orgs = refl;
           tokens = refl;
-          own = same_parts _ _ _ _ _ _ (row_changed org ws (with_next_run (number + 1)) t) refl (runs_pushed org ws t new)
+          own = same_parts _ _ _ _ _ _ (row_changed org ws (with_next_run (number + 1)) t) (versions_carried t (run_put org ws number ask created (run_counted org ws number t)) refl refl refl org ws) (runs_pushed org ws t new)
               ∙ changed_row (with_next_run (number + 1)) (with_run (new_run number ask created)) (versions_at t org ws) (versions_at t org ws) (runs_at t org ws) (runs_at t org ws ++ run_of_cells new ∷ []) (λ c. refl) (workspace_of org ws t);
-          others = λ a b other. same_parts _ _ _ _ _ _ (row_unchanged org ws (with_next_run (number + 1)) t a b other) refl (runs_pushed_other org ws t new a b other);
+          others = λ a b other. same_parts _ _ _ _ _ _ (row_unchanged org ws (with_next_run (number + 1)) t a b other) (versions_carried t (run_put org ws number ask created (run_counted org ws number t)) refl refl refl a b) (runs_pushed_other org ws t new a b other);
         })
 
   module _ (n : ℕ) (action : RunAction) (status : RunStatus) where
@@ -177,39 +183,41 @@ module _ (org ws : List ℕ) (t : Tables) where
     report_puts true = record {
       orgs = refl;
       tokens = refl;
-      own = same_parts _ _ _ _ _ _ (row_changed org ws (held_by Nobody) t) refl (runs_acted org ws t status action n)
+      own = same_parts _ _ _ _ _ _ (row_changed org ws (held_by Nobody) t) (versions_carried t (freed_rows true org ws (run_acted status action org ws n t)) refl refl refl org ws) (runs_acted org ws t status action n)
           ∙ changed_row (held_by Nobody) (after_report n action status true) (versions_at t org ws) (versions_at t org ws) (runs_at t org ws) (map (reported n action status) (runs_at t org ws)) (λ c. refl) (workspace_of org ws t);
-      others = λ a b other. same_parts _ _ _ _ _ _ (row_unchanged org ws (held_by Nobody) t a b other) refl (runs_acted_other org ws t status action n a b other);
+      others = λ a b other. same_parts _ _ _ _ _ _ (row_unchanged org ws (held_by Nobody) t a b other) (versions_carried t (freed_rows true org ws (run_acted status action org ws n t)) refl refl refl a b) (runs_acted_other org ws t status action n a b other);
     }
     report_puts false = record {
       orgs = refl;
       tokens = refl;
-      own = same_parts _ _ _ _ _ _ (sym (kept_row (workspace_of org ws t))) refl (runs_acted org ws t status action n)
+      own = same_parts _ _ _ _ _ _ (sym (kept_row (workspace_of org ws t))) (versions_carried t (run_acted status action org ws n t) refl refl refl org ws) (runs_acted org ws t status action n)
           ∙ changed_row (λ c. c) (after_report n action status false) (versions_at t org ws) (versions_at t org ws) (runs_at t org ws) (map (reported n action status) (runs_at t org ws)) (λ c. refl) (workspace_of org ws t);
-      others = λ a b other. same_parts _ _ _ _ _ _ refl refl (runs_acted_other org ws t status action n a b other);
+      others = λ a b other. same_parts _ _ _ _ _ _ refl (versions_carried t (run_acted status action org ws n t) refl refl refl a b) (runs_acted_other org ws t status action n a b other);
     }
 
-made_puts : (org ws : List ℕ) (t : Tables) (settings : Settings) → Puts org ws (Some (new_workspace settings)) t (made_rows org ws settings.auto_apply t)
-made_puts org ws t settings =
+made_puts : (org ws : List ℕ) (t : Tables) → IsSound t → (settings : Settings) → Puts org ws (Some (new_workspace settings)) t (made_rows org ws settings.auto_apply t)
+made_puts org ws t sound settings =
     let u : Tables = removed_rows org ws t in
-    puts_then org ws t u (made_rows org ws settings.auto_apply t) (removed_puts org ws t) (added_puts org ws u settings (row_removed org ws t) (versions_gone org ws t) (runs_gone org ws t))
+    puts_then org ws t u (made_rows org ws settings.auto_apply t) (removed_puts org ws t sound)
+    (added_puts org ws u settings (row_removed org ws (runs_removed org ws (all_gone org ws t))) (removed_versions org ws t sound) (runs_gone org ws (all_gone org ws t)))
 
-module _ (org ws : List ℕ) (t : Tables) where
+module _ (key_of : List ℕ → List ℕ) (org ws : List ℕ) (t : Tables) (sound : IsSound t) where
   -- ---- an edit
 
-  pub edited_puts : (edit : Edit) → Puts org ws (edited edit (workspace_by t org ws)) t (edited_rows org ws edit t)
-  edited_puts (Make settings) = made_puts org ws t settings
-  edited_puts (Configure settings) = row_puts org ws t (with_auto settings.auto_apply) (λ (w : Workspace). with_settings w settings) (λ c vs rs. refl)
-  edited_puts Remove = removed_puts org ws t
-  edited_puts (AddVersion v outgoing) = version_puts org ws t v outgoing
-  edited_puts Purge = purge_puts org ws t
-  edited_puts (Hold id text) = row_puts org ws t (held_by (Lock id text)) (locked id text) (λ c vs rs. refl)
-  edited_puts (Release id) = row_puts org ws t (released_from id) (released id) (λ c vs rs. refl)
-  edited_puts (AddRun number ask created) = run_puts org ws t number ask created
-  edited_puts (Report number action status frees) = report_puts org ws t number action status frees
+  pub edited_puts : (edit : Edit) → TakesEdit key_of org ws edit t → Puts org ws (edited edit (workspace_by t org ws)) t (edited_rows key_of org ws edit t)
+  edited_puts (Make settings) takes = made_puts org ws t sound settings
+  edited_puts (Configure settings) takes = row_puts org ws t (with_auto settings.auto_apply) (λ (w : Workspace). with_settings w settings) (λ c vs rs. refl)
+  edited_puts Remove takes = removed_puts org ws t sound
+  edited_puts (AddVersion v outgoing) takes = version_puts org ws t sound key_of v takes outgoing
+  edited_puts Purge takes = purge_puts org ws t sound
+  edited_puts (Hold id text) takes = row_puts org ws t (held_by (Lock id text)) (locked id text) (λ c vs rs. refl)
+  edited_puts (Release id) takes = row_puts org ws t (released_from id) (released id) (λ c vs rs. refl)
+  edited_puts (AddRun number ask created) takes = run_puts org ws t number ask created
+  edited_puts (Report number action status frees) takes = report_puts org ws t number action status frees
 
-pub changed_puts : (org ws : List ℕ) (t : Tables) (change : Change) → Puts org ws (changed_by change (workspace_by t org ws)) t (changed_rows org ws change t)
-changed_puts org ws t change =
-    let first : Puts org ws (edited change.edit (workspace_by t org ws)) t (edited_rows org ws change.edit t) = edited_puts org ws t change.edit in
-    let second : Puts org ws (option_map (started_if change.start) (workspace_by (edited_rows org ws change.edit t) org ws)) (edited_rows org ws change.edit t) (changed_rows org ws change t) = started_puts org ws (edited_rows org ws change.edit t) change.start in
-    subst (λ (w : Option Workspace). Puts org ws (option_map (started_if change.start) w) t (changed_rows org ws change t)) first.own (puts_then org ws t (edited_rows org ws change.edit t) (changed_rows org ws change t) first second)
+  pub changed_puts : (change : Change) → TakesEdit key_of org ws change.edit t → Puts org ws (changed_by change (workspace_by t org ws)) t (changed_rows key_of org ws change t)
+  changed_puts change takes =
+      let u : Tables = edited_rows key_of org ws change.edit t in
+      let first : Puts org ws (edited change.edit (workspace_by t org ws)) t u = edited_puts change.edit takes in
+      let second : Puts org ws (option_map (started_if change.start) (workspace_by u org ws)) u (changed_rows key_of org ws change t) = started_puts org ws u change.start in
+      subst (λ (w : Option Workspace). Puts org ws (option_map (started_if change.start) w) t (changed_rows key_of org ws change t)) first.own (puts_then org ws t u (changed_rows key_of org ws change t) first second)

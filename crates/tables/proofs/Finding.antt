@@ -9,7 +9,7 @@ use Rattle.std.proofs.lemmas.List.{length-map, length-reverse, get_or-reverse}
 use Rattle.std.proofs.lemmas.Option.{slice_get-map, slice_get_past, slice_get-get_or}
 use Rattle.machine.proofs.CutLemmas.{last_taken}
 use Rattle.sqlite_keyed.specs.Rules.{AreApart}
-use Rattle.sqlite_keyed.proofs.ListLemmas.{filter_same}
+use Rattle.sqlite_keyed.proofs.ListLemmas.{filter_same, all_both, all-filter}
 use Rattle.sqlite_keyed.proofs.SliceLemmas.{find-slice, filter-slice, any_is_found}
 use Rattle.basis.specs.Runs.{is_open}
 use Rattle.basis.specs.declared.runs.RunStatus.{RunStatus}
@@ -35,16 +35,19 @@ use Rattle.statements.specs.declared.rows.Workspace.{Workspace as WorkspaceCells
 use Rattle.statements.specs.Rows.{Kept, OrgRow, WsRow, VersionRow, RunRow}
 use Rattle.statements.specs.Tables.{Tables}
 use Rattle.statements.specs.Changes.{is_org, is_version_of, is_version, is_run_of, is_run_row, is_ws, is_ws_of}
-use Rattle.statements.specs.Finds.{last_in, counted, head_of, newest_of, body_of, version_at_number, number_back, first_waiting_of, status_at_number, workspace_of, workspaces_of, cap_of}
+use Rattle.statements.specs.Finds.{last_in, counted, head_of, newest_of, size_of, number_back, first_waiting_of, status_at_number, workspace_of, workspaces_of, cap_of}
 use Rattle.statements.specs.Finds as finds
 use Rattle.statements.proofs.Found.{found_passes, found_holds}
-use Rattle.tables.specs.Records.{version_of_cells, run_of_cells, settings_of_cells, holder_of_cells, versions_at, runs_at, workspace_at, workspace_by, workspaces_at, organization_at, record_of}
-use Rattle.tables.specs.Sound.{IsSound}
+use Rattle.tables.specs.Records.{version_at, run_of_cells, settings_of_cells, holder_of_cells, versions_at, runs_at, workspace_at, workspace_by, workspaces_at, organization_at, record_of}
+use Rattle.tables.specs.Sound.{HasText, IsSound}
+use Rattle.texts.specs.Texts.{pages_for, text_of, are_pieces, IsWhole}
+use Rattle.texts.proofs.PieceLaws.{whole_size, same_is}
+use Rattle.tables.proofs.TextRows.{AreTexts, sound_texts, version_row_parts}
 use Rattle.tables.proofs.Names.{same_name, apart_name, pair_first, pair_second}
 use Rattle.tables.proofs.Parts.{none_mapped}
 use Rattle.tables.proofs.Sets.{entry_found, got_workspace, workspace_there, one_of}
 use Rattle.tables.proofs.Lawful.{limit_there}
-use Rattle.tables.specs.Inner.Units.{holder_status_in, is_body, has_text, newest_by, newest_in, outgoing_in, has_version_in, keyed_cells_in, asked_run_in, unit_at, unit_in}
+use Rattle.tables.specs.Inner.Units.{holder_status_in, text_in, has_text, newest_by, newest_in, outgoing_in, has_version_in, keyed_cells_in, asked_run_in, unit_at, unit_in}
 
 -- ---- lists
 
@@ -103,6 +106,19 @@ module _ {X : Type 0} (show : X → Version) where
 other_size : (xs ys : List ℕ) → (length xs == length ys) ≡ false → bytes_eq xs ys ≡ false
 other_size xs ys e = apart_name xs ys (λ same. absurd (let no_one : ⊥ = cc (sym (eq-eqb (length xs) (length ys) (ap length same)) ∙ e) in no_one))
 
+last_holds : {X : Type 0} (P : X → Type 0) (xs : List X) (x : X) → AllByRecursion P xs → last_in xs ≡ Some x → P x
+last_holds P [] x all e = absurd (let none : ⊥ = cc in none)
+last_holds P (y ∷ []) x all e = let same : y ≡ x = cc in subst P same all.0
+last_holds P (y ∷ z ∷ xs) x all e = last_holds P (z ∷ xs) x all.1 e
+
+all_passing : {X : Type 0} (p : X → Bool) (xs : List X) → AllByRecursion (λ x. p x ≡ true) (filter p xs)
+all_passing p [] = tt
+all_passing p (x ∷ xs) = go (p x) refl (all_passing p xs)
+  where
+    go : (b : Bool) → p x ≡ b → AllByRecursion (λ y. p y ≡ true) (filter p xs) → AllByRecursion (λ y. p y ≡ true) (cond b (x ∷ filter p xs) (filter p xs))
+    go true e more = (e, more)
+    go false e more = more
+
 -- no row belongs to one that isn't there
 pub no_orphans : {A B : Type 0} (mine : A → Bool) (parent : A → B → Bool) (ps : List B) → ((x : A) → mine x ≡ true → list_any (parent x) ps ≡ false) → (xs : List A)
     → AllByRecursion (λ x. list_any (parent x) ps ≡ true) xs → filter mine xs ≡ []
@@ -145,9 +161,6 @@ newest_is_last (u ∷ []) v e =
     subst (λ (w : Version). option_or None (cond (u.number == w.number) (Some u) None) ≡ Some w) same (ap (λ (b : Bool). cond b (Some u) None) (eq-eqb u.number u.number refl))
 newest_is_last (u ∷ w ∷ vs) v e = ap (λ (o : Option Version). option_or o (cond (u.number == v.number) (Some u) None)) (newest_is_last (w ∷ vs) v e)
 
-abbrev head_in : Version → Head
-head_in v = record { number = v.number; serial = v.serial; lineage = v.lineage; size = length v.text }
-
 pending_same : (s : RunStatus) → finds.is_pending_of s ≡ is_pending s
 pending_same Pending = refl
 pending_same Planning = refl
@@ -166,15 +179,27 @@ key_same key (Some own) = refl
 -- ---- what each query finds
 
 module _ (t : Tables) (org ws : List ℕ) where
-  pub newest_found : newest_of org ws t ≡ option_map head_in (newest (versions_at t org ws))
-  newest_found = mapped (λ (x : Kept VersionRow). version_of_cells x.1.it) head_in (last_in (filter (is_version_of org ws) t.versions))
-      ∙ ap (option_map head_in) (newest-shown (λ (x : Kept VersionRow). version_of_cells x.1.it) (filter (is_version_of org ws) t.versions))
+  -- the version that was added last
+  newest_row : option_map (λ (x : Kept VersionRow). version_at t org ws x.1.it) (last_in (filter (is_version_of org ws) t.versions)) ≡ newest (versions_at t org ws)
+  newest_row = newest-shown (λ (x : Kept VersionRow). version_at t org ws x.1.it) (filter (is_version_of org ws) t.versions)
 
-  pub body_found : (n : ℕ) → body_of org ws n t ≡ option_map (λ (v : Version). v.text) (find (numbered n) (versions_at t org ws))
+  pub newest_number_found : option_map (λ (h : Head). h.number) (newest_of org ws t) ≡ option_map (λ (v : Version). v.number) (newest (versions_at t org ws))
+  newest_number_found =
+      sym (mapped (λ (x : Kept VersionRow). head_of x.1.it) (λ (h : Head). h.number) (last_in (filter (is_version_of org ws) t.versions)))
+      ∙ mapped (λ (x : Kept VersionRow). version_at t org ws x.1.it) (λ (v : Version). v.number) (last_in (filter (is_version_of org ws) t.versions))
+      ∙ ap (option_map (λ (v : Version). v.number)) newest_row
+
+  body_found : (n : ℕ) → text_in org ws n t ≡ option_map (λ (v : Version). v.text) (find (numbered n) (versions_at t org ws))
   body_found n =
-      ap (option_map (λ (x : Kept VersionRow). x.1.it.body)) (find_same (is_version org ws n) (λ x. is_version_of org ws x && numbered n (version_of_cells x.1.it)) (λ x. three (bytes_eq x.1.org org) (bytes_eq x.1.ws ws) (x.1.it.number == n)) t.versions)
-      ∙ mapped (λ (x : Kept VersionRow). version_of_cells x.1.it) (λ (v : Version). v.text) (find (λ x. is_version_of org ws x && numbered n (version_of_cells x.1.it)) t.versions)
-      ∙ ap (option_map (λ (v : Version). v.text)) (find-slice (is_version_of org ws) (λ (x : Kept VersionRow). version_of_cells x.1.it) (numbered n) t.versions)
+      by_row (find (is_version org ws n) t.versions) refl
+      ∙ ap (λ (o : Option (Kept VersionRow)). option_map (λ (v : Version). v.text) (option_map (λ (x : Kept VersionRow). version_at t org ws x.1.it) o))
+      (find_same (is_version org ws n) (λ x. is_version_of org ws x && numbered n (version_at t org ws x.1.it)) (λ x. three (bytes_eq x.1.org org) (bytes_eq x.1.ws ws) (x.1.it.number == n)) t.versions)
+      ∙ ap (option_map (λ (v : Version). v.text)) (find-slice (is_version_of org ws) (λ (x : Kept VersionRow). version_at t org ws x.1.it) (numbered n) t.versions)
+    where
+      by_row : (r : Option (Kept VersionRow)) → find (is_version org ws n) t.versions ≡ r
+          → option_map (λ (size : ℕ). text_of org ws n size t) (option_map (λ (x : Kept VersionRow). x.1.it.size) r) ≡ option_map (λ (v : Version). v.text) (option_map (λ (x : Kept VersionRow). version_at t org ws x.1.it) r)
+      by_row None e = refl
+      by_row (Some x) e = ap (λ (m : ℕ). Some (text_of org ws m x.1.it.size t)) (sym (version_row_parts org ws n x (found_passes (is_version org ws n) t.versions x e)).1.1)
 
   pub first_waiting_found : first_waiting_of org ws t ≡ first_waiting (runs_at t org ws)
   first_waiting_found =
@@ -229,42 +254,53 @@ module _ (t : Tables) (org ws : List ℕ) where
 
   -- the version that is asked of is kept where it has a row
   module _ (next : ℕ) (rise : Rises 0 (numbers (versions_at t org ws)) next) where
-    kept_found : (n : ℕ) → is_some (version_at_number org ws n t) ≡ is_some (version_of n (versions_at t org ws))
+    kept_found : (n : ℕ) → is_some (size_of org ws n t) ≡ is_some (version_of n (versions_at t org ws))
     kept_found n =
-        found_as (λ (x : Kept VersionRow). x.1.it.number) (find (is_version org ws n) t.versions)
-        ∙ ap is_some (find_same (is_version org ws n) (λ x. is_version_of org ws x && numbered n (version_of_cells x.1.it)) (λ x. three (bytes_eq x.1.org org) (bytes_eq x.1.ws ws) (x.1.it.number == n)) t.versions)
-        ∙ sym (found_as (λ (x : Kept VersionRow). version_of_cells x.1.it) (find (λ x. is_version_of org ws x && numbered n (version_of_cells x.1.it)) t.versions))
-        ∙ ap is_some (find-slice (is_version_of org ws) (λ (x : Kept VersionRow). version_of_cells x.1.it) (numbered n) t.versions)
+        found_as (λ (x : Kept VersionRow). x.1.it.size) (find (is_version org ws n) t.versions)
+        ∙ ap is_some (find_same (is_version org ws n) (λ x. is_version_of org ws x && numbered n (version_at t org ws x.1.it)) (λ x. three (bytes_eq x.1.org org) (bytes_eq x.1.ws ws) (x.1.it.number == n)) t.versions)
+        ∙ sym (found_as (λ (x : Kept VersionRow). version_at t org ws x.1.it) (find (λ x. is_version_of org ws x && numbered n (version_at t org ws x.1.it)) t.versions))
+        ∙ ap is_some (find-slice (is_version_of org ws) (λ (x : Kept VersionRow). version_at t org ws x.1.it) (numbered n) t.versions)
         ∙ ap is_some (first_is_last 0 next n (versions_at t org ws) rise)
 
     pub has_version_found : (number : Option ℕ) → has_version_in number org ws t ≡ has_version number (versions_at t org ws)
     has_version_found None = refl
     has_version_found (Some n) = kept_found n
 
-  -- the text of the newest version is found by its number, and one of another size isn't the asked one
-  pub newest_unit_found : (next : ℕ) (text : Option (List ℕ)) → Rises 0 (numbers (versions_at t org ws)) next → newest_in text org ws t ≡ option_map (newest_unit text) (newest (versions_at t org ws))
-  newest_unit_found next text rise = ap (option_map (newest_by text org ws t)) newest_found ∙ by_newest (newest (versions_at t org ws)) refl
+  -- the text of each of its versions is whole
+  pub own_whole : AreTexts t → AllByRecursion (λ x. IsWhole org ws x.1.it.number x.1.it.size t) (filter (is_version_of org ws) t.versions)
+  own_whole a = all_both (HasText t) (λ x. is_version_of org ws x ≡ true) (λ x. IsWhole org ws x.1.it.number x.1.it.size t) whole
+      (filter (is_version_of org ws) t.versions) (all-filter (HasText t) (is_version_of org ws) t.versions a.texts) (all_passing (is_version_of org ws) t.versions)
     where
-      same_text : (v : Version) (asked : Option (List ℕ)) → body_of org ws v.number t ≡ Some v.text → has_text asked org ws (head_in v) t ≡ is_text asked v.text
-      same_text v None body = refl
-      same_text v (Some asked) body = by_size (length v.text == length asked) refl
-        where
-          by_size : (b : Bool) → (length v.text == length asked) ≡ b → cond b (is_body asked (body_of org ws v.number t)) false ≡ bytes_eq v.text asked
-          by_size true e = ap (is_body asked) body
-          by_size false e = sym (other_size v.text asked e)
+      whole : (x : Kept VersionRow) → HasText t x → is_version_of org ws x ≡ true → IsWhole org ws x.1.it.number x.1.it.size t
+      whole x there e =
+          subst (λ (p : List ℕ). IsWhole p ws x.1.it.number x.1.it.size t) (pair_first org ws x.1.org x.1.ws e) (subst (λ (q : List ℕ). IsWhole x.1.org q x.1.it.number x.1.it.size t) (pair_second org ws x.1.org x.1.ws e) there)
 
-      by_newest : (o : Option Version) → newest (versions_at t org ws) ≡ o → option_map (newest_by text org ws t) (option_map head_in o) ≡ option_map (newest_unit text) o
-      by_newest None e = refl
-      by_newest (Some v) e =
-          let body : body_of org ws v.number t ≡ Some v.text =
-          body_found v.number ∙ ap (option_map (λ (u : Version). u.text)) (first_is_last 0 next v.number (versions_at t org ws) rise ∙ newest_is_last (versions_at t org ws) v e) in
-          ap (λ (same : Bool). Some (record { number = v.number; serial = v.serial; lineage = v.lineage; is_same = same })) (same_text v text body)
+  -- the text of the newest version is compared page by page, and one of another size isn't the asked one
+  pub newest_unit_found : AreTexts t → (text : Option (List ℕ)) → newest_in text org ws t ≡ option_map (newest_unit text) (newest (versions_at t org ws))
+  newest_unit_found a text = by_row (last_in (filter (is_version_of org ws) t.versions)) refl ∙ ap (option_map (newest_unit text)) newest_row
+    where
+      same_text : (x : Kept VersionRow) → IsWhole org ws x.1.it.number x.1.it.size t → (asked : Option (List ℕ)) → has_text asked org ws (head_of x.1.it) t ≡ is_text asked (text_of org ws x.1.it.number x.1.it.size t)
+      same_text x whole None = refl
+      same_text x whole (Some asked) = by_size (x.1.it.size == length asked) refl
+        where
+          by_size : (b : Bool) → (x.1.it.size == length asked) ≡ b → cond b (are_pieces org ws x.1.it.number asked (pages_for (length asked)) t) false ≡ bytes_eq (text_of org ws x.1.it.number x.1.it.size t) asked
+          by_size true e =
+              let same : x.1.it.size ≡ length asked = eqb-true x.1.it.size (length asked) e in
+              same_is org ws x.1.it.number asked t (subst (λ (m : ℕ). IsWhole org ws x.1.it.number m t) same whole) ∙ ap (λ (m : ℕ). bytes_eq (text_of org ws x.1.it.number m t) asked) (sym same)
+          by_size false e = sym (other_size (text_of org ws x.1.it.number x.1.it.size t) asked (ap (λ (m : ℕ). m == length asked) (whole_size org ws x.1.it.number t x.1.it.size whole) ∙ e))
+
+      by_row : (r : Option (Kept VersionRow)) → last_in (filter (is_version_of org ws) t.versions) ≡ r
+          → option_map (newest_by text org ws t) (option_map (λ (x : Kept VersionRow). head_of x.1.it) r) ≡ option_map (newest_unit text) (option_map (λ (x : Kept VersionRow). version_at t org ws x.1.it) r)
+      by_row None e = refl
+      by_row (Some x) e =
+          let whole : IsWhole org ws x.1.it.number x.1.it.size t = last_holds (λ y. IsWhole org ws y.1.it.number y.1.it.size t) (filter (is_version_of org ws) t.versions) x (own_whole a) e in
+          ap (λ (same : Bool). Some (record { number = x.1.it.number; serial = x.1.it.serial; lineage = x.1.it.lineage; is_same = same })) (same_text x whole text)
 
   -- the greatest number of those that go is found by its place from the newest
   pub outgoing_found : outgoing_in org ws t ≡ outgoing max_versions (versions_at t org ws)
   outgoing_found =
-      mapped (λ (x : Kept VersionRow). version_of_cells x.1.it) (λ (v : Version). v.number) (slice_get (reverse (filter (is_version_of org ws) t.versions)) (max_versions - 1))
-      ∙ ap (option_map (λ (v : Version). v.number)) (place_back (λ (x : Kept VersionRow). version_of_cells x.1.it) (max_versions - 1) (filter (is_version_of org ws) t.versions))
+      mapped (λ (x : Kept VersionRow). version_at t org ws x.1.it) (λ (v : Version). v.number) (slice_get (reverse (filter (is_version_of org ws) t.versions)) (max_versions - 1))
+      ∙ ap (option_map (λ (v : Version). v.number)) (place_back (λ (x : Kept VersionRow). version_at t org ws x.1.it) (max_versions - 1) (filter (is_version_of org ws) t.versions))
 
 -- ---- counts
 
@@ -325,7 +361,7 @@ module _ (t : Tables) (sound : IsSound t) (org : List ℕ) where
             released = w.released;
             next_version = w.next_version;
             next_run = w.next_run;
-            newest = if_needed (needs act).newest (newest_unit_found t org ws w.next_version (needs act).text lawful.versions.rise i);
+            newest = if_needed (needs act).newest (newest_unit_found t org ws (sound_texts t sound) (needs act).text i);
             outgoing = if_needed (needs act).outgoing (outgoing_found t org ws i);
             first_waiting = if_needed (needs act).waiting (first_waiting_found t org ws i);
             has_version = has_version_found t org ws w.next_version lawful.versions.rise (needs act).version i;
@@ -355,7 +391,7 @@ module _ (t : Tables) (sound : IsSound t) (org : List ℕ) where
   none_is ws e = any_is_found (is_ws org ws) t.wss ∙ ap is_some (none_mapped (λ (x : Kept WsRow). x.1.it) (find (is_ws org ws) t.wss) e)
 
   pub no_versions : (ws : List ℕ) → workspace_of org ws t ≡ None → versions_at t org ws ≡ []
-  no_versions ws e = ap (map (λ (x : Kept VersionRow). version_of_cells x.1.it)) (no_orphans (is_version_of org ws) (λ x. is_ws x.1.org x.1.ws) t.wss
+  no_versions ws e = ap (map (λ (x : Kept VersionRow). version_at t org ws x.1.it)) (no_orphans (is_version_of org ws) (λ x. is_ws x.1.org x.1.ws) t.wss
       (λ x f. ap₂ (λ (a b : List ℕ). list_any (is_ws a b) t.wss) (pair_first org ws x.1.org x.1.ws f) (pair_second org ws x.1.org x.1.ws f) ∙ none_is ws e) t.versions sound.versions_owned)
 
   pub no_runs : (ws : List ℕ) → workspace_of org ws t ≡ None → runs_at t org ws ≡ []
@@ -369,7 +405,7 @@ module _ (t : Tables) (sound : IsSound t) (org : List ℕ) where
       by_limit None e = sym (ap (option_map (workspace_at t org ws)) (no_workspace ws e))
       by_limit (Some cap) e = got_workspace t org ws
 
-  pub text_found : (ws : List ℕ) (n : ℕ) → body_of org ws n t ≡ version_text n (seen_workspace (record_of t org) ws)
+  pub text_found : (ws : List ℕ) (n : ℕ) → text_in org ws n t ≡ version_text n (seen_workspace (record_of t org) ws)
   text_found ws n = body_found t org ws n ∙ by_row (workspace_of org ws t) refl ∙ ap (version_text n) (sym (seen_in_rows ws))
     where
       by_row : (r : Option WorkspaceCells) → workspace_of org ws t ≡ r → option_map (λ (v : Version). v.text) (find (numbered n) (versions_at t org ws)) ≡ version_text n (option_map (workspace_at t org ws) r)

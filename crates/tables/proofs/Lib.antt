@@ -28,3 +28,4 @@ pub mod Stores
 pub mod Telling
 pub mod TextLists
 pub mod TextRows
+pub mod VersionEdits

@@ -17,9 +17,10 @@ use Rattle.statements.specs.Finds.{cap_of}
 use Rattle.statements.proofs.Found.{find_changed, find_unchanged, all_updated}
 use Rattle.tables.specs.Records.{organization_at, record_of}
 use Rattle.tables.specs.Sound.{IsOrgRow, IsSound}
+use Rattle.tables.proofs.TextRows.{AreTexts, sound_texts, texts_carried, KeepsWorkspaces, workspace_carried, organization_carried}
 use Rattle.tables.proofs.Names.{same_name, apart_name, names_apart}
 use Rattle.tables.proofs.Sets.{one_of}
-use Rattle.tables.proofs.Owned.{any_updated}
+use Rattle.tables.proofs.Lists.{any_updated}
 use Rattle.tables.proofs.Operators.{record_there, record_missing}
 
 module _ (org : List ℕ) (limit : ℕ) where
@@ -38,15 +39,18 @@ module _ (org : List ℕ) (limit : ℕ) where
     cap_stays q apart = ap (option_map (λ (x : Kept OrgRow). x.1.cap))
         (find_unchanged (is_org q) (is_org org) (λ x e. apart_name x.1.name q (λ same. apart (sym same ∙ same_name x.1.name org e))) recapped (λ x. refl) t.orgs)
 
+    same_rows : KeepsWorkspaces t (org_capped org limit t)
+    same_rows = record { wss = refl; versions = refl; runs = refl; pages = refl; vpages = refl }
+
     pub limit_absent : cap_of org t ≡ None → effect Absent (record_of t org) ≡ org_limited limit (record_of t org)
     limit_absent e = subst (λ (r : Option Organization). effect Absent r ≡ org_limited limit r) (sym (record_missing t org e)) refl
 
     pub limit_other : (q : List ℕ) → q ≢ org → record_of (org_capped org limit t) q ≡ record_of t q
-    limit_other q apart = ap (option_map (organization_at t q)) (cap_stays q apart)
+    limit_other q apart = ap (option_map (organization_at (org_capped org limit t) q)) (cap_stays q apart) ∙ organization_carried t (org_capped org limit t) same_rows refl q (cap_of q t)
 
     module _ (cap : ℕ) (there : cap_of org t ≡ Some cap) where
       limit_own : record_of (org_capped org limit t) org ≡ Some (with_limit (organization_at t org cap) limit)
-      limit_own = ap (option_map (organization_at t org)) (cap_set cap there)
+      limit_own = ap (option_map (organization_at (org_capped org limit t) org)) (cap_set cap there) ∙ organization_carried t (org_capped org limit t) same_rows refl org (Some limit)
 
       -- what the organization has stays, and its limit is the new one
       pub limit_done : effect Done (record_of (org_capped org limit t) org) ≡ org_limited limit (record_of t org)
@@ -67,9 +71,15 @@ module _ (org : List ℕ) (limit : ℕ) where
         org_rows = all_updated IsOrgRow (is_org org) recapped (λ x is. record { named = is.named; limit = most }) t.orgs sound.org_rows;
         token_rows = sound.token_rows;
         counts = λ q o e. within q o e (bytes_eq q org) refl;
-        workspaces = sound.workspaces;
+        places = texts.places;
+        placed = texts.placed;
+        texts = texts.texts;
+        workspaces = λ o w v e. sound.workspaces o w v (sym (workspace_carried t (org_capped org limit t) same_rows o w) ∙ e);
       }
         where
+          texts : AreTexts (org_capped org limit t)
+          texts = texts_carried t (org_capped org limit t) refl refl refl (sound_texts t sound)
+
           still : (q : List ℕ) → list_any (is_org q) (update_where (is_org org) recapped t.orgs) ≡ list_any (is_org q) t.orgs
           still q = any_updated (is_org q) (is_org org) recapped (λ x. refl) t.orgs
 

@@ -24,12 +24,15 @@ use Rattle.statements.specs.Tables.{Tables}
 use Rattle.statements.specs.Changes.{is_ws_of, is_version_of, is_run_of}
 use Rattle.statements.specs.Finds.{cap_of, workspace_of}
 use Rattle.statements.specs.Listings.{is_behind, workspaces_by_name, named_row as named_at, version_head_of, VersionsRise, RunsRise}
-use Rattle.tables.specs.Records.{settings_of_cells, holder_of_cells, version_of_cells, run_of_cells, versions_at, runs_at, workspace_at, workspaces_at, organization_at, record_of}
+use Rattle.tables.specs.Records.{settings_of_cells, holder_of_cells, version_at, run_of_cells, versions_at, runs_at, workspace_at, workspaces_at, organization_at, record_of}
 use Rattle.tables.specs.Sound.{IsSound}
+use Rattle.texts.specs.Texts.{IsWhole}
+use Rattle.texts.proofs.PieceLaws.{whole_size}
+use Rattle.tables.proofs.TextRows.{AreTexts, sound_texts}
 use Rattle.tables.specs.Inner.Lists.{version_row_in, versions_listed_in, run_row_in, runs_listed_in, ws_row_in, workspaces_listed_in}
 use Rattle.tables.proofs.Sets.{entry_found}
 use Rattle.tables.proofs.Operators.{no_workspaces}
-use Rattle.tables.proofs.Finding.{newest_found, no_versions, no_runs, seen_in_rows}
+use Rattle.tables.proofs.Finding.{newest_number_found, own_whole, no_versions, no_runs, seen_in_rows}
 use Rattle.tables.proofs.Ranks.{rising, none_after, first_rows_tell, shown_rows, every, same_names, no_entries, all_found, entries_shown}
 
 -- the list of the first rows is the list of all
@@ -51,17 +54,20 @@ module _ (t : Tables) (org ws : List ℕ) where
   own_runs : List (Kept RunRow)
   own_runs = filter (is_run_of org ws) t.runs
 
-  versions_rows : (after : ℕ) → versions_listed_in after org ws t ≡ showing.versions_listed after (versions_at t org ws)
-  versions_rows after =
+  versions_rows : AreTexts t → (after : ℕ) → versions_listed_in after org ws t ≡ showing.versions_listed after (versions_at t org ws)
+  versions_rows a after =
       listed_all version_row_in (filter (λ v. nat_lt after v.number) (map (λ (x : Kept VersionRow). version_head_of x.1.it) (filter (is_version_of org ws) t.versions)))
-      ∙ ap listing_of (shown_rows (λ (x : Kept VersionRow). version_head_of x.1.it) version_row_in (λ (x : Kept VersionRow). version_of_cells x.1.it) showing.version_row (λ v. nat_lt after v.number) (λ (v : Version). nat_lt after v.number) (λ x. refl)
-      (filter (is_version_of org ws) t.versions) (every _ (λ x. refl) (filter (is_version_of org ws) t.versions)))
+      ∙ ap listing_of (shown_rows (λ (x : Kept VersionRow). version_head_of x.1.it) version_row_in (λ (x : Kept VersionRow). version_at t org ws x.1.it) showing.version_row (λ v. nat_lt after v.number) (λ (v : Version). nat_lt after v.number)
+      (filter (is_version_of org ws) t.versions) (all_weaker (λ x. IsWhole org ws x.1.it.number x.1.it.size t) _ (λ x whole. (shown x whole, refl)) (filter (is_version_of org ws) t.versions) (own_whole t org ws a)))
+    where
+      shown : (x : Kept VersionRow) → IsWhole org ws x.1.it.number x.1.it.size t → version_row_in (version_head_of x.1.it) ≡ showing.version_row (version_at t org ws x.1.it)
+      shown x whole = ap (λ (size : ℕ). record { created = x.1.it.created; lineage = x.1.it.lineage; number = x.1.it.number; serial = x.1.it.serial; size = size }) (sym (whole_size org ws x.1.it.number t x.1.it.size whole))
 
   runs_rows : (after : ℕ) → runs_listed_in after org ws t ≡ showing.runs_listed after (runs_at t org ws)
   runs_rows after =
       listed_all run_row_in (filter (λ r. nat_lt after r.number) (map (λ (x : Kept RunRow). x.1.it) (filter (is_run_of org ws) t.runs)))
-      ∙ ap listing_of (shown_rows (λ (x : Kept RunRow). x.1.it) run_row_in (λ (x : Kept RunRow). run_of_cells x.1.it) showing.run_row (λ r. nat_lt after r.number) (λ (r : Run). nat_lt after r.number) (λ x. refl)
-      (filter (is_run_of org ws) t.runs) (every _ (λ x. refl) (filter (is_run_of org ws) t.runs)))
+      ∙ ap listing_of (shown_rows (λ (x : Kept RunRow). x.1.it) run_row_in (λ (x : Kept RunRow). run_of_cells x.1.it) showing.run_row (λ r. nat_lt after r.number) (λ (r : Run). nat_lt after r.number)
+      (filter (is_run_of org ws) t.runs) (every _ (λ x. (refl, refl)) (filter (is_run_of org ws) t.runs)))
 
   module _ (sound : IsSound t) where
     versions_row : (after : ℕ) (r : Option WorkspaceCells) → workspace_of org ws t ≡ r → showing.versions_listed after (versions_at t org ws) ≡ showing.versions_after after (option_map (workspace_at t org ws) r)
@@ -70,7 +76,7 @@ module _ (t : Tables) (org ws : List ℕ) where
 
     -- the list of the versions is that of the record
     pub versions_told : (after : ℕ) → versions_listed_in after org ws t ≡ showing.versions_after after (seen_workspace (record_of t org) ws)
-    versions_told after = versions_rows after ∙ versions_row after (workspace_of org ws t) refl ∙ ap (showing.versions_after after) (sym (seen_in_rows t sound org ws))
+    versions_told after = versions_rows (sound_texts t sound) after ∙ versions_row after (workspace_of org ws t) refl ∙ ap (showing.versions_after after) (sym (seen_in_rows t sound org ws))
 
     runs_row : (after : ℕ) (r : Option WorkspaceCells) → workspace_of org ws t ≡ r → showing.runs_listed after (runs_at t org ws) ≡ showing.runs_after after (option_map (workspace_at t org ws) r)
     runs_row after None e = ap (showing.runs_listed after) (no_runs t sound org ws e)
@@ -82,7 +88,7 @@ module _ (t : Tables) (org ws : List ℕ) where
 
     -- their numbers rise in the order of their rows
     pub versions_rise : VersionsRise org ws t
-    versions_rise = subst (IsAscending (λ (m n : ℕ). m < n)) (same_names (λ (x : Kept VersionRow). version_of_cells x.1.it) (λ (v : Version). v.number) (λ (x : Kept VersionRow). x.1.it.number) (λ x. refl) (filter (is_version_of org ws) t.versions)) (by_row (workspace_of org ws t) refl)
+    versions_rise = subst (IsAscending (λ (m n : ℕ). m < n)) (same_names (λ (x : Kept VersionRow). version_at t org ws x.1.it) (λ (v : Version). v.number) (λ (x : Kept VersionRow). x.1.it.number) (λ x. refl) (filter (is_version_of org ws) t.versions)) (by_row (workspace_of org ws t) refl)
       where
         by_row : (r : Option WorkspaceCells) → workspace_of org ws t ≡ r → IsAscending (λ (m n : ℕ). m < n) (version_numbers (versions_at t org ws))
         by_row None e = subst (λ (vs : List Version). IsAscending (λ (m n : ℕ). m < n) (version_numbers vs)) (sym (no_versions t sound org ws e)) tt
@@ -118,10 +124,6 @@ module _ (t : Tables) (org ws : List ℕ) where
 
 -- ---- workspaces
 
-number_shown : (o : Option Version) → option_map (λ (h : Head). h.number) (option_map (λ (v : Version). record { number = v.number; serial = v.serial; lineage = v.lineage; size = length v.text }) o) ≡ option_map (λ (v : Version). v.number) o
-number_shown None = refl
-number_shown (Some v) = refl
-
 comes_after_all : (name : List ℕ) → IsTrue (is_ws_name name) → is_behind [] name ≡ true
 comes_after_all [] named = absurd (let none : ⊥ = cc in none)
 comes_after_all (c ∷ cs) named = refl
@@ -134,7 +136,7 @@ module _ (t : Tables) (org : List ℕ) where
   row_shown : (e : List ℕ × WorkspaceCells) → ws_row_in org t (named_at e) ≡ showing.row_of e.0 (showing.shown_of (workspace_at t org e.0 e.1))
   row_shown e =
       ap (λ (version : Option ℕ). record { settings = settings_of_cells e.1; holder = showing.holder_id (holder_of_cells e.1.holder); name = e.0; version = version })
-      (ap (option_map (λ (h : Head). h.number)) (newest_found t org e.0) ∙ number_shown (newest (versions_at t org e.0)))
+      (newest_number_found t org e.0)
 
   record_entries : entries (workspaces_at t org) ≡ map (λ (e : List ℕ × WorkspaceCells). (e.0, workspace_at t org e.0 e.1)) (entries (workspaces_by_name org t))
   record_entries = entries_shown (λ (n : List ℕ) (w : WorkspaceCells). workspace_at t org n w) (λ (x : Kept WsRow). x.1.name) (λ (x : Kept WsRow). x.1.it) (filter (is_ws_of org) t.wss)
@@ -161,8 +163,8 @@ module _ (t : Tables) (org : List ℕ) where
         ∙ ap listing_of (mapped (filter (λ e. is_behind (unwrap_or after []) e.0) (entries (workspaces_by_name org t)))
         ∙ ap (map (λ (e : List ℕ × WorkspaceCells). ws_row_in org t (named_at e))) (ap (filter (λ (e : List ℕ × WorkspaceCells). is_behind (unwrap_or after []) e.0)) (sym (itself (entries (workspaces_by_name org t)))))
         ∙ shown_rows (λ (e : List ℕ × WorkspaceCells). e) (λ (e : List ℕ × WorkspaceCells). ws_row_in org t (named_at e)) (λ (e : List ℕ × WorkspaceCells). (e.0, workspace_at t org e.0 e.1))
-        (λ (e : List ℕ × Workspace). showing.row_of e.0 (showing.shown_of e.1)) (λ (e : List ℕ × WorkspaceCells). is_behind (unwrap_or after []) e.0) (λ (e : List ℕ × Workspace). showing.comes_after after e.0) row_shown
-        (entries (workspaces_by_name org t)) (all_weaker (λ (e : List ℕ × WorkspaceCells). IsTrue (is_ws_name e.0)) _ (λ e named. passes after e named) (entries (workspaces_by_name org t)) are_named))
+        (λ (e : List ℕ × Workspace). showing.row_of e.0 (showing.shown_of e.1)) (λ (e : List ℕ × WorkspaceCells). is_behind (unwrap_or after []) e.0) (λ (e : List ℕ × Workspace). showing.comes_after after e.0)
+        (entries (workspaces_by_name org t)) (all_weaker (λ (e : List ℕ × WorkspaceCells). IsTrue (is_ws_name e.0)) _ (λ e named. (row_shown e, passes after e named)) (entries (workspaces_by_name org t)) are_named))
         ∙ ap (showing.workspaces_listed after) (sym record_entries)
       where
         mapped : (es : List (List ℕ × WorkspaceCells)) → map (ws_row_in org t) (map named_at es) ≡ map (λ (e : List ℕ × WorkspaceCells). ws_row_in org t (named_at e)) es

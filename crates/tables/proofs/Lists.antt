@@ -1,7 +1,8 @@
--- The versions above a number.
-use Rattle.std.proofs.Common.{◌≡◌, ℕ, ◌+◌, ◌<◌, ◌≤◌, nat_lt, Bool, true, false, not, cond, List, [], ◌∷◌, filter, refl, ap, ◌∙◌, arith}
+-- The versions above a number, and lists that are changed in places.
+use Rattle.std.proofs.Common.{◌≡◌, ℕ, ◌+◌, ◌<◌, ◌≤◌, nat_lt, Bool, true, false, not, ◌||◌, cond, List, [], ◌∷◌, filter, refl, ap, ◌∙◌, arith}
 use Rattle.std.proofs.lemmas.Bool.{lt-ltb, le-ltb, ltb-true, ltb-false}
-use Rattle.sqlite_keyed.specs.Lists.{delete_where}
+use Rattle.std.specs.List.{list_any}
+use Rattle.sqlite_keyed.specs.Lists.{update_where, delete_where}
 use Rattle.machine.specs.declared.records.Version.{Version}
 
 not_below : (m n : ℕ) → not (nat_lt m (n + 1)) ≡ nat_lt n m
@@ -16,3 +17,7 @@ pub below_gone : (last : ℕ) (vs : List Version) → delete_where (λ (v : Vers
 below_gone last [] = refl
 below_gone last (v ∷ vs) = ap (λ (b : Bool). cond b (v ∷ delete_where (λ (u : Version). nat_lt u.number (last + 1)) vs) (delete_where (λ (u : Version). nat_lt u.number (last + 1)) vs)) (not_below v.number last)
     ∙ ap (λ (us : List Version). cond (nat_lt last v.number) (v ∷ us) us) (below_gone last vs)
+
+pub any_updated : {X : Type 0} (q p : X → Bool) (f : X → X) → ((x : X) → q (f x) ≡ q x) → (xs : List X) → list_any q (update_where p f xs) ≡ list_any q xs
+any_updated q p f stays [] = refl
+any_updated q p f stays (x ∷ xs) = λ i. elim (p x) as (λ b. q (cond b (f x) x) ≡ q x) [ true ↦ stays x | false ↦ refl ] i || any_updated q p f stays xs i

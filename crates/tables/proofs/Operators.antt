@@ -26,6 +26,7 @@ use Rattle.statements.specs.Finds.{cap_of, role_of_digest, role_of_name}
 use Rattle.statements.proofs.Found.{found_passes, find_pushed, find_pushed_other, found_holds}
 use Rattle.tables.specs.Records.{caller_of_role, caller_by, token_of_cells, is_token_of, tokens_at, workspace_at, workspaces_at, organization_at, record_of}
 use Rattle.tables.specs.Sound.{IsSound}
+use Rattle.tables.proofs.TextRows.{KeepsWorkspaces, workspaces_carried, organization_carried}
 use Rattle.tables.proofs.Names.{same_name, name_is, apart_name, names_apart, pair_first, pair_is}
 use Rattle.tables.proofs.Parts.{none_mapped}
 use Rattle.tables.proofs.Sets.{entry_found, got_token}
@@ -147,8 +148,9 @@ module _ (t : Tables) (sound : IsSound t) (org : List ℕ) (limit : ℕ) where
 
   pub org_own : cap_of org t ≡ None → record_of (rows.org_row_added org limit t) org ≡ Some (new_organization limit)
   org_own e =
-      ap (λ (o : Option (Kept OrgRow)). option_map (organization_at t org) (option_map (λ (x : Kept OrgRow). x.1.cap) o))
+      ap (λ (o : Option (Kept OrgRow)). option_map (organization_at (rows.org_row_added org limit t) org) (option_map (λ (x : Kept OrgRow). x.1.cap) o))
       (find_pushed (is_org org) t.orgs (next_key id_of t.orgs, record { name = org; cap = limit }) (none_mapped (λ (x : Kept OrgRow). x.1.cap) _ e) (name_is org))
+      ∙ organization_carried t (rows.org_row_added org limit t) (record { wss = refl; versions = refl; runs = refl; pages = refl; vpages = refl }) refl org (Some limit)
       ∙ (λ i. Some (record {
         limit = limit;
         tokens = from_entries {R = name_cmp} (map (λ (x : Kept TokenRow). (x.1.name, token_of_cells x.1.it)) (no_tokens t sound org e i));
@@ -161,8 +163,9 @@ module _ (t : Tables) (sound : IsSound t) (org : List ℕ) (limit : ℕ) where
 
   pub org_other : (q : List ℕ) → q ≢ org → record_of (rows.org_row_added org limit t) q ≡ record_of t q
   org_other q apart =
-      ap (λ (o : Option (Kept OrgRow)). option_map (organization_at t q) (option_map (λ (x : Kept OrgRow). x.1.cap) o))
+      ap (λ (o : Option (Kept OrgRow)). option_map (organization_at (rows.org_row_added org limit t) q) (option_map (λ (x : Kept OrgRow). x.1.cap) o))
       (find_pushed_other (is_org q) t.orgs (next_key id_of t.orgs, record { name = org; cap = limit }) (apart_name org q (λ same. apart (sym same))))
+      ∙ organization_carried t (rows.org_row_added org limit t) (record { wss = refl; versions = refl; runs = refl; pages = refl; vpages = refl }) refl q (cap_of q t)
 
 -- ---- a token more
 
@@ -180,6 +183,9 @@ module _ (t : Tables) (sound : IsSound t) (org name digest : List ℕ) (role : R
 
   abbrev added : Tables
   added = rows.token_row_added org name digest role t
+
+  same_rows : KeepsWorkspaces t added
+  same_rows = record { wss = refl; versions = refl; runs = refl; pages = refl; vpages = refl }
 
   new_row : Kept TokenRow
   new_row = (next_key id_of t.tokens, record { org = org; name = name; it = record { digest = digest; role = role } })
@@ -229,7 +235,7 @@ module _ (t : Tables) (sound : IsSound t) (org name digest : List ℕ) (role : R
               ∙ sym (got_token t org q) ∙ sym (get_other (tokens_at t org) name new_token q (names_apart q name e))
 
       pub token_own : record_of added org ≡ Some (with_token before name new_token)
-      token_own = ap (option_map (organization_at added org)) there ∙ (λ i. Some (record { limit = cap; tokens = put_tokens i; workspaces = workspaces_at t org }))
+      token_own = ap (option_map (organization_at added org)) there ∙ (λ i. Some (record { limit = cap; tokens = put_tokens i; workspaces = workspaces_carried t added same_rows org i }))
 
       -- where neither its name nor its digest is there, the new one is
       pub token_done : role_of_digest org digest t ≡ None → effect Done (record_of added org) ≡ token_added name new_token (record_of t org)
@@ -243,4 +249,4 @@ module _ (t : Tables) (sound : IsSound t) (org name digest : List ℕ) (role : R
 
       by_limit : (c : Option ℕ) → option_map (organization_at added q) c ≡ option_map (organization_at t q) c
       by_limit None = refl
-      by_limit (Some c) = λ i. Some (record { limit = c; tokens = same_tokens i; workspaces = workspaces_at t q })
+      by_limit (Some c) = λ i. Some (record { limit = c; tokens = same_tokens i; workspaces = workspaces_carried t added same_rows q i })

@@ -1,5 +1,5 @@
 -- Which rows stand apart, and which belong to a row that is there, after a change of a workspace.
-use Rattle.std.proofs.Common.{◌≡◌, ℕ, ◌+◌, Bool, true, false, not, ◌||◌, cond, List, [], ◌∷◌, ◌++◌, find, is_some, Option, Some, None, option_map, refl, sym, ap, subst, ◌∙◌}
+use Rattle.std.proofs.Common.{◌≡◌, ℕ, ◌+◌, Bool, true, false, not, ◌||◌, cond, List, [], ◌∷◌, ◌++◌, find, filter, length, is_some, Option, Some, None, option_map, refl, sym, ap, subst, ◌∙◌, arith}
 use Rattle.std.specs.List.{AllByRecursion, list_any}
 use Rattle.std.proofs.lemmas.Bool.{false_from_ne_true}
 use Rattle.sqlite_keyed.specs.Keyed.{next_key}
@@ -19,28 +19,29 @@ use Rattle.machine.specs.declared.records.Version.{Version}
 use Rattle.statements.specs.declared.rows.Holder.TheVariants.{Nobody, Lock, Run as HeldByRun}
 use Rattle.statements.specs.declared.rows.Workspace.{Workspace as WorkspaceCells}
 use Rattle.statements.specs.declared.rows.Run.{Run as RunCells}
-use Rattle.statements.specs.Rows.{Version as VersionCells}
-use Rattle.statements.specs.Rows.{Kept, id_of, WsRow}
+use Rattle.statements.specs.Rows.{Kept, id_of, WsRow, VersionRow, RunRow}
 use Rattle.statements.specs.Tables.{Tables}
-use Rattle.statements.specs.Changes.{is_org, is_ws, is_version_of, is_version_below, is_run_of, is_run_row, with_auto, held_by, released_from, with_next_version, with_next_run, ws_changed, ws_added, workspace_made, new_version, version_added, versions_removed, versions_removed_below, run_made, run_added, run_changed_to, run_acted}
+use Rattle.statements.specs.Changes.{is_org, is_ws, is_version_of, is_run_of, is_run_row, with_auto, held_by, released_from, with_next_version, with_next_run, ws_changed, ws_added, ws_removed, workspace_made, runs_removed, run_made, run_added, run_changed_to, run_acted}
 use Rattle.statements.specs.Finds.{workspace_of}
 use Rattle.statements.proofs.Found.{all_updated, apart_pushed}
 use Rattle.tables.specs.Sound.{IsSound}
-use Rattle.tables.specs.Inner.Edits.{removed_rows, made_rows, numbered_rows, added_rows, left_rows, if_there, run_put, run_counted, freed_rows, edited_rows, started_rows, changed_rows}
+use Rattle.tables.specs.Inner.Edits.{all_gone, removed_rows, made_rows, numbered_rows, versioned_rows, if_there, run_put, run_counted, freed_rows, edited_rows, started_rows, changed_rows, TakesVersion, TakesEdit}
+use Rattle.tables.specs.Records.{versions_at}
+use Rattle.machine.specs.Changes.{left_above}
+use Rattle.tables.proofs.TextLists.{all_deleted}
+use Rattle.tables.proofs.TextRows.{Becomes, versions_counted}
+use Rattle.tables.proofs.VersionEdits.{all_go, versions_come}
+use Rattle.tables.proofs.Lists.{any_updated}
 use Rattle.tables.proofs.Names.{is_pair, pair_is, pair_first, pair_second, pair_apart}
 
 module _ {X : Type 0} where
-  all_deleted : (p : X → Bool) (xs : List X) → AllByRecursion (λ x. p x ≡ false) (delete_where p xs)
-  all_deleted p [] = tt
-  all_deleted p (x ∷ xs) = go (p x) refl (all_deleted p xs)
+  none_of : (p : X → Bool) (xs : List X) → length (filter p xs) ≡ 0 → AllByRecursion (λ x. p x ≡ false) xs
+  none_of p [] e = tt
+  none_of p (x ∷ xs) e = go (p x) refl e (none_of p xs)
     where
-      go : (b : Bool) → p x ≡ b → AllByRecursion (λ y. p y ≡ false) (delete_where p xs) → AllByRecursion (λ y. p y ≡ false) (cond (not b) (x ∷ delete_where p xs) (delete_where p xs))
-      go true e more = more
-      go false e more = (e, more)
-
-  pub any_updated : (q p : X → Bool) (f : X → X) → ((x : X) → q (f x) ≡ q x) → (xs : List X) → list_any q (update_where p f xs) ≡ list_any q xs
-  any_updated q p f stays [] = refl
-  any_updated q p f stays (x ∷ xs) = λ i. elim (p x) as (λ b. q (cond b (f x) x) ≡ q x) [ true ↦ stays x | false ↦ refl ] i || any_updated q p f stays xs i
+      go : (b : Bool) → p x ≡ b → length (cond b (x ∷ filter p xs) (filter p xs)) ≡ 0 → (length (filter p xs) ≡ 0 → AllByRecursion (λ y. p y ≡ false) xs) → (p x ≡ false) × AllByRecursion (λ y. p y ≡ false) xs
+      go true is e more = absurd (omega (arith, e))
+      go false is e more = (is, more e)
 
   any_left : (q p : X → Bool) → ((x : X) → p x ≡ true → q x ≡ false) → (xs : List X) → list_any q (delete_where p xs) ≡ list_any q xs
   any_left q p apart [] = refl
@@ -85,28 +86,13 @@ module _ (org ws : List ℕ) (t : Tables) (owned : AreOwned t) where
             (λ x h. any_updated (is_ws x.1.org x.1.ws) (is_ws org ws) (λ y. (y.0, record y.1 { it = g y.1.it })) (λ y. refl) t.wss ∙ h) t.runs owned.runs_owned;
       }
 
-  owned_purged : AreOwned (versions_removed org ws t)
-  owned_purged = record {
-    wss_apart = owned.wss_apart;
-    wss_owned = owned.wss_owned;
-    versions_owned = all-filter (λ x. list_any (is_ws x.1.org x.1.ws) t.wss ≡ true) (λ x. not (is_version_of org ws x)) t.versions owned.versions_owned;
-    runs_owned = owned.runs_owned;
-  }
-
-  owned_cut : (n : ℕ) → AreOwned (versions_removed_below org ws n t)
-  owned_cut n = record {
-    wss_apart = owned.wss_apart;
-    wss_owned = owned.wss_owned;
-    versions_owned = all-filter (λ x. list_any (is_ws x.1.org x.1.ws) t.wss ≡ true) (λ x. not (is_version_below org ws n x)) t.versions owned.versions_owned;
-    runs_owned = owned.runs_owned;
-  }
-
-  owned_version : (v : VersionCells) → list_any (is_ws org ws) t.wss ≡ true → AreOwned (version_added org ws v t)
-  owned_version v there = record {
-    wss_apart = owned.wss_apart;
-    wss_owned = owned.wss_owned;
-    versions_owned = all-append (λ x. list_any (is_ws x.1.org x.1.ws) t.wss ≡ true) t.versions ((next_key id_of t.versions, record { org = org; ws = ws; it = v }) ∷ []) owned.versions_owned (there, tt);
-    runs_owned = owned.runs_owned;
+  -- where versions of one workspace come and go
+  owned_becomes : (f : List Version → List Version) (o w : List ℕ) (u : Tables) → Becomes f o w t u → AreOwned u
+  owned_becomes f o w u made = record {
+    wss_apart = subst (AreApart (λ (a b : Kept WsRow). is_ws a.1.org a.1.name b)) (sym made.rest.wss) owned.wss_apart;
+    wss_owned = subst (λ orgs. AllByRecursion (λ (x : Kept WsRow). list_any (is_org x.1.org) orgs ≡ true) u.wss) (sym made.rest.orgs) (subst (AllByRecursion (λ (x : Kept WsRow). list_any (is_org x.1.org) t.orgs ≡ true)) (sym made.rest.wss) owned.wss_owned);
+    versions_owned = subst (λ wss. AllByRecursion (λ (x : Kept VersionRow). list_any (is_ws x.1.org x.1.ws) wss ≡ true) u.versions) (sym made.rest.wss) (made.owned owned.versions_owned);
+    runs_owned = subst (λ wss. AllByRecursion (λ (x : Kept RunRow). list_any (is_ws x.1.org x.1.ws) wss ≡ true) u.runs) (sym made.rest.wss) (subst (AllByRecursion (λ (x : Kept RunRow). list_any (is_ws x.1.org x.1.ws) t.wss ≡ true)) (sym made.rest.runs) owned.runs_owned);
   }
 
   owned_begun : (n : ℕ) → AreOwned (run_changed_to Planning org ws n t)
@@ -133,13 +119,13 @@ module _ (org ws : List ℕ) (t : Tables) (owned : AreOwned t) where
     runs_owned = all_updated (λ x. list_any (is_ws x.1.org x.1.ws) t.wss ≡ true) (is_run_row org ws n) (λ x. (x.0, record x.1 { it = record x.1.it { status = status; action = Some action } })) (λ x h. h) t.runs owned.runs_owned;
   }
 
-  owned_removed : AreOwned (removed_rows org ws t)
-  owned_removed = record {
+  -- the row and the runs of a workspace go that has no version
+  owned_taken : versions_at t org ws ≡ [] → AreOwned (ws_removed org ws (runs_removed org ws t))
+  owned_taken none = record {
     wss_apart = apart_delete (λ a b. is_ws a.1.org a.1.name b) (is_ws org ws) t.wss owned.wss_apart;
     wss_owned = all-filter (λ x. list_any (is_org x.1.org) t.orgs ≡ true) (λ x. not (is_ws org ws x)) t.wss owned.wss_owned;
     versions_owned = all_both (λ x. list_any (is_ws x.1.org x.1.ws) t.wss ≡ true) (λ x. is_version_of org ws x ≡ false) (λ x. list_any (is_ws x.1.org x.1.ws) (delete_where (is_ws org ws) t.wss) ≡ true)
-        (λ x h e. still x.1.org x.1.ws e h) (delete_where (is_version_of org ws) t.versions)
-        (all-filter (λ x. list_any (is_ws x.1.org x.1.ws) t.wss ≡ true) (λ x. not (is_version_of org ws x)) t.versions owned.versions_owned) (all_deleted (is_version_of org ws) t.versions);
+        (λ x h e. still x.1.org x.1.ws e h) t.versions owned.versions_owned (none_of (is_version_of org ws) t.versions (let length_none : length (filter (is_version_of org ws) t.versions) ≡ 0 = versions_counted t org ws ∙ ap length none in length_none));
     runs_owned = all_both (λ x. list_any (is_ws x.1.org x.1.ws) t.wss ≡ true) (λ x. is_run_of org ws x ≡ false) (λ x. list_any (is_ws x.1.org x.1.ws) (delete_where (is_ws org ws) t.wss) ≡ true)
         (λ x h e. still x.1.org x.1.ws e h) (delete_where (is_run_of org ws) t.runs)
         (all-filter (λ x. list_any (is_ws x.1.org x.1.ws) t.wss ≡ true) (λ x. not (is_run_of org ws x)) t.runs owned.runs_owned) (all_deleted (is_run_of org ws) t.runs);
@@ -162,8 +148,24 @@ module _ (org ws : List ℕ) (t : Tables) (owned : AreOwned t) where
       new : Kept WsRow
       new = (next_key id_of t.wss, record { org = org; name = ws; it = workspace_made auto })
 
-owned_made : (org ws : List ℕ) (t : Tables) → AreOwned t → (auto : Bool) → list_any (is_org org) t.orgs ≡ true → AreOwned (made_rows org ws auto t)
-owned_made org ws t owned auto there = owned_added org ws (removed_rows org ws t) (owned_removed org ws t owned) auto (all_deleted (is_ws org ws) t.wss) there
+module _ (org ws : List ℕ) (t : Tables) (sound : IsSound t) where
+  abbrev purged_rows : Tables
+  purged_rows = all_gone org ws t
+
+  owned_purged : AreOwned purged_rows
+  owned_purged = owned_becomes org ws t (sound_are_owned t sound) (λ vs. []) org ws purged_rows (all_go org ws t sound)
+
+  owned_removed : AreOwned (removed_rows org ws t)
+  owned_removed = owned_taken org ws purged_rows owned_purged (all_go org ws t sound).own
+
+  owned_made : (auto : Bool) → list_any (is_org org) t.orgs ≡ true → AreOwned (made_rows org ws auto t)
+  owned_made auto there =
+      owned_added org ws (removed_rows org ws t) owned_removed auto (all_deleted (is_ws org ws) purged_rows.wss) (subst (λ orgs. list_any (is_org org) orgs ≡ true) (sym (all_go org ws t sound).rest.orgs) there)
+
+  owned_versioned : (key_of : List ℕ → List ℕ) (v : Version) (takes : TakesVersion key_of org ws v t) (outgoing : Option ℕ) → AreOwned (versioned_rows key_of org ws v outgoing t)
+  owned_versioned key_of v takes outgoing =
+      owned_becomes org ws (numbered_rows org ws v t) (owned_row org ws t (sound_are_owned t sound) (with_next_version (v.number + 1))) (λ vs. left_above outgoing (vs ++ v ∷ [])) org ws (versioned_rows key_of org ws v outgoing t)
+      (versions_come org ws t sound key_of v takes outgoing)
 
 module _ (org ws : List ℕ) where
   pub row_there : (t : Tables) (w : WorkspaceCells) → workspace_of org ws t ≡ Some w → list_any (is_ws org ws) t.wss ≡ true
@@ -172,18 +174,6 @@ module _ (org ws : List ℕ) where
       some_mapped : (o : Option (Kept WsRow)) → is_some (option_map (λ (x : Kept WsRow). x.1.it) o) ≡ is_some o
       some_mapped None = refl
       some_mapped (Some x) = refl
-
-  owned_left : (outgoing : Option ℕ) (t : Tables) → AreOwned t → AreOwned (left_rows outgoing org ws t)
-  owned_left None t owned = owned
-  owned_left (Some last) t owned = owned_cut org ws t owned (last + 1)
-
-  owned_versioned : (v : Version) (outgoing : Option ℕ) (t : Tables) → AreOwned t → (r : Option WorkspaceCells) → workspace_of org ws t ≡ r
-      → AreOwned (if_there r (left_rows outgoing org ws (added_rows org ws v (numbered_rows org ws v t))) t)
-  owned_versioned v outgoing t owned None e = owned
-  owned_versioned v outgoing t owned (Some w) e =
-      let new : VersionCells = new_version v.number v.serial v.lineage v.created v.text in
-      owned_left outgoing (added_rows org ws v (numbered_rows org ws v t))
-      (owned_row org ws (version_added org ws new t) (owned_version org ws t owned new (row_there t w e)) (with_next_version (v.number + 1)))
 
   owned_run_rows : (number : ℕ) (ask : RunAsk) (created : ℕ) (t : Tables) → AreOwned t → (r : Option WorkspaceCells) → workspace_of org ws t ≡ r
       → AreOwned (if_there r (run_put org ws number ask created (run_counted org ws number t)) t)
@@ -196,20 +186,20 @@ module _ (org ws : List ℕ) where
   owned_freed true t owned = owned_row org ws t owned (held_by Nobody)
   owned_freed false t owned = owned
 
-  owned_edited : (t : Tables) → AreOwned t → list_any (is_org org) t.orgs ≡ true → (edit : Edit) → AreOwned (edited_rows org ws edit t)
-  owned_edited t owned there (Make settings) = owned_made org ws t owned settings.auto_apply there
-  owned_edited t owned there (Configure settings) = owned_row org ws t owned (with_auto settings.auto_apply)
-  owned_edited t owned there Remove = owned_removed org ws t owned
-  owned_edited t owned there (AddVersion v outgoing) = owned_versioned v outgoing t owned (workspace_of org ws t) refl
-  owned_edited t owned there Purge = owned_purged org ws t owned
-  owned_edited t owned there (Hold id text) = owned_row org ws t owned (held_by (Lock id text))
-  owned_edited t owned there (Release id) = owned_row org ws t owned (released_from id)
-  owned_edited t owned there (AddRun number ask created) = owned_run_rows number ask created t owned (workspace_of org ws t) refl
-  owned_edited t owned there (Report number action status frees) = owned_freed frees (run_acted status action org ws number t) (owned_acted org ws t owned status action number)
+  owned_edited : (key_of : List ℕ → List ℕ) (t : Tables) → IsSound t → list_any (is_org org) t.orgs ≡ true → (edit : Edit) → TakesEdit key_of org ws edit t → AreOwned (edited_rows key_of org ws edit t)
+  owned_edited key_of t sound there (Make settings) takes = owned_made org ws t sound settings.auto_apply there
+  owned_edited key_of t sound there (Configure settings) takes = owned_row org ws t (sound_are_owned t sound) (with_auto settings.auto_apply)
+  owned_edited key_of t sound there Remove takes = owned_removed org ws t sound
+  owned_edited key_of t sound there (AddVersion v outgoing) takes = owned_versioned org ws t sound key_of v takes outgoing
+  owned_edited key_of t sound there Purge takes = owned_purged org ws t sound
+  owned_edited key_of t sound there (Hold id text) takes = owned_row org ws t (sound_are_owned t sound) (held_by (Lock id text))
+  owned_edited key_of t sound there (Release id) takes = owned_row org ws t (sound_are_owned t sound) (released_from id)
+  owned_edited key_of t sound there (AddRun number ask created) takes = owned_run_rows number ask created t (sound_are_owned t sound) (workspace_of org ws t) refl
+  owned_edited key_of t sound there (Report number action status frees) takes = owned_freed frees (run_acted status action org ws number t) (owned_acted org ws t (sound_are_owned t sound) status action number)
 
   owned_started : (t : Tables) → AreOwned t → (start : Option ℕ) → AreOwned (started_rows org ws start t)
   owned_started t owned None = owned
   owned_started t owned (Some n) = owned_begun org ws (ws_changed (held_by (HeldByRun n)) org ws t) (owned_row org ws t owned (held_by (HeldByRun n))) n
 
-  pub changed_are_owned : (t : Tables) → AreOwned t → list_any (is_org org) t.orgs ≡ true → (change : Change) → AreOwned (changed_rows org ws change t)
-  changed_are_owned t owned there change = owned_started (edited_rows org ws change.edit t) (owned_edited t owned there change.edit) change.start
+  pub changed_are_owned : (key_of : List ℕ → List ℕ) (t : Tables) → IsSound t → list_any (is_org org) t.orgs ≡ true → (change : Change) → TakesEdit key_of org ws change.edit t → AreOwned (changed_rows key_of org ws change t)
+  changed_are_owned key_of t sound there change takes = owned_started (edited_rows key_of org ws change.edit t) (owned_edited key_of t sound there change.edit takes) change.start

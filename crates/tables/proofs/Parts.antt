@@ -1,4 +1,4 @@
--- What each write does to the row, the versions and the runs of a workspace.
+-- What each write does to the row and the runs of a workspace.
 use Rattle.std.proofs.Common.{◌≡◌, ℕ, nat_lt, Bool, true, false, not, ◌&&◌, ◌==◌, cond, List, [], ◌∷◌, ◌++◌, map, filter, find, Option, Some, None, option_map, refl, ap, ◌∙◌}
 use Rattle.std.specs.Str.{bytes_eq}
 use Rattle.sqlite_keyed.specs.Lists.{delete_where}
@@ -10,17 +10,15 @@ use Rattle.basis.specs.declared.runs.RunStatus.TheVariants.{Planning}
 use Rattle.basis.specs.declared.runs.RunAction.{RunAction}
 use Rattle.machine.specs.Rules.{reported}
 use Rattle.machine.specs.Settling.{begun}
-use Rattle.machine.specs.declared.records.Version.{Version}
 use Rattle.machine.specs.declared.records.Run.{Run}
 use Rattle.statements.specs.declared.rows.Workspace.{Workspace as WorkspaceCells}
 use Rattle.statements.specs.declared.rows.Run.{Run as RunCells}
-use Rattle.statements.specs.Rows.{Version as VersionCells}
-use Rattle.statements.specs.Rows.{Kept, id_of, WsRow, VersionRow, RunRow}
+use Rattle.statements.specs.Rows.{Kept, id_of, WsRow, RunRow}
 use Rattle.statements.specs.Tables.{Tables}
-use Rattle.statements.specs.Changes.{is_ws, ws_changed, ws_added, ws_removed, workspace_made, is_version_of, is_version_below, version_added, versions_removed, versions_removed_below, is_run_of, is_run_row, run_changed_to, run_acted, run_added, runs_removed}
+use Rattle.statements.specs.Changes.{is_ws, ws_changed, ws_added, ws_removed, workspace_made, is_run_of, is_run_row, run_changed_to, run_acted, run_added, runs_removed}
 use Rattle.statements.specs.Finds.{workspace_of}
 use Rattle.statements.proofs.Found.{find_changed, find_unchanged, find_deleted, find_left, find_pushed, find_pushed_other, filter_deleted}
-use Rattle.tables.specs.Records.{version_of_cells, run_of_cells, versions_at, runs_at}
+use Rattle.tables.specs.Records.{run_of_cells, runs_at}
 use Rattle.tables.proofs.Names.{is_pair, pair_is, pair_apart}
 
 map_map : {A B C D : Type 0} (f : A → B) (g : B → C) (h : A → D) (k : D → C) → ((a : A) → g (f a) ≡ k (h a)) → (o : Option A) → option_map g (option_map f o) ≡ option_map k (option_map h o)
@@ -30,10 +28,6 @@ map_map f g h k same (Some a) = ap Some (same a)
 pub none_mapped : {A B : Type 0} (f : A → B) (o : Option A) → option_map f o ≡ None → o ≡ None
 none_mapped f None e = refl
 none_mapped f (Some a) e = absurd (let none : ⊥ = cc in none)
-
-and_three : (a b c : Bool) → not (a && (b && c)) ≡ not ((a && b) && c)
-and_three true b c = refl
-and_three false b c = refl
 
 status_of_begun : (b : Bool) (r : Run) → cond b (record r { status = Planning }) r ≡ record r { status = cond b Planning r.status }
 status_of_begun true r = refl
@@ -47,7 +41,7 @@ three : (a b c : Bool) → (a && (b && c)) ≡ ((a && b) && c)
 three true b c = refl
 three false b c = refl
 
-first_two : (a b c : Bool) → (a && (b && c)) ≡ true → (a && b) ≡ true
+pub first_two : (a b c : Bool) → (a && (b && c)) ≡ true → (a && b) ≡ true
 first_two true true c e = refl
 first_two true false c e = e
 first_two false b c e = e
@@ -84,29 +78,6 @@ module _ (org ws : List ℕ) where
     pub row_added_other : (auto : Bool) (a b : List ℕ) → is_pair org ws a b ≡ false → workspace_of a b (ws_added org ws auto t) ≡ workspace_of a b t
     row_added_other auto a b other =
         ap (option_map (λ (x : Kept WsRow). x.1.it)) (find_pushed_other (is_ws a b) t.wss (next_key id_of t.wss, record { org = org; name = ws; it = workspace_made auto }) (pair_apart org ws a b org ws other (pair_is org ws)))
-
-    -- ---- its versions
-
-    pub versions_pushed : (v : VersionCells) → versions_at (version_added org ws v t) org ws ≡ versions_at t org ws ++ version_of_cells v ∷ []
-    versions_pushed v = slice-push_mine (is_version_of org ws) (λ x. version_of_cells x.1.it) t.versions (next_key id_of t.versions, record { org = org; ws = ws; it = v }) (pair_is org ws)
-
-    pub versions_pushed_other : (v : VersionCells) (a b : List ℕ) → is_pair org ws a b ≡ false → versions_at (version_added org ws v t) a b ≡ versions_at t a b
-    versions_pushed_other v a b other = slice-push_other (is_version_of a b) (λ x. version_of_cells x.1.it) t.versions (next_key id_of t.versions, record { org = org; ws = ws; it = v }) (pair_apart org ws a b org ws other (pair_is org ws))
-
-    pub versions_cut : (n : ℕ) → versions_at (versions_removed_below org ws n t) org ws ≡ delete_where (λ (v : Version). nat_lt v.number n) (versions_at t org ws)
-    versions_cut n =
-        ap (λ xs. map (λ (x : Kept VersionRow). version_of_cells x.1.it) (filter (is_version_of org ws) xs)) (filter_same (λ x. not (is_version_below org ws n x)) (λ x. not (is_version_of org ws x && nat_lt x.1.it.number n)) (λ x. and_three (bytes_eq x.1.org org) (bytes_eq x.1.ws ws) (nat_lt x.1.it.number n)) t.versions)
-        ∙ slice-delete_mine (is_version_of org ws) (λ (x : Kept VersionRow). version_of_cells x.1.it) (λ (v : Version). nat_lt v.number n) t.versions
-
-    pub versions_cut_other : (n : ℕ) (a b : List ℕ) → is_pair org ws a b ≡ false → versions_at (versions_removed_below org ws n t) a b ≡ versions_at t a b
-    versions_cut_other n a b other =
-        slice-delete_other (is_version_of a b) (λ x. version_of_cells x.1.it) (is_version_below org ws n) (λ x e. pair_apart org ws a b x.1.org x.1.ws other (first_two (bytes_eq x.1.org org) (bytes_eq x.1.ws ws) (nat_lt x.1.it.number n) e)) t.versions
-
-    pub versions_gone : versions_at (versions_removed org ws t) org ws ≡ []
-    versions_gone = ap (map (λ (x : Kept VersionRow). version_of_cells x.1.it)) (filter_deleted (is_version_of org ws) t.versions)
-
-    pub versions_gone_other : (a b : List ℕ) → is_pair org ws a b ≡ false → versions_at (versions_removed org ws t) a b ≡ versions_at t a b
-    versions_gone_other a b other = slice-delete_other (is_version_of a b) (λ x. version_of_cells x.1.it) (is_version_of org ws) (λ x e. pair_apart org ws a b x.1.org x.1.ws other e) t.versions
 
     -- ---- its runs
 

@@ -48,14 +48,14 @@ pub first_rows_tell : {X : Type 0} (xs : List X) → listing_of (take 51 xs) ≡
 first_rows_tell xs = λ i. record { items = take-take 50 51 xs (omega arith) i; more = more_of (length xs) (length (take 51 xs)) (length-take 51 xs) i }
 
 -- rows that are read and shown, of those that pass a test
-pub shown_rows : {A B C D : Type 0} (g : A → B) (f : B → C) (h : A → D) (k : D → C) (p : B → Bool) (q : D → Bool) → ((a : A) → f (g a) ≡ k (h a)) → (xs : List A)
-    → AllByRecursion (λ a. p (g a) ≡ q (h a)) xs → map f (filter p (map g xs)) ≡ map k (filter q (map h xs))
-shown_rows g f h k p q same [] all = refl
-shown_rows g f h k p q same (x ∷ xs) all = go (p (g x)) (q (h x)) all.0 (shown_rows g f h k p q same xs all.1)
+pub shown_rows : {A B C D : Type 0} (g : A → B) (f : B → C) (h : A → D) (k : D → C) (p : B → Bool) (q : D → Bool) → (xs : List A)
+    → AllByRecursion (λ a. (f (g a) ≡ k (h a)) × (p (g a) ≡ q (h a))) xs → map f (filter p (map g xs)) ≡ map k (filter q (map h xs))
+shown_rows g f h k p q [] all = refl
+shown_rows g f h k p q (x ∷ xs) all = go (p (g x)) (q (h x)) all.0.1 (shown_rows g f h k p q xs all.1)
   where
     go : (a b : Bool) → a ≡ b → map f (filter p (map g xs)) ≡ map k (filter q (map h xs))
         → map f (cond a (g x ∷ filter p (map g xs)) (filter p (map g xs))) ≡ map k (cond b (h x ∷ filter q (map h xs)) (filter q (map h xs)))
-    go true true e more = λ i. same x i ∷ more i
+    go true true e more = λ i. all.0.0 i ∷ more i
     go false false e more = more
     go true false e more = absurd (let none : ⊥ = cc in none)
     go false true e more = absurd (let none : ⊥ = cc in none)

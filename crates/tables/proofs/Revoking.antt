@@ -21,6 +21,7 @@ use Rattle.statements.specs.Finds.{cap_of, role_of_name}
 use Rattle.statements.proofs.Found.{found_passes, find_deleted, find_left, found_holds}
 use Rattle.tables.specs.Records.{token_of_cells, is_token_of, tokens_at, workspaces_at, organization_at, record_of}
 use Rattle.tables.specs.Sound.{IsTokenRow, IsSound}
+use Rattle.tables.proofs.TextRows.{AreTexts, sound_texts, texts_carried, KeepsWorkspaces, workspace_carried, workspaces_carried}
 use Rattle.tables.proofs.Names.{same_name, apart_name, names_apart, pair_first, pair_apart}
 use Rattle.tables.proofs.Sets.{got_token, one_of, other_ws}
 use Rattle.tables.proofs.Finding.{none_there}
@@ -29,6 +30,9 @@ use Rattle.tables.proofs.Operators.{record_there, record_missing, named_in_rows}
 module _ (org name : List ℕ) (t : Tables) where
   abbrev left : Tables
   left = token_removed org name t
+
+  same_rows : KeepsWorkspaces t left
+  same_rows = record { wss = refl; versions = refl; runs = refl; pages = refl; vpages = refl }
 
   got_removed : get (tokens_at left org) name ≡ None
   got_removed = got_token left org name ∙ ap (option_map (λ (x : Kept TokenRow). token_of_cells x.1.it)) (find_deleted (is_token org name) t.tokens)
@@ -79,7 +83,7 @@ module _ (org name : List ℕ) (t : Tables) where
       by_limit None e = absurd (no_token sound e role f)
       by_limit (Some cap) e =
           ap (λ (c : Option ℕ). effect Done (option_map (organization_at left org) c)) e
-          ∙ (λ i. effect Done (Some (record { limit = cap; tokens = tokens_left i; workspaces = workspaces_at t org })))
+          ∙ (λ i. effect Done (Some (record { limit = cap; tokens = tokens_left i; workspaces = workspaces_carried t left same_rows org i })))
           ∙ sym (revoked_there cap true e (ap is_some f))
 
   pub revoke_other : (q : List ℕ) → q ≢ org → record_of left q ≡ record_of t q
@@ -91,7 +95,7 @@ module _ (org name : List ℕ) (t : Tables) where
 
       by_limit : (c : Option ℕ) → option_map (organization_at left q) c ≡ option_map (organization_at t q) c
       by_limit None = refl
-      by_limit (Some c) = λ i. Some (record { limit = c; tokens = same_tokens i; workspaces = workspaces_at t q })
+      by_limit (Some c) = λ i. Some (record { limit = c; tokens = same_tokens i; workspaces = workspaces_carried t left same_rows q i })
 
   -- it leaves sound tables sound
   pub revoke_keeps : IsSound t → IsSound left
@@ -108,10 +112,17 @@ module _ (org name : List ℕ) (t : Tables) where
     org_rows = sound.org_rows;
     token_rows = all-filter IsTokenRow (λ x. not (is_token org name x)) t.tokens sound.token_rows;
     counts = λ q o e. within q o (cap_of q t) refl e;
-    workspaces = sound.workspaces;
+    places = texts.places;
+    placed = texts.placed;
+    texts = texts.texts;
+    workspaces = λ o w v e. sound.workspaces o w v (sym (workspace_carried t left same_rows o w) ∙ e);
   }
     where
+      texts : AreTexts left
+      texts = texts_carried t left refl refl refl (sound_texts t sound)
+
       within : (q : List ℕ) (o : Organization) (c : Option ℕ) → cap_of q t ≡ c → option_map (organization_at left q) c ≡ Some o → count_of o ≤ 100_000
       within q o None f e = absurd (let none : ⊥ = cc in none)
       within q o (Some c) f e =
-          subst (λ (r : Organization). count_of r ≤ 100_000) (one_of (organization_at left q c) o e) (sound.counts q (organization_at t q c) (ap (option_map (organization_at t q)) f))
+          subst (λ (r : Organization). count_of r ≤ 100_000) (one_of (organization_at left q c) o e)
+          (subst (λ ws. count_of (record { limit = c; tokens = tokens_at left q; workspaces = ws }) ≤ 100_000) (sym (workspaces_carried t left same_rows q)) (sound.counts q (organization_at t q c) (ap (option_map (organization_at t q)) f)))

@@ -1,5 +1,5 @@
 -- Lists of which the first that passes goes, together with those that pass a narrower test with it.
-use Rattle.std.proofs.Common.{◌≡◌, ◌≤◌, ℕ, suc, Bool, true, false, not, cond, List, [], ◌∷◌, ◌++◌, filter, find, length, Option, Some, None, option_map, refl, sym, ap, subst, ◌∙◌, arith}
+use Rattle.std.proofs.Common.{◌≡◌, ◌≤◌, ℕ, suc, Bool, true, false, not, cond, List, [], ◌∷◌, ◌++◌, filter, find, length, Option, Some, None, refl, sym, ap, subst, ◌∙◌, arith}
 use Rattle.std.specs.List.{AllByRecursion}
 use Rattle.std.proofs.lemmas.Bool.{false_from_ne_true}
 use Rattle.sqlite_keyed.specs.Lists.{delete_where}
@@ -93,7 +93,3 @@ module _ {X : Type 0} where
         go true false f g h e more = absurd (let none : ⊥ = cc (h refl) in none)
         go false true f g h e more = let same : y ≡ x = cc in absurd (let none : ⊥ = cc (sym (subst (λ (z : X). p z ≡ false) same f) ∙ is) in none)
         go false false f g h e more = rw g (more e)
-
-pub none_mapped : {A B : Type 0} (f : A → B) (o : Option A) → option_map f o ≡ None → o ≡ None
-none_mapped f None e = refl
-none_mapped f (Some a) e = absurd (let none : ⊥ = cc in none)

@@ -8,20 +8,23 @@ use Rattle.sqlite_keyed.specs.Keyed.{next_key}
 use Rattle.sqlite_keyed.proofs.ListLemmas.{all_weaker, all_both, all-filter, all-append, filter_same}
 use Rattle.sqlite_keyed.proofs.SliceLemmas.{slice-push_mine, slice-push_other, slice-delete_mine, slice-delete_other}
 use Rattle.std.proofs.lemmas.List.{length-map}
-use Rattle.tables.proofs.TextLists.{none_mapped}
+use Rattle.tables.proofs.Parts.{none_mapped, first_two}
 use Rattle.machine.specs.declared.records.Version.{Version}
 use Rattle.statements.specs.declared.rows.Head.{Head}
 use Rattle.statements.specs.Rows.{Version as VersionCells}
-use Rattle.statements.specs.Rows.{Kept, id_of, VersionRow, VpageRow}
+use Rattle.statements.specs.Rows.{Kept, id_of, TokenRow, WsRow, VersionRow, RunRow, VpageRow}
+use Rattle.statements.specs.declared.rows.Workspace.{Workspace as WorkspaceCells}
+use Rattle.std.specs.FinMap.{from_entries}
+use Rattle.machine.specs.Order.{name_cmp}
 use Rattle.statements.specs.Tables.{Tables}
-use Rattle.statements.specs.Changes.{is_ws, is_version_of, is_version, is_version_below, new_version, version_added, version_removed}
+use Rattle.statements.specs.Changes.{is_ws, is_ws_of, is_run_of, is_version_of, is_version, is_version_below, new_version, version_added, version_removed}
 use Rattle.statements.specs.Finds.{head_of, oldest_below, size_of}
 use Rattle.statements.proofs.Found.{found_passes, found_holds, find_pushed, find_left}
 use Rattle.texts.specs.Texts.{is_place_of, pages_for, text_added, text_removed, text_of, TwinsFit, IsWhole, HasNoPlaces, HasSoundPlaces}
 use Rattle.texts.proofs.PieceLists.{none_passes, none_found}
 use Rattle.texts.proofs.PlaceLaws.{IsOtherVersion, version_parts, version_from}
 use Rattle.texts.proofs.TextLaws.{text_added_keeps, text_added_whole, text_added_text, text_added_others_whole, text_added_others_text, text_added_places, text_added_metas, text_added_orgs, text_added_tokens, text_added_wss, text_added_versions, text_added_runs, text_removed_keeps, text_removed_others_whole, text_removed_others_text, text_removed_places, text_removed_none, text_removed_metas, text_removed_orgs, text_removed_tokens, text_removed_wss, text_removed_versions, text_removed_runs, carried_whole, carried_text, carried_sound}
-use Rattle.tables.specs.Records.{version_of_cells, version_at, versions_at}
+use Rattle.tables.specs.Records.{version_of_cells, run_of_cells, token_of_cells, workspace_of_cells, version_at, versions_at, workspace_by, is_token_of, workspaces_at, organization_at}
 use Rattle.tables.specs.Sound.{IsPlaced, HasText, IsSound}
 use Rattle.tables.specs.Inner.Edits.{first_gone, so_many_gone, most_gone, gone_below, row_added, added_rows, FitsTwins}
 use Rattle.tables.proofs.Names.{same_name, name_is, is_pair, pair_is, pair_apart}
@@ -56,7 +59,7 @@ rest_then t u z one two = record { metas = two.metas ∙ one.metas; orgs = two.o
 
 -- ---- rows of a version
 
-version_row_parts : (org ws : List ℕ) (n : ℕ) (y : Kept VersionRow) → is_version org ws n y ≡ true → (y.1.org ≡ org) × ((y.1.ws ≡ ws) × (y.1.it.number ≡ n))
+pub version_row_parts : (org ws : List ℕ) (n : ℕ) (y : Kept VersionRow) → is_version org ws n y ≡ true → (y.1.org ≡ org) × ((y.1.ws ≡ ws) × (y.1.it.number ≡ n))
 version_row_parts org ws n y e =
     let a = and_parts (bytes_eq y.1.org org) (bytes_eq y.1.ws ws && y.1.it.number == n) e in
     let b = and_parts (bytes_eq y.1.ws ws) (y.1.it.number == n) a.1 in
@@ -118,6 +121,26 @@ module _ (t u : Tables) (versions : u.versions ≡ t.versions) (pages : u.pages 
     placed = all_weaker (IsPlaced t) (IsPlaced u) (λ z. subst (λ (s : Option ℕ). IsSomeAnd s (λ size. z.1.place < pages_for size)) (sym (size_carried z.1.org z.1.ws z.1.number))) u.vpages (subst (AllByRecursion (IsPlaced t)) (sym vpages) a.placed);
     texts = all_weaker (HasText t) (HasText u) (λ y. carried_whole t u pages vpages y.1.org y.1.ws y.1.it.number y.1.it.size) u.versions (subst (AllByRecursion (HasText t)) (sym versions) a.texts);
   }
+
+-- tables of which no other but those of organizations and tokens differ
+pub record KeepsWorkspaces (t u : Tables) : Type 0 where
+  pub wss : u.wss ≡ t.wss
+  pub versions : u.versions ≡ t.versions
+  pub runs : u.runs ≡ t.runs
+  pub pages : u.pages ≡ t.pages
+  pub vpages : u.vpages ≡ t.vpages
+
+module _ (t u : Tables) (keeps : KeepsWorkspaces t u) where
+  pub workspace_carried : (o w : List ℕ) → workspace_by u o w ≡ workspace_by t o w
+  workspace_carried o w = λ i. option_map (λ (c : WorkspaceCells). workspace_of_cells c (versions_carried t u keeps.versions keeps.pages keeps.vpages o w i) (map (λ (x : Kept RunRow). run_of_cells x.1.it) (filter (is_run_of o w) (keeps.runs i))))
+      (option_map (λ (x : Kept WsRow). x.1.it) (find (is_ws o w) (keeps.wss i)))
+
+  pub workspaces_carried : (o : List ℕ) → workspaces_at u o ≡ workspaces_at t o
+  workspaces_carried o = λ i. from_entries {R = name_cmp} (map (λ (x : Kept WsRow). (x.1.name, workspace_of_cells x.1.it (versions_carried t u keeps.versions keeps.pages keeps.vpages o x.1.name i) (map (λ (y : Kept RunRow). run_of_cells y.1.it) (filter (is_run_of o x.1.name) (keeps.runs i)))))
+      (filter (is_ws_of o) (keeps.wss i)))
+
+  pub organization_carried : u.tokens ≡ t.tokens → (o : List ℕ) (cap : Option ℕ) → option_map (organization_at u o) cap ≡ option_map (organization_at t o) cap
+  organization_carried tokens o cap = λ i. option_map (λ (c : ℕ). record { limit = c; tokens = from_entries {R = name_cmp} (map (λ (x : Kept TokenRow). (x.1.name, token_of_cells x.1.it)) (filter (is_token_of o) (tokens i))); workspaces = workspaces_carried o i }) cap
 
 -- ---- a version that goes
 
@@ -277,11 +300,6 @@ module _ (org ws : List ℕ) (below : ℕ) (t : Tables) (a : AreTexts t) where
 and_three : (p q r : Bool) → not (p && (q && r)) ≡ not ((p && q) && r)
 and_three true q r = refl
 and_three false q r = refl
-
-first_two : (p q r : Bool) → (p && (q && r)) ≡ true → (p && q) ≡ true
-first_two true true r e = refl
-first_two true false r e = e
-first_two false q r e = e
 
 -- What becomes of the versions of one workspace; those of all others stay, and so do the other tables.
 pub record Becomes (f : List Version → List Version) (org ws : List ℕ) (t u : Tables) : Type 0 where

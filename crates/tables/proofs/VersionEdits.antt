@@ -1,0 +1,100 @@
+-- What edits do to the versions of a workspace, and to their texts.
+use Rattle.std.proofs.Common.{◌≡◌, ◌≤◌, ◌<◌, ℕ, ◌+◌, nat_lt, Bool, true, false, not, cond, List, [], ◌∷◌, ◌++◌, map, filter, find, length, is_some, Option, Some, None, option_map, refl, sym, ap, subst, ◌∙◌, arith}
+use Rattle.std.specs.List.{AllByRecursion, list_any}
+use Rattle.std.proofs.lemmas.Bool.{lt-ltb}
+use Rattle.std.proofs.lemmas.List.{length-append}
+use Rattle.sqlite_keyed.specs.Lists.{delete_where}
+use Rattle.machine.specs.Laws.{Rises}
+use Rattle.machine.specs.Changes.{left_above}
+use Rattle.machine.specs.declared.records.Version.{Version}
+use Rattle.statements.specs.declared.rows.Workspace.{Workspace as WorkspaceCells}
+use Rattle.statements.specs.Rows.{Kept, WsRow}
+use Rattle.statements.specs.Tables.{Tables}
+use Rattle.statements.specs.Changes.{is_ws, with_next_version}
+use Rattle.statements.specs.Finds.{workspace_of}
+use Rattle.sqlite_keyed.proofs.SliceLemmas.{any_is_found}
+use Rattle.tables.specs.Records.{versions_at, workspace_at}
+use Rattle.tables.specs.Sound.{IsSound}
+use Rattle.tables.specs.Inner.Edits.{all_gone, numbered_rows, added_rows, left_rows, versioned_rows, TakesVersion}
+use Rattle.tables.proofs.Lists.{below_gone, any_updated}
+use Rattle.tables.proofs.Names.{is_pair}
+use Rattle.tables.proofs.TextRows.{AreTexts, sound_texts, texts_carried, versions_carried, KeepsRest, rest_then, Becomes, go_below, comes, HasWs}
+use Rattle.tables.proofs.Finding.{no_versions}
+
+pub becomes_then : (f g : List Version → List Version) (org ws : List ℕ) (t u z : Tables) → Becomes f org ws t u → Becomes g org ws u z → Becomes (λ vs. g (f vs)) org ws t z
+becomes_then f g org ws t u z one two = record {
+  rest = rest_then t u z one.rest two.rest;
+  own = two.own ∙ ap g one.own;
+  others = λ o w other. two.others o w other ∙ one.others o w other;
+  texts = two.texts;
+  owned = λ all. subst (λ wss. AllByRecursion (λ x. list_any (is_ws x.1.org x.1.ws) wss ≡ true) z.versions) one.rest.wss
+      (two.owned (subst (λ wss. AllByRecursion (λ x. list_any (is_ws x.1.org x.1.ws) wss ≡ true) u.versions) (sym one.rest.wss) (one.owned all)));
+}
+
+pub becomes_as : (f g : List Version → List Version) (org ws : List ℕ) (t u : Tables) → f (versions_at t org ws) ≡ g (versions_at t org ws) → Becomes f org ws t u → Becomes g org ws t u
+becomes_as f g org ws t u same one = record { rest = one.rest; own = one.own ∙ same; others = one.others; texts = one.texts; owned = one.owned }
+
+-- numbers that rise up to the greatest are all below what comes after it
+none_above : (low next : ℕ) (vs : List Version) → Rises low (map (λ (v : Version). v.number) vs) next → next ≤ 1_000_000_001 → delete_where (λ (v : Version). nat_lt v.number 1_000_000_001) vs ≡ []
+none_above low next [] rise most = refl
+none_above low next (v ∷ vs) rise most =
+    ap (λ (b : Bool). cond (not b) (v ∷ delete_where (λ (u : Version). nat_lt u.number 1_000_000_001) vs) (delete_where (λ (u : Version). nat_lt u.number 1_000_000_001) vs)) (lt-ltb v.number 1_000_000_001 (let below = rise.1 in omega (arith, below, most)))
+    ∙ none_above v.number next vs rise.2 most
+
+module _ (org ws : List ℕ) (t : Tables) (sound : IsSound t) where
+  few_versions : length (versions_at t org ws) ≤ 100
+  few_versions = by_row (workspace_of org ws t) refl
+    where
+      by_row : (r : Option WorkspaceCells) → workspace_of org ws t ≡ r → length (versions_at t org ws) ≤ 100
+      by_row None e = let none : length (versions_at t org ws) ≡ 0 = ap length (no_versions t sound org ws e) in omega (arith, none)
+      by_row (Some w) e = (sound.workspaces org ws (workspace_at t org ws w) (ap (option_map (workspace_at t org ws)) e)).lawful.versions.kept
+
+  all_below : delete_where (λ (v : Version). nat_lt v.number 1_000_000_001) (versions_at t org ws) ≡ []
+  all_below = by_row (workspace_of org ws t) refl
+    where
+      by_row : (r : Option WorkspaceCells) → workspace_of org ws t ≡ r → delete_where (λ (v : Version). nat_lt v.number 1_000_000_001) (versions_at t org ws) ≡ []
+      by_row None e = ap (delete_where (λ (v : Version). nat_lt v.number 1_000_000_001)) (no_versions t sound org ws e)
+      by_row (Some w) e =
+          let lawful = (sound.workspaces org ws (workspace_at t org ws w) (ap (option_map (workspace_at t org ws)) e)).lawful.versions in
+          none_above 0 w.next_version (versions_at t org ws) lawful.rise lawful.next.1
+
+  -- all versions go
+  pub all_go : Becomes (λ vs. []) org ws t (all_gone org ws t)
+  all_go =
+      let few = few_versions in
+      becomes_as (delete_where (λ (v : Version). nat_lt v.number 1_000_000_001)) (λ vs. []) org ws t (all_gone org ws t) all_below
+      (go_below org ws 1_000_000_001 t (sound_texts t sound) (omega (arith, few)))
+
+  -- a version comes, and those up to a number go
+  module _ (key_of : List ℕ → List ℕ) (v : Version) (takes : TakesVersion key_of org ws v t) where
+    abbrev numbered : Tables
+    numbered = numbered_rows org ws v t
+
+    abbrev added : Tables
+    added = added_rows key_of org ws v numbered
+
+    pub ws_there : list_any (is_ws org ws) t.wss ≡ true
+    ws_there = any_is_found (is_ws org ws) t.wss ∙ sym (some_mapped (find (is_ws org ws) t.wss)) ∙ takes.there
+      where
+        some_mapped : (o : Option (Kept WsRow)) → is_some (option_map (λ (x : Kept WsRow). x.1.it) o) ≡ is_some o
+        some_mapped None = refl
+        some_mapped (Some x) = refl
+
+    come : Becomes (λ vs. vs ++ v ∷ []) org ws numbered added
+    come = comes key_of org ws v numbered (texts_carried t numbered refl refl refl (sound_texts t sound)) takes.fresh takes.fits
+        (any_updated (is_ws org ws) (is_ws org ws) (λ x. (x.0, record x.1 { it = with_next_version (v.number + 1) x.1.it })) (λ x. refl) t.wss ∙ ws_there)
+
+    still_few : length (versions_at added org ws) ≤ 101
+    still_few =
+        let few = few_versions in
+        let one : length (versions_at added org ws) ≡ length (versions_at numbered org ws ++ v ∷ []) = ap length come.own in
+        let more : length (versions_at numbered org ws ++ v ∷ []) ≡ length (versions_at numbered org ws) + 1 = length-append (versions_at numbered org ws) (v ∷ []) in
+        let same : length (versions_at numbered org ws) ≡ length (versions_at t org ws) = ap length (versions_carried t numbered refl refl refl org ws) in
+        omega (arith, few, one, more, same)
+
+    pub versions_come : (outgoing : Option ℕ) → Becomes (λ vs. left_above outgoing (vs ++ v ∷ [])) org ws numbered (versioned_rows key_of org ws v outgoing t)
+    versions_come None = come
+    versions_come (Some last) =
+        becomes_then (λ vs. vs ++ v ∷ []) (λ vs. filter (λ (u : Version). nat_lt last u.number) vs) org ws numbered added (left_rows (Some last) org ws added) come
+        (becomes_as (delete_where (λ (u : Version). nat_lt u.number (last + 1))) (λ vs. filter (λ (u : Version). nat_lt last u.number) vs) org ws added (left_rows (Some last) org ws added) (below_gone last (versions_at added org ws))
+        (go_below org ws (last + 1) added come.texts still_few))
