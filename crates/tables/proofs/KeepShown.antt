@@ -21,10 +21,10 @@ use Rattle.machine.specs.declared.records.Organization.{Organization}
 use Rattle.machine.specs.declared.keeps.AdminAnswer.{AdminAnswer}
 use Rattle.machine.specs.declared.keeps.AdminAnswer.TheVariants.{Done, Exists, Absent}
 use Rattle.statements.specs.Changes.{org_row_added, org_capped, token_row_added, token_removed}
-use Rattle.statements.specs.Finds.{cap_of, role_of_name, role_of_digest, body_of}
+use Rattle.statements.specs.Finds.{cap_of, role_of_name, role_of_digest}
 use Rattle.statements.specs.Tables.{Tables, Holds, tables_of}
 use Rattle.statements.proofs.Decoding.{tables-held}
-use Rattle.tables.specs.Inner.Edits.{changed_rows}
+use Rattle.tables.specs.Inner.Edits.{changed_rows, TakesEdit}
 use Rattle.tables.specs.Records.{caller_by, record_of}
 use Rattle.std.specs.Option.{unwrap_or}
 use Rattle.basis.specs.Listings.{listing_of}
@@ -37,7 +37,7 @@ use Rattle.machine.specs.Tokens.{AreOrganizations}
 use Rattle.machine.specs.declared.keeps.OrgRow.{OrgRow}
 use Rattle.statements.specs.Listings.{OrgsApart, WorkspacesApart, VersionsRise, RunsRise}
 use Rattle.tables.specs.Inner.Lists.{versions_listed_in, runs_listed_in, workspaces_listed_in, organizations_listed_in}
-use Rattle.tables.specs.Inner.Units.{unit_in}
+use Rattle.tables.specs.Inner.Units.{text_in, unit_in}
 use Rattle.tables.specs.Stores.{records_of, IsSoundStore}
 use Rattle.tables.specs.Opening.{IsSoundKeep}
 use Rattle.tables.specs.Inner.Steps.{Commits, Manages, org_managed_by, org_managed, limit_managed_by, limit_managed, token_managed_by, token_managed, revocation_managed_by, revocation_managed}
@@ -67,7 +67,7 @@ module _ (db : Database) (a : State) (s : IsSoundKeep db a) where
       → (o : Organization) → records_of db org ≡ Some o → unit ≡ unit_of o ws act
   unit_told org ws act need same unit told o there = told.1 now (held told.0) ∙ ap (λ (n : Needed). unit_in n org ws now) same ∙ unit_found now s.store.sound org o ws act there
 
-  pub text_told : (org ws : List ℕ) (n : ℕ) (text : Option (List ℕ)) → IsTrue a.is_open × ((t : Tables) → Holds a.committed t → text ≡ body_of org ws n t)
+  pub text_told : (org ws : List ℕ) (n : ℕ) (text : Option (List ℕ)) → IsTrue a.is_open × ((t : Tables) → Holds a.committed t → text ≡ text_in org ws n t)
       → text ≡ version_text n (workspace_in (records_of db org) ws)
   text_told org ws n text told = told.1 now (held told.0) ∙ text_found now s.store.sound org ws n
 
@@ -98,18 +98,21 @@ module _ (db : Database) (a : State) (s : IsSoundKeep db a) where
   module _ (b : State) where
     -- ---- a change of a workspace
 
-    module _ (org ws : List ℕ) (change : Change) (done : Commits (changed_rows org ws change) a b) where
-      moves : (t : Tables) → Holds db t → Holds b.committed (changed_rows org ws change t)
+    module _ (key_of : List ℕ → List ℕ) (org ws : List ℕ) (change : Change) (done : Commits (changed_rows key_of org ws change) a b) (took : (t : Tables) → Holds a.committed t → TakesEdit key_of org ws change.edit t) where
+      moves : (t : Tables) → Holds db t → Holds b.committed (changed_rows key_of org ws change t)
       moves t h = done.rows t (subst (λ (d : Database). Holds d t) (sym (s.tied done.was_open)) h)
 
+      takes : (t : Tables) → Holds db t → TakesEdit key_of org ws change.edit t
+      takes t h = took t (subst (λ (d : Database). Holds d t) (sym (s.tied done.was_open)) h)
+
       pub applied_own : (o : Organization) → records_of db org ≡ Some o → records_of b.committed org ≡ Some (placed o ws (changed_by change (get o.workspaces ws)))
-      applied_own o there = store_changed_own db b.committed s.store org ws change moves o there
+      applied_own o there = store_changed_own db b.committed s.store key_of org ws change moves takes o there
 
       pub applied_other : (q : List ℕ) → q ≢ org → records_of b.committed q ≡ records_of db q
-      applied_other q apart = store_changed_other db b.committed s.store org ws change moves q apart
+      applied_other q apart = store_changed_other db b.committed s.store key_of org ws change moves takes q apart
 
       pub applied_keeps : (o : Organization) → IsTrue (is_ws_name ws) → records_of db org ≡ Some o → IsDue (seen_in o ws) change → IsSoundKeep b.committed b
-      applied_keeps o named there due = record { store = store_changed_keeps db b.committed s.store org ws change moves o named there due; tied = λ _. refl }
+      applied_keeps o named there due = record { store = store_changed_keeps db b.committed s.store key_of org ws change moves takes o named there due; tied = λ _. refl }
 
     -- every database that holds rows holds these
     at_all : (f : Tables → Tables) → Holds b.committed (f now) → (t : Tables) → Holds db t → Holds b.committed (f t)

@@ -25,9 +25,12 @@ use Rattle.statements.specs.Tables.{Tables, no_rows}
 use Rattle.statements.specs.Changes.{is_org, is_token, is_digest_of, org_row_added, token_row_added}
 use Rattle.statements.specs.Finds.{cap_of, role_of_name, role_of_digest}
 use Rattle.statements.proofs.Found.{apart_pushed}
-use Rattle.tables.specs.Records.{workspace_by, organization_at, record_of}
+use Rattle.tables.specs.Records.{workspace_by, tokens_at, organization_at, record_of}
 use Rattle.tables.specs.Sound.{TellsVersion, IsOrgRow, IsTokenRow, IsSound}
-use Rattle.tables.specs.Inner.Edits.{changed_rows}
+use Rattle.tables.specs.Inner.Edits.{changed_rows, TakesEdit}
+use Rattle.texts.proofs.TextLaws.{carried_sound, no_rows_sound}
+use Rattle.tables.proofs.TextRows.{AreTexts, sound_texts, texts_carried, KeepsWorkspaces, workspace_carried, workspaces_carried}
+use Rattle.tables.proofs.KeptTexts.{changed_texts}
 use Rattle.tables.proofs.Names.{same_name, apart_name, names_apart, is_pair, pair_first, pair_second}
 use Rattle.tables.proofs.Telling.{metas_changed}
 use Rattle.tables.proofs.Parts.{none_mapped}
@@ -35,7 +38,7 @@ use Rattle.tables.proofs.Sets.{Puts, workspace_there, one_of, put_own, put_other
 use Rattle.tables.proofs.Edits.{changed_puts}
 use Rattle.tables.proofs.Lawful.{limit_there, limit_is}
 use Rattle.tables.proofs.Counting.{count_within}
-use Rattle.tables.proofs.Owned.{AreOwned, sound_are_owned, changed_are_owned, any_pushed, pair_turned}
+use Rattle.tables.proofs.Owned.{AreOwned, changed_are_owned, any_pushed, pair_turned}
 use Rattle.tables.proofs.Operators.{org_own, org_other}
 
 -- the laws of organizations' and tokens' rows alone
@@ -78,10 +81,10 @@ org_there t org cap e = any_is_found (is_org org) t.orgs ∙ sym (some_mapped (f
 -- ---- a change of a workspace
 
 -- a due change of a workspace of sound tables leaves them sound
-pub changed_keeps : (org ws : List ℕ) (t : Tables) → IsSound t → (change : Change) (o : Organization) → IsTrue (is_ws_name ws) → record_of t org ≡ Some o → IsDue (seen_in o ws) change
-    → IsSound (changed_rows org ws change t)
-changed_keeps org ws t sound change o named there due = record {
-  told = metas_changed org ws change t ∙ sound.told;
+pub changed_keeps : (key_of : List ℕ → List ℕ) (org ws : List ℕ) (t : Tables) → IsSound t → (change : Change) → TakesEdit key_of org ws change.edit t → (o : Organization) → IsTrue (is_ws_name ws) → record_of t org ≡ Some o
+    → IsDue (seen_in o ws) change → IsSound (changed_rows key_of org ws change t)
+changed_keeps key_of org ws t sound change takes o named there due = record {
+  told = metas_changed key_of org ws t sound change takes ∙ sound.told;
   orgs_apart = order.orgs_apart;
   tokens_apart = order.tokens_apart;
   digests_apart = order.digests_apart;
@@ -93,23 +96,29 @@ changed_keeps org ws t sound change o named there due = record {
   org_rows = order.org_rows;
   token_rows = order.token_rows;
   counts = λ q p e. within q p e (bytes_eq q org) refl;
+  places = texts.places;
+  placed = texts.placed;
+  texts = texts.texts;
   workspaces = λ a b w e. named_there a b w e (is_pair org ws a b) refl;
 }
   where
     u : Tables
-    u = changed_rows org ws change t
+    u = changed_rows key_of org ws change t
+
+    texts : AreTexts u
+    texts = changed_texts key_of org ws t sound change takes
 
     after : Option Workspace
     after = changed_by change (workspace_by t org ws)
 
     puts : Puts org ws after t u
-    puts = changed_puts org ws t change
+    puts = changed_puts key_of org ws t sound change takes
 
     order : AreInOrder u.orgs u.tokens
     order = subst (λ os. AreInOrder os u.tokens) (sym puts.orgs) (subst (λ ts. AreInOrder t.orgs ts) (sym puts.tokens) (sound_in_order t sound))
 
     owned : AreOwned u
-    owned = changed_are_owned org ws t (sound_are_owned t sound) (org_there t org o.limit (limit_there t org o there)) change
+    owned = changed_are_owned org ws key_of t sound (org_there t org o.limit (limit_there t org o there)) change takes
 
     seen : standing (seen_in o ws) ≡ workspace_by t org ws
     seen = standing_is (nat_lt (count_of o) o.limit) (get o.workspaces ws) ∙ workspace_there t org ws o there
@@ -163,11 +172,17 @@ org_added_keeps org limit t sound named most none = record {
   org_rows = all-append IsOrgRow t.orgs (new ∷ []) sound.org_rows (record { named = named; limit = most }, tt);
   token_rows = sound.token_rows;
   counts = λ q o e. within q o e (bytes_eq q org) refl;
-  workspaces = sound.workspaces;
+  places = texts.places;
+  placed = texts.placed;
+  texts = texts.texts;
+  workspaces = λ a w v e. sound.workspaces a w v (sym (workspace_carried t (org_row_added org limit t) (record { wss = refl; versions = refl; runs = refl; pages = refl; vpages = refl }) a w) ∙ e);
 }
   where
     new : Kept OrgRow
     new = (next_key id_of t.orgs, record { name = org; cap = limit })
+
+    texts : AreTexts (org_row_added org limit t)
+    texts = texts_carried t (org_row_added org limit t) refl refl refl (sound_texts t sound)
 
     none_yet : count_of (new_organization limit) ≡ 0
     none_yet = sym (len-entries (empty {X = Workspace} {R = name_cmp})) ∙ len-empty name_cmp Workspace
@@ -198,16 +213,26 @@ token_added_keeps org name digest role t sound named long cap there unnamed unkn
   org_rows = sound.org_rows;
   token_rows = all-append IsTokenRow t.tokens (new ∷ []) sound.token_rows (record { named = named; digest = long }, tt);
   counts = λ q o e. within q o (cap_of q t) refl e;
-  workspaces = sound.workspaces;
+  places = texts.places;
+  placed = texts.placed;
+  texts = texts.texts;
+  workspaces = λ a w v e. sound.workspaces a w v (sym (workspace_carried t (token_row_added org name digest role t) same_rows a w) ∙ e);
 }
   where
     new : Kept TokenRow
     new = (next_key id_of t.tokens, record { org = org; name = name; it = record { digest = digest; role = role } })
 
+    same_rows : KeepsWorkspaces t (token_row_added org name digest role t)
+    same_rows = record { wss = refl; versions = refl; runs = refl; pages = refl; vpages = refl }
+
+    texts : AreTexts (token_row_added org name digest role t)
+    texts = texts_carried t (token_row_added org name digest role t) refl refl refl (sound_texts t sound)
+
     within : (q : List ℕ) (o : Organization) (c : Option ℕ) → cap_of q t ≡ c → option_map (organization_at (token_row_added org name digest role t) q) c ≡ Some o → count_of o ≤ 100_000
     within q o None f e = absurd (let none : ⊥ = cc in none)
     within q o (Some c) f e =
-        subst (λ (r : Organization). count_of r ≤ 100_000) (one_of (organization_at (token_row_added org name digest role t) q c) o e) (sound.counts q (organization_at t q c) (ap (option_map (organization_at t q)) f))
+        subst (λ (r : Organization). count_of r ≤ 100_000) (one_of (organization_at (token_row_added org name digest role t) q c) o e)
+        (subst (λ ws. count_of (record { limit = c; tokens = tokens_at (token_row_added org name digest role t) q; workspaces = ws }) ≤ 100_000) (sym (workspaces_carried t (token_row_added org name digest role t) same_rows q)) (sound.counts q (organization_at t q c) (ap (option_map (organization_at t q)) f)))
 
 -- ---- tables with no row
 
@@ -228,5 +253,8 @@ no_rows_are_sound metas told = record {
   org_rows = tt;
   token_rows = tt;
   counts = λ org o e. absurd (let none : ⊥ = cc in none);
+  places = carried_sound no_rows (record no_rows { metas = metas }) refl refl no_rows_sound;
+  placed = tt;
+  texts = tt;
   workspaces = λ org name w e. absurd (let none : ⊥ = cc in none);
 }

@@ -29,3 +29,4 @@ pub mod Telling
 pub mod TextLists
 pub mod TextRows
 pub mod VersionEdits
+pub mod KeptTexts

@@ -17,7 +17,7 @@ use Rattle.statements.specs.Finds.{cap_of, role_of_name, role_of_digest}
 use Rattle.statements.specs.Making.{version_set}
 use Rattle.statements.specs.Tables.{Tables, Holds, no_rows, tables_of}
 use Rattle.statements.proofs.Decoding.{tables-held}
-use Rattle.tables.specs.Inner.Edits.{changed_rows}
+use Rattle.tables.specs.Inner.Edits.{changed_rows, TakesEdit}
 use Rattle.tables.specs.Records.{record_of}
 use Rattle.tables.specs.Sound.{IsSound}
 use Rattle.tables.specs.Stores.{records_of, IsSoundStore}
@@ -52,15 +52,15 @@ module _ (old new : Database) (s : IsSoundStore old) where
 
   -- ---- a change of a workspace
 
-  module _ (org ws : List ℕ) (change : Change) (moves : (t : Tables) → Holds old t → Holds new (changed_rows org ws change t)) where
+  module _ (key_of : List ℕ → List ℕ) (org ws : List ℕ) (change : Change) (moves : (t : Tables) → Holds old t → Holds new (changed_rows key_of org ws change t)) (takes : (t : Tables) → Holds old t → TakesEdit key_of org ws change.edit t) where
     pub store_changed_own : (o : Organization) → records_of old org ≡ Some o → records_of new org ≡ Some (placed o ws (changed_by change (get o.workspaces ws)))
-    store_changed_own o there = records_by new _ (moves rows_before s.holds) org ∙ changed_own org ws rows_before change o there
+    store_changed_own o there = records_by new _ (moves rows_before s.holds) org ∙ changed_own key_of org ws rows_before s.sound change (takes rows_before s.holds) o there
 
     pub store_changed_other : (q : List ℕ) → q ≢ org → records_of new q ≡ records_of old q
-    store_changed_other q apart = records_by new _ (moves rows_before s.holds) q ∙ changed_other org ws rows_before change q apart
+    store_changed_other q apart = records_by new _ (moves rows_before s.holds) q ∙ changed_other key_of org ws rows_before s.sound change (takes rows_before s.holds) q apart
 
     pub store_changed_keeps : (o : Organization) → IsTrue (is_ws_name ws) → records_of old org ≡ Some o → IsDue (seen_in o ws) change → IsSoundStore new
-    store_changed_keeps o named there due = store_by new _ (moves rows_before s.holds) (changed_keeps org ws rows_before s.sound change o named there due)
+    store_changed_keeps o named there due = store_by new _ (moves rows_before s.holds) (changed_keeps key_of org ws rows_before s.sound change (takes rows_before s.holds) o named there due)
 
   -- ---- an organization more
 

@@ -1,0 +1,44 @@
+-- What sound tables say of texts still holds after a change of a workspace.
+use Rattle.std.proofs.Common.{◌≡◌, ℕ, Bool, true, false, List, Option, Some, None, refl}
+use Rattle.machine.specs.declared.acts.Edit.{Edit}
+use Rattle.machine.specs.declared.acts.Edit.TheVariants.{Make, Configure, Remove, AddVersion, Purge, Hold, Release, AddRun, Report}
+use Rattle.machine.specs.declared.acts.Change.{Change}
+use Rattle.statements.specs.declared.rows.Holder.TheVariants.{Nobody, Lock}
+use Rattle.statements.specs.declared.rows.Workspace.{Workspace as WorkspaceCells}
+use Rattle.statements.specs.Tables.{Tables}
+use Rattle.statements.specs.Changes.{with_auto, held_by, released_from, ws_changed, run_acted}
+use Rattle.statements.specs.Finds.{workspace_of}
+use Rattle.tables.specs.Sound.{IsSound}
+use Rattle.tables.specs.Inner.Edits.{all_gone, removed_rows, made_rows, if_there, run_put, run_counted, run_rows, freed_rows, edited_rows, started_rows, changed_rows, TakesEdit}
+use Rattle.tables.proofs.TextRows.{AreTexts, sound_texts, texts_carried}
+use Rattle.tables.proofs.VersionEdits.{all_go, versions_come}
+
+there_texts : (w : Option WorkspaceCells) (after t : Tables) → AreTexts t → AreTexts after → AreTexts (if_there w after t)
+there_texts None after t texts more = texts
+there_texts (Some w) after t texts more = more
+
+freed_texts : (frees : Bool) (org ws : List ℕ) (t : Tables) → AreTexts t → AreTexts (freed_rows frees org ws t)
+freed_texts true org ws t texts = texts_carried t (freed_rows true org ws t) refl refl refl texts
+freed_texts false org ws t texts = texts
+
+module _ (key_of : List ℕ → List ℕ) (org ws : List ℕ) (t : Tables) (sound : IsSound t) where
+  edited_texts : (edit : Edit) → TakesEdit key_of org ws edit t → AreTexts (edited_rows key_of org ws edit t)
+  edited_texts (Make settings) takes = texts_carried (all_gone org ws t) (made_rows org ws settings.auto_apply t) refl refl refl (all_go org ws t sound).texts
+  edited_texts (Configure settings) takes = texts_carried t (ws_changed (with_auto settings.auto_apply) org ws t) refl refl refl (sound_texts t sound)
+  edited_texts Remove takes = texts_carried (all_gone org ws t) (removed_rows org ws t) refl refl refl (all_go org ws t sound).texts
+  edited_texts (AddVersion version outgoing) takes = (versions_come org ws t sound key_of version takes outgoing).texts
+  edited_texts Purge takes = (all_go org ws t sound).texts
+  edited_texts (Hold id text) takes = texts_carried t (ws_changed (held_by (Lock id text)) org ws t) refl refl refl (sound_texts t sound)
+  edited_texts (Release id) takes = texts_carried t (ws_changed (released_from id) org ws t) refl refl refl (sound_texts t sound)
+  edited_texts (AddRun number ask created) takes =
+      let after : Tables = run_put org ws number ask created (run_counted org ws number t) in
+      there_texts (workspace_of org ws t) after t (sound_texts t sound) (texts_carried t after refl refl refl (sound_texts t sound))
+  edited_texts (Report number action status frees) takes =
+      freed_texts frees org ws (run_acted status action org ws number t) (texts_carried t (run_acted status action org ws number t) refl refl refl (sound_texts t sound))
+
+  started_texts : (start : Option ℕ) (u : Tables) → AreTexts u → AreTexts (started_rows org ws start u)
+  started_texts None u texts = texts
+  started_texts (Some n) u texts = texts_carried u (started_rows org ws (Some n) u) refl refl refl texts
+
+  pub changed_texts : (change : Change) → TakesEdit key_of org ws change.edit t → AreTexts (changed_rows key_of org ws change t)
+  changed_texts change takes = started_texts change.start (edited_rows key_of org ws change.edit t) (edited_texts change.edit takes)
