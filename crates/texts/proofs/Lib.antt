@@ -1,6 +1,0 @@
-pub mod AddedLaws
-pub mod PieceLaws
-pub mod PieceLists
-pub mod PlaceLaws
-pub mod RemovedLaws
-pub mod TextLaws

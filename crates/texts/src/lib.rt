@@ -1,6 +1,0 @@
-//! Texts of versions, kept as pages that they share.
-#![tactic(auto)]
-
-mod texts;
-
-pub use texts::{PAGE_BYTES, add_text, remove_text, same_text, text};
