@@ -1,0 +1,3 @@
+pub mod PlaceReads
+pub mod PlaceTexts
+pub mod PlaceWrites
