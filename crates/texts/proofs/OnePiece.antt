@@ -1,0 +1,23 @@
+-- One piece of a text: the page that a row named was there.
+use Rattle.std.proofs.Common.{◌≡◌, ℕ, true, List, is_some, Option, Some, None, IsSome, option_map, Result, Ok, Err, OnOk, refl}
+use Rattle.std.specs.Prelude.{find}
+use Rattle.sqlite.specs.State.{State}
+use Rattle.statements.specs.Steps.{Moves}
+use Rattle.statements.specs.Tables.{Tables, Holds}
+use Rattle.pages.specs.Rows.{is_page, page_bytes}
+use Rattle.pages.specs.Pages.{pages_in, HasSoundPages, ReleasesPage}
+use Rattle.texts.specs.Texts.{place_removed}
+
+some_of : {A B C : Type 0} (f : A → B) (g : A → C) (o : Option A) (b : B) → option_map f o ≡ Some b → is_some (option_map g o) ≡ true
+some_of f g None b is = absurd (let none : ⊥ = cc in none)
+some_of f g (Some a) b is = refl
+
+-- a page of which a use was taken, behind the row that goes
+pub released_was_there : {X E : Type 0} (org ws : List ℕ) (n place : ℕ) (key : List ℕ) (twin : ℕ) (g : Tables → Tables) (a b c : State) (result : Result X E) → Moves (place_removed org ws n place) a b
+    → OnOk result (Moves g b c) → OnOk result ((t u : Tables) → Holds b.now t → Holds c.now u → ReleasesPage key twin (pages_in t) (pages_in u) × (HasSoundPages t → HasSoundPages u))
+    → OnOk result ((t : Tables) → Holds a.now t → IsSome (page_bytes key twin t))
+released_was_there org ws n place key twin g a b c (Ok x) removed moved releases = λ t holds.
+    let left = removed.rows t holds in
+    let released = releases (place_removed org ws n place t) (g (place_removed org ws n place t)) left (moved.rows (place_removed org ws n place t) left) in
+    some_of _ (λ x. x.1.bytes) (find (is_page key twin) t.pages) released.0.page.0 released.0.page.1
+released_was_there org ws n place key twin g a b c (Err e) removed moved releases = tt
