@@ -83,3 +83,7 @@ reads_more value next law told one a b c x z y is tells some before last = recor
 -- a read that failed behind others
 pub reads_failed : (a b c : State) → LeavesAsIs a b → KeepsCommit b c → KeepsCommit a c
 reads_failed a b c look kept = record { was_open = λ is. look.was_open (kept.was_open is); committed = λ is. kept.committed is ∙ look.committed }
+
+-- what failed behind reads was no read
+pub nothing_more : (a b : State) → LeavesAsIs a b → KeepsCommit a b
+nothing_more a b look = record { was_open = look.was_open; committed = λ _. look.committed }

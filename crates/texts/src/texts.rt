@@ -159,7 +159,8 @@ fn piece<S: Alter>(
     ensures gets { GetsBy (piece_of org.now ws.now number place) (state S.Store conn.old) (state S.Store conn.new) result }
     ensures so_far { HasCleanDisk (state S.Store conn.new) → HasCleanDisk (state S.Store conn.old) }
 {
-    match find(conn, org, ws, number, place)? {
+    let found = find(conn, org, ws, number, place)?;
+    match found {
         Some(id) => get(conn, &id),
         None => Err(Error::QueryReturnedNoRows),
     }
@@ -202,7 +203,8 @@ fn same_piece<S: Alter>(
     ensures gets { GetsBy (is_piece_of org.now ws.now number place piece.now) (state S.Store conn.old) (state S.Store conn.new) result }
     ensures so_far { HasCleanDisk (state S.Store conn.new) → HasCleanDisk (state S.Store conn.old) }
 {
-    match find(conn, org, ws, number, place)? {
+    let found = find(conn, org, ws, number, place)?;
+    match found {
         Some(id) => same(conn, &id, piece),
         None => Err(Error::QueryReturnedNoRows),
     }

@@ -20,7 +20,7 @@ returns-in_ok-remove-in-Some-clause-changed g c clean inside =
     let s0 = state g.S.Store c.args.tx.now.conn.now in
     let s1 = state g.S.Store c.remove.new.tx.conn.now in
     let s2 = state g.S.Store c.release.new.tx.conn.now in
-    let removed = (c.in_ok-remove.ensures.changed (c.release.ensures.so_far clean) inside).0 in
+    let removed = (c.in_ok-remove-in-Some.ensures.changed (c.release.ensures.so_far clean) inside).0 in
     done_behind (λ t. page_released id.key id.twin (place_removed org ws n place t)) (named_removed org ws n place c.args.id) s0 s0 s2 c.release.result (as_it_is s0)
     (λ t _. ap (λ o. named_removed org ws n place o t) (sym c.in-Some.is))
     (moves_then (place_removed org ws n place) (page_released id.key id.twin) s0 s1 s2 c.release.result removed (c.release.ensures.changed clean removed.inside))
@@ -31,6 +31,6 @@ returns-in_ok-remove-in-Some-clause-there g c clean inside =
     let s0 = state g.S.Store c.args.tx.now.conn.now in
     let s1 = state g.S.Store c.remove.new.tx.conn.now in
     let s2 = state g.S.Store c.release.new.tx.conn.now in
-    let removed = (c.in_ok-remove.ensures.changed (c.release.ensures.so_far clean) inside).0 in
+    let removed = (c.in_ok-remove-in-Some.ensures.changed (c.release.ensures.so_far clean) inside).0 in
     on_ok_weaker c.release.result (λ there t holds. subst (λ o. IsSome (bytes_named o t)) (sym c.in-Some.is) (there t holds))
     (released_was_there c.args.org.now c.args.ws.now c.args.number c.args.place id.key id.twin (page_released id.key id.twin) s0 s1 s2 c.release.result removed (c.release.ensures.changed clean removed.inside).0 (c.release.ensures.releases clean removed.inside))
