@@ -11,7 +11,7 @@ use Rattle.sqlite.specs.State.{State, Executes}
 use Rattle.sqlite_keyed.proofs.KeyedLemmas.{IsKeyedBy-delete_where}
 use Rattle.statements.specs.Place.{tree_of}
 use Rattle.statements.specs.Schema.{vpage_table}
-use Rattle.statements.specs.Rows.{Kept, id_of, VpageRow, vpage_cells, number}
+use Rattle.statements.specs.Rows.{id_of, VpageRow, vpage_cells, number}
 use Rattle.statements.specs.Tables.{Tables, Holds, vpage_layout}
 use Rattle.statements.proofs.Held.{IsHeld, vpages_held}
 use Rattle.statements.proofs.Own.{delete_own, insert_own, keyed_next}

@@ -1,7 +1,6 @@
 -- The texts of versions, in pages: the rows of vpage that name the pages of a text in turn, and what putting and taking a text does to the rows.
 use Rattle.std.specs.Prelude.{◌≡◌, ◌<◌, ℕ, zero, suc, ◌+◌, ◌-◌, ◌*◌, ◌/◌, min, ⊤, Bool, true, ◌&&◌, ◌==◌, List, [], ◌++◌, length, filter, find, take, drop, Option, Some, None, IsSome, option_map, unwrap_or}
 use Rattle.std.specs.Str.{bytes_eq}
-use Rattle.std.specs.List.{AllByRecursion}
 use Rattle.sqlite_keyed.specs.Rules.{AreApart}
 use Rattle.sqlite_keyed.specs.Lists.{delete_where}
 use Rattle.statements.specs.Rows.{Kept, VpageRow}

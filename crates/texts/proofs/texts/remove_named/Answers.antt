@@ -1,7 +1,6 @@
-use Rattle.std.proofs.Common.{OnOk, IsSome, sym, ap, subst}
+use Rattle.std.proofs.Common.{IsSome, sym, ap, subst}
 use Rattle.std.proofs.lemmas.Result.{on_ok_weaker}
 use Rattle.sqlite.specs.Held.{state}
-use Rattle.sqlite.specs.State.{HasCleanDisk}
 use Rattle.pages.specs.Puts.{page_released}
 use Rattle.pages.proofs.Looking.{as_it_is, done_behind}
 use Rattle.texts.specs.Texts.{place_removed, bytes_named}
