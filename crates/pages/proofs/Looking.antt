@@ -4,7 +4,7 @@ use Rattle.sqlite.specs.Effect.{Database}
 use Rattle.sqlite_trees.specs.Tree.{Trees}
 use Rattle.sqlite_trees.specs.View.{doubt}
 use Rattle.sqlite.specs.State.{State, HasCleanDisk, Survives, IsUnchanged, IsRolledBack, KeepsCommit}
-use Rattle.statements.specs.Steps.{Moves}
+use Rattle.statements.specs.Steps.{LeavesForeign, Moves}
 use Rattle.statements.specs.Tables.{Tables, Holds}
 use Rattle.pages.specs.Pages.{LeavesAsIs}
 
@@ -36,6 +36,7 @@ failed_behind a b c look (inr back) = record { was_open = λ is. look.was_open (
 pub moved_behind : (f g : Tables → Tables) (a b c : State) → LeavesAsIs a b → ((t : Tables) → Holds a.now t → f t ≡ g t) → Moves f b c → Moves g a c
 moved_behind f g a b c look is moved = record {
   rows = λ t holds. subst (Holds c.now) (is t holds) (moved.rows t (still_holds a b look t holds));
+  others = λ t holds. subst (λ (d : Database). LeavesForeign d c.now) look.now (moved.others t (still_holds a b look t holds));
   was_open = look.was_open moved.was_open;
   is_open = moved.is_open;
   committed = moved.committed ∙ look.committed;

@@ -10,6 +10,7 @@ use Rattle.sqlite.specs.Effect.{Database}
 use Rattle.statements.specs.Place.{tree_of, IsOwn, AreOwn}
 use Rattle.statements.specs.Rows.{Kept, id_of, OrgRow, TokenRow, WsRow, VersionRow, RunRow, PageRow, VpageRow, stored}
 use Rattle.statements.specs.Tables.{Layout, Tables, Holds, HasRows, StoredTable, stored_tables, tables_in, our_tables, rowid_of, meta_layout, org_layout, token_layout, ws_layout, version_layout, run_layout, page_layout, vpage_layout}
+use Rattle.statements.specs.Steps.{LeavesForeign}
 use Rattle.statements.proofs.Held.{rows_keyed}
 use Rattle.statements.proofs.Own.{Leads}
 
@@ -18,6 +19,18 @@ abbrev with_rows : ℕ → List Row → List StoredTable → List StoredTable
 with_rows n rows [] = []
 with_rows zero rows (x ∷ xs) = record x { rows = rows } ∷ xs
 with_rows (suc n) rows (x ∷ xs) = x ∷ with_rows n rows xs
+
+-- the database holds these rows of our tables, and what is not ours is left
+abbrev pub Turns : Database → Database → Tables → Type 0
+Turns old new u = Holds new u × LeavesForeign old new
+
+pub left_then : (a b c : Database) → LeavesForeign a b → LeavesForeign b c → LeavesForeign a c
+left_then a b c one two = record {
+  schema = two.schema ∙ one.schema;
+  rows = λ other own apart.
+      let later = two.rows other (subst (λ (s : Schema). IsOwn s other) (sym one.schema) own) (subst (λ (s : Schema). AllByRecursion (λ (ours : Table). tree_of s other.name ≢ tree_of s ours.name) our_tables) (sym one.schema) apart) in
+      subst (λ (s : Schema). c.trees (tree_of s other.name) ≡ b.trees (tree_of s other.name)) one.schema later ∙ one.rows other own apart;
+}
 
 module _ (old new : Database) (same : new.schema ≡ old.schema) where
   abbrev s : Schema
@@ -47,16 +60,17 @@ module _ (old new : Database) (same : new.schema ≡ old.schema) where
         )
 
   module _ (t : Tables) (h : Holds old t) where
-    -- the rows of a table of ours were written, and the database then holds `u`
+    -- the rows of a table of ours were written, and the database then holds `u` and leaves what is not ours
     abbrev Written : {R : Type 0} → Layout R → List (Kept R) → Tables → Type 0
-    Written layout xs u = Leads s (tree_of s layout.table.name) (map (stored layout.cells) xs) old.trees new.trees → IsKeyedBy id_of xs → Holds new u
+    Written layout xs u = Leads s (tree_of s layout.table.name) (map (stored layout.cells) xs) old.trees new.trees → IsKeyedBy id_of xs → Turns old new u
 
     written : {R : Type 0} (layout : Layout R) (n : ℕ) (xs : List (Kept R)) (u : Tables) → slice_get our_tables n ≡ Some layout.table → with_rows n (map (stored layout.cells) xs) (stored_tables t) ≡ stored_tables u → Written layout xs u
     written layout n xs u at is w keyed =
-        subst (λ k. Holds (record { schema = k; trees = new.trees }) u) (sym same) (record {
+        let left : LeavesForeign old new = record { schema = same; rows = λ other own apart. w.others other own (all-slice_get (λ (ours : Table). tree_of s other.name ≢ tree_of s ours.name) our_tables n layout.table at apart) } in
+        (subst (λ k. Holds (record { schema = k; trees = new.trees }) u) (sym same) (record {
           ours = h.ours;
           rows = subst (AllByRecursion (HasRows now)) is (one_written layout.table (map (stored layout.cells) xs) w (rows_keyed layout xs keyed) n (stored_tables t) at h.ours h.rows);
-        })
+        }), left)
 
     pub metas_written : (xs : List (Kept ℕ)) → Written meta_layout xs (record t { metas = xs })
     metas_written xs = written meta_layout 0 xs (record t { metas = xs }) refl refl

@@ -39,7 +39,7 @@ use Rattle.statements.proofs.Answered.{answered, point, first_is}
 use Rattle.statements.proofs.Commands.{is_number, point_rest, point_draft, no_page}
 use Rattle.statements.proofs.Own.{put_own, insert_others, stored_tree}
 use Rattle.statements.proofs.Casts.{meta_casts}
-use Rattle.statements.proofs.Frames.{metas_written}
+use Rattle.statements.proofs.Frames.{Turns, metas_written}
 use Rattle.statements.proofs.Held.{metas_held}
 use Rattle.statements.proofs.PointReads.{pinned}
 use Rattle.statements.proofs.ReadBack.{number_read}
@@ -117,7 +117,7 @@ pub has_meta : (db : Database) (t : Tables) → Holds db t → HasMeta db meta_t
 has_meta db t h = let held = metas_held db t h in record { place = held.own.place; rows = held.rows; keyed = held.keyed }
 
 module _ (old new : State) (t : Tables) (h : Holds old.now t) where
-  pub set_version_does : (count : ℕ) → Executes set_version_text [] old new (Ok count) → Holds new.now (version_set t)
+  pub set_version_does : (count : ℕ) → Executes set_version_text [] old new (Ok count) → Turns old.now new.now (version_set t)
   set_version_does count ran =
       let held = metas_held old.now t h in
       let left = put_own meta_cells meta_table meta_casts old new held.own t.metas held.rows held.keyed set_version_text [] count ran

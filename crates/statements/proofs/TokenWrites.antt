@@ -12,7 +12,7 @@ use Rattle.statements.specs.Changes.{is_token, token_row_added, token_removed}
 use Rattle.statements.proofs.Held.{IsHeld, tokens_held}
 use Rattle.statements.proofs.Own.{delete_own, insert_own, keyed_next}
 use Rattle.statements.proofs.Casts.{token_casts}
-use Rattle.statements.proofs.Frames.{tokens_written}
+use Rattle.statements.proofs.Frames.{Turns, tokens_written}
 use Rattle.statements.proofs.Conditions.{two_texts}
 use Rattle.statements.proofs.TokenTexts.{add_token_text, add_token_means, add_token_terms, remove_token_text, remove_token_means, remove_token_query}
 
@@ -20,14 +20,14 @@ module _ (old new : State) (count : ℕ) (t : Tables) (h : Holds old.now t) wher
   abbrev held : IsHeld token_layout old.now t.tokens
   held = tokens_held old.now t h
 
-  pub add_token_does : (org name digest : List ℕ) (role : Role) → Executes add_token_text (Text org ∷ Text name ∷ Blob digest ∷ number (role_code role) ∷ []) old new (Ok count) → Holds new.now (token_row_added org name digest role t)
+  pub add_token_does : (org name digest : List ℕ) (role : Role) → Executes add_token_text (Text org ∷ Text name ∷ Blob digest ∷ number (role_code role) ∷ []) old new (Ok count) → Turns old.now new.now (token_row_added org name digest role t)
   add_token_does org name digest role ran =
       let row : TokenRow = record { org = org; name = name; it = record { digest = digest; role = role } } in
       let left = insert_own token_cells token_table token_casts old new held.own t.tokens held.rows held.keyed add_token_text (Text org ∷ Text name ∷ Blob digest ∷ number (role_code role) ∷ []) count ran
       add_token_terms 5 (add_token_means old.now.schema _ _ held.own.place) refl refl row refl in
       tokens_written old.now new.now left.1 t h _ left.0 (keyed_next t.tokens row held.keyed)
 
-  pub remove_token_does : (org name : List ℕ) → Executes remove_token_text (Text org ∷ Text name ∷ []) old new (Ok count) → Holds new.now (token_removed org name t)
+  pub remove_token_does : (org name : List ℕ) → Executes remove_token_text (Text org ∷ Text name ∷ []) old new (Ok count) → Turns old.now new.now (token_removed org name t)
   remove_token_does org name ran =
       let left = delete_own token_cells token_table token_casts old new held.own t.tokens held.rows held.keyed remove_token_text (Text org ∷ Text name ∷ []) count ran
       (remove_token_query (tree_of old.now.schema token_table.name)) (remove_token_means old.now.schema _ _ held.own.place) refl refl refl (λ rows. refl) (is_token org name) (λ x. two_texts x.1.org org x.1.name name) (λ x. refl) in

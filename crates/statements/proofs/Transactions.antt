@@ -10,12 +10,13 @@ use Rattle.sqlite.specs.Effect.{Database}
 use Rattle.statements.specs.Making.{Alters}
 use Rattle.statements.specs.Steps.{Moves}
 use Rattle.statements.specs.Tables.{Tables, Holds}
+use Rattle.statements.proofs.Frames.{Turns, left_then}
 
 pub moves_by : {X E : Type 0} (change : Tables → Tables) (old new : State) (text : List ℕ) (params : Row) (result : Result X E) → Wrote text params old new result
-    → ((count : ℕ) (t : Tables) → Holds old.now t → Executes text params old new (Ok count) → Holds new.now (change t)) → OnOk result (Moves change old new) × OnErr result (KeepsCommit old new)
+    → ((count : ℕ) (t : Tables) → Holds old.now t → Executes text params old new (Ok count) → Turns old.now new.now (change t)) → OnOk result (Moves change old new) × OnErr result (KeepsCommit old new)
 moves_by change old new text params (Ok x) wrote does =
     let ran = wrote.0.1 in
-    (record { rows = λ t h. does wrote.0.0 t h ran.0; was_open = ran.1.was_open; is_open = ran.1.is_open; committed = ran.1.committed_is; inside = ran.1.mode }, tt)
+    (record { rows = λ t h. (does wrote.0.0 t h ran.0).0; others = λ t h. (does wrote.0.0 t h ran.0).1; was_open = ran.1.was_open; is_open = ran.1.is_open; committed = ran.1.committed_is; inside = ran.1.mode }, tt)
 moves_by change old new text params (Err e) wrote does = (tt, wrote.1)
 
 -- a write that tells whether there were rows to write
@@ -95,7 +96,7 @@ counts_by read old new text params (Ok r) (Ok n) first calm is shows = (λ t h. 
 
 pub moves_then : (f g : Tables → Tables) (a b c : State) → Moves f a b → Moves g b c → Moves (λ t. g (f t)) a c
 moves_then f g a b c one two =
-    record { rows = λ t h. two.rows (f t) (one.rows t h); was_open = one.was_open; is_open = two.is_open; committed = two.committed ∙ one.committed; inside = two.inside }
+    record { rows = λ t h. two.rows (f t) (one.rows t h); others = λ t h. left_then a.now b.now c.now (one.others t h) (two.others (f t) (one.rows t h)); was_open = one.was_open; is_open = two.is_open; committed = two.committed ∙ one.committed; inside = two.inside }
 
 pub alters_then : (F G : Database → Database → Type 0) (a b c : State) → Alters F a b → Alters G b c → Alters (λ x y. (z : Database) × F x z × G z y) a c
 alters_then F G a b c one two =

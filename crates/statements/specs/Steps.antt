@@ -1,14 +1,26 @@
 -- What a statement does: it changes the rows of our tables by a function, or reads a value of them.
-use Rattle.std.specs.Prelude.{◌≡◌, ◌⊎◌, false, IsTrue, Result, IfOk, OnOk, OnErr}
+use Rattle.std.specs.Prelude.{◌≡◌, ◌≢◌, ◌⊎◌, false, IsTrue, Result, IfOk, OnOk, OnErr}
+use Rattle.std.specs.List.{AllByRecursion}
 use Rattle.sqlite_trees.specs.declared.store.Store.{Ghosts}
 use Rattle.sqlite.specs.Held.{Held, state}
 use Rattle.sqlite.specs.State.{State, HasCleanDisk, IsUnchanged, IsRolledBack, KeepsCommit, Survives}
 use Rattle.sqlite.specs.declared.transaction.Transaction.{Transaction}
-use Rattle.statements.specs.Tables.{Tables, Holds}
+use Rattle.sqlite_schema.specs.declared.schema.Table.{Table}
+use Rattle.sqlite.specs.Effect.{Database}
+use Rattle.statements.specs.Place.{tree_of, IsOwn}
+use Rattle.statements.specs.Tables.{Tables, Holds, our_tables}
 
--- The rows change by the function, inside the transaction, which goes on.
+-- The schema stays, and so do the rows of each table of others to which no write elsewhere is passed on.
+pub record LeavesForeign (old new : Database) : Type 0 where
+  pub schema : new.schema ≡ old.schema
+  pub rows :
+      (other : Table) → IsOwn old.schema other → AllByRecursion (λ (ours : Table). tree_of old.schema other.name ≢ tree_of old.schema ours.name) our_tables
+      → new.trees (tree_of old.schema other.name) ≡ old.trees (tree_of old.schema other.name)
+
+-- The rows change by the function, inside the transaction, which goes on; what is not ours is left.
 pub record Moves (change : Tables → Tables) (old new : State) : Type 0 where
   pub rows : (t : Tables) → Holds old.now t → Holds new.now (change t)
+  pub others : (t : Tables) → Holds old.now t → LeavesForeign old.now new.now
   pub was_open : IsTrue old.is_open
   pub is_open : IsTrue new.is_open
   pub committed : new.committed ≡ old.committed
