@@ -1,26 +1,52 @@
 -- Writes, and reads, one after another: what they leave and tell, be it none.
 use Rattle.std.proofs.Common.{◌≡◌, IsTrue, Option, Some, Result, Ok, Err, OnOk, OnErr, refl, ◌∙◌}
+use Rattle.sqlite_trees.specs.declared.store.Store.{Ghosts}
+use Rattle.sqlite.specs.Held.{state}
+use Rattle.sqlite.specs.declared.transaction.Transaction.{Transaction}
 use Rattle.sqlite.specs.State.{State, HasCleanDisk, IsUnchanged, KeepsCommit}
-use Rattle.statements.specs.Steps.{Moves}
+use Rattle.statements.specs.Steps.{Moves, ChangesBy, WritesBy}
 use Rattle.statements.specs.Tables.{Tables, Holds}
 use Rattle.statements.proofs.Transactions as one_by_one
 use Rattle.pages.specs.Pages.{LeavesAsIs}
-use Rattle.pages.proofs.Looking.{as_it_is, one_look, looks_then, still_holds, moved_behind}
+use Rattle.pages.proofs.Looking.{clean_before, as_it_is, one_look, looks_then, still_holds, moved_behind}
+use Rattle.texts.specs.Steps.{WritesAllBy}
 
 -- whatever holds, holds where a call was done
 pub when_done : {X E : Type 0} {P : Type 0} (result : Result X E) → P → OnOk result P
 when_done (Ok x) is = is
 when_done (Err e) is = tt
 
--- a write, and then the last one, which may fail
+-- a write, and then the last one, which may fail, or writes that may be none
 pub moves_then : {X E : Type 0} (f g : Tables → Tables) (a b c : State) (result : Result X E) → Moves f a b → OnOk result (Moves g b c) × OnErr result (KeepsCommit b c)
     → OnOk result (Moves (λ t. g (f t)) a c) × OnErr result (KeepsCommit a c)
 moves_then f g a b c (Ok x) one last = (one_by_one.moves_then f g a b c one last.0, tt)
 moves_then f g a b c (Err e) one last = (tt, record { was_open = λ _. one.was_open; committed = λ is. last.1.committed is ∙ one.committed })
 
+pub changes_then : {X E : Type 0} (f g : Tables → Tables) (a b c : State) (result : Result X E) → (HasCleanDisk b → IsTrue a.in_transaction → Moves f a b) → (IsTrue b.is_open → ChangesBy g b c result)
+    → (HasCleanDisk c → HasCleanDisk b) → ChangesBy (λ t. g (f t)) a c result
+changes_then f g a b c result one last before clean inside =
+    let first = one (before clean) inside in
+    moves_then f g a b c result first (last first.is_open clean first.inside)
+
 -- the same write by another name, where rows that are there say so
 pub moves_as : (f g : Tables → Tables) (a b : State) → ((t : Tables) → Holds a.now t → f t ≡ g t) → Moves f a b → Moves g a b
 moves_as f g a b is moved = moved_behind f g a a b (as_it_is a) is moved
+
+-- ---- as one clause
+
+module _ {S : Type 0} (g : Ghosts S) where
+  -- one write is a case of many
+  pub writes_all : {X E : Type 0} (f : Tables → Tables) (a b : Transaction S) (result : Result X E) → WritesBy g f a b result → WritesAllBy g f a b result
+  writes_all f a b result one =
+      record { same_reference = one.same_reference; changed = λ _. one.changed; so_far = clean_before (state g a.conn.now) (state g b.conn.now) _ one.survives }
+
+  -- writes, and then others
+  pub writes_then : {X Y E F : Type 0} (f h : Tables → Tables) (a b c : Transaction S) (x : X) (result : Result Y F) → WritesAllBy {E = E} g f a b (Ok x) → WritesAllBy g h b c result → WritesAllBy g (λ t. h (f t)) a c result
+  writes_then f h a b c x result one last = record {
+    same_reference = last.same_reference ∙ one.same_reference;
+    changed = λ open_is. changes_then f h (state g a.conn.now) (state g b.conn.now) (state g c.conn.now) result (λ clean inside. (one.changed open_is clean inside).0) last.changed last.so_far;
+    so_far = λ clean. one.so_far (last.so_far clean);
+  }
 
 -- ---- writes so far
 
@@ -33,7 +59,7 @@ pub record WritesSoFar (change : Tables → Tables) (law : Tables → Type 0) (o
 pub no_writes : (law : Tables → Type 0) (s : State) → ((t : Tables) → law t) → WritesSoFar (λ t. t) law s s
 no_writes law s is = record {
   so_far = λ clean. clean;
-  moves = λ clean open_is inside. record { rows = λ t holds. holds; was_open = open_is; is_open = open_is; committed = refl; inside = inside };
+  moves = λ clean open_is inside. record { rows = λ t holds. holds; others = λ t holds. record { schema = refl; rows = λ other own apart. refl }; was_open = open_is; is_open = open_is; committed = refl; inside = inside };
   told = λ clean open_is inside t holds. is t;
 }
 

@@ -66,7 +66,7 @@ and_false true = refl
 and_false false = refl
 
 -- where one page differs, not all agree
-pub differ : (org ws : List ℕ) (n : ℕ) (t : Tables) (text : List ℕ) (place : ℕ) → is_piece_of org ws n place (piece_at text place) t ≡ Some false → (places : ℕ) → place < places
+differ : (org ws : List ℕ) (n : ℕ) (t : Tables) (text : List ℕ) (place : ℕ) → is_piece_of org ws n place (piece_at text place) t ≡ Some false → (places : ℕ) → place < places
     → false ≡ are_pieces org ws n text places t
 differ org ws n t text place one zero low = absurd (let none : ⊥ = omega (arith, low) in none)
 differ org ws n t text place one (suc places) low =
@@ -78,3 +78,7 @@ differ org ws n t text place one (suc places) low =
           let same : place ≡ places = omega (arith, from, low) in
           sym (ap (λ d. are_pieces org ws n text places t && d) (subst (λ m. bytes_eq (unwrap_or (piece_of org ws n m t) []) (piece_at text m) ≡ false) same (compared (piece_at text place) (piece_of org ws n place t) false one)) ∙ and_false (are_pieces org ws n text places t))
     ]
+
+pub one_differs : (org ws : List ℕ) (n : ℕ) (t : Tables) (text : List ℕ) (place : ℕ) (piece : List ℕ) (same : Bool) → piece ≡ piece_at text place → same ≡ false → is_piece_of org ws n place piece t ≡ Some same
+    → (places : ℕ) → place < places → false ≡ are_pieces org ws n text places t
+one_differs org ws n t text place piece same is no_more one = differ org ws n t text place (ap (λ p. is_piece_of org ws n place p t) (sym is) ∙ one ∙ ap Some no_more)

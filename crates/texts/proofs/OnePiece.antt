@@ -1,5 +1,5 @@
 -- One piece of a text: the page that a row named was there.
-use Rattle.std.proofs.Common.{◌≡◌, ℕ, true, List, is_some, Option, Some, None, IsSome, option_map, Result, Ok, Err, IfOk, OnOk, OnErr, refl, sym, ◌∙◌}
+use Rattle.std.proofs.Common.{◌≡◌, ◌<◌, ℕ, true, List, is_some, Option, Some, None, IsSome, option_map, Result, Ok, Err, IfOk, OnOk, OnErr, refl, sym, ◌∙◌, subst}
 use Rattle.std.specs.Prelude.{find}
 use Rattle.sqlite.specs.State.{State, IsUnchanged, KeepsCommit}
 use Rattle.sqlite.proofs.Callers.{unchanged_then}
@@ -8,12 +8,23 @@ use Rattle.statements.specs.Tables.{Tables, Holds}
 use Rattle.pages.specs.Rows.{is_page, page_bytes}
 use Rattle.pages.specs.Pages.{pages_in, HasSoundPages, ReleasesPage}
 use Rattle.pages.proofs.Looking.{one_look, still_holds}
-use Rattle.texts.specs.Texts.{place_removed}
+use Rattle.pages.specs.Puts.{twin_limit, twin_for, page_put}
+use Rattle.texts.specs.Texts.{place_added, place_removed}
+use Rattle.texts.specs.Inner.Calls.{piece_placed}
 use Rattle.texts.proofs.Many.{reads_failed}
 
 some_of : {A B C : Type 0} (f : A → B) (g : A → C) (o : Option A) (b : B) → option_map f o ≡ Some b → is_some (option_map g o) ≡ true
 some_of f g None b is = absurd (let none : ⊥ = cc in none)
 some_of f g (Some a) b is = refl
+
+-- the row of a page that was put names it by the key and the twin number that it was told
+pub placed_as_told : (key_of : List ℕ → List ℕ) (org ws : List ℕ) (n place : ℕ) (piece key : List ℕ) (twin : ℕ) (t : Tables) → key ≡ key_of piece → twin ≡ twin_for (key_of piece) piece t
+    → place_added org ws n place key twin (page_put (key_of piece) piece t) ≡ piece_placed key_of org ws n place piece t
+placed_as_told key_of org ws n place piece key twin t key_is twin_is i = place_added org ws n place (key_is i) (twin_is i) (page_put (key_of piece) piece t)
+
+-- and the twin number that it was told is one that SQL has
+pub told_fits : (key_of : List ℕ → List ℕ) (piece : List ℕ) (twin : ℕ) (t : Tables) → twin ≡ twin_for (key_of piece) piece t → twin < twin_limit → twin_for (key_of piece) piece t < twin_limit
+told_fits key_of piece twin t twin_is low = subst (λ m. m < twin_limit) twin_is low
 
 -- a page of which a use was taken, behind the row that goes
 pub released_was_there : {X E : Type 0} (org ws : List ℕ) (n place : ℕ) (key : List ℕ) (twin : ℕ) (g : Tables → Tables) (a b c : State) (result : Result X E) → Moves (place_removed org ws n place) a b

@@ -17,7 +17,7 @@ use Rattle.statements.proofs.Held.{IsHeld, vpages_held}
 use Rattle.statements.proofs.Own.{delete_own, insert_own, keyed_next}
 use Rattle.statements.proofs.Casts.{vpage_casts}
 use Rattle.statements.proofs.Conditions.{same_text, same_number}
-use Rattle.statements.proofs.Frames.{vpages_written}
+use Rattle.statements.proofs.Frames.{Turns, vpages_written}
 use Rattle.texts.specs.Texts.{is_place, place_added, place_removed}
 use Rattle.texts.proofs.PlaceTexts.{add_place_text, add_place_means, add_place_terms, remove_place_text, remove_place_means, remove_place_query}
 
@@ -32,14 +32,14 @@ module _ (old new : State) (count : ℕ) (t : Tables) (h : Holds old.now t) wher
   held = vpages_held old.now t h
 
   pub add_place_does : (org ws : List ℕ) (n place : ℕ) (key : List ℕ) (twin : ℕ) → Executes add_place_text (Text org ∷ Text ws ∷ number n ∷ number place ∷ Blob key ∷ number twin ∷ []) old new (Ok count)
-      → Holds new.now (place_added org ws n place key twin t)
+      → Turns old.now new.now (place_added org ws n place key twin t)
   add_place_does org ws n place key twin ran =
       let row : VpageRow = record { org = org; ws = ws; number = n; place = place; key = key; twin = twin } in
       let left = insert_own vpage_cells vpage_table vpage_casts old new held.own t.vpages held.rows held.keyed add_place_text (Text org ∷ Text ws ∷ number n ∷ number place ∷ Blob key ∷ number twin ∷ []) count ran
       add_place_terms 7 (add_place_means old.now.schema _ _ held.own.place) refl refl row refl in
       vpages_written old.now new.now left.1 t h _ left.0 (keyed_next t.vpages row held.keyed)
 
-  pub remove_place_does : (org ws : List ℕ) (n place : ℕ) → Executes remove_place_text (Text org ∷ Text ws ∷ number n ∷ number place ∷ []) old new (Ok count) → Holds new.now (place_removed org ws n place t)
+  pub remove_place_does : (org ws : List ℕ) (n place : ℕ) → Executes remove_place_text (Text org ∷ Text ws ∷ number n ∷ number place ∷ []) old new (Ok count) → Turns old.now new.now (place_removed org ws n place t)
   remove_place_does org ws n place ran =
       let left = delete_own vpage_cells vpage_table vpage_casts old new held.own t.vpages held.rows held.keyed remove_place_text (Text org ∷ Text ws ∷ number n ∷ number place ∷ []) count ran
       (remove_place_query (tree_of old.now.schema vpage_table.name)) (remove_place_means old.now.schema _ _ held.own.place) refl refl refl (λ rows. refl)

@@ -30,11 +30,7 @@ pub(crate) fn add<'v, S: Alter>(
     let number = signed(number);
     let place = signed(place);
     let twin = signed(twin);
-    write(
-        tx,
-        ADD_PLACE,
-        params![org, ws, &number, &place, key, &twin],
-    )
+    write(tx, ADD_PLACE, params![org, ws, &number, &place, key, &twin])
 }
 
 const REMOVE_PLACE: &str =

@@ -1,9 +1,8 @@
-use Rattle.std.proofs.Common.{◌<◌, length, Some, sym, ap, ◌∙◌, subst}
+use Rattle.std.proofs.Common.{◌<◌, length, subst}
 use Rattle.sqlite.specs.Held.{state}
 use Rattle.pages.proofs.Looking.{one_look, looks_then, still_holds}
 use Rattle.texts.specs.Texts.{pages_for}
-use Rattle.texts.specs.Inner.Calls.{is_piece_of}
-use Rattle.texts.proofs.NextPiece.{differ}
+use Rattle.texts.proofs.NextPiece.{one_differs}
 use Rattle.texts.proofs.texts.same_text.Goals as goal
 
 pub returns-then-not-branch : goal.returns-then-not-branch
@@ -24,8 +23,8 @@ returns-then-not-branch g c =
           let look = some.looks (before clean) in
           let got = c.in_ok-same_piece.ensures.gets clean in (
             λ t holds.
-                let one = got.0 t (still_holds s0 s1 look t holds) ∙ ap Some c.if-not-branch.true in
-                differ org ws n t text place (ap (λ p. is_piece_of org ws n place p t) (sym c.piece_at.ensures) ∙ one) (pages_for (length text)) (subst (λ m. place < m) c.pages_for-pages.ensures c.places-test.true),
+                one_differs org ws n t text place c.piece_at.result.now c.in_ok-same_piece.field-0 c.piece_at.ensures c.if-not-branch.true (got.0 t (still_holds s0 s1 look t holds)) (pages_for (length text))
+                (subst (λ m. place < m) c.pages_for-pages.ensures c.places-test.true),
             (looks_then s0 s1 s2 look (one_look s1 s2 got.1.0), tt),
           );
       so_far = λ clean. some.so_far (before clean);
