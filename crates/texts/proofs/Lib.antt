@@ -1,1 +1,2 @@
 pub mod PieceLists
+pub mod PlaceLaws
