@@ -1,2 +1,3 @@
+pub mod AddedLaws
 pub mod PieceLists
 pub mod PlaceLaws
