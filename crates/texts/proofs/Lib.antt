@@ -1,3 +1,4 @@
 pub mod AddedLaws
 pub mod PieceLists
 pub mod PlaceLaws
+pub mod RemovedLaws
