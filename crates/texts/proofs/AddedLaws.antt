@@ -1,8 +1,8 @@
 -- What a piece that is put, and the pieces of a text, leave of the rows.
-use Rattle.std.proofs.Common.{◌≡◌, ◌<◌, ◌≤◌, ◌⊎◌, inl, inr, ℕ, zero, suc, ◌+◌, Bool, true, false, cond, List, [], ◌∷◌, ◌++◌, length, filter, find, Option, Some, None, option_map, refl, sym, ap, ◌∙◌, subst, arith}
+use Rattle.std.proofs.Common.{◌≡◌, ◌<◌, ◌≤◌, ◌⊎◌, inl, inr, ℕ, zero, suc, ◌+◌, nat_lt, Bool, true, false, cond, List, [], ◌∷◌, ◌++◌, length, filter, find, Option, Some, None, option_map, refl, sym, ap, ◌∙◌, subst, arith}
 use Rattle.std.specs.Prelude.{unwrap_or}
 use Rattle.std.specs.List.{AllByRecursion}
-use Rattle.std.proofs.lemmas.Bool.{false_from_ne_true, true≢false}
+use Rattle.std.proofs.lemmas.Bool.{false_from_ne_true, true≢false, ltb-true, ltb-false}
 use Rattle.sqlite_keyed.specs.Keyed.{next_key}
 use Rattle.sqlite_keyed.specs.Rules.{AreApart}
 use Rattle.sqlite_keyed.proofs.ListLemmas.{all_weaker, all-append}
@@ -147,3 +147,58 @@ module _ (key_of : List ℕ → List ℕ) (org ws : List ℕ) (n : ℕ) (text : 
           turned y e = false_from_ne_true (is_place y.1.org y.1.ws y.1.number y.1.place new_row) (λ f.
               let a = place_parts y.1.org y.1.ws y.1.number new_row y.1.place f in
               true≢false (sym (place_from org ws n y place (sym a.0) (sym a.1.0) (sym a.1.1.0) (sym a.1.1.1)) ∙ e))
+
+-- ---- the pieces of a text that is put
+
+-- a version with no row has none at a place
+pub no_place : (org ws : List ℕ) (n place : ℕ) (xs : List (Kept VpageRow)) → find (is_place_of org ws n) xs ≡ None → find (is_place org ws n place) xs ≡ None
+no_place org ws n place xs none =
+    none_found (is_place org ws n place) xs (all_weaker (λ x. is_place_of org ws n x ≡ false) (λ x. is_place org ws n place x ≡ false) narrower xs (none_passes (is_place_of org ws n) xs none))
+  where
+    narrower : (x : Kept VpageRow) → is_place_of org ws n x ≡ false → is_place org ws n place x ≡ false
+    narrower x e = false_from_ne_true (is_place org ws n place x) (λ f. let a = place_parts org ws n x place f in true≢false (sym (version_from org ws n x a.0 a.1.0 a.1.1.0) ∙ e))
+
+module _ (key_of : List ℕ → List ℕ) (org ws : List ℕ) (n : ℕ) (text : List ℕ) (t : Tables) where
+  abbrev after : ℕ → Tables
+  after place = pieces_added key_of org ws n text place t
+
+  pub pieces_find : (p : Kept VpageRow → Bool) (place : ℕ) → ((q : ℕ) → q < place → (x : Kept VpageRow) → is_place org ws n q x ≡ true → p x ≡ false) → find p (after place).vpages ≡ find p t.vpages
+  pieces_find p zero other = refl
+  pieces_find p (suc place) other = added_find key_of org ws n text place (after place) p (other place (omega arith)) ∙ pieces_find p place (λ q below. other q (omega (arith, below)))
+
+  pub pieces_all : (P : Kept VpageRow → Type 0) (place : ℕ) → ((x : Kept VpageRow) → x.1.org ≡ org → x.1.ws ≡ ws → x.1.number ≡ n → x.1.place < place → P x) → AllByRecursion P t.vpages → AllByRecursion P (after place).vpages
+  pieces_all P zero new all = all
+  pieces_all P (suc place) new all =
+      added_all key_of org ws n text place (after place) P (λ x e f g h. new x e f g (omega (arith, h))) (pieces_all P place (λ x e f g below. new x e f g (omega (arith, below))) all)
+
+  pub pieces_rest : (place : ℕ) → after place ≡ record t { pages = (after place).pages; vpages = (after place).vpages }
+  pieces_rest zero = refl
+  pieces_rest (suc place) =
+      added_rest key_of org ws n text place (after place) ∙ ap (λ (u : Tables). record u { pages = (after (suc place)).pages; vpages = (after (suc place)).vpages }) (pieces_rest place)
+
+  module _ (sound : HasSoundPlaces t) (none : HasNoPlaces org ws n t) where
+    free_place : (place : ℕ) → find (is_place org ws n place) (after place).vpages ≡ None
+    free_place place = pieces_find (is_place org ws n place) place (λ q below. other_place org ws n q place (λ e. absurd (omega (arith, e, below)))) ∙ no_place org ws n place t.vpages none
+
+    pub pieces_sound : (place : ℕ) → TwinsFit key_of org ws n text place t → HasSoundPlaces (after place)
+    pieces_sound zero fit = sound
+    pieces_sound (suc place) fit = added_sound key_of org ws n text place (after place) (pieces_sound place fit.0) fit.1 (free_place place)
+
+    pub pieces_stay : (o w : List ℕ) (m q place : ℕ) → TwinsFit key_of org ws n text place t → ((r : ℕ) → r < place → IsOtherPlace o w m q org ws n r) → piece_of o w m q (after place) ≡ piece_of o w m q t
+    pieces_stay o w m q zero fit other = refl
+    pieces_stay o w m q (suc place) fit other =
+        added_stays key_of org ws n text place (after place) (pieces_sound place fit.0) fit.1 o w m q (other place (omega arith))
+        ∙ pieces_stay o w m q place fit.0 (λ r below. other r (omega (arith, below)))
+
+    pub pieces_own : (place : ℕ) → TwinsFit key_of org ws n text place t → (q : ℕ) → q < place → piece_of org ws n q (after place) ≡ Some (piece_at text q)
+    pieces_own zero fit q below = absurd (omega (arith, below))
+    pieces_own (suc place) fit q below = go (nat_lt q place) refl (pieces_own place fit.0 q)
+      where
+        last : q ≡ place → piece_of org ws n q (after (suc place)) ≡ Some (piece_at text q)
+        last same = rw same (added_own key_of org ws n text place (after place) (pieces_sound place fit.0) fit.1 (free_place place))
+
+        go : (b : Bool) → nat_lt q place ≡ b → (q < place → piece_of org ws n q (after place) ≡ Some (piece_at text q)) → piece_of org ws n q (after (suc place)) ≡ Some (piece_at text q)
+        go true e before =
+            let under : q < place = ltb-true q place e in
+            added_stays key_of org ws n text place (after place) (pieces_sound place fit.0) fit.1 org ws n q (other_place org ws n place q (λ e. absurd (omega (arith, e, under)))) ∙ before under
+        go false e before = let over : place ≤ q = ltb-false q place e in last (omega (arith, over, below))

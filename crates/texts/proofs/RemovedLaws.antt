@@ -9,7 +9,7 @@ use Rattle.sqlite_keyed.proofs.ListLemmas.{all-filter}
 use Rattle.sqlite_keyed.proofs.RuleLemmas.{apart_delete}
 use Rattle.statements.specs.Rows.{Kept, PageRow, VpageRow}
 use Rattle.statements.specs.Tables.{Tables}
-use Rattle.statements.proofs.Found.{found_passes, find_left}
+use Rattle.statements.proofs.Found.{find_left, find_deleted}
 use Rattle.pages.specs.declared.store.PageId.{PageId}
 use Rattle.pages.specs.Rows.{page_bytes, page_uses, page_used, page_removed}
 use Rattle.pages.specs.Puts.{lessened, released_found, page_released}
@@ -175,3 +175,46 @@ module _ (org ws : List ℕ) (n place : ℕ) (t : Tables) where
       where
         same : page_at o w m q v ≡ page_at o w m q t
         same = ap (option_map page_name) (removed_find (is_place o w m q) other)
+
+-- ---- the pieces of a text that is taken away
+
+module _ (org ws : List ℕ) (n : ℕ) (t : Tables) where
+  abbrev after : ℕ → Tables
+  after place = pieces_removed org ws n place t
+
+  pub gone_find : (p : Kept VpageRow → Bool) (place : ℕ) → ((q : ℕ) → q < place → (x : Kept VpageRow) → is_place org ws n q x ≡ true → p x ≡ false) → find p (after place).vpages ≡ find p t.vpages
+  gone_find p zero other = refl
+  gone_find p (suc place) other = removed_find org ws n place (after place) p (other place (omega arith)) ∙ gone_find p place (λ q below. other q (omega (arith, below)))
+
+  pub gone_all : (P : Kept VpageRow → Type 0) (place : ℕ) → AllByRecursion P t.vpages → AllByRecursion P (after place).vpages
+  gone_all P zero all = all
+  gone_all P (suc place) all = removed_all org ws n place (after place) P (gone_all P place all)
+
+  pub gone_rest : (place : ℕ) → after place ≡ record t { pages = (after place).pages; vpages = (after place).vpages }
+  gone_rest zero = refl
+  gone_rest (suc place) = removed_rest org ws n place (after place) ∙ ap (λ (u : Tables). record u { pages = (after (suc place)).pages; vpages = (after (suc place)).vpages }) (gone_rest place)
+
+  -- no row is left at the places
+  pub gone_places : (place q : ℕ) → q < place → find (is_place org ws n q) (after place).vpages ≡ None
+  gone_places zero q below = absurd (omega (arith, below))
+  gone_places (suc place) q below = go (nat_lt q place) refl (gone_places place q)
+    where
+      still : find (is_place org ws n q) (after place).vpages ≡ None → find (is_place org ws n q) (after (suc place)).vpages ≡ None
+      still none = none_found (is_place org ws n q) (after (suc place)).vpages (removed_all org ws n place (after place) (λ x. is_place org ws n q x ≡ false) (none_passes (is_place org ws n q) (after place).vpages none))
+
+      last : q ≡ place → find (is_place org ws n q) (after (suc place)).vpages ≡ None
+      last same = rw same (ap (find (is_place org ws n place)) (removed_rows org ws n place (after place)) ∙ find_deleted (is_place org ws n place) (after place).vpages)
+
+      go : (b : Bool) → nat_lt q place ≡ b → (q < place → find (is_place org ws n q) (after place).vpages ≡ None) → find (is_place org ws n q) (after (suc place)).vpages ≡ None
+      go true e before = still (before (ltb-true q place e))
+      go false e before = let over : place ≤ q = ltb-false q place e in last (omega (arith, over, below))
+
+  module _ (sound : HasSoundPlaces t) where
+    pub gone_sound : (place : ℕ) → HasSoundPlaces (after place)
+    gone_sound zero = sound
+    gone_sound (suc place) = removed_sound org ws n place (after place) (gone_sound place)
+
+    pub gone_stay : (o w : List ℕ) (m q place : ℕ) → ((r : ℕ) → r < place → IsOtherPlace o w m q org ws n r) → piece_of o w m q (after place) ≡ piece_of o w m q t
+    gone_stay o w m q zero other = refl
+    gone_stay o w m q (suc place) other =
+        removed_stays org ws n place (after place) (gone_sound place) o w m q (other place (omega arith)) ∙ gone_stay o w m q place (λ r below. other r (omega (arith, below)))
