@@ -1,4 +1,5 @@
 pub mod AddedLaws
+pub mod PieceLaws
 pub mod PieceLists
 pub mod PlaceLaws
 pub mod RemovedLaws
