@@ -3,3 +3,4 @@ pub mod PieceLaws
 pub mod PieceLists
 pub mod PlaceLaws
 pub mod RemovedLaws
+pub mod TextLaws

@@ -71,6 +71,23 @@ module _ (org ws : List ℕ) (n : ℕ) (t : Tables) where
     pub whole_size : length (text_of org ws n size t) ≡ size
     whole_size = whole_length (pages_for size) (omega arith) ∙ (let hold = pages_hold size in omega (arith, hold))
 
+-- ---- pieces that stay
+
+module _ (o w : List ℕ) (m : ℕ) (t u : Tables) (stay : (q : ℕ) → piece_of o w m q u ≡ piece_of o w m q t) where
+  pub whole_stays : (size : ℕ) → IsWhole o w m size t → IsWhole o w m size u
+  whole_stays size whole place below = let there = whole place below in (there.0, stay place ∙ there.1, there.2)
+
+  pub joined_stays : (place : ℕ) → joined o w m place u ≡ joined o w m place t
+  joined_stays zero = refl
+  joined_stays (suc place) = ap₂ ◌++◌ (joined_stays place) (ap (λ (p : Option (List ℕ)). unwrap_or p []) (stay place))
+
+  pub text_stays : (size : ℕ) → text_of o w m size u ≡ text_of o w m size t
+  text_stays size = joined_stays (pages_for size)
+
+  pub compared_stays : (text : List ℕ) (place : ℕ) → are_pieces o w m text place u ≡ are_pieces o w m text place t
+  compared_stays text zero = refl
+  compared_stays text (suc place) = ap₂ ◌&&◌ (compared_stays text place) (ap (λ (p : Option (List ℕ)). bytes_eq (unwrap_or p []) (piece_at text place)) (stay place))
+
 -- ---- a text compared
 
 split_eq : (a b c d : List ℕ) → length a ≡ length c → bytes_eq (a ++ b) (c ++ d) ≡ (bytes_eq a c && bytes_eq b d)
