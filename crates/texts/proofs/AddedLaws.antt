@@ -6,7 +6,7 @@ use Rattle.std.proofs.lemmas.Bool.{false_from_ne_true, true≢false, ltb-true, l
 use Rattle.sqlite_keyed.specs.Keyed.{next_key}
 use Rattle.sqlite_keyed.specs.Rules.{AreApart}
 use Rattle.sqlite_keyed.proofs.ListLemmas.{all_weaker, all-append}
-use Rattle.statements.specs.Rows.{Kept, id_of, PageRow, VpageRow}
+use Rattle.statements.specs.Rows.{Kept, id_of, VpageRow}
 use Rattle.statements.specs.Tables.{Tables}
 use Rattle.statements.specs.Changes.{with_next}
 use Rattle.statements.proofs.Found.{find_pushed, find_pushed_other, apart_pushed}
@@ -15,9 +15,9 @@ use Rattle.pages.specs.Rows.{page_bytes, page_uses, equal_page}
 use Rattle.pages.specs.Puts.{twin_limit, twin_for, put_found, page_put}
 use Rattle.pages.specs.Pages.{Page, pages_in, HasSoundPages, PutsPage}
 use Rattle.pages.proofs.PageLaws.{put_is, put_keeps}
-use Rattle.texts.specs.Texts.{is_place_of, is_place, names_page, place_added, page_name, page_at, bytes_named, piece_of, piece_at, piece_added, pieces_added, TwinsFit, HasNoPlaces, HasSoundPlaces}
+use Rattle.texts.specs.Texts.{is_place_of, is_place, names_page, place_added, page_name, bytes_named, piece_of, piece_at, piece_added, pieces_added, TwinsFit, HasNoPlaces, HasSoundPlaces}
 use Rattle.texts.proofs.PieceLists.{none_passes, none_found, counted_more}
-use Rattle.texts.proofs.PlaceLaws.{IsOtherPlace, IsOtherVersion, place_parts, place_from, version_from, version_parts, other_place, other_version, named_from, named_not, same_page, bytes_are, uses_are, named_there, piece_stays}
+use Rattle.texts.proofs.PlaceLaws.{IsOtherPlace, place_parts, place_from, version_from, other_place, named_from, named_not, same_page, bytes_are, uses_are, named_there, piece_stays}
 
 -- ---- a page that is put
 

@@ -7,17 +7,17 @@ use Rattle.sqlite_keyed.specs.Lists.{delete_where}
 use Rattle.sqlite_keyed.specs.Rules.{AreApart}
 use Rattle.sqlite_keyed.proofs.ListLemmas.{all-filter}
 use Rattle.sqlite_keyed.proofs.RuleLemmas.{apart_delete}
-use Rattle.statements.specs.Rows.{Kept, PageRow, VpageRow}
+use Rattle.statements.specs.Rows.{Kept, VpageRow}
 use Rattle.statements.specs.Tables.{Tables}
 use Rattle.statements.proofs.Found.{find_left, find_deleted}
 use Rattle.pages.specs.declared.store.PageId.{PageId}
 use Rattle.pages.specs.Rows.{page_bytes, page_uses, page_used, page_removed}
-use Rattle.pages.specs.Puts.{lessened, released_found, page_released}
+use Rattle.pages.specs.Puts.{released_found, page_released}
 use Rattle.pages.specs.Pages.{Page, pages_in, HasSoundPages, less_used, ReleasesPage}
 use Rattle.pages.proofs.PageLaws.{release_is, release_keeps}
-use Rattle.texts.specs.Texts.{is_place_of, is_place, names_page, place_removed, page_name, page_at, released_at, piece_of, piece_removed, pieces_removed, HasNoPlaces, HasSoundPlaces}
+use Rattle.texts.specs.Texts.{is_place, names_page, place_removed, page_name, page_at, released_at, piece_of, piece_removed, pieces_removed, HasSoundPlaces}
 use Rattle.texts.proofs.PieceLists.{none_passes, none_found, none_deleted, counted_some, counted_less}
-use Rattle.texts.proofs.PlaceLaws.{IsOtherPlace, places_clash, other_place, named_from, named_not, same_page, bytes_are, uses_are, page_there, named_there, piece_stays}
+use Rattle.texts.proofs.PlaceLaws.{IsOtherPlace, places_clash, named_from, named_not, same_page, bytes_are, uses_are, page_there, named_there, piece_stays}
 
 -- ---- a page that is released
 

@@ -1,17 +1,16 @@
 -- What putting a text and taking it away leave of the texts of versions: soundness, the text itself, and every other.
-use Rattle.std.proofs.Common.{◌≡◌, ◌<◌, ◌≤◌, ℕ, Bool, true, false, nat_lt, List, [], ◌∷◌, length, filter, find, Option, Some, None, option_map, refl, sym, ap, ap₂, ◌∙◌, subst, arith}
+use Rattle.std.proofs.Common.{◌≡◌, ◌<◌, ℕ, false, List, [], ◌∷◌, length, find, Some, refl, sym, ap, ◌∙◌, subst}
 use Rattle.std.specs.List.{AllByRecursion}
 use Rattle.std.proofs.lemmas.Bool.{false_from_ne_true, true≢false}
-use Rattle.sqlite_keyed.proofs.ListLemmas.{all_both, all_weaker}
 use Rattle.statements.specs.Rows.{Kept, PageRow, VpageRow}
 use Rattle.statements.specs.Tables.{Tables, no_rows}
 use Rattle.pages.specs.Rows.{page_bytes}
-use Rattle.texts.specs.Texts.{is_place_of, is_place, pages_for, pieces_removed, piece_at, page_at, piece_of, text_added, text_removed, text_of, TwinsFit, are_pieces, IsWhole, HasNoPlaces, HasSoundPlaces}
+use Rattle.texts.specs.Texts.{is_place_of, is_place, pages_for, piece_at, page_at, piece_of, text_added, text_removed, text_of, TwinsFit, are_pieces, IsWhole, HasNoPlaces, HasSoundPlaces}
 use Rattle.texts.proofs.PieceLists.{none_passes, none_found}
 use Rattle.texts.proofs.PlaceLaws.{IsOtherVersion, other_version, other_rows, version_parts, place_from, piece_stays}
 use Rattle.texts.proofs.PieceLaws.{whole_stays, text_stays, compared_stays, text_pieces, pieces_whole}
 use Rattle.texts.proofs.AddedLaws.{pieces_find, pieces_all, pieces_rest, pieces_sound, pieces_stay, pieces_own}
-use Rattle.texts.proofs.RemovedLaws.{gone_find, gone_all, gone_rest, gone_places, gone_sound, gone_stay}
+use Rattle.texts.proofs.RemovedLaws.{gone_all, gone_rest, gone_places, gone_sound, gone_stay}
 
 -- ---- a text that is put
 

@@ -1,5 +1,5 @@
 -- The texts of versions, in pages: the rows of vpage that name the pages of a text in turn, and what putting and taking a text does to the rows.
-use Rattle.std.specs.Prelude.{◌≡◌, ◌<◌, ℕ, zero, suc, ◌+◌, ◌-◌, ◌*◌, ◌/◌, min, ⊤, Bool, true, ◌&&◌, ◌==◌, List, [], ◌++◌, length, filter, find, take, drop, Option, Some, None, option_map, unwrap_or}
+use Rattle.std.specs.Prelude.{◌≡◌, ◌<◌, ℕ, zero, suc, ◌+◌, ◌-◌, ◌*◌, ◌/◌, min, ⊤, Bool, true, ◌&&◌, ◌==◌, List, [], ◌++◌, length, filter, find, take, drop, Option, Some, None, IsSome, option_map, unwrap_or}
 use Rattle.std.specs.Str.{bytes_eq}
 use Rattle.std.specs.List.{AllByRecursion}
 use Rattle.sqlite_keyed.specs.Rules.{AreApart}
@@ -100,6 +100,14 @@ bytes_named (Some id) t = page_bytes id.key id.twin t
 -- the bytes of the page at a place of a version, if it is there
 abbrev pub piece_of : List ℕ → List ℕ → ℕ → ℕ → Tables → Option (List ℕ)
 piece_of org ws n place t = bytes_named (page_at org ws n place t) t
+
+-- the first pages of a version, so many, are there
+abbrev pub AreThere : List ℕ → List ℕ → ℕ → ℕ → Tables → Type 0
+AreThere org ws n places t = (place : ℕ) → place < places → IsSome (piece_of org ws n place t)
+
+-- each of the first pages of a version, so many, is there as its row is removed
+abbrev pub WereThere : List ℕ → List ℕ → ℕ → ℕ → Tables → Type 0
+WereThere org ws n places t = (place : ℕ) → place < places → IsSome (piece_of org ws n place (pieces_removed org ws n place t))
 
 -- the bytes of the first pages of a version, so many
 abbrev pub joined : List ℕ → List ℕ → ℕ → ℕ → Tables → List ℕ
