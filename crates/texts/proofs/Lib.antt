@@ -3,4 +3,5 @@ pub mod PieceLaws
 pub mod PieceLists
 pub mod PlaceLaws
 pub mod RemovedLaws
+pub mod TextExamples
 pub mod TextLaws

@@ -1,16 +1,31 @@
 -- What putting a text and taking it away leave of the texts of versions: soundness, the text itself, and every other.
-use Rattle.std.proofs.Common.{◌≡◌, ◌<◌, ℕ, false, List, [], ◌∷◌, length, find, Some, refl, sym, ap, ◌∙◌, subst}
+use Rattle.std.proofs.Common.{◌≡◌, ◌<◌, ℕ, false, List, [], ◌∷◌, length, find, Some, None, refl, sym, ap, ◌∙◌, subst}
 use Rattle.std.specs.List.{AllByRecursion}
 use Rattle.std.proofs.lemmas.Bool.{false_from_ne_true, true≢false}
+use Rattle.sqlite_keyed.proofs.ListLemmas.{all_weaker}
 use Rattle.statements.specs.Rows.{Kept, PageRow, VpageRow}
 use Rattle.statements.specs.Tables.{Tables, no_rows}
 use Rattle.pages.specs.Rows.{page_bytes}
 use Rattle.texts.specs.Texts.{is_place_of, is_place, pages_for, piece_at, page_at, piece_of, text_added, text_removed, text_of, TwinsFit, are_pieces, IsWhole, HasNoPlaces, HasSoundPlaces}
 use Rattle.texts.proofs.PieceLists.{none_passes, none_found}
-use Rattle.texts.proofs.PlaceLaws.{IsOtherVersion, other_version, other_rows, version_parts, place_from, piece_stays}
+use Rattle.texts.proofs.PlaceLaws.{IsOtherVersion, other_version, other_rows, version_parts, version_from, place_from, piece_stays}
 use Rattle.texts.proofs.PieceLaws.{whole_stays, text_stays, compared_stays, text_pieces, pieces_whole}
 use Rattle.texts.proofs.AddedLaws.{pieces_find, pieces_all, pieces_rest, pieces_sound, pieces_stay, pieces_own}
 use Rattle.texts.proofs.RemovedLaws.{gone_all, gone_rest, gone_places, gone_sound, gone_stay}
+
+-- ---- a version with no row
+
+module _ (org ws : List ℕ) (n : ℕ) (xs : List (Kept VpageRow)) where
+  abbrev IsElsewhere : Kept VpageRow → Type 0
+  IsElsewhere x = ¬ ((x.1.org ≡ org) × ((x.1.ws ≡ ws) × (x.1.number ≡ n)))
+
+  -- each row is of another version
+  pub rows_elsewhere : find (is_place_of org ws n) xs ≡ None → AllByRecursion IsElsewhere xs
+  rows_elsewhere none = all_weaker (λ x. is_place_of org ws n x ≡ false) IsElsewhere (λ x e same. true≢false (sym (version_from org ws n x same.0 same.1.0 same.1.1) ∙ e)) xs (none_passes (is_place_of org ws n) xs none)
+
+  pub none_elsewhere : AllByRecursion IsElsewhere xs → find (is_place_of org ws n) xs ≡ None
+  none_elsewhere all =
+      none_found (is_place_of org ws n) xs (all_weaker IsElsewhere (λ x. is_place_of org ws n x ≡ false) (λ x other. false_from_ne_true (is_place_of org ws n x) (λ e. other (version_parts org ws n x e))) xs all)
 
 -- ---- a text that is put
 
