@@ -150,7 +150,9 @@ module _ (org ws : List ℕ) (n place : ℕ) (t : Tables) where
                 ap (λ (o : Option ℕ). unwrap_or o 0) (released_other_uses x.1.key x.1.twin without p.0 p.1 k m other) ∙ before ∙ less ∙ omega (arith, none)
             by_page (inl same) =
                 let one : ◌≡◌ {A = ℕ} (cond (names_page k m x) 1 0) 1 = ap (λ (b : Bool). cond b 1 0) (named_from k m x (sym same.0) (sym same.1)) in
-                let before : p.0.uses ≡ length (filter (names_page k m) t.vpages) = sym (ap (λ (o : Option ℕ). unwrap_or o 0) (uses_are k m t ∙ ap (option_map (λ (q : Page). q.uses)) (ap (λ (l : List ℕ). pages_in t l m) same.0 ∙ ap (λ (i : ℕ). pages_in t x.1.key i) same.1 ∙ p.1))) ∙ sound.counted k m in
+                let before : p.0.uses ≡ length (filter (names_page k m) t.vpages) =
+                sym (ap (λ (o : Option ℕ). unwrap_or o 0) (uses_are k m t ∙ ap (option_map (λ (q : Page). q.uses)) (ap (λ (l : List ℕ). pages_in t l m) same.0 ∙ ap (λ (i : ℕ). pages_in t x.1.key i) same.1 ∙ p.1)))
+                ∙ sound.counted k m in
                 let after : unwrap_or (page_uses k m (page_released x.1.key x.1.twin without)) 0 ≡ p.0.uses - 1 = rw (same.0, same.1) (released_uses x.1.key x.1.twin without p.0 p.1) in
                 after ∙ omega (arith, one, before, less)
 

@@ -16,7 +16,7 @@ use Rattle.texts.proofs.RemovedLaws.{gone_all, gone_rest, gone_places, gone_soun
 -- ---- a version with no row
 
 module _ (org ws : List ℕ) (n : ℕ) (xs : List (Kept VpageRow)) where
-  abbrev IsElsewhere : Kept VpageRow → Type 0
+  abbrev pub IsElsewhere : Kept VpageRow → Type 0
   IsElsewhere x = ¬ ((x.1.org ≡ org) × ((x.1.ws ≡ ws) × (x.1.number ≡ n)))
 
   -- each row is of another version
@@ -30,102 +30,98 @@ module _ (org ws : List ℕ) (n : ℕ) (xs : List (Kept VpageRow)) where
 -- ---- a text that is put
 
 module _ (key_of : List ℕ → List ℕ) (org ws : List ℕ) (n : ℕ) (text : List ℕ) (t : Tables) where
-  abbrev put : Tables
-  put = text_added key_of org ws n text t
-
-  abbrev Fits : Type 0
-  Fits = TwinsFit key_of org ws n text (pages_for (length text)) t
-
   -- places stay sound
-  pub text_added_keeps : HasSoundPlaces t → HasNoPlaces org ws n t → Fits → HasSoundPlaces put
+  pub text_added_keeps : HasSoundPlaces t → HasNoPlaces org ws n t → TwinsFit key_of org ws n text (pages_for (length text)) t → HasSoundPlaces (text_added key_of org ws n text t)
   text_added_keeps sound none fit = pieces_sound key_of org ws n text t sound none (pages_for (length text)) fit
 
-  own_pieces : HasSoundPlaces t → HasNoPlaces org ws n t → Fits → (q : ℕ) → q < pages_for (length text) → piece_of org ws n q put ≡ Some (piece_at text q)
+  own_pieces : HasSoundPlaces t → HasNoPlaces org ws n t → TwinsFit key_of org ws n text (pages_for (length text)) t → (q : ℕ) → q < pages_for (length text) → piece_of org ws n q (text_added key_of org ws n text t) ≡ Some (piece_at text q)
   own_pieces sound none fit = pieces_own key_of org ws n text t sound none (pages_for (length text)) fit
 
   -- the text is there, each page of it
-  pub text_added_whole : HasSoundPlaces t → HasNoPlaces org ws n t → Fits → IsWhole org ws n (length text) put
-  text_added_whole sound none fit = pieces_whole org ws n put text (own_pieces sound none fit)
+  pub text_added_whole : HasSoundPlaces t → HasNoPlaces org ws n t → TwinsFit key_of org ws n text (pages_for (length text)) t → IsWhole org ws n (length text) (text_added key_of org ws n text t)
+  text_added_whole sound none fit = pieces_whole org ws n (text_added key_of org ws n text t) text (own_pieces sound none fit)
 
   -- what is read is what was put
-  pub text_added_text : HasSoundPlaces t → HasNoPlaces org ws n t → Fits → text_of org ws n (length text) put ≡ text
-  text_added_text sound none fit = text_pieces org ws n put text (own_pieces sound none fit)
+  pub text_added_text : HasSoundPlaces t → HasNoPlaces org ws n t → TwinsFit key_of org ws n text (pages_for (length text)) t → text_of org ws n (length text) (text_added key_of org ws n text t) ≡ text
+  text_added_text sound none fit = text_pieces org ws n (text_added key_of org ws n text t) text (own_pieces sound none fit)
 
   -- every other version has its text
-  module _ (sound : HasSoundPlaces t) (none : HasNoPlaces org ws n t) (fit : Fits) (o w : List ℕ) (m : ℕ) (other : IsOtherVersion o w m org ws n) where
-    pub text_added_others_pieces : (q : ℕ) → piece_of o w m q put ≡ piece_of o w m q t
+  module _ (sound : HasSoundPlaces t) (none : HasNoPlaces org ws n t) (fit : TwinsFit key_of org ws n text (pages_for (length text)) t) (o w : List ℕ) (m : ℕ) (other : IsOtherVersion o w m org ws n) where
+    pub text_added_others_pieces : (q : ℕ) → piece_of o w m q (text_added key_of org ws n text t) ≡ piece_of o w m q t
     text_added_others_pieces q = pieces_stay key_of org ws n text t sound none o w m q (pages_for (length text)) fit (λ r below. other_version o w m org ws n other q r)
 
-    pub text_added_others_whole : (size : ℕ) → IsWhole o w m size t → IsWhole o w m size put
-    text_added_others_whole = whole_stays o w m t put text_added_others_pieces
+    pub text_added_others_whole : (size : ℕ) → IsWhole o w m size t → IsWhole o w m size (text_added key_of org ws n text t)
+    text_added_others_whole = whole_stays o w m t (text_added key_of org ws n text t) text_added_others_pieces
 
-    pub text_added_others_text : (size : ℕ) → text_of o w m size put ≡ text_of o w m size t
-    text_added_others_text = text_stays o w m t put text_added_others_pieces
+    pub text_added_others_text : (size : ℕ) → text_of o w m size (text_added key_of org ws n text t) ≡ text_of o w m size t
+    text_added_others_text = text_stays o w m t (text_added key_of org ws n text t) text_added_others_pieces
 
   -- a version without a row is without one afterwards, if it is another one
-  pub text_added_others_none : (o w : List ℕ) (m : ℕ) → IsOtherVersion o w m org ws n → HasNoPlaces o w m t → HasNoPlaces o w m put
+  pub text_added_others_none : (o w : List ℕ) (m : ℕ) → IsOtherVersion o w m org ws n → HasNoPlaces o w m t → HasNoPlaces o w m (text_added key_of org ws n text t)
   text_added_others_none o w m other none = pieces_find key_of org ws n text t (is_place_of o w m) (pages_for (length text)) (λ q below. other_rows o w m org ws n other q) ∙ none
 
   -- a law on rows is kept that the version's new rows have
   pub text_added_places : (P : Kept VpageRow → Type 0) → AllByRecursion P t.vpages
-      → ((x : Kept VpageRow) → x.1.org ≡ org → x.1.ws ≡ ws → x.1.number ≡ n → x.1.place < pages_for (length text) → P x) → AllByRecursion P put.vpages
+      → ((x : Kept VpageRow) → x.1.org ≡ org → x.1.ws ≡ ws → x.1.number ≡ n → x.1.place < pages_for (length text) → P x) → AllByRecursion P (text_added key_of org ws n text t).vpages
   text_added_places P all new = pieces_all key_of org ws n text t P (pages_for (length text)) new all
 
   -- the other tables stay
-  pub text_added_rest : put ≡ record t { pages = put.pages; vpages = put.vpages }
+  pub text_added_rest : text_added key_of org ws n text t ≡ record t { pages = (text_added key_of org ws n text t).pages; vpages = (text_added key_of org ws n text t).vpages }
   text_added_rest = pieces_rest key_of org ws n text t (pages_for (length text))
 
-  pub text_added_metas : put.metas ≡ t.metas
+  pub text_added_metas : (text_added key_of org ws n text t).metas ≡ t.metas
   text_added_metas = ap (λ (u : Tables). u.metas) text_added_rest
 
-  pub text_added_orgs : put.orgs ≡ t.orgs
+  pub text_added_orgs : (text_added key_of org ws n text t).orgs ≡ t.orgs
   text_added_orgs = ap (λ (u : Tables). u.orgs) text_added_rest
 
-  pub text_added_tokens : put.tokens ≡ t.tokens
+  pub text_added_tokens : (text_added key_of org ws n text t).tokens ≡ t.tokens
   text_added_tokens = ap (λ (u : Tables). u.tokens) text_added_rest
 
-  pub text_added_wss : put.wss ≡ t.wss
+  pub text_added_wss : (text_added key_of org ws n text t).wss ≡ t.wss
   text_added_wss = ap (λ (u : Tables). u.wss) text_added_rest
 
-  pub text_added_versions : put.versions ≡ t.versions
+  pub text_added_versions : (text_added key_of org ws n text t).versions ≡ t.versions
   text_added_versions = ap (λ (u : Tables). u.versions) text_added_rest
 
-  pub text_added_runs : put.runs ≡ t.runs
+  pub text_added_runs : (text_added key_of org ws n text t).runs ≡ t.runs
   text_added_runs = ap (λ (u : Tables). u.runs) text_added_rest
 
 -- ---- a text that is taken away
 
 module _ (org ws : List ℕ) (n size : ℕ) (t : Tables) where
-  abbrev taken : Tables
-  taken = text_removed org ws n size t
-
   -- places stay sound
-  pub text_removed_keeps : HasSoundPlaces t → IsWhole org ws n size t → HasSoundPlaces taken
+  pub text_removed_keeps : HasSoundPlaces t → IsWhole org ws n size t → HasSoundPlaces (text_removed org ws n size t)
   text_removed_keeps sound whole = gone_sound org ws n t sound (pages_for size)
 
   -- every other version has its text
   module _ (sound : HasSoundPlaces t) (whole : IsWhole org ws n size t) (o w : List ℕ) (m : ℕ) (other : IsOtherVersion o w m org ws n) where
-    pub text_removed_others_pieces : (q : ℕ) → piece_of o w m q taken ≡ piece_of o w m q t
+    pub text_removed_others_pieces : (q : ℕ) → piece_of o w m q (text_removed org ws n size t) ≡ piece_of o w m q t
     text_removed_others_pieces q = gone_stay org ws n t sound o w m q (pages_for size) (λ r below. other_version o w m org ws n other q r)
 
-    pub text_removed_others_whole : (others : ℕ) → IsWhole o w m others t → IsWhole o w m others taken
-    text_removed_others_whole = whole_stays o w m t taken text_removed_others_pieces
+    pub text_removed_others_whole : (others : ℕ) → IsWhole o w m others t → IsWhole o w m others (text_removed org ws n size t)
+    text_removed_others_whole = whole_stays o w m t (text_removed org ws n size t) text_removed_others_pieces
 
-    pub text_removed_others_text : (others : ℕ) → text_of o w m others taken ≡ text_of o w m others t
-    text_removed_others_text = text_stays o w m t taken text_removed_others_pieces
+    pub text_removed_others_text : (others : ℕ) → text_of o w m others (text_removed org ws n size t) ≡ text_of o w m others t
+    text_removed_others_text = text_stays o w m t (text_removed org ws n size t) text_removed_others_pieces
 
   -- a law on rows is kept
-  pub text_removed_places : (P : Kept VpageRow → Type 0) → AllByRecursion P t.vpages → AllByRecursion P taken.vpages
+  pub text_removed_places : (P : Kept VpageRow → Type 0) → AllByRecursion P t.vpages → AllByRecursion P (text_removed org ws n size t).vpages
   text_removed_places P = gone_all org ws n t P (pages_for size)
 
   -- a version without a row is without one afterwards
-  pub text_removed_others_none : (o w : List ℕ) (m : ℕ) → HasNoPlaces o w m t → HasNoPlaces o w m taken
-  text_removed_others_none o w m none = none_found (is_place_of o w m) taken.vpages (text_removed_places (λ x. is_place_of o w m x ≡ false) (none_passes (is_place_of o w m) t.vpages none))
+  pub text_removed_others_none : (o w : List ℕ) (m : ℕ) → HasNoPlaces o w m t → HasNoPlaces o w m (text_removed org ws n size t)
+  text_removed_others_none o w m none = none_found (is_place_of o w m) (text_removed org ws n size t).vpages (text_removed_places (λ x. is_place_of o w m x ≡ false) (none_passes (is_place_of o w m) t.vpages none))
 
   -- where all rows of the version stand below the end of its text, none is left
-  pub text_removed_none : HasSoundPlaces t → AllByRecursion (λ (x : Kept VpageRow). x.1.org ≡ org → x.1.ws ≡ ws → x.1.number ≡ n → x.1.place < pages_for size) t.vpages → IsWhole org ws n size t → HasNoPlaces org ws n taken
-  text_removed_none sound below whole = none_found (is_place_of org ws n) taken.vpages (go taken.vpages (λ q under. none_passes (is_place org ws n q) taken.vpages (gone_places org ws n t (pages_for size) q under)) (text_removed_places Below below))
+  pub text_removed_none : HasSoundPlaces t
+      → AllByRecursion (λ (x : Kept VpageRow). x.1.org ≡ org → x.1.ws ≡ ws → x.1.number ≡ n → x.1.place < pages_for size) t.vpages
+      → IsWhole org ws n size t → HasNoPlaces org ws n (text_removed org ws n size t)
+  text_removed_none sound below whole = none_found (is_place_of org ws n) left (go left (λ q under. none_passes (is_place org ws n q) left (gone_places org ws n t (pages_for size) q under)) (text_removed_places Below below))
     where
+      left : List (Kept VpageRow)
+      left = (text_removed org ws n size t).vpages
+
       Below : Kept VpageRow → Type 0
       Below x = x.1.org ≡ org → x.1.ws ≡ ws → x.1.number ≡ n → x.1.place < pages_for size
 
@@ -141,25 +137,25 @@ module _ (org ws : List ℕ) (n size : ℕ) (t : Tables) where
       ]
 
   -- the other tables stay
-  pub text_removed_rest : taken ≡ record t { pages = taken.pages; vpages = taken.vpages }
+  pub text_removed_rest : text_removed org ws n size t ≡ record t { pages = (text_removed org ws n size t).pages; vpages = (text_removed org ws n size t).vpages }
   text_removed_rest = gone_rest org ws n t (pages_for size)
 
-  pub text_removed_metas : taken.metas ≡ t.metas
+  pub text_removed_metas : (text_removed org ws n size t).metas ≡ t.metas
   text_removed_metas = ap (λ (u : Tables). u.metas) text_removed_rest
 
-  pub text_removed_orgs : taken.orgs ≡ t.orgs
+  pub text_removed_orgs : (text_removed org ws n size t).orgs ≡ t.orgs
   text_removed_orgs = ap (λ (u : Tables). u.orgs) text_removed_rest
 
-  pub text_removed_tokens : taken.tokens ≡ t.tokens
+  pub text_removed_tokens : (text_removed org ws n size t).tokens ≡ t.tokens
   text_removed_tokens = ap (λ (u : Tables). u.tokens) text_removed_rest
 
-  pub text_removed_wss : taken.wss ≡ t.wss
+  pub text_removed_wss : (text_removed org ws n size t).wss ≡ t.wss
   text_removed_wss = ap (λ (u : Tables). u.wss) text_removed_rest
 
-  pub text_removed_versions : taken.versions ≡ t.versions
+  pub text_removed_versions : (text_removed org ws n size t).versions ≡ t.versions
   text_removed_versions = ap (λ (u : Tables). u.versions) text_removed_rest
 
-  pub text_removed_runs : taken.runs ≡ t.runs
+  pub text_removed_runs : (text_removed org ws n size t).runs ≡ t.runs
   text_removed_runs = ap (λ (u : Tables). u.runs) text_removed_rest
 
 -- ---- tables with the same pages and rows of vpage
