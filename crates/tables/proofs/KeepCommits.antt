@@ -41,6 +41,13 @@ module _ {S : Type 0} (g : Ghosts S) (h k l m : Held S) (settled : IsSettled (st
       let from : Moves f (state g (record h { in_transaction = true })) (state g l) = subst (λ x. Moves f (state g x) (state g l)) begun moved in
       (tt, failed (state g h) (state g l) (state g m) e (λ _. from.was_open) (λ _. from.committed) fails)
 
+  -- what was told of the rows in the transaction, is told of those that were committed before it
+  pub told_committed : (f : Tables → Tables) (law : Tables → Type 0) → Moves f (state g k) (state g l) → ((t : Tables) → Holds (state g k).now t → law t) → (t : Tables) → Holds (state g h).committed t → law t
+  told_committed f law moved told t held =
+      let from : Moves f (state g (record h { in_transaction = true })) (state g l) = subst (λ x. Moves f (state g x) (state g l)) begun moved in
+      let seen : (u : Tables) → Holds (state g (record h { in_transaction = true })).now u → law u = subst (λ x. (u : Tables) → Holds (state g x).now u → law u) begun told in
+      seen t (subst (λ (d : Database). Holds d t) (sym (settled from.was_open)) held)
+
   pub made_by : {X : Type 0} (result : Result X Error) → Alters HasSchema (state g k) (state g l) → OnOk result (Ends (state g l) (state g m)) → IfErr result (FailsToCommit (state g l) (state g m))
       → OnOk result (IsMade (state g h) (state g m)) × OnErr result (KeepsCommit (state g h) (state g m))
   made_by (Ok x) made ends fails =

@@ -1,18 +1,22 @@
 -- Steps inside one transaction, one after the other.
-use Rattle.std.proofs.Common.{◌≡◌, ◌≤◌, ℕ, true, List, is_some, IsTrue, Option, Some, None, Result, Ok, Err, OnOk, OnErr, ◌∙◌, arith}
+use Rattle.std.proofs.Common.{◌≡◌, ◌≤◌, ◌⊎◌, ℕ, true, List, is_some, IsTrue, Option, Some, None, Result, Ok, Err, OnOk, OnErr, refl, ◌∙◌, arith}
 use Rattle.sqlite_trees.specs.View.{doubt}
 use Rattle.sqlite_trees.specs.Tree.{Trees}
 use Rattle.sqlite_trees.specs.declared.store.Store.{Ghosts}
 use Rattle.sqlite.specs.Held.{state}
-use Rattle.sqlite.specs.State.{State, HasCleanDisk, Survives, KeepsCommit}
+use Rattle.sqlite.specs.State.{State, HasCleanDisk, Survives, IsUnchanged, IsRolledBack, KeepsCommit}
 use Rattle.sqlite.specs.declared.transaction.Transaction.{Transaction}
 use Rattle.statements.specs.Steps.{Moves, WritesBy}
 use Rattle.statements.specs.declared.rows.Workspace.{Workspace}
-use Rattle.statements.specs.Finds.{workspace_of}
+use Rattle.statements.specs.Finds.{workspace_of, size_of}
 use Rattle.statements.specs.Tables.{Tables, Holds}
 use Rattle.statements.proofs.Frames.{left_then}
-use Rattle.tables.specs.Inner.Edits.{if_there}
-use Rattle.tables.specs.Inner.Steps.{StepsBy}
+use Rattle.tables.specs.Inner.Edits.{if_there, numbered_rows, FitsTwins, TakesVersion}
+use Rattle.machine.specs.declared.records.Version.{Version}
+use Rattle.pages.proofs.Looking.{as_it_is, one_look, still_inside, failed_behind, moved_behind, done_behind}
+use Rattle.texts.specs.Steps.{WritesAllBy, TellsBefore}
+use Rattle.texts.proofs.Many.{changes_then, moves_as}
+use Rattle.tables.specs.Inner.Steps.{TellsIn, StepsBy}
 
 pub clean_before : (a b : State) (C : Trees → Type 0) → Survives a b C → HasCleanDisk b → HasCleanDisk a
 clean_before a b C s clean = let low : doubt a.is_clean ≤ doubt b.is_clean = s.clean in omega (arith, low, clean)
@@ -75,3 +79,96 @@ module _ {S : Type 0} (g : Ghosts S) where
     changed = λ clean inside. moves_there org ws f (state g a.conn.now) (state g c.conn.now) (found (so_far clean) inside) result (all.changed clean inside);
     so_far = all.so_far;
   }
+
+  -- a step, and then writes that may be none
+  pub steps_then_all : {X Y E F : Type 0} (f h : Tables → Tables) (a b c : Transaction S) (x : X) (result : Result Y F) → StepsBy {E = E} g f a b (Ok x) → WritesAllBy g h b c result → StepsBy g (λ t. h (f t)) a c result
+  steps_then_all f h a b c x result one last = record {
+    same_reference = last.same_reference ∙ one.same_reference;
+    changed = changes_then f h (state g a.conn.now) (state g b.conn.now) (state g c.conn.now) result (λ clean inside. (one.changed clean inside).0) last.changed last.so_far;
+    so_far = λ clean. one.so_far (last.so_far clean);
+  }
+
+  -- what writes tell behind a step, they tell of the rows before it
+  pub told_then : {X Y E F : Type 0} (f : Tables → Tables) (law : Tables → Type 0) (a b c : Transaction S) (x : X) (result : Result Y F) → StepsBy {E = E} g f a b (Ok x) → (HasCleanDisk (state g c.conn.now) → HasCleanDisk (state g b.conn.now))
+      → TellsBefore law (state g b.conn.now) (state g c.conn.now) result → TellsIn (λ t. law (f t)) (state g a.conn.now) (state g c.conn.now) result
+  told_then f law a b c x (Ok y) one so_far told clean inside =
+      let first = (one.changed (so_far clean) inside).0 in
+      λ t holds. told first.is_open clean first.inside (f t) (first.rows t holds)
+  told_then f law a b c x (Err e) one so_far told clean inside = tt
+
+  -- a query, and then a step that it says the meaning of
+  module _ (a b : Transaction S) (same_reference : b.conn.ghost_name ≡ a.conn.ghost_name) (survives : Survives (state g a.conn.now) (state g b.conn.now) (λ _. ⊥)) where
+    pub step_behind : {Y F : Type 0} (f h : Tables → Tables) (c : Transaction S) (result : Result Y F)
+        → (HasCleanDisk (state g b.conn.now) → ((t : Tables) → Holds (state g a.conn.now).now t → f t ≡ h t) × IsUnchanged (state g a.conn.now) (state g b.conn.now)) → StepsBy g f b c result → StepsBy g h a c result
+    step_behind f h c result told last = record {
+      same_reference = last.same_reference ∙ same_reference;
+      changed = λ clean inside.
+          let seen = told (last.so_far clean) in
+          let look = one_look (state g a.conn.now) (state g b.conn.now) seen.1 in
+          done_behind f h (state g a.conn.now) (state g b.conn.now) (state g c.conn.now) result look seen.0 (last.changed clean (still_inside (state g a.conn.now) (state g b.conn.now) look inside));
+      so_far = λ clean. clean_before (state g a.conn.now) (state g b.conn.now) _ survives (last.so_far clean);
+    }
+
+    -- a query, behind which there is nothing to do
+    pub step_none : {Y F : Type 0} (h : Tables → Tables) (y : Y)
+        → (HasCleanDisk (state g b.conn.now) → ((t : Tables) → Holds (state g a.conn.now).now t → t ≡ h t) × IsUnchanged (state g a.conn.now) (state g b.conn.now)) → StepsBy {E = F} g h a b (Ok y)
+    step_none h y told = record {
+      same_reference = same_reference;
+      changed = λ clean inside.
+          let seen = told clean in
+          let look = one_look (state g a.conn.now) (state g b.conn.now) seen.1 in
+          (moved_behind (λ t. t) h (state g a.conn.now) (state g b.conn.now) (state g b.conn.now) look seen.0 (record {
+            rows = λ t holds. holds;
+            others = λ t holds. record { schema = refl; rows = λ other own apart. refl };
+            was_open = seen.1.0.is_open;
+            is_open = seen.1.0.is_open;
+            committed = refl;
+            inside = still_inside (state g a.conn.now) (state g b.conn.now) look inside;
+          }), tt);
+      so_far = clean_before (state g a.conn.now) (state g b.conn.now) _ survives;
+    }
+
+    -- a query that failed, or one behind which the step fails
+    pub step_failed : {Y F : Type 0} (h : Tables → Tables) (e : F) → (HasCleanDisk (state g b.conn.now) → IsUnchanged (state g a.conn.now) (state g b.conn.now) ⊎ IsRolledBack (state g a.conn.now) (state g b.conn.now)) → StepsBy {X = Y} g h a b (Err e)
+    step_failed h e told = record {
+      same_reference = same_reference;
+      changed = λ clean inside. (tt, failed_behind (state g a.conn.now) (state g a.conn.now) (state g b.conn.now) (as_it_is (state g a.conn.now)) (told clean));
+      so_far = clean_before (state g a.conn.now) (state g b.conn.now) _ survives;
+    }
+
+  -- steps that come to another one, by what the last of them told
+  module _ {Y E : Type 0} (h k : Tables → Tables) (b c : Transaction S) (y : Y) (last : StepsBy {E = E} g h b c (Ok y)) where
+    pub step_as : {Z F : Type 0} (z : Z) → (HasCleanDisk (state g c.conn.now) → IsTrue (state g b.conn.now).in_transaction → (t : Tables) → Holds (state g b.conn.now).now t → h t ≡ k t) → StepsBy {E = F} g k b c (Ok z)
+    step_as z is = record {
+      same_reference = last.same_reference;
+      changed = λ clean inside. (moves_as h k (state g b.conn.now) (state g c.conn.now) (is clean inside) (last.changed clean inside).0, tt);
+      so_far = last.so_far;
+    }
+
+    pub steps_as : {X Z D F : Type 0} (f : Tables → Tables) (a : Transaction S) (x : X) (z : Z) → StepsBy {E = D} g f a b (Ok x) → (law : Tables → Type 0)
+        → (HasCleanDisk (state g c.conn.now) → IsTrue (state g b.conn.now).in_transaction → (t : Tables) → Holds (state g b.conn.now).now t → law t) → ((t : Tables) → law (f t) → h (f t) ≡ k t) → StepsBy {E = F} g k a c (Ok z)
+    steps_as f a x z one law told is = record {
+      same_reference = last.same_reference ∙ one.same_reference;
+      changed = λ clean inside.
+          let first = (one.changed (last.so_far clean) inside).0 in
+          let both = moves_then {E = E} f h (state g a.conn.now) (state g b.conn.now) (state g c.conn.now) (Ok y) first (last.changed clean first.inside) in
+          (moves_as (λ t. h (f t)) k (state g a.conn.now) (state g c.conn.now) (λ t holds. is t (told clean first.inside (f t) (first.rows t holds))) both.0, tt);
+      so_far = λ clean. one.so_far (last.so_far clean);
+    }
+
+  -- what the steps tell by which a version comes
+  pub takes_by : {X Y D E : Type 0} (key_of : List ℕ → List ℕ) (org ws : List ℕ) (v : Version) (a b c d : Transaction S) (x : X) (y : Y)
+      → StepsBy {E = D} g (numbered_rows org ws v) a b (Ok x) → TellsIn {E = D} (λ t. is_some (workspace_of org ws t) ≡ true) (state g a.conn.now) (state g b.conn.now) (Ok x)
+      → StepsBy {E = E} g (λ t. t) b c (Ok y) → TellsIn {E = E} (λ t. size_of org ws v.number t ≡ None) (state g b.conn.now) (state g c.conn.now) (Ok y)
+      → (HasCleanDisk (state g d.conn.now) → HasCleanDisk (state g c.conn.now)) → (HasCleanDisk (state g d.conn.now) → IsTrue (state g c.conn.now).in_transaction → (t : Tables) → Holds (state g c.conn.now).now t → FitsTwins key_of org ws v t)
+      → HasCleanDisk (state g d.conn.now) → IsTrue (state g a.conn.now).in_transaction → (t : Tables) → Holds (state g a.conn.now).now t → TakesVersion key_of org ws v t
+  takes_by key_of org ws v a b c d x y one found two fresh before fits clean inside t holds =
+      let late = before clean in
+      let mid = two.so_far late in
+      let first = (one.changed mid inside).0 in
+      let second = (two.changed late first.inside).0 in
+      record {
+        there = found mid inside t holds;
+        fresh = fresh late first.inside (numbered_rows org ws v t) (first.rows t holds);
+        fits = fits clean second.inside (numbered_rows org ws v t) (second.rows (numbered_rows org ws v t) (first.rows t holds));
+      }

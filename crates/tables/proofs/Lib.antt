@@ -30,3 +30,4 @@ pub mod TextLists
 pub mod TextRows
 pub mod VersionEdits
 pub mod KeptTexts
+pub mod GoneSteps

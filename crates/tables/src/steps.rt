@@ -30,12 +30,11 @@ fn remove_version<S: Alter>(
     ensures { StepsBy S.Store (version_gone org.now ws.now head.now) tx.old tx.new result }
 {
     let number = head.number;
-    let size = head.size;
-    if number > i64::MAX as u64 || size > i64::MAX as u64 {
+    if number > i64::MAX as u64 {
         return Err(Error::IntegralValueOutOfRange(0));
     }
     versions::remove(tx, org, ws, number)?;
-    texts::remove_text(tx, org, ws, number, size)
+    texts::remove_text(tx, org, ws, number, head.size)
 }
 
 /// Of the versions with numbers below this one, that which was added first goes. It tells whether there was one.
@@ -71,7 +70,7 @@ fn remove_below<S: Alter>(
     if !remove_oldest(tx, org, ws, below)? {
         return Ok(());
     }
-    for _ in 1..MOST_GONE {
+    'versions: for gone in 1..MOST_GONE {
         if !remove_oldest(tx, org, ws, below)? {
             return Ok(());
         }
