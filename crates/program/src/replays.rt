@@ -10,7 +10,9 @@ use crate::endings::Ending;
 use crate::frames::read_frames;
 use crate::replies::{print_bad_frame, print_replies, say};
 use basis::{Bytes, Down};
+use pages::ShaKey;
 use serve::{Service, Step};
+use sqlite::MemStore;
 use std::alloc::Global;
 use std::io;
 use std::io::{Read, Write};
@@ -26,7 +28,7 @@ struct Replay {
 fn replayed(alloc: Global, steps: &[Step]) -> Result<Vec<Bytes>, Down>
     ensures { IfOk result (λ replies. AreReplies steps.now replies.items) }
 {
-    let empty = SqlKeep::in_memory(alloc)?;
+    let empty = SqlKeep::<MemStore, ShaKey>::in_memory(alloc)?;
     let mut service = Service::new(empty);
     let replies = service.replay(alloc, steps);
     let keep = service.into_keep();

@@ -3,6 +3,7 @@ use crate::failures::Failure;
 use crate::plays::{Play, Question};
 use crate::taking::{Way, take_over};
 use machine::PlainKeep;
+use pages::ShaKey;
 use sqlite::{Connection, Error, MemStore};
 use std::alloc::Global;
 use tables::SqlKeep;
@@ -43,7 +44,7 @@ fn in_values(alloc: Global, play: &Play, way: Way) -> Result<(), Failure> {
     taken
 }
 
-type Tables = SqlKeep<MemStore>;
+type Tables = SqlKeep<MemStore, ShaKey>;
 
 // The first value of the first row, as text.
 fn ask(alloc: Global, conn: &mut Connection<MemStore>, sql: &str) -> Result<String, Error> {
@@ -61,7 +62,7 @@ fn asked(alloc: Global, keep: Tables, question: &Question) -> Result<Tables, Fai
     if !conn.is_autocommit() {
         return Err(Failure::refused(question.line, "the question began a transaction"));
     }
-    let Ok(keep) = SqlKeep::open(conn) else {
+    let Ok(keep) = SqlKeep::<MemStore, ShaKey>::open(conn) else {
         return Err(Failure::refused(question.line, "the tables don't open again"));
     };
     told(alloc, question, answer)?;
@@ -98,7 +99,7 @@ fn taken_to(
 }
 
 fn in_tables(alloc: Global, play: &Play, way: Way) -> Result<(), Failure> {
-    let mut keep = SqlKeep::in_memory(alloc)?;
+    let mut keep = SqlKeep::<MemStore, ShaKey>::in_memory(alloc)?;
     let mut from = 0;
     for question in play.questions.as_slice() {
         keep = taken_to(alloc, keep, way, play, from, question.place)?;

@@ -3,6 +3,7 @@ ghost use Rattle.std.specs.Prelude.{⊤, None};
 
 use crate::steps::{NOW, WITH_STATE, steps_of, takes};
 use basis::{Down, Moment};
+use pages::ShaKey;
 use program::endings::Ending;
 use program::lines::split_line;
 use program::outside::{Clock, Connections, Files};
@@ -188,21 +189,21 @@ struct Memory {
     is_closed: bool,
 }
 
-impl Files<SqlKeep<MemStore>> for Memory {
+impl Files<SqlKeep<MemStore, ShaKey>> for Memory {
     ghost holds = { λ _ _ _. ⊤ };
 
     ghost copied = { λ _ _ _. ⊤ };
 
     ghost is_other = { λ _ _. ⊤ };
 
-    fn open(&mut self, _path: &str) -> Result<SqlKeep<MemStore>, Fault> {
-        match SqlKeep::in_memory(self.alloc) {
+    fn open(&mut self, _path: &str) -> Result<SqlKeep<MemStore, ShaKey>, Fault> {
+        match SqlKeep::<MemStore, ShaKey>::in_memory(self.alloc) {
             Ok(keep) => Ok(keep),
             Err(_) => Err(Fault::Down),
         }
     }
 
-    fn close(&mut self, _path: &str, store: SqlKeep<MemStore>) -> Result<(), Down> {
+    fn close(&mut self, _path: &str, store: SqlKeep<MemStore, ShaKey>) -> Result<(), Down> {
         drop(store.close());
         if self.is_closed { Ok(()) } else { Err(Down) }
     }
@@ -336,7 +337,7 @@ fn timeouts(idle: u64, most: u64) -> Result<Timeouts, Fail> {
 // How a loop over one peer ends by this clock.
 fn ending_by(
     alloc: Global,
-    service: &mut Service<SqlKeep<MemStore>>,
+    service: &mut Service<SqlKeep<MemStore, ShaKey>>,
     clock: Option<Moment>,
     timeouts: &Timeouts,
 ) -> Ending {
@@ -364,7 +365,7 @@ fn ending_by(
 #[test]
 fn a_clock_out_of_range_ends_it(rt: HostRuntime) -> Result<(), Fail> {
     let usual = timeouts(IDLE_SECONDS, MOST_SECONDS)?;
-    let mut service = Service::new(SqlKeep::in_memory(rt.alloc())?);
+    let mut service = Service::new(SqlKeep::<MemStore, ShaKey>::in_memory(rt.alloc())?);
     let untimed = ending_by(rt.alloc(), &mut service, None, &usual);
     let timed = ending_by(rt.alloc(), &mut service, Moment::new(NOW), &usual);
     drop(service.into_keep());
@@ -384,7 +385,7 @@ const STATE: &[u8] =
     b"HTTP/1.1 200 OK\r\nDate: Tue, 14 Nov 2023 22:13:20 GMT\r\nConnection: close\r\nCache-Control: private, no-store\r\nContent-Type: application/json\r\nContent-Length: 39\r\n\r\n{\"version\":4,\"serial\":1,\"lineage\":\"a1\"}";
 
 // The state of the first version stands in the workspace net of acme.
-fn add_state(alloc: Global, service: &mut Service<SqlKeep<MemStore>>) -> Result<(), Fail> {
+fn add_state(alloc: Global, service: &mut Service<SqlKeep<MemStore, ShaKey>>) -> Result<(), Fail> {
     let steps = steps_of(alloc, WITH_STATE)?;
     check(takes(alloc, service, steps.as_slice()), "replies")
 }
@@ -419,7 +420,7 @@ fn served<N: Connections>(
     alloc: Global,
     network: &mut N,
     port: u16,
-    service: &mut Service<SqlKeep<MemStore>>,
+    service: &mut Service<SqlKeep<MemStore, ShaKey>>,
     count: u32,
     timeouts: &Timeouts,
     told: &[u8],
@@ -443,7 +444,7 @@ fn served<N: Connections>(
     listening_at(alloc, port, output.as_slice())
 }
 
-fn loopback(rt: &HostRuntime, service: &mut Service<SqlKeep<MemStore>>) -> Result<(), Fail> {
+fn loopback(rt: &HostRuntime, service: &mut Service<SqlKeep<MemStore, ShaKey>>) -> Result<(), Fail> {
     add_state(rt.alloc(), service)?;
     let mut network = TcpSockets::new(rt);
     let port = network.bind(Ipv4Addr::LOCALHOST, 0)?;
@@ -455,7 +456,7 @@ fn loopback(rt: &HostRuntime, service: &mut Service<SqlKeep<MemStore>>) -> Resul
 
 #[test]
 fn a_peer_reads_its_state(rt: HostRuntime) -> Result<(), Fail> {
-    let mut service = Service::new(SqlKeep::in_memory(rt.alloc())?);
+    let mut service = Service::new(SqlKeep::<MemStore, ShaKey>::in_memory(rt.alloc())?);
     let done = loopback(&rt, &mut service);
     drop(service.into_keep());
     done
@@ -491,7 +492,7 @@ fn check_status(peer: &mut TcpStream, due: &[u8]) -> Result<(), Fail> {
     check(status.as_slice() == due, "its status")
 }
 
-fn rude_peers(rt: &HostRuntime, service: &mut Service<SqlKeep<MemStore>>) -> Result<(), Fail> {
+fn rude_peers(rt: &HostRuntime, service: &mut Service<SqlKeep<MemStore, ShaKey>>) -> Result<(), Fail> {
     add_state(rt.alloc(), service)?;
     let mut network = TcpSockets::new(rt);
     let port = network.bind(Ipv4Addr::LOCALHOST, 0)?;
@@ -507,7 +508,7 @@ fn rude_peers(rt: &HostRuntime, service: &mut Service<SqlKeep<MemStore>>) -> Res
 
 #[test]
 fn rude_peers_end_nothing(rt: HostRuntime) -> Result<(), Fail> {
-    let mut service = Service::new(SqlKeep::in_memory(rt.alloc())?);
+    let mut service = Service::new(SqlKeep::<MemStore, ShaKey>::in_memory(rt.alloc())?);
     let done = rude_peers(&rt, &mut service);
     drop(service.into_keep());
     done
@@ -635,7 +636,7 @@ const SILENT_AND_DEAF: &[u8] =
 // Two slow peers, of which the second trickles or is deaf, and one that reads its reply.
 fn slow_peers(
     rt: &HostRuntime,
-    service: &mut Service<SqlKeep<MemStore>>,
+    service: &mut Service<SqlKeep<MemStore, ShaKey>>,
     trickles: bool,
     timeouts: &Timeouts,
     told: &[u8],
@@ -661,7 +662,7 @@ fn slow_peers(
 #[test]
 fn idle_peers_stop_nothing(rt: HostRuntime) -> Result<(), Fail> {
     let timeouts = timeouts(1, MAX_SECONDS)?;
-    let mut service = Service::new(SqlKeep::in_memory(rt.alloc())?);
+    let mut service = Service::new(SqlKeep::<MemStore, ShaKey>::in_memory(rt.alloc())?);
     let done = slow_peers(&rt, &mut service, false, &timeouts, SILENT_AND_DEAF);
     drop(service.into_keep());
     done
@@ -671,7 +672,7 @@ fn idle_peers_stop_nothing(rt: HostRuntime) -> Result<(), Fail> {
 #[test]
 fn exchanges_last_no_longer_than_they_may(rt: HostRuntime) -> Result<(), Fail> {
     let timeouts = timeouts(MAX_SECONDS, 1)?;
-    let mut service = Service::new(SqlKeep::in_memory(rt.alloc())?);
+    let mut service = Service::new(SqlKeep::<MemStore, ShaKey>::in_memory(rt.alloc())?);
     let done = slow_peers(&rt, &mut service, true, &timeouts, SILENT_AND_TRICKLING);
     drop(service.into_keep());
     done

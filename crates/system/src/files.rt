@@ -5,6 +5,7 @@ ghost use Rattle.system.specs.Files.{OpensOn, IsClosedOn};
 
 use basis::Down;
 use machine::Keep;
+use pages::ShaKey;
 use program::outside::Files;
 use sqlite::Connection;
 use sqlite_disk::{Disk, Start, Unknown};
@@ -14,7 +15,7 @@ use std::rt::HostRuntime;
 use tables::{Fault, SqlKeep};
 
 /// The store in a file, which `start` stands for as it is opened.
-pub type FileKeep<S> = SqlKeep<FileStore<FileFrom<S>>>;
+pub type FileKeep<S> = SqlKeep<FileStore<FileFrom<S>>, ShaKey>;
 
 /// Opens the store in a file. A file that isn't there is made, with no organization; one of another
 /// schema stays as it is. Nothing ties what is found to the path, but to what `start` stands for.
