@@ -28,7 +28,7 @@ struct Replay {
 fn replayed(alloc: Global, steps: &[Step]) -> Result<Vec<Bytes>, Down>
     ensures { IfOk result (λ replies. AreReplies steps.now replies.items) }
 {
-    let empty: SqlKeep<MemStore, ShaKey> = SqlKeep::in_memory(alloc)?;
+    let empty = SqlKeep::<MemStore, ShaKey>::in_memory(alloc)?;
     let mut service = Service::new(empty);
     let replies = service.replay(alloc, steps);
     let keep = service.into_keep();

@@ -5,6 +5,7 @@ use crate::plays::{Play, Question};
 use crate::taking::{Way, take_over};
 use basis::Down;
 use machine::PlainKeep;
+use pages::ShaKey;
 use sqlite::{Connection, Error, MemStore};
 use std::alloc::Global;
 use tables::SqlKeep;
@@ -46,7 +47,7 @@ fn in_values(alloc: Global, play: &Play, way: Way) -> Result<(), Failure> {
 }
 
 /// A store over tables in memory.
-pub type Tables = SqlKeep<MemStore>;
+pub type Tables = SqlKeep<MemStore, ShaKey>;
 
 /// Tables in memory with no organization.
 pub fn new_tables(alloc: Global) -> Result<Tables, Down> {

@@ -1,5 +1,5 @@
 -- Worked rows and the records that they denote, computed by the definitions themselves.
-use Rattle.std.proofs.Common.{◌≡◌, ℕ, pos, true, false, true≢false, List, [], ◌∷◌, Option, Some, None, refl, sym, ap}
+use Rattle.std.proofs.Common.{◌≡◌, ℕ, pos, take, true, false, true≢false, List, [], ◌∷◌, Option, Some, None, refl, sym, ap, arith}
 use Rattle.std.specs.Prelude.{◌==◌, codes}
 use Rattle.std.specs.List.{list_any}
 use Rattle.std.specs.FinMap.{from_entries, empty}
@@ -20,7 +20,7 @@ use Rattle.statements.specs.Rows.{Kept}
 use Rattle.statements.specs.Tables.{Tables}
 use Rattle.tables.specs.Records.{record_of}
 use Rattle.tables.specs.Sound.{IsSound}
-use Rattle.tables.specs.Inner.Edits.{edited_rows, changed_rows}
+use Rattle.tables.specs.Inner.Edits.{so_many_gone, gone_below, edited_rows, changed_rows}
 use Rattle.tables.specs.Inner.Lists.{versions_listed_in, runs_listed_in}
 
 abbrev acme : List ℕ
@@ -61,14 +61,22 @@ two = record {
       ∷ (pos 2, record { org = acme; name = prod; it = record { auto = false; holder = cells.Lock x1 text; released = None; next_version = 3; next_run = 2 } })
       ∷ [];
   versions =
-      (pos 1, record { org = acme; ws = prod; it = record { number = 1; serial = 1; lineage = codes "a1"; created = 1_700_000_000; body = s1 } })
-      ∷ (pos 2, record { org = globex; ws = prod; it = record { number = 1; serial = 1; lineage = codes "a1"; created = 1_700_000_000; body = s1 } })
-      ∷ (pos 3, record { org = acme; ws = prod; it = record { number = 2; serial = 2; lineage = codes "a1"; created = 1_700_000_000; body = s2 } })
+      (pos 1, record { org = acme; ws = prod; it = record { number = 1; serial = 1; lineage = codes "a1"; created = 1_700_000_000; size = 12 } })
+      ∷ (pos 2, record { org = globex; ws = prod; it = record { number = 1; serial = 1; lineage = codes "a1"; created = 1_700_000_000; size = 12 } })
+      ∷ (pos 3, record { org = acme; ws = prod; it = record { number = 2; serial = 2; lineage = codes "a1"; created = 1_700_000_000; size = 12 } })
       ∷ [];
   runs = (pos 1, record { org = acme; ws = prod; it = record { number = 1; plan_only = false; key = None; message = codes "go"; created = 1_700_000_000; status = Pending; action = None } }) ∷ [];
-  pages = [];
-  vpages = [];
+  pages = (pos 1, record { key = codes "{"; twin = 0; bytes = s1; uses = 2 }) ∷ (pos 2, record { key = codes "{"; twin = 1; bytes = s2; uses = 1 }) ∷ [];
+  vpages =
+      (pos 1, record { org = acme; ws = prod; number = 1; place = 0; key = codes "{"; twin = 0 })
+      ∷ (pos 2, record { org = globex; ws = prod; number = 1; place = 0; key = codes "{"; twin = 0 })
+      ∷ (pos 3, record { org = acme; ws = prod; number = 2; place = 0; key = codes "{"; twin = 1 })
+      ∷ [];
 }
+
+-- the key that keeps a byte
+abbrev first_byte : List ℕ → List ℕ
+first_byte page = take 1 page
 
 abbrev globex_has : Workspace → Option Organization
 globex_has w = Some (record { limit = 1; tokens = empty; workspaces = from_entries ((prod, w) ∷ []) })
@@ -99,37 +107,52 @@ no_record = refl
 
 -- ---- changes: the organization's own record has it, and that of the other is as before
 
-configured : record_of (edited_rows acme prod (Configure (record { auto_apply = true })) two) acme ≡ acme_has (record of_acme { settings = record { auto_apply = true } })
+configured : record_of (edited_rows first_byte acme prod (Configure (record { auto_apply = true })) two) acme ≡ acme_has (record of_acme { settings = record { auto_apply = true } })
 configured = refl
 
-configured_other : record_of (edited_rows acme prod (Configure (record { auto_apply = true })) two) globex ≡ globex_has of_globex
+configured_other : record_of (edited_rows first_byte acme prod (Configure (record { auto_apply = true })) two) globex ≡ globex_has of_globex
 configured_other = refl
 
-purged : record_of (edited_rows acme prod Purge two) acme ≡ acme_has (record of_acme { versions = [] })
+purged : record_of (edited_rows first_byte acme prod Purge two) acme ≡ acme_has (record of_acme { versions = [] })
+unfolding so_many_gone gone_below
 purged = refl
 
-purged_other : record_of (edited_rows acme prod Purge two) globex ≡ globex_has of_globex
+purged_other : record_of (edited_rows first_byte acme prod Purge two) globex ≡ globex_has of_globex
+unfolding so_many_gone gone_below
 purged_other = refl
 
+-- the page that the other organization names stays, and that of the second version goes
+purged_pages : (edited_rows first_byte acme prod Purge two).pages ≡ (pos 1, record { key = codes "{"; twin = 0; bytes = s1; uses = 1 }) ∷ []
+unfolding so_many_gone gone_below
+purged_pages = refl
+
+purged_places : (edited_rows first_byte acme prod Purge two).vpages ≡ (pos 2, record { org = globex; ws = prod; number = 1; place = 0; key = codes "{"; twin = 0 }) ∷ []
+unfolding so_many_gone gone_below
+purged_places = refl
+
 -- a third version comes, and none goes; or the oldest goes; or all go, and the third with them
-version_added : record_of (edited_rows acme prod (AddVersion (version 3 s1) None) two) acme ≡ acme_has (record of_acme { next_version = 4; versions = version 1 s1 ∷ version 2 s2 ∷ version 3 s1 ∷ [] })
+version_added : record_of (edited_rows first_byte acme prod (AddVersion (version 3 s1) None) two) acme ≡ acme_has (record of_acme { next_version = 4; versions = version 1 s1 ∷ version 2 s2 ∷ version 3 s1 ∷ [] })
 version_added = refl
 
-oldest_gone : record_of (edited_rows acme prod (AddVersion (version 3 s1) (Some 1)) two) acme ≡ acme_has (record of_acme { next_version = 4; versions = version 2 s2 ∷ version 3 s1 ∷ [] })
+oldest_gone : record_of (edited_rows first_byte acme prod (AddVersion (version 3 s1) (Some 1)) two) acme ≡ acme_has (record of_acme { next_version = 4; versions = version 2 s2 ∷ version 3 s1 ∷ [] })
+unfolding so_many_gone gone_below
 oldest_gone = refl
 
-all_gone : record_of (edited_rows acme prod (AddVersion (version 3 s1) (Some 3)) two) acme ≡ acme_has (record of_acme { next_version = 4; versions = [] })
+all_gone : record_of (edited_rows first_byte acme prod (AddVersion (version 3 s1) (Some 3)) two) acme ≡ acme_has (record of_acme { next_version = 4; versions = [] })
+unfolding so_many_gone gone_below
 all_gone = refl
 
-version_added_other : record_of (edited_rows acme prod (AddVersion (version 3 s1) (Some 1)) two) globex ≡ globex_has of_globex
+version_added_other : record_of (edited_rows first_byte acme prod (AddVersion (version 3 s1) (Some 1)) two) globex ≡ globex_has of_globex
+unfolding so_many_gone gone_below
 version_added_other = refl
 
--- of a workspace that isn't there nothing comes
-nothing_added : edited_rows globex (codes "dev") (AddVersion (version 1 s1) None) two ≡ two
-nothing_added = refl
+-- a page that is there is in use once more, and no page comes
+shared_page : (edited_rows first_byte acme prod (AddVersion (version 3 s1) None) two).pages
+    ≡ (pos 1, record { key = codes "{"; twin = 0; bytes = s1; uses = 3 }) ∷ (pos 2, record { key = codes "{"; twin = 1; bytes = s2; uses = 1 }) ∷ []
+shared_page = refl
 
 -- a lock is released, and then the run that waits starts
-started : record_of (changed_rows acme prod (record { edit = Release x1; start = Some 1 }) two) acme
+started : record_of (changed_rows first_byte acme prod (record { edit = Release x1; start = Some 1 }) two) acme
     ≡ acme_has (record of_acme { holder = HoldingRun 1; released = Some x1; runs = run 1 Planning ∷ [] })
 started = refl
 
@@ -140,48 +163,53 @@ asked = record { key = Some (codes "k2"); message = codes "go"; plan_only = fals
 abbrev second_run : Run
 second_run = record (run 2 Pending) { key = Some (codes "k2") }
 
-run_added : record_of (edited_rows acme prod (AddRun 2 asked 1_700_000_000) two) acme ≡ acme_has (record of_acme { next_run = 3; runs = run 1 Pending ∷ second_run ∷ [] })
+run_added : record_of (edited_rows first_byte acme prod (AddRun 2 asked 1_700_000_000) two) acme ≡ acme_has (record of_acme { next_run = 3; runs = run 1 Pending ∷ second_run ∷ [] })
 run_added = refl
 
-run_added_other : record_of (edited_rows acme prod (AddRun 2 asked 1_700_000_000) two) globex ≡ globex_has of_globex
+run_added_other : record_of (edited_rows first_byte acme prod (AddRun 2 asked 1_700_000_000) two) globex ≡ globex_has of_globex
 run_added_other = refl
 
-no_run_added : edited_rows globex (codes "dev") (AddRun 1 asked 1_700_000_000) two ≡ two
+no_run_added : edited_rows first_byte globex (codes "dev") (AddRun 1 asked 1_700_000_000) two ≡ two
 no_run_added = refl
 
 -- the run was canceled: the lock stays, or nobody holds any more
-canceled : record_of (edited_rows acme prod (Report 1 Cancel Canceled false) two) acme ≡ acme_has (record of_acme { runs = record (run 1 Canceled) { action = Some Cancel } ∷ [] })
+canceled : record_of (edited_rows first_byte acme prod (Report 1 Cancel Canceled false) two) acme ≡ acme_has (record of_acme { runs = record (run 1 Canceled) { action = Some Cancel } ∷ [] })
 canceled = refl
 
-canceled_and_freed : record_of (edited_rows acme prod (Report 1 Cancel Canceled true) two) acme
+canceled_and_freed : record_of (edited_rows first_byte acme prod (Report 1 Cancel Canceled true) two) acme
     ≡ acme_has (record of_acme { holder = Nobody; runs = record (run 1 Canceled) { action = Some Cancel } ∷ [] })
 canceled_and_freed = refl
 
 -- a workspace more, behind the other
-made : record_of (edited_rows acme (codes "dev") (Make (record { auto_apply = true })) two) acme ≡ Some (record {
+made : record_of (edited_rows first_byte acme (codes "dev") (Make (record { auto_apply = true })) two) acme ≡ Some (record {
   limit = 10;
   tokens = from_entries ((codes "ci", record { digest = codes "01234567890123456789012345678901"; caller = record { role = Write } }) ∷ []);
   workspaces = from_entries ((prod, of_acme) ∷ (codes "dev", record { settings = record { auto_apply = true }; holder = Nobody; released = None; next_version = 1; next_run = 1; versions = []; runs = [] }) ∷ []);
 })
+unfolding so_many_gone gone_below
 made = refl
 
 -- a workspace goes with its versions and its run, and all that is left of it is nothing
-removed : record_of (edited_rows acme prod Remove two) acme ≡ Some (record {
+removed : record_of (edited_rows first_byte acme prod Remove two) acme ≡ Some (record {
   limit = 10;
   tokens = from_entries ((codes "ci", record { digest = codes "01234567890123456789012345678901"; caller = record { role = Write } }) ∷ []);
   workspaces = empty;
 })
+unfolding so_many_gone gone_below
 removed = refl
 
-no_run_left : (edited_rows acme prod Remove two).runs ≡ []
+no_run_left : (edited_rows first_byte acme prod Remove two).runs ≡ []
+unfolding so_many_gone gone_below
 no_run_left = refl
 
-removed_other : record_of (edited_rows acme prod Remove two) globex ≡ globex_has of_globex
+removed_other : record_of (edited_rows first_byte acme prod Remove two) globex ≡ globex_has of_globex
+unfolding so_many_gone gone_below
 removed_other = refl
 
 -- one that is made again begins anew
-made_anew : record_of (edited_rows acme prod (Make (record { auto_apply = true })) (edited_rows acme prod Remove two)) acme
+made_anew : record_of (edited_rows first_byte acme prod (Make (record { auto_apply = true })) (edited_rows first_byte acme prod Remove two)) acme
     ≡ acme_has (record { settings = record { auto_apply = true }; holder = Nobody; released = None; next_version = 1; next_run = 1; versions = []; runs = [] })
+unfolding so_many_gone gone_below
 made_anew = refl
 
 -- ---- an operator's commands
@@ -230,3 +258,17 @@ doubled = record two { orgs = (pos 1, record { name = acme; cap = 10 }) ∷ (pos
 
 doubled_is_not : IsSound doubled → ⊥
 doubled_is_not sound = true≢false (sound.orgs_apart.0.0)
+
+-- a page that is in use more often than it is named
+abbrev miscounted : Tables
+miscounted = record two { pages = (pos 1, record { key = codes "{"; twin = 0; bytes = s1; uses = 3 }) ∷ (pos 2, record { key = codes "{"; twin = 1; bytes = s2; uses = 1 }) ∷ [] }
+
+miscounted_is_not : IsSound miscounted → ⊥
+miscounted_is_not sound = true≢false (ap (λ (n : ℕ). n == 3) (sound.places.counted (codes "{") 0))
+
+-- a place behind the end of a text
+abbrev beyond : Tables
+beyond = record two { vpages = (pos 1, record { org = acme; ws = prod; number = 1; place = 1; key = codes "{"; twin = 0 }) ∷ [] }
+
+beyond_is_not : IsSound beyond → ⊥
+beyond_is_not sound = absurd (let below = sound.placed.0 in omega (arith, below))

@@ -1,1 +1,0 @@
-use Rattle.tables.proofs.KeepShown.{text_told}
