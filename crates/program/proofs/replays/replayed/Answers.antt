@@ -2,10 +2,8 @@ use Rattle.std.proofs.Common.{sym, ap, subst, ◌∙◌}
 use Rattle.sqlite.specs.Held.{state}
 use Rattle.sqlite.specs.State.{HasCleanDisk}
 use Rattle.sqlite.specs.Steps.{over_memory}
-use Rattle.sqlite_trees.specs.declared.memory.MemStore.{MemStore}
 use Rattle.tables.specs.Stores.{records_of}
 use Rattle.tables.specs.Opening.{IsSoundKeep}
-use Rattle.tables.specs.declared.store.SqlKeep.{SqlKeep}
 use Rattle.program.proofs.ReplayLemmas.{replies_of_none}
 use Rattle.program.proofs.replays.replayed.Goals as goal
 
@@ -15,9 +13,9 @@ returns c =
     let after = c.replay-replies.new.self.keep in
     let kept = c.new-service.ensures.keep in
     let sound : IsSoundKeep (state over_memory before.seen.value).committed (state over_memory before.conn) =
-    subst (λ (k : SqlKeep MemStore ShaKey over_memory). IsSoundKeep (state over_memory k.seen.value).committed (state over_memory k.conn)) (sym kept) c.in_ok-empty.ensures.sound in
+    subst (λ k. IsSoundKeep (state over_memory k.seen.value).committed (state over_memory k.conn)) (sym kept) c.in_ok-empty.ensures.sound in
     let clean : HasCleanDisk (state over_memory after.conn) =
-    subst (λ (k : SqlKeep MemStore ShaKey over_memory). HasCleanDisk (state over_memory k.conn)) c.into_keep-keep.ensures c.is_always_clean.ensures in
+    subst (λ k. HasCleanDisk (state over_memory k.conn)) c.into_keep-keep.ensures c.is_always_clean.ensures in
     replies_of_none c.args.steps.now (λ o. records_of (state over_memory before.seen.value).committed o) (λ o. records_of (state over_memory after.seen.value).committed o) c.replay-replies.result
-    (λ o. ap (λ (k : SqlKeep MemStore ShaKey over_memory). records_of (state over_memory k.seen.value).committed o) kept ∙ c.in_ok-empty.ensures.empty o)
+    (λ o. ap (λ k. records_of (state over_memory k.seen.value).committed o) kept ∙ c.in_ok-empty.ensures.empty o)
     c.replay-replies.ensures.one_each (c.replay-replies.ensures.isolation clean sound) (c.replay-replies.ensures.unattributed clean sound) (c.replay-replies.ensures.lists clean sound)
