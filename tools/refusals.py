@@ -17,8 +17,10 @@ import tempfile
 import stories
 
 HERE = os.path.dirname(os.path.abspath(__file__))
-WANT = (b"memory was refused", b"memory or the store refused")
+WANT = (b"memory was refused", b"memory or the store refused", b"the file doesn't", b"the tables don't")
 QUIET = 20
+# (where a replay was refused the steps that it left are sent again, and the run is right)
+QUIET_TEXT = 400
 
 
 def refusing(folder):
@@ -27,10 +29,10 @@ def refusing(folder):
     return library
 
 
-def each_refused(library, words, judge, data=b""):
+def each_refused(library, words, judge, data=b"", most=QUIET):
     """The counts of what `judge` says of the runs."""
     counts, quiet, n = collections.Counter(), 0, 0
-    while quiet < QUIET:
+    while quiet < most:
         n += 1
         env = {"REFUSE": str(n), "LD_PRELOAD": library}
         done = subprocess.run(words, input=data, capture_output=True, env=env, cwd=os.path.dirname(library))
@@ -79,7 +81,7 @@ def main():
             with open(sys.argv[3], "rb") as file:
                 data = file.read()
             whole = subprocess.run([program], input=data, capture_output=True, check=True, cwd=folder).stdout
-            total.update(each_refused(library, [program], text(whole), data))
+            total.update(each_refused(library, [program], text(whole), data, QUIET_TEXT))
     print("in all", dict(total))
     sys.exit(1 if total["wrong"] else 0)
 

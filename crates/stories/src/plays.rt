@@ -4,7 +4,7 @@ use crate::definitions::{Definitions, Unread};
 use crate::lines::Mark;
 use crate::requests::{reply_of, request_of};
 use crate::texts::{Book, Part, Plot, Story};
-use basis::{Bytes, Moment};
+use basis::{Bytes, Down, Moment, Unfit};
 use serve::Step;
 use std::alloc::Global;
 
@@ -99,7 +99,8 @@ impl Play {
         let due = lines_due(alloc, parts)?;
         match read_command(alloc, at, words) {
             Ok(step) => self.push(head.line, step, due),
-            Err(_) => Err(head.unread("these words are no operator's command")),
+            Err(Unfit::Syntax) => Err(head.unread("these words are no operator's command")),
+            Err(Unfit::Down) => Err(Unread::from(Down)),
         }
     }
 
