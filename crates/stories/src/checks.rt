@@ -1,8 +1,8 @@
 //! What no line of bytes tells: checks that are run by their names.
+use crate::books::{Part, Plot};
 use crate::failures::Failure;
 use crate::programs::answer_of;
 use crate::sockets::{Bout, answer_idle, answer_one, answer_rude, answer_trickling};
-use crate::texts::{Part, Plot};
 use basis::{Bytes, Down, Items, Refusal, Text};
 use machine::{NameMap, PlainKeep};
 use program::frames::read_frames;

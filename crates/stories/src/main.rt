@@ -1,6 +1,7 @@
 //! The program `stories`: examples as text, each told to the service and compared with what the text says.
 #![tactic(auto)]
 
+mod books;
 mod breaking;
 mod checks;
 mod commands;
@@ -25,10 +26,10 @@ mod stories;
 mod streams;
 mod taking;
 mod tells;
-mod texts;
 mod values;
 mod ways;
 
+use books::{Book, Story, read_book};
 use failures::{Failure, Why};
 use modes::Counts;
 use std::io;
@@ -36,7 +37,6 @@ use std::io::{BufWriter, Read, Write};
 use std::process::ExitCode;
 use stories::run_story;
 use tells::{tell_counts, tell_end, tell_failure, tell_passed, tell_short, tell_unread};
-use texts::{Book, Story, read_book};
 
 /// All stories passed.
 const PASSED: u8 = 0;

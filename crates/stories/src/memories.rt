@@ -1,10 +1,10 @@
 //! A story of the program over a database, peers and a clock in memory.
+use crate::books::{Part, Plot, Story};
 use crate::devices::{ALL, Giver, Taker};
 use crate::failures::{Failure, compare_bytes};
 use crate::modes::{Counts, Modes};
 use crate::programs::{Does, Left, answer_of, compare_left, split, words_of};
 use crate::streams::{Told, break_streams};
-use crate::texts::{Part, Plot, Story};
 use basis::Moment;
 use fakes::{MemoryFile, MemoryPeers, StandingClock};
 use program::running::run_words;

@@ -1,9 +1,9 @@
 //! A story of a store as it is played: its steps, what is due to each, and what is asked of the tables.
+use crate::books::{Book, Part, Plot, Story};
 use crate::commands::read_command;
 use crate::definitions::{Definitions, Unread};
 use crate::lines::Mark;
 use crate::requests::{reply_of, request_of};
-use crate::texts::{Book, Part, Plot, Story};
 use basis::{Bytes, Down, Moment, Unfit};
 use serve::Step;
 use std::alloc::Global;

@@ -1,7 +1,7 @@
 //! Steps of the program: its words, its streams, and files beside it.
+use crate::books::{Part, Plot};
 use crate::failures::{Failure, compare_bytes};
 use crate::lines::Mark;
-use crate::texts::{Part, Plot};
 use basis::numbers::whole_number;
 use sqlite::{Connection, Error};
 use std::alloc::{AllocError, Global};

@@ -1,6 +1,6 @@
 //! A request in short form as its bytes, and a reply that is due as its bytes.
+use crate::books::Part;
 use crate::definitions::{Definitions, Unread};
-use crate::texts::Part;
 use std::alloc::{AllocError, Global};
 
 /// What is put before a target in short form.

@@ -1,4 +1,5 @@
 //! A story run by its kind: of a store, of the program, of values, or of checks.
+use crate::books::{Book, Part, Plot, Story};
 use crate::breaking::run_broken;
 use crate::checks::{is_check, run_check};
 use crate::failures::Failure;
@@ -8,7 +9,6 @@ use crate::modes::{Counts, Modes};
 use crate::plays::{Play, play_of};
 use crate::programs::{Files, is_of_program};
 use crate::refusals::run_refused;
-use crate::texts::{Book, Part, Plot, Story};
 use crate::values::{is_of_values, take_value};
 use crate::ways::run_in_memory;
 use crate::{breaking, refusals};

@@ -1,10 +1,10 @@
 //! The program's words once more over streams that break: words that leave no mark, so that they may run again and again.
+use crate::books::Part;
 use crate::devices::{ALL, Giver, Stop, Taker};
 use crate::failures::Failure;
 use crate::memories::Memory;
 use crate::modes::{Counts, Modes};
 use crate::programs::Left;
-use crate::texts::Part;
 use std::alloc::Global;
 
 /// The exit status where a stream fails.

@@ -1,10 +1,10 @@
 //! Steps of values: a document, a name, a number or a message read and shown, and what a request asks.
+use crate::books::{Part, Plot};
 use crate::definitions::Unread;
 use crate::failures::Failure;
 use crate::lines::Mark;
 use crate::messages::show_message;
 use crate::routes::{show_asks, show_route};
-use crate::texts::{Part, Plot};
 use basis::numbers::whole_number;
 use basis::{Limit, LockId, Moment, Number, OrgName, RunAsk, Secret, StateHead, Unfit, WsName};
 use docs::{DocFault, digest_fits, read_lock, read_run, read_settings, read_state};
