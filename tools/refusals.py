@@ -2,10 +2,10 @@
 """Refuses each allocation in turn, and says how each run ended.
 
     python3 tools/refusals.py stories PROGRAM [FRONT]  each story of a store whose name begins so, through `custody replay`
-    python3 tools/refusals.py tests PROGRAM [FRONT]    each test whose name begins so (`rt test` leaves out/CRATE_tests)
+    python3 tools/refusals.py text PROGRAM FILE        the stories of a text, through the program `stories`
 
 Allocation N of a process is refused, for N from 1 on, until runs meet no refusal any more. A run of a story has to end in
-`refused down` alone, status 3, or in the right replies; a test has to pass or to end for want of memory.
+`refused down` alone, status 3, or in the right replies; a text has to pass or to end for want of memory.
 """
 
 import collections
@@ -17,7 +17,7 @@ import tempfile
 import stories
 
 HERE = os.path.dirname(os.path.abspath(__file__))
-WANTS = ("error: Down\n", "error: AllocError\n", "error: AllocFailed {")
+WANT = (b"memory was refused", b"memory or the store refused")
 QUIET = 20
 
 
@@ -33,7 +33,7 @@ def each_refused(library, words, judge, data=b""):
     while quiet < QUIET:
         n += 1
         env = {"REFUSE": str(n), "LD_PRELOAD": library}
-        done = subprocess.run(words, input=data, capture_output=True, env=env)
+        done = subprocess.run(words, input=data, capture_output=True, env=env, cwd=os.path.dirname(library))
         verdict = judge(done)
         counts[verdict] += 1
         quiet = quiet + 1 if verdict == "right" else 0
@@ -53,11 +53,13 @@ def replies(steps):
     return judge
 
 
-def test(done):
-    if done.returncode == 0:
-        return "right"
-    said = (done.stdout + done.stderr).decode()
-    return "refused" if said.startswith(WANTS) else "wrong"
+def text(whole):
+    def judge(done):
+        if done.returncode == 0 and done.stdout == whole:
+            return "right"
+        return "refused" if any(word in done.stdout for word in WANT) or done.returncode == 2 and not done.stdout else "wrong"
+
+    return judge
 
 
 def main():
@@ -74,12 +76,10 @@ def main():
                     print(name, dict(counts), flush=True)
                     total.update(counts)
         else:
-            listed = subprocess.run([program, "--list"], capture_output=True, text=True, check=True).stdout
-            names = [line[: -len(": test")] for line in listed.splitlines() if line.endswith(": test")]
-            for name in [name for name in names if name.startswith(front)]:
-                counts = each_refused(library, [program, name], test)
-                print(name, dict(counts), flush=True)
-                total.update(counts)
+            with open(sys.argv[3], "rb") as file:
+                data = file.read()
+            whole = subprocess.run([program], input=data, capture_output=True, check=True, cwd=folder).stdout
+            total.update(each_refused(library, [program], text(whole), data))
     print("in all", dict(total))
     sys.exit(1 if total["wrong"] else 0)
 

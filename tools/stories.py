@@ -3,6 +3,7 @@
 
     python3 tools/stories.py               the names of the stories, with their steps
     python3 tools/stories.py frames NAME   a story's frames, as `custody replay` takes them
+    python3 tools/stories.py breaks        how often links and streams break under the stories, as the program has to print it
 
 crates/stories/README.md says how the text is written. This reader shares nothing with the program `stories`.
 """
@@ -12,8 +13,8 @@ import sys
 
 HERE = os.path.dirname(os.path.abspath(__file__))
 TEXT = os.path.join(HERE, "..", "crates", "stories", "stdin")
-VALUES = ["state", "lock", "settings", "run", "digest", "org", "ws", "lock-id", "secret", "number", "whole", "moment", "limit", "message", "route", "asks"]
-FILES = ["file", "write", "table", "absent", "same"]
+VALUES = ["state", "lock", "settings", "run", "digest", "org", "ws", "lock-id", "secret", "number", "whole", "moment", "limit", "message", "line", "route", "asks"]
+FILES = ["file", "write", "table", "absent", "same", "peer", "breaks", "hidden", "taken", "check"]
 ESCAPES = {"r": b"\r", "n": b"\n", "t": b"\t", "\\": b"\\"}
 
 
@@ -58,7 +59,7 @@ def marked(line, marks):
 
 class Story:
     def __init__(self, name):
-        self.name, self.after, self.steps = name, None, []
+        self.name, self.after, self.links, self.steps, self.plots = name, None, [], [], []
 
 
 def read(text):
@@ -86,6 +87,10 @@ def read(text):
         if mark == "after":
             story.after = stories[rest]
             continue
+        mark, rest = marked(line, ["links"])
+        if mark:
+            story.links = rest.split(" ")
+            continue
         mark, rest = marked(line, ["token", "at", "reason", "challenge"])
         if mark:
             name, what = rest.split(" ", 1)
@@ -98,6 +103,7 @@ def read(text):
         waiting.append((story, at, parts))
     for story, at, parts in waiting:
         story.steps.append(step(told, at, parts))
+        story.plots.append(parts)
     return stories
 
 
@@ -164,6 +170,49 @@ def printed(steps):
     return b"".join(b"reply %d\n%s\n" % (len(due), due) for _, _, due in steps)
 
 
+READERS = [1, 7, 1000000000]
+
+
+def length(sent, due):
+    """How many bytes of a request are read: its head, where that is refused."""
+    refused = any(due.endswith(b'{"error":"%s"}' % word) for word in [b"bad-message", b"no-length", b"too-large", b"head-too-large"])
+    return sent.index(b"\r\n\r\n") + 4 if refused else len(sent)
+
+
+def broken_requests(story):
+    """What is cut, reads and writes that fail."""
+    asked = [(length(sent, due), len(due)) for _, sent, due in filter(None, story.steps) if isinstance(sent, bytes)]
+    cut = sum(len(READERS) * (n - 1) for n, _ in asked)
+    reads = sum(-(-n // most) for n, _ in asked for most in READERS)
+    return {"cut": cut, "reads": reads, "writes": 2 * sum(due for _, due in asked)}
+
+
+def broken_words(story):
+    """Reads that fail of a standard input, and writes on the output and the error stream, of words that leave no mark."""
+    reads, writes = 0, 0
+    for parts in story.plots:
+        if not parts[0].line.startswith("$"):
+            continue
+        sent, out = parts[0].bytes or b"", parts[1].bytes or b""
+        errors = parts[2].bytes or b"" if len(parts) == 3 and parts[2].line == "?" else b""
+        replays = parts[0].line.startswith("$ replay")
+        reads += len(sent) + 1 if replays else 0
+        if replays or parts[1].line == "= 2":
+            writes += 2 * (len(out) + len(errors)) + (1 if out else 0)
+    return {"reads": reads, "writes": writes}
+
+
+def breaks(stories):
+    """A line for each story and way to break but for the changes that are refused: which those are, the rules say."""
+    names = {"cut": "cut", "reads": "reads that fail", "writes": "writes that fail"}
+    for name, story in stories.items():
+        if not story.links:
+            continue
+        counts = broken_requests(story) if any(story.steps) else broken_words(story)
+        for word in [word for word in names if word in story.links and counts.get(word)]:
+            print("passed %s, %s: %d" % (name, names[word], counts[word]))
+
+
 def all_stories():
     with open(TEXT, encoding="utf-8") as file:
         return read(file.read())
@@ -173,6 +222,9 @@ def main():
     stories = all_stories()
     if sys.argv[1:2] == ["frames"]:
         sys.stdout.buffer.write(framed(steps_of(stories[sys.argv[2]])))
+        return
+    if sys.argv[1:2] == ["breaks"]:
+        breaks(stories)
         return
     for name, story in stories.items():
         print("%4d  %s" % (len(story.steps), name))

@@ -14,6 +14,8 @@ pub struct MemoryFile<'a> {
     alloc: Global,
     path: &'a str,
     store: Option<PlainKeep>,
+    /// Whether a close leaves a log beside the file.
+    pub keeps_log: bool,
 }
 
 impl<'a> MemoryFile<'a> {
@@ -23,6 +25,7 @@ impl<'a> MemoryFile<'a> {
             alloc,
             path,
             store: None,
+            keeps_log: false,
         }
     }
 }
@@ -50,6 +53,6 @@ impl Files<PlainKeep> for MemoryFile<'_> {
             return Err(Down);
         }
         self.store = Some(store);
-        Ok(())
+        if self.keeps_log { Err(Down) } else { Ok(()) }
     }
 }

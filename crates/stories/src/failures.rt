@@ -1,7 +1,7 @@
 //! Why a story failed.
 use crate::definitions::Unread;
 use basis::Down;
-use std::alloc::{AllocError, AllocFailed};
+use std::alloc::{AllocError, AllocFailed, Global};
 
 /// What went wrong.
 #[derive(Drop)]
@@ -10,6 +10,8 @@ pub enum Why {
     Differs { due: Vec<u8>, came: Vec<u8> },
     /// Memory, the store or a file refused.
     Refused(&'static str),
+    /// Where a link or a stream broke at a place, something else came than what is due.
+    Broken(&'static str, usize),
     /// The text doesn't read.
     Unread(&'static str),
 }
@@ -38,6 +40,15 @@ impl Failure {
             way: "",
             line,
             why: Why::Refused(why),
+        }
+    }
+
+    /// Something else came, where a link or a stream broke at a place.
+    pub fn broken(line: usize, what: &'static str, place: usize) -> Failure {
+        Failure {
+            way: "",
+            line,
+            why: Why::Broken(what, place),
         }
     }
 
@@ -74,4 +85,14 @@ impl<T: Drop> From<AllocFailed<T>> for Failure {
     fn from(_error: AllocFailed<T>) -> Failure {
         Failure::refused(0, "memory was refused")
     }
+}
+
+/// That these bytes are those that are due.
+pub fn compare_bytes(alloc: Global, line: usize, due: &[u8], came: &[u8]) -> Result<(), Failure> {
+    if due == came {
+        return Ok(());
+    }
+    let due = Vec::from_slice(alloc, due)?;
+    let came = Vec::from_slice(alloc, came)?;
+    Err(Failure::differs(line, due, came))
 }

@@ -1,4 +1,5 @@
 //! A story of a store over tables in a file, which is closed and opened again midway.
+use crate::devices::ALL;
 use crate::failures::Failure;
 use crate::plays::{Due, Play};
 use crate::programs::forget;
@@ -23,7 +24,7 @@ fn take_from<S: Start>(
     let Ok(keep) = open_file(rt, PATH, start) else {
         return Err(Failure::refused(0, "the file doesn't open"));
     };
-    let (keep, taken) = take_over(rt.alloc(), keep, Way::Exchange(1_000_000_000), steps, due);
+    let (keep, taken) = take_over(rt.alloc(), keep, Way::Exchange(ALL), steps, due);
     if close_file(keep).is_err() {
         return Err(Failure::refused(0, "the file doesn't close"));
     }

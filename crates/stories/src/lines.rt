@@ -46,6 +46,8 @@ pub enum Line<'a> {
     Definition(Defines, &'a str),
     Story(&'a str),
     After(&'a str),
+    /// `links`: what breaks under the steps of a story.
+    Links(&'a str),
     Piece(Piece, &'a str),
     /// `+`: a field of a head.
     Field(&'a str),
@@ -115,6 +117,9 @@ fn story_in(line: &str) -> Option<Line<'_>> {
     }
     if let Some(name) = behind(line, "after") {
         return Some(Line::After(name));
+    }
+    if let Some(words) = behind(line, "links") {
+        return Some(Line::Links(words));
     }
     let field = behind(line, "+")?;
     Some(Line::Field(field))

@@ -1,19 +1,28 @@
 //! The program `stories`: examples as text, each told to the service and compared with what the text says.
 #![tactic(auto)]
 
+mod breaking;
+mod checks;
 mod commands;
 mod definitions;
 mod devices;
 mod failures;
 mod files;
 mod lines;
+mod links;
 mod memories;
 mod messages;
+mod modes;
 mod plays;
 mod programs;
+mod records;
+mod refusals;
+mod refusing;
 mod requests;
 mod routes;
+mod sockets;
 mod stories;
+mod streams;
 mod taking;
 mod tells;
 mod texts;
@@ -21,11 +30,12 @@ mod values;
 mod ways;
 
 use failures::{Failure, Why};
+use modes::Counts;
 use std::io;
 use std::io::{BufWriter, Read, Write};
 use std::process::ExitCode;
 use stories::run_story;
-use tells::{tell_end, tell_failure, tell_passed, tell_short, tell_unread};
+use tells::{tell_counts, tell_end, tell_failure, tell_passed, tell_short, tell_unread};
 use texts::{Book, Story, read_book};
 
 /// All stories passed.
@@ -71,9 +81,11 @@ fn tell_story<W: Write>(
     book: &Book<'_>,
     story: &Story<'_>,
 ) -> io::Result<Came> {
-    match run_story(rt, book, story) {
+    let mut counts = Counts::new();
+    match run_story(rt, book, story, &mut counts) {
         Ok(()) => {
             tell_passed(output, story.name)?;
+            tell_counts(output, story.name, &counts)?;
             Ok(Came::Passed)
         }
         Err(failure) => tell_came(rt, output, story.name, &failure),

@@ -1,6 +1,9 @@
 //! A story of the program over a database, peers and a clock in memory.
-use crate::failures::Failure;
-use crate::programs::{Does, Left, answer_of, compare, compare_left, split, words_of};
+use crate::devices::{ALL, Giver, Taker};
+use crate::failures::{Failure, compare_bytes};
+use crate::modes::{Counts, Modes};
+use crate::programs::{Does, Left, answer_of, compare_left, split, words_of};
+use crate::streams::{Told, break_streams};
 use crate::texts::{Part, Plot, Story};
 use basis::Moment;
 use fakes::{MemoryFile, MemoryPeers, StandingClock};
@@ -20,7 +23,7 @@ fn does(plot: &Plot<'_>) -> Option<Does> {
 /// Where a story of the program is run.
 #[derive(Clone, Copy)]
 pub enum Place {
-    /// A peer connects.
+    /// A peer connects, or a clock or a log breaks.
     Memory,
     /// A file is made or looked at.
     Files,
@@ -35,7 +38,7 @@ pub fn place_of(story: &Story<'_>) -> Place {
     }
     for plot in story.plots.as_slice() {
         match does(plot) {
-            Some(Does::Connects) => return Place::Memory,
+            Some(Does::Connects | Does::Breaks) => return Place::Memory,
             Some(Does::Forgets | Does::Runs) => {}
             _ => place = Place::Files,
         }
@@ -54,17 +57,20 @@ struct Due<'s> {
 #[derive(Drop)]
 pub struct Memory<'s> {
     file: MemoryFile<'s>,
+    // The next command can't read the clock.
+    has_no_clock: bool,
     sent: Vec<&'s [u8]>,
     due: Vec<Due<'s>>,
 }
 
-// What each peer got, compared with what is due.
+// What each peer got, compared with what is due. One that isn't answered got nothing.
 fn compare_got(alloc: Global, due: &[Due<'_>], peers: &MemoryPeers<'_>) -> Result<(), Failure> {
     for (place, one) in due.iter().enumerate() {
-        let Some(got) = peers.got.get(place) else {
-            return Err(Failure::refused(one.line, "the peer isn't answered"));
+        let got = match peers.got.get(place) {
+            Some(got) => got.as_slice(),
+            None => b"",
         };
-        compare(alloc, one.line, one.bytes, got.as_slice())?;
+        compare_bytes(alloc, one.line, one.bytes, got)?;
     }
     Ok(())
 }
@@ -73,6 +79,7 @@ impl<'s> Memory<'s> {
     pub fn new(alloc: Global) -> Memory<'s> {
         Memory {
             file: MemoryFile::new(alloc, ""),
+            has_no_clock: false,
             sent: Vec::new(alloc),
             due: Vec::new(alloc),
         }
@@ -88,22 +95,26 @@ impl<'s> Memory<'s> {
         Ok(())
     }
 
-    // Runs the program on these words, and compares what the peers got.
-    fn ran(
+    /// Runs the program on these words over these streams, and compares what the peers got.
+    pub fn ran(
         &mut self,
         alloc: Global,
         at: u64,
         words: &[String],
-        mut input: &[u8],
+        mut input: Giver<'_>,
+        mut output: Taker,
+        mut errors: Taker,
     ) -> Result<Left, Failure> {
         let sent = mem::replace(&mut self.sent, Vec::new(alloc));
         let due = mem::replace(&mut self.due, Vec::new(alloc));
         let mut peers = MemoryPeers::new(alloc, sent.as_slice());
         let mut clock = StandingClock {
-            moment: Moment::new(at),
+            moment: if self.has_no_clock {
+                None
+            } else {
+                Moment::new(at)
+            },
         };
-        let mut output = Vec::new(alloc);
-        let mut errors = Vec::new(alloc);
         let status = run_words(
             alloc,
             &mut self.file,
@@ -114,11 +125,13 @@ impl<'s> Memory<'s> {
             &mut output,
             &mut errors,
         );
+        self.has_no_clock = false;
+        self.file.keeps_log = false;
         compare_got(alloc, due.as_slice(), &peers)?;
         Ok(Left {
             status,
-            output,
-            errors,
+            output: output.taken,
+            errors: errors.taken,
         })
     }
 
@@ -126,18 +139,57 @@ impl<'s> Memory<'s> {
         &mut self,
         alloc: Global,
         at: u64,
-        words: &str,
+        words: &[String],
         head: &Part<'_>,
+        answer: &Part<'_>,
         parts: &[Part<'_>],
     ) -> Result<(), Failure> {
-        let (answer, parts) = answer_of(head, parts)?;
-        let words = split(alloc, words)?;
-        let left = self.ran(alloc, at, words.as_slice(), head.written())?;
+        let input = Giver::new(head.written(), ALL);
+        let left = self.ran(
+            alloc,
+            at,
+            words,
+            input,
+            Taker::new(alloc),
+            Taker::new(alloc),
+        )?;
         compare_left(alloc, answer, parts, &left)
     }
 
-    /// Takes a step of the program.
-    pub fn take(&mut self, alloc: Global, plot: &'s Plot<'_>) -> Result<(), Failure> {
+    fn run_again(
+        &mut self,
+        alloc: Global,
+        at: u64,
+        words: &str,
+        head: &Part<'_>,
+        parts: &[Part<'_>],
+        modes: Modes,
+        counts: &mut Counts,
+    ) -> Result<(), Failure> {
+        let (answer, parts) = answer_of(head, parts)?;
+        let split = split(alloc, words)?;
+        self.run(alloc, at, split.as_slice(), head, answer, parts)?;
+        let told = Told::new(at, split.as_slice(), head, answer, parts);
+        break_streams(alloc, self, &told, modes, counts)
+    }
+
+    fn break_next(&mut self, head: &Part<'_>, what: &str) -> Result<(), Failure> {
+        match what {
+            "clock" => self.has_no_clock = true,
+            "log" => self.file.keeps_log = true,
+            _ => return Err(Failure::from(head.unread("a clock or a log breaks"))),
+        }
+        Ok(())
+    }
+
+    /// Takes a step of the program, and then over streams that break.
+    pub fn take(
+        &mut self,
+        alloc: Global,
+        plot: &'s Plot<'_>,
+        modes: Modes,
+        counts: &mut Counts,
+    ) -> Result<(), Failure> {
         let [head, parts @ ..] = plot.parts.as_slice() else {
             return Ok(());
         };
@@ -147,7 +199,10 @@ impl<'s> Memory<'s> {
                 Ok(())
             }
             Some((Does::Connects, _)) => self.connect(head, parts),
-            Some((Does::Runs, words)) => self.run(alloc, plot.at, words, head, parts),
+            Some((Does::Breaks, what)) => self.break_next(head, what),
+            Some((Does::Runs, words)) => {
+                self.run_again(alloc, plot.at, words, head, parts, modes, counts)
+            }
             _ => Err(Failure::from(head.unread("it can't be done in memory"))),
         }
     }

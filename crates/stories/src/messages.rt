@@ -1,10 +1,10 @@
 //! A message read and shown.
-use crate::devices::Sips;
+use crate::devices::{ALL, Giver, Taker};
 use crate::failures::Failure;
 use crate::tells::shown;
 use basis::{Bytes, Text};
 use std::alloc::{AllocError, Global};
-use wire::{Message, ToWrite, WireFault, read_message};
+use wire::{FromRead, Message, ToWrite, WireFault, read_message};
 
 // A line with a name and bytes, behind a line feed where lines stand before it.
 fn add_line(alloc: Global, lines: &mut String, name: &str, bytes: &[u8]) -> Result<(), AllocError> {
@@ -55,7 +55,7 @@ fn message_lines(alloc: Global, message: &Message) -> Result<String, AllocError>
 }
 
 /// What is written before the body is read, where the client waits for it.
-const CONTINUE: &[u8] = b"HTTP/1.1 100 Continue\r\n\r\n";
+pub const CONTINUE: &[u8] = b"HTTP/1.1 100 Continue\r\n\r\n";
 
 // A line about what was written.
 fn add_continue(lines: &mut String, written: &[u8]) -> Result<(), AllocError> {
@@ -85,12 +85,12 @@ fn fault_line(alloc: Global, fault: WireFault) -> Result<String, Failure> {
 
 // The lines of a message, each read giving at most so many bytes.
 fn lines_by(alloc: Global, bytes: &[u8], most: usize) -> Result<String, Failure> {
-    let mut inlet = Sips::new(bytes, most);
-    let mut outlet = ToWrite::new(Vec::new(alloc));
+    let mut inlet = FromRead::new(Giver::new(bytes, most));
+    let mut outlet = ToWrite::new(Taker::new(alloc));
     match read_message(alloc, &mut inlet, &mut outlet) {
         Ok(message) => {
             let mut lines = message_lines(alloc, &message)?;
-            add_continue(&mut lines, outlet.into_inner().as_slice())?;
+            add_continue(&mut lines, outlet.into_inner().taken.as_slice())?;
             Ok(lines)
         }
         Err(fault) => fault_line(alloc, fault),
@@ -99,7 +99,7 @@ fn lines_by(alloc: Global, bytes: &[u8], most: usize) -> Result<String, Failure>
 
 /// The lines of a message, which are the same by whatever pieces it is read.
 pub fn show_message(alloc: Global, bytes: &[u8]) -> Result<String, Failure> {
-    let whole = lines_by(alloc, bytes, 1_000_000_000)?;
+    let whole = lines_by(alloc, bytes, ALL)?;
     for most in [1, 7, 4_096] {
         let lines = lines_by(alloc, bytes, most)?;
         if lines.as_str() != whole.as_str() {

@@ -28,6 +28,8 @@ pub struct Question {
 #[derive(Drop)]
 pub struct Play {
     pub steps: Vec<Step>,
+    /// The place of the story's own first step, behind those of the stories before it.
+    pub own: usize,
     pub due: Vec<Due>,
     pub questions: Vec<Question>,
 }
@@ -66,6 +68,7 @@ impl Play {
     fn new(alloc: Global) -> Play {
         Play {
             steps: Vec::new(alloc),
+            own: 0,
             due: Vec::new(alloc),
             questions: Vec::new(alloc),
         }
@@ -186,6 +189,7 @@ pub fn play_of(alloc: Global, book: &Book<'_>, story: &Story<'_>) -> Result<Play
             play.add_all(alloc, &book.definitions, earlier)?;
         }
     }
+    play.own = play.steps.len();
     play.add_all(alloc, &book.definitions, story)?;
     Ok(play)
 }

@@ -1,10 +1,14 @@
 //! Steps of the program: its words, its streams, and files beside it.
-use crate::failures::Failure;
+use crate::failures::{Failure, compare_bytes};
 use crate::lines::Mark;
 use crate::texts::{Part, Plot};
+use basis::numbers::whole_number;
 use sqlite::{Connection, Error};
 use std::alloc::{AllocError, Global};
 use std::fs;
+use std::fs::Permissions;
+use std::net::{Ipv4Addr, TcpListener};
+use std::os::unix::fs::PermissionsExt;
 use system::run_here;
 
 /// What a step of the program does.
@@ -16,6 +20,12 @@ pub enum Does {
     IsAbsent,
     IsSame,
     Connects,
+    /// The clock, or the log of the database, fails the next command.
+    Breaks,
+    /// A file that can't be read.
+    Hides,
+    /// A port that is taken.
+    Takes,
     Runs,
 }
 
@@ -26,6 +36,9 @@ const WORDS: &[(&str, Does)] = &[
     ("absent", Does::IsAbsent),
     ("same", Does::IsSame),
     ("peer", Does::Connects),
+    ("breaks", Does::Breaks),
+    ("hidden", Does::Hides),
+    ("taken", Does::Takes),
     ("$", Does::Runs),
 ];
 
@@ -99,16 +112,6 @@ fn ran(rt: &HostRuntime, words: &[String], mut input: &[u8]) -> Left {
     }
 }
 
-/// That these bytes are those that are due.
-pub fn compare(alloc: Global, line: usize, due: &[u8], came: &[u8]) -> Result<(), Failure> {
-    if due == came {
-        return Ok(());
-    }
-    let due = Vec::from_slice(alloc, due)?;
-    let came = Vec::from_slice(alloc, came)?;
-    Err(Failure::differs(line, due, came))
-}
-
 // Whether a text stands in bytes.
 fn contains(bytes: &[u8], text: &str) -> bool {
     match str::from_utf8(bytes) {
@@ -121,8 +124,8 @@ fn contains(bytes: &[u8], text: &str) -> bool {
 fn compare_line(alloc: Global, part: &Part<'_>, errors: &[u8]) -> Result<(), Failure> {
     match part.text.split_once(' ') {
         Some(("contains", text)) if contains(errors, text) => Ok(()),
-        Some(("contains", text)) => compare(alloc, part.line, text.as_bytes(), errors),
-        _ => compare(alloc, part.line, part.written(), errors),
+        Some(("contains", text)) => compare_bytes(alloc, part.line, text.as_bytes(), errors),
+        _ => compare_bytes(alloc, part.line, part.written(), errors),
     }
 }
 
@@ -133,7 +136,7 @@ fn compare_errors(
     errors: &[u8],
 ) -> Result<(), Failure> {
     if parts.is_empty() {
-        return compare(alloc, answer.line, b"", errors);
+        return compare_bytes(alloc, answer.line, b"", errors);
     }
     for part in parts {
         compare_line(alloc, part, errors)?;
@@ -150,8 +153,8 @@ pub fn compare_left(
 ) -> Result<(), Failure> {
     let status = format!(in alloc; "{}", left.status)?;
     let line = answer.line;
-    compare(alloc, line, answer.written(), left.output.as_slice())?;
-    compare(
+    compare_bytes(alloc, line, answer.written(), left.output.as_slice())?;
+    compare_bytes(
         alloc,
         line,
         answer.text.as_bytes(),
@@ -194,16 +197,18 @@ fn bytes_of(rt: &HostRuntime, path: &str) -> Result<Vec<u8>, Failure> {
     }
 }
 
-/// What the last `write` or `table` of a story left.
+/// What the last `write` or `table` of a story left, and the ports that are taken.
 #[derive(Drop)]
 pub struct Files {
     last: Vec<u8>,
+    taken: Vec<TcpListener>,
 }
 
 impl Files {
     pub fn new(alloc: Global) -> Files {
         Files {
             last: Vec::new(alloc),
+            taken: Vec::new(alloc),
         }
     }
 
@@ -231,9 +236,20 @@ impl Files {
         Ok(())
     }
 
+    // A port stays taken until the story ends; another program may have it already.
+    fn take_port(&mut self, rt: &HostRuntime, head: &Part<'_>, port: &str) -> Result<(), Failure> {
+        let Some(port) = port_in(port) else {
+            return Err(Failure::from(head.unread("a port is a number up to 65535")));
+        };
+        if let Ok(listener) = TcpListener::bind(rt, (Ipv4Addr::LOCALHOST, port)) {
+            self.taken.push(listener)?;
+        }
+        Ok(())
+    }
+
     fn is_same(&self, rt: &HostRuntime, head: &Part<'_>, path: &str) -> Result<(), Failure> {
         let bytes = bytes_of(rt, path)?;
-        compare(
+        compare_bytes(
             rt.alloc(),
             head.line,
             self.last.as_slice(),
@@ -252,14 +268,28 @@ impl Files {
             Some((Does::MakesTable, words)) => self.make_table(rt, head, words),
             Some((Does::IsAbsent, path)) => is_absent(rt, head, path),
             Some((Does::IsSame, path)) => self.is_same(rt, head, path),
+            Some((Does::Hides, path)) => hide(rt, head, path),
+            Some((Does::Takes, port)) => self.take_port(rt, head, port),
             Some((Does::Runs, words)) => run_step(rt, head, words, parts),
-            Some((Does::Connects, _)) => Err(Failure::from(head.unread(
-                "no file is made or looked at where peers connect",
+            Some((Does::Connects | Does::Breaks, _)) => Err(Failure::from(head.unread(
+                "no file is made or looked at where peers connect, or a clock or a log breaks",
             ))),
             None => Err(Failure::from(head.unread(
                 "a story of the program has steps of the program alone",
             ))),
         }
+    }
+}
+
+fn port_in(text: &str) -> Option<u16> {
+    u16::try_from(whole_number(text)?).ok()
+}
+
+// Whoever may read everything still reads it.
+fn hide(rt: &HostRuntime, head: &Part<'_>, path: &str) -> Result<(), Failure> {
+    match fs::set_permissions(rt, path, Permissions::from_mode(0)) {
+        Ok(()) => Ok(()),
+        Err(_) => Err(Failure::refused(head.line, "the file can't be hidden")),
     }
 }
 

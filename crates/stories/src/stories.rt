@@ -1,19 +1,48 @@
-//! A story run by its kind: of a store, of the program, or of values.
+//! A story run by its kind: of a store, of the program, of values, or of checks.
+use crate::breaking::run_broken;
+use crate::checks::{is_check, run_check};
 use crate::failures::Failure;
 use crate::files::run_in_file;
 use crate::memories::{Memory, Place, WAY, place_of};
-use crate::plays::play_of;
+use crate::modes::{Counts, Modes};
+use crate::plays::{Play, play_of};
 use crate::programs::{Files, is_of_program};
+use crate::refusals::run_refused;
 use crate::texts::{Book, Part, Plot, Story};
 use crate::values::{is_of_values, take_value};
 use crate::ways::run_in_memory;
+use crate::{breaking, refusals};
 use std::alloc::Global;
 
 // The earlier stories and this one, in turn.
-fn run_store(rt: &HostRuntime, book: &Book<'_>, story: &Story<'_>) -> Result<(), Failure> {
+fn run_store(
+    rt: &HostRuntime,
+    book: &Book<'_>,
+    story: &Story<'_>,
+    counts: &mut Counts,
+) -> Result<(), Failure> {
     let play = play_of(rt.alloc(), book, story)?;
     run_in_memory(rt.alloc(), &play)?;
-    run_in_file(rt, &play)
+    run_in_file(rt, &play)?;
+    run_in_breaks(rt.alloc(), &play, story.modes, counts)
+}
+
+// The story's own requests over links that break, and over a store that refuses changes.
+fn run_in_breaks(
+    alloc: Global,
+    play: &Play,
+    modes: Modes,
+    counts: &mut Counts,
+) -> Result<(), Failure> {
+    if let Err(failure) = run_broken(alloc, play, modes, counts) {
+        return Err(failure.on(breaking::WAY));
+    }
+    if modes.refused {
+        if let Err(failure) = run_refused(alloc, play, counts) {
+            return Err(failure.on(refusals::WAY));
+        }
+    }
+    Ok(())
 }
 
 fn take_all(rt: &HostRuntime, files: &mut Files, plots: &[Plot<'_>]) -> Result<(), Failure> {
@@ -35,10 +64,10 @@ fn run_here(rt: &HostRuntime, book: &Book<'_>, story: &Story<'_>) -> Result<(), 
 }
 
 // In memory, where earlier stories don't come first.
-fn run_alone(alloc: Global, story: &Story<'_>) -> Result<(), Failure> {
+fn run_alone(alloc: Global, story: &Story<'_>, counts: &mut Counts) -> Result<(), Failure> {
     let mut memory = Memory::new(alloc);
     for plot in story.plots.as_slice() {
-        if let Err(failure) = memory.take(alloc, plot) {
+        if let Err(failure) = memory.take(alloc, plot, story.modes, counts) {
             return Err(failure.on(WAY));
         }
     }
@@ -55,15 +84,20 @@ fn check_alone(story: &Story<'_>) -> Result<(), Failure> {
     }
 }
 
-fn run_program(rt: &HostRuntime, book: &Book<'_>, story: &Story<'_>) -> Result<(), Failure> {
+fn run_program(
+    rt: &HostRuntime,
+    book: &Book<'_>,
+    story: &Story<'_>,
+    counts: &mut Counts,
+) -> Result<(), Failure> {
     match place_of(story) {
         Place::Memory => {
             check_alone(story)?;
-            run_alone(rt.alloc(), story)
+            run_alone(rt.alloc(), story, counts)
         }
         Place::Files => run_here(rt, book, story),
         Place::Both => {
-            run_alone(rt.alloc(), story)?;
+            run_alone(rt.alloc(), story, counts)?;
             run_here(rt, book, story)
         }
     }
@@ -81,11 +115,24 @@ fn first_head<'s, 'a>(story: &'s Story<'a>) -> Option<&'s Part<'a>> {
     plot.parts.first()
 }
 
-/// Runs a story, up to what fails.
-pub fn run_story(rt: &HostRuntime, book: &Book<'_>, story: &Story<'_>) -> Result<(), Failure> {
+fn run_checks(rt: &HostRuntime, story: &Story<'_>) -> Result<(), Failure> {
+    for plot in story.plots.as_slice() {
+        run_check(rt, plot)?;
+    }
+    Ok(())
+}
+
+/// Runs a story, up to what fails, and counts how often links and streams broke under it.
+pub fn run_story(
+    rt: &HostRuntime,
+    book: &Book<'_>,
+    story: &Story<'_>,
+    counts: &mut Counts,
+) -> Result<(), Failure> {
     match first_head(story) {
+        Some(head) if is_check(head) => run_checks(rt, story),
         Some(head) if is_of_values(head) => run_values(rt, story),
-        Some(head) if is_of_program(head) => run_program(rt, book, story),
-        _ => run_store(rt, book, story),
+        Some(head) if is_of_program(head) => run_program(rt, book, story, counts),
+        _ => run_store(rt, book, story, counts),
     }
 }

@@ -1,12 +1,12 @@
 //! Steps taken by a service: in turn, or exchange by exchange.
-use crate::devices::Sips;
-use crate::failures::Failure;
+use crate::devices::{Giver, Taker};
+use crate::failures::{Failure, compare_bytes};
 use crate::plays::Due;
 use basis::{Bytes, Down, Moment};
 use machine::{AdminAnswer, Keep, OrgRow};
 use serve::{LinkFault, Service, Step};
 use std::alloc::{AllocError, Global};
-use wire::ToWrite;
+use wire::{FromRead, ToWrite};
 
 /// How steps are taken.
 #[derive(Clone, Copy)]
@@ -32,6 +32,36 @@ fn piece_of(most: usize, length: usize) -> usize {
     }
 }
 
+/// How an exchange ended, what it wrote, and how many reads and writes it made.
+#[derive(Drop)]
+pub struct Came {
+    pub ended: Result<(), LinkFault>,
+    pub written: Vec<u8>,
+    pub reads: usize,
+    pub writes: usize,
+}
+
+/// One exchange over this reader and this writer.
+pub fn exchange_over<K: Keep>(
+    alloc: Global,
+    service: &mut Service<K>,
+    at: Moment,
+    giver: Giver<'_>,
+    taker: Taker,
+) -> Came {
+    let mut inlet = FromRead::new(giver);
+    let mut outlet = ToWrite::new(taker);
+    let ended = service.exchange(alloc, at, &mut inlet, &mut outlet);
+    let giver = inlet.into_inner();
+    let taker = outlet.into_inner();
+    Came {
+        ended,
+        written: taker.taken,
+        reads: giver.reads,
+        writes: taker.writes,
+    }
+}
+
 // What an exchange writes; nothing where the input ended inside the message.
 fn exchanged<K: Keep>(
     alloc: Global,
@@ -40,11 +70,10 @@ fn exchanged<K: Keep>(
     at: Moment,
     bytes: &[u8],
 ) -> Result<Bytes, Down> {
-    let mut inlet = Sips::new(bytes, piece_of(most, bytes.len()));
-    let mut outlet = ToWrite::new(Vec::new(alloc));
-    match service.exchange(alloc, at, &mut inlet, &mut outlet) {
-        Ok(()) => Ok(Bytes::new(outlet.into_inner())),
-        Err(LinkFault::Ended) => Ok(Bytes::new(outlet.into_inner())),
+    let giver = Giver::new(bytes, piece_of(most, bytes.len()));
+    let came = exchange_over(alloc, service, at, giver, Taker::new(alloc));
+    match came.ended {
+        Ok(()) | Err(LinkFault::Ended) => Ok(Bytes::new(came.written)),
         Err(_) => Err(Down),
     }
 }
@@ -99,25 +128,47 @@ fn answered_each<K: Keep>(
     Ok(replies)
 }
 
+// The replies to the steps from a place on.
+#[derive(Drop)]
+struct Replies {
+    from: usize,
+    all: Vec<Bytes>,
+}
+
+// The replies of a replay. Where it was refused, to the steps that it left, which are sent again.
+fn replayed<K: Keep>(
+    alloc: Global,
+    service: &mut Service<K>,
+    steps: &[Step],
+) -> Result<Replies, Down> {
+    if let Ok(all) = service.replay(alloc, steps) {
+        return Ok(Replies { from: 0, all });
+    }
+    let from = service.taken() as usize;
+    let Some(left) = steps.get(from..) else {
+        return Err(Down);
+    };
+    let all = service.replay(alloc, left)?;
+    Ok(Replies { from, all })
+}
+
 fn replies_to<K: Keep>(
     alloc: Global,
     service: &mut Service<K>,
     way: Way,
     steps: &[Step],
-) -> Result<Vec<Bytes>, Down> {
+) -> Result<Replies, Down> {
     match way {
-        Way::Replay => service.replay(alloc, steps),
-        Way::Exchange(most) => answered_each(alloc, service, most, steps),
+        Way::Replay => replayed(alloc, service, steps),
+        Way::Exchange(most) => {
+            let all = answered_each(alloc, service, most, steps)?;
+            Ok(Replies { from: 0, all })
+        }
     }
 }
 
 fn compare_one(alloc: Global, due: &Due, came: &[u8]) -> Result<(), Failure> {
-    if due.bytes.as_slice() == came {
-        return Ok(());
-    }
-    let expected = Vec::from_slice(alloc, due.bytes.as_slice())?;
-    let came = Vec::from_slice(alloc, came)?;
-    Err(Failure::differs(due.line, expected, came))
+    compare_bytes(alloc, due.line, due.bytes.as_slice(), came)
 }
 
 // Replies compared with those that are due.
@@ -129,6 +180,13 @@ fn compare(alloc: Global, due: &[Due], replies: &[Bytes]) -> Result<(), Failure>
         compare_one(alloc, due, reply.as_slice())?;
     }
     Ok(())
+}
+
+fn compare_from(alloc: Global, due: &[Due], replies: &Replies) -> Result<(), Failure> {
+    match due.get(replies.from..) {
+        Some(due) => compare(alloc, due, replies.all.as_slice()),
+        None => Err(Failure::refused(0, "more steps were taken than there are")),
+    }
 }
 
 /// Takes steps over a store and compares the replies with those that are due. The store is given back.
@@ -143,7 +201,7 @@ pub fn take_over<K: Keep>(
     let replies = replies_to(alloc, &mut service, way, steps);
     let keep = service.into_keep();
     let compared = match replies {
-        Ok(replies) => compare(alloc, due, replies.as_slice()),
+        Ok(replies) => compare_from(alloc, due, &replies),
         Err(_) => Err(Failure::refused(0, "memory or the store refused")),
     };
     (keep, compared)

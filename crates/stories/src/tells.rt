@@ -1,5 +1,6 @@
 //! What is printed.
 use crate::failures::{Failure, Why};
+use crate::modes::Counts;
 use std::alloc::{AllocError, Global};
 use std::io;
 use std::io::Write;
@@ -38,6 +39,7 @@ fn tell_why<W: Write>(alloc: Global, output: &mut W, why: &Why) -> io::Result<()
             tell_bytes(alloc, output, "came", came.as_slice())
         }
         Why::Refused(why) => writeln!(output, "{why}"),
+        Why::Broken(what, place) => writeln!(output, "{what} {place}"),
         Why::Unread(why) => writeln!(output, "{why}"),
     }
 }
@@ -94,6 +96,7 @@ fn short_why(alloc: Global, why: &Why) -> Result<String, AllocError> {
             )
         }
         Why::Refused(why) => String::from_str(alloc, why),
+        Why::Broken(what, place) => format!(in alloc; "{what} {place}"),
         Why::Unread(why) => String::from_str(alloc, why),
     }
 }
@@ -117,6 +120,22 @@ pub fn tell_short<W: Write>(
 /// Tells that a story passed.
 pub fn tell_passed<W: Write>(output: &mut W, name: &str) -> io::Result<()> {
     writeln!(output, "passed {name}")?;
+    output.flush()
+}
+
+fn tell_count<W: Write>(output: &mut W, name: &str, what: &str, count: usize) -> io::Result<()> {
+    if count == 0 {
+        return Ok(());
+    }
+    writeln!(output, "passed {name}, {what}: {count}")
+}
+
+/// Tells how often links and streams broke under a story.
+pub fn tell_counts<W: Write>(output: &mut W, name: &str, counts: &Counts) -> io::Result<()> {
+    tell_count(output, name, "cut", counts.cut)?;
+    tell_count(output, name, "reads that fail", counts.reads)?;
+    tell_count(output, name, "writes that fail", counts.writes)?;
+    tell_count(output, name, "changes that are refused", counts.refused)?;
     output.flush()
 }
 

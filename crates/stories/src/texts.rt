@@ -1,6 +1,7 @@
 //! The text of the stories: of each its name and the parts of its steps.
 use crate::definitions::{Definitions, Unread};
 use crate::lines::{Line, Mark, Piece, read_line, write_escaped};
+use crate::modes::{Modes, NONE};
 use basis::numbers::whole_number;
 use std::alloc::Global;
 
@@ -130,6 +131,8 @@ pub struct Story<'a> {
     pub name: &'a str,
     /// The earlier stories whose steps come first, by their places.
     pub before: Vec<usize>,
+    /// What breaks under its own steps.
+    pub modes: Modes,
     pub plots: Vec<Plot<'a>>,
 }
 
@@ -137,6 +140,8 @@ pub struct Story<'a> {
 #[derive(Drop)]
 pub struct Book<'a> {
     pub definitions: Definitions<'a>,
+    /// What breaks under the steps of a story that doesn't say it.
+    pub modes: Modes,
     pub stories: Vec<Story<'a>>,
 }
 
@@ -156,6 +161,7 @@ impl<'a> Book<'a> {
         self.stories.push(Story {
             name,
             before: Vec::new(alloc),
+            modes: self.modes,
             plots: Vec::new(alloc),
         })?;
         Ok(())
@@ -189,6 +195,30 @@ impl<'a> Book<'a> {
                 line,
                 why: "`after` is the first line of a story",
             }),
+        }
+    }
+
+    // Of the story that begins; above the first story, of all that follow.
+    fn set_modes(&mut self, line: usize, words: &str) -> Result<(), Unread> {
+        let Some(modes) = Modes::read(words) else {
+            return Err(Unread {
+                line,
+                why: "behind `links` stand the words cut, reads, writes, refused, or nothing",
+            });
+        };
+        match self.stories.last_mut() {
+            Some(story) if story.plots.is_empty() => {
+                story.modes = modes;
+                Ok(())
+            }
+            Some(_) => Err(Unread {
+                line,
+                why: "`links` stands before the first step of a story",
+            }),
+            None => {
+                self.modes = modes;
+                Ok(())
+            }
         }
     }
 
@@ -270,6 +300,7 @@ impl<'a> Book<'a> {
             Line::Definition(defines, text) => self.definitions.define(line, defines, text),
             Line::Story(name) => self.begin_story(alloc, line, name),
             Line::After(name) => self.set_before(alloc, line, name),
+            Line::Links(words) => self.set_modes(line, words),
             Line::Field(field) => self.add_field(line, field),
             Line::Piece(piece, text) => self.add_piece(alloc, line, piece, text),
             Line::Begins(mark, text) => self.begin(alloc, line, mark, text),
@@ -281,6 +312,7 @@ impl<'a> Book<'a> {
 pub fn read_book(alloc: Global, text: &str) -> Result<Book<'_>, Unread> {
     let mut book = Book {
         definitions: Definitions::new(alloc),
+        modes: NONE,
         stories: Vec::new(alloc),
     };
     let mut line = 0usize;

@@ -8,6 +8,7 @@ use crate::texts::{Part, Plot};
 use basis::numbers::whole_number;
 use basis::{Limit, LockId, Moment, Number, OrgName, RunAsk, Secret, StateHead, Unfit, WsName};
 use docs::{DocFault, digest_fits, read_lock, read_run, read_settings, read_state};
+use program::lines::split_line;
 use std::alloc::{AllocError, Global};
 
 /// What is read.
@@ -27,6 +28,7 @@ enum Kind {
     Moment,
     Limit,
     Message,
+    Line,
     Route,
     Asks,
 }
@@ -46,6 +48,7 @@ const KINDS: &[(&str, Kind)] = &[
     ("moment", Kind::Moment),
     ("limit", Kind::Limit),
     ("message", Kind::Message),
+    ("line", Kind::Line),
     ("route", Kind::Route),
     ("asks", Kind::Asks),
 ];
@@ -205,6 +208,14 @@ fn limit_in(text: &str) -> Option<u64> {
     Some(u64::from(limit.get()))
 }
 
+// How many bytes the first line of a frame has, and how many follow it.
+fn show_front(alloc: Global, bytes: &[u8]) -> Shown {
+    match split_line(bytes) {
+        Some((line, rest)) => Ok(format!(in alloc; "{} then {}", line.len(), rest.len())?),
+        None => text_of(alloc, "bad"),
+    }
+}
+
 // What is read as text.
 fn show_text(alloc: Global, kind: Kind, text: &str) -> Shown {
     match kind {
@@ -229,6 +240,7 @@ fn show_bytes(alloc: Global, kind: Kind, words: &str, bytes: &[u8]) -> Shown {
         Kind::Run => show_run(alloc, bytes),
         Kind::Digest => show_digest(alloc, words, bytes),
         Kind::Message => show_message(alloc, bytes),
+        Kind::Line => show_front(alloc, bytes),
         Kind::Route => show_route(alloc, words, bytes),
         _ => match str::from_utf8(bytes) {
             Ok(text) => show_text(alloc, kind, text),

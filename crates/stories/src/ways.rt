@@ -1,7 +1,9 @@
 //! The ways on which a story of a store is run: over which store, and how.
-use crate::failures::Failure;
+use crate::devices::ALL;
+use crate::failures::{Failure, compare_bytes};
 use crate::plays::{Play, Question};
 use crate::taking::{Way, take_over};
+use basis::Down;
 use machine::PlainKeep;
 use pages::ShaKey;
 use sqlite::{Connection, Error, MemStore};
@@ -20,7 +22,7 @@ const IN_MEMORY: &[(Store, Way, &str)] = &[
     (Store::Values, Way::Exchange(7), "values, 7 bytes a read"),
     (
         Store::Values,
-        Way::Exchange(1_000_000_000),
+        Way::Exchange(ALL),
         "values, all bytes in one read",
     ),
     (Store::Tables, Way::Replay, "tables, replayed"),
@@ -28,7 +30,7 @@ const IN_MEMORY: &[(Store, Way, &str)] = &[
     (Store::Tables, Way::Exchange(7), "tables, 7 bytes a read"),
     (
         Store::Tables,
-        Way::Exchange(1_000_000_000),
+        Way::Exchange(ALL),
         "tables, all bytes in one read",
     ),
 ];
@@ -44,7 +46,13 @@ fn in_values(alloc: Global, play: &Play, way: Way) -> Result<(), Failure> {
     taken
 }
 
-type Tables = SqlKeep<MemStore, ShaKey>;
+/// A store over tables in memory.
+pub type Tables = SqlKeep<MemStore, ShaKey>;
+
+/// Tables in memory with no organization.
+pub fn new_tables(alloc: Global) -> Result<Tables, Down> {
+    SqlKeep::in_memory(alloc)
+}
 
 // The first value of the first row, as text.
 fn ask(alloc: Global, conn: &mut Connection<MemStore>, sql: &str) -> Result<String, Error> {
@@ -55,16 +63,22 @@ fn ask(alloc: Global, conn: &mut Connection<MemStore>, sql: &str) -> Result<Stri
     }
 }
 
+/// The store over tables that were asked.
+pub fn reopened(line: usize, conn: Connection<MemStore>) -> Result<Tables, Failure> {
+    if !conn.is_autocommit() {
+        return Err(Failure::refused(line, "the question began a transaction"));
+    }
+    match SqlKeep::open(conn) {
+        Ok(keep) => Ok(keep),
+        Err(_) => Err(Failure::refused(line, "the tables don't open again")),
+    }
+}
+
 // Asks the tables, and gives the store back.
 fn asked(alloc: Global, keep: Tables, question: &Question) -> Result<Tables, Failure> {
     let mut conn = keep.close();
     let answer = ask(alloc, &mut conn, question.sql.as_str());
-    if !conn.is_autocommit() {
-        return Err(Failure::refused(question.line, "the question began a transaction"));
-    }
-    let Ok(keep) = SqlKeep::<MemStore, ShaKey>::open(conn) else {
-        return Err(Failure::refused(question.line, "the tables don't open again"));
-    };
+    let keep = reopened(question.line, conn)?;
     told(alloc, question, answer)?;
     Ok(keep)
 }
@@ -73,16 +87,16 @@ fn told(alloc: Global, question: &Question, answer: Result<String, Error>) -> Re
     let Ok(answer) = answer else {
         return Err(Failure::refused(question.line, "the tables don't answer"));
     };
-    if answer.as_str().as_bytes() == question.answer.as_slice() {
-        return Ok(());
-    }
-    let due = Vec::from_slice(alloc, question.answer.as_slice())?;
-    let came = Vec::from_slice(alloc, answer.as_str().as_bytes())?;
-    Err(Failure::differs(question.line, due, came))
+    compare_bytes(
+        alloc,
+        question.line,
+        question.answer.as_slice(),
+        answer.as_str().as_bytes(),
+    )
 }
 
-// Takes the steps up to a place, and gives the store back.
-fn taken_to(
+/// Takes the steps up to a place, and gives the store back.
+pub fn taken_to(
     alloc: Global,
     keep: Tables,
     way: Way,
@@ -99,7 +113,7 @@ fn taken_to(
 }
 
 fn in_tables(alloc: Global, play: &Play, way: Way) -> Result<(), Failure> {
-    let mut keep = SqlKeep::<MemStore, ShaKey>::in_memory(alloc)?;
+    let mut keep = new_tables(alloc)?;
     let mut from = 0;
     for question in play.questions.as_slice() {
         keep = taken_to(alloc, keep, way, play, from, question.place)?;

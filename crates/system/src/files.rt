@@ -14,7 +14,7 @@ use sqlite_store::FileStore;
 use std::rt::HostRuntime;
 use tables::{Fault, SqlKeep};
 
-/// The store in a file, which `start` stands for as it is opened.
+/// The store in a file, its pages named by SHA-256, which `start` stands for as it is opened.
 pub type FileKeep<S> = SqlKeep<FileStore<FileFrom<S>>, ShaKey>;
 
 /// Opens the store in a file. A file that isn't there is made, with no organization; one of another

@@ -1,0 +1,252 @@
+//! One request over links that break: cut behind each byte, each read failing, each write failing.
+use crate::devices::{ALL, Giver, Stop, Taker};
+use crate::failures::{Failure, compare_bytes};
+use crate::messages::CONTINUE;
+use crate::modes::{Counts, Modes};
+use crate::plays::Due;
+use crate::taking::{Came, exchange_over};
+use basis::Moment;
+use machine::Keep;
+use serve::{LinkFault, Service};
+use std::alloc::Global;
+
+/// A request, and what is due to it.
+#[derive(Drop)]
+pub struct Asked<'s> {
+    pub line: usize,
+    pub at: Moment,
+    pub bytes: &'s [u8],
+    pub due: &'s [u8],
+}
+
+impl<'s> Asked<'s> {
+    pub fn new(at: Moment, bytes: &'s [u8], due: &'s Due) -> Asked<'s> {
+        Asked {
+            line: due.line,
+            at,
+            bytes,
+            due: due.bytes.as_slice(),
+        }
+    }
+}
+
+/// How many bytes are due before the reply: those of the line that says to go on, or none.
+pub fn line_in(due: &[u8]) -> usize {
+    if due.starts_with(CONTINUE) {
+        CONTINUE.len()
+    } else {
+        0
+    }
+}
+
+// Whether a front of a request has its whole head.
+fn has_head(front: &[u8]) -> bool {
+    for at in 0..front.len() {
+        if let Some(rest) = front.get(at..) {
+            if rest.starts_with(b"\r\n\r\n") {
+                return true;
+            }
+        }
+    }
+    false
+}
+
+// What is written once so many bytes of a request have come.
+fn due_after<'s>(asked: &Asked<'s>, count: usize) -> &'s [u8] {
+    let is_due = match asked.bytes.get(..count) {
+        Some(front) => has_head(front),
+        None => true,
+    };
+    let length = if is_due { line_in(asked.due) } else { 0 };
+    asked.due.get(..length).unwrap_or(b"")
+}
+
+const REFUSED_BY_THE_HEAD: &[&str] = &[
+    "HTTP/1.1 400",
+    "HTTP/1.1 411",
+    "HTTP/1.1 413",
+    "HTTP/1.1 431",
+];
+
+// Whether a request may be refused once its head is read.
+fn may_end_early(due: &[u8]) -> bool {
+    for front in REFUSED_BY_THE_HEAD {
+        if due.starts_with(front.as_bytes()) {
+            return true;
+        }
+    }
+    false
+}
+
+/// How many bytes of a request are read: all of them, but where its head is refused.
+pub fn length_of<K: Keep>(alloc: Global, service: &mut Service<K>, asked: &Asked<'_>) -> usize {
+    let all = asked.bytes.len();
+    if !may_end_early(asked.due) {
+        return all;
+    }
+    let giver = Giver::new(asked.bytes, 1);
+    let came = exchange_over(alloc, service, asked.at, giver, Taker::new(alloc));
+    came.reads.min(all)
+}
+
+fn is_cut<K: Keep>(
+    alloc: Global,
+    service: &mut Service<K>,
+    asked: &Asked<'_>,
+    most: usize,
+    count: usize,
+) -> bool {
+    let Some(front) = asked.bytes.get(..count) else {
+        return false;
+    };
+    let giver = Giver::new(front, most);
+    let came = exchange_over(alloc, service, asked.at, giver, Taker::new(alloc));
+    came.ended == Err(LinkFault::Ended) && came.written.as_slice() == due_after(asked, count)
+}
+
+// Cut behind each byte but the last: the request is unfinished, and nothing is written but the line that is due.
+fn cut_each<K: Keep>(
+    alloc: Global,
+    service: &mut Service<K>,
+    asked: &Asked<'_>,
+    most: usize,
+    length: usize,
+) -> Result<usize, Failure> {
+    for count in 1..length {
+        if !is_cut(alloc, service, asked, most, count) {
+            return Err(Failure::broken(
+                asked.line,
+                "something else came where it is cut behind byte",
+                count,
+            ));
+        }
+    }
+    Ok(length.saturating_sub(1))
+}
+
+fn is_failed_read<K: Keep>(
+    alloc: Global,
+    service: &mut Service<K>,
+    asked: &Asked<'_>,
+    most: usize,
+    read: usize,
+) -> bool {
+    let given = read.saturating_sub(1).saturating_mul(most);
+    let giver = Giver::failing(asked.bytes, most, read);
+    let came = exchange_over(alloc, service, asked.at, giver, Taker::new(alloc));
+    came.ended == Err(LinkFault::Read)
+        && came.reads == read
+        && came.written.as_slice() == due_after(asked, given)
+}
+
+// How many reads give so many bytes.
+fn reads_of(length: usize, most: usize) -> usize {
+    if most == 0 { 0 } else { length.div_ceil(most) }
+}
+
+// Each read fails in turn, and is told.
+fn fail_reads<K: Keep>(
+    alloc: Global,
+    service: &mut Service<K>,
+    asked: &Asked<'_>,
+    most: usize,
+    length: usize,
+) -> Result<usize, Failure> {
+    let reads = reads_of(length, most);
+    for read in 1..=reads {
+        if !is_failed_read(alloc, service, asked, most, read) {
+            return Err(Failure::broken(
+                asked.line,
+                "something else came where reading fails at read",
+                read,
+            ));
+        }
+    }
+    Ok(reads)
+}
+
+/// A request cut behind each byte, and with each read failing. It has taken no step then.
+pub fn break_reads<K: Keep>(
+    alloc: Global,
+    service: &mut Service<K>,
+    asked: &Asked<'_>,
+    most: usize,
+    modes: Modes,
+    counts: &mut Counts,
+) -> Result<(), Failure> {
+    let length = length_of(alloc, service, asked);
+    if modes.cut {
+        let cut = cut_each(alloc, service, asked, most, length)?;
+        counts.cut = counts.cut.saturating_add(cut);
+    }
+    if modes.reads {
+        let reads = fail_reads(alloc, service, asked, most, length)?;
+        counts.reads = counts.reads.saturating_add(reads);
+    }
+    Ok(())
+}
+
+/// A request that comes whole, by a reader of so many bytes: no read is made behind its end.
+pub fn take_whole<K: Keep>(
+    alloc: Global,
+    service: &mut Service<K>,
+    asked: &Asked<'_>,
+    most: usize,
+) -> Result<(), Failure> {
+    let giver = Giver::new(asked.bytes, most);
+    let came = exchange_over(alloc, service, asked.at, giver, Taker::new(alloc));
+    compare_bytes(alloc, asked.line, asked.due, came.written.as_slice())?;
+    let reads = reads_of(asked.bytes.len(), most);
+    if came.ended == Ok(()) && came.reads > reads {
+        return Err(Failure::broken(
+            asked.line,
+            "a read behind the request's end was made, read",
+            came.reads,
+        ));
+    }
+    if came.ended == Ok(()) && came.reads < reads && !may_end_early(asked.due) {
+        return Err(Failure::broken(
+            asked.line,
+            "the request wasn't read to its end, but by reads",
+            came.reads,
+        ));
+    }
+    Ok(())
+}
+
+// That a front of what is due stands, up to the write that stopped, and which part was being written.
+fn is_stopped(came: &Came, due: &[u8], stops_at: usize) -> bool {
+    let fault = if stops_at <= line_in(due) {
+        LinkFault::Continue
+    } else {
+        LinkFault::Write
+    };
+    let front = match due.get(..stops_at.saturating_sub(1)) {
+        Some(front) => front,
+        None => due,
+    };
+    came.ended == Err(fault) && came.writes == stops_at && came.written.as_slice() == front
+}
+
+/// A request whose reply stops at one of its bytes.
+pub fn stop_write<K: Keep>(
+    alloc: Global,
+    service: &mut Service<K>,
+    asked: &Asked<'_>,
+    due: &[u8],
+    stops_at: usize,
+    stop: Stop,
+) -> Result<(), Failure> {
+    let giver = Giver::new(asked.bytes, ALL);
+    let taker = Taker::stopping(alloc, stops_at, stop);
+    let came = exchange_over(alloc, service, asked.at, giver, taker);
+    if is_stopped(&came, due, stops_at) {
+        Ok(())
+    } else {
+        Err(Failure::broken(
+            asked.line,
+            "something else came where writing stops at byte",
+            stops_at,
+        ))
+    }
+}

@@ -1,0 +1,68 @@
+//! The ways in which links and streams break under a story, and how often they did.
+
+/// What breaks under the steps of a story.
+#[derive(Clone, Copy)]
+pub struct Modes {
+    /// Each request is cut behind each of its bytes but the last.
+    pub cut: bool,
+    /// Each read fails in turn.
+    pub reads: bool,
+    /// Each write of a byte fails in turn, or takes nothing.
+    pub writes: bool,
+    /// The store refuses each change.
+    pub refused: bool,
+}
+
+/// Nothing breaks.
+pub const NONE: Modes = Modes {
+    cut: false,
+    reads: false,
+    writes: false,
+    refused: false,
+};
+
+// With one word more.
+fn with_word(modes: Modes, word: &str) -> Option<Modes> {
+    let mut more = modes;
+    match word {
+        "cut" => more.cut = true,
+        "reads" => more.reads = true,
+        "writes" => more.writes = true,
+        "refused" => more.refused = true,
+        "nothing" => {}
+        _ => return None,
+    }
+    Some(more)
+}
+
+impl Modes {
+    /// What these words say, parted by single blanks.
+    pub fn read(words: &str) -> Option<Modes> {
+        let mut modes = NONE;
+        for word in words.split(' ') {
+            let more = with_word(modes, word)?;
+            modes = more;
+        }
+        Some(modes)
+    }
+}
+
+/// How often links and streams broke.
+#[derive(Clone, Copy)]
+pub struct Counts {
+    pub cut: usize,
+    pub reads: usize,
+    pub writes: usize,
+    pub refused: usize,
+}
+
+impl Counts {
+    pub fn new() -> Counts {
+        Counts {
+            cut: 0,
+            reads: 0,
+            writes: 0,
+            refused: 0,
+        }
+    }
+}

@@ -1,0 +1,70 @@
+//! All that stands in the tables, as bytes that are compared.
+use crate::failures::Failure;
+use crate::ways::{Tables, reopened};
+use sqlite::types::ValueRef;
+use sqlite::{Connection, Error, MemStore, Row};
+use std::alloc::{AllocError, Global};
+
+const TABLES: &[&str] = &[
+    "SELECT * FROM meta",
+    "SELECT * FROM org",
+    "SELECT * FROM token",
+    "SELECT * FROM ws",
+    "SELECT * FROM version",
+    "SELECT * FROM run",
+    "SELECT * FROM vpage",
+    "SELECT * FROM page",
+];
+
+// A mark, and so many bytes.
+fn put_bytes(all: &mut Vec<u8>, mark: u8, bytes: &[u8]) -> Result<(), AllocError> {
+    all.push(mark)?;
+    all.extend_from_slice(&bytes.len().to_le_bytes())?;
+    all.extend_from_slice(bytes)
+}
+
+fn put_value(all: &mut Vec<u8>, value: ValueRef<'_>) -> Result<(), AllocError> {
+    match value {
+        ValueRef::Int(number) => put_bytes(all, b'i', &number.to_le_bytes()),
+        ValueRef::Text(text) => put_bytes(all, b't', text),
+        ValueRef::Blob(bytes) => put_bytes(all, b'b', bytes),
+        ValueRef::Null => put_bytes(all, b'n', b""),
+        ValueRef::Real(_) => put_bytes(all, b'r', b""),
+    }
+}
+
+fn put_row(all: &mut Vec<u8>, row: &Row) -> Result<(), Error> {
+    all.push(b'\n')?;
+    for at in 0..row.column_count() {
+        put_value(all, row.get_ref(at)?)?;
+    }
+    Ok(())
+}
+
+fn put_table(all: &mut Vec<u8>, conn: &mut Connection<MemStore>, sql: &str) -> Result<(), Error> {
+    all.push(b'#')?;
+    let rows = conn.query_all(sql, &[])?;
+    for row in rows.as_slice() {
+        put_row(all, row)?;
+    }
+    Ok(())
+}
+
+fn put_tables(all: &mut Vec<u8>, conn: &mut Connection<MemStore>) -> Result<(), Error> {
+    for sql in TABLES {
+        put_table(all, conn, sql)?;
+    }
+    Ok(())
+}
+
+/// What stands in the tables. The store is given back.
+pub fn recorded(alloc: Global, line: usize, keep: Tables) -> Result<(Tables, Vec<u8>), Failure> {
+    let mut conn = keep.close();
+    let mut all = Vec::new(alloc);
+    let put = put_tables(&mut all, &mut conn);
+    let keep = reopened(line, conn)?;
+    match put {
+        Ok(()) => Ok((keep, all)),
+        Err(_) => Err(Failure::refused(line, "the tables don't answer")),
+    }
+}

@@ -1,0 +1,137 @@
+//! A story of requests told to a store that refuses each change: a 503 is due then, and nothing changes.
+use crate::devices::{ALL, Giver, Stop, Taker};
+use crate::failures::{Failure, compare_bytes};
+use crate::links::{Asked, line_in, stop_write};
+use crate::messages::CONTINUE;
+use crate::modes::Counts;
+use crate::plays::Play;
+use crate::refusing::Refusing;
+use crate::taking::{Way, exchange_over, take_over};
+use machine::{Keep, PlainKeep};
+use serve::{Service, Step};
+use std::alloc::{AllocError, Global};
+
+/// The name of this way.
+pub const WAY: &str = "a store that refuses changes";
+
+const HEAD: &[u8] = b"HTTP/1.1 503 Service Unavailable\r\nDate: ";
+
+const REST: &[u8] =
+    b"\r\nConnection: close\r\nCache-Control: private, no-store\r\nContent-Type: application/json\r\nContent-Length: 16\r\n\r\n{\"error\":\"down\"}";
+
+// The date of a reply.
+fn date_in(due: &[u8]) -> &str {
+    let Ok(text) = str::from_utf8(due) else {
+        return "";
+    };
+    match text.split_once("Date: ") {
+        Some((_, rest)) => match rest.split_once("\r\n") {
+            Some((date, _)) => date,
+            None => "",
+        },
+        None => "",
+    }
+}
+
+// What is written where the store refused the change to which this is due.
+fn down_for(alloc: Global, due: &[u8]) -> Result<Vec<u8>, AllocError> {
+    let mut bytes = Vec::new(alloc);
+    if line_in(due) > 0 {
+        bytes.extend_from_slice(CONTINUE)?;
+    }
+    bytes.extend_from_slice(HEAD)?;
+    bytes.extend_from_slice(date_in(due).as_bytes())?;
+    bytes.extend_from_slice(REST)?;
+    Ok(bytes)
+}
+
+// Each byte of the 503 in turn isn't taken.
+fn stop_each<K: Keep>(
+    alloc: Global,
+    service: &mut Service<K>,
+    asked: &Asked<'_>,
+    down: &[u8],
+) -> Result<(), Failure> {
+    for stops_at in 1..=down.len() {
+        stop_write(alloc, service, asked, down, stops_at, Stop::Fails)?;
+    }
+    Ok(())
+}
+
+// What needs no change is answered as ever; what needs one by a 503.
+fn refuse<K: Keep>(
+    alloc: Global,
+    service: &mut Service<K>,
+    asked: &Asked<'_>,
+    counts: &mut Counts,
+) -> Result<(), Failure> {
+    let giver = Giver::new(asked.bytes, ALL);
+    let came = exchange_over(alloc, service, asked.at, giver, Taker::new(alloc));
+    if came.written.as_slice() == asked.due {
+        return Ok(());
+    }
+    let down = down_for(alloc, asked.due)?;
+    compare_bytes(alloc, asked.line, down.as_slice(), came.written.as_slice())?;
+    counts.refused = counts.refused.saturating_add(1);
+    stop_each(alloc, service, asked, down.as_slice())
+}
+
+// A request over a store that refuses changes. The store is given back.
+fn refused(
+    alloc: Global,
+    keep: PlainKeep,
+    asked: &Asked<'_>,
+    counts: &mut Counts,
+) -> Result<PlainKeep, Failure> {
+    let mut service = Service::new(Refusing { keep });
+    let told = refuse(alloc, &mut service, asked, counts);
+    let Refusing { keep } = service.into_keep();
+    match told {
+        Ok(()) => Ok(keep),
+        Err(failure) => Err(failure),
+    }
+}
+
+// Takes the steps up to a place, and gives the store back.
+fn taken_to(
+    alloc: Global,
+    keep: PlainKeep,
+    play: &Play,
+    from: usize,
+    to: usize,
+) -> Result<PlainKeep, Failure> {
+    let (steps, due) = play.between(from, to);
+    let (keep, taken) = take_over(alloc, keep, Way::Replay, steps, due);
+    match taken {
+        Ok(()) => Ok(keep),
+        Err(failure) => Err(failure),
+    }
+}
+
+// A step over a store that refuses changes, and then as the story has it.
+fn refuse_at(
+    alloc: Global,
+    keep: PlainKeep,
+    play: &Play,
+    place: usize,
+    counts: &mut Counts,
+) -> Result<PlainKeep, Failure> {
+    let keep = match (play.steps.get(place), play.due.get(place)) {
+        (Some(Step::Request { at, bytes }), Some(due)) => {
+            let asked = Asked::new(*at, bytes.as_slice(), due);
+            refused(alloc, keep, &asked, counts)?
+        }
+        _ => keep,
+    };
+    taken_to(alloc, keep, play, place, place.saturating_add(1))
+}
+
+/// Tells a story's own requests to a store that refuses each change, before each of them is taken.
+pub fn run_refused(alloc: Global, play: &Play, counts: &mut Counts) -> Result<(), Failure> {
+    let mut keep = taken_to(alloc, PlainKeep::new(alloc), play, 0, play.own)?;
+    for place in play.own..play.steps.len() {
+        keep = refuse_at(alloc, keep, play, place, counts)?;
+    }
+    drop(keep);
+    Ok(())
+}

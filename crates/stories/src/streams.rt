@@ -1,0 +1,227 @@
+//! The program's words once more over streams that break: words that leave no mark, so that they may run again and again.
+use crate::devices::{ALL, Giver, Stop, Taker};
+use crate::failures::Failure;
+use crate::memories::Memory;
+use crate::modes::{Counts, Modes};
+use crate::programs::Left;
+use crate::texts::Part;
+use std::alloc::Global;
+
+/// The exit status where a stream fails.
+const BROKEN: u8 = 3;
+
+/// Words, and what is due on the streams.
+#[derive(Drop)]
+pub struct Told<'s> {
+    line: usize,
+    at: u64,
+    words: &'s [String],
+    input: &'s [u8],
+    output: &'s [u8],
+    // Empty where the text says only what stands there among others.
+    errors: &'s [u8],
+    reads_frames: bool,
+    leaves_no_mark: bool,
+}
+
+// The error stream, where one line `?` and its pieces are all of it.
+fn errors_in<'s>(parts: &'s [Part<'_>]) -> &'s [u8] {
+    match parts {
+        [part] if part.text.is_empty() => part.written(),
+        _ => b"",
+    }
+}
+
+impl<'s> Told<'s> {
+    pub fn new(
+        at: u64,
+        words: &'s [String],
+        head: &'s Part<'_>,
+        answer: &'s Part<'_>,
+        parts: &'s [Part<'_>],
+    ) -> Told<'s> {
+        let reads_frames = head.text.starts_with("$ replay");
+        Told {
+            line: answer.line,
+            at,
+            words,
+            input: head.written(),
+            output: answer.written(),
+            errors: errors_in(parts),
+            reads_frames,
+            leaves_no_mark: reads_frames || answer.text == "2",
+        }
+    }
+}
+
+fn check(told: &Told<'_>, holds: bool, what: &'static str, place: usize) -> Result<(), Failure> {
+    if holds {
+        Ok(())
+    } else {
+        Err(Failure::broken(told.line, what, place))
+    }
+}
+
+fn ran(
+    alloc: Global,
+    memory: &mut Memory<'_>,
+    told: &Told<'_>,
+    input: Giver<'_>,
+    output: Taker,
+    errors: Taker,
+) -> Result<Left, Failure> {
+    memory.ran(alloc, told.at, told.words, input, output, errors)
+}
+
+// A read of the standard input fails: no frame is answered.
+fn fail_read(
+    alloc: Global,
+    memory: &mut Memory<'_>,
+    told: &Told<'_>,
+    read: usize,
+) -> Result<(), Failure> {
+    let input = Giver::failing(told.input, 1, read);
+    let left = ran(
+        alloc,
+        memory,
+        told,
+        input,
+        Taker::new(alloc),
+        Taker::new(alloc),
+    )?;
+    let is_due = left.status == BROKEN
+        && left.output.as_slice() == b"refused down\n".as_slice()
+        && left.errors.is_empty();
+    check(
+        told,
+        is_due,
+        "something else came where reading fails at read",
+        read,
+    )
+}
+
+// The standard output takes a front of what is due.
+fn stop_output(
+    alloc: Global,
+    memory: &mut Memory<'_>,
+    told: &Told<'_>,
+    stops_at: usize,
+    stop: Stop,
+) -> Result<(), Failure> {
+    let input = Giver::new(told.input, ALL);
+    let output = Taker::stopping(alloc, stops_at, stop);
+    let left = ran(alloc, memory, told, input, output, Taker::new(alloc))?;
+    let is_front = left.output.len().saturating_add(1) == stops_at
+        && told.output.starts_with(left.output.as_slice());
+    check(
+        told,
+        left.status == BROKEN && is_front,
+        "something else came where the output stops at byte",
+        stops_at,
+    )
+}
+
+// The error stream takes a front of what is due.
+fn stop_errors(
+    alloc: Global,
+    memory: &mut Memory<'_>,
+    told: &Told<'_>,
+    stops_at: usize,
+    stop: Stop,
+) -> Result<(), Failure> {
+    let input = Giver::new(told.input, ALL);
+    let errors = Taker::stopping(alloc, stops_at, stop);
+    let left = ran(alloc, memory, told, input, Taker::new(alloc), errors)?;
+    let is_front = left.errors.len().saturating_add(1) == stops_at
+        && told.errors.starts_with(left.errors.as_slice());
+    check(
+        told,
+        left.status == BROKEN && is_front,
+        "something else came where the error stream stops at byte",
+        stops_at,
+    )
+}
+
+// The standard output takes all, and then can't be flushed.
+fn fail_flush(alloc: Global, memory: &mut Memory<'_>, told: &Told<'_>) -> Result<(), Failure> {
+    let input = Giver::new(told.input, ALL);
+    let left = ran(
+        alloc,
+        memory,
+        told,
+        input,
+        Taker::unflushed(alloc),
+        Taker::new(alloc),
+    )?;
+    check(
+        told,
+        left.status == BROKEN,
+        "another status where the output can't be flushed, bytes",
+        left.output.len(),
+    )
+}
+
+fn fail_reads(
+    alloc: Global,
+    memory: &mut Memory<'_>,
+    told: &Told<'_>,
+    counts: &mut Counts,
+) -> Result<(), Failure> {
+    // The last read would tell the end.
+    let reads = told.input.len().saturating_add(1);
+    for read in 1..=reads {
+        fail_read(alloc, memory, told, read)?;
+    }
+    counts.reads = counts.reads.saturating_add(reads);
+    Ok(())
+}
+
+fn stop_all(
+    alloc: Global,
+    memory: &mut Memory<'_>,
+    told: &Told<'_>,
+    stop: Stop,
+    counts: &mut Counts,
+) -> Result<(), Failure> {
+    for stops_at in 1..=told.output.len() {
+        stop_output(alloc, memory, told, stops_at, stop)?;
+    }
+    for stops_at in 1..=told.errors.len() {
+        stop_errors(alloc, memory, told, stops_at, stop)?;
+    }
+    let stops = told.output.len().saturating_add(told.errors.len());
+    counts.writes = counts.writes.saturating_add(stops);
+    Ok(())
+}
+
+fn stop_writes(
+    alloc: Global,
+    memory: &mut Memory<'_>,
+    told: &Told<'_>,
+    counts: &mut Counts,
+) -> Result<(), Failure> {
+    stop_all(alloc, memory, told, Stop::Fails, counts)?;
+    stop_all(alloc, memory, told, Stop::TakesNone, counts)?;
+    if told.output.is_empty() {
+        return Ok(());
+    }
+    counts.writes = counts.writes.saturating_add(1);
+    fail_flush(alloc, memory, told)
+}
+
+/// The same words over streams that break. What is left then is told by the status.
+pub fn break_streams(
+    alloc: Global,
+    memory: &mut Memory<'_>,
+    told: &Told<'_>,
+    modes: Modes,
+    counts: &mut Counts,
+) -> Result<(), Failure> {
+    if modes.reads && told.reads_frames {
+        fail_reads(alloc, memory, told, counts)?;
+    }
+    if modes.writes && told.leaves_no_mark {
+        stop_writes(alloc, memory, told, counts)?;
+    }
+    Ok(())
+}
