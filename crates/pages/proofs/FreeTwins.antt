@@ -5,7 +5,7 @@ use Rattle.sqlite.specs.State.{State, HasCleanDisk, IsUnchanged}
 use Rattle.statements.specs.Tables.{Tables, Holds}
 use Rattle.pages.specs.Rows.{page_uses}
 use Rattle.pages.specs.Puts.{twin_limit, free_from, free_twin}
-use Rattle.pages.specs.Inner.Calls.{LeavesAsIs}
+use Rattle.pages.specs.Pages.{LeavesAsIs}
 use Rattle.pages.proofs.Looking.{one_look, looks_then}
 
 one_less : (m n : ℕ) → n < m → m - n ≡ suc (m - (n + 1))

@@ -6,7 +6,7 @@ use Rattle.sqlite_trees.specs.View.{doubt}
 use Rattle.sqlite.specs.State.{State, HasCleanDisk, Survives, IsUnchanged, IsRolledBack, KeepsCommit}
 use Rattle.statements.specs.Steps.{LeavesForeign, Moves}
 use Rattle.statements.specs.Tables.{Tables, Holds}
-use Rattle.pages.specs.Inner.Calls.{LeavesAsIs}
+use Rattle.pages.specs.Pages.{LeavesAsIs}
 
 pub clean_before : (a b : State) (C : Trees → Type 0) → Survives a b C → HasCleanDisk b → HasCleanDisk a
 clean_before a b C s clean = let low : doubt a.is_clean ≤ doubt b.is_clean = s.clean in omega (arith, low, clean)

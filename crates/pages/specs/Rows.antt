@@ -1,11 +1,14 @@
 -- What the statements on the table page change and read of its rows.
-use Rattle.std.specs.Prelude.{ℕ, Bool, ◌&&◌, ◌==◌, List, find, Option, option_map}
+use Rattle.std.specs.Prelude.{◌≡◌, ℕ, Bool, ◌&&◌, ◌==◌, List, find, Option, option_map}
 use Rattle.std.specs.Str.{bytes_eq}
+use Rattle.sqlite_value.specs.declared.value.Value.TheVariants.{Blob}
+use Rattle.sqlite_value.specs.Order.{Row, column}
 use Rattle.sqlite_keyed.specs.Lists.{update_where, delete_where}
-use Rattle.statements.specs.Rows.{Kept, PageRow}
+use Rattle.statements.specs.Rows.{Kept, PageRow, number}
 use Rattle.statements.specs.Tables.{Tables}
 use Rattle.statements.specs.Changes.{with_next}
 use Rattle.pages.specs.declared.rows.PageUse.{PageUse}
+use Rattle.pages.specs.declared.store.PageId.{PageId}
 
 -- the page of a key and a twin number
 abbrev pub is_page : List ℕ → ℕ → Kept PageRow → Bool
@@ -35,3 +38,8 @@ page_use x = record { twin = x.1.twin; uses = x.1.uses }
 
 abbrev pub equal_page : List ℕ → List ℕ → Tables → Option PageUse
 equal_page key bytes t = option_map page_use (find (is_equal_page key bytes) t.pages)
+
+-- A row of an answer that names a page: its key, and then its twin number.
+pub record IsPageName (row : Row) (id : PageId) : Type 0 where
+  pub key : column row 0 ≡ Blob id.key
+  pub twin : column row 1 ≡ number id.twin

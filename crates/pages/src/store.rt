@@ -1,10 +1,12 @@
 //! Pages are put, read, compared and released.
 ghost use Rattle.std.specs.Prelude.{◌≡◌, ◌+◌, false, ◌<◌, ◌^◌, IsSome, IfOk, OnOk};
+ghost use Rattle.sqlite_value.specs.declared.value.Value.TheVariants.{Blob};
+ghost use Rattle.sqlite_value.specs.Order.{column};
 ghost use Rattle.sqlite.specs.Held.{state};
 ghost use Rattle.sqlite.specs.State.{HasCleanDisk};
 ghost use Rattle.statements.specs.Steps.{ChangesBy};
 ghost use Rattle.statements.specs.Tables.{Tables, Holds};
-ghost use Rattle.pages.specs.Rows.{page_added, page_used, page_bytes};
+ghost use Rattle.pages.specs.Rows.{page_added, page_used, page_bytes, IsPageName};
 ghost use Rattle.pages.specs.Puts.{free_twin, twin_found, twin_for, put_found, page_put, lessened, released_found, page_released, is_bytes_of};
 ghost use Rattle.pages.specs.Pages.{PutsBy, ReleasesBy, GetsBy};
 ghost use Rattle.pages.specs.Inner.Calls.{OnlyLooks, TellsBy};
@@ -12,13 +14,39 @@ ghost use Rattle.pages.specs.Inner.Calls.{OnlyLooks, TellsBy};
 use crate::keys::PageKey;
 use crate::rows::{PageUse, add, bytes, equal, remove, set_uses, uses};
 use basis::Bytes;
-use sqlite::{Alter, Connection, Error, Transaction};
+use sqlite::types::{Type, ValueRef};
+use sqlite::{Alter, Connection, Error, Row, Transaction};
+use statements::calls::Read;
 
 /// The name of a page: its key, and the number that tells it from other pages of that key.
 #[derive(Clone, Copy, PartialEq, Eq)]
 pub struct PageId {
     pub key: [u8; 32],
     pub twin: u64,
+}
+
+/// The key in a row: 32 bytes.
+fn key_in(row: &Row) -> Result<[u8; 32], Error>
+    ensures { IfOk result (λ key. column row.now 0 ≡ Blob key) }
+{
+    match row.get_ref(0)? {
+        ValueRef::Blob(bytes) => match <[u8; 32]>::try_from(bytes) {
+            Ok(key) => Ok(key),
+            Err(_) => Err(Error::InvalidColumnType(0, Type::Blob)),
+        },
+        _ => Err(Error::InvalidColumnType(0, Type::Blob)),
+    }
+}
+
+impl Read for PageId {
+    ghost is_in = { IsPageName };
+
+    fn of_row(row: &Row) -> Result<PageId, Error> {
+        Ok(PageId {
+            key: key_in(row)?,
+            twin: row.get(1)?,
+        })
+    }
 }
 
 /// How many twin numbers there are: SQL has no integer of this size or above.

@@ -1,22 +1,15 @@
 -- What calls inside a transaction leave and tell.
-use Rattle.std.specs.Prelude.{◌≡◌, IsTrue, Result, IfOk, OnOk, OnErr}
+use Rattle.std.specs.Prelude.{◌≡◌, Result, IfOk, OnOk, OnErr}
 use Rattle.sqlite_value.specs.Order.{Row, column}
 use Rattle.sqlite.specs.State.{State, HasCleanDisk, KeepsCommit}
 use Rattle.statements.specs.Rows.{number}
 use Rattle.statements.specs.Tables.{Tables, Holds}
 use Rattle.pages.specs.declared.rows.PageUse.{PageUse}
+use Rattle.pages.specs.Pages.{LeavesAsIs}
 
 pub record IsPageUse (row : Row) (found : PageUse) : Type 0 where
   pub twin : column row 0 ≡ number found.twin
   pub uses : column row 1 ≡ number found.uses
-
--- what queries leave, be it any number of them
-pub record LeavesAsIs (old new : State) : Type 0 where
-  pub was_open : IsTrue new.is_open → IsTrue old.is_open
-  pub is_open : IsTrue old.is_open → IsTrue new.is_open
-  pub now : new.now ≡ old.now
-  pub committed : new.committed ≡ old.committed
-  pub mode : new.in_transaction ≡ old.in_transaction
 
 -- only queries are run
 abbrev pub OnlyLooks : {X E : Type 0} → State → State → Result X E → Type 0

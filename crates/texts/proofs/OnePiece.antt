@@ -1,0 +1,44 @@
+-- One piece of a text: the page that a row named was there.
+use Rattle.std.proofs.Common.{◌≡◌, ◌<◌, ℕ, true, List, is_some, Option, Some, None, IsSome, option_map, Result, Ok, Err, IfOk, OnOk, OnErr, refl, sym, ◌∙◌, subst}
+use Rattle.std.specs.Prelude.{find}
+use Rattle.sqlite.specs.State.{State, IsUnchanged, KeepsCommit}
+use Rattle.sqlite.proofs.Callers.{unchanged_then}
+use Rattle.statements.specs.Steps.{Moves}
+use Rattle.statements.specs.Tables.{Tables, Holds}
+use Rattle.pages.specs.Rows.{is_page, page_bytes}
+use Rattle.pages.specs.Pages.{pages_in, HasSoundPages, ReleasesPage}
+use Rattle.pages.proofs.Looking.{one_look, still_holds}
+use Rattle.pages.specs.Puts.{twin_limit, twin_for, page_put}
+use Rattle.texts.specs.Texts.{place_added, place_removed}
+use Rattle.texts.specs.Inner.Calls.{piece_placed}
+use Rattle.texts.proofs.Many.{reads_failed}
+
+some_of : {A B C : Type 0} (f : A → B) (g : A → C) (o : Option A) (b : B) → option_map f o ≡ Some b → is_some (option_map g o) ≡ true
+some_of f g None b is = absurd (let none : ⊥ = cc in none)
+some_of f g (Some a) b is = refl
+
+-- the row of a page that was put names it by the key and the twin number that it was told
+pub placed_as_told : (key_of : List ℕ → List ℕ) (org ws : List ℕ) (n place : ℕ) (piece key : List ℕ) (twin : ℕ) (t : Tables) → key ≡ key_of piece → twin ≡ twin_for (key_of piece) piece t
+    → place_added org ws n place key twin (page_put (key_of piece) piece t) ≡ piece_placed key_of org ws n place piece t
+placed_as_told key_of org ws n place piece key twin t key_is twin_is i = place_added org ws n place (key_is i) (twin_is i) (page_put (key_of piece) piece t)
+
+-- and the twin number that it was told is one that SQL has
+pub told_fits : (key_of : List ℕ → List ℕ) (piece : List ℕ) (twin : ℕ) (t : Tables) → twin ≡ twin_for (key_of piece) piece t → twin < twin_limit → twin_for (key_of piece) piece t < twin_limit
+told_fits key_of piece twin t twin_is low = subst (λ m. m < twin_limit) twin_is low
+
+-- a page of which a use was taken, behind the row that goes
+pub released_was_there : {X E : Type 0} (org ws : List ℕ) (n place : ℕ) (key : List ℕ) (twin : ℕ) (g : Tables → Tables) (a b c : State) (result : Result X E) → Moves (place_removed org ws n place) a b
+    → OnOk result (Moves g b c) → OnOk result ((t u : Tables) → Holds b.now t → Holds c.now u → ReleasesPage key twin (pages_in t) (pages_in u) × (HasSoundPages t → HasSoundPages u))
+    → OnOk result ((t : Tables) → Holds a.now t → IsSome (page_bytes key twin t))
+released_was_there org ws n place key twin g a b c (Ok x) removed moved releases = λ t holds.
+    let left = removed.rows t holds in
+    let released = releases (place_removed org ws n place t) (g (place_removed org ws n place t)) left (moved.rows (place_removed org ws n place t) left) in
+    some_of _ (λ x. x.1.bytes) (find (is_page key twin) t.pages) released.0.page.0 released.0.page.1
+released_was_there org ws n place key twin g a b c (Err e) removed moved releases = tt
+
+-- a value that is there, read behind a query
+pub got_behind : {X E : Type 0} (one whole : Tables → Option X) (a b c : State) (result : Result X E) → ((t : Tables) → Holds a.now t → one t ≡ whole t) → IsUnchanged a b
+    → IfOk result (λ x. (t : Tables) → Holds b.now t → one t ≡ Some x) × (OnOk result (IsUnchanged b c) × OnErr result (KeepsCommit b c))
+    → IfOk result (λ x. (t : Tables) → Holds a.now t → whole t ≡ Some x) × (OnOk result (IsUnchanged a c) × OnErr result (KeepsCommit a c))
+got_behind one whole a b c (Ok x) is same got = (λ t holds. sym (is t holds) ∙ got.0 t (still_holds a b (one_look a b same) t holds), (unchanged_then a b c same got.1.0, tt))
+got_behind one whole a b c (Err e) is same got = (tt, (tt, reads_failed a b c (one_look a b same) got.1.1))

@@ -1,0 +1,31 @@
+use Rattle.std.proofs.Common.{◌<◌, length, subst}
+use Rattle.sqlite.specs.Held.{state}
+use Rattle.pages.proofs.Looking.{one_look, looks_then, still_holds}
+use Rattle.texts.specs.Texts.{pages_for}
+use Rattle.texts.proofs.NextPiece.{one_differs}
+use Rattle.texts.proofs.texts.same_text.Goals as goal
+
+pub returns-then-not-branch : goal.returns-then-not-branch
+returns-then-not-branch g c =
+    let org = c.args.org.now in
+    let ws = c.args.ws.now in
+    let n = c.args.number in
+    let text = c.args.text.now in
+    let place = c.places.place in
+    let s0 = state g.S.Store c.args.conn.now in
+    let s1 = state g.S.Store c.places.conn in
+    let s2 = state g.S.Store c.same_piece.new.conn in
+    let some = c.places.invariant.1 in
+    let before = c.in_ok-same_piece.ensures.so_far in
+    record {
+      mode = λ is. c.in_ok-same_piece.ensures.mode (c.places.invariant.0 is);
+      read = λ clean.
+          let look = some.looks (before clean) in
+          let got = c.in_ok-same_piece.ensures.gets clean in (
+            λ t holds.
+                one_differs org ws n t text place c.piece_at.result.now c.in_ok-same_piece.field-0 c.piece_at.ensures c.if-not-branch.true (got.0 t (still_holds s0 s1 look t holds)) (pages_for (length text))
+                (subst (λ m. place < m) c.pages_for-pages.ensures c.places-test.true),
+            (looks_then s0 s1 s2 look (one_look s1 s2 got.1.0), tt),
+          );
+      so_far = λ clean. some.so_far (before clean);
+    }

@@ -1,0 +1,3 @@
+pub mod Inner
+pub mod Steps
+pub mod Texts

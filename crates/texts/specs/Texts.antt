@@ -1,0 +1,139 @@
+-- The texts of versions, in pages: the rows of vpage that name the pages of a text in turn, and what putting and taking a text does to the rows.
+use Rattle.std.specs.Prelude.{◌≡◌, ◌<◌, ℕ, zero, suc, ◌+◌, ◌-◌, ◌*◌, ◌/◌, min, ⊤, Bool, true, ◌&&◌, ◌==◌, List, [], ◌++◌, length, filter, find, take, drop, Option, Some, None, IsSome, option_map, unwrap_or}
+use Rattle.std.specs.Str.{bytes_eq}
+use Rattle.sqlite_keyed.specs.Rules.{AreApart}
+use Rattle.sqlite_keyed.specs.Lists.{delete_where}
+use Rattle.statements.specs.Rows.{Kept, VpageRow}
+use Rattle.statements.specs.Tables.{Tables}
+use Rattle.statements.specs.Changes.{with_next}
+use Rattle.pages.specs.Rows.{page_bytes, page_uses}
+use Rattle.pages.specs.Puts.{twin_limit, twin_for, page_put, page_released}
+use Rattle.pages.specs.Pages.{HasSoundPages}
+use Rattle.pages.specs.declared.store.PageId.{PageId}
+use Rattle.texts.specs.declared.texts.TheConstants.{PAGE_BYTES}
+
+-- ---- rows of vpage
+
+-- a row of a version
+abbrev pub is_place_of : List ℕ → List ℕ → ℕ → Kept VpageRow → Bool
+is_place_of org ws n x = bytes_eq x.1.org org && (bytes_eq x.1.ws ws && x.1.number == n)
+
+-- the row of a version at a place
+abbrev pub is_place : List ℕ → List ℕ → ℕ → ℕ → Kept VpageRow → Bool
+is_place org ws n place x = bytes_eq x.1.org org && (bytes_eq x.1.ws ws && (x.1.number == n && x.1.place == place))
+
+-- a row that names a page
+abbrev pub names_page : List ℕ → ℕ → Kept VpageRow → Bool
+names_page key twin x = bytes_eq x.1.key key && x.1.twin == twin
+
+abbrev pub place_added : List ℕ → List ℕ → ℕ → ℕ → List ℕ → ℕ → Tables → Tables
+place_added org ws n place key twin t = record t { vpages = with_next (record { org = org; ws = ws; number = n; place = place; key = key; twin = twin }) t.vpages }
+
+abbrev pub place_removed : List ℕ → List ℕ → ℕ → ℕ → Tables → Tables
+place_removed org ws n place t = record t { vpages = delete_where (is_place org ws n place) t.vpages }
+
+abbrev pub page_name : Kept VpageRow → PageId
+page_name x = record { key = x.1.key; twin = x.1.twin }
+
+-- the name of the page at a place of a version
+abbrev pub page_at : List ℕ → List ℕ → ℕ → ℕ → Tables → Option PageId
+page_at org ws n place t = option_map page_name (find (is_place org ws n place) t.vpages)
+
+-- ---- pieces of a text
+
+-- how many pages a text of this size has
+abbrev pub pages_for : ℕ → ℕ
+pages_for size = (size + 16_383) / PAGE_BYTES
+
+-- the piece of a text at a place
+abbrev pub piece_at : List ℕ → ℕ → List ℕ
+piece_at text place = take PAGE_BYTES (drop (place * PAGE_BYTES) text)
+
+-- how many bytes the piece at a place has, of a text of this size
+abbrev pub piece_size : ℕ → ℕ → ℕ
+piece_size size place = min PAGE_BYTES (size - place * PAGE_BYTES)
+
+-- ---- putting a text
+
+abbrev pub piece_added : (List ℕ → List ℕ) → List ℕ → List ℕ → ℕ → List ℕ → ℕ → Tables → Tables
+piece_added key_of org ws n text place t =
+    place_added org ws n place (key_of (piece_at text place)) (twin_for (key_of (piece_at text place)) (piece_at text place) t) (page_put (key_of (piece_at text place)) (piece_at text place) t)
+
+-- the first pieces of a text, so many, are put, and the rows that name them are there
+abbrev pub pieces_added : (List ℕ → List ℕ) → List ℕ → List ℕ → ℕ → List ℕ → ℕ → Tables → Tables
+pieces_added key_of org ws n text zero t = t
+pieces_added key_of org ws n text (suc place) t = piece_added key_of org ws n text place (pieces_added key_of org ws n text place t)
+
+abbrev pub text_added : (List ℕ → List ℕ) → List ℕ → List ℕ → ℕ → List ℕ → Tables → Tables
+text_added key_of org ws n text t = pieces_added key_of org ws n text (pages_for (length text)) t
+
+-- of the first pieces, so many, each was put under a twin number that SQL has
+abbrev pub TwinsFit : (List ℕ → List ℕ) → List ℕ → List ℕ → ℕ → List ℕ → ℕ → Tables → Type 0
+TwinsFit key_of org ws n text zero t = ⊤
+TwinsFit key_of org ws n text (suc place) t =
+    TwinsFit key_of org ws n text place t × (twin_for (key_of (piece_at text place)) (piece_at text place) (pieces_added key_of org ws n text place t) < twin_limit)
+
+-- ---- taking a text away
+
+abbrev pub released_at : Option PageId → Tables → Tables
+released_at None t = t
+released_at (Some id) t = page_released id.key id.twin t
+
+-- the row at the place goes, and then a use of the page that it named
+abbrev pub piece_removed : List ℕ → List ℕ → ℕ → ℕ → Tables → Tables
+piece_removed org ws n place t = released_at (page_at org ws n place t) (place_removed org ws n place t)
+
+abbrev pub pieces_removed : List ℕ → List ℕ → ℕ → ℕ → Tables → Tables
+pieces_removed org ws n zero t = t
+pieces_removed org ws n (suc place) t = piece_removed org ws n place (pieces_removed org ws n place t)
+
+abbrev pub text_removed : List ℕ → List ℕ → ℕ → ℕ → Tables → Tables
+text_removed org ws n size t = pieces_removed org ws n (pages_for size) t
+
+-- ---- reading a text
+
+abbrev pub bytes_named : Option PageId → Tables → Option (List ℕ)
+bytes_named None t = None
+bytes_named (Some id) t = page_bytes id.key id.twin t
+
+-- the bytes of the page at a place of a version, if it is there
+abbrev pub piece_of : List ℕ → List ℕ → ℕ → ℕ → Tables → Option (List ℕ)
+piece_of org ws n place t = bytes_named (page_at org ws n place t) t
+
+-- the first pages of a version, so many, are there
+abbrev pub AreThere : List ℕ → List ℕ → ℕ → ℕ → Tables → Type 0
+AreThere org ws n places t = (place : ℕ) → place < places → IsSome (piece_of org ws n place t)
+
+-- each of the first pages of a version, so many, is there as its row is removed
+abbrev pub WereThere : List ℕ → List ℕ → ℕ → ℕ → Tables → Type 0
+WereThere org ws n places t = (place : ℕ) → place < places → IsSome (piece_of org ws n place (pieces_removed org ws n place t))
+
+-- the bytes of the first pages of a version, so many
+abbrev pub joined : List ℕ → List ℕ → ℕ → ℕ → Tables → List ℕ
+joined org ws n zero t = []
+joined org ws n (suc place) t = joined org ws n place t ++ unwrap_or (piece_of org ws n place t) []
+
+-- the text of a version whose text has this size
+abbrev pub text_of : List ℕ → List ℕ → ℕ → ℕ → Tables → List ℕ
+text_of org ws n size t = joined org ws n (pages_for size) t
+
+-- whether the first pages of a version, so many, are the pieces of this text
+abbrev pub are_pieces : List ℕ → List ℕ → ℕ → List ℕ → ℕ → Tables → Bool
+are_pieces org ws n text zero t = true
+are_pieces org ws n text (suc place) t = are_pieces org ws n text place t && bytes_eq (unwrap_or (piece_of org ws n place t) []) (piece_at text place)
+
+-- ---- sound texts
+
+-- each page of the text is there: all have 16,384 bytes but the last, which has the rest
+abbrev pub IsWhole : List ℕ → List ℕ → ℕ → ℕ → Tables → Type 0
+IsWhole org ws n size t = (place : ℕ) → place < pages_for size → (bytes : List ℕ) × (piece_of org ws n place t ≡ Some bytes) × (length bytes ≡ piece_size size place)
+
+-- the version has no row of vpage
+abbrev pub HasNoPlaces : List ℕ → List ℕ → ℕ → Tables → Type 0
+HasNoPlaces org ws n t = find (is_place_of org ws n) t.vpages ≡ None
+
+-- Pages are sound, the uses of each page are the rows that name it, and each place of a version has one row.
+pub record HasSoundPlaces (t : Tables) : Type 0 where
+  pub pages : HasSoundPages t
+  pub counted : (key : List ℕ) (twin : ℕ) → unwrap_or (page_uses key twin t) 0 ≡ length (filter (names_page key twin) t.vpages)
+  pub apart : AreApart (λ a b. is_place a.1.org a.1.ws a.1.number a.1.place b) t.vpages

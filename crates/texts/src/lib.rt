@@ -1,0 +1,7 @@
+//! Texts of versions, kept as pages that they share.
+#![tactic(auto)]
+
+mod places;
+mod texts;
+
+pub use texts::{PAGE_BYTES, add_text, remove_text, same_text, text};

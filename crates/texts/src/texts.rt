@@ -1,0 +1,232 @@
+//! A version's text is put, taken away, read and compared, page by page.
+ghost use Rattle.std.specs.Prelude.{◌≡◌, ◌<◌, ◌≤◌, ◌*◌, ◌^◌, length, false, IsTrue, IsSome, OnOk};
+ghost use Rattle.sqlite.specs.Held.{state};
+ghost use Rattle.sqlite.specs.State.{HasCleanDisk};
+ghost use Rattle.statements.specs.Steps.{ChangesBy};
+ghost use Rattle.statements.specs.Tables.{Tables, Holds};
+ghost use Rattle.pages.specs.Pages.{GetsBy};
+ghost use Rattle.pages.specs.Puts.{twin_limit, twin_for};
+ghost use Rattle.texts.specs.Texts.{pages_for, piece_at, text_added, TwinsFit, bytes_named, piece_of, piece_removed, text_removed, WereThere, AreThere, text_of, are_pieces};
+ghost use Rattle.texts.specs.Steps.{WritesAllBy, TellsBefore, QueriesAllBy};
+ghost use Rattle.texts.specs.Inner.Calls.{piece_placed, named_removed, is_piece_of};
+
+use crate::places::{add, find, find_inside, remove};
+use basis::Bytes;
+use pages::{PageId, PageKey, get, put, release, same};
+use sqlite::{Alter, Connection, Error, Transaction};
+use std::alloc::Global;
+
+/// The most bytes of a page.
+pub const PAGE_BYTES: usize = 16_384;
+
+/// How many pages a text of this size has.
+fn pages_for(size: u64) -> u64
+    ensures { result ≡ pages_for size }
+{
+    if size == 0 {
+        return 0;
+    }
+    (size - 1) / PAGE_BYTES as u64 + 1
+}
+
+/// The piece of a text at a place.
+fn piece_at(text: &[u8], place: u64) -> &[u8]
+    requires is_there { place * PAGE_BYTES ≤ length text.now }
+    ensures { result.now ≡ piece_at text.now place }
+{
+    let start = place as usize * PAGE_BYTES;
+    let (_, rest) = text.split_at(start);
+    if rest.len() <= PAGE_BYTES {
+        return rest;
+    }
+    let (piece, _) = rest.split_at(PAGE_BYTES);
+    piece
+}
+
+/// Puts a piece of a version's text, at a place that has none. Nothing else adds a row to the table vpage.
+fn add_piece<K: PageKey, S: Alter>(
+    tx: &mut Transaction<'_, S>,
+    org: &str,
+    ws: &str,
+    number: u64,
+    place: u64,
+    piece: &[u8],
+) -> Result<(), Error>
+    requires number_fits { number < 2 ^ 63 }
+    requires place_fits { place < 2 ^ 63 }
+    ensures same_reference { tx.new.conn.ghost_name ≡ tx.old.conn.ghost_name }
+    ensures changed { ChangesBy (piece_placed K.key_of org.now ws.now number place piece.now) (state S.Store tx.old.conn.now) (state S.Store tx.new.conn.now) result }
+    ensures fits { HasCleanDisk (state S.Store tx.new.conn.now) → OnOk result ((t : Tables) → Holds (state S.Store tx.old.conn.now).now t → twin_for (K.key_of piece.now) piece.now t < twin_limit) }
+    ensures so_far { HasCleanDisk (state S.Store tx.new.conn.now) → HasCleanDisk (state S.Store tx.old.conn.now) }
+{
+    let id = put::<K, S>(tx, piece)?;
+    add(tx, org, ws, number, place, id.key.as_slice(), id.twin)
+}
+
+/// Puts a version's text. The version has none yet.
+/// Where the uses or the twin number of a page would pass 9,223,372,036,854,775,807, it is an error.
+pub fn add_text<K: PageKey, S: Alter>(
+    tx: &mut Transaction<'_, S>,
+    org: &str,
+    ws: &str,
+    number: u64,
+    text: &[u8],
+) -> Result<(), Error>
+    requires number_fits { number < 2 ^ 63 }
+    ensures writes { WritesAllBy S.Store (text_added K.key_of org.now ws.now number text.now) tx.old tx.new result }
+    ensures fits { TellsBefore (TwinsFit K.key_of org.now ws.now number text.now (pages_for (length text.now))) (state S.Store tx.old.conn.now) (state S.Store tx.new.conn.now) result }
+{
+    let pages = pages_for(text.len() as u64);
+    'places: for place in 0..pages {
+        add_piece::<K, S>(tx, org, ws, number, place, piece_at(text, place))?;
+    }
+    Ok(())
+}
+
+fn remove_named<S: Alter>(
+    tx: &mut Transaction<'_, S>,
+    org: &str,
+    ws: &str,
+    number: u64,
+    place: u64,
+    id: Option<PageId>,
+) -> Result<(), Error>
+    requires number_fits { number < 2 ^ 63 }
+    requires place_fits { place < 2 ^ 63 }
+    ensures same_reference { tx.new.conn.ghost_name ≡ tx.old.conn.ghost_name }
+    ensures changed { ChangesBy (named_removed org.now ws.now number place id) (state S.Store tx.old.conn.now) (state S.Store tx.new.conn.now) result }
+    ensures there { HasCleanDisk (state S.Store tx.new.conn.now) → IsTrue (state S.Store tx.old.conn.now).in_transaction → OnOk result ((t : Tables) → Holds (state S.Store tx.old.conn.now).now t → IsSome (bytes_named id t)) }
+    ensures so_far { HasCleanDisk (state S.Store tx.new.conn.now) → HasCleanDisk (state S.Store tx.old.conn.now) }
+{
+    match id {
+        Some(id) => {
+            remove(tx, org, ws, number, place)?;
+            release(tx, &id)
+        }
+        None => Err(Error::QueryReturnedNoRows),
+    }
+}
+
+/// Takes the piece at a place of a version's text away. Nothing else removes a row of the table vpage.
+fn remove_piece<S: Alter>(
+    tx: &mut Transaction<'_, S>,
+    org: &str,
+    ws: &str,
+    number: u64,
+    place: u64,
+) -> Result<(), Error>
+    requires number_fits { number < 2 ^ 63 }
+    requires place_fits { place < 2 ^ 63 }
+    ensures same_reference { tx.new.conn.ghost_name ≡ tx.old.conn.ghost_name }
+    ensures changed { ChangesBy (piece_removed org.now ws.now number place) (state S.Store tx.old.conn.now) (state S.Store tx.new.conn.now) result }
+    ensures there { HasCleanDisk (state S.Store tx.new.conn.now) → IsTrue (state S.Store tx.old.conn.now).in_transaction → OnOk result ((t : Tables) → Holds (state S.Store tx.old.conn.now).now t → IsSome (piece_of org.now ws.now number place t)) }
+    ensures so_far { HasCleanDisk (state S.Store tx.new.conn.now) → HasCleanDisk (state S.Store tx.old.conn.now) }
+{
+    let found = find_inside(tx, org, ws, number, place)?;
+    remove_named(tx, org, ws, number, place, found)
+}
+
+/// Takes a version's text of this size away. It is an error where one of its pages isn't there.
+pub fn remove_text<S: Alter>(
+    tx: &mut Transaction<'_, S>,
+    org: &str,
+    ws: &str,
+    number: u64,
+    size: u64,
+) -> Result<(), Error>
+    requires number_fits { number < 2 ^ 63 }
+    ensures writes { WritesAllBy S.Store (text_removed org.now ws.now number size) tx.old tx.new result }
+    ensures there { TellsBefore (WereThere org.now ws.now number (pages_for size)) (state S.Store tx.old.conn.now) (state S.Store tx.new.conn.now) result }
+{
+    let pages = pages_for(size);
+    'places: for place in 0..pages {
+        remove_piece(tx, org, ws, number, place)?;
+    }
+    Ok(())
+}
+
+/// The bytes of the page at a place of a version's text. It is an error where the page isn't there.
+fn piece<S: Alter>(
+    conn: &mut Connection<S>,
+    org: &str,
+    ws: &str,
+    number: u64,
+    place: u64,
+) -> Result<Bytes, Error>
+    requires number_fits { number < 2 ^ 63 }
+    requires place_fits { place < 2 ^ 63 }
+    ensures mode { conn.old.in_transaction ≡ false → conn.new.in_transaction ≡ false }
+    ensures gets { GetsBy (piece_of org.now ws.now number place) (state S.Store conn.old) (state S.Store conn.new) result }
+    ensures so_far { HasCleanDisk (state S.Store conn.new) → HasCleanDisk (state S.Store conn.old) }
+{
+    let found = find(conn, org, ws, number, place)?;
+    match found {
+        Some(id) => get(conn, &id),
+        None => Err(Error::QueryReturnedNoRows),
+    }
+}
+
+/// The text of a version whose text has this size. It is an error where one of its pages isn't there.
+pub fn text<S: Alter>(
+    alloc: Global,
+    conn: &mut Connection<S>,
+    org: &str,
+    ws: &str,
+    number: u64,
+    size: u64,
+) -> Result<Bytes, Error>
+    requires number_fits { number < 2 ^ 63 }
+    ensures queries { QueriesAllBy S.Store (text_of org.now ws.now number size) conn.old conn.new result }
+    ensures there { HasCleanDisk (state S.Store conn.new) → OnOk result ((t : Tables) → Holds (state S.Store conn.old).now t → AreThere org.now ws.now number (pages_for size) t) }
+{
+    let pages = pages_for(size);
+    let mut text = Vec::with_capacity(alloc, size as usize)?;
+    'places: for place in 0..pages {
+        let piece = piece(conn, org, ws, number, place)?;
+        text.extend_from_slice(piece.as_slice())?;
+    }
+    Ok(Bytes::new(text))
+}
+
+/// Whether the page at a place of a version's text has these bytes. It is an error where the page isn't there.
+fn same_piece<S: Alter>(
+    conn: &mut Connection<S>,
+    org: &str,
+    ws: &str,
+    number: u64,
+    place: u64,
+    piece: &[u8],
+) -> Result<bool, Error>
+    requires number_fits { number < 2 ^ 63 }
+    requires place_fits { place < 2 ^ 63 }
+    ensures mode { conn.old.in_transaction ≡ false → conn.new.in_transaction ≡ false }
+    ensures gets { GetsBy (is_piece_of org.now ws.now number place piece.now) (state S.Store conn.old) (state S.Store conn.new) result }
+    ensures so_far { HasCleanDisk (state S.Store conn.new) → HasCleanDisk (state S.Store conn.old) }
+{
+    let found = find(conn, org, ws, number, place)?;
+    match found {
+        Some(id) => same(conn, &id, piece),
+        None => Err(Error::QueryReturnedNoRows),
+    }
+}
+
+/// Whether a version has this text, of a version whose text has the size of this one.
+/// The pages behind the first that differs are not read. It is an error where a page that is looked at isn't there.
+pub fn same_text<S: Alter>(
+    conn: &mut Connection<S>,
+    org: &str,
+    ws: &str,
+    number: u64,
+    text: &[u8],
+) -> Result<bool, Error>
+    requires number_fits { number < 2 ^ 63 }
+    ensures { QueriesAllBy S.Store (are_pieces org.now ws.now number text.now (pages_for (length text.now))) conn.old conn.new result }
+{
+    let pages = pages_for(text.len() as u64);
+    'places: for place in 0..pages {
+        if !same_piece(conn, org, ws, number, place, piece_at(text, place))? {
+            return Ok(false);
+        }
+    }
+    Ok(true)
+}
