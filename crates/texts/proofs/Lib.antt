@@ -1,6 +1,13 @@
+pub mod AddedLaws
 pub mod Many
 pub mod NextPiece
 pub mod OnePiece
+pub mod PieceLaws
+pub mod PieceLists
+pub mod PlaceLaws
 pub mod PlaceReads
 pub mod PlaceTexts
 pub mod PlaceWrites
+pub mod RemovedLaws
+pub mod TextExamples
+pub mod TextLaws
