@@ -29,6 +29,7 @@ import sys
 import tempfile
 import time
 
+import pages as texts
 from building import TOP
 
 PROGRAM = f"{TOP}/crates/custody/out/custody"
@@ -147,10 +148,15 @@ def makings():
 
 
 ADD_WS = "INSERT INTO ws (org, name, auto, kind, next_version, next_run) VALUES (?, ?, 0, 0, ?, 1)"
-ADD_VERSION = """INSERT INTO version (org, ws, number, serial, lineage, created, size, body)
-    VALUES (?, ?, ?, ?, ?, 1700000000, ?, ?)"""
+ADD_VERSION = """INSERT INTO version (org, ws, number, serial, lineage, created, size)
+    VALUES (?, ?, ?, ?, ?, 1700000000, ?)"""
 ADD_RUN = """INSERT INTO run (org, ws, number, plan_only, message, created, status, action)
     VALUES (?, ?, ?, 0, '', 1700000000, 5, 1)"""
+
+
+def add_version(db, org, ws, number, text):
+    db.execute(ADD_VERSION, (org, ws, number, number, LINEAGE, len(text)))
+    texts.add_text(db, org, ws, number, text)
 
 
 def fill(db, workspaces=(), versions=(), ended=()):
@@ -159,10 +165,11 @@ def fill(db, workspaces=(), versions=(), ended=()):
     for org, count in workspaces:
         names = [f"w{number:06}" for number in range(count)]
         db.executemany(ADD_WS, ((org, name, 2) for name in names))
-        db.executemany(ADD_VERSION, ((org, name, 1, 1, LINEAGE, 2, b"{}") for name in names))
+        for name in names:
+            add_version(db, org, name, 1, b"{}")
     for ws, count, size in versions:
-        texts = ((number, state_of(number, size)) for number in range(1, count + 1))
-        db.executemany(ADD_VERSION, (("acme", ws, number, number, LINEAGE, size, text) for number, text in texts))
+        for number in range(1, count + 1):
+            add_version(db, "acme", ws, number, state_of(number, size))
         db.execute("UPDATE ws SET next_version = ? WHERE org = 'acme' AND name = ?", (count + 1, ws))
     for ws, count in ended:
         db.executemany(ADD_RUN, (("acme", ws, number) for number in range(1, count + 1)))

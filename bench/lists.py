@@ -11,12 +11,12 @@ import tempfile
 
 from building import build
 
-BELOW = ("basis", "machine", "statements", "tables")
+BELOW = ("basis", "machine", "statements", "pages", "texts", "tables")
 
 
 def main():
     with tempfile.TemporaryDirectory() as folder:
-        program = build(folder, "lists", "lists: basis machine tables sqlite", BELOW, ["10"])
+        program = build(folder, "lists", "lists: basis machine pages tables sqlite", BELOW, ["10"])
         print("workspaces   first page   middle   last   (microseconds)")
         for count in (10, 1_000, 100_000):
             said = subprocess.run([program, str(count)], capture_output=True, text=True, check=True)

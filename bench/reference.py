@@ -12,13 +12,17 @@ import sys
 import time
 from http.server import BaseHTTPRequestHandler, HTTPServer
 
+import pages
+
 STATUSES = ("pending", "planning", "planned", "applying", "applied", "planned_and_finished", "errored", "discarded", "canceled")
 ROLES = {"GET": 0, "POST": 1, "LOCK": 1, "UNLOCK": 1, "PUT": 2}
 ITEMS, VERSIONS, RUNS = 50, 100, 100
 ROLE = "SELECT role FROM token WHERE org = ? AND digest = ?"
 WORKSPACE = "SELECT kind, lock_id, lock_text, run, next_version, next_run, auto FROM ws WHERE org = ? AND name = ?"
-NEWEST = "SELECT number, serial, lineage, body FROM version WHERE org = ? AND ws = ? ORDER BY number DESC LIMIT 1"
-ADD_VERSION = "INSERT INTO version (org, ws, number, serial, lineage, created, size, body) VALUES (?, ?, ?, ?, ?, ?, ?, ?)"
+NEWEST = "SELECT number, serial, lineage, size FROM version WHERE org = ? AND ws = ? ORDER BY number DESC LIMIT 1"
+ADD_VERSION = "INSERT INTO version (org, ws, number, serial, lineage, created, size) VALUES (?, ?, ?, ?, ?, ?, ?)"
+GOING = "SELECT number FROM version WHERE org = ? AND ws = ? AND number <= ?"
+REMOVE_VERSION = "DELETE FROM version WHERE org = ? AND ws = ? AND number = ?"
 RUN = "SELECT number, plan_only, rkey, message, created, status, action FROM run WHERE org = ? AND ws = ?"
 ADD_RUN = "INSERT INTO run (org, ws, number, plan_only, rkey, message, created, status) VALUES (?, ?, ?, ?, ?, ?, ?, ?)"
 PAGE = """SELECT auto, kind, lock_id, run, name,
@@ -115,7 +119,7 @@ class Exchange(BaseHTTPRequestHandler):
         newest = self.one(NEWEST, org, *rest)
         if newest is None:
             raise Refusal(204, b"")
-        return newest[3]
+        return pages.text_of(self.server.db, org, *rest, newest[0])
 
     def POST_state(self, org, rest, lock, body):
         ws, state = rest[0], json.loads(body)
@@ -124,13 +128,16 @@ class Exchange(BaseHTTPRequestHandler):
         if kind == 2 or (kind == 1 and held != lock):
             raise Refusal(423, holder or b"")
         newest = self.one(NEWEST, org, ws)
-        if newest and newest[1:] == (serial, lineage, body):
+        if newest and newest[1:] == (serial, lineage, len(body)) and pages.text_of(self.server.db, org, ws, newest[0]) == body:
             return b""
         if newest and (newest[2] != lineage or serial <= newest[1]):
             raise Refusal(409, b"")
         if self.one("SELECT count(*) FROM version WHERE org = ? AND ws = ?", org, ws)[0] >= VERSIONS:
-            self.one("DELETE FROM version WHERE org = ? AND ws = ? AND number <= ?", org, ws, number - VERSIONS)
-        self.one(ADD_VERSION, org, ws, number, serial, lineage, int(time.time()), len(body), body)
+            for going, in self.server.db.execute(GOING, (org, ws, number - VERSIONS)).fetchall():
+                self.one(REMOVE_VERSION, org, ws, going)
+                pages.remove_text(self.server.db, org, ws, going)
+        self.one(ADD_VERSION, org, ws, number, serial, lineage, int(time.time()), len(body))
+        pages.add_text(self.server.db, org, ws, number, body)
         self.set(org, ws, "next_version = ?", number + 1)
         return b""
 

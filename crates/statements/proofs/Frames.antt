@@ -66,11 +66,13 @@ module _ (old new : Database) (same : new.schema ≡ old.schema) where
 
     written : {R : Type 0} (layout : Layout R) (n : ℕ) (xs : List (Kept R)) (u : Tables) → slice_get our_tables n ≡ Some layout.table → with_rows n (map (stored layout.cells) xs) (stored_tables t) ≡ stored_tables u → Written layout xs u
     written layout n xs u at is w keyed =
-        let left : LeavesForeign old new = record { schema = same; rows = λ other own apart. w.others other own (all-slice_get (λ (ours : Table). tree_of s other.name ≢ tree_of s ours.name) our_tables n layout.table at apart) } in
-        (subst (λ k. Holds (record { schema = k; trees = new.trees }) u) (sym same) (record {
-          ours = h.ours;
-          rows = subst (AllByRecursion (HasRows now)) is (one_written layout.table (map (stored layout.cells) xs) w (rows_keyed layout xs keyed) n (stored_tables t) at h.ours h.rows);
-        }), left)
+        let left : LeavesForeign old new = record { schema = same; rows = λ other own apart. w.others other own (all-slice_get (λ (ours : Table). tree_of s other.name ≢ tree_of s ours.name) our_tables n layout.table at apart) } in (
+          subst (λ k. Holds (record { schema = k; trees = new.trees }) u) (sym same) (record {
+            ours = h.ours;
+            rows = subst (AllByRecursion (HasRows now)) is (one_written layout.table (map (stored layout.cells) xs) w (rows_keyed layout xs keyed) n (stored_tables t) at h.ours h.rows);
+          }),
+          left,
+        )
 
     pub metas_written : (xs : List (Kept ℕ)) → Written meta_layout xs (record t { metas = xs })
     metas_written xs = written meta_layout 0 xs (record t { metas = xs }) refl refl

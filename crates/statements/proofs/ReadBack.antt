@@ -1,5 +1,5 @@
 -- A row that was read as a value is the row of that value alone.
-use Rattle.std.proofs.Common.{◌≡◌, ℕ, pos, Bool, true, false, not, List, [], ◌∷◌, Option, Some, None, refl, sym, ap, ◌∙◌, int_eq, length}
+use Rattle.std.proofs.Common.{◌≡◌, ℕ, pos, Bool, true, false, not, List, [], ◌∷◌, Option, Some, None, refl, sym, ap, ◌∙◌, int_eq}
 use Rattle.sqlite_value.specs.declared.value.Value.TheVariants as cell
 use Rattle.sqlite_typed.specs.Columns.{or_null}
 use Rattle.basis.specs.declared.roles.Role.{Role}

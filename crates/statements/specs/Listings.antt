@@ -1,5 +1,5 @@
 -- What each list reads of the rows, and the law of the rows under which it does.
-use Rattle.std.specs.Prelude.{◌<◌, ℕ, Bool, List, map, filter, length, take, nat_lt}
+use Rattle.std.specs.Prelude.{◌<◌, ℕ, Bool, List, map, filter, take, nat_lt}
 use Rattle.std.specs.declared.cmp.Ordering.{Ordering}
 use Rattle.std.specs.Ordering.{nat_cmp, is_lt}
 use Rattle.std.specs.Cmp.Lexicographic.{slice_cmp}

@@ -1,5 +1,5 @@
 -- So many versions that go, one after the other, are all that go, where none is left behind them.
-use Rattle.std.proofs.Common.{◌≡◌, ◌≤◌, ℕ, zero, suc, ◌+◌, ◌-◌, List, Option, Some, None, refl, sym, ap, ◌∙◌, arith}
+use Rattle.std.proofs.Common.{◌≡◌, ◌≤◌, ℕ, zero, suc, ◌+◌, ◌-◌, List, Option, None, refl, sym, ap, ◌∙◌, arith}
 use Rattle.statements.specs.declared.rows.Head.{Head}
 use Rattle.statements.specs.Tables.{Tables}
 use Rattle.statements.specs.Finds.{oldest_below}

@@ -1,5 +1,5 @@
 -- From steps inside a transaction to the transaction, which a commit ends.
-use Rattle.std.proofs.Common.{◌≡◌, inl, inr, Bool, true, false, not, [], IsTrue, Result, Ok, Err, IfErr, OnOk, OnErr, refl, sym, ap, ◌∙◌, subst}
+use Rattle.std.proofs.Common.{◌≡◌, inl, inr, true, false, [], IsTrue, Result, Ok, Err, IfErr, OnOk, OnErr, refl, sym, ◌∙◌, subst}
 use Rattle.sqlite_trees.specs.declared.store.Store.{Ghosts}
 use Rattle.sqlite.specs.Effect.{Database}
 use Rattle.sqlite.specs.Held.{Held, state}

@@ -116,15 +116,17 @@ module _ {S : Type 0} (g : Ghosts S) where
       same_reference = same_reference;
       changed = λ clean inside.
           let seen = told clean in
-          let look = one_look (state g a.conn.now) (state g b.conn.now) seen.1 in
-          (moved_behind (λ t. t) h (state g a.conn.now) (state g b.conn.now) (state g b.conn.now) look seen.0 (record {
-            rows = λ t holds. holds;
-            others = λ t holds. record { schema = refl; rows = λ other own apart. refl };
-            was_open = seen.1.0.is_open;
-            is_open = seen.1.0.is_open;
-            committed = refl;
-            inside = still_inside (state g a.conn.now) (state g b.conn.now) look inside;
-          }), tt);
+          let look = one_look (state g a.conn.now) (state g b.conn.now) seen.1 in (
+            moved_behind (λ t. t) h (state g a.conn.now) (state g b.conn.now) (state g b.conn.now) look seen.0 (record {
+              rows = λ t holds. holds;
+              others = λ t holds. record { schema = refl; rows = λ other own apart. refl };
+              was_open = seen.1.0.is_open;
+              is_open = seen.1.0.is_open;
+              committed = refl;
+              inside = still_inside (state g a.conn.now) (state g b.conn.now) look inside;
+            }),
+            tt,
+          );
       so_far = clean_before (state g a.conn.now) (state g b.conn.now) _ survives;
     }
 

@@ -1,15 +1,15 @@
 -- What sound tables say of texts still holds after a change of a workspace.
-use Rattle.std.proofs.Common.{◌≡◌, ℕ, Bool, true, false, List, Option, Some, None, refl}
+use Rattle.std.proofs.Common.{ℕ, Bool, true, false, List, Option, Some, None, refl}
 use Rattle.machine.specs.declared.acts.Edit.{Edit}
 use Rattle.machine.specs.declared.acts.Edit.TheVariants.{Make, Configure, Remove, AddVersion, Purge, Hold, Release, AddRun, Report}
 use Rattle.machine.specs.declared.acts.Change.{Change}
-use Rattle.statements.specs.declared.rows.Holder.TheVariants.{Nobody, Lock}
+use Rattle.statements.specs.declared.rows.Holder.TheVariants.{Lock}
 use Rattle.statements.specs.declared.rows.Workspace.{Workspace as WorkspaceCells}
 use Rattle.statements.specs.Tables.{Tables}
 use Rattle.statements.specs.Changes.{with_auto, held_by, released_from, ws_changed, run_acted}
 use Rattle.statements.specs.Finds.{workspace_of}
 use Rattle.tables.specs.Sound.{IsSound}
-use Rattle.tables.specs.Inner.Edits.{all_gone, removed_rows, made_rows, if_there, run_put, run_counted, run_rows, freed_rows, edited_rows, started_rows, changed_rows, TakesEdit}
+use Rattle.tables.specs.Inner.Edits.{all_gone, removed_rows, made_rows, if_there, run_put, run_counted, freed_rows, edited_rows, started_rows, changed_rows, TakesEdit}
 use Rattle.tables.proofs.TextRows.{AreTexts, sound_texts, texts_carried}
 use Rattle.tables.proofs.VersionEdits.{all_go, versions_come}
 

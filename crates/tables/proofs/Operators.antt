@@ -24,7 +24,7 @@ use Rattle.statements.specs.Changes.{is_org, is_token, is_digest_of, is_ws_of}
 use Rattle.statements.specs.Changes as rows
 use Rattle.statements.specs.Finds.{cap_of, role_of_digest, role_of_name}
 use Rattle.statements.proofs.Found.{found_passes, find_pushed, find_pushed_other, found_holds}
-use Rattle.tables.specs.Records.{caller_of_role, caller_by, token_of_cells, is_token_of, tokens_at, workspace_at, workspaces_at, organization_at, record_of}
+use Rattle.tables.specs.Records.{caller_of_role, caller_by, token_of_cells, is_token_of, tokens_at, workspace_at, organization_at, record_of}
 use Rattle.tables.specs.Sound.{IsSound}
 use Rattle.tables.proofs.TextRows.{KeepsWorkspaces, workspaces_carried, organization_carried}
 use Rattle.tables.proofs.Names.{same_name, name_is, apart_name, names_apart, pair_first, pair_is}

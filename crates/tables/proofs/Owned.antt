@@ -5,7 +5,7 @@ use Rattle.std.proofs.lemmas.Bool.{false_from_ne_true}
 use Rattle.sqlite_keyed.specs.Keyed.{next_key}
 use Rattle.sqlite_keyed.specs.Lists.{update_where, delete_where}
 use Rattle.sqlite_keyed.specs.Rules.{AreApart}
-use Rattle.sqlite_keyed.proofs.ListLemmas.{all_weaker, all_both, all-filter, all-append, ascending-append}
+use Rattle.sqlite_keyed.proofs.ListLemmas.{all_weaker, all_both, all-filter, all-append}
 use Rattle.sqlite_keyed.proofs.RuleLemmas.{apart_update, apart_delete}
 use Rattle.sqlite_keyed.proofs.SliceLemmas.{any_is_found}
 use Rattle.basis.specs.declared.rows.RunAsk.{RunAsk}

@@ -19,7 +19,7 @@ use Rattle.statements.specs.Tables.{Tables}
 use Rattle.statements.specs.Changes.{is_org, is_token, is_digest_of, token_removed}
 use Rattle.statements.specs.Finds.{cap_of, role_of_name}
 use Rattle.statements.proofs.Found.{found_passes, find_deleted, find_left, found_holds}
-use Rattle.tables.specs.Records.{token_of_cells, is_token_of, tokens_at, workspaces_at, organization_at, record_of}
+use Rattle.tables.specs.Records.{token_of_cells, is_token_of, tokens_at, organization_at, record_of}
 use Rattle.tables.specs.Sound.{IsTokenRow, IsSound}
 use Rattle.tables.proofs.TextRows.{AreTexts, sound_texts, texts_carried, KeepsWorkspaces, workspace_carried, workspaces_carried}
 use Rattle.tables.proofs.Names.{same_name, apart_name, names_apart, pair_first, pair_apart}

@@ -1,5 +1,5 @@
 -- The texts of versions, as rows of versions come and go: what sound tables say of texts stays, and so does each other text.
-use Rattle.std.proofs.Common.{◌≡◌, ◌≤◌, ◌<◌, ℕ, zero, suc, ◌+◌, ◌-◌, nat_lt, Bool, true, false, not, ◌&&◌, ◌==◌, cond, List, [], ◌∷◌, ◌++◌, map, filter, find, length, Option, Some, None, option_map, IsSomeAnd, refl, sym, ap, subst, ◌∙◌, arith}
+use Rattle.std.proofs.Common.{◌≡◌, ◌≤◌, ◌<◌, ℕ, zero, suc, ◌-◌, nat_lt, Bool, true, false, not, ◌&&◌, ◌==◌, cond, List, [], ◌∷◌, ◌++◌, map, filter, find, length, Option, Some, None, option_map, IsSomeAnd, refl, sym, ap, subst, ◌∙◌, arith}
 use Rattle.std.specs.Str.{bytes_eq}
 use Rattle.std.specs.List.{AllByRecursion, list_any}
 use Rattle.std.proofs.lemmas.Bool.{false_from_ne_true, and_from, and_parts, eqb-true, eq-eqb}
@@ -10,23 +10,21 @@ use Rattle.sqlite_keyed.proofs.SliceLemmas.{slice-push_mine, slice-push_other, s
 use Rattle.std.proofs.lemmas.List.{length-map}
 use Rattle.tables.proofs.Parts.{none_mapped, first_two}
 use Rattle.machine.specs.declared.records.Version.{Version}
-use Rattle.statements.specs.declared.rows.Head.{Head}
-use Rattle.statements.specs.Rows.{Version as VersionCells}
 use Rattle.statements.specs.Rows.{Kept, id_of, TokenRow, WsRow, VersionRow, RunRow, VpageRow}
 use Rattle.statements.specs.declared.rows.Workspace.{Workspace as WorkspaceCells}
 use Rattle.std.specs.FinMap.{from_entries}
 use Rattle.machine.specs.Order.{name_cmp}
 use Rattle.statements.specs.Tables.{Tables}
-use Rattle.statements.specs.Changes.{is_ws, is_ws_of, is_run_of, is_version_of, is_version, is_version_below, new_version, version_added, version_removed}
+use Rattle.statements.specs.Changes.{is_ws, is_ws_of, is_run_of, is_version_of, is_version, is_version_below, new_version, version_removed}
 use Rattle.statements.specs.Finds.{head_of, oldest_below, size_of}
 use Rattle.statements.proofs.Found.{found_passes, found_holds, find_pushed, find_left}
-use Rattle.texts.specs.Texts.{is_place_of, pages_for, text_added, text_removed, text_of, TwinsFit, IsWhole, HasNoPlaces, HasSoundPlaces}
+use Rattle.texts.specs.Texts.{is_place_of, pages_for, text_removed, text_of, IsWhole, HasNoPlaces, HasSoundPlaces}
 use Rattle.texts.proofs.PieceLists.{none_passes, none_found}
 use Rattle.texts.proofs.PlaceLaws.{IsOtherVersion, version_parts, version_from}
 use Rattle.texts.proofs.TextLaws.{text_added_keeps, text_added_whole, text_added_text, text_added_others_whole, text_added_others_text, text_added_places, text_added_metas, text_added_orgs, text_added_tokens, text_added_wss, text_added_versions, text_added_runs, text_removed_keeps, text_removed_others_whole, text_removed_others_text, text_removed_places, text_removed_none, text_removed_metas, text_removed_orgs, text_removed_tokens, text_removed_wss, text_removed_versions, text_removed_runs, carried_whole, carried_text, carried_sound}
 use Rattle.tables.specs.Records.{version_of_cells, run_of_cells, token_of_cells, workspace_of_cells, version_at, versions_at, workspace_by, is_token_of, workspaces_at, organization_at}
 use Rattle.tables.specs.Sound.{IsPlaced, HasText, IsSound}
-use Rattle.tables.specs.Inner.Edits.{first_gone, so_many_gone, most_gone, gone_below, row_added, added_rows, FitsTwins}
+use Rattle.tables.specs.Inner.Edits.{first_gone, so_many_gone, gone_below, row_added, added_rows, FitsTwins}
 use Rattle.tables.proofs.Names.{same_name, name_is, is_pair, pair_is, pair_apart}
 use Rattle.tables.proofs.TextLists.{all_deleted, found_front, filter_of_none, none_goes, filter_fewer, found_within, absorbed, fewer_left}
 

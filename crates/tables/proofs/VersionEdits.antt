@@ -1,5 +1,5 @@
 -- What edits do to the versions of a workspace, and to their texts.
-use Rattle.std.proofs.Common.{◌≡◌, ◌≤◌, ◌<◌, ℕ, ◌+◌, nat_lt, Bool, true, false, not, cond, List, [], ◌∷◌, ◌++◌, map, filter, find, length, is_some, Option, Some, None, option_map, refl, sym, ap, subst, ◌∙◌, arith}
+use Rattle.std.proofs.Common.{◌≡◌, ◌≤◌, ℕ, ◌+◌, nat_lt, Bool, true, not, cond, List, [], ◌∷◌, ◌++◌, map, filter, find, length, is_some, Option, Some, None, option_map, refl, sym, ap, subst, ◌∙◌, arith}
 use Rattle.std.specs.List.{AllByRecursion, list_any}
 use Rattle.std.proofs.lemmas.Bool.{lt-ltb}
 use Rattle.std.proofs.lemmas.List.{length-append}
@@ -17,8 +17,7 @@ use Rattle.tables.specs.Records.{versions_at, workspace_at}
 use Rattle.tables.specs.Sound.{IsSound}
 use Rattle.tables.specs.Inner.Edits.{all_gone, numbered_rows, added_rows, left_rows, versioned_rows, TakesVersion}
 use Rattle.tables.proofs.Lists.{below_gone, any_updated}
-use Rattle.tables.proofs.Names.{is_pair}
-use Rattle.tables.proofs.TextRows.{AreTexts, sound_texts, texts_carried, versions_carried, KeepsRest, rest_then, Becomes, go_below, comes, HasWs}
+use Rattle.tables.proofs.TextRows.{sound_texts, texts_carried, versions_carried, rest_then, Becomes, go_below, comes}
 use Rattle.tables.proofs.Finding.{no_versions}
 
 pub becomes_then : (f g : List Version → List Version) (org ws : List ℕ) (t u z : Tables) → Becomes f org ws t u → Becomes g org ws u z → Becomes (λ vs. g (f vs)) org ws t z

@@ -47,8 +47,8 @@ module _ (org ws : List ℕ) (n : ℕ) (t : Tables) where
   pub there_more : (places : ℕ) (bytes : List ℕ) → AreThere org ws n places t → piece_of org ws n places t ≡ Some bytes → AreThere org ws n (places + 1) t
   there_more places bytes there one = each_more (λ m. IsSome (piece_of org ws n m t)) places there (ap is_some one)
 
-  pub joined_more : (place : ℕ) (text bytes : List ℕ) → text ≡ joined org ws n place t → piece_of org ws n place t ≡ Some bytes → text ++ bytes ≡ joined org ws n (place + 1) t
-  joined_more place text bytes is one = ap₂ (λ xs o. xs ++ unwrap_or o []) is (sym one) ∙ ap (λ m. joined org ws n m t) (one_more place)
+  pub joined_more : (place : ℕ) (text bytes read longer : List ℕ) → longer ≡ text ++ read → read ≡ bytes → text ≡ joined org ws n place t → piece_of org ws n place t ≡ Some bytes → longer ≡ joined org ws n (place + 1) t
+  joined_more place text bytes read longer grown read_is is one = grown ∙ ap₂ (λ xs o. xs ++ unwrap_or o []) is (ap Some read_is ∙ sym one) ∙ ap (λ m. joined org ws n m t) (one_more place)
 
 -- ---- comparing
 

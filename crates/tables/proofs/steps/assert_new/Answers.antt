@@ -1,5 +1,5 @@
-use Rattle.std.proofs.Common.{refl, inl}
-use Rattle.tables.proofs.KeepMoves.{step_none, step_failed}
+use Rattle.std.proofs.Common.{refl}
+use Rattle.tables.proofs.KeepMoves.{step_none}
 use Rattle.tables.proofs.steps.assert_new.Goals as goal
 
 pub returns-in-None-clause-steps : goal.returns-in-None-clause-steps

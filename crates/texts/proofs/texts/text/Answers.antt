@@ -1,4 +1,4 @@
-use Rattle.std.proofs.Common.{rules, ◌+◌, ◌++◌, ap, ◌∙◌}
+use Rattle.std.proofs.Common.{rules, ◌+◌}
 use Rattle.sqlite.specs.Held.{state}
 use Rattle.sqlite.specs.State.{HasCleanDisk, KeepsCommit}
 use Rattle.pages.proofs.Looking.{one_look, looks_then}
@@ -40,6 +40,6 @@ places-preserved g c =
     let s2 = state g.S.Store c.piece.new.conn in (
       λ is. c.in_ok-piece.ensures.mode (c.places.invariant.0 is),
       reads_more (joined org ws n place) (joined org ws n (place + 1)) (AreThere org ws n place) (AreThere org ws n (place + 1)) (piece_of org ws n place) s0 s1 s2 text c.extend_from_slice.new.self.items piece
-          (λ t is one. c.in_ok-extend_from_slice.ensures.items ∙ ap (λ xs. text ++ xs) c.as_slice.ensures ∙ joined_more org ws n t place text piece is one) (λ t there one. there_more org ws n t place piece there one) c.places.invariant.1
+          (λ t is one. joined_more org ws n t place text piece c.as_slice.result.now c.extend_from_slice.new.self.items c.in_ok-extend_from_slice.ensures.items c.as_slice.ensures is one) (λ t there one. there_more org ws n t place piece there one) c.places.invariant.1
           c.in_ok-piece.ensures.so_far (λ clean. let got = c.in_ok-piece.ensures.gets clean in (got.0, got.1.0)),
     )

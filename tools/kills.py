@@ -1,0 +1,190 @@
+#!/usr/bin/env python3
+"""Kills a service at random moments, and counts what was acknowledged and is lost: nothing may be.
+
+    python3 tools/kills.py PROGRAM [ROUNDS [SEED]]    PROGRAM is crates/custody/out/custody, as `rt run` leaves it
+
+Each round starts `custody serve` over one file, sends requests (LOCK, states, UNLOCK, runs), and sends it SIGKILL at a
+moment between 0 and 150 ms later. The next round looks at the state, the holder and the runs: they have to be those
+after the last reply of 200, or those after the request that was under way. The file is read by SQLite's own library
+once in ten rounds, with its log, and at the end.
+"""
+
+import http.client
+import json
+import os
+import random
+import shutil
+import signal
+import socket
+import sqlite3
+import subprocess
+import sys
+import tempfile
+import threading
+import time
+
+ORG, WS = "acme", "net"
+ROOT, WRITER = "adminadminadmin1", "writewritewrite1"
+
+
+class Model:
+    """What one workspace has: its newest state, its holder, its runs."""
+
+    def __init__(self):
+        self.state, self.holder, self.runs, self.serial = b"", "", 0, 0
+
+    def copy(self):
+        other = Model()
+        other.__dict__.update(self.__dict__)
+        return other
+
+    def seen(self):
+        return self.state, self.holder, self.runs
+
+
+def free_port():
+    with socket.socket() as it:
+        it.bind(("127.0.0.1", 0))
+        return it.getsockname()[1]
+
+
+def ask(port, method, path, body=b"", secret=WRITER, field=None):
+    link = http.client.HTTPConnection("127.0.0.1", port, timeout=20)
+    try:
+        head = {"Authorization": f"Bearer {ORG}.{secret}", **(field or {})}
+        link.request(method, f"/v1/{ORG}{path}", body, head)
+        reply = link.getresponse()
+        return reply.status, reply.read()
+    finally:
+        link.close()
+
+
+def started(program, path, port, count):
+    words = [program, "serve", "--db", path, "--port", str(port), "--count", str(count)]
+    service = subprocess.Popen(words, stdout=subprocess.DEVNULL, stderr=subprocess.DEVNULL)
+    for _ in range(4000):
+        try:
+            socket.create_connection(("127.0.0.1", port), timeout=1).close()
+            return service
+        except OSError:
+            time.sleep(0.005)
+    sys.exit("the service never listened")
+
+
+def requests(model, chance):
+    """Requests in turn, each with the model that its reply of 200 leaves."""
+    while True:
+        lock = f"k{chance.getrandbits(64):x}"
+        after = model.copy()
+        after.holder = lock
+        yield "LOCK", f"/state/{WS}", json.dumps({"ID": lock}).encode(), after
+        model = after
+        for _ in range(chance.randrange(1, 4)):
+            after = model.copy()
+            after.serial += 1
+            after.state = json.dumps({"version": 4, "serial": after.serial, "lineage": "a1", "x": "y" * chance.randrange(70_000)}).encode()
+            yield "POST", f"/state/{WS}?ID={lock}", after.state, after
+            model = after
+        after = model.copy()
+        after.holder = ""
+        yield "UNLOCK", f"/state/{WS}", json.dumps({"ID": lock}).encode(), after
+        model = after
+        after = model.copy()
+        after.runs += 1
+        yield "POST", f"/runs/{WS}", b'{"plan_only":true}', after
+        model = after
+        after = model.copy()
+        yield "POST", f"/runs/{WS}/{model.runs}/actions/unchanged", b"", after
+
+
+def looked_at(port):
+    state = ask(port, "GET", f"/state/{WS}")
+    workspace = ask(port, "GET", f"/workspaces/{WS}")
+    runs, after = 0, 0
+    while True:
+        page = json.loads(ask(port, "GET", f"/runs/{WS}?after={after}")[1])
+        runs += len(page["items"])
+        if not page["more"]:
+            break
+        after = page["items"][-1]["number"]
+    holder = json.loads(workspace[1])["holder"]
+    return (state[1] if state[0] == 200 else b"", holder or "", runs), runs
+
+
+def sound(path, folder):
+    copied = folder + "/copied.db"
+    for end in ("", "-wal"):
+        if os.path.exists(path + end):
+            shutil.copy(path + end, copied + end)
+    conn = sqlite3.connect(copied)
+    told = conn.execute("PRAGMA integrity_check").fetchall(), conn.execute("PRAGMA foreign_key_check").fetchall()
+    conn.close()
+    for end in ("", "-wal", "-shm"):
+        if os.path.exists(copied + end):
+            os.remove(copied + end)
+    if told != ([("ok",)], []):
+        sys.exit(f"SQLite's own library says {told}")
+
+
+def main():
+    program = os.path.abspath(sys.argv[1])
+    rounds = int(sys.argv[2]) if len(sys.argv) > 2 else 200
+    seed = int(sys.argv[3]) if len(sys.argv) > 3 else 1
+    chance = random.Random(seed)
+    acknowledged = under_way = applied = 0
+    with tempfile.TemporaryDirectory() as folder:
+        path = folder + "/custody.db"
+        subprocess.run([program, "org-add", "--db", path, ORG], check=True, stdout=subprocess.DEVNULL)
+        for name, secret, role in (("root", ROOT, "admin"), ("ci", WRITER, "write")):
+            words = [program, "token-add", "--db", path, ORG, name, role]
+            subprocess.run(words, input=secret.encode() + b"\n", check=True, stdout=subprocess.DEVNULL)
+        port = free_port()
+        service = started(program, path, port, 1_000_000)
+        if ask(port, "PUT", f"/workspaces/{WS}", secret=ROOT)[0] != 200:
+            sys.exit("no workspace was made")
+        before, maybe = Model(), None
+        for at in range(rounds):
+            end = time.monotonic() + chance.random() * 0.15
+            killer = threading.Timer(max(end - time.monotonic(), 0), lambda: service.send_signal(signal.SIGKILL))
+            killer.start()
+            maybe = None
+            for method, target, body, after in requests(before, chance):
+                try:
+                    status, text = ask(port, method, target, body)
+                except (OSError, http.client.HTTPException):
+                    maybe = after
+                    under_way += 1
+                    break
+                if status != 200:
+                    sys.exit(f"round {at}: {method} {target} was answered {status} {text[:80]}")
+                acknowledged += 1
+                before = after
+            killer.join()
+            service.wait()
+            if at % 10 == 0:
+                sound(path, folder)
+            port = free_port()
+            service = started(program, path, port, 1_000_000)
+            seen, runs = looked_at(port)
+            if maybe and seen == maybe.seen():
+                applied += seen != before.seen()
+                before = maybe
+            elif seen != before.seen():
+                sys.exit(f"round {at}: lost: {seen} where {before.seen()} was acknowledged")
+            # free what holds, so that the next round begins by a lock
+            if before.holder:
+                status, _ = ask(port, "UNLOCK", f"/state/{WS}", b"", secret=ROOT)
+                if status != 200:
+                    sys.exit(f"round {at}: the lock couldn't be freed: {status}")
+                before = before.copy()
+                before.holder = ""
+            for number in range(max(runs - 2, 1), runs + 1):
+                ask(port, "POST", f"/runs/{WS}/{number}/actions/unchanged")
+        service.send_signal(signal.SIGKILL)
+        service.wait()
+        sound(path, folder)
+    print(f"{rounds} kills, {acknowledged} requests acknowledged and kept, {under_way} under way when the service was killed, {applied} of them applied")
+
+
+if __name__ == "__main__":
+    main()
