@@ -1,5 +1,5 @@
 -- Worked rows and the records that they denote, computed by the definitions themselves.
-use Rattle.std.proofs.Common.{◌≡◌, ℕ, pos, take, true, false, true≢false, List, [], ◌∷◌, Option, Some, None, refl, sym, ap, arith}
+use Rattle.std.proofs.Common.{◌≡◌, ℕ, pos, take, ◌++◌, true, false, true≢false, List, [], ◌∷◌, Option, Some, None, refl, sym, ap, arith}
 use Rattle.std.specs.Prelude.{◌==◌, codes}
 use Rattle.std.specs.List.{list_any}
 use Rattle.std.specs.FinMap.{from_entries, empty}
@@ -16,9 +16,12 @@ use Rattle.machine.specs.declared.records.Workspace.{Workspace}
 use Rattle.machine.specs.declared.records.Organization.{Organization}
 use Rattle.statements.specs.declared.rows.Holder.TheVariants as cells
 use Rattle.statements.specs.Changes.{org_capped, token_removed}
+use Rattle.sqlite_schema.specs.declared.schema.Kind.TheVariants.{Blob}
 use Rattle.statements.specs.Rows.{Kept}
+use Rattle.statements.specs.Schema.{column, version_table}
 use Rattle.statements.specs.Tables.{Tables}
 use Rattle.tables.specs.Records.{record_of}
+use Rattle.tables.specs.Opening.{has_versions_in}
 use Rattle.tables.specs.Sound.{IsSound}
 use Rattle.tables.specs.Inner.Edits.{so_many_gone, gone_below, edited_rows, changed_rows}
 use Rattle.tables.specs.Inner.Lists.{versions_listed_in, runs_listed_in}
@@ -272,3 +275,16 @@ beyond = record two { vpages = (pos 1, record { org = acme; ws = prod; number = 
 
 beyond_is_not : IsSound beyond → ⊥
 beyond_is_not sound = absurd (let below = sound.placed.0 in omega (arith, below))
+
+-- ---- tables of versions
+
+our_versions : has_versions_in (Some version_table) ≡ true
+our_versions = refl
+
+-- the text of each in its row
+texts_in_rows : has_versions_in (Some (record version_table { columns = version_table.columns ++ (column (codes "body") Blob true ∷ []) })) ≡ false
+texts_in_rows = refl
+
+-- no size
+no_sizes : has_versions_in (Some (record version_table { columns = take 6 version_table.columns })) ≡ false
+no_sizes = refl

@@ -3,7 +3,7 @@ use Rattle.std.proofs.Common.{◌≡◌, ◌≤◌, ℕ, zero, suc, ◌+◌, ◌
 use Rattle.statements.specs.declared.rows.Head.{Head}
 use Rattle.statements.specs.Tables.{Tables}
 use Rattle.statements.specs.Finds.{oldest_below}
-use Rattle.tables.specs.Inner.Edits.{first_gone, oldest_gone, so_many_gone, gone_below}
+use Rattle.tables.specs.Inner.Edits.{first_gone, oldest_gone, so_many_gone, most_gone, gone_below}
 
 module _ (org ws : List ℕ) (below : ℕ) (t : Tables) where
   pub gone_one : oldest_gone org ws below t ≡ so_many_gone 1 org ws below t
@@ -14,7 +14,7 @@ module _ (org ws : List ℕ) (below : ℕ) (t : Tables) where
   unfolding so_many_gone
   gone_more many = ap (λ (m : ℕ). so_many_gone m org ws below t) (let next : suc many ≡ many + 1 = omega arith in next)
 
-  pub gone_all : (many : ℕ) → many ≡ 101 → so_many_gone many org ws below t ≡ gone_below org ws below t
+  pub gone_all : (many : ℕ) → many ≡ most_gone → so_many_gone many org ws below t ≡ gone_below org ws below t
   unfolding gone_below
   gone_all many e = ap (λ (m : ℕ). so_many_gone m org ws below t) e
 
@@ -30,9 +30,9 @@ module _ (org ws : List ℕ) (below : ℕ) (t : Tables) where
       ap (λ (l : ℕ). so_many_gone l org ws below t) (let next : m ≡ suc (k + many) = omega (arith, e) in next)
       ∙ ap (oldest_gone org ws below) before ∙ stays (so_many_gone many org ws below t) none
 
-  pub ended : (many : ℕ) → many ≤ 101 → oldest_below org ws below (so_many_gone many org ws below t) ≡ None → oldest_gone org ws below (so_many_gone many org ws below t) ≡ gone_below org ws below t
+  pub ended : (many : ℕ) → many ≤ most_gone → oldest_below org ws below (so_many_gone many org ws below t) ≡ None → oldest_gone org ws below (so_many_gone many org ws below t) ≡ gone_below org ws below t
   unfolding gone_below
-  ended many few none = stays (so_many_gone many org ws below t) none ∙ sym (none_more (101 - many) many 101 (omega (arith, few)) none)
+  ended many few none = stays (so_many_gone many org ws below t) none ∙ sym (none_more (most_gone - many) many most_gone (omega (arith, few)) none)
 
   pub none_gone : oldest_below org ws below t ≡ None → oldest_gone org ws below t ≡ gone_below org ws below t
   unfolding so_many_gone

@@ -14,7 +14,7 @@ use Rattle.sqlite_schema.specs.declared.schema.Table.{Table}
 use Rattle.sqlite_schema.specs.Names.{table_named}
 use Rattle.sqlite.specs.Effect.{Database}
 use Rattle.sqlite.specs.State.{State}
-use Rattle.statements.specs.Schema.{meta_table}
+use Rattle.statements.specs.Schema.{meta_table, version_table}
 use Rattle.statements.specs.Making.{version_in}
 use Rattle.statements.specs.Tables.{Tables, Holds, our_tables}
 use Rattle.tables.specs.Stores.{IsSoundStore}
@@ -91,6 +91,30 @@ is_meta_at s (Some at) = is_meta_in (slice_get s.tables at)
 -- the name meta means a table with the columns of ours, whatever else it is
 abbrev pub is_meta : Schema → Bool
 is_meta s = is_meta_at s (table_named s meta_table.name)
+
+-- ---- whether the table version has the columns of ours
+
+-- columns of these names, in this order, and no others
+abbrev pub have_names : List (List ℕ) → List Column → Bool
+have_names [] [] = true
+have_names (name ∷ names) (c ∷ columns) = bytes_eq c.name name && have_names names columns
+have_names _ _ = false
+
+-- what stands in the row of a version: the size of its text, and no text
+abbrev pub version_names : List (List ℕ)
+version_names = codes "org" ∷ codes "ws" ∷ codes "number" ∷ codes "serial" ∷ codes "lineage" ∷ codes "created" ∷ codes "size" ∷ []
+
+abbrev pub has_versions_in : Option Table → Bool
+has_versions_in None = false
+has_versions_in (Some t) = have_names version_names t.columns
+
+abbrev pub has_versions_at : Schema → Option ℕ → Bool
+has_versions_at s None = false
+has_versions_at s (Some at) = has_versions_in (slice_get s.tables at)
+
+-- the name version means a table with the columns of ours, whatever else it is
+abbrev pub has_versions : Schema → Bool
+has_versions s = has_versions_at s (table_named s version_table.name)
 
 -- the database tells no version, or another than this one
 abbrev pub IsOther : State → Type 0

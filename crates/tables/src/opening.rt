@@ -1,10 +1,11 @@
 //! How a database is made ready for a store.
 ghost use Rattle.std.specs.Prelude.{◌≡◌, true, false, ℕ, List, OnOk, OnErr, IfOk, IfErr};
+ghost use Rattle.std.specs.Str.{bytes_eq};
 ghost use Rattle.sqlite.specs.Held.{state};
 ghost use Rattle.sqlite.specs.State.{HasCleanDisk, KeepsCommit};
 ghost use Rattle.statements.specs.Place.{IsOwn};
-ghost use Rattle.statements.specs.Schema.{meta_table};
-ghost use Rattle.tables.specs.Opening.{any_there, all_there, is_integer_column, is_null, is_plain_column, tells_version, is_first_key, has_none, is_meta, IsOther};
+ghost use Rattle.statements.specs.Schema.{meta_table, version_table};
+ghost use Rattle.tables.specs.Opening.{any_there, all_there, is_integer_column, is_null, is_plain_column, tells_version, is_first_key, has_none, is_meta, have_names, version_names, has_versions, IsOther};
 ghost use Rattle.tables.specs.Inner.Making.{IsMade, IsTold, found_in, TellsFound, FindsOurs, StepsFrom, IsClimbed, IsOnWay};
 ghost use Rattle.tables.specs.Versions.{HoldsVersion, version_records};
 
@@ -140,6 +141,45 @@ fn is_meta(schema: &Schema) -> bool
     }
 }
 
+/// Whether a column has this name.
+fn is_named(column: &Column, name: &[u8]) -> bool
+    ensures { result ≡ bytes_eq column.now.name name.now }
+{
+    column.name.as_slice() == name
+}
+
+/// Whether these are the columns of the table of versions, by their names.
+fn has_version_names(columns: &[Column]) -> bool
+    ensures { result ≡ have_names version_names columns.now }
+{
+    match columns {
+        [org, ws, number, serial, lineage, created, size] => {
+            is_named(org, b"org".as_slice())
+                && is_named(ws, b"ws".as_slice())
+                && is_named(number, b"number".as_slice())
+                && is_named(serial, b"serial".as_slice())
+                && is_named(lineage, b"lineage".as_slice())
+                && is_named(created, b"created".as_slice())
+                && is_named(size, b"size".as_slice())
+        }
+        _ => false,
+    }
+}
+
+/// Whether the table version has the columns of ours.
+fn has_versions(schema: &Schema) -> bool
+    ensures exact { result ≡ has_versions schema.now }
+    ensures own { IsOwn schema.now version_table → result ≡ true }
+{
+    match schema.table_named(b"version".as_slice()) {
+        Some(at) => match schema.tables.as_slice().get(at) {
+            Some(table) => has_version_names(table.columns.as_slice()),
+            None => false,
+        },
+        None => false,
+    }
+}
+
 /// What is found where meta tells this version.
 fn found_in(version: Option<u64>) -> Found
     ensures { result ≡ found_in version }
@@ -181,6 +221,7 @@ fn find<S: Alter>(conn: &mut Connection<S>) -> Result<Found, Error>
     ensures nothing { HasCleanDisk (state S.Store conn.new) → IfOk result (λ found. found ≡ Found.Nothing → conn.new ≡ conn.old) }
     ensures foreign { any_there (state S.Store conn.old).now.schema ≡ true → is_meta (state S.Store conn.old).now.schema ≡ false → IfOk result (λ found. found ≡ Found.Other) × IfErr result (λ _. ⊥) }
     ensures missing { any_there (state S.Store conn.old).now.schema ≡ true → all_there (state S.Store conn.old).now.schema ≡ false → IfOk result (λ found. found ≡ Found.Other) × IfErr result (λ _. ⊥) }
+    ensures older { any_there (state S.Store conn.old).now.schema ≡ true → has_versions (state S.Store conn.old).now.schema ≡ false → IfOk result (λ found. found ≡ Found.Other) × IfErr result (λ _. ⊥) }
 {
     if !any_there(conn.schema()) {
         return Ok(Found::Nothing);
@@ -189,6 +230,9 @@ fn find<S: Alter>(conn: &mut Connection<S>) -> Result<Found, Error>
         return Ok(Found::Other);
     }
     if !is_meta(conn.schema()) {
+        return Ok(Found::Other);
+    }
+    if !has_versions(conn.schema()) {
         return Ok(Found::Other);
     }
     find_version(conn)
@@ -234,6 +278,7 @@ pub(crate) fn ready<S: Alter>(conn: &mut Connection<S>) -> Result<(), Fault>
     ensures other { HasCleanDisk (state S.Store conn.new) → IfErr result (λ fault. fault ≡ Fault.Schema → (any_there (state S.Store conn.old).now.schema ≡ true) × IsOther (state S.Store conn.old)) }
     ensures foreign { any_there (state S.Store conn.old).now.schema ≡ true → is_meta (state S.Store conn.old).now.schema ≡ false → IfErr result (λ fault. fault ≡ Fault.Schema) × IfOk result (λ _. ⊥) }
     ensures missing { any_there (state S.Store conn.old).now.schema ≡ true → all_there (state S.Store conn.old).now.schema ≡ false → IfErr result (λ fault. fault ≡ Fault.Schema) × IfOk result (λ _. ⊥) }
+    ensures older { any_there (state S.Store conn.old).now.schema ≡ true → has_versions (state S.Store conn.old).now.schema ≡ false → IfErr result (λ fault. fault ≡ Fault.Schema) × IfOk result (λ _. ⊥) }
 {
     match find(conn) {
         Ok(Found::Nothing) => match transactions::make(conn) {

@@ -8,7 +8,7 @@ ghost use Rattle.statements.specs.Making.{HasMeta, told_version, version_in, Kee
 ghost use Rattle.statements.specs.Rows.{Kept};
 ghost use Rattle.sqlite_schema.specs.declared.schema.Table.{Table};
 ghost use Rattle.statements.specs.Tables.{Tables, Holds};
-ghost use Rattle.tables.specs.Opening.{IsSoundKeep, any_there, all_there, is_meta, IsOther};
+ghost use Rattle.tables.specs.Opening.{IsSoundKeep, any_there, all_there, is_meta, has_versions, IsOther};
 ghost use Rattle.tables.specs.Versions.{HoldsVersion, version_records};
 
 use crate::opening::{Fault, ready};
@@ -65,6 +65,7 @@ impl<S: Alter, K: PageKey> SqlKeep<S, K> {
     /// Opens a database. One that has none of the tables gets them all, in one transaction; each
     /// table of others that it holds stays as it is. One that has them stays as it is; one of an
     /// earlier version, of which there is none yet, is taken to the newest, a step at a time.
+    /// One in which some of the names mean other tables is given back as it was.
     pub fn open(mut conn: Connection<S>) -> Result<SqlKeep<S, K>, Unopened<S>>
         requires idle { conn.in_transaction ≡ false }
         ensures so_far { IfOk result (λ keep. ⟦<SqlKeep<S, K> as Keep>⟧.clean keep → HasCleanDisk (state S.Store conn)) }
@@ -89,6 +90,8 @@ impl<S: Alter, K: PageKey> SqlKeep<S, K> {
         ensures foreign { any_there (state S.Store conn).now.schema ≡ true → is_meta (state S.Store conn).now.schema ≡ false
             → IfErr result (λ unopened. unopened.fault ≡ Fault.Schema) × IfOk result (λ _. ⊥) }
         ensures missing { any_there (state S.Store conn).now.schema ≡ true → all_there (state S.Store conn).now.schema ≡ false
+            → IfErr result (λ unopened. unopened.fault ≡ Fault.Schema) × IfOk result (λ _. ⊥) }
+        ensures older { any_there (state S.Store conn).now.schema ≡ true → has_versions (state S.Store conn).now.schema ≡ false
             → IfErr result (λ unopened. unopened.fault ≡ Fault.Schema) × IfOk result (λ _. ⊥) }
         ensures idle { IfErr result (λ unopened. unopened.conn.in_transaction ≡ false) }
     {

@@ -6,6 +6,7 @@ use Rattle.machine.specs.declared.acts.Edit.{Edit}
 use Rattle.machine.specs.declared.acts.Edit.TheVariants.{Make, Configure, Remove, AddVersion, Purge, Hold, Release, AddRun, Report}
 use Rattle.machine.specs.declared.acts.Change.{Change}
 use Rattle.machine.specs.declared.records.Version.{Version}
+use Rattle.machine.specs.Workspaces.{max_versions}
 use Rattle.statements.specs.declared.rows.Holder.TheVariants.{Nobody, Lock, Run as HeldByRun}
 use Rattle.statements.specs.declared.rows.Workspace.{Workspace as WorkspaceCells}
 use Rattle.statements.specs.Tables.{Tables}
@@ -36,7 +37,7 @@ so_many_gone (suc many) org ws below t = oldest_gone org ws below (so_many_gone 
 
 -- no more versions go at once: a workspace keeps so many, and one more has come before others go
 abbrev pub most_gone : ℕ
-most_gone = 101
+most_gone = max_versions + 1
 
 -- the versions with numbers below this one go
 unfoldable pub gone_below : List ℕ → List ℕ → ℕ → Tables → Tables

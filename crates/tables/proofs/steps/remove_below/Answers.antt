@@ -1,7 +1,7 @@
 use Rattle.std.specs.Bool.{⊤}
 use Rattle.std.proofs.Common.{◌≡◌, ◌≤◌, ◌+◌, None, arith}
 use Rattle.statements.specs.Finds.{oldest_below}
-use Rattle.tables.specs.Inner.Edits.{oldest_gone, so_many_gone, gone_below}
+use Rattle.tables.specs.Inner.Edits.{oldest_gone, so_many_gone, most_gone, gone_below}
 use Rattle.tables.proofs.GoneSteps.{gone_one, gone_more, gone_all, ended, none_gone}
 use Rattle.tables.proofs.KeepMoves.{step_as, steps_as}
 use Rattle.tables.proofs.steps.remove_below.Goals as goal
@@ -18,7 +18,7 @@ versions-init g c =
 
 pub returns-then-not-branch-2 : goal.returns-then-not-branch-2
 returns-then-not-branch-2 g c =
-    let few : c.versions.gone ≤ 101 = omega (arith, c.versions-test.true) in
+    let few : c.versions.gone ≤ most_gone = omega (arith, c.versions-test.true) in
     steps_as g.S.Store (oldest_gone c.args.org.now c.args.ws.now c.args.below) (gone_below c.args.org.now c.args.ws.now c.args.below) c.versions.tx c.remove_oldest-in-versions.new.tx _ c.in_ok-remove_oldest-2.ensures.steps
     (so_many_gone c.versions.gone c.args.org.now c.args.ws.now c.args.below) c.args.tx.now tt tt c.versions.invariant (λ t. oldest_below c.args.org.now c.args.ws.now c.args.below t ≡ None)
     (λ clean inside t holds. c.in_ok-remove_oldest-2.ensures.found clean inside c.if-not-branch-2.true t holds) (λ t none. ended c.args.org.now c.args.ws.now c.args.below t c.versions.gone few none)
@@ -30,6 +30,6 @@ versions-preserved g c =
 
 pub returns : goal.returns
 returns g c =
-    let all : c.versions.gone ≡ 101 = omega (arith, c.versions.auto.gone-end, c.versions-test.false) in
+    let all : c.versions.gone ≡ most_gone = omega (arith, c.versions.auto.gone-end, c.versions-test.false) in
     step_as g.S.Store (so_many_gone c.versions.gone c.args.org.now c.args.ws.now c.args.below) (gone_below c.args.org.now c.args.ws.now c.args.below) c.args.tx.now c.versions.tx tt c.versions.invariant tt
     (λ clean inside t holds. gone_all c.args.org.now c.args.ws.now c.args.below t c.versions.gone all)
