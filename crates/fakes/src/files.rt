@@ -16,6 +16,8 @@ pub struct MemoryFile<'a> {
     store: Option<PlainKeep>,
     /// Whether a close leaves a log beside the file.
     pub keeps_log: bool,
+    /// Whether others than its owner may read the file.
+    pub is_readable: bool,
 }
 
 impl<'a> MemoryFile<'a> {
@@ -26,6 +28,7 @@ impl<'a> MemoryFile<'a> {
             path,
             store: None,
             keeps_log: false,
+            is_readable: false,
         }
     }
 }
@@ -37,6 +40,13 @@ impl Files<PlainKeep> for MemoryFile<'_> {
     ghost copied = { λ files path store. (path ≡ files.path.now) × (files.store ≡ Some store) };
 
     ghost is_other = { λ _ _. ⊥ };
+
+    // Nor is it whether others may read what lies there.
+    ghost reads = { λ files path answer. path ≡ files.path.now → answer ≡ files.is_readable };
+
+    fn others_may_read(&self, _path: &str) -> bool {
+        self.is_readable
+    }
 
     fn open(&mut self, path: &str) -> Result<PlainKeep, Fault> {
         if path != self.path {

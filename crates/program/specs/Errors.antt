@@ -29,6 +29,10 @@ GetsConnectionLines old new = (fronts : List (List ℕ)) × AreConnectionFronts 
 abbrev pub log_line : List ℕ
 log_line = codes "custody: the log could not be copied into the file: keep the file and its log together\n"
 
+-- what is told where others than its owner may read a file or its log
+abbrev pub readers_line : List ℕ
+readers_line = codes "custody: others than its owner may read the file or its log: chmod 600 ends that\n"
+
 -- what is told where a secret doesn't read
 abbrev pub secret_line : List ℕ
 secret_line = codes "custody: the secret isn't one line of 16 to 64 ASCII letters or digits\n"

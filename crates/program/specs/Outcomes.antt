@@ -1,6 +1,6 @@
 -- What the program does for each kind of words: how it ends, what stands on both streams then, and what lies at
 -- each path. Of a stream that took not all that was to be printed nothing is said.
-use Rattle.std.specs.Prelude.{◌≡◌, ◌≢◌, ◌<◌, ◌⊎◌, ◌+◌, ◌++◌, ℕ, List, [], ◌∷◌, ⊤, Option, Some, None, IfSome, true, false, length, is_some}
+use Rattle.std.specs.Prelude.{◌≡◌, ◌≢◌, ◌<◌, ◌⊎◌, ◌+◌, ◌++◌, ℕ, Bool, List, [], ◌∷◌, ⊤, Option, Some, None, IfSome, true, false, length, is_some}
 use Rattle.std.specs.Io.KnownBytes.{Appends}
 use Rattle.std.specs.List.{flat_map}
 use Rattle.machine.specs.declared.keeps.Keep as keep
@@ -16,7 +16,7 @@ use Rattle.serve.specs.Service.{Carries as CarriesOut, IsAdminAnswer, Stays, org
 use Rattle.program.specs.declared.endings.Ending.{Ending}
 use Rattle.program.specs.declared.endings.Ending.TheVariants as ending
 use Rattle.program.specs.Endings.{ending_line}
-use Rattle.program.specs.Errors.{GetsFront, GetsConnectionLines, log_line, secret_line}
+use Rattle.program.specs.Errors.{GetsFront, GetsConnectionLines, log_line, readers_line, secret_line}
 use Rattle.program.specs.Frames.{AreFrames}
 use Rattle.program.specs.declared.outside.Files as files
 use Rattle.program.specs.Orders.{Asked, carries, adds_token, serves, replays}
@@ -178,6 +178,11 @@ Prints words input e output errors =
 abbrev pub IsSecretOf : Option (List ℕ) → List ℕ → Type 0
 IsSecretOf input secret = IfSome input (λ bytes. secret_in bytes ≡ Some secret)
 
+-- the error stream is told that others may read the file, where they may, and else nothing
+abbrev pub TellsOfReaders : Bool → Stream → Type 0
+TellsOfReaders true errors = GetsFront errors.old errors.new readers_line
+TellsOfReaders false errors = errors.new ≡ errors.old
+
 -- the log of a file is copied into it, or the error stream is told that it stays beside it
 abbrev pub TellsOfLog : Type 0 → Stream → Type 0
 TellsOfLog IsCopied errors = (IsCopied × (errors.new ≡ errors.old)) ⊎ GetsFront errors.old errors.new log_line
@@ -198,7 +203,11 @@ module _ {K F : Type 0} (k : keep.Ghosts K) (f : files.Ghosts F K) where
     pub so_far : k.clean after → k.clean before
     pub kept : k.clean after → k.sound before → k.sound after
     pub model : k.clean after → k.sound before → IsOperated command (k.rows before) (k.rows after) e output
-    pub log : TellsOfLog (f.copied new path after) errors
+    pub others_may_read : Bool
+    pub looked : f.reads old path others_may_read
+    pub noted : Option (List ℕ)
+    pub readers : TellsOfReaders others_may_read (stream errors.old noted)
+    pub log : TellsOfLog (f.copied new path after) (stream noted errors.new)
 
   abbrev pub OperatesAt : List ℕ → Admin → F → F → Ending → Stream → Stream → Type 0
   OperatesAt path command old new e output errors = Operates path command old new e output errors ⊎ RefusesToOpen path old new e output errors
@@ -244,8 +253,12 @@ module _ {K F N C R W : Type 0} (k : keep.Ghosts K) (f : files.Ghosts F K) (n : 
     pub told : Option (List ℕ)
     pub answers : AnswersAtPort k n c i o port timeouts count (state old.network old.clock before) (state new.network new.clock after) served output.old told
     pub says : SaysServed served e told output.new
+    pub others_may_read : Bool
+    pub looked : f.reads old.files path others_may_read
+    pub noted : Option (List ℕ)
+    pub readers : TellsOfReaders others_may_read (stream errors.old noted)
     pub lines : Option (List ℕ)
-    pub tells : GetsConnectionLines errors.old lines
+    pub tells : GetsConnectionLines noted lines
     pub log : TellsOfLog (f.copied new.files path after) (stream lines errors.new)
 
   -- what is asked for is done to what lies at its path, and to nothing else

@@ -1,5 +1,5 @@
 //! What the program stands on besides its streams: files of databases, connections and a clock.
-ghost use Rattle.std.specs.Prelude.{◌≡◌, ℕ, List, Option, Result, false, IfOk, OnOk, OnErr, IsErrOf};
+ghost use Rattle.std.specs.Prelude.{◌≡◌, ℕ, Bool, List, Option, Result, false, IfOk, OnOk, OnErr, IsErrOf};
 ghost use Rattle.std.specs.Net.Addr.{ipv4_octets};
 ghost use Rattle.basis.specs.declared.memory.Down.{Down as AnyDown};
 ghost use Rattle.program.specs.declared.timeouts.Timeouts.{Timeouts as AnyTimeouts};
@@ -21,6 +21,13 @@ pub trait Files<K> {
 
     // A database of another schema lies at a path.
     ghost is_other: { Self → List ℕ → Type 0 };
+
+    // What finds out whether others than its owner may read what lies at a path.
+    ghost reads: { Self → List ℕ → Bool → Type 0 };
+
+    /// Whether others than its owner may read what lies at a path.
+    fn others_may_read(&self, path: &str) -> bool
+        ensures { reads self.now path.now result };
 
     /// Opens the store of a path. A database that isn't there is made, with no organization; one of
     /// another schema stays as it is.

@@ -4,7 +4,7 @@ ghost use Rattle.std.specs.Io.KnownBytes.{Appends};
 ghost use Rattle.program.specs.Endings.{status_of};
 ghost use Rattle.program.specs.Errors.{GetsFront, GetsConnectionLines};
 ghost use Rattle.program.specs.Orders.{said_by, with_secret};
-ghost use Rattle.program.specs.Outcomes.{stream, IsSaid, AnswersLine, AnswersList, TellsWord, TellsList, TellsAnswer, IsOperated, AnswersCommand, RefusesUsage, AddsToken, ServesAt, Does, RefusesWords, Prints, OperatesAt, AddsTokenAt, ServesFrom, RefusesToOpen, outside, IsAlone, SaysServed, TellsOfLog, Leaves, Runs};
+ghost use Rattle.program.specs.Outcomes.{stream, IsSaid, AnswersLine, AnswersList, TellsWord, TellsList, TellsAnswer, IsOperated, AnswersCommand, RefusesUsage, AddsToken, ServesAt, Does, RefusesWords, Prints, OperatesAt, AddsTokenAt, ServesFrom, RefusesToOpen, outside, IsAlone, SaysServed, TellsOfLog, TellsOfReaders, Leaves, Runs};
 ghost use Rattle.program.specs.Inner.Outcomes.{IsSaidWhy};
 ghost use Rattle.program.specs.Paths.{AllStay, OthersStay};
 ghost use Rattle.program.specs.Serving.{Listens, Serves, state, AnswersAtPort};
@@ -42,6 +42,10 @@ const SECRET_FORM: &str =
 /// What is said where the log of a file stays beside it.
 const LOG_STAYS: &str =
     "custody: the log could not be copied into the file: keep the file and its log together\n";
+
+/// What is said where others than its owner may read a file or its log.
+const OTHERS_READ: &str =
+    "custody: others than its owner may read the file or its log: chmod 600 ends that\n";
 
 fn note<E: Write>(errors: &mut E, text: &str) -> io::Result<()>
     ensures whole { OnOk result (Appends (E.contents errors.old) (E.contents errors.new) text.now) }
@@ -165,6 +169,14 @@ fn operate<K: Keep, O: Write>(
     (ending, keep)
 }
 
+fn tell_of_readers<E: Write>(errors: &mut E, others_may_read: bool)
+    ensures { TellsOfReaders others_may_read (stream (E.contents errors.old) (E.contents errors.new)) }
+{
+    if others_may_read {
+        let _ = note(errors, OTHERS_READ);
+    }
+}
+
 fn close_after<K: Keep, F: Files<K>, E: Write>(files: &mut F, db: &str, store: K, errors: &mut E)
     ensures closed { F.holds files.new db.now store }
     ensures others { OthersStay F.holds db.now files.old files.new }
@@ -186,11 +198,13 @@ fn carry_out<K: Keep, F: Files<K>, O: Write, E: Write>(
     ensures line { AnswersCommand command.now result (stream (O.contents output.old) (O.contents output.new)) }
     ensures operates { OperatesAt K.Keep F.Files db.now command.now files.old files.new result (stream (O.contents output.old) (O.contents output.new)) (stream (E.contents errors.old) (E.contents errors.new)) }
 {
+    let others_may_read = files.others_may_read(db);
     let store = match files.open(db) {
         Ok(store) => store,
         Err(Fault::Schema) => return say_schema(output, command),
         Err(Fault::Down) => return say_down(output, command),
     };
+    tell_of_readers(errors, others_may_read);
     let (ending, store) = operate(alloc, store, command, output);
     close_after(files, db, store, errors);
     ending
@@ -287,11 +301,13 @@ fn serve<K: Keep, F: Files<K>, N: Connections, C: Clock, O: Write, E: Write>(
     ensures serves { ServesFrom K.Keep F.Files N.Connections C.Clock N.Reader.Inlet N.Writer.Outlet db.now port timeouts.now count (outside files.old network.old clock.old) (outside files.new network.new clock.new) result (stream (O.contents output.old) (O.contents output.new)) (stream (E.contents errors.old) (E.contents errors.new))
         ⊎ (RefusesToOpen K.Keep F.Files db.now files.old files.new result (stream (O.contents output.old) (O.contents output.new)) (stream (E.contents errors.old) (E.contents errors.new)) × IsAlone (outside files.old network.old clock.old) (outside files.new network.new clock.new)) }
 {
+    let others_may_read = files.others_may_read(db);
     let keep = match files.open(db) {
         Ok(keep) => keep,
         Err(Fault::Schema) => return say(output, Ending::Schema),
         Err(Fault::Down) => return say(output, Ending::Down),
     };
+    tell_of_readers(errors, others_may_read);
     let mut service = Service::new(keep);
     let ending = serve_at(
         alloc,

@@ -11,17 +11,52 @@ use sqlite::Connection;
 use sqlite_disk::{Disk, Start, Unknown};
 use sqlite_std_file::FileFrom;
 use sqlite_store::FileStore;
+use std::fs::OpenOptions;
+use std::os::unix::fs::{MetadataExt, OpenOptionsExt};
 use std::rt::HostRuntime;
+use std::{fs, io};
 use tables::{Fault, SqlKeep};
 
 /// The store in a file, its pages named by SHA-256, which `start` stands for as it is opened.
 pub type FileKeep<S> = SqlKeep<FileStore<FileFrom<S>>, ShaKey>;
 
-/// Opens the store in a file. A file that isn't there is made, with no organization; one of another
-/// schema stays as it is. Nothing ties what is found to the path, but to what `start` stands for.
+/// The mode of a file that is made: its owner reads and writes it, and nobody else.
+const OWNER_ALONE: u32 = 0o600;
+
+/// By which of these bits of a file's mode others than its owner may read it.
+const OTHERS_READ: u32 = 0o044;
+
+/// Makes the file for its owner alone, where nothing lies at the path; its log gets the file's mode. What
+/// can't be made is left to the open behind it.
+fn make_private(rt: &HostRuntime, path: &str) {
+    let made = OpenOptions::new()
+        .write(true)
+        .create_new(true)
+        .mode(OWNER_ALONE)
+        .open(rt, path);
+    drop(made);
+}
+
+fn is_readable(rt: &HostRuntime, path: &str) -> bool {
+    match fs::metadata(rt, path) {
+        Ok(found) => found.mode() & OTHERS_READ != 0,
+        Err(_) => false,
+    }
+}
+
+/// Whether others than its owner may read the file where a path leads, or its log.
+fn is_any_readable(rt: &HostRuntime, path: &str) -> io::Result<bool> {
+    let real = fs::canonicalize(rt, path)?;
+    let log = format!(in rt.alloc(); "{}-wal", real.as_str())?;
+    Ok(is_readable(rt, real.as_str()) || is_readable(rt, log.as_str()))
+}
+
+/// Opens the store in a file. A file that isn't there is made, for its owner alone and with no
+/// organization; one of another schema stays as it is. Nothing ties what is found to the path, but to what `start` stands for.
 pub fn open_file<S: Start>(rt: &HostRuntime, path: &str, start: S) -> Result<FileKeep<S>, Fault>
     ensures { IfOk result (λ keep. ⟦<FileKeep<S> as Keep>⟧.clean keep → OpensOn (image_at S.Start) (⟦<FileKeep<S> as Keep>⟧.rows keep) (⟦<FileKeep<S> as Keep>⟧.sound keep)) }
 {
+    make_private(rt, path);
     let conn = match Connection::open_from(rt, path, false, start) {
         Ok(conn) => conn,
         Err(_) => return Err(Fault::Down),
@@ -78,6 +113,14 @@ impl<S: Start> Files<FileKeep<S>> for DiskFiles<'_, S> {
 
     // Which fault comes when isn't told.
     ghost is_other = { λ _ _. ⊤ };
+
+    // Nothing ties a path to the modes that are looked at.
+    ghost reads = { λ _ _ _. ⊤ };
+
+    // What can't be looked at counts as read by nobody else: the open behind it tells why.
+    fn others_may_read(&self, path: &str) -> bool {
+        is_any_readable(self.rt, path).unwrap_or(false)
+    }
 
     fn open(&mut self, path: &str) -> Result<FileKeep<S>, Fault> {
         match self.start.take() {
