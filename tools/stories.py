@@ -5,7 +5,8 @@
     python3 tools/stories.py frames NAME   a story's frames, as `custody replay` takes them
     python3 tools/stories.py breaks        how often links and streams break under the stories, as the program has to print it
 
-crates/stories/README.md says how the text is written. This reader shares nothing with the program `stories`.
+crates/stories/README.md says how the text is written. This reader shares nothing with the program `stories`. It also
+reads lines `now SQL` behind a step, which say what it leaves in the tables (tools/refusals.txt has them).
 """
 
 import os
@@ -13,8 +14,8 @@ import sys
 
 HERE = os.path.dirname(os.path.abspath(__file__))
 TEXT = os.path.join(HERE, "..", "crates", "stories", "stdin")
-VALUES = ["state", "lock", "settings", "run", "digest", "org", "ws", "lock-id", "secret", "number", "whole", "moment", "limit", "message", "line", "route", "asks"]
-FILES = ["file", "write", "table", "absent", "same", "peer", "breaks", "hidden", "taken", "check"]
+VALUES = ["state", "lock", "settings", "run", "digest", "org", "ws", "lock-id", "secret", "number", "whole", "moment", "limit", "message", "line", "route", "asks", "kept"]
+FILES = ["file", "write", "table", "absent", "same", "peer", "breaks", "hidden", "mode", "chmod", "taken", "check"]
 ESCAPES = {"r": b"\r", "n": b"\n", "t": b"\t", "\\": b"\\"}
 
 
@@ -31,10 +32,10 @@ def unescaped(text):
 
 
 class Part:
-    """A line of a step, with the bytes of the pieces and the fields that follow it."""
+    """A line of a step, with the bytes of the pieces and the fields that follow it, and what the step leaves."""
 
     def __init__(self, line):
-        self.line, self.bytes, self.in_rows, self.fields = line, None, False, []
+        self.line, self.bytes, self.in_rows, self.fields, self.leaves = line, None, False, [], []
 
     def add(self, mark, text):
         if mark == "|":
@@ -67,7 +68,7 @@ def read(text):
     told, at, stories, story, parts = {"token": {}, "reason": {}, "challenge": {}}, None, {}, None, None
     waiting = []
     for line in text.split("\n"):
-        if line == "" or line.startswith("#"):
+        if line in ["", "stops"] or line.startswith("#"):
             continue
         mark, rest = marked(line, ["|", ">", "\\", "*"])
         if mark:
@@ -79,6 +80,10 @@ def read(text):
         mark, rest = marked(line, ["+"])
         if mark:
             parts[-1].fields.append(rest)
+            continue
+        mark, rest = marked(line, ["now"])
+        if mark:
+            parts[0].leaves.append(rest)
             continue
         mark, rest = marked(line, ["story", "after"])
         if mark == "story":

@@ -1,14 +1,14 @@
 //! A story of requests told over links that break, over tables in memory: after each break stands there what the story says.
-use crate::devices::{ALL, Stop};
-use crate::failures::{Failure, compare_bytes};
-use crate::links::{Asked, break_reads, line_in, stop_write, take_whole};
-use crate::modes::{Counts, Modes};
-use crate::plays::Play;
 use crate::records::recorded;
-use crate::taking::Way;
-use crate::ways::{Tables, new_tables, taken_to};
+use crate::ways::{Tables, new_tables};
 use serve::{Service, Step};
 use std::alloc::Global;
+use telling::devices::{ALL, Stop};
+use telling::failures::{Failure, compare_bytes};
+use telling::links::{Asked, break_reads, line_in, stop_write, take_whole};
+use telling::modes::{Counts, Modes};
+use telling::plays::Play;
+use telling::taking::{Way, taken_to};
 
 /// The name of this way.
 pub const WAY: &str = "links that break";

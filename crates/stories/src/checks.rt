@@ -1,6 +1,4 @@
 //! What no line of bytes tells: checks that are run by their names.
-use crate::books::{Part, Plot};
-use crate::failures::Failure;
 use crate::programs::answer_of;
 use crate::sockets::{Bout, answer_idle, answer_one, answer_rude, answer_trickling};
 use basis::{Bytes, Down, Items, Refusal, Text};
@@ -10,6 +8,8 @@ use program::outside::Clock;
 use serve::Service;
 use std::alloc::Global;
 use system::SystemClock;
+use telling::books::{Part, Plot};
+use telling::failures::Failure;
 
 /// What is checked.
 #[derive(Clone, Copy)]

@@ -1,12 +1,12 @@
 //! A story of a store over tables in a file, which is closed and opened again midway.
-use crate::devices::ALL;
-use crate::failures::Failure;
-use crate::plays::{Due, Play};
 use crate::programs::forget;
-use crate::taking::{Way, take_over};
 use serve::Step;
 use sqlite_disk::{Start, Unknown};
 use system::{close_file, open_file};
+use telling::devices::ALL;
+use telling::failures::Failure;
+use telling::plays::{Due, Play};
+use telling::taking::{Way, take_over};
 
 /// Where the tables lie while a story runs.
 const PATH: &str = "stories.db";

@@ -1,42 +1,34 @@
 //! The program `stories`: examples as text, each told to the service and compared with what the text says.
 #![tactic(auto)]
 
-mod books;
 mod breaking;
 mod checks;
-mod commands;
-mod definitions;
-mod devices;
-mod failures;
+mod cuts;
 mod files;
-mod lines;
-mod links;
+mod images;
+mod kept;
+mod keys;
+mod laws;
 mod memories;
-mod messages;
-mod modes;
-mod plays;
 mod programs;
 mod records;
-mod refusals;
-mod refusing;
-mod requests;
-mod routes;
+mod recovering;
 mod sockets;
+mod stops;
 mod stories;
 mod streams;
-mod taking;
-mod tells;
+mod units;
 mod values;
 mod ways;
 
-use books::{Book, Story, read_book};
-use failures::{Failure, Why};
-use modes::Counts;
 use std::io;
 use std::io::{BufWriter, Read, Write};
 use std::process::ExitCode;
 use stories::run_story;
-use tells::{tell_counts, tell_end, tell_failure, tell_passed, tell_short, tell_unread};
+use telling::books::{Book, Story, read_book};
+use telling::failures::{Failure, Why};
+use telling::modes::Counts;
+use telling::tells::{tell_counts, tell_end, tell_failure, tell_passed, tell_short, tell_unread};
 
 /// All stories passed.
 const PASSED: u8 = 0;

@@ -1,8 +1,4 @@
 //! A story of the program over a database, peers and a clock in memory.
-use crate::books::{Part, Plot, Story};
-use crate::devices::{ALL, Giver, Taker};
-use crate::failures::{Failure, compare_bytes};
-use crate::modes::{Counts, Modes};
 use crate::programs::{Does, Left, answer_of, compare_left, split, words_of};
 use crate::streams::{Told, break_streams};
 use basis::Moment;
@@ -10,6 +6,10 @@ use fakes::{MemoryFile, MemoryPeers, StandingClock};
 use program::running::run_words;
 use std::alloc::Global;
 use std::mem;
+use telling::books::{Part, Plot, Story};
+use telling::devices::{ALL, Giver, Taker};
+use telling::failures::{Failure, compare_bytes};
+use telling::modes::{Counts, Modes};
 
 /// The name of this way.
 pub const WAY: &str = "a database and peers in memory";

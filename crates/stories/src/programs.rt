@@ -1,15 +1,15 @@
 //! Steps of the program: its words, its streams, and files beside it.
-use crate::books::{Part, Plot};
-use crate::failures::{Failure, compare_bytes};
-use crate::lines::Mark;
 use basis::numbers::whole_number;
 use sqlite::{Connection, Error};
 use std::alloc::{AllocError, Global};
 use std::fs;
 use std::fs::Permissions;
 use std::net::{Ipv4Addr, TcpListener};
-use std::os::unix::fs::PermissionsExt;
+use std::os::unix::fs::{MetadataExt, PermissionsExt};
 use system::run_here;
+use telling::books::{Part, Plot};
+use telling::failures::{Failure, compare_bytes};
+use telling::lines::Mark;
 
 /// What a step of the program does.
 #[derive(Clone, Copy)]
@@ -24,6 +24,9 @@ pub enum Does {
     Breaks,
     /// A file that can't be read.
     Hides,
+    /// Who may read and write a file, by its mode.
+    HasMode,
+    GetsMode,
     /// A port that is taken.
     Takes,
     Runs,
@@ -38,6 +41,8 @@ const WORDS: &[(&str, Does)] = &[
     ("peer", Does::Connects),
     ("breaks", Does::Breaks),
     ("hidden", Does::Hides),
+    ("mode", Does::HasMode),
+    ("chmod", Does::GetsMode),
     ("taken", Does::Takes),
     ("$", Does::Runs),
 ];
@@ -197,6 +202,9 @@ fn bytes_of(rt: &HostRuntime, path: &str) -> Result<Vec<u8>, Failure> {
     }
 }
 
+/// The bits of a mode that say who may read, write and run a file.
+const MODE_BITS: u32 = 0o777;
+
 /// What the last `write` or `table` of a story left, and the ports that are taken.
 #[derive(Drop)]
 pub struct Files {
@@ -269,6 +277,8 @@ impl Files {
             Some((Does::IsAbsent, path)) => is_absent(rt, head, path),
             Some((Does::IsSame, path)) => self.is_same(rt, head, path),
             Some((Does::Hides, path)) => hide(rt, head, path),
+            Some((Does::HasMode, words)) => has_mode(rt, head, words),
+            Some((Does::GetsMode, words)) => get_mode(rt, head, words),
             Some((Does::Takes, port)) => self.take_port(rt, head, port),
             Some((Does::Runs, words)) => run_step(rt, head, words, parts),
             Some((Does::Connects | Does::Breaks, _)) => Err(Failure::from(head.unread(
@@ -285,11 +295,46 @@ fn port_in(text: &str) -> Option<u16> {
     u16::try_from(whole_number(text)?).ok()
 }
 
+fn set_mode(rt: &HostRuntime, head: &Part<'_>, path: &str, mode: u32) -> Result<(), Failure> {
+    match fs::set_permissions(rt, path, Permissions::from_mode(mode)) {
+        Ok(()) => Ok(()),
+        Err(_) => Err(Failure::refused(head.line, "the file's mode can't be set")),
+    }
+}
+
 // Whoever may read everything still reads it.
 fn hide(rt: &HostRuntime, head: &Part<'_>, path: &str) -> Result<(), Failure> {
-    match fs::set_permissions(rt, path, Permissions::from_mode(0)) {
-        Ok(()) => Ok(()),
-        Err(_) => Err(Failure::refused(head.line, "the file can't be hidden")),
+    set_mode(rt, head, path, 0)
+}
+
+// A path, and a mode behind it.
+fn mode_in<'a>(head: &Part<'_>, words: &'a str) -> Result<(&'a str, u32), Failure> {
+    let Some((path, digits)) = words.split_once(' ') else {
+        return Err(Failure::from(head.unread("a mode stands behind a path")));
+    };
+    match u32::from_str_radix(digits, 8) {
+        Ok(mode) => Ok((path, mode)),
+        Err(_) => Err(Failure::from(head.unread("a mode is octal digits"))),
+    }
+}
+
+fn get_mode(rt: &HostRuntime, head: &Part<'_>, words: &str) -> Result<(), Failure> {
+    let (path, mode) = mode_in(head, words)?;
+    set_mode(rt, head, path, mode)
+}
+
+fn mode_of(rt: &HostRuntime, path: &str) -> Option<u32> {
+    match fs::metadata(rt, path) {
+        Ok(found) => Some(found.mode() & MODE_BITS),
+        Err(_) => None,
+    }
+}
+
+fn has_mode(rt: &HostRuntime, head: &Part<'_>, words: &str) -> Result<(), Failure> {
+    let (path, mode) = mode_in(head, words)?;
+    match mode_of(rt, path) {
+        Some(found) if found == mode => Ok(()),
+        _ => Err(Failure::refused(head.line, "the file has another mode")),
     }
 }
 

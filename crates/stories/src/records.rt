@@ -1,9 +1,9 @@
 //! All that stands in the tables, as bytes that are compared.
-use crate::failures::Failure;
 use crate::ways::{Tables, reopened};
 use sqlite::types::ValueRef;
-use sqlite::{Connection, Error, MemStore, Row};
+use sqlite::{Alter, Connection, Error, Row};
 use std::alloc::{AllocError, Global};
+use telling::failures::Failure;
 
 const TABLES: &[&str] = &[
     "SELECT * FROM meta",
@@ -41,7 +41,11 @@ fn put_row(all: &mut Vec<u8>, row: &Row) -> Result<(), Error> {
     Ok(())
 }
 
-fn put_table(all: &mut Vec<u8>, conn: &mut Connection<MemStore>, sql: &str) -> Result<(), Error> {
+fn put_table<S: Alter>(
+    all: &mut Vec<u8>,
+    conn: &mut Connection<S>,
+    sql: &str,
+) -> Result<(), Error> {
     all.push(b'#')?;
     let rows = conn.query_all(sql, &[])?;
     for row in rows.as_slice() {
@@ -50,21 +54,33 @@ fn put_table(all: &mut Vec<u8>, conn: &mut Connection<MemStore>, sql: &str) -> R
     Ok(())
 }
 
-fn put_tables(all: &mut Vec<u8>, conn: &mut Connection<MemStore>) -> Result<(), Error> {
+fn put_tables<S: Alter>(all: &mut Vec<u8>, conn: &mut Connection<S>) -> Result<(), Error> {
     for sql in TABLES {
         put_table(all, conn, sql)?;
     }
     Ok(())
 }
 
+/// What stands in the tables over a connection.
+pub fn record_of<S: Alter>(
+    alloc: Global,
+    line: usize,
+    conn: &mut Connection<S>,
+) -> Result<Vec<u8>, Failure> {
+    let mut all = Vec::new(alloc);
+    match put_tables(&mut all, conn) {
+        Ok(()) => Ok(all),
+        Err(_) => Err(Failure::refused(line, "the tables don't answer")),
+    }
+}
+
 /// What stands in the tables. The store is given back.
 pub fn recorded(alloc: Global, line: usize, keep: Tables) -> Result<(Tables, Vec<u8>), Failure> {
     let mut conn = keep.close();
-    let mut all = Vec::new(alloc);
-    let put = put_tables(&mut all, &mut conn);
+    let record = record_of(alloc, line, &mut conn);
     let keep = reopened(line, conn)?;
-    match put {
-        Ok(()) => Ok((keep, all)),
-        Err(_) => Err(Failure::refused(line, "the tables don't answer")),
+    match record {
+        Ok(record) => Ok((keep, record)),
+        Err(failure) => Err(failure),
     }
 }

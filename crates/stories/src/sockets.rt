@@ -1,7 +1,6 @@
 //! Peers over sockets that read their reply, leave, send more than is taken, say nothing, trickle, or don't read.
 ghost use Rattle.std.specs.Prelude.{⊤, None};
 
-use crate::failures::{Failure, compare_bytes};
 use basis::{Down, Moment};
 use fakes::StandingClock;
 use machine::PlainKeep;
@@ -16,6 +15,7 @@ use std::net::{Ipv4Addr, Shutdown, TcpStream};
 use std::time::Duration;
 use std::{io, thread};
 use system::{TcpSockets, TimedStream};
+use telling::failures::{Failure, compare_bytes};
 use wire::{Broken, FromRead, Inlet, Outlet, ToWrite};
 
 /// What peers ask.

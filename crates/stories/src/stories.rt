@@ -1,18 +1,21 @@
 //! A story run by its kind: of a store, of the program, of values, or of checks.
-use crate::books::{Book, Part, Plot, Story};
 use crate::breaking::run_broken;
 use crate::checks::{is_check, run_check};
-use crate::failures::Failure;
 use crate::files::run_in_file;
 use crate::memories::{Memory, Place, WAY, place_of};
-use crate::modes::{Counts, Modes};
-use crate::plays::{Play, play_of};
 use crate::programs::{Files, is_of_program};
-use crate::refusals::run_refused;
+use crate::stops::run_stops;
+use crate::units::run_by_units;
 use crate::values::{is_of_values, take_value};
 use crate::ways::run_in_memory;
-use crate::{breaking, refusals};
+use crate::{breaking, stops};
 use std::alloc::Global;
+use telling::books::{Book, Part, Plot, Story};
+use telling::failures::Failure;
+use telling::modes::{Counts, Modes};
+use telling::plays::{Play, play_of};
+use telling::refusals;
+use telling::refusals::run_refused;
 
 // The earlier stories and this one, in turn.
 fn run_store(
@@ -24,7 +27,25 @@ fn run_store(
     let play = play_of(rt.alloc(), book, story)?;
     run_in_memory(rt.alloc(), &play)?;
     run_in_file(rt, &play)?;
-    run_in_breaks(rt.alloc(), &play, story.modes, counts)
+    run_by_units(rt.alloc(), &play)?;
+    run_in_breaks(rt.alloc(), &play, story.modes, counts)?;
+    run_in_stops(rt, &play, story.modes, counts)
+}
+
+// The story's own steps over files whose power is cut.
+fn run_in_stops(
+    rt: &HostRuntime,
+    play: &Play,
+    modes: Modes,
+    counts: &mut Counts,
+) -> Result<(), Failure> {
+    if !modes.stops {
+        return Ok(());
+    }
+    match run_stops(rt, play, counts) {
+        Ok(()) => Ok(()),
+        Err(failure) => Err(failure.on(stops::WAY)),
+    }
 }
 
 // The story's own requests over links that break, and over a store that refuses changes.

@@ -1,11 +1,11 @@
 //! The program's words once more over streams that break: words that leave no mark, so that they may run again and again.
-use crate::books::Part;
-use crate::devices::{ALL, Giver, Stop, Taker};
-use crate::failures::Failure;
 use crate::memories::Memory;
-use crate::modes::{Counts, Modes};
 use crate::programs::Left;
 use std::alloc::Global;
+use telling::books::Part;
+use telling::devices::{ALL, Giver, Stop, Taker};
+use telling::failures::Failure;
+use telling::modes::{Counts, Modes};
 
 /// The exit status where a stream fails.
 const BROKEN: u8 = 3;

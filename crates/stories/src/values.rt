@@ -1,15 +1,16 @@
 //! Steps of values: a document, a name, a number or a message read and shown, and what a request asks.
-use crate::books::{Part, Plot};
-use crate::definitions::Unread;
-use crate::failures::Failure;
-use crate::lines::Mark;
-use crate::messages::show_message;
-use crate::routes::{show_asks, show_route};
+use crate::kept::show_kept;
 use basis::numbers::whole_number;
 use basis::{Limit, LockId, Moment, Number, OrgName, RunAsk, Secret, StateHead, Unfit, WsName};
 use docs::{DocFault, digest_fits, read_lock, read_run, read_settings, read_state};
 use program::lines::split_line;
 use std::alloc::{AllocError, Global};
+use telling::books::{Part, Plot};
+use telling::definitions::Unread;
+use telling::failures::Failure;
+use telling::lines::Mark;
+use telling::messages::show_message;
+use telling::routes::{show_asks, show_route};
 
 /// What is read.
 #[derive(Clone, Copy)]
@@ -31,6 +32,7 @@ enum Kind {
     Line,
     Route,
     Asks,
+    Kept,
 }
 
 const KINDS: &[(&str, Kind)] = &[
@@ -51,6 +53,7 @@ const KINDS: &[(&str, Kind)] = &[
     ("line", Kind::Line),
     ("route", Kind::Route),
     ("asks", Kind::Asks),
+    ("kept", Kind::Kept),
 ];
 
 /// The kind of a step of values, and what stands behind its word.
@@ -242,6 +245,7 @@ fn show_bytes(alloc: Global, kind: Kind, words: &str, bytes: &[u8]) -> Shown {
         Kind::Message => show_message(alloc, bytes),
         Kind::Line => show_front(alloc, bytes),
         Kind::Route => show_route(alloc, words, bytes),
+        Kind::Kept => show_kept(alloc, words, bytes),
         _ => match str::from_utf8(bytes) {
             Ok(text) => show_text(alloc, kind, text),
             Err(_) => text_of(alloc, "bad"),

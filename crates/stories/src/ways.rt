@@ -1,19 +1,21 @@
 //! The ways on which a story of a store is run: over which store, and how.
-use crate::devices::ALL;
-use crate::failures::{Failure, compare_bytes};
-use crate::plays::{Play, Question};
-use crate::taking::{Way, take_over};
+use crate::keys::FirstByte;
 use basis::Down;
-use machine::PlainKeep;
-use pages::ShaKey;
-use sqlite::{Connection, Error, MemStore};
+use machine::{Keep, PlainKeep};
+use pages::{PageKey, ShaKey};
+use sqlite::{Alter, Connection, Error, MemStore};
 use std::alloc::Global;
 use tables::SqlKeep;
+use telling::devices::ALL;
+use telling::failures::{Failure, compare_bytes};
+use telling::keyed::Keyed;
+use telling::plays::{Play, Question};
+use telling::taking::{Way, take_over, taken_to};
 
 #[derive(Clone, Copy)]
 enum Store {
     Values,
-    Tables,
+    Tables(Keyed),
 }
 
 const IN_MEMORY: &[(Store, Way, &str)] = &[
@@ -25,13 +27,31 @@ const IN_MEMORY: &[(Store, Way, &str)] = &[
         Way::Exchange(ALL),
         "values, all bytes in one read",
     ),
-    (Store::Tables, Way::Replay, "tables, replayed"),
-    (Store::Tables, Way::Exchange(1), "tables, 1 byte a read"),
-    (Store::Tables, Way::Exchange(7), "tables, 7 bytes a read"),
+    (Store::Tables(Keyed::Sha), Way::Replay, "tables, replayed"),
     (
-        Store::Tables,
+        Store::Tables(Keyed::Sha),
+        Way::Exchange(1),
+        "tables, 1 byte a read",
+    ),
+    (
+        Store::Tables(Keyed::Sha),
+        Way::Exchange(7),
+        "tables, 7 bytes a read",
+    ),
+    (
+        Store::Tables(Keyed::Sha),
         Way::Exchange(ALL),
         "tables, all bytes in one read",
+    ),
+    (
+        Store::Tables(Keyed::FirstByte),
+        Way::Replay,
+        "tables by first bytes, replayed",
+    ),
+    (
+        Store::Tables(Keyed::FirstByte),
+        Way::Exchange(ALL),
+        "tables by first bytes, all bytes in one read",
     ),
 ];
 
@@ -46,16 +66,19 @@ fn in_values(alloc: Global, play: &Play, way: Way) -> Result<(), Failure> {
     taken
 }
 
+/// A store over tables in memory, with pages by this key.
+pub type TablesBy<K> = SqlKeep<MemStore, K>;
+
 /// A store over tables in memory.
-pub type Tables = SqlKeep<MemStore, ShaKey>;
+pub type Tables = TablesBy<ShaKey>;
 
 /// Tables in memory with no organization.
-pub fn new_tables(alloc: Global) -> Result<Tables, Down> {
+pub fn new_tables<K: PageKey>(alloc: Global) -> Result<TablesBy<K>, Down> {
     SqlKeep::in_memory(alloc)
 }
 
-// The first value of the first row, as text.
-fn ask(alloc: Global, conn: &mut Connection<MemStore>, sql: &str) -> Result<String, Error> {
+/// The first value of the first row, as text.
+pub fn ask(alloc: Global, conn: &mut Connection<MemStore>, sql: &str) -> Result<String, Error> {
     let row = conn.query_row(sql, &[])?;
     match row.get::<i64>(0) {
         Ok(number) => Ok(format!(in alloc; "{number}")?),
@@ -64,7 +87,10 @@ fn ask(alloc: Global, conn: &mut Connection<MemStore>, sql: &str) -> Result<Stri
 }
 
 /// The store over tables that were asked.
-pub fn reopened(line: usize, conn: Connection<MemStore>) -> Result<Tables, Failure> {
+pub fn reopened<S: Alter + Drop, K: PageKey>(
+    line: usize,
+    conn: Connection<S>,
+) -> Result<SqlKeep<S, K>, Failure> {
     if !conn.is_autocommit() {
         return Err(Failure::refused(line, "the question began a transaction"));
     }
@@ -75,7 +101,11 @@ pub fn reopened(line: usize, conn: Connection<MemStore>) -> Result<Tables, Failu
 }
 
 // Asks the tables, and gives the store back.
-fn asked(alloc: Global, keep: Tables, question: &Question) -> Result<Tables, Failure> {
+fn asked<K: PageKey>(
+    alloc: Global,
+    keep: TablesBy<K>,
+    question: &Question,
+) -> Result<TablesBy<K>, Failure> {
     let mut conn = keep.close();
     let answer = ask(alloc, &mut conn, question.sql.as_str());
     let keep = reopened(question.line, conn)?;
@@ -95,30 +125,20 @@ fn told(alloc: Global, question: &Question, answer: Result<String, Error>) -> Re
     )
 }
 
-/// Takes the steps up to a place, and gives the store back.
-pub fn taken_to(
+fn in_tables<K: PageKey>(
     alloc: Global,
-    keep: Tables,
-    way: Way,
     play: &Play,
-    from: usize,
-    to: usize,
-) -> Result<Tables, Failure> {
-    let (steps, due) = play.between(from, to);
-    let (keep, taken) = take_over(alloc, keep, way, steps, due);
-    match taken {
-        Ok(()) => Ok(keep),
-        Err(failure) => Err(failure),
-    }
-}
-
-fn in_tables(alloc: Global, play: &Play, way: Way) -> Result<(), Failure> {
-    let mut keep = new_tables(alloc)?;
+    keyed: Keyed,
+    way: Way,
+) -> Result<(), Failure> {
+    let mut keep = new_tables::<K>(alloc)?;
     let mut from = 0;
     for question in play.questions.as_slice() {
-        keep = taken_to(alloc, keep, way, play, from, question.place)?;
-        keep = asked(alloc, keep, question)?;
-        from = question.place;
+        if question.keyed == keyed {
+            keep = taken_to(alloc, keep, way, play, from, question.place)?;
+            keep = asked(alloc, keep, question)?;
+            from = question.place;
+        }
     }
     taken_to(alloc, keep, way, play, from, play.steps.len())?;
     Ok(())
@@ -127,7 +147,10 @@ fn in_tables(alloc: Global, play: &Play, way: Way) -> Result<(), Failure> {
 fn on_way(alloc: Global, play: &Play, store: Store, way: Way) -> Result<(), Failure> {
     match store {
         Store::Values => in_values(alloc, play, way),
-        Store::Tables => in_tables(alloc, play, way),
+        Store::Tables(Keyed::Sha) => in_tables::<ShaKey>(alloc, play, Keyed::Sha, way),
+        Store::Tables(Keyed::FirstByte) => {
+            in_tables::<FirstByte>(alloc, play, Keyed::FirstByte, way)
+        }
     }
 }
 

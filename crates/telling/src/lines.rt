@@ -48,6 +48,8 @@ pub enum Line<'a> {
     After(&'a str),
     /// `links`: what breaks under the steps of a story.
     Links(&'a str),
+    /// `stops`: the power is cut under the steps of a story.
+    Stops,
     Piece(Piece, &'a str),
     /// `+`: a field of a head.
     Field(&'a str),
@@ -120,6 +122,9 @@ fn story_in(line: &str) -> Option<Line<'_>> {
     }
     if let Some(words) = behind(line, "links") {
         return Some(Line::Links(words));
+    }
+    if line == "stops" {
+        return Some(Line::Stops);
     }
     let field = behind(line, "+")?;
     Some(Line::Field(field))

@@ -6,7 +6,7 @@ use crate::messages::CONTINUE;
 use crate::modes::Counts;
 use crate::plays::Play;
 use crate::refusing::Refusing;
-use crate::taking::{Way, exchange_over, take_over};
+use crate::taking::{Way, exchange_over, taken_to};
 use machine::{Keep, PlainKeep};
 use serve::{Service, Step};
 use std::alloc::{AllocError, Global};
@@ -33,8 +33,8 @@ fn date_in(due: &[u8]) -> &str {
     }
 }
 
-// What is written where the store refused the change to which this is due.
-fn down_for(alloc: Global, due: &[u8]) -> Result<Vec<u8>, AllocError> {
+/// What is written where the store is down, in place of what is due.
+pub fn down_for(alloc: Global, due: &[u8]) -> Result<Vec<u8>, AllocError> {
     let mut bytes = Vec::new(alloc);
     if line_in(due) > 0 {
         bytes.extend_from_slice(CONTINUE)?;
@@ -92,22 +92,6 @@ fn refused(
     }
 }
 
-// Takes the steps up to a place, and gives the store back.
-fn taken_to(
-    alloc: Global,
-    keep: PlainKeep,
-    play: &Play,
-    from: usize,
-    to: usize,
-) -> Result<PlainKeep, Failure> {
-    let (steps, due) = play.between(from, to);
-    let (keep, taken) = take_over(alloc, keep, Way::Replay, steps, due);
-    match taken {
-        Ok(()) => Ok(keep),
-        Err(failure) => Err(failure),
-    }
-}
-
 // A step over a store that refuses changes, and then as the story has it.
 fn refuse_at(
     alloc: Global,
@@ -123,12 +107,19 @@ fn refuse_at(
         }
         _ => keep,
     };
-    taken_to(alloc, keep, play, place, place.saturating_add(1))
+    taken_to(
+        alloc,
+        keep,
+        Way::Replay,
+        play,
+        place,
+        place.saturating_add(1),
+    )
 }
 
 /// Tells a story's own requests to a store that refuses each change, before each of them is taken.
 pub fn run_refused(alloc: Global, play: &Play, counts: &mut Counts) -> Result<(), Failure> {
-    let mut keep = taken_to(alloc, PlainKeep::new(alloc), play, 0, play.own)?;
+    let mut keep = taken_to(alloc, PlainKeep::new(alloc), Way::Replay, play, 0, play.own)?;
     for place in play.own..play.steps.len() {
         keep = refuse_at(alloc, keep, play, place, counts)?;
     }

@@ -130,12 +130,28 @@ fn tell_count<W: Write>(output: &mut W, name: &str, what: &str, count: usize) ->
     writeln!(output, "passed {name}, {what}: {count}")
 }
 
-/// Tells how often links and streams broke under a story.
+fn tell_stops<W: Write>(
+    output: &mut W,
+    name: &str,
+    stops: usize,
+    reopenings: usize,
+) -> io::Result<()> {
+    if stops == 0 {
+        return Ok(());
+    }
+    writeln!(
+        output,
+        "passed {name}, stops: {stops}, reopenings: {reopenings}"
+    )
+}
+
+/// Tells how often links and streams broke under a story, and the power was cut.
 pub fn tell_counts<W: Write>(output: &mut W, name: &str, counts: &Counts) -> io::Result<()> {
     tell_count(output, name, "cut", counts.cut)?;
     tell_count(output, name, "reads that fail", counts.reads)?;
     tell_count(output, name, "writes that fail", counts.writes)?;
     tell_count(output, name, "changes that are refused", counts.refused)?;
+    tell_stops(output, name, counts.stops, counts.reopenings)?;
     output.flush()
 }
 

@@ -208,7 +208,8 @@ impl<'a> Book<'a> {
         };
         match self.stories.last_mut() {
             Some(story) if story.plots.is_empty() => {
-                story.modes = modes;
+                let stops = story.modes.stops;
+                story.modes = Modes { stops, ..modes };
                 Ok(())
             }
             Some(_) => Err(Unread {
@@ -219,6 +220,20 @@ impl<'a> Book<'a> {
                 self.modes = modes;
                 Ok(())
             }
+        }
+    }
+
+    // Of the story that begins.
+    fn set_stops(&mut self, line: usize) -> Result<(), Unread> {
+        match self.stories.last_mut() {
+            Some(story) if story.plots.is_empty() => {
+                story.modes.stops = true;
+                Ok(())
+            }
+            _ => Err(Unread {
+                line,
+                why: "`stops` stands before the first step of a story",
+            }),
         }
     }
 
@@ -301,6 +316,7 @@ impl<'a> Book<'a> {
             Line::Story(name) => self.begin_story(alloc, line, name),
             Line::After(name) => self.set_before(alloc, line, name),
             Line::Links(words) => self.set_modes(line, words),
+            Line::Stops => self.set_stops(line),
             Line::Field(field) => self.add_field(line, field),
             Line::Piece(piece, text) => self.add_piece(alloc, line, piece, text),
             Line::Begins(mark, text) => self.begin(alloc, line, mark, text),

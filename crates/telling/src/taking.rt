@@ -1,7 +1,7 @@
 //! Steps taken by a service: in turn, or exchange by exchange.
 use crate::devices::{Giver, Taker};
 use crate::failures::{Failure, compare_bytes};
-use crate::plays::Due;
+use crate::plays::{Due, Play};
 use basis::{Bytes, Down, Moment};
 use machine::{AdminAnswer, Keep, OrgRow};
 use serve::{LinkFault, Service, Step};
@@ -98,8 +98,8 @@ fn answer_lines(alloc: Global, answer: &AdminAnswer) -> Result<Vec<u8>, AllocErr
     }
 }
 
-// The reply to one step.
-fn answered<K: Keep>(
+/// The reply to one step.
+pub fn answered<K: Keep>(
     alloc: Global,
     service: &mut Service<K>,
     most: usize,
@@ -205,4 +205,21 @@ pub fn take_over<K: Keep>(
         Err(_) => Err(Failure::refused(0, "memory or the store refused")),
     };
     (keep, compared)
+}
+
+/// Takes the steps up to a place, and gives the store back.
+pub fn taken_to<K: Keep + Drop>(
+    alloc: Global,
+    keep: K,
+    way: Way,
+    play: &Play,
+    from: usize,
+    to: usize,
+) -> Result<K, Failure> {
+    let (steps, due) = play.between(from, to);
+    let (keep, taken) = take_over(alloc, keep, way, steps, due);
+    match taken {
+        Ok(()) => Ok(keep),
+        Err(failure) => Err(failure),
+    }
 }

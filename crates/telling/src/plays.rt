@@ -2,6 +2,7 @@
 use crate::books::{Book, Part, Plot, Story};
 use crate::commands::read_command;
 use crate::definitions::{Definitions, Unread};
+use crate::keyed::Keyed;
 use crate::lines::Mark;
 use crate::requests::{reply_of, request_of};
 use basis::{Bytes, Down, Moment, Unfit};
@@ -19,6 +20,8 @@ pub struct Due {
 #[derive(Drop)]
 pub struct Question {
     pub place: usize,
+    /// By which key the tables that are asked have their pages.
+    pub keyed: Keyed,
     pub line: usize,
     pub sql: String,
     pub answer: Vec<u8>,
@@ -134,14 +137,16 @@ impl Play {
         &mut self,
         alloc: Global,
         head: &Part<'_>,
-        sql: &str,
+        words: &str,
         parts: &[Part<'_>],
     ) -> Result<(), Unread> {
+        let (keyed, sql) = Keyed::read(words);
         let [answer] = parts else {
             return Err(head.unread("a question has one line `= TEXT`"));
         };
         let question = Question {
             place: self.steps.len(),
+            keyed,
             line: head.line,
             sql: String::from_str(alloc, sql)?,
             answer: Vec::from_slice(alloc, answer.text.as_bytes())?,
@@ -164,7 +169,7 @@ impl Play {
         };
         match head.text.split_once(' ') {
             Some(("admin", words)) => self.add_command(alloc, at, head, words, parts),
-            Some(("sql", sql)) => self.add_question(alloc, head, sql, parts),
+            Some(("sql", words)) => self.add_question(alloc, head, words, parts),
             _ => self.add_request(alloc, definitions, at, plot.date, head, parts),
         }
     }

@@ -11,6 +11,8 @@ pub struct Modes {
     pub writes: bool,
     /// The store refuses each change.
     pub refused: bool,
+    /// The power is cut at each call of the files.
+    pub stops: bool,
 }
 
 /// Nothing breaks.
@@ -19,6 +21,7 @@ pub const NONE: Modes = Modes {
     reads: false,
     writes: false,
     refused: false,
+    stops: false,
 };
 
 // With one word more.
@@ -47,13 +50,15 @@ impl Modes {
     }
 }
 
-/// How often links and streams broke.
+/// How often links and streams broke and the power was cut, and how often files were opened again behind that.
 #[derive(Clone, Copy)]
 pub struct Counts {
     pub cut: usize,
     pub reads: usize,
     pub writes: usize,
     pub refused: usize,
+    pub stops: usize,
+    pub reopenings: usize,
 }
 
 impl Counts {
@@ -63,6 +68,8 @@ impl Counts {
             reads: 0,
             writes: 0,
             refused: 0,
+            stops: 0,
+            reopenings: 0,
         }
     }
 }

@@ -1,0 +1,108 @@
+//! A text put into tables as pages, read, compared and taken away again.
+use crate::keys::FirstByte;
+use crate::ways::{TablesBy, ask, new_tables};
+use pages::{PageKey, ShaKey};
+use sqlite::{Connection, Error, MemStore};
+use std::alloc::Global;
+use telling::acts::turned;
+use telling::failures::Failure;
+use texts::{add_text, remove_text, same_text};
+
+/// The version whose text it is.
+const ORG: &str = "acme";
+
+const WS: &str = "net";
+
+const NUMBER: u64 = 1;
+
+/// What is told of the tables, and how it is asked.
+const COUNTS: &[(&str, &str)] = &[
+    ("places", "SELECT count(*) FROM vpage"),
+    ("pages", "SELECT count(*) FROM page"),
+    ("most uses", "SELECT max(uses) FROM page"),
+    ("last twin", "SELECT max(twin) FROM page"),
+];
+
+const LEFT: &[&str] = &["SELECT count(*) FROM vpage", "SELECT count(*) FROM page"];
+
+type Tables = Connection<MemStore>;
+
+fn put<K: PageKey>(conn: &mut Tables, text: &[u8]) -> Result<(), Error> {
+    if !conn.is_autocommit() {
+        return Err(Error::QueryReturnedNoRows);
+    }
+    let mut tx = conn.transaction();
+    add_text::<K, MemStore>(&mut tx, ORG, WS, NUMBER, text)?;
+    tx.commit()
+}
+
+fn take_away(conn: &mut Tables, size: usize) -> Result<(), Error> {
+    if !conn.is_autocommit() {
+        return Err(Error::QueryReturnedNoRows);
+    }
+    let mut tx = conn.transaction();
+    remove_text(&mut tx, ORG, WS, NUMBER, size as u64)?;
+    tx.commit()
+}
+
+fn add_counts(alloc: Global, conn: &mut Tables, told: &mut String) -> Result<(), Error> {
+    for (name, sql) in COUNTS {
+        let count = ask(alloc, conn, sql)?;
+        told.push_str(name)?;
+        told.push(' ')?;
+        told.push_str(count.as_str())?;
+        told.push('\n')?;
+    }
+    Ok(())
+}
+
+// Whether the text is read as it is, and is the same as itself, and not as another of its size.
+fn is_kept(alloc: Global, conn: &mut Tables, due: &[u8]) -> Result<bool, Error> {
+    let read = texts::text(alloc, conn, ORG, WS, NUMBER, due.len() as u64)?;
+    let turned = turned(alloc, due)?;
+    Ok(
+        read.as_slice() == due
+            && same_text(conn, ORG, WS, NUMBER, due)?
+            && !same_text(conn, ORG, WS, NUMBER, turned.as_slice())?,
+    )
+}
+
+fn is_left(alloc: Global, conn: &mut Tables) -> Result<bool, Error> {
+    for sql in LEFT {
+        let count = ask(alloc, conn, sql)?;
+        if count.as_str() != "0" {
+            return Ok(true);
+        }
+    }
+    Ok(false)
+}
+
+fn told_of<K: PageKey>(alloc: Global, conn: &mut Tables, due: &[u8]) -> Result<String, Error> {
+    let mut told = String::new(alloc);
+    put::<K>(conn, due)?;
+    add_counts(alloc, conn, &mut told)?;
+    let is_kept = is_kept(alloc, conn, due)?;
+    told.push_str(if is_kept { "kept\n" } else { "not kept\n" })?;
+    take_away(conn, due.len())?;
+    let is_left = is_left(alloc, conn)?;
+    told.push_str(if is_left { "left" } else { "gone" })?;
+    Ok(told)
+}
+
+fn show_by<K: PageKey>(alloc: Global, due: &[u8]) -> Result<String, Failure> {
+    let keep: TablesBy<K> = new_tables(alloc)?;
+    let mut conn = keep.close();
+    match told_of::<K>(alloc, &mut conn, due) {
+        Ok(told) => Ok(told),
+        Err(_) => Err(Failure::refused(0, "the tables don't answer")),
+    }
+}
+
+/// What comes of a text in tables, with pages by the key of this name.
+pub fn show_kept(alloc: Global, key: &str, text: &[u8]) -> Result<String, Failure> {
+    match key {
+        "sha" => show_by::<ShaKey>(alloc, text),
+        "first-byte" => show_by::<FirstByte>(alloc, text),
+        _ => Err(Failure::refused(0, "the keys are sha and first-byte")),
+    }
+}

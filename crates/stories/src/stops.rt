@@ -1,0 +1,193 @@
+//! A story of a store over files in memory, the power cut at each of their calls: what stands there then is all before
+//! the step or all behind it, and the step is sent again.
+use crate::cuts::{
+    Cuts, Image, NO_CUTS, Opening, Pair, close, closed, files_of, images_of, open_image, opened,
+};
+use crate::images::write_images;
+use crate::recovering::{gone_on, record_at, records_of, tables_behind, tables_up_to};
+use std::alloc::Global;
+use telling::failures::Failure;
+use telling::modes::Counts;
+use telling::plays::Play;
+use telling::stopping::{Cut, line_at};
+
+/// The name of this way.
+pub const WAY: &str = "power that is cut";
+
+/// The most calls that a story makes of one file.
+const MOST_CALLS: u64 = 100_000;
+
+/// A stop, and what it may leave.
+#[derive(Drop)]
+struct Stop {
+    cut: Cut,
+    images: Vec<Image>,
+}
+
+impl Stop {
+    // Whether it was in this step, and may have left this.
+    fn has(&self, cut: Cut, image: &Image) -> bool {
+        if self.cut.place != cut.place || self.cut.is_in_step != cut.is_in_step {
+            return false;
+        }
+        for left in self.images.as_slice() {
+            if left.is_same(image) {
+                return true;
+            }
+        }
+        false
+    }
+}
+
+// The files before the story's own first step; none where it is the first of all.
+fn begun(alloc: Global, play: &Play) -> Result<Image, Failure> {
+    let nothing = Image::new(alloc);
+    if play.own == 0 {
+        return Ok(nothing);
+    }
+    let keep = opened(alloc, 0, &nothing)?;
+    let keep = tables_behind(alloc, keep, play, 0, play.own)?;
+    closed(alloc, 0, keep)
+}
+
+// What stands in the tables before each of the story's own steps, and behind the last.
+fn records_from(alloc: Global, play: &Play, image: &Image) -> Result<Vec<Vec<u8>>, Failure> {
+    let keep = opened(alloc, 0, image)?;
+    records_of(alloc, play, keep)
+}
+
+// Tells the story, the power cut behind so many calls: where it was, unless the story came to its end.
+fn told(
+    alloc: Global,
+    play: &Play,
+    image: &Image,
+    cuts: Cuts,
+) -> Result<Option<(Cut, Pair)>, Failure> {
+    let end = play.steps.len();
+    let keep = match open_image(alloc, image, cuts)? {
+        Opening::Tables(keep) => keep,
+        Opening::Stopped(files) => return Ok(Some((Cut::new(play, play.own, false), files))),
+    };
+    let (keep, stopped) = tables_up_to(alloc, keep, play, play.own, end);
+    match stopped {
+        Ok(Some(place)) => Ok(Some((Cut::new(play, place, true), files_of(keep)))),
+        Ok(None) => match close(keep) {
+            Ok(_) => Ok(None),
+            Err(files) => Ok(Some((Cut::new(play, end, false), files))),
+        },
+        Err(failure) => Err(failure),
+    }
+}
+
+// The files are opened again, and the story goes on to its end.
+fn recovered(
+    alloc: Global,
+    play: &Play,
+    records: &[Vec<u8>],
+    cut: Cut,
+    image: &Image,
+) -> Result<(), Failure> {
+    let keep = opened(alloc, cut.line, image)?;
+    let keep = gone_on(alloc, play, records, cut, keep)?;
+    closed(alloc, cut.line, keep)?;
+    Ok(())
+}
+
+// What stood in the tables before the stop and what stands there behind the step; nothing before the first open of all.
+fn around<'s>(play: &Play, records: &'s [Vec<u8>], cut: Cut) -> (&'s [u8], &'s [u8]) {
+    let is_first = cut.place == 0 && !cut.is_in_step;
+    let before = if is_first {
+        b"".as_slice()
+    } else {
+        record_at(records, play, cut.place)
+    };
+    (before, record_at(records, play, cut.next()))
+}
+
+// Each of the images that a stop may leave is recovered from, but those that the stop before left, too.
+fn recover_each(
+    alloc: Global,
+    play: &Play,
+    records: &[Vec<u8>],
+    stop: &Stop,
+    last: &Stop,
+    counts: &mut Counts,
+) -> Result<(), Failure> {
+    for image in stop.images.as_slice() {
+        if !last.has(stop.cut, image) {
+            recovered(alloc, play, records, stop.cut, image)?;
+            counts.reopenings = counts.reopenings.saturating_add(1);
+        }
+    }
+    counts.stops = counts.stops.saturating_add(1);
+    Ok(())
+}
+
+// Writes what a stop leaves, where the environment asks for it.
+fn keep_images(
+    rt: &HostRuntime,
+    play: &Play,
+    records: &[Vec<u8>],
+    stop: &Stop,
+    count: usize,
+) -> Result<(), Failure> {
+    let line = line_at(play, play.own);
+    let around = around(play, records, stop.cut);
+    match write_images(rt, line, count, stop.images.as_slice(), around) {
+        Ok(()) => Ok(()),
+        Err(_) => Err(Failure::refused(stop.cut.line, "the images can't be written")),
+    }
+}
+
+// After so many calls of the log, or of the file.
+fn cuts_after(is_log: bool, calls: u64) -> Cuts {
+    if is_log {
+        Cuts {
+            log: calls,
+            db: NO_CUTS.db,
+        }
+    } else {
+        Cuts {
+            log: NO_CUTS.log,
+            db: calls,
+        }
+    }
+}
+
+// The power is cut behind each call of one of the files, until the story comes to its end.
+fn cut_each(
+    rt: &HostRuntime,
+    play: &Play,
+    image: &Image,
+    records: &[Vec<u8>],
+    is_log: bool,
+    counts: &mut Counts,
+) -> Result<(), Failure> {
+    let alloc = rt.alloc();
+    let mut last = Stop {
+        cut: Cut::new(play, play.own, false),
+        images: Vec::new(alloc),
+    };
+    for calls in 0..MOST_CALLS {
+        let Some((cut, files)) = told(alloc, play, image, cuts_after(is_log, calls))? else {
+            return Ok(());
+        };
+        let images = images_of(alloc, files)?;
+        let stop = Stop { cut, images };
+        recover_each(alloc, play, records, &stop, &last, counts)?;
+        keep_images(rt, play, records, &stop, counts.stops)?;
+        last = stop;
+    }
+    Err(Failure::refused(0, "the power is cut at each of many calls"))
+}
+
+/// Tells a story's own steps over files in memory whose power is cut at each call of the one and of the other.
+pub fn run_stops(rt: &HostRuntime, play: &Play, counts: &mut Counts) -> Result<(), Failure> {
+    let alloc = rt.alloc();
+    let image = begun(alloc, play)?;
+    let records = records_from(alloc, play, &image)?;
+    for is_log in [true, false] {
+        cut_each(rt, play, &image, records.as_slice(), is_log, counts)?;
+    }
+    Ok(())
+}

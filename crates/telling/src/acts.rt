@@ -1,0 +1,142 @@
+//! Acts of each kind on a workspace, as what is asked of two stores.
+use basis::{Bytes, Down, LockId, Look, Number, RunAction, RunAsk, Settings, StateHead, Text};
+use machine::Act;
+use std::alloc::{AllocError, Global};
+
+/// What is known of a workspace before acts on it are made.
+#[derive(Drop)]
+pub struct Known {
+    /// The number of the next version, and that of the next run.
+    pub next_version: u64,
+    pub next_run: u64,
+    /// The text of the newest version; none where there is no version.
+    pub text: Vec<u8>,
+    /// Keys that runs have.
+    pub keys: Vec<Text>,
+}
+
+/// How far the versions that are asked of stand behind the next one.
+const VERSIONS_BACK: &[u64] = &[0, 1, 2, 100, 101];
+
+/// How far the runs that are asked of stand behind the next one.
+const RUNS_BACK: &[u64] = &[0, 1, 2];
+
+fn push_looks(acts: &mut Vec<Act>) -> Result<(), Down> {
+    for look in [
+        Look::Workspace,
+        Look::State,
+        Look::Versions(0),
+        Look::Runs(0),
+    ] {
+        acts.push(Act::Look(look))?;
+    }
+    Ok(())
+}
+
+// A number that stands so far behind the next one.
+fn number_back(next: u64, back: u64) -> Option<Number> {
+    Number::new(next.checked_sub(back)?)
+}
+
+fn push_versions(acts: &mut Vec<Act>, next: u64) -> Result<(), Down> {
+    for back in VERSIONS_BACK {
+        if let Some(number) = number_back(next, *back) {
+            acts.push(Act::Look(Look::Version(number)))?;
+        }
+    }
+    Ok(())
+}
+
+fn push_runs(acts: &mut Vec<Act>, next: u64) -> Result<(), Down> {
+    for back in RUNS_BACK {
+        if let Some(number) = number_back(next, *back) {
+            acts.push(Act::Look(Look::Run(number)))?;
+            acts.push(Act::ReportRun(number, RunAction::Confirm))?;
+        }
+    }
+    Ok(())
+}
+
+fn push_changes(acts: &mut Vec<Act>) -> Result<(), Down> {
+    acts.push(Act::PutWorkspace(Settings { auto_apply: true }))?;
+    acts.push(Act::DeleteWorkspace)?;
+    acts.push(Act::PurgeState { lock_id: None })?;
+    acts.push(Act::ForceUnlock)?;
+    Ok(())
+}
+
+fn id_of(alloc: Global, id: &str) -> Result<LockId, Down> {
+    match LockId::read(alloc, id) {
+        Ok(id) => Ok(id),
+        Err(_) => Err(Down),
+    }
+}
+
+fn push_locks(alloc: Global, acts: &mut Vec<Act>) -> Result<(), Down> {
+    let text = Bytes::copy_of(alloc, b"{\"ID\":\"x1\"}")?;
+    let id = id_of(alloc, "x1")?;
+    acts.push(Act::Lock { id, text })?;
+    acts.push(Act::Unlock(id_of(alloc, "x1")?))?;
+    Ok(())
+}
+
+fn push_run(alloc: Global, acts: &mut Vec<Act>, key: Option<Text>) -> Result<(), Down> {
+    let message = Text::copy_of(alloc, "")?;
+    acts.push(Act::MakeRun(RunAsk {
+        key,
+        message,
+        plan_only: false,
+    }))?;
+    Ok(())
+}
+
+fn push_made(alloc: Global, acts: &mut Vec<Act>, keys: &[Text]) -> Result<(), Down> {
+    push_run(alloc, acts, None)?;
+    push_run(alloc, acts, Some(Text::copy_of(alloc, "k1")?))?;
+    for key in keys {
+        push_run(alloc, acts, Some(Text::copy_of(alloc, key.as_str())?))?;
+    }
+    Ok(())
+}
+
+fn push_update(alloc: Global, acts: &mut Vec<Act>, text: Vec<u8>) -> Result<(), Down> {
+    let lineage = Text::copy_of(alloc, "a1")?;
+    acts.push(Act::UpdateState {
+        head: StateHead { serial: 1, lineage },
+        text: Bytes::new(text),
+        lock_id: None,
+    })?;
+    Ok(())
+}
+
+/// The text with another last byte.
+pub fn turned(alloc: Global, text: &[u8]) -> Result<Vec<u8>, AllocError> {
+    let mut turned = Vec::from_slice(alloc, text)?;
+    if let Some(last) = turned.pop() {
+        turned.push(last ^ 1)?;
+    }
+    Ok(turned)
+}
+
+// Updates by the newest text, by another of its size, and by one that is longer by a byte.
+fn push_updates(alloc: Global, acts: &mut Vec<Act>, text: &[u8]) -> Result<(), Down> {
+    push_update(alloc, acts, Vec::from_slice(alloc, text)?)?;
+    push_update(alloc, acts, turned(alloc, text)?)?;
+    let mut longer = Vec::from_slice(alloc, text)?;
+    longer.push(b' ')?;
+    push_update(alloc, acts, longer)
+}
+
+/// Acts of each kind on a workspace.
+pub fn acts_on(alloc: Global, known: &Known) -> Result<Vec<Act>, Down> {
+    let mut acts = Vec::new(alloc);
+    let all = &mut acts;
+    push_looks(all)?;
+    push_versions(all, known.next_version)?;
+    push_runs(all, known.next_run)?;
+    push_changes(all)?;
+    push_locks(alloc, all)?;
+    push_made(alloc, all, known.keys.as_slice())?;
+    push_updates(alloc, all, known.text.as_slice())?;
+    Ok(acts)
+}

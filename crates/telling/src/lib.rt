@@ -1,0 +1,23 @@
+//! Reads the text of stories, and tells a story's steps to any store.
+#![tactic(auto)]
+
+pub mod acts;
+pub mod books;
+pub mod commands;
+pub mod definitions;
+pub mod devices;
+pub mod differences;
+pub mod failures;
+pub mod keyed;
+pub mod lines;
+pub mod links;
+pub mod messages;
+pub mod modes;
+pub mod plays;
+pub mod refusals;
+pub mod refusing;
+pub mod requests;
+pub mod routes;
+pub mod stopping;
+pub mod taking;
+pub mod tells;

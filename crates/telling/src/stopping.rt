@@ -1,0 +1,201 @@
+//! Steps that are taken up to one for which the store is down, and that one sent again.
+use crate::devices::ALL;
+use crate::failures::{Failure, compare_bytes};
+use crate::plays::{Due, Play};
+use crate::refusals::down_for;
+use crate::taking::answered;
+use basis::{Bytes, Down};
+use machine::Keep;
+use serve::{Service, Step};
+use std::alloc::Global;
+
+/// Where the power was cut.
+#[derive(Clone, Copy)]
+pub struct Cut {
+    /// The place of the step that is due next.
+    pub place: usize,
+    /// Whether it was in that step, and not as the files were opened or closed.
+    pub is_in_step: bool,
+    pub line: usize,
+}
+
+impl Cut {
+    pub fn new(play: &Play, place: usize, is_in_step: bool) -> Cut {
+        Cut {
+            place,
+            is_in_step,
+            line: line_at(play, place),
+        }
+    }
+
+    /// The place of the step behind it.
+    pub fn next(&self) -> usize {
+        if self.is_in_step {
+            self.place.saturating_add(1)
+        } else {
+            self.place
+        }
+    }
+}
+
+/// The line of the text where a step stands.
+pub fn line_at(play: &Play, place: usize) -> usize {
+    match play.due.get(place) {
+        Some(due) => due.line,
+        None => 0,
+    }
+}
+
+fn is_due(due: &Due, came: &Result<Bytes, Down>) -> bool {
+    match came {
+        Ok(reply) => reply.as_slice() == due.bytes.as_slice(),
+        Err(_) => false,
+    }
+}
+
+// That a step which wasn't answered as is due was answered that the store is down.
+fn check_down(
+    alloc: Global,
+    step: &Step,
+    due: &Due,
+    came: Result<Bytes, Down>,
+) -> Result<(), Failure> {
+    match (step, came) {
+        (Step::Request { .. }, Ok(reply)) => {
+            let down = down_for(alloc, due.bytes.as_slice())?;
+            compare_bytes(alloc, due.line, down.as_slice(), reply.as_slice())
+        }
+        (Step::Command { .. }, Ok(reply)) => {
+            compare_bytes(alloc, due.line, due.bytes.as_slice(), reply.as_slice())
+        }
+        (Step::Command { .. }, Err(_)) => Ok(()),
+        (Step::Request { .. }, Err(_)) => Err(Failure::refused(due.line, "the link broke")),
+    }
+}
+
+// Takes the step of a place. The answer says whether it was answered as is due; else the store is down.
+fn take_at<K: Keep>(
+    alloc: Global,
+    service: &mut Service<K>,
+    play: &Play,
+    place: usize,
+) -> Result<bool, Failure> {
+    let (Some(step), Some(due)) = (play.steps.get(place), play.due.get(place)) else {
+        return Err(Failure::refused(0, "there is no such step"));
+    };
+    let came = answered(alloc, service, ALL, step);
+    if is_due(due, &came) {
+        return Ok(true);
+    }
+    check_down(alloc, step, due, came)?;
+    Ok(false)
+}
+
+// Takes the steps from a place to another, up to one for which the store is down: its place.
+fn take_between<K: Keep>(
+    alloc: Global,
+    service: &mut Service<K>,
+    play: &Play,
+    from: usize,
+    to: usize,
+) -> Result<Option<usize>, Failure> {
+    for place in from..to {
+        if !take_at(alloc, service, play, place)? {
+            return Ok(Some(place));
+        }
+    }
+    Ok(None)
+}
+
+/// Takes the steps from a place to another, up to one for which the store is down: its place. The store is given back.
+pub fn taken_up_to<K: Keep>(
+    alloc: Global,
+    keep: K,
+    play: &Play,
+    from: usize,
+    to: usize,
+) -> (K, Result<Option<usize>, Failure>) {
+    let mut service = Service::new(keep);
+    let stopped = take_between(alloc, &mut service, play, from, to);
+    (service.into_keep(), stopped)
+}
+
+/// Takes steps, all of which have to be answered as is due.
+pub fn taken<K: Keep + Drop>(
+    alloc: Global,
+    keep: K,
+    play: &Play,
+    from: usize,
+    to: usize,
+) -> Result<K, Failure> {
+    let (keep, stopped) = taken_up_to(alloc, keep, play, from, to);
+    match stopped {
+        Ok(None) => Ok(keep),
+        Ok(Some(place)) => Err(Failure::refused(
+            line_at(play, place),
+            "the store is down, and the power wasn't cut",
+        )),
+        Err(failure) => Err(failure),
+    }
+}
+
+// Whether a step that was applied may be answered so where it is sent again: as before, or that what it made is there, or
+// that what it took away isn't.
+fn is_repeat(due: &Due, came: &Result<Bytes, Down>) -> bool {
+    if is_due(due, came) {
+        return true;
+    }
+    match came {
+        Ok(reply) => {
+            let reply = reply.as_slice();
+            reply == b"refused exists\n".as_slice()
+                || reply == b"refused absent\n".as_slice()
+                || reply.starts_with(b"HTTP/1.1 404 ")
+        }
+        Err(_) => false,
+    }
+}
+
+/// The step in which the power was cut is sent again: it is done then, and once.
+pub fn sent_again<K: Keep + Drop>(
+    alloc: Global,
+    keep: K,
+    play: &Play,
+    place: usize,
+    is_applied: bool,
+) -> Result<K, Failure> {
+    let (Some(step), Some(due)) = (play.steps.get(place), play.due.get(place)) else {
+        return Err(Failure::refused(0, "there is no such step"));
+    };
+    let mut service = Service::new(keep);
+    let came = answered(alloc, &mut service, ALL, step);
+    let keep = service.into_keep();
+    let is_right = if is_applied {
+        is_repeat(due, &came)
+    } else {
+        is_due(due, &came)
+    };
+    if is_right {
+        Ok(keep)
+    } else {
+        Err(Failure::refused(
+            due.line,
+            "the step that was sent again is answered otherwise",
+        ))
+    }
+}
+
+/// What stands in the tables is that before the step or that behind it: whether the step was applied.
+pub fn is_applied(
+    alloc: Global,
+    line: usize,
+    before: &[u8],
+    after: &[u8],
+    found: &[u8],
+) -> Result<bool, Failure> {
+    if found == before {
+        return Ok(false);
+    }
+    compare_bytes(alloc, line, after, found)?;
+    Ok(true)
+}
