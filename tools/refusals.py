@@ -1,15 +1,25 @@
 #!/usr/bin/env python3
-"""Refuses each allocation in turn, and says how each run ended.
+"""Refuses each request for memory in turn, and looks at what comes of it.
 
-    python3 tools/refusals.py stories PROGRAM [FRONT]  each story of a store whose name begins so, through `custody replay`
-    python3 tools/refusals.py text PROGRAM FILE        the stories of a text, through the program `stories`
+    python3 tools/refusals.py CUSTODY STORIES    the two programs as `rt ci` or `rt run` leaves them
+    python3 tools/refusals.py CUSTODY            all but the replay that the program `stories` tells
 
-Allocation N of a process is refused, for N from 1 on, until runs meet no refusal any more. A run of a story has to end in
-`refused down` alone, status 3, or in the right replies; a text has to pass or to end for want of memory.
+Request for memory number N is refused, for N from 1 on, until a run meets no refusal; and then N and the one behind it.
+tools/refusals.txt has what is done meanwhile: requests of a service over a file, each by itself, over what the requests
+before it left; frames over a database in memory; commands on a file. Each run has to end in the right reply, with the
+rows of the tables that are due, or in a 503 (`refused down`), with the rows as before; and what was refused is sent
+again and has its right reply. Rows are read by SQLite's own library.
 """
 
 import collections
+import concurrent.futures
+import hashlib
 import os
+import select
+import shutil
+import signal
+import socket
+import sqlite3
 import subprocess
 import sys
 import tempfile
@@ -17,73 +27,630 @@ import tempfile
 import stories
 
 HERE = os.path.dirname(os.path.abspath(__file__))
-WANT = (b"memory was refused", b"memory or the store refused", b"the file doesn't", b"the tables don't")
-QUIET = 20
-# (where a replay was refused the steps that it left are sent again, and the run is right)
-QUIET_TEXT = 400
+TEXT = HERE + "/refusals.txt"
+# Seconds after which a program that says nothing is held for hanging.
+PATIENCE = 300
+# Of how many contents of a file the rows are remembered.
+KNOWN = 20
+# More requests for memory than any run makes.
+MOST = 1000000
+# How many requests for memory in a row are refused, of a request to a service; of a longer one, and of a whole run, one.
+WIDTHS = [1, 2]
+LONG = 100000
+
+CONTINUE = b"HTTP/1.1 100 Continue\r\n\r\n"
+DOWN_HEAD = (
+    b"HTTP/1.1 503 Service Unavailable\r\nDate: Tue, 14 Nov 2023 22:13:20 GMT\r\nConnection: close\r\n"
+    b"Cache-Control: private, no-store\r\nContent-Type: application/json\r\nContent-Length: 16\r\n\r\n"
+)
+DOWN = DOWN_HEAD + b'{"error":"down"}'
+LENGTHS = [len(DOWN), len(DOWN_HEAD), len(CONTINUE + DOWN)]
+TOLD_DOWN = b"custody: connection %d: memory or the store was refused, answered 503\n"
+LOG_STAYS = b"custody: the log could not be copied into the file: keep the file and its log together\n"
+REFUSED = (3, b"refused down\n")
+
+# The stories whose frames are replayed too; the first one from its first frame on.
+REPLAYED = [
+    "a state goes in and comes out",
+    "a stock client locks, updates and unlocks",
+    "one queued run is active and the others wait",
+    "a run writes by its ID, while it applies",
+    "two organizations share the pages of one text",
+    "ten runs with keys",
+]
+
+# No replay asks for memory so often once its last step is taken.
+BEHIND = 200
+# The story that the program `stories` tells.
+LEFT = "steps that a replay left are taken once"
+
+# The tables of the file, and those in which the rows that are due are told: a version with its text.
+TABLES = ["meta", "org", "token", "ws", "version", "run", "page", "vpage"]
+TOLD = """
+    CREATE TABLE org (name, cap);
+    CREATE TABLE token (org, name, digest, role);
+    CREATE TABLE ws (org, name, auto, kind, lock_id, lock_text, run, released, next_version, next_run);
+    CREATE TABLE version (org, ws, number, serial, lineage, created, body);
+    CREATE TABLE run (org, ws, number, plan_only, rkey, message, created, status, action);
+"""
+COLUMNS = {"org": "*", "token": "*", "ws": "*", "version": "org, ws, number, serial, lineage, created", "run": "*"}
+PAGE = 16384
 
 
-def refusing(folder):
-    library = folder + "/refuse.so"
-    subprocess.run(["cc", "-shared", "-fPIC", "-o", library, HERE + "/refuse.c", "-ldl"], check=True)
-    return library
+class Wrong(Exception):
+    """What no run may do."""
 
 
-def each_refused(library, words, judge, data=b"", most=QUIET):
-    """The counts of what `judge` says of the runs."""
-    counts, quiet, n = collections.Counter(), 0, 0
-    while quiet < most:
-        n += 1
-        env = {"REFUSE": str(n), "LD_PRELOAD": library}
-        done = subprocess.run(words, input=data, capture_output=True, env=env, cwd=os.path.dirname(library))
-        verdict = judge(done)
-        counts[verdict] += 1
-        quiet = quiet + 1 if verdict == "right" else 0
-        if verdict == "wrong":
-            print("refusal", n, "of", words, ":", done.stdout[:200], done.stderr[:200], done.returncode)
+def sha(text):
+    return hashlib.sha256(text.encode() if isinstance(text, str) else text).digest()
+
+
+def rows_of(db, columns):
+    return {name: sorted(db.execute("SELECT %s FROM %s" % (columns[name], name)), key=repr) for name in columns}
+
+
+class Due:
+    """The rows that are due, step by step."""
+
+    def __init__(self):
+        self.db = sqlite3.connect(":memory:", check_same_thread=False)
+        self.db.create_function("sha", 1, sha)
+        self.db.executescript(TOLD)
+
+    def take(self, part):
+        for sql in part.leaves:
+            self.db.execute(sql, {"body": part.bytes})
+
+    def rows(self):
+        return rows_of(self.db, {name: "*" for name in COLUMNS})
+
+
+def text_of(db, version, size):
+    """The text of a version, of its pages."""
+    pages = db.execute(
+        "SELECT place, bytes FROM vpage JOIN page USING (pkey, twin) WHERE org = ? AND ws = ? AND number = ? ORDER BY place", version
+    ).fetchall()
+    text = b"".join(page for _, page in pages)
+    if [place for place, _ in pages] != list(range(len(pages))) or len(text) != size:
+        raise Wrong("the pages of %s" % (version,))
+    if any(len(page) != PAGE for _, page in pages[:-1]) or any(len(page) == 0 for _, page in pages):
+        raise Wrong("the lengths of the pages of %s" % (version,))
+    return text
+
+
+def look_at_pages(db):
+    """Each page has its key, stands once, and tells how many rows name it; and no row names one that isn't there."""
+    if db.execute("PRAGMA integrity_check").fetchall() != [("ok",)] or db.execute("PRAGMA foreign_key_check").fetchall():
+        raise Wrong("the file")
+    for key, twin, page, uses in db.execute("SELECT pkey, twin, bytes, uses FROM page"):
+        named = db.execute("SELECT count(*) FROM vpage WHERE pkey = ? AND twin = ?", (key, twin)).fetchone()[0]
+        if key != sha(page) or twin != 0 or uses != named:
+            raise Wrong("page %s" % key.hex())
+
+
+def rows_in_tables(db):
+    names = sorted(name for (name,) in db.execute("SELECT name FROM sqlite_master WHERE type = 'table'"))
+    if not names:
+        return {name: [] for name in COLUMNS}
+    if names != sorted(TABLES):
+        raise Wrong("the tables are %s" % names)
+    look_at_pages(db)
+    rows = rows_of(db, COLUMNS)
+    if db.execute("SELECT count(*) FROM vpage WHERE (org, ws, number) NOT IN (SELECT org, ws, number FROM version)").fetchone()[0]:
+        raise Wrong("a text without a version")
+    sizes = dict(((org, ws, number), size) for org, ws, number, size in db.execute("SELECT org, ws, number, size FROM version"))
+    rows["version"] = [row + (text_of(db, row[:3], sizes[row[:3]]),) for row in rows["version"]]
+    return rows
+
+
+class File:
+    """A database in a file, with its log. Of the same bytes the rows are read once."""
+
+    def __init__(self, folder):
+        self.folder = folder
+        self.parts = [folder + "/t.db", folder + "/t.db-wal"]
+        self.known = []
+
+    def bytes(self):
+        found = []
+        for part in self.parts:
+            try:
+                with open(part, "rb") as file:
+                    found.append(file.read())
+            except FileNotFoundError:
+                found.append(None)
+        return found
+
+    def put_back(self, before):
+        """Writes the bytes into the files that are there, which a process may have open."""
+        for part, was, now in zip(self.parts, before, self.bytes()):
+            if was is None and now is not None:
+                os.remove(part)
+            elif was != now:
+                with open(part, "r+b" if now is not None else "wb") as file:
+                    file.write(was)
+                    file.truncate()
+
+    def rows(self):
+        found = self.bytes()
+        for known, rows in reversed(self.known):
+            if known == found:
+                return rows
+        rows = self.rows_of(found)
+        self.known = self.known[-KNOWN:] + [(found, rows)]
+        return rows
+
+    def rows_of(self, found):
+        with tempfile.TemporaryDirectory(dir=self.folder) as room:
+            for path, part in zip(self.parts, found):
+                if part is not None:
+                    with open(room + "/" + os.path.basename(path), "wb") as file:
+                        file.write(part)
+            db = sqlite3.connect(room + "/t.db")
+            try:
+                return rows_in_tables(db)
+            finally:
+                db.close()
+
+
+class Program:
+    """A program of which copies are made, at its start or where it accepts a connection."""
+
+    def __init__(self, library, moment, words, folder, given=b""):
+        self.out, self.errors = folder + "/out", folder + "/errors"
+        with open(folder + "/in", "wb") as file:
+            file.write(given)
+        asks, self.asks = os.pipe()
+        self.tells, tells = os.pipe()
+        self.told = b""
+        env = {"LD_PRELOAD": library, "REFUSE": moment, "ASKED": str(asks), "TOLD": str(tells)}
+        with open(folder + "/in", "rb") as into, open(self.out, "ab") as out, open(self.errors, "ab") as errors:
+            how = {"stdin": into, "stdout": out, "stderr": errors, "cwd": folder, "env": env, "pass_fds": [asks, tells]}
+            self.process = subprocess.Popen(words, start_new_session=True, **how)
+        os.close(asks)
+        os.close(tells)
+
+    def __enter__(self):
+        return self
+
+    def __exit__(self, *_):
+        os.close(self.asks)
+        os.close(self.tells)
+        try:
+            self.process.wait(PATIENCE if _[0] is None else 0)
+        except subprocess.TimeoutExpired:
+            os.killpg(self.process.pid, signal.SIGKILL)
+            self.process.wait()
+
+    def ask(self, line):
+        os.write(self.asks, line.encode() + b"\n")
+
+    def line(self):
+        """What is told next; nothing once the program has ended."""
+        while b"\n" not in self.told:
+            if not select.select([self.tells], [], [], PATIENCE)[0]:
+                raise Wrong("the program hangs")
+            more = os.read(self.tells, 4096)
+            if not more:
+                return ""
+            self.told += more
+        line, self.told = self.told.split(b"\n", 1)
+        return line.decode()
+
+    def is_ready(self):
+        """Whether it waits; it has ended otherwise."""
+        line = self.line()
+        if line not in ["ready", ""]:
+            raise Wrong("the program told " + line)
+        return line == "ready"
+
+    def await_ready(self):
+        if not self.is_ready():
+            raise Wrong("the program ended")
+
+    def counted(self):
+        """What a copy did, the number behind it, and how many requests it made and how many were refused."""
+        line = self.line()
+        if not line:
+            raise Wrong("the program ended")
+        word, number, asked, refused = line.split(" ")
+        return word, int(number), int(asked), int(refused)
+
+    def said(self):
+        """What came on the output and the error stream since it was asked last."""
+        found = []
+        for path in (self.out, self.errors):
+            with open(path, "r+b") as file:
+                found.append(file.read())
+                file.truncate(0)
+        return found
+
+
+class Counts(collections.Counter):
+    """Runs that were refused, runs that were right though something was refused, and those that met no refusal."""
+
+    def of(self, met, is_right):
+        self["refused" if not is_right else "right" if met else "unrefused"] += 1
+
+
+def is_over(met, is_right):
+    if met == 0 and not is_right:
+        raise Wrong("no memory was refused, and the run was")
+    return met == 0
+
+
+# ----------------------------------------------------------------------------------------------------
+# Requests of a service
+# ----------------------------------------------------------------------------------------------------
+
+
+def exchanged(port, sent):
+    """What a request gets."""
+    came = b""
+    with socket.create_connection(("127.0.0.1", port), PATIENCE) as stream:
+        # The end is a reset, after which the system keeps nothing of the connection.
+        stream.setsockopt(socket.SOL_SOCKET, socket.SO_LINGER, b"\1\0\0\0\0\0\0\0")
+        stream.sendall(sent)
+        while True:
+            piece = stream.recv(65536)
+            if not piece:
+                return came
+            came += piece
+
+
+def downs(sent, due):
+    """The 503 of a request: for HEAD without its body, where the head was read; behind the line, where one was due."""
+    return [DOWN] + [DOWN_HEAD] * sent.startswith(b"HEAD ") + [CONTINUE + DOWN] * due.startswith(CONTINUE)
+
+
+class Service:
+    """A service over a file, of which a copy is made for each run."""
+
+    def __init__(self, program, file, counts):
+        self.program, self.file, self.counts, self.place = program, file, counts, 1
+        program.await_ready()
+        out, _ = program.said()
+        if not out.startswith(b"listening 127.0.0.1:"):
+            raise Wrong("the service said %s" % out)
+        self.port = int(out.split(b":")[1])
+
+    def run(self, sent, due, first, last, rows, before):
+        """One request of a copy; whether something was refused, and whether the reply was the right one."""
+        was = self.file.bytes()
+        self.program.ask("try %d %d" % (first, last))
+        came = exchanged(self.port, sent)
+        word, status, asked, met = self.program.counted()
+        found = before if self.file.bytes() == was else self.file.rows()
+        out, errors = self.program.said()
+        if word != "accepts" or out:
+            raise Wrong("the service ended with status %d, and said %s" % (status, out))
+        is_right = came == due
+        if not is_right and came not in downs(sent, due):
+            raise Wrong("it was answered %s" % came[:400])
+        if found != (rows if is_right else before):
+            raise Wrong("after %s the rows are %s" % (came[:40], found))
+        if errors != (b"" if is_right else TOLD_DOWN % self.place):
+            raise Wrong("after %s the error stream has %s" % (came[:40], errors))
+        if not is_right:
+            self.counts[len(came)] += 1
+        if not is_right and first == last:
+            self.send_again(sent, due, rows)
+        self.program.ask("end")
+        word, status, _, _ = self.program.counted()
+        if word != "ended" or status:
+            raise Wrong("a copy %s with %d" % (word, status))
+        self.file.put_back(was)
+        return met, is_right
+
+    def send_again(self, sent, due, rows):
+        self.program.ask("go")
+        came = exchanged(self.port, sent)
+        word, status, _, _ = self.program.counted()
+        if word != "accepts" or came != due:
+            raise Wrong("sent again it %s and was answered %s" % (word, came[:400]))
+        if self.file.rows() != rows:
+            raise Wrong("sent again it left other rows")
+
+    def go(self, sent, due, rows):
+        """The service itself takes a request."""
+        self.program.ask("go")
+        came = exchanged(self.port, sent)
+        self.program.await_ready()
+        self.place += 1
+        if came != due or self.file.rows() != rows or any(self.program.said()):
+            raise Wrong("with memory it was answered %s" % came[:400])
+
+    def refuse_each(self, sent, due, rows, before):
+        for width in WIDTHS if len(sent) < LONG and len(due) < LONG else [1]:
+            for first in range(1, MOST):
+                try:
+                    met, is_right = self.run(sent, due, first, first + width - 1, rows, before)
+                    self.counts.of(met, is_right)
+                    if is_over(met, is_right):
+                        break
+                except Wrong as wrong:
+                    raise Wrong("request %d for memory refused, %d in a row: %s" % (first, width, wrong))
+
+
+def asked_in(story):
+    """The requests and commands of a story with their parts."""
+    return [(parts, step) for parts, step in zip(story.plots, story.steps) if step]
+
+
+def steps_before(story):
+    return steps_before(story.after) + asked_in(story.after) if story.after else []
+
+
+def words_of(sent):
+    """The words of a command, as the program takes them, and its standard input."""
+    words = sent.split(" ")
+    secret = words.pop() + "\n" if words[0] == "token-add" else ""
+    return [words[0], "--db", "t.db"] + words[1:], secret.encode()
+
+
+def refuse_service(custody, library, story, folder):
+    """Each request of a story in turn, over what the steps before it left."""
+    counts, due, file = Counts(), Due(), File(folder)
+    before = steps_before(story)
+    commands = [(parts, step) for parts, step in before if isinstance(step[1], str)]
+    for parts, (_, sent, _) in commands:
+        words, secret = words_of(sent)
+        subprocess.run([custody] + words, input=secret, stdout=subprocess.DEVNULL, check=True, cwd=folder)
+        due.take(parts[0])
+    words = [custody, "serve", "--db", "t.db", "--port", "8090", "--count", "1000000", "--idle", "3600", "--most", "3600"]
+    with Program(library, "accept", words, folder) as program:
+        service = Service(program, file, counts)
+        for parts, (_, sent, reply) in before[len(commands) :]:
+            due.take(parts[0])
+            service.go(sent, reply, due.rows())
+        for place, (parts, (_, sent, reply)) in enumerate(asked_in(story)):
+            old = due.rows()
+            due.take(parts[0])
+            try:
+                service.refuse_each(sent, reply, due.rows(), old)
+                service.go(sent, reply, due.rows())
+            except Wrong as wrong:
+                raise Wrong("step %d, %s: %s" % (place + 1, parts[0].line, wrong))
     return counts
 
 
-def replies(steps):
-    want = stories.printed(steps)
-
-    def judge(done):
-        if done.returncode == 0 and done.stdout == want:
-            return "right"
-        return "refused" if done.returncode == 3 and done.stdout == b"refused down\n" else "wrong"
-
-    return judge
+# ----------------------------------------------------------------------------------------------------
+# Runs of a program, refused at each of its requests
+# ----------------------------------------------------------------------------------------------------
 
 
-def text(whole):
-    def judge(done):
-        if done.returncode == 0 and done.stdout == whole:
-            return "right"
-        return "refused" if any(word in done.stdout for word in WANT) or done.returncode == 2 and not done.stdout else "wrong"
+def refuse_run(program, counts, judge, file=None, first=1, is_left=lambda: False):
+    """A copy is made before each request for memory of a run, from the `first` on. `judge` says of the exit status, of all that
+    was printed and of what came on the error stream whether they are right; it is asked of the run itself too, to which
+    nothing is refused. What the run asks for where it `is_left` is not refused. How many requests there were."""
+    printed, place = b"", 0
+    while program.is_ready():
+        place += 1
+        if place < first or is_left():
+            program.ask("go")
+            continue
+        printed += program.said()[0]
+        stood = file and file.bytes()
+        program.ask("try 1 1")
+        _, status, _, met = program.counted()
+        out, errors = program.said()
+        try:
+            if is_left():
+                raise Wrong("a copy left its file")
+            counts.of(met, judge(status, printed + out, errors))
+        except Wrong as wrong:
+            raise Wrong("request %d for memory refused: %s" % (place, wrong))
+        if file:
+            file.put_back(stood)
+        program.ask("go")
+    out, errors = program.said()
+    if not judge(program.process.wait(PATIENCE), printed + out, errors):
+        raise Wrong("no memory was refused, and the run was")
+    return place
 
-    return judge
+
+def refuse_frames(custody, library, steps, folder, counts, first):
+    """Steps replayed, refused from a request for memory on; how many there were."""
+    due = stories.printed(steps)
+
+    def judge(status, out, errors):
+        if errors or (status, out) not in [(0, due), REFUSED]:
+            raise Wrong("status %d, %s, %s" % (status, out[:400], errors))
+        return status == 0
+
+    with Program(library, "request", [custody, "replay"], folder, stories.framed(steps)) as program:
+        return refuse_run(program, counts, judge, first=first)
+
+
+def refuse_replay(custody, library, story, folder):
+    """The frames of a story, replayed. What a replay of the steps before its own asks for is refused in one story alone."""
+    counts, first = Counts(), 1
+    if story.name != REPLAYED[0]:
+        first = refuse_frames(custody, library, stories.steps_of(story.after), folder, Counts(), MOST) - BEHIND
+    refuse_frames(custody, library, stories.steps_of(story), folder, counts, first)
+    return counts
+
+
+class Command:
+    """A command on a file, with what it has to print and the rows before it and after it."""
+
+    def __init__(self, custody, parts, file, before, after):
+        self.words, self.given = [custody] + parts[0].line.split(" ")[1:], parts[0].bytes or b""
+        self.status, self.printed = int(parts[1].line[2:]), parts[1].bytes or b""
+        self.whys = [part.line[len("? contains ") :].encode() for part in parts[2:]]
+        self.file, self.was, self.rows = file, file.bytes(), {False: before, True: after}
+        # What a refused run may leave, of which it is known that the command is right over it.
+        self.good = []
+        self.errors = self.run_over(self.was)
+
+    def run_over(self, found):
+        """Runs the command over another file of these bytes; what came on the error stream."""
+        with tempfile.TemporaryDirectory(dir=self.file.folder) as room:
+            file = File(room)
+            file.put_back(found)
+            done = subprocess.run(self.words, input=self.given, capture_output=True, cwd=room)
+            if (done.returncode, done.stdout) != (self.status, self.printed) or file.rows() != self.rows[True]:
+                raise Wrong("with memory: status %d, %s, rows %s" % (done.returncode, done.stdout, file.rows()))
+        if not all(why in done.stderr for why in self.whys) or done.stderr and not self.whys:
+            raise Wrong("with memory the error stream has %s" % done.stderr)
+        return done.stderr
+
+    def judge(self, status, out, errors):
+        is_right = (status, out) == (self.status, self.printed)
+        if not is_right and (status, out) != REFUSED:
+            raise Wrong("status %d, %s, %s" % (status, out, errors))
+        if self.file.rows() != self.rows[is_right]:
+            raise Wrong("after %s the rows are %s" % (out, self.file.rows()))
+        if errors not in [self.errors if is_right else b"", LOG_STAYS]:
+            raise Wrong("after %s the error stream has %s" % (out, errors))
+        if not is_right:
+            self.look_again()
+        return is_right
+
+    def look_again(self):
+        """After a refusal the command has its right answer, over what was left."""
+        found = self.file.bytes()
+        if found not in self.good:
+            self.run_over(found)
+            self.good.append(found)
+
+
+def refuse_commands(custody, library, story, folder):
+    """Each command of a story in turn, on the file that the commands before it left."""
+    counts, due, file = Counts(), Due(), File(folder)
+    for parts in story.plots:
+        if not parts[0].line.startswith("$ "):
+            continue
+        before = due.rows()
+        due.take(parts[0])
+        try:
+            command = Command(custody, parts, file, before, due.rows())
+            with Program(library, "request", command.words, folder, command.given) as program:
+                refuse_run(program, counts, command.judge, file)
+        except Wrong as wrong:
+            raise Wrong("%s: %s" % (parts[0].line, wrong))
+    return counts
+
+
+# ----------------------------------------------------------------------------------------------------
+# The program `stories`
+# ----------------------------------------------------------------------------------------------------
+
+# What a story says that fails for want of memory, beside the 503 that came.
+WANT = [b"memory was refused", b"memory or the store refused", b"the file doesn't", b"the tables don't"]
+
+
+def shown(text):
+    return text.replace(b"\r", b"\\r").replace(b"\n", b"\\n")
+
+
+def refuse_told(program, library, story, folder):
+    """A story on each way in memory: where a replay is refused, the steps that are left are sent again. The way over a file,
+    which comes last, is left: its file is that of all copies."""
+    counts, text = Counts(), told_text(story)
+    whole = b"passed %s\n1 stories passed\n" % story.name.encode()
+
+    def judge(status, out, _):
+        if (status, out) == (0, whole):
+            return True
+        lines = out.split(b"\n")
+        is_down = b"came: " + shown(DOWN) in lines or any(word in out for word in WANT)
+        if not (status in [1, 2] and is_down) and (status, out) != (2, b""):
+            raise Wrong("status %d, %s" % (status, out))
+        return False
+
+    with Program(library, "request", [program], folder, text) as told:
+        refuse_run(told, counts, judge, is_left=lambda: os.path.exists(folder + "/stories.db"))
+    return counts
+
+
+def told_text(story):
+    """A story as the program takes it, below the definitions."""
+    with open(stories.TEXT, encoding="utf-8") as file:
+        definitions = file.read().split("\nstory ")[0]
+    with open(TEXT, encoding="utf-8") as file:
+        own = file.read().split("\nstory %s\n" % story.name)[1].split("\nstory ")[0]
+    return ("%s\nstory %s\n%s\n" % (definitions, story.name, own)).encode()
+
+
+# ----------------------------------------------------------------------------------------------------
+# All
+# ----------------------------------------------------------------------------------------------------
+
+
+def read_stories():
+    with open(stories.TEXT, encoding="utf-8") as file:
+        definitions = file.read().split("\nstory ")[0]
+    with open(TEXT, encoding="utf-8") as file:
+        return stories.read(definitions + "\n" + file.read())
+
+
+def jobs_of(told, custody, program):
+    """What is to be run: a kind, its function, its program, and a story."""
+    jobs = []
+    for story in told.values():
+        if story.name == LEFT:
+            if program:
+                jobs.append(("steps that a replay left", refuse_told, program, story))
+        elif any(parts[0].line.startswith("$") for parts in story.plots):
+            jobs.append(("commands on a file", refuse_commands, custody, story))
+        else:
+            if story.name in REPLAYED:
+                jobs.append(("frames replayed", refuse_replay, custody, story))
+            if not any(story is later.after for later in told.values()):
+                jobs.append(("requests of a service", refuse_service, custody, story))
+    return jobs
+
+
+def run_job(library, room, number, job):
+    kind, refuse, program, story = job
+    folder = "%s/%d" % (room, number)
+    os.mkdir(folder)
+    try:
+        return kind, story.name, refuse(program, library, story, folder), None
+    except (Wrong, OSError, sqlite3.Error, subprocess.SubprocessError) as error:
+        return kind, story.name, Counts(), error
+
+
+def library_in(room):
+    compiler = next(filter(None, map(shutil.which, ["cc", "gcc", "clang"])), None)
+    if not compiler:
+        sys.exit("no C compiler: one of cc, gcc and clang makes the library that refuses memory")
+    library = room + "/refuse.so"
+    subprocess.run([compiler, "-O1", "-shared", "-fPIC", "-o", library, HERE + "/refuse.c", "-ldl"], check=True)
+    return library
+
+
+def tell(kind, name, counts, error):
+    runs = "%d runs refused, %d right" % (counts["refused"], counts["right"] + counts["unrefused"])
+    print("memory refused, %s, %s: %s" % (kind, name, error or runs), flush=True)
 
 
 def main():
-    kind, program = sys.argv[1], os.path.abspath(sys.argv[2])
-    total = collections.Counter()
-    with tempfile.TemporaryDirectory() as folder:
-        library = refusing(folder)
-        front = "".join(sys.argv[3:])
-        if kind == "stories":
-            for name, story in stories.all_stories().items():
-                steps = stories.steps_of(story)
-                if steps and name.startswith(front):
-                    counts = each_refused(library, [program, "replay"], replies(steps), stories.framed(steps))
-                    print(name, dict(counts), flush=True)
-                    total.update(counts)
-        else:
-            with open(sys.argv[3], "rb") as file:
-                data = file.read()
-            whole = subprocess.run([program], input=data, capture_output=True, check=True, cwd=folder).stdout
-            total.update(each_refused(library, [program], text(whole), data, QUIET_TEXT))
-    print("in all", dict(total))
-    sys.exit(1 if total["wrong"] else 0)
+    if len(sys.argv) < 2:
+        sys.exit(__doc__)
+    custody = os.path.abspath(sys.argv[1])
+    program = os.path.abspath(sys.argv[2]) if len(sys.argv) > 2 else None
+    total, failed = Counts(), 0
+    with tempfile.TemporaryDirectory(prefix="refusals-") as room:
+        library = library_in(room)
+        told = read_stories()
+        jobs = jobs_of(told, custody, program)
+        failed += not set(REPLAYED + [LEFT]) <= set(told)
+        with concurrent.futures.ThreadPoolExecutor(len(os.sched_getaffinity(0))) as pool:
+            runs = [pool.submit(run_job, library, room, number, job) for number, job in enumerate(jobs)]
+            for run in concurrent.futures.as_completed(runs):
+                kind, name, counts, error = run.result()
+                tell(kind, name, counts, error)
+                # (a story in which nothing was refused shows nothing)
+                failed += error is not None or counts["refused"] == 0
+                total.update(counts)
+    for length in LENGTHS:
+        failed += total[length] == 0
+        print("memory refused: %d replies of the status 503 of %d bytes" % (total[length], length))
+    print("memory refused, in all: %d runs refused, %d right" % (total["refused"], total["right"] + total["unrefused"]))
+    if failed:
+        sys.exit("memory refused: %d FAILED" % failed)
 
 
 main()
