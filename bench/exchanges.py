@@ -265,4 +265,5 @@ def main():
     show("3,000 runs that ended, without keys", words, ended, workspaces=[("acme", 10)], ended=[("run", 3_000)])
 
 
-main()
+if __name__ == "__main__":
+    main()
