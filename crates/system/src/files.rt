@@ -12,6 +12,7 @@ use sqlite_disk::{Disk, Start, Unknown};
 use sqlite_std_file::FileFrom;
 use sqlite_store::FileStore;
 use std::fs::OpenOptions;
+use std::io::ErrorKind;
 use std::os::unix::fs::{MetadataExt, OpenOptionsExt};
 use std::rt::HostRuntime;
 use std::{fs, io};
@@ -26,15 +27,24 @@ const OWNER_ALONE: u32 = 0o600;
 /// By which of these bits of a file's mode others than its owner may read it.
 const OTHERS_READ: u32 = 0o044;
 
-/// Makes the file for its owner alone, where nothing lies at the path; its log gets the file's mode. What
-/// can't be made is left to the open behind it.
-fn make_private(rt: &HostRuntime, path: &str) {
+/// Makes the file for its owner alone, where nothing lies at the path; its log gets the file's mode. Where
+/// it isn't made the open behind it would make one that others may read, so the store is down.
+fn make_private(rt: &HostRuntime, path: &str) -> Result<(), Down> {
     let made = OpenOptions::new()
         .write(true)
         .create_new(true)
         .mode(OWNER_ALONE)
         .open(rt, path);
-    drop(made);
+    match made {
+        Ok(file) => {
+            drop(file);
+            Ok(())
+        }
+        Err(error) => match error.kind() {
+            ErrorKind::AlreadyExists => Ok(()),
+            _ => Err(Down),
+        },
+    }
 }
 
 fn is_readable(rt: &HostRuntime, path: &str) -> bool {
@@ -56,7 +66,9 @@ fn is_any_readable(rt: &HostRuntime, path: &str) -> io::Result<bool> {
 pub fn open_file<S: Start>(rt: &HostRuntime, path: &str, start: S) -> Result<FileKeep<S>, Fault>
     ensures { IfOk result (λ keep. ⟦<FileKeep<S> as Keep>⟧.clean keep → OpensOn (image_at S.Start) (⟦<FileKeep<S> as Keep>⟧.rows keep) (⟦<FileKeep<S> as Keep>⟧.sound keep)) }
 {
-    make_private(rt, path);
+    if make_private(rt, path).is_err() {
+        return Err(Fault::Down);
+    }
     let conn = match Connection::open_from(rt, path, false, start) {
         Ok(conn) => conn,
         Err(_) => return Err(Fault::Down),
