@@ -167,7 +167,8 @@ class File:
             if was is None and now is not None:
                 os.remove(part)
             elif was != now:
-                with open(part, "r+b" if now is not None else "wb") as file:
+                # (a file that is made again is its owner's alone, as the program makes it)
+                with os.fdopen(os.open(part, os.O_RDWR | os.O_CREAT, 0o600), "r+b") as file:
                     file.write(was)
                     file.truncate()
 
