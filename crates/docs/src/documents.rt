@@ -1,14 +1,14 @@
 //! States, lock information, settings and what creates a run, as `serde_json` reads them.
-ghost use Rattle.std.specs.Prelude.{◌≡◌, ◌<◌, length, IfOk, OnOk, Err, IsErrOf, IsSome, Some, None, option_and_then, codes};
+ghost use Rattle.std.specs.Prelude.{◌≡◌, ◌≢◌, ◌<◌, length, IfOk, OnOk, OnErr, Err, IsErrOf, IsSome, Some, None, option_and_then, codes};
 ghost use Rattle.serde_json.specs.Data.{Members, object};
 ghost use Rattle.serde_json.specs.Find.{get};
 ghost use Rattle.serde_json.specs.View.{view};
 ghost use Rattle.docs.specs.Readings.{StateLaw, LockLaw, SettingsLaw, AskLaw};
-ghost use Rattle.docs.specs.Documents.{object_of, serial_of, optional_text, state_head, lock_id_of, flag_of, small_object_of, settings_of, key_of, run_ask};
+ghost use Rattle.docs.specs.Documents.{object_of, serial_of, optional_text, state_head, lock_id_of, flag_of, small_object_of, keep_of, settings_of, key_of, run_ask};
 
 use crate::faults::DocFault;
 use basis::rows::{MAX_LINEAGE, MAX_SERIAL};
-use basis::{LockId, RunAsk, Settings, StateHead, Text, is_free_id};
+use basis::{KeepCount, LockId, RunAsk, SettingsAsk, StateHead, Text, is_free_id};
 use serde_json::{Map, Value};
 use std::alloc::Global;
 
@@ -52,9 +52,10 @@ pub fn read_lock(alloc: Global, bytes: &[u8]) -> Result<LockId, DocFault>
     }
 }
 
-/// The settings of a workspace: no bytes, or a JSON object with `auto_apply` or without.
+/// What is asked of a workspace's settings: no bytes, or a JSON object with `auto_apply` and
+/// `keep_versions`, each or none.
 #[tactic(auto, unfolding(crate::specs::Documents::settings_of))]
-pub fn read_settings(alloc: Global, bytes: &[u8]) -> Result<Settings, DocFault>
+pub fn read_settings(alloc: Global, bytes: &[u8]) -> Result<SettingsAsk, DocFault>
     ensures ok { IfOk result (λ settings. settings_of bytes.now ≡ Some settings) }
     ensures bad { IsErrOf result DocFault.Bad → settings_of bytes.now ≡ None }
     ensures down { IsErrOf result DocFault.Down → 0 < length bytes.now }
@@ -62,10 +63,14 @@ pub fn read_settings(alloc: Global, bytes: &[u8]) -> Result<Settings, DocFault>
     ensures law { SettingsLaw bytes.now }
 {
     let value = read_small_object(alloc, bytes)?;
-    match read_flag(&value, "auto_apply") {
-        Some(auto_apply) => Ok(Settings { auto_apply }),
-        None => Err(DocFault::Bad),
-    }
+    let Some(auto_apply) = read_flag(&value, "auto_apply") else {
+        return Err(DocFault::Bad);
+    };
+    let keep_versions = read_keep(&value)?;
+    Ok(SettingsAsk {
+        auto_apply,
+        keep_versions,
+    })
 }
 
 /// What the creation of a run asks: no bytes, or a JSON object with `key`, `message` and `plan_only`, each or none.
@@ -128,6 +133,21 @@ fn serial_of(value: &Value) -> Option<u64>
     match value.get("serial").and_then(Value::as_u64) {
         Some(serial) if serial <= MAX_SERIAL => Some(serial),
         _ => None,
+    }
+}
+
+// How many versions are to be kept, which may be absent.
+fn read_keep(value: &Value) -> Result<Option<KeepCount>, DocFault>
+    ensures ok { IfOk result (λ keep. keep_of (get (codes "keep_versions") (view value.now)) ≡ Some keep) }
+    ensures bad { OnErr result (keep_of (get (codes "keep_versions") (view value.now)) ≡ None) }
+    ensures never_down { result ≢ Err DocFault.Down }
+{
+    let Some(found) = value.get("keep_versions") else {
+        return Ok(None);
+    };
+    match found.as_u64().and_then(KeepCount::new) {
+        Some(count) => Ok(Some(count)),
+        None => Err(DocFault::Bad),
     }
 }
 
