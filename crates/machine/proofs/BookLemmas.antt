@@ -3,6 +3,7 @@ use Rattle.std.proofs.Common.{◌≡◌, ◌⊎◌, inl, inr, ℕ, ◌<◌, ◌�
 use Rattle.std.specs.List.{AllByRecursion}
 use Rattle.basis.specs.declared.refusals.Refusal.{Refusal}
 use Rattle.basis.specs.declared.refusals.Refusal.TheVariants.{BadMessage, TwoTokens, BadQuery, BadDigest, BadState, BadLock, BadBody, NoToken, BadToken, NeedWrite, NeedAdmin, NoRoute, NotFound, NoMethod, NotHeld, NotApplying, OtherLineage, OldSerial, WrongState, HeldByRun, OpenRuns, OverLimit, Locked, NoLength, TooLarge, HeadTooLarge, Unavailable}
+use Rattle.basis.specs.declared.rows.Settings.{Settings}
 use Rattle.basis.specs.declared.rows.StateHead.{StateHead}
 use Rattle.machine.specs.Laws.{Rises, holds, IsHolder, IsLawful}
 use Rattle.machine.specs.Ranges.{IsInRange, IsMoment}
@@ -11,7 +12,7 @@ use Rattle.machine.specs.Workspaces.{run_of, holder_status}
 use Rattle.machine.specs.Writing.{may_write}
 use Rattle.machine.specs.Succession.{Succession, first, same, other_lineage, old_serial, next, succession}
 use Rattle.machine.specs.Settling.{is_waiting, first_waiting, to_start, started_if, settled}
-use Rattle.machine.specs.Rules.{done, rules, refused_by, by_may_write, by_succession, numbered_update, number_left, with_settings, purge, purged, locked, released}
+use Rattle.machine.specs.Rules.{done, rules, refused_by, by_may_write, by_succession, numbered_update, number_left, settings_for, with_settings, put, purge, purged, locked, released}
 use Rattle.machine.specs.Custody.{IsRefusal, WritesWith}
 use Rattle.machine.specs.Queue.{is_active_run, Starts, WaitedOrIsNew, AreInRange, Leads}
 use Rattle.machine.specs.declared.acts.Act.{Act}
@@ -22,6 +23,7 @@ use Rattle.machine.specs.declared.records.Run.{Run}
 use Rattle.machine.specs.declared.records.Workspace.{Workspace}
 use Rattle.machine.proofs.CustodyLemmas.{lock_becomes, unlock_becomes, force_becomes, purge_becomes, Unlocks}
 use Rattle.machine.proofs.DeletionLemmas.{delete_left}
+use Rattle.machine.proofs.PuttingLemmas.{put_becomes}
 use Rattle.machine.proofs.RunLemmas.{run_of-number, all_found}
 use Rattle.machine.proofs.RunRulings.{IsMade, IsReported, comes_to, make_comes, report_comes}
 use Rattle.machine.proofs.VersionLemmas.{numbers_rise}
@@ -69,6 +71,10 @@ purge_next : (w v : Workspace) (after : Option Workspace) → after ≡ Some v �
 purge_next w v after e (inl h) = left_next w v (sym h ∙ e)
 purge_next w v after e (inr h) = settled_next (purged w) v (sym h ∙ e)
 
+put_next : (settings : Settings) (w v : Workspace) (after : Option Workspace) → after ≡ Some v → (after ≡ Some w) ⊎ (after ≡ Some (settled (with_settings w settings))) → v.next_version ≡ w.next_version
+put_next settings w v after e (inl h) = left_next w v (sym h ∙ e)
+put_next settings w v after e (inr h) = settled_next (with_settings w settings) v (sym h ∙ e)
+
 lock_next : (w v : Workspace) (id text : List ℕ) (after : Option Workspace) → after ≡ Some v → (after ≡ Some w) ⊎ (after ≡ Some (locked id text w)) → v.next_version ≡ w.next_version
 lock_next w v id text after e (inl h) = left_next w v (sym h ∙ e)
 lock_next w v id text after e (inr h) = left_next (locked id text w) v (sym h ∙ e)
@@ -84,7 +90,9 @@ run_next w v changed after stays e (inr h) = settled_next h.0 v (sym h.2 ∙ e) 
 
 -- a version is made by an accepted update alone
 pub rises_by_write : (act : Act) (now : ℕ) (w v : Workspace) → (rules act now (there w)).left ≡ Some v → w.next_version < v.next_version → IsAcceptedWrite act now w
-rises_by_write (PutWorkspace settings) now w v e lt = none_made w v _ (settled_next (with_settings w settings) v e) lt
+rises_by_write (PutWorkspace ask) now w v e lt =
+    let settings : Settings = settings_for ask (Some w.settings) in
+    none_made w v _ (put_next settings w v (put settings w).left e (put_becomes settings w)) lt
 rises_by_write (UpdateState head text id) now w v e lt = (id, refl, update_accepted w v head text now (may_write w.holder (holder_status w.holder w.runs) id) e lt)
 rises_by_write (Look what) now w v e lt = none_made w v _ (left_next w v e) lt
 rises_by_write DeleteWorkspace now w v e lt = none_made w v _ (left_next w v (delete_left w v e)) lt

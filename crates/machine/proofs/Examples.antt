@@ -62,7 +62,7 @@ abbrev a1 : List ℕ
 a1 = codes "a1"
 
 abbrev empty : Workspace
-empty = new_workspace (record { auto_apply = false })
+empty = new_workspace (record { auto_apply = false; keep_versions = 100 })
 
 abbrev under_x1 : Workspace
 under_x1 = record empty { holder = Lock x1 t1 }
@@ -242,8 +242,8 @@ two status action = record empty { holder = HoldingRun 1; next_run = 3; runs = r
 planned_now : rules (ReportRun 1 ReportPlanned) 1_700_000_000 (there (two Planning None)) ≡ effect (the_run (run 1 Planned (Some ReportPlanned))) (Some (two Planned (Some ReportPlanned)))
 planned_now = refl
 
-applied_at_once : rules (ReportRun 1 ReportPlanned) 1_700_000_000 (there (record (two Planning None) { settings = record { auto_apply = true } }))
-    ≡ effect (the_run (run 1 Applying (Some ReportPlanned))) (Some (record (two Applying (Some ReportPlanned)) { settings = record { auto_apply = true } }))
+applied_at_once : rules (ReportRun 1 ReportPlanned) 1_700_000_000 (there (record (two Planning None) { settings = record { auto_apply = true; keep_versions = 100 } }))
+    ≡ effect (the_run (run 1 Applying (Some ReportPlanned))) (Some (record (two Applying (Some ReportPlanned)) { settings = record { auto_apply = true; keep_versions = 100 } }))
 applied_at_once = refl
 
 -- the action that was taken last is answered again, any other that no step has is refused
@@ -277,7 +277,7 @@ each_kind = record empty {
 
 each_kind_is_lawful : IsLawful each_kind
 each_kind_is_lawful = record {
-  versions = record { next = (omega arith, omega arith); rise = tt; each = tt; kept = omega arith };
+  versions = record { keep = (omega arith, omega arith); next = (omega arith, omega arith); rise = tt; each = tt; kept = omega arith };
   runs = record {
     next = (omega arith, omega arith);
     rise = (omega arith, omega arith, (omega arith, omega arith, (omega arith, omega arith, (omega arith, omega arith, (omega arith, omega arith, tt)))));
@@ -373,10 +373,10 @@ open_run_keeps_it : rules DeleteWorkspace 1_700_000_000 (there with_run_1) ≡ e
 open_run_keeps_it = refl
 
 -- one of its name begins anew
-made_anew : rules (PutWorkspace (record { auto_apply = false })) 1_700_000_000 (missing true) ≡ effect (workspace (shown_of empty)) (Some empty)
+made_anew : rules (PutWorkspace (record { auto_apply = false; keep_versions = None })) 1_700_000_000 (missing true) ≡ effect (workspace (shown_of empty)) (Some empty)
 made_anew = refl
 
-no_room : rules (PutWorkspace (record { auto_apply = false })) 1_700_000_000 (missing false) ≡ effect (refused OverLimit) None
+no_room : rules (PutWorkspace (record { auto_apply = false; keep_versions = None })) 1_700_000_000 (missing false) ≡ effect (refused OverLimit) None
 no_room = refl
 
 -- a version by its number, and one that isn't kept
