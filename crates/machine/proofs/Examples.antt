@@ -21,7 +21,8 @@ use Rattle.machine.specs.Writing.{may_write}
 use Rattle.machine.specs.Rules.{refused, held, done, no_state, state, workspace, the_run, versions, rules}
 use Rattle.machine.specs.Showing.{shown_of, row_of, comes_after, workspaces_listed}
 use Rattle.basis.specs.Listings.{listing_of}
-use Rattle.machine.specs.Laws.{Rises, IsRun, IsHolder, KeysDiffer, IsLawful}
+use Rattle.machine.specs.Ranges.{IsKeepCount}
+use Rattle.machine.specs.Laws.{Rises, AreVersions, IsRun, IsHolder, KeysDiffer, IsLawful}
 use Rattle.machine.specs.Settling.{is_waiting}
 use Rattle.machine.specs.Queue.{is_active_run, GoesOn}
 use Rattle.machine.specs.declared.acts.Act.TheVariants.{Look, PutWorkspace, DeleteWorkspace, UpdateState, PurgeState, Lock as LockAct, Unlock, ForceUnlock, MakeRun, ReportRun}
@@ -378,6 +379,53 @@ made_anew = refl
 
 no_room : rules (PutWorkspace (record { auto_apply = false; keep_versions = None })) 1_700_000_000 (missing false) ≡ effect (refused OverLimit) None
 no_room = refl
+
+-- ---- how many versions are kept
+
+-- a workspace that keeps so many, with versions 1 to 3, and what is left of these
+abbrev last_two : List Version
+last_two = version 2 2 a1 s2 ∷ version 3 3 a1 t1 ∷ []
+
+abbrev keeping : ℕ → List Version → Workspace
+keeping keep versions = record empty { settings = record { auto_apply = false; keep_versions = keep }; next_version = 4; versions = versions }
+
+abbrev three : Workspace
+three = keeping 3 (version 1 1 a1 s1 ∷ last_two)
+
+abbrev held_three : Workspace
+held_three = record three { holder = Lock x1 t1 }
+
+-- a lower number lets the oldest go at once
+lowered : rules (PutWorkspace (record { auto_apply = false; keep_versions = Some 2 })) 1_700_000_000 (there three) ≡ effect (workspace (shown_of (keeping 2 last_two))) (Some (keeping 2 last_two))
+lowered = refl
+
+-- but none while somebody holds, who is told
+lowered_under_a_lock : rules (PutWorkspace (record { auto_apply = true; keep_versions = Some 2 })) 1_700_000_000 (there held_three) ≡ effect (held (Lock x1 t1)) (Some held_three)
+lowered_under_a_lock = refl
+
+-- any other PUT changes the settings under a lock, too, and without a number it keeps the one that is there
+raised_under_a_lock : (rules (PutWorkspace (record { auto_apply = false; keep_versions = Some 4 })) 1_700_000_000 (there held_three)).left
+    ≡ Some (record held_three { settings = record { auto_apply = false; keep_versions = 4 } })
+raised_under_a_lock = refl
+
+number_kept : (rules (PutWorkspace (record { auto_apply = true; keep_versions = None })) 1_700_000_000 (there held_three)).left
+    ≡ Some (record held_three { settings = record { auto_apply = true; keep_versions = 3 } })
+number_kept = refl
+
+-- as one more comes, the oldest goes
+oldest_goes : rules (UpdateState (head 4 a1) t2 None) 1_700_000_000 (there three) ≡ effect done (Some (record three { next_version = 5; versions = version 2 2 a1 s2 ∷ version 3 3 a1 t1 ∷ version 4 4 a1 t2 ∷ [] }))
+oldest_goes = refl
+
+-- and where one alone is kept, it is the one that came
+newest_alone : rules (UpdateState (head 4 a1) t2 None) 1_700_000_000 (there (keeping 1 (version 3 3 a1 t1 ∷ []))) ≡ effect done (Some (record (keeping 1 (version 4 4 a1 t2 ∷ [])) { next_version = 5 }))
+newest_alone = refl
+
+-- three are too many where two are kept, and none or 1,001 is no such number
+too_many : AreVersions 2 4 (version 1 1 a1 s1 ∷ last_two) → ⊥
+too_many are = omega (arith, are.kept)
+
+no_such_number : (IsKeepCount 0 → ⊥) × (IsKeepCount 1_001 → ⊥)
+no_such_number = ((λ is. omega (arith, is.0)), (λ is. omega (arith, is.1)))
 
 -- a version by its number, and one that isn't kept
 first_read : rules (Look (look.Version 1)) 1_700_000_000 (there with_s1) ≡ effect (state s1) (Some with_s1)
