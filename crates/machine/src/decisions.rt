@@ -19,7 +19,7 @@ ghost use Rattle.machine.specs.declared.records.Holder.TheVariants.{Run as Holdi
 ghost use Rattle.machine.specs.declared.acts.Unit.TheVariants.{Present};
 ghost use Rattle.machine.specs.declared.acts.Act.TheVariants.{PutWorkspace};
 ghost use Rattle.machine.specs.declared.acts.Answer.TheVariants.{Done, Workspace as ShownWorkspace, Run as ShownRun};
-ghost use Rattle.machine.specs.declared.acts.Edit.TheVariants.{Release, AddRun};
+ghost use Rattle.machine.specs.declared.acts.Edit.TheVariants.{Make, Release, AddRun};
 ghost use Rattle.machine.specs.declared.acts.Decision.TheVariants.{Accepted, Refused};
 
 use crate::acts::{Act, Answer, Change, Decision, Edit, Newest, Shown, Unit, WorkspaceUnit};
@@ -125,11 +125,11 @@ fn accept_again() -> Decision
     }
 }
 
-fn shown(settings: Settings, unit: &WorkspaceUnit) -> Result<Shown, Down>
-    ensures { IfOk result (λ shown. shown ≡ shown_as settings unit.now) }
+fn shown(settings: &Settings, unit: &WorkspaceUnit) -> Result<Shown, Down>
+    ensures { IfOk result (λ shown. shown ≡ shown_as settings.now unit.now) }
 {
     Ok(Shown {
-        settings,
+        settings: *settings,
         holder: holder_id(&unit.holder)?,
         version: number_of_newest(&unit.newest),
     })
@@ -259,14 +259,15 @@ fn is_nobody(holder: &Holder) -> bool
 }
 
 // While somebody holds, no version goes by a PUT.
-fn decide_settings(unit: &WorkspaceUnit, settings: Settings) -> Result<Decision, Down>
-    ensures { IfOk result (λ decision. decision ≡ decided_put settings unit.now) }
+fn decide_settings(unit: &WorkspaceUnit, settings: &Settings) -> Result<Decision, Down>
+    ensures { IfOk result (λ decision. decision ≡ decided_put settings.now unit.now) }
 {
-    let outgoing = unit.outgoing;
-    if !is_nobody(&unit.holder) && outgoing.is_some() {
+    if !is_nobody(&unit.holder) && unit.outgoing.is_some() {
         return Ok(Decision::Refused(Refusal::Locked));
     }
     let shown = shown(settings, unit)?;
+    let settings = *settings;
+    let outgoing = unit.outgoing;
     Ok(accept(Answer::Workspace(shown), Edit::Configure { settings, outgoing }, None))
 }
 
@@ -274,13 +275,14 @@ fn decide_put(unit: &WorkspaceUnit, ask: SettingsAsk) -> Result<Decision, Down>
     ensures is { IfOk result (λ decision. decision ≡ decision_of (Present unit.now) (PutWorkspace ask) 0) }
     ensures range { IsSettingsAsk ask }
 {
-    decide_settings(unit, settings_for(ask, Some(unit.settings)))
+    let settings = settings_for(ask, Some(unit.settings));
+    decide_settings(unit, &settings)
 }
 
 fn decide_show(unit: &WorkspaceUnit) -> Result<Decision, Down>
     ensures { IfOk result (λ decision. decision ≡ Accepted (ShownWorkspace (shown_as unit.now.settings unit.now)) None) }
 {
-    let shown = shown(unit.settings, unit)?;
+    let shown = shown(&unit.settings, unit)?;
     Ok(tell(Answer::Workspace(shown)))
 }
 
@@ -662,12 +664,18 @@ fn decide_making(ask: SettingsAsk, has_room: bool) -> Decision
     if !has_room {
         return Decision::Refused(Refusal::OverLimit);
     }
+    make_with(&settings)
+}
+
+fn make_with(settings: &Settings) -> Decision
+    ensures { result ≡ changing (ShownWorkspace (new_shown settings.now)) (Make settings.now) None }
+{
     let shown = Shown {
-        settings,
+        settings: *settings,
         holder: None,
         version: None,
     };
-    accept(Answer::Workspace(shown), Edit::Make(settings), None)
+    accept(Answer::Workspace(shown), Edit::Make(*settings), None)
 }
 
 fn decided(unit: &Unit, act: &Act, now: Moment) -> Result<Decision, Down>
