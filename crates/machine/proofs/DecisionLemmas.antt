@@ -144,14 +144,14 @@ record GoesBy (going : Option ℕ) (keep : ℕ) (versions : List Version) : Type
   left : left_above going versions ≡ last_of keep versions
   newest_one : newest (last_of keep versions) ≡ newest versions
 
-goes_by : (asked : Option ℕ) (keep next : ℕ) (versions : List Version) → IfSome asked IsKeepCount → AreVersions keep next versions
+goes_by : (asked : Option ℕ) (keep top : ℕ) (versions : List Version) → IfSome asked IsKeepCount → AreVersions keep top versions
     → GoesBy (outgoing_by (staying_for asked) keep versions) (kept_for asked keep) versions
-goes_by None keep next versions range are = record {
+goes_by None keep top versions range are = record {
   some = sym (le-ltb keep (length versions) are.kept);
   left = sym (all_last keep versions are.kept);
   newest_one = ap newest (all_last keep versions are.kept);
 }
-goes_by (Some k) keep next versions range are = record { some = some_go k versions; left = left_is_last k next versions are.rise; newest_one = newest_stays k versions range.0 }
+goes_by (Some k) keep top versions range are = record { some = some_go k versions; left = left_is_last k top versions are.rise; newest_one = newest_stays k versions range.0 }
 
 number_shown : (o : Option Version) → option_map (λ (v : Newest). v.number) (option_map (newest_unit None) o) ≡ option_map (λ (v : Version). v.number) o
 number_shown None = refl
