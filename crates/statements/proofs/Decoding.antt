@@ -8,9 +8,9 @@ use Rattle.basis.specs.declared.runs.RunAction.{RunAction}
 use Rattle.statements.specs.declared.rows.Holder.{Holder}
 use Rattle.statements.specs.declared.rows.Holder.TheVariants.{Nobody, Lock, Run as HeldByRun}
 use Rattle.statements.specs.Rows.{Kept, TokenRow, WsRow, RunRow, BoundRow, stored, token_cells, ws_cells, run_cells, bound_cells, number, action_code, kind_cell, lock_id_cell, lock_text_cell, run_cell}
-use Rattle.statements.specs.Tables.{Layout, Tables, Holds, rows_of, tables_of, meta_layout, org_layout, token_layout, ws_layout, version_layout, run_layout, page_layout, vpage_layout, bound_layout, edition_layout}
+use Rattle.statements.specs.Tables.{Layout, Tables, Holds, rows_of, tables_of, meta_layout, org_layout, token_layout, ws_layout, version_layout, run_layout, page_layout, vpage_layout, bound_layout, edition_layout, keeping_layout}
 use Rattle.statements.specs.Decode.{kept_by, token_at, ws_at, run_at, bound_at, holder_at, action_at}
-use Rattle.statements.proofs.Held.{IsHeld, metas_held, orgs_held, tokens_held, wss_held, versions_held, runs_held, pages_held, vpages_held, bounds_held, editions_held}
+use Rattle.statements.proofs.Held.{IsHeld, metas_held, orgs_held, tokens_held, wss_held, versions_held, runs_held, pages_held, vpages_held, bounds_held, editions_held, keepings_held}
 use Rattle.statements.proofs.Codes.{role_back, status_back, action_back}
 
 flag_back : (b : Bool) → not (int_eq (cond b (pos 1) (pos 0)) (pos 0)) ≡ b
@@ -85,4 +85,5 @@ tables-held db t h = λ i. record {
   vpages = rows_back vpage_layout db t.vpages (λ x. refl) (vpages_held db t h) i;
   bounds = rows_back bound_layout db t.bounds bound_back (bounds_held db t h) i;
   editions = rows_back edition_layout db t.editions (λ x. refl) (editions_held db t h) i;
+  keepings = rows_back keeping_layout db t.keepings (λ x. refl) (keepings_held db t h) i;
 }
