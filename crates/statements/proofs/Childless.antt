@@ -1,5 +1,5 @@
 -- A token that goes takes no row of bound along, where none is of its name; nor does a workspace a row of keeping.
-use Rattle.std.proofs.Common.{◌≡◌, inr, ℕ, ◌<ℤ◌, Bool, true, false, not, cond, ◌&&◌, List, [], ◌∷◌, map, filter, Some, option_and_then, unwrap_or, Ok, refl, sym, ap, ◌∙◌, subst, arith, is_eq, IsPermutation}
+use Rattle.std.proofs.Common.{◌≡◌, ◌≢◌, inr, ℕ, ◌<ℤ◌, Bool, true, false, not, cond, ◌&&◌, List, [], ◌∷◌, map, filter, Some, option_and_then, unwrap_or, Ok, refl, sym, ap, ◌∙◌, subst, arith, is_eq, IsPermutation}
 use Rattle.std.specs.List.{AllByRecursion, list_all, list_any}
 use Rattle.std.specs.Str.{bytes_eq}
 use Rattle.std.proofs.lemmas.Bool.{and_parts}

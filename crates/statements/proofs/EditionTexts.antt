@@ -78,7 +78,7 @@ unfolding everything
 move_to_third_reads = refl
 
 abbrev move_to_third_query : ℕ → Query
-move_to_third_query tree = update_query tree [] (col 1 1 ∷ lit (Int (pos 3)) ∷ [])
+move_to_third_query tree = update_query tree [] (lit Null ∷ lit (Int (pos 3)) ∷ [])
 
 abbrev pub edition_text : List ℕ
 edition_text = codes "SELECT version FROM edition WHERE one = 1 ORDER BY rowid"
@@ -177,7 +177,7 @@ module _ (old new : State) (t : Tables) (h : Holds old.now t) where
   pub move_to_third_does : (count : ℕ) → Executes move_to_third_text [] old new (Ok count) → Turns old.now new.now (edition_moved 3 t)
   move_to_third_does count ran =
       let held = editions_held old.now t h in
-      let third = λ (x : Kept ℕ). (x.0, 3) in
+      let third : Kept ℕ → Kept ℕ = λ x. (x.0, 3) in
       let left = update_own edition_cells edition_table edition_casts old new held.own held.steady t.editions held.rows held.keyed move_to_third_text [] count ran
       (move_to_third_query (tree_of old.now.schema edition_table.name)) (move_to_third_means old.now.schema _ _ held.own.place) refl refl refl (λ rows. refl) (λ x. true) (λ x. refl) third (λ x. refl) (λ x. refl) in
       editions_written old.now new.now left.1 t h (map third t.editions) left.0 (IsKeyedBy-update_where id_of (λ x. true) third (λ x. refl) t.editions held.keyed)

@@ -100,8 +100,26 @@ module _ (db : Database) (t : Tables) (h : HoldsSecond db t) where
   pub second_metas_held : IsHeld meta_layout db t.metas
   second_metas_held = second_held_at meta_layout 0 t.metas refl (inl tt)
 
+  pub second_orgs_held : IsHeld org_layout db t.orgs
+  second_orgs_held = second_held_at org_layout 1 t.orgs refl (inl tt)
+
   pub second_tokens_held : IsHeld token_layout db t.tokens
   second_tokens_held = second_held_at token_layout 2 t.tokens refl (inl tt)
+
+  pub second_wss_held : IsHeld ws_layout db t.wss
+  second_wss_held = second_held_at ws_layout 3 t.wss refl (inl tt)
+
+  pub second_versions_held : IsHeld version_layout db t.versions
+  second_versions_held = second_held_at version_layout 4 t.versions refl (inl tt)
+
+  pub second_runs_held : IsHeld run_layout db t.runs
+  second_runs_held = second_held_at run_layout 5 t.runs refl (inl tt)
+
+  pub second_pages_held : IsHeld page_layout db t.pages
+  second_pages_held = second_held_at page_layout 6 t.pages refl (inl tt)
+
+  pub second_vpages_held : IsHeld vpage_layout db t.vpages
+  second_vpages_held = second_held_at vpage_layout 7 t.vpages refl (inl (refl, tt))
 
   pub second_bounds_held : IsHeld bound_layout db t.bounds
   second_bounds_held =

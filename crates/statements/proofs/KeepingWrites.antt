@@ -1,5 +1,5 @@
 -- What the writes to the table keeping do to its rows.
-use Rattle.std.proofs.Common.{◌≡◌, ℕ, List, [], ◌∷◌, Ok, refl, ◌∙◌, map, true, ap}
+use Rattle.std.proofs.Common.{◌≡◌, ℕ, List, [], ◌∷◌, Ok, refl, ◌∙◌, map, true, false, ap}
 use Rattle.sqlite_value.specs.declared.value.Value.TheVariants.{Text}
 use Rattle.sqlite_sql.specs.Program.{overlay}
 use Rattle.sqlite.specs.State.{State, Executes}

@@ -10,7 +10,7 @@ use Rattle.sqlite.proofs.InsideLemmas.{keeps_then}
 use Rattle.statements.specs.Place.{IsOwn, RefersPassively, at_of, tree_of}
 use Rattle.statements.specs.Schema.{edition_table}
 use Rattle.statements.specs.Steps.{Moves, MovesIn, LeavesBeside}
-use Rattle.statements.specs.Tables.{Holds, HoldsAll, StoredTable, no_rows, our_tables, first_tables, second_tables, third_tables, first_stored, second_stored, tables_in}
+use Rattle.statements.specs.Tables.{Tables, Holds, HoldsAll, StoredTable, no_rows, our_tables, first_tables, second_tables, third_tables, first_stored, second_stored, tables_in}
 use Rattle.statements.specs.Making.{bare_table, KeepsTables, GrowsBy, GrowsByAll, KeepsMade, LeavesOthers, HasSchema, Alters, IsBeside, KeepsForeign, Raises, RaisesThird, edition_set, edition_moved, version_cleared}
 use Rattle.statements.specs.Changes.{bounds_filled, keepings_filled}
 use Rattle.statements.proofs.Begin.{none_made, holds_none, holds_second, holds_third}
@@ -151,14 +151,18 @@ foreign_then xs ys zs a b c one two = record {
 
 -- ---- from schema 1 to schema 2
 
+abbrev bare : Tables → Tables
+bare t = record t { bounds = []; editions = [] }
+
 raised_by : (a b c d e : State) → Alters (GrowsByAll second_tables) a b → MovesIn second_stored bounds_filled b c → MovesIn second_stored version_cleared c d → MovesIn second_stored (edition_set 2) d e → Raises a.now e.now
 raised_by a b c d e one two three four = record {
-  holds = λ t h. four.rows _ (three.rows _ (two.rows _ (holds_second b.now t (one.change.made (first_stored t) h))));
+  holds = λ t h. four.rows (version_cleared (bounds_filled (bare t))) (three.rows (bounds_filled (bare t)) (two.rows (bare t) (holds_second b.now t (one.change.made (first_stored t) h))));
   foreign = λ t h.
       let ours = first_tables ++ second_tables in
       let before = holds_second b.now t (one.change.made (first_stored t) h) in
-      let filled = two.rows _ before in
-      let left = left_then ours b.now d.now e.now (left_then ours b.now c.now d.now (two.others _ before) (three.others _ filled)) (four.others _ (three.rows _ filled)) in
+      let filled = two.rows (bare t) before in
+      let cleared = three.rows (bounds_filled (bare t)) filled in
+      let left = left_then ours b.now d.now e.now (left_then ours b.now c.now d.now (two.others (bare t) before) (three.others (bounds_filled (bare t)) filled)) (four.others (version_cleared (bounds_filled (bare t))) cleared) in
       foreign_kept first_tables second_tables a.now b.now e.now one.change left h.own.own;
 }
 
