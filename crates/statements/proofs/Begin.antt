@@ -1,5 +1,5 @@
 -- The tables that were just made have no rows, and those are all of ours.
-use Rattle.std.specs.Prelude.{[], ◌∷◌, ◌++◌, map}
+use Rattle.std.specs.Prelude.{[], ◌++◌, map}
 use Rattle.sqlite.specs.Effect.{Database}
 use Rattle.statements.specs.Tables.{Tables, Holds, HoldsSecond, HoldsAll, no_rows, our_tables, first_stored, second_stored, second_tables, third_tables}
 use Rattle.statements.specs.Making.{bare_table}
