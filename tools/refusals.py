@@ -64,16 +64,19 @@ BEHIND = 200
 # The story that the program `stories` tells.
 LEFT = "steps that a replay left are taken once"
 
-# The tables of the file, and those in which the rows that are due are told: a version with its text.
-TABLES = ["meta", "org", "token", "ws", "version", "run", "page", "vpage"]
+# The tables of the file, of the first version and of the second, and those in which the rows that are due are told: a
+# version with its text, and in a file of the first version each token with no end and the empty prefix.
+FIRST = ["meta", "org", "token", "ws", "version", "run", "page", "vpage"]
+TABLES = FIRST + ["bound", "edition"]
 TOLD = """
     CREATE TABLE org (name, cap);
     CREATE TABLE token (org, name, digest, role);
+    CREATE TABLE bound (org, name, until, prefix);
     CREATE TABLE ws (org, name, auto, kind, lock_id, lock_text, run, released, next_version, next_run);
     CREATE TABLE version (org, ws, number, serial, lineage, created, body);
     CREATE TABLE run (org, ws, number, plan_only, rkey, message, created, status, action);
 """
-COLUMNS = {"org": "*", "token": "*", "ws": "*", "version": "org, ws, number, serial, lineage, created", "run": "*"}
+COLUMNS = {"org": "*", "token": "*", "bound": "*", "ws": "*", "version": "org, ws, number, serial, lineage, created", "run": "*"}
 PAGE = 16384
 
 
@@ -128,12 +131,25 @@ def look_at_pages(db):
             raise Wrong("page %s" % key.hex())
 
 
+def tell_version(db, names):
+    """A file tells one version of the two, by the tables that it has; one of the first gets the bounds that are due, in memory."""
+    if names == sorted(FIRST):
+        told, due = db.execute("SELECT one, version FROM meta").fetchall(), [(1, 1)]
+        db.execute("CREATE TEMP TABLE bound AS SELECT org, name, NULL AS until, '' AS prefix FROM token")
+    elif names == sorted(TABLES):
+        told = db.execute("SELECT one, version FROM edition UNION ALL SELECT one, version FROM meta").fetchall()
+        due = [(1, 2)]
+    else:
+        raise Wrong("the tables are %s" % names)
+    if told != due:
+        raise Wrong("the version told is %s" % told)
+
+
 def rows_in_tables(db):
     names = sorted(name for (name,) in db.execute("SELECT name FROM sqlite_master WHERE type = 'table'"))
     if not names:
         return {name: [] for name in COLUMNS}
-    if names != sorted(TABLES):
-        raise Wrong("the tables are %s" % names)
+    tell_version(db, names)
     look_at_pages(db)
     rows = rows_of(db, COLUMNS)
     if db.execute("SELECT count(*) FROM vpage WHERE (org, ws, number) NOT IN (SELECT org, ws, number FROM version)").fetchone()[0]:
@@ -385,8 +401,9 @@ def steps_before(story):
 def words_of(sent):
     """The words of a command, as the program takes them, and its standard input."""
     words = sent.split(" ")
+    bounds = ["--" + words.pop() for word in words[5:]][::-1]
     secret = words.pop() + "\n" if words[0] == "token-add" else ""
-    return [words[0], "--db", "t.db"] + words[1:], secret.encode()
+    return [words[0], "--db", "t.db"] + bounds + words[1:], secret.encode()
 
 
 def refuse_service(custody, library, story, folder):
@@ -516,10 +533,19 @@ class Command:
             self.good.append(found)
 
 
+def copy(folder, line):
+    """A file of crates/stories/data, at a path in the folder."""
+    _, name, path = line.split(" ")
+    shutil.copyfile(os.path.join(os.path.dirname(stories.TEXT), "data", name), os.path.join(folder, path))
+
+
 def refuse_commands(custody, library, story, folder):
     """Each command of a story in turn, on the file that the commands before it left."""
     counts, due, file = Counts(), Due(), File(folder)
     for parts in story.plots:
+        if parts[0].line.startswith("copy "):
+            due.take(parts[0])
+            copy(folder, parts[0].line)
         if not parts[0].line.startswith("$ "):
             continue
         before = due.rows()
@@ -630,6 +656,8 @@ def tell(kind, name, counts, error):
 def main():
     if len(sys.argv) < 2:
         sys.exit(__doc__)
+    # (a file that others may read is told of)
+    os.umask(0o077)
     custody = os.path.abspath(sys.argv[1])
     program = os.path.abspath(sys.argv[2]) if len(sys.argv) > 2 else None
     total, failed = Counts(), 0

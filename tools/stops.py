@@ -5,11 +5,13 @@
 
 Tells the stories of TEXT (crates/stories/stdin) with STOPS_FOLDER set, so that the program writes the two files that every
 tenth stop leaves: as all was written, as it was synced, and torn. Beside each pair stand the rows before the step in which
-the power was cut (none where there was no database yet) and those behind it. SQLite has to find each pair sound
+the power was cut (none where there was no database yet, and those of the first version's tables where it was the first open
+of such a file) and those behind it. SQLite has to find each pair sound
 (integrity check, foreign keys check), and its rows have to be the one or the other.
 """
 
 import os
+import shutil
 import sqlite3
 import struct
 import subprocess
@@ -18,7 +20,8 @@ import tempfile
 
 HERE = os.path.dirname(os.path.abspath(__file__))
 STORIES = os.path.join(HERE, "..", "crates", "stories")
-TABLES = ["meta", "org", "token", "ws", "version", "run", "vpage", "page"]
+FIRST = ["meta", "org", "token", "ws", "version", "run", "vpage", "page"]
+FURTHER = ["bound", "edition"]
 WAYS = ["written", "synced", "torn"]
 
 
@@ -49,11 +52,12 @@ def marked(value):
 
 
 def rows_in(conn):
-    """The rows of each table, sorted; none where there is no table."""
+    """The rows of each table, sorted; none where there is no table, and those of eight where the file is of the first version."""
     made = {name for (name,) in conn.execute("SELECT name FROM sqlite_schema WHERE type = 'table'")}
     if not made:
         return []
-    return [sorted([marked(value) for value in row] for row in conn.execute(f"SELECT * FROM {table}")) for table in TABLES]
+    tables = FIRST + FURTHER if made & set(FURTHER) else FIRST
+    return [sorted([marked(value) for value in row] for row in conn.execute(f"SELECT * FROM {table}")) for table in tables]
 
 
 def looked_at(path, before):
@@ -84,6 +88,7 @@ def main():
     counts = dict.fromkeys(["before the step", "behind it", "no database yet"], 0)
     stops, pairs = 0, 0
     with tempfile.TemporaryDirectory() as room, tempfile.TemporaryDirectory() as folder:
+        shutil.copytree(os.path.join(STORIES, "data"), room, dirs_exist_ok=True)
         with open(text, "rb") as told:
             env = {**os.environ, "STOPS_FOLDER": folder}
             done = subprocess.run([program], stdin=told, stdout=subprocess.DEVNULL, cwd=room, env=env)

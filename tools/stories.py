@@ -15,7 +15,7 @@ import sys
 HERE = os.path.dirname(os.path.abspath(__file__))
 TEXT = os.path.join(HERE, "..", "crates", "stories", "stdin")
 VALUES = ["state", "lock", "settings", "run", "digest", "org", "ws", "lock-id", "secret", "number", "whole", "moment", "limit", "message", "line", "route", "asks", "kept"]
-FILES = ["file", "write", "table", "absent", "same", "peer", "breaks", "hidden", "mode", "chmod", "taken", "check"]
+FILES = ["file", "write", "copy", "table", "absent", "same", "peer", "breaks", "hidden", "mode", "chmod", "taken", "check"]
 ESCAPES = {"r": b"\r", "n": b"\n", "t": b"\t", "\\": b"\\"}
 
 
@@ -60,7 +60,7 @@ def marked(line, marks):
 
 class Story:
     def __init__(self, name):
-        self.name, self.after, self.links, self.steps, self.plots = name, None, [], [], []
+        self.name, self.after, self.begins, self.links, self.steps, self.plots = name, None, None, [], [], []
 
 
 def read(text):
@@ -91,6 +91,10 @@ def read(text):
             continue
         if mark == "after":
             story.after = stories[rest]
+            continue
+        mark, rest = marked(line, ["begins"])
+        if mark:
+            story.begins = rest
             continue
         mark, rest = marked(line, ["links"])
         if mark:
@@ -155,7 +159,9 @@ def due(told, at, method, part):
 
 
 def steps_of(story):
-    """All steps of a story of a store, those that come before it too; None for a story of the program or of values."""
+    """All steps of a story of a store, those that come before it too; None for a story of the program or of values, and for one that begins with a file."""
+    if story.begins:
+        return None
     before = steps_of(story.after) if story.after else []
     steps = [it for it in story.steps if it]
     return before + steps if steps and before is not None else None

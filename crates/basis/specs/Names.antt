@@ -2,7 +2,7 @@
 use Rattle.std.specs.Prelude.{ℕ, List, ◌++◌, length, Bool, not, ◌&&◌, ◌||◌, ◌==◌, nat_eq, nat_le, slice_index, codes, decimal}
 use Rattle.std.specs.List.{list_all, starts_with}
 use Rattle.std.specs.Char.{is_ascii_digit, is_ascii_lowercase, is_ascii_alphanumeric}
-use Rattle.basis.specs.declared.names.TheConstants.{MAX_ORG_NAME, MAX_WS_NAME, MAX_LOCK_ID, MIN_SECRET, MAX_SECRET}
+use Rattle.basis.specs.declared.names.TheConstants.{MAX_ORG_NAME, MAX_WS_NAME, MAX_PREFIX, MAX_LOCK_ID, MIN_SECRET, MAX_SECRET}
 
 -- between the least and the most bytes
 abbrev pub has_length : ℕ → ℕ → List ℕ → Bool
@@ -23,6 +23,14 @@ is_ws_byte b = is_ascii_alphanumeric b || b == 45 || b == 95
 -- 1 to MAX_WS_NAME bytes of these
 abbrev pub is_ws_name : List ℕ → Bool
 is_ws_name text = has_length 1 MAX_WS_NAME text && list_all is_ws_byte text
+
+-- how names of workspaces may begin: no more than MAX_PREFIX bytes of these
+abbrev pub is_prefix : List ℕ → Bool
+is_prefix text = has_length 0 MAX_PREFIX text && list_all is_ws_byte text
+
+-- a prefix admits the names that begin with it, byte for byte: the empty one admits each
+abbrev pub admits : List ℕ → List ℕ → Bool
+admits prefix name = starts_with nat_eq name prefix
 
 -- 1 to MAX_LOCK_ID bytes of text
 abbrev pub is_lock_id : List ℕ → Bool

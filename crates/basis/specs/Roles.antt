@@ -1,6 +1,7 @@
 -- Roles in their order: each includes the ones before.
-use Rattle.std.specs.Prelude.{ℕ, Bool, List, codes, nat_le}
+use Rattle.std.specs.Prelude.{ℕ, Bool, true, List, Option, Some, None, codes, nat_le, nat_lt}
 use Rattle.basis.specs.declared.roles.Role.{Role}
+use Rattle.basis.specs.declared.roles.Caller.{Caller}
 use Rattle.basis.specs.declared.roles.Role.TheVariants.{Read, Write, Admin}
 
 abbrev pub rank : Role → ℕ
@@ -17,3 +18,12 @@ abbrev pub role_word : Role → List ℕ
 role_word Read = codes "read"
 role_word Write = codes "write"
 role_word Admin = codes "admin"
+
+-- a moment before an end, where there is one
+abbrev pub is_before : ℕ → Option ℕ → Bool
+is_before now None = true
+is_before now (Some until) = nat_lt now until
+
+-- a token counts before its end, and always where it has none
+abbrev pub counts_at : ℕ → Caller → Bool
+counts_at now caller = is_before now caller.until

@@ -1,8 +1,8 @@
 //! Names, IDs and secrets.
-ghost use Rattle.std.specs.Prelude.{◌≡◌, ◌↔◌, ℕ, List, true, false, IsTrue, IfOk, IsErrOf, string_bytes, bytes_eq, decimal};
+ghost use Rattle.std.specs.Prelude.{◌≡◌, ◌↔◌, ℕ, List, [], true, false, IsTrue, IfOk, IsErrOf, string_bytes, bytes_eq, decimal};
 ghost use Rattle.std.specs.List.{list_all};
 ghost use Rattle.std.specs.Char.{is_ascii_alphanumeric};
-ghost use Rattle.basis.specs.Names.{is_org_name, is_org_byte, is_ws_name, is_ws_byte, is_lock_id, is_free_id, run_id, is_secret, has_length};
+ghost use Rattle.basis.specs.Names.{is_org_name, is_org_byte, is_ws_name, is_ws_byte, is_prefix, admits, is_lock_id, is_free_id, run_id, is_secret, has_length};
 
 use crate::memory::Unfit;
 use crate::numbers::Number;
@@ -15,6 +15,9 @@ pub const MAX_ORG_NAME: usize = 40;
 
 /// The most bytes of a workspace's name.
 pub const MAX_WS_NAME: usize = 90;
+
+/// The most bytes of a prefix of workspaces' names.
+pub const MAX_PREFIX: usize = 90;
 
 /// The most bytes of a lock's ID.
 pub const MAX_LOCK_ID: usize = 128;
@@ -95,6 +98,58 @@ impl WsName {
         ensures fits { IsTrue (is_ws_name self.now) }
     {
         self.text.as_str()
+    }
+}
+
+/// How the names of the workspaces begin that a token counts for: 0 to 90 ASCII letters, digits, `-`
+/// and `_`. The empty prefix is every workspace.
+#[derive(Clone, Drop)]
+pub struct Prefix {
+    text: String,
+}
+
+impl Model for Prefix {
+    ghost Value = { List ℕ };
+
+    ghost view = { λ prefix. string_bytes prefix.text };
+
+    ghost invariant = { λ prefix. IsTrue (is_prefix (string_bytes prefix.text)) };
+}
+
+impl Prefix {
+    /// The empty prefix.
+    pub fn new(alloc: Global) -> Prefix
+        ensures { result ≡ [] }
+    {
+        Prefix {
+            text: String::new(alloc),
+        }
+    }
+
+    pub fn read(alloc: Global, text: &str) -> Result<Prefix, Unfit>
+        ensures ok { IfOk result (λ prefix. prefix ≡ text.now) }
+        ensures syntax { IsErrOf result Unfit.Syntax ↔ (is_prefix text.now ≡ false) }
+        ensures fits { IfOk result (λ prefix. IsTrue (is_prefix prefix)) }
+    {
+        if !is_prefix(text.as_bytes()) {
+            return Err(Unfit::Syntax);
+        }
+        let text = String::from_str(alloc, text)?;
+        Ok(Prefix { text })
+    }
+
+    pub fn as_str(&self) -> &str
+        ensures text { result.now ≡ self.now }
+        ensures fits { IsTrue (is_prefix self.now) }
+    {
+        self.text.as_str()
+    }
+
+    /// Whether a workspace of this name is one of those: the name begins with the prefix, byte for byte.
+    pub fn admits(&self, name: &str) -> bool
+        ensures { result ≡ admits self.now name.now }
+    {
+        name.as_bytes().starts_with(self.text.as_bytes())
     }
 }
 
@@ -225,6 +280,12 @@ fn is_ws_byte(b: u8) -> bool
     ensures { result ≡ is_ws_byte b }
 {
     b.is_ascii_alphanumeric() || b == b'-' || b == b'_'
+}
+
+fn is_prefix(text: &[u8]) -> bool
+    ensures { result ≡ is_prefix text.now }
+{
+    has_length(text, 0, MAX_PREFIX) && all_ws_bytes(text)
 }
 
 fn is_lock_id(text: &[u8]) -> bool

@@ -1,7 +1,12 @@
 //! Roles of tokens.
-ghost use Rattle.std.specs.Prelude.{◌≡◌, ◌≢◌, Some, None, IfSome, IfNone};
-ghost use Rattle.basis.specs.Roles.{includes, role_word};
+ghost use Rattle.std.specs.Prelude.{◌≡◌, ◌≢◌, ◌≤◌, Some, None, IfSome, IfNone};
+ghost use Rattle.basis.specs.Roles.{includes, role_word, counts_at, is_before};
+ghost use Rattle.basis.specs.declared.numbers.TheConstants.{MAX_MOMENT};
 ghost use Rattle.basis.specs.declared.roles.Role.{Role as AnyRole};
+
+use crate::names::Prefix;
+use crate::numbers::{MAX_MOMENT, Moment};
+use std::alloc::AllocError;
 
 /// What a token may do. Each role includes the ones before.
 #[derive(Clone, Copy, PartialEq, Eq)]
@@ -37,8 +42,53 @@ impl Role {
     }
 }
 
-/// Who asks, by a token: what it may do.
-#[derive(Clone, Copy)]
+/// How far a token reaches: until which moment it counts, if it ends, and for which workspaces.
+#[derive(Clone, Drop)]
+pub struct Bounds {
+    pub until: Option<Moment>,
+    pub prefix: Prefix,
+}
+
+/// Who asks, by a token: what it may do, until which moment it counts, if it ends, and for which
+/// workspaces.
+#[derive(Clone, Drop)]
 pub struct Caller {
     pub role: Role,
+    pub until: Option<Moment>,
+    pub prefix: Prefix,
+}
+
+impl Bounds {
+    /// The moment from which the token doesn't count, if it ends.
+    pub fn end(&self) -> Option<Moment>
+        ensures value { result ≡ self.now.until }
+        ensures most { IfSome result (λ end. end ≤ MAX_MOMENT) }
+    {
+        match self.until {
+            None => None,
+            Some(until) => {
+                prove!(until.seconds() <= MAX_MOMENT);
+                Some(until)
+            }
+        }
+    }
+}
+
+impl Caller {
+    /// Whether the token counts at this moment: it doesn't end, or ends later.
+    pub fn counts_at(&self, now: Moment) -> bool
+        ensures { result ≡ counts_at now self.now }
+    {
+        is_before(now, self.until)
+    }
+}
+
+// Whether a moment is before an end, where there is one.
+fn is_before(now: Moment, until: Option<Moment>) -> bool
+    ensures { result ≡ is_before now until }
+{
+    match until {
+        None => true,
+        Some(until) => now.seconds() < until.seconds(),
+    }
 }

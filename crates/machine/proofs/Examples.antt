@@ -1,9 +1,12 @@
 -- Worked steps of one workspace, computed by the definitions themselves.
-use Rattle.std.proofs.Common.{◌≡◌, ℕ, ◌<◌, ◌≤◌, inl, inr, [], ◌∷◌, List, filter, length, map, Bool, Option, Some, None, false, refl, true, sym, arith}
+use Rattle.std.proofs.Common.{◌≡◌, ℕ, ◌<◌, ◌≤◌, inl, inr, [], ◌∷◌, List, replicate, filter, length, map, Bool, Option, Some, None, false, refl, true, sym, arith}
 use Rattle.std.specs.List.{AllByRecursion, range_with_len}
 use Rattle.std.specs.Prelude.{codes}
 use Rattle.std.specs.Fmt.{digits}
-use Rattle.basis.specs.Names.{run_id}
+use Rattle.basis.specs.Names.{run_id, is_prefix, admits}
+use Rattle.basis.specs.Roles.{counts_at}
+use Rattle.basis.specs.declared.roles.Caller.{Caller}
+use Rattle.basis.specs.declared.roles.Role.TheVariants.{Read}
 use Rattle.basis.specs.declared.refusals.Refusal.TheVariants.{NotFound, NotHeld, NotApplying, OtherLineage, OldSerial, OverLimit, WrongState, HeldByRun, OpenRuns, Locked}
 use Rattle.basis.specs.declared.rows.Look.TheVariants as look
 use Rattle.basis.specs.declared.rows.RunAsk.{RunAsk}
@@ -16,7 +19,7 @@ use Rattle.machine.specs.RunSteps.{next_status}
 use Rattle.machine.specs.Workspaces.{new_workspace}
 use Rattle.machine.specs.Writing.{may_write}
 use Rattle.machine.specs.Rules.{refused, held, done, no_state, state, workspace, the_run, versions, rules}
-use Rattle.machine.specs.Showing.{shown_of, comes_after}
+use Rattle.machine.specs.Showing.{shown_of, row_of, comes_after, workspaces_listed}
 use Rattle.basis.specs.Listings.{listing_of}
 use Rattle.machine.specs.Laws.{Rises, IsRun, IsHolder, KeysDiffer, IsLawful}
 use Rattle.machine.specs.Settling.{is_waiting}
@@ -401,6 +404,34 @@ fifty_one = refl
 -- names come in the order of their bytes: capital letters first, and a name after those that it begins with
 orders : (comes_after (Some (codes "Net")) (codes "a_1") ≡ true) × (comes_after (Some (codes "net")) (codes "net2") ≡ true) × (comes_after (Some (codes "net")) (codes "net") ≡ false)
 orders = (refl, refl, refl)
+
+-- a prefix is compared byte for byte: a low line is one, and stands for no other byte
+abbrev a_ : List ℕ
+a_ = codes "a_"
+
+abbrev workspaces_of : List (List ℕ) → List (List ℕ × Workspace)
+workspaces_of names = map (λ (name : List ℕ). (name, empty)) names
+
+admitted_alone : workspaces_listed None a_ (workspaces_of (codes "A_1" ∷ codes "a_1" ∷ codes "ab1" ∷ [])) ≡ listing_of (row_of (codes "a_1") (shown_of empty) ∷ [])
+admitted_alone = refl
+
+-- the empty prefix admits each name, and a name is admitted by itself, and by none that is longer
+admits_each : (admits [] net ≡ true) × (admits net net ≡ true) × (admits (codes "net2") net ≡ false)
+admits_each = (refl, refl, refl)
+
+-- a prefix of 90 bytes is one, and one of 91 isn't; nor is one with a dot, or with a space
+prefixes : (is_prefix [] ≡ true) × (is_prefix a_ ≡ true) × (is_prefix (replicate 90 110) ≡ true) × (is_prefix (replicate 91 110) ≡ false) × (is_prefix (codes "a.") ≡ false) × (is_prefix (codes "a ") ≡ false)
+prefixes = (refl, refl, refl, refl, refl, refl)
+
+-- a token that ends at 1700000010 counts a second before, and no longer at that moment
+abbrev until_10 : Caller
+until_10 = record { role = Read; until = Some 1_700_000_010; prefix = a_ }
+
+counted : (counts_at 1_700_000_009 until_10 ≡ true) × (counts_at 1_700_000_010 until_10 ≡ false)
+counted = (refl, refl)
+
+counted_without_end : counts_at 253_402_300_799 (record until_10 { until = None }) ≡ true
+counted_without_end = refl
 
 -- where the actions lead from each status: of a queued run, of one under auto-apply, and of a plan-only one
 abbrev actions : List RunAction

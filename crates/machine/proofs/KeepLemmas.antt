@@ -1,5 +1,5 @@
 -- What a change does to the laws of records.
-use Rattle.std.proofs.Common.{◌≡◌, ◌≢◌, ℕ, Bool, true, false, ◌||◌, cond, List, [], ◌∷◌, length, Option, Some, None, Result, Ok, Err, OnOk, OnErr, IfOk, IsTrue, is_some, nat_lt, refl, sym, ap, subst, ◌∙◌, ◌≤◌}
+use Rattle.std.proofs.Common.{◌≡◌, ◌≢◌, ℕ, Bool, true, false, ◌||◌, cond, List, [], ◌∷◌, Option, Some, None, Result, Ok, Err, OnOk, OnErr, IfOk, IsTrue, is_some, nat_lt, refl, sym, ap, subst, ◌∙◌, ◌≤◌}
 use Rattle.std.specs.Prelude.{option_map}
 use Rattle.std.specs.Str.{bytes_eq}
 use Rattle.std.specs.Ordering.{is_eq}
@@ -7,7 +7,7 @@ use Rattle.std.specs.FinMap.{FinMap, entries, get, insert, remove, empty, get-em
 use Rattle.std.specs.FinMap.Entries.{find}
 use Rattle.std.specs.declared.cmp.Ordering.{Ordering}
 use Rattle.std.proofs.lemmas.Slice.Eq.{bytes_eq-Decides}
-use Rattle.basis.specs.Names.{is_org_name, is_ws_name}
+use Rattle.basis.specs.Names.{is_ws_name}
 use Rattle.machine.specs.Order.{name_cmp}
 use Rattle.machine.specs.Effects.{effect}
 use Rattle.machine.specs.Laws.{IsLawful, IsLawfulIfThere, IsToken, IsNamedWorkspace, IsLawfulOrganization, AreLawful}
@@ -161,9 +161,9 @@ one_token : (t u : Token) → Some t ≡ Some u → t ≡ u
 one_token t u e = cc
 
 -- a token more, whose name is one and whose digest is new
-token_is_lawful : (o : Organization) (name : List ℕ) (token : Token) → IsLawfulOrganization o → IsTrue (is_org_name name) → length token.digest ≡ 32 → has_digest token.digest o ≡ false
+token_is_lawful : (o : Organization) (name : List ℕ) (token : Token) → IsLawfulOrganization o → IsToken name token → has_digest token.digest o ≡ false
     → IsLawfulOrganization (with_token o name token)
-token_is_lawful o name token lawful named long none = record {
+token_is_lawful o name token lawful fits none = record {
   limit = lawful.limit;
   tokens = λ q t e. of_name q t e (bytes_eq q name) refl;
   digests = λ q p t u e f d. of_both q p t u e f d (bytes_eq q name) (bytes_eq p name) refl refl;
@@ -177,10 +177,7 @@ token_is_lawful o name token lawful named long none = record {
     other q t e b = sym (get_other o.tokens name token q (apart_from q name b)) ∙ e
 
     of_name : (q : List ℕ) (t : Token) → get (insert o.tokens name token) q ≡ Some t → (b : Bool) → bytes_eq q name ≡ b → IsToken q t
-    of_name q t e true b = record {
-      named = subst (λ (p : List ℕ). IsTrue (is_org_name p)) (sym ((bytes_eq-Decides q name).0 b)) named;
-      digest = ap (λ (x : Token). length x.digest) (sym (own q t e b)) ∙ long;
-    }
+    of_name q t e true b = subst (IsToken q) (own q t e b) (subst (λ (p : List ℕ). IsToken p token) (sym ((bytes_eq-Decides q name).0 b)) fits)
     of_name q t e false b = lawful.tokens q t (other q t e b)
 
     of_both : (q p : List ℕ) (t u : Token) → get (insert o.tokens name token) q ≡ Some t → get (insert o.tokens name token) p ≡ Some u → t.digest ≡ u.digest
@@ -192,23 +189,23 @@ token_is_lawful o name token lawful named long none = record {
         absurd (digest_apart o token.digest q t none (other q t e b) (d ∙ ap (λ (x : Token). x.digest) (sym (own p u f c))))
     of_both q p t u e f d false false b c = lawful.digests q p t u (other q t e b) (other p u f c) d
 
-with_token_is_lawful : (name : List ℕ) (token : Token) (r : Option Organization) → IsTrue (is_org_name name) → length token.digest ≡ 32 → ((o : Organization) → r ≡ Some o → IsLawfulOrganization o)
+with_token_is_lawful : (name : List ℕ) (token : Token) (r : Option Organization) → IsToken name token → ((o : Organization) → r ≡ Some o → IsLawfulOrganization o)
     → (o : Organization) → (token_added name token r).left ≡ Some o → IsLawfulOrganization o
-with_token_is_lawful name token None named long lawful o e = absurd (let none : ⊥ = cc in none)
-with_token_is_lawful name token (Some p) named long lawful o e = chosen (is_some (get p.tokens name)) (has_digest token.digest p) refl e
+with_token_is_lawful name token None fits lawful o e = absurd (let none : ⊥ = cc in none)
+with_token_is_lawful name token (Some p) fits lawful o e = chosen (is_some (get p.tokens name)) (has_digest token.digest p) refl e
   where
     chosen : (a b : Bool) → has_digest token.digest p ≡ b → (cond (a || b) (effect Exists (Some p)) (effect Done (Some (with_token p name token)))).left ≡ Some o → IsLawfulOrganization o
     chosen true b t e = lawful o e
     chosen false true t e = lawful o e
-    chosen false false t e = subst IsLawfulOrganization (one_of (with_token p name token) o e) (token_is_lawful p name token (lawful p refl) named long t)
+    chosen false false t e = subst IsLawfulOrganization (one_of (with_token p name token) o e) (token_is_lawful p name token (lawful p refl) fits t)
 
-pub token_add_keeps : {E : Type 0} (r : Result AdminAnswer E) (old new : Rows) (org name : List ℕ) (token : Token) → IsTrue (is_org_name name) → length token.digest ≡ 32 → AreLawful (λ q. get old q)
+pub token_add_keeps : {E : Type 0} (r : Result AdminAnswer E) (old new : Rows) (org name : List ℕ) (token : Token) → IsToken name token → AreLawful (λ q. get old q)
     → IfOk r (λ answer. effect answer (get new org) ≡ token_added name token (get old org)) → ((q : List ℕ) → q ≢ org → get new q ≡ get old q)
     → OnErr r (new ≡ old) → AreLawful (λ q. get new q)
-token_add_keeps (Ok answer) old new org name token named long lawful own others err =
+token_add_keeps (Ok answer) old new org name token fits lawful own others err =
     kept_by (λ q. get old q) (λ q. get new q) org lawful others
-    (λ o e. with_token_is_lawful name token (get old org) named long (lawful org) o (sym (ap (λ x. x.left) own) ∙ e))
-token_add_keeps (Err fault) old new org name token named long lawful own others err = subst (λ (m : Rows). AreLawful (λ q. get m q)) (sym err) lawful
+    (λ o e. with_token_is_lawful name token (get old org) fits (lawful org) o (sym (ap (λ x. x.left) own) ∙ e))
+token_add_keeps (Err fault) old new org name token fits lawful own others err = subst (λ (m : Rows). AreLawful (λ q. get m q)) (sym err) lawful
 
 -- a token that stays is the same token
 token_stays : (o : Organization) (name q : List ℕ) (t : Token) → get (remove o.tokens name) q ≡ Some t → (b : Bool) → bytes_eq q name ≡ b → get o.tokens q ≡ Some t

@@ -1,5 +1,5 @@
 -- In a list that rises, what comes after an item is what stands behind it.
-use Rattle.std.proofs.Common.{◌≡◌, ℕ, zero, suc, ◌<◌, nat_lt, Bool, true, false, T, cond, List, [], ◌∷◌, map, filter, drop, slice_get, Option, Some, None, refl, sym, ap, subst, ◌∙◌, arith}
+use Rattle.std.proofs.Common.{◌≡◌, ℕ, zero, suc, ◌<◌, nat_lt, Bool, true, false, T, ◌&&◌, cond, List, [], ◌∷◌, map, filter, drop, slice_get, Option, Some, None, refl, sym, ap, subst, ◌∙◌, arith}
 use Rattle.std.specs.Bool.{⊤}
 use Rattle.std.specs.List.{AllByRecursion}
 use Rattle.std.specs.Ordering.{is_lt, ordering_reverse}
@@ -9,10 +9,12 @@ use Rattle.std.specs.Cmp.{tied_itself}
 use Rattle.std.specs.FinMap.{entries, entries_sorted, is_sorted}
 use Rattle.std.specs.FinMap.Entries.{below_all}
 use Rattle.std.proofs.lemmas.Bool.{ltb-true, lt-ltb, le-ltb}
+use Rattle.basis.specs.Names.{admits}
 use Rattle.machine.specs.Order.{name_cmp}
 use Rattle.machine.specs.Laws.{Rises}
 use Rattle.machine.specs.Showing.{comes_after}
-use Rattle.machine.specs.Paging.{WorkspacePagesFollow, VersionPagesFollow, RunPagesFollow}
+use Rattle.machine.specs.Paging.{workspaces_from, WorkspacePagesFollow, VersionPagesFollow, RunPagesFollow}
+use Rattle.machine.specs.declared.records.Organization.{Organization}
 use Rattle.machine.specs.declared.records.Run.{Run}
 use Rattle.machine.specs.declared.records.Version.{Version}
 use Rattle.machine.specs.declared.records.Workspace.{Workspace}
@@ -147,10 +149,30 @@ module _ {X : Type 0} where
   later_too None e f past more = refl
   later_too (Some a) e f past more = ap (λ (o : Ordering). is_lt o) (names_total.trans a e.0 f.0 (less_is (name_cmp a e.0) past) (less_is (name_cmp e.0 f.0) more))
 
+-- one test after the other is both at once
+in_turn : {X : Type 0} (p q : X → Bool) (xs : List X) → filter q (filter p xs) ≡ filter (λ x. p x && q x) xs
+in_turn p q [] = refl
+in_turn p q (x ∷ xs) = by_test (p x) (in_turn p q xs)
+  where
+    by_test : (b : Bool) → filter q (filter p xs) ≡ filter (λ y. p y && q y) xs
+        → filter q (cond b (x ∷ filter p xs) (filter p xs)) ≡ cond (b && q x) (x ∷ filter (λ y. p y && q y) xs) (filter (λ y. p y && q y) xs)
+    by_test true rest = ap (λ l. cond (q x) (x ∷ l) l) rest
+    by_test false rest = rest
+
+-- the workspaces that a prefix admits
+abbrev admitted : List ℕ → Organization → List (List ℕ × Workspace)
+admitted prefix o = filter (λ (f : List ℕ × Workspace). admits prefix f.0) (entries o.workspaces)
+
 pub workspace_pages : WorkspacePagesFollow
-workspace_pages after o e at =
-    pages_follow earlier earlier_back earlier_itself (λ (f : List ℕ × Workspace). comes_after after f.0) (entries o.workspaces) 49 e (λ f past more. later_too after e f past more)
-    (sorted_ascends (entries o.workspaces) (entries_sorted o.workspaces)) at
+workspace_pages after prefix o e at =
+    sym (listed (Some e.0))
+    ∙ pages_follow earlier earlier_back earlier_itself (λ (f : List ℕ × Workspace). comes_after after f.0) (admitted prefix o) 49 e (λ f past more. later_too after e f past more)
+    (ascends_still earlier earlier_back earlier_itself (λ (f : List ℕ × Workspace). admits prefix f.0) (entries o.workspaces) (sorted_ascends (entries o.workspaces) (entries_sorted o.workspaces)))
+    (ap (λ (l : List (List ℕ × Workspace)). slice_get l 49) (listed after) ∙ at)
+    ∙ ap (drop 50) (listed after)
+  where
+    listed : (from : Option (List ℕ)) → filter (λ (f : List ℕ × Workspace). comes_after from f.0) (admitted prefix o) ≡ workspaces_from from prefix o
+    listed from = in_turn (λ (f : List ℕ × Workspace). admits prefix f.0) (λ (f : List ℕ × Workspace). comes_after from f.0) (entries o.workspaces)
 
 pub version_pages : VersionPagesFollow
 version_pages after w v lawful at = numbers_follow (λ (u : Version). u.number) after 0 w.next_version w.versions v 49 lawful.versions.rise at

@@ -3,7 +3,7 @@ use Rattle.std.specs.Prelude.{◌≡◌, ℕ, ◌+◌, ◌^◌, ◌<◌, ◌≤�
 use Rattle.std.specs.List.{AllByRecursion, list_any}
 use Rattle.std.specs.Str.{bytes_eq}
 use Rattle.std.specs.FinMap.{get}
-use Rattle.basis.specs.Names.{is_org_name, is_ws_name, is_free_id, has_length}
+use Rattle.basis.specs.Names.{is_org_name, is_ws_name, is_prefix, is_free_id, has_length}
 use Rattle.basis.specs.declared.runs.RunStatus.{RunStatus}
 use Rattle.basis.specs.declared.runs.RunStatus.TheVariants.{Pending, Planning, Planned, Applying, Applied, PlannedAndFinished, Errored, Discarded, Canceled}
 use Rattle.basis.specs.declared.runs.RunAction.{RunAction}
@@ -122,10 +122,12 @@ pub record IsLawful (w : Workspace) : Type 0 where
   pub runs : AreRuns w.holder w.next_run w.runs
   pub released : IfSome w.released (λ id. IsTrue (is_free_id id))
 
--- a token's name is one, and its digest has 32 bytes
+-- a token's name is one, its digest has 32 bytes, its end is a moment, if it ends, and its prefix is one
 pub record IsToken (name : List ℕ) (t : Token) : Type 0 where
   pub named : IsTrue (is_org_name name)
   pub digest : length t.digest ≡ 32
+  pub until : IfSome t.caller.until (λ until. IsMoment until)
+  pub prefix : IsTrue (is_prefix t.caller.prefix)
 
 -- a workspace's name is one, and the workspace is lawful
 pub record IsNamedWorkspace (name : List ℕ) (w : Workspace) : Type 0 where

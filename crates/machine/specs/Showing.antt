@@ -1,8 +1,9 @@
 -- What is shown of a workspace, its versions and its runs, and the lists of them.
-use Rattle.std.specs.Prelude.{ℕ, nat_lt, Bool, true, List, [], length, map, filter, Option, Some, None, option_map}
+use Rattle.std.specs.Prelude.{ℕ, nat_lt, Bool, true, ◌&&◌, List, [], length, map, filter, Option, Some, None, option_map}
 use Rattle.std.specs.FinMap.{entries}
 use Rattle.std.specs.Ordering.{is_lt}
 use Rattle.basis.specs.Listings.{listing_of}
+use Rattle.basis.specs.Names.{admits}
 use Rattle.basis.specs.declared.rows.HolderId.{HolderId}
 use Rattle.basis.specs.declared.rows.HolderId.TheVariants.{Lock as LockHolder, Run as RunHolder}
 use Rattle.basis.specs.declared.rows.Listing.{Listing}
@@ -46,13 +47,17 @@ abbrev pub comes_after : Option (List ℕ) → List ℕ → Bool
 comes_after None name = true
 comes_after (Some after) name = is_lt (name_cmp after name)
 
--- the list of an organization's workspaces after a name, in the order of the names' bytes
-abbrev pub workspaces_listed : Option (List ℕ) → List (List ℕ × Workspace) → Listing WsRow
-workspaces_listed after es = listing_of (map (λ (e : List ℕ × Workspace). row_of e.0 (shown_of e.1)) (filter (λ (e : List ℕ × Workspace). comes_after after e.0) es))
+-- whether a name is to be listed: a prefix admits it, and it comes after another, if there is another
+abbrev pub is_listed : Option (List ℕ) → List ℕ → List ℕ → Bool
+is_listed after prefix name = admits prefix name && comes_after after name
 
-abbrev pub workspaces_after : Option (List ℕ) → Option Organization → Listing WsRow
-workspaces_after after None = listing_of []
-workspaces_after after (Some o) = workspaces_listed after (entries o.workspaces)
+-- the list of an organization's workspaces that a prefix admits, after a name, in the order of the names' bytes
+abbrev pub workspaces_listed : Option (List ℕ) → List ℕ → List (List ℕ × Workspace) → Listing WsRow
+workspaces_listed after prefix es = listing_of (map (λ (e : List ℕ × Workspace). row_of e.0 (shown_of e.1)) (filter (λ (e : List ℕ × Workspace). is_listed after prefix e.0) es))
+
+abbrev pub workspaces_after : Option (List ℕ) → List ℕ → Option Organization → Listing WsRow
+workspaces_after after prefix None = listing_of []
+workspaces_after after prefix (Some o) = workspaces_listed after prefix (entries o.workspaces)
 
 -- the list of a workspace's versions with numbers after another, and that of its runs
 abbrev pub versions_listed : ℕ → List Version → Listing VersionRow

@@ -1,9 +1,10 @@
 -- Callers, and the operator's commands on one organization.
-use Rattle.std.specs.Prelude.{◌≡◌, ℕ, Bool, true, cond, List, [], ◌∷◌, Option, Some, None, IsSomeAnd, is_some, ◌||◌, ⊤}
+use Rattle.std.specs.Prelude.{◌≡◌, ℕ, Bool, true, cond, List, [], ◌∷◌, map, Option, Some, None, IsSomeAnd, is_some, ◌||◌, ⊤}
 use Rattle.std.specs.List.{AllByRecursion, list_any}
 use Rattle.std.specs.Ordering.{is_lt}
 use Rattle.std.specs.Str.{bytes_eq}
 use Rattle.std.specs.FinMap.{empty, entries, get, insert, remove}
+use Rattle.basis.specs.declared.roles.Bounds.{Bounds}
 use Rattle.basis.specs.declared.roles.Role.{Role}
 use Rattle.machine.specs.Effects.{Effect, effect}
 use Rattle.machine.specs.Order.{name_cmp}
@@ -11,8 +12,9 @@ use Rattle.machine.specs.Records.{count_of}
 use Rattle.machine.specs.declared.records.Token.{Token}
 use Rattle.machine.specs.declared.records.Organization.{Organization}
 use Rattle.machine.specs.declared.keeps.AdminAnswer.{AdminAnswer}
-use Rattle.machine.specs.declared.keeps.AdminAnswer.TheVariants.{Done, Exists, Absent, Organizations}
+use Rattle.machine.specs.declared.keeps.AdminAnswer.TheVariants.{Done, Exists, Absent, Organizations, Tokens}
 use Rattle.machine.specs.declared.keeps.OrgRow.{OrgRow}
+use Rattle.machine.specs.declared.keeps.TokenRow.{TokenRow}
 
 -- the first entry with a digest
 abbrev pub token_with : List ℕ → List (List ℕ × Token) → Option Token
@@ -49,8 +51,8 @@ abbrev pub org_limited : ℕ → Option Organization → Managed
 org_limited limit None = effect Absent None
 org_limited limit (Some o) = effect Done (Some (with_limit o limit))
 
-abbrev pub token_of : List ℕ → Role → Token
-token_of digest role = record { digest = digest; caller = record { role = role } }
+abbrev pub token_of : List ℕ → Role → Bounds → Token
+token_of digest role bounds = record { digest = digest; caller = record { role = role; until = bounds.until; prefix = bounds.prefix } }
 
 -- adding a token: neither its name nor its digest may be there
 abbrev pub with_token : Organization → List ℕ → Token → Organization
@@ -68,6 +70,17 @@ without_token o name = record o { tokens = remove o.tokens name }
 abbrev pub token_revoked : List ℕ → Option Organization → Managed
 token_revoked name None = effect Absent None
 token_revoked name (Some o) = cond (is_some (get o.tokens name)) (effect Done (Some (without_token o name))) (effect Absent (Some o))
+
+-- the list of an organization's tokens, in the order of their names' bytes: who asks by each, and no digest
+abbrev pub token_row : List ℕ → Token → TokenRow
+token_row name token = record { name = name; caller = token.caller }
+
+abbrev pub tokens_listed : List (List ℕ × Token) → List TokenRow
+tokens_listed es = map (λ (e : List ℕ × Token). token_row e.0 e.1) es
+
+abbrev pub tokens_told : Option Organization → AdminAnswer
+tokens_told None = Absent
+tokens_told (Some o) = Tokens (tokens_listed (entries o.tokens))
 
 -- the list of all organizations: exactly those that are there, in the order of their names' bytes, each with how many workspaces it has and its limit
 abbrev pub is_row_of : List ℕ → OrgRow → Bool
@@ -90,3 +103,4 @@ ListsOrganizations records Done = ⊥
 ListsOrganizations records Exists = ⊥
 ListsOrganizations records Absent = ⊥
 ListsOrganizations records (Organizations rows) = AreOrganizations records rows
+ListsOrganizations records (Tokens rows) = ⊥

@@ -5,7 +5,7 @@ ghost use Rattle.machine.specs.Effects.{effect};
 ghost use Rattle.machine.specs.Laws.{AreLawful};
 ghost use Rattle.machine.specs.Keeping.{Looks};
 ghost use Rattle.machine.specs.Showing.{workspaces_after, versions_after, runs_after};
-ghost use Rattle.machine.specs.Tokens.{caller_of, org_added, org_limited, token_added, token_revoked, token_of, ListsOrganizations};
+ghost use Rattle.machine.specs.Tokens.{caller_of, org_added, org_limited, token_added, token_revoked, token_of, tokens_told, ListsOrganizations};
 ghost use Rattle.machine.specs.Records.{workspace_in, seen_in, placed};
 ghost use Rattle.machine.specs.Changes.{changed_by, IsDue};
 ghost use Rattle.machine.specs.Units.{unit_of, version_text};
@@ -13,8 +13,8 @@ ghost use Rattle.machine.specs.declared.records.Organization.{Organization as An
 
 use crate::acts::{Act, Change, Unit};
 use basis::{
-    Bytes, Caller, Down, Items, Limit, Listing, Number, OrgName, Role, RunRow, Text, VersionRow,
-    WsName, WsRow,
+    Bounds, Bytes, Caller, Down, Items, Limit, Listing, Number, OrgName, Prefix, Role, RunRow,
+    Text, VersionRow, WsName, WsRow,
 };
 use std::alloc::Global;
 
@@ -28,6 +28,13 @@ pub struct OrgRow {
     pub limit: Limit,
 }
 
+/// A token as an operator's list shows it: never its digest.
+#[derive(Drop)]
+pub struct TokenRow {
+    pub name: Text,
+    pub caller: Caller,
+}
+
 /// What an operator's command is answered.
 #[derive(Drop)]
 pub enum AdminAnswer {
@@ -38,6 +45,8 @@ pub enum AdminAnswer {
     Absent,
     /// All organizations, in the order of their names' bytes.
     Organizations(Items<OrgRow>),
+    /// The tokens of an organization, in the order of their names' bytes.
+    Tokens(Items<TokenRow>),
 }
 
 /// What keeps organizations. It is seen as a map from the names of organizations to their records
@@ -58,7 +67,7 @@ pub trait Keep {
     fn records_are_lawful(&self)
         ensures { clean self.now → sound self.now → AreLawful (rows self.now) };
 
-    /// Who asks by the organization's token with this digest.
+    /// Who asks by the organization's token with this digest, be it that the token has ended.
     fn caller(
         &mut self,
         alloc: Global,
@@ -85,15 +94,16 @@ pub trait Keep {
         ensures looks { Looks rows clean sound self.old self.new }
         ensures ok { clean self.new → sound self.old → IfOk result (λ text. text ≡ version_text n (workspace_in (rows self.old org.now) ws.now)) };
 
-    /// The organization's workspaces after a name, in the order of the names' bytes.
+    /// The organization's workspaces that a prefix admits, after a name, in the order of the names' bytes.
     fn workspaces(
         &mut self,
         alloc: Global,
         org: &OrgName,
         after: Option<&WsName>,
+        prefix: &Prefix,
     ) -> Result<Listing<WsRow>, Down>
         ensures looks { Looks rows clean sound self.old self.new }
-        ensures ok { clean self.new → sound self.old → IfOk result (λ list. list ≡ workspaces_after (option_copied after.entry) (rows self.old org.now)) };
+        ensures ok { clean self.new → sound self.old → IfOk result (λ list. list ≡ workspaces_after (option_copied after.entry) prefix.now (rows self.old org.now)) };
 
     /// The versions kept of a workspace whose numbers are greater than this one.
     fn versions(
@@ -155,7 +165,7 @@ pub trait Keep {
         ensures looks { Looks rows clean sound self.old self.new }
         ensures ok { clean self.new → sound self.old → IfOk result (ListsOrganizations (rows self.old)) };
 
-    /// Adds a token to an organization.
+    /// Adds a token to an organization, with its end and the prefix of its workspaces.
     fn token_add(
         &mut self,
         alloc: Global,
@@ -163,10 +173,11 @@ pub trait Keep {
         name: &OrgName,
         role: Role,
         digest: &[u8; 32],
+        bounds: &Bounds,
     ) -> Result<AdminAnswer, Down>
         ensures so_far { clean self.new → clean self.old }
         ensures kept { clean self.new → sound self.old → sound self.new }
-        ensures own { clean self.new → sound self.old → IfOk result (λ answer. effect answer (rows self.new org.now) ≡ token_added name.now (token_of digest.now role) (rows self.old org.now)) }
+        ensures own { clean self.new → sound self.old → IfOk result (λ answer. effect answer (rows self.new org.now) ≡ token_added name.now (token_of digest.now role bounds.now) (rows self.old org.now)) }
         ensures others { clean self.new → sound self.old → (o : List ℕ) → o ≢ org.now → rows self.new o ≡ rows self.old o }
         ensures err { clean self.new → OnErr result ((o : List ℕ) → rows self.new o ≡ rows self.old o) };
 
@@ -182,4 +193,9 @@ pub trait Keep {
         ensures own { clean self.new → sound self.old → IfOk result (λ answer. effect answer (rows self.new org.now) ≡ token_revoked name.now (rows self.old org.now)) }
         ensures others { clean self.new → sound self.old → (o : List ℕ) → o ≢ org.now → rows self.new o ≡ rows self.old o }
         ensures err { clean self.new → OnErr result ((o : List ℕ) → rows self.new o ≡ rows self.old o) };
+
+    /// The tokens of an organization, in the order of their names' bytes.
+    fn token_list(&mut self, alloc: Global, org: &OrgName) -> Result<AdminAnswer, Down>
+        ensures looks { Looks rows clean sound self.old self.new }
+        ensures ok { clean self.new → sound self.old → IfOk result (λ answer. answer ≡ tokens_told (rows self.old org.now)) };
 }

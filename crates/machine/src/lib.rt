@@ -13,7 +13,7 @@ pub mod run_steps;
 
 pub use acts::{Act, Answer, Change, Decision, Edit, Needs, Newest, Shown, Unit, WorkspaceUnit};
 pub use decisions::{MAX_OPEN_RUNS, decide};
-pub use keeps::{AdminAnswer, Keep, OrgRow};
+pub use keeps::{AdminAnswer, Keep, OrgRow, TokenRow};
 pub use laws::{
     accepted_acts_come_again, actions_come_again, holds_until_released, keyed_creations_come_again,
     locked_workspaces_stay, nothing_is_read_of_a_purge, numbers_rise, one_run_is_active,

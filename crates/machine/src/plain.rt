@@ -1,14 +1,16 @@
 //! A store in memory: every organization's record as nested values.
-ghost use Rattle.std.specs.Prelude.{◌≡◌, ◌≢◌, ℕ, ⊤, List, Option, Some, None, IfOk, OnOk, OnErr, cond, is_some, false, option_map, option_copied};
+ghost use Rattle.std.specs.Prelude.{◌≡◌, ◌≢◌, ℕ, ⊤, List, Option, Some, None, IsTrue, IfSome, IfOk, OnOk, OnErr, cond, is_some, false, option_map, option_copied};
 ghost use Rattle.std.specs.Prelude.{map as map_list, find, filter, nat_lt};
 ghost use Rattle.std.specs.FinMap as map;
 ghost use Rattle.machine.specs.Effects.{effect};
 ghost use Rattle.machine.specs.Laws.{AreLawful};
 ghost use Rattle.machine.specs.Records.{with_workspace, placed};
 ghost use Rattle.basis.specs.Listings.{listing_of};
-ghost use Rattle.machine.specs.Showing.{comes_after, shown_of, row_of, version_row, run_row, workspaces_listed, versions_listed, runs_listed};
-ghost use Rattle.machine.specs.Tokens.{token_with, has_digest, new_organization, org_added, org_limited, token_added, token_revoked, AreOrganizations};
+ghost use Rattle.basis.specs.Names.{is_prefix};
+ghost use Rattle.machine.specs.Showing.{comes_after, is_listed, shown_of, row_of, version_row, run_row, workspaces_listed, versions_listed, runs_listed};
+ghost use Rattle.machine.specs.Tokens.{token_with, has_digest, new_organization, org_added, org_limited, token_added, token_revoked, token_of, token_row, tokens_listed, tokens_told, AreOrganizations};
 ghost use Rattle.machine.specs.Changes.{left_above, edited, changed_by};
+ghost use Rattle.machine.specs.Ranges.{IsMoment};
 ghost use Rattle.machine.specs.Rules.{reported};
 ghost use Rattle.machine.specs.Needs.{needs, needed_of};
 ghost use Rattle.machine.specs.Units.{is_text, if_needed, has_version, asked_run, newest_unit, unit_for, unit_of, version_of, version_text};
@@ -20,13 +22,13 @@ ghost use Rattle.machine.specs.declared.records.Organization.{Organization as An
 
 use crate::acts::{Act, Change, Edit, Needs, Newest, Unit, WorkspaceUnit};
 use crate::decisions::{holder_id, new_run};
-use crate::keeps::{AdminAnswer, Keep, OrgRow};
+use crate::keeps::{AdminAnswer, Keep, OrgRow, TokenRow};
 use crate::maps::{Entry, NameMap};
 use crate::records::{Holder, MAX_VERSIONS, Organization, Run, Token, Version, Workspace};
 use basis::numbers::MAX_LIMIT;
 use basis::{
-    Bytes, Caller, Down, Items, Limit, Listing, LockId, Moment, Number, OrgName, Role, RunAction,
-    RunAsk, RunRow, RunStatus, Settings, Text, VersionRow, WsName, WsRow,
+    Bounds, Bytes, Caller, Down, Items, Limit, Listing, LockId, Moment, Number, OrgName, Prefix,
+    Role, RunAction, RunAsk, RunRow, RunStatus, Settings, Text, VersionRow, WsName, WsRow,
 };
 use std::alloc::Global;
 use std::cmp::Ordering;
@@ -70,7 +72,7 @@ impl Keep for PlainKeep {
         digest: &[u8; 32],
     ) -> Result<Option<Caller>, Down> {
         match self.organizations.get(org.as_str()) {
-            Some(organization) => Ok(organization.caller_with(digest)),
+            Some(organization) => organization.caller_with(digest),
             None => Ok(None),
         }
     }
@@ -112,9 +114,12 @@ impl Keep for PlainKeep {
         alloc: Global,
         org: &OrgName,
         after: Option<&WsName>,
+        prefix: &Prefix,
     ) -> Result<Listing<WsRow>, Down> {
         match self.organizations.get(org.as_str()) {
-            Some(organization) => list_workspaces(alloc, after, organization.workspaces.entries()),
+            Some(organization) => {
+                list_workspaces(alloc, after, prefix, organization.workspaces.entries())
+            }
             None => Ok(Listing::new(alloc)),
         }
     }
@@ -198,13 +203,18 @@ impl Keep for PlainKeep {
         name: &OrgName,
         role: Role,
         digest: &[u8; 32],
+        bounds: &Bounds,
     ) -> Result<AdminAnswer, Down> {
         let name = Text::copy_of(alloc, name.as_str())?;
-        let token = Token {
-            digest: *digest,
-            caller: Caller { role },
-        };
+        let token = Token::new(digest, role, bounds)?;
         self.organizations.add_token(org.as_str(), name, token)
+    }
+
+    fn token_list(&mut self, alloc: Global, org: &OrgName) -> Result<AdminAnswer, Down> {
+        match self.organizations.get(org.as_str()) {
+            Some(organization) => organization.token_list(alloc),
+            None => Ok(AdminAnswer::Absent),
+        }
     }
 }
 
@@ -280,13 +290,20 @@ impl Organization {
         }
     }
 
-    fn caller_with(&self, digest: &[u8; 32]) -> Option<Caller>
-        ensures { result ≡ option_map (λ token. token.caller) (token_with digest.now (map.entries self.now.tokens)) }
+    fn caller_with(&self, digest: &[u8; 32]) -> Result<Option<Caller>, Down>
+        ensures { IfOk result (λ caller. caller ≡ option_map (λ token. token.caller) (token_with digest.now (map.entries self.now.tokens))) }
     {
         match token_with(digest, self.tokens.entries()) {
-            Some(token) => Some(token.caller),
-            None => None,
+            Some(token) => Ok(Some(token.caller.clone()?)),
+            None => Ok(None),
         }
+    }
+
+    fn token_list(&self, alloc: Global) -> Result<AdminAnswer, Down>
+        ensures { IfOk result (λ answer. answer ≡ tokens_told (Some self.now)) }
+    {
+        let rows = list_tokens(alloc, self.tokens.entries())?;
+        Ok(AdminAnswer::Tokens(rows))
     }
 
     fn has_digest(&self, digest: &[u8; 32]) -> bool
@@ -334,12 +351,31 @@ impl Organization {
     }
 }
 
-fn token_with(digest: &[u8; 32], entries: &[Entry<Token>]) -> Option<Token>
-    ensures { result ≡ token_with digest.now (map_list (λ e. (e.name, e.value)) entries.now) }
+impl Token {
+    fn new(digest: &[u8; 32], role: Role, bounds: &Bounds) -> Result<Token, Down>
+        ensures ok { IfOk result (λ token. token ≡ token_of digest.now role bounds.now) }
+        ensures until { IfSome bounds.now.until (λ until. IsMoment until) }
+        ensures prefix { IsTrue (is_prefix bounds.now.prefix) }
+    {
+        let until = bounds.end();
+        let prefix = bounds.prefix.clone()?;
+        Ok(Token {
+            digest: *digest,
+            caller: Caller {
+                role,
+                until,
+                prefix,
+            },
+        })
+    }
+}
+
+fn token_with<'a>(digest: &[u8; 32], entries: &'a [Entry<Token>]) -> Option<&'a Token>
+    ensures { option_copied result ≡ token_with digest.now (map_list (λ e. (e.name, e.value)) entries.now) }
 {
     for entry in entries {
         if entry.value.digest == *digest {
-            return Some(entry.value);
+            return Some(&entry.value);
         }
     }
     None
@@ -784,16 +820,24 @@ fn comes_after(after: Option<&WsName>, name: &str) -> bool
     }
 }
 
+// Whether a workspace of this name is to be listed.
+fn is_listed(after: Option<&WsName>, prefix: &Prefix, name: &str) -> bool
+    ensures { result ≡ is_listed (option_copied after.entry) prefix.now name.now }
+{
+    prefix.admits(name) && comes_after(after, name)
+}
+
 fn list_workspaces(
     alloc: Global,
     after: Option<&WsName>,
+    prefix: &Prefix,
     entries: &[Entry<Workspace>],
 ) -> Result<Listing<WsRow>, Down>
-    ensures { IfOk result (λ list. list ≡ workspaces_listed (option_copied after.entry) (map_list (λ e. (e.name, e.value)) entries.now)) }
+    ensures { IfOk result (λ list. list ≡ workspaces_listed (option_copied after.entry) prefix.now (map_list (λ e. (e.name, e.value)) entries.now)) }
 {
     let mut list = Listing::new(alloc);
     for entry in entries {
-        if comes_after(after, entry.name.as_str()) {
+        if is_listed(after, prefix, entry.name.as_str()) {
             list.offer(workspace_row(alloc, entry.name.as_str(), &entry.value)?)?;
         }
     }
@@ -866,4 +910,24 @@ fn list_organizations(alloc: Global, entries: &[Entry<Organization>]) -> Result<
         })?;
     }
     Ok(rows)
+}
+
+fn list_tokens(alloc: Global, entries: &[Entry<Token>]) -> Result<Items<TokenRow>, Down>
+    ensures { IfOk result (λ rows. rows ≡ tokens_listed (map_list (λ e. (e.name, e.value)) entries.now)) }
+{
+    let mut rows = Items::new(Vec::new(alloc));
+    for entry in entries {
+        rows.push(token_row(&entry.name, &entry.value)?)?;
+    }
+    Ok(rows)
+}
+
+// A token as a list shows it.
+fn token_row(name: &Text, token: &Token) -> Result<TokenRow, Down>
+    ensures { IfOk result (λ row. row ≡ token_row name.now token.now) }
+{
+    Ok(TokenRow {
+        name: name.clone()?,
+        caller: token.caller.clone()?,
+    })
 }

@@ -65,7 +65,7 @@ pub struct Workspace {
 }
 
 /// A bearer token: the SHA-256 of its secret, and who asks by it.
-#[derive(Clone, Copy)]
+#[derive(Drop)]
 pub struct Token {
     pub digest: [u8; 32],
     pub caller: Caller,

@@ -1,5 +1,5 @@
 -- What the writes to the table page do to its rows.
-use Rattle.std.proofs.Common.{◌≡◌, ℕ, pos, Bool, true, ◌&&◌, List, [], ◌∷◌, Ok, refl, eqb}
+use Rattle.std.proofs.Common.{◌≡◌, ℕ, pos, true, ◌&&◌, List, [], ◌∷◌, Ok, refl, eqb}
 use Rattle.std.specs.Str.{bytes_eq}
 use Rattle.sqlite_value.specs.declared.keys.Collation.TheVariants.{Binary}
 use Rattle.sqlite_value.specs.declared.value.Value.TheVariants.{Int, Blob}
@@ -31,19 +31,19 @@ module _ (old new : State) (count : ℕ) (t : Tables) (h : Holds old.now t) wher
   pub add_page_does : (key : List ℕ) (twin : ℕ) (bytes : List ℕ) → Executes add_page_text (Blob key ∷ number twin ∷ Blob bytes ∷ []) old new (Ok count) → Turns old.now new.now (page_added key twin bytes t)
   add_page_does key twin bytes ran =
       let row : PageRow = record { key = key; twin = twin; bytes = bytes; uses = 1 } in
-      let left = insert_own page_cells page_table page_casts old new held.own t.pages held.rows held.keyed add_page_text (Blob key ∷ number twin ∷ Blob bytes ∷ []) count ran
+      let left = insert_own page_cells page_table page_casts old new held.own held.steady t.pages held.rows held.keyed add_page_text (Blob key ∷ number twin ∷ Blob bytes ∷ []) count ran
       add_page_terms 5 (add_page_means old.now.schema _ _ held.own.place) refl refl row refl in
       pages_written old.now new.now left.1 t h _ left.0 (keyed_next t.pages row held.keyed)
 
   pub set_page_uses_does : (key : List ℕ) (twin uses : ℕ) → Executes set_page_uses_text (Blob key ∷ number twin ∷ number uses ∷ []) old new (Ok count) → Turns old.now new.now (page_used key twin uses t)
   set_page_uses_does key twin uses ran =
-      let left = update_own page_cells page_table page_casts old new held.own t.pages held.rows held.keyed set_page_uses_text (Blob key ∷ number twin ∷ number uses ∷ []) count ran
+      let left = update_own page_cells page_table page_casts old new held.own held.steady t.pages held.rows held.keyed set_page_uses_text (Blob key ∷ number twin ∷ number uses ∷ []) count ran
       (set_page_uses_query (tree_of old.now.schema page_table.name)) (set_page_uses_means old.now.schema _ _ held.own.place) refl refl refl (λ rows. refl) (is_page key twin) (λ x. blob_number x.1.key key x.1.twin twin)
       (λ (x : Kept PageRow). (x.0, record x.1 { uses = uses })) (λ x. refl) (λ x. refl) in
       pages_written old.now new.now left.1 t h _ left.0 (IsKeyedBy-update_where id_of (is_page key twin) (λ (x : Kept PageRow). (x.0, record x.1 { uses = uses })) (λ x. refl) t.pages held.keyed)
 
   pub remove_page_does : (key : List ℕ) (twin : ℕ) → Executes remove_page_text (Blob key ∷ number twin ∷ []) old new (Ok count) → Turns old.now new.now (page_removed key twin t)
   remove_page_does key twin ran =
-      let left = delete_own page_cells page_table page_casts old new held.own t.pages held.rows held.keyed remove_page_text (Blob key ∷ number twin ∷ []) count ran
+      let left = delete_own page_cells page_table page_casts old new held.own held.steady t.pages held.rows held.keyed remove_page_text (Blob key ∷ number twin ∷ []) count ran
       (remove_page_query (tree_of old.now.schema page_table.name)) (remove_page_means old.now.schema _ _ held.own.place) refl refl refl (λ rows. refl) (is_page key twin) (λ x. blob_number x.1.key key x.1.twin twin) (λ x. refl) in
       pages_written old.now new.now left.1 t h _ left.0 (IsKeyedBy-delete_where id_of (is_page key twin) t.pages held.keyed)

@@ -1,5 +1,5 @@
 -- From what a call did to the rows to what it promises of the map of pages.
-use Rattle.std.proofs.Common.{◌≡◌, ◌<◌, ◌^◌, ℕ, List, Option, Some, None, IsSome, Result, Ok, Err, OnOk, sym, ◌∙◌, subst}
+use Rattle.std.proofs.Common.{◌≡◌, ◌<◌, ℕ, List, Option, Some, None, IsSome, Result, Ok, Err, OnOk, sym, ◌∙◌, subst}
 use Rattle.sqlite.specs.State.{State}
 use Rattle.statements.specs.Steps.{Moves}
 use Rattle.statements.specs.Tables.{Tables, Holds}

@@ -4,9 +4,10 @@ use Rattle.std.specs.Prelude.{codes}
 use Rattle.std.specs.Str.{chars, is_utf8}
 use lib.Utf8.{encode}
 use Rattle.basis.specs.declared.roles.Role.TheVariants.{Write}
-use Rattle.serve.specs.declared.steps.Admin.TheVariants.{OrgAdd, OrgLimit, OrgList, TokenAdd, TokenRevoke}
+use Rattle.serve.specs.declared.steps.Admin.TheVariants.{OrgAdd, OrgLimit, OrgList, TokenAdd, TokenList, TokenRevoke}
 use Rattle.serve.specs.declared.steps.Step.TheVariants.{Request, Command}
 use Rattle.clap.proofs.OnLiterals.{clap_on_literals}
+use Rattle.program.specs.Bounds.{bounds, no_bounds}
 use Rattle.program.specs.Frames.{first_frame}
 use Rattle.program.specs.Orders.{carries, adds_token, serves, replays}
 use Rattle.program.specs.Secrets.{secret_in}
@@ -22,9 +23,30 @@ unfolding chars is_utf8 encode
 limit_given = refl
 
 token_added : first_frame (codes "at 1 admin token-add acme ci write writewritewrite1\n")
-    ≡ Some (Command 1 (TokenAdd (codes "acme") (codes "ci") Write (codes "writewritewrite1")), [])
+    ≡ Some (Command 1 (TokenAdd (codes "acme") (codes "ci") Write (codes "writewritewrite1") no_bounds), [])
 unfolding chars is_utf8 encode
 token_added = refl
+
+-- with an end, with a prefix, with both; an empty prefix is none
+token_ends : first_frame (codes "at 1 admin token-add acme ci write writewritewrite1 until=0\n")
+    ≡ Some (Command 1 (TokenAdd (codes "acme") (codes "ci") Write (codes "writewritewrite1") (bounds (Some 0) [])), [])
+unfolding chars is_utf8 encode
+token_ends = refl
+
+token_for_some : first_frame (codes "at 1 admin token-add acme ci write writewritewrite1 prefix=a_\n")
+    ≡ Some (Command 1 (TokenAdd (codes "acme") (codes "ci") Write (codes "writewritewrite1") (bounds None (codes "a_"))), [])
+unfolding chars is_utf8 encode
+token_for_some = refl
+
+token_bounded : first_frame (codes "at 1 admin token-add acme ci write writewritewrite1 until=253402300799 prefix=ne\n")
+    ≡ Some (Command 1 (TokenAdd (codes "acme") (codes "ci") Write (codes "writewritewrite1") (bounds (Some 253_402_300_799) (codes "ne"))), [])
+unfolding chars is_utf8 encode
+token_bounded = refl
+
+empty_prefix : first_frame (codes "at 1 admin token-add acme ci write writewritewrite1 prefix=\n")
+    ≡ Some (Command 1 (TokenAdd (codes "acme") (codes "ci") Write (codes "writewritewrite1") no_bounds), [])
+unfolding chars is_utf8 encode
+empty_prefix = refl
 
 -- the operator's other commands
 limit_set : first_frame (codes "at 1 admin org-limit acme 1\n") ≡ Some (Command 1 (OrgLimit (codes "acme") 1), [])
@@ -77,6 +99,27 @@ limit_too_great : first_frame (codes "at 1 admin org-add acme 100001\n") ≡ Non
 unfolding chars is_utf8 encode
 limit_too_great = refl
 
+-- bad bounds: the other order, an end too late, none, a byte that no name has; and a list that no frame asks for
+other_order : first_frame (codes "at 1 admin token-add acme ci write writewritewrite1 prefix=a until=1\n") ≡ None
+unfolding chars is_utf8 encode
+other_order = refl
+
+end_too_late : first_frame (codes "at 1 admin token-add acme ci write writewritewrite1 until=253402300800\n") ≡ None
+unfolding chars is_utf8 encode
+end_too_late = refl
+
+no_end : first_frame (codes "at 1 admin token-add acme ci write writewritewrite1 until=\n") ≡ None
+unfolding chars is_utf8 encode
+no_end = refl
+
+no_prefix : first_frame (codes "at 1 admin token-add acme ci write writewritewrite1 prefix=a%\n") ≡ None
+unfolding chars is_utf8 encode
+no_prefix = refl
+
+tokens_not_listed : first_frame (codes "at 1 admin token-list acme\n") ≡ None
+unfolding chars is_utf8 encode
+tokens_not_listed = refl
+
 unknown_command : first_frame (codes "at 1 admin org-lists\n") ≡ None
 unfolding chars is_utf8 encode
 unknown_command = refl
@@ -102,9 +145,26 @@ no_file : asked_in (codes "org-add" ∷ codes "acme" ∷ []) ≡ None
 unfolding clap_on_literals chars is_utf8 encode
 no_file = refl
 
-token_asked : asked_in (codes "token-add" ∷ codes "--db" ∷ codes "t.db" ∷ codes "acme" ∷ codes "ci" ∷ codes "write" ∷ []) ≡ Some (adds_token (codes "t.db") (codes "acme") (codes "ci") Write)
+token_asked : asked_in (codes "token-add" ∷ codes "--db" ∷ codes "t.db" ∷ codes "acme" ∷ codes "ci" ∷ codes "write" ∷ []) ≡ Some (adds_token (codes "t.db") (codes "acme") (codes "ci") Write no_bounds)
 unfolding clap_on_literals chars is_utf8 encode
 token_asked = refl
+
+bounds_asked : asked_in (codes "token-add" ∷ codes "--db" ∷ codes "t.db" ∷ codes "--until" ∷ codes "1700000010" ∷ codes "acme" ∷ codes "ci" ∷ codes "write" ∷ codes "--prefix=ne" ∷ [])
+    ≡ Some (adds_token (codes "t.db") (codes "acme") (codes "ci") Write (bounds (Some 1_700_000_010) (codes "ne")))
+unfolding clap_on_literals chars is_utf8 encode
+bounds_asked = refl
+
+empty_prefix_asked : asked_in (codes "token-add" ∷ codes "--db=t.db" ∷ codes "--prefix=" ∷ codes "acme" ∷ codes "ci" ∷ codes "write" ∷ []) ≡ Some (adds_token (codes "t.db") (codes "acme") (codes "ci") Write no_bounds)
+unfolding clap_on_literals chars is_utf8 encode
+empty_prefix_asked = refl
+
+no_such_end : asked_in (codes "token-add" ∷ codes "--db=t.db" ∷ codes "--until" ∷ codes "01" ∷ codes "acme" ∷ codes "ci" ∷ codes "write" ∷ []) ≡ None
+unfolding clap_on_literals chars is_utf8 encode
+no_such_end = refl
+
+tokens_asked : asked_in (codes "token-list" ∷ codes "--db" ∷ codes "t.db" ∷ codes "acme" ∷ []) ≡ Some (carries (codes "t.db") (TokenList (codes "acme")))
+unfolding clap_on_literals chars is_utf8 encode
+tokens_asked = refl
 
 serving_asked : asked_in (codes "serve" ∷ codes "--db" ∷ codes "t.db" ∷ codes "--port" ∷ codes "8090" ∷ codes "--count" ∷ codes "3" ∷ []) ≡ Some (serves (codes "t.db") 8090 3 (record { idle = 10; most = 120 }))
 unfolding clap_on_literals chars is_utf8 encode

@@ -3,10 +3,11 @@ use Rattle.std.specs.Prelude.{ℕ, List, Option, Some, None, ◌&&◌, cond, opt
 use Rattle.basis.specs.Names.{is_org_name, is_secret}
 use Rattle.basis.specs.Numbers.{whole_of, within}
 use Rattle.basis.specs.Roles.{role_word}
+use Rattle.basis.specs.declared.roles.Bounds.{Bounds}
 use Rattle.basis.specs.declared.roles.Role.{Role}
 use Rattle.basis.specs.declared.roles.Role.TheVariants.{Read, Write, Admin}
 use Rattle.serve.specs.declared.steps.Admin as Operator
-use Rattle.serve.specs.declared.steps.Admin.TheVariants.{OrgAdd, OrgLimit, TokenAdd, TokenRevoke}
+use Rattle.serve.specs.declared.steps.Admin.TheVariants.{OrgAdd, OrgLimit, TokenAdd, TokenList, TokenRevoke}
 
 -- the limit that a word writes
 abbrev pub limit_of : List ℕ → Option ℕ
@@ -27,10 +28,14 @@ org_command org limit = cond (is_org_name org) (option_map (λ n. OrgAdd org n) 
 abbrev pub limit_command : List ℕ → Option ℕ → Option Operator.Admin
 limit_command org limit = cond (is_org_name org) (option_map (λ n. OrgLimit org n) limit) None
 
--- a command that adds a token, where organization, name, role and secret read
-abbrev pub token_command : List ℕ → List ℕ → List ℕ → List ℕ → Option Operator.Admin
-token_command org name role secret =
-    cond (is_org_name org && is_org_name name && is_secret secret) (option_map (λ r. TokenAdd org name r secret) (role_of role)) None
+-- a command that adds a token with these bounds, where organization, name, role and secret read
+abbrev pub token_command : List ℕ → List ℕ → List ℕ → List ℕ → Bounds → Option Operator.Admin
+token_command org name role secret bounds =
+    cond (is_org_name org && is_org_name name && is_secret secret) (option_map (λ r. TokenAdd org name r secret bounds) (role_of role)) None
+
+-- a command that lists an organization's tokens, where its name reads
+abbrev pub list_command : List ℕ → Option Operator.Admin
+list_command org = cond (is_org_name org) (Some (TokenList org)) None
 
 -- a command that takes a token away, where organization and name read
 abbrev pub revoke_command : List ℕ → List ℕ → Option Operator.Admin

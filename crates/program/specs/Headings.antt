@@ -3,13 +3,10 @@ use Rattle.std.specs.Prelude.{ℕ, List, [], ◌∷◌, Option, Some, None, cond
 use Rattle.basis.specs.Numbers.{whole_of, within}
 use Rattle.serve.specs.declared.steps.Admin as Operator
 use Rattle.serve.specs.declared.steps.Admin.TheVariants.{OrgList}
+use Rattle.program.specs.Bounds.{moment_of, bounds_of}
 use Rattle.program.specs.Commands.{limit_of, org_command, limit_command, token_command, revoke_command}
 use Rattle.program.specs.declared.headings.Heading.{Heading}
 use Rattle.program.specs.declared.headings.Heading.TheVariants.{Request, Command}
-
--- the moment that a word writes
-abbrev pub moment_of : List ℕ → Option ℕ
-moment_of word = option_and_then (within 0 253_402_300_799) (whole_of word)
 
 -- the length of a request that a word writes: at most 20,000,000 bytes
 abbrev pub length_of : List ℕ → Option ℕ
@@ -31,9 +28,9 @@ abbrev pub org_list_of : List (List ℕ) → Option Operator.Admin
 org_list_of [] = Some OrgList
 org_list_of words = None
 
--- `ORG NAME ROLE SECRET`
+-- `ORG NAME ROLE SECRET`, and behind it the bounds: `until=SECONDS`, `prefix=TEXT`
 abbrev pub token_add_of : List (List ℕ) → Option Operator.Admin
-token_add_of (org ∷ name ∷ role ∷ secret ∷ []) = token_command org name role secret
+token_add_of (org ∷ name ∷ role ∷ secret ∷ words) = option_and_then (λ bounds. token_command org name role secret bounds) (bounds_of words)
 token_add_of words = None
 
 -- `ORG NAME`

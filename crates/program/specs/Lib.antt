@@ -1,3 +1,4 @@
+pub mod Bounds
 pub mod Commands
 pub mod Endings
 pub mod Errors

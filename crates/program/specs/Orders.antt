@@ -3,12 +3,14 @@ use Rattle.std.specs.Prelude.{ℕ, List, Option, Some, None, ◌&&◌, cond, opt
 use Rattle.std.specs.Borrow.{Bor}
 use Rattle.basis.specs.Names.{is_org_name}
 use Rattle.basis.specs.Numbers.{whole_of, within}
+use Rattle.basis.specs.declared.roles.Bounds.{Bounds}
 use Rattle.basis.specs.declared.roles.Role.{Role}
 use Rattle.clap.specs.Words.{Row, first_of, first_value}
 use Rattle.clap.specs.declared.parser.matches.Found.{Found}
 use Rattle.serve.specs.declared.steps.Admin as Operator
 use Rattle.serve.specs.declared.steps.Admin.TheVariants.{OrgList, TokenAdd}
-use Rattle.program.specs.Commands.{limit_of, role_of, org_command, limit_command, revoke_command}
+use Rattle.program.specs.Bounds.{bounds_given}
+use Rattle.program.specs.Commands.{limit_of, role_of, org_command, limit_command, list_command, revoke_command}
 use Rattle.program.specs.declared.orders.NewToken.{NewToken}
 use Rattle.program.specs.declared.orders.Values.{Values}
 use Rattle.program.specs.declared.orders.Order.{Order}
@@ -19,8 +21,8 @@ use Rattle.program.specs.declared.timeouts.Timeouts.{Timeouts}
 pub data Asked : Type 0 where
   -- an operator's command
   carries : List ℕ → Operator.Admin → Asked
-  -- a token of this organization, name and role, its secret aside
-  adds_token : List ℕ → List ℕ → List ℕ → Role → Asked
+  -- a token of this organization, name and role, with these bounds, its secret aside
+  adds_token : List ℕ → List ℕ → List ℕ → Role → Bounds → Asked
   -- to serve at a port, so many connections, each waited for no longer than these timeouts
   serves : List ℕ → ℕ → ℕ → Timeouts → Asked
   -- to answer frames
@@ -33,6 +35,8 @@ pub record Given : Type 0 where
   pub limit : Option (List ℕ)
   pub name : Option (List ℕ)
   pub role : Option (List ℕ)
+  pub until : Option (List ℕ)
+  pub prefix : Option (List ℕ)
   pub port : Option (List ℕ)
   pub count : Option (List ℕ)
   pub idle : Option (List ℕ)
@@ -65,21 +69,22 @@ abbrev pub command_on : List ℕ → List ℕ → Given → Option Operator.Admi
 command_on command org given =
     cond (bytes_eq command (codes "org-add")) (org_command org (limit_or_first given.limit))
     (cond (bytes_eq command (codes "org-limit")) (option_and_then (λ limit. limit_command org (limit_of limit)) given.limit)
-    (cond (bytes_eq command (codes "token-revoke")) (option_and_then (λ name. revoke_command org name) given.name) None))
+    (cond (bytes_eq command (codes "token-list")) (list_command org)
+    (cond (bytes_eq command (codes "token-revoke")) (option_and_then (λ name. revoke_command org name) given.name) None)))
 
 -- an operator's command that needs no secret
 abbrev pub command_in : List ℕ → Given → Option Operator.Admin
 command_in command given =
     cond (bytes_eq command (codes "org-list")) (Some OrgList) (option_and_then (λ org. command_on command org given) given.org)
 
--- a token, where organization, name and role read
-abbrev pub token_in : List ℕ → List ℕ → Option Role → Option NewToken
-token_in org name role =
-    cond (is_org_name org && is_org_name name) (option_map (λ r. record { org = org; name = name; role = r }) role) None
+-- a token, where organization, name, role and bounds read
+abbrev pub token_in : List ℕ → List ℕ → Option Role → Option Bounds → Option NewToken
+token_in org name role bounds =
+    cond (is_org_name org && is_org_name name) (option_and_then (λ r. option_map (λ b. record { org = org; name = name; role = r; bounds = b }) bounds) role) None
 
 abbrev pub token_asked : Given → Option NewToken
 token_asked given =
-    option_and_then (λ org. option_and_then (λ name. option_and_then (λ role. token_in org name (role_of role)) given.role) given.name) given.org
+    option_and_then (λ org. option_and_then (λ name. option_and_then (λ role. token_in org name (role_of role) (bounds_given given.until given.prefix)) given.role) given.name) given.org
 
 -- 10 seconds for a read or a write, and 120 for an exchange, unless others are given
 abbrev pub timeouts_asked : Given → Option Timeouts
@@ -94,7 +99,7 @@ serving_asked db given =
 abbrev pub file_asked : List ℕ → List ℕ → Given → Option Asked
 file_asked command db given =
     cond (bytes_eq command (codes "serve")) (serving_asked db given)
-    (cond (bytes_eq command (codes "token-add")) (option_map (λ token. adds_token db token.org token.name token.role) (token_asked given))
+    (cond (bytes_eq command (codes "token-add")) (option_map (λ token. adds_token db token.org token.name token.role token.bounds) (token_asked given))
     (option_map (λ c. carries db c) (command_in command given)))
 
 -- what a command of this name asks for with these values
@@ -110,6 +115,8 @@ given_in rows = record {
   limit = first_of (codes "limit") rows;
   name = first_of (codes "name") rows;
   role = first_of (codes "role") rows;
+  until = first_of (codes "until") rows;
+  prefix = first_of (codes "prefix") rows;
   port = first_of (codes "port") rows;
   count = first_of (codes "count") rows;
   idle = first_of (codes "idle") rows;
@@ -124,6 +131,8 @@ given_found found = record {
   limit = first_value found (codes "limit");
   name = first_value found (codes "name");
   role = first_value found (codes "role");
+  until = first_value found (codes "until");
+  prefix = first_value found (codes "prefix");
   port = first_value found (codes "port");
   count = first_value found (codes "count");
   idle = first_value found (codes "idle");
@@ -140,6 +149,8 @@ given_of values = record {
   limit = text_in values.limit;
   name = text_in values.name;
   role = text_in values.role;
+  until = text_in values.until;
+  prefix = text_in values.prefix;
   port = text_in values.port;
   count = text_in values.count;
   idle = text_in values.idle;
@@ -149,10 +160,10 @@ given_of values = record {
 -- what an order says
 abbrev pub said_by : Order → Asked
 said_by (Carry db command) = carries db.now command
-said_by (AddToken db token) = adds_token db.now token.org token.name token.role
+said_by (AddToken db token) = adds_token db.now token.org token.name token.role token.bounds
 said_by (Serve db port count timeouts) = serves db.now port count timeouts
 said_by Replay = replays
 
 -- the command that adds a token with a secret
 abbrev pub with_secret : NewToken → List ℕ → Operator.Admin
-with_secret token secret = TokenAdd token.org token.name token.role secret
+with_secret token secret = TokenAdd token.org token.name token.role secret token.bounds

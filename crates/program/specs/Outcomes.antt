@@ -1,18 +1,19 @@
 -- What the program does for each kind of words: how it ends, what stands on both streams then, and what lies at
 -- each path. Of a stream that took not all that was to be printed nothing is said.
-use Rattle.std.specs.Prelude.{◌≡◌, ◌≢◌, ◌<◌, ◌⊎◌, ◌+◌, ◌++◌, ℕ, Bool, List, [], ◌∷◌, ⊤, Option, Some, None, IfSome, true, false, length, is_some}
+use Rattle.std.specs.Prelude.{◌≡◌, ◌≢◌, ◌<◌, ◌⊎◌, ◌+◌, ◌++◌, ℕ, Bool, List, ⊤, Option, Some, None, IfSome, true, false, length, is_some}
 use Rattle.std.specs.Io.KnownBytes.{Appends}
 use Rattle.std.specs.List.{flat_map}
 use Rattle.machine.specs.declared.keeps.Keep as keep
 use Rattle.machine.specs.declared.keeps.OrgRow.{OrgRow}
+use Rattle.machine.specs.declared.keeps.TokenRow.{TokenRow}
 use Rattle.serve.specs.declared.steps.Step.{Step}
 use Rattle.serve.specs.declared.steps.Admin.{Admin}
-use Rattle.serve.specs.declared.steps.Admin.TheVariants.{OrgAdd, OrgLimit, OrgList, TokenAdd, TokenRevoke}
+use Rattle.serve.specs.declared.steps.Admin.TheVariants.{OrgAdd, OrgLimit, OrgList, TokenAdd, TokenList, TokenRevoke}
 use Rattle.machine.specs.declared.keeps.AdminAnswer.{AdminAnswer}
 use Rattle.machine.specs.declared.keeps.AdminAnswer.TheVariants as answer
 use Rattle.machine.specs.declared.records.Organization.{Organization}
 use Rattle.serve.specs.Asks.{commands}
-use Rattle.serve.specs.Service.{Carries as CarriesOut, IsAdminAnswer, Stays, org_line}
+use Rattle.serve.specs.Service.{Carries as CarriesOut, IsAdminAnswer, Stays, org_line, token_line}
 use Rattle.program.specs.declared.endings.Ending.{Ending}
 use Rattle.program.specs.declared.endings.Ending.TheVariants as ending
 use Rattle.program.specs.Endings.{ending_line}
@@ -73,12 +74,22 @@ AnswersList ending.Down output = Says ending.Down output
 AnswersList ending.Unprinted output = ⊤
 AnswersList e output = ⊥
 
+-- the list of an organization's tokens, a line each, or why there is none
+abbrev pub AnswersTokens : Ending → Stream → Type 0
+AnswersTokens ending.Done output = (rows : List TokenRow) × Gets output (flat_map token_line rows)
+AnswersTokens ending.Absent output = Says ending.Absent output
+AnswersTokens ending.Schema output = Says ending.Schema output
+AnswersTokens ending.Down output = Says ending.Down output
+AnswersTokens ending.Unprinted output = ⊤
+AnswersTokens e output = ⊥
+
 -- an operator's command on a file
 abbrev pub AnswersCommand : Admin → Ending → Stream → Type 0
 AnswersCommand OrgList e output = AnswersList e output
 AnswersCommand (OrgAdd org limit) e output = AnswersLine e output
 AnswersCommand (OrgLimit org limit) e output = AnswersLine e output
-AnswersCommand (TokenAdd org name role secret) e output = AnswersLine e output
+AnswersCommand (TokenAdd org name role secret bounds) e output = AnswersLine e output
+AnswersCommand (TokenList org) e output = AnswersTokens e output
 AnswersCommand (TokenRevoke org name) e output = AnswersLine e output
 
 -- the word of an answer is told; a list has none
@@ -87,18 +98,26 @@ TellsWord answer.Done e output = IsSaid ending.Done e output.old output.new
 TellsWord answer.Exists e output = IsSaid ending.Exists e output.old output.new
 TellsWord answer.Absent e output = IsSaid ending.Absent e output.old output.new
 TellsWord (answer.Organizations rows) e output = ⊤
+TellsWord (answer.Tokens rows) e output = ⊤
 
 -- the lines of a list are told
 abbrev pub TellsList : AdminAnswer → Ending → Stream → Type 0
 TellsList (answer.Organizations rows) e output = ((e ≡ ending.Done) × Gets output (flat_map org_line rows)) ⊎ (e ≡ ending.Unprinted)
 TellsList word e output = ⊤
 
+-- the lines of an organization's tokens are told, or that it isn't there
+abbrev pub TellsTokens : AdminAnswer → Ending → Stream → Type 0
+TellsTokens (answer.Tokens rows) e output = ((e ≡ ending.Done) × Gets output (flat_map token_line rows)) ⊎ (e ≡ ending.Unprinted)
+TellsTokens answer.Absent e output = IsSaid ending.Absent e output.old output.new
+TellsTokens other e output = ⊤
+
 -- an answer to an operator's command is told
 abbrev pub TellsAnswer : Admin → AdminAnswer → Ending → Stream → Type 0
 TellsAnswer OrgList answer e output = TellsList answer e output
 TellsAnswer (OrgAdd org limit) answer e output = TellsWord answer e output
 TellsAnswer (OrgLimit org limit) answer e output = TellsWord answer e output
-TellsAnswer (TokenAdd org name role secret) answer e output = TellsWord answer e output
+TellsAnswer (TokenAdd org name role secret bounds) answer e output = TellsWord answer e output
+TellsAnswer (TokenList org) answer e output = TellsTokens answer e output
 TellsAnswer (TokenRevoke org name) answer e output = TellsWord answer e output
 
 -- an operator's command was carried out, each record as the machine leaves it, and its answer by the records before was
@@ -156,7 +175,7 @@ ReplaysFrames input e output errors = ⊥
 -- what is asked for is done, or it is said why not
 abbrev pub Does : Asked → Option (List ℕ) → Ending → Stream → Stream → Type 0
 Does (carries db command) input e output errors = AnswersCommand command e output
-Does (adds_token db org name role) input e output errors = AddsToken input e output errors
+Does (adds_token db org name role bounds) input e output errors = AddsToken input e output errors
 Does (serves db port count timeouts) input e output errors = ServesAt e output
 Does replays input e output errors = ReplaysFrames input e output errors
 
@@ -264,8 +283,8 @@ module _ {K F N C R W : Type 0} (k : keep.Ghosts K) (f : files.Ghosts F K) (n : 
   -- what is asked for is done to what lies at its path, and to nothing else
   abbrev pub Leaves : Asked → Option (List ℕ) → Outside F N C → Outside F N C → Ending → Stream → Stream → Type 0
   Leaves (carries db command) input old new e output errors = OperatesAt k f db command old.files new.files e output errors × IsAlone old new
-  Leaves (adds_token db org name role) input old new e output errors =
-      AddsTokenAt k f db (TokenAdd org name role) input old.files new.files e output errors × IsAlone old new
+  Leaves (adds_token db org name role bounds) input old new e output errors =
+      AddsTokenAt k f db (λ secret. TokenAdd org name role secret bounds) input old.files new.files e output errors × IsAlone old new
   Leaves (serves db port count timeouts) input old new e output errors =
       ServesFrom db port timeouts count old new e output errors ⊎ (RefusesToOpen k f db old.files new.files e output errors × IsAlone old new)
   Leaves replays input old new e output errors = new ≡ old

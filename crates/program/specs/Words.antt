@@ -1,5 +1,5 @@
 -- The words of the program: its commands, in `clap`'s terms, and what words ask for.
-use Rattle.std.specs.Prelude.{ℕ, List, [], ◌∷◌, Bool, true, false, Option, Some, None, String, cond, map, option_and_then, string_bytes, codes, ◌≡◌, ⊤}
+use Rattle.std.specs.Prelude.{ℕ, List, [], Bool, true, false, Option, Some, None, String, cond, map, option_and_then, string_bytes, codes, ◌≡◌, ⊤}
 use Rattle.std.specs.declared.alloc.Global.{Global}
 use Rattle.clap.specs.Walk.{is_empty}
 use Rattle.clap.specs.declared.builder.arg.Arg.{Arg}
@@ -43,9 +43,17 @@ org_limit = with_rule (with_rule (with_rule (new_app (codes "org-limit")) databa
 abbrev pub org_list : App
 org_list = with_rule (new_app (codes "org-list")) database
 
--- `token-add --db PATH ORG NAME ROLE`
+-- `[--until SECONDS] [--prefix TEXT]` behind the rest
+abbrev pub with_bounds : App → App
+with_bounds app = with_rule (with_rule app (option_rule (codes "until") false)) (option_rule (codes "prefix") false)
+
+-- `token-add --db PATH [--until SECONDS] [--prefix TEXT] ORG NAME ROLE`
 abbrev pub token_add : App
-token_add = with_rule (with_rule (with_rule (with_rule (new_app (codes "token-add")) database) organization) (value_rule (codes "name"))) (value_rule (codes "role"))
+token_add = with_rule (with_rule (with_rule (with_bounds (with_rule (new_app (codes "token-add")) database)) organization) (value_rule (codes "name"))) (value_rule (codes "role"))
+
+-- `token-list --db PATH ORG`
+abbrev pub token_list : App
+token_list = with_rule (with_rule (new_app (codes "token-list")) database) organization
 
 -- `token-revoke --db PATH ORG NAME`
 abbrev pub token_revoke : App
@@ -77,7 +85,7 @@ abbrev pub with_organizations : App → App
 with_organizations app = with_subcommand (with_subcommand (with_subcommand app org_add.top) org_limit.top) org_list.top
 
 abbrev pub with_tokens : App → App
-with_tokens app = with_subcommand (with_subcommand app token_add.top) token_revoke.top
+with_tokens app = with_subcommand (with_subcommand (with_subcommand app token_add.top) token_list.top) token_revoke.top
 
 abbrev pub with_running : App → App
 with_running app = with_subcommand (with_subcommand app serve.top) replay.top

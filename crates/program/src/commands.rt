@@ -1,9 +1,9 @@
 //! The operator's commands, from the words that name what they are about.
 ghost use Rattle.std.specs.Prelude.{◌≡◌, Some, None, IfOk, IsErrOf};
-ghost use Rattle.program.specs.Commands.{limit_of, role_of, org_command, limit_command, token_command, revoke_command};
+ghost use Rattle.program.specs.Commands.{limit_of, role_of, org_command, limit_command, token_command, list_command, revoke_command};
 
 use basis::numbers::whole_number;
-use basis::{Limit, OrgName, Role, Secret, Unfit};
+use basis::{Bounds, Limit, OrgName, Role, Secret, Unfit};
 use serve::Admin;
 use std::alloc::Global;
 
@@ -47,16 +47,17 @@ pub fn org_limit(alloc: Global, org: &str, limit: Option<Limit>) -> Result<Admin
     Ok(Admin::OrgLimit { org, limit })
 }
 
-/// The command that adds a token.
+/// The command that adds a token with these bounds.
 pub fn token_add(
     alloc: Global,
     org: &str,
     name: &str,
     role: &str,
     secret: &str,
+    bounds: Bounds,
 ) -> Result<Admin, Unfit>
-    ensures ok { IfOk result (λ command. token_command org.now name.now role.now secret.now ≡ Some command) }
-    ensures syntax { IsErrOf result Unfit.Syntax → token_command org.now name.now role.now secret.now ≡ None }
+    ensures ok { IfOk result (λ command. token_command org.now name.now role.now secret.now bounds ≡ Some command) }
+    ensures syntax { IsErrOf result Unfit.Syntax → token_command org.now name.now role.now secret.now bounds ≡ None }
 {
     let Some(role) = read_role(role) else {
         return Err(Unfit::Syntax);
@@ -69,7 +70,17 @@ pub fn token_add(
         name,
         role,
         secret,
+        bounds,
     })
+}
+
+/// The command that lists an organization's tokens.
+pub fn token_list(alloc: Global, org: &str) -> Result<Admin, Unfit>
+    ensures ok { IfOk result (λ command. list_command org.now ≡ Some command) }
+    ensures syntax { IsErrOf result Unfit.Syntax → list_command org.now ≡ None }
+{
+    let org = OrgName::read(alloc, org)?;
+    Ok(Admin::TokenList { org })
 }
 
 /// The command that takes a token away.

@@ -2,6 +2,7 @@
 ghost use Rattle.std.specs.Prelude.{◌≡◌, ℕ, List, map, Some, None, option_map, IfOk, IfErr, IsErrOf};
 ghost use Rattle.program.specs.Lines.{bytes_of};
 
+use crate::bounds::{read_bounds, read_moment};
 use crate::commands;
 use basis::numbers::{FIRST_LIMIT, whole_number};
 use basis::{Limit, Moment, Unfit};
@@ -20,13 +21,14 @@ pub enum Heading {
 }
 
 impl Heading {
-    ghost use Rattle.program.specs.Headings.{moment_of, length_of, org_add_of, org_limit_of, org_list_of, token_add_of, token_revoke_of, command_of, request_at, heading_at, heading_of};
+    ghost use Rattle.program.specs.Bounds.{moment_of};
+    ghost use Rattle.program.specs.Headings.{length_of, org_add_of, org_limit_of, org_list_of, token_add_of, token_revoke_of, command_of, request_at, heading_at, heading_of};
 
     fn read_moment(word: &str) -> Result<Moment, Unfit>
         ensures ok { IfOk result (λ at. moment_of word.now ≡ Some at) }
         ensures syntax { IfErr result (λ unfit. (unfit ≡ Unfit.Syntax) × (moment_of word.now ≡ None)) }
     {
-        match whole_number(word).and_then(Moment::new) {
+        match read_moment(word) {
             Some(at) => Ok(at),
             None => Err(Unfit::Syntax),
         }
@@ -77,10 +79,11 @@ impl Heading {
         ensures ok { IfOk result (λ command. token_add_of (bytes_of words.now) ≡ Some command) }
         ensures syntax { IsErrOf result Unfit.Syntax → token_add_of (bytes_of words.now) ≡ None }
     {
-        match *words {
-            [org, name, role, secret] => commands::token_add(alloc, org, name, role, secret),
-            _ => Err(Unfit::Syntax),
-        }
+        let [org, name, role, secret, words @ ..] = words else {
+            return Err(Unfit::Syntax);
+        };
+        let bounds = read_bounds(alloc, words)?;
+        commands::token_add(alloc, org, name, role, secret, bounds)
     }
 
     fn read_token_revoke(alloc: Global, words: &[&str]) -> Result<Admin, Unfit>

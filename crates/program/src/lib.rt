@@ -1,6 +1,7 @@
 //! The program `custody` over any files, connections and clock: words and streams in, an exit status out.
 #![tactic(auto)]
 
+mod bounds;
 mod commands;
 pub mod endings;
 mod errors;

@@ -3,12 +3,14 @@ ghost use Rattle.std.specs.Prelude.{◌≡◌, ◌≤◌, ℕ, List, Option, Som
 ghost use Rattle.basis.specs.Numbers.{whole_of, within};
 ghost use Rattle.clap.specs.Words.{found_of, first_value};
 ghost use Rattle.program.specs.Orders.{limit_or_first, command_on, command_in, token_in, token_asked, seconds_or, timeouts_asked, serving_asked, file_asked, asked_with, given_found, given_of, text_in, said_by, with_secret, port_of, connections_of, carries};
+ghost use Rattle.program.specs.Bounds.{bounds_given};
 ghost use Rattle.program.specs.Commands.{limit_of, limit_command, revoke_command};
 
+use crate::bounds::give_bounds;
 use crate::commands;
 use crate::timeouts::{IDLE_SECONDS, MOST_SECONDS, Seconds, Timeouts};
 use basis::numbers::{FIRST_LIMIT, whole_number};
-use basis::{Limit, OrgName, Role, Secret, Unfit};
+use basis::{Bounds, Limit, OrgName, Role, Secret, Unfit};
 use clap::ArgMatches;
 use serve::Admin;
 use std::alloc::Global;
@@ -25,31 +27,51 @@ pub struct NewToken {
     pub org: OrgName,
     pub name: OrgName,
     pub role: Role,
+    pub bounds: Bounds,
 }
 
 impl NewToken {
-    fn make(alloc: Global, org: &str, name: &str, role: Option<Role>) -> Result<NewToken, Unfit>
-        ensures ok { IfOk result (λ token. token_in org.now name.now role ≡ Some token) }
-        ensures syntax { IsErrOf result Unfit.Syntax → token_in org.now name.now role ≡ None }
+    fn make(
+        alloc: Global,
+        org: &str,
+        name: &str,
+        role: Option<Role>,
+        until: Option<&str>,
+        prefix: Option<&str>,
+    ) -> Result<NewToken, Unfit>
+        ensures ok { IfOk result (λ token. token_in org.now name.now role (bounds_given (text_in until.entry) (text_in prefix.entry)) ≡ Some token) }
+        ensures syntax { IsErrOf result Unfit.Syntax → token_in org.now name.now role (bounds_given (text_in until.entry) (text_in prefix.entry)) ≡ None }
     {
         let Some(role) = role else {
             return Err(Unfit::Syntax);
         };
         let org = OrgName::read(alloc, org)?;
         let name = OrgName::read(alloc, name)?;
-        Ok(NewToken { org, name, role })
+        let bounds = give_bounds(alloc, until, prefix)?;
+        Ok(NewToken {
+            org,
+            name,
+            role,
+            bounds,
+        })
     }
 
     /// The command that adds the token with a secret.
     pub fn with_secret(self, secret: Secret) -> Admin
         ensures { result ≡ with_secret self secret }
     {
-        let NewToken { org, name, role } = self;
+        let NewToken {
+            org,
+            name,
+            role,
+            bounds,
+        } = self;
         Admin::TokenAdd {
             org,
             name,
             role,
             secret,
+            bounds,
         }
     }
 }
@@ -86,6 +108,8 @@ pub struct Values<'a> {
     limit: Option<&'a str>,
     name: Option<&'a str>,
     role: Option<&'a str>,
+    until: Option<&'a str>,
+    prefix: Option<&'a str>,
     port: Option<&'a str>,
     count: Option<&'a str>,
     idle: Option<&'a str>,
@@ -102,6 +126,8 @@ impl<'a> Values<'a> {
             limit: matches.get_str("limit"),
             name: matches.get_str("name"),
             role: matches.get_str("role"),
+            until: matches.get_str("until"),
+            prefix: matches.get_str("prefix"),
             port: matches.get_str("port"),
             count: matches.get_str("count"),
             idle: matches.get_str("idle"),
@@ -156,6 +182,7 @@ fn command_on(alloc: Global, command: &str, org: &str, values: &Values<'_>) -> R
     match command {
         "org-add" => commands::org_add(alloc, org, limit_or_first(values.limit)),
         "org-limit" => limit_command(alloc, org, values.limit),
+        "token-list" => commands::token_list(alloc, org),
         "token-revoke" => revoke_command(alloc, org, values.name),
         _ => Err(Unfit::Syntax),
     }
@@ -180,7 +207,8 @@ fn new_token(alloc: Global, values: &Values<'_>) -> Result<NewToken, Unfit>
 {
     match (values.org, values.name, values.role) {
         (Some(org), Some(name), Some(role)) => {
-            NewToken::make(alloc, org, name, commands::read_role(role))
+            let role = commands::read_role(role);
+            NewToken::make(alloc, org, name, role, values.until, values.prefix)
         }
         _ => Err(Unfit::Syntax),
     }

@@ -4,7 +4,7 @@ ghost use Rattle.std.specs.Io.KnownBytes.{Appends};
 ghost use Rattle.program.specs.Endings.{status_of};
 ghost use Rattle.program.specs.Errors.{GetsFront, GetsConnectionLines};
 ghost use Rattle.program.specs.Orders.{said_by, with_secret};
-ghost use Rattle.program.specs.Outcomes.{stream, IsSaid, AnswersLine, AnswersList, TellsWord, TellsList, TellsAnswer, IsOperated, AnswersCommand, RefusesUsage, AddsToken, ServesAt, Does, RefusesWords, Prints, OperatesAt, AddsTokenAt, ServesFrom, RefusesToOpen, outside, IsAlone, SaysServed, TellsOfLog, TellsOfReaders, Leaves, Runs};
+ghost use Rattle.program.specs.Outcomes.{stream, IsSaid, AnswersLine, AnswersList, AnswersTokens, TellsWord, TellsList, TellsTokens, TellsAnswer, IsOperated, AnswersCommand, RefusesUsage, AddsToken, ServesAt, Does, RefusesWords, Prints, OperatesAt, AddsTokenAt, ServesFrom, RefusesToOpen, outside, IsAlone, SaysServed, TellsOfLog, TellsOfReaders, Leaves, Runs};
 ghost use Rattle.program.specs.Inner.Outcomes.{IsSaidWhy};
 ghost use Rattle.program.specs.Paths.{AllStay, OthersStay};
 ghost use Rattle.program.specs.Serving.{Listens, Serves, state, AnswersAtPort};
@@ -16,7 +16,7 @@ use crate::errors::write_text;
 use crate::orders::{NewToken, Order};
 use crate::outside::{Clock, Connections, Files};
 use crate::replays::{read_all, replay_frames};
-use crate::replies::{print_organizations, say};
+use crate::replies::{print_organizations, print_tokens, say};
 use crate::secrets::read_secret;
 use crate::serving::serve_loop;
 use crate::timeouts::Timeouts;
@@ -33,7 +33,7 @@ use tables::Fault;
 
 /// What a value among the words has to be.
 const FORMS: &str =
-    "custody: a value isn't of its form: ORG and NAME are 1 to 40 of a-z, 0-9 and '-', the first a letter; ROLE is read, write or admin; a limit of workspaces is 0 to 100000, a port 1 to 65535, a count 1 to 1000000, seconds 1 to 3600; numbers have no leading zero\n";
+    "custody: a value isn't of its form: ORG and NAME are 1 to 40 of a-z, 0-9 and '-', the first a letter; ROLE is read, write or admin; a limit of workspaces is 0 to 100000, a port 1 to 65535, a count 1 to 1000000, an end 0 to 253402300799, other seconds 1 to 3600; a prefix is 0 to 90 ASCII letters, digits, '-' and '_'; numbers have no leading zero\n";
 
 /// What a secret has to be.
 const SECRET_FORM: &str =
@@ -80,6 +80,23 @@ fn say_list<O: Write>(output: &mut O, answer: &AdminAnswer) -> Ending
             Err(_) => Ending::Unprinted,
         },
         AdminAnswer::Done | AdminAnswer::Exists | AdminAnswer::Absent => say(output, Ending::Down),
+        AdminAnswer::Tokens(_) => say(output, Ending::Down),
+    }
+}
+
+fn say_tokens<O: Write>(output: &mut O, answer: &AdminAnswer) -> Ending
+    ensures line { AnswersTokens result (stream (O.contents output.old) (O.contents output.new)) }
+    ensures tells { TellsTokens answer.now result (stream (O.contents output.old) (O.contents output.new)) }
+{
+    match answer {
+        AdminAnswer::Tokens(rows) => match print_tokens(output, rows.as_slice()) {
+            Ok(()) => Ending::Done,
+            Err(_) => Ending::Unprinted,
+        },
+        AdminAnswer::Absent => say(output, Ending::Absent),
+        AdminAnswer::Done | AdminAnswer::Exists | AdminAnswer::Organizations(_) => {
+            say(output, Ending::Down)
+        }
     }
 }
 
@@ -92,6 +109,7 @@ fn say_word<O: Write>(output: &mut O, answer: &AdminAnswer) -> Ending
         AdminAnswer::Exists => say(output, Ending::Exists),
         AdminAnswer::Absent => say(output, Ending::Absent),
         AdminAnswer::Organizations(_) => say(output, Ending::Down),
+        AdminAnswer::Tokens(_) => say(output, Ending::Down),
     }
 }
 
@@ -104,6 +122,7 @@ fn say_answer<O: Write>(output: &mut O, command: &Admin, answer: &AdminAnswer) -
         Admin::OrgAdd { .. } => say_word(output, answer),
         Admin::OrgLimit { .. } => say_word(output, answer),
         Admin::TokenAdd { .. } => say_word(output, answer),
+        Admin::TokenList { .. } => say_tokens(output, answer),
         Admin::TokenRevoke { .. } => say_word(output, answer),
     }
 }
@@ -117,6 +136,7 @@ fn say_down<O: Write>(output: &mut O, command: &Admin) -> Ending
         Admin::OrgAdd { .. } => say(output, Ending::Down),
         Admin::OrgLimit { .. } => say(output, Ending::Down),
         Admin::TokenAdd { .. } => say(output, Ending::Down),
+        Admin::TokenList { .. } => say(output, Ending::Down),
         Admin::TokenRevoke { .. } => say(output, Ending::Down),
     }
 }
@@ -145,6 +165,7 @@ fn say_schema<O: Write>(output: &mut O, command: &Admin) -> Ending
         Admin::OrgAdd { .. } => say(output, Ending::Schema),
         Admin::OrgLimit { .. } => say(output, Ending::Schema),
         Admin::TokenAdd { .. } => say(output, Ending::Schema),
+        Admin::TokenList { .. } => say(output, Ending::Schema),
         Admin::TokenRevoke { .. } => say(output, Ending::Schema),
     }
 }

@@ -3,7 +3,7 @@
 ghost use Rattle.std.specs.Prelude.{◌≡◌, ◌⊎◌, IfOk, IfErr, IsErrOf, None, Some, [], codes, ℕ, List};
 ghost use Rattle.clap.specs.Words.{app_of, subcommand_of, subcommand_rows_of, HasKind, FailsBy, App, Rule, new_app, with_rule, with_subcommand};
 ghost use Rattle.program.specs.Orders.{said_by};
-ghost use Rattle.program.specs.Words.{words_bytes, database, organization, option_rule, value_rule, org_add, org_limit, org_list, token_add, token_revoke, serve, replay, bare, custody, faults, asked_by_command, asked_in, with_organizations, with_tokens, with_running, with_timeouts, IsWhy, IsArg, IsCommand};
+ghost use Rattle.program.specs.Words.{words_bytes, database, organization, option_rule, value_rule, org_add, org_limit, org_list, token_add, token_list, token_revoke, serve, replay, bare, custody, faults, asked_by_command, asked_in, with_organizations, with_tokens, with_running, with_bounds, with_timeouts, IsWhy, IsArg, IsCommand};
 
 use crate::orders::{Order, Values};
 use basis::Unfit;
@@ -118,9 +118,31 @@ fn token_add<'a>(alloc: Global) -> Result<Command<'a>, AllocError>
     let help = "What the token may do: read, write or admin";
     let bare = command(alloc, "token-add", about);
     let on_file = with_arg(bare, database(alloc))?;
-    let of_one = with_arg(on_file, organization(alloc))?;
+    let bounded = with_bounds(alloc, on_file)?;
+    let of_one = with_arg(bounded, organization(alloc))?;
     let named = with_arg(of_one, token_name(alloc))?;
     with_arg(named, value(alloc, "role", "ROLE", help))
+}
+
+fn with_bounds<'a>(alloc: Global, bare: Command<'a>) -> Result<Command<'a>, AllocError>
+    ensures { (app : App) → IsCommand bare.entry app → IfOk result (λ whole. IsCommand whole (with_bounds app)) }
+{
+    let until_help =
+        "From this moment on the token doesn't count, in seconds since 1970: 0 to 253402300799; without, it doesn't end";
+    let prefix_help =
+        "The token counts for the workspaces whose names begin so: 0 to 90 ASCII letters, digits, '-' and '_'; without, for each";
+    let ending = with_arg(bare, option(alloc, "until", false, "SECONDS", until_help))?;
+    with_arg(ending, option(alloc, "prefix", false, "TEXT", prefix_help))
+}
+
+fn token_list<'a>(alloc: Global) -> Result<Command<'a>, AllocError>
+    ensures { IfOk result (λ command. IsCommand command token_list) }
+{
+    let about =
+        "Lists an organization's tokens: a line `NAME ROLE UNTIL PREFIX` each, '-' for no end and for every workspace";
+    let bare = command(alloc, "token-list", about);
+    let on_file = with_arg(bare, database(alloc))?;
+    with_arg(on_file, organization(alloc))
 }
 
 fn token_revoke<'a>(alloc: Global) -> Result<Command<'a>, AllocError>
@@ -185,7 +207,8 @@ fn with_tokens<'a>(alloc: Global, bare: Command<'a>) -> Result<Command<'a>, Allo
     ensures { (app : App) → IsCommand bare.entry app → IfOk result (λ whole. IsCommand whole (with_tokens app)) }
 {
     let adding = with_command(bare, token_add(alloc)?)?;
-    with_command(adding, token_revoke(alloc)?)
+    let listing = with_command(adding, token_list(alloc)?)?;
+    with_command(listing, token_revoke(alloc)?)
 }
 
 fn with_running<'a>(alloc: Global, bare: Command<'a>) -> Result<Command<'a>, AllocError>

@@ -1,22 +1,45 @@
-//! Which role each act needs, and whether a caller may.
+//! Which role each act needs, which workspaces a token is for, and whether a caller may.
 ghost use Rattle.std.specs.Prelude.{◌≡◌};
-ghost use Rattle.route.specs.Policy.{least_role, least_role_on, caller_refused, allowed_by};
+ghost use Rattle.route.specs.Policy.{least_role, least_role_on, role_refused, is_admitted, caller_refused, allowed_by};
 
 use crate::acts::{Asked, AskedAct, WsAct};
-use basis::{Caller, Refusal, Role};
+use basis::{Caller, Prefix, Refusal, Role};
 
-/// Whether a caller's role is enough for what is asked, or how it is refused. It looks at no name and
-/// takes no memory.
+/// Whether a caller's role is enough for what is asked, and its prefix admits the workspace, or how it
+/// is refused: the role comes first, and another workspace is told as what isn't there, where it is to
+/// be made too. It takes no memory.
 pub fn allowed(asked: &Asked, caller: &Caller) -> Result<(), Refusal>
     ensures { result ≡ allowed_by (caller_refused caller.now asked.now.act) }
 {
-    let least = least_role(&asked.act);
-    if caller.role.includes(least) {
-        return Ok(());
+    if let Some(refusal) = role_refused(caller.role, &asked.act) {
+        return Err(refusal);
+    }
+    if is_admitted(&caller.prefix, &asked.act) {
+        Ok(())
+    } else {
+        Err(Refusal::NotFound)
+    }
+}
+
+fn role_refused(role: Role, act: &AskedAct) -> Option<Refusal>
+    ensures { result ≡ role_refused role act.now }
+{
+    let least = least_role(act);
+    if role.includes(least) {
+        return None;
     }
     match least {
-        Role::Admin => Err(Refusal::NeedAdmin),
-        Role::Read | Role::Write => Err(Refusal::NeedWrite),
+        Role::Admin => Some(Refusal::NeedAdmin),
+        Role::Read | Role::Write => Some(Refusal::NeedWrite),
+    }
+}
+
+fn is_admitted(prefix: &Prefix, act: &AskedAct) -> bool
+    ensures { result ≡ is_admitted prefix.now act.now }
+{
+    match act {
+        AskedAct::ListWorkspaces { .. } => true,
+        AskedAct::OfWorkspace(ws, _) => prefix.admits(ws.as_str()),
     }
 }
 

@@ -39,9 +39,9 @@ use Rattle.serve.specs.Laws.{renamed}
 use Rattle.serve.specs.Steps.{Said, Answered as StepAnswered, replies, step, own_said, own_record}
 use Rattle.serve.specs.Service.{Asks, IsAsked, AreAsked, IsSaidText, AreTexts, asked_by, ask_of, is_own, with_own, own_asks, replies_at, same_owner}
 use Rattle.serve.specs.Runs.{IsOwnMachine}
-use Rattle.serve.specs.AbsentForms.{IsFormOf, AnsweredRequest, record_before, RepliesAreThoseOfAbsentForms, OutOfReachRepliesNotFound}
+use Rattle.serve.specs.AbsentForms.{IsFormOf, AnsweredRequest, record_before, RepliesAreThoseOfAbsentForms, OutOfReachRepliesNotFound, RepliesOutsideThePrefixAreThoseOfAbsentForms, RepliesOutsideThePrefixAreNotFound}
 use Rattle.serve.proofs.CheckLemmas.{after_ok, passed}
-use Rattle.serve.proofs.LawLemmas.{out_of_reach_is_not_found, out_of_reach_is_as_absent}
+use Rattle.serve.proofs.LawLemmas.{out_of_reach_is_not_found, out_of_reach_is_as_absent, outside_the_prefix_is_not_found, outside_the_prefix_is_as_absent}
 use Rattle.serve.proofs.RunLemmas.{asked_one, orgs_given}
 use Rattle.serve.specs.Inner.Taking.{RunsTo}
 use Rattle.std.proofs.Math.Seq.{take-length}
@@ -328,6 +328,21 @@ pub out_of_reach : (steps : List Step) (rows rows' : List ℕ → Option Organiz
 out_of_reach steps rows rows' texts asked are own a token out known may =
     let r : Option Organization = record_before rows a.asked.caller a.earlier in
     subst (λ (d : StepAnswered). IsSaidText (replies a.awaited a.at d.answer) a.text) (out_of_reach_is_not_found r a.at a.asked a.content_md5 a.body token out known may) (reply_at steps rows rows' texts asked are own a)
+
+pub outside_the_prefix : (steps : List Step) (rows rows' : List ℕ → Option Organization) (texts : List (List ℕ)) (asked : List Ask) → AreAsked steps asked → ((org : List ℕ) → IsOwnMachine org asked rows rows' texts)
+    → RepliesOutsideThePrefixAreThoseOfAbsentForms steps rows texts
+outside_the_prefix steps rows rows' texts asked are own a token other org ws ask known outside needs lacks form asks_it =
+    let r : Option Organization = record_before rows a.asked.caller a.earlier in
+    let is : ask ≡ requests a.at a.awaited (record a.asked { org = org; act = renamed a.asked.act ws }) a.content_md5 a.body = form_asks a.at a.bytes other org ws a.awaited a.asked a.content_md5 a.body ask a.asks form asks_it in
+    let alike : (step r (requests a.at a.awaited a.asked a.content_md5 a.body)).answer ≡ (step r (requests a.at a.awaited (record a.asked { org = org; act = renamed a.asked.act ws }) a.content_md5 a.body)).answer =
+    ap (λ (d : StepAnswered). replies a.awaited a.at d.answer) (outside_the_prefix_is_as_absent r a.at a.asked a.content_md5 a.body org ws token known outside needs lacks) in
+    subst (λ (said : Said). IsSaidText said a.text) (alike ∙ ap (λ (x : Ask). (step r x).answer) (sym is)) (reply_at steps rows rows' texts asked are own a)
+
+pub not_admitted : (steps : List Step) (rows rows' : List ℕ → Option Organization) (texts : List (List ℕ)) (asked : List Ask) → AreAsked steps asked → ((org : List ℕ) → IsOwnMachine org asked rows rows' texts)
+    → RepliesOutsideThePrefixAreNotFound steps rows texts
+not_admitted steps rows rows' texts asked are own a token known outside may =
+    let r : Option Organization = record_before rows a.asked.caller a.earlier in
+    subst (λ (d : StepAnswered). IsSaidText (replies a.awaited a.at d.answer) a.text) (outside_the_prefix_is_not_found r a.at a.asked a.content_md5 a.body token known outside may) (reply_at steps rows rows' texts asked are own a)
 
 -- of a whole run that was answered
 pub each_reply : {E : Type 0} (Law : List (List ℕ) → Type 0) (steps : List Step) (taken : ℕ) (old new : List ℕ → Option Organization) (res : Result (Vec (List ℕ) Global) E)

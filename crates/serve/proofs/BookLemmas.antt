@@ -82,15 +82,15 @@ Goes ws e = Ruled ws e ⊎ Unruled ws e
 abbrev entry_of : List ℕ → Option Organization → Ask → Entry
 entry_of ws r a = record { ask = a; said = (step r a).answer; before = workspace_in r ws; after = workspace_in (step r a).left ws }
 
-request_goes : (ws : List ℕ) (r : Option Organization) (now : ℕ) (awaited : Bool) (asked : Asked) (content_md5 : Option (List ℕ)) (body : List ℕ) (x : Result Task _) → checked r asked content_md5 body ≡ x → IsMoment now
+request_goes : (ws : List ℕ) (r : Option Organization) (now : ℕ) (awaited : Bool) (asked : Asked) (content_md5 : Option (List ℕ)) (body : List ℕ) (x : Result Task _) → checked r now asked content_md5 body ≡ x → IsMoment now
     → Goes ws (record { ask = requests now awaited asked content_md5 body; said = replies awaited now (carried asked.caller now r x).answer; before = workspace_in r ws; after = workspace_in (carried asked.caller now r x).left ws })
 request_goes ws r now awaited asked content_md5 body (Err refusal) e moment = inr (record { stays = refl; refuses = λ names accepted. let none : ⊥ = cc in none })
-request_goes ws r now awaited asked content_md5 body (Ok (ListAll after)) e moment =
-    inr (record { stays = refl; refuses = λ names accepted. subst (λ (a : AskedAct). NamesIn a ws) (list_passes r asked content_md5 body after e) names })
+request_goes ws r now awaited asked content_md5 body (Ok (ListAll after prefix)) e moment =
+    inr (record { stays = refl; refuses = λ names accepted. subst (λ (a : AskedAct). NamesIn a ws) (list_passes r now asked content_md5 body after prefix e) names })
 request_goes ws r now awaited asked content_md5 body (Ok (Carry o)) e moment = by_name (bytes_eq ws o.ws) refl
   where
     p : Passes r asked body o
-    p = order_passes r asked content_md5 body o e
+    p = order_passes r now asked content_md5 body o e
 
     entry : List ℕ → Entry
     entry name = record {
@@ -127,7 +127,7 @@ request_goes ws r now awaited asked content_md5 body (Ok (Carry o)) e moment = b
 step_goes : (ws : List ℕ) (r : Option Organization) (a : Ask) → IsTimely a → Goes ws (entry_of ws r a)
 step_goes ws r silent timely = inr (record { stays = refl; refuses = λ names accepted. names })
 step_goes ws r (ask.refused at awaited refusal is_head) timely = inr (record { stays = refl; refuses = λ names accepted. names })
-step_goes ws r (requests at awaited asked content_md5 body) timely = request_goes ws r at awaited asked content_md5 body (checked r asked content_md5 body) refl timely
+step_goes ws r (requests at awaited asked content_md5 body) timely = request_goes ws r at awaited asked content_md5 body (checked r at asked content_md5 body) refl timely
 step_goes ws r (commands at command) timely = inr (record { stays = command_keeps r command ws; refuses = λ names accepted. names })
 
 -- each step of a book is such a one, from a lawful workspace to a lawful one, and goes on where the one before it ended

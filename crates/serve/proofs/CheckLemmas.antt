@@ -1,11 +1,12 @@
 -- The checks of a request in their order, and what an order that passed them is.
-use Rattle.std.proofs.Common.{◌≡◌, ℕ, ◌≤◌, Bool, true, false, List, length, Option, Some, None, Result, Ok, Err, IsSome, IfSome, IsTrue, refl, ap, subst, ◌∙◌, arith}
-use Rattle.std.specs.Prelude.{codes}
-use Rattle.std.proofs.lemmas.Bool.{le-leb}
+use Rattle.std.proofs.Common.{◌≡◌, ◌⊎◌, inl, inr, ℕ, ◌≤◌, ◌<◌, Bool, true, false, List, length, Option, Some, None, Result, Ok, Err, IsSome, IfSome, IsTrue, refl, sym, ap, subst, ◌∙◌, arith}
+use Rattle.std.specs.Prelude.{codes, if◌then◌else◌, option_map}
+use Rattle.std.proofs.lemmas.Bool.{le-leb, lt-ltb, ltb-true}
 use Rattle.basis.specs.Checks.{or_refused, and_then}
 use Rattle.basis.specs.Names.{is_free_id, has_length}
+use Rattle.basis.specs.Roles.{is_before, counts_at}
 use Rattle.basis.specs.declared.refusals.Refusal.{Refusal}
-use Rattle.basis.specs.declared.refusals.Refusal.TheVariants.{BadToken, BadState, BadLock, BadBody}
+use Rattle.basis.specs.declared.refusals.Refusal.TheVariants.{BadToken, NotFound, BadState, BadLock, BadBody}
 use Rattle.basis.specs.declared.roles.Caller.{Caller}
 use Rattle.basis.specs.declared.rows.RunAsk.{RunAsk}
 use Rattle.basis.specs.declared.rows.Settings.{Settings}
@@ -22,14 +23,14 @@ use Rattle.machine.specs.declared.acts.Act.{Act}
 use Rattle.machine.specs.declared.acts.Act.TheVariants.{Look as LookAct, PutWorkspace as PutAct, UpdateState as UpdateAct, PurgeState as PurgeAct, Lock as LockAct, Unlock as UnlockAct, ForceUnlock as ForceUnlockAct, DeleteWorkspace as DeleteAct, MakeRun as MakeRunAct, ReportRun as ReportRunAct}
 use Rattle.machine.specs.declared.records.Token.{Token}
 use Rattle.machine.specs.declared.records.Organization.{Organization}
-use Rattle.route.specs.Policy.{caller_refused, allowed_by}
+use Rattle.route.specs.Policy.{role_refused, is_admitted, or_else_refused, caller_refused, allowed_by}
 use Rattle.route.specs.declared.acts.Asked.{Asked}
 use Rattle.route.specs.declared.acts.AskedAct.{AskedAct}
 use Rattle.route.specs.declared.acts.AskedAct.TheVariants.{ListWorkspaces, OfWorkspace}
 use Rattle.route.specs.declared.acts.WsAct.{WsAct}
 use Rattle.route.specs.declared.acts.WsAct.TheVariants.{Look, Put, Delete, UpdateState, PurgeState, Lock, Unlock, ForceUnlock, MakeRun, ReportRun}
-use Rattle.serve.specs.Checks.{task_of, known_caller, may_do, in_reach, is_found, found_if, found, place, digest_checked, spelt, act_of, order, checked}
-use Rattle.serve.specs.Inner.Prepared.{caller_known}
+use Rattle.serve.specs.Checks.{task_of, require, while_it_counts, known_caller, may_do, admitted, in_reach, is_found, found_if, found, place, digest_checked, spelt, act_of, order, checked}
+use Rattle.serve.specs.Inner.Prepared.{counted, caller_known}
 use Rattle.serve.specs.declared.prepared.Place.{Place}
 use Rattle.serve.specs.declared.prepared.Order.{Order}
 use Rattle.serve.specs.declared.prepared.Task.{Task}
@@ -53,14 +54,24 @@ module _ {A B : Type 0} where
 abbrev pub after_names : Asked → Option (List ℕ) → List ℕ → Found → Result Task Refusal
 after_names asked content_md5 body f = and_then (digest_checked content_md5 body) (λ _. task_of f asked.lock_id body)
 
-abbrev pub after_reach : Option Organization → Asked → Option (List ℕ) → List ℕ → Result Task Refusal
-after_reach r asked content_md5 body = and_then (found r asked.act) (after_names asked content_md5 body)
+abbrev pub after_reach : Option Organization → List ℕ → Asked → Option (List ℕ) → List ℕ → Result Task Refusal
+after_reach r prefix asked content_md5 body = and_then (found r prefix asked.act) (after_names asked content_md5 body)
 
-abbrev pub after_role : Option Organization → Asked → Option (List ℕ) → List ℕ → Result Task Refusal
-after_role r asked content_md5 body = and_then (in_reach asked) (λ _. after_reach r asked content_md5 body)
+abbrev pub after_prefix : Option Organization → List ℕ → Asked → Option (List ℕ) → List ℕ → Result Task Refusal
+after_prefix r prefix asked content_md5 body = and_then (in_reach asked) (λ _. after_reach r prefix asked content_md5 body)
+
+abbrev pub after_role : Option Organization → Token → Asked → Option (List ℕ) → List ℕ → Result Task Refusal
+after_role r token asked content_md5 body = and_then (admitted token asked) (λ _. after_prefix r token.caller.prefix asked content_md5 body)
 
 abbrev pub after_caller : Option Organization → Asked → Option (List ℕ) → List ℕ → Token → Result Task Refusal
-after_caller r asked content_md5 body token = and_then (may_do token asked) (λ _. after_role r asked content_md5 body)
+after_caller r asked content_md5 body token = and_then (may_do token asked) (λ _. after_role r token asked content_md5 body)
+
+-- the policy is the role, and then the prefix
+policy_is : {A : Type 0} (refused : Option Refusal) (b : Bool) (x : Result A Refusal)
+    → and_then (allowed_by refused) (λ _. and_then (require NotFound b) (λ _. x)) ≡ and_then (allowed_by (or_else_refused refused (if b then None else Some NotFound))) (λ _. x)
+policy_is None true x = refl
+policy_is None false x = refl
+policy_is (Some refusal) b x = refl
 
 token_of_caller : (x : Result Token Refusal) (caller : Caller) → and_then x (λ token. Ok token.caller) ≡ Ok caller → (token : Token) × (x ≡ Ok token) × (token.caller ≡ caller)
 token_of_caller (Ok token) caller e = (token, refl, let same : token.caller ≡ caller = cc in same)
@@ -70,35 +81,86 @@ no_token : (x : Result Token Refusal) (refusal : Refusal) → and_then x (λ tok
 no_token (Ok token) refusal e = absurd (let none : ⊥ = cc in none)
 no_token (Err other) refusal e = let same : other ≡ refusal = cc in ap Err same
 
-module _ (r : Option Organization) (asked : Asked) (content_md5 : Option (List ℕ)) (body : List ℕ) where
-  pub unknown_refused : (refusal : Refusal) → caller_known r asked ≡ Err refusal → checked r asked content_md5 body ≡ Err refusal
-  unknown_refused refusal e = after_err (known_caller r asked) (after_caller r asked content_md5 body) refusal (no_token (known_caller r asked) refusal e)
+module _ (r : Option Organization) (now : ℕ) (asked : Asked) (content_md5 : Option (List ℕ)) (body : List ℕ) where
+  pub unknown_refused : (refusal : Refusal) → caller_known r now asked ≡ Err refusal → checked r now asked content_md5 body ≡ Err refusal
+  unknown_refused refusal e = after_err (known_caller r now asked) (after_caller r asked content_md5 body) refusal (no_token (known_caller r now asked) refusal e)
 
-  pub role_refuses : (caller : Caller) (refusal : Refusal) → caller_known r asked ≡ Ok caller → allowed_by (caller_refused caller asked.act) ≡ Err refusal → checked r asked content_md5 body ≡ Err refusal
+  -- what follows the caller, by the whole policy
+  by_policy : (token : Token) (caller : Caller) → token.caller ≡ caller
+      → after_caller r asked content_md5 body token ≡ and_then (allowed_by (caller_refused caller asked.act)) (λ _. after_prefix r caller.prefix asked content_md5 body)
+  by_policy token caller e =
+      policy_is (role_refused token.caller.role asked.act) (is_admitted token.caller.prefix asked.act) (after_prefix r token.caller.prefix asked content_md5 body)
+      ∙ ap (λ (x : Caller). and_then (allowed_by (caller_refused x asked.act)) (λ _. after_prefix r x.prefix asked content_md5 body)) e
+
+  pub role_refuses : (caller : Caller) (refusal : Refusal) → caller_known r now asked ≡ Ok caller → allowed_by (caller_refused caller asked.act) ≡ Err refusal → checked r now asked content_md5 body ≡ Err refusal
   role_refuses caller refusal e h =
-      let t : (token : Token) × (known_caller r asked ≡ Ok token) × (token.caller ≡ caller) = token_of_caller (known_caller r asked) caller e in
-      after_ok (known_caller r asked) (after_caller r asked content_md5 body) t.0 (Err refusal) t.1
-      (after_err (may_do t.0 asked) (λ _. after_role r asked content_md5 body) refusal (ap (λ (x : Caller). allowed_by (caller_refused x asked.act)) t.2 ∙ h))
+      let t : (token : Token) × (known_caller r now asked ≡ Ok token) × (token.caller ≡ caller) = token_of_caller (known_caller r now asked) caller e in
+      after_ok (known_caller r now asked) (after_caller r asked content_md5 body) t.0 (Err refusal) t.1
+      (by_policy t.0 caller t.2 ∙ after_err (allowed_by (caller_refused caller asked.act)) (λ _. after_prefix r caller.prefix asked content_md5 body) refusal h)
 
-  pub past_role : (caller : Caller) (x : Result Task Refusal) → caller_known r asked ≡ Ok caller → allowed_by (caller_refused caller asked.act) ≡ Ok tt → after_role r asked content_md5 body ≡ x → checked r asked content_md5 body ≡ x
+  pub past_role : (caller : Caller) (x : Result Task Refusal) → caller_known r now asked ≡ Ok caller → allowed_by (caller_refused caller asked.act) ≡ Ok tt → after_prefix r caller.prefix asked content_md5 body ≡ x
+      → checked r now asked content_md5 body ≡ x
   past_role caller x e h rest =
-      let t : (token : Token) × (known_caller r asked ≡ Ok token) × (token.caller ≡ caller) = token_of_caller (known_caller r asked) caller e in
-      after_ok (known_caller r asked) (after_caller r asked content_md5 body) t.0 x t.1
-      (after_ok (may_do t.0 asked) (λ _. after_role r asked content_md5 body) tt x (ap (λ (y : Caller). allowed_by (caller_refused y asked.act)) t.2 ∙ h) rest)
+      let t : (token : Token) × (known_caller r now asked ≡ Ok token) × (token.caller ≡ caller) = token_of_caller (known_caller r now asked) caller e in
+      after_ok (known_caller r now asked) (after_caller r asked content_md5 body) t.0 x t.1
+      (by_policy t.0 caller t.2 ∙ after_ok (allowed_by (caller_refused caller asked.act)) (λ _. after_prefix r caller.prefix asked content_md5 body) tt x h rest)
 
-  pub past_reach : (caller : Caller) (x : Result Task Refusal) → caller_known r asked ≡ Ok caller → allowed_by (caller_refused caller asked.act) ≡ Ok tt → in_reach asked ≡ Ok tt
-      → after_reach r asked content_md5 body ≡ x → checked r asked content_md5 body ≡ x
-  past_reach caller x e h reached rest = past_role caller x e h (after_ok (in_reach asked) (λ _. after_reach r asked content_md5 body) tt x reached rest)
+  pub past_reach : (caller : Caller) (x : Result Task Refusal) → caller_known r now asked ≡ Ok caller → allowed_by (caller_refused caller asked.act) ≡ Ok tt → in_reach asked ≡ Ok tt
+      → after_reach r caller.prefix asked content_md5 body ≡ x → checked r now asked content_md5 body ≡ x
+  past_reach caller x e h reached rest = past_role caller x e h (after_ok (in_reach asked) (λ _. after_reach r caller.prefix asked content_md5 body) tt x reached rest)
 
--- who has a token is there
-caller_there : (r : Option Organization) (content_md5 : List ℕ) (token : Token) → or_refused BadToken (caller_of r content_md5) ≡ Ok token → IsSome r
-caller_there None content_md5 token e = absurd (let none : ⊥ = cc in none)
-caller_there (Some o) content_md5 token e = refl
+-- who has a token that counts is there
+caller_there : (r : Option Organization) (now : ℕ) (digest : List ℕ) (token : Token) → or_refused BadToken (while_it_counts now (caller_of r digest)) ≡ Ok token → IsSome r
+caller_there None now digest token e = absurd (let none : ⊥ = cc in none)
+caller_there (Some o) now digest token e = refl
 
-pub role_there : (r : Option Organization) (asked : Asked) (caller : Caller) → caller_known r asked ≡ Ok caller → IsSome r
-role_there r asked caller e =
-    let t : (token : Token) × (known_caller r asked ≡ Ok token) × (token.caller ≡ caller) = token_of_caller (known_caller r asked) caller e in
-    caller_there r (sha256 asked.secret) t.0 t.1
+pub role_there : (r : Option Organization) (now : ℕ) (asked : Asked) (caller : Caller) → caller_known r now asked ≡ Ok caller → IsSome r
+role_there r now asked caller e =
+    let t : (token : Token) × (known_caller r now asked ≡ Ok token) × (token.caller ≡ caller) = token_of_caller (known_caller r now asked) caller e in
+    caller_there r now (sha256 asked.secret) t.0 t.1
+
+-- a token that was found counts or not, by who asks with it
+some_caller : (a b : Caller) → Some a ≡ Some b → b ≡ a
+some_caller a b e = cc
+
+pub counted_is : (x : Option Token) (now : ℕ) (caller : Caller) → Some caller ≡ option_map (λ (token : Token). token.caller) x
+    → and_then (or_refused BadToken (while_it_counts now x)) (λ token. Ok token.caller) ≡ counted now caller
+counted_is None now caller e = absurd (let none : ⊥ = cc in none)
+counted_is (Some token) now caller e = by_end (counts_at now token.caller) ∙ ap (counted now) (some_caller caller token.caller e)
+  where
+    counts : Token → Result Caller Refusal
+    counts t = Ok t.caller
+
+    one : Caller → Result Caller Refusal
+    one c = Ok c
+
+    by_end : (b : Bool) → and_then (or_refused BadToken (if b then Some token else None)) counts ≡ (if b then one token.caller else Err BadToken)
+    by_end true = refl
+    by_end false = refl
+
+-- a token that counts later counted before
+counted_before : (now later : ℕ) (until : Option ℕ) → now ≤ later → is_before later until ≡ true → is_before now until ≡ true
+counted_before now later None most e = refl
+counted_before now later (Some until) most e = lt-ltb now until (let less : later < until = ltb-true later until e in omega arith)
+
+-- at a moment that isn't before, the checks come to the same, or the token has ended
+pub checked_later : (r : Option Organization) (now later : ℕ) (asked : Asked) (content_md5 : Option (List ℕ)) (body : List ℕ) → now ≤ later
+    → (checked r later asked content_md5 body ≡ Err BadToken) ⊎ (checked r later asked content_md5 body ≡ checked r now asked content_md5 body)
+checked_later r now later asked content_md5 body most = by_token (caller_of r (sha256 asked.secret))
+  where
+    at : ℕ → Option Token → Result Task Refusal
+    at moment x = and_then (or_refused BadToken (while_it_counts moment x)) (after_caller r asked content_md5 body)
+
+    by_token : (x : Option Token) → (at later x ≡ Err BadToken) ⊎ (at later x ≡ at now x)
+    by_token None = inl refl
+    by_token (Some token) = by_end (counts_at later token.caller) refl
+      where
+        if_it_counts : Bool → Result Task Refusal
+        if_it_counts b = and_then (or_refused BadToken (if b then Some token else None)) (after_caller r asked content_md5 body)
+
+        by_end : (b : Bool) → counts_at later token.caller ≡ b → (at later (Some token) ≡ Err BadToken) ⊎ (at later (Some token) ≡ at now (Some token))
+        by_end false c = inl (ap if_it_counts c)
+        by_end true c = inr (ap if_it_counts (c ∙ sym (counted_before now later token.caller.until most c)))
 
 -- the documents of an act that is read are in their ranges
 text_most : (o : Option Data) (lineage : List ℕ) → IsText 256 o lineage → length lineage ≤ 256
@@ -176,9 +238,9 @@ place_is : (b : Bool) (p q : Place) → found_if b p ≡ Ok (At q) → (b ≡ tr
 place_is true p q e = (refl, let same : p ≡ q = cc in same)
 place_is false p q e = absurd (let none : ⊥ = cc in none)
 
-found_place : (r : Option Organization) (act : AskedAct) (p : Place) → found r act ≡ Ok (At p) → (act ≡ OfWorkspace p.ws p.act) × (is_found r p.ws p.act ≡ true)
-found_place r (ListWorkspaces after) p e = absurd (let none : ⊥ = cc in none)
-found_place r (OfWorkspace ws act) p e =
+found_place : (r : Option Organization) (prefix : List ℕ) (act : AskedAct) (p : Place) → found r prefix act ≡ Ok (At p) → (act ≡ OfWorkspace p.ws p.act) × (is_found r p.ws p.act ≡ true)
+found_place r prefix (ListWorkspaces after) p e = absurd (let none : ⊥ = cc in none)
+found_place r prefix (OfWorkspace ws act) p e =
     let h : (is_found r ws act ≡ true) × (place ws act ≡ p) = place_is (is_found r ws act) (place ws act) p e in
     (ap (λ (q : Place). OfWorkspace q.ws q.act) h.1, subst (λ (q : Place). is_found r q.ws q.act ≡ true) h.1 h.0)
 
@@ -186,20 +248,21 @@ order_is : (ws : List ℕ) (x : Result Act Refusal) (o : Order) → and_then x (
 order_is ws (Ok act) o e = let same : order ws act ≡ o = cc in (ap (λ (p : Order). p.ws) same, ap (λ (p : Order). read_act p.act) same)
 order_is ws (Err refusal) o e = absurd (let none : ⊥ = cc in none)
 
-pub order_passes : (r : Option Organization) (asked : Asked) (content_md5 : Option (List ℕ)) (body : List ℕ) (o : Order) → checked r asked content_md5 body ≡ Ok (Carry o) → Passes r asked body o
-order_passes r asked content_md5 body o e =
-    let known = passed (known_caller r asked) (after_caller r asked content_md5 body) (Carry o) e in
-    let may = passed (may_do known.0 asked) (λ _. after_role r asked content_md5 body) (Carry o) known.2 in
-    let reached = passed (in_reach asked) (λ _. after_reach r asked content_md5 body) (Carry o) may.2 in
-    let named = passed (found r asked.act) (after_names asked content_md5 body) (Carry o) reached.2 in
+pub order_passes : (r : Option Organization) (now : ℕ) (asked : Asked) (content_md5 : Option (List ℕ)) (body : List ℕ) (o : Order) → checked r now asked content_md5 body ≡ Ok (Carry o) → Passes r asked body o
+order_passes r now asked content_md5 body o e =
+    let known = passed (known_caller r now asked) (after_caller r asked content_md5 body) (Carry o) e in
+    let may = passed (may_do known.0 asked) (λ _. after_role r known.0 asked content_md5 body) (Carry o) known.2 in
+    let within = passed (admitted known.0 asked) (λ _. after_prefix r known.0.caller.prefix asked content_md5 body) (Carry o) may.2 in
+    let reached = passed (in_reach asked) (λ _. after_reach r known.0.caller.prefix asked content_md5 body) (Carry o) within.2 in
+    let named = passed (found r known.0.caller.prefix asked.act) (after_names asked content_md5 body) (Carry o) reached.2 in
     let fit = passed (digest_checked content_md5 body) (λ _. task_of named.0 asked.lock_id body) (Carry o) named.2 in
-    by_found (caller_there r (sha256 asked.secret) known.0 known.1) named.0 named.1 fit.2
+    by_found (caller_there r now (sha256 asked.secret) known.0 known.1) known.0.caller.prefix named.0 named.1 fit.2
   where
-    by_found : IsSome r → (f : Found) → found r asked.act ≡ Ok f → task_of f asked.lock_id body ≡ Ok (Carry o) → Passes r asked body o
-    by_found some (Workspaces after) is made = absurd (let none : ⊥ = cc in none)
-    by_found some (At p) is made =
+    by_found : IsSome r → (prefix : List ℕ) (f : Found) → found r prefix asked.act ≡ Ok f → task_of f asked.lock_id body ≡ Ok (Carry o) → Passes r asked body o
+    by_found some prefix (Workspaces after mine) is made = absurd (let none : ⊥ = cc in none)
+    by_found some prefix (At p) is made =
         let done : (p.ws ≡ o.ws) × (act_of p.act asked.lock_id body ≡ Ok o.act) = order_is p.ws (act_of p.act asked.lock_id body) o made in
-        let at : (asked.act ≡ OfWorkspace p.ws p.act) × (is_found r p.ws p.act ≡ true) = found_place r asked.act p is in
+        let at : (asked.act ≡ OfWorkspace p.ws p.act) × (is_found r p.ws p.act ≡ true) = found_place r prefix asked.act p is in
         record {
           there = some;
           what = p.act;
@@ -209,30 +272,34 @@ order_passes r asked content_md5 body o e =
         }
 
 -- where the list of the workspaces passes the checks, it is asked
-place_no_list : (b : Bool) (p : Place) (after : Option (List ℕ)) → found_if b p ≡ Ok (Workspaces after) → ⊥
-place_no_list true p after e = let none : ⊥ = cc in none
-place_no_list false p after e = let none : ⊥ = cc in none
+place_no_list : (b : Bool) (p : Place) (after : Option (List ℕ)) (prefix : List ℕ) → found_if b p ≡ Ok (Workspaces after prefix) → ⊥
+place_no_list true p after prefix e = let none : ⊥ = cc in none
+place_no_list false p after prefix e = let none : ⊥ = cc in none
 
-list_found : (r : Option Organization) (act : AskedAct) (after : Option (List ℕ)) → found r act ≡ Ok (Workspaces after) → act ≡ ListWorkspaces after
-list_found r (ListWorkspaces other) after e = let same : other ≡ after = cc in ap ListWorkspaces same
-list_found r (OfWorkspace ws act) after e = absurd (place_no_list (is_found r ws act) (place ws act) after e)
+list_found : (r : Option Organization) (mine : List ℕ) (act : AskedAct) (after : Option (List ℕ)) (prefix : List ℕ) → found r mine act ≡ Ok (Workspaces after prefix) → act ≡ ListWorkspaces after
+list_found r mine (ListWorkspaces other) after prefix e = let same : other ≡ after = cc in ap ListWorkspaces same
+list_found r mine (OfWorkspace ws act) after prefix e = absurd (place_no_list (is_found r ws act) (place ws act) after prefix e)
 
-no_order : (ws : List ℕ) (x : Result Act Refusal) (after : Option (List ℕ)) → and_then x (λ act. Ok (Carry (order ws act))) ≡ Ok (ListAll after) → ⊥
-no_order ws (Ok act) after e = let none : ⊥ = cc in none
-no_order ws (Err refusal) after e = let none : ⊥ = cc in none
+no_order : (ws : List ℕ) (x : Result Act Refusal) (after : Option (List ℕ)) (prefix : List ℕ) → and_then x (λ act. Ok (Carry (order ws act))) ≡ Ok (ListAll after prefix) → ⊥
+no_order ws (Ok act) after prefix e = let none : ⊥ = cc in none
+no_order ws (Err refusal) after prefix e = let none : ⊥ = cc in none
 
-pub list_passes : (r : Option Organization) (asked : Asked) (content_md5 : Option (List ℕ)) (body : List ℕ) (after : Option (List ℕ)) → checked r asked content_md5 body ≡ Ok (ListAll after) → asked.act ≡ ListWorkspaces after
-list_passes r asked content_md5 body after e =
-    let known = passed (known_caller r asked) (after_caller r asked content_md5 body) (ListAll after) e in
-    let may = passed (may_do known.0 asked) (λ _. after_role r asked content_md5 body) (ListAll after) known.2 in
-    let reached = passed (in_reach asked) (λ _. after_reach r asked content_md5 body) (ListAll after) may.2 in
-    let named = passed (found r asked.act) (after_names asked content_md5 body) (ListAll after) reached.2 in
-    let fit = passed (digest_checked content_md5 body) (λ _. task_of named.0 asked.lock_id body) (ListAll after) named.2 in
-    by_found named.0 named.1 fit.2
+pub list_passes : (r : Option Organization) (now : ℕ) (asked : Asked) (content_md5 : Option (List ℕ)) (body : List ℕ) (after : Option (List ℕ)) (prefix : List ℕ) → checked r now asked content_md5 body ≡ Ok (ListAll after prefix)
+    → asked.act ≡ ListWorkspaces after
+list_passes r now asked content_md5 body after prefix e =
+    let known = passed (known_caller r now asked) (after_caller r asked content_md5 body) (ListAll after prefix) e in
+    let may = passed (may_do known.0 asked) (λ _. after_role r known.0 asked content_md5 body) (ListAll after prefix) known.2 in
+    let within = passed (admitted known.0 asked) (λ _. after_prefix r known.0.caller.prefix asked content_md5 body) (ListAll after prefix) may.2 in
+    let reached = passed (in_reach asked) (λ _. after_reach r known.0.caller.prefix asked content_md5 body) (ListAll after prefix) within.2 in
+    let named = passed (found r known.0.caller.prefix asked.act) (after_names asked content_md5 body) (ListAll after prefix) reached.2 in
+    let fit = passed (digest_checked content_md5 body) (λ _. task_of named.0 asked.lock_id body) (ListAll after prefix) named.2 in
+    by_found known.0.caller.prefix named.0 named.1 fit.2
   where
-    by_found : (f : Found) → found r asked.act ≡ Ok f → task_of f asked.lock_id body ≡ Ok (ListAll after) → asked.act ≡ ListWorkspaces after
-    by_found (Workspaces other) is made = let same : other ≡ after = cc in list_found r asked.act after (is ∙ ap (λ (a : Option (List ℕ)). all_found a) same)
+    by_found : (mine : List ℕ) (f : Found) → found r mine asked.act ≡ Ok f → task_of f asked.lock_id body ≡ Ok (ListAll after prefix) → asked.act ≡ ListWorkspaces after
+    by_found mine (Workspaces other its) is made =
+        let same : other ≡ after = cc in
+        list_found r mine asked.act after its (is ∙ ap (λ (a : Option (List ℕ)). all_found a) same)
       where
         all_found : Option (List ℕ) → Result Found Refusal
-        all_found a = Ok (Workspaces a)
-    by_found (At p) is made = absurd (no_order p.ws (act_of p.act asked.lock_id body) after made)
+        all_found a = Ok (Workspaces a its)
+    by_found mine (At p) is made = absurd (no_order p.ws (act_of p.act asked.lock_id body) after prefix made)

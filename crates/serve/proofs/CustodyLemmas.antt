@@ -1,10 +1,10 @@
 -- What a step leaves of a workspace.
-use Rattle.std.proofs.Common.{◌≡◌, ◌≢◌, ◌⊎◌, inl, inr, ℕ, Bool, true, false, ◌||◌, cond, List, Option, Some, None, Result, Ok, Err, IsSome, is_some, nat_lt, refl, sym, ap, subst, ◌∙◌}
+use Rattle.std.proofs.Common.{◌≡◌, ◌≢◌, ◌⊎◌, inl, inr, ℕ, ◌≤◌, Bool, true, false, ◌||◌, cond, List, Option, Some, None, Result, Ok, Err, IsSome, is_some, nat_lt, refl, sym, ap, subst, ◌∙◌}
 use Rattle.std.specs.Str.{bytes_eq}
 use Rattle.std.specs.FinMap.{get, get-empty}
 use Rattle.std.proofs.lemmas.Slice.Eq.{bytes_eq-Decides}
 use Rattle.basis.specs.declared.refusals.Refusal.{Refusal}
-use Rattle.basis.specs.declared.refusals.Refusal.TheVariants.{BadState, BadLock, BadBody}
+use Rattle.basis.specs.declared.refusals.Refusal.TheVariants.{BadToken, BadState, BadLock, BadBody}
 use Rattle.basis.specs.declared.rows.RunAsk.{RunAsk}
 use Rattle.basis.specs.declared.rows.Settings.{Settings}
 use Rattle.basis.specs.declared.rows.StateHead.{StateHead}
@@ -32,7 +32,7 @@ use Rattle.route.specs.declared.acts.AskedAct.TheVariants.{ListWorkspaces, OfWor
 use Rattle.route.specs.declared.acts.WsAct.{WsAct}
 use Rattle.route.specs.declared.acts.WsAct.TheVariants.{Look, Put, Delete, UpdateState, PurgeState, Lock, Unlock, ForceUnlock, MakeRun, ReportRun}
 use Rattle.serve.specs.declared.steps.Admin.{Admin}
-use Rattle.serve.specs.declared.steps.Admin.TheVariants.{OrgAdd, OrgLimit, OrgList, TokenAdd, TokenRevoke}
+use Rattle.serve.specs.declared.steps.Admin.TheVariants.{OrgAdd, OrgLimit, OrgList, TokenAdd, TokenList, TokenRevoke}
 use Rattle.serve.specs.declared.prepared.Order.{Order}
 use Rattle.serve.specs.declared.prepared.Task.{Task}
 use Rattle.serve.specs.declared.prepared.Task.TheVariants.{ListAll, Carry}
@@ -41,7 +41,7 @@ use Rattle.serve.specs.Asks as ask
 use Rattle.serve.specs.Checks.{spelt, act_of, checked}
 use Rattle.serve.specs.Steps.{answer_to, seen_at, ruled_in, carried, command_step}
 use Rattle.serve.specs.Custody.{NamesIn, StepsChangeWhatTheyName, IsActOn, IsInCustody, LocksAreKept, asked_again, StepsAreRepeatable, RepeatsLeaveTheWorkspace, SameBytesAskAgain, RequestsChangeTheirWorkspaceAlone}
-use Rattle.serve.proofs.CheckLemmas.{Passes, order_passes, list_passes}
+use Rattle.serve.proofs.CheckLemmas.{Passes, order_passes, list_passes, checked_later}
 use Rattle.serve.proofs.RecordLemmas.{placed_as_it_was, standing_at}
 use Rattle.serve.proofs.LawLemmas.{ruled_leaves}
 use Rattle.serve.specs.Service.{asked_by, ask_of}
@@ -87,12 +87,13 @@ command_keeps None (OrgAdd org limit) ws = nothing_in limit ws
     nothing_in : (limit : ℕ) (ws : List ℕ) → workspace_in (Some (new_organization limit)) ws ≡ None
     nothing_in limit ws = get-empty name_cmp ws
 command_keeps (Some o) (OrgAdd org limit) ws = refl
-command_keeps None (TokenAdd org name role secret) ws = refl
-command_keeps (Some o) (TokenAdd org name role secret) ws = chosen (is_some (get o.tokens name) || has_digest (sha256 secret) o)
+command_keeps None (TokenAdd org name role secret bounds) ws = refl
+command_keeps (Some o) (TokenAdd org name role secret bounds) ws = chosen (is_some (get o.tokens name) || has_digest (sha256 secret) o)
   where
-    chosen : (b : Bool) → workspace_in (cond b (effect Exists (Some o)) (effect Done (Some (with_token o name (token_of (sha256 secret) role))))).left ws ≡ get o.workspaces ws
+    chosen : (b : Bool) → workspace_in (cond b (effect Exists (Some o)) (effect Done (Some (with_token o name (token_of (sha256 secret) role bounds))))).left ws ≡ get o.workspaces ws
     chosen true = refl
     chosen false = refl
+command_keeps r (TokenList org) ws = refl
 command_keeps None (OrgLimit org limit) ws = refl
 command_keeps (Some o) (OrgLimit org limit) ws = refl
 command_keeps r OrgList ws = refl
@@ -104,19 +105,19 @@ command_keeps (Some o) (TokenRevoke org name) ws = taken (is_some (get o.tokens 
     taken false = refl
 
 -- a step changes at most the workspace that it names
-request_leaves_others : (r : Option Organization) (now : ℕ) (asked : Asked) (content_md5 : Option (List ℕ)) (body ws : List ℕ) (x : Result Task Refusal) → checked r asked content_md5 body ≡ x
+request_leaves_others : (r : Option Organization) (now : ℕ) (asked : Asked) (content_md5 : Option (List ℕ)) (body ws : List ℕ) (x : Result Task Refusal) → checked r now asked content_md5 body ≡ x
     → (NamesIn asked.act ws → ⊥) → workspace_in (carried asked.caller now r x).left ws ≡ workspace_in r ws
 request_leaves_others r now asked content_md5 body ws (Err refusal) e other = refl
-request_leaves_others r now asked content_md5 body ws (Ok (ListAll after)) e other = refl
+request_leaves_others r now asked content_md5 body ws (Ok (ListAll after prefix)) e other = refl
 request_leaves_others r now asked content_md5 body ws (Ok (Carry order)) e other =
-    let p : Passes r asked body order = order_passes r asked content_md5 body order e in
+    let p : Passes r asked body order = order_passes r now asked content_md5 body order e in
     other_after r asked.caller order.ws ws order.act now
     (λ same. other (subst (NamesIn asked.act) (sym same) (names_of asked.act order.ws p.what p.asks)))
 
 pub steps_change_what_they_name : StepsChangeWhatTheyName
 steps_change_what_they_name r silent ws other = refl
 steps_change_what_they_name r (ask.refused at awaited refusal is_head) ws other = refl
-steps_change_what_they_name r (requests at awaited asked content_md5 body) ws other = request_leaves_others r at asked content_md5 body ws (checked r asked content_md5 body) refl other
+steps_change_what_they_name r (requests at awaited asked content_md5 body) ws other = request_leaves_others r at asked content_md5 body ws (checked r at asked content_md5 body) refl other
 steps_change_what_they_name r (commands at command) ws other = command_keeps r command ws
 
 -- an act that writes with an ID has it from the query
@@ -198,14 +199,14 @@ ruled_kept r now awaited asked content_md5 body o w own text p stands lock =
     released_or_held v names p (inr h) = inr (names, (o.act, act_on asked o.ws body p.what o.act p.asks p.spelt, h))
 
 request_kept : (r : Option Organization) (now : ℕ) (awaited : Bool) (asked : Asked) (content_md5 : Option (List ℕ)) (body ws : List ℕ) (w : Workspace) (own text : List ℕ) (x : Result Task Refusal)
-    → checked r asked content_md5 body ≡ x → workspace_in r ws ≡ Some w → w.holder ≡ HeldLock own text
+    → checked r now asked content_md5 body ≡ x → workspace_in r ws ≡ Some w → w.holder ≡ HeldLock own text
     → Kept (workspace_in (carried asked.caller now r x).left ws) (requests now awaited asked content_md5 body) ws own text w
 request_kept r now awaited asked content_md5 body ws w own text (Err refusal) e stands lock = stays _ (requests now awaited asked content_md5 body) ws own text w stands lock
-request_kept r now awaited asked content_md5 body ws w own text (Ok (ListAll after)) e stands lock = stays _ (requests now awaited asked content_md5 body) ws own text w stands lock
+request_kept r now awaited asked content_md5 body ws w own text (Ok (ListAll after prefix)) e stands lock = stays _ (requests now awaited asked content_md5 body) ws own text w stands lock
 request_kept r now awaited asked content_md5 body ws w own text (Ok (Carry o)) e stands lock = by_name (bytes_eq ws o.ws) refl
   where
     p : Passes r asked body o
-    p = order_passes r asked content_md5 body o e
+    p = order_passes r now asked content_md5 body o e
 
     by_name : (b : Bool) → bytes_eq ws o.ws ≡ b → Kept (workspace_in (ruled_in asked.caller o.ws r (rules o.act now (seen_at r o.ws))).left ws) (requests now awaited asked content_md5 body) ws own text w
     by_name true same =
@@ -219,7 +220,7 @@ request_kept r now awaited asked content_md5 body ws w own text (Ok (Carry o)) e
 pub locks_are_kept : LocksAreKept
 locks_are_kept r silent ws w own text stands lock = stays (workspace_in r ws) silent ws own text w stands lock
 locks_are_kept r (ask.refused at awaited refusal is_head) ws w own text stands lock = stays (workspace_in r ws) (ask.refused at awaited refusal is_head) ws own text w stands lock
-locks_are_kept r (requests at awaited asked content_md5 body) ws w own text stands lock = request_kept r at awaited asked content_md5 body ws w own text (checked r asked content_md5 body) refl stands lock
+locks_are_kept r (requests at awaited asked content_md5 body) ws w own text stands lock = request_kept r at awaited asked content_md5 body ws w own text (checked r at asked content_md5 body) refl stands lock
 locks_are_kept r (commands at command) ws w own text stands lock =
     stays (workspace_in (command_step r command).left ws) (commands at command) ws own text w (command_keeps r command ws ∙ stands) lock
 
@@ -244,18 +245,27 @@ again_left (Some o) org ws act now later s v some may left stands =
     let still : (rules act later (seen_in o ws)).left ≡ Some v = ap (λ (t : Seen). (rules act later t).left) (seen_there (Some o) ws v stands) ∙ repeats act now later s v may left in
     ap (λ (w : Option Workspace). Some (placed o ws w)) (still ∙ sym stands) ∙ ap Some (placed_as_it_was o ws (get o.workspaces ws) refl)
 
+-- a request that left the record leaves it once more, not before
+left_again : (r : Option Organization) (now later : ℕ) (asked : Asked) (content_md5 : Option (List ℕ)) (body : List ℕ) (x : Result Task Refusal) → now ≤ later → checked r now asked content_md5 body ≡ x
+    → (carried asked.caller later r x).left ≡ r → (carried asked.caller later r (checked r later asked content_md5 body)).left ≡ r
+left_again r now later asked content_md5 body x most e left = by_end (checked_later r now later asked content_md5 body most)
+  where
+    by_end : (checked r later asked content_md5 body ≡ Err BadToken) ⊎ (checked r later asked content_md5 body ≡ checked r now asked content_md5 body)
+        → (carried asked.caller later r (checked r later asked content_md5 body)).left ≡ r
+    by_end (inl ended) = ap (λ (y : Result Task Refusal). (carried asked.caller later r y).left) ended
+    by_end (inr same) = ap (λ (y : Result Task Refusal). (carried asked.caller later r y).left) (same ∙ e) ∙ left
+
 -- the second of two requests on the record that the first left
-second_leaves : (r : Option Organization) (now later : ℕ) (asked : Asked) (content_md5 : Option (List ℕ)) (body : List ℕ) (x : Result Task Refusal) → checked r asked content_md5 body ≡ x
+second_leaves : (r : Option Organization) (now later : ℕ) (asked : Asked) (content_md5 : Option (List ℕ)) (body : List ℕ) (x : Result Task Refusal) → now ≤ later → checked r now asked content_md5 body ≡ x
     → ((act : Act) → IsActOn asked.act asked.lock_id body act → IsRepeatable act)
-    → (carried asked.caller later (carried asked.caller now r x).left (checked (carried asked.caller now r x).left asked content_md5 body)).left ≡ (carried asked.caller now r x).left
-second_leaves r now later asked content_md5 body (Err refusal) e may =
-    ap (λ (y : Result Task Refusal). (carried asked.caller later r y).left) e
-second_leaves r now later asked content_md5 body (Ok (ListAll after)) e may = ap (λ (y : Result Task Refusal). (carried asked.caller later r y).left) e
-second_leaves None now later asked content_md5 body (Ok (Carry o)) e may = absurd (let p = order_passes None asked content_md5 body o e in let none : ⊥ = cc p.there in none)
-second_leaves (Some organization) now later asked content_md5 body (Ok (Carry o)) e may = by_left (rules o.act now (seen_in organization o.ws)).left refl
+    → (carried asked.caller later (carried asked.caller now r x).left (checked (carried asked.caller now r x).left later asked content_md5 body)).left ≡ (carried asked.caller now r x).left
+second_leaves r now later asked content_md5 body (Err refusal) most e may = left_again r now later asked content_md5 body (Err refusal) most e refl
+second_leaves r now later asked content_md5 body (Ok (ListAll after prefix)) most e may = left_again r now later asked content_md5 body (Ok (ListAll after prefix)) most e refl
+second_leaves None now later asked content_md5 body (Ok (Carry o)) most e may = absurd (let p = order_passes None now asked content_md5 body o e in let none : ⊥ = cc p.there in none)
+second_leaves (Some organization) now later asked content_md5 body (Ok (Carry o)) most e may = by_left (rules o.act now (seen_in organization o.ws)).left refl
   where
     first : Passes (Some organization) asked body o
-    first = order_passes (Some organization) asked content_md5 body o e
+    first = order_passes (Some organization) now asked content_md5 body o e
 
     repeatable : IsRepeatable o.act
     repeatable = may o.act (act_on asked o.ws body first.what o.act first.asks first.spelt)
@@ -264,22 +274,22 @@ second_leaves (Some organization) now later asked content_md5 body (Ok (Carry o)
     on q y = (carried asked.caller later q y).left
 
     second : (q : Organization) (v : Workspace) → get q.workspaces o.ws ≡ Some v → (rules o.act now (seen_in organization o.ws)).left ≡ Some v
-        → (y : Result Task Refusal) → checked (Some q) asked content_md5 body ≡ y → on (Some q) y ≡ Some q
+        → (y : Result Task Refusal) → checked (Some q) later asked content_md5 body ≡ y → on (Some q) y ≡ Some q
     second q v stands left (Err refusal) f = refl
-    second q v stands left (Ok (ListAll after)) f = refl
+    second q v stands left (Ok (ListAll after prefix)) f = refl
     second q v stands left (Ok (Carry p)) f =
-        let passes : Passes (Some q) asked body p = order_passes (Some q) asked content_md5 body p f in
+        let passes : Passes (Some q) asked body p = order_passes (Some q) later asked content_md5 body p f in
         let same : (p.ws ≡ o.ws) × (p.act ≡ o.act) = same_order (Some organization) (Some q) asked body o p first passes in
         ap (λ (n : List ℕ). (ruled_in asked.caller n (Some q) (rules p.act later (seen_at (Some q) n))).left) same.0
         ∙ ap (λ (a : Act). (ruled_in asked.caller o.ws (Some q) (rules a later (seen_at (Some q) o.ws))).left) same.1
         ∙ again_left (Some q) asked.caller o.ws o.act now later (seen_in organization o.ws) v refl repeatable left stands
 
     -- on a record from which the first took the workspace away
-    second_gone : (q : Organization) → get q.workspaces o.ws ≡ None → o.act ≡ DeleteAct → (y : Result Task Refusal) → checked (Some q) asked content_md5 body ≡ y → on (Some q) y ≡ Some q
+    second_gone : (q : Organization) → get q.workspaces o.ws ≡ None → o.act ≡ DeleteAct → (y : Result Task Refusal) → checked (Some q) later asked content_md5 body ≡ y → on (Some q) y ≡ Some q
     second_gone q gone is (Err refusal) f = refl
-    second_gone q gone is (Ok (ListAll after)) f = refl
+    second_gone q gone is (Ok (ListAll after prefix)) f = refl
     second_gone q gone is (Ok (Carry p)) f =
-        let passes : Passes (Some q) asked body p = order_passes (Some q) asked content_md5 body p f in
+        let passes : Passes (Some q) asked body p = order_passes (Some q) later asked content_md5 body p f in
         let same : (p.ws ≡ o.ws) × (p.act ≡ o.act) = same_order (Some organization) (Some q) asked body o p first passes in
         let still : (rules o.act later (seen_in q o.ws)).left ≡ None =
         ap (λ (x : Option Workspace). (rules o.act later (seen_by (nat_lt (count_of q) q.limit) x)).left) gone ∙ ap (λ (a : Act). (rules a later (missing (nat_lt (count_of q) q.limit))).left) is in
@@ -291,12 +301,12 @@ second_leaves (Some organization) now later asked content_md5 body (Ok (Carry o)
     room = nat_lt (count_of organization) organization.limit
 
     by_left : (w : Option Workspace) → (rules o.act now (seen_in organization o.ws)).left ≡ w
-        → (carried asked.caller later (carried asked.caller now (Some organization) (Ok (Carry o))).left (checked (carried asked.caller now (Some organization) (Ok (Carry o))).left asked content_md5 body)).left
+        → (carried asked.caller later (carried asked.caller now (Some organization) (Ok (Carry o))).left (checked (carried asked.caller now (Some organization) (Ok (Carry o))).left later asked content_md5 body)).left
         ≡ (carried asked.caller now (Some organization) (Ok (Carry o))).left
     by_left None left = by_stand (get organization.workspaces o.ws) refl
       where
         by_stand : (w : Option Workspace) → get organization.workspaces o.ws ≡ w
-            → (carried asked.caller later (carried asked.caller now (Some organization) (Ok (Carry o))).left (checked (carried asked.caller now (Some organization) (Ok (Carry o))).left asked content_md5 body)).left
+            → (carried asked.caller later (carried asked.caller now (Some organization) (Ok (Carry o))).left (checked (carried asked.caller now (Some organization) (Ok (Carry o))).left later asked content_md5 body)).left
             ≡ (carried asked.caller now (Some organization) (Ok (Carry o))).left
         by_stand None gone =
             let same : (carried asked.caller now (Some organization) (Ok (Carry o))).left ≡ Some organization =
@@ -305,16 +315,16 @@ second_leaves (Some organization) now later asked content_md5 body (Ok (Carry o)
             ap (λ (x : Option Workspace). (rules o.act later (seen_by room x)).left) gone ∙ ap (λ (x : Option Workspace). (rules o.act now (seen_by room x)).left) (sym gone) ∙ left in
             let twice : (ruled_in asked.caller o.ws (Some organization) (rules o.act later (seen_in organization o.ws))).left ≡ Some organization =
             ap (λ (w : Option Workspace). Some (placed organization o.ws w)) (again ∙ sym gone) ∙ ap Some (placed_as_it_was organization o.ws (get organization.workspaces o.ws) refl) in
-            ap (λ (q : Option Organization). on q (checked q asked content_md5 body)) same ∙ ap (on (Some organization)) e ∙ twice ∙ sym same
+            ap (λ (q : Option Organization). on q (checked q later asked content_md5 body)) same ∙ left_again (Some organization) now later asked content_md5 body (Ok (Carry o)) most e twice ∙ sym same
         by_stand (Some w) stood =
             let q : Organization = placed organization o.ws (rules o.act now (seen_in organization o.ws)).left in
             let gone : get q.workspaces o.ws ≡ None = own_workspace organization.workspaces o.ws (rules o.act now (seen_in organization o.ws)).left ∙ left in
             let by_delete : (rules o.act now (there w)).left ≡ None = sym (ap (λ (x : Option Workspace). (rules o.act now (seen_by room x)).left) stood) ∙ left in
-            second_gone q gone (workspaces_go_by_delete o.act now w by_delete).0 (checked (Some q) asked content_md5 body) refl
+            second_gone q gone (workspaces_go_by_delete o.act now w by_delete).0 (checked (Some q) later asked content_md5 body) refl
     by_left (Some v) left =
         let q : Organization = placed organization o.ws (rules o.act now (seen_in organization o.ws)).left in
         let stands : get q.workspaces o.ws ≡ Some v = own_workspace organization.workspaces o.ws (rules o.act now (seen_in organization o.ws)).left ∙ left in
-        second q v stands left (checked (Some q) asked content_md5 body) refl
+        second q v stands left (checked (Some q) later asked content_md5 body) refl
 
 -- a token that is there is not added again
 token_again : (o : Organization) (name : List ℕ) (token : Token) (b : Bool) → (is_some (get o.tokens name) || has_digest token.digest o) ≡ b
@@ -336,10 +346,11 @@ revoked_again o name false e = ap (λ (b : Bool). (cond b (effect Done (Some (wi
 command_again : (r : Option Organization) (command : Admin) → (command_step (command_step r command).left command).left ≡ (command_step r command).left
 command_again None (OrgAdd org limit) = refl
 command_again (Some o) (OrgAdd org limit) = refl
-command_again None (TokenAdd org name role secret) = refl
-command_again (Some o) (TokenAdd org name role secret) =
-    let token : Token = token_of (sha256 secret) role in
+command_again None (TokenAdd org name role secret bounds) = refl
+command_again (Some o) (TokenAdd org name role secret bounds) =
+    let token : Token = token_of (sha256 secret) role bounds in
     token_again o name token (is_some (get o.tokens name) || has_digest token.digest o) refl
+command_again r (TokenList org) = refl
 command_again None (OrgLimit org limit) = refl
 command_again (Some o) (OrgLimit org limit) = refl
 command_again r OrgList = refl
@@ -347,10 +358,10 @@ command_again None (TokenRevoke org name) = refl
 command_again (Some o) (TokenRevoke org name) = revoked_again o name (is_some (get o.tokens name)) refl
 
 pub steps_are_repeatable : StepsAreRepeatable
-steps_are_repeatable r silent later may = refl
-steps_are_repeatable r (ask.refused at awaited refusal is_head) later may = refl
-steps_are_repeatable r (requests at awaited asked content_md5 body) later may = second_leaves r at later asked content_md5 body (checked r asked content_md5 body) refl may
-steps_are_repeatable r (commands at command) later may = command_again r command
+steps_are_repeatable r silent later may most = refl
+steps_are_repeatable r (ask.refused at awaited refusal is_head) later may most = refl
+steps_are_repeatable r (requests at awaited asked content_md5 body) later may most = second_leaves r at later asked content_md5 body (checked r at asked content_md5 body) most refl may
+steps_are_repeatable r (commands at command) later may most = command_again r command
 
 -- what was accepted leaves the workspace there
 pub not_refused : (org ws : List ℕ) (o : Outcome) → (answer_to org ws o).refusal ≡ None → IsRefusal o → ⊥
@@ -366,17 +377,17 @@ not_refused org ws (runs list) e is = is
 
 -- the second of two requests, on any record whose workspace is as the first left it
 later_leaves : (r q : Option Organization) (now later : ℕ) (asked : Asked) (content_md5 : Option (List ℕ)) (body ws : List ℕ) (x y : Result Task Refusal)
-    → checked r asked content_md5 body ≡ x → checked q asked content_md5 body ≡ y → ((act : Act) → IsActOn asked.act asked.lock_id body act → IsRepeatable act)
+    → checked r now asked content_md5 body ≡ x → checked q later asked content_md5 body ≡ y → ((act : Act) → IsActOn asked.act asked.lock_id body act → IsRepeatable act)
     → NamesIn asked.act ws → (carried asked.caller now r x).answer.refusal ≡ None → workspace_in q ws ≡ workspace_in (carried asked.caller now r x).left ws
     → workspace_in (carried asked.caller later q y).left ws ≡ workspace_in q ws
 later_leaves r q now later asked content_md5 body ws (Err refusal) y e f may names accepted same = absurd (let none : ⊥ = cc in none)
-later_leaves r q now later asked content_md5 body ws (Ok (ListAll after)) y e f may names accepted same =
-    absurd (subst (λ (a : AskedAct). NamesIn a ws) (list_passes r asked content_md5 body after e) names)
+later_leaves r q now later asked content_md5 body ws (Ok (ListAll after prefix)) y e f may names accepted same =
+    absurd (subst (λ (a : AskedAct). NamesIn a ws) (list_passes r now asked content_md5 body after prefix e) names)
 later_leaves r q now later asked content_md5 body ws (Ok (Carry o)) (Err refusal) e f may names accepted same = refl
-later_leaves r q now later asked content_md5 body ws (Ok (Carry o)) (Ok (ListAll after)) e f may names accepted same = refl
+later_leaves r q now later asked content_md5 body ws (Ok (Carry o)) (Ok (ListAll after prefix)) e f may names accepted same = refl
 later_leaves r q now later asked content_md5 body ws (Ok (Carry o)) (Ok (Carry p)) e f may names accepted same =
-    let first : Passes r asked body o = order_passes r asked content_md5 body o e in
-    let second : Passes q asked body p = order_passes q asked content_md5 body p f in
+    let first : Passes r asked body o = order_passes r now asked content_md5 body o e in
+    let second : Passes q asked body p = order_passes q later asked content_md5 body p f in
     let both : (p.ws ≡ o.ws) × (p.act ≡ o.act) = same_order r q asked body o p first second in
     let is : o.ws ≡ ws = subst (λ (a : AskedAct). NamesIn a ws) first.asks names in
     let stands : standing (seen_at q o.ws) ≡ (rules o.act now (seen_at r o.ws)).left = standing_at q o.ws
@@ -394,7 +405,7 @@ pub repeats_leave_the_workspace : RepeatsLeaveTheWorkspace
 repeats_leave_the_workspace r q silent later ws may names accepted same = absurd names
 repeats_leave_the_workspace r q (ask.refused at awaited refusal is_head) later ws may names accepted same = absurd names
 repeats_leave_the_workspace r q (requests at awaited asked content_md5 body) later ws may names accepted same =
-    later_leaves r q at later asked content_md5 body ws (checked r asked content_md5 body) (checked q asked content_md5 body) refl refl may names accepted same
+    later_leaves r q at later asked content_md5 body ws (checked r at asked content_md5 body) (checked q later asked content_md5 body) refl refl may names accepted same
 repeats_leave_the_workspace r q (commands at command) later ws may names accepted same = absurd names
 
 -- the same bytes at another moment
@@ -412,12 +423,12 @@ same_bytes_ask_again at later bytes a b h k =
     k.is ∙ ap (ask_of later) (reads_one bytes k.reading h.reading k.reads h.reads) ∙ reading_again at later h.reading ∙ ap (asked_again later) (sym h.is)
 
 -- a request that leaves its workspace
-request_leaves_all : (r : Option Organization) (now : ℕ) (asked : Asked) (content_md5 : Option (List ℕ)) (body ws : List ℕ) (x : Result Task Refusal) → checked r asked content_md5 body ≡ x → NamesIn asked.act ws
+request_leaves_all : (r : Option Organization) (now : ℕ) (asked : Asked) (content_md5 : Option (List ℕ)) (body ws : List ℕ) (x : Result Task Refusal) → checked r now asked content_md5 body ≡ x → NamesIn asked.act ws
     → workspace_in (carried asked.caller now r x).left ws ≡ workspace_in r ws → (carried asked.caller now r x).left ≡ r
 request_leaves_all r now asked content_md5 body ws (Err refusal) e names same = refl
-request_leaves_all r now asked content_md5 body ws (Ok (ListAll after)) e names same = refl
+request_leaves_all r now asked content_md5 body ws (Ok (ListAll after prefix)) e names same = refl
 request_leaves_all r now asked content_md5 body ws (Ok (Carry o)) e names same =
-    let p : Passes r asked body o = order_passes r asked content_md5 body o e in
+    let p : Passes r asked body o = order_passes r now asked content_md5 body o e in
     let is : o.ws ≡ ws = subst (λ (a : AskedAct). NamesIn a ws) p.asks names in
     let own : workspace_in (ruled_in asked.caller o.ws r (rules o.act now (seen_at r o.ws))).left o.ws ≡ workspace_in r o.ws =
     subst (λ (n : List ℕ). workspace_in (ruled_in asked.caller o.ws r (rules o.act now (seen_at r o.ws))).left n ≡ workspace_in r n) (sym is) same in
@@ -426,5 +437,5 @@ request_leaves_all r now asked content_md5 body ws (Ok (Carry o)) e names same =
 pub requests_change_their_workspace_alone : RequestsChangeTheirWorkspaceAlone
 requests_change_their_workspace_alone r silent ws names same = refl
 requests_change_their_workspace_alone r (ask.refused at awaited refusal is_head) ws names same = refl
-requests_change_their_workspace_alone r (requests at awaited asked content_md5 body) ws names same = request_leaves_all r at asked content_md5 body ws (checked r asked content_md5 body) refl names same
+requests_change_their_workspace_alone r (requests at awaited asked content_md5 body) ws names same = request_leaves_all r at asked content_md5 body ws (checked r at asked content_md5 body) refl names same
 requests_change_their_workspace_alone r (commands at command) ws names same = absurd names

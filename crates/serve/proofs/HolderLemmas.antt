@@ -17,13 +17,13 @@ use Rattle.machine.specs.declared.records.Token.{Token}
 use Rattle.machine.specs.declared.records.Workspace.{Workspace}
 use Rattle.machine.specs.declared.records.Organization.{Organization}
 use Rattle.machine.proofs.RefusalLemmas.{refusals_tell_the_holder, never_refused_as_locked, missing_tells_no_holder}
-use Rattle.route.specs.Policy.{allowed_by, least_role, need_of}
+use Rattle.route.specs.Policy.{allowed_by, least_role, need_of, is_admitted}
 use Rattle.route.specs.declared.acts.Asked.{Asked}
 use Rattle.route.specs.declared.acts.AskedAct.{AskedAct}
 use Rattle.route.specs.declared.acts.AskedAct.TheVariants.{ListWorkspaces, OfWorkspace}
 use Rattle.route.specs.declared.acts.WsAct.{WsAct}
 use Rattle.route.specs.declared.acts.WsAct.TheVariants.{Look, Put, Delete, UpdateState, PurgeState, Lock, Unlock, ForceUnlock, MakeRun, ReportRun}
-use Rattle.serve.specs.Checks.{task_of, require, known_caller, may_do, is_in_reach, in_reach, is_found, found_if, found, place, fits, digest_checked, spelt, act_of, checked}
+use Rattle.serve.specs.Checks.{task_of, require, while_it_counts, known_caller, may_do, admitted, is_in_reach, in_reach, is_found, found_if, found, place, fits, digest_checked, spelt, act_of, checked}
 use Rattle.serve.specs.Steps.{answer_to, holder_text, seen_at, carried}
 use Rattle.serve.specs.Custody.{NamesIn, LockedTellsTheHolder}
 use Rattle.serve.specs.declared.prepared.Task.{Task}
@@ -31,7 +31,7 @@ use Rattle.serve.specs.declared.prepared.Task.TheVariants.{ListAll, Carry}
 use Rattle.serve.specs.declared.prepared.Found.{Found}
 use Rattle.serve.specs.declared.prepared.Found.TheVariants.{Workspaces, At}
 use Rattle.serve.specs.declared.prepared.Place.{Place}
-use Rattle.serve.proofs.CheckLemmas.{Passes, order_passes, after_names, after_reach, after_role, after_caller}
+use Rattle.serve.proofs.CheckLemmas.{Passes, order_passes, after_names, after_reach, after_prefix, after_role, after_caller}
 use Rattle.serve.proofs.RecordLemmas.{standing_at}
 
 -- no check answers 423
@@ -64,9 +64,9 @@ place_other : (b : Bool) (p : Place) → IsOther (found_if b p)
 place_other true p e = let none : ⊥ = cc in none
 place_other false p e = let none : ⊥ = cc in none
 
-found_other : (r : Option Organization) (act : AskedAct) → IsOther (found r act)
-found_other r (ListWorkspaces after) e = let none : ⊥ = cc in none
-found_other r (OfWorkspace ws act) e = place_other (is_found r ws act) (place ws act) e
+found_other : (r : Option Organization) (prefix : List ℕ) (act : AskedAct) → IsOther (found r prefix act)
+found_other r prefix (ListWorkspaces after) e = let none : ⊥ = cc in none
+found_other r prefix (OfWorkspace ws act) e = place_other (is_found r ws act) (place ws act) e
 
 spelt_other : {A : Type 0} (refusal : Refusal) (f : A → Act) (o : Option A) → (refusal ≡ Locked → ⊥) → IsOther (spelt refusal f o)
 spelt_other refusal f None apart e = apart (let same : refusal ≡ Locked = cc in same)
@@ -88,17 +88,18 @@ ok_other : {A : Type 0} (a : A) → IsOther (Ok a)
 ok_other a e = let none : ⊥ = cc in none
 
 task_other : (f : Found) (id : Option (List ℕ)) (body : List ℕ) → IsOther (task_of f id body)
-task_other (Workspaces after) id body e = let none : ⊥ = cc in none
+task_other (Workspaces after prefix) id body e = let none : ⊥ = cc in none
 task_other (At p) id body e = other_then (act_of p.act id body) _ (act_other p.act id body) (λ act. ok_other _) e
 
-checked_other : (r : Option Organization) (asked : Asked) (content_md5 : Option (List ℕ)) (body : List ℕ) → IsOther (checked r asked content_md5 body)
-checked_other r asked content_md5 body =
-    other_then (known_caller r asked) (after_caller r asked content_md5 body) (caller_other (caller_of r (sha256 asked.secret))) (λ token.
-    other_then (may_do token asked) (λ _. after_role r asked content_md5 body) (role_other (includes token.caller.role (least_role asked.act)) (least_role asked.act)) (λ _.
-    other_then (in_reach asked) (λ _. after_reach r asked content_md5 body) (required NotFound (is_in_reach asked) (λ is. let none : ⊥ = cc in none)) (λ _.
-    other_then (found r asked.act) (after_names asked content_md5 body) (found_other r asked.act) (λ f.
+checked_other : (r : Option Organization) (now : ℕ) (asked : Asked) (content_md5 : Option (List ℕ)) (body : List ℕ) → IsOther (checked r now asked content_md5 body)
+checked_other r now asked content_md5 body =
+    other_then (known_caller r now asked) (after_caller r asked content_md5 body) (caller_other (while_it_counts now (caller_of r (sha256 asked.secret)))) (λ token.
+    other_then (may_do token asked) (λ _. after_role r token asked content_md5 body) (role_other (includes token.caller.role (least_role asked.act)) (least_role asked.act)) (λ _.
+    other_then (admitted token asked) (λ _. after_prefix r token.caller.prefix asked content_md5 body) (required NotFound (is_admitted token.caller.prefix asked.act) (λ is. let none : ⊥ = cc in none)) (λ _.
+    other_then (in_reach asked) (λ _. after_reach r token.caller.prefix asked content_md5 body) (required NotFound (is_in_reach asked) (λ is. let none : ⊥ = cc in none)) (λ _.
+    other_then (found r token.caller.prefix asked.act) (after_names asked content_md5 body) (found_other r token.caller.prefix asked.act) (λ f.
     other_then (digest_checked content_md5 body) (λ _. task_of f asked.lock_id body) (required BadDigest (fits content_md5 body) (λ is. let none : ⊥ = cc in none)) (λ _.
-    task_other f asked.lock_id body)))))
+    task_other f asked.lock_id body))))))
 
 -- the outcome that is answered 423 tells of a holder
 held_by : (org ws : List ℕ) (o : Outcome) → (answer_to org ws o).refusal ≡ Some Locked → (o ≡ refused Locked → ⊥) → (h : Holder) × (o ≡ held h)
@@ -116,13 +117,13 @@ seen_holder : (s : Seen) (act : Act) (now : ℕ) (h : Holder) → (rules act now
 seen_holder (missing room) act now h e = absurd (missing_tells_no_holder act room h e)
 seen_holder (there w) act now h e = (w, refl, refusals_tell_the_holder act now w h e)
 
-carried_holder : (r : Option Organization) (now : ℕ) (asked : Asked) (content_md5 : Option (List ℕ)) (body : List ℕ) (x : Result Task Refusal) → checked r asked content_md5 body ≡ x
+carried_holder : (r : Option Organization) (now : ℕ) (asked : Asked) (content_md5 : Option (List ℕ)) (body : List ℕ) (x : Result Task Refusal) → checked r now asked content_md5 body ≡ x
     → (carried asked.caller now r x).answer.refusal ≡ Some Locked
     → (ws : List ℕ) × (w : Workspace) × NamesIn asked.act ws × (workspace_in r ws ≡ Some w) × ((carried asked.caller now r x).answer.body ≡ holder_text asked.caller ws w.holder)
-carried_holder r now asked content_md5 body (Err refusal) e is = absurd (checked_other r asked content_md5 body (e ∙ (let same : refusal ≡ Locked = cc in ap Err same)))
-carried_holder r now asked content_md5 body (Ok (ListAll after)) e is = absurd (let none : ⊥ = cc in none)
+carried_holder r now asked content_md5 body (Err refusal) e is = absurd (checked_other r now asked content_md5 body (e ∙ (let same : refusal ≡ Locked = cc in ap Err same)))
+carried_holder r now asked content_md5 body (Ok (ListAll after prefix)) e is = absurd (let none : ⊥ = cc in none)
 carried_holder r now asked content_md5 body (Ok (Carry o)) e is =
-    let p : Passes r asked body o = order_passes r asked content_md5 body o e in
+    let p : Passes r asked body o = order_passes r now asked content_md5 body o e in
     let s : Seen = seen_at r o.ws in
     let h : (h : Holder) × ((rules o.act now s).answer ≡ held h) = held_by asked.caller o.ws (rules o.act now s).answer is (never_refused_as_locked o.act now s) in
     let w : (w : Workspace) × (s ≡ there w) × (h.0 ≡ w.holder) = seen_holder s o.act now h.0 h.1 in (
@@ -134,4 +135,4 @@ carried_holder r now asked content_md5 body (Ok (Carry o)) e is =
     )
 
 pub locked_tells_the_holder : LockedTellsTheHolder
-locked_tells_the_holder r now asked content_md5 body is = carried_holder r now asked content_md5 body (checked r asked content_md5 body) refl is
+locked_tells_the_holder r now asked content_md5 body is = carried_holder r now asked content_md5 body (checked r now asked content_md5 body) refl is

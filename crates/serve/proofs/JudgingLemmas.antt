@@ -95,40 +95,40 @@ missing_is_refused org ws o what id body act now e gone =
     ∙ ap (λ (p : Organization). effect (answer_to org ws (refused NotFound)) (Some p)) (placed_as_it_was o ws (get o.workspaces ws) refl)
 
 -- what follows the checks of the caller: what is asked of is there, then the digest, then the document
-abbrev pub after_callers : Option Organization → AskedAct → Option (List ℕ) → Option (List ℕ) → List ℕ → Result Task Refusal
-after_callers r asked content_md5 id body = and_then (found r asked) (λ f. and_then (digest_checked content_md5 body) (λ _. task_of f id body))
+abbrev pub after_callers : Option Organization → List ℕ → AskedAct → Option (List ℕ) → Option (List ℕ) → List ℕ → Result Task Refusal
+after_callers r prefix asked content_md5 id body = and_then (found r prefix asked) (λ f. and_then (digest_checked content_md5 body) (λ _. task_of f id body))
 
 task_made : (ws : List ℕ) (x : Result Act Refusal) (task : Task) → and_then x (λ act. Ok (Carry (order ws act))) ≡ Ok task → (act : Act) × (x ≡ Ok act) × (Carry (order ws act) ≡ task)
 task_made ws (Ok act) task e = (act, refl, let same : Carry (order ws act) ≡ task = cc in same)
 task_made ws (Err refusal) task e = absurd (let none : ⊥ = cc in none)
 
 -- what was judged_task good is answered as what passed the checks
-pub judged_stands : (org : List ℕ) (r : Option Organization) (asked : AskedAct) (content_md5 id : Option (List ℕ)) (body : List ℕ) (task : Task) → IsSome r → judged_task asked content_md5 id body ≡ Ok task
-    → (now : ℕ) → carried org now r (Ok task) ≡ carried org now r (after_callers r asked content_md5 id body)
-judged_stands org r (ListWorkspaces after) content_md5 id body task some e now = sym (ap (carried org now r) e)
-judged_stands org r (OfWorkspace ws what) content_md5 id body task some e now = by_found (is_found r ws what) refl
+pub judged_stands : (org : List ℕ) (r : Option Organization) (prefix : List ℕ) (asked : AskedAct) (content_md5 id : Option (List ℕ)) (body : List ℕ) (task : Task) → IsSome r → judged_task prefix asked content_md5 id body ≡ Ok task
+    → (now : ℕ) → carried org now r (Ok task) ≡ carried org now r (after_callers r prefix asked content_md5 id body)
+judged_stands org r prefix (ListWorkspaces after) content_md5 id body task some e now = sym (ap (carried org now r) e)
+judged_stands org r prefix (OfWorkspace ws what) content_md5 id body task some e now = by_found (is_found r ws what) refl
   where
     made : Result Task Refusal
-    made = judged_task (OfWorkspace ws what) content_md5 id body
+    made = judged_task prefix (OfWorkspace ws what) content_md5 id body
 
-    by_found : (b : Bool) → is_found r ws what ≡ b → carried org now r (Ok task) ≡ carried org now r (after_callers r (OfWorkspace ws what) content_md5 id body)
-    by_found true is = sym (ap (carried org now r) (after_ok (found r (OfWorkspace ws what)) (λ f. and_then (digest_checked content_md5 body) (λ _. task_of f id body)) _ (Ok task) (ap (λ (b : Bool). found_if b (place ws what)) is) e))
+    by_found : (b : Bool) → is_found r ws what ≡ b → carried org now r (Ok task) ≡ carried org now r (after_callers r prefix (OfWorkspace ws what) content_md5 id body)
+    by_found true is = sym (ap (carried org now r) (after_ok (found r prefix (OfWorkspace ws what)) (λ f. and_then (digest_checked content_md5 body) (λ _. task_of f id body)) _ (Ok task) (ap (λ (b : Bool). found_if b (place ws what)) is) e))
     by_found false is =
-        let fit = passed (digest_checked content_md5 body) (λ _. task_of (named (OfWorkspace ws what)) id body) task e in
+        let fit = passed (digest_checked content_md5 body) (λ _. task_of (named prefix (OfWorkspace ws what)) id body) task e in
         let t : (act : Act) × (act_of what id body ≡ Ok act) × (Carry (order ws act) ≡ task) = task_made ws (act_of what id body) task fit.2 in
         sym (ap (λ (x : Task). carried org now r (Ok x)) t.2)
         ∙ there r some is t.0 t.1
-        ∙ sym (ap (carried org now r) (after_err (found r (OfWorkspace ws what)) (λ f. and_then (digest_checked content_md5 body) (λ _. task_of f id body)) NotFound (ap (λ (b : Bool). found_if b (place ws what)) is)))
+        ∙ sym (ap (carried org now r) (after_err (found r prefix (OfWorkspace ws what)) (λ f. and_then (digest_checked content_md5 body) (λ _. task_of f id body)) NotFound (ap (λ (b : Bool). found_if b (place ws what)) is)))
       where
         there : (s : Option Organization) → IsSome s → is_found s ws what ≡ false → (act : Act) → act_of what id body ≡ Ok act → carried org now s (Ok (Carry (order ws act))) ≡ refusing NotFound s
         there None none gone act spelt_it = absurd (let no_one : ⊥ = cc in no_one)
         there (Some o) some gone act spelt_it = missing_is_refused org ws o what id body act now spelt_it gone
 
 -- what was judged_task bad is refused by the checks, once what isn't there is told first
-pub missed_stands : (r : Option Organization) (asked : AskedAct) (content_md5 id : Option (List ℕ)) (body : List ℕ) (refusal : Refusal) → judged_task asked content_md5 id body ≡ Err refusal
-    → after_callers r asked content_md5 id body ≡ Err (missed r asked refusal)
-missed_stands r (ListWorkspaces after) content_md5 id body refusal e = e
-missed_stands r (OfWorkspace ws what) content_md5 id body refusal e = by_found (is_found r ws what)
+pub missed_stands : (r : Option Organization) (prefix : List ℕ) (asked : AskedAct) (content_md5 id : Option (List ℕ)) (body : List ℕ) (refusal : Refusal) → judged_task prefix asked content_md5 id body ≡ Err refusal
+    → after_callers r prefix asked content_md5 id body ≡ Err (missed r asked refusal)
+missed_stands r prefix (ListWorkspaces after) content_md5 id body refusal e = e
+missed_stands r prefix (OfWorkspace ws what) content_md5 id body refusal e = by_found (is_found r ws what)
   where
     by_found : (b : Bool) → and_then (found_if b (place ws what)) (λ f. and_then (digest_checked content_md5 body) (λ _. task_of f id body)) ≡ Err (Rattle.std.proofs.Common.cond b refusal NotFound)
     by_found true = e

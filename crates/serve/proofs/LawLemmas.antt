@@ -22,22 +22,23 @@ use Rattle.machine.proofs.RefusalLemmas.{refusals_change_nothing as rules_change
 use Rattle.sha2.specs.Sha256.{sha256}
 use Rattle.basis.specs.Roles.{includes}
 use Rattle.basis.specs.declared.roles.Role.{Role}
-use Rattle.route.specs.Policy.{least_role, need_of, allowed_by}
+use Rattle.basis.specs.Names.{admits}
+use Rattle.route.specs.Policy.{least_role, need_of, is_admitted, allowed_by}
 use Rattle.route.specs.declared.acts.Asked.{Asked}
 use Rattle.route.specs.declared.acts.AskedAct.{AskedAct}
 use Rattle.route.specs.declared.acts.AskedAct.TheVariants.{ListWorkspaces, OfWorkspace}
 use Rattle.route.specs.declared.acts.WsAct.{WsAct}
 use Rattle.wire.specs.Replies.{Answer}
 use Rattle.serve.specs.declared.steps.Admin.{Admin}
-use Rattle.serve.specs.declared.steps.Admin.TheVariants.{OrgAdd, OrgLimit, OrgList, TokenAdd, TokenRevoke}
+use Rattle.serve.specs.declared.steps.Admin.TheVariants.{OrgAdd, OrgLimit, OrgList, TokenAdd, TokenList, TokenRevoke}
 use Rattle.serve.specs.declared.prepared.Task.{Task}
 use Rattle.serve.specs.declared.prepared.Task.TheVariants.{ListAll, Carry}
 use Rattle.serve.specs.Asks.{Ask, silent, requests, commands}
 use Rattle.serve.specs.Asks as ask
-use Rattle.serve.specs.Checks.{known_caller, may_do, is_in_reach, in_reach, require, makes, is_told_of, named_by, is_there, found_if, found, place, checked}
+use Rattle.serve.specs.Checks.{known_caller, may_do, admitted, is_in_reach, in_reach, require, makes, is_told_of, named_by, is_there, found_if, found, place, checked}
 use Rattle.serve.specs.Steps.{replies, tells, answer_to, seen_at, ruled_in, carried, request_step, command_step, command_said}
-use Rattle.serve.specs.Laws.{RefusedStepsChangeNothing, OutOfReachIsNotFound, renamed, NeedsWorkspace, OutOfReachIsAsAbsent}
-use Rattle.serve.proofs.CheckLemmas.{after_ok, after_err, after_names, after_reach, after_role, after_caller}
+use Rattle.serve.specs.Laws.{RefusedStepsChangeNothing, OutOfReachIsNotFound, renamed, NeedsWorkspace, OutOfReachIsAsAbsent, OutsideThePrefixIsNotFound, OutsideThePrefixIsAsAbsent}
+use Rattle.serve.proofs.CheckLemmas.{after_ok, after_err, after_names, after_reach, after_prefix, after_role, after_caller}
 use Rattle.serve.proofs.RecordLemmas.{placed_same, standing_at}
 
 -- an answer that refuses is that of a refusal by the rules
@@ -57,7 +58,7 @@ ruled_leaves org ws r ruling e = ap (λ (w : Option Workspace). option_map (λ (
 
 carried_leaves : (org : List ℕ) (now : ℕ) (r : Option Organization) (x : Result Task Refusal) (refusal : Refusal) → (carried org now r x).answer.refusal ≡ Some refusal → (carried org now r x).left ≡ r
 carried_leaves org now r (Err other) refusal e = refl
-carried_leaves org now r (Ok (ListAll after)) refusal e = refl
+carried_leaves org now r (Ok (ListAll after prefix)) refusal e = refl
 carried_leaves org now r (Ok (Carry order)) refusal e =
     ruled_leaves org order.ws r (rules order.act now (seen_at r order.ws))
     (rules_change_nothing order.act now (seen_at r order.ws) (refuses_by org order.ws (rules order.act now (seen_at r order.ws)).answer refusal e) ∙ standing_at r order.ws)
@@ -65,13 +66,14 @@ carried_leaves org now r (Ok (Carry order)) refusal e =
 command_leaves : (r : Option Organization) (command : Admin) → (command_step r command).answer ≢ Done → (command_step r command).left ≡ r
 command_leaves None (OrgAdd org limit) apart = absurd (apart refl)
 command_leaves (Some o) (OrgAdd org limit) apart = refl
-command_leaves None (TokenAdd org name role secret) apart = refl
-command_leaves (Some o) (TokenAdd org name role secret) apart = chosen (is_some (get o.tokens name) || has_digest (sha256 secret) o) apart
+command_leaves None (TokenAdd org name role secret bounds) apart = refl
+command_leaves (Some o) (TokenAdd org name role secret bounds) apart = chosen (is_some (get o.tokens name) || has_digest (sha256 secret) o) apart
   where
-    chosen : (b : Bool) → (cond b (effect Exists (Some o)) (effect Done (Some (with_token o name (token_of (sha256 secret) role))))).answer ≢ Done
-        → (cond b (effect Exists (Some o)) (effect Done (Some (with_token o name (token_of (sha256 secret) role))))).left ≡ Some o
+    chosen : (b : Bool) → (cond b (effect Exists (Some o)) (effect Done (Some (with_token o name (token_of (sha256 secret) role bounds))))).answer ≢ Done
+        → (cond b (effect Exists (Some o)) (effect Done (Some (with_token o name (token_of (sha256 secret) role bounds))))).left ≡ Some o
     chosen true apart = refl
     chosen false apart = absurd (apart refl)
+command_leaves r (TokenList org) apart = refl
 command_leaves None (OrgLimit org limit) apart = refl
 command_leaves (Some o) (OrgLimit org limit) apart = absurd (apart refl)
 command_leaves r OrgList apart = refl
@@ -87,14 +89,16 @@ said_is : (command : Admin) (a b : AdminAnswer) → command_said command a ≡ t
 said_is (OrgAdd org limit) a b e = cc
 said_is (OrgLimit org limit) a b e = cc
 said_is OrgList a b e = absurd (let none : ⊥ = cc in none)
-said_is (TokenAdd org name role secret) a b e = cc
+said_is (TokenAdd org name role secret bounds) a b e = cc
+said_is (TokenList org) a b e = absurd (let none : ⊥ = cc in none)
 said_is (TokenRevoke org name) a b e = cc
 
 no_reply : (command : Admin) (a : AdminAnswer) (awaited : Bool) (now : ℕ) (answer : Answer) → command_said command a ≡ replies awaited now answer → ⊥
 no_reply (OrgAdd org limit) a awaited now answer e = let none : ⊥ = cc in none
 no_reply (OrgLimit org limit) a awaited now answer e = let none : ⊥ = cc in none
 no_reply OrgList a awaited now answer e = let none : ⊥ = cc in none
-no_reply (TokenAdd org name role secret) a awaited now answer e = let none : ⊥ = cc in none
+no_reply (TokenAdd org name role secret bounds) a awaited now answer e = let none : ⊥ = cc in none
+no_reply (TokenList org) a awaited now answer e = let none : ⊥ = cc in none
 no_reply (TokenRevoke org name) a awaited now answer e = let none : ⊥ = cc in none
 
 answer_is : (awaited also : Bool) (at now : ℕ) (a b : Answer) → replies awaited at a ≡ replies also now b → a ≡ b
@@ -104,7 +108,7 @@ pub refusals_change_nothing : RefusedStepsChangeNothing
 refusals_change_nothing r silent = ((λ awaited at answer refusal e is. refl), (λ answer e apart. refl))
 refusals_change_nothing r (ask.refused at awaited refusal is_head) = ((λ awaited at answer refusal e is. refl), (λ answer e apart. refl))
 refusals_change_nothing r (requests at awaited asked content_md5 body) = (
-  (λ also now answer refusal e is. carried_leaves asked.caller at r (checked r asked content_md5 body) refusal
+  (λ also now answer refusal e is. carried_leaves asked.caller at r (checked r at asked content_md5 body) refusal
       (ap (λ (a : Answer). a.refusal) (answer_is awaited also at now (request_step r at asked content_md5 body).answer answer e) ∙ is)),
   (λ answer e apart. absurd (let none : ⊥ = cc in none)),
 )
@@ -117,14 +121,32 @@ refusals_change_nothing r (commands at command) = (
 out_is : (asked : Asked) → is_in_reach asked ≡ false → in_reach asked ≡ Err NotFound
 out_is asked e = ap (require NotFound) e
 
-out_after_role : (r : Option Organization) (asked : Asked) (content_md5 : Option (List ℕ)) (body : List ℕ) → is_in_reach asked ≡ false → after_role r asked content_md5 body ≡ Err NotFound
-out_after_role r asked content_md5 body e = after_err (in_reach asked) (λ _. after_reach r asked content_md5 body) NotFound (out_is asked e)
+out_after_prefix : (r : Option Organization) (prefix : List ℕ) (asked : Asked) (content_md5 : Option (List ℕ)) (body : List ℕ) → is_in_reach asked ≡ false → after_prefix r prefix asked content_md5 body ≡ Err NotFound
+out_after_prefix r prefix asked content_md5 body e = after_err (in_reach asked) (λ _. after_reach r prefix asked content_md5 body) NotFound (out_is asked e)
+
+-- out of reach, or else not admitted: both are told alike
+out_after_role : (r : Option Organization) (token : Token) (asked : Asked) (content_md5 : Option (List ℕ)) (body : List ℕ) → is_in_reach asked ≡ false → after_role r token asked content_md5 body ≡ Err NotFound
+out_after_role r token asked content_md5 body e = by_prefix (is_admitted token.caller.prefix asked.act)
+  where
+    by_prefix : (b : Bool) → and_then (require NotFound b) (λ _. after_prefix r token.caller.prefix asked content_md5 body) ≡ Err NotFound
+    by_prefix true = out_after_prefix r token.caller.prefix asked content_md5 body e
+    by_prefix false = refl
 
 pub out_of_reach_is_not_found : OutOfReachIsNotFound
 out_of_reach_is_not_found r now asked content_md5 body token out known may =
     ap (carried asked.caller now r)
-    (after_ok (known_caller r asked) (after_caller r asked content_md5 body) token (Err NotFound) known
-    (after_ok (may_do token asked) (λ _. after_role r asked content_md5 body) tt (Err NotFound) may (out_after_role r asked content_md5 body out)))
+    (after_ok (known_caller r now asked) (after_caller r asked content_md5 body) token (Err NotFound) known
+    (after_ok (may_do token asked) (λ _. after_role r token asked content_md5 body) tt (Err NotFound) may (out_after_role r token asked content_md5 body out)))
+
+-- what isn't admitted
+not_admitted : (r : Option Organization) (token : Token) (asked : Asked) (content_md5 : Option (List ℕ)) (body : List ℕ) → is_admitted token.caller.prefix asked.act ≡ false → after_role r token asked content_md5 body ≡ Err NotFound
+not_admitted r token asked content_md5 body e = after_err (admitted token asked) (λ _. after_prefix r token.caller.prefix asked content_md5 body) NotFound (ap (require NotFound) e)
+
+pub outside_the_prefix_is_not_found : OutsideThePrefixIsNotFound
+outside_the_prefix_is_not_found r now asked content_md5 body token known outside may =
+    ap (carried asked.caller now r)
+    (after_ok (known_caller r now asked) (after_caller r asked content_md5 body) token (Err NotFound) known
+    (after_ok (may_do token asked) (λ _. after_role r token asked content_md5 body) tt (Err NotFound) may (not_admitted r token asked content_md5 body outside)))
 
 -- a workspace that is lacking isn't found
 none_told : (what : AnyLook) → is_told_of what None ≡ false
@@ -141,37 +163,55 @@ none_of_none act = none_told (named_by act)
 lacking : (c : Bool) (r : Option Organization) (ws : List ℕ) (what : WsAct) → workspace_in r ws ≡ None → c ≡ false → (c || is_there what (workspace_in r ws)) ≡ false
 lacking c r ws what none e = ap (λ (d : Bool). d || is_there what (workspace_in r ws)) e ∙ ap (is_there what) none ∙ none_of_none what
 
-absent_after_role : (r : Option Organization) (asked : Asked) (content_md5 : Option (List ℕ)) (body org ws : List ℕ) (act : AskedAct) → NeedsWorkspace act → workspace_in r ws ≡ None
-    → after_role r (record asked { org = org; act = renamed act ws }) content_md5 body ≡ Err NotFound
-absent_after_role r asked content_md5 body org ws (ListWorkspaces after) needs none = absurd needs
-absent_after_role r asked content_md5 body org ws (OfWorkspace old act) needs none = reached (is_in_reach other)
+absent_after_role : (r : Option Organization) (token : Token) (asked : Asked) (content_md5 : Option (List ℕ)) (body org ws : List ℕ) (act : AskedAct) → NeedsWorkspace act → workspace_in r ws ≡ None
+    → after_role r token (record asked { org = org; act = renamed act ws }) content_md5 body ≡ Err NotFound
+absent_after_role r token asked content_md5 body org ws (ListWorkspaces after) needs none = absurd needs
+absent_after_role r token asked content_md5 body org ws (OfWorkspace old act) needs none = by_prefix (admits token.caller.prefix ws)
   where
     other : Asked
     other = record asked { org = org; act = OfWorkspace ws act }
 
-    reached : (b : Bool) → and_then (require NotFound b) (λ _. after_reach r other content_md5 body) ≡ Err NotFound
-    reached true = after_err (found r (OfWorkspace ws act)) (after_names other content_md5 body) NotFound
+    reached : (b : Bool) → and_then (require NotFound b) (λ _. after_reach r token.caller.prefix other content_md5 body) ≡ Err NotFound
+    reached true = after_err (found r token.caller.prefix (OfWorkspace ws act)) (after_names other content_md5 body) NotFound
         (ap (λ (b : Bool). found_if b (place ws act)) (lacking (makes act) r ws act none needs))
     reached false = refl
+
+    by_prefix : (b : Bool) → and_then (require NotFound b) (λ _. after_prefix r token.caller.prefix other content_md5 body) ≡ Err NotFound
+    by_prefix true = reached (is_in_reach other)
+    by_prefix false = refl
 
 -- the role that is needed is the same
 role_stays : (act : AskedAct) (ws : List ℕ) → NeedsWorkspace act → least_role (renamed act ws) ≡ least_role act
 role_stays (ListWorkspaces after) ws needs = absurd needs
 role_stays (OfWorkspace old act) ws needs = refl
 
-pub out_of_reach_is_as_absent : OutOfReachIsAsAbsent
-out_of_reach_is_as_absent r now asked content_md5 body org ws out needs none = ap (carried asked.caller now r) (called (known_caller r asked))
+-- where the workspace isn't told of, the request is answered as each of its absent forms
+as_absent : (r : Option Organization) (asked : Asked) (content_md5 : Option (List ℕ)) (body org ws : List ℕ) (token : Token) → NeedsWorkspace asked.act → workspace_in r ws ≡ None
+    → after_role r token asked content_md5 body ≡ Err NotFound
+    → after_caller r asked content_md5 body token ≡ after_caller r (record asked { org = org; act = renamed asked.act ws }) content_md5 body token
+as_absent r asked content_md5 body org ws token needs none gone = judged (may_do token asked) ∙ ap (λ (x : Result (Unit {0}) Refusal). and_then x (λ _. after_role r token other content_md5 body)) allowed
   where
     other : Asked
     other = record asked { org = org; act = renamed asked.act ws }
 
-    allowed : (token : Token) → may_do token asked ≡ may_do token other
-    allowed token = ap (λ (l : Role). allowed_by (if includes token.caller.role l then None else Some (need_of l))) (sym (role_stays asked.act ws needs))
+    allowed : may_do token asked ≡ may_do token other
+    allowed = ap (λ (l : Role). allowed_by (if includes token.caller.role l then None else Some (need_of l))) (sym (role_stays asked.act ws needs))
 
-    judged : (x : Result (Unit {0}) Refusal) → and_then x (λ _. after_role r asked content_md5 body) ≡ and_then x (λ _. after_role r other content_md5 body)
-    judged (Ok passed) = out_after_role r asked content_md5 body out ∙ sym (absent_after_role r asked content_md5 body org ws asked.act needs none)
+    judged : (x : Result (Unit {0}) Refusal) → and_then x (λ _. after_role r token asked content_md5 body) ≡ and_then x (λ _. after_role r token other content_md5 body)
+    judged (Ok passed) = gone ∙ sym (absent_after_role r token asked content_md5 body org ws asked.act needs none)
     judged (Err refusal) = refl
 
-    called : (x : Result Token Refusal) → and_then x (after_caller r asked content_md5 body) ≡ and_then x (after_caller r other content_md5 body)
-    called (Ok token) = judged (may_do token asked) ∙ ap (λ (x : Result (Unit {0}) Refusal). and_then x (λ _. after_role r other content_md5 body)) (allowed token)
+pub out_of_reach_is_as_absent : OutOfReachIsAsAbsent
+out_of_reach_is_as_absent r now asked content_md5 body org ws out needs none = ap (carried asked.caller now r) (called (known_caller r now asked))
+  where
+    called : (x : Result Token Refusal) → and_then x (after_caller r asked content_md5 body) ≡ and_then x (after_caller r (record asked { org = org; act = renamed asked.act ws }) content_md5 body)
+    called (Ok token) = as_absent r asked content_md5 body org ws token needs none (out_after_role r token asked content_md5 body out)
     called (Err refusal) = refl
+
+pub outside_the_prefix_is_as_absent : OutsideThePrefixIsAsAbsent
+outside_the_prefix_is_as_absent r now asked content_md5 body org ws token known outside needs none =
+    let instead : Asked = record asked { org = org; act = renamed asked.act ws } in
+    ap (carried asked.caller now r)
+    (ap (λ (x : Result Token Refusal). and_then x (after_caller r asked content_md5 body)) known
+    ∙ as_absent r asked content_md5 body org ws token needs none (not_admitted r token asked content_md5 body outside)
+    ∙ sym (ap (λ (x : Result Token Refusal). and_then x (after_caller r instead content_md5 body)) known))

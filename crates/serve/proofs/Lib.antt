@@ -11,3 +11,4 @@ pub mod BookLemmas
 pub mod BookExamples
 pub mod AbsentLemmas
 pub mod AbsentExamples
+pub mod TokenExamples

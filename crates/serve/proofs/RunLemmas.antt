@@ -12,10 +12,10 @@ use Rattle.wire.specs.Links.{continue_if}
 use Rattle.serve.specs.declared.steps.Step.{Step}
 use Rattle.serve.specs.declared.steps.Step.TheVariants.{Request, Command}
 use Rattle.serve.specs.declared.steps.Admin.{Admin}
-use Rattle.serve.specs.declared.steps.Admin.TheVariants.{OrgAdd, OrgLimit, OrgList, TokenAdd, TokenRevoke}
+use Rattle.serve.specs.declared.steps.Admin.TheVariants.{OrgAdd, OrgLimit, OrgList, TokenAdd, TokenList, TokenRevoke}
 use Rattle.machine.specs.declared.keeps.AdminAnswer.{AdminAnswer}
 use Rattle.serve.specs.Asks.{Ask, silent, refused, requests, commands, Owner, organization, unattributed, operator, commanded_of, owner_of}
-use Rattle.serve.specs.Steps.{Said, nothing, replies, tells, lists, command_step, command_said, step, own_said, own_record}
+use Rattle.serve.specs.Steps.{Said, nothing, replies, tells, lists, lists_tokens, command_step, command_said, step, own_said, own_record}
 use Rattle.serve.specs.Service.{IsAsked, AreAsked, AreTexts, IsSaidText, ask_of, same_owner, is_own, with_own, own_asks, replies_at, record_for, after_ask, records_after, IsListed, said_to}
 use Rattle.serve.specs.Runs.{IsOwnMachine, IsOwnRecord, AreOwnReplies, ListsAreTold}
 use Rattle.serve.specs.Inner.Taking.{IsTaken, RunsTo, IsTimely}
@@ -98,7 +98,8 @@ nobody_commands : (command : Admin) → same_owner unattributed (commanded_of co
 nobody_commands (OrgAdd org limit) e = let no : ⊥ = cc in no
 nobody_commands (OrgLimit org limit) e = let no : ⊥ = cc in no
 nobody_commands OrgList e = let no : ⊥ = cc in no
-nobody_commands (TokenAdd org name role secret) e = let no : ⊥ = cc in no
+nobody_commands (TokenAdd org name role secret bounds) e = let no : ⊥ = cc in no
+nobody_commands (TokenList org) e = let no : ⊥ = cc in no
 nobody_commands (TokenRevoke org name) e = let no : ⊥ = cc in no
 
 nobody_still : (b : Ask) (r : Option Organization) → same_owner unattributed (owner_of b) ≡ true → (step r b).left ≡ r
@@ -111,7 +112,8 @@ list_still : (command : Admin) (r : Option Organization) → same_owner operator
 list_still (OrgAdd org limit) r e = absurd (let no : ⊥ = cc in no)
 list_still (OrgLimit org limit) r e = absurd (let no : ⊥ = cc in no)
 list_still OrgList r e = refl
-list_still (TokenAdd org name role secret) r e = absurd (let no : ⊥ = cc in no)
+list_still (TokenAdd org name role secret bounds) r e = absurd (let no : ⊥ = cc in no)
+list_still (TokenList org) r e = refl
 list_still (TokenRevoke org name) r e = absurd (let no : ⊥ = cc in no)
 
 operator_still : (b : Ask) (r : Option Organization) → same_owner operator (owner_of b) ≡ true → (step r b).left ≡ r
@@ -204,18 +206,20 @@ all_asked_one (s ∷ steps) [] ys h k = absurd h
 all_asked_one (s ∷ steps) (a ∷ xs) [] h k = absurd k
 all_asked_one (s ∷ steps) (a ∷ xs) (b ∷ ys) h k = ap (λ (x : Ask). x ∷ xs) (asked_one s a b h.0 k.0) ∙ ap (λ (l : List Ask). b ∷ l) (all_asked_one steps xs ys h.1 k.1)
 
--- what an organization's machine says: anything but the list of all organizations
+-- what an organization's machine says: anything but the operator's lists
 abbrev IsOfOne : Said → Type 0
 IsOfOne nothing = ⊤
 IsOfOne (replies awaited at answer) = ⊤
 IsOfOne (tells answer) = ⊤
 IsOfOne lists = ⊥
+IsOfOne lists_tokens = ⊥
 
 said_of_one : (org : List ℕ) (command : Admin) (answer : AdminAnswer) → same_owner (organization org) (commanded_of command) ≡ true → IsOfOne (command_said command answer)
 said_of_one org (OrgAdd name limit) answer own = tt
 said_of_one org (OrgLimit name limit) answer own = tt
 said_of_one org OrgList answer own = absurd (let none : ⊥ = cc in none)
-said_of_one org (TokenAdd name token role secret) answer own = tt
+said_of_one org (TokenAdd name token role secret bounds) answer own = tt
+said_of_one org (TokenList name) answer own = absurd (let none : ⊥ = cc in none)
 said_of_one org (TokenRevoke name token) answer own = tt
 
 step_of_one : (org : List ℕ) (r : Option Organization) (a : Ask) → is_own (organization org) a ≡ true → IsOfOne (step r a).answer
@@ -240,6 +244,7 @@ own_of_one org r (a ∷ asked) = chosen (is_own (organization org) a) refl (λ q
 -- a thing said has one text
 one_text : (said : Said) (x y : List ℕ) → IsOfOne said → IsSaidText said x → IsSaidText said y → x ≡ y
 one_text lists x y of_one h k = absurd of_one
+one_text lists_tokens x y of_one h k = absurd of_one
 one_text nothing x y of_one h k = h ∙ sym k
 one_text (replies awaited at answer) x y of_one h k = h.2 ∙ ap (λ (r : List ℕ). continue_if awaited ++ r) (one_reply answer at h.0 k.0 h.1 k.1) ∙ sym k.2
 one_text (tells answer) x y of_one h k = h ∙ sym k

@@ -16,12 +16,13 @@ use Rattle.serve.specs.Asks as ask
 use Rattle.serve.specs.Inner.Prepared.{IsPrepared, Foresees}
 use Rattle.serve.specs.Steps.{request_step}
 use Rattle.serve.specs.Service.{asked_by, Asks, Carries, Stays, said_to, IsSaidText, after_ask, is_own, ask_of}
-use Rattle.serve.specs.Service.{IsAsked, IsAdminAnswer, admin_word, ListsAll, IsListedBy, IsListed}
+use Rattle.serve.specs.Service.{IsAsked, IsAdminAnswer, admin_word, token_list_text, ListsAll, IsListedBy, IsListed}
 use Rattle.serve.specs.Inner.Taking.{IsTaken, IsOnOne, IsTimely}
 use Rattle.serve.specs.declared.steps.Step.{Step}
 use Rattle.serve.specs.declared.steps.Step.TheVariants.{Command, Request}
 use Rattle.serve.specs.declared.steps.Admin.{Admin}
-use Rattle.serve.specs.declared.steps.Admin.TheVariants.{OrgAdd, OrgLimit, OrgList, TokenAdd, TokenRevoke}
+use Rattle.serve.specs.declared.steps.Admin.TheVariants.{OrgAdd, OrgLimit, OrgList, TokenAdd, TokenList, TokenRevoke}
+use Rattle.machine.specs.Tokens.{tokens_told}
 use Rattle.machine.specs.declared.keeps.AdminAnswer.{AdminAnswer}
 use Rattle.serve.proofs.RecordLemmas.{if_ok}
 use Rattle.machine.specs.Ranges.{IsMoment}
@@ -130,6 +131,12 @@ pub list_taken : (old new : List ℕ → Option Organization) (command : Admin) 
 list_taken old new command text is stays listed at =
     subst (λ (c : Admin). Carries (commands at c) old new × IsSaidText (said_to old (commands at c)) text × IsListedBy old c text) (sym is) (stays, (listed.0, listed.2), listed)
 
+-- the list of an organization's tokens
+pub tokens_taken : (old new : List ℕ → Option Organization) (command : Admin) (org text : List ℕ) → command ≡ TokenList org → Stays old new → text ≡ token_list_text (tokens_told (old org))
+    → (at : ℕ) → Carries (commands at command) old new × IsSaidText (said_to old (commands at command)) text × IsListedBy old command text
+tokens_taken old new command org text is stays listed at =
+    subst (λ (c : Admin). Carries (commands at c) old new × IsSaidText (said_to old (commands at c)) text × IsListedBy old c text) (sym is) (stays, (tokens_told (old org), listed), listed)
+
 -- a request
 pub request_taken : {E : Type 0} (s : Step) (at : ℕ) (bytes came : List ℕ) (old new : List ℕ → Option Organization) (res : Result (List ℕ) E) → s ≡ Request at bytes → came ≡ bytes → IsMoment at
     → IfOk res (λ text. (ask : Ask) × Asks at came ask × Carries ask old new × IsSaidText (said_to old ask) text)
@@ -150,5 +157,6 @@ pub word_taken : (rows : List ℕ → Option Organization) (command : Admin) (an
 word_taken rows (OrgAdd org limit) answer text at is made one = made ∙ ap admin_word is
 word_taken rows (OrgLimit org limit) answer text at is made one = made ∙ ap admin_word is
 word_taken rows OrgList answer text at is made one = absurd one
-word_taken rows (TokenAdd org name role secret) answer text at is made one = made ∙ ap admin_word is
+word_taken rows (TokenAdd org name role secret bounds) answer text at is made one = made ∙ ap admin_word is
+word_taken rows (TokenList org) answer text at is made one = absurd one
 word_taken rows (TokenRevoke org name) answer text at is made one = made ∙ ap admin_word is

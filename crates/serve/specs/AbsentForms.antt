@@ -1,4 +1,5 @@
--- Absent forms of a request that is out of its caller's reach: the same request on a workspace that the caller's own organization lacks.
+-- Absent forms of a request that is out of its caller's reach, or on a workspace that the caller's prefix doesn't admit: the same request on a
+-- workspace that the caller's own organization lacks.
 use Rattle.std.specs.Prelude.{◌≡◌, ℕ, Bool, true, false, List, ◌∷◌, take, slice_get, Option, Some, None, Ok}
 use Rattle.basis.specs.Names.{is_org_name, is_ws_name}
 use Rattle.basis.specs.declared.refusals.Refusal.TheVariants.{NotFound}
@@ -7,6 +8,7 @@ use Rattle.machine.specs.Records.{workspace_in}
 use Rattle.machine.specs.declared.records.Token.{Token}
 use Rattle.machine.specs.declared.records.Organization.{Organization}
 use Rattle.route.specs.Paths.{path_parts}
+use Rattle.route.specs.Policy.{is_admitted}
 use Rattle.route.specs.declared.acts.Asked.{Asked}
 use Rattle.wire.specs.Replies.{refused_answer}
 use Rattle.wire.specs.Retargeting.{SameButTarget}
@@ -74,5 +76,19 @@ RepliesAreThoseOfAbsentForms steps rows texts = (a : AnsweredRequest steps texts
 -- and whatever it asks, PUT of a workspace and the list of workspaces too: where its caller is known and has the role, the reply is the text of not-found
 abbrev pub OutOfReachRepliesNotFound : List Step → (List ℕ → Option Organization) → List (List ℕ) → Type 0
 OutOfReachRepliesNotFound steps rows texts = (a : AnsweredRequest steps texts) (token : Token) → is_in_reach a.asked ≡ false
-    → known_caller (record_before rows a.asked.caller a.earlier) a.asked ≡ Ok token → may_do token a.asked ≡ Ok tt
+    → known_caller (record_before rows a.asked.caller a.earlier) a.at a.asked ≡ Ok token → may_do token a.asked ≡ Ok tt
+    → IsSaidText (replies a.awaited a.at (refused_answer NotFound (error_text NotFound) false)) a.text
+
+-- the reply to a request on a workspace that its caller's prefix doesn't admit, other than PUT of a workspace, is the text of the machine's answer
+-- to each of its absent forms, from the record of the caller's organization before it
+abbrev pub RepliesOutsideThePrefixAreThoseOfAbsentForms : List Step → (List ℕ → Option Organization) → List (List ℕ) → Type 0
+RepliesOutsideThePrefixAreThoseOfAbsentForms steps rows texts = (a : AnsweredRequest steps texts) (token : Token) (other org ws : List ℕ) (ask : Ask)
+    → known_caller (record_before rows a.asked.caller a.earlier) a.at a.asked ≡ Ok token → is_admitted token.caller.prefix a.asked.act ≡ false → NeedsWorkspace a.asked.act
+    → workspace_in (record_before rows a.asked.caller a.earlier) ws ≡ None → IsFormOf a.bytes other org ws → Asks a.at other ask
+    → IsSaidText (step (record_before rows a.asked.caller a.earlier) ask).answer a.text
+
+-- and whatever it asks, PUT of a workspace too: where its caller has the role, the reply is the text of not-found
+abbrev pub RepliesOutsideThePrefixAreNotFound : List Step → (List ℕ → Option Organization) → List (List ℕ) → Type 0
+RepliesOutsideThePrefixAreNotFound steps rows texts = (a : AnsweredRequest steps texts) (token : Token)
+    → known_caller (record_before rows a.asked.caller a.earlier) a.at a.asked ≡ Ok token → is_admitted token.caller.prefix a.asked.act ≡ false → may_do token a.asked ≡ Ok tt
     → IsSaidText (replies a.awaited a.at (refused_answer NotFound (error_text NotFound) false)) a.text

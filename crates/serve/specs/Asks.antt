@@ -3,7 +3,7 @@ use Rattle.std.specs.Prelude.{ℕ, Bool, List, Option}
 use Rattle.basis.specs.declared.refusals.Refusal.{Refusal}
 use Rattle.route.specs.declared.acts.Asked.{Asked}
 use Rattle.serve.specs.declared.steps.Admin.{Admin}
-use Rattle.serve.specs.declared.steps.Admin.TheVariants.{OrgAdd, OrgLimit, OrgList, TokenAdd, TokenRevoke}
+use Rattle.serve.specs.declared.steps.Admin.TheVariants.{OrgAdd, OrgLimit, OrgList, TokenAdd, TokenList, TokenRevoke}
 
 -- what a step asks, at a moment; the flag `awaited` says that `100 Continue` goes before the reply
 pub data Ask : Type 0 where
@@ -22,15 +22,16 @@ pub data Owner : Type 0 where
   organization : List ℕ → Owner
   -- nobody's: what its bytes say is refused, or unfinished
   unattributed : Owner
-  -- the operator's, over all organizations
+  -- the operator's, who lists all organizations, or the tokens of one
   operator : Owner
 
--- whose an operator's command is: the organization's that it names, or, where it lists all organizations, the operator's
+-- whose an operator's command is: the organization's that it names, or, where it only lists organizations or tokens, the operator's
 abbrev pub commanded_of : Admin → Owner
 commanded_of (OrgAdd org limit) = organization org
 commanded_of (OrgLimit org limit) = organization org
 commanded_of OrgList = operator
-commanded_of (TokenAdd org name role secret) = organization org
+commanded_of (TokenAdd org name role secret bounds) = organization org
+commanded_of (TokenList org) = operator
 commanded_of (TokenRevoke org name) = organization org
 
 -- whose step it is: of the organization that the token or the command names, nobody's, or the operator's

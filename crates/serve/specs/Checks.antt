@@ -1,8 +1,9 @@
 -- The checks of a request from the token on, each by itself: what it gives, or the refusal. The checks of the message,
 -- the path, the query and the token's form come before them (`asked_of` of route).
-use Rattle.std.specs.Prelude.{ℕ, Bool, true, false, ◌||◌, List, Option, Some, None, Result, Ok, Err, is_some}
+use Rattle.std.specs.Prelude.{ℕ, Bool, true, false, ◌||◌, if◌then◌else◌, List, Option, Some, None, Result, Ok, Err, is_some}
 use Rattle.std.specs.Str.{bytes_eq}
 use Rattle.basis.specs.Checks.{or_refused, and_then}
+use Rattle.basis.specs.Roles.{counts_at}
 use Rattle.basis.specs.declared.rows.Look.{Look as AnyLook}
 use Rattle.basis.specs.declared.rows.Look.TheVariants as look
 use Rattle.basis.specs.declared.refusals.Refusal.{Refusal}
@@ -19,7 +20,7 @@ use Rattle.machine.specs.declared.acts.Act.TheVariants.{Look as LookAct, PutWork
 use Rattle.machine.specs.declared.records.Token.{Token}
 use Rattle.machine.specs.declared.records.Workspace.{Workspace}
 use Rattle.machine.specs.declared.records.Organization.{Organization}
-use Rattle.route.specs.Policy.{caller_refused, allowed_by}
+use Rattle.route.specs.Policy.{role_refused, is_admitted, allowed_by}
 use Rattle.route.specs.declared.acts.Asked.{Asked}
 use Rattle.route.specs.declared.acts.AskedAct.{AskedAct}
 use Rattle.route.specs.declared.acts.AskedAct.TheVariants.{ListWorkspaces, OfWorkspace}
@@ -37,16 +38,25 @@ abbrev pub require : Refusal → Bool → Result (Unit {0}) Refusal
 require refusal true = Ok tt
 require refusal false = Err refusal
 
--- the caller: the token of the organization whose secret this is
-abbrev pub known_caller : Option Organization → Asked → Result Token Refusal
-known_caller r asked = or_refused BadToken (caller_of r (sha256 asked.secret))
+-- a token that doesn't count at a moment, since it has ended, is as if it weren't there
+abbrev pub while_it_counts : ℕ → Option Token → Option Token
+while_it_counts now None = None
+while_it_counts now (Some token) = if counts_at now token.caller then Some token else None
 
--- the policy: why a token may not do what is asked, or none
+-- the caller: the token of the organization whose secret this is, and which counts at the moment of the step
+abbrev pub known_caller : Option Organization → ℕ → Asked → Result Token Refusal
+known_caller r now asked = or_refused BadToken (while_it_counts now (caller_of r (sha256 asked.secret)))
+
+-- the policy: why a token's role doesn't do for what is asked, or none
 abbrev pub policy : Token → Asked → Option Refusal
-policy token asked = caller_refused token.caller asked.act
+policy token asked = role_refused token.caller.role asked.act
 
 abbrev pub may_do : Token → Asked → Result (Unit {0}) Refusal
 may_do token asked = allowed_by (policy token asked)
+
+-- the token is for the workspace that is asked of: its prefix admits the name; another is told as what isn't there
+abbrev pub admitted : Token → Asked → Result (Unit {0}) Refusal
+admitted token asked = require NotFound (is_admitted token.caller.prefix asked.act)
 
 -- what a caller reaches is under the path of its own organization
 abbrev pub is_in_reach : Asked → Bool
@@ -117,9 +127,10 @@ abbrev pub found_if : Bool → Place → Result Found Refusal
 found_if true p = Ok (At p)
 found_if false p = Err NotFound
 
-abbrev pub found : Option Organization → AskedAct → Result Found Refusal
-found r (ListWorkspaces after) = Ok (Workspaces after)
-found r (OfWorkspace ws act) = found_if (is_found r ws act) (place ws act)
+-- the list of the workspaces is of those that the caller's prefix admits
+abbrev pub found : Option Organization → List ℕ → AskedAct → Result Found Refusal
+found r prefix (ListWorkspaces after) = Ok (Workspaces after prefix)
+found r prefix (OfWorkspace ws act) = found_if (is_found r ws act) (place ws act)
 
 -- Content-MD5, where it is sent, is the MD5 of the body (RFC 1864)
 abbrev pub fits : Option (List ℕ) → List ℕ → Bool
@@ -152,15 +163,16 @@ order ws act = record { ws = ws; act = act }
 
 -- what is to be done: a list has no document, and its body isn't looked at
 abbrev pub task_of : Found → Option (List ℕ) → List ℕ → Result Task Refusal
-task_of (Workspaces after) id body = Ok (ListAll after)
+task_of (Workspaces after prefix) id body = Ok (ListAll after prefix)
 task_of (At p) id body = and_then (act_of p.act id body) (λ act. Ok (Carry (order p.ws act)))
 
--- the checks in their order: the caller, the role, the organization, the names, the digest, the document
-abbrev pub checked : Option Organization → Asked → Option (List ℕ) → List ℕ → Result Task Refusal
-checked r asked content_md5 body =
-    and_then (known_caller r asked) (λ token.
+-- the checks in their order: the caller, the role, the caller's workspaces, the organization, the names, the digest, the document
+abbrev pub checked : Option Organization → ℕ → Asked → Option (List ℕ) → List ℕ → Result Task Refusal
+checked r now asked content_md5 body =
+    and_then (known_caller r now asked) (λ token.
     and_then (may_do token asked) (λ _.
+    and_then (admitted token asked) (λ _.
     and_then (in_reach asked) (λ _.
-    and_then (found r asked.act) (λ f.
+    and_then (found r token.caller.prefix asked.act) (λ f.
     and_then (digest_checked content_md5 body) (λ _.
-    task_of f asked.lock_id body)))))
+    task_of f asked.lock_id body))))))

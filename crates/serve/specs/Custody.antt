@@ -1,5 +1,5 @@
 -- Custody, step by step: what a step of an organization's machine may do to a workspace.
-use Rattle.std.specs.Prelude.{◌≡◌, ◌⊎◌, ℕ, List, Option, Some, None, Ok, ⊤}
+use Rattle.std.specs.Prelude.{◌≡◌, ◌⊎◌, ℕ, ◌≤◌, List, Option, Some, None, Ok, ⊤}
 use Rattle.basis.specs.declared.refusals.Refusal.TheVariants.{Locked}
 use Rattle.machine.specs.Records.{workspace_in}
 use Rattle.machine.specs.Custody.{Releases, IsRepeatable}
@@ -15,7 +15,7 @@ use Rattle.serve.specs.Asks.{Ask, silent, requests, commands}
 use Rattle.serve.specs.Asks as ask
 use Rattle.serve.specs.Checks.{act_of}
 use Rattle.serve.specs.Service.{Asks}
-use Rattle.serve.specs.Steps.{Said, nothing, replies, tells, lists, holder_text, request_step, step}
+use Rattle.serve.specs.Steps.{Said, nothing, replies, tells, lists, lists_tokens, holder_text, request_step, step}
 
 -- the workspace that is asked for has this name
 abbrev pub NamesIn : AskedAct → List ℕ → Type 0
@@ -78,9 +78,16 @@ MayRepeat (ask.refused at awaited refusal is_head) = ⊤
 MayRepeat (requests at awaited asked content_md5 body) = (act : Act) → IsActOn asked.act asked.lock_id body act → IsRepeatable act
 MayRepeat (commands at command) = ⊤
 
--- what comes again, while the record is as the first left it, changes nothing more
+-- a moment isn't before that of a step
+abbrev pub IsNotBefore : Ask → ℕ → Type 0
+IsNotBefore silent later = ⊤
+IsNotBefore (ask.refused at awaited refusal is_head) later = at ≤ later
+IsNotBefore (requests at awaited asked content_md5 body) later = at ≤ later
+IsNotBefore (commands at command) later = at ≤ later
+
+-- what comes again, not before, while the record is as the first left it, changes nothing more
 abbrev pub StepsAreRepeatable : Type 0
-StepsAreRepeatable = (r : Option Organization) (what : Ask) (later : ℕ) → MayRepeat what
+StepsAreRepeatable = (r : Option Organization) (what : Ask) (later : ℕ) → MayRepeat what → IsNotBefore what later
     → (step (step r what).left (asked_again later what)).left ≡ (step r what).left
 
 -- what is said doesn't refuse
@@ -89,6 +96,7 @@ IsAccepted nothing = ⊥
 IsAccepted (replies awaited at answer) = answer.refusal ≡ None
 IsAccepted (tells answer) = answer ≡ Done
 IsAccepted lists = ⊤
+IsAccepted lists_tokens = ⊤
 
 -- what was accepted and comes again, while the workspace is as the first left it, whatever became of the rest, changes nothing more
 abbrev pub RepeatsLeaveTheWorkspace : Type 0

@@ -13,6 +13,7 @@ use Rattle.route.specs.declared.acts.AskedAct.TheVariants.{ListWorkspaces, OfWor
 use Rattle.wire.specs.Replies.{Answer}
 use Rattle.serve.specs.declared.steps.Step.{Step}
 use Rattle.serve.specs.Asks.{Ask, organization}
+use Rattle.route.specs.Policy.{is_admitted}
 use Rattle.serve.specs.Checks.{makes, is_in_reach, known_caller, may_do}
 use Rattle.serve.specs.Steps.{replies, tells, refusing, request_step, step}
 use Rattle.serve.specs.Service.{AreAsked, with_own, is_own, own_asks, replies_at}
@@ -50,7 +51,7 @@ RefusedStepsChangeNothing = (r : Option Organization) (ask : Ask) → ((awaited 
 -- a request whose caller and role pass, and which is out of the caller's reach, is answered not-found, whatever it asks
 abbrev pub OutOfReachIsNotFound : Type 0
 OutOfReachIsNotFound = (r : Option Organization) (now : ℕ) (asked : Asked) (content_md5 : Option (List ℕ)) (body : List ℕ) (token : Token)
-    → is_in_reach asked ≡ false → known_caller r asked ≡ Ok token → may_do token asked ≡ Ok tt
+    → is_in_reach asked ≡ false → known_caller r now asked ≡ Ok token → may_do token asked ≡ Ok tt
     → request_step r now asked content_md5 body ≡ refusing NotFound r
 
 -- the same act on another workspace
@@ -68,4 +69,17 @@ NeedsWorkspace (OfWorkspace ws act) = makes act ≡ false
 abbrev pub OutOfReachIsAsAbsent : Type 0
 OutOfReachIsAsAbsent = (r : Option Organization) (now : ℕ) (asked : Asked) (content_md5 : Option (List ℕ)) (body org ws : List ℕ)
     → is_in_reach asked ≡ false → NeedsWorkspace asked.act → workspace_in r ws ≡ None
+    → request_step r now asked content_md5 body ≡ request_step r now (record asked { org = org; act = renamed asked.act ws }) content_md5 body
+
+-- a request whose caller and role pass, and whose workspace the caller's prefix doesn't admit, is answered not-found, whatever it asks
+abbrev pub OutsideThePrefixIsNotFound : Type 0
+OutsideThePrefixIsNotFound = (r : Option Organization) (now : ℕ) (asked : Asked) (content_md5 : Option (List ℕ)) (body : List ℕ) (token : Token)
+    → known_caller r now asked ≡ Ok token → is_admitted token.caller.prefix asked.act ≡ false → may_do token asked ≡ Ok tt
+    → request_step r now asked content_md5 body ≡ refusing NotFound r
+
+-- a request whose workspace the caller's prefix doesn't admit has the answer of the same request on a workspace that the caller's own
+-- organization lacks, under whatever organization's path, and changes nothing either
+abbrev pub OutsideThePrefixIsAsAbsent : Type 0
+OutsideThePrefixIsAsAbsent = (r : Option Organization) (now : ℕ) (asked : Asked) (content_md5 : Option (List ℕ)) (body org ws : List ℕ) (token : Token)
+    → known_caller r now asked ≡ Ok token → is_admitted token.caller.prefix asked.act ≡ false → NeedsWorkspace asked.act → workspace_in r ws ≡ None
     → request_step r now asked content_md5 body ≡ request_step r now (record asked { org = org; act = renamed asked.act ws }) content_md5 body

@@ -1,10 +1,12 @@
 -- Steps as their bytes say them, and whole runs of them over the records of all organizations.
-use Rattle.std.specs.Prelude.{◌≡◌, ℕ, Bool, true, false, List, [], ◌∷◌, ◌++◌, Option, None, codes, decimal, ⊤}
+use Rattle.std.specs.Prelude.{◌≡◌, ℕ, Bool, true, false, List, [], ◌∷◌, ◌++◌, Option, Some, None, codes, decimal, ⊤}
 use Rattle.std.specs.Str.{bytes_eq}
 use Rattle.machine.specs.declared.keeps.AdminAnswer.{AdminAnswer}
-use Rattle.machine.specs.Tokens.{AreOrganizations, ListsOrganizations}
-use Rattle.machine.specs.declared.keeps.AdminAnswer.TheVariants.{Done, Exists, Absent, Organizations}
+use Rattle.basis.specs.Roles.{role_word}
+use Rattle.machine.specs.Tokens.{AreOrganizations, ListsOrganizations, tokens_told}
+use Rattle.machine.specs.declared.keeps.AdminAnswer.TheVariants.{Done, Exists, Absent, Organizations, Tokens}
 use Rattle.machine.specs.declared.keeps.OrgRow.{OrgRow}
+use Rattle.machine.specs.declared.keeps.TokenRow.{TokenRow}
 use Rattle.machine.specs.declared.records.Organization.{Organization}
 use Rattle.route.specs.Asks.{Asking, asked_of, asks}
 use Rattle.route.specs.Asks as route
@@ -17,8 +19,8 @@ use Rattle.serve.specs.declared.steps.Step.{Step}
 use Rattle.serve.specs.declared.steps.Step.TheVariants.{Request, Command}
 use Rattle.serve.specs.Asks.{Ask, silent, refused, requests, commands, Owner, organization, unattributed, operator, owner_of}
 use Rattle.serve.specs.declared.steps.Admin.{Admin}
-use Rattle.serve.specs.declared.steps.Admin.TheVariants.{OrgAdd, OrgLimit, OrgList, TokenAdd, TokenRevoke}
-use Rattle.serve.specs.Steps.{Said, nothing, replies, tells, lists, command_step, step}
+use Rattle.serve.specs.declared.steps.Admin.TheVariants.{OrgAdd, OrgLimit, OrgList, TokenAdd, TokenList, TokenRevoke}
+use Rattle.serve.specs.Steps.{Said, nothing, replies, tells, lists, lists_tokens, command_step, step}
 
 -- the method of a message is HEAD
 abbrev pub is_head : Message → Bool
@@ -61,12 +63,39 @@ abbrev pub org_lines : List OrgRow → List ℕ
 org_lines [] = []
 org_lines (row ∷ rows) = org_line row ++ org_lines rows
 
+-- the end of a token, or a hyphen
+abbrev pub until_text : Option ℕ → List ℕ
+until_text None = codes "-"
+until_text (Some until) = decimal until
+
+-- the prefix of a token's workspaces, or a hyphen where it is for all of them
+abbrev pub prefix_text : List ℕ → List ℕ
+prefix_text [] = codes "-"
+prefix_text (b ∷ bytes) = b ∷ bytes
+
+-- a token's line in the list of an organization's: its name, its role, its end, its prefix
+abbrev pub token_line : TokenRow → List ℕ
+token_line row = row.name ++ codes " " ++ role_word row.caller.role ++ codes " " ++ until_text row.caller.until ++ codes " " ++ prefix_text row.caller.prefix ++ codes "\n"
+
+abbrev pub token_lines : List TokenRow → List ℕ
+token_lines [] = []
+token_lines (row ∷ rows) = token_line row ++ token_lines rows
+
 -- the word that answers an operator's command on one organization; a list has none
 abbrev pub admin_word : AdminAnswer → List ℕ
 admin_word Done = codes "ok\n"
 admin_word Exists = codes "refused exists\n"
 admin_word Absent = codes "refused absent\n"
 admin_word (Organizations rows) = []
+admin_word (Tokens rows) = []
+
+-- the list of an organization's tokens, or the word that it isn't there
+abbrev pub token_list_text : AdminAnswer → List ℕ
+token_list_text Done = admin_word Done
+token_list_text Exists = admin_word Exists
+token_list_text Absent = admin_word Absent
+token_list_text (Organizations rows) = admin_word (Organizations rows)
+token_list_text (Tokens rows) = token_lines rows
 
 -- the text of what is said
 abbrev pub IsSaidText : Said → List ℕ → Type 0
@@ -74,6 +103,7 @@ IsSaidText nothing text = text ≡ []
 IsSaidText (replies awaited at answer) text = (reply : List ℕ) × IsReplyText answer at reply × (text ≡ continue_if awaited ++ reply)
 IsSaidText (tells answer) text = text ≡ admin_word answer
 IsSaidText lists text = (rows : List OrgRow) × (text ≡ org_lines rows)
+IsSaidText lists_tokens text = (answer : AdminAnswer) × (text ≡ token_list_text answer)
 
 abbrev pub AreTexts : List Said → List (List ℕ) → Type 0
 AreTexts [] [] = ⊤
@@ -136,24 +166,26 @@ abbrev pub said_to : (List ℕ → Option Organization) → Ask → Said
 said_to rows ask = (step (record_for rows (owner_of ask)) ask).answer
 
 -- what an operator's command is answered: the word of the machine of the organization that it names; or, of the list of all
--- organizations, exactly those whose records are there
+-- organizations, exactly those whose records are there; or the tokens of an organization, by its record
 abbrev pub IsAdminAnswer : (List ℕ → Option Organization) → Admin → AdminAnswer → Type 0
 IsAdminAnswer rows (OrgAdd org limit) answer = answer ≡ (command_step (rows org) (OrgAdd org limit)).answer
 IsAdminAnswer rows (OrgLimit org limit) answer = answer ≡ (command_step (rows org) (OrgLimit org limit)).answer
 IsAdminAnswer rows OrgList answer = ListsOrganizations rows answer
-IsAdminAnswer rows (TokenAdd org name role secret) answer = answer ≡ (command_step (rows org) (TokenAdd org name role secret)).answer
+IsAdminAnswer rows (TokenAdd org name role secret bounds) answer = answer ≡ (command_step (rows org) (TokenAdd org name role secret bounds)).answer
+IsAdminAnswer rows (TokenList org) answer = answer ≡ tokens_told (rows org)
 IsAdminAnswer rows (TokenRevoke org name) answer = answer ≡ (command_step (rows org) (TokenRevoke org name)).answer
 
 -- the text that lists all organizations: exactly those whose records are there
 abbrev pub ListsAll : (List ℕ → Option Organization) → List ℕ → Type 0
 ListsAll records text = (rows : List OrgRow) × AreOrganizations records rows × (text ≡ org_lines rows)
 
--- where a command asks for the list of all organizations, the text is it
+-- where a command asks for the list of all organizations, or for that of an organization's tokens, the text is it
 abbrev pub IsListedBy : (List ℕ → Option Organization) → Admin → List ℕ → Type 0
 IsListedBy records (OrgAdd org limit) text = ⊤
 IsListedBy records (OrgLimit org limit) text = ⊤
 IsListedBy records OrgList text = ListsAll records text
-IsListedBy records (TokenAdd org name role secret) text = ⊤
+IsListedBy records (TokenAdd org name role secret bounds) text = ⊤
+IsListedBy records (TokenList org) text = text ≡ token_list_text (tokens_told (records org))
 IsListedBy records (TokenRevoke org name) text = ⊤
 
 abbrev pub IsListed : (List ℕ → Option Organization) → Ask → List ℕ → Type 0

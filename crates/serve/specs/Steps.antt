@@ -17,7 +17,7 @@ use Rattle.machine.specs.declared.records.Organization.{Organization}
 use Rattle.route.specs.declared.acts.Asked.{Asked}
 use Rattle.wire.specs.Replies.{Answer, empty_answer, no_content_answer, document_answer, refused_answer}
 use Rattle.serve.specs.declared.steps.Admin.{Admin}
-use Rattle.serve.specs.declared.steps.Admin.TheVariants.{OrgAdd, OrgLimit, OrgList, TokenAdd, TokenRevoke}
+use Rattle.serve.specs.declared.steps.Admin.TheVariants.{OrgAdd, OrgLimit, OrgList, TokenAdd, TokenList, TokenRevoke}
 use Rattle.serve.specs.Asks.{Ask, silent, requests, commands}
 use Rattle.serve.specs.Asks as ask
 use Rattle.serve.specs.Checks.{checked}
@@ -34,6 +34,8 @@ pub data Said : Type 0 where
   tells : AdminAnswer → Said
   -- the list of all organizations, which no organization's machine knows
   lists : Said
+  -- the list of an organization's tokens, which is told to the operator alone
+  lists_tokens : Said
 
 -- an answer, and the record afterwards
 abbrev pub Answered : Type 0
@@ -73,19 +75,20 @@ ruled_in org ws r ruling = effect (answer_to org ws ruling.answer) (option_map (
 -- what follows the checks: the list of the workspaces, or the rules
 abbrev pub carried : List ℕ → ℕ → Option Organization → Result Task Refusal → Answered
 carried org now r (Err refusal) = refusing refusal r
-carried org now r (Ok (ListAll after)) = effect (document_answer (ws_list_text (workspaces_after after r))) r
+carried org now r (Ok (ListAll after prefix)) = effect (document_answer (ws_list_text (workspaces_after after prefix r))) r
 carried org now r (Ok (Carry order)) = ruled_in org order.ws r (rules order.act now (seen_at r order.ws))
 
 -- what a request of an organization is answered at a moment
 abbrev pub request_step : Option Organization → ℕ → Asked → Option (List ℕ) → List ℕ → Answered
-request_step r now asked content_md5 body = carried asked.caller now r (checked r asked content_md5 body)
+request_step r now asked content_md5 body = carried asked.caller now r (checked r now asked content_md5 body)
 
--- what an operator's command on an organization is answered; the list of all organizations changes none
+-- what an operator's command on an organization is answered; the lists of organizations and of tokens change none
 abbrev pub command_step : Option Organization → Admin → Managed
 command_step r (OrgAdd org limit) = org_added limit r
 command_step r (OrgLimit org limit) = org_limited limit r
 command_step r OrgList = effect Done r
-command_step r (TokenAdd org name role secret) = token_added name (token_of (sha256 secret) role) r
+command_step r (TokenAdd org name role secret bounds) = token_added name (token_of (sha256 secret) role bounds) r
+command_step r (TokenList org) = effect Done r
 command_step r (TokenRevoke org name) = token_revoked name r
 
 -- what is said to an operator
@@ -93,7 +96,8 @@ abbrev pub command_said : Admin → AdminAnswer → Said
 command_said (OrgAdd org limit) answer = tells answer
 command_said (OrgLimit org limit) answer = tells answer
 command_said OrgList answer = lists
-command_said (TokenAdd org name role secret) answer = tells answer
+command_said (TokenAdd org name role secret bounds) answer = tells answer
+command_said (TokenList org) answer = lists_tokens
 command_said (TokenRevoke org name) answer = tells answer
 
 -- the step of an organization's machine: what is said, and the record afterwards; an unattributed step changes no record and reads none

@@ -9,7 +9,7 @@ ghost use Rattle.machine.specs.Units.{unit_of};
 ghost use Rattle.machine.specs.declared.acts.Act.TheVariants.{Look as LookAct, PutWorkspace, UpdateState, PurgeState, Lock, Unlock, MakeRun};
 ghost use Rattle.machine.specs.declared.records.Organization.{Organization};
 ghost use Rattle.serve.specs.Checks.{require, in_reach, makes, named_by, is_there, is_found, place, fits, digest_checked, spelt, act_of, task_of};
-ghost use Rattle.serve.specs.Inner.Prepared.{caller_known};
+ghost use Rattle.serve.specs.Inner.Prepared.{counted, caller_known};
 ghost use Rattle.serve.specs.declared.prepared.Found.TheVariants.{At};
 ghost use Rattle.serve.specs.declared.prepared.Task.TheVariants.{ListAll};
 ghost use Rattle.serve.specs.Inner.Judging.{named, judged_task, missed};
@@ -17,20 +17,36 @@ ghost use Rattle.serve.specs.Inner.Prepared.{IsTaskInRange};
 ghost use Rattle.serve.specs.Inner.Units.{has_named, is_present};
 
 use crate::prepared::{Order, Place, Task};
-use basis::{Bytes, Caller, Down, LockId, Look, OrgName, Refusal, WsName};
+use basis::{Bytes, Caller, Down, LockId, Look, Moment, OrgName, Prefix, Refusal, WsName};
 use docs::{DocFault, digest_fits, read_lock, read_run, read_settings, read_state};
 use machine::{Act, Keep, Unit, WorkspaceUnit};
 use route::{Asked, AskedAct, WsAct, secret_digest};
 use std::alloc::Global;
 
-/// Who asks by the token.
-pub fn known_caller<K: Keep>(alloc: Global, keep: &mut K, asked: &Asked) -> Result<Caller, Refusal>
+// A caller whose token counts at this moment. One that has ended is as if it weren't there.
+fn counted(caller: Caller, at: Moment) -> Result<Caller, Refusal>
+    ensures { result ≡ counted at caller }
+{
+    if caller.counts_at(at) {
+        Ok(caller)
+    } else {
+        Err(Refusal::BadToken)
+    }
+}
+
+/// Who asks by the token, which counts at this moment.
+pub fn known_caller<K: Keep>(
+    alloc: Global,
+    keep: &mut K,
+    at: Moment,
+    asked: &Asked,
+) -> Result<Caller, Refusal>
     ensures looks { Looks K.rows K.clean K.sound keep.old keep.new }
-    ensures ok { K.clean keep.new → K.sound keep.old → Follows result (caller_known (K.rows keep.old asked.now.caller) asked.now) }
+    ensures ok { K.clean keep.new → K.sound keep.old → Follows result (caller_known (K.rows keep.old asked.now.caller) at asked.now) }
 {
     let secret = secret_digest(&asked.secret);
     match keep.caller(alloc, &asked.caller, &secret) {
-        Ok(Some(caller)) => Ok(caller),
+        Ok(Some(caller)) => counted(caller, at),
         Ok(None) => Err(Refusal::BadToken),
         Err(Down) => Err(Refusal::Unavailable),
     }
@@ -312,12 +328,15 @@ fn place_of(ws: &WsName, act: WsAct) -> Result<Place, Refusal>
     }
 }
 
-fn list_after(after: &Option<WsName>) -> Result<Task, Refusal>
-    ensures ok { Follows result (Ok (ListAll after.now)) }
+fn list_after(after: &Option<WsName>, prefix: &Prefix) -> Result<Task, Refusal>
+    ensures ok { Follows result (Ok (ListAll after.now prefix.now)) }
     ensures range { IfOk result IsTaskInRange }
 {
+    let Ok(prefix) = prefix.clone() else {
+        return Err(Refusal::Unavailable);
+    };
     match after.clone() {
-        Ok(after) => Ok(Task::ListAll(after)),
+        Ok(after) => Ok(Task::ListAll { after, prefix }),
         Err(_) => Err(Refusal::Unavailable),
     }
 }
@@ -340,32 +359,35 @@ fn order_at(
 
 fn spelt(
     alloc: Global,
+    prefix: &Prefix,
     asked: &AskedAct,
     lock_id: &Option<LockId>,
     body: Bytes,
 ) -> Result<Task, Refusal>
-    ensures ok { Follows result (task_of (named asked.now) lock_id.now body) }
+    ensures ok { Follows result (task_of (named prefix.now asked.now) lock_id.now body) }
     ensures range { IfOk result IsTaskInRange }
 {
     match asked {
-        AskedAct::ListWorkspaces { after } => list_after(after),
+        AskedAct::ListWorkspaces { after } => list_after(after, prefix),
         AskedAct::OfWorkspace(ws, act) => order_at(alloc, ws, *act, lock_id, body),
     }
 }
 
-/// What is to be done where what is asked of is there: the digest, then the document.
+/// What is to be done where what is asked of is there: the digest, then the document. A list is of the
+/// workspaces that the prefix admits.
 pub fn judged(
     alloc: Global,
+    prefix: &Prefix,
     asked: &AskedAct,
     content_md5: &Option<Bytes>,
     lock_id: &Option<LockId>,
     body: Bytes,
 ) -> Result<Task, Refusal>
-    ensures ok { Follows result (judged_task asked.now content_md5.now lock_id.now body) }
+    ensures ok { Follows result (judged_task prefix.now asked.now content_md5.now lock_id.now body) }
     ensures range { IfOk result IsTaskInRange }
 {
     if let Err(refusal) = digest_checked(content_md5, &body) {
         return Err(refusal);
     }
-    spelt(alloc, asked, lock_id, body)
+    spelt(alloc, prefix, asked, lock_id, body)
 }

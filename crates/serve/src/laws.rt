@@ -1,5 +1,5 @@
 //! Laws of steps and runs, each the contract of a call that does nothing.
-ghost use Rattle.serve.specs.Laws.{OneAsking, TwoWorlds, SameStepsAskTheSame, RefusedStepsChangeNothing, OutOfReachIsNotFound, OutOfReachIsAsAbsent};
+ghost use Rattle.serve.specs.Laws.{OneAsking, TwoWorlds, SameStepsAskTheSame, RefusedStepsChangeNothing, OutOfReachIsNotFound, OutOfReachIsAsAbsent, OutsideThePrefixIsNotFound, OutsideThePrefixIsAsAbsent};
 ghost use Rattle.serve.specs.Custody.{StepsChangeWhatTheyName, LocksAreKept, StepsAreRepeatable, RepeatsLeaveTheWorkspace, LockedTellsTheHolder, SameBytesAskAgain, RequestsChangeTheirWorkspaceAlone};
 ghost use Rattle.serve.specs.Book.{BooksAreOfTheRun, PeriodsAreTheStepsBetween};
 
@@ -37,6 +37,18 @@ pub fn out_of_reach_is_as_absent()
     ensures { OutOfReachIsAsAbsent }
 {}
 
+/// A request whose caller and role pass, and whose workspace the caller's prefix doesn't admit, is
+/// answered `not-found`, whatever it asks: PUT of a workspace, too.
+pub fn outside_the_prefix_is_not_found()
+    ensures { OutsideThePrefixIsNotFound }
+{}
+
+/// A request whose workspace the caller's prefix doesn't admit has the answer of the same request on a
+/// workspace that the caller's own organization lacks, and changes nothing either.
+pub fn outside_the_prefix_is_as_absent()
+    ensures { OutsideThePrefixIsAsAbsent }
+{}
+
 /// A step changes at most the workspace that it names.
 pub fn steps_change_what_they_name()
     ensures { StepsChangeWhatTheyName }
@@ -49,7 +61,8 @@ pub fn locks_are_kept()
     ensures { LocksAreKept }
 {}
 
-/// What is asked again, at whatever moment, while the record is as the first time left it, changes nothing more.
+/// What is asked again, not before, while the record is as the first time left it, changes nothing
+/// more. At an earlier moment a token that has ended may still count.
 pub fn steps_are_repeatable()
     ensures { StepsAreRepeatable }
 {}

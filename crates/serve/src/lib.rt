@@ -14,10 +14,10 @@ pub mod steps;
 pub use exchanges::LinkFault;
 pub use laws::{
     books_are_of_the_run, locked_tells_the_holder, locks_are_kept, one_asking,
-    out_of_reach_is_as_absent, out_of_reach_is_not_found, periods_are_the_steps_between,
-    refusals_change_nothing, repeats_leave_the_workspace, requests_change_their_workspace_alone,
-    same_bytes_ask_again, same_steps_ask_the_same, steps_are_repeatable,
-    steps_change_what_they_name, two_worlds,
+    out_of_reach_is_as_absent, out_of_reach_is_not_found, outside_the_prefix_is_as_absent,
+    outside_the_prefix_is_not_found, periods_are_the_steps_between, refusals_change_nothing,
+    repeats_leave_the_workspace, requests_change_their_workspace_alone, same_bytes_ask_again,
+    same_steps_ask_the_same, steps_are_repeatable, steps_change_what_they_name, two_worlds,
 };
 pub use service::Service;
 pub use steps::{Admin, Step};

@@ -1,6 +1,6 @@
 //! What is asked of a workspace, and an answer that is made in full before anything changes.
 
-use basis::{OrgName, Refusal, WsName};
+use basis::{OrgName, Prefix, Refusal, WsName};
 use machine::{Act, Change};
 use route::WsAct;
 use wire::{Message, Reply};
@@ -12,10 +12,14 @@ pub struct Place {
     pub act: WsAct,
 }
 
-/// What was found of what is asked: the organization's workspaces after a name, or the place of an act.
+/// What was found of what is asked: the organization's workspaces after a name, of those that a prefix
+/// admits, or the place of an act.
 #[derive(Drop)]
 pub enum Found {
-    Workspaces(Option<WsName>),
+    Workspaces {
+        after: Option<WsName>,
+        prefix: Prefix,
+    },
     At(Place),
 }
 
@@ -26,10 +30,14 @@ pub struct Order {
     pub act: Act,
 }
 
-/// What is to be done: to list the organization's workspaces after a name, or an act.
+/// What is to be done: to list the organization's workspaces after a name, of those that a prefix
+/// admits, or an act.
 #[derive(Drop)]
 pub enum Task {
-    ListAll(Option<WsName>),
+    ListAll {
+        after: Option<WsName>,
+        prefix: Prefix,
+    },
     Carry(Order),
 }
 

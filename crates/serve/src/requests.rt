@@ -19,7 +19,7 @@ ghost use Rattle.serve.specs.Inner.Units.{holder_in};
 use crate::checks::{in_reach, judged, known_caller, missed};
 use crate::prepared::{Order, Pending, Prepared, Task};
 use basis::numbers::MAX_MOMENT;
-use basis::{Bytes, Down, Moment, OrgName, Refusal, RunRow, WsName, WsRow};
+use basis::{Bytes, Down, Moment, OrgName, Prefix, Refusal, RunRow, WsName, WsRow};
 use docs::{
     write_error, write_run, write_run_holder, write_run_list, write_version_list, write_ws,
     write_ws_list,
@@ -42,7 +42,7 @@ pub fn request<K: Keep>(
     ensures ok { K.clean keep.new → K.sound keep.old → IfOk result (Foresees (K.rows keep.old asked.now.caller) asked.now.caller
         (request_step (K.rows keep.old asked.now.caller) at asked.now content_md5.now body)) }
 {
-    match checked(alloc, keep, asked, content_md5, body) {
+    match checked(alloc, keep, at, asked, content_md5, body) {
         Ok(task) => perform(alloc, keep, at, &asked.caller, task),
         Err(refusal) => refuse_unless_down(alloc, refusal),
     }
@@ -54,16 +54,17 @@ pub fn request<K: Keep>(
 fn checked<K: Keep>(
     alloc: Global,
     keep: &mut K,
+    at: Moment,
     asked: &Asked,
     content_md5: &Option<Bytes>,
     body: Bytes,
 ) -> Result<Task, Refusal>
     ensures looks { Looks K.rows K.clean K.sound keep.old keep.new }
-    ensures ok { K.clean keep.new → K.sound keep.old → Stands result (K.rows keep.old asked.now.caller) asked.now content_md5.now body }
+    ensures ok { K.clean keep.new → K.sound keep.old → Stands result (K.rows keep.old asked.now.caller) at asked.now content_md5.now body }
     ensures range { IfOk result IsTaskInRange }
     ensures there { K.clean keep.new → K.sound keep.old → OnOk result (IsSome (K.rows keep.old asked.now.caller)) }
 {
-    let caller = match known_caller(alloc, keep, asked) {
+    let caller = match known_caller(alloc, keep, at, asked) {
         Ok(caller) => caller,
         Err(refusal) => return Err(refusal),
     };
@@ -73,7 +74,14 @@ fn checked<K: Keep>(
     if let Err(refusal) = in_reach(asked) {
         return Err(refusal);
     }
-    match judged(alloc, &asked.act, content_md5, &asked.lock_id, body) {
+    match judged(
+        alloc,
+        &caller.prefix,
+        &asked.act,
+        content_md5,
+        &asked.lock_id,
+        body,
+    ) {
         Ok(task) => Ok(task),
         Err(refusal) => Err(missed(alloc, keep, &asked.caller, &asked.act, refusal)),
     }
@@ -224,18 +232,19 @@ fn name_in(after: &Option<WsName>) -> Option<&WsName>
     }
 }
 
-/// The list of an organization's workspaces.
+/// The list of an organization's workspaces that a prefix admits.
 fn list_workspaces<K: Keep>(
     alloc: Global,
     keep: &mut K,
     org: &OrgName,
     after: &Option<WsName>,
+    prefix: &Prefix,
 ) -> Result<Prepared, Down>
     ensures looks { Looks K.rows K.clean K.sound keep.old keep.new }
     ensures ok { K.clean keep.new → K.sound keep.old → IfOk result (λ p. (at : ℕ)
-        → Foresees (K.rows keep.old org.now) org.now (carried org.now at (K.rows keep.old org.now) (Ok (ListAll after.now))) p) }
+        → Foresees (K.rows keep.old org.now) org.now (carried org.now at (K.rows keep.old org.now) (Ok (ListAll after.now prefix.now))) p) }
 {
-    let list = keep.workspaces(alloc, org, name_in(after))?;
+    let list = keep.workspaces(alloc, org, name_in(after), prefix)?;
     let body = Bytes::new(write_ws_list(alloc, &list)?);
     Ok(Prepared {
         reply: Reply::document(body),
@@ -256,7 +265,7 @@ fn perform<K: Keep>(
         → Foresees (K.rows keep.old org.now) org.now (carried org.now at (K.rows keep.old org.now) (Ok task)) p) }
 {
     match task {
-        Task::ListAll(after) => list_workspaces(alloc, keep, org, &after),
+        Task::ListAll { after, prefix } => list_workspaces(alloc, keep, org, &after, &prefix),
         Task::Carry(order) => rule(alloc, keep, at, org, &order),
     }
 }

@@ -6,21 +6,22 @@ ghost use Rattle.serve.specs.Exchanges.{Exchanges, ChangesAtMostOne};
 ghost use Rattle.serve.specs.Inner.Replying.{ended_of};
 ghost use Rattle.serve.specs.Inner.Taking.{IsTaken, RunsTo};
 ghost use Rattle.serve.specs.Asks.{Ask, commands, unattributed, operator};
-ghost use Rattle.serve.specs.Service.{IsSaidText, Stays, Carries, said_to, AreAsked, IsAdminAnswer, ListsAll, IsListedBy, org_lines};
+ghost use Rattle.serve.specs.Service.{IsSaidText, Stays, Carries, said_to, AreAsked, IsAdminAnswer, ListsAll, IsListedBy, org_lines, token_list_text};
 ghost use Rattle.serve.specs.Inner.Taking.{IsOnOne};
 ghost use Rattle.machine.specs.Keeping.{Looks};
+ghost use Rattle.machine.specs.Tokens.{tokens_told};
 ghost use Rattle.machine.specs.declared.keeps.AdminAnswer.TheVariants.{Organizations};
 ghost use Rattle.machine.specs.declared.keeps.OrgRow.{OrgRow};
-ghost use Rattle.serve.specs.AbsentForms.{RepliesAreThoseOfAbsentForms, OutOfReachRepliesNotFound};
+ghost use Rattle.serve.specs.AbsentForms.{RepliesAreThoseOfAbsentForms, RepliesOutsideThePrefixAreThoseOfAbsentForms, RepliesOutsideThePrefixAreNotFound, OutOfReachRepliesNotFound};
 ghost use Rattle.serve.specs.Book.{LocksKeepOthersOut, RunsKeepOthersOut, NoIdWhereNobodyHolds, LocksEndByUnlock, OneRunAtATime, StartsRise, RepeatsLeaveIt, DoneOnceIsDone, OfEachBook};
 ghost use Rattle.serve.specs.Runs.{IsOwnMachine, IsOwnRecord, AreOwnReplies, ListsAreTold};
 
-use crate::commands::{admin_word, command, org_lines};
+use crate::commands::{admin_word, command, org_lines, token_list_text};
 use crate::exchanges::{LinkFault, exchange};
 use crate::messages::take_request;
 use crate::steps::{Admin, Step};
 use basis::numbers::MAX_MOMENT;
-use basis::{Bytes, Down, Moment};
+use basis::{Bytes, Down, Moment, OrgName};
 use machine::{AdminAnswer, Keep};
 use route::Routes;
 use std::alloc::Global;
@@ -48,7 +49,8 @@ fn list_lines(alloc: Global, answer: &AdminAnswer) -> Result<Bytes, Down>
 {
     match answer {
         AdminAnswer::Organizations(rows) => Ok(Bytes::new(org_lines(alloc, rows.as_slice())?)),
-        AdminAnswer::Done | AdminAnswer::Exists | AdminAnswer::Absent => Err(Down),
+        AdminAnswer::Done | AdminAnswer::Exists => Err(Down),
+        AdminAnswer::Absent | AdminAnswer::Tokens(_) => Err(Down),
     }
 }
 
@@ -61,6 +63,15 @@ fn take_list<K: Keep>(alloc: Global, keep: &mut K) -> Result<Bytes, Down>
     list_lines(alloc, &answer)
 }
 
+/// The list of an organization's tokens, which changes nothing.
+fn take_tokens<K: Keep>(alloc: Global, keep: &mut K, org: &OrgName) -> Result<Bytes, Down>
+    ensures looks { Looks K.rows K.clean K.sound keep.old keep.new }
+    ensures ok { K.clean keep.new → K.sound keep.old → IfOk result (λ text. text ≡ token_list_text (tokens_told (K.rows keep.old org.now))) }
+{
+    let answer = keep.token_list(alloc, org)?;
+    Ok(Bytes::new(token_list_text(alloc, &answer)?))
+}
+
 fn take_command<K: Keep>(alloc: Global, keep: &mut K, asked: &Admin) -> Result<Bytes, Down>
     ensures so_far { K.clean keep.new → K.clean keep.old }
     ensures kept { K.clean keep.new → K.sound keep.old → K.sound keep.new }
@@ -70,6 +81,7 @@ fn take_command<K: Keep>(alloc: Global, keep: &mut K, asked: &Admin) -> Result<B
 {
     match asked {
         Admin::OrgList => take_list(alloc, keep),
+        Admin::TokenList { org } => take_tokens(alloc, keep, org),
         Admin::OrgAdd { .. } => take_word(alloc, keep, asked),
         Admin::OrgLimit { .. } => take_word(alloc, keep, asked),
         Admin::TokenAdd { .. } => take_word(alloc, keep, asked),
@@ -291,6 +303,12 @@ impl<K: Keep> Service<K> {
 
         // And whatever is asked of another organization, by a caller that is known and has the role, is answered not-found.
         ensures out_of_reach { K.clean self.new.keep → K.sound self.old.keep → IfOk result (λ replies. OutOfReachRepliesNotFound steps.now (K.rows self.old.keep) replies.items) }
+
+        // A workspace that the caller's prefix doesn't admit answers as an absent one, too: the caller's own organization's.
+        ensures outside_the_prefix { K.clean self.new.keep → K.sound self.old.keep → IfOk result (λ replies. RepliesOutsideThePrefixAreThoseOfAbsentForms steps.now (K.rows self.old.keep) replies.items) }
+
+        // And whatever is asked of such a workspace, its making too, by a caller that is known and has the role, is answered not-found.
+        ensures not_admitted { K.clean self.new.keep → K.sound self.old.keep → IfOk result (λ replies. RepliesOutsideThePrefixAreNotFound steps.now (K.rows self.old.keep) replies.items) }
 
         // The replies to unattributed steps follow from their bytes and moments alone.
         ensures unattributed { K.clean self.new.keep → K.sound self.old.keep → IfOk result (λ replies. (asked : List Ask) → AreAsked steps.now asked

@@ -1,6 +1,6 @@
 //! Steps: requests and operator's commands, each at a moment.
 
-use basis::{Bytes, Limit, Moment, OrgName, Role, Secret};
+use basis::{Bounds, Bytes, Limit, Moment, OrgName, Role, Secret};
 
 /// An operator's command, its parts read.
 #[derive(Drop)]
@@ -21,6 +21,12 @@ pub enum Admin {
         name: OrgName,
         role: Role,
         secret: Secret,
+        /// Until when the token counts, and for which workspaces.
+        bounds: Bounds,
+    },
+    /// Lists an organization's tokens.
+    TokenList {
+        org: OrgName,
     },
     /// Takes a token away.
     TokenRevoke {

@@ -112,6 +112,11 @@ module _ {R : Type 0} (cells : R → Row) (db : Trees) (tree : ℕ) (xs : List (
       let all = answer_by_keys (point rest tree false) db params source p tests (λ r. r) show (λ x. refl) refl refl (λ x y. in_order (id_of x) (id_of y)) rows a in
       ap (λ l. slice_get l 0) (sym (map-id rows) ∙ all) ∙ first (map show (filter p xs)) ∙ slice_get-map show (filter p xs) 0 ∙ ap (option_map show) (slice_get-filter p xs)
 
+  -- the rows in the order of their rowids
+  pub all_are : ((l : List Row) → page (point rest tree false) params l ≡ l) → (rows : List Row) → IsAnswer (point rest tree false) db params rows → rows ≡ map show (filter p xs)
+  all_are whole rows a =
+      sym (map-id rows) ∙ answer_by_keys (point rest tree false) db params source p tests (λ r. r) show (λ x. refl) refl refl (λ x y. in_order (id_of x) (id_of y)) rows a ∙ whole (map show (filter p xs))
+
   -- the rows, that of the greatest rowid first
   back_are : (rows : List Row) → IsAnswer (point rest tree true) db params rows → rows ≡ page (point rest tree true) params (map show (reverse (filter p xs)))
   back_are rows a =

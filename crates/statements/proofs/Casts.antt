@@ -8,8 +8,8 @@ use Rattle.sqlite_rules.specs.Cast.{cast, cast_all}
 use Rattle.sqlite_typed.specs.Columns.{or_null}
 use Rattle.statements.specs.declared.rows.Holder.{Holder}
 use Rattle.statements.specs.declared.rows.Holder.TheVariants.{Nobody, Lock, Run as HeldByRun}
-use Rattle.statements.specs.Schema.{meta_table, org_table, token_table, ws_table, version_table, run_table, page_table, vpage_table}
-use Rattle.statements.specs.Rows.{OrgRow, TokenRow, WsRow, VersionRow, RunRow, PageRow, VpageRow, kind_cell, lock_id_cell, run_cell, meta_cells, org_cells, token_cells, ws_cells, version_cells, run_cells, page_cells, vpage_cells, number, action_code}
+use Rattle.statements.specs.Schema.{meta_table, org_table, token_table, ws_table, version_table, run_table, page_table, vpage_table, bound_table, edition_table}
+use Rattle.statements.specs.Rows.{OrgRow, TokenRow, WsRow, VersionRow, RunRow, PageRow, VpageRow, BoundRow, kind_cell, lock_id_cell, run_cell, meta_cells, org_cells, token_cells, ws_cells, version_cells, run_cells, page_cells, vpage_cells, bound_cells, edition_cells, number, action_code}
 use Rattle.basis.specs.declared.runs.RunAction.{RunAction}
 use Rattle.statements.proofs.Own.{cast_int, cast_null}
 
@@ -67,3 +67,13 @@ page_casts r = then_cell refl (then_cell (cast_int _) (then_cell refl (then_cell
 
 pub vpage_casts : (r : VpageRow) → cast_all vpage_table.columns (vpage_cells r) ≡ vpage_cells r
 vpage_casts r = then_cell refl (then_cell refl (then_cell (cast_int _) (then_cell (cast_int _) (then_cell refl (then_cell (cast_int _) refl)))))
+
+cast_until : (o : Option ℕ) → cast kind.Integer (or_null number o) ≡ or_null number o
+cast_until None = cast_null
+cast_until (Some n) = cast_int (pos n)
+
+pub bound_casts : (r : BoundRow) → cast_all bound_table.columns (bound_cells r) ≡ bound_cells r
+bound_casts r = then_cell refl (then_cell refl (then_cell (cast_until r.until) (then_cell refl refl)))
+
+pub edition_casts : (version : ℕ) → cast_all edition_table.columns (edition_cells version) ≡ edition_cells version
+edition_casts version = then_cell cast_null (then_cell (cast_int (pos version)) refl)

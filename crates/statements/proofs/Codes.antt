@@ -1,6 +1,6 @@
 -- The numbers by which SQL keeps a role, a status or an action: each fits, and means one.
 use Rattle.std.proofs.Common.{◌≡◌, ℕ, pos, SFits, w64, arith, refl, sym, ap, ◌∙◌, List, Option, Some, None, option_map, Bor}
-use Rattle.sqlite_value.specs.declared.value.Value.TheVariants.{Text}
+use Rattle.sqlite_value.specs.declared.value.Value.TheVariants.{Text, Int}
 use Rattle.sqlite.specs.Values.{or_null, bound_value}
 use Rattle.sqlite_typed.specs.Columns.{or_null as typed_null}
 use Rattle.basis.specs.declared.roles.Role.{Role}
@@ -9,7 +9,7 @@ use Rattle.basis.specs.declared.runs.RunStatus.{RunStatus}
 use Rattle.basis.specs.declared.runs.RunStatus.TheVariants.{Pending, Planning, Planned, Applying, Applied, PlannedAndFinished, Errored, Discarded, Canceled}
 use Rattle.basis.specs.declared.runs.RunAction.{RunAction}
 use Rattle.basis.specs.declared.runs.RunAction.TheVariants.{ReportPlanned, ReportUnchanged, Fail, Confirm, ReportApplied, Discard, Cancel}
-use Rattle.statements.specs.Rows.{role_code, status_code, action_code}
+use Rattle.statements.specs.Rows.{number, role_code, status_code, action_code}
 use Rattle.statements.specs.Decode.{role_at, status_at, action_at}
 
 pub role_fits : (r : Role) → SFits w64 (pos (role_code r))
@@ -45,6 +45,15 @@ optional_text (Some s) = refl
 pub bound_text : (o : Option (List ℕ)) → bound_value (typed_null Text o) ≡ typed_null Text o
 bound_text None = refl
 bound_text (Some t) = refl
+
+-- a number that may be absent
+pub optional_number : (o : Option ℕ) → or_null Int (option_map pos o) ≡ typed_null number o
+optional_number None = refl
+optional_number (Some n) = refl
+
+pub bound_number : (o : Option ℕ) → bound_value (typed_null number o) ≡ typed_null number o
+bound_number None = refl
+bound_number (Some n) = refl
 
 pub role_back : (r : Role) → role_at (role_code r) ≡ r
 role_back Read = refl

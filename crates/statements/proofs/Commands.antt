@@ -6,7 +6,7 @@ use Rattle.sqlite_value.specs.declared.keys.Collation.TheVariants.{Binary}
 use Rattle.sqlite_sql.specs.Term.{Term, lit, col, op2}
 use Rattle.sqlite_sql.specs.Query.{Query, inner, end}
 use Rattle.sqlite_sql.specs.declared.aggregate.AggregateOp.TheVariants.{CountRows}
-use Rattle.sqlite_sql.specs.declared.ops.CompareOp.TheVariants.{Eq, Lt, Gt}
+use Rattle.sqlite_sql.specs.declared.ops.CompareOp.TheVariants.{Eq, Lt, Gt, Ge}
 use Rattle.sqlite_sql.specs.declared.ops.BinaryOp.TheVariants.{Compare}
 use Rattle.sqlite_draft.specs.declared.query.Draft.{Draft}
 use Rattle.statements.proofs.Answered.{by_rowid}
@@ -21,6 +21,9 @@ is_below column parameter = op2 (Compare Lt Binary) (col 1 column) (col 0 parame
 
 abbrev pub is_above : ℕ → ℕ → Term
 is_above column parameter = op2 (Compare Gt Binary) (col 1 column) (col 0 parameter)
+
+abbrev pub is_from : ℕ → ℕ → Term
+is_from column parameter = op2 (Compare Ge Binary) (col 1 column) (col 0 parameter)
 
 abbrev pub is_number : ℕ → ℕ → Term
 is_number column n = op2 (Compare Eq Binary) (col 1 column) (lit (Int (pos n)))

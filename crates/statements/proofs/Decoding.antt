@@ -7,10 +7,10 @@ use Rattle.sqlite.specs.Effect.{Database}
 use Rattle.basis.specs.declared.runs.RunAction.{RunAction}
 use Rattle.statements.specs.declared.rows.Holder.{Holder}
 use Rattle.statements.specs.declared.rows.Holder.TheVariants.{Nobody, Lock, Run as HeldByRun}
-use Rattle.statements.specs.Rows.{Kept, TokenRow, WsRow, RunRow, stored, token_cells, ws_cells, run_cells, number, action_code, kind_cell, lock_id_cell, lock_text_cell, run_cell}
-use Rattle.statements.specs.Tables.{Layout, Tables, Holds, rows_of, tables_of, meta_layout, org_layout, token_layout, ws_layout, version_layout, run_layout, page_layout, vpage_layout}
-use Rattle.statements.specs.Decode.{kept_by, token_at, ws_at, run_at, holder_at, action_at}
-use Rattle.statements.proofs.Held.{IsHeld, metas_held, orgs_held, tokens_held, wss_held, versions_held, runs_held, pages_held, vpages_held}
+use Rattle.statements.specs.Rows.{Kept, TokenRow, WsRow, RunRow, BoundRow, stored, token_cells, ws_cells, run_cells, bound_cells, number, action_code, kind_cell, lock_id_cell, lock_text_cell, run_cell}
+use Rattle.statements.specs.Tables.{Layout, Tables, Holds, rows_of, tables_of, meta_layout, org_layout, token_layout, ws_layout, version_layout, run_layout, page_layout, vpage_layout, bound_layout, edition_layout}
+use Rattle.statements.specs.Decode.{kept_by, token_at, ws_at, run_at, bound_at, holder_at, action_at}
+use Rattle.statements.proofs.Held.{IsHeld, metas_held, orgs_held, tokens_held, wss_held, versions_held, runs_held, pages_held, vpages_held, bounds_held, editions_held}
 use Rattle.statements.proofs.Codes.{role_back, status_back, action_back}
 
 flag_back : (b : Bool) → not (int_eq (cond b (pos 1) (pos 0)) (pos 0)) ≡ b
@@ -61,6 +61,13 @@ run_back x = λ i. (
   },
 )
 
+until_back : (o : Option ℕ) → unless_null (λ v. unsigned_abs (int_of v)) (or_null number o) ≡ o
+until_back None = refl
+until_back (Some n) = refl
+
+bound_back : (x : Kept BoundRow) → kept_by bound_at (stored bound_cells x) ≡ x
+bound_back x = λ i. (x.0, record { org = x.1.org; name = x.1.name; until = until_back x.1.until i; prefix = x.1.prefix })
+
 -- the rows of a table are read back from its tree
 rows_back : {R : Type 0} (layout : Layout R) (db : Database) (xs : List (Kept R)) → ((x : Kept R) → kept_by layout.read (stored layout.cells x) ≡ x) → IsHeld layout db xs → rows_of layout db ≡ xs
 rows_back layout db xs back held = ap (map (kept_by layout.read)) held.rows ∙ map_back (stored layout.cells) (kept_by layout.read) back xs
@@ -76,4 +83,6 @@ tables-held db t h = λ i. record {
   runs = rows_back run_layout db t.runs run_back (runs_held db t h) i;
   pages = rows_back page_layout db t.pages (λ x. refl) (pages_held db t h) i;
   vpages = rows_back vpage_layout db t.vpages (λ x. refl) (vpages_held db t h) i;
+  bounds = rows_back bound_layout db t.bounds bound_back (bounds_held db t h) i;
+  editions = rows_back edition_layout db t.editions (λ x. refl) (editions_held db t h) i;
 }

@@ -17,9 +17,11 @@ use Rattle.sqlite_keyed.specs.Keyed.{IsKeyedBy, insert_by, next_key}
 use Rattle.sqlite_keyed.specs.Lists.{update_where, delete_where, without_key}
 use Rattle.sqlite_keyed.proofs.ListLemmas.{along_permutation, map-map, map_same}
 use Rattle.sqlite_keyed.proofs.SliceLemmas.{insert_next}
+use Rattle.sqlite_keyed.proofs.KeyedLemmas.{IsKeyedBy-insert_by}
 use Rattle.sqlite_typed.proofs.AnswerLemmas.{last_table, at_end}
 use Rattle.sqlite_typed.proofs.RowLemmas.{puts-map, deletes-map}
 use Rattle.statements.specs.Rows.{Kept, id_of, stored}
+use Rattle.statements.specs.Changes.{with_next, with_all}
 use Rattle.statements.proofs.KeyedLists.{updated, deleted}
 
 -- what a permutation of a mapped list is a map of
@@ -120,3 +122,36 @@ module _ {R : Type 0} (cells : R → Row) (db : Trees) (tree : ℕ) (xs : List (
         ap (λ l. put_all l (numbered Chosen l (cast_row table source ∷ []))) (ap db placed ∙ held)
         ∙ ap (λ r. put_all (map (stored cells) xs) (numbered Chosen (map (stored cells) xs) (r ∷ []))) casts
         ∙ puts-map id_of (stored cells) (λ x. refl) (new ∷ []) xs
+
+-- several new rows get the next rowids in turn
+module _ {R : Type 0} (cells : R → Row) where
+  next_is : (ys : List (Kept R)) (n : ℤ) → fold (λ _ r. Rattle.sqlite_rules.specs.Edit.id_in (rowid r) +ℤ pos 1) n (map (stored cells) ys) ≡ fold (λ _ y. id_of y +ℤ pos 1) n ys
+  next_is [] n = refl
+  next_is (y ∷ ys) n = next_is ys _
+
+  one_put : (new : R) (xs : List (Kept R)) → IsKeyedBy id_of xs → put_row (stored cells (next_key id_of xs, new)) (map (stored cells) xs) ≡ map (stored cells) (with_next new xs)
+  one_put new xs keyed =
+      puts-map id_of (stored cells) (λ x. refl) ((next_key id_of xs, new) ∷ []) xs ∙ ap (map (stored cells)) (insert_next id_of xs (next_key id_of xs, new) keyed refl)
+
+  next_keyed : (new : R) (xs : List (Kept R)) → IsKeyedBy id_of xs → IsKeyedBy id_of (with_next new xs)
+  next_keyed new xs keyed = subst (IsKeyedBy id_of) (insert_next id_of xs (next_key id_of xs, new) keyed refl) (IsKeyedBy-insert_by id_of xs (next_key id_of xs, new) keyed)
+
+  pub all_keyed : (news : List R) (xs : List (Kept R)) → IsKeyedBy id_of xs → IsKeyedBy id_of (with_all news xs)
+  all_keyed [] xs keyed = keyed
+  all_keyed (r ∷ rs) xs keyed = all_keyed rs (with_next r xs) (next_keyed r xs keyed)
+
+  all_put : (news : List R) (xs : List (Kept R)) → IsKeyedBy id_of xs
+      → put_all (map (stored cells) xs) (numbered Chosen (map (stored cells) xs) (map (λ r. Null ∷ cells r) news)) ≡ map (stored cells) (with_all news xs)
+  all_put [] xs keyed = refl
+  all_put (r ∷ rs) xs keyed =
+      let id : next_rowid (map (stored cells) xs) ≡ next_key id_of xs = next_is xs (pos 1) in
+      ap (λ n. put_all (put_row (Int n ∷ cells r) (map (stored cells) xs)) (numbered Chosen (put_row (Int n ∷ cells r) (map (stored cells) xs)) (map (λ r. Null ∷ cells r) rs))) id
+      ∙ ap (λ l. put_all l (numbered Chosen l (map (λ r. Null ∷ cells r) rs))) (one_put r xs keyed)
+      ∙ all_put rs (with_next r xs) (next_keyed r xs keyed)
+
+  pub inserted_all : (db : Trees) (tree : ℕ) (xs : List (Kept R)) → db tree ≡ map (stored cells) xs → IsKeyedBy id_of xs → (table : Table) → table.tree ≡ tree → (sources : List Row) (news : List R)
+      → map (λ s. cast_row table (drop 0 s)) sources ≡ map (λ r. Null ∷ cells r) news → edited db (edit_of db table [] Chosen 0 sources) ≡ map (stored cells) (with_all news xs)
+  inserted_all db tree xs held keyed table placed sources news casts =
+      ap (λ l. put_all l (numbered Chosen l (map (λ s. cast_row table (drop 0 s)) sources))) (ap db placed ∙ held)
+      ∙ ap (λ l. put_all (map (stored cells) xs) (numbered Chosen (map (stored cells) xs) l)) casts
+      ∙ all_put news xs keyed

@@ -8,19 +8,21 @@ use Rattle.std.specs.Ordering.{is_eq}
 use Rattle.sqlite_trees.specs.Tree.{IsAscending}
 use Rattle.sqlite_schema.specs.declared.schema.Schema.{Schema}
 use Rattle.sqlite_schema.specs.declared.schema.Table.{Table}
+use Rattle.sqlite_schema.specs.declared.schema.Reference.{Reference}
 use Rattle.sqlite_schema.specs.declared.schema.Index.{Index}
 use Rattle.sqlite_schema.specs.Names.{same_name, table_named}
 use Rattle.sqlite_catalog.specs.Change.{next_tree, past_views, KeepsRows}
 use Rattle.sqlite.specs.Effect.{Database}
 use Rattle.sqlite_keyed.proofs.ListLemmas.{all-append, all_weaker, all-slice_get}
-use Rattle.statements.specs.Place.{at_of, tree_of, RefersPassively, StandsAt, IsOwn}
-use Rattle.statements.specs.Making.{AreMade, KeepsTables}
+use Rattle.statements.specs.Place.{at_of, tree_of, StandsAt, IsOwn}
+use Rattle.statements.specs.Tables.{StoredTable, HasRows, HoldsAll, tables_in}
+use Rattle.statements.specs.Making.{bare_table, KeepsTables}
 
--- the table stands behind those that were there, with the next tree and no row; the references of what stands behind it are passive
+-- the table stands behind those that were there, with the next tree and no row; what stands behind it has a later tree
 pub record Grown (table : Table) (old new : Database) : Type 0 where
   pub more : List Table
   pub tables : new.schema.tables ≡ old.schema.tables ++ (record table { tree = next_tree old.schema } ∷ more)
-  pub loose : AllByRecursion (λ (t : Table). RefersPassively t) more
+  pub above : AllByRecursion (λ (t : Table). next_tree old.schema < t.tree) more
   pub empty : new.trees (next_tree old.schema) ≡ []
   pub others : KeepsRows old.schema.tables old.trees new.trees
   pub free : table_named old.schema table.name ≡ None
@@ -81,7 +83,7 @@ eq_itself : (n : ℕ) → (n == n) ≡ true
 eq_itself n = grind (arith, nat_tests)
 
 -- the next tree is above each table's
-trees_below : (s : Schema) → AllByRecursion (λ (t : Table). t.tree < next_tree s) s.tables
+pub trees_below : (s : Schema) → AllByRecursion (λ (t : Table). t.tree < next_tree s) s.tables
 trees_below s =
     let top = fold (λ n (t : Table). max n (t.tree + 1)) (past_views s) s.tables in
     let rest = top_grows (λ (i : Index). i.tree) top s.indexes in
@@ -98,22 +100,24 @@ module _ (s : Schema) (name : List ℕ) (table : Table) (at tree : ℕ) (h : Sta
   pub tree_is : tree_of s name ≡ tree
   tree_is = ap (λ n. unwrap_or (option_map (λ (t : Table). t.tree) (slice_get s.tables n)) 0) at_is ∙ ap (λ o. unwrap_or (option_map (λ (t : Table). t.tree) o) 0) h.found
 
--- a table that stands somewhere, and whose references are passive there, is one of ours
-own_at : (s : Schema) (table : Table) (at tree : ℕ) → StandsAt s table.name table at tree → AllByRecursion (λ (t : Table). t.tree ≡ tree → RefersPassively t) s.tables → IsOwn s table
-own_at s table at tree h bare = record {
+-- a table that stands somewhere, and as which its tree refers, is one of ours
+own_at : (s : Schema) (table : Table) (at tree : ℕ) → StandsAt s table.name table at tree → AllByRecursion (λ (t : Table). t.tree ≡ tree → t.references ≡ table.references) s.tables → IsOwn s table
+own_at s table at tree h refers = record {
   place = subst (λ n. StandsAt s table.name table n (tree_of s table.name)) (sym (at_is s table.name table at tree h)) (subst (λ n. StandsAt s table.name table at n) (sym (tree_is s table.name table at tree h)) h);
-  bare = subst (λ n. AllByRecursion (λ (t : Table). t.tree ≡ n → RefersPassively t) s.tables) (sym (tree_is s table.name table at tree h)) bare;
+  refers = subst (λ n. AllByRecursion (λ (t : Table). t.tree ≡ n → t.references ≡ table.references) s.tables) (sym (tree_is s table.name table at tree h)) refers;
 }
 
-module _ (table : Table) (loose : RefersPassively table) (old new : Database) (g : Grown table old new) where
+module _ (table : Table) (old new : Database) (g : Grown table old new) where
   abbrev added : Table
   added = record table { tree = next_tree old.schema }
 
-  behind_loose : (tree : ℕ) → AllByRecursion (λ (t : Table). t.tree ≡ tree → RefersPassively t) (added ∷ g.more)
-  behind_loose tree = (λ _. loose, all_weaker (λ (t : Table). RefersPassively t) (λ (t : Table). t.tree ≡ tree → RefersPassively t) (λ t h _. h) g.more g.loose)
+  whole_refers : (tree : ℕ) (refs : List Reference) → AllByRecursion (λ (t : Table). t.tree ≡ tree → t.references ≡ refs) old.schema.tables → AllByRecursion (λ (t : Table). t.tree ≡ tree → t.references ≡ refs) (added ∷ g.more)
+      → AllByRecursion (λ (t : Table). t.tree ≡ tree → t.references ≡ refs) new.schema.tables
+  whole_refers tree refs h k = subst (AllByRecursion (λ (t : Table). t.tree ≡ tree → t.references ≡ refs)) (sym g.tables) (all-append _ old.schema.tables (added ∷ g.more) h k)
 
-  whole_bare : (tree : ℕ) → AllByRecursion (λ (t : Table). t.tree ≡ tree → RefersPassively t) old.schema.tables → AllByRecursion (λ (t : Table). t.tree ≡ tree → RefersPassively t) new.schema.tables
-  whole_bare tree h = subst (AllByRecursion (λ (t : Table). t.tree ≡ tree → RefersPassively t)) (sym g.tables) (all-append _ old.schema.tables (added ∷ g.more) h (behind_loose tree))
+  -- what stands behind has none of the trees up to the next
+  later : (tree : ℕ) (refs : List Reference) → tree ≤ next_tree old.schema → AllByRecursion (λ (t : Table). t.tree ≡ tree → t.references ≡ refs) g.more
+  later tree refs low = all_weaker (λ (t : Table). next_tree old.schema < t.tree) (λ (t : Table). t.tree ≡ tree → t.references ≡ refs) (λ t high same. absurd (omega arith)) g.more g.above
 
   module _ (other : Table) (own : IsOwn old.schema other) where
     abbrev at : ℕ
@@ -131,14 +135,16 @@ module _ (table : Table) (loose : RefersPassively table) (old new : Database) (g
       small = own.place.small;
     }
 
-    own_kept : IsOwn new.schema other
-    own_kept = own_at new.schema other at tree stays_at (whole_bare tree own.bare)
-
     tree_kept : tree_of new.schema other.name ≡ tree
     tree_kept = tree_is new.schema other.name other at tree stays_at
 
     tree_below : tree < next_tree old.schema
     tree_below = all-slice_get (λ (t : Table). t.tree < next_tree old.schema) old.schema.tables at _ own.place.found (trees_below old.schema)
+
+    pub own_kept : IsOwn new.schema other
+    own_kept =
+        let low = tree_below in
+        own_at new.schema other at tree stays_at (whole_refers tree other.references own.refers ((λ same. absurd (omega arith)), later tree other.references (omega arith)))
 
     rows_kept : new.trees tree ≡ old.trees tree
     rows_kept = all-slice_get (λ (t : Table). new.trees t.tree ≡ old.trees t.tree) old.schema.tables at _ own.place.found g.others
@@ -159,32 +165,33 @@ module _ (table : Table) (loose : RefersPassively table) (old new : Database) (g
 
   own_added : IsOwn new.schema table
   own_added = own_at new.schema table _ _ added_at
-      (whole_bare (next_tree old.schema) (all_weaker (λ (t : Table). t.tree < next_tree old.schema) (λ (t : Table). t.tree ≡ next_tree old.schema → RefersPassively t) (λ t low same. absurd (omega arith)) old.schema.tables (trees_below old.schema)))
+      (whole_refers (next_tree old.schema) table.references
+      (all_weaker (λ (t : Table). t.tree < next_tree old.schema) (λ (t : Table). t.tree ≡ next_tree old.schema → t.references ≡ table.references) (λ t low same. absurd (omega arith)) old.schema.tables (trees_below old.schema))
+      ((λ _. refl), later (next_tree old.schema) table.references (omega arith)))
 
   tree_added : tree_of new.schema table.name ≡ next_tree old.schema
   tree_added = tree_is new.schema table.name table _ _ added_at
 
-  own_all : (ts : List Table) → AllByRecursion (IsOwn old.schema) ts → AllByRecursion (IsOwn new.schema) (ts ++ table ∷ [])
+  own_all : (xs : List StoredTable) → AllByRecursion (IsOwn old.schema) (tables_in xs) → AllByRecursion (IsOwn new.schema) (tables_in (xs ++ bare_table table ∷ []))
   own_all [] h = (own_added, tt)
-  own_all (t ∷ ts) h = (own_kept t h.0, own_all ts h.1)
+  own_all (x ∷ xs) h = (own_kept x.table h.0, own_all xs h.1)
 
-  empty_all : (ts : List Table) → AllByRecursion (IsOwn old.schema) ts → AllByRecursion (λ (t : Table). old.trees (tree_of old.schema t.name) ≡ []) ts
-      → AllByRecursion (λ (t : Table). new.trees (tree_of new.schema t.name) ≡ []) (ts ++ table ∷ [])
-  empty_all [] h k = (ap new.trees tree_added ∙ g.empty, tt)
-  empty_all (t ∷ ts) h k = (ap new.trees (tree_kept t h.0) ∙ rows_kept t h.0 ∙ k.0, empty_all ts h.1 k.1)
+  rows_all : (xs : List StoredTable) → AllByRecursion (IsOwn old.schema) (tables_in xs) → AllByRecursion (HasRows old) xs → AllByRecursion (HasRows new) (xs ++ bare_table table ∷ [])
+  rows_all [] h k = (record { rows = ap new.trees tree_added ∙ g.empty; keyed = tt }, tt)
+  rows_all (x ∷ xs) h k = (record { rows = ap new.trees (tree_kept x.table h.0) ∙ rows_kept x.table h.0 ∙ k.0.rows; keyed = k.0.keyed }, rows_all xs h.1 k.1)
 
-  above_one : (t : Table) → IsOwn old.schema t → (ts : List Table) → AllByRecursion (IsOwn old.schema) ts → AllByRecursion (λ (b : Table). tree_of old.schema t.name < tree_of old.schema b.name) ts
-      → AllByRecursion (λ (b : Table). tree_of new.schema t.name < tree_of new.schema b.name) (ts ++ table ∷ [])
+  above_one : (t : Table) → IsOwn old.schema t → (xs : List StoredTable) → AllByRecursion (IsOwn old.schema) (tables_in xs) → AllByRecursion (λ (b : Table). tree_of old.schema t.name < tree_of old.schema b.name) (tables_in xs)
+      → AllByRecursion (λ (b : Table). tree_of new.schema t.name < tree_of new.schema b.name) (tables_in (xs ++ bare_table table ∷ []))
   above_one t own [] h k = let a = tree_kept t own in let b = tree_added in let c = tree_below t own in (omega arith, tt)
-  above_one t own (u ∷ ts) h k = let a = tree_kept t own in let b = tree_kept u h.0 in let c = k.0 in (omega arith, above_one t own ts h.1 k.1)
+  above_one t own (u ∷ xs) h k = let a = tree_kept t own in let b = tree_kept u.table h.0 in let c = k.0 in (omega arith, above_one t own xs h.1 k.1)
 
-  order_all : (ts : List Table) → AllByRecursion (IsOwn old.schema) ts → IsAscending (λ (a b : Table). tree_of old.schema a.name < tree_of old.schema b.name) ts
-      → IsAscending (λ (a b : Table). tree_of new.schema a.name < tree_of new.schema b.name) (ts ++ table ∷ [])
+  order_all : (xs : List StoredTable) → AllByRecursion (IsOwn old.schema) (tables_in xs) → IsAscending (λ (a b : Table). tree_of old.schema a.name < tree_of old.schema b.name) (tables_in xs)
+      → IsAscending (λ (a b : Table). tree_of new.schema a.name < tree_of new.schema b.name) (tables_in (xs ++ bare_table table ∷ []))
   order_all [] h k = (tt, tt)
-  order_all (t ∷ ts) h k = (above_one t h.0 ts h.1 k.0, order_all ts h.1 k.1)
+  order_all (x ∷ xs) h k = (above_one x.table h.0 xs h.1 k.0, order_all xs h.1 k.1)
 
-  pub made_grown : (ts : List Table) → AreMade ts old → AreMade (ts ++ table ∷ []) new
-  made_grown ts m = record { own = record { own = own_all ts m.own.own; order = order_all ts m.own.own m.own.order }; empty = empty_all ts m.own.own m.empty }
+  pub made_grown : (xs : List StoredTable) → HoldsAll old xs → HoldsAll new (xs ++ bare_table table ∷ [])
+  made_grown xs m = record { own = record { own = own_all xs m.own.own; order = order_all xs m.own.own m.own.order }; rows = rows_all xs m.own.own m.rows }
 
   -- the tree is none of a table that was there
   pub added_apart : AllByRecursion (λ (t : Table). t.tree ≢ tree_of new.schema table.name) old.schema.tables
@@ -198,3 +205,9 @@ tree_stays old new k t own =
     let named : table_named new.schema t.name ≡ Some at = ap (position_from (λ (u : Table). same_name u.name t.name) 0) k.tables ∙ position_front _ 0 at old.schema.tables k.more own.place.named in
     let found : slice_get new.schema.tables at ≡ Some (record t { tree = tree_of old.schema t.name }) = ap (λ l. slice_get l at) k.tables ∙ get_front old.schema.tables k.more at _ own.place.found in
     ap (λ o. unwrap_or (option_map (λ (u : Table). u.tree) (slice_get new.schema.tables (unwrap_or o 0))) 0) named ∙ ap (λ o. unwrap_or (option_map (λ (u : Table). u.tree) o) 0) found
+
+pub at_stays : (old new : Database) → KeepsTables old new → (t : Table) → IsOwn old.schema t → at_of new.schema t.name ≡ at_of old.schema t.name
+at_stays old new k t own =
+    let at = at_of old.schema t.name in
+    let named : table_named new.schema t.name ≡ Some at = ap (position_from (λ (u : Table). same_name u.name t.name) 0) k.tables ∙ position_front _ 0 at old.schema.tables k.more own.place.named in
+    ap (λ o. unwrap_or o 0) named

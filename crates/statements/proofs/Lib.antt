@@ -1,12 +1,18 @@
 pub mod Answered
 pub mod Begin
+pub mod BoundReads
+pub mod BoundTexts
+pub mod BoundWrites
 pub mod Calm
 pub mod Casts
+pub mod Childless
 pub mod Codes
 pub mod Commands
 pub mod Conditions
 pub mod Decoding
+pub mod EditionTexts
 pub mod Edits
+pub mod Follows
 pub mod Found
 pub mod Frames
 pub mod Grown
@@ -23,6 +29,7 @@ pub mod OrgTexts
 pub mod OrgWrites
 pub mod Own
 pub mod PointReads
+pub mod Prefixes
 pub mod ReadBack
 pub mod Reading
 pub mod RunReads

@@ -9,7 +9,6 @@ use Rattle.sqlite_ast.specs.declared.CreateIndex.{CreateIndex as IndexText}
 use Rattle.sqlite_ast.specs.declared.Statement.{Statement}
 use Rattle.sqlite_ast.specs.declared.Statement.TheVariants as written
 use Rattle.sqlite_syntax.specs.declared.statement.Parsed.{Parsed}
-use Rattle.sqlite_schema.specs.declared.schema.Reference.{Reference}
 use Rattle.sqlite_schema.specs.declared.schema.Schema.{Schema}
 use Rattle.sqlite_schema.specs.declared.schema.Table.{Table}
 use Rattle.sqlite_schema.specs.declared.schema.Index.{Index}
@@ -27,17 +26,17 @@ use Rattle.sqlite_resolve.specs.Compile.{first, command, create_table, create_in
 use Rattle.sqlite_catalog.specs.Change.{next_tree, is_used, KeepsRows}
 use Rattle.sqlite_catalog.specs.Calls.{CreatesTable}
 use Rattle.sqlite_catalog.specs.Listing.{IsTableRow}
-use Rattle.sqlite_tied.specs.Compute.{everything}
 use Rattle.sqlite.specs.Clock as clock
 use Rattle.sqlite.specs.Effect.{Database, IsDatabase, is_query}
 use Rattle.sqlite.specs.Does.{Tally, AtPlace, Defines, MakesIndex, MakesSequence, lacks_sequence, sequence_text}
 use Rattle.sqlite.specs.Listing.{understood, reads_listing, if_select, is_select, listing_schema}
 use Rattle.sqlite.specs.State.{State, mode_of, Executes, ExecutesIn, Runs, Writes, shows_rows, is_pragma, text_of}
 use Rattle.sqlite_keyed.proofs.ListLemmas.{all-slice_get, ascending_weaker}
-use Rattle.statements.specs.Making.{AreMade, KeepsTables, GrowsBy, KeepsMade}
-use Rattle.statements.specs.Place.{IsPassive, RefersPassively, IsOwn, at_of, tree_of}
+use Rattle.statements.specs.Making.{KeepsTables, GrowsBy, KeepsMade}
+use Rattle.statements.specs.Tables.{StoredTable, HasRows, HoldsAll, tables_in}
+use Rattle.statements.specs.Place.{IsOwn, at_of, tree_of}
 use Rattle.statements.proofs.Meaning.{as_read}
-use Rattle.statements.proofs.Grown.{Grown, made_grown, added_apart}
+use Rattle.statements.proofs.Grown.{Grown, made_grown, own_kept, added_apart, trees_below}
 
 -- ---- what such a text compiles to, if it does
 
@@ -135,14 +134,6 @@ went (inr on) = on
 same_value : {B E : Type 0} {a b : B} → ◌≡◌ {A = Result B E} (Ok a) (Ok b) → a ≡ b
 same_value e = cc
 
-abbrev refs_of : Checked Table → List Reference
-refs_of (Ok t) = t.references
-refs_of (Err e) = []
-
-sequence_refs : refs_of (table_defined_by sequence_text) ≡ []
-unfolding everything
-sequence_refs = refl
-
 -- every table of a database has a tree below 65,536
 low_trees : (rows : List Row) (tables : List Table) → AllZip IsTableRow rows tables → AllByRecursion (λ (t : Table). t.tree < 65536) tables
 low_trees [] [] h = tt
@@ -184,6 +175,10 @@ module _ (table : Table) (text : List ℕ) (defines : table_defined_by text ≡ 
   free_is : table_named old.schema table.name ≡ None
   free_is = ap (λ (t : Table). table_named old.schema t.name) (sym same_table) ∙ unused_name old.schema one.table.name one.free
 
+  -- the next table after this one has a later tree
+  added_below : next_tree old.schema < next_tree made.schema
+  added_below = (front (λ (t : Table). t.tree < next_tree made.schema) old.schema.tables (added ∷ []) (subst (AllByRecursion (λ (t : Table). t.tree < next_tree made.schema)) tables_are (trees_below made.schema))).1.0
+
   pub grown : MakesSequence made (Ok new) → Grown table old new
   grown more = elim (cases_Bool (lacks_sequence made.schema)) [
     | inl lacks ↦
@@ -195,7 +190,7 @@ module _ (table : Table) (text : List ℕ) (defines : table_defined_by text ≡ 
         record {
           more = last ∷ [];
           tables = is;
-          loose = (subst (AllByRecursion IsPassive) (sym (ap refs_of (sym two.defined) ∙ sequence_refs)) tt, tt);
+          above = (added_below, tt);
           empty = kept.1.0 ∙ one.empty;
           others = kept_then old.schema.tables old.trees made.trees new.trees one.others kept.0;
           free = free_is;
@@ -207,7 +202,7 @@ module _ (table : Table) (text : List ℕ) (defines : table_defined_by text ≡ 
         record {
           more = [];
           tables = is;
-          loose = tt;
+          above = tt;
           empty = ap (λ (d : Database). d.trees (next_tree old.schema)) same ∙ one.empty;
           others = subst (λ (d : Database). KeepsRows old.schema.tables old.trees d.trees) (sym same) one.others;
           free = free_is;
@@ -215,7 +210,7 @@ module _ (table : Table) (text : List ℕ) (defines : table_defined_by text ≡ 
         }
   ]
 
-module _ (table : Table) (loose : RefersPassively table) (def : TableText) (text : List ℕ) (p : Parsed) (reads : first text ≡ Ok (as_read p (written.CreateTable (fresh_table def))))
+module _ (table : Table) (def : TableText) (text : List ℕ) (p : Parsed) (reads : first text ≡ Ok (as_read p (written.CreateTable (fresh_table def))))
     (whole : slice_range text p.start p.end ≡ text) (defines : table_defined_by text ≡ Ok table) where
   quiet : (s : Schema) (base : ℕ) → returning s base (written.CreateTable (fresh_table def)) ≡ Ok None
   unfolding returning
@@ -236,9 +231,10 @@ module _ (table : Table) (loose : RefersPassively table) (def : TableText) (text
 
   pub makes_behind : (old new : State) (params : Row) (count : ℕ) → Executes text params old new (Ok count) → GrowsBy table old.now new.now
   makes_behind old new params count h = let g = makes_table old new params count h in record {
-    made = made_grown table loose old.now new.now g;
+    made = made_grown table old.now new.now g;
+    owns = λ other own. own_kept table old.now new.now g other own;
     kept = record { more = record table { tree = next_tree old.now.schema } ∷ g.more; tables = g.tables; rows = g.others };
-    apart = added_apart table loose old.now new.now g;
+    apart = added_apart table old.now new.now g;
   }
 
 -- ---- CREATE INDEX
@@ -285,7 +281,7 @@ no_rows_index k is = ap (λ m. is_query m || is_pragma m) is.1
 same_tables : (t : Table) (s r : Schema) → r.tables ≡ s.tables → IsOwn s t → IsOwn r t
 same_tables t s r is own = subst (λ l. IsOwn (record r { tables = l }) t) (sym is) (record {
   place = record { named = own.place.named; found = own.place.found; treed = own.place.treed; low = own.place.low; small = own.place.small };
-  bare = own.bare;
+  refers = own.refers;
 })
 
 same_tree : (t : Table) (s r : Schema) → r.tables ≡ s.tables → tree_of r t.name ≡ tree_of s t.name
@@ -296,20 +292,22 @@ module _ (old new : Database) (is : new.schema.tables ≡ old.schema.tables) (ro
   own_same [] h = tt
   own_same (t ∷ ts) h = (same_tables t old.schema new.schema is h.0, own_same ts h.1)
 
-  empty_same : (ts : List Table) → AllByRecursion (IsOwn old.schema) ts → AllByRecursion (λ (t : Table). old.trees (tree_of old.schema t.name) ≡ []) ts
-      → AllByRecursion (λ (t : Table). new.trees (tree_of new.schema t.name) ≡ []) ts
-  empty_same [] h k = tt
-  empty_same (t ∷ ts) h k = (
-    ap new.trees (same_tree t old.schema new.schema is) ∙ all-slice_get (λ (u : Table). new.trees u.tree ≡ old.trees u.tree) old.schema.tables (at_of old.schema t.name) _ h.0.place.found rows ∙ k.0,
-    empty_same ts h.1 k.1,
+  rows_same : (xs : List StoredTable) → AllByRecursion (IsOwn old.schema) (tables_in xs) → AllByRecursion (HasRows old) xs → AllByRecursion (HasRows new) xs
+  rows_same [] h k = tt
+  rows_same (x ∷ xs) h k = (
+    record {
+      rows = ap new.trees (same_tree x.table old.schema new.schema is) ∙ all-slice_get (λ (u : Table). new.trees u.tree ≡ old.trees u.tree) old.schema.tables (at_of old.schema x.table.name) _ h.0.place.found rows ∙ k.0.rows;
+      keyed = k.0.keyed;
+    },
+    rows_same xs h.1 k.1,
   )
 
   order_same : (ts : List Table) → IsAscending (λ (a b : Table). tree_of old.schema a.name < tree_of old.schema b.name) ts → IsAscending (λ (a b : Table). tree_of new.schema a.name < tree_of new.schema b.name) ts
   order_same ts h = ascending_weaker _ (λ (a b : Table). tree_of new.schema a.name < tree_of new.schema b.name)
       (λ a b low. let x = same_tree a old.schema new.schema is in let y = same_tree b old.schema new.schema is in omega arith) ts h
 
-  made_same : (ts : List Table) → AreMade ts old → AreMade ts new
-  made_same ts m = record { own = record { own = own_same ts m.own.own; order = order_same ts m.own.order }; empty = empty_same ts m.own.own m.empty }
+  made_same : (xs : List StoredTable) → HoldsAll old xs → HoldsAll new xs
+  made_same xs m = record { own = record { own = own_same (tables_in xs) m.own.own; order = order_same (tables_in xs) m.own.order }; rows = rows_same xs m.own.own m.rows }
 
 indexes_at : (old new : State) (text : List ℕ) (place : Option Table) (tally : Tally)
     → AtPlace (λ table. Defines (mode_of old) (MakesIndex text old.now table)) place (Ok (tally, new.now))
@@ -320,7 +318,7 @@ indexes_at old new text (Some table) tally e =
     let now : new.now ≡ done.0 = ap (λ (q : Tally × Database). q.1) (same_value done.2) in
     let is : new.now.schema.tables ≡ old.now.schema.tables = ap (λ (d : Database). d.schema.tables) now ∙ ap (λ (s : Schema). s.tables) done.1.is in
     let rows : KeepsRows old.now.schema.tables old.now.trees new.now.trees = subst (λ (d : Database). KeepsRows old.now.schema.tables old.now.trees d.trees) (sym now) done.1.rows in
-    record { made = made_same old.now new.now is rows; kept = record { more = []; tables = is ∙ sym (append-nil old.now.schema.tables); rows = rows } }
+    record { made = made_same old.now new.now is rows; owns = λ other own. same_tables other old.now.schema new.now.schema is own; kept = record { more = []; tables = is ∙ sym (append-nil old.now.schema.tables); rows = rows } }
 
 module _ (def : IndexText) (text : List ℕ) (p : Parsed) (reads : first text ≡ Ok (as_read p (written.CreateIndex (fresh_index def)))) (whole : slice_range text p.start p.end ≡ text) where
   quiet_index : (s : Schema) (base : ℕ) → returning s base (written.CreateIndex (fresh_index def)) ≡ Ok None

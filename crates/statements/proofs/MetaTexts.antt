@@ -1,17 +1,14 @@
 -- What the texts on the table meta mean and do, in each schema that has it.
-use Rattle.std.proofs.Common.{◌≡◌, ℕ, pos, false, List, [], ◌∷◌, codes, find, Option, Some, None, Ok, int_eq, refl, ◌∙◌}
-use Rattle.sqlite_value.specs.declared.value.Value.TheVariants.{Null, Int}
+use Rattle.std.proofs.Common.{◌≡◌, ℕ, pos, true, false, List, [], ◌∷◌, map, codes, find, Option, Some, None, Ok, int_eq, refl, ◌∙◌, subst}
 use Rattle.sqlite_value.specs.declared.keys.Collation.TheVariants.{Binary}
 use Rattle.sqlite_value.specs.Order.{Row}
 use Rattle.sqlite_sql.specs.Program.{overlay}
-use Rattle.sqlite_sql.specs.Term.{Term, lit, col, eval_all}
+use Rattle.sqlite_sql.specs.Term.{col, eval_all}
 use Rattle.sqlite_sql.specs.Query.{Query}
 use Rattle.sqlite_schema.specs.declared.schema.Schema.{Schema}
 use Rattle.sqlite_schema.specs.declared.schema.Table.{Table}
 use Rattle.sqlite.specs.Effect.{Database}
-use Rattle.sqlite_schema.specs.declared.command.Source.TheVariants.{Values}
-use Rattle.sqlite_schema.specs.declared.command.Command.TheVariants.{Select, Insert}
-use Rattle.sqlite_ast.specs.declared.Statement.{Statement}
+use Rattle.sqlite_schema.specs.declared.command.Command.TheVariants.{Select, Delete}
 use Rattle.sqlite_ast.specs.declared.Statement.TheVariants as written
 use Rattle.sqlite_ast.specs.declared.Select as ast
 use Rattle.sqlite_ast.specs.declared.Core.{Core}
@@ -22,40 +19,38 @@ use Rattle.sqlite_resolve.specs.Select.{named}
 use Rattle.sqlite_resolve.specs.Program.{program}
 use Rattle.sqlite_tied.specs.Compute.{everything}
 use Rattle.sqlite.specs.State.{State, Executes}
-use Rattle.sqlite_keyed.proofs.KeyedLemmas.{IsKeyedBy-insert_by}
+use Rattle.sqlite_keyed.specs.Lists.{delete_where}
+use Rattle.sqlite_keyed.proofs.ListLemmas.{ascending_from_map}
 use Rattle.sqlite_typed.proofs.TestLemmas.{at_ints, last_term}
 use Rattle.sqlite_sql.specs.declared.ops.CompareOp.TheVariants as compare
 use Rattle.statements.specs.Place.{StandsAt, tree_of}
 use Rattle.statements.specs.Schema.{meta_table}
 use Rattle.statements.specs.Rows.{Kept, id_of, stored, meta_cells}
-use Rattle.statements.specs.Tables.{Tables, Holds}
-use Rattle.statements.specs.Making.{LeavesOthers, HasMeta, like_meta, version_set, told_version, version_in}
+use Rattle.statements.specs.Tables.{Tables, Holds, HoldsFirst}
+use Rattle.statements.specs.Making.{HasMeta, like_meta, version_cleared, told_version, version_in}
 use Rattle.statements.specs.Calls.{IsQuery, FirstRow, Pins, IsNumber}
 use Rattle.statements.proofs.SyntaxTrees as st
 use Rattle.statements.proofs.Meaning.{Means, means, some_parsed, as_read}
 use Rattle.statements.proofs.Reading.{read_is}
 use Rattle.statements.proofs.Writes.{plain_program}
 use Rattle.statements.proofs.Answered.{answered, point, first_is}
-use Rattle.statements.proofs.Commands.{is_number, point_rest, point_draft, no_page}
-use Rattle.statements.proofs.Own.{put_own, insert_others, stored_tree}
+use Rattle.statements.proofs.Commands.{is_number, delete_query, point_rest, point_draft, no_page}
+use Rattle.statements.proofs.Own.{Leads, delete_own, stored_tree}
 use Rattle.statements.proofs.Casts.{meta_casts}
 use Rattle.statements.proofs.Frames.{Turns, metas_written}
 use Rattle.statements.proofs.Held.{metas_held}
 use Rattle.statements.proofs.PointReads.{pinned}
 use Rattle.statements.proofs.ReadBack.{number_read}
 
-abbrev pub set_version_text : List ℕ
-set_version_text = codes "INSERT INTO meta (one, version) VALUES (1, 1)"
+abbrev pub clear_version_text : List ℕ
+clear_version_text = codes "DELETE FROM meta"
 
-abbrev set_version : Statement
-set_version = st.insert (codes "meta") (codes "one" ∷ codes "version" ∷ []) (st.one ∷ st.one ∷ [])
-
-set_version_reads : first set_version_text ≡ Ok (as_read (some_parsed (first set_version_text)) set_version)
+clear_version_reads : first clear_version_text ≡ Ok (as_read (some_parsed (first clear_version_text)) st.clear_version)
 unfolding everything
-set_version_reads = refl
+clear_version_reads = refl
 
-abbrev set_version_terms : List Term
-set_version_terms = lit (Int (pos 1)) ∷ lit Null ∷ lit (Int (pos 1)) ∷ []
+abbrev clear_version_query : ℕ → Query
+clear_version_query tree = delete_query tree []
 
 abbrev pub version_text : List ℕ
 version_text = codes "SELECT version FROM meta WHERE one = 1 ORDER BY rowid"
@@ -77,13 +72,13 @@ abbrev version_rest : Query
 version_rest = point_rest (is_number 0 1 ∷ []) (col 1 2 ∷ []) no_page
 
 module _ (s : Schema) (at tree : ℕ) (h : StandsAt s (codes "meta") meta_table at tree) where
-  set_version_is : (base : ℕ) → command s [] base set_version ≡ Ok (Insert at (Values set_version_terms 3))
+  clear_version_is : (base : ℕ) → command s [] base st.clear_version ≡ Ok (Delete at (plain_program (clear_version_query tree)))
   unfolding everything
-  set_version_is base = rw (h.named, h.found) refl
+  clear_version_is base = rw (h.named, h.found, h.treed, h.low) refl
 
-  set_version_means : Means s (Insert at (Values set_version_terms 3)) set_version_text
+  clear_version_means : Means s (Delete at (plain_program (clear_version_query tree))) clear_version_text
   unfolding everything
-  set_version_means = means s set_version _ (rw (h.named, h.found) refl) (λ _. refl) set_version_is set_version_text (some_parsed (first set_version_text)) set_version_reads
+  clear_version_means = means s st.clear_version _ refl (λ _. refl) clear_version_is clear_version_text (some_parsed (first clear_version_text)) clear_version_reads
 
 -- the query of the version, over each table of meta's columns
 module _ (s : Schema) (at tree : ℕ) (table : Table) (h : StandsAt s (codes "meta") (like_meta table) at tree) where
@@ -112,21 +107,25 @@ version_told old new table metas has row first =
     (got.2 ∙ first_is meta_cells (overlay old.now.trees []) tree metas (stored_tree old.now.trees tree has.place.low ∙ has.rows) has.keyed version_rest []
     (λ x. int_eq (id_of x) (pos 1)) (λ x. last_term (at_ints _ compare.Eq (id_of x) (pos 1))) (λ l. refl) got.0 got.1)
 
--- what tables hold is a case of it
+-- what tables hold is a case of it, those of schema 2 and those of schema 1
 pub has_meta : (db : Database) (t : Tables) → Holds db t → HasMeta db meta_table t.metas
 has_meta db t h = let held = metas_held db t h in record { place = held.own.place; rows = held.rows; keyed = held.keyed }
 
+pub first_has_meta : (db : Database) (t : Tables) → HoldsFirst db t → HasMeta db meta_table t.metas
+first_has_meta db t h = record { place = h.own.own.0.place; rows = h.rows.0.rows; keyed = ascending_from_map _ (stored meta_cells) t.metas h.rows.0.keyed }
+
+all_gone : {X : Type 0} (xs : List X) → delete_where (λ x. true) xs ≡ []
+all_gone [] = refl
+all_gone (x ∷ xs) = all_gone xs
+
 module _ (old new : State) (t : Tables) (h : Holds old.now t) where
-  pub set_version_does : (count : ℕ) → Executes set_version_text [] old new (Ok count) → Turns old.now new.now (version_set t)
-  set_version_does count ran =
+  pub clear_version_does : (count : ℕ) → Executes clear_version_text [] old new (Ok count) → Turns old.now new.now (version_cleared t)
+  clear_version_does count ran =
       let held = metas_held old.now t h in
-      let left = put_own meta_cells meta_table meta_casts old new held.own t.metas held.rows held.keyed set_version_text [] count ran
-      set_version_terms 3 (set_version_means old.now.schema _ _ held.own.place) refl refl (pos 1, 1) refl in
-      metas_written old.now new.now left.1 t h _ left.0 (IsKeyedBy-insert_by id_of t.metas (pos 1, 1) held.keyed)
+      let left = delete_own meta_cells meta_table meta_casts old new held.own held.steady t.metas held.rows held.keyed clear_version_text [] count ran
+      (clear_version_query (tree_of old.now.schema meta_table.name)) (clear_version_means old.now.schema _ _ held.own.place) refl refl refl (λ rows. refl) (λ x. true) (λ x. refl) (λ x. refl) in
+      let leads = subst (λ (l : List (Kept ℕ)). Leads old.now.schema (tree_of old.now.schema meta_table.name) (map (stored meta_cells) l) old.now.trees new.now.trees) (all_gone t.metas) left.0 in
+      metas_written old.now new.now left.1 t h [] leads tt
 
   pub version_shows : (row : Option Row) → FirstRow version_text [] old new row → Pins IsNumber row (version_in t)
   version_shows = version_told old new meta_table t.metas (has_meta old.now t h)
-
-pub set_version_leaves : (old new : State) (count : ℕ) → Executes set_version_text [] old new (Ok count) → LeavesOthers meta_table old.now new.now
-set_version_leaves old new count ran own =
-    insert_others meta_table old new own set_version_text [] count ran set_version_terms 3 (set_version_means old.now.schema _ _ own.place) refl refl

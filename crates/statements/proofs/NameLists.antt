@@ -1,11 +1,11 @@
 -- Rows in the order of their names, as the entries of a finite map.
-use Rattle.std.proofs.Common.{◌≡◌, ℕ, Bool, true, false, cond, ◌&&◌, List, [], ◌∷◌, map, filter, take, refl, sym, ap, ◌∙◌, subst, Ordering, Less, Equal, Greater, is_eq, is_lt, is_gt, true≢false}
+use Rattle.std.proofs.Common.{◌≡◌, ℕ, Bool, true, false, cond, ◌&&◌, List, [], ◌∷◌, map, filter, take, refl, sym, ap, ◌∙◌, subst, Ordering, Equal, is_eq}
 use Rattle.std.specs.Str.{bytes_eq}
 use Rattle.std.specs.List.{list_all, AllByRecursion, AllZip}
 use Rattle.std.specs.Ordering.{ordering_then}
 use Rattle.std.specs.Cmp.Lexicographic.{nat_list_cmp_total}
 use Rattle.std.specs.FinMap.{from_entries, entries}
-use Rattle.std.proofs.lemmas.Cmp.{alike_right}
+use Rattle.std.proofs.lemmas.Cmp.{on_total}
 use Rattle.std.proofs.lemmas.List.{take-map}
 use Rattle.std.proofs.lemmas.Map.Text.{is_eq-slice_cmp}
 use Rattle.sqlite_value.specs.declared.value.Value.TheVariants.{Text}
@@ -23,10 +23,10 @@ use Rattle.sqlite_keyed.specs.Rules.{AreApart}
 use Rattle.sqlite_keyed.proofs.ListLemmas.{map-map, filter-map, filter_all, all_of, ascending_weaker, ascending-filter}
 use Rattle.sqlite_typed.proofs.TestLemmas.{same_bytes, turn_eq}
 use Rattle.statements.specs.Place.{tree_of, IsOwn}
-use Rattle.statements.specs.Rows.{Kept, id_of, OrgRow, WsRow, stored}
-use Rattle.statements.specs.Changes.{is_org, is_ws_of, is_ws}
+use Rattle.statements.specs.Rows.{Kept, id_of, OrgRow, TokenRow, WsRow, stored}
+use Rattle.statements.specs.Changes.{is_org, is_token, is_ws_of, is_ws}
 use Rattle.statements.specs.Calls.{FirstRows}
-use Rattle.statements.specs.Listings.{text_cmp, is_behind}
+use Rattle.statements.specs.Listings.{text_cmp, is_token_of}
 use Rattle.statements.proofs.Meaning.{Means}
 use Rattle.statements.proofs.Writes.{plain_program}
 use Rattle.statements.proofs.Sorting.{filter_both, filter-sort_by, entries_sorted_by}
@@ -35,49 +35,52 @@ use Rattle.statements.proofs.Listed.{listing, first_rows_are, all_rows_are, read
 pub by_text : (a b : List ℕ) → ordering_then (value_cmp (Text a) (Text b)) Equal ≡ text_cmp a b
 by_text a b = then-Equal _ ∙ value_cmp-Text a b
 
--- what is not below a name that comes after another one comes after it too
-still_after : (a x y : List ℕ) → is_behind a x ≡ true → is_gt (text_cmp x y) ≡ false → is_behind a y ≡ true
-still_after a x y h up = go (text_cmp a x) (text_cmp x y) refl refl h up
-  where
-    go : (o p : Ordering) → text_cmp a x ≡ o → text_cmp x y ≡ p → is_lt o ≡ true → is_gt p ≡ false → is_behind a y ≡ true
-    go Less Less e f s t = ap is_lt (nat_list_cmp_total.trans a x y e f)
-    go Less Equal e f s t = ap is_lt (sym (alike_right nat_list_cmp_total x y a f) ∙ e)
-    go Less Greater e f s t = absurd (true≢false t)
-    go Equal p e f s t = absurd (true≢false (sym s))
-    go Greater p e f s t = absurd (true≢false (sym s))
-
 names_differ : (a b : List ℕ) → bytes_eq b a ≡ false → is_eq (text_cmp a b) ≡ false
 names_differ a b h = turn_eq text_cmp nat_list_cmp_total a b ∙ is_eq-slice_cmp b a ∙ h
 
 pub orgs_apart : (xs : List (Kept OrgRow)) → AreApart (λ a b. is_org a.1.name b) xs → IsAscending (λ x y. is_eq (text_cmp x.1.name y.1.name) ≡ false) xs
 orgs_apart xs apart = ascending_weaker (λ a b. is_org a.1.name b ≡ false) (λ x y. is_eq (text_cmp x.1.name y.1.name) ≡ false) (λ x y h. names_differ x.1.name y.1.name h) xs apart
 
-same_text : (a b : List ℕ) → bytes_eq a b ≡ true → a ≡ b
+pub same_text : (a b : List ℕ) → bytes_eq a b ≡ true → a ≡ b
 same_text a b h = same_bytes a b (is_eq-slice_cmp a b ∙ h)
 
-own_names : (org : List ℕ) (x y : Kept WsRow) → is_ws_of org x ≡ true → is_ws_of org y ≡ true → is_ws x.1.org x.1.name y ≡ false → is_eq (text_cmp x.1.name y.1.name) ≡ false
-own_names org x y mine yours apart =
-    let one : bytes_eq y.1.org x.1.org ≡ true = ap (bytes_eq y.1.org) (same_text x.1.org org mine) ∙ yours in
-    names_differ x.1.name y.1.name (sym (ap (λ b. b && bytes_eq y.1.name x.1.name) one) ∙ apart)
+-- rows of one owner that are apart by owner and name have different names
+module _ {R : Type 0} (owner name : R → List ℕ) where
+  abbrev is_of : List ℕ → Kept R → Bool
+  is_of org x = bytes_eq (owner x.1) org
 
--- the workspaces of one organization have different names
+  abbrev is_named : List ℕ → List ℕ → Kept R → Bool
+  is_named org n x = bytes_eq (owner x.1) org && bytes_eq (name x.1) n
+
+  differ : (org : List ℕ) (x y : Kept R) → is_of org x ≡ true → is_of org y ≡ true → is_named (owner x.1) (name x.1) y ≡ false → is_eq (text_cmp (name x.1) (name y.1)) ≡ false
+  differ org x y mine yours apart =
+      let one : bytes_eq (owner y.1) (owner x.1) ≡ true = ap (bytes_eq (owner y.1)) (same_text (owner x.1) org mine) ∙ yours in
+      names_differ (name x.1) (name y.1) (sym (ap (λ b. b && bytes_eq (name y.1) (name x.1)) one) ∙ apart)
+
+  pub apart_of : (org : List ℕ) (xs : List (Kept R)) → AreApart (λ a b. is_named (owner a.1) (name a.1) b) xs → IsAscending (λ x y. is_eq (text_cmp (name x.1) (name y.1)) ≡ false) (filter (is_of org) xs)
+  apart_of org [] apart = tt
+  apart_of org (x ∷ xs) apart = go (is_of org x) refl (apart_of org xs apart.1)
+    where
+      below : is_of org x ≡ true → (ys : List (Kept R)) → AllByRecursion (λ y. is_named (owner x.1) (name x.1) y ≡ false) ys → AllByRecursion (λ y. is_eq (text_cmp (name x.1) (name y.1)) ≡ false) (filter (is_of org) ys)
+      below mine [] all = tt
+      below mine (y ∷ ys) all = pick (is_of org y) refl (below mine ys all.1)
+        where
+          pick : (b : Bool) → is_of org y ≡ b → AllByRecursion (λ z. is_eq (text_cmp (name x.1) (name z.1)) ≡ false) (filter (is_of org) ys)
+              → AllByRecursion (λ z. is_eq (text_cmp (name x.1) (name z.1)) ≡ false) (cond b (y ∷ filter (is_of org) ys) (filter (is_of org) ys))
+          pick true e more = (differ org x y mine e all.0, more)
+          pick false e more = more
+
+      go : (b : Bool) → is_of org x ≡ b → IsAscending (λ x y. is_eq (text_cmp (name x.1) (name y.1)) ≡ false) (filter (is_of org) xs)
+          → IsAscending (λ x y. is_eq (text_cmp (name x.1) (name y.1)) ≡ false) (cond b (x ∷ filter (is_of org) xs) (filter (is_of org) xs))
+      go true e more = (below e xs apart.0, more)
+      go false e more = more
+
+-- the workspaces of one organization have different names, and so have its tokens
 pub wss_apart : (org : List ℕ) (xs : List (Kept WsRow)) → AreApart (λ a b. is_ws a.1.org a.1.name b) xs → IsAscending (λ x y. is_eq (text_cmp x.1.name y.1.name) ≡ false) (filter (is_ws_of org) xs)
-wss_apart org [] apart = tt
-wss_apart org (x ∷ xs) apart = go (is_ws_of org x) refl (wss_apart org xs apart.1)
-  where
-    below : is_ws_of org x ≡ true → (ys : List (Kept WsRow)) → AllByRecursion (λ y. is_ws x.1.org x.1.name y ≡ false) ys → AllByRecursion (λ y. is_eq (text_cmp x.1.name y.1.name) ≡ false) (filter (is_ws_of org) ys)
-    below mine [] all = tt
-    below mine (y ∷ ys) all = pick (is_ws_of org y) refl (below mine ys all.1)
-      where
-        pick : (b : Bool) → is_ws_of org y ≡ b → AllByRecursion (λ z. is_eq (text_cmp x.1.name z.1.name) ≡ false) (filter (is_ws_of org) ys)
-            → AllByRecursion (λ z. is_eq (text_cmp x.1.name z.1.name) ≡ false) (cond b (y ∷ filter (is_ws_of org) ys) (filter (is_ws_of org) ys))
-        pick true e more = (own_names org x y mine e all.0, more)
-        pick false e more = more
+wss_apart = apart_of (λ (r : WsRow). r.org) (λ r. r.name)
 
-    go : (b : Bool) → is_ws_of org x ≡ b → IsAscending (λ x y. is_eq (text_cmp x.1.name y.1.name) ≡ false) (filter (is_ws_of org) xs)
-        → IsAscending (λ x y. is_eq (text_cmp x.1.name y.1.name) ≡ false) (cond b (x ∷ filter (is_ws_of org) xs) (filter (is_ws_of org) xs))
-    go true e more = (below e xs apart.0, more)
-    go false e more = more
+pub tokens_apart : (org : List ℕ) (xs : List (Kept TokenRow)) → AreApart (λ a b. is_token a.1.org a.1.name b) xs → IsAscending (λ x y. is_eq (text_cmp x.1.name y.1.name) ≡ false) (filter (is_token_of org) xs)
+tokens_apart = apart_of (λ (r : TokenRow). r.org) (λ r. r.name)
 
 module _ {R : Type 0} (cells : R → Row) (table : Table) (old new : State) (own : IsOwn old.now.schema table)
     (xs : List (Kept R)) (held : old.now.trees (tree_of old.now.schema table.name) ≡ map (stored cells) xs) (keyed : IsKeyedBy id_of xs) (text : List ℕ) (params : Row)
@@ -97,31 +100,34 @@ module _ {R : Type 0} (cells : R → Row) (table : Table) (old new : State) (own
 
   module _ (is : (x y : Kept R) → output_cmp (listing rest place column) (output (listing rest place column) (params ∷ stored cells x ∷ [])) (output (listing rest place column) (params ∷ stored cells y ∷ [])) ≡ by_name x y)
       (means : Means old.now.schema (Select (plain_program (listing rest place column)) names) text) (whole : (l : List Row) → page (listing rest place column) params l ≡ l) where
-    pub names_after : (mine : Kept R → Bool) (after : List ℕ) → ((x : Kept R) → list_all (holds (params ∷ stored cells x ∷ [])) rest.filter ≡ (mine x && is_behind after (name_of x)))
+    pub names_within : (mine : Kept R → Bool) (later : List ℕ → Bool) → ((x : Kept R) → list_all (holds (params ∷ stored cells x ∷ [])) rest.filter ≡ (mine x && later (name_of x)))
         → IsAscending (λ x y. is_eq (by_name x y) ≡ false) (filter mine xs) → (most : ℕ) (rows : List Row) (ys : List X) → FirstRows most text params old new rows → AllZip Is rows ys
-        → ys ≡ take most (map shape (filter (λ e. is_behind after e.0) (entries (from_entries {R = text_cmp} (map entry (filter mine xs))))))
-    names_after mine after tests apart most rows ys first read =
-        let later = λ (x : Kept R). is_behind after (name_of x) in
-        let p = λ (x : Kept R). mine x && later x in
-        let both = filter_both mine later xs in
-        let untied = subst (IsAscending (λ x y. is_eq (by_name x y) ≡ false)) (sym both) (ascending-filter (λ x y. is_eq (by_name x y) ≡ false) later (filter mine xs) apart) in
+        → ys ≡ take most (map shape (filter (λ e. later e.0) (entries (from_entries {R = text_cmp} (map entry (filter mine xs))))))
+    names_within mine later tests apart most rows ys first read =
+        let passes = λ (x : Kept R). later (name_of x) in
+        let p = λ (x : Kept R). mine x && passes x in
+        let both = filter_both mine passes xs in
+        let untied = subst (IsAscending (λ x y. is_eq (by_name x y) ≡ false)) (sym both) (ascending-filter (λ x y. is_eq (by_name x y) ≡ false) passes (filter mine xs) apart) in
         let listed = first_rows_are cells table old new own xs held keyed text params rest column names p tests by_name is untied means whole Is (λ x. shape (entry x)) back most rows first in
-        let sorted : sort_by by_name (filter p xs) ≡ filter later (sort_by by_name (filter mine xs)) =
-        ap (sort_by by_name) both ∙ sym (filter-sort_by by_name later (λ x y. still_after after (name_of x) (name_of y)) (filter mine xs)) in
+        let sorted : sort_by by_name (filter p xs) ≡ filter passes (sort_by by_name (filter mine xs)) =
+        ap (sort_by by_name) both ∙ sym (filter-sort_by by_name (on_total name_of nat_list_cmp_total) passes (filter mine xs)) in
         let all = sort_by by_name (filter mine xs) in
-        let taken : rows ≡ map show (take most (filter later all)) = listed ∙ ap (λ l. take most (map show l)) sorted ∙ take-map show most (filter later all) in
-        let shaped : map (λ x. shape (entry x)) (filter later all) ≡ map shape (filter (λ e. is_behind after e.0) (entries (from_entries {R = text_cmp} (map entry (filter mine xs))))) =
-        sym (map-map shape entry (filter later all)) ∙ ap (map shape) (sym (filter-map (λ e. is_behind after e.0) entry all)
-        ∙ ap (filter (λ e. is_behind after e.0)) (sym (entries_sorted_by text_cmp nat_list_cmp_total name_of value_of (filter mine xs) apart))) in
-        read_as Is show (λ x. shape (entry x)) back (take most (filter later all)) rows ys taken read ∙ sym (take-map (λ x. shape (entry x)) most (filter later all)) ∙ ap (take most) shaped
+        let taken : rows ≡ map show (take most (filter passes all)) = listed ∙ ap (λ l. take most (map show l)) sorted ∙ take-map show most (filter passes all) in
+        let shaped : map (λ x. shape (entry x)) (filter passes all) ≡ map shape (filter (λ e. later e.0) (entries (from_entries {R = text_cmp} (map entry (filter mine xs))))) =
+        sym (map-map shape entry (filter passes all)) ∙ ap (map shape) (sym (filter-map (λ e. later e.0) entry all)
+        ∙ ap (filter (λ e. later e.0)) (sym (entries_sorted_by text_cmp nat_list_cmp_total name_of value_of (filter mine xs) apart))) in
+        read_as Is show (λ x. shape (entry x)) back (take most (filter passes all)) rows ys taken read ∙ sym (take-map (λ x. shape (entry x)) most (filter passes all)) ∙ ap (take most) shaped
+
+    pub own_names : (mine : Kept R → Bool) → ((x : Kept R) → list_all (holds (params ∷ stored cells x ∷ [])) rest.filter ≡ mine x) → IsAscending (λ x y. is_eq (by_name x y) ≡ false) (filter mine xs)
+        → (rows : List Row) (ys : List X) → Shown text params old new rows → AllZip Is rows ys → ys ≡ map shape (entries (from_entries {R = text_cmp} (map entry (filter mine xs))))
+    own_names mine tests apart rows ys shown read =
+        let sorted = all_rows_are cells table old new own xs held keyed text params rest column names mine tests by_name is apart means whole Is (λ x. shape (entry x)) back rows shown in
+        read_as Is show (λ x. shape (entry x)) back (sort_by by_name (filter mine xs)) rows ys sorted read
+        ∙ sym (map-map shape entry (sort_by by_name (filter mine xs))) ∙ ap (map shape) (sym (entries_sorted_by text_cmp nat_list_cmp_total name_of value_of (filter mine xs) apart))
 
     pub all_names : ((x : Kept R) → list_all (holds (params ∷ stored cells x ∷ [])) rest.filter ≡ true) → IsAscending (λ x y. is_eq (by_name x y) ≡ false) xs
         → (rows : List Row) (ys : List X) → Shown text params old new rows → AllZip Is rows ys → ys ≡ map shape (entries (from_entries {R = text_cmp} (map entry xs)))
     all_names tests apart rows ys shown read =
         let any = λ (x : Kept R). true in
         let each : filter any xs ≡ xs = filter_all any xs (all_of (λ x. any x ≡ true) (λ x. refl) xs) in
-        let untied = subst (IsAscending (λ x y. is_eq (by_name x y) ≡ false)) (sym each) apart in
-        let listed = all_rows_are cells table old new own xs held keyed text params rest column names any tests by_name is untied means whole Is (λ x. shape (entry x)) back rows shown in
-        let sorted : rows ≡ map show (sort_by by_name xs) = listed ∙ ap (λ l. map show (sort_by by_name l)) each in
-        read_as Is show (λ x. shape (entry x)) back (sort_by by_name xs) rows ys sorted read
-        ∙ sym (map-map shape entry (sort_by by_name xs)) ∙ ap (map shape) (sym (entries_sorted_by text_cmp nat_list_cmp_total name_of value_of xs apart))
+        own_names any tests (subst (IsAscending (λ x y. is_eq (by_name x y) ≡ false)) (sym each) apart) rows ys shown read ∙ ap (λ l. map shape (entries (from_entries {R = text_cmp} (map entry l)))) each

@@ -22,12 +22,12 @@ module _ (old new : State) (count : ℕ) (t : Tables) (h : Holds old.now t) wher
   pub add_org_does : (name : List ℕ) (cap : ℕ) → Executes add_org_text (Text name ∷ number cap ∷ []) old new (Ok count) → Turns old.now new.now (org_row_added name cap t)
   add_org_does name cap ran =
       let row : OrgRow = record { name = name; cap = cap } in
-      let left = insert_own org_cells org_table org_casts old new held.own t.orgs held.rows held.keyed add_org_text (Text name ∷ number cap ∷ []) count ran
+      let left = insert_own org_cells org_table org_casts old new held.own held.steady t.orgs held.rows held.keyed add_org_text (Text name ∷ number cap ∷ []) count ran
       add_org_terms 3 (add_org_means old.now.schema _ _ held.own.place) refl refl row refl in
       orgs_written old.now new.now left.1 t h _ left.0 (keyed_next t.orgs row held.keyed)
 
   pub set_cap_does : (name : List ℕ) (cap : ℕ) → Executes set_cap_text (Text name ∷ number cap ∷ []) old new (Ok count) → Turns old.now new.now (org_capped name cap t)
   set_cap_does name cap ran =
-      let left = update_own org_cells org_table org_casts old new held.own t.orgs held.rows held.keyed set_cap_text (Text name ∷ number cap ∷ []) count ran
+      let left = update_own org_cells org_table org_casts old new held.own held.steady t.orgs held.rows held.keyed set_cap_text (Text name ∷ number cap ∷ []) count ran
       (set_cap_query (tree_of old.now.schema org_table.name)) (set_cap_means old.now.schema _ _ held.own.place) refl refl refl (λ rows. refl) (is_org name) (λ x. one_text x.1.name name) (λ (x : Kept OrgRow). (x.0, record x.1 { cap = cap })) (λ x. refl) (λ x. refl) in
       orgs_written old.now new.now left.1 t h _ left.0 (IsKeyedBy-update_where id_of (is_org name) (λ (x : Kept OrgRow). (x.0, record x.1 { cap = cap })) (λ x. refl) t.orgs held.keyed)

@@ -13,10 +13,12 @@ use Rattle.statements.specs.declared.rows.NamedWorkspace.{NamedWorkspace}
 use Rattle.statements.specs.declared.rows.Organization.{Organization}
 use Rattle.statements.specs.declared.rows.VersionHead.{VersionHead}
 use Rattle.statements.specs.declared.rows.Run.{Run}
+use Rattle.statements.specs.declared.rows.NamedRole.{NamedRole}
+use Rattle.statements.specs.declared.rows.Bound.{Bound}
 use Rattle.statements.specs.Rows.{Version, number, flag, role_code, status_code, action_code, kind_cell, lock_id_cell, lock_text_cell, run_cell}
 use Rattle.statements.specs.Finds.{head_of}
 use Rattle.statements.specs.Listings.{version_head_of}
-use Rattle.statements.specs.Calls.{IsFlagCell, IsTextOrNull, AreHolderCells, IsWorkspace, IsNamedRow, IsOrganization, IsHeadRow, IsVersionHead, IsActionOrNull, IsRunRow}
+use Rattle.statements.specs.Calls.{IsFlagCell, IsTextOrNull, AreHolderCells, IsWorkspace, IsNamedRow, IsOrganization, IsHeadRow, IsVersionHead, IsActionOrNull, IsRunRow, IsNamedRole, IsNumberOrNull, IsBound}
 use Rattle.statements.proofs.Codes.{same_role, same_status, same_action}
 
 same_code : (m n : ℕ) → number m ≡ number n → m ≡ n
@@ -118,3 +120,15 @@ run_read r q told = λ i. record {
   status = status_read r.status q.status told.status i;
   action = action_read r.action q.action told.action i;
 }
+
+pub named_role_read : (name : List ℕ) (role : Role) (r : NamedRole) → IsNamedRole (cell.Text name ∷ number (role_code role) ∷ []) r → r ≡ record { name = name; role = role }
+named_role_read name role r told = λ i. record { name = text_read name r.name told.name i; role = role_read role r.role told.role i }
+
+optional_number_read : (o p : Option ℕ) → IsNumberOrNull (or_null number o) p → p ≡ o
+optional_number_read None None told = refl
+optional_number_read None (Some n) told = absurd (cc)
+optional_number_read (Some n) None told = absurd (cc)
+optional_number_read (Some n) (Some m) told = ap Some (number_read n m told)
+
+pub bound_read : (until : Option ℕ) (prefix : List ℕ) (b : Bound) → IsBound (or_null number until ∷ cell.Text prefix ∷ []) b → b ≡ record { until = until; prefix = prefix }
+bound_read until prefix b told = λ i. record { until = optional_number_read until b.until told.until i; prefix = text_read prefix b.prefix told.prefix i }

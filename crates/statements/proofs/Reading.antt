@@ -36,7 +36,7 @@ module _ (s : Schema) (q : Select) (core : Core) (order : List Sort) (page : Ter
   unfolding level with
   level_is again = rw (plain, whole_is again) refl
 
-  query_is : query s q ≡ Ok (shown, [])
+  pub query_is : query s q ≡ Ok (shown, [])
   unfolding query query_to
   query_is = level_is (query_to 15)
 

@@ -8,7 +8,7 @@ use Rattle.sqlite_ast.specs.declared.Statement.TheVariants as written
 use Rattle.sqlite_resolve.specs.Compile.{first, table_defined_by}
 use Rattle.sqlite.specs.State.{State, Executes}
 use Rattle.sqlite_tied.specs.Compute.{everything}
-use Rattle.statements.specs.Schema.{meta_table, org_table, token_table, ws_table, version_table, run_table, page_table, vpage_table}
+use Rattle.statements.specs.Schema.{meta_table, org_table, token_table, ws_table, version_table, run_table, page_table, vpage_table, bound_table, edition_table}
 use Rattle.statements.specs.Making.{GrowsBy, KeepsMade}
 use Rattle.statements.proofs.Meaning.{some_parsed, as_read}
 use Rattle.statements.proofs.Makes.{fresh_table, fresh_index, makes_behind, makes_index}
@@ -46,6 +46,12 @@ make_page_text = codes "CREATE TABLE page (pkey BLOB NOT NULL, twin INTEGER NOT 
 abbrev pub make_vpage_text : List ℕ
 make_vpage_text = codes "CREATE TABLE vpage (org TEXT NOT NULL, ws TEXT NOT NULL, number INTEGER NOT NULL, place INTEGER NOT NULL, pkey BLOB NOT NULL, twin INTEGER NOT NULL, PRIMARY KEY (org, ws, number, place), FOREIGN KEY (pkey, twin) REFERENCES page (pkey, twin) ON DELETE RESTRICT) STRICT"
 
+abbrev pub make_bound_text : List ℕ
+make_bound_text = codes "CREATE TABLE bound (org TEXT NOT NULL, name TEXT NOT NULL, until INTEGER, prefix TEXT NOT NULL, PRIMARY KEY (org, name), FOREIGN KEY (org, name) REFERENCES token (org, name) ON DELETE CASCADE) STRICT"
+
+abbrev pub make_edition_text : List ℕ
+make_edition_text = codes "CREATE TABLE edition (one INTEGER PRIMARY KEY CHECK (one = 1), version INTEGER NOT NULL CHECK (version >= 2)) STRICT"
+
 abbrev pub make_run_index_text : List ℕ
 make_run_index_text = codes "CREATE INDEX run_by_status ON run (org, ws, status, number)"
 
@@ -65,7 +71,7 @@ make_meta_reads = refl
 
 pub make_meta_does : (old new : State) (params : Row) (count : ℕ) → Executes make_meta_text params old new (Ok count) → GrowsBy meta_table old.now new.now
 unfolding everything
-make_meta_does = makes_behind meta_table tt (table_text (some_parsed (first make_meta_text)).statement) make_meta_text (some_parsed (first make_meta_text)) make_meta_reads refl make_meta_defines
+make_meta_does = makes_behind meta_table (table_text (some_parsed (first make_meta_text)).statement) make_meta_text (some_parsed (first make_meta_text)) make_meta_reads refl make_meta_defines
 
 make_org_defines : table_defined_by make_org_text ≡ Ok org_table
 unfolding everything
@@ -77,7 +83,7 @@ make_org_reads = refl
 
 pub make_org_does : (old new : State) (params : Row) (count : ℕ) → Executes make_org_text params old new (Ok count) → GrowsBy org_table old.now new.now
 unfolding everything
-make_org_does = makes_behind org_table tt (table_text (some_parsed (first make_org_text)).statement) make_org_text (some_parsed (first make_org_text)) make_org_reads refl make_org_defines
+make_org_does = makes_behind org_table (table_text (some_parsed (first make_org_text)).statement) make_org_text (some_parsed (first make_org_text)) make_org_reads refl make_org_defines
 
 make_token_defines : table_defined_by make_token_text ≡ Ok token_table
 unfolding everything
@@ -89,7 +95,7 @@ make_token_reads = refl
 
 pub make_token_does : (old new : State) (params : Row) (count : ℕ) → Executes make_token_text params old new (Ok count) → GrowsBy token_table old.now new.now
 unfolding everything
-make_token_does = makes_behind token_table tt (table_text (some_parsed (first make_token_text)).statement) make_token_text (some_parsed (first make_token_text)) make_token_reads refl make_token_defines
+make_token_does = makes_behind token_table (table_text (some_parsed (first make_token_text)).statement) make_token_text (some_parsed (first make_token_text)) make_token_reads refl make_token_defines
 
 make_ws_defines : table_defined_by make_ws_text ≡ Ok ws_table
 unfolding everything
@@ -101,7 +107,7 @@ make_ws_reads = refl
 
 pub make_ws_does : (old new : State) (params : Row) (count : ℕ) → Executes make_ws_text params old new (Ok count) → GrowsBy ws_table old.now new.now
 unfolding everything
-make_ws_does = makes_behind ws_table tt (table_text (some_parsed (first make_ws_text)).statement) make_ws_text (some_parsed (first make_ws_text)) make_ws_reads refl make_ws_defines
+make_ws_does = makes_behind ws_table (table_text (some_parsed (first make_ws_text)).statement) make_ws_text (some_parsed (first make_ws_text)) make_ws_reads refl make_ws_defines
 
 make_version_defines : table_defined_by make_version_text ≡ Ok version_table
 unfolding everything
@@ -113,7 +119,7 @@ make_version_reads = refl
 
 pub make_version_does : (old new : State) (params : Row) (count : ℕ) → Executes make_version_text params old new (Ok count) → GrowsBy version_table old.now new.now
 unfolding everything
-make_version_does = makes_behind version_table tt (table_text (some_parsed (first make_version_text)).statement) make_version_text (some_parsed (first make_version_text)) make_version_reads refl make_version_defines
+make_version_does = makes_behind version_table (table_text (some_parsed (first make_version_text)).statement) make_version_text (some_parsed (first make_version_text)) make_version_reads refl make_version_defines
 
 make_run_defines : table_defined_by make_run_text ≡ Ok run_table
 unfolding everything
@@ -125,7 +131,7 @@ make_run_reads = refl
 
 pub make_run_does : (old new : State) (params : Row) (count : ℕ) → Executes make_run_text params old new (Ok count) → GrowsBy run_table old.now new.now
 unfolding everything
-make_run_does = makes_behind run_table tt (table_text (some_parsed (first make_run_text)).statement) make_run_text (some_parsed (first make_run_text)) make_run_reads refl make_run_defines
+make_run_does = makes_behind run_table (table_text (some_parsed (first make_run_text)).statement) make_run_text (some_parsed (first make_run_text)) make_run_reads refl make_run_defines
 
 make_page_defines : table_defined_by make_page_text ≡ Ok page_table
 unfolding everything
@@ -137,7 +143,7 @@ make_page_reads = refl
 
 pub make_page_does : (old new : State) (params : Row) (count : ℕ) → Executes make_page_text params old new (Ok count) → GrowsBy page_table old.now new.now
 unfolding everything
-make_page_does = makes_behind page_table tt (table_text (some_parsed (first make_page_text)).statement) make_page_text (some_parsed (first make_page_text)) make_page_reads refl make_page_defines
+make_page_does = makes_behind page_table (table_text (some_parsed (first make_page_text)).statement) make_page_text (some_parsed (first make_page_text)) make_page_reads refl make_page_defines
 
 make_vpage_defines : table_defined_by make_vpage_text ≡ Ok vpage_table
 unfolding everything
@@ -149,7 +155,31 @@ make_vpage_reads = refl
 
 pub make_vpage_does : (old new : State) (params : Row) (count : ℕ) → Executes make_vpage_text params old new (Ok count) → GrowsBy vpage_table old.now new.now
 unfolding everything
-make_vpage_does = makes_behind vpage_table (refl, tt) (table_text (some_parsed (first make_vpage_text)).statement) make_vpage_text (some_parsed (first make_vpage_text)) make_vpage_reads refl make_vpage_defines
+make_vpage_does = makes_behind vpage_table (table_text (some_parsed (first make_vpage_text)).statement) make_vpage_text (some_parsed (first make_vpage_text)) make_vpage_reads refl make_vpage_defines
+
+make_bound_defines : table_defined_by make_bound_text ≡ Ok bound_table
+unfolding everything
+make_bound_defines = refl
+
+make_bound_reads : first make_bound_text ≡ Ok (as_read (some_parsed (first make_bound_text)) (written.CreateTable (fresh_table (table_text (some_parsed (first make_bound_text)).statement))))
+unfolding everything
+make_bound_reads = refl
+
+pub make_bound_does : (old new : State) (params : Row) (count : ℕ) → Executes make_bound_text params old new (Ok count) → GrowsBy bound_table old.now new.now
+unfolding everything
+make_bound_does = makes_behind bound_table (table_text (some_parsed (first make_bound_text)).statement) make_bound_text (some_parsed (first make_bound_text)) make_bound_reads refl make_bound_defines
+
+make_edition_defines : table_defined_by make_edition_text ≡ Ok edition_table
+unfolding everything
+make_edition_defines = refl
+
+make_edition_reads : first make_edition_text ≡ Ok (as_read (some_parsed (first make_edition_text)) (written.CreateTable (fresh_table (table_text (some_parsed (first make_edition_text)).statement))))
+unfolding everything
+make_edition_reads = refl
+
+pub make_edition_does : (old new : State) (params : Row) (count : ℕ) → Executes make_edition_text params old new (Ok count) → GrowsBy edition_table old.now new.now
+unfolding everything
+make_edition_does = makes_behind edition_table (table_text (some_parsed (first make_edition_text)).statement) make_edition_text (some_parsed (first make_edition_text)) make_edition_reads refl make_edition_defines
 
 make_run_index_reads : first make_run_index_text ≡ Ok (as_read (some_parsed (first make_run_index_text)) (written.CreateIndex (fresh_index (index_text (some_parsed (first make_run_index_text)).statement))))
 unfolding everything

@@ -3,10 +3,13 @@ use Rattle.std.proofs.Common.{◌≡◌, ◌<◌, ◌+◌, ℕ, Bool, true, fals
 use Rattle.std.specs.List.{AllByRecursion, AllZip}
 use Rattle.std.proofs.lemmas.List.{take_more}
 use Rattle.std.specs.Cmp.{IsTotalOrder}
+use Rattle.std.specs.Ordering.{ordering_reverse}
+use Rattle.std.proofs.lemmas.Cmp.{upto}
 use Rattle.std.specs.FinMap.{from_entries, entries, empty, entries-insert, len-entries, len-empty}
 use Rattle.std.specs.FinMap.Entries.{put, by_order}
 use Rattle.sqlite_trees.specs.Tree.{IsAscending}
 use Rattle.sqlite_keyed.specs.Lists.{sort_by, insert_sorted}
+use Rattle.sqlite_keyed.proofs.ListLemmas.{all_weaker, all-filter}
 
 module _ {A : Type 0} (p q : A → Bool) where
   -- two tests, one after the other
@@ -30,34 +33,72 @@ module _ {A : Type 0} (cmp : A → A → Ordering) where
   sorted_already [] up = refl
   sorted_already (x ∷ xs) up = ap (insert_sorted cmp x) (sorted_already xs up.1) ∙ first_in x xs up.0
 
-  -- a test that what follows passes too: those that pass are sorted as they were among all
-  module _ (q : A → Bool) (upward : (x y : A) → q x ≡ true → is_gt (cmp x y) ≡ false → q y ≡ true) where
-    in_passed : (x : A) (ys : List A) → q x ≡ true → filter q (insert_sorted cmp x ys) ≡ insert_sorted cmp x (filter q ys)
-    in_passed x [] in_x = rw in_x refl
-    in_passed x (y ∷ ys) in_x = go (is_gt (cmp x y)) (q y) refl refl (in_passed x ys in_x)
-      where
-        go : (g b : Bool) → is_gt (cmp x y) ≡ g → q y ≡ b → filter q (insert_sorted cmp x ys) ≡ insert_sorted cmp x (filter q ys)
-            → filter q (cond g (y ∷ insert_sorted cmp x ys) (x ∷ y ∷ ys)) ≡ insert_sorted cmp x (cond b (y ∷ filter q ys) (filter q ys))
-        go true true e f more = rw (e, f) (ap (λ l. y ∷ l) more)
-        go true false e f more = rw f more
-        go false true e f more = rw (e, f, in_x) refl
-        go false false e f more = absurd (true≢false (sym (upward x y in_x e) ∙ f))
+  module _ (total : IsTotalOrder cmp) where
+    abbrev AtMost : A → A → Type 0
+    AtMost a b = is_gt (cmp a b) ≡ false
 
-    in_failed : (x : A) (ys : List A) → q x ≡ false → filter q (insert_sorted cmp x ys) ≡ filter q ys
-    in_failed x [] out = rw out refl
-    in_failed x (y ∷ ys) out = go (is_gt (cmp x y)) (in_failed x ys out)
-      where
-        go : (g : Bool) → filter q (insert_sorted cmp x ys) ≡ filter q ys → filter q (cond g (y ∷ insert_sorted cmp x ys) (x ∷ y ∷ ys)) ≡ filter q (y ∷ ys)
-        go true more = ap (λ l. cond (q y) (y ∷ l) l) more
-        go false more = rw out refl
+    all_inserted : (P : A → Type 0) (x : A) (ys : List A) → P x → AllByRecursion P ys → AllByRecursion P (insert_sorted cmp x ys)
+    all_inserted P x [] h all = (h, tt)
+    all_inserted P x (y ∷ ys) h all =
+        elim (is_gt (cmp x y)) as (λ b. AllByRecursion P (cond b (y ∷ insert_sorted cmp x ys) (x ∷ y ∷ ys))) [ true ↦ (all.0, all_inserted P x ys h all.1) | false ↦ (h, all) ]
 
-    pub filter-sort_by : (xs : List A) → filter q (sort_by cmp xs) ≡ sort_by cmp (filter q xs)
-    filter-sort_by [] = refl
-    filter-sort_by (x ∷ xs) = go (q x) refl (filter-sort_by xs)
+    turned_back : (x y : A) → is_gt (cmp x y) ≡ true → AtMost y x
+    turned_back x y up = ap is_gt (total.antisymm y x) ∙ go (cmp x y) up
       where
-        go : (b : Bool) → q x ≡ b → filter q (sort_by cmp xs) ≡ sort_by cmp (filter q xs) → filter q (insert_sorted cmp x (sort_by cmp xs)) ≡ sort_by cmp (cond b (x ∷ filter q xs) (filter q xs))
-        go true e more = in_passed x (sort_by cmp xs) e ∙ ap (insert_sorted cmp x) more
-        go false e more = in_failed x (sort_by cmp xs) e ∙ more
+        go : (o : Ordering) → is_gt o ≡ true → is_gt (ordering_reverse o) ≡ false
+        go Less e = absurd (true≢false (sym e))
+        go Equal e = refl
+        go Greater e = refl
+
+    inserted_up : (x : A) (ys : List A) → IsAscending AtMost ys → IsAscending AtMost (insert_sorted cmp x ys)
+    inserted_up x [] up = (tt, tt)
+    inserted_up x (y ∷ ys) up = go (is_gt (cmp x y)) refl (inserted_up x ys up.1)
+      where
+        go : (b : Bool) → is_gt (cmp x y) ≡ b → IsAscending AtMost (insert_sorted cmp x ys) → IsAscending AtMost (cond b (y ∷ insert_sorted cmp x ys) (x ∷ y ∷ ys))
+        go true e more = (all_inserted (AtMost y) x ys (turned_back x y e) up.0, more)
+        go false e more = ((e, all_weaker (AtMost y) (AtMost x) (λ z. upto total x y z e) ys up.0), up)
+
+    sorted_up : (xs : List A) → IsAscending AtMost (sort_by cmp xs)
+    sorted_up [] = tt
+    sorted_up (x ∷ xs) = inserted_up x (sort_by cmp xs) (sorted_up xs)
+
+    in_front : (x : A) (ys : List A) → AllByRecursion (AtMost x) ys → insert_sorted cmp x ys ≡ x ∷ ys
+    in_front x [] low = refl
+    in_front x (y ∷ ys) low = rw low.0 refl
+
+    -- those that pass a test are sorted as they were among all
+    module _ (q : A → Bool) where
+      in_passed : (x : A) (ys : List A) → IsAscending AtMost ys → q x ≡ true → filter q (insert_sorted cmp x ys) ≡ insert_sorted cmp x (filter q ys)
+      in_passed x [] up in_x = rw in_x refl
+      in_passed x (y ∷ ys) up in_x = go (is_gt (cmp x y)) refl (in_passed x ys up.1 in_x)
+        where
+          passed : (b : Bool) → q y ≡ b → filter q (insert_sorted cmp x ys) ≡ insert_sorted cmp x (filter q ys) → is_gt (cmp x y) ≡ true
+              → cond b (y ∷ filter q (insert_sorted cmp x ys)) (filter q (insert_sorted cmp x ys)) ≡ insert_sorted cmp x (cond b (y ∷ filter q ys) (filter q ys))
+          passed true f more e = rw e (ap (λ l. y ∷ l) more)
+          passed false f more e = more
+
+          go : (g : Bool) → is_gt (cmp x y) ≡ g → filter q (insert_sorted cmp x ys) ≡ insert_sorted cmp x (filter q ys)
+              → filter q (cond g (y ∷ insert_sorted cmp x ys) (x ∷ y ∷ ys)) ≡ insert_sorted cmp x (filter q (y ∷ ys))
+          go true e more = passed (q y) refl more e
+          go false e more =
+              let low : AllByRecursion (AtMost x) (y ∷ ys) = (e, all_weaker (AtMost y) (AtMost x) (λ z. upto total x y z e) ys up.0) in
+              rw in_x (sym (in_front x (filter q (y ∷ ys)) (all-filter (AtMost x) q (y ∷ ys) low)))
+
+      in_failed : (x : A) (ys : List A) → q x ≡ false → filter q (insert_sorted cmp x ys) ≡ filter q ys
+      in_failed x [] out = rw out refl
+      in_failed x (y ∷ ys) out = go (is_gt (cmp x y)) (in_failed x ys out)
+        where
+          go : (g : Bool) → filter q (insert_sorted cmp x ys) ≡ filter q ys → filter q (cond g (y ∷ insert_sorted cmp x ys) (x ∷ y ∷ ys)) ≡ filter q (y ∷ ys)
+          go true more = ap (λ l. cond (q y) (y ∷ l) l) more
+          go false more = rw out refl
+
+      pub filter-sort_by : (xs : List A) → filter q (sort_by cmp xs) ≡ sort_by cmp (filter q xs)
+      filter-sort_by [] = refl
+      filter-sort_by (x ∷ xs) = go (q x) refl (filter-sort_by xs)
+        where
+          go : (b : Bool) → q x ≡ b → filter q (sort_by cmp xs) ≡ sort_by cmp (filter q xs) → filter q (insert_sorted cmp x (sort_by cmp xs)) ≡ sort_by cmp (cond b (x ∷ filter q xs) (filter q xs))
+          go true e more = in_passed x (sort_by cmp xs) (sorted_up xs) e ∙ ap (insert_sorted cmp x) more
+          go false e more = in_failed x (sort_by cmp xs) e ∙ more
 
 zip_push : {A B : Type 0} (R : A → B → Type 0) (xs : List A) (ys : List B) (x : A) (y : B) → AllZip R xs ys → R x y → AllZip R (xs ++ x ∷ []) (ys ++ y ∷ [])
 zip_push R [] [] x y all here = (here, tt)

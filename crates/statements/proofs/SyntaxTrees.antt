@@ -1,10 +1,10 @@
 -- The statements as they are written, without the blanks of their texts.
 use Rattle.std.specs.Prelude.{ℕ, Bool, false, List, [], ◌∷◌, map, codes, Option, Some, None}
 use Rattle.sqlite_ast.specs.declared.Expr.{Expr}
-use Rattle.sqlite_ast.specs.declared.Expr.TheVariants.{Column, Parameter, Integer, Null, CallStar, Binary as Two}
-use Rattle.sqlite_ast.specs.declared.Binary.TheVariants.{And, Eq, Lt, Gt}
+use Rattle.sqlite_ast.specs.declared.Expr.TheVariants.{Column, Parameter, Integer, Text, Null, CallStar, Binary as Two}
+use Rattle.sqlite_ast.specs.declared.Binary.TheVariants.{And, Eq, Lt, Gt, Ge}
 use Rattle.sqlite_ast.specs.declared.Conflict.TheVariants.{Abort}
-use Rattle.sqlite_ast.specs.declared.Rows.TheVariants.{Values}
+use Rattle.sqlite_ast.specs.declared.Rows.TheVariants.{Values, Select as Selected}
 use Rattle.sqlite_ast.specs.declared.Origin.TheVariants.{Table}
 use Rattle.sqlite_ast.specs.declared.Source.{roll-Source}
 use Rattle.sqlite_ast.specs.declared.Shown.{Shown}
@@ -140,6 +140,33 @@ token_role_core = from_table (shown_columns (codes "role" ∷ [])) (codes "token
 abbrev pub named_token_role_core : Core
 named_token_role_core = from_table (shown_columns (codes "role" ∷ [])) (codes "token") (at_key (codes "org") (codes "name"))
 
+abbrev pub find_token_core : Core
+find_token_core = from_table (shown_columns (codes "name" ∷ codes "role" ∷ [])) (codes "token") (also (is_given (codes "org") 1) (is_given (codes "digest") 2))
+
+abbrev pub list_tokens_core : Core
+list_tokens_core = from_table (shown_columns (codes "name" ∷ codes "role" ∷ [])) (codes "token") (is_given (codes "org") 1)
+
+abbrev pub find_bound_core : Core
+find_bound_core = from_table (shown_columns (codes "until" ∷ codes "prefix" ∷ [])) (codes "bound") (at_key (codes "org") (codes "name"))
+
+abbrev pub bound_columns : List (List ℕ)
+bound_columns = codes "org" ∷ codes "name" ∷ codes "until" ∷ codes "prefix" ∷ []
+
+abbrev pub add_bound : Statement
+add_bound = insert (codes "bound") bound_columns (Parameter 1 ∷ Parameter 2 ∷ Parameter 3 ∷ Parameter 4 ∷ [])
+
+abbrev pub remove_bound : Statement
+remove_bound = delete (codes "bound") (at_key (codes "org") (codes "name"))
+
+abbrev pub fill_bounds_core : Core
+fill_bounds_core = from_all (One (named (codes "org")) None (codes "org") ∷ One (named (codes "name")) None (codes "name") ∷ One Null None (codes "NULL") ∷ One (Text []) None (codes "''") ∷ []) (codes "token")
+
+abbrev pub fill_bounds : Statement
+fill_bounds = written.Insert Abort (codes "bound") bound_columns (Selected (select fill_bounds_core (by_rowid false) None)) [] []
+
+abbrev pub clear_version : Statement
+clear_version = written.Delete (codes "meta") None []
+
 abbrev pub remove_token : Statement
 remove_token = delete (codes "token") (at_key (codes "org") (codes "name"))
 
@@ -157,6 +184,11 @@ list_orgs_core = from_all (shown_columns (codes "name" ∷ codes "cap" ∷ [])) 
 
 abbrev pub list_ws_core : Core
 list_ws_core = from_table (shown_columns (codes "auto" ∷ codes "kind" ∷ codes "lock_id" ∷ codes "lock_text" ∷ codes "run" ∷ codes "released" ∷ codes "next_version" ∷ codes "next_run" ∷ codes "name" ∷ [])) (codes "ws") (also (is_given (codes "org") 1) (is_above (codes "name") 2))
+
+abbrev pub list_ws_within_core : Core
+list_ws_within_core =
+    from_table (shown_columns (codes "auto" ∷ codes "kind" ∷ codes "lock_id" ∷ codes "lock_text" ∷ codes "run" ∷ codes "released" ∷ codes "next_version" ∷ codes "next_run" ∷ codes "name" ∷ [])) (codes "ws")
+    (also (also (also (is_given (codes "org") 1) (is_above (codes "name") 2)) (Two Ge (named (codes "name")) (Parameter 3))) (Two Lt (named (codes "name")) (Parameter 4)))
 
 abbrev pub list_versions_core : Core
 list_versions_core = from_table (shown_columns (codes "number" ∷ codes "serial" ∷ codes "lineage" ∷ codes "created" ∷ codes "size" ∷ [])) (codes "version") (also (at_key (codes "org") (codes "ws")) (is_above (codes "number") 3))

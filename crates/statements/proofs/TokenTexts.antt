@@ -21,7 +21,8 @@ use Rattle.statements.proofs.Meaning.{Means, means, some_parsed, as_read}
 use Rattle.statements.proofs.Reading.{read_is}
 use Rattle.statements.proofs.Writes.{plain_program}
 use Rattle.statements.proofs.Answered.{point}
-use Rattle.statements.proofs.Commands.{is_at, delete_query, point_rest, point_draft, no_page}
+use Rattle.statements.proofs.Listed.{listing}
+use Rattle.statements.proofs.Commands.{is_at, delete_query, point_rest, point_draft, listing_draft, no_page}
 
 abbrev pub add_token_text : List ℕ
 add_token_text = codes "INSERT INTO token (org, name, digest, role) VALUES (?1, ?2, ?3, ?4)"
@@ -64,6 +65,41 @@ named_token_role_is_query = (named_token_role_select, some_parsed (first named_t
 
 abbrev pub named_token_role_rest : Query
 named_token_role_rest = point_rest (is_at 1 0 ∷ is_at 2 1 ∷ []) (col 1 4 ∷ []) no_page
+
+abbrev pub find_token_text : List ℕ
+find_token_text = codes "SELECT name, role FROM token WHERE org = ?1 AND digest = ?2 ORDER BY rowid"
+
+abbrev pub find_token_select : ast.Select
+find_token_select = st.select st.find_token_core (st.by_rowid false) None
+
+find_token_reads : first find_token_text ≡ Ok (as_read (some_parsed (first find_token_text)) (written.Select find_token_select))
+unfolding everything
+find_token_reads = refl
+
+pub find_token_is_query : IsQuery find_token_text
+find_token_is_query = (find_token_select, some_parsed (first find_token_text), find_token_reads)
+
+abbrev pub find_token_rest : Query
+find_token_rest = point_rest (is_at 1 0 ∷ is_at 3 1 ∷ []) (col 1 2 ∷ col 1 4 ∷ []) no_page
+
+abbrev pub token_names : List (List ℕ)
+token_names = codes "name" ∷ codes "role" ∷ []
+
+abbrev pub list_tokens_text : List ℕ
+list_tokens_text = codes "SELECT name, role FROM token WHERE org = ?1 ORDER BY name"
+
+abbrev pub list_tokens_select : ast.Select
+list_tokens_select = st.select st.list_tokens_core (st.by_column (codes "name")) None
+
+list_tokens_reads : first list_tokens_text ≡ Ok (as_read (some_parsed (first list_tokens_text)) (written.Select list_tokens_select))
+unfolding everything
+list_tokens_reads = refl
+
+pub list_tokens_is_query : IsQuery list_tokens_text
+list_tokens_is_query = (list_tokens_select, some_parsed (first list_tokens_text), list_tokens_reads)
+
+abbrev pub list_tokens_rest : Query
+list_tokens_rest = point_rest (is_at 1 0 ∷ []) (col 1 2 ∷ col 1 4 ∷ []) no_page
 
 abbrev pub remove_token_text : List ℕ
 remove_token_text = codes "DELETE FROM token WHERE org = ?1 AND name = ?2"
@@ -117,6 +153,40 @@ module _ (s : Schema) (at tree : ℕ) (h : StandsAt s (codes "token") token_tabl
   pub named_token_role_means : Means s (Select (plain_program (point named_token_role_rest tree false)) (codes "role" ∷ [])) named_token_role_text
   unfolding timed returning
   named_token_role_means = means s (written.Select named_token_role_select) _ refl (λ _. refl) named_token_role_is named_token_role_text (some_parsed (first named_token_role_text)) named_token_role_reads
+
+  find_token_named : named s st.find_token_core (st.by_rowid false) no_page ≡ Ok ((point_draft find_token_rest tree false), token_names, (Some Binary ∷ Some Binary ∷ []))
+  unfolding everything
+  find_token_named = rw (h.named, h.found, h.found, h.found, h.small) refl
+
+  find_token_fits : program s [] (point_draft find_token_rest tree false) ≡ Ok (plain_program (point find_token_rest tree false))
+  unfolding everything
+  find_token_fits = rw (h.low, h.treed) refl
+
+  find_token_is : (base : ℕ) → command s [] base (written.Select find_token_select) ≡ Ok (Select (plain_program (point find_token_rest tree false)) token_names)
+  unfolding everything
+  find_token_is base =
+      read_is s find_token_select st.find_token_core (st.by_rowid false) no_page ((point_draft find_token_rest tree false), token_names, (Some Binary ∷ Some Binary ∷ [])) refl refl refl refl refl (λ again. refl) find_token_named (plain_program (point find_token_rest tree false)) find_token_fits base
+
+  pub find_token_means : Means s (Select (plain_program (point find_token_rest tree false)) token_names) find_token_text
+  unfolding timed returning
+  find_token_means = means s (written.Select find_token_select) _ refl (λ _. refl) find_token_is find_token_text (some_parsed (first find_token_text)) find_token_reads
+
+  list_tokens_named : named s st.list_tokens_core (st.by_column (codes "name")) no_page ≡ Ok ((listing_draft list_tokens_rest tree 2), token_names, (Some Binary ∷ Some Binary ∷ []))
+  unfolding everything
+  list_tokens_named = rw (h.named, h.found, h.found, h.found, h.found) refl
+
+  list_tokens_fits : program s [] (listing_draft list_tokens_rest tree 2) ≡ Ok (plain_program (listing list_tokens_rest tree 2))
+  unfolding everything
+  list_tokens_fits = rw (h.low, h.treed) refl
+
+  list_tokens_is : (base : ℕ) → command s [] base (written.Select list_tokens_select) ≡ Ok (Select (plain_program (listing list_tokens_rest tree 2)) token_names)
+  unfolding everything
+  list_tokens_is base =
+      read_is s list_tokens_select st.list_tokens_core (st.by_column (codes "name")) no_page ((listing_draft list_tokens_rest tree 2), token_names, (Some Binary ∷ Some Binary ∷ [])) refl refl refl refl refl (λ again. refl) list_tokens_named (plain_program (listing list_tokens_rest tree 2)) list_tokens_fits base
+
+  pub list_tokens_means : Means s (Select (plain_program (listing list_tokens_rest tree 2)) token_names) list_tokens_text
+  unfolding timed returning
+  list_tokens_means = means s (written.Select list_tokens_select) _ refl (λ _. refl) list_tokens_is list_tokens_text (some_parsed (first list_tokens_text)) list_tokens_reads
 
   remove_token_is : (base : ℕ) → command s [] base st.remove_token ≡ Ok (Delete at (plain_program (remove_token_query tree)))
   unfolding everything

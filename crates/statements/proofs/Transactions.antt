@@ -8,7 +8,8 @@ use Rattle.statements.specs.Calls.{Wrote, WroteAny, FirstRow, IsCalm, IsRead, Ar
 use Rattle.statements.specs.Rows.{number}
 use Rattle.sqlite.specs.Effect.{Database}
 use Rattle.statements.specs.Making.{Alters}
-use Rattle.statements.specs.Steps.{Moves}
+use Rattle.statements.specs.Steps.{Moves, MovesWhere}
+use Rattle.sqlite.proofs.InsideLemmas.{keeps_then}
 use Rattle.statements.specs.Tables.{Tables, Holds}
 use Rattle.statements.proofs.Frames.{Turns, left_then}
 
@@ -18,6 +19,23 @@ moves_by change old new text params (Ok x) wrote does =
     let ran = wrote.0.1 in
     (record { rows = λ t h. (does wrote.0.0 t h ran.0).0; others = λ t h. (does wrote.0.0 t h ran.0).1; was_open = ran.1.was_open; is_open = ran.1.is_open; committed = ran.1.committed_is; inside = ran.1.mode }, tt)
 moves_by change old new text params (Err e) wrote does = (tt, wrote.1)
+
+-- a write of rows that obey a law
+pub moves_where : {X E : Type 0} (law : Tables → Type 0) (change : Tables → Tables) (old new : State) (text : List ℕ) (params : Row) (result : Result X E) → Wrote text params old new result
+    → ((count : ℕ) (t : Tables) → Holds old.now t → law t → Executes text params old new (Ok count) → Turns old.now new.now (change t)) → OnOk result (MovesWhere law change old new) × OnErr result (KeepsCommit old new)
+moves_where law change old new text params (Ok x) wrote does =
+    let ran = wrote.0.1 in (
+      record {
+        rows = λ t h lawful. (does wrote.0.0 t h lawful ran.0).0;
+        others = λ t h lawful. (does wrote.0.0 t h lawful ran.0).1;
+        was_open = ran.1.was_open;
+        is_open = ran.1.is_open;
+        committed = ran.1.committed_is;
+        inside = ran.1.mode;
+      },
+      tt,
+    )
+moves_where law change old new text params (Err e) wrote does = (tt, wrote.1)
 
 -- a write that tells whether there were rows to write
 pub any_wrote : {E : Type 0} (old new : State) (text : List ℕ) (params : Row) (result : Result Bool E) → WroteAny text params old new result → Wrote text params old new result
@@ -66,6 +84,11 @@ one_read Is old new text params row (Err f) first is P tells = tt
 one_read Is old new text params (Err e) (Ok o) first is P tells = absurd is
 one_read Is old new text params (Ok r) (Ok o) first is P tells = tells o (λ want pins. read_same Is r o want is (pins r first))
 
+-- what a query leaves, however it ended
+pub left_calm : {X E : Type 0} {A B : Type 0} (result : Result X E) → OnOk result A × OnErr result (A ⊎ B) → A ⊎ B
+left_calm (Ok x) left = inl left.0
+left_calm (Err e) left = left.1
+
 -- a query of many rows, each of which is read as a value
 pub lists_by : {X E F : Type 0} (law : Tables → Type 0) (read : Tables → List X) (Is : Row → X → Type 0) (old new : State) (Gives : List Row → Type 0) (rows : Result (List Row) E) (result : Result (List X) F)
     → IfOk rows Gives → IsCalm old new rows → AreRead Is rows result
@@ -97,6 +120,29 @@ counts_by read old new text params (Ok r) (Ok n) first calm is shows = (λ t h. 
 pub moves_then : (f g : Tables → Tables) (a b c : State) → Moves f a b → Moves g b c → Moves (λ t. g (f t)) a c
 moves_then f g a b c one two =
     record { rows = λ t h. two.rows (f t) (one.rows t h); others = λ t h. left_then a.now b.now c.now (one.others t h) (two.others (f t) (one.rows t h)); was_open = one.was_open; is_open = two.is_open; committed = two.committed ∙ one.committed; inside = two.inside }
+
+-- one more write, which may fail
+pub moves_more : {X E : Type 0} (f g : Tables → Tables) (a b c : State) (result : Result X E) → Moves f a b → OnOk result (Moves g b c) × OnErr result (KeepsCommit b c)
+    → OnOk result (Moves (λ t. g (f t)) a c) × OnErr result (KeepsCommit a c)
+moves_more f g a b c (Ok x) one two = (moves_then f g a b c one two.0, tt)
+moves_more f g a b c (Err e) one two = (tt, keeps_then a b c (record { was_open = λ _. one.was_open; committed = λ _. one.committed }) two.1)
+
+-- and one of rows that obey a law which the first sees to
+pub moves_where_more : {X E : Type 0} (law : Tables → Type 0) (f g : Tables → Tables) (a b c : State) (result : Result X E) → ((t : Tables) → law (f t)) → Moves f a b
+    → OnOk result (MovesWhere law g b c) × OnErr result (KeepsCommit b c) → OnOk result (Moves (λ t. g (f t)) a c) × OnErr result (KeepsCommit a c)
+moves_where_more law f g a b c (Ok x) lawful one two =
+    let next = two.0 in (
+      record {
+        rows = λ t h. next.rows (f t) (one.rows t h) (lawful t);
+        others = λ t h. left_then a.now b.now c.now (one.others t h) (next.others (f t) (one.rows t h) (lawful t));
+        was_open = one.was_open;
+        is_open = next.is_open;
+        committed = next.committed ∙ one.committed;
+        inside = next.inside;
+      },
+      tt,
+    )
+moves_where_more law f g a b c (Err e) lawful one two = (tt, keeps_then a b c (record { was_open = λ _. one.was_open; committed = λ _. one.committed }) two.1)
 
 pub alters_then : (F G : Database → Database → Type 0) (a b c : State) → Alters F a b → Alters G b c → Alters (λ x y. (z : Database) × F x z × G z y) a c
 alters_then F G a b c one two =

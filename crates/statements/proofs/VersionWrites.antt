@@ -22,12 +22,12 @@ module _ (old new : State) (count : ℕ) (t : Tables) (h : Holds old.now t) wher
   pub add_version_does : (org ws : List ℕ) (n serial : ℕ) (lineage : List ℕ) (created size : ℕ) → Executes add_version_text (Text org ∷ Text ws ∷ number n ∷ number serial ∷ Text lineage ∷ number created ∷ number size ∷ []) old new (Ok count) → Turns old.now new.now (version_added org ws (new_version n serial lineage created size) t)
   add_version_does org ws n serial lineage created size ran =
       let row : VersionRow = record { org = org; ws = ws; it = new_version n serial lineage created size } in
-      let left = insert_own version_cells version_table version_casts old new held.own t.versions held.rows held.keyed add_version_text (Text org ∷ Text ws ∷ number n ∷ number serial ∷ Text lineage ∷ number created ∷ number size ∷ []) count ran
+      let left = insert_own version_cells version_table version_casts old new held.own held.steady t.versions held.rows held.keyed add_version_text (Text org ∷ Text ws ∷ number n ∷ number serial ∷ Text lineage ∷ number created ∷ number size ∷ []) count ran
       add_version_terms 8 (add_version_means old.now.schema _ _ held.own.place) refl refl row refl in
       versions_written old.now new.now left.1 t h _ left.0 (keyed_next t.versions row held.keyed)
 
   pub remove_version_does : (org ws : List ℕ) (n : ℕ) → Executes remove_version_text (Text org ∷ Text ws ∷ number n ∷ []) old new (Ok count) → Turns old.now new.now (version_removed org ws n t)
   remove_version_does org ws n ran =
-      let left = delete_own version_cells version_table version_casts old new held.own t.versions held.rows held.keyed remove_version_text (Text org ∷ Text ws ∷ number n ∷ []) count ran
+      let left = delete_own version_cells version_table version_casts old new held.own held.steady t.versions held.rows held.keyed remove_version_text (Text org ∷ Text ws ∷ number n ∷ []) count ran
       (remove_version_query (tree_of old.now.schema version_table.name)) (remove_version_means old.now.schema _ _ held.own.place) refl refl refl (λ rows. refl) (is_version org ws n) (λ x. two_texts_number x.1.org org x.1.ws ws x.1.it.number n) (λ x. refl) in
       versions_written old.now new.now left.1 t h _ left.0 (IsKeyedBy-delete_where id_of (is_version org ws n) t.versions held.keyed)

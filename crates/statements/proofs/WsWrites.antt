@@ -24,66 +24,66 @@ module _ (old new : State) (count : ℕ) (t : Tables) (h : Holds old.now t) wher
   pub add_ws_does : (org name : List ℕ) (auto : Bool) → Executes add_ws_text (Text org ∷ Text name ∷ flag auto ∷ []) old new (Ok count) → Turns old.now new.now (ws_added org name auto t)
   add_ws_does org name auto ran =
       let row : WsRow = record { org = org; name = name; it = workspace_made auto } in
-      let left = insert_own ws_cells ws_table ws_casts old new held.own t.wss held.rows held.keyed add_ws_text (Text org ∷ Text name ∷ flag auto ∷ []) count ran
+      let left = insert_own ws_cells ws_table ws_casts old new held.own held.steady t.wss held.rows held.keyed add_ws_text (Text org ∷ Text name ∷ flag auto ∷ []) count ran
       add_ws_terms 11 (add_ws_means old.now.schema _ _ held.own.place) refl refl row refl in
       wss_written old.now new.now left.1 t h _ left.0 (keyed_next t.wss row held.keyed)
 
   pub set_auto_does : (org name : List ℕ) (auto : Bool) → Executes set_auto_text (Text org ∷ Text name ∷ flag auto ∷ []) old new (Ok count) → Turns old.now new.now (ws_changed (with_auto auto) org name t)
   set_auto_does org name auto ran =
-      let left = update_own ws_cells ws_table ws_casts old new held.own t.wss held.rows held.keyed set_auto_text (Text org ∷ Text name ∷ flag auto ∷ []) count ran
+      let left = update_own ws_cells ws_table ws_casts old new held.own held.steady t.wss held.rows held.keyed set_auto_text (Text org ∷ Text name ∷ flag auto ∷ []) count ran
       (set_auto_query (tree_of old.now.schema ws_table.name)) (set_auto_means old.now.schema _ _ held.own.place) refl refl refl (λ rows. refl) (is_ws org name) (λ x. two_texts x.1.org org x.1.name name) (λ (x : Kept WsRow). (x.0, record x.1 { it = with_auto auto x.1.it })) (λ x. refl) (λ x. refl) in
       wss_written old.now new.now left.1 t h _ left.0 (IsKeyedBy-update_where id_of (is_ws org name) (λ (x : Kept WsRow). (x.0, record x.1 { it = with_auto auto x.1.it })) (λ x. refl) t.wss held.keyed)
 
   pub hold_by_lock_does : (org name id text : List ℕ) → Executes hold_by_lock_text (Text org ∷ Text name ∷ Text id ∷ Blob text ∷ []) old new (Ok count) → Turns old.now new.now (ws_changed (held_by (Lock id text)) org name t)
   hold_by_lock_does org name id text ran =
-      let left = update_own ws_cells ws_table ws_casts old new held.own t.wss held.rows held.keyed hold_by_lock_text (Text org ∷ Text name ∷ Text id ∷ Blob text ∷ []) count ran
+      let left = update_own ws_cells ws_table ws_casts old new held.own held.steady t.wss held.rows held.keyed hold_by_lock_text (Text org ∷ Text name ∷ Text id ∷ Blob text ∷ []) count ran
       (hold_by_lock_query (tree_of old.now.schema ws_table.name)) (hold_by_lock_means old.now.schema _ _ held.own.place) refl refl refl (λ rows. refl) (is_ws org name) (λ x. two_texts x.1.org org x.1.name name) (λ (x : Kept WsRow). (x.0, record x.1 { it = held_by (Lock id text) x.1.it })) (λ x. refl) (λ x. refl) in
       wss_written old.now new.now left.1 t h _ left.0 (IsKeyedBy-update_where id_of (is_ws org name) (λ (x : Kept WsRow). (x.0, record x.1 { it = held_by (Lock id text) x.1.it })) (λ x. refl) t.wss held.keyed)
 
   pub hold_by_run_does : (org name : List ℕ) (run : ℕ) → Executes hold_by_run_text (Text org ∷ Text name ∷ number run ∷ []) old new (Ok count) → Turns old.now new.now (ws_changed (held_by (HeldByRun run)) org name t)
   hold_by_run_does org name run ran =
-      let left = update_own ws_cells ws_table ws_casts old new held.own t.wss held.rows held.keyed hold_by_run_text (Text org ∷ Text name ∷ number run ∷ []) count ran
+      let left = update_own ws_cells ws_table ws_casts old new held.own held.steady t.wss held.rows held.keyed hold_by_run_text (Text org ∷ Text name ∷ number run ∷ []) count ran
       (hold_by_run_query (tree_of old.now.schema ws_table.name)) (hold_by_run_means old.now.schema _ _ held.own.place) refl refl refl (λ rows. refl) (is_ws org name) (λ x. two_texts x.1.org org x.1.name name) (λ (x : Kept WsRow). (x.0, record x.1 { it = held_by (HeldByRun run) x.1.it })) (λ x. refl) (λ x. refl) in
       wss_written old.now new.now left.1 t h _ left.0 (IsKeyedBy-update_where id_of (is_ws org name) (λ (x : Kept WsRow). (x.0, record x.1 { it = held_by (HeldByRun run) x.1.it })) (λ x. refl) t.wss held.keyed)
 
   pub release_lock_does : (org name id : List ℕ) → Executes release_lock_text (Text org ∷ Text name ∷ Text id ∷ []) old new (Ok count) → Turns old.now new.now (ws_changed (released_from id) org name t)
   release_lock_does org name id ran =
-      let left = update_own ws_cells ws_table ws_casts old new held.own t.wss held.rows held.keyed release_lock_text (Text org ∷ Text name ∷ Text id ∷ []) count ran
+      let left = update_own ws_cells ws_table ws_casts old new held.own held.steady t.wss held.rows held.keyed release_lock_text (Text org ∷ Text name ∷ Text id ∷ []) count ran
       (release_lock_query (tree_of old.now.schema ws_table.name)) (release_lock_means old.now.schema _ _ held.own.place) refl refl refl (λ rows. refl) (is_ws org name) (λ x. two_texts x.1.org org x.1.name name) (λ (x : Kept WsRow). (x.0, record x.1 { it = released_from id x.1.it })) (λ x. refl) (λ x. refl) in
       wss_written old.now new.now left.1 t h _ left.0 (IsKeyedBy-update_where id_of (is_ws org name) (λ (x : Kept WsRow). (x.0, record x.1 { it = released_from id x.1.it })) (λ x. refl) t.wss held.keyed)
 
   pub release_run_does : (org name : List ℕ) → Executes release_run_text (Text org ∷ Text name ∷ []) old new (Ok count) → Turns old.now new.now (ws_changed (held_by Nobody) org name t)
   release_run_does org name ran =
-      let left = update_own ws_cells ws_table ws_casts old new held.own t.wss held.rows held.keyed release_run_text (Text org ∷ Text name ∷ []) count ran
+      let left = update_own ws_cells ws_table ws_casts old new held.own held.steady t.wss held.rows held.keyed release_run_text (Text org ∷ Text name ∷ []) count ran
       (release_run_query (tree_of old.now.schema ws_table.name)) (release_run_means old.now.schema _ _ held.own.place) refl refl refl (λ rows. refl) (is_ws org name) (λ x. two_texts x.1.org org x.1.name name) (λ (x : Kept WsRow). (x.0, record x.1 { it = held_by Nobody x.1.it })) (λ x. refl) (λ x. refl) in
       wss_written old.now new.now left.1 t h _ left.0 (IsKeyedBy-update_where id_of (is_ws org name) (λ (x : Kept WsRow). (x.0, record x.1 { it = held_by Nobody x.1.it })) (λ x. refl) t.wss held.keyed)
 
   pub set_next_version_does : (org name : List ℕ) (next : ℕ) → Executes set_next_version_text (Text org ∷ Text name ∷ number next ∷ []) old new (Ok count) → Turns old.now new.now (ws_changed (with_next_version next) org name t)
   set_next_version_does org name next ran =
-      let left = update_own ws_cells ws_table ws_casts old new held.own t.wss held.rows held.keyed set_next_version_text (Text org ∷ Text name ∷ number next ∷ []) count ran
+      let left = update_own ws_cells ws_table ws_casts old new held.own held.steady t.wss held.rows held.keyed set_next_version_text (Text org ∷ Text name ∷ number next ∷ []) count ran
       (set_next_version_query (tree_of old.now.schema ws_table.name)) (set_next_version_means old.now.schema _ _ held.own.place) refl refl refl (λ rows. refl) (is_ws org name) (λ x. two_texts x.1.org org x.1.name name) (λ (x : Kept WsRow). (x.0, record x.1 { it = with_next_version next x.1.it })) (λ x. refl) (λ x. refl) in
       wss_written old.now new.now left.1 t h _ left.0 (IsKeyedBy-update_where id_of (is_ws org name) (λ (x : Kept WsRow). (x.0, record x.1 { it = with_next_version next x.1.it })) (λ x. refl) t.wss held.keyed)
 
   pub set_next_version_finds : (org name : List ℕ) (next : ℕ) → Executes set_next_version_text (Text org ∷ Text name ∷ number next ∷ []) old new (Ok count) → not (count == 0) ≡ is_some (workspace_of org name t)
   set_next_version_finds org name next ran =
-      let counted = count_updated ws_cells ws_table ws_casts old new held.own t.wss held.rows held.keyed set_next_version_text (Text org ∷ Text name ∷ number next ∷ []) count ran
+      let counted = count_updated ws_cells ws_table ws_casts old new held.own held.steady t.wss held.rows held.keyed set_next_version_text (Text org ∷ Text name ∷ number next ∷ []) count ran
       (set_next_version_query (tree_of old.now.schema ws_table.name)) (set_next_version_means old.now.schema _ _ held.own.place) refl refl refl (λ rows. refl) (is_ws org name) (λ x. two_texts x.1.org org x.1.name name) in
       ap (λ n. not (n == 0)) counted ∙ first_if_any (is_ws org name) (λ x. x.1.it) t.wss
 
   pub set_next_run_does : (org name : List ℕ) (next : ℕ) → Executes set_next_run_text (Text org ∷ Text name ∷ number next ∷ []) old new (Ok count) → Turns old.now new.now (ws_changed (with_next_run next) org name t)
   set_next_run_does org name next ran =
-      let left = update_own ws_cells ws_table ws_casts old new held.own t.wss held.rows held.keyed set_next_run_text (Text org ∷ Text name ∷ number next ∷ []) count ran
+      let left = update_own ws_cells ws_table ws_casts old new held.own held.steady t.wss held.rows held.keyed set_next_run_text (Text org ∷ Text name ∷ number next ∷ []) count ran
       (set_next_run_query (tree_of old.now.schema ws_table.name)) (set_next_run_means old.now.schema _ _ held.own.place) refl refl refl (λ rows. refl) (is_ws org name) (λ x. two_texts x.1.org org x.1.name name) (λ (x : Kept WsRow). (x.0, record x.1 { it = with_next_run next x.1.it })) (λ x. refl) (λ x. refl) in
       wss_written old.now new.now left.1 t h _ left.0 (IsKeyedBy-update_where id_of (is_ws org name) (λ (x : Kept WsRow). (x.0, record x.1 { it = with_next_run next x.1.it })) (λ x. refl) t.wss held.keyed)
 
   pub set_next_run_finds : (org name : List ℕ) (next : ℕ) → Executes set_next_run_text (Text org ∷ Text name ∷ number next ∷ []) old new (Ok count) → not (count == 0) ≡ is_some (workspace_of org name t)
   set_next_run_finds org name next ran =
-      let counted = count_updated ws_cells ws_table ws_casts old new held.own t.wss held.rows held.keyed set_next_run_text (Text org ∷ Text name ∷ number next ∷ []) count ran
+      let counted = count_updated ws_cells ws_table ws_casts old new held.own held.steady t.wss held.rows held.keyed set_next_run_text (Text org ∷ Text name ∷ number next ∷ []) count ran
       (set_next_run_query (tree_of old.now.schema ws_table.name)) (set_next_run_means old.now.schema _ _ held.own.place) refl refl refl (λ rows. refl) (is_ws org name) (λ x. two_texts x.1.org org x.1.name name) in
       ap (λ n. not (n == 0)) counted ∙ first_if_any (is_ws org name) (λ x. x.1.it) t.wss
 
   pub remove_ws_does : (org name : List ℕ) → Executes remove_ws_text (Text org ∷ Text name ∷ []) old new (Ok count) → Turns old.now new.now (ws_removed org name t)
   remove_ws_does org name ran =
-      let left = delete_own ws_cells ws_table ws_casts old new held.own t.wss held.rows held.keyed remove_ws_text (Text org ∷ Text name ∷ []) count ran
+      let left = delete_own ws_cells ws_table ws_casts old new held.own held.steady t.wss held.rows held.keyed remove_ws_text (Text org ∷ Text name ∷ []) count ran
       (remove_ws_query (tree_of old.now.schema ws_table.name)) (remove_ws_means old.now.schema _ _ held.own.place) refl refl refl (λ rows. refl) (is_ws org name) (λ x. two_texts x.1.org org x.1.name name) (λ x. refl) in
       wss_written old.now new.now left.1 t h _ left.0 (IsKeyedBy-delete_where id_of (is_ws org name) t.wss held.keyed)

@@ -20,6 +20,8 @@ use Rattle.statements.specs.declared.rows.Organization.{Organization}
 use Rattle.statements.specs.declared.rows.Head.{Head}
 use Rattle.statements.specs.declared.rows.VersionHead.{VersionHead}
 use Rattle.statements.specs.declared.rows.Run.{Run}
+use Rattle.statements.specs.declared.rows.NamedRole.{NamedRole}
+use Rattle.statements.specs.declared.rows.Bound.{Bound}
 use Rattle.statements.specs.Rows.{number, role_code, status_code, action_code}
 use Rattle.sqlite.specs.State.{State, IsUnchanged, IsRolledBack, KeepsCommit, ExecutesInside, QueriesRow, Shown, Begins}
 
@@ -120,6 +122,18 @@ pub record IsRunRow (row : Row) (r : Run) : Type 0 where
   pub created : column row 4 ≡ number r.created
   pub status : IsStatusCell (column row 5) r.status
   pub action : IsActionOrNull (column row 6) r.action
+
+pub record IsNamedRole (row : Row) (r : NamedRole) : Type 0 where
+  pub name : column row 0 ≡ cell.Text r.name
+  pub role : column row 1 ≡ number (role_code r.role)
+
+abbrev pub IsNumberOrNull : Value → Option ℕ → Type 0
+IsNumberOrNull v None = v ≡ cell.Null
+IsNumberOrNull v (Some n) = v ≡ number n
+
+pub record IsBound (row : Row) (b : Bound) : Type 0 where
+  pub until : IsNumberOrNull (column row 0) b.until
+  pub prefix : column row 1 ≡ cell.Text b.prefix
 
 abbrev pub IsBody : Row → List ℕ → Type 0
 IsBody row body = column row 0 ≡ cell.Blob body

@@ -1,6 +1,7 @@
 -- What each write does to the rows.
-use Rattle.std.specs.Prelude.{ℕ, Bool, List, [], ◌∷◌, ◌++◌, ◌&&◌, ◌==◌, nat_lt, Option, Some, None}
+use Rattle.std.specs.Prelude.{◌≡◌, ℕ, Bool, false, List, [], ◌∷◌, ◌++◌, map, ◌&&◌, ◌==◌, nat_lt, Option, Some, None}
 use Rattle.std.specs.Str.{bytes_eq}
+use Rattle.std.specs.List.{AllByRecursion}
 use Rattle.sqlite_keyed.specs.Keyed.{next_key}
 use Rattle.sqlite_keyed.specs.Lists.{update_where, delete_where}
 use Rattle.basis.specs.declared.roles.Role.{Role}
@@ -10,12 +11,17 @@ use Rattle.statements.specs.declared.rows.Holder.{Holder}
 use Rattle.statements.specs.declared.rows.Holder.TheVariants.{Nobody}
 use Rattle.statements.specs.declared.rows.Workspace.{Workspace}
 use Rattle.statements.specs.declared.rows.Run.{Run}
-use Rattle.statements.specs.Rows.{Version, Kept, id_of, OrgRow, TokenRow, WsRow, VersionRow, RunRow}
+use Rattle.statements.specs.Rows.{Version, Kept, id_of, OrgRow, TokenRow, WsRow, VersionRow, RunRow, BoundRow}
 use Rattle.statements.specs.Tables.{Tables}
 
 -- one more row, behind the others and with the next rowid
 abbrev pub with_next : {R : Type 0} → R → List (Kept R) → List (Kept R)
 with_next r xs = xs ++ (next_key id_of xs, r) ∷ []
+
+-- several rows, one behind the other
+abbrev pub with_all : {R : Type 0} → List R → List (Kept R) → List (Kept R)
+with_all [] xs = xs
+with_all (r ∷ rs) xs = with_all rs (with_next r xs)
 
 -- ---- organizations
 
@@ -40,8 +46,38 @@ is_digest_of org digest x = bytes_eq x.1.org org && bytes_eq x.1.it.digest diges
 abbrev pub token_row_added : List ℕ → List ℕ → List ℕ → Role → Tables → Tables
 token_row_added org name digest role t = record t { tokens = with_next (record { org = org; name = name; it = record { digest = digest; role = role } }) t.tokens }
 
+abbrev pub token_row_removed : List ℕ → List ℕ → Tables → Tables
+token_row_removed org name t = record t { tokens = delete_where (is_token org name) t.tokens }
+
+-- ---- how far tokens reach
+
+abbrev pub is_bound : List ℕ → List ℕ → Kept BoundRow → Bool
+is_bound org name x = bytes_eq x.1.org org && bytes_eq x.1.name name
+
+abbrev pub bound_row_added : List ℕ → List ℕ → Option ℕ → List ℕ → Tables → Tables
+bound_row_added org name until prefix t = record t { bounds = with_next (record { org = org; name = name; until = until; prefix = prefix }) t.bounds }
+
+abbrev pub bound_row_removed : List ℕ → List ℕ → Tables → Tables
+bound_row_removed org name t = record t { bounds = delete_where (is_bound org name) t.bounds }
+
+-- a token that doesn't end, for all workspaces
+abbrev pub unbounded : TokenRow → BoundRow
+unbounded r = record { org = r.org; name = r.name; until = None; prefix = [] }
+
+-- each token gets such a row, in the order of the tokens
+abbrev pub bounds_filled : Tables → Tables
+bounds_filled t = record t { bounds = with_all (map (λ x. unbounded x.1) t.tokens) t.bounds }
+
+-- a token with how far it reaches
+abbrev pub token_added : List ℕ → List ℕ → List ℕ → Role → Option ℕ → List ℕ → Tables → Tables
+token_added org name digest role until prefix t = bound_row_added org name until prefix (token_row_added org name digest role t)
+
+abbrev pub HasNoBound : List ℕ → List ℕ → Tables → Type 0
+HasNoBound org name t = AllByRecursion (λ x. is_bound org name x ≡ false) t.bounds
+
+-- how far it reaches goes first
 abbrev pub token_removed : List ℕ → List ℕ → Tables → Tables
-token_removed org name t = record t { tokens = delete_where (is_token org name) t.tokens }
+token_removed org name t = token_row_removed org name (bound_row_removed org name t)
 
 -- ---- workspaces
 

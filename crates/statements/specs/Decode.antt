@@ -11,7 +11,7 @@ use Rattle.basis.specs.declared.runs.RunAction.{RunAction}
 use Rattle.basis.specs.declared.runs.RunAction.TheVariants.{ReportPlanned, ReportUnchanged, Fail, Confirm, ReportApplied, Discard, Cancel}
 use Rattle.statements.specs.declared.rows.Holder.{Holder}
 use Rattle.statements.specs.declared.rows.Holder.TheVariants.{Nobody, Lock, Run as HeldByRun}
-use Rattle.statements.specs.Rows.{Kept, OrgRow, TokenRow, WsRow, VersionRow, RunRow, PageRow, VpageRow}
+use Rattle.statements.specs.Rows.{Kept, OrgRow, TokenRow, WsRow, VersionRow, RunRow, PageRow, VpageRow, BoundRow}
 
 abbrev pub number_at : Row → ℕ → ℕ
 number_at r at = unsigned_abs (int_of (column r at))
@@ -95,3 +95,9 @@ page_at r = record { key = bytes_at r 1; twin = number_at r 2; bytes = bytes_at 
 
 abbrev pub vpage_at : Row → VpageRow
 vpage_at r = record { org = bytes_at r 1; ws = bytes_at r 2; number = number_at r 3; place = number_at r 4; key = bytes_at r 5; twin = number_at r 6 }
+
+abbrev pub bound_at : Row → BoundRow
+bound_at r = record { org = bytes_at r 1; name = bytes_at r 2; until = unless_null (λ v. unsigned_abs (int_of v)) (column r 3); prefix = bytes_at r 4 }
+
+abbrev pub edition_at : Row → ℕ
+edition_at r = number_at r 2

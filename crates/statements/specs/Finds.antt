@@ -8,9 +8,11 @@ use Rattle.basis.specs.Runs.{is_open}
 use Rattle.statements.specs.declared.rows.Workspace.{Workspace}
 use Rattle.statements.specs.declared.rows.Head.{Head}
 use Rattle.statements.specs.declared.rows.Run.{Run}
-use Rattle.statements.specs.Rows.{Version, Kept, RunRow}
+use Rattle.statements.specs.declared.rows.NamedRole.{NamedRole}
+use Rattle.statements.specs.declared.rows.Bound.{Bound}
+use Rattle.statements.specs.Rows.{Version, Kept, TokenRow, RunRow, BoundRow}
 use Rattle.statements.specs.Tables.{Tables}
-use Rattle.statements.specs.Changes.{is_org, is_token, is_digest_of, is_ws_of, is_ws, is_version_of, is_version, is_version_below, is_run_row}
+use Rattle.statements.specs.Changes.{is_org, is_token, is_digest_of, is_bound, is_ws_of, is_ws, is_version_of, is_version, is_version_below, is_run_row}
 
 -- the last of a list
 abbrev pub last_in : {X : Type 0} → List X → Option X
@@ -30,6 +32,20 @@ role_of_digest org digest t = option_map (λ x. x.1.it.role) (find (is_digest_of
 
 abbrev pub role_of_name : List ℕ → List ℕ → Tables → Option Role
 role_of_name org name t = option_map (λ x. x.1.it.role) (find (is_token org name) t.tokens)
+
+abbrev pub named_role : Kept TokenRow → NamedRole
+named_role x = record { name = x.1.name; role = x.1.it.role }
+
+-- the name and the role of the token that has this digest
+abbrev pub named_role_of : List ℕ → List ℕ → Tables → Option NamedRole
+named_role_of org digest t = option_map named_role (find (is_digest_of org digest) t.tokens)
+
+abbrev pub bound_in : Kept BoundRow → Bound
+bound_in x = record { until = x.1.until; prefix = x.1.prefix }
+
+-- how far a token of this name reaches
+abbrev pub bound_of : List ℕ → List ℕ → Tables → Option Bound
+bound_of org name t = option_map bound_in (find (is_bound org name) t.bounds)
 
 abbrev pub workspace_of : List ℕ → List ℕ → Tables → Option Workspace
 workspace_of org name t = option_map (λ x. x.1.it) (find (is_ws org name) t.wss)

@@ -1,19 +1,23 @@
 -- What each list reads of the rows, and the law of the rows under which it does.
-use Rattle.std.specs.Prelude.{◌<◌, ℕ, Bool, List, map, filter, take, nat_lt}
+use Rattle.std.specs.Prelude.{◌<◌, ◌+◌, ◌&&◌, ℕ, Bool, List, [], ◌∷◌, map, filter, take, nat_lt, if◌then◌else◌}
 use Rattle.std.specs.declared.cmp.Ordering.{Ordering}
 use Rattle.std.specs.Ordering.{nat_cmp, is_lt}
 use Rattle.std.specs.Cmp.Lexicographic.{slice_cmp}
 use Rattle.std.specs.FinMap.{FinMap, from_entries, entries}
 use Rattle.sqlite_trees.specs.Tree.{IsAscending}
 use Rattle.sqlite_keyed.specs.Rules.{AreApart}
+use Rattle.std.specs.Str.{bytes_eq}
+use Rattle.basis.specs.Names.{admits}
+use Rattle.basis.specs.declared.roles.Role.{Role}
+use Rattle.statements.specs.declared.rows.NamedRole.{NamedRole}
 use Rattle.statements.specs.declared.rows.Workspace.{Workspace}
 use Rattle.statements.specs.declared.rows.NamedWorkspace.{NamedWorkspace}
 use Rattle.statements.specs.declared.rows.VersionHead.{VersionHead}
 use Rattle.statements.specs.declared.rows.Run.{Run}
 use Rattle.statements.specs.declared.rows.Organization.{Organization}
-use Rattle.statements.specs.Rows.{Version}
+use Rattle.statements.specs.Rows.{Version, Kept, TokenRow}
 use Rattle.statements.specs.Tables.{Tables}
-use Rattle.statements.specs.Changes.{is_org, is_ws_of, is_ws, is_version_of, is_run_of}
+use Rattle.statements.specs.Changes.{is_org, is_token, is_ws_of, is_ws, is_version_of, is_run_of}
 
 -- the order of names: that of their bytes
 abbrev pub text_cmp : List ℕ → List ℕ → Ordering
@@ -41,6 +45,24 @@ organizations_in t = map organization_row (entries (caps t))
 abbrev pub OrgsApart : Tables → Type 0
 OrgsApart t = AreApart (λ a b. is_org a.1.name b) t.orgs
 
+-- ---- tokens
+
+abbrev pub is_token_of : List ℕ → Kept TokenRow → Bool
+is_token_of org x = bytes_eq x.1.org org
+
+abbrev pub roles_by_name : List ℕ → Tables → FinMap text_cmp Role
+roles_by_name org t = from_entries (map (λ x. (x.1.name, x.1.it.role)) (filter (is_token_of org) t.tokens))
+
+abbrev pub role_row : List ℕ × Role → NamedRole
+role_row e = record { name = e.0; role = e.1 }
+
+-- those of an organization, in the order of their names
+abbrev pub token_rows_of : List ℕ → Tables → List NamedRole
+token_rows_of org t = map role_row (entries (roles_by_name org t))
+
+abbrev pub TokensApart : Tables → Type 0
+TokensApart t = AreApart (λ a b. is_token a.1.org a.1.name b) t.tokens
+
 -- ---- workspaces
 
 abbrev pub workspaces_by_name : List ℕ → Tables → FinMap text_cmp Workspace
@@ -49,9 +71,19 @@ workspaces_by_name org t = from_entries (map (λ x. (x.1.name, x.1.it)) (filter 
 abbrev pub named_row : List ℕ × Workspace → NamedWorkspace
 named_row e = record { name = e.0; it = e.1 }
 
--- those of an organization that come after a name, in the order of their names, no more than so many
-abbrev pub workspace_rows_after : List ℕ → List ℕ → ℕ → Tables → List NamedWorkspace
-workspace_rows_after org after most t = take most (map named_row (filter (λ e. is_behind after e.0) (entries (workspaces_by_name org t))))
+-- those of an organization that come after a name and begin with a prefix, in the order of their names, no more than so many
+abbrev pub workspace_rows_after : List ℕ → List ℕ → List ℕ → ℕ → Tables → List NamedWorkspace
+workspace_rows_after org after prefix most t = take most (map named_row (filter (λ e. is_behind after e.0 && admits prefix e.0) (entries (workspaces_by_name org t))))
+
+-- the greater of a name and a prefix
+abbrev pub later_of : List ℕ → List ℕ → List ℕ
+later_of after prefix = if is_lt (text_cmp after prefix) then prefix else after
+
+-- the least text behind all that begin with a prefix: its last byte is one more
+abbrev pub end_of : List ℕ → List ℕ
+end_of [] = []
+end_of (b ∷ []) = (b + 1) ∷ []
+end_of (b ∷ c ∷ bytes) = b ∷ end_of (c ∷ bytes)
 
 abbrev pub WorkspacesApart : Tables → Type 0
 WorkspacesApart t = AreApart (λ a b. is_ws a.1.org a.1.name b) t.wss

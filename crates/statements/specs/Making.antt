@@ -10,15 +10,15 @@ use Rattle.sqlite.specs.Held.{state}
 use Rattle.sqlite.specs.State.{State, HasCleanDisk, KeepsCommit}
 use Rattle.sqlite.specs.declared.transaction.Transaction.{Transaction}
 use Rattle.sqlite_keyed.specs.Keyed.{IsKeyedBy, insert_by, get_by}
-use Rattle.statements.specs.Place.{at_of, tree_of, StandsAt, IsOwn, AreOwn}
-use Rattle.statements.specs.Schema.{meta_table}
-use Rattle.statements.specs.Rows.{Kept, id_of, stored, meta_cells}
-use Rattle.statements.specs.Tables.{Tables, Holds, no_rows}
+use Rattle.statements.specs.Place.{at_of, tree_of, StandsAt, IsOwn, RefersPassively}
+use Rattle.statements.specs.Schema.{meta_table, edition_table}
+use Rattle.statements.specs.Rows.{Kept, id_of, stored, meta_cells, edition_cells}
+use Rattle.statements.specs.Tables.{Tables, Holds, HoldsFirst, HoldsAll, StoredTable, first_tables, no_rows}
+use Rattle.statements.specs.Changes.{with_all, unbounded}
 
--- These tables of ours stand in the schema, made in this order, each with no row.
-pub record AreMade (tables : List Table) (db : Database) : Type 0 where
-  pub own : AreOwn db.schema tables
-  pub empty : AllByRecursion (λ (t : Table). db.trees (tree_of db.schema t.name) ≡ []) tables
+-- a table with no row
+abbrev pub bare_table : Table → StoredTable
+bare_table table = record { table = table; rows = [] }
 
 -- Each table that was there stands where it stood, and keeps its rows.
 pub record KeepsTables (old new : Database) : Type 0 where
@@ -28,18 +28,21 @@ pub record KeepsTables (old new : Database) : Type 0 where
 
 -- The table stands behind those of ours that were made before, with no row and a tree of its own, and each table that was there is kept.
 pub record GrowsBy (table : Table) (old new : Database) : Type 0 where
-  pub made : (tables : List Table) → AreMade tables old → AreMade (tables ++ table ∷ []) new
+  pub made : (xs : List StoredTable) → HoldsAll old xs → HoldsAll new (xs ++ bare_table table ∷ [])
+  pub owns : (other : Table) → IsOwn old.schema other → IsOwn new.schema other
   pub kept : KeepsTables old new
   pub apart : AllByRecursion (λ (t : Table). t.tree ≢ tree_of new.schema table.name) old.schema.tables
 
 -- what was made stays
 pub record KeepsMade (old new : Database) : Type 0 where
-  pub made : (tables : List Table) → AreMade tables old → AreMade tables new
+  pub made : (xs : List StoredTable) → HoldsAll old xs → HoldsAll new xs
+  pub owns : (other : Table) → IsOwn old.schema other → IsOwn new.schema other
   pub kept : KeepsTables old new
 
 -- several tables, one behind the other
 pub record GrowsByAll (added : List Table) (old new : Database) : Type 0 where
-  pub made : (tables : List Table) → AreMade tables old → AreMade (tables ++ added) new
+  pub made : (xs : List StoredTable) → HoldsAll old xs → HoldsAll new (xs ++ map bare_table added)
+  pub owns : (other : Table) → IsOwn old.schema other → IsOwn new.schema other
   pub kept : KeepsTables old new
   pub apart : AllByRecursion (λ (a : Table). AllByRecursion (λ (t : Table). t.tree ≢ tree_of new.schema a.name) old.schema.tables) added
 
@@ -66,16 +69,36 @@ abbrev pub LeavesOthers : Table → Database → Database → Type 0
 LeavesOthers table old new =
     IsOwn old.schema table → (new.schema ≡ old.schema) × AllByRecursion (λ (t : Table). t.tree ≢ tree_of old.schema table.name → new.trees t.tree ≡ old.trees t.tree) old.schema.tables
 
--- the only row of meta, whose rowid is 1
-abbrev pub version_set : Tables → Tables
-version_set t = record t { metas = insert_by id_of t.metas (pos 1, 1) }
+-- the only row of edition, whose rowid is 1
+abbrev pub edition_set : Tables → Tables
+edition_set t = record t { editions = insert_by id_of t.editions (pos 1, 2) }
 
--- The database has schema 1, with no row but the one that says so, and each table that was there is kept.
+-- meta tells no version
+abbrev pub version_cleared : Tables → Tables
+version_cleared t = record t { metas = [] }
+
+-- The database has schema 2, with no row but the one that says so, and each table that was there is kept.
 pub record HasSchema (old new : Database) : Type 0 where
-  pub holds : Holds new (version_set no_rows)
+  pub holds : Holds new (edition_set no_rows)
   pub kept : KeepsTables old new
 
--- the version in row 1 of meta
+-- schema 1 as schema 2: no token ends, each is for all workspaces, and edition tells the version in meta's place
+abbrev pub raised : Tables → Tables
+raised t = record t { metas = []; bounds = with_all (map (λ x. unbounded x.1) t.tokens) []; editions = (pos 1, 2) ∷ [] }
+
+-- each table of others keeps its place, and the rows of one to which no write elsewhere is passed on stay
+pub record KeepsForeign (old new : Database) : Type 0 where
+  pub stands : (other : Table) → IsOwn old.schema other → (at_of new.schema other.name ≡ at_of old.schema other.name) × (tree_of new.schema other.name ≡ tree_of old.schema other.name)
+  pub rows :
+      (other : Table) → IsOwn old.schema other → RefersPassively other → AllByRecursion (λ (ours : Table). tree_of old.schema other.name ≢ tree_of old.schema ours.name) first_tables
+      → new.trees (tree_of old.schema other.name) ≡ old.trees (tree_of old.schema other.name)
+
+-- The tables of schema 1 have become those of schema 2, and what is not ours is left.
+pub record Raises (old new : Database) : Type 0 where
+  pub holds : (t : Tables) → HoldsFirst old t → Holds new (raised t)
+  pub foreign : (t : Tables) → HoldsFirst old t → KeepsForeign old new
+
+-- the version in row 1 of meta, or of edition
 abbrev pub told_version : List (Kept ℕ) → Option ℕ
 told_version metas = option_map (λ x. x.1) (get_by id_of metas (pos 1))
 
@@ -91,3 +114,18 @@ pub record HasMeta (db : Database) (table : Table) (metas : List (Kept ℕ)) : T
   pub place : StandsAt db.schema meta_table.name (like_meta table) (at_of db.schema meta_table.name) (tree_of db.schema meta_table.name)
   pub rows : db.trees (tree_of db.schema meta_table.name) ≡ map (stored meta_cells) metas
   pub keyed : IsKeyedBy id_of metas
+
+-- ---- and of edition likewise
+
+abbrev pub edition_in : Tables → Option ℕ
+edition_in t = told_version t.editions
+
+-- a table of edition's name and columns, whatever it checks, refers to and keeps unique
+abbrev pub like_edition : Table → Table
+like_edition t = record t { name = edition_table.name; columns = edition_table.columns; key = edition_table.key; computed = edition_table.computed }
+
+-- The name edition means such a table, which has these rows, in the order of their rowids; whatever else the database has.
+pub record HasEdition (db : Database) (table : Table) (editions : List (Kept ℕ)) : Type 0 where
+  pub place : StandsAt db.schema edition_table.name (like_edition table) (at_of db.schema edition_table.name) (tree_of db.schema edition_table.name)
+  pub rows : db.trees (tree_of db.schema edition_table.name) ≡ map (stored edition_cells) editions
+  pub keyed : IsKeyedBy id_of editions

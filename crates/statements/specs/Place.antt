@@ -40,10 +40,10 @@ IsPassive ref = (is_passive ref.on_delete && is_passive ref.on_update) ≡ true
 abbrev pub RefersPassively : Table → Type 0
 RefersPassively table = AllByRecursion IsPassive table.references
 
--- The schema has the table under its name, and its references are passive.
+-- The schema has the table under its name, and a table that is kept in its tree has its references.
 pub record IsOwn (s : Schema) (table : Table) : Type 0 where
   pub place : StandsAt s table.name table (at_of s table.name) (tree_of s table.name)
-  pub bare : AllByRecursion (λ (t : Table). t.tree ≡ tree_of s table.name → RefersPassively t) s.tables
+  pub refers : AllByRecursion (λ (t : Table). t.tree ≡ tree_of s table.name → t.references ≡ table.references) s.tables
 
 -- Each of these tables stands somewhere in the schema, and no two have one tree: they were made in this order.
 pub record AreOwn (s : Schema) (tables : List Table) : Type 0 where

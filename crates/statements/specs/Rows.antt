@@ -1,5 +1,5 @@
 -- The rows of the tables as typed values, and the cells that keep them.
-use Rattle.std.specs.Prelude.{ℕ, ℤ, pos, Bool, List, [], ◌∷◌, if◌then◌else◌}
+use Rattle.std.specs.Prelude.{ℕ, ℤ, pos, Bool, List, [], ◌∷◌, Option, if◌then◌else◌}
 use Rattle.sqlite_value.specs.declared.value.Value.{Value}
 use Rattle.sqlite_value.specs.declared.value.Value.TheVariants as cell
 use Rattle.sqlite_value.specs.Order.{Row}
@@ -74,6 +74,13 @@ pub record VpageRow : Type 0 where
   pub place : ℕ
   pub key : List ℕ
   pub twin : ℕ
+
+-- until which moment a token counts, if it ends, and how the names of its workspaces begin
+pub record BoundRow : Type 0 where
+  pub org : List ℕ
+  pub name : List ℕ
+  pub until : Option ℕ
+  pub prefix : List ℕ
 
 -- ---- cells
 
@@ -155,9 +162,16 @@ page_cells r = cell.Blob r.key ∷ number r.twin ∷ cell.Blob r.bytes ∷ numbe
 abbrev pub vpage_cells : VpageRow → Row
 vpage_cells r = cell.Text r.org ∷ cell.Text r.ws ∷ number r.number ∷ number r.place ∷ cell.Blob r.key ∷ number r.twin ∷ []
 
+abbrev pub bound_cells : BoundRow → Row
+bound_cells r = cell.Text r.org ∷ cell.Text r.name ∷ or_null number r.until ∷ cell.Text r.prefix ∷ []
+
 -- meta's column `one` is its rowid, and the row keeps Null in its place
 abbrev pub meta_cells : ℕ → Row
 meta_cells version = cell.Null ∷ number version ∷ []
+
+-- and so is edition's
+abbrev pub edition_cells : ℕ → Row
+edition_cells version = cell.Null ∷ number version ∷ []
 
 -- a row as its tree keeps it
 abbrev pub stored : {R : Type 0} → (R → Row) → Kept R → Row

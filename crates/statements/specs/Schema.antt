@@ -8,10 +8,11 @@ use Rattle.sqlite_sql.specs.Term.{Term, lit, col, op1, op2}
 use Rattle.sqlite_sql.specs.declared.ops.CompareOp.TheVariants.{Eq, Le, Ge}
 use Rattle.sqlite_sql.specs.declared.ops.BinaryOp.TheVariants.{Compare, And, Is}
 use Rattle.sqlite_sql.specs.declared.ops.UnaryOp.TheVariants.{Not}
-use Rattle.sqlite_schema.specs.declared.schema.Action.TheVariants.{NoAction, Restrict}
+use Rattle.sqlite_schema.specs.declared.schema.Action.TheVariants.{NoAction, Restrict, Cascade}
 use Rattle.sqlite_schema.specs.declared.schema.Column.{Column}
 use Rattle.sqlite_schema.specs.declared.schema.Kind.{Kind}
 use Rattle.sqlite_schema.specs.declared.schema.Kind.TheVariants.{Integer, Text, Blob}
+use Rattle.sqlite_schema.specs.declared.schema.Reference.{Reference}
 use Rattle.sqlite_schema.specs.declared.schema.Table.{Table}
 
 abbrev pub column : List ℕ → Kind → Bool → Column
@@ -107,6 +108,33 @@ meta_table = record {
   uniques = [];
   orders = [];
   checks = op2 (Compare Eq Binary) (col 1 0) (lit (Int (pos 1))) ∷ op2 (Compare Eq Binary) (col 1 2) (lit (Int (pos 1))) ∷ [];
+  references = [];
+  computed = [];
+  stamps = record { places = []; terms = []; formats = [] };
+  is_counted = false;
+}
+
+-- the row of a token, with which a row goes
+abbrev pub to_token : Reference
+to_token = record { columns = 1 ∷ 2 ∷ []; parent = codes "token"; parent_columns = codes "org" ∷ codes "name" ∷ []; on_delete = Cascade; on_update = NoAction; is_deferred = false }
+
+-- How far each token reaches: until which moment it counts, and how the names of its workspaces begin. The row goes with the token's.
+abbrev pub bound_table : Table
+bound_table = record (keyed_table (codes "bound")
+    (column (codes "org") Text true ∷ column (codes "name") Text true ∷ column (codes "until") Integer false ∷ column (codes "prefix") Text true ∷ [])
+    (1 ∷ 2 ∷ []) ((1 ∷ 2 ∷ []) ∷ []) (plain ∷ []) []) { references = to_token ∷ [] }
+
+-- the one row of edition has 1 in the column `one`, which is the rowid
+abbrev pub edition_table : Table
+edition_table = record {
+  name = codes "edition";
+  tree = 0;
+  columns = column (codes "one") Integer false ∷ column (codes "version") Integer true ∷ [];
+  key = Some 0;
+  primary = 0 ∷ [];
+  uniques = [];
+  orders = [];
+  checks = op2 (Compare Eq Binary) (col 1 0) (lit (Int (pos 1))) ∷ op2 (Compare Ge Binary) (col 1 2) (lit (Int (pos 2))) ∷ [];
   references = [];
   computed = [];
   stamps = record { places = []; terms = []; formats = [] };

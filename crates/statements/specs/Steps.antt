@@ -7,14 +7,14 @@ use Rattle.sqlite.specs.State.{State, HasCleanDisk, IsUnchanged, IsRolledBack, K
 use Rattle.sqlite.specs.declared.transaction.Transaction.{Transaction}
 use Rattle.sqlite_schema.specs.declared.schema.Table.{Table}
 use Rattle.sqlite.specs.Effect.{Database}
-use Rattle.statements.specs.Place.{tree_of, IsOwn}
+use Rattle.statements.specs.Place.{tree_of, IsOwn, RefersPassively}
 use Rattle.statements.specs.Tables.{Tables, Holds, our_tables}
 
 -- The schema stays, and so do the rows of each table of others to which no write elsewhere is passed on.
 pub record LeavesForeign (old new : Database) : Type 0 where
   pub schema : new.schema ≡ old.schema
   pub rows :
-      (other : Table) → IsOwn old.schema other → AllByRecursion (λ (ours : Table). tree_of old.schema other.name ≢ tree_of old.schema ours.name) our_tables
+      (other : Table) → IsOwn old.schema other → RefersPassively other → AllByRecursion (λ (ours : Table). tree_of old.schema other.name ≢ tree_of old.schema ours.name) our_tables
       → new.trees (tree_of old.schema other.name) ≡ old.trees (tree_of old.schema other.name)
 
 -- The rows change by the function, inside the transaction, which goes on; what is not ours is left.
@@ -30,10 +30,28 @@ pub record Moves (change : Tables → Tables) (old new : State) : Type 0 where
 abbrev pub ChangesBy : {X E : Type 0} → (Tables → Tables) → State → State → Result X E → Type 0
 ChangesBy change old new result = HasCleanDisk new → IsTrue old.in_transaction → OnOk result (Moves change old new) × OnErr result (KeepsCommit old new)
 
+-- such a change of rows that obey a law
+pub record MovesWhere (law : Tables → Type 0) (change : Tables → Tables) (old new : State) : Type 0 where
+  pub rows : (t : Tables) → Holds old.now t → law t → Holds new.now (change t)
+  pub others : (t : Tables) → Holds old.now t → law t → LeavesForeign old.now new.now
+  pub was_open : IsTrue old.is_open
+  pub is_open : IsTrue new.is_open
+  pub committed : new.committed ≡ old.committed
+  pub inside : IsTrue new.in_transaction
+
+abbrev pub ChangesWhere : {X E : Type 0} → (Tables → Type 0) → (Tables → Tables) → State → State → Result X E → Type 0
+ChangesWhere law change old new result = HasCleanDisk new → IsTrue old.in_transaction → OnOk result (MovesWhere law change old new) × OnErr result (KeepsCommit old new)
+
 -- What a write promises: the transaction stays that of the same connection, the rows change by the function, and what the disk has promised stays.
 pub record WritesBy {S X E : Type 0} (g : Ghosts S) (change : Tables → Tables) (old new : Transaction S) (result : Result X E) : Type 0 where
   pub same_reference : new.conn.ghost_name ≡ old.conn.ghost_name
   pub changed : ChangesBy change (state g old.conn.now) (state g new.conn.now) result
+  pub survives : Survives (state g old.conn.now) (state g new.conn.now) (λ _. ⊥)
+
+-- such a write of rows that obey a law
+pub record WritesWhere {S X E : Type 0} (g : Ghosts S) (law : Tables → Type 0) (change : Tables → Tables) (old new : Transaction S) (result : Result X E) : Type 0 where
+  pub same_reference : new.conn.ghost_name ≡ old.conn.ghost_name
+  pub changed : ChangesWhere law change (state g old.conn.now) (state g new.conn.now) result
   pub survives : Survives (state g old.conn.now) (state g new.conn.now) (λ _. ⊥)
 
 -- a read outside a transaction: nothing changes, and the value is that of the rows

@@ -1,4 +1,4 @@
--- The tables of schema 1 with their rows, and the databases that hold them.
+-- The tables of schema 2 with their rows, and the databases that hold them, or those of schema 1.
 use Rattle.std.specs.Prelude.{◌≡◌, ℕ, ℤ, List, [], ◌∷◌, map}
 use Rattle.std.specs.List.{AllByRecursion}
 use Rattle.sqlite_value.specs.Order.{Row, column}
@@ -8,9 +8,9 @@ use Rattle.sqlite_schema.specs.declared.schema.Table.{Table}
 use Rattle.sqlite_keyed.specs.Keyed.{IsKeyedBy}
 use Rattle.sqlite.specs.Effect.{Database}
 use Rattle.statements.specs.Place.{tree_of, AreOwn}
-use Rattle.statements.specs.Schema.{meta_table, org_table, token_table, ws_table, version_table, run_table, page_table, vpage_table}
-use Rattle.statements.specs.Rows.{Kept, OrgRow, TokenRow, WsRow, VersionRow, RunRow, PageRow, VpageRow, stored, meta_cells, org_cells, token_cells, ws_cells, version_cells, run_cells, page_cells, vpage_cells}
-use Rattle.statements.specs.Decode.{kept_by, meta_at, org_at, token_at, ws_at, version_at, run_at, page_at, vpage_at}
+use Rattle.statements.specs.Schema.{meta_table, org_table, token_table, ws_table, version_table, run_table, page_table, vpage_table, bound_table, edition_table}
+use Rattle.statements.specs.Rows.{Kept, OrgRow, TokenRow, WsRow, VersionRow, RunRow, PageRow, VpageRow, BoundRow, stored, meta_cells, org_cells, token_cells, ws_cells, version_cells, run_cells, page_cells, vpage_cells, bound_cells, edition_cells}
+use Rattle.statements.specs.Decode.{kept_by, meta_at, org_at, token_at, ws_at, version_at, run_at, page_at, vpage_at, bound_at, edition_at}
 
 -- A table of ours: its definition, the cells that keep a row, and the row that cells keep.
 pub record Layout (R : Type 0) : Type 0 where
@@ -42,6 +42,12 @@ page_layout = record { table = page_table; cells = page_cells; read = page_at }
 abbrev pub vpage_layout : Layout VpageRow
 vpage_layout = record { table = vpage_table; cells = vpage_cells; read = vpage_at }
 
+abbrev pub bound_layout : Layout BoundRow
+bound_layout = record { table = bound_table; cells = bound_cells; read = bound_at }
+
+abbrev pub edition_layout : Layout ℕ
+edition_layout = record { table = edition_table; cells = edition_cells; read = edition_at }
+
 -- the rows of our tables
 pub record Tables : Type 0 where
   pub metas : List (Kept ℕ)
@@ -52,9 +58,11 @@ pub record Tables : Type 0 where
   pub runs : List (Kept RunRow)
   pub pages : List (Kept PageRow)
   pub vpages : List (Kept VpageRow)
+  pub bounds : List (Kept BoundRow)
+  pub editions : List (Kept ℕ)
 
 abbrev pub no_rows : Tables
-no_rows = record { metas = []; orgs = []; tokens = []; wss = []; versions = []; runs = []; pages = []; vpages = [] }
+no_rows = record { metas = []; orgs = []; tokens = []; wss = []; versions = []; runs = []; pages = []; vpages = []; bounds = []; editions = [] }
 
 -- a table, and the rows that its tree keeps
 pub record StoredTable : Type 0 where
@@ -68,14 +76,25 @@ stored_table layout xs = record { table = layout.table; rows = map (stored layou
 abbrev pub stored_tables : Tables → List StoredTable
 stored_tables t =
     stored_table meta_layout t.metas ∷ stored_table org_layout t.orgs ∷ stored_table token_layout t.tokens ∷ stored_table ws_layout t.wss
+    ∷ stored_table version_layout t.versions ∷ stored_table run_layout t.runs ∷ stored_table page_layout t.pages ∷ stored_table vpage_layout t.vpages
+    ∷ stored_table bound_layout t.bounds ∷ stored_table edition_layout t.editions ∷ []
+
+-- those of schema 1: no token has bounds, and meta tells the version
+abbrev pub first_stored : Tables → List StoredTable
+first_stored t =
+    stored_table meta_layout t.metas ∷ stored_table org_layout t.orgs ∷ stored_table token_layout t.tokens ∷ stored_table ws_layout t.wss
     ∷ stored_table version_layout t.versions ∷ stored_table run_layout t.runs ∷ stored_table page_layout t.pages ∷ stored_table vpage_layout t.vpages ∷ []
 
 abbrev pub tables_in : List StoredTable → List Table
 tables_in = map (λ (x : StoredTable). x.table)
 
--- the tables of schema 1, in the order in which they are made
+-- the tables of schema 2, in the order in which they are made
 abbrev pub our_tables : List Table
 our_tables = tables_in (stored_tables no_rows)
+
+-- the tables of schema 1
+abbrev pub first_tables : List Table
+first_tables = tables_in (first_stored no_rows)
 
 abbrev pub IsOurs : Schema → Type 0
 IsOurs s = AreOwn s our_tables
@@ -88,10 +107,19 @@ pub record HasRows (db : Database) (x : StoredTable) : Type 0 where
   pub rows : db.trees (tree_of db.schema x.table.name) ≡ x.rows
   pub keyed : IsKeyedBy rowid_of x.rows
 
+-- These tables stand in the database, and have these rows; whatever else it has.
+pub record HoldsAll (db : Database) (xs : List StoredTable) : Type 0 where
+  pub own : AreOwn db.schema (tables_in xs)
+  pub rows : AllByRecursion (HasRows db) xs
+
 -- The database has our tables with these rows; whatever else it has.
 pub record Holds (db : Database) (t : Tables) : Type 0 where
   pub ours : IsOurs db.schema
   pub rows : AllByRecursion (HasRows db) (stored_tables t)
+
+-- The database has the tables of schema 1 with these rows; whatever else it has.
+abbrev pub HoldsFirst : Database → Tables → Type 0
+HoldsFirst db t = HoldsAll db (first_stored t)
 
 -- the typed rows that a table's tree stands for
 abbrev pub rows_of : {R : Type 0} → Layout R → Database → List (Kept R)
@@ -108,4 +136,10 @@ tables_of db = record {
   runs = rows_of run_layout db;
   pages = rows_of page_layout db;
   vpages = rows_of vpage_layout db;
+  bounds = rows_of bound_layout db;
+  editions = rows_of edition_layout db;
 }
+
+-- those of schema 1: there are no bounds and no edition
+abbrev pub first_tables_of : Database → Tables
+first_tables_of db = record (tables_of db) { bounds = []; editions = [] }

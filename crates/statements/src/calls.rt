@@ -5,10 +5,12 @@ ghost use Rattle.sqlite_value.specs.Order.{column, Row as SqlRow};
 ghost use Rattle.sqlite.specs.Values.{bound};
 ghost use Rattle.sqlite.specs.Held.{state};
 ghost use Rattle.sqlite.specs.State.{HasCleanDisk, Survives, Shown};
-ghost use Rattle.statements.specs.Rows.{role_code, status_code, action_code, flag};
-ghost use Rattle.statements.specs.Calls.{Wrote, WroteAny, IsQuery, FirstRow, FirstRows, IsCalm, IsRead, AreRead, IsNamedRow, IsOrganization, IsVersionHead, IsFlagCell, IsTextOrNull, AreHolderCells, IsWorkspace, IsHeadRow, IsRunRow, IsBody, IsNumber, IsRole, IsStatusCell, IsActionOrNull, IsStatus, IsCount};
+ghost use Rattle.statements.specs.Rows.{number, role_code, status_code, action_code, flag};
+ghost use Rattle.statements.specs.Calls.{Wrote, WroteAny, IsQuery, FirstRow, FirstRows, IsCalm, IsRead, AreRead, IsNamedRow, IsOrganization, IsVersionHead, IsFlagCell, IsTextOrNull, AreHolderCells, IsWorkspace, IsHeadRow, IsRunRow, IsNamedRole, IsNumberOrNull, IsBound, IsBody, IsNumber, IsRole, IsStatusCell, IsActionOrNull, IsStatus, IsCount};
 
-use crate::rows::{Head, Holder, NamedWorkspace, Organization, Run, VersionHead, Workspace};
+use crate::rows::{
+    Bound, Head, Holder, NamedRole, NamedWorkspace, Organization, Run, VersionHead, Workspace,
+};
 use basis::{Bytes, Items, Role, RunAction, RunStatus, Text};
 use sqlite::types::ValueRef;
 use sqlite::{Alter, Connection, Error, Row, Transaction};
@@ -133,6 +135,24 @@ fn optional_text(row: &Row, at: usize) -> Result<Option<Text>, Error>
     match row.get::<Option<String>>(at)? {
         Some(text) => Ok(Some(Text::new(text))),
         None => Ok(None),
+    }
+}
+
+fn optional_number(row: &Row, at: usize) -> Result<Option<u64>, Error>
+    ensures { IfOk result (IsNumberOrNull (column row.now at)) }
+{
+    row.get::<Option<u64>>(at)
+}
+
+/// The role that a number in a row stands for.
+fn role_in(row: &Row, at: usize) -> Result<Role, Error>
+    ensures { IfOk result (λ role. column row.now at ≡ number (role_code role)) }
+{
+    match row.get::<u64>(at)? {
+        0 => Ok(Role::Read),
+        1 => Ok(Role::Write),
+        2 => Ok(Role::Admin),
+        _ => Err(Error::IntegralValueOutOfRange(at)),
     }
 }
 
@@ -295,16 +315,33 @@ impl Read for RunStatus {
     }
 }
 
+impl Read for NamedRole {
+    ghost is_in = { IsNamedRole };
+
+    fn of_row(row: &Row) -> Result<NamedRole, Error> {
+        Ok(NamedRole {
+            name: Text::new(row.get(0)?),
+            role: role_in(row, 1)?,
+        })
+    }
+}
+
+impl Read for Bound {
+    ghost is_in = { IsBound };
+
+    fn of_row(row: &Row) -> Result<Bound, Error> {
+        Ok(Bound {
+            until: optional_number(row, 0)?,
+            prefix: Text::new(row.get(1)?),
+        })
+    }
+}
+
 impl Read for Role {
     ghost is_in = { IsRole };
 
     fn of_row(row: &Row) -> Result<Role, Error> {
-        match row.get::<u64>(0)? {
-            0 => Ok(Role::Read),
-            1 => Ok(Role::Write),
-            2 => Ok(Role::Admin),
-            _ => Err(Error::IntegralValueOutOfRange(0)),
-        }
+        role_in(row, 0)
     }
 }
 

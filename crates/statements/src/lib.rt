@@ -1,7 +1,8 @@
-//! The statements of schema 1: each one fixed text in a function of its own, whose contract is the
+//! The statements of schema 2, and those that take schema 1 to it: each one fixed text in a function of its own, whose contract is the
 //! text's meaning over typed rows, in every schema in which the tables stand somewhere.
 #![tactic(auto)]
 
+pub mod bounds;
 pub mod calls;
 pub mod making;
 pub mod organizations;
@@ -11,4 +12,6 @@ pub mod tokens;
 pub mod versions;
 pub mod workspaces;
 
-pub use rows::{Head, Holder, NamedWorkspace, Organization, Run, VersionHead, Workspace};
+pub use rows::{
+    Bound, Head, Holder, NamedRole, NamedWorkspace, Organization, Run, VersionHead, Workspace,
+};

@@ -1,13 +1,15 @@
-//! Statements that make the tables of schema 1, and those on the table meta, which tells the version.
+//! Statements that make the tables of schema 2, or take those of schema 1 to it, and those on the tables edition and
+//! meta, which tell the version.
 ghost use Rattle.std.specs.Prelude.{◌≡◌, ℕ, List, [], ◌∷◌, IsTrue, IfOk, OnOk};
 ghost use Rattle.sqlite_schema.specs.declared.schema.Table.{Table};
 ghost use Rattle.sqlite.specs.Held.{state};
 ghost use Rattle.sqlite.specs.State.{HasCleanDisk, Survives};
 ghost use Rattle.statements.specs.Steps.{WritesBy, QueriesBy};
-ghost use Rattle.statements.specs.Schema.{meta_table, org_table, token_table, ws_table, version_table, run_table, page_table, vpage_table};
-ghost use Rattle.statements.specs.Making.{AltersBy, MakesBy, GrowsBy, GrowsByAll, HasSchema, KeepsMade, LeavesOthers, HasMeta, version_set, told_version, version_in};
+ghost use Rattle.statements.specs.Schema.{meta_table, org_table, token_table, ws_table, version_table, run_table, page_table, vpage_table, bound_table, edition_table};
+ghost use Rattle.statements.specs.Making.{AltersBy, MakesBy, GrowsBy, GrowsByAll, HasSchema, Raises, KeepsMade, LeavesOthers, HasMeta, HasEdition, edition_set, version_cleared, told_version, version_in, edition_in};
 ghost use Rattle.statements.specs.Rows.{Kept};
 
+use crate::bounds;
 use crate::calls::{first_row, read_one, write};
 use sqlite::{Alter, Connection, Error, Transaction};
 
@@ -107,6 +109,30 @@ fn make_vpage<S: Alter>(tx: &mut Transaction<'_, S>) -> Result<(), Error>
     write(tx, MAKE_VPAGE, &[])
 }
 
+const MAKE_BOUND: &str =
+    "CREATE TABLE bound (org TEXT NOT NULL, name TEXT NOT NULL, until INTEGER, prefix TEXT NOT NULL, PRIMARY KEY (org, name), FOREIGN KEY (org, name) REFERENCES token (org, name) ON DELETE CASCADE) STRICT";
+
+/// Makes the table of how far tokens reach.
+fn make_bound<S: Alter>(tx: &mut Transaction<'_, S>) -> Result<(), Error>
+    ensures same_reference { tx.new.conn.ghost_name ≡ tx.old.conn.ghost_name }
+    ensures made { AltersBy (GrowsBy bound_table) (state S.Store tx.old.conn.now) (state S.Store tx.new.conn.now) result }
+    ensures survives { Survives (state S.Store tx.old.conn.now) (state S.Store tx.new.conn.now) (λ _. ⊥) }
+{
+    write(tx, MAKE_BOUND, &[])
+}
+
+const MAKE_EDITION: &str =
+    "CREATE TABLE edition (one INTEGER PRIMARY KEY CHECK (one = 1), version INTEGER NOT NULL CHECK (version >= 2)) STRICT";
+
+/// Makes the table of the version of the schema, from schema 2 on.
+fn make_edition<S: Alter>(tx: &mut Transaction<'_, S>) -> Result<(), Error>
+    ensures same_reference { tx.new.conn.ghost_name ≡ tx.old.conn.ghost_name }
+    ensures made { AltersBy (GrowsBy edition_table) (state S.Store tx.old.conn.now) (state S.Store tx.new.conn.now) result }
+    ensures survives { Survives (state S.Store tx.old.conn.now) (state S.Store tx.new.conn.now) (λ _. ⊥) }
+{
+    write(tx, MAKE_EDITION, &[])
+}
+
 const MAKE_RUN_INDEX: &str = "CREATE INDEX run_by_status ON run (org, ws, status, number)";
 
 /// Makes the index by which a waiting run is found.
@@ -170,33 +196,72 @@ fn make_pages<S: Alter>(tx: &mut Transaction<'_, S>) -> Result<(), Error>
     make_vpage_index(tx)
 }
 
-const SET_VERSION: &str = "INSERT INTO meta (one, version) VALUES (1, 1)";
-
-/// Says that the database has schema 1.
-fn set_version<S: Alter>(tx: &mut Transaction<'_, S>) -> Result<(), Error>
-    ensures writes { WritesBy S.Store version_set tx.old tx.new result }
-    ensures others { HasCleanDisk (state S.Store tx.new.conn.now) → IsTrue (state S.Store tx.old.conn.now).in_transaction → OnOk result (LeavesOthers meta_table (state S.Store tx.old.conn.now).now (state S.Store tx.new.conn.now).now) }
+/// Makes the tables that schema 2 has and schema 1 hasn't, beside those of schema 1.
+pub fn make_second<S: Alter>(tx: &mut Transaction<'_, S>) -> Result<(), Error>
+    ensures { MakesBy S.Store (GrowsByAll (bound_table ∷ edition_table ∷ [])) tx.old tx.new result }
 {
-    write(tx, SET_VERSION, &[])
+    make_bound(tx)?;
+    make_edition(tx)
 }
 
-/// Makes schema 1: its tables, and the row that tells its version.
+const SET_EDITION: &str = "INSERT INTO edition (one, version) VALUES (1, 2)";
+
+/// Says that the database has schema 2.
+pub fn set_edition<S: Alter>(tx: &mut Transaction<'_, S>) -> Result<(), Error>
+    ensures writes { WritesBy S.Store edition_set tx.old tx.new result }
+    ensures others { HasCleanDisk (state S.Store tx.new.conn.now) → IsTrue (state S.Store tx.old.conn.now).in_transaction → OnOk result (LeavesOthers edition_table (state S.Store tx.old.conn.now).now (state S.Store tx.new.conn.now).now) }
+{
+    write(tx, SET_EDITION, &[])
+}
+
+const CLEAR_VERSION: &str = "DELETE FROM meta";
+
+/// Takes away what meta tells.
+pub fn clear_version<S: Alter>(tx: &mut Transaction<'_, S>) -> Result<(), Error>
+    ensures { WritesBy S.Store version_cleared tx.old tx.new result }
+{
+    write(tx, CLEAR_VERSION, &[])
+}
+
+/// Makes schema 2: its tables, and the row that tells its version.
 pub fn make_schema<S: Alter>(tx: &mut Transaction<'_, S>) -> Result<(), Error>
     ensures { MakesBy S.Store HasSchema tx.old tx.new result }
 {
     make_names(tx)?;
     make_states(tx)?;
     make_pages(tx)?;
-    set_version(tx)
+    make_second(tx)?;
+    set_edition(tx)
+}
+
+/// Takes schema 1 to schema 2: each token gets its row of bound, and edition tells the version in meta's place.
+pub fn raise_schema<S: Alter>(tx: &mut Transaction<'_, S>) -> Result<(), Error>
+    ensures { MakesBy S.Store Raises tx.old tx.new result }
+{
+    make_second(tx)?;
+    bounds::fill(tx)?;
+    clear_version(tx)?;
+    set_edition(tx)
 }
 
 const VERSION: &str = "SELECT version FROM meta WHERE one = 1 ORDER BY rowid";
 
-/// The version of the schema, if the database tells one.
+/// The version that meta tells, if it tells one: schema 1 does.
 pub fn version<S: Alter>(conn: &mut Connection<S>) -> Result<Option<u64>, Error>
     ensures reads { QueriesBy S.Store version_in conn.old conn.new result }
     ensures told { HasCleanDisk (state S.Store conn.new) → IfOk result (λ version. (table : Table) (metas : List (Kept ℕ)) → HasMeta (state S.Store conn.old).now table metas → version ≡ told_version metas) }
 {
     let row = first_row(conn, VERSION, &[]);
+    read_one(row)
+}
+
+const EDITION: &str = "SELECT version FROM edition WHERE one = 1 ORDER BY rowid";
+
+/// The version that edition tells, if it tells one: each schema from 2 on does.
+pub fn edition<S: Alter>(conn: &mut Connection<S>) -> Result<Option<u64>, Error>
+    ensures reads { QueriesBy S.Store edition_in conn.old conn.new result }
+    ensures told { HasCleanDisk (state S.Store conn.new) → IfOk result (λ version. (table : Table) (editions : List (Kept ℕ)) → HasEdition (state S.Store conn.old).now table editions → version ≡ told_version editions) }
+{
+    let row = first_row(conn, EDITION, &[]);
     read_one(row)
 }

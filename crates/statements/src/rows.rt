@@ -1,5 +1,5 @@
 //! What rows hold, as values.
-use basis::{Bytes, RunAction, RunStatus, Text};
+use basis::{Bytes, Role, RunAction, RunStatus, Text};
 
 /// Who holds a workspace: nobody, a lock with the text that took it, or the run of this number.
 #[derive(Drop)]
@@ -25,6 +25,22 @@ pub struct Workspace {
 pub struct NamedWorkspace {
     pub name: Text,
     pub it: Workspace,
+}
+
+/// A token without its digest.
+#[derive(Drop)]
+pub struct NamedRole {
+    pub name: Text,
+    pub role: Role,
+}
+
+/// How far a token reaches: until which moment it counts, if it ends, and how the names of its
+/// workspaces begin.
+#[derive(Drop)]
+pub struct Bound {
+    /// seconds since 1970 (UTC)
+    pub until: Option<u64>,
+    pub prefix: Text,
 }
 
 /// An organization, and how many workspaces it may have.

@@ -1,11 +1,16 @@
-//! Statements on the table token.
-ghost use Rattle.statements.specs.Steps.{WritesBy, QueriesBy};
-ghost use Rattle.statements.specs.Changes.{token_row_added, token_removed};
-ghost use Rattle.statements.specs.Finds.{role_of_digest, role_of_name};
+//! Statements on the table token. Where a token is added or goes, so is how far it reaches.
+ghost use Rattle.std.specs.Prelude.{◌<◌, ◌^◌, IfSome};
+ghost use Rattle.statements.specs.Steps.{WritesBy, WritesWhere, QueriesBy, QueriesWhere};
+ghost use Rattle.statements.specs.Changes.{token_row_added, token_row_removed, token_added, token_removed, HasNoBound};
+ghost use Rattle.statements.specs.Listings.{token_rows_of, TokensApart};
+ghost use Rattle.statements.specs.Finds.{named_role_of, role_of_digest, role_of_name};
 
-use crate::calls::{first_row, read_one, role_number, write};
-use basis::Role;
+use crate::bounds;
+use crate::calls::{all_rows, first_row, read_all, read_one, role_number, write};
+use crate::rows::NamedRole;
+use basis::{Items, Role};
 use sqlite::{Alter, Connection, Error, Transaction, params};
+use std::alloc::Global;
 
 const TOKEN_ROLE: &str = "SELECT role FROM token WHERE org = ?1 AND digest = ?2 ORDER BY rowid";
 
@@ -35,10 +40,39 @@ pub fn role_of_name<S: Alter>(
     read_one(row)
 }
 
+const FIND_TOKEN: &str =
+    "SELECT name, role FROM token WHERE org = ?1 AND digest = ?2 ORDER BY rowid";
+
+/// The token of an organization that has this digest.
+pub fn find_by_digest<S: Alter>(
+    conn: &mut Connection<S>,
+    org: &str,
+    digest: &[u8],
+) -> Result<Option<NamedRole>, Error>
+    ensures { QueriesBy S.Store (named_role_of org.now digest.now) conn.old conn.new result }
+{
+    let row = first_row(conn, FIND_TOKEN, params![org, digest]);
+    read_one(row)
+}
+
+const LIST_TOKENS: &str = "SELECT name, role FROM token WHERE org = ?1 ORDER BY name";
+
+/// All tokens of an organization, in the order of their names.
+pub fn list<S: Alter>(
+    alloc: Global,
+    conn: &mut Connection<S>,
+    org: &str,
+) -> Result<Items<NamedRole>, Error>
+    ensures { QueriesWhere S.Store TokensApart (token_rows_of org.now) conn.old conn.new result }
+{
+    let rows = all_rows(conn, LIST_TOKENS, params![org]);
+    read_all(alloc, rows)
+}
+
 const ADD_TOKEN: &str = "INSERT INTO token (org, name, digest, role) VALUES (?1, ?2, ?3, ?4)";
 
-/// Adds a token, of which only the digest is kept.
-pub fn add<'v, S: Alter>(
+/// Adds the row of a token, of which only the digest is kept.
+fn add_row<'v, S: Alter>(
     tx: &mut Transaction<'_, S>,
     org: &'v str,
     name: &'v str,
@@ -51,11 +85,36 @@ pub fn add<'v, S: Alter>(
     write(tx, ADD_TOKEN, params![org, name, digest, &role])
 }
 
+/// Adds a token, and how far it reaches.
+pub fn add<'v, S: Alter>(
+    tx: &mut Transaction<'_, S>,
+    org: &'v str,
+    name: &'v str,
+    digest: &'v [u8],
+    role: Role,
+    until: Option<u64>,
+    prefix: &'v str,
+) -> Result<(), Error>
+    requires until_fits { IfSome until (λ n. n < 2 ^ 63) }
+    ensures { WritesBy S.Store (token_added org.now name.now digest.now role until prefix.now) tx.old tx.new result }
+{
+    add_row(tx, org, name, digest, role)?;
+    bounds::add(tx, org, name, until, prefix)
+}
+
 const REMOVE_TOKEN: &str = "DELETE FROM token WHERE org = ?1 AND name = ?2";
 
-/// Removes a token.
+/// Removes the row of a token: what is told of it holds where how far it reaches has no row.
+fn remove_row<S: Alter>(tx: &mut Transaction<'_, S>, org: &str, name: &str) -> Result<(), Error>
+    ensures { WritesWhere S.Store (HasNoBound org.now name.now) (token_row_removed org.now name.now) tx.old tx.new result }
+{
+    write(tx, REMOVE_TOKEN, params![org, name])
+}
+
+/// Removes how far a token reaches, and then the token.
 pub fn remove<S: Alter>(tx: &mut Transaction<'_, S>, org: &str, name: &str) -> Result<(), Error>
     ensures { WritesBy S.Store (token_removed org.now name.now) tx.old tx.new result }
 {
-    write(tx, REMOVE_TOKEN, params![org, name])
+    bounds::remove(tx, org, name)?;
+    remove_row(tx, org, name)
 }

@@ -1,17 +1,17 @@
 //! Statements on the table ws.
-ghost use Rattle.std.specs.Prelude.{◌≡◌, ◌<◌, ◌^◌, IsTrue, IfOk, is_some};
+ghost use Rattle.std.specs.Prelude.{◌≡◌, ◌≢◌, ◌<◌, ◌^◌, [], IsTrue, IfOk, is_some, string_bytes};
 ghost use Rattle.sqlite.specs.Held.{state};
 ghost use Rattle.sqlite.specs.State.{HasCleanDisk};
 ghost use Rattle.statements.specs.Steps.{WritesBy, QueriesBy, QueriesWhere};
 ghost use Rattle.statements.specs.Tables.{Tables, Holds};
 ghost use Rattle.statements.specs.Changes.{with_auto, held_by, released_from, with_next_version, with_next_run, ws_changed, ws_added, ws_removed};
-ghost use Rattle.statements.specs.Listings.{workspace_rows_after, WorkspacesApart};
+ghost use Rattle.statements.specs.Listings.{workspace_rows_after, WorkspacesApart, later_of, end_of};
 ghost use Rattle.statements.specs.Finds.{workspace_of, workspaces_of};
 ghost use Rattle.statements.specs.declared.rows.Holder.TheVariants.{Nobody, Lock, Run as HeldByRun};
 
 use crate::calls::{count_of, first_row, first_rows, read_all, read_one, signed, update, write};
 use crate::rows::{NamedWorkspace, Workspace};
-use basis::Items;
+use basis::{Items, Prefix};
 use sqlite::{Alter, Connection, Error, Transaction, params};
 use std::alloc::Global;
 
@@ -33,19 +33,92 @@ pub fn find<S: Alter>(
 const LIST_WS: &str =
     "SELECT auto, kind, lock_id, lock_text, run, released, next_version, next_run, name FROM ws WHERE org = ?1 AND name > ?2 ORDER BY name";
 
-/// The workspaces of an organization that come after a name, in the order of their names and no more than `most`.
-/// All names come after the empty one.
-pub fn list<S: Alter>(
+fn list_all<S: Alter>(
     alloc: Global,
     conn: &mut Connection<S>,
     org: &str,
     after: &str,
     most: usize,
 ) -> Result<Items<NamedWorkspace>, Error>
-    ensures { QueriesWhere S.Store WorkspacesApart (workspace_rows_after org.now after.now most) conn.old conn.new result }
+    ensures { QueriesWhere S.Store WorkspacesApart (workspace_rows_after org.now after.now [] most) conn.old conn.new result }
 {
     let rows = first_rows(alloc, conn, LIST_WS, params![org, after], most);
     read_all(alloc, rows)
+}
+
+// Of the two lower bounds the last is where the scan begins.
+const LIST_WS_WITHIN: &str =
+    "SELECT auto, kind, lock_id, lock_text, run, released, next_version, next_run, name FROM ws WHERE org = ?1 AND name > ?2 AND name >= ?3 AND name < ?4 ORDER BY name";
+
+/// Where a scan for names that begin with a prefix and come after a name begins: at the greater of the two.
+fn beginning<'v>(after: &'v str, prefix: &'v str) -> &'v str
+    ensures { result.now ≡ later_of after.now prefix.now }
+{
+    if after.as_bytes() < prefix.as_bytes() {
+        prefix
+    } else {
+        after
+    }
+}
+
+/// The least text behind all that begin with a prefix, which isn't empty: its last byte is the next one.
+fn end_of(alloc: Global, prefix: &Prefix) -> Result<String, Error>
+    requires some { prefix.now ≢ [] }
+    ensures { IfOk result (λ end. string_bytes end ≡ end_of prefix.now) }
+{
+    let text = prefix.as_str();
+    let last = text.len() - 1;
+    let mut end = String::from_str(alloc, &text[..last])?;
+    end.push(char::from(text.as_bytes()[last] + 1))?;
+    Ok(end)
+}
+
+fn list_within<'v, S: Alter>(
+    alloc: Global,
+    conn: &mut Connection<S>,
+    org: &'v str,
+    after: &'v str,
+    prefix: &'v Prefix,
+    most: usize,
+) -> Result<Items<NamedWorkspace>, Error>
+    requires some { prefix.now ≢ [] }
+    ensures { QueriesWhere S.Store WorkspacesApart (workspace_rows_after org.now after.now prefix.now most) conn.old conn.new result }
+{
+    let end = match end_of(alloc, prefix) {
+        Ok(end) => end,
+        Err(error) => {
+            // The connection is looked at all the same: so it is left as any query that fails leaves it.
+            let _looked = count(conn, org);
+            return Err(error);
+        }
+    };
+    let from = beginning(after, prefix.as_str());
+    let rows = first_rows(
+        alloc,
+        conn,
+        LIST_WS_WITHIN,
+        params![org, after, from, end.as_str()],
+        most,
+    );
+    read_all(alloc, rows)
+}
+
+/// The workspaces of an organization that come after a name and begin with a prefix, in the order of their names and
+/// no more than `most`. All names come after the empty one. No other name is looked at.
+pub fn list<'v, S: Alter>(
+    alloc: Global,
+    conn: &mut Connection<S>,
+    org: &'v str,
+    after: &'v str,
+    prefix: &'v Prefix,
+    most: usize,
+) -> Result<Items<NamedWorkspace>, Error>
+    ensures { QueriesWhere S.Store WorkspacesApart (workspace_rows_after org.now after.now prefix.now most) conn.old conn.new result }
+{
+    if prefix.as_str().is_empty() {
+        return list_all(alloc, conn, org, after, most);
+    }
+    list_within(alloc, conn, org, after, prefix, most)
 }
 
 const COUNT_WS: &str = "SELECT count(*) FROM ws WHERE org = ?1";

@@ -1,4 +1,5 @@
 //! The two files of a database in memory, and what is left of them where the power is cut at one of their calls.
+use crate::records::first_record_of;
 use pages::ShaKey;
 use sqlite::{Connection, FileStore, Files, Options};
 use sqlite_disk::{Crash, Disk, Fuse, Memory};
@@ -134,6 +135,15 @@ pub enum Opening {
     Stopped(Pair),
 }
 
+fn options() -> Options {
+    Options {
+        cache_pages: PAGES_KEPT,
+        spill_pages: PAGES_KEPT,
+        checkpoint_frames: FRAMES_KEPT,
+        seed: SEED,
+    }
+}
+
 // A store over a connection in which no transaction is open.
 fn tables_over(conn: Connection<FileStore<Fused>>) -> Result<Opening, Failure> {
     if !conn.is_autocommit() {
@@ -150,21 +160,32 @@ fn tables_over(conn: Connection<FileStore<Fused>>) -> Result<Opening, Failure> {
 
 /// Opens files with this content. The power is cut behind so many calls.
 pub fn open_image(alloc: Global, image: &Image, cuts: Cuts) -> Result<Opening, Failure> {
-    let options = Options {
-        cache_pages: PAGES_KEPT,
-        spill_pages: PAGES_KEPT,
-        checkpoint_frames: FRAMES_KEPT,
-        seed: SEED,
-    };
     let Ok(files) = image.files(alloc, cuts) else {
         return Err(Failure::refused(0, "memory was refused"));
     };
     if !files.log.may_be_used() || !files.db.may_be_used() {
         return Err(Failure::refused(0, "memory was refused"));
     }
-    match Connection::open_files(alloc, files, options) {
+    match Connection::open_files(alloc, files, options()) {
         Ok(conn) => tables_over(conn),
         Err((_, left)) => Ok(Opening::Stopped(left.into_files())),
+    }
+}
+
+/// What stands in the tables of files with this content, which are of the first version.
+pub fn first_record(alloc: Global, image: &Image) -> Result<Vec<u8>, Failure> {
+    let Ok(files) = image.files(alloc, NO_CUTS) else {
+        return Err(Failure::refused(0, "memory was refused"));
+    };
+    if !files.log.may_be_used() || !files.db.may_be_used() {
+        return Err(Failure::refused(0, "memory was refused"));
+    }
+    match Connection::open_files(alloc, files, options()) {
+        Ok(mut conn) => first_record_of(alloc, &mut conn),
+        Err((_, left)) => {
+            drop(left.into_files());
+            Err(Failure::refused(0, "the file is no database"))
+        }
     }
 }
 

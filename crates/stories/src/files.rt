@@ -2,6 +2,7 @@
 use crate::programs::forget;
 use serve::Step;
 use sqlite_disk::{Start, Unknown};
+use std::fs;
 use system::{close_file, open_file};
 use telling::devices::ALL;
 use telling::failures::Failure;
@@ -37,6 +38,24 @@ fn take_halves(rt: &HostRuntime, play: &Play) -> Result<(), Failure> {
     take_from(rt, Unknown, steps, due)?;
     let (steps, due) = play.between(middle, play.steps.len());
     take_from(rt, Unknown, steps, due)
+}
+
+fn take_halves_of(rt: &HostRuntime, play: &Play, bytes: &[u8]) -> Result<(), Failure> {
+    if fs::write(rt, PATH, bytes).is_err() {
+        return Err(Failure::refused(0, "the file can't be written"));
+    }
+    take_halves(rt, play)
+}
+
+/// Runs a story over tables in a copy of a file.
+pub fn run_in_copy(rt: &HostRuntime, play: &Play, bytes: &[u8]) -> Result<(), Failure> {
+    forget(rt, PATH)?;
+    let taken = take_halves_of(rt, play, bytes);
+    forget(rt, PATH)?;
+    match taken {
+        Ok(()) => Ok(()),
+        Err(failure) => Err(failure.on(WAY)),
+    }
 }
 
 /// Runs a story over tables in a file that is made for it and taken away afterwards.

@@ -35,6 +35,19 @@ const LAWS: &[(&str, &str)] = &[
         "SELECT count(*) FROM token WHERE NOT EXISTS (SELECT 1 FROM org WHERE org.name = token.org)",
         "a token belongs to no organization",
     ),
+    (
+        "SELECT count(*) FROM token WHERE NOT EXISTS (SELECT 1 FROM bound WHERE bound.org = token.org AND bound.name = token.name)",
+        "a token has no bounds",
+    ),
+    (
+        "SELECT count(*) FROM bound WHERE NOT EXISTS (SELECT 1 FROM token WHERE token.org = bound.org AND token.name = bound.name)",
+        "a row of bound belongs to no token",
+    ),
+    ("SELECT count(*) FROM meta", "meta has a row"),
+    (
+        "SELECT 1 - count(*) FROM edition WHERE version = 2",
+        "edition doesn't tell the second version",
+    ),
 ];
 
 fn count_of<S: Alter>(conn: &mut Connection<S>, sql: &str) -> Result<i64, Error> {

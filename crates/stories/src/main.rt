@@ -1,6 +1,7 @@
 //! The program `stories`: examples as text, each told to the service and compared with what the text says.
 #![tactic(auto)]
 
+mod begun;
 mod breaking;
 mod checks;
 mod cuts;

@@ -16,6 +16,7 @@ use telling::lines::Mark;
 pub enum Does {
     Forgets,
     Writes,
+    Copies,
     MakesTable,
     IsAbsent,
     IsSame,
@@ -35,6 +36,7 @@ pub enum Does {
 const WORDS: &[(&str, Does)] = &[
     ("file", Does::Forgets),
     ("write", Does::Writes),
+    ("copy", Does::Copies),
     ("table", Does::MakesTable),
     ("absent", Does::IsAbsent),
     ("same", Does::IsSame),
@@ -194,8 +196,8 @@ fn run_step(
     compare_left(rt.alloc(), answer, parts, &left)
 }
 
-// The bytes of a file; none where it can't be read.
-fn bytes_of(rt: &HostRuntime, path: &str) -> Result<Vec<u8>, Failure> {
+/// The bytes of a file.
+pub fn bytes_of(rt: &HostRuntime, path: &str) -> Result<Vec<u8>, Failure> {
     match fs::read(rt, path) {
         Ok(bytes) => Ok(bytes),
         Err(_) => Err(Failure::refused(0, "a file can't be read")),
@@ -205,7 +207,7 @@ fn bytes_of(rt: &HostRuntime, path: &str) -> Result<Vec<u8>, Failure> {
 /// The bits of a mode that say who may read, write and run a file.
 const MODE_BITS: u32 = 0o777;
 
-/// What the last `write` or `table` of a story left, and the ports that are taken.
+/// What the last `write`, `copy` or `table` of a story left, and the ports that are taken.
 #[derive(Drop)]
 pub struct Files {
     last: Vec<u8>,
@@ -226,6 +228,17 @@ impl Files {
         }
         self.last = bytes_of(rt, path)?;
         Ok(())
+    }
+
+    fn copy(&mut self, rt: &HostRuntime, head: &Part<'_>, words: &str) -> Result<(), Failure> {
+        let Some((from, to)) = words.split_once(' ') else {
+            return Err(Failure::from(head.unread("a copy is of a file to a path")));
+        };
+        self.last = bytes_of(rt, from)?;
+        match fs::write(rt, to, self.last.as_slice()) {
+            Ok(()) => Ok(()),
+            Err(_) => Err(Failure::refused(head.line, "the file can't be written")),
+        }
     }
 
     fn make_table(
@@ -273,6 +286,7 @@ impl Files {
         match words_of(head) {
             Some((Does::Forgets, path)) => Ok(forget(rt, path)?),
             Some((Does::Writes, path)) => self.write(rt, head, path),
+            Some((Does::Copies, words)) => self.copy(rt, head, words),
             Some((Does::MakesTable, words)) => self.make_table(rt, head, words),
             Some((Does::IsAbsent, path)) => is_absent(rt, head, path),
             Some((Does::IsSame, path)) => self.is_same(rt, head, path),

@@ -5,7 +5,8 @@ use sqlite::{Alter, Connection, Error, Row};
 use std::alloc::{AllocError, Global};
 use telling::failures::Failure;
 
-const TABLES: &[&str] = &[
+/// The tables of the first version.
+const FIRST: &[&str] = &[
     "SELECT * FROM meta",
     "SELECT * FROM org",
     "SELECT * FROM token",
@@ -15,6 +16,9 @@ const TABLES: &[&str] = &[
     "SELECT * FROM vpage",
     "SELECT * FROM page",
 ];
+
+/// What the second version has beside them.
+const FURTHER: &[&str] = &["SELECT * FROM bound", "SELECT * FROM edition"];
 
 // A mark, and so many bytes.
 fn put_bytes(all: &mut Vec<u8>, mark: u8, bytes: &[u8]) -> Result<(), AllocError> {
@@ -54,11 +58,20 @@ fn put_table<S: Alter>(
     Ok(())
 }
 
-fn put_tables<S: Alter>(all: &mut Vec<u8>, conn: &mut Connection<S>) -> Result<(), Error> {
-    for sql in TABLES {
+fn put_tables<S: Alter>(
+    all: &mut Vec<u8>,
+    conn: &mut Connection<S>,
+    tables: &[&str],
+) -> Result<(), Error> {
+    for sql in tables {
         put_table(all, conn, sql)?;
     }
     Ok(())
+}
+
+fn put_record<S: Alter>(all: &mut Vec<u8>, conn: &mut Connection<S>) -> Result<(), Error> {
+    put_tables(all, conn, FIRST)?;
+    put_tables(all, conn, FURTHER)
 }
 
 /// What stands in the tables over a connection.
@@ -68,9 +81,21 @@ pub fn record_of<S: Alter>(
     conn: &mut Connection<S>,
 ) -> Result<Vec<u8>, Failure> {
     let mut all = Vec::new(alloc);
-    match put_tables(&mut all, conn) {
+    match put_record(&mut all, conn) {
         Ok(()) => Ok(all),
         Err(_) => Err(Failure::refused(line, "the tables don't answer")),
+    }
+}
+
+/// What stands in tables of the first version.
+pub fn first_record_of<S: Alter>(
+    alloc: Global,
+    conn: &mut Connection<S>,
+) -> Result<Vec<u8>, Failure> {
+    let mut all = Vec::new(alloc);
+    match put_tables(&mut all, conn, FIRST) {
+        Ok(()) => Ok(all),
+        Err(_) => Err(Failure::refused(0, "the file has no tables of the first version")),
     }
 }
 

@@ -1,7 +1,8 @@
 //! A story of a store over files in memory, the power cut at each of their calls: what stands there then is all before
 //! the step or all behind it, and the step is sent again.
 use crate::cuts::{
-    Cuts, Image, NO_CUTS, Opening, Pair, close, closed, files_of, images_of, open_image, opened,
+    Cuts, Image, NO_CUTS, Opening, Pair, close, closed, files_of, first_record, images_of,
+    open_image, opened,
 };
 use crate::images::write_images;
 use crate::recovering::{gone_on, record_at, records_of, tables_behind, tables_up_to};
@@ -93,15 +94,27 @@ fn recovered(
     Ok(())
 }
 
-// What stood in the tables before the stop and what stands there behind the step; nothing before the first open of all.
-fn around<'s>(play: &Play, records: &'s [Vec<u8>], cut: Cut) -> (&'s [u8], &'s [u8]) {
-    let is_first = cut.place == 0 && !cut.is_in_step;
-    let before = if is_first {
-        b"".as_slice()
-    } else {
-        record_at(records, play, cut.place)
-    };
-    (before, record_at(records, play, cut.next()))
+/// What stands in the tables.
+#[derive(Drop)]
+struct Records {
+    /// Before the first open of all: nothing, or what a file of the first version has.
+    first: Vec<u8>,
+    /// Before each of the story's own steps, and behind the last.
+    all: Vec<Vec<u8>>,
+}
+
+impl Records {
+    // What stood there before the stop, and what stands there behind the step.
+    fn around(&self, play: &Play, cut: Cut) -> (&[u8], &[u8]) {
+        let is_first = cut.place == 0 && !cut.is_in_step;
+        let records = self.all.as_slice();
+        let before = if is_first {
+            self.first.as_slice()
+        } else {
+            record_at(records, play, cut.place)
+        };
+        (before, record_at(records, play, cut.next()))
+    }
 }
 
 // Each of the images that a stop may leave is recovered from, but those that the stop before left, too.
@@ -127,12 +140,12 @@ fn recover_each(
 fn keep_images(
     rt: &HostRuntime,
     play: &Play,
-    records: &[Vec<u8>],
+    records: &Records,
     stop: &Stop,
     count: usize,
 ) -> Result<(), Failure> {
     let line = line_at(play, play.own);
-    let around = around(play, records, stop.cut);
+    let around = records.around(play, stop.cut);
     match write_images(rt, line, count, stop.images.as_slice(), around) {
         Ok(()) => Ok(()),
         Err(_) => Err(Failure::refused(stop.cut.line, "the images can't be written")),
@@ -159,7 +172,7 @@ fn cut_each(
     rt: &HostRuntime,
     play: &Play,
     image: &Image,
-    records: &[Vec<u8>],
+    records: &Records,
     is_log: bool,
     counts: &mut Counts,
 ) -> Result<(), Failure> {
@@ -174,20 +187,48 @@ fn cut_each(
         };
         let images = images_of(alloc, files)?;
         let stop = Stop { cut, images };
-        recover_each(alloc, play, records, &stop, &last, counts)?;
+        recover_each(alloc, play, records.all.as_slice(), &stop, &last, counts)?;
         keep_images(rt, play, records, &stop, counts.stops)?;
         last = stop;
     }
     Err(Failure::refused(0, "the power is cut at each of many calls"))
 }
 
+fn run_from(
+    rt: &HostRuntime,
+    play: &Play,
+    image: &Image,
+    records: &Records,
+    counts: &mut Counts,
+) -> Result<(), Failure> {
+    for is_log in [true, false] {
+        cut_each(rt, play, image, records, is_log, counts)?;
+    }
+    Ok(())
+}
+
 /// Tells a story's own steps over files in memory whose power is cut at each call of the one and of the other.
 pub fn run_stops(rt: &HostRuntime, play: &Play, counts: &mut Counts) -> Result<(), Failure> {
     let alloc = rt.alloc();
     let image = begun(alloc, play)?;
-    let records = records_from(alloc, play, &image)?;
-    for is_log in [true, false] {
-        cut_each(rt, play, &image, records.as_slice(), is_log, counts)?;
-    }
-    Ok(())
+    let records = Records {
+        first: Vec::new(alloc),
+        all: records_from(alloc, play, &image)?,
+    };
+    run_from(rt, play, &image, &records, counts)
+}
+
+/// The same, of a story that begins with a file of the first version.
+pub fn run_first_stops(
+    rt: &HostRuntime,
+    play: &Play,
+    image: &Image,
+    counts: &mut Counts,
+) -> Result<(), Failure> {
+    let alloc = rt.alloc();
+    let records = Records {
+        first: first_record(alloc, image)?,
+        all: records_from(alloc, play, image)?,
+    };
+    run_from(rt, play, image, &records, counts)
 }

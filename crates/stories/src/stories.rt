@@ -1,4 +1,5 @@
 //! A story run by its kind: of a store, of the program, of values, or of checks.
+use crate::begun::run_begun;
 use crate::breaking::run_broken;
 use crate::checks::{is_check, run_check};
 use crate::files::run_in_file;
@@ -25,11 +26,24 @@ fn run_store(
     counts: &mut Counts,
 ) -> Result<(), Failure> {
     let play = play_of(rt.alloc(), book, story)?;
-    run_in_memory(rt.alloc(), &play)?;
-    run_in_file(rt, &play)?;
-    run_by_units(rt.alloc(), &play)?;
-    run_in_breaks(rt.alloc(), &play, story.modes, counts)?;
-    run_in_stops(rt, &play, story.modes, counts)
+    match story.begins {
+        Some(path) => run_begun(rt, path, &play, story.modes, counts),
+        None => run_made(rt, &play, story.modes, counts),
+    }
+}
+
+// A story that begins with no organization.
+fn run_made(
+    rt: &HostRuntime,
+    play: &Play,
+    modes: Modes,
+    counts: &mut Counts,
+) -> Result<(), Failure> {
+    run_in_memory(rt.alloc(), play)?;
+    run_in_file(rt, play)?;
+    run_by_units(rt.alloc(), play)?;
+    run_in_breaks(rt.alloc(), play, modes, counts)?;
+    run_in_stops(rt, play, modes, counts)
 }
 
 // The story's own steps over files whose power is cut.

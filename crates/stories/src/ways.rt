@@ -78,7 +78,7 @@ pub fn new_tables<K: PageKey>(alloc: Global) -> Result<TablesBy<K>, Down> {
 }
 
 /// The first value of the first row, as text.
-pub fn ask(alloc: Global, conn: &mut Connection<MemStore>, sql: &str) -> Result<String, Error> {
+pub fn ask<S: Alter>(alloc: Global, conn: &mut Connection<S>, sql: &str) -> Result<String, Error> {
     let row = conn.query_row(sql, &[])?;
     match row.get::<i64>(0) {
         Ok(number) => Ok(format!(in alloc; "{number}")?),
@@ -101,11 +101,11 @@ pub fn reopened<S: Alter + Drop, K: PageKey>(
 }
 
 // Asks the tables, and gives the store back.
-fn asked<K: PageKey>(
+fn asked<S: Alter + Drop, K: PageKey>(
     alloc: Global,
-    keep: TablesBy<K>,
+    keep: SqlKeep<S, K>,
     question: &Question,
-) -> Result<TablesBy<K>, Failure> {
+) -> Result<SqlKeep<S, K>, Failure> {
     let mut conn = keep.close();
     let answer = ask(alloc, &mut conn, question.sql.as_str());
     let keep = reopened(question.line, conn)?;
@@ -131,7 +131,18 @@ fn in_tables<K: PageKey>(
     keyed: Keyed,
     way: Way,
 ) -> Result<(), Failure> {
-    let mut keep = new_tables::<K>(alloc)?;
+    over_tables(alloc, new_tables::<K>(alloc)?, play, keyed, way)
+}
+
+/// Runs a story over these tables, which are asked what the story asks of tables with pages by this key.
+pub fn over_tables<S: Alter + Drop, K: PageKey>(
+    alloc: Global,
+    keep: SqlKeep<S, K>,
+    play: &Play,
+    keyed: Keyed,
+    way: Way,
+) -> Result<(), Failure> {
+    let mut keep = keep;
     let mut from = 0;
     for question in play.questions.as_slice() {
         if question.keyed == keyed {

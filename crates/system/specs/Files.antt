@@ -1,5 +1,5 @@
 -- A store in a file: what it has once it is opened, and what its files hold once it is closed.
-use Rattle.std.specs.Prelude.{◌≡◌, true, false, ℕ, List, Option, None}
+use Rattle.std.specs.Prelude.{◌≡◌, ◌⊎◌, true, false, ℕ, List, Option, None}
 use Rattle.sqlite_trees.specs.Tree.{Trees}
 use Rattle.sqlite_wal.specs.Recovery.{Image}
 use Rattle.sqlite_wal.specs.Files.{outcomes}
@@ -10,16 +10,21 @@ use Rattle.sqlite.specs.Closing.{HoldsAlone}
 use Rattle.sqlite.specs.Effect.{Database, IsDatabase}
 use Rattle.sqlite.specs.Files.{HoldsDatabase, image_of}
 use Rattle.machine.specs.declared.records.Organization.{Organization}
-use Rattle.tables.specs.Opening.{any_there}
+use Rattle.tables.specs.Opening.{any_there, all_there}
 use Rattle.tables.specs.Stores.{records_of, IsSoundStore}
+use Rattle.tables.specs.Versions.{HoldsVersion, version_records}
 
--- The database that a file and its log hold was found. Where it has our tables, the store has its records, and is sound
--- where the database is; where it has none of them, the store has no organization, and is sound.
+-- The database that a file and its log hold was found. Where it has one of our tables, it has all those of a version. Where
+-- they are those of this version, the store has its records, and is sound where the database is; of whatever version it is,
+-- sound as one of that, the store has the records that it denotes, and is sound. Where it has none of our tables, the store
+-- has no organization, and is sound.
 pub record OpensOn (image : Image) (rows : List ℕ → Option Organization) (IsSound : Type 0) : Type 0 where
   pub found : Database
   pub is : IsDatabase found
   pub holds : (trees : Trees) → HoldsDatabase image trees → found.trees ≡ trees
-  pub there : any_there found.schema ≡ true → ((org : List ℕ) → rows org ≡ records_of found org) × (IsSoundStore found → IsSound)
+  pub whole : any_there found.schema ≡ true → (all_there 1 found.schema ≡ true) ⊎ (all_there 2 found.schema ≡ true)
+  pub there : all_there 2 found.schema ≡ true → ((org : List ℕ) → rows org ≡ records_of found org) × (IsSoundStore found → IsSound)
+  pub climbed : (version : ℕ) → HoldsVersion version found → ((org : List ℕ) → rows org ≡ version_records version found org) × IsSound
   pub fresh : any_there found.schema ≡ false → ((org : List ℕ) → rows org ≡ None) × IsSound
 
 -- A database lies in the file and its log, and in the file with no log, as they read now and as a crash may leave them.

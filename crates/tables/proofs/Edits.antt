@@ -62,6 +62,7 @@ module _ (org ws : List ℕ) (t : Tables) where
   row_puts g f same = record {
     orgs = refl;
     tokens = refl;
+    bounds = refl;
     own = same_parts _ _ _ _ _ _ (row_changed org ws g t) (versions_carried t (ws_changed g org ws t) refl refl refl org ws) refl ∙ changed_row g f (versions_at t org ws) (versions_at t org ws) (runs_at t org ws) (runs_at t org ws) (λ c. same c (versions_at t org ws) (runs_at t org ws)) (workspace_of org ws t);
     others = λ a b other. same_parts _ _ _ _ _ _ (row_unchanged org ws g t a b other) (versions_carried t (ws_changed g org ws t) refl refl refl a b) refl;
   }
@@ -71,6 +72,7 @@ module _ (org ws : List ℕ) (t : Tables) where
   added_puts settings none no_version no_run = record {
     orgs = refl;
     tokens = refl;
+    bounds = refl;
     own = same_parts _ _ _ _ _ _ (row_added org ws t settings.auto_apply none) (versions_carried t (ws_added org ws settings.auto_apply t) refl refl refl org ws ∙ no_version) no_run;
     others = λ a b other. same_parts _ _ _ _ _ _ (row_added_other org ws t settings.auto_apply a b other) (versions_carried t (ws_added org ws settings.auto_apply t) refl refl refl a b) refl;
   }
@@ -93,6 +95,7 @@ module _ (org ws : List ℕ) (t : Tables) where
     removed_puts = record {
       orgs = gone.rest.orgs;
       tokens = gone.rest.tokens;
+      bounds = gone.rest.bounds;
       own = same_parts _ _ _ _ _ _ (row_removed org ws (runs_removed org ws purged_rows)) (versions_carried purged_rows (removed_rows org ws t) refl refl refl org ws ∙ gone.own) (runs_gone org ws purged_rows);
       others = λ a b other. same_parts _ _ _ _ _ _ (row_left org ws (runs_removed org ws purged_rows) a b other ∙ same_row a b)
           (versions_carried purged_rows (removed_rows org ws t) refl refl refl a b ∙ gone.others a b other) (runs_gone_other org ws purged_rows a b other ∙ same_runs a b);
@@ -105,13 +108,14 @@ module _ (org ws : List ℕ) (t : Tables) where
     purge_puts = record {
       orgs = gone.rest.orgs;
       tokens = gone.rest.tokens;
+      bounds = gone.rest.bounds;
       own = same_parts _ _ _ _ _ _ (same_row org ws ∙ sym (kept_row (workspace_of org ws t))) gone.own (same_runs org ws)
           ∙ changed_row (λ c. c) purged (versions_at t org ws) [] (runs_at t org ws) (runs_at t org ws) (λ c. refl) (workspace_of org ws t);
       others = λ a b other. same_parts _ _ _ _ _ _ (same_row a b) (gone.others a b other) (same_runs a b);
     }
 
   started_puts : (start : Option ℕ) → Puts org ws (option_map (started_if start) (workspace_by t org ws)) t (started_rows org ws start t)
-  started_puts None = record { orgs = refl; tokens = refl; own = kept (workspace_by t org ws); others = λ a b other. refl }
+  started_puts None = record { orgs = refl; tokens = refl; bounds = refl; own = kept (workspace_by t org ws); others = λ a b other. refl }
     where
       kept : (w : Option Workspace) → w ≡ option_map (started_if None) w
       kept None = refl
@@ -121,6 +125,7 @@ module _ (org ws : List ℕ) (t : Tables) where
       record {
         orgs = refl;
         tokens = refl;
+        bounds = refl;
         own = same_parts _ _ _ _ _ _ (row_changed org ws g t) (versions_carried t (started_rows org ws (Some n) t) refl refl refl org ws) (runs_begun org ws t n)
             ∙ changed_row (held_by (HeldByRun n)) (started n) (versions_at t org ws) (versions_at t org ws) (runs_at t org ws) (map (begun n) (runs_at t org ws)) (λ c. refl) (workspace_of org ws t);
         others = λ a b other. same_parts _ _ _ _ _ _ (row_unchanged org ws g t a b other) (versions_carried t (started_rows org ws (Some n) t) refl refl refl a b) (runs_begun_other org ws t n a b other);
@@ -133,7 +138,7 @@ module _ (org ws : List ℕ) (t : Tables) where
   there_puts f after puts = by_row (workspace_of org ws t) refl
     where
       by_row : (r : Option WorkspaceCells) → workspace_of org ws t ≡ r → Puts org ws (option_map f (workspace_by t org ws)) t (if_there r after t)
-      by_row None e = record { orgs = refl; tokens = refl; own = no_row f (versions_at t org ws) (runs_at t org ws) (workspace_of org ws t) e; others = λ a b other. refl }
+      by_row None e = record { orgs = refl; tokens = refl; bounds = refl; own = no_row f (versions_at t org ws) (runs_at t org ws) (workspace_of org ws t) e; others = λ a b other. refl }
       by_row (Some w) e = puts
 
   abbrev one_more : Version → Option ℕ → Workspace → Workspace
@@ -159,6 +164,7 @@ module _ (org ws : List ℕ) (t : Tables) where
     version_puts = record {
       orgs = come.rest.orgs;
       tokens = come.rest.tokens;
+      bounds = come.rest.bounds;
       own = same_parts _ _ _ _ _ _ (come_row org ws ∙ row_changed org ws (with_next_version (v.number + 1)) t)
           (come.own ∙ ap (λ (vs : List Version). left_above outgoing (vs ++ v ∷ [])) (versions_carried t with_number refl refl refl org ws)) (come_runs org ws)
           ∙ changed_row (with_next_version (v.number + 1)) (one_more v outgoing) (versions_at t org ws) (left_above outgoing (versions_at t org ws ++ v ∷ [])) (runs_at t org ws) (runs_at t org ws) (λ c. refl) (workspace_of org ws t);
@@ -173,6 +179,7 @@ module _ (org ws : List ℕ) (t : Tables) where
         there_puts (with_run (new_run number ask created)) (run_put org ws number ask created (run_counted org ws number t)) (record {
           orgs = refl;
           tokens = refl;
+          bounds = refl;
           own = same_parts _ _ _ _ _ _ (row_changed org ws (with_next_run (number + 1)) t) (versions_carried t (run_put org ws number ask created (run_counted org ws number t)) refl refl refl org ws) (runs_pushed org ws t new)
               ∙ changed_row (with_next_run (number + 1)) (with_run (new_run number ask created)) (versions_at t org ws) (versions_at t org ws) (runs_at t org ws) (runs_at t org ws ++ run_of_cells new ∷ []) (λ c. refl) (workspace_of org ws t);
           others = λ a b other. same_parts _ _ _ _ _ _ (row_unchanged org ws (with_next_run (number + 1)) t a b other) (versions_carried t (run_put org ws number ask created (run_counted org ws number t)) refl refl refl a b) (runs_pushed_other org ws t new a b other);
@@ -183,6 +190,7 @@ module _ (org ws : List ℕ) (t : Tables) where
     report_puts true = record {
       orgs = refl;
       tokens = refl;
+      bounds = refl;
       own = same_parts _ _ _ _ _ _ (row_changed org ws (held_by Nobody) t) (versions_carried t (freed_rows true org ws (run_acted status action org ws n t)) refl refl refl org ws) (runs_acted org ws t status action n)
           ∙ changed_row (held_by Nobody) (after_report n action status true) (versions_at t org ws) (versions_at t org ws) (runs_at t org ws) (map (reported n action status) (runs_at t org ws)) (λ c. refl) (workspace_of org ws t);
       others = λ a b other. same_parts _ _ _ _ _ _ (row_unchanged org ws (held_by Nobody) t a b other) (versions_carried t (freed_rows true org ws (run_acted status action org ws n t)) refl refl refl a b) (runs_acted_other org ws t status action n a b other);
@@ -190,6 +198,7 @@ module _ (org ws : List ℕ) (t : Tables) where
     report_puts false = record {
       orgs = refl;
       tokens = refl;
+      bounds = refl;
       own = same_parts _ _ _ _ _ _ (sym (kept_row (workspace_of org ws t))) (versions_carried t (run_acted status action org ws n t) refl refl refl org ws) (runs_acted org ws t status action n)
           ∙ changed_row (λ c. c) (after_report n action status false) (versions_at t org ws) (versions_at t org ws) (runs_at t org ws) (map (reported n action status) (runs_at t org ws)) (λ c. refl) (workspace_of org ws t);
       others = λ a b other. same_parts _ _ _ _ _ _ refl (versions_carried t (run_acted status action org ws n t) refl refl refl a b) (runs_acted_other org ws t status action n a b other);

@@ -12,6 +12,8 @@ use Rattle.machine.specs.declared.acts.Edit.TheVariants.{Make, Configure, Remove
 use Rattle.machine.specs.declared.records.Holder.TheVariants.{Nobody, Lock, Run as HoldingRun}
 use Rattle.machine.specs.declared.records.Version.{Version}
 use Rattle.machine.specs.declared.records.Run.{Run}
+use Rattle.machine.specs.declared.records.Token.{Token}
+use Rattle.machine.specs.declared.keeps.AdminAnswer.TheVariants.{Absent}
 use Rattle.machine.specs.declared.records.Workspace.{Workspace}
 use Rattle.machine.specs.declared.records.Organization.{Organization}
 use Rattle.statements.specs.declared.rows.Holder.TheVariants as cells
@@ -20,11 +22,12 @@ use Rattle.sqlite_schema.specs.declared.schema.Kind.TheVariants.{Blob}
 use Rattle.statements.specs.Rows.{Kept}
 use Rattle.statements.specs.Schema.{column, version_table}
 use Rattle.statements.specs.Tables.{Tables}
+use Rattle.statements.specs.Making.{raised}
 use Rattle.tables.specs.Records.{record_of}
 use Rattle.tables.specs.Opening.{has_versions_in}
 use Rattle.tables.specs.Sound.{IsSound}
 use Rattle.tables.specs.Inner.Edits.{so_many_gone, gone_below, edited_rows, changed_rows}
-use Rattle.tables.specs.Inner.Lists.{versions_listed_in, runs_listed_in}
+use Rattle.tables.specs.Inner.Lists.{versions_listed_in, runs_listed_in, tokens_told_in}
 
 abbrev acme : List ℕ
 acme = codes "acme"
@@ -53,10 +56,10 @@ version n body = record { number = n; serial = n; lineage = codes "a1"; created 
 abbrev run : ℕ → RunStatus → Run
 run n status = record { number = n; plan_only = false; key = None; message = codes "go"; created = 1_700_000_000; status = status; action = None }
 
--- two organizations, each with a workspace `prod`; that of acme is under a lock, and has two versions and a run
+-- two organizations, each with a workspace `prod`; that of acme is under a lock, and has two versions and a run, and its token ends and is for some
 abbrev two : Tables
 two = record {
-  metas = (pos 1, 1) ∷ [];
+  metas = [];
   orgs = (pos 1, record { name = acme; cap = 10 }) ∷ (pos 2, record { name = globex; cap = 1 }) ∷ [];
   tokens = (pos 1, record { org = acme; name = codes "ci"; it = record { digest = codes "01234567890123456789012345678901"; role = Write } }) ∷ [];
   wss =
@@ -75,6 +78,8 @@ two = record {
       ∷ (pos 2, record { org = globex; ws = prod; number = 1; place = 0; key = codes "{"; twin = 0 })
       ∷ (pos 3, record { org = acme; ws = prod; number = 2; place = 0; key = codes "{"; twin = 1 })
       ∷ [];
+  bounds = (pos 1, record { org = acme; name = codes "ci"; until = Some 1_800_000_000; prefix = codes "pr" }) ∷ [];
+  editions = (pos 1, 2) ∷ [];
 }
 
 -- the key that keeps a byte
@@ -84,10 +89,14 @@ first_byte page = take 1 page
 abbrev globex_has : Workspace → Option Organization
 globex_has w = Some (record { limit = 1; tokens = empty; workspaces = from_entries ((prod, w) ∷ []) })
 
+-- a token with its end and its prefix, from two rows
+abbrev ci : Token
+ci = record { digest = codes "01234567890123456789012345678901"; caller = record { role = Write; until = Some 1_800_000_000; prefix = codes "pr" } }
+
 abbrev acme_has : Workspace → Option Organization
 acme_has w = Some (record {
   limit = 10;
-  tokens = from_entries ((codes "ci", record { digest = codes "01234567890123456789012345678901"; caller = record { role = Write } }) ∷ []);
+  tokens = from_entries ((codes "ci", ci) ∷ []);
   workspaces = from_entries ((prod, w) ∷ []);
 })
 
@@ -186,7 +195,7 @@ canceled_and_freed = refl
 -- a workspace more, behind the other
 made : record_of (edited_rows first_byte acme (codes "dev") (Make (record { auto_apply = true })) two) acme ≡ Some (record {
   limit = 10;
-  tokens = from_entries ((codes "ci", record { digest = codes "01234567890123456789012345678901"; caller = record { role = Write } }) ∷ []);
+  tokens = from_entries ((codes "ci", ci) ∷ []);
   workspaces = from_entries ((prod, of_acme) ∷ (codes "dev", record { settings = record { auto_apply = true }; holder = Nobody; released = None; next_version = 1; next_run = 1; versions = []; runs = [] }) ∷ []);
 })
 unfolding so_many_gone gone_below
@@ -195,7 +204,7 @@ made = refl
 -- a workspace goes with its versions and its run, and all that is left of it is nothing
 removed : record_of (edited_rows first_byte acme prod Remove two) acme ≡ Some (record {
   limit = 10;
-  tokens = from_entries ((codes "ci", record { digest = codes "01234567890123456789012345678901"; caller = record { role = Write } }) ∷ []);
+  tokens = from_entries ((codes "ci", ci) ∷ []);
   workspaces = empty;
 })
 unfolding so_many_gone gone_below
@@ -220,7 +229,7 @@ made_anew = refl
 -- a limit below what there is: the workspace stays
 limited : record_of (org_capped acme 0 two) acme ≡ Some (record {
   limit = 0;
-  tokens = from_entries ((codes "ci", record { digest = codes "01234567890123456789012345678901"; caller = record { role = Write } }) ∷ []);
+  tokens = from_entries ((codes "ci", ci) ∷ []);
   workspaces = from_entries ((prod, of_acme) ∷ []);
 })
 limited = refl
@@ -231,7 +240,34 @@ limited_other = refl
 revoked : record_of (token_removed acme (codes "ci") two) acme ≡ Some (record { limit = 10; tokens = empty; workspaces = from_entries ((prod, of_acme) ∷ []) })
 revoked = refl
 
+-- and how far it reached goes with it
+reach_revoked : (token_removed acme (codes "ci") two).bounds ≡ []
+reach_revoked = refl
+
+-- ---- the first version
+
+-- no row tells how far its token reaches: it doesn't end, and is for all workspaces
+abbrev first : Tables
+first = record two { metas = (pos 1, 1) ∷ []; bounds = []; editions = [] }
+
+first_record : record_of first acme ≡ Some (record {
+  limit = 10;
+  tokens = from_entries ((codes "ci", record ci { caller = record { role = Write; until = None; prefix = [] } }) ∷ []);
+  workspaces = from_entries ((prod, of_acme) ∷ []);
+})
+first_record = refl
+
+-- as tables of the second version each token has a row, and the record is the same
+first_raised : (raised first).bounds ≡ (pos 1, record { org = acme; name = codes "ci"; until = None; prefix = [] }) ∷ []
+first_raised = refl
+
+raised_record : record_of (raised first) acme ≡ record_of first acme
+raised_record = refl
+
 -- ---- lists
+
+tokens_of_none : tokens_told_in (codes "initech") two ≡ Absent
+tokens_of_none = refl
 
 versions_behind : versions_listed_in 1 acme prod two ≡ record { items = record { created = 1_700_000_000; lineage = codes "a1"; number = 2; serial = 2; size = 12 } ∷ []; more = false }
 versions_behind = refl
@@ -250,10 +286,31 @@ orphaned_is_not sound = true≢false (sym sound.versions_owned.0)
 
 -- another version
 abbrev later : Tables
-later = record two { metas = (pos 1, 2) ∷ [] }
+later = record two { editions = (pos 1, 3) ∷ [] }
 
 later_is_not : IsSound later → ⊥
-later_is_not sound = true≢false (ap (list_any (λ (x : Kept ℕ). x.1 == 2)) sound.told)
+later_is_not sound = true≢false (ap (list_any (λ (x : Kept ℕ). x.1 == 3)) sound.told.0)
+
+-- a version that meta tells too
+abbrev twice_told : Tables
+twice_told = record two { metas = (pos 1, 1) ∷ [] }
+
+twice_told_is_not : IsSound twice_told → ⊥
+twice_told_is_not sound = true≢false (ap (list_any (λ (x : Kept ℕ). x.1 == 1)) sound.told.1)
+
+-- a token of which no row tells how far it reaches
+abbrev unbound : Tables
+unbound = record two { bounds = [] }
+
+unbound_is_not : IsSound unbound → ⊥
+unbound_is_not sound = true≢false (sym sound.tokens_bound.0)
+
+-- how far a token reaches that isn't there
+abbrev tokenless : Tables
+tokenless = record two { tokens = [] }
+
+tokenless_is_not : IsSound tokenless → ⊥
+tokenless_is_not sound = true≢false (sym sound.bounds_owned.0)
 
 -- two rows of one organization
 abbrev doubled : Tables

@@ -7,10 +7,11 @@ use Rattle.sqlite.specs.Steps.{FailsToCommit}
 use Rattle.sqlite.specs.State.{State, Shows, KeepsCounts, KeepsCommit}
 use Rattle.sqlite.specs.declared.error.Error.{Error}
 use Rattle.statements.specs.Steps.{Moves}
-use Rattle.statements.specs.Making.{Alters, HasSchema}
+use Rattle.statements.specs.Making.{Alters, HasSchema, Raises}
 use Rattle.statements.specs.Tables.{Tables, Holds}
 use Rattle.tables.specs.Inner.Steps.{IsSettled, Commits}
-use Rattle.tables.specs.Inner.Making.{IsMade}
+use Rattle.tables.specs.Inner.Making.{IsMade, StepsFrom, KeepsBeside}
+use Rattle.tables.proofs.Raising.{first_becomes}
 
 -- what a commit promises where it is done
 abbrev pub Ends : State → State → Type 0
@@ -55,4 +56,24 @@ module _ {S : Type 0} (g : Ghosts S) (h k l m : Held S) (settled : IsSettled (st
       (record { schema = subst (λ (d : Database). HasSchema (state g h).now d) (sym ends.1.committed_is) from.change; was_open = from.was_open; is_open = ends.1.is_open }, tt)
   made_by (Err e) made ends fails =
       let from : Alters HasSchema (state g (record h { in_transaction = true })) (state g l) = subst (λ x. Alters HasSchema (state g x) (state g l)) begun made in
+      (tt, failed (state g h) (state g l) (state g m) e (λ _. from.was_open) (λ _. from.committed) fails)
+
+  -- what was raised is committed
+  raises_to : Alters Raises (state g k) (state g l) → Ends (state g l) (state g m) → Raises (state g h).committed (state g m).committed
+  raises_to raised ends =
+      let from : Alters Raises (state g (record h { in_transaction = true })) (state g l) = subst (λ x. Alters Raises (state g x) (state g l)) begun raised in
+      subst (λ (d : Database). Raises d (state g m).committed) (settled from.was_open) (subst (λ (d : Database). Raises (state g h).now d) (sym ends.1.committed_is) from.change)
+
+  -- tables of others beside the first version's are kept
+  pub beside_by : {X : Type 0} (result : Result X Error) → Alters Raises (state g k) (state g l) → OnOk result (Ends (state g l) (state g m)) → OnOk result (KeepsBeside (state g h).committed (state g m).committed)
+  beside_by (Ok x) raised ends = (raises_to raised ends).foreign
+  beside_by (Err e) raised ends = tt
+
+  -- the first version has become the second
+  pub climbs_by : {X : Type 0} (result : Result X Error) → Alters Raises (state g k) (state g l) → OnOk result (Ends (state g l) (state g m)) → IfErr result (FailsToCommit (state g l) (state g m)) → StepsFrom 1 (state g h) (state g m) result
+  climbs_by (Ok x) raised ends fails =
+      let from : Alters Raises (state g (record h { in_transaction = true })) (state g l) = subst (λ x. Alters Raises (state g x) (state g l)) begun raised in
+      ((record { was_open = λ _. from.was_open; becomes = λ _. first_becomes (state g h).committed (state g m).committed (raises_to raised ends) }, ends.1.is_open), tt)
+  climbs_by (Err e) raised ends fails =
+      let from : Alters Raises (state g (record h { in_transaction = true })) (state g l) = subst (λ x. Alters Raises (state g x) (state g l)) begun raised in
       (tt, failed (state g h) (state g l) (state g m) e (λ _. from.was_open) (λ _. from.committed) fails)

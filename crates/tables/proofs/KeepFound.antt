@@ -1,15 +1,19 @@
 -- What is found by more than one query.
-use Rattle.std.proofs.Common.{◌≡◌, List, ℕ, Option, Some, None, Result, Ok, Err, sym, ap, ◌∙◌, subst}
+use Rattle.std.proofs.Common.{◌≡◌, false, List, ℕ, Option, Some, None, is_none, option_map, Result, Ok, Err, IfOk, sym, ap, ◌∙◌, subst}
 use Rattle.sqlite.specs.Effect.{Database}
 use Rattle.sqlite.specs.State.{State, IsUnchanged}
 use Rattle.machine.specs.Needs.{Needed}
 use Rattle.machine.specs.declared.acts.Unit.{Unit}
 use Rattle.statements.specs.declared.rows.Workspace.{Workspace as WorkspaceCells}
-use Rattle.statements.specs.Finds.{workspace_of}
+use Rattle.machine.specs.declared.keeps.AdminAnswer.TheVariants.{Tokens}
+use Rattle.machine.specs.declared.keeps.TokenRow.{TokenRow}
+use Rattle.statements.specs.Finds.{cap_of, workspace_of}
+use Rattle.statements.specs.Listings.{TokensApart}
 use Rattle.statements.specs.Tables.{Tables, Holds}
 use Rattle.tables.specs.Inner.Units.{unit_at, unit_in}
-use Rattle.tables.specs.Inner.Looks.{SeesBy, absent_in, present_in}
-use Rattle.tables.specs.Inner.Lists.{SeesWhere}
+use Rattle.tables.specs.Inner.Looks.{SeesBy, Sees, absent_in, present_in}
+use Rattle.tables.specs.Inner.Lists.{SeesWhere, tokens_listed_in, tokens_told_by, tokens_told_in}
+use Rattle.tables.proofs.KeepManaged.{unchanged_stays, stays_then}
 
 -- a look at rows that obey a law, behind a query
 pub seen_behind : {X E : Type 0} (law : Tables → Type 0) (read seen : Tables → X) (a b d : State) (result : Result X E) → ((t : Tables) → Holds a.now t → law t → seen t ≡ read t)
@@ -44,3 +48,57 @@ unit_by_row need org ws w a b d o (Ok x) is read same sees clean =
 unit_by_row need org ws w a b d o (Err e) is read same sees clean =
     let seen = sees clean in
     (tt, (tt, record { was_open = λ _. same.0.was_open; committed = λ open_is. seen.1.1.committed open_is ∙ same.0.committed_is }))
+
+-- what the row that was found is read as
+pub seen_value : {A X E : Type 0} (q : Tables → Option A) (read : Tables → X) (x : A) (value : X) (a b : State) (o : Option A) (result : Result X E) → o ≡ Some x → ((t : Tables) → Holds a.now t → o ≡ q t) → IsUnchanged a b
+    → ((t : Tables) → q t ≡ Some x → value ≡ read t) → IfOk result (λ y. y ≡ value) → SeesBy read a b result
+seen_value q read x value a b o (Ok y) is found same means told clean = (λ open_is t held. told ∙ means t (sym (found t held) ∙ is), (unchanged_stays a b same, tt))
+seen_value q read x value a b o (Err e) is found same means told clean = (tt, (tt, record { was_open = λ _. same.0.was_open; committed = λ open_is. same.0.committed_is }))
+
+-- what is looked up for a row that was found
+pub seen_mapped : {A X : Type 0} (E F : Type 0) (q : Tables → Option A) (f : Tables → A → X) (x : A) (y : X) (a b d : State) (o : Option A) → o ≡ Some x → ((t : Tables) → Holds a.now t → o ≡ q t) → IsUnchanged a b
+    → SeesBy {E = E} (λ t. f t x) b d (Ok y) → SeesBy {E = F} (λ t. option_map (f t) (q t)) a d (Ok (Some y))
+seen_mapped E F q f x y a b d o is found same sees clean =
+    let told = sees clean in (
+      λ open_is t held. ap Some (told.0 open_is t (subst (λ (db : Database). Holds db t) (sym same.0.now_is) held)) ∙ ap (option_map (f t)) (sym is ∙ found t held),
+      (stays_then a b d (unchanged_stays a b same) told.1.0, tt),
+    )
+
+-- the tokens of an organization that is there
+pub tokens_seen : (E F : Type 0) (org : List ℕ) (a b d : State) (o : Option ℕ) (rows : List TokenRow) → is_none o ≡ false → ((t : Tables) → Holds a.now t → o ≡ cap_of org t) → IsUnchanged a b
+    → SeesWhere {E = E} TokensApart (tokens_listed_in org) b d (Ok rows) → SeesWhere {E = F} TokensApart (tokens_told_in org) a d (Ok (Tokens rows))
+tokens_seen E F org a b d None rows there found same sees clean = absurd (cc)
+tokens_seen E F org a b d (Some cap) rows there found same sees clean =
+    let told = sees clean in (
+      λ open_is t held apart. ap Tokens (told.0 open_is t (subst (λ (db : Database). Holds db t) (sym same.0.now_is) held) apart) ∙ ap (λ (c : Option ℕ). tokens_told_by c org t) (found t held),
+      (stays_then a b d (unchanged_stays a b same) told.1.0, tt),
+    )
+
+-- what four looks, one after the other, find
+module _ {P Q R T X : Type 0} (E F G H I : Type 0) (p : Tables → P) (q : Tables → Q) (r : Tables → R) (s : Tables → T) (make : P → Q → R → T → X) (x : P) (y : Q) (z : R) (w : T) (a b c d e : State) where
+  pub seen_four : Sees {E = E} p a b (Ok x) → Sees {E = F} q b c (Ok y) → Sees {E = G} r c d (Ok z) → Sees {E = H} s d e (Ok w) → Sees {E = I} (λ t. make (p t) (q t) (r t) (s t)) a e (Ok (make x y z w))
+  seen_four one two three four = record {
+    mode = λ idle. four.mode (three.mode (two.mode (one.mode idle)));
+    so_far = λ clean. one.so_far (two.so_far (three.so_far (four.so_far clean)));
+    sees = λ clean.
+        let last = four.sees clean in
+        let third = three.sees (four.so_far clean) in
+        let second = two.sees (three.so_far (four.so_far clean)) in
+        let first = one.sees (two.so_far (three.so_far (four.so_far clean))) in (
+          λ open_is t held.
+              let open_d = last.1.0.was_open open_is in
+              let open_c = third.1.0.was_open open_d in
+              let open_b = second.1.0.was_open open_c in
+              let held_b : Holds b.now t = subst (λ (db : Database). Holds db t) (sym (first.1.0.now open_b)) held in
+              let held_c : Holds c.now t = subst (λ (db : Database). Holds db t) (sym (second.1.0.now open_c)) held_b in
+              let held_d : Holds d.now t = subst (λ (db : Database). Holds db t) (sym (third.1.0.now open_d)) held_c in
+              λ i. make (first.0 open_b t held i) (second.0 open_c t held_b i) (third.0 open_d t held_c i) (last.0 open_is t held_d i),
+          (stays_then a b e first.1.0 (stays_then b c e second.1.0 (stays_then c d e third.1.0 last.1.0)), tt),
+        );
+  }
+
+-- rows that a query read, as they are shown
+pub seen_shown : {A X E : Type 0} (law : Tables → Type 0) (q : Tables → A) (f : A → X) (x : A) (a b : State) (result : Result X E) → ((t : Tables) → Holds a.now t → law t → x ≡ q t) → IsUnchanged a b → IfOk result (λ y. y ≡ f x)
+    → SeesWhere law (λ t. f (q t)) a b result
+seen_shown law q f x a b (Ok y) read same told clean = (λ open_is t held lawful. told ∙ ap f (read t held lawful), (unchanged_stays a b same, tt))
+seen_shown law q f x a b (Err e) read same told clean = (tt, (tt, record { was_open = λ _. same.0.was_open; committed = λ open_is. same.0.committed_is }))

@@ -3,10 +3,11 @@ use Rattle.std.proofs.Common.{◌≡◌, ℕ, Bool, true, false, cond, List, is_
 use Rattle.sqlite.specs.Effect.{Database}
 use Rattle.sqlite.specs.State.{State, IsUnchanged}
 use Rattle.basis.specs.declared.roles.Role.{Role}
+use Rattle.basis.specs.declared.roles.Bounds.{Bounds}
 use Rattle.machine.specs.Effects.{Effect, effect}
 use Rattle.machine.specs.declared.keeps.AdminAnswer.{AdminAnswer}
 use Rattle.machine.specs.declared.keeps.AdminAnswer.TheVariants.{Done, Exists, Absent}
-use Rattle.statements.specs.Changes.{org_row_added, org_capped, token_row_added, token_removed}
+use Rattle.statements.specs.Changes.{org_row_added, org_capped, token_added, token_removed}
 use Rattle.statements.specs.Finds.{cap_of, role_of_name}
 use Rattle.statements.specs.Tables.{Tables, Holds}
 use Rattle.tables.specs.Inner.Looks.{StaysSeen}
@@ -62,22 +63,30 @@ pub org_missing : (org : List ℕ) (limit : ℕ) (t : Tables) (o : Option ℕ) �
 org_missing org limit t None is e = ap (λ c. org_managed_by c org limit t) (sym e)
 org_missing org limit t (Some cap) is e = absurd (cc)
 
+pub limit_nowhere : (org : List ℕ) (limit : ℕ) (t : Tables) (o : Option ℕ) → is_none o ≡ true → o ≡ cap_of org t → limit_managed org limit t ≡ effect Absent t
+limit_nowhere org limit t None is e = ap (λ c. limit_managed_by c org limit t) (sym e)
+limit_nowhere org limit t (Some cap) is e = absurd (cc)
+
 pub limit_there : (org : List ℕ) (limit : ℕ) (t : Tables) (o : Option ℕ) → is_none o ≡ false → o ≡ cap_of org t → limit_managed org limit t ≡ effect Done (org_capped org limit t)
 limit_there org limit t None is e = absurd (cc)
 limit_there org limit t (Some cap) is e = ap (λ c. limit_managed_by c org limit t) (sym e)
 
 -- ---- a token
 
+pub revocation_nowhere : (org name : List ℕ) (t : Tables) (o : Option Role) → is_none o ≡ true → o ≡ role_of_name org name t → revocation_managed org name t ≡ effect Absent t
+revocation_nowhere org name t None is e = ap (λ r. revocation_managed_by r org name t) (sym e)
+revocation_nowhere org name t (Some role) is e = absurd (cc)
+
 pub revocation_there : (org name : List ℕ) (t : Tables) (o : Option Role) → is_none o ≡ false → o ≡ role_of_name org name t → revocation_managed org name t ≡ effect Done (token_removed org name t)
 revocation_there org name t None is e = absurd (cc)
 revocation_there org name t (Some role) is e = ap (λ r. revocation_managed_by r org name t) (sym e)
 
-module _ (org name digest : List ℕ) (role : Role) (t : Tables) where
-  pub token_nowhere : (o : Option ℕ) → is_none o ≡ true → o ≡ cap_of org t → token_managed org name digest role t ≡ effect Absent t
-  token_nowhere None is e = ap (λ c. token_managed_by c (is_taken org name digest t) org name digest role t) (sym e)
+module _ (org name digest : List ℕ) (role : Role) (bounds : Bounds) (t : Tables) where
+  pub token_nowhere : (o : Option ℕ) → is_none o ≡ true → o ≡ cap_of org t → token_managed org name digest role bounds t ≡ effect Absent t
+  token_nowhere None is e = ap (λ c. token_managed_by c (is_taken org name digest t) org name digest role bounds t) (sym e)
   token_nowhere (Some cap) is e = absurd (cc)
 
   pub token_there : (o : Option ℕ) (taken : Bool) → is_none o ≡ false → o ≡ cap_of org t → taken ≡ is_taken org name digest t
-      → token_managed org name digest role t ≡ cond taken (effect Exists t) (effect Done (token_row_added org name digest role t))
+      → token_managed org name digest role bounds t ≡ cond taken (effect Exists t) (effect Done (token_added org name digest role bounds.until bounds.prefix t))
   token_there None taken is e f = absurd (cc)
-  token_there (Some cap) taken is e f = λ i. token_managed_by (sym e i) (sym f i) org name digest role t
+  token_there (Some cap) taken is e f = λ i. token_managed_by (sym e i) (sym f i) org name digest role bounds t

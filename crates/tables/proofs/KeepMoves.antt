@@ -119,7 +119,7 @@ module _ {S : Type 0} (g : Ghosts S) where
           let look = one_look (state g a.conn.now) (state g b.conn.now) seen.1 in (
             moved_behind (λ t. t) h (state g a.conn.now) (state g b.conn.now) (state g b.conn.now) look seen.0 (record {
               rows = λ t holds. holds;
-              others = λ t holds. record { schema = refl; rows = λ other own apart. refl };
+              others = λ t holds. record { schema = refl; rows = λ other own passive apart. refl };
               was_open = seen.1.0.is_open;
               is_open = seen.1.0.is_open;
               committed = refl;

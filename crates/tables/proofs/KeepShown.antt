@@ -1,9 +1,11 @@
 -- From the rows of a connection to the records of its store.
-use Rattle.std.proofs.Common.{◌≡◌, ◌≢◌, ℕ, ◌<◌, ◌≤◌, ◌||◌, List, [], length, is_some, Option, Some, None, option_map, IsTrue, refl, sym, ap, ◌∙◌, subst}
+use Rattle.std.proofs.Common.{◌≡◌, ◌≢◌, ℕ, ◌<◌, ◌≤◌, ◌||◌, List, [], length, is_some, Option, Some, None, IfSome, option_map, IsTrue, refl, sym, ap, ◌∙◌, subst}
 use Rattle.sqlite.specs.Effect.{Database}
 use Rattle.sqlite.specs.State.{State}
-use Rattle.basis.specs.Names.{is_org_name, is_ws_name}
+use Rattle.basis.specs.Names.{is_org_name, is_ws_name, is_prefix}
 use Rattle.basis.specs.declared.roles.Role.{Role}
+use Rattle.basis.specs.declared.roles.Bounds.{Bounds}
+use Rattle.machine.specs.Ranges.{IsMoment}
 use Rattle.basis.specs.declared.roles.Caller.{Caller}
 use Rattle.machine.specs.Effects.{Effect, effect}
 use Rattle.machine.specs.Records.{workspace_in, placed, seen_in}
@@ -20,7 +22,7 @@ use Rattle.machine.specs.declared.records.Token.{Token}
 use Rattle.machine.specs.declared.records.Organization.{Organization}
 use Rattle.machine.specs.declared.keeps.AdminAnswer.{AdminAnswer}
 use Rattle.machine.specs.declared.keeps.AdminAnswer.TheVariants.{Done, Exists, Absent}
-use Rattle.statements.specs.Changes.{org_row_added, org_capped, token_row_added, token_removed}
+use Rattle.statements.specs.Changes.{org_row_added, org_capped, token_added, token_removed}
 use Rattle.statements.specs.Finds.{cap_of, role_of_name, role_of_digest}
 use Rattle.statements.specs.Tables.{Tables, Holds, tables_of}
 use Rattle.statements.proofs.Decoding.{tables-held}
@@ -35,8 +37,8 @@ use Rattle.basis.specs.declared.rows.WsRow.{WsRow}
 use Rattle.machine.specs.Showing as showing
 use Rattle.machine.specs.Tokens.{AreOrganizations}
 use Rattle.machine.specs.declared.keeps.OrgRow.{OrgRow}
-use Rattle.statements.specs.Listings.{OrgsApart, WorkspacesApart, VersionsRise, RunsRise}
-use Rattle.tables.specs.Inner.Lists.{versions_listed_in, runs_listed_in, workspaces_listed_in, organizations_listed_in}
+use Rattle.statements.specs.Listings.{OrgsApart, TokensApart, WorkspacesApart, VersionsRise, RunsRise}
+use Rattle.tables.specs.Inner.Lists.{versions_listed_in, runs_listed_in, workspaces_listed_in, tokens_told_in, organizations_listed_in}
 use Rattle.tables.specs.Inner.Units.{text_in, unit_in}
 use Rattle.tables.specs.Stores.{records_of, IsSoundStore}
 use Rattle.tables.specs.Opening.{IsSoundKeep}
@@ -47,6 +49,7 @@ use Rattle.tables.proofs.Revoking.{revoke_absent, revoke_done, revoke_other, rev
 use Rattle.tables.proofs.Finding.{unit_found, text_found}
 use Rattle.tables.proofs.Listed.{versions_told, runs_told, versions_rise, runs_rise, no_versions_after, no_runs_after, workspaces_told}
 use Rattle.tables.proofs.OrgLists.{organizations_told}
+use Rattle.tables.proofs.TokenLists.{tokens_told}
 use Rattle.tables.proofs.Stores.{store_by, records_by, store_changed_own, store_changed_other, store_changed_keeps, store_org_done, store_org_other, store_org_keeps, store_token_done, store_token_other, store_token_keeps}
 
 module _ (db : Database) (a : State) (s : IsSoundKeep db a) where
@@ -88,9 +91,12 @@ module _ (db : Database) (a : State) (s : IsSoundKeep db a) where
   pub no_runs_shown : (org ws : List ℕ) (after : ℕ) (list : Listing RunRow) → 1_000_000_000 < after → list ≡ listing_of [] → list ≡ showing.runs_after after (workspace_in (records_of db org) ws)
   no_runs_shown org ws after list beyond none = none ∙ no_runs_after now org ws s.store.sound after beyond
 
-  pub workspaces_shown : (org : List ℕ) (after : Option (List ℕ)) (list : Listing WsRow) → IsTrue a.is_open × ((t : Tables) → Holds a.committed t → WorkspacesApart t → list ≡ workspaces_listed_in (unwrap_or after []) org t)
-      → list ≡ showing.workspaces_after after (records_of db org)
-  workspaces_shown org after list told = told.1 now (held told.0) s.store.sound.wss_apart ∙ workspaces_told now org s.store.sound after
+  pub workspaces_shown : (org : List ℕ) (after : Option (List ℕ)) (prefix : List ℕ) (list : Listing WsRow)
+      → IsTrue a.is_open × ((t : Tables) → Holds a.committed t → WorkspacesApart t → list ≡ workspaces_listed_in (unwrap_or after []) prefix org t) → list ≡ showing.workspaces_after after prefix (records_of db org)
+  workspaces_shown org after prefix list told = told.1 now (held told.0) s.store.sound.wss_apart ∙ workspaces_told now org s.store.sound after prefix
+
+  pub tokens_shown : (org : List ℕ) (answer : AdminAnswer) → IsTrue a.is_open × ((t : Tables) → Holds a.committed t → TokensApart t → answer ≡ tokens_told_in org t) → answer ≡ tokens.tokens_told (records_of db org)
+  tokens_shown org answer told = told.1 now (held told.0) s.store.sound.tokens_apart ∙ tokens_told now org
 
   pub organizations_shown : (rows : List OrgRow) → IsTrue a.is_open × ((t : Tables) → Holds a.committed t → OrgsApart t → rows ≡ organizations_listed_in t) → AreOrganizations (records_of db) rows
   organizations_shown rows told = subst (AreOrganizations (records_of db)) (sym (told.1 now (held told.0) s.store.sound.orgs_apart)) (organizations_told now s.store.sound)
@@ -217,31 +223,31 @@ module _ (db : Database) (a : State) (s : IsSoundKeep db a) where
 
     -- ---- a token
 
-    module _ (org name digest : List ℕ) (role : Role) (answer : AdminAnswer) (m : Manages (token_managed org name digest role) a b answer) where
+    module _ (org name digest : List ℕ) (role : Role) (bounds : Bounds) (answer : AdminAnswer) (m : Manages (token_managed org name digest role bounds) a b answer) where
       abbrev by : Option ℕ → Option Role → Option Role → Effect AdminAnswer Tables
-      by c n d = token_managed_by c (is_some n || is_some d) org name digest role now
+      by c n d = token_managed_by c (is_some n || is_some d) org name digest role bounds now
 
       told_by : (c : Option ℕ) (n d : Option Role) → cap_of org now ≡ c → role_of_name org name now ≡ n → role_of_digest org digest now ≡ d → (answer ≡ (by c n d).answer) × Holds b.committed (by c n d).left
       told_by c n d e f h =
           subst (λ (x : Effect AdminAnswer Tables). (answer ≡ x.answer) × Holds b.committed x.left) (λ i. by (e i) (f i) (h i)) (m.answer_is now (held m.was_open), m.rows now (held m.was_open))
 
-      told_as : (x y : AdminAnswer) (r : Option Organization) → x ≡ y → effect y r ≡ tokens.token_added name (token_of digest role) (records_of db org) → records_of b.committed org ≡ r
-          → effect x (records_of b.committed org) ≡ tokens.token_added name (token_of digest role) (records_of db org)
+      told_as : (x y : AdminAnswer) (r : Option Organization) → x ≡ y → effect y r ≡ tokens.token_added name (token_of digest role bounds) (records_of db org) → records_of b.committed org ≡ r
+          → effect x (records_of b.committed org) ≡ tokens.token_added name (token_of digest role bounds) (records_of db org)
       told_as x y r e f g = (λ i. effect (e i) (g i)) ∙ f
 
-      pub token_told : effect answer (records_of b.committed org) ≡ tokens.token_added name (token_of digest role) (records_of db org)
+      pub token_told : effect answer (records_of b.committed org) ≡ tokens.token_added name (token_of digest role bounds) (records_of db org)
       token_told = go (cap_of org now) (role_of_name org name now) (role_of_digest org digest now) refl refl refl
         where
           go : (c : Option ℕ) (n d : Option Role) → cap_of org now ≡ c → role_of_name org name now ≡ n → role_of_digest org digest now ≡ d
-              → effect answer (records_of b.committed org) ≡ tokens.token_added name (token_of digest role) (records_of db org)
-          go None n d e f h = let t = told_by None n d e f h in told_as answer Absent (records_of db org) t.0 (token_absent now s.store.sound org name digest role e) (records_by b.committed now t.1 org)
+              → effect answer (records_of b.committed org) ≡ tokens.token_added name (token_of digest role bounds) (records_of db org)
+          go None n d e f h = let t = told_by None n d e f h in told_as answer Absent (records_of db org) t.0 (token_absent now s.store.sound org name digest role bounds e) (records_by b.committed now t.1 org)
           go (Some cap) (Some r) d e f h =
-              let t = told_by (Some cap) (Some r) d e f h in told_as answer Exists (records_of db org) t.0 (token_named now s.store.sound org name digest role cap e r f) (records_by b.committed now t.1 org)
+              let t = told_by (Some cap) (Some r) d e f h in told_as answer Exists (records_of db org) t.0 (token_named now s.store.sound org name digest role bounds cap e r f) (records_by b.committed now t.1 org)
           go (Some cap) None (Some r) e f h =
-              let t = told_by (Some cap) None (Some r) e f h in told_as answer Exists (records_of db org) t.0 (token_known now s.store.sound org name digest role cap e r h) (records_by b.committed now t.1 org)
+              let t = told_by (Some cap) None (Some r) e f h in told_as answer Exists (records_of db org) t.0 (token_known now s.store.sound org name digest role bounds cap e r h) (records_by b.committed now t.1 org)
           go (Some cap) None None e f h =
               let t = told_by (Some cap) None None e f h in
-              told_as answer Done (records_of b.committed org) t.0 (store_token_done db b.committed s.store org name digest role (at_all (token_row_added org name digest role) t.1) cap e f h) refl
+              told_as answer Done (records_of b.committed org) t.0 (store_token_done db b.committed s.store org name digest role bounds (at_all (token_added org name digest role bounds.until bounds.prefix) t.1) cap e f h) refl
 
       pub token_others : (q : List ℕ) → q ≢ org → records_of b.committed q ≡ records_of db q
       token_others q apart = go (cap_of org now) (role_of_name org name now) (role_of_digest org digest now) refl refl refl
@@ -250,14 +256,14 @@ module _ (db : Database) (a : State) (s : IsSoundKeep db a) where
           go None n d e f h = records_by b.committed now (told_by None n d e f h).1 q
           go (Some cap) (Some r) d e f h = records_by b.committed now (told_by (Some cap) (Some r) d e f h).1 q
           go (Some cap) None (Some r) e f h = records_by b.committed now (told_by (Some cap) None (Some r) e f h).1 q
-          go (Some cap) None None e f h = store_token_other db b.committed s.store org name digest role (at_all (token_row_added org name digest role) (told_by (Some cap) None None e f h).1) q apart
+          go (Some cap) None None e f h = store_token_other db b.committed s.store org name digest role bounds (at_all (token_added org name digest role bounds.until bounds.prefix) (told_by (Some cap) None None e f h).1) q apart
 
-      pub token_keeps : IsTrue (is_org_name name) → length digest ≡ 32 → IsSoundKeep b.committed b
-      token_keeps named long = record { store = go (cap_of org now) (role_of_name org name now) (role_of_digest org digest now) refl refl refl; tied = λ _. refl }
+      pub token_keeps : IsTrue (is_org_name name) → length digest ≡ 32 → IfSome bounds.until IsMoment → IsTrue (is_prefix bounds.prefix) → IsSoundKeep b.committed b
+      token_keeps named long ends begins = record { store = go (cap_of org now) (role_of_name org name now) (role_of_digest org digest now) refl refl refl; tied = λ _. refl }
         where
           go : (c : Option ℕ) (n d : Option Role) → cap_of org now ≡ c → role_of_name org name now ≡ n → role_of_digest org digest now ≡ d → IsSoundStore b.committed
           go None n d e f h = store_by b.committed now (told_by None n d e f h).1 s.store.sound
           go (Some cap) (Some r) d e f h = store_by b.committed now (told_by (Some cap) (Some r) d e f h).1 s.store.sound
           go (Some cap) None (Some r) e f h = store_by b.committed now (told_by (Some cap) None (Some r) e f h).1 s.store.sound
           go (Some cap) None None e f h =
-              store_token_keeps db b.committed s.store org name digest role (at_all (token_row_added org name digest role) (told_by (Some cap) None None e f h).1) cap e named long f h
+              store_token_keeps db b.committed s.store org name digest role bounds (at_all (token_added org name digest role bounds.until bounds.prefix) (told_by (Some cap) None None e f h).1) cap e named long ends begins f h

@@ -1,5 +1,5 @@
 -- Sound tables stay sound.
-use Rattle.std.proofs.Common.{◌≡◌, ℕ, ◌≤◌, nat_lt, Bool, true, false, List, [], ◌∷◌, ◌++◌, find, length, is_some, Option, Some, None, IfSome, IsTrue, option_map, refl, sym, ap, subst, ◌∙◌, arith}
+use Rattle.std.proofs.Common.{◌≡◌, ℕ, ◌≤◌, nat_lt, Bool, true, false, ◌||◌, List, [], ◌∷◌, ◌++◌, find, length, is_some, Option, Some, None, IfSome, IsTrue, option_map, refl, sym, ap, subst, ◌∙◌, arith}
 use Rattle.std.specs.Str.{bytes_eq}
 use Rattle.std.specs.List.{AllByRecursion, list_any}
 use Rattle.std.specs.FinMap.{get, empty, len-entries, len-empty}
@@ -7,8 +7,10 @@ use Rattle.sqlite_keyed.specs.Keyed.{next_key}
 use Rattle.sqlite_keyed.specs.Rules.{AreApart}
 use Rattle.sqlite_keyed.proofs.ListLemmas.{all_weaker, all-append, none_from_any}
 use Rattle.sqlite_keyed.proofs.SliceLemmas.{any_is_found}
-use Rattle.basis.specs.Names.{is_org_name, is_ws_name}
+use Rattle.basis.specs.Names.{is_org_name, is_ws_name, is_prefix}
 use Rattle.basis.specs.declared.roles.Role.{Role}
+use Rattle.basis.specs.declared.roles.Bounds.{Bounds}
+use Rattle.machine.specs.Ranges.{IsMoment}
 use Rattle.machine.specs.Order.{name_cmp}
 use Rattle.machine.specs.Laws.{IsLawful, IsLawfulIfThere, IsNamedWorkspace}
 use Rattle.machine.specs.Records.{seen_in, standing, count_of, placed}
@@ -20,44 +22,52 @@ use Rattle.machine.specs.declared.records.Workspace.{Workspace}
 use Rattle.machine.specs.declared.records.Organization.{Organization}
 use Rattle.machine.proofs.RuleLemmas.{rules_are_lawful}
 use Rattle.machine.proofs.KeepLemmas.{standing_is}
-use Rattle.statements.specs.Rows.{Kept, id_of, OrgRow, TokenRow}
+use Rattle.statements.specs.Rows.{Kept, id_of, OrgRow, TokenRow, BoundRow}
 use Rattle.statements.specs.Tables.{Tables, no_rows}
-use Rattle.statements.specs.Changes.{is_org, is_token, is_digest_of, org_row_added, token_row_added}
+use Rattle.statements.specs.Changes.{is_org, is_token, is_digest_of, is_bound, org_row_added, token_added}
 use Rattle.statements.specs.Finds.{cap_of, role_of_name, role_of_digest}
 use Rattle.statements.proofs.Found.{apart_pushed}
 use Rattle.tables.specs.Records.{workspace_by, tokens_at, organization_at, record_of}
-use Rattle.tables.specs.Sound.{TellsVersion, IsOrgRow, IsTokenRow, IsSound}
+use Rattle.tables.specs.Sound.{TellsEdition, IsOrgRow, IsTokenRow, IsBoundRow, IsSound}
 use Rattle.tables.specs.Inner.Edits.{changed_rows, TakesEdit}
 use Rattle.texts.proofs.TextLaws.{carried_sound, no_rows_sound}
 use Rattle.tables.proofs.TextRows.{AreTexts, sound_texts, texts_carried, KeepsWorkspaces, workspace_carried, workspaces_carried}
 use Rattle.tables.proofs.KeptTexts.{changed_texts}
-use Rattle.tables.proofs.Names.{same_name, apart_name, names_apart, is_pair, pair_first, pair_second}
-use Rattle.tables.proofs.Telling.{metas_changed}
+use Rattle.tables.proofs.Names.{same_name, apart_name, names_apart, is_pair, pair_is, pair_first, pair_second}
+use Rattle.tables.proofs.Telling.{told_changed}
 use Rattle.tables.proofs.Parts.{none_mapped}
 use Rattle.tables.proofs.Sets.{Puts, workspace_there, one_of, put_own, put_other}
 use Rattle.tables.proofs.Edits.{changed_puts}
 use Rattle.tables.proofs.Lawful.{limit_there, limit_is}
 use Rattle.tables.proofs.Counting.{count_within}
 use Rattle.tables.proofs.Owned.{AreOwned, changed_are_owned, any_pushed, pair_turned}
-use Rattle.tables.proofs.Operators.{org_own, org_other}
+use Rattle.tables.proofs.Operators.{org_own, org_other, none_bound}
 
--- the laws of organizations' and tokens' rows alone
-record AreInOrder (orgs : List (Kept OrgRow)) (tokens : List (Kept TokenRow)) : Type 0 where
+-- the laws of the rows of organizations and tokens, and of how far these reach, alone
+record AreInOrder (orgs : List (Kept OrgRow)) (tokens : List (Kept TokenRow)) (bounds : List (Kept BoundRow)) : Type 0 where
   orgs_apart : AreApart (λ a b. is_org a.1.name b) orgs
   tokens_apart : AreApart (λ a b. is_token a.1.org a.1.name b) tokens
   digests_apart : AreApart (λ a b. is_digest_of a.1.org a.1.it.digest b) tokens
+  bounds_apart : AreApart (λ a b. is_bound a.1.org a.1.name b) bounds
+  tokens_bound : AllByRecursion (λ x. list_any (is_bound x.1.org x.1.name) bounds ≡ true) tokens
   tokens_owned : AllByRecursion (λ x. list_any (is_org x.1.org) orgs ≡ true) tokens
+  bounds_owned : AllByRecursion (λ x. list_any (is_token x.1.org x.1.name) tokens ≡ true) bounds
   org_rows : AllByRecursion IsOrgRow orgs
   token_rows : AllByRecursion IsTokenRow tokens
+  bound_rows : AllByRecursion IsBoundRow bounds
 
-sound_in_order : (t : Tables) → IsSound t → AreInOrder t.orgs t.tokens
+sound_in_order : (t : Tables) → IsSound t → AreInOrder t.orgs t.tokens t.bounds
 sound_in_order t sound = record {
   orgs_apart = sound.orgs_apart;
   tokens_apart = sound.tokens_apart;
   digests_apart = sound.digests_apart;
+  bounds_apart = sound.bounds_apart;
+  tokens_bound = sound.tokens_bound;
   tokens_owned = sound.tokens_owned;
+  bounds_owned = sound.bounds_owned;
   org_rows = sound.org_rows;
   token_rows = sound.token_rows;
+  bound_rows = sound.bound_rows;
 }
 
 one_workspace : (a b : Workspace) → Some a ≡ Some b → a ≡ b
@@ -84,17 +94,21 @@ org_there t org cap e = any_is_found (is_org org) t.orgs ∙ sym (some_mapped (f
 pub changed_keeps : (key_of : List ℕ → List ℕ) (org ws : List ℕ) (t : Tables) → IsSound t → (change : Change) → TakesEdit key_of org ws change.edit t → (o : Organization) → IsTrue (is_ws_name ws) → record_of t org ≡ Some o
     → IsDue (seen_in o ws) change → IsSound (changed_rows key_of org ws change t)
 changed_keeps key_of org ws t sound change takes o named there due = record {
-  told = metas_changed key_of org ws t sound change takes ∙ sound.told;
+  told = told_changed key_of org ws t sound 2 sound.told change takes;
   orgs_apart = order.orgs_apart;
   tokens_apart = order.tokens_apart;
   digests_apart = order.digests_apart;
   wss_apart = owned.wss_apart;
+  bounds_apart = order.bounds_apart;
+  tokens_bound = order.tokens_bound;
   tokens_owned = order.tokens_owned;
+  bounds_owned = order.bounds_owned;
   wss_owned = owned.wss_owned;
   versions_owned = owned.versions_owned;
   runs_owned = owned.runs_owned;
   org_rows = order.org_rows;
   token_rows = order.token_rows;
+  bound_rows = order.bound_rows;
   counts = λ q p e. within q p e (bytes_eq q org) refl;
   places = texts.places;
   placed = texts.placed;
@@ -114,8 +128,8 @@ changed_keeps key_of org ws t sound change takes o named there due = record {
     puts : Puts org ws after t u
     puts = changed_puts key_of org ws t sound change takes
 
-    order : AreInOrder u.orgs u.tokens
-    order = subst (λ os. AreInOrder os u.tokens) (sym puts.orgs) (subst (λ ts. AreInOrder t.orgs ts) (sym puts.tokens) (sound_in_order t sound))
+    order : AreInOrder u.orgs u.tokens u.bounds
+    order = subst (λ os. AreInOrder os u.tokens u.bounds) (sym puts.orgs) (subst (λ ts. AreInOrder t.orgs ts u.bounds) (sym puts.tokens) (subst (λ bs. AreInOrder t.orgs t.tokens bs) (sym puts.bounds) (sound_in_order t sound)))
 
     owned : AreOwned u
     owned = changed_are_owned org ws key_of t sound (org_there t org o.limit (limit_there t org o there)) change takes
@@ -165,12 +179,16 @@ org_added_keeps org limit t sound named most none = record {
   tokens_apart = sound.tokens_apart;
   digests_apart = sound.digests_apart;
   wss_apart = sound.wss_apart;
+  bounds_apart = sound.bounds_apart;
+  tokens_bound = sound.tokens_bound;
+  bounds_owned = sound.bounds_owned;
   tokens_owned = all_weaker (λ x. list_any (is_org x.1.org) t.orgs ≡ true) (λ x. list_any (is_org x.1.org) (t.orgs ++ new ∷ []) ≡ true) (λ x e. any_pushed (is_org x.1.org) t.orgs new e) t.tokens sound.tokens_owned;
   wss_owned = all_weaker (λ x. list_any (is_org x.1.org) t.orgs ≡ true) (λ x. list_any (is_org x.1.org) (t.orgs ++ new ∷ []) ≡ true) (λ x e. any_pushed (is_org x.1.org) t.orgs new e) t.wss sound.wss_owned;
   versions_owned = sound.versions_owned;
   runs_owned = sound.runs_owned;
   org_rows = all-append IsOrgRow t.orgs (new ∷ []) sound.org_rows (record { named = named; limit = most }, tt);
   token_rows = sound.token_rows;
+  bound_rows = sound.bound_rows;
   counts = λ q o e. within q o e (bytes_eq q org) refl;
   places = texts.places;
   placed = texts.placed;
@@ -193,67 +211,95 @@ org_added_keeps org limit t sound named most none = record {
         subst (λ (r : Organization). count_of r ≤ 100_000) (one_of (new_organization limit) o (sym (org_own t sound org limit none) ∙ here)) (subst (λ (n : ℕ). n ≤ 100_000) (sym none_yet) (omega arith))
     within q o e false other = sound.counts q o (sym (org_other t sound org limit q (names_apart q org other)) ∙ e)
 
+last_found : {X : Type 0} (p : X → Bool) (xs : List X) (x : X) → p x ≡ true → list_any p (xs ++ x ∷ []) ≡ true
+last_found p [] x e = ap (λ (b : Bool). b || false) e
+last_found p (y ∷ ys) x e = go (p y) (last_found p ys x e)
+  where
+    go : (b : Bool) → list_any p (ys ++ x ∷ []) ≡ true → (b || list_any p (ys ++ x ∷ [])) ≡ true
+    go true more = refl
+    go false more = more
+
 -- a token more leaves sound tables sound
-pub token_added_keeps : (org name digest : List ℕ) (role : Role) (t : Tables) → IsSound t → IsTrue (is_org_name name) → length digest ≡ 32 → (cap : ℕ) → cap_of org t ≡ Some cap
-    → role_of_name org name t ≡ None → role_of_digest org digest t ≡ None → IsSound (token_row_added org name digest role t)
-token_added_keeps org name digest role t sound named long cap there unnamed unknown = record {
+pub token_added_keeps : (org name digest : List ℕ) (role : Role) (bounds : Bounds) (t : Tables) → IsSound t → IsTrue (is_org_name name) → length digest ≡ 32 → IfSome bounds.until IsMoment → IsTrue (is_prefix bounds.prefix) → (cap : ℕ) → cap_of org t ≡ Some cap
+    → role_of_name org name t ≡ None → role_of_digest org digest t ≡ None → IsSound (token_added org name digest role bounds.until bounds.prefix t)
+token_added_keeps org name digest role bounds t sound named long ends begins cap there unnamed unknown = record {
   told = sound.told;
   orgs_apart = sound.orgs_apart;
   tokens_apart = apart_pushed (λ a b. is_token a.1.org a.1.name b) t.tokens new sound.tokens_apart
       (all_weaker (λ x. is_token org name x ≡ false) (λ x. is_token x.1.org x.1.name new ≡ false) (λ x e. pair_turned org name x.1.org x.1.name e) t.tokens
-      (none_from_any (is_token org name) t.tokens (any_is_found (is_token org name) t.tokens ∙ ap is_some (none_mapped (λ (x : Kept TokenRow). x.1.it.role) (find (is_token org name) t.tokens) unnamed))));
+      (none_from_any (is_token org name) t.tokens (any_is_found (is_token org name) t.tokens ∙ ap is_some no_such)));
   digests_apart = apart_pushed (λ a b. is_digest_of a.1.org a.1.it.digest b) t.tokens new sound.digests_apart
       (all_weaker (λ x. is_digest_of org digest x ≡ false) (λ x. is_digest_of x.1.org x.1.it.digest new ≡ false) (λ x e. pair_turned org digest x.1.org x.1.it.digest e) t.tokens
       (none_from_any (is_digest_of org digest) t.tokens (any_is_found (is_digest_of org digest) t.tokens ∙ ap is_some (none_mapped (λ (x : Kept TokenRow). x.1.it.role) (find (is_digest_of org digest) t.tokens) unknown))));
   wss_apart = sound.wss_apart;
+  bounds_apart = apart_pushed (λ a b. is_bound a.1.org a.1.name b) t.bounds new_bound sound.bounds_apart
+      (all_weaker (λ x. is_bound org name x ≡ false) (λ x. is_bound x.1.org x.1.name new_bound ≡ false) (λ x e. pair_turned org name x.1.org x.1.name e) t.bounds
+      (none_from_any (is_bound org name) t.bounds (any_is_found (is_bound org name) t.bounds ∙ ap is_some (none_bound t sound org name no_such))));
+  tokens_bound = all-append (λ x. list_any (is_bound x.1.org x.1.name) (t.bounds ++ new_bound ∷ []) ≡ true) t.tokens (new ∷ [])
+      (all_weaker (λ x. list_any (is_bound x.1.org x.1.name) t.bounds ≡ true) (λ x. list_any (is_bound x.1.org x.1.name) (t.bounds ++ new_bound ∷ []) ≡ true) (λ x e. any_pushed (is_bound x.1.org x.1.name) t.bounds new_bound e) t.tokens sound.tokens_bound)
+      (last_found (is_bound org name) t.bounds new_bound (pair_is org name), tt);
   tokens_owned = all-append (λ x. list_any (is_org x.1.org) t.orgs ≡ true) t.tokens (new ∷ []) sound.tokens_owned (org_there t org cap there, tt);
+  bounds_owned = all-append (λ x. list_any (is_token x.1.org x.1.name) (t.tokens ++ new ∷ []) ≡ true) t.bounds (new_bound ∷ [])
+      (all_weaker (λ x. list_any (is_token x.1.org x.1.name) t.tokens ≡ true) (λ x. list_any (is_token x.1.org x.1.name) (t.tokens ++ new ∷ []) ≡ true) (λ x e. any_pushed (is_token x.1.org x.1.name) t.tokens new e) t.bounds sound.bounds_owned)
+      (last_found (is_token org name) t.tokens new (pair_is org name), tt);
   wss_owned = sound.wss_owned;
   versions_owned = sound.versions_owned;
   runs_owned = sound.runs_owned;
   org_rows = sound.org_rows;
   token_rows = all-append IsTokenRow t.tokens (new ∷ []) sound.token_rows (record { named = named; digest = long }, tt);
+  bound_rows = all-append IsBoundRow t.bounds (new_bound ∷ []) sound.bound_rows (record { until = ends; prefix = begins }, tt);
   counts = λ q o e. within q o (cap_of q t) refl e;
   places = texts.places;
   placed = texts.placed;
   texts = texts.texts;
-  workspaces = λ a w v e. sound.workspaces a w v (sym (workspace_carried t (token_row_added org name digest role t) same_rows a w) ∙ e);
+  workspaces = λ a w v e. sound.workspaces a w v (sym (workspace_carried t (token_added org name digest role bounds.until bounds.prefix t) same_rows a w) ∙ e);
 }
   where
     new : Kept TokenRow
     new = (next_key id_of t.tokens, record { org = org; name = name; it = record { digest = digest; role = role } })
 
-    same_rows : KeepsWorkspaces t (token_row_added org name digest role t)
+    new_bound : Kept BoundRow
+    new_bound = (next_key id_of t.bounds, record { org = org; name = name; until = bounds.until; prefix = bounds.prefix })
+
+    no_such : find (is_token org name) t.tokens ≡ None
+    no_such = none_mapped (λ (x : Kept TokenRow). x.1.it.role) (find (is_token org name) t.tokens) unnamed
+
+    same_rows : KeepsWorkspaces t (token_added org name digest role bounds.until bounds.prefix t)
     same_rows = record { wss = refl; versions = refl; runs = refl; pages = refl; vpages = refl }
 
-    texts : AreTexts (token_row_added org name digest role t)
-    texts = texts_carried t (token_row_added org name digest role t) refl refl refl (sound_texts t sound)
+    texts : AreTexts (token_added org name digest role bounds.until bounds.prefix t)
+    texts = texts_carried t (token_added org name digest role bounds.until bounds.prefix t) refl refl refl (sound_texts t sound)
 
-    within : (q : List ℕ) (o : Organization) (c : Option ℕ) → cap_of q t ≡ c → option_map (organization_at (token_row_added org name digest role t) q) c ≡ Some o → count_of o ≤ 100_000
+    within : (q : List ℕ) (o : Organization) (c : Option ℕ) → cap_of q t ≡ c → option_map (organization_at (token_added org name digest role bounds.until bounds.prefix t) q) c ≡ Some o → count_of o ≤ 100_000
     within q o None f e = absurd (let none : ⊥ = cc in none)
     within q o (Some c) f e =
-        subst (λ (r : Organization). count_of r ≤ 100_000) (one_of (organization_at (token_row_added org name digest role t) q c) o e)
-        (subst (λ ws. count_of (record { limit = c; tokens = tokens_at (token_row_added org name digest role t) q; workspaces = ws }) ≤ 100_000) (sym (workspaces_carried t (token_row_added org name digest role t) same_rows q)) (sound.counts q (organization_at t q c) (ap (option_map (organization_at t q)) f)))
+        subst (λ (r : Organization). count_of r ≤ 100_000) (one_of (organization_at (token_added org name digest role bounds.until bounds.prefix t) q c) o e)
+        (subst (λ ws. count_of (record { limit = c; tokens = tokens_at (token_added org name digest role bounds.until bounds.prefix t) q; workspaces = ws }) ≤ 100_000) (sym (workspaces_carried t (token_added org name digest role bounds.until bounds.prefix t) same_rows q)) (sound.counts q (organization_at t q c) (ap (option_map (organization_at t q)) f)))
 
 -- ---- tables with no row
 
-pub no_record : (metas : List (Kept ℕ)) (org : List ℕ) → record_of (record no_rows { metas = metas }) org ≡ None
-no_record metas org = refl
+pub no_record : (editions : List (Kept ℕ)) (org : List ℕ) → record_of (record no_rows { editions = editions }) org ≡ None
+no_record editions org = refl
 
-pub no_rows_are_sound : (metas : List (Kept ℕ)) → TellsVersion 1 (record no_rows { metas = metas }) → IsSound (record no_rows { metas = metas })
-no_rows_are_sound metas told = record {
+pub no_rows_are_sound : (editions : List (Kept ℕ)) → TellsEdition 2 (record no_rows { editions = editions }) → IsSound (record no_rows { editions = editions })
+no_rows_are_sound editions told = record {
   told = told;
   orgs_apart = tt;
   tokens_apart = tt;
   digests_apart = tt;
   wss_apart = tt;
+  bounds_apart = tt;
+  tokens_bound = tt;
   tokens_owned = tt;
+  bounds_owned = tt;
   wss_owned = tt;
   versions_owned = tt;
   runs_owned = tt;
   org_rows = tt;
   token_rows = tt;
+  bound_rows = tt;
   counts = λ org o e. absurd (let none : ⊥ = cc in none);
-  places = carried_sound no_rows (record no_rows { metas = metas }) refl refl no_rows_sound;
+  places = carried_sound no_rows (record no_rows { editions = editions }) refl refl no_rows_sound;
   placed = tt;
   texts = tt;
   workspaces = λ org name w e. absurd (let none : ⊥ = cc in none);

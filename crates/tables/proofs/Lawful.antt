@@ -1,18 +1,21 @@
 -- Sound tables denote lawful records.
-use Rattle.std.proofs.Common.{◌≡◌, ℕ, ◌≤◌, true, List, find, length, Option, Some, None, option_map, IsTrue, refl, sym, ap, subst, ◌∙◌}
+use Rattle.std.proofs.Common.{◌≡◌, ℕ, ◌≤◌, true, List, find, length, Option, Some, None, IfSome, option_map, IsTrue, refl, sym, ap, subst, ◌∙◌}
 use Rattle.std.specs.Str.{bytes_eq}
 use Rattle.std.specs.FinMap.{get}
 use Rattle.std.proofs.lemmas.Bool.{and_from}
-use Rattle.basis.specs.Names.{is_org_name}
+use Rattle.std.specs.Option.{unwrap_or}
+use Rattle.basis.specs.Names.{is_org_name, is_prefix}
+use Rattle.basis.specs.declared.roles.Bounds.{Bounds}
+use Rattle.machine.specs.Ranges.{IsMoment}
 use Rattle.machine.specs.declared.records.Token.{Token}
 use Rattle.machine.specs.declared.records.Organization.{Organization}
-use Rattle.statements.specs.Rows.{Kept, OrgRow, TokenRow}
+use Rattle.statements.specs.Rows.{Kept, OrgRow, TokenRow, BoundRow}
 use Rattle.statements.specs.Tables.{Tables}
-use Rattle.statements.specs.Changes.{is_org, is_token, is_digest_of}
-use Rattle.statements.specs.Finds.{cap_of}
+use Rattle.statements.specs.Changes.{is_org, is_token, is_digest_of, is_bound}
+use Rattle.statements.specs.Finds.{cap_of, bound_in}
 use Rattle.statements.proofs.Found.{found_passes, found_holds, apart_one}
-use Rattle.tables.specs.Records.{token_of_cells, organization_at, record_of}
-use Rattle.tables.specs.Sound.{IsOrgRow, IsTokenRow, IsSound}
+use Rattle.tables.specs.Records.{no_bounds, bounds_of_cells, bounds_at, token_at, organization_at, record_of}
+use Rattle.tables.specs.Sound.{IsOrgRow, IsTokenRow, IsBoundRow, IsSound}
 use Rattle.tables.specs.Laws.{SoundTablesAreLawful}
 use Rattle.tables.proofs.Names.{name_is, pair_first, pair_second}
 use Rattle.tables.proofs.Sets.{got_token, workspace_there, one_of}
@@ -34,25 +37,37 @@ limit_is t sound org o e = by_row (find (is_org org) t.orgs) refl (limit_there t
         let same : x.1.cap ≡ o.limit = cc in
         subst (λ (n : ℕ). n ≤ 100_000) same (found_holds IsOrgRow (is_org org) t.orgs x sound.org_rows f).limit
 
-pub token_there : (t : Tables) (org name : List ℕ) (o : Organization) → record_of t org ≡ Some o → get o.tokens name ≡ option_map (λ (x : Kept TokenRow). token_of_cells x.1.it) (find (is_token org name) t.tokens)
+pub token_there : (t : Tables) (org name : List ℕ) (o : Organization) → record_of t org ≡ Some o → get o.tokens name ≡ option_map (λ (x : Kept TokenRow). token_at t x.1) (find (is_token org name) t.tokens)
 token_there t org name o e = by_limit (cap_of org t) e
   where
-    by_limit : (cap : Option ℕ) → option_map (organization_at t org) cap ≡ Some o → get o.tokens name ≡ option_map (λ (x : Kept TokenRow). token_of_cells x.1.it) (find (is_token org name) t.tokens)
+    by_limit : (cap : Option ℕ) → option_map (organization_at t org) cap ≡ Some o → get o.tokens name ≡ option_map (λ (x : Kept TokenRow). token_at t x.1) (find (is_token org name) t.tokens)
     by_limit None e = absurd (let none : ⊥ = cc in none)
-    by_limit (Some cap) e = subst (λ (p : Organization). get p.tokens name ≡ option_map (λ (x : Kept TokenRow). token_of_cells x.1.it) (find (is_token org name) t.tokens)) (one_of (organization_at t org cap) o e) (got_token t org name)
+    by_limit (Some cap) e = subst (λ (p : Organization). get p.tokens name ≡ option_map (λ (x : Kept TokenRow). token_at t x.1) (find (is_token org name) t.tokens)) (one_of (organization_at t org cap) o e) (got_token t org name)
 
 -- a token of a record has a row
 record Found (t : Tables) (org name : List ℕ) (token : Token) : Type 0 where
   row : Kept TokenRow
   found : find (is_token org name) t.tokens ≡ Some row
-  is : token_of_cells row.1.it ≡ token
+  is : token_at t row.1 ≡ token
 
-found_token : (t : Tables) (org name : List ℕ) (token : Token) → option_map (λ (x : Kept TokenRow). token_of_cells x.1.it) (find (is_token org name) t.tokens) ≡ Some token → Found t org name token
+found_token : (t : Tables) (org name : List ℕ) (token : Token) → option_map (λ (x : Kept TokenRow). token_at t x.1) (find (is_token org name) t.tokens) ≡ Some token → Found t org name token
 found_token t org name token e = by_row (find (is_token org name) t.tokens) refl e
   where
-    by_row : (row : Option (Kept TokenRow)) → find (is_token org name) t.tokens ≡ row → option_map (λ (x : Kept TokenRow). token_of_cells x.1.it) row ≡ Some token → Found t org name token
+    by_row : (row : Option (Kept TokenRow)) → find (is_token org name) t.tokens ≡ row → option_map (λ (x : Kept TokenRow). token_at t x.1) row ≡ Some token → Found t org name token
     by_row None f e = absurd (let none : ⊥ = cc in none)
     by_row (Some x) f e = record { row = x; found = f; is = cc }
+
+-- how far a token reaches is in range, also where no row tells it
+record InRange (b : Bounds) : Type 0 where
+  until : IfSome b.until IsMoment
+  prefix : IsTrue (is_prefix b.prefix)
+
+reach_in_range : (t : Tables) → IsSound t → (org name : List ℕ) → InRange (bounds_at t org name)
+reach_in_range t sound org name = by_row (find (is_bound org name) t.bounds) refl
+  where
+    by_row : (o : Option (Kept BoundRow)) → find (is_bound org name) t.bounds ≡ o → InRange (unwrap_or (option_map bounds_of_cells (option_map bound_in o)) no_bounds)
+    by_row None e = record { until = tt; prefix = refl }
+    by_row (Some x) e = let is = found_holds IsBoundRow (is_bound org name) t.bounds x sound.bound_rows e in record { until = is.until; prefix = is.prefix }
 
 pub sound_is_lawful : SoundTablesAreLawful
 sound_is_lawful t sound org o e = record {
@@ -63,6 +78,8 @@ sound_is_lawful t sound org o e = record {
       record {
         named = subst (λ (n : List ℕ). IsTrue (is_org_name n)) (pair_second org name x.row.1.org x.row.1.name (found_passes (is_token org name) t.tokens x.row x.found)) is.named;
         digest = ap (λ (u : Token). length u.digest) (sym x.is) ∙ is.digest;
+        until = subst (λ (u : Token). IfSome u.caller.until IsMoment) x.is (reach_in_range t sound x.row.1.org x.row.1.name).until;
+        prefix = subst (λ (u : Token). IsTrue (is_prefix u.caller.prefix)) x.is (reach_in_range t sound x.row.1.org x.row.1.name).prefix;
       };
   digests = λ name other token_a token_b f g same.
       let x = found_token t org name token_a (sym (token_there t org name o e) ∙ f) in

@@ -21,6 +21,7 @@ pub mod Operators
 pub mod OrgLists
 pub mod Owned
 pub mod Parts
+pub mod Raising
 pub mod Ranks
 pub mod Revoking
 pub mod Sets
@@ -28,6 +29,9 @@ pub mod Stores
 pub mod Telling
 pub mod TextLists
 pub mod TextRows
+pub mod There
+pub mod TokenLists
+pub mod TokenRows
 pub mod VersionEdits
 pub mod KeptTexts
 pub mod GoneSteps

@@ -46,11 +46,11 @@ module _ (org : List ℕ) (limit : ℕ) where
     limit_absent e = subst (λ (r : Option Organization). effect Absent r ≡ org_limited limit r) (sym (record_missing t org e)) refl
 
     pub limit_other : (q : List ℕ) → q ≢ org → record_of (org_capped org limit t) q ≡ record_of t q
-    limit_other q apart = ap (option_map (organization_at (org_capped org limit t) q)) (cap_stays q apart) ∙ organization_carried t (org_capped org limit t) same_rows refl q (cap_of q t)
+    limit_other q apart = ap (option_map (organization_at (org_capped org limit t) q)) (cap_stays q apart) ∙ organization_carried t (org_capped org limit t) same_rows refl refl q (cap_of q t)
 
     module _ (cap : ℕ) (there : cap_of org t ≡ Some cap) where
       limit_own : record_of (org_capped org limit t) org ≡ Some (with_limit (organization_at t org cap) limit)
-      limit_own = ap (option_map (organization_at (org_capped org limit t) org)) (cap_set cap there) ∙ organization_carried t (org_capped org limit t) same_rows refl org (Some limit)
+      limit_own = ap (option_map (organization_at (org_capped org limit t) org)) (cap_set cap there) ∙ organization_carried t (org_capped org limit t) same_rows refl refl org (Some limit)
 
       -- what the organization has stays, and its limit is the new one
       pub limit_done : effect Done (record_of (org_capped org limit t) org) ≡ org_limited limit (record_of t org)
@@ -64,12 +64,16 @@ module _ (org : List ℕ) (limit : ℕ) where
         tokens_apart = sound.tokens_apart;
         digests_apart = sound.digests_apart;
         wss_apart = sound.wss_apart;
+        bounds_apart = sound.bounds_apart;
+        tokens_bound = sound.tokens_bound;
+        bounds_owned = sound.bounds_owned;
         tokens_owned = all_weaker (λ x. list_any (is_org x.1.org) t.orgs ≡ true) (λ x. list_any (is_org x.1.org) (update_where (is_org org) recapped t.orgs) ≡ true) (λ x h. still x.1.org ∙ h) t.tokens sound.tokens_owned;
         wss_owned = all_weaker (λ x. list_any (is_org x.1.org) t.orgs ≡ true) (λ x. list_any (is_org x.1.org) (update_where (is_org org) recapped t.orgs) ≡ true) (λ x h. still x.1.org ∙ h) t.wss sound.wss_owned;
         versions_owned = sound.versions_owned;
         runs_owned = sound.runs_owned;
         org_rows = all_updated IsOrgRow (is_org org) recapped (λ x is. record { named = is.named; limit = most }) t.orgs sound.org_rows;
         token_rows = sound.token_rows;
+        bound_rows = sound.bound_rows;
         counts = λ q o e. within q o e (bytes_eq q org) refl;
         places = texts.places;
         placed = texts.placed;

@@ -1,5 +1,5 @@
 -- What the lists of a workspace's versions and runs, and of an organization's workspaces, show of the record.
-use Rattle.std.proofs.Common.{◌≡◌, ℕ, ◌<◌, ◌≤◌, nat_lt, true, List, [], ◌∷◌, map, filter, take, Option, Some, None, option_map, IsTrue, refl, sym, ap, subst, ◌∙◌, arith}
+use Rattle.std.proofs.Common.{◌≡◌, ℕ, ◌<◌, ◌≤◌, nat_lt, Bool, true, false, ◌&&◌, List, [], ◌∷◌, map, filter, take, Option, Some, None, option_map, IsTrue, refl, sym, ap, subst, ◌∙◌, arith}
 use Rattle.std.specs.Option.{unwrap_or}
 use Rattle.std.specs.List.{AllByRecursion}
 use Rattle.std.specs.FinMap.{from_entries, entries, get, entries_sorted, get-entries, get-from_entries}
@@ -7,7 +7,7 @@ use Rattle.std.specs.FinMap.Entries.{find as find_entry}
 use Rattle.std.proofs.lemmas.List.{take-map}
 use Rattle.sqlite_keyed.proofs.ListLemmas.{all_weaker}
 use Rattle.sqlite_trees.specs.Tree.{IsAscending}
-use Rattle.basis.specs.Names.{is_ws_name}
+use Rattle.basis.specs.Names.{is_ws_name, admits}
 use Rattle.basis.specs.Listings.{listing_of}
 use Rattle.machine.specs.Order.{name_cmp}
 use Rattle.machine.specs.Records.{workspace_in as seen_workspace}
@@ -151,19 +151,25 @@ module _ (t : Tables) (org : List ℕ) where
         (λ e found. (sound.workspaces org e.0 (workspace_at t org e.0 e.1) (ap (option_map (workspace_at t org e.0)) (sym (row_of_name e.0) ∙ get-entries (workspaces_by_name org t) e.0 ∙ found))).named)
         (entries (workspaces_by_name org t)) (all_found (entries (workspaces_by_name org t)) (entries_sorted (workspaces_by_name org t)))
 
-    passes : (after : Option (List ℕ)) (e : List ℕ × WorkspaceCells) → IsTrue (is_ws_name e.0) → is_behind (unwrap_or after []) e.0 ≡ showing.comes_after after e.0
-    passes None e named = comes_after_all e.0 named
-    passes (Some a) e named = refl
+    and_turned : (a b : Bool) → (a && b) ≡ (b && a)
+    and_turned true true = refl
+    and_turned true false = refl
+    and_turned false true = refl
+    and_turned false false = refl
 
-    workspaces_rows : (after : Option (List ℕ)) → workspaces_listed_in (unwrap_or after []) org t ≡ showing.workspaces_listed after (entries (workspaces_at t org))
-    workspaces_rows after =
-        listed_all (ws_row_in org t) (map named_at (filter (λ e. is_behind (unwrap_or after []) e.0) (entries (workspaces_by_name org t))))
-        ∙ ap listing_of (mapped (filter (λ e. is_behind (unwrap_or after []) e.0) (entries (workspaces_by_name org t)))
-        ∙ ap (map (λ (e : List ℕ × WorkspaceCells). ws_row_in org t (named_at e))) (ap (filter (λ (e : List ℕ × WorkspaceCells). is_behind (unwrap_or after []) e.0)) (sym (itself (entries (workspaces_by_name org t)))))
+    passes : (after : Option (List ℕ)) (prefix : List ℕ) (e : List ℕ × WorkspaceCells) → IsTrue (is_ws_name e.0) → (is_behind (unwrap_or after []) e.0 && admits prefix e.0) ≡ showing.is_listed after prefix e.0
+    passes None prefix e named = ap (λ (b : Bool). b && admits prefix e.0) (comes_after_all e.0 named) ∙ and_turned true (admits prefix e.0)
+    passes (Some a) prefix e named = and_turned (is_behind a e.0) (admits prefix e.0)
+
+    workspaces_rows : (after : Option (List ℕ)) (prefix : List ℕ) → workspaces_listed_in (unwrap_or after []) prefix org t ≡ showing.workspaces_listed after prefix (entries (workspaces_at t org))
+    workspaces_rows after prefix =
+        listed_all (ws_row_in org t) (map named_at (filter (λ e. is_behind (unwrap_or after []) e.0 && admits prefix e.0) (entries (workspaces_by_name org t))))
+        ∙ ap listing_of (mapped (filter (λ e. is_behind (unwrap_or after []) e.0 && admits prefix e.0) (entries (workspaces_by_name org t)))
+        ∙ ap (map (λ (e : List ℕ × WorkspaceCells). ws_row_in org t (named_at e))) (ap (filter (λ (e : List ℕ × WorkspaceCells). is_behind (unwrap_or after []) e.0 && admits prefix e.0)) (sym (itself (entries (workspaces_by_name org t)))))
         ∙ shown_rows (λ (e : List ℕ × WorkspaceCells). e) (λ (e : List ℕ × WorkspaceCells). ws_row_in org t (named_at e)) (λ (e : List ℕ × WorkspaceCells). (e.0, workspace_at t org e.0 e.1))
-        (λ (e : List ℕ × Workspace). showing.row_of e.0 (showing.shown_of e.1)) (λ (e : List ℕ × WorkspaceCells). is_behind (unwrap_or after []) e.0) (λ (e : List ℕ × Workspace). showing.comes_after after e.0)
-        (entries (workspaces_by_name org t)) (all_weaker (λ (e : List ℕ × WorkspaceCells). IsTrue (is_ws_name e.0)) _ (λ e named. (row_shown e, passes after e named)) (entries (workspaces_by_name org t)) are_named))
-        ∙ ap (showing.workspaces_listed after) (sym record_entries)
+        (λ (e : List ℕ × Workspace). showing.row_of e.0 (showing.shown_of e.1)) (λ (e : List ℕ × WorkspaceCells). is_behind (unwrap_or after []) e.0 && admits prefix e.0) (λ (e : List ℕ × Workspace). showing.is_listed after prefix e.0)
+        (entries (workspaces_by_name org t)) (all_weaker (λ (e : List ℕ × WorkspaceCells). IsTrue (is_ws_name e.0)) _ (λ e named. (row_shown e, passes after prefix e named)) (entries (workspaces_by_name org t)) are_named))
+        ∙ ap (showing.workspaces_listed after prefix) (sym record_entries)
       where
         mapped : (es : List (List ℕ × WorkspaceCells)) → map (ws_row_in org t) (map named_at es) ≡ map (λ (e : List ℕ × WorkspaceCells). ws_row_in org t (named_at e)) es
         mapped [] = refl
@@ -174,10 +180,10 @@ module _ (t : Tables) (org : List ℕ) where
         itself (e ∷ es) = ap (λ rest. e ∷ rest) (itself es)
 
     -- the list of the workspaces is that of the record
-    pub workspaces_told : (after : Option (List ℕ)) → workspaces_listed_in (unwrap_or after []) org t ≡ showing.workspaces_after after (record_of t org)
-    workspaces_told after = workspaces_rows after ∙ by_limit (cap_of org t) refl
+    pub workspaces_told : (after : Option (List ℕ)) (prefix : List ℕ) → workspaces_listed_in (unwrap_or after []) prefix org t ≡ showing.workspaces_after after prefix (record_of t org)
+    workspaces_told after prefix = workspaces_rows after prefix ∙ by_limit (cap_of org t) refl
       where
-        by_limit : (c : Option ℕ) → cap_of org t ≡ c → showing.workspaces_listed after (entries (workspaces_at t org)) ≡ showing.workspaces_after after (option_map (organization_at t org) c)
+        by_limit : (c : Option ℕ) → cap_of org t ≡ c → showing.workspaces_listed after prefix (entries (workspaces_at t org)) ≡ showing.workspaces_after after prefix (option_map (organization_at t org) c)
         by_limit None e =
-            ap (showing.workspaces_listed after) (ap (λ (xs : List (Kept WsRow)). entries (from_entries {R = name_cmp} (map (λ (x : Kept WsRow). (x.1.name, workspace_at t org x.1.name x.1.it)) xs))) (no_workspaces t sound org e) ∙ no_entries)
+            ap (showing.workspaces_listed after prefix) (ap (λ (xs : List (Kept WsRow)). entries (from_entries {R = name_cmp} (map (λ (x : Kept WsRow). (x.1.name, workspace_at t org x.1.name x.1.it)) xs))) (no_workspaces t sound org e) ∙ no_entries)
         by_limit (Some cap) e = refl

@@ -1,6 +1,8 @@
 -- The records after an operator's command, and the tokens of an organization by their digests.
 use Rattle.std.proofs.Common.{◌≡◌, ◌≢◌, ℕ, Bool, true, false, ◌&&◌, ◌||◌, cond, List, [], ◌∷◌, map, filter, find, is_some, Option, Some, None, option_map, refl, sym, ap, ap₂, subst, ◌∙◌, arith, length}
+use Rattle.std.specs.Option.{unwrap_or}
 use Rattle.std.specs.Str.{bytes_eq}
+use Rattle.std.proofs.lemmas.Bool.{false_from_ne_true}
 use Rattle.std.specs.List.{AllByRecursion, list_any}
 use Rattle.std.specs.Ordering.{is_eq}
 use Rattle.std.specs.declared.cmp.Ordering.{Ordering}
@@ -9,8 +11,9 @@ use Rattle.std.specs.FinMap.{FinMap, from_entries, entries, get, insert, empty, 
 use Rattle.std.specs.FinMap.Entries.{find as find_entry, put, by_order}
 use Rattle.sqlite_keyed.specs.Keyed.{next_key}
 use Rattle.sqlite_keyed.specs.Rules.{AreApart}
-use Rattle.sqlite_keyed.proofs.SliceLemmas.{slice-push_other}
+use Rattle.sqlite_keyed.proofs.SliceLemmas.{any_is_found}
 use Rattle.basis.specs.declared.roles.Role.{Role}
+use Rattle.basis.specs.declared.roles.Bounds.{Bounds}
 use Rattle.machine.specs.Order.{name_cmp}
 use Rattle.machine.specs.Effects.{effect}
 use Rattle.machine.specs.Tokens.{token_with, caller_of, new_organization, org_added, token_of, with_token, token_added}
@@ -18,18 +21,20 @@ use Rattle.machine.specs.declared.keeps.AdminAnswer.TheVariants.{Done, Exists, A
 use Rattle.machine.specs.declared.records.Token.{Token}
 use Rattle.machine.specs.declared.records.Organization.{Organization}
 use Rattle.machine.proofs.MapLemmas.{names_total, names_same, get_own, get_other}
-use Rattle.statements.specs.Rows.{Kept, id_of, OrgRow, TokenRow, WsRow}
+use Rattle.statements.specs.declared.rows.NamedRole.{NamedRole}
+use Rattle.statements.specs.Rows.{Kept, id_of, OrgRow, TokenRow, BoundRow, WsRow}
 use Rattle.statements.specs.Tables.{Tables}
-use Rattle.statements.specs.Changes.{is_org, is_token, is_digest_of, is_ws_of}
+use Rattle.statements.specs.Changes.{is_org, is_token, is_digest_of, is_bound, is_ws_of}
 use Rattle.statements.specs.Changes as rows
-use Rattle.statements.specs.Finds.{cap_of, role_of_digest, role_of_name}
+use Rattle.statements.specs.Finds.{cap_of, role_of_digest, role_of_name, named_role, bound_in}
 use Rattle.statements.proofs.Found.{found_passes, find_pushed, find_pushed_other, found_holds}
-use Rattle.tables.specs.Records.{caller_of_role, caller_by, token_of_cells, is_token_of, tokens_at, workspace_at, organization_at, record_of}
+use Rattle.tables.specs.Records.{no_bounds, bounds_of_cells, caller_with, bounds_at, caller_by, token_of_cells, token_at, is_token_of, tokens_at, workspace_at, organization_at, record_of}
 use Rattle.tables.specs.Sound.{IsSound}
 use Rattle.tables.proofs.TextRows.{KeepsWorkspaces, workspaces_carried, organization_carried}
-use Rattle.tables.proofs.Names.{same_name, name_is, apart_name, names_apart, pair_first, pair_is}
+use Rattle.tables.proofs.Names.{same_name, name_is, apart_name, names_apart, is_pair, pair_first, pair_second, pair_is}
 use Rattle.tables.proofs.Parts.{none_mapped}
-use Rattle.tables.proofs.Sets.{entry_found, got_token}
+use Rattle.tables.proofs.Sets.{entry_found, got_token, other_ws}
+use Rattle.tables.proofs.TokenRows.{ChangesToken, other_token, other_tokens}
 use Rattle.tables.proofs.Finding.{none_found, no_orphans, none_there}
 
 -- ---- the first token with a digest, of a map
@@ -60,12 +65,12 @@ module _ (digest : List ℕ) where
       go Equal false d none other more = absurd (let no_one : ⊥ = cc in no_one)
       go Greater false d none other more = rw d (more none other)
 
-  module _ (org : List ℕ) where
+  module _ (t : Tables) (org : List ℕ) where
     abbrev made : List (Kept TokenRow) → FinMap name_cmp Token
-    made xs = from_entries (map (λ (x : Kept TokenRow). (x.1.name, token_of_cells x.1.it)) (filter (is_token_of org) xs))
+    made xs = from_entries (map (λ (x : Kept TokenRow). (x.1.name, token_at t x.1)) (filter (is_token_of org) xs))
 
     digest_found : (xs : List (Kept TokenRow)) → AreApart (λ a b. is_token a.1.org a.1.name b) xs → AreApart (λ a b. is_digest_of a.1.org a.1.it.digest b) xs
-        → with_it (entries (made xs)) ≡ option_map (λ (x : Kept TokenRow). token_of_cells x.1.it) (find (is_digest_of org digest) xs)
+        → with_it (entries (made xs)) ≡ option_map (λ (x : Kept TokenRow). token_at t x.1) (find (is_digest_of org digest) xs)
     digest_found [] names digests = ap with_it no_entries
       where
         no_length : (es : List (List ℕ × Token)) → 0 ≡ length es → es ≡ []
@@ -77,28 +82,28 @@ module _ (digest : List ℕ) where
     digest_found (x ∷ xs) names digests = go (is_token_of org x) (bytes_eq x.1.it.digest digest) refl refl (digest_found xs names.1 digests.1)
       where
         go : (a b : Bool) → is_token_of org x ≡ a → bytes_eq x.1.it.digest digest ≡ b
-            → with_it (entries (made xs)) ≡ option_map (λ (y : Kept TokenRow). token_of_cells y.1.it) (find (is_digest_of org digest) xs)
-            → with_it (entries (from_entries {R = name_cmp} (map (λ (y : Kept TokenRow). (y.1.name, token_of_cells y.1.it)) (cond a (x ∷ filter (is_token_of org) xs) (filter (is_token_of org) xs)))))
-            ≡ option_map (λ (y : Kept TokenRow). token_of_cells y.1.it) (cond (a && b) (Some x) (find (is_digest_of org digest) xs))
+            → with_it (entries (made xs)) ≡ option_map (λ (y : Kept TokenRow). token_at t y.1) (find (is_digest_of org digest) xs)
+            → with_it (entries (from_entries {R = name_cmp} (map (λ (y : Kept TokenRow). (y.1.name, token_at t y.1)) (cond a (x ∷ filter (is_token_of org) xs) (filter (is_token_of org) xs)))))
+            ≡ option_map (λ (y : Kept TokenRow). token_at t y.1) (cond (a && b) (Some x) (find (is_digest_of org digest) xs))
         go false b d e more = more
         go true b d e more = inside b e
           where
             name_free : find_entry name_cmp x.1.name (entries (made xs)) ≡ None
             name_free =
                 sym (get-entries (made xs) x.1.name)
-                ∙ get-from_entries names_total (map (λ (y : Kept TokenRow). (y.1.name, token_of_cells y.1.it)) (filter (is_token_of org) xs)) x.1.name
-                ∙ entry_found (is_token_of org) (λ (y : Kept TokenRow). y.1.name) (λ (y : Kept TokenRow). token_of_cells y.1.it) x.1.name xs
-                ∙ ap (option_map (λ (y : Kept TokenRow). token_of_cells y.1.it)) (none_found (is_token org x.1.name) xs (subst (λ (n : List ℕ). AllByRecursion (λ y. is_token n x.1.name y ≡ false) xs) (same_name x.1.org org d) names.0))
+                ∙ get-from_entries names_total (map (λ (y : Kept TokenRow). (y.1.name, token_at t y.1)) (filter (is_token_of org) xs)) x.1.name
+                ∙ entry_found (is_token_of org) (λ (y : Kept TokenRow). y.1.name) (λ (y : Kept TokenRow). token_at t y.1) x.1.name xs
+                ∙ ap (option_map (λ (y : Kept TokenRow). token_at t y.1)) (none_found (is_token org x.1.name) xs (subst (λ (n : List ℕ). AllByRecursion (λ y. is_token n x.1.name y ≡ false) xs) (same_name x.1.org org d) names.0))
 
-            inside : (c : Bool) → bytes_eq x.1.it.digest digest ≡ c → with_it (entries (insert (made xs) x.1.name (token_of_cells x.1.it))) ≡ option_map (λ (y : Kept TokenRow). token_of_cells y.1.it) (cond c (Some x) (find (is_digest_of org digest) xs))
+            inside : (c : Bool) → bytes_eq x.1.it.digest digest ≡ c → with_it (entries (insert (made xs) x.1.name (token_at t x.1))) ≡ option_map (λ (y : Kept TokenRow). token_at t y.1) (cond c (Some x) (find (is_digest_of org digest) xs))
             inside true f =
                 let alone : find (is_digest_of org digest) xs ≡ None =
                 none_found (is_digest_of org digest) xs (subst (λ (n : List ℕ). AllByRecursion (λ y. is_digest_of org n y ≡ false) xs) (same_name x.1.it.digest digest f) (subst (λ (n : List ℕ). AllByRecursion (λ y. is_digest_of n x.1.it.digest y ≡ false) xs) (same_name x.1.org org d) digests.0)) in
-                ap with_it (entries-insert names_total (made xs) x.1.name (token_of_cells x.1.it))
-                ∙ put_there x.1.name (token_of_cells x.1.it) f (entries (made xs)) name_free (more ∙ ap (option_map (λ (y : Kept TokenRow). token_of_cells y.1.it)) alone)
+                ap with_it (entries-insert names_total (made xs) x.1.name (token_at t x.1))
+                ∙ put_there x.1.name (token_at t x.1) f (entries (made xs)) name_free (more ∙ ap (option_map (λ (y : Kept TokenRow). token_at t y.1)) alone)
             inside false f =
-                ap with_it (entries-insert names_total (made xs) x.1.name (token_of_cells x.1.it))
-                ∙ put_away x.1.name (token_of_cells x.1.it) f (entries (made xs)) name_free ∙ more
+                ap with_it (entries-insert names_total (made xs) x.1.name (token_at t x.1))
+                ∙ put_away x.1.name (token_at t x.1) f (entries (made xs)) name_free ∙ more
 
 -- ---- callers
 
@@ -111,10 +116,10 @@ module _ (t : Tables) (sound : IsSound t) (org : List ℕ) where
   no_workspaces e = no_orphans (is_ws_of org) (λ x. is_org x.1.org) t.orgs
       (λ x f. ap (λ (n : List ℕ). list_any (is_org n) t.orgs) (same_name x.1.org org f) ∙ none_there t sound org e) t.wss sound.wss_owned
 
-  pub caller_is : (digest : List ℕ) → option_map (λ (x : Kept TokenRow). token_of_cells x.1.it) (find (is_digest_of org digest) t.tokens) ≡ caller_of (record_of t org) digest
+  pub caller_is : (digest : List ℕ) → option_map (λ (x : Kept TokenRow). token_at t x.1) (find (is_digest_of org digest) t.tokens) ≡ caller_of (record_of t org) digest
   caller_is digest = by_limit (cap_of org t) refl
     where
-      none_found_there : (o : Option (Kept TokenRow)) → find (is_digest_of org digest) t.tokens ≡ o → cap_of org t ≡ None → option_map (λ (x : Kept TokenRow). token_of_cells x.1.it) o ≡ None
+      none_found_there : (o : Option (Kept TokenRow)) → find (is_digest_of org digest) t.tokens ≡ o → cap_of org t ≡ None → option_map (λ (x : Kept TokenRow). token_at t x.1) o ≡ None
       none_found_there None f e = refl
       none_found_there (Some x) f e =
           let own : x.1.org ≡ org = pair_first org digest x.1.org x.1.it.digest (found_passes (is_digest_of org digest) t.tokens x f) in
@@ -122,17 +127,18 @@ module _ (t : Tables) (sound : IsSound t) (org : List ℕ) where
           let there : list_any (is_org org) t.orgs ≡ true = subst (λ (n : List ℕ). list_any (is_org n) t.orgs ≡ true) own owned in
           absurd (let no_one : ⊥ = cc (sym there ∙ none_there t sound org e) in no_one)
 
-      by_limit : (cap : Option ℕ) → cap_of org t ≡ cap → option_map (λ (x : Kept TokenRow). token_of_cells x.1.it) (find (is_digest_of org digest) t.tokens) ≡ caller_of (option_map (organization_at t org) cap) digest
+      by_limit : (cap : Option ℕ) → cap_of org t ≡ cap → option_map (λ (x : Kept TokenRow). token_at t x.1) (find (is_digest_of org digest) t.tokens) ≡ caller_of (option_map (organization_at t org) cap) digest
       by_limit None e = none_found_there (find (is_digest_of org digest) t.tokens) refl e
-      by_limit (Some cap) e = sym (digest_found digest org t.tokens sound.tokens_apart sound.digests_apart)
+      by_limit (Some cap) e = sym (digest_found digest t org t.tokens sound.tokens_apart sound.digests_apart)
 
-  -- who asks is told by the row with the digest
+  -- who asks is told by the row with the digest, and by that of how far it reaches
   pub caller_found : (digest : List ℕ) → caller_by org digest t ≡ option_map (λ (token : Token). token.caller) (caller_of (record_of t org) digest)
-  caller_found digest = mapped (find (is_digest_of org digest) t.tokens) ∙ ap (option_map (λ (token : Token). token.caller)) (caller_is digest)
+  caller_found digest = mapped (find (is_digest_of org digest) t.tokens) refl ∙ ap (option_map (λ (token : Token). token.caller)) (caller_is digest)
     where
-      mapped : (o : Option (Kept TokenRow)) → option_map caller_of_role (option_map (λ (x : Kept TokenRow). x.1.it.role) o) ≡ option_map (λ (token : Token). token.caller) (option_map (λ (x : Kept TokenRow). token_of_cells x.1.it) o)
-      mapped None = refl
-      mapped (Some x) = refl
+      mapped : (o : Option (Kept TokenRow)) → find (is_digest_of org digest) t.tokens ≡ o
+          → option_map (λ (n : NamedRole). caller_with n.role (bounds_at t org n.name)) (option_map named_role o) ≡ option_map (λ (token : Token). token.caller) (option_map (λ (x : Kept TokenRow). token_at t x.1) o)
+      mapped None e = refl
+      mapped (Some x) e = ap (λ (a : List ℕ). Some (caller_with x.1.it.role (bounds_at t a x.1.name))) (sym (pair_first org digest x.1.org x.1.it.digest (found_passes (is_digest_of org digest) t.tokens x e)))
 
 -- ---- an organization more
 
@@ -150,10 +156,10 @@ module _ (t : Tables) (sound : IsSound t) (org : List ℕ) (limit : ℕ) where
   org_own e =
       ap (λ (o : Option (Kept OrgRow)). option_map (organization_at (rows.org_row_added org limit t) org) (option_map (λ (x : Kept OrgRow). x.1.cap) o))
       (find_pushed (is_org org) t.orgs (next_key id_of t.orgs, record { name = org; cap = limit }) (none_mapped (λ (x : Kept OrgRow). x.1.cap) _ e) (name_is org))
-      ∙ organization_carried t (rows.org_row_added org limit t) (record { wss = refl; versions = refl; runs = refl; pages = refl; vpages = refl }) refl org (Some limit)
+      ∙ organization_carried t (rows.org_row_added org limit t) (record { wss = refl; versions = refl; runs = refl; pages = refl; vpages = refl }) refl refl org (Some limit)
       ∙ (λ i. Some (record {
         limit = limit;
-        tokens = from_entries {R = name_cmp} (map (λ (x : Kept TokenRow). (x.1.name, token_of_cells x.1.it)) (no_tokens t sound org e i));
+        tokens = from_entries {R = name_cmp} (map (λ (x : Kept TokenRow). (x.1.name, token_at t x.1)) (no_tokens t sound org e i));
         workspaces = from_entries {R = name_cmp} (map (λ (x : Kept WsRow). (x.1.name, workspace_at t org x.1.name x.1.it)) (no_workspaces t sound org e i));
       }))
 
@@ -165,9 +171,26 @@ module _ (t : Tables) (sound : IsSound t) (org : List ℕ) (limit : ℕ) where
   org_other q apart =
       ap (λ (o : Option (Kept OrgRow)). option_map (organization_at (rows.org_row_added org limit t) q) (option_map (λ (x : Kept OrgRow). x.1.cap) o))
       (find_pushed_other (is_org q) t.orgs (next_key id_of t.orgs, record { name = org; cap = limit }) (apart_name org q (λ same. apart (sym same))))
-      ∙ organization_carried t (rows.org_row_added org limit t) (record { wss = refl; versions = refl; runs = refl; pages = refl; vpages = refl }) refl q (cap_of q t)
+      ∙ organization_carried t (rows.org_row_added org limit t) (record { wss = refl; versions = refl; runs = refl; pages = refl; vpages = refl }) refl refl q (cap_of q t)
 
 -- ---- a token more
+
+-- no token, no row of how far it reaches
+pub none_bound : (t : Tables) → IsSound t → (org name : List ℕ) → find (is_token org name) t.tokens ≡ None → find (is_bound org name) t.bounds ≡ None
+none_bound t sound org name none = by_row (find (is_bound org name) t.bounds) refl
+  where
+    by_row : (o : Option (Kept BoundRow)) → find (is_bound org name) t.bounds ≡ o → o ≡ None
+    by_row None e = refl
+    by_row (Some x) e =
+        let p = found_passes (is_bound org name) t.bounds x e in
+        let owned : list_any (is_token x.1.org x.1.name) t.tokens ≡ true = found_holds (λ (y : Kept BoundRow). list_any (is_token y.1.org y.1.name) t.tokens ≡ true) (is_bound org name) t.bounds x sound.bounds_owned e in
+        let there : list_any (is_token org name) t.tokens ≡ true =
+        subst (λ (a : List ℕ). list_any (is_token a name) t.tokens ≡ true) (pair_first org name x.1.org x.1.name p) (subst (λ (q : List ℕ). list_any (is_token x.1.org q) t.tokens ≡ true) (pair_second org name x.1.org x.1.name p) owned) in
+        absurd (let no_one : ⊥ = cc (sym there ∙ any_is_found (is_token org name) t.tokens ∙ ap is_some none) in no_one)
+
+turned_pair : (org name a q : List ℕ) → is_pair org name a q ≡ false → is_pair a q org name ≡ false
+turned_pair org name a q other = false_from_ne_true (is_pair a q org name) (λ e.
+    let no_one : ⊥ = cc (sym (subst (λ (x : List ℕ). is_pair org name x q ≡ true) (pair_first a q org name e) (subst (λ (y : List ℕ). is_pair org name org y ≡ true) (pair_second a q org name e) (pair_is org name))) ∙ other) in no_one)
 
 found_same : {A B : Type 0} (f : A → B) (o : Option A) → is_some (option_map f o) ≡ is_some o
 found_same f None = refl
@@ -175,20 +198,29 @@ found_same f (Some a) = refl
 
 -- a name is one of a token's where it has a row
 pub named_in_rows : (t : Tables) (org name : List ℕ) → is_some (get (tokens_at t org) name) ≡ is_some (role_of_name org name t)
-named_in_rows t org name = ap is_some (got_token t org name) ∙ found_same (λ (x : Kept TokenRow). token_of_cells x.1.it) (find (is_token org name) t.tokens) ∙ sym (found_same (λ (x : Kept TokenRow). x.1.it.role) (find (is_token org name) t.tokens))
+named_in_rows t org name = ap is_some (got_token t org name) ∙ found_same (λ (x : Kept TokenRow). token_at t x.1) (find (is_token org name) t.tokens) ∙ sym (found_same (λ (x : Kept TokenRow). x.1.it.role) (find (is_token org name) t.tokens))
 
-module _ (t : Tables) (sound : IsSound t) (org name digest : List ℕ) (role : Role) where
+module _ (t : Tables) (sound : IsSound t) (org name digest : List ℕ) (role : Role) (bounds : Bounds) where
   abbrev new_token : Token
-  new_token = token_of digest role
+  new_token = token_of digest role bounds
 
   abbrev added : Tables
-  added = rows.token_row_added org name digest role t
+  added = rows.token_added org name digest role bounds.until bounds.prefix t
 
   same_rows : KeepsWorkspaces t added
   same_rows = record { wss = refl; versions = refl; runs = refl; pages = refl; vpages = refl }
 
-  new_row : Kept TokenRow
+  abbrev new_row : Kept TokenRow
   new_row = (next_key id_of t.tokens, record { org = org; name = name; it = record { digest = digest; role = role } })
+
+  abbrev new_bound : Kept BoundRow
+  new_bound = (next_key id_of t.bounds, record { org = org; name = name; until = bounds.until; prefix = bounds.prefix })
+
+  changes : ChangesToken org name t added
+  changes = record {
+    rows = λ a q other. find_pushed_other (is_token a q) t.tokens new_row (turned_pair org name a q other);
+    bounds = λ a q other. ap (option_map bound_in) (find_pushed_other (is_bound a q) t.bounds new_bound (turned_pair org name a q other));
+  }
 
   pub token_absent : cap_of org t ≡ None → effect Absent (record_of t org) ≡ token_added name new_token (record_of t org)
   token_absent e = subst (λ (r : Option Organization). effect Absent r ≡ token_added name new_token r) (sym (record_missing t org e)) refl
@@ -199,8 +231,8 @@ module _ (t : Tables) (sound : IsSound t) (org name digest : List ℕ) (role : R
 
     digest_is : is_some (token_with digest (entries (tokens_at t org))) ≡ is_some (role_of_digest org digest t)
     digest_is =
-        ap is_some (digest_found digest org t.tokens sound.tokens_apart sound.digests_apart)
-        ∙ found_same (λ (x : Kept TokenRow). token_of_cells x.1.it) (find (is_digest_of org digest) t.tokens) ∙ sym (found_same (λ (x : Kept TokenRow). x.1.it.role) (find (is_digest_of org digest) t.tokens))
+        ap is_some (digest_found digest t org t.tokens sound.tokens_apart sound.digests_apart)
+        ∙ found_same (λ (x : Kept TokenRow). token_at t x.1) (find (is_digest_of org digest) t.tokens) ∙ sym (found_same (λ (x : Kept TokenRow). x.1.it.role) (find (is_digest_of org digest) t.tokens))
 
     by_tests : (a b : Bool) → is_some (role_of_name org name t) ≡ a → is_some (role_of_digest org digest t) ≡ b
         → token_added name new_token (record_of t org) ≡ cond (a || b) (effect Exists (Some before)) (effect Done (Some (with_token before name new_token)))
@@ -221,18 +253,23 @@ module _ (t : Tables) (sound : IsSound t) (org name digest : List ℕ) (role : R
         either false = refl
 
     module _ (unnamed : role_of_name org name t ≡ None) where
+      -- where there is no token of the name, there is no row of how far it reaches
+      unbound : find (is_bound org name) t.bounds ≡ None
+      unbound = none_bound t sound org name (none_mapped (λ (x : Kept TokenRow). x.1.it.role) _ unnamed)
+
+      reach : bounds_at added org name ≡ record { until = bounds.until; prefix = bounds.prefix }
+      reach = ap (λ (o : Option (Kept BoundRow)). unwrap_or (option_map bounds_of_cells (option_map bound_in o)) no_bounds) (find_pushed (is_bound org name) t.bounds new_bound unbound (pair_is org name))
+
       put_tokens : tokens_at added org ≡ insert (tokens_at t org) name new_token
       put_tokens = same_map names_total names_same _ _ (λ q. by_name q (bytes_eq q name) refl)
         where
           by_name : (q : List ℕ) (b : Bool) → bytes_eq q name ≡ b → get (tokens_at added org) q ≡ get (insert (tokens_at t org) name new_token) q
           by_name q true e = subst (λ (n : List ℕ). get (tokens_at added org) n ≡ get (insert (tokens_at t org) name new_token) n) (sym (same_name q name e))
               (got_token added org name
-              ∙ ap (option_map (λ (x : Kept TokenRow). token_of_cells x.1.it)) (find_pushed (is_token org name) t.tokens _ (none_mapped (λ (x : Kept TokenRow). x.1.it.role) _ unnamed) (pair_is org name))
+              ∙ ap (option_map (λ (x : Kept TokenRow). token_at added x.1)) (find_pushed (is_token org name) t.tokens new_row (none_mapped (λ (x : Kept TokenRow). x.1.it.role) _ unnamed) (pair_is org name))
+              ∙ ap (λ (b : Bounds). Some (token_of_cells b (record { digest = digest; role = role }))) reach
               ∙ sym (get_own (tokens_at t org) name new_token))
-          by_name q false e =
-              got_token added org q
-              ∙ ap (option_map (λ (x : Kept TokenRow). token_of_cells x.1.it)) (find_pushed_other (is_token org q) t.tokens _ (ap₂ ◌&&◌ (name_is org) (apart_name name q (λ same. names_apart q name e (sym same)))))
-              ∙ sym (got_token t org q) ∙ sym (get_other (tokens_at t org) name new_token q (names_apart q name e))
+          by_name q false e = other_token org name t added changes org q (other_ws org name q e) ∙ sym (get_other (tokens_at t org) name new_token q (names_apart q name e))
 
       pub token_own : record_of added org ≡ Some (with_token before name new_token)
       token_own = ap (option_map (organization_at added org)) there ∙ (λ i. Some (record { limit = cap; tokens = put_tokens i; workspaces = workspaces_carried t added same_rows org i }))
@@ -244,9 +281,6 @@ module _ (t : Tables) (sound : IsSound t) (org name digest : List ℕ) (role : R
   pub token_other : (q : List ℕ) → q ≢ org → record_of added q ≡ record_of t q
   token_other q apart = by_limit (cap_of q t)
     where
-      same_tokens : tokens_at added q ≡ tokens_at t q
-      same_tokens = ap (λ es. from_entries {R = name_cmp} es) (slice-push_other (is_token_of q) (λ (x : Kept TokenRow). (x.1.name, token_of_cells x.1.it)) t.tokens _ (apart_name org q (λ same. apart (sym same))))
-
       by_limit : (c : Option ℕ) → option_map (organization_at added q) c ≡ option_map (organization_at t q) c
       by_limit None = refl
-      by_limit (Some c) = λ i. Some (record { limit = c; tokens = same_tokens i; workspaces = workspaces_carried t added same_rows q i })
+      by_limit (Some c) = λ i. Some (record { limit = c; tokens = other_tokens org name t added changes q apart i; workspaces = workspaces_carried t added same_rows q i })

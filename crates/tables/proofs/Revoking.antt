@@ -2,12 +2,11 @@
 use Rattle.std.proofs.Common.{◌≡◌, ◌≢◌, ℕ, ◌≤◌, Bool, true, false, not, cond, List, find, is_some, Option, Some, None, option_map, refl, sym, ap, subst, ◌∙◌}
 use Rattle.std.specs.Str.{bytes_eq}
 use Rattle.std.specs.List.{list_any}
-use Rattle.std.specs.FinMap.{from_entries, get, remove, same_map}
-use Rattle.sqlite_keyed.proofs.ListLemmas.{all-filter}
+use Rattle.std.specs.FinMap.{get, remove, same_map}
+use Rattle.sqlite_keyed.proofs.ListLemmas.{all_both, all-filter}
 use Rattle.sqlite_keyed.proofs.RuleLemmas.{apart_delete}
-use Rattle.sqlite_keyed.proofs.SliceLemmas.{slice-delete_other}
+use Rattle.sqlite_keyed.proofs.SliceLemmas.{any_is_found}
 use Rattle.basis.specs.declared.roles.Role.{Role}
-use Rattle.machine.specs.Order.{name_cmp}
 use Rattle.machine.specs.Effects.{effect}
 use Rattle.machine.specs.Records.{count_of}
 use Rattle.machine.specs.Tokens.{without_token, token_revoked}
@@ -16,13 +15,15 @@ use Rattle.machine.specs.declared.records.Organization.{Organization}
 use Rattle.machine.proofs.MapLemmas.{names_total, names_same, removed_own, removed_other}
 use Rattle.statements.specs.Rows.{Kept, TokenRow}
 use Rattle.statements.specs.Tables.{Tables}
-use Rattle.statements.specs.Changes.{is_org, is_token, is_digest_of, token_removed}
-use Rattle.statements.specs.Finds.{cap_of, role_of_name}
+use Rattle.statements.specs.Changes.{is_org, is_token, is_digest_of, is_bound, token_removed}
+use Rattle.statements.specs.Finds.{cap_of, role_of_name, bound_in}
 use Rattle.statements.proofs.Found.{found_passes, find_deleted, find_left, found_holds}
-use Rattle.tables.specs.Records.{token_of_cells, is_token_of, tokens_at, organization_at, record_of}
-use Rattle.tables.specs.Sound.{IsTokenRow, IsSound}
+use Rattle.tables.specs.Records.{token_at, tokens_at, organization_at, record_of}
+use Rattle.tables.specs.Sound.{IsTokenRow, IsBoundRow, IsSound}
 use Rattle.tables.proofs.TextRows.{AreTexts, sound_texts, texts_carried, KeepsWorkspaces, workspace_carried, workspaces_carried}
-use Rattle.tables.proofs.Names.{same_name, apart_name, names_apart, pair_first, pair_apart}
+use Rattle.tables.proofs.Names.{same_name, names_apart, is_pair, pair_first, pair_apart}
+use Rattle.tables.proofs.TextLists.{all_deleted}
+use Rattle.tables.proofs.TokenRows.{ChangesToken, other_token, other_tokens}
 use Rattle.tables.proofs.Sets.{got_token, one_of, other_ws}
 use Rattle.tables.proofs.Finding.{none_there}
 use Rattle.tables.proofs.Operators.{record_there, record_missing, named_in_rows}
@@ -34,21 +35,21 @@ module _ (org name : List ℕ) (t : Tables) where
   same_rows : KeepsWorkspaces t left
   same_rows = record { wss = refl; versions = refl; runs = refl; pages = refl; vpages = refl }
 
-  got_removed : get (tokens_at left org) name ≡ None
-  got_removed = got_token left org name ∙ ap (option_map (λ (x : Kept TokenRow). token_of_cells x.1.it)) (find_deleted (is_token org name) t.tokens)
+  pub revoke_changes : ChangesToken org name t left
+  revoke_changes = record {
+    rows = λ a q other. find_left (is_token a q) (is_token org name) (λ x e. pair_apart org name a q x.1.org x.1.name other e) t.tokens;
+    bounds = λ a q other. ap (option_map bound_in) (find_left (is_bound a q) (is_bound org name) (λ x e. pair_apart org name a q x.1.org x.1.name other e) t.bounds);
+  }
 
-  got_others : (q : List ℕ) → bytes_eq q name ≡ false → get (tokens_at left org) q ≡ get (tokens_at t org) q
-  got_others q other =
-      got_token left org q
-      ∙ ap (option_map (λ (x : Kept TokenRow). token_of_cells x.1.it)) (find_left (is_token org q) (is_token org name) (λ x e. pair_apart org name org q x.1.org x.1.name (other_ws org name q other) e) t.tokens)
-      ∙ sym (got_token t org q)
+  got_removed : get (tokens_at left org) name ≡ None
+  got_removed = got_token left org name ∙ ap (option_map (λ (x : Kept TokenRow). token_at left x.1)) (find_deleted (is_token org name) t.tokens)
 
   tokens_left : tokens_at left org ≡ remove (tokens_at t org) name
   tokens_left = same_map names_total names_same _ _ (λ q. by_name q (bytes_eq q name) refl)
     where
       by_name : (q : List ℕ) (b : Bool) → bytes_eq q name ≡ b → get (tokens_at left org) q ≡ get (remove (tokens_at t org) name) q
       by_name q true e = subst (λ (n : List ℕ). get (tokens_at left org) n ≡ get (remove (tokens_at t org) name) n) (sym (same_name q name e)) (got_removed ∙ sym (removed_own (tokens_at t org) name))
-      by_name q false e = got_others q e ∙ sym (removed_other (tokens_at t org) name q (names_apart q name e))
+      by_name q false e = other_token org name t left revoke_changes org q (other_ws org name q e) ∙ sym (removed_other (tokens_at t org) name q (names_apart q name e))
 
   -- the answer, by whether the organization and the token are there
   revoked_there : (cap : ℕ) (b : Bool) → cap_of org t ≡ Some cap → is_some (role_of_name org name t) ≡ b
@@ -89,13 +90,9 @@ module _ (org name : List ℕ) (t : Tables) where
   pub revoke_other : (q : List ℕ) → q ≢ org → record_of left q ≡ record_of t q
   revoke_other q apart = by_limit (cap_of q t)
     where
-      same_tokens : tokens_at left q ≡ tokens_at t q
-      same_tokens = ap (λ es. from_entries {R = name_cmp} es) (slice-delete_other (is_token_of q) (λ (x : Kept TokenRow). (x.1.name, token_of_cells x.1.it)) (is_token org name)
-          (λ x e. apart_name x.1.org q (λ same. apart (sym same ∙ pair_first org name x.1.org x.1.name e))) t.tokens)
-
       by_limit : (c : Option ℕ) → option_map (organization_at left q) c ≡ option_map (organization_at t q) c
       by_limit None = refl
-      by_limit (Some c) = λ i. Some (record { limit = c; tokens = same_tokens i; workspaces = workspaces_carried t left same_rows q i })
+      by_limit (Some c) = λ i. Some (record { limit = c; tokens = other_tokens org name t left revoke_changes q apart i; workspaces = workspaces_carried t left same_rows q i })
 
   -- it leaves sound tables sound
   pub revoke_keeps : IsSound t → IsSound left
@@ -105,12 +102,20 @@ module _ (org name : List ℕ) (t : Tables) where
     tokens_apart = apart_delete (λ a b. is_token a.1.org a.1.name b) (is_token org name) t.tokens sound.tokens_apart;
     digests_apart = apart_delete (λ a b. is_digest_of a.1.org a.1.it.digest b) (is_token org name) t.tokens sound.digests_apart;
     wss_apart = sound.wss_apart;
+    bounds_apart = apart_delete (λ a b. is_bound a.1.org a.1.name b) (is_bound org name) t.bounds sound.bounds_apart;
+    tokens_bound = all_both (λ x. is_token org name x ≡ false) (λ x. list_any (is_bound x.1.org x.1.name) t.bounds ≡ true) (λ x. list_any (is_bound x.1.org x.1.name) left.bounds ≡ true)
+        (λ x other any. bound_left x.1.org x.1.name other ∙ any) left.tokens (all_deleted (is_token org name) t.tokens)
+        (all-filter (λ x. list_any (is_bound x.1.org x.1.name) t.bounds ≡ true) (λ x. not (is_token org name x)) t.tokens sound.tokens_bound);
     tokens_owned = all-filter (λ x. list_any (is_org x.1.org) t.orgs ≡ true) (λ x. not (is_token org name x)) t.tokens sound.tokens_owned;
+    bounds_owned = all_both (λ x. is_bound org name x ≡ false) (λ x. list_any (is_token x.1.org x.1.name) t.tokens ≡ true) (λ x. list_any (is_token x.1.org x.1.name) left.tokens ≡ true)
+        (λ x other any. token_left x.1.org x.1.name other ∙ any) left.bounds (all_deleted (is_bound org name) t.bounds)
+        (all-filter (λ x. list_any (is_token x.1.org x.1.name) t.tokens ≡ true) (λ x. not (is_bound org name x)) t.bounds sound.bounds_owned);
     wss_owned = sound.wss_owned;
     versions_owned = sound.versions_owned;
     runs_owned = sound.runs_owned;
     org_rows = sound.org_rows;
     token_rows = all-filter IsTokenRow (λ x. not (is_token org name x)) t.tokens sound.token_rows;
+    bound_rows = all-filter IsBoundRow (λ x. not (is_bound org name x)) t.bounds sound.bound_rows;
     counts = λ q o e. within q o (cap_of q t) refl e;
     places = texts.places;
     placed = texts.placed;
@@ -118,6 +123,12 @@ module _ (org name : List ℕ) (t : Tables) where
     workspaces = λ o w v e. sound.workspaces o w v (sym (workspace_carried t left same_rows o w) ∙ e);
   }
     where
+      bound_left : (a q : List ℕ) → is_pair org name a q ≡ false → list_any (is_bound a q) left.bounds ≡ list_any (is_bound a q) t.bounds
+      bound_left a q other = any_is_found (is_bound a q) left.bounds ∙ ap is_some (find_left (is_bound a q) (is_bound org name) (λ x e. pair_apart org name a q x.1.org x.1.name other e) t.bounds) ∙ sym (any_is_found (is_bound a q) t.bounds)
+
+      token_left : (a q : List ℕ) → is_pair org name a q ≡ false → list_any (is_token a q) left.tokens ≡ list_any (is_token a q) t.tokens
+      token_left a q other = any_is_found (is_token a q) left.tokens ∙ ap is_some (find_left (is_token a q) (is_token org name) (λ x e. pair_apart org name a q x.1.org x.1.name other e) t.tokens) ∙ sym (any_is_found (is_token a q) t.tokens)
+
       texts : AreTexts left
       texts = texts_carried t left refl refl refl (sound_texts t sound)
 

@@ -1,7 +1,7 @@
 -- From the rows of a workspace to the record of its organization.
 use Rattle.std.proofs.Common.{◌≡◌, ◌≢◌, ℕ, Bool, true, false, ◌&&◌, cond, List, [], ◌∷◌, map, filter, find, Option, Some, None, option_map, refl, sym, ap, subst, ◌∙◌}
 use Rattle.std.specs.Str.{bytes_eq}
-use Rattle.std.specs.FinMap.{from_entries, get, same_map, get-from_entries}
+use Rattle.std.specs.FinMap.{get, same_map, get-from_entries}
 use Rattle.std.specs.FinMap.Entries.{find as find_entry}
 use Rattle.machine.specs.Order.{name_cmp}
 use Rattle.machine.specs.Records.{with_workspace, placed}
@@ -17,7 +17,8 @@ use Rattle.statements.specs.Tables.{Tables}
 use Rattle.statements.specs.Changes.{is_org, is_token, is_ws, is_ws_of}
 use Rattle.statements.specs.Finds.{cap_of}
 use Rattle.statements.proofs.Found.{found_passes}
-use Rattle.tables.specs.Records.{workspace_of_cells, workspace_at, workspace_by, is_token_of, token_of_cells, tokens_at, workspaces_at, organization_at, record_of}
+use Rattle.tables.specs.Records.{workspace_of_cells, workspace_at, workspace_by, is_token_of, token_at, tokens_at, workspaces_at, organization_at, record_of}
+use Rattle.tables.proofs.TextRows.{tokens_carried}
 use Rattle.tables.proofs.Names.{same_name, name_is, apart_name, names_apart, is_pair, pair_second, tied}
 
 -- ---- what a name gives
@@ -45,10 +46,10 @@ module _ (t : Tables) (org name : List ℕ) where
       ∙ entry_found (is_ws_of org) (λ (x : Kept WsRow). x.1.name) (λ (x : Kept WsRow). workspace_at t org x.1.name x.1.it) name t.wss
       ∙ row_is (find (is_ws org name) t.wss) refl
 
-  pub got_token : get (tokens_at t org) name ≡ option_map (λ (x : Kept TokenRow). token_of_cells x.1.it) (find (is_token org name) t.tokens)
+  pub got_token : get (tokens_at t org) name ≡ option_map (λ (x : Kept TokenRow). token_at t x.1) (find (is_token org name) t.tokens)
   got_token =
-      get-from_entries names_total (map (λ (x : Kept TokenRow). (x.1.name, token_of_cells x.1.it)) (filter (is_token_of org) t.tokens)) name
-      ∙ entry_found (is_token_of org) (λ (x : Kept TokenRow). x.1.name) (λ (x : Kept TokenRow). token_of_cells x.1.it) name t.tokens
+      get-from_entries names_total (map (λ (x : Kept TokenRow). (x.1.name, token_at t x.1)) (filter (is_token_of org) t.tokens)) name
+      ∙ entry_found (is_token_of org) (λ (x : Kept TokenRow). x.1.name) (λ (x : Kept TokenRow). token_at t x.1) name t.tokens
 
 pub one_of : (a b : Organization) → Some a ≡ Some b → a ≡ b
 one_of a b e = cc
@@ -75,10 +76,11 @@ same_parts row other vs us rs ss e f g = λ i. by_parts (e i) (f i) (g i)
 pub record Puts (org ws : List ℕ) (w : Option Workspace) (t u : Tables) : Type 0 where
   pub orgs : u.orgs ≡ t.orgs
   pub tokens : u.tokens ≡ t.tokens
+  pub bounds : u.bounds ≡ t.bounds
   pub own : workspace_by u org ws ≡ w
   pub others : (a b : List ℕ) → is_pair org ws a b ≡ false → workspace_by u a b ≡ workspace_by t a b
 
-other_org : (org ws a b : List ℕ) → a ≢ org → is_pair org ws a b ≡ false
+pub other_org : (org ws a b : List ℕ) → a ≢ org → is_pair org ws a b ≡ false
 other_org org ws a b apart = ap (λ (x : Bool). x && bytes_eq b ws) (apart_name a org apart)
 
 pub other_ws : (org ws q : List ℕ) → bytes_eq q ws ≡ false → is_pair org ws org q ≡ false
@@ -88,6 +90,7 @@ pub puts_then : {v w : Option Workspace} (org ws : List ℕ) (t u z : Tables) �
 puts_then org ws t u z first second = record {
   orgs = second.orgs ∙ first.orgs;
   tokens = second.tokens ∙ first.tokens;
+  bounds = second.bounds ∙ first.bounds;
   own = second.own;
   others = λ a b other. second.others a b other ∙ first.others a b other;
 }
@@ -97,7 +100,7 @@ module _ (org ws : List ℕ) (w : Option Workspace) (t u : Tables) (puts : Puts 
   same_orgs q = ap (λ orgs. option_map (λ (x : Kept OrgRow). x.1.cap) (find (is_org q) orgs)) puts.orgs
 
   same_tokens : (q : List ℕ) → tokens_at u q ≡ tokens_at t q
-  same_tokens q = ap (λ tokens. from_entries {R = name_cmp} (map (λ (x : Kept TokenRow). (x.1.name, token_of_cells x.1.it)) (filter (is_token_of q) tokens))) puts.tokens
+  same_tokens q = tokens_carried t u puts.tokens puts.bounds q
 
   put_workspaces : workspaces_at u org ≡ with_workspace (workspaces_at t org) ws w
   put_workspaces = same_map names_total names_same _ _ (λ q. by_name q (bytes_eq q ws) refl)

@@ -1,9 +1,11 @@
 -- The records of a database, and its soundness, once its rows have changed.
-use Rattle.std.proofs.Common.{◌≡◌, ◌≢◌, ℕ, ◌≤◌, List, length, Some, None, IsTrue, refl, sym, ap, subst, ◌∙◌}
+use Rattle.std.proofs.Common.{◌≡◌, ◌≢◌, ℕ, ◌≤◌, List, length, Some, None, IfSome, IsTrue, refl, sym, ap, subst, ◌∙◌}
 use Rattle.std.specs.FinMap.{get}
 use Rattle.sqlite.specs.Effect.{Database}
-use Rattle.basis.specs.Names.{is_org_name, is_ws_name}
+use Rattle.basis.specs.Names.{is_org_name, is_ws_name, is_prefix}
 use Rattle.basis.specs.declared.roles.Role.{Role}
+use Rattle.basis.specs.declared.roles.Bounds.{Bounds}
+use Rattle.machine.specs.Ranges.{IsMoment}
 use Rattle.machine.specs.Effects.{effect}
 use Rattle.machine.specs.Laws.{AreLawful}
 use Rattle.machine.specs.Records.{placed, seen_in}
@@ -14,7 +16,7 @@ use Rattle.machine.specs.declared.keeps.AdminAnswer.TheVariants.{Done}
 use Rattle.machine.specs.declared.records.Organization.{Organization}
 use Rattle.statements.specs.Changes as rows
 use Rattle.statements.specs.Finds.{cap_of, role_of_name, role_of_digest}
-use Rattle.statements.specs.Making.{version_set}
+use Rattle.statements.specs.Making.{edition_set}
 use Rattle.statements.specs.Tables.{Tables, Holds, no_rows, tables_of}
 use Rattle.statements.proofs.Decoding.{tables-held}
 use Rattle.tables.specs.Inner.Edits.{changed_rows, TakesEdit}
@@ -39,12 +41,12 @@ pub records_by : (db : Database) (t : Tables) → Holds db t → (org : List ℕ
 records_by db t holds org = ap (λ (u : Tables). record_of u org) (tables-held db t holds)
 
 -- the tables that were just made
-module _ (db : Database) (made : Holds db (version_set no_rows)) where
-  pub first_store_is_sound : IsSoundStore db
-  first_store_is_sound = store_by db (version_set no_rows) made (no_rows_are_sound (version_set no_rows).metas refl)
+module _ (db : Database) (made : Holds db (edition_set no_rows)) where
+  pub made_store_is_sound : IsSoundStore db
+  made_store_is_sound = store_by db (edition_set no_rows) made (no_rows_are_sound (edition_set no_rows).editions (refl, refl))
 
-  pub first_store_is_empty : (org : List ℕ) → records_of db org ≡ None
-  first_store_is_empty org = records_by db (version_set no_rows) made org ∙ no_record (version_set no_rows).metas org
+  pub made_store_is_empty : (org : List ℕ) → records_of db org ≡ None
+  made_store_is_empty org = records_by db (edition_set no_rows) made org ∙ no_record (edition_set no_rows).editions org
 
 module _ (old new : Database) (s : IsSoundStore old) where
   abbrev rows_before : Tables
@@ -76,16 +78,16 @@ module _ (old new : Database) (s : IsSoundStore old) where
 
   -- ---- a token more
 
-  module _ (org name digest : List ℕ) (role : Role) (moves : (t : Tables) → Holds old t → Holds new (rows.token_row_added org name digest role t)) where
+  module _ (org name digest : List ℕ) (role : Role) (bounds : Bounds) (moves : (t : Tables) → Holds old t → Holds new (rows.token_added org name digest role bounds.until bounds.prefix t)) where
     pub store_token_done : (cap : ℕ) → cap_of org rows_before ≡ Some cap → role_of_name org name rows_before ≡ None → role_of_digest org digest rows_before ≡ None
-        → effect Done (records_of new org) ≡ token_added name (token_of digest role) (records_of old org)
+        → effect Done (records_of new org) ≡ token_added name (token_of digest role bounds) (records_of old org)
     store_token_done cap there unnamed unknown =
-        ap (effect Done) (records_by new _ (moves rows_before s.holds) org) ∙ token_done rows_before s.sound org name digest role cap there unnamed unknown
+        ap (effect Done) (records_by new _ (moves rows_before s.holds) org) ∙ token_done rows_before s.sound org name digest role bounds cap there unnamed unknown
 
     pub store_token_other : (q : List ℕ) → q ≢ org → records_of new q ≡ records_of old q
-    store_token_other q apart = records_by new _ (moves rows_before s.holds) q ∙ token_other rows_before s.sound org name digest role q apart
+    store_token_other q apart = records_by new _ (moves rows_before s.holds) q ∙ token_other rows_before s.sound org name digest role bounds q apart
 
-    pub store_token_keeps : (cap : ℕ) → cap_of org rows_before ≡ Some cap → IsTrue (is_org_name name) → length digest ≡ 32
+    pub store_token_keeps : (cap : ℕ) → cap_of org rows_before ≡ Some cap → IsTrue (is_org_name name) → length digest ≡ 32 → IfSome bounds.until IsMoment → IsTrue (is_prefix bounds.prefix)
         → role_of_name org name rows_before ≡ None → role_of_digest org digest rows_before ≡ None → IsSoundStore new
-    store_token_keeps cap there named long unnamed unknown =
-        store_by new _ (moves rows_before s.holds) (token_added_keeps org name digest role rows_before s.sound named long cap there unnamed unknown)
+    store_token_keeps cap there named long ends begins unnamed unknown =
+        store_by new _ (moves rows_before s.holds) (token_added_keeps org name digest role bounds rows_before s.sound named long ends begins cap there unnamed unknown)

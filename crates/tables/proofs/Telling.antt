@@ -1,5 +1,5 @@
 -- What tells the version stays, and is read.
-use Rattle.std.proofs.Common.{◌≡◌, ℕ, pos, Bool, true, false, List, Option, Some, None, option_map, refl, ap, ◌∙◌}
+use Rattle.std.proofs.Common.{◌≡◌, ℕ, zero, suc, pos, Bool, true, false, List, Option, Some, None, option_map, refl, ap, ◌∙◌}
 use Rattle.sqlite_keyed.specs.Keyed.{get_by}
 use Rattle.machine.specs.declared.acts.Edit.{Edit}
 use Rattle.machine.specs.declared.acts.Edit.TheVariants.{Make, Configure, Remove, AddVersion, Purge, Hold, Release, AddRun, Report}
@@ -8,46 +8,63 @@ use Rattle.statements.specs.declared.rows.Workspace.{Workspace as WorkspaceCells
 use Rattle.sqlite.specs.State.{State}
 use Rattle.statements.specs.Changes.{run_acted}
 use Rattle.statements.specs.Finds.{workspace_of}
-use Rattle.statements.specs.Making.{version_in}
+use Rattle.statements.specs.Making.{version_in, edition_in}
 use Rattle.statements.specs.Rows.{Kept, id_of}
-use Rattle.statements.specs.Tables.{Tables, tables_of}
-use Rattle.tables.specs.Inner.Edits.{if_there, run_put, run_counted, freed_rows, edited_rows, started_rows, changed_rows, TakesEdit}
-use Rattle.tables.specs.Sound.{TellsVersion, IsSound}
+use Rattle.statements.specs.Tables.{Tables, tables_of, first_tables_of}
+use Rattle.tables.specs.Inner.Edits.{all_gone, numbered_rows, versioned_rows, if_there, run_put, run_counted, freed_rows, edited_rows, started_rows, changed_rows, TakesEdit}
+use Rattle.tables.specs.Sound.{TellsVersion, TellsEdition, IsSound}
+use Rattle.tables.proofs.TextRows.{KeepsRest}
 use Rattle.tables.proofs.VersionEdits.{all_go, versions_come}
-use Rattle.tables.specs.Stores.{IsSoundStore}
 use Rattle.tables.specs.Opening.{IsOther}
+use Rattle.tables.specs.Versions.{HoldsVersion}
+use Rattle.tables.proofs.There.{first_is_there}
 
-metas_there : (w : Option WorkspaceCells) (after t : Tables) → after.metas ≡ t.metas → (if_there w after t).metas ≡ t.metas
-metas_there None after t same = refl
-metas_there (Some w) after t same = same
+abbrev SameTold : Tables → Tables → Type 0
+SameTold u t = (u.metas ≡ t.metas) × (u.editions ≡ t.editions)
 
-metas_freed : (frees : Bool) (org ws : List ℕ) (t : Tables) → (freed_rows frees org ws t).metas ≡ t.metas
-metas_freed true org ws t = refl
-metas_freed false org ws t = refl
+told_there : (w : Option WorkspaceCells) (after t : Tables) → SameTold after t → SameTold (if_there w after t) t
+told_there None after t same = (refl, refl)
+told_there (Some w) after t same = same
 
-metas_edited : (key_of : List ℕ → List ℕ) (org ws : List ℕ) (t : Tables) → IsSound t → (edit : Edit) → TakesEdit key_of org ws edit t → (edited_rows key_of org ws edit t).metas ≡ t.metas
-metas_edited key_of org ws t sound (Make settings) takes = (all_go org ws t sound).rest.metas
-metas_edited key_of org ws t sound (Configure settings) takes = refl
-metas_edited key_of org ws t sound Remove takes = (all_go org ws t sound).rest.metas
-metas_edited key_of org ws t sound (AddVersion version outgoing) takes = (versions_come org ws t sound key_of version takes outgoing).rest.metas
-metas_edited key_of org ws t sound Purge takes = (all_go org ws t sound).rest.metas
-metas_edited key_of org ws t sound (Hold id text) takes = refl
-metas_edited key_of org ws t sound (Release id) takes = refl
-metas_edited key_of org ws t sound (AddRun number ask created) takes = metas_there (workspace_of org ws t) (run_put org ws number ask created (run_counted org ws number t)) t refl
-metas_edited key_of org ws t sound (Report number action status frees) takes = metas_freed frees org ws (run_acted status action org ws number t)
+told_freed : (frees : Bool) (org ws : List ℕ) (t : Tables) → SameTold (freed_rows frees org ws t) t
+told_freed true org ws t = (refl, refl)
+told_freed false org ws t = (refl, refl)
 
-metas_started : (org ws : List ℕ) (start : Option ℕ) (t : Tables) → (started_rows org ws start t).metas ≡ t.metas
-metas_started org ws None t = refl
-metas_started org ws (Some n) t = refl
+told_rest : (t u : Tables) → KeepsRest t u → SameTold u t
+told_rest t u rest = (rest.metas, rest.editions)
 
--- a change of a workspace leaves meta as it is
-pub metas_changed : (key_of : List ℕ → List ℕ) (org ws : List ℕ) (t : Tables) → IsSound t → (change : Change) → TakesEdit key_of org ws change.edit t → (changed_rows key_of org ws change t).metas ≡ t.metas
-metas_changed key_of org ws t sound change takes = metas_started org ws change.start (edited_rows key_of org ws change.edit t) ∙ metas_edited key_of org ws t sound change.edit takes
+told_edited : (key_of : List ℕ → List ℕ) (org ws : List ℕ) (t : Tables) → IsSound t → (edit : Edit) → TakesEdit key_of org ws edit t → SameTold (edited_rows key_of org ws edit t) t
+told_edited key_of org ws t sound (Make settings) takes = told_rest t (all_gone org ws t) (all_go org ws t sound).rest
+told_edited key_of org ws t sound (Configure settings) takes = (refl, refl)
+told_edited key_of org ws t sound Remove takes = told_rest t (all_gone org ws t) (all_go org ws t sound).rest
+told_edited key_of org ws t sound (AddVersion version outgoing) takes = told_rest (numbered_rows org ws version t) (versioned_rows key_of org ws version outgoing t) (versions_come org ws t sound key_of version takes outgoing).rest
+told_edited key_of org ws t sound Purge takes = told_rest t (all_gone org ws t) (all_go org ws t sound).rest
+told_edited key_of org ws t sound (Hold id text) takes = (refl, refl)
+told_edited key_of org ws t sound (Release id) takes = (refl, refl)
+told_edited key_of org ws t sound (AddRun number ask created) takes = told_there (workspace_of org ws t) (run_put org ws number ask created (run_counted org ws number t)) t (refl, refl)
+told_edited key_of org ws t sound (Report number action status frees) takes = told_freed frees org ws (run_acted status action org ws number t)
 
--- the version that rows tell is the one in meta's row 1
+told_started : (org ws : List ℕ) (start : Option ℕ) (t : Tables) → SameTold (started_rows org ws start t) t
+told_started org ws None t = (refl, refl)
+told_started org ws (Some n) t = (refl, refl)
+
+-- a change of a workspace leaves what tells the version as it is
+pub told_changed : (key_of : List ℕ → List ℕ) (org ws : List ℕ) (t : Tables) → IsSound t → (n : ℕ) → TellsEdition n t → (change : Change) → TakesEdit key_of org ws change.edit t → TellsEdition n (changed_rows key_of org ws change t)
+told_changed key_of org ws t sound n told change takes =
+    let started = told_started org ws change.start (edited_rows key_of org ws change.edit t) in
+    let edited = told_edited key_of org ws t sound change.edit takes in
+    (started.1 ∙ edited.1 ∙ told.0, started.0 ∙ edited.0 ∙ told.1)
+
+-- the version that rows tell is the one in row 1 of meta, or of edition
 pub told_is : (n : ℕ) (t : Tables) → TellsVersion n t → version_in t ≡ Some n
 told_is n t told = ap (λ (ms : List (Kept ℕ)). option_map (λ x. x.1) (get_by id_of ms (pos 1))) told
 
--- a sound database tells version 1
-pub sound_is_not_other : (s : State) → IsOther s → IsSoundStore s.now → ⊥
-sound_is_not_other s other sound = other (tables_of s.now) sound.holds (told_is 1 (tables_of s.now) sound.sound.told)
+pub edition_is : (n : ℕ) (t : Tables) → TellsEdition n t → edition_in t ≡ Some n
+edition_is n t told = ap (λ (es : List (Kept ℕ)). option_map (λ x. x.1) (get_by id_of es (pos 1))) told.0
+
+-- a sound database of any version tells it
+pub sound_is_not_other : (s : State) → IsOther s → (n : ℕ) → HoldsVersion n s.now → ⊥
+sound_is_not_other s other zero h = h
+sound_is_not_other s other (suc zero) h = other.0 (first_is_there s.now h) (first_tables_of s.now) h.holds (told_is 1 (first_tables_of s.now) h.sound.told)
+sound_is_not_other s other (suc (suc zero)) h = other.1 (tables_of s.now) h.holds (edition_is 2 (tables_of s.now) h.sound.told)
+sound_is_not_other s other (suc (suc (suc n))) h = h

@@ -1,5 +1,6 @@
 -- The texts of versions, as rows of versions come and go: what sound tables say of texts stays, and so does each other text.
 use Rattle.std.proofs.Common.{◌≡◌, ◌≤◌, ◌<◌, ℕ, zero, suc, ◌-◌, nat_lt, Bool, true, false, not, ◌&&◌, ◌==◌, cond, List, [], ◌∷◌, ◌++◌, map, filter, find, length, Option, Some, None, option_map, IsSomeAnd, refl, sym, ap, subst, ◌∙◌, arith}
+use Rattle.std.specs.Option.{unwrap_or}
 use Rattle.std.specs.Str.{bytes_eq}
 use Rattle.std.specs.List.{AllByRecursion, list_any}
 use Rattle.std.proofs.lemmas.Bool.{false_from_ne_true, and_from, and_parts, eqb-true, eq-eqb}
@@ -9,20 +10,21 @@ use Rattle.sqlite_keyed.proofs.ListLemmas.{all_weaker, all_both, all-filter, all
 use Rattle.sqlite_keyed.proofs.SliceLemmas.{slice-push_mine, slice-push_other, slice-delete_mine, slice-delete_other}
 use Rattle.std.proofs.lemmas.List.{length-map}
 use Rattle.tables.proofs.Parts.{none_mapped, first_two}
+use Rattle.basis.specs.declared.roles.Bounds.{Bounds}
 use Rattle.machine.specs.declared.records.Version.{Version}
-use Rattle.statements.specs.Rows.{Kept, id_of, TokenRow, WsRow, VersionRow, RunRow, VpageRow}
+use Rattle.statements.specs.Rows.{Kept, id_of, TokenRow, BoundRow, WsRow, VersionRow, RunRow, VpageRow}
 use Rattle.statements.specs.declared.rows.Workspace.{Workspace as WorkspaceCells}
 use Rattle.std.specs.FinMap.{from_entries}
 use Rattle.machine.specs.Order.{name_cmp}
 use Rattle.statements.specs.Tables.{Tables}
-use Rattle.statements.specs.Changes.{is_ws, is_ws_of, is_run_of, is_version_of, is_version, is_version_below, new_version, version_removed}
-use Rattle.statements.specs.Finds.{head_of, oldest_below, size_of}
+use Rattle.statements.specs.Changes.{is_bound, is_ws, is_ws_of, is_run_of, is_version_of, is_version, is_version_below, new_version, version_removed}
+use Rattle.statements.specs.Finds.{bound_in, head_of, oldest_below, size_of}
 use Rattle.statements.proofs.Found.{found_passes, found_holds, find_pushed, find_left}
 use Rattle.texts.specs.Texts.{is_place_of, pages_for, text_removed, text_of, IsWhole, HasNoPlaces, HasSoundPlaces}
 use Rattle.texts.proofs.PieceLists.{none_passes, none_found}
 use Rattle.texts.proofs.PlaceLaws.{IsOtherVersion, version_parts, version_from}
-use Rattle.texts.proofs.TextLaws.{text_added_keeps, text_added_whole, text_added_text, text_added_others_whole, text_added_others_text, text_added_places, text_added_metas, text_added_orgs, text_added_tokens, text_added_wss, text_added_versions, text_added_runs, text_removed_keeps, text_removed_others_whole, text_removed_others_text, text_removed_places, text_removed_none, text_removed_metas, text_removed_orgs, text_removed_tokens, text_removed_wss, text_removed_versions, text_removed_runs, carried_whole, carried_text, carried_sound}
-use Rattle.tables.specs.Records.{version_of_cells, run_of_cells, token_of_cells, workspace_of_cells, version_at, versions_at, workspace_by, is_token_of, workspaces_at, organization_at}
+use Rattle.texts.proofs.TextLaws.{text_added_keeps, text_added_whole, text_added_text, text_added_others_whole, text_added_others_text, text_added_places, text_added_metas, text_added_orgs, text_added_tokens, text_added_wss, text_added_versions, text_added_runs, text_added_bounds, text_added_editions, text_removed_keeps, text_removed_others_whole, text_removed_others_text, text_removed_places, text_removed_none, text_removed_metas, text_removed_orgs, text_removed_tokens, text_removed_wss, text_removed_versions, text_removed_runs, text_removed_bounds, text_removed_editions, carried_whole, carried_text, carried_sound}
+use Rattle.tables.specs.Records.{version_of_cells, run_of_cells, no_bounds, bounds_of_cells, token_of_cells, workspace_of_cells, version_at, versions_at, workspace_by, is_token_of, tokens_at, workspaces_at, organization_at}
 use Rattle.tables.specs.Sound.{IsPlaced, HasText, IsSound}
 use Rattle.tables.specs.Inner.Edits.{first_gone, so_many_gone, gone_below, row_added, added_rows, FitsTwins}
 use Rattle.tables.proofs.Names.{same_name, name_is, is_pair, pair_is, pair_apart}
@@ -48,12 +50,22 @@ pub record KeepsRest (t u : Tables) : Type 0 where
   pub tokens : u.tokens ≡ t.tokens
   pub wss : u.wss ≡ t.wss
   pub runs : u.runs ≡ t.runs
+  pub bounds : u.bounds ≡ t.bounds
+  pub editions : u.editions ≡ t.editions
 
 pub rest_stays : (t : Tables) → KeepsRest t t
-rest_stays t = record { metas = refl; orgs = refl; tokens = refl; wss = refl; runs = refl }
+rest_stays t = record { metas = refl; orgs = refl; tokens = refl; wss = refl; runs = refl; bounds = refl; editions = refl }
 
 pub rest_then : (t u z : Tables) → KeepsRest t u → KeepsRest u z → KeepsRest t z
-rest_then t u z one two = record { metas = two.metas ∙ one.metas; orgs = two.orgs ∙ one.orgs; tokens = two.tokens ∙ one.tokens; wss = two.wss ∙ one.wss; runs = two.runs ∙ one.runs }
+rest_then t u z one two = record {
+  metas = two.metas ∙ one.metas;
+  orgs = two.orgs ∙ one.orgs;
+  tokens = two.tokens ∙ one.tokens;
+  wss = two.wss ∙ one.wss;
+  runs = two.runs ∙ one.runs;
+  bounds = two.bounds ∙ one.bounds;
+  editions = two.editions ∙ one.editions;
+}
 
 -- ---- rows of a version
 
@@ -120,6 +132,13 @@ module _ (t u : Tables) (versions : u.versions ≡ t.versions) (pages : u.pages 
     texts = all_weaker (HasText t) (HasText u) (λ y. carried_whole t u pages vpages y.1.org y.1.ws y.1.it.number y.1.it.size) u.versions (subst (AllByRecursion (HasText t)) (sym versions) a.texts);
   }
 
+-- tokens, and how far each reaches
+abbrev reach_of : List (Kept BoundRow) → TokenRow → Bounds
+reach_of bounds r = unwrap_or (option_map bounds_of_cells (option_map bound_in (find (is_bound r.org r.name) bounds))) no_bounds
+
+pub tokens_carried : (t u : Tables) → u.tokens ≡ t.tokens → u.bounds ≡ t.bounds → (o : List ℕ) → tokens_at u o ≡ tokens_at t o
+tokens_carried t u tokens bounds o = λ i. from_entries {R = name_cmp} (map (λ (x : Kept TokenRow). (x.1.name, token_of_cells (reach_of (bounds i) x.1) x.1.it)) (filter (is_token_of o) (tokens i)))
+
 -- tables of which no other but those of organizations and tokens differ
 pub record KeepsWorkspaces (t u : Tables) : Type 0 where
   pub wss : u.wss ≡ t.wss
@@ -137,8 +156,8 @@ module _ (t u : Tables) (keeps : KeepsWorkspaces t u) where
   workspaces_carried o = λ i. from_entries {R = name_cmp} (map (λ (x : Kept WsRow). (x.1.name, workspace_of_cells x.1.it (versions_carried t u keeps.versions keeps.pages keeps.vpages o x.1.name i) (map (λ (y : Kept RunRow). run_of_cells y.1.it) (filter (is_run_of o x.1.name) (keeps.runs i)))))
       (filter (is_ws_of o) (keeps.wss i)))
 
-  pub organization_carried : u.tokens ≡ t.tokens → (o : List ℕ) (cap : Option ℕ) → option_map (organization_at u o) cap ≡ option_map (organization_at t o) cap
-  organization_carried tokens o cap = λ i. option_map (λ (c : ℕ). record { limit = c; tokens = from_entries {R = name_cmp} (map (λ (x : Kept TokenRow). (x.1.name, token_of_cells x.1.it)) (filter (is_token_of o) (tokens i))); workspaces = workspaces_carried o i }) cap
+  pub organization_carried : u.tokens ≡ t.tokens → u.bounds ≡ t.bounds → (o : List ℕ) (cap : Option ℕ) → option_map (organization_at u o) cap ≡ option_map (organization_at t o) cap
+  organization_carried tokens bounds o cap = λ i. option_map (λ (c : ℕ). record { limit = c; tokens = tokens_carried t u tokens bounds o i; workspaces = workspaces_carried o i }) cap
 
 -- ---- a version that goes
 
@@ -183,6 +202,8 @@ module _ (org ws : List ℕ) (below : ℕ) (t : Tables) (a : AreTexts t) (x : Ke
     metas = text_removed_metas org ws n size without;
     orgs = text_removed_orgs org ws n size without;
     tokens = text_removed_tokens org ws n size without;
+    bounds = text_removed_bounds org ws n size without;
+    editions = text_removed_editions org ws n size without;
     wss = text_removed_wss org ws n size without;
     runs = text_removed_runs org ws n size without;
   }
@@ -439,6 +460,8 @@ module _ (key_of : List ℕ → List ℕ) (org ws : List ℕ) (v : Version) (t :
       metas = text_added_metas key_of org ws v.number v.text mid;
       orgs = text_added_orgs key_of org ws v.number v.text mid;
       tokens = text_added_tokens key_of org ws v.number v.text mid;
+      bounds = text_added_bounds key_of org ws v.number v.text mid;
+      editions = text_added_editions key_of org ws v.number v.text mid;
       wss = text_added_wss key_of org ws v.number v.text mid;
       runs = text_added_runs key_of org ws v.number v.text mid;
     };

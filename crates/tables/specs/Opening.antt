@@ -1,5 +1,5 @@
 -- When a store is sound, and which of our tables a database has.
-use Rattle.std.specs.Prelude.{◌≡◌, ◌≢◌, ◌==◌, ℕ, Bool, true, false, not, ◌&&◌, is_some, List, [], ◌∷◌, codes, slice_get, Option, Some, None, IsTrue}
+use Rattle.std.specs.Prelude.{◌≡◌, ◌≢◌, ◌==◌, ℕ, zero, suc, Bool, true, false, not, ◌&&◌, List, [], ◌∷◌, codes, slice_get, Option, Some, None, IsTrue}
 use Rattle.std.specs.Str.{bytes_eq}
 use Rattle.std.specs.List.{list_any, list_all}
 use Rattle.sqlite_value.specs.declared.keys.Collation.{Collation}
@@ -14,27 +14,29 @@ use Rattle.sqlite_schema.specs.declared.schema.Table.{Table}
 use Rattle.sqlite_schema.specs.Names.{table_named}
 use Rattle.sqlite.specs.Effect.{Database}
 use Rattle.sqlite.specs.State.{State}
-use Rattle.statements.specs.Schema.{meta_table, version_table}
-use Rattle.statements.specs.Making.{version_in}
-use Rattle.statements.specs.Tables.{Tables, Holds, our_tables}
-use Rattle.tables.specs.Stores.{IsSoundStore}
+use Rattle.statements.specs.Schema.{meta_table, version_table, edition_table}
+use Rattle.statements.specs.Rows.{Kept}
+use Rattle.statements.specs.Making.{HasMeta, told_version, version_in, HasEdition, edition_in}
+use Rattle.statements.specs.Tables.{Tables, Holds, HoldsFirst, first_tables, our_tables}
+use Rattle.tables.specs.Stores.{IsSoundStore, is_in_schema, second_tables}
 
 -- The database that was seen last is sound, and it is what the connection has committed, as long as no fault has shut it.
 pub record IsSoundKeep (seen : Database) (s : State) : Type 0 where
   pub store : IsSoundStore seen
   pub tied : IsTrue s.is_open → s.committed ≡ seen
 
-abbrev pub is_in_schema : Schema → Table → Bool
-is_in_schema s t = is_some (table_named s t.name)
-
--- whether one of our tables is there, or all are
+-- whether one of our tables is there
 abbrev pub any_there : Schema → Bool
 any_there s = list_any (is_in_schema s) our_tables
 
-abbrev pub all_there : Schema → Bool
-all_there s = list_all (is_in_schema s) our_tables
+-- whether the tables of a version are there, and none of a later one
+abbrev pub all_there : ℕ → Schema → Bool
+all_there zero s = false
+all_there (suc zero) s = list_all (is_in_schema s) first_tables && not (list_any (is_in_schema s) second_tables)
+all_there (suc (suc zero)) s = list_all (is_in_schema s) our_tables
+all_there (suc (suc (suc n))) s = false
 
--- ---- whether the table meta has the columns of ours
+-- ---- whether the tables that tell the version have the columns of ours
 
 abbrev pub is_integer : Kind → Bool
 is_integer Integer = true
@@ -92,6 +94,10 @@ is_meta_at s (Some at) = is_meta_in (slice_get s.tables at)
 abbrev pub is_meta : Schema → Bool
 is_meta s = is_meta_at s (table_named s meta_table.name)
 
+-- the name edition means a table with the columns of ours, which are those of meta
+abbrev pub is_edition : Schema → Bool
+is_edition s = is_meta_at s (table_named s edition_table.name)
+
 -- ---- whether the table version has the columns of ours
 
 -- columns of these names, in this order, and no others
@@ -116,6 +122,22 @@ has_versions_at s (Some at) = has_versions_in (slice_get s.tables at)
 abbrev pub has_versions : Schema → Bool
 has_versions s = has_versions_at s (table_named s version_table.name)
 
--- the database tells no version, or another than this one
+-- ---- what tells the version
+
+-- What tells the version in a database that holds the tables of one tells this one.
+abbrev pub TellsIn : ℕ → Database → Type 0
+TellsIn zero db = ⊥
+TellsIn (suc zero) db = (t : Tables) → HoldsFirst db t → version_in t ≡ Some 1
+TellsIn (suc (suc zero)) db = (t : Tables) → Holds db t → edition_in t ≡ Some 2
+TellsIn (suc (suc (suc n))) db = ⊥
+
+-- the same, whatever else the table that tells it is
+abbrev pub ToldBy : ℕ → Database → Type 0
+ToldBy zero db = ⊥
+ToldBy (suc zero) db = (table : Table) (metas : List (Kept ℕ)) → HasMeta db table metas → told_version metas ≡ Some 1
+ToldBy (suc (suc zero)) db = (table : Table) (editions : List (Kept ℕ)) → HasEdition db table editions → told_version editions ≡ Some 2
+ToldBy (suc (suc (suc n))) db = ⊥
+
+-- the database tells no version, or another than those that there are
 abbrev pub IsOther : State → Type 0
-IsOther s = (t : Tables) → Holds s.now t → version_in t ≢ Some 1
+IsOther s = (all_there 1 s.now.schema ≡ true → (t : Tables) → HoldsFirst s.now t → version_in t ≢ Some 1) × ((t : Tables) → Holds s.now t → edition_in t ≢ Some 2)

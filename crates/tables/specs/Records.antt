@@ -1,8 +1,10 @@
 -- The record of an organization that the rows of the tables denote.
-use Rattle.std.specs.Prelude.{ℕ, Bool, List, map, filter, Option, option_map}
+use Rattle.std.specs.Prelude.{ℕ, Bool, List, [], map, filter, Option, None, option_map}
+use Rattle.std.specs.Option.{unwrap_or}
 use Rattle.std.specs.Str.{bytes_eq}
 use Rattle.std.specs.FinMap.{FinMap, from_entries}
 use Rattle.basis.specs.declared.roles.Role.{Role}
+use Rattle.basis.specs.declared.roles.Bounds.{Bounds}
 use Rattle.basis.specs.declared.roles.Caller.{Caller}
 use Rattle.basis.specs.declared.rows.Settings.{Settings}
 use Rattle.machine.specs.Order.{name_cmp}
@@ -18,11 +20,12 @@ use Rattle.statements.specs.declared.rows.Holder.TheVariants as cells
 use Rattle.statements.specs.Rows.{Version as VersionCells}
 use Rattle.statements.specs.declared.rows.Run.{Run as RunCells}
 use Rattle.statements.specs.Rows.{Token as TokenCells}
+use Rattle.statements.specs.declared.rows.Bound.{Bound as BoundCells}
 use Rattle.statements.specs.declared.rows.Workspace.{Workspace as WorkspaceCells}
 use Rattle.statements.specs.Rows.{Kept, TokenRow}
 use Rattle.statements.specs.Tables.{Tables}
 use Rattle.statements.specs.Changes.{is_ws_of, is_version_of, is_run_of}
-use Rattle.statements.specs.Finds.{cap_of, role_of_digest, workspace_of}
+use Rattle.statements.specs.Finds.{cap_of, named_role_of, bound_of, workspace_of}
 use Rattle.texts.specs.Texts.{text_of}
 
 -- ---- what cells denote
@@ -42,11 +45,18 @@ version_of_cells text v = record { number = v.number; serial = v.serial; lineage
 abbrev pub run_of_cells : RunCells → Run
 run_of_cells r = record { number = r.number; plan_only = r.plan_only; key = r.key; message = r.message; created = r.created; status = r.status; action = r.action }
 
-abbrev pub caller_of_role : Role → Caller
-caller_of_role role = record { role = role }
+-- a token that never ends, for all workspaces
+abbrev pub no_bounds : Bounds
+no_bounds = record { until = None; prefix = [] }
 
-abbrev pub token_of_cells : TokenCells → Token
-token_of_cells t = record { digest = t.digest; caller = caller_of_role t.role }
+abbrev pub bounds_of_cells : BoundCells → Bounds
+bounds_of_cells b = record { until = b.until; prefix = b.prefix }
+
+abbrev pub caller_with : Role → Bounds → Caller
+caller_with role bounds = record { role = role; until = bounds.until; prefix = bounds.prefix }
+
+abbrev pub token_of_cells : Bounds → TokenCells → Token
+token_of_cells bounds t = record { digest = t.digest; caller = caller_with t.role bounds }
 
 -- a workspace with its versions and runs, which have rows of their own
 abbrev pub workspace_of_cells : WorkspaceCells → List Version → List Run → Workspace
@@ -84,8 +94,16 @@ workspace_by t org ws = option_map (workspace_at t org ws) (workspace_of org ws 
 abbrev pub is_token_of : List ℕ → Kept TokenRow → Bool
 is_token_of org x = bytes_eq x.1.org org
 
+-- the bounds of a token stand in a row of their own: a token without one, as all are in the first version, has none
+abbrev pub bounds_at : Tables → List ℕ → List ℕ → Bounds
+bounds_at t org name = unwrap_or (option_map bounds_of_cells (bound_of org name t)) no_bounds
+
+-- the token that a row denotes
+abbrev pub token_at : Tables → TokenRow → Token
+token_at t r = token_of_cells (bounds_at t r.org r.name) r.it
+
 abbrev pub tokens_at : Tables → List ℕ → FinMap name_cmp Token
-tokens_at t org = from_entries (map (λ x. (x.1.name, token_of_cells x.1.it)) (filter (is_token_of org) t.tokens))
+tokens_at t org = from_entries (map (λ x. (x.1.name, token_at t x.1)) (filter (is_token_of org) t.tokens))
 
 abbrev pub workspaces_at : Tables → List ℕ → FinMap name_cmp Workspace
 workspaces_at t org = from_entries (map (λ x. (x.1.name, workspace_at t org x.1.name x.1.it)) (filter (is_ws_of org) t.wss))
@@ -99,4 +117,4 @@ record_of t org = option_map (organization_at t org) (cap_of org t)
 
 -- who asks by the organization's token with a digest, if it has a row
 abbrev pub caller_by : List ℕ → List ℕ → Tables → Option Caller
-caller_by org digest t = option_map caller_of_role (role_of_digest org digest t)
+caller_by org digest t = option_map (λ x. caller_with x.role (bounds_at t org x.name)) (named_role_of org digest t)

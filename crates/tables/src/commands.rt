@@ -3,16 +3,18 @@ ghost use Rattle.std.specs.Prelude.{◌≡◌, false, option_map, IsTrue, OnOk, 
 ghost use Rattle.sqlite.specs.Held.{state};
 ghost use Rattle.sqlite.specs.State.{HasCleanDisk};
 ghost use Rattle.machine.specs.Needs.{needed_of};
-ghost use Rattle.tables.specs.Records.{caller_of_role, caller_by};
+ghost use Rattle.tables.specs.Records.{caller_by};
 ghost use Rattle.tables.specs.Inner.Units.{text_in, unit_in};
-ghost use Rattle.statements.specs.Listings.{OrgsApart, WorkspacesApart, VersionsRise, RunsRise};
+ghost use Rattle.statements.specs.Listings.{OrgsApart, TokensApart, WorkspacesApart, VersionsRise, RunsRise};
 ghost use Rattle.tables.specs.Inner.Looks.{LooksBy, Sees};
-ghost use Rattle.tables.specs.Inner.Lists.{LooksWhere, versions_listed_in, runs_listed_in, workspaces_listed_in, organizations_listed_in};
+ghost use Rattle.tables.specs.Inner.Lists.{LooksWhere, versions_listed_in, runs_listed_in, workspaces_listed_in, tokens_told_in, organizations_listed_in};
 ghost use Rattle.tables.specs.Inner.Steps.{ManagesBy, org_managed, limit_managed, token_managed, revocation_managed, is_taken};
 
 use crate::transactions::assert_settled;
 use crate::{listings, looks, transactions};
-use basis::{Bytes, Caller, Items, Limit, Listing, Number, Role, RunRow, VersionRow, WsRow};
+use basis::{
+    Bounds, Bytes, Caller, Items, Limit, Listing, Number, Prefix, Role, RunRow, VersionRow, WsRow,
+};
 use machine::{AdminAnswer, Needs, OrgRow, Unit};
 use sqlite::{Alter, Connection, Error};
 use statements::{organizations, tokens};
@@ -80,11 +82,12 @@ pub(crate) fn token_add<S: Alter>(
     name: &str,
     role: Role,
     digest: &[u8],
+    bounds: &Bounds,
 ) -> Result<AdminAnswer, Error>
     requires idle { conn.old.in_transaction ≡ false }
     ensures idle { conn.new.in_transaction ≡ false }
     ensures so_far { HasCleanDisk (state S.Store conn.new) → HasCleanDisk (state S.Store conn.old) }
-    ensures done { ManagesBy (token_managed org.now name.now digest.now role) (state S.Store conn.old) (state S.Store conn.new) result }
+    ensures done { ManagesBy (token_managed org.now name.now digest.now role bounds.now) (state S.Store conn.old) (state S.Store conn.new) result }
 {
     assert_settled(conn);
     let cap = organizations::cap(conn, org)?;
@@ -94,7 +97,7 @@ pub(crate) fn token_add<S: Alter>(
     if is_taken(conn, org, name, digest)? {
         return Ok(AdminAnswer::Exists);
     }
-    transactions::add_token(conn, org, name, role, digest)?;
+    transactions::add_token(conn, org, name, role, digest, bounds)?;
     Ok(AdminAnswer::Done)
 }
 
@@ -121,6 +124,7 @@ pub(crate) fn token_revoke<S: Alter>(
 /// Who asks by the organization's token with this digest.
 pub(crate) fn caller<S: Alter>(
     conn: &mut Connection<S>,
+    alloc: Global,
     org: &str,
     digest: &[u8],
 ) -> Result<Option<Caller>, Error>
@@ -130,17 +134,7 @@ pub(crate) fn caller<S: Alter>(
     ensures looks { LooksBy (caller_by org.now digest.now) (state S.Store conn.old) (state S.Store conn.new) result }
 {
     assert_settled(conn);
-    let role = tokens::role_of_digest(conn, org, digest)?;
-    Ok(caller_of(role))
-}
-
-fn caller_of(role: Option<Role>) -> Option<Caller>
-    ensures { result ≡ option_map caller_of_role role }
-{
-    match role {
-        None => None,
-        Some(role) => Some(Caller { role }),
-    }
+    looks::caller(conn, alloc, org, digest)
 }
 
 /// What a decision on an act needs of a workspace.
@@ -178,20 +172,21 @@ pub(crate) fn text<S: Alter>(
     looks::text(conn, alloc, org, ws, number)
 }
 
-/// The workspaces of an organization that come after a name. All come after the empty one.
+/// The workspaces of an organization that a prefix admits, after a name. All come after the empty one.
 pub(crate) fn workspaces<S: Alter>(
     conn: &mut Connection<S>,
     alloc: Global,
     org: &str,
     after: &str,
+    prefix: &Prefix,
 ) -> Result<Listing<WsRow>, Error>
     requires idle { conn.old.in_transaction ≡ false }
     ensures idle { conn.new.in_transaction ≡ false }
     ensures so_far { HasCleanDisk (state S.Store conn.new) → HasCleanDisk (state S.Store conn.old) }
-    ensures looks { LooksWhere WorkspacesApart (workspaces_listed_in after.now org.now) (state S.Store conn.old) (state S.Store conn.new) result }
+    ensures looks { LooksWhere WorkspacesApart (workspaces_listed_in after.now prefix.now org.now) (state S.Store conn.old) (state S.Store conn.new) result }
 {
     assert_settled(conn);
-    listings::list_of_workspaces(conn, alloc, org, after)
+    listings::list_of_workspaces(conn, alloc, org, after, prefix)
 }
 
 /// The versions of a workspace whose numbers are greater than this one.
@@ -242,4 +237,19 @@ pub(crate) fn org_list<S: Alter>(
 {
     assert_settled(conn);
     listings::list_of_organizations(conn, alloc)
+}
+
+/// The tokens of an organization, in the order of their names.
+pub(crate) fn token_list<S: Alter>(
+    conn: &mut Connection<S>,
+    alloc: Global,
+    org: &str,
+) -> Result<AdminAnswer, Error>
+    requires idle { conn.old.in_transaction ≡ false }
+    ensures idle { conn.new.in_transaction ≡ false }
+    ensures so_far { HasCleanDisk (state S.Store conn.new) → HasCleanDisk (state S.Store conn.old) }
+    ensures looks { LooksWhere TokensApart (tokens_told_in org.now) (state S.Store conn.old) (state S.Store conn.new) result }
+{
+    assert_settled(conn);
+    listings::tokens_told(conn, alloc, org)
 }

@@ -4,20 +4,22 @@ ghost use Rattle.sqlite.specs.Held.{state};
 ghost use Rattle.sqlite.specs.State.{HasCleanDisk};
 ghost use Rattle.basis.specs.Listings.{listing_of};
 ghost use Rattle.machine.specs.Showing.{holder_id};
-ghost use Rattle.statements.specs.Listings.{OrgsApart, WorkspacesApart, VersionsRise, RunsRise};
+ghost use Rattle.statements.specs.Listings.{OrgsApart, TokensApart, WorkspacesApart, VersionsRise, RunsRise};
 ghost use Rattle.tables.specs.Records.{holder_of_cells};
 ghost use Rattle.tables.specs.Inner.Looks.{Sees};
-ghost use Rattle.tables.specs.Inner.Lists.{SeesLawful, version_row_in, versions_listed_in, run_row_in, runs_listed_in, newest_number_in, ws_row_in, workspaces_listed_in, org_row_in, organizations_listed_in};
+ghost use Rattle.tables.specs.Inner.Lists.{SeesLawful, version_row_in, versions_listed_in, run_row_in, runs_listed_in, newest_number_in, ws_row_in, workspaces_listed_in, token_row_in, tokens_listed_in, tokens_told_in, org_row_in, organizations_listed_in};
 
-use crate::looks::{limit_of, lock_id_of, moment_of, number_of};
-use basis::{HolderId, Items, Listing, Number, RunRow, Settings, Text, VersionRow, WsName, WsRow};
-use machine::OrgRow;
+use crate::looks::{caller_as, limit_of, lock_id_of, moment_of, number_of};
+use basis::{
+    HolderId, Items, Listing, Number, Prefix, RunRow, Settings, Text, VersionRow, WsName, WsRow,
+};
+use machine::{AdminAnswer, OrgRow, TokenRow};
 use sqlite::{Alter, Connection, Error, ErrorCode};
 use statements::rows::{
-    Holder as HolderCells, NamedWorkspace, Organization as OrganizationCells, Run as RunCells,
-    VersionHead,
+    Holder as HolderCells, NamedRole, NamedWorkspace, Organization as OrganizationCells,
+    Run as RunCells, VersionHead,
 };
-use statements::{organizations, runs, versions, workspaces};
+use statements::{organizations, runs, tokens, versions, workspaces};
 use std::alloc::Global;
 
 /// How many rows are asked for: one more than a listing has, which tells whether more follow.
@@ -185,17 +187,18 @@ fn list_workspaces<S: Alter>(
     Ok(list)
 }
 
-/// The workspaces of an organization that come after a name. All come after the empty one.
+/// The workspaces of an organization that a prefix admits, after a name. All come after the empty one.
 pub(crate) fn list_of_workspaces<S: Alter>(
     conn: &mut Connection<S>,
     alloc: Global,
     org: &str,
     after: &str,
+    prefix: &Prefix,
 ) -> Result<Listing<WsRow>, Error>
-    ensures looks { SeesLawful WorkspacesApart (workspaces_listed_in after.now org.now) (state S.Store conn.old) (state S.Store conn.new) result }
+    ensures looks { SeesLawful WorkspacesApart (workspaces_listed_in after.now prefix.now org.now) (state S.Store conn.old) (state S.Store conn.new) result }
     ensures is_open { HasCleanDisk (state S.Store conn.new) → OnOk result (IsTrue (state S.Store conn.new).is_open) }
 {
-    let rows = workspaces::list(alloc, conn, org, after, ASKED_ROWS)?;
+    let rows = workspaces::list(alloc, conn, org, after, prefix, ASKED_ROWS)?;
     list_workspaces(conn, alloc, org, rows.as_slice())
 }
 
@@ -253,4 +256,66 @@ pub(crate) fn list_of_organizations<S: Alter>(
 {
     let rows = organizations::list(alloc, conn)?;
     list_organizations(conn, alloc, rows.as_slice())
+}
+
+/// A token as an operator's list shows it.
+fn token_row<S: Alter>(
+    conn: &mut Connection<S>,
+    alloc: Global,
+    org: &str,
+    token: &NamedRole,
+) -> Result<TokenRow, Error>
+    ensures looks { Sees (λ t. token_row_in org.now t token.now) (state S.Store conn.old) (state S.Store conn.new) result }
+    ensures is_open { HasCleanDisk (state S.Store conn.new) → OnOk result (IsTrue (state S.Store conn.new).is_open) }
+{
+    let caller = caller_as(conn, alloc, org, token)?;
+    let name = token.name.clone()?;
+    Ok(TokenRow { name, caller })
+}
+
+fn list_tokens<S: Alter>(
+    conn: &mut Connection<S>,
+    alloc: Global,
+    org: &str,
+    tokens: &[NamedRole],
+) -> Result<Items<TokenRow>, Error>
+    ensures looks { Sees (λ t. map (token_row_in org.now t) tokens.now) (state S.Store conn.old) (state S.Store conn.new) result }
+    ensures stays_open { HasCleanDisk (state S.Store conn.new) → OnOk result (IsTrue (state S.Store conn.old).is_open → IsTrue (state S.Store conn.new).is_open) }
+{
+    let mut rows = Items::new(Vec::new(alloc));
+    for token in tokens {
+        let row = token_row(conn, alloc, org, token)?;
+        push(&mut rows, row)?;
+    }
+    Ok(rows)
+}
+
+/// The tokens of an organization, in the order of their names.
+fn list_of_tokens<S: Alter>(
+    conn: &mut Connection<S>,
+    alloc: Global,
+    org: &str,
+) -> Result<Items<TokenRow>, Error>
+    ensures looks { SeesLawful TokensApart (tokens_listed_in org.now) (state S.Store conn.old) (state S.Store conn.new) result }
+    ensures is_open { HasCleanDisk (state S.Store conn.new) → OnOk result (IsTrue (state S.Store conn.new).is_open) }
+{
+    let rows = tokens::list(alloc, conn, org)?;
+    list_tokens(conn, alloc, org, rows.as_slice())
+}
+
+/// What the list of an organization's tokens is answered.
+pub(crate) fn tokens_told<S: Alter>(
+    conn: &mut Connection<S>,
+    alloc: Global,
+    org: &str,
+) -> Result<AdminAnswer, Error>
+    ensures looks { SeesLawful TokensApart (tokens_told_in org.now) (state S.Store conn.old) (state S.Store conn.new) result }
+    ensures is_open { HasCleanDisk (state S.Store conn.new) → OnOk result (IsTrue (state S.Store conn.new).is_open) }
+{
+    let cap = organizations::cap(conn, org)?;
+    if cap.is_none() {
+        return Ok(AdminAnswer::Absent);
+    }
+    let rows = list_of_tokens(conn, alloc, org)?;
+    Ok(AdminAnswer::Tokens(rows))
 }

@@ -1,20 +1,25 @@
 //! What is asked of the tables outside a transaction, by queries of one row each.
-ghost use Rattle.std.specs.Prelude.{◌≡◌, length, false, cond, is_some, option_map, option_copied, IsTrue, IfOk, OnOk, ◌^◌, ◌<◌, unwrap_or};
+ghost use Rattle.std.specs.Prelude.{◌≡◌, length, false, cond, is_some, option_map, option_copied, Option, IsTrue, IfOk, OnOk, ◌^◌, ◌<◌, unwrap_or};
 ghost use Rattle.sqlite.specs.Held.{state};
 ghost use Rattle.sqlite.specs.State.{HasCleanDisk};
 ghost use Rattle.statements.specs.Finds.{size_of, status_at_number, run_at_number, workspaces_of, first_waiting_of, open_runs_of};
 ghost use Rattle.machine.specs.Needs.{needed_of};
 ghost use Rattle.machine.specs.Units.{if_needed};
 ghost use Rattle.texts.specs.Texts.{pages_for, are_pieces};
-ghost use Rattle.tables.specs.Records.{settings_of_cells, holder_of_cells, run_of_cells};
+ghost use Rattle.tables.specs.Records.{bounds_of_cells, caller_with, bounds_at, caller_by, settings_of_cells, holder_of_cells, run_of_cells};
 ghost use Rattle.tables.specs.Inner.Units.{holder_status_in, text_in, has_text, newest_by, newest_in, outgoing_in, has_version_in, keyed_cells_in, asked_cells_in, unit_in};
 ghost use Rattle.tables.specs.Inner.Looks.{Sees, absent_in, runs_in, around_in, unit_from, present_in};
 
-use basis::{Bytes, Limit, LockId, Moment, Number, RunStatus, Settings, Text};
+use basis::{
+    Bounds, Bytes, Caller, Limit, LockId, Moment, Number, Prefix, Role, RunStatus, Settings, Text,
+};
 use machine::{Holder, MAX_VERSIONS, Needs, Newest, Run, Unit, WorkspaceUnit};
 use sqlite::{Alter, Connection, Error, ErrorCode};
-use statements::rows::{Head, Holder as HolderCells, Run as RunCells, Workspace as WorkspaceCells};
-use statements::{organizations, runs, versions, workspaces};
+use statements::rows::{
+    Bound as BoundCells, Head, Holder as HolderCells, NamedRole, Run as RunCells,
+    Workspace as WorkspaceCells,
+};
+use statements::{bounds, organizations, runs, tokens, versions, workspaces};
 use std::alloc::Global;
 
 /// How many versions stand behind the newest of those that go as one more comes.
@@ -278,6 +283,89 @@ pub(crate) fn moment_of(seconds: u64) -> Result<Moment, Error>
     match Moment::new(seconds) {
         Some(moment) => Ok(moment),
         None => Err(Error::IntegralValueOutOfRange(0)),
+    }
+}
+
+fn optional_moment_of(seconds: Option<u64>) -> Result<Option<Moment>, Error>
+    ensures { IfOk result (λ moment. moment ≡ seconds) }
+{
+    match seconds {
+        None => Ok(None),
+        Some(seconds) => Ok(Some(moment_of(seconds)?)),
+    }
+}
+
+fn prefix_of(alloc: Global, prefix: &Text) -> Result<Prefix, Error>
+    ensures { IfOk result (λ read. read ≡ prefix.now) }
+{
+    match Prefix::read(alloc, prefix.as_str()) {
+        Ok(prefix) => Ok(prefix),
+        Err(_) => Err(Error::SqliteFailure(ErrorCode::OutOfMemory)),
+    }
+}
+
+/// How far a token reaches, from its row of bound.
+fn bounds_as(alloc: Global, bound: &BoundCells) -> Result<Bounds, Error>
+    ensures { IfOk result (λ bounds. bounds ≡ bounds_of_cells bound.now) }
+{
+    let until = optional_moment_of(bound.until)?;
+    let prefix = prefix_of(alloc, &bound.prefix)?;
+    Ok(Bounds { until, prefix })
+}
+
+/// How far a token reaches. Each token that is there has a row of bound.
+fn bounds_of<S: Alter>(
+    conn: &mut Connection<S>,
+    alloc: Global,
+    org: &str,
+    name: &str,
+) -> Result<Bounds, Error>
+    ensures looks { Sees (λ t. bounds_at t org.now name.now) (state S.Store conn.old) (state S.Store conn.new) result }
+    ensures is_open { HasCleanDisk (state S.Store conn.new) → OnOk result (IsTrue (state S.Store conn.new).is_open) }
+{
+    match bounds::find(conn, org, name)? {
+        None => Err(Error::QueryReturnedNoRows),
+        Some(bound) => bounds_as(alloc, &bound),
+    }
+}
+
+fn caller_with(role: Role, bounds: Bounds) -> Caller
+    ensures { result ≡ caller_with role bounds }
+{
+    Caller {
+        role,
+        until: bounds.until,
+        prefix: bounds.prefix,
+    }
+}
+
+/// Who asks by a token of this name and role.
+pub(crate) fn caller_as<S: Alter>(
+    conn: &mut Connection<S>,
+    alloc: Global,
+    org: &str,
+    token: &NamedRole,
+) -> Result<Caller, Error>
+    ensures looks { Sees (λ t. caller_with token.now.role (bounds_at t org.now token.now.name)) (state S.Store conn.old) (state S.Store conn.new) result }
+    ensures is_open { HasCleanDisk (state S.Store conn.new) → OnOk result (IsTrue (state S.Store conn.new).is_open) }
+{
+    let bounds = bounds_of(conn, alloc, org, token.name.as_str())?;
+    Ok(caller_with(token.role, bounds))
+}
+
+/// Who asks by the organization's token with this digest.
+pub(crate) fn caller<S: Alter>(
+    conn: &mut Connection<S>,
+    alloc: Global,
+    org: &str,
+    digest: &[u8],
+) -> Result<Option<Caller>, Error>
+    ensures looks { Sees (caller_by org.now digest.now) (state S.Store conn.old) (state S.Store conn.new) result }
+    ensures is_open { HasCleanDisk (state S.Store conn.new) → OnOk result (IsTrue (state S.Store conn.new).is_open) }
+{
+    match tokens::find_by_digest(conn, org, digest)? {
+        None => Ok(None),
+        Some(token) => Ok(Some(caller_as(conn, alloc, org, &token)?)),
     }
 }
 

@@ -1,17 +1,20 @@
 //! How a database is made ready for a store.
-ghost use Rattle.std.specs.Prelude.{◌≡◌, true, false, ℕ, List, OnOk, OnErr, IfOk, IfErr};
+ghost use Rattle.std.specs.Prelude.{◌≡◌, ◌+◌, true, false, ℕ, List, Option, OnOk, OnErr, IfOk, IfErr};
+ghost use Rattle.std.specs.List.{list_any, list_all};
 ghost use Rattle.std.specs.Str.{bytes_eq};
 ghost use Rattle.sqlite.specs.Held.{state};
 ghost use Rattle.sqlite.specs.State.{HasCleanDisk, KeepsCommit};
 ghost use Rattle.statements.specs.Place.{IsOwn};
-ghost use Rattle.statements.specs.Schema.{meta_table, version_table};
-ghost use Rattle.tables.specs.Opening.{any_there, all_there, is_integer_column, is_null, is_plain_column, tells_version, is_first_key, has_none, is_meta, have_names, version_names, has_versions, IsOther};
-ghost use Rattle.tables.specs.Inner.Making.{IsMade, IsTold, found_in, TellsFound, FindsOurs, StepsFrom, IsClimbed, IsOnWay};
+ghost use Rattle.statements.specs.Schema.{meta_table, version_table, edition_table};
+ghost use Rattle.statements.specs.Tables.{first_tables};
+ghost use Rattle.tables.specs.Opening.{any_there, all_there, is_integer_column, is_null, is_plain_column, tells_version, is_first_key, has_none, is_meta_table, is_meta, is_edition, have_names, version_names, has_versions, TellsIn, ToldBy, IsOther};
+ghost use Rattle.tables.specs.Stores.{is_in_schema, second_tables};
+ghost use Rattle.tables.specs.Inner.Making.{IsMade, found_in, TellsFound, FindsOurs, StepsFrom, KeepsBeside, IsClimbed, IsOnWay};
 ghost use Rattle.tables.specs.Versions.{HoldsVersion, version_records};
 
 use crate::transactions::{self, assert_settled};
 use sqlite::{Alter, Connection, Error};
-use sqlite_schema::schema::{Column, Kind, Schema};
+use sqlite_schema::schema::{Column, Kind, Schema, Table};
 use sqlite_value::keys::Collation;
 use sqlite_value::value::Value;
 use statements::making;
@@ -24,8 +27,11 @@ pub enum Fault {
     Down,
 }
 
+/// The first version of the schema, which the table meta tells. Later ones are told by edition.
+const FIRST: u64 = 1;
+
 /// The newest version of the schema.
-const NEWEST: u64 = 1;
+const NEWEST: u64 = 2;
 
 /// What a database has of ours.
 #[derive(Clone, Copy)]
@@ -38,8 +44,9 @@ enum Found {
     Other,
 }
 
-fn any_there(schema: &Schema) -> bool
-    ensures { result ≡ any_there schema.now }
+/// Whether one of the tables of the first version is there.
+fn any_first_there(schema: &Schema) -> bool
+    ensures { result ≡ list_any (is_in_schema schema.now) first_tables }
 {
     schema.table_named(b"meta".as_slice()).is_some()
         || schema.table_named(b"org".as_slice()).is_some()
@@ -51,8 +58,23 @@ fn any_there(schema: &Schema) -> bool
         || schema.table_named(b"vpage".as_slice()).is_some()
 }
 
-fn all_there(schema: &Schema) -> bool
-    ensures { result ≡ all_there schema.now }
+/// Whether one of the tables is there that the second version added.
+fn any_second_there(schema: &Schema) -> bool
+    ensures { result ≡ list_any (is_in_schema schema.now) second_tables }
+{
+    schema.table_named(b"bound".as_slice()).is_some()
+        || schema.table_named(b"edition".as_slice()).is_some()
+}
+
+fn any_there(schema: &Schema) -> bool
+    ensures { result ≡ any_there schema.now }
+{
+    any_first_there(schema) || any_second_there(schema)
+}
+
+/// Whether all tables of the first version are there.
+fn has_first(schema: &Schema) -> bool
+    ensures { result ≡ list_all (is_in_schema schema.now) first_tables }
 {
     schema.table_named(b"meta".as_slice()).is_some()
         && schema.table_named(b"org".as_slice()).is_some()
@@ -62,6 +84,22 @@ fn all_there(schema: &Schema) -> bool
         && schema.table_named(b"run".as_slice()).is_some()
         && schema.table_named(b"page".as_slice()).is_some()
         && schema.table_named(b"vpage".as_slice()).is_some()
+}
+
+/// Whether the tables of the first version are there, and none that a later one added.
+fn first_there(schema: &Schema) -> bool
+    ensures { result ≡ all_there 1 schema.now }
+{
+    has_first(schema) && !any_second_there(schema)
+}
+
+/// Whether all tables are there.
+fn all_there(schema: &Schema) -> bool
+    ensures { result ≡ all_there 2 schema.now }
+{
+    has_first(schema)
+        && schema.table_named(b"bound".as_slice()).is_some()
+        && schema.table_named(b"edition".as_slice()).is_some()
 }
 
 /// Whether a column has this name, and takes integers alone.
@@ -123,6 +161,15 @@ fn has_none(places: &[usize]) -> bool
     }
 }
 
+/// Whether a table has the columns of one that tells a version.
+fn is_meta_table(table: &Table) -> bool
+    ensures { result ≡ is_meta_table table.now }
+{
+    is_first_key(table.key)
+        && has_none(table.computed.as_slice())
+        && tells_version(table.columns.as_slice())
+}
+
 /// Whether the table meta has the columns of ours.
 fn is_meta(schema: &Schema) -> bool
     ensures exact { result ≡ is_meta schema.now }
@@ -130,11 +177,21 @@ fn is_meta(schema: &Schema) -> bool
 {
     match schema.table_named(b"meta".as_slice()) {
         Some(at) => match schema.tables.as_slice().get(at) {
-            Some(table) => {
-                is_first_key(table.key)
-                    && has_none(table.computed.as_slice())
-                    && tells_version(table.columns.as_slice())
-            }
+            Some(table) => is_meta_table(table),
+            None => false,
+        },
+        None => false,
+    }
+}
+
+/// Whether the table edition has the columns of ours, which are those of meta.
+fn is_edition(schema: &Schema) -> bool
+    ensures exact { result ≡ is_edition schema.now }
+    ensures own { IsOwn schema.now edition_table → result ≡ true }
+{
+    match schema.table_named(b"edition".as_slice()) {
+        Some(at) => match schema.tables.as_slice().get(at) {
+            Some(table) => is_meta_table(table),
             None => false,
         },
         None => false,
@@ -180,14 +237,14 @@ fn has_versions(schema: &Schema) -> bool
     }
 }
 
-/// What is found where meta tells this version.
-fn found_in(version: Option<u64>) -> Found
-    ensures { result ≡ found_in version }
+/// What is found where the tables of a version are there, and this version is told.
+fn found_in(version: u64, told: Option<u64>) -> Found
+    ensures { result ≡ found_in version told }
 {
-    match version {
+    match told {
         None => Found::Other,
-        Some(version) => {
-            if 1 <= version && version <= NEWEST {
+        Some(told) => {
+            if told == version {
                 Found::Version(version)
             } else {
                 Found::Other
@@ -196,9 +253,10 @@ fn found_in(version: Option<u64>) -> Found
     }
 }
 
-/// Which version meta tells.
-fn find_version<S: Alter>(conn: &mut Connection<S>) -> Result<Found, Error>
+/// Whether meta tells the first version, where the tables of that are there.
+fn find_first<S: Alter>(conn: &mut Connection<S>) -> Result<Found, Error>
     requires idle { conn.old.in_transaction ≡ false }
+    requires there { all_there 1 (state S.Store conn.old).now.schema ≡ true }
     ensures idle { conn.new.in_transaction ≡ false }
     ensures so_far { HasCleanDisk (state S.Store conn.new) → HasCleanDisk (state S.Store conn.old) }
     ensures found { HasCleanDisk (state S.Store conn.new) → IfOk result (λ found. TellsFound found (state S.Store conn.old) (state S.Store conn.new)) }
@@ -206,9 +264,47 @@ fn find_version<S: Alter>(conn: &mut Connection<S>) -> Result<Found, Error>
 {
     assert_settled(conn);
     match making::version(conn) {
-        Ok(version) => Ok(found_in(version)),
+        Ok(told) => Ok(found_in(FIRST, told)),
         Err(error) => Err(error),
     }
+}
+
+/// Whether edition tells the newest version, where the tables of that are there.
+fn find_newest<S: Alter>(conn: &mut Connection<S>) -> Result<Found, Error>
+    requires idle { conn.old.in_transaction ≡ false }
+    requires there { all_there 2 (state S.Store conn.old).now.schema ≡ true }
+    ensures idle { conn.new.in_transaction ≡ false }
+    ensures so_far { HasCleanDisk (state S.Store conn.new) → HasCleanDisk (state S.Store conn.old) }
+    ensures found { HasCleanDisk (state S.Store conn.new) → IfOk result (λ found. TellsFound found (state S.Store conn.old) (state S.Store conn.new)) }
+    ensures err { HasCleanDisk (state S.Store conn.new) → OnErr result (KeepsCommit (state S.Store conn.old) (state S.Store conn.new)) }
+{
+    assert_settled(conn);
+    match making::edition(conn) {
+        Ok(told) => Ok(found_in(NEWEST, told)),
+        Err(error) => Err(error),
+    }
+}
+
+/// Which version's tables are there, and whether that is told.
+fn find_version<S: Alter>(conn: &mut Connection<S>) -> Result<Found, Error>
+    requires idle { conn.old.in_transaction ≡ false }
+    ensures idle { conn.new.in_transaction ≡ false }
+    ensures so_far { HasCleanDisk (state S.Store conn.new) → HasCleanDisk (state S.Store conn.old) }
+    ensures found { HasCleanDisk (state S.Store conn.new) → IfOk result (λ found. TellsFound found (state S.Store conn.old) (state S.Store conn.new)) }
+    ensures err { HasCleanDisk (state S.Store conn.new) → OnErr result (KeepsCommit (state S.Store conn.old) (state S.Store conn.new)) }
+    ensures edition { all_there 2 (state S.Store conn.old).now.schema ≡ true → is_edition (state S.Store conn.old).now.schema ≡ false → IfOk result (λ found. found ≡ Found.Other) × IfErr result (λ _. ⊥) }
+    ensures missing { all_there 1 (state S.Store conn.old).now.schema ≡ false → all_there 2 (state S.Store conn.old).now.schema ≡ false → IfOk result (λ found. found ≡ Found.Other) × IfErr result (λ _. ⊥) }
+{
+    if first_there(conn.schema()) {
+        return find_first(conn);
+    }
+    if !all_there(conn.schema()) {
+        return Ok(Found::Other);
+    }
+    if !is_edition(conn.schema()) {
+        return Ok(Found::Other);
+    }
+    find_newest(conn)
 }
 
 /// Finds what a database has of ours.
@@ -220,14 +316,14 @@ fn find<S: Alter>(conn: &mut Connection<S>) -> Result<Found, Error>
     ensures err { HasCleanDisk (state S.Store conn.new) → OnErr result (KeepsCommit (state S.Store conn.old) (state S.Store conn.new)) }
     ensures nothing { HasCleanDisk (state S.Store conn.new) → IfOk result (λ found. found ≡ Found.Nothing → conn.new ≡ conn.old) }
     ensures foreign { any_there (state S.Store conn.old).now.schema ≡ true → is_meta (state S.Store conn.old).now.schema ≡ false → IfOk result (λ found. found ≡ Found.Other) × IfErr result (λ _. ⊥) }
-    ensures missing { any_there (state S.Store conn.old).now.schema ≡ true → all_there (state S.Store conn.old).now.schema ≡ false → IfOk result (λ found. found ≡ Found.Other) × IfErr result (λ _. ⊥) }
+    ensures edition { any_there (state S.Store conn.old).now.schema ≡ true → all_there 2 (state S.Store conn.old).now.schema ≡ true → is_edition (state S.Store conn.old).now.schema ≡ false
+        → IfOk result (λ found. found ≡ Found.Other) × IfErr result (λ _. ⊥) }
+    ensures missing { any_there (state S.Store conn.old).now.schema ≡ true → all_there 1 (state S.Store conn.old).now.schema ≡ false → all_there 2 (state S.Store conn.old).now.schema ≡ false
+        → IfOk result (λ found. found ≡ Found.Other) × IfErr result (λ _. ⊥) }
     ensures older { any_there (state S.Store conn.old).now.schema ≡ true → has_versions (state S.Store conn.old).now.schema ≡ false → IfOk result (λ found. found ≡ Found.Other) × IfErr result (λ _. ⊥) }
 {
     if !any_there(conn.schema()) {
         return Ok(Found::Nothing);
-    }
-    if !all_there(conn.schema()) {
-        return Ok(Found::Other);
     }
     if !is_meta(conn.schema()) {
         return Ok(Found::Other);
@@ -239,14 +335,16 @@ fn find<S: Alter>(conn: &mut Connection<S>) -> Result<Found, Error>
 }
 
 /// Takes a database of a version to the next one, in one transaction.
-fn step<S: Alter>(_conn: &mut Connection<S>, from: u64) -> Result<(), Error>
-    requires idle { _conn.old.in_transaction ≡ false }
-    ensures idle { _conn.new.in_transaction ≡ false }
-    ensures so_far { HasCleanDisk (state S.Store _conn.new) → HasCleanDisk (state S.Store _conn.old) }
-    ensures done { HasCleanDisk (state S.Store _conn.new) → StepsFrom from (state S.Store _conn.old) (state S.Store _conn.new) result }
+fn step<S: Alter>(conn: &mut Connection<S>, from: u64) -> Result<(), Error>
+    requires idle { conn.old.in_transaction ≡ false }
+    ensures idle { conn.new.in_transaction ≡ false }
+    ensures so_far { HasCleanDisk (state S.Store conn.new) → HasCleanDisk (state S.Store conn.old) }
+    ensures done { HasCleanDisk (state S.Store conn.new) → StepsFrom from (state S.Store conn.old) (state S.Store conn.new) result }
+    ensures beside { from ≡ FIRST → HasCleanDisk (state S.Store conn.new) → OnOk result (KeepsBeside (state S.Store conn.old).committed (state S.Store conn.new).committed) }
 {
     match from {
-        // No version has a next one yet.
+        FIRST => transactions::raise(conn),
+        // No other version has a next one.
         _ => Err(Error::InvalidQuery),
     }
 }
@@ -258,6 +356,8 @@ fn climb<S: Alter>(conn: &mut Connection<S>, from: u64) -> Result<(), Error>
     ensures so_far { HasCleanDisk (state S.Store conn.new) → HasCleanDisk (state S.Store conn.old) }
     ensures climbed { HasCleanDisk (state S.Store conn.new) → OnOk result (IsClimbed from (state S.Store conn.old) (state S.Store conn.new)) × OnErr result (IsOnWay from (state S.Store conn.old) (state S.Store conn.new)) }
     ensures newest { from ≡ NEWEST → (conn.new ≡ conn.old) × IfErr result (λ _. ⊥) }
+    ensures beside { from ≡ FIRST → HasCleanDisk (state S.Store conn.new) → OnOk result (KeepsBeside (state S.Store conn.old).committed (state S.Store conn.new).committed) }
+    ensures last { from + 1 ≡ NEWEST → HasCleanDisk (state S.Store conn.new) → OnErr result (KeepsCommit (state S.Store conn.old) (state S.Store conn.new)) }
 {
     for at in from..NEWEST {
         step(conn, at)?;
@@ -271,13 +371,18 @@ pub(crate) fn ready<S: Alter>(conn: &mut Connection<S>) -> Result<(), Fault>
     ensures idle { conn.new.in_transaction ≡ false }
     ensures so_far { HasCleanDisk (state S.Store conn.new) → HasCleanDisk (state S.Store conn.old) }
     ensures made { HasCleanDisk (state S.Store conn.new) → OnOk result (any_there (state S.Store conn.old).now.schema ≡ false → IsMade (state S.Store conn.old) (state S.Store conn.new)) }
-    ensures told { HasCleanDisk (state S.Store conn.new) → OnOk result (any_there (state S.Store conn.old).now.schema ≡ true → IsTold 1 (state S.Store conn.old) (state S.Store conn.new)) }
+    ensures told { HasCleanDisk (state S.Store conn.new) → OnOk result ((n : ℕ) → all_there n (state S.Store conn.old).now.schema ≡ true
+        → TellsIn n (state S.Store conn.old).now × ToldBy n (state S.Store conn.old).now) }
+    ensures stays { HasCleanDisk (state S.Store conn.new) → OnOk result (all_there 2 (state S.Store conn.old).now.schema ≡ true → (state S.Store conn.new).committed ≡ (state S.Store conn.old).now) }
+    ensures beside { HasCleanDisk (state S.Store conn.new) → OnOk result (all_there 1 (state S.Store conn.old).now.schema ≡ true → KeepsBeside (state S.Store conn.old).now (state S.Store conn.new).committed) }
     ensures climbed { HasCleanDisk (state S.Store conn.new) → OnOk result ((n : ℕ) → HoldsVersion n (state S.Store conn.old).now
         → HoldsVersion NEWEST (state S.Store conn.new).committed × ((o : List ℕ) → version_records NEWEST (state S.Store conn.new).committed o ≡ version_records n (state S.Store conn.old).now o)) }
     ensures err { HasCleanDisk (state S.Store conn.new) → OnErr result (KeepsCommit (state S.Store conn.old) (state S.Store conn.new)) }
     ensures other { HasCleanDisk (state S.Store conn.new) → IfErr result (λ fault. fault ≡ Fault.Schema → (any_there (state S.Store conn.old).now.schema ≡ true) × IsOther (state S.Store conn.old)) }
     ensures foreign { any_there (state S.Store conn.old).now.schema ≡ true → is_meta (state S.Store conn.old).now.schema ≡ false → IfErr result (λ fault. fault ≡ Fault.Schema) × IfOk result (λ _. ⊥) }
-    ensures missing { any_there (state S.Store conn.old).now.schema ≡ true → all_there (state S.Store conn.old).now.schema ≡ false → IfErr result (λ fault. fault ≡ Fault.Schema) × IfOk result (λ _. ⊥) }
+    ensures edition { any_there (state S.Store conn.old).now.schema ≡ true → all_there 2 (state S.Store conn.old).now.schema ≡ true → is_edition (state S.Store conn.old).now.schema ≡ false
+        → IfErr result (λ fault. fault ≡ Fault.Schema) × IfOk result (λ _. ⊥) }
+    ensures missing { any_there (state S.Store conn.old).now.schema ≡ true → all_there 1 (state S.Store conn.old).now.schema ≡ false → all_there 2 (state S.Store conn.old).now.schema ≡ false → IfErr result (λ fault. fault ≡ Fault.Schema) × IfOk result (λ _. ⊥) }
     ensures older { any_there (state S.Store conn.old).now.schema ≡ true → has_versions (state S.Store conn.old).now.schema ≡ false → IfErr result (λ fault. fault ≡ Fault.Schema) × IfOk result (λ _. ⊥) }
 {
     match find(conn) {

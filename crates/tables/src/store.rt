@@ -1,21 +1,22 @@
 //! The store of all organizations over one connection to a database.
-ghost use Rattle.std.specs.Prelude.{◌≡◌, ◌≢◌, true, false, ℕ, List, [], Option, Some, None, option_copied, IsTrue, IfOk, IfErr};
+ghost use Rattle.std.specs.Prelude.{◌≡◌, ◌≢◌, true, false, ℕ, List, [], Option, Some, None, option_copied, IsTrue, IfSome, IfOk, IfErr};
 ghost use Rattle.std.specs.Option.{unwrap_or};
 ghost use Rattle.sqlite.specs.Held.{state};
 ghost use Rattle.sqlite.specs.State.{HasCleanDisk, KeepsCommit};
 ghost use Rattle.tables.specs.Stores.{records_of, IsSoundStore};
-ghost use Rattle.statements.specs.Making.{HasMeta, told_version, version_in, KeepsTables};
-ghost use Rattle.statements.specs.Rows.{Kept};
-ghost use Rattle.sqlite_schema.specs.declared.schema.Table.{Table};
-ghost use Rattle.statements.specs.Tables.{Tables, Holds};
-ghost use Rattle.tables.specs.Opening.{IsSoundKeep, any_there, all_there, is_meta, has_versions, IsOther};
+ghost use Rattle.statements.specs.Making.{KeepsTables, KeepsForeign};
+ghost use Rattle.statements.specs.Tables.{Tables, HoldsFirst};
+ghost use Rattle.tables.specs.Opening.{IsSoundKeep, any_there, all_there, is_meta, is_edition, has_versions, TellsIn, ToldBy, IsOther};
+ghost use Rattle.basis.specs.Names.{is_prefix};
+ghost use Rattle.machine.specs.Ranges.{IsMoment};
 ghost use Rattle.tables.specs.Versions.{HoldsVersion, version_records};
 
 use crate::opening::{Fault, ready};
 use crate::{commands, transactions};
-use basis::numbers::{MAX_LIMIT, MAX_NUMBER};
+use basis::numbers::{MAX_LIMIT, MAX_MOMENT, MAX_NUMBER};
 use basis::{
-    Bytes, Caller, Down, Limit, Listing, Number, OrgName, Role, RunRow, VersionRow, WsName, WsRow,
+    Bounds, Bytes, Caller, Down, Limit, Listing, Number, OrgName, Prefix, Role, RunRow, VersionRow,
+    WsName, WsRow,
 };
 use machine::{Act, AdminAnswer, Change, Keep, Unit};
 use pages::PageKey;
@@ -64,7 +65,7 @@ pub struct Unopened<S: Alter> {
 impl<S: Alter, K: PageKey> SqlKeep<S, K> {
     /// Opens a database. One that has none of the tables gets them all, in one transaction; each
     /// table of others that it holds stays as it is. One that has them stays as it is; one of an
-    /// earlier version, of which there is none yet, is taken to the newest, a step at a time.
+    /// earlier version is taken to the newest, a step at a time, each in one transaction.
     /// One in which some of the names mean other tables is given back as it was.
     pub fn open(mut conn: Connection<S>) -> Result<SqlKeep<S, K>, Unopened<S>>
         requires idle { conn.in_transaction ≡ false }
@@ -73,23 +74,25 @@ impl<S: Alter, K: PageKey> SqlKeep<S, K> {
             → ⟦<SqlKeep<S, K> as Keep>⟧.sound keep × ((o : List ℕ) → ⟦<SqlKeep<S, K> as Keep>⟧.rows keep o ≡ None)) }
         ensures others { IfOk result (λ keep. ⟦<SqlKeep<S, K> as Keep>⟧.clean keep → any_there (state S.Store conn).now.schema ≡ false
             → KeepsTables (state S.Store conn).now (state S.Store keep.conn).committed) }
-        ensures held { IfOk result (λ keep. ⟦<SqlKeep<S, K> as Keep>⟧.clean keep → any_there (state S.Store conn).now.schema ≡ true
+        ensures held { IfOk result (λ keep. ⟦<SqlKeep<S, K> as Keep>⟧.clean keep → all_there 2 (state S.Store conn).now.schema ≡ true
             → (IsSoundStore (state S.Store conn).now → ⟦<SqlKeep<S, K> as Keep>⟧.sound keep) × ((o : List ℕ) → ⟦<SqlKeep<S, K> as Keep>⟧.rows keep o ≡ records_of (state S.Store conn).now o)) }
-        ensures stays { IfOk result (λ keep. ⟦<SqlKeep<S, K> as Keep>⟧.clean keep → any_there (state S.Store conn).now.schema ≡ true
+        ensures stays { IfOk result (λ keep. ⟦<SqlKeep<S, K> as Keep>⟧.clean keep → all_there 2 (state S.Store conn).now.schema ≡ true
             → (state S.Store keep.conn).committed ≡ (state S.Store conn).now) }
-        ensures version { IfOk result (λ keep. ⟦<SqlKeep<S, K> as Keep>⟧.clean keep → any_there (state S.Store conn).now.schema ≡ true
-            → (t : Tables) → Holds (state S.Store conn).now t → version_in t ≡ Some 1) }
-        ensures tells { IfOk result (λ keep. ⟦<SqlKeep<S, K> as Keep>⟧.clean keep → any_there (state S.Store conn).now.schema ≡ true
-            → (table : Table) (metas : List (Kept ℕ)) → HasMeta (state S.Store conn).now table metas → told_version metas ≡ Some 1) }
+        ensures version { IfOk result (λ keep. ⟦<SqlKeep<S, K> as Keep>⟧.clean keep → (n : ℕ) → all_there n (state S.Store conn).now.schema ≡ true → TellsIn n (state S.Store conn).now) }
+        ensures tells { IfOk result (λ keep. ⟦<SqlKeep<S, K> as Keep>⟧.clean keep → (n : ℕ) → all_there n (state S.Store conn).now.schema ≡ true → ToldBy n (state S.Store conn).now) }
         ensures climbed { IfOk result (λ keep. ⟦<SqlKeep<S, K> as Keep>⟧.clean keep → (n : ℕ) → HoldsVersion n (state S.Store conn).now
             → ⟦<SqlKeep<S, K> as Keep>⟧.sound keep × ((o : List ℕ) → ⟦<SqlKeep<S, K> as Keep>⟧.rows keep o ≡ version_records n (state S.Store conn).now o)) }
+        ensures beside { IfOk result (λ keep. ⟦<SqlKeep<S, K> as Keep>⟧.clean keep → all_there 1 (state S.Store conn).now.schema ≡ true
+            → (t : Tables) → HoldsFirst (state S.Store conn).now t → KeepsForeign (state S.Store conn).now (state S.Store keep.conn).committed) }
         ensures back { IfErr result (λ unopened. HasCleanDisk (state S.Store unopened.conn) → KeepsCommit (state S.Store conn) (state S.Store unopened.conn)) }
         ensures other { IfErr result (λ unopened. HasCleanDisk (state S.Store unopened.conn) → unopened.fault ≡ Fault.Schema
             → (any_there (state S.Store conn).now.schema ≡ true) × IsOther (state S.Store conn)) }
-        ensures sound { IfErr result (λ unopened. HasCleanDisk (state S.Store unopened.conn) → unopened.fault ≡ Fault.Schema → IsSoundStore (state S.Store conn).now → ⊥) }
+        ensures sound { IfErr result (λ unopened. HasCleanDisk (state S.Store unopened.conn) → unopened.fault ≡ Fault.Schema → (n : ℕ) → HoldsVersion n (state S.Store conn).now → ⊥) }
         ensures foreign { any_there (state S.Store conn).now.schema ≡ true → is_meta (state S.Store conn).now.schema ≡ false
             → IfErr result (λ unopened. unopened.fault ≡ Fault.Schema) × IfOk result (λ _. ⊥) }
-        ensures missing { any_there (state S.Store conn).now.schema ≡ true → all_there (state S.Store conn).now.schema ≡ false
+        ensures edition { any_there (state S.Store conn).now.schema ≡ true → all_there 2 (state S.Store conn).now.schema ≡ true → is_edition (state S.Store conn).now.schema ≡ false
+            → IfErr result (λ unopened. unopened.fault ≡ Fault.Schema) × IfOk result (λ _. ⊥) }
+        ensures missing { any_there (state S.Store conn).now.schema ≡ true → all_there 1 (state S.Store conn).now.schema ≡ false → all_there 2 (state S.Store conn).now.schema ≡ false
             → IfErr result (λ unopened. unopened.fault ≡ Fault.Schema) × IfOk result (λ _. ⊥) }
         ensures older { any_there (state S.Store conn).now.schema ≡ true → has_versions (state S.Store conn).now.schema ≡ false
             → IfErr result (λ unopened. unopened.fault ≡ Fault.Schema) × IfOk result (λ _. ⊥) }
@@ -134,6 +137,17 @@ fn name_after(after: Option<&WsName>) -> &str
     }
 }
 
+/// The end and the prefix of a token are in their ranges. It does nothing but show that.
+fn assert_bounds(bounds: &Bounds)
+    ensures until { IfSome bounds.now.until IsMoment }
+    ensures prefix { IsTrue (is_prefix bounds.now.prefix) }
+{
+    let _ = bounds.prefix.as_str();
+    if let Some(until) = bounds.until {
+        prove!(until.seconds() <= MAX_MOMENT);
+    }
+}
+
 impl<S: Alter, K: PageKey> Keep for SqlKeep<S, K> {
     ghost rows = { λ keep. records_of (state S.Store keep.seen.value).committed };
 
@@ -145,11 +159,11 @@ impl<S: Alter, K: PageKey> Keep for SqlKeep<S, K> {
 
     fn caller(
         &mut self,
-        _alloc: Global,
+        alloc: Global,
         org: &OrgName,
         digest: &[u8; 32],
     ) -> Result<Option<Caller>, Down> {
-        match commands::caller(&mut self.conn, org.as_str(), digest.as_slice()) {
+        match commands::caller(&mut self.conn, alloc, org.as_str(), digest.as_slice()) {
             Ok(caller) => Ok(caller),
             Err(_) => Err(Down),
         }
@@ -181,8 +195,10 @@ impl<S: Alter, K: PageKey> Keep for SqlKeep<S, K> {
         alloc: Global,
         org: &OrgName,
         after: Option<&WsName>,
+        prefix: &Prefix,
     ) -> Result<Listing<WsRow>, Down> {
-        match commands::workspaces(&mut self.conn, alloc, org.as_str(), name_after(after)) {
+        let after = name_after(after);
+        match commands::workspaces(&mut self.conn, alloc, org.as_str(), after, prefix) {
             Ok(list) => Ok(list),
             Err(_) => Err(Down),
         }
@@ -299,13 +315,23 @@ impl<S: Alter, K: PageKey> Keep for SqlKeep<S, K> {
         name: &OrgName,
         role: Role,
         digest: &[u8; 32],
+        bounds: &Bounds,
     ) -> Result<AdminAnswer, Down> {
+        assert_bounds(bounds);
         let digest = digest.as_slice();
-        match commands::token_add(&mut self.conn, org.as_str(), name.as_str(), role, digest) {
+        let (org, name) = (org.as_str(), name.as_str());
+        match commands::token_add(&mut self.conn, org, name, role, digest, bounds) {
             Ok(answer) => {
                 self.seen = Snapshot::of(&self.conn);
                 Ok(answer)
             }
+            Err(_) => Err(Down),
+        }
+    }
+
+    fn token_list(&mut self, alloc: Global, org: &OrgName) -> Result<AdminAnswer, Down> {
+        match commands::token_list(&mut self.conn, alloc, org.as_str()) {
+            Ok(answer) => Ok(answer),
             Err(_) => Err(Down),
         }
     }

@@ -1,19 +1,19 @@
 //! The transactions of a store, each as one function: its change is committed, or nothing is.
-ghost use Rattle.std.specs.Prelude.{◌≡◌, true, false, ◌<◌, ◌^◌, OnOk, OnErr};
+ghost use Rattle.std.specs.Prelude.{◌≡◌, true, false, ◌<◌, ◌^◌, IfSome, OnOk, OnErr};
 ghost use Rattle.sqlite.specs.Held.{state};
 ghost use Rattle.sqlite.specs.State.{HasCleanDisk, KeepsCommit};
-ghost use Rattle.statements.specs.Changes.{org_row_added, org_capped, token_row_added, token_removed};
+ghost use Rattle.statements.specs.Changes.{org_row_added, org_capped, token_added, token_removed};
+ghost use Rattle.statements.specs.Steps.{WritesBy};
 ghost use Rattle.tables.specs.Inner.Edits.{changed_rows, TakesEdit};
-ghost use Rattle.tables.specs.Inner.Making.{IsMade};
+ghost use Rattle.tables.specs.Inner.Making.{IsMade, StepsFrom, KeepsBeside};
 ghost use Rattle.tables.specs.Inner.Steps.{IsSettled, TransactsBy, TellsCommitted};
 
 use crate::steps;
-use basis::{Limit, Role};
+use basis::{Bounds, Limit, Moment, Role};
 use machine::Change;
 use pages::PageKey;
 use sqlite::{Alter, Connection, Error, Transaction};
-use statements::making::make_schema;
-use statements::{organizations, tokens};
+use statements::{making, organizations, tokens};
 
 /// Nothing waits to be committed where no transaction is open. It does nothing but show that.
 pub(crate) fn assert_settled<S: Alter>(conn: &Connection<S>)
@@ -35,7 +35,7 @@ fn begin<S: Alter>(conn: &mut Connection<S>) -> Transaction<'_, S>
     conn.transaction()
 }
 
-/// Makes the tables of schema 1, and says that the database has it.
+/// Makes the tables of the newest version, and says that the database has it.
 pub(crate) fn make<S: Alter>(conn: &mut Connection<S>) -> Result<(), Error>
     requires idle { conn.old.in_transaction ≡ false }
     ensures idle { conn.new.in_transaction ≡ false }
@@ -43,7 +43,20 @@ pub(crate) fn make<S: Alter>(conn: &mut Connection<S>) -> Result<(), Error>
     ensures made { HasCleanDisk (state S.Store conn.new) → OnOk result (IsMade (state S.Store conn.old) (state S.Store conn.new)) × OnErr result (KeepsCommit (state S.Store conn.old) (state S.Store conn.new)) }
 {
     let mut tx = begin(conn);
-    make_schema(&mut tx)?;
+    making::make_schema(&mut tx)?;
+    tx.commit()
+}
+
+/// Takes a database of the first version to the second.
+pub(crate) fn raise<S: Alter>(conn: &mut Connection<S>) -> Result<(), Error>
+    requires idle { conn.old.in_transaction ≡ false }
+    ensures idle { conn.new.in_transaction ≡ false }
+    ensures so_far { HasCleanDisk (state S.Store conn.new) → HasCleanDisk (state S.Store conn.old) }
+    ensures done { HasCleanDisk (state S.Store conn.new) → StepsFrom 1 (state S.Store conn.old) (state S.Store conn.new) result }
+    ensures beside { HasCleanDisk (state S.Store conn.new) → OnOk result (KeepsBeside (state S.Store conn.old).committed (state S.Store conn.new).committed) }
+{
+    let mut tx = begin(conn);
+    making::raise_schema(&mut tx)?;
     tx.commit()
 }
 
@@ -65,6 +78,18 @@ pub(crate) fn change<K: PageKey, S: Alter>(
     tx.commit()
 }
 
+/// Adds an organization, inside a transaction.
+fn put_organization<S: Alter>(
+    tx: &mut Transaction<'_, S>,
+    org: &str,
+    limit: Limit,
+) -> Result<(), Error>
+    ensures { WritesBy S.Store (org_row_added org.now limit) tx.old tx.new result }
+{
+    let cap = limit.get() as u64;
+    organizations::add(tx, org, cap)
+}
+
 /// Adds an organization.
 pub(crate) fn add_organization<S: Alter>(
     conn: &mut Connection<S>,
@@ -76,10 +101,17 @@ pub(crate) fn add_organization<S: Alter>(
     ensures so_far { HasCleanDisk (state S.Store conn.new) → HasCleanDisk (state S.Store conn.old) }
     ensures done { TransactsBy (org_row_added org.now limit) (state S.Store conn.old) (state S.Store conn.new) result }
 {
-    let cap = limit.get() as u64;
     let mut tx = begin(conn);
-    organizations::add(&mut tx, org, cap)?;
+    put_organization(&mut tx, org, limit)?;
     tx.commit()
+}
+
+/// Sets how many workspaces an organization may have, inside a transaction.
+fn put_limit<S: Alter>(tx: &mut Transaction<'_, S>, org: &str, limit: Limit) -> Result<(), Error>
+    ensures { WritesBy S.Store (org_capped org.now limit) tx.old tx.new result }
+{
+    let cap = limit.get() as u64;
+    organizations::set_cap(tx, org, cap)
 }
 
 /// Sets how many workspaces an organization may have.
@@ -93,31 +125,58 @@ pub(crate) fn set_limit<S: Alter>(
     ensures so_far { HasCleanDisk (state S.Store conn.new) → HasCleanDisk (state S.Store conn.old) }
     ensures done { TransactsBy (org_capped org.now limit) (state S.Store conn.old) (state S.Store conn.new) result }
 {
-    let cap = limit.get() as u64;
     let mut tx = begin(conn);
-    organizations::set_cap(&mut tx, org, cap)?;
+    put_limit(&mut tx, org, limit)?;
     tx.commit()
 }
 
-/// Adds a token.
+/// The end of a token, if it has one, as its row keeps it.
+fn seconds_of(until: Option<Moment>) -> Option<u64>
+    ensures same { result ≡ until }
+    ensures fits { IfSome result (λ seconds. seconds < 2 ^ 63) }
+{
+    match until {
+        None => None,
+        Some(until) => Some(until.seconds()),
+    }
+}
+
+/// Adds a token and how far it reaches, inside a transaction.
+fn put_token<'v, S: Alter>(
+    tx: &mut Transaction<'_, S>,
+    org: &'v str,
+    name: &'v str,
+    role: Role,
+    digest: &'v [u8],
+    bounds: &'v Bounds,
+) -> Result<(), Error>
+    ensures { WritesBy S.Store (token_added org.now name.now digest.now role bounds.now.until bounds.now.prefix) tx.old tx.new result }
+{
+    let until = seconds_of(bounds.until);
+    let prefix = bounds.prefix.as_str();
+    tokens::add(tx, org, name, digest, role, until, prefix)
+}
+
+/// Adds a token, with its row of bound.
 pub(crate) fn add_token<S: Alter>(
     conn: &mut Connection<S>,
     org: &str,
     name: &str,
     role: Role,
     digest: &[u8],
+    bounds: &Bounds,
 ) -> Result<(), Error>
     requires idle { conn.old.in_transaction ≡ false }
     ensures idle { conn.new.in_transaction ≡ false }
     ensures so_far { HasCleanDisk (state S.Store conn.new) → HasCleanDisk (state S.Store conn.old) }
-    ensures done { TransactsBy (token_row_added org.now name.now digest.now role) (state S.Store conn.old) (state S.Store conn.new) result }
+    ensures done { TransactsBy (token_added org.now name.now digest.now role bounds.now.until bounds.now.prefix) (state S.Store conn.old) (state S.Store conn.new) result }
 {
     let mut tx = begin(conn);
-    tokens::add(&mut tx, org, name, digest, role)?;
+    put_token(&mut tx, org, name, role, digest, bounds)?;
     tx.commit()
 }
 
-/// Removes a token.
+/// Removes a token, with its row of bound.
 pub(crate) fn remove_token<S: Alter>(
     conn: &mut Connection<S>,
     org: &str,

@@ -131,6 +131,8 @@ pub struct Story<'a> {
     pub name: &'a str,
     /// The earlier stories whose steps come first, by their places.
     pub before: Vec<usize>,
+    /// The file with whose tables it begins; none where it begins with no organization.
+    pub begins: Option<&'a str>,
     /// What breaks under its own steps.
     pub modes: Modes,
     pub plots: Vec<Plot<'a>>,
@@ -161,6 +163,7 @@ impl<'a> Book<'a> {
         self.stories.push(Story {
             name,
             before: Vec::new(alloc),
+            begins: None,
             modes: self.modes,
             plots: Vec::new(alloc),
         })?;
@@ -179,6 +182,12 @@ impl<'a> Book<'a> {
         let Some(story) = self.stories.get(place) else {
             return Err(unread);
         };
+        if story.begins.is_some() {
+            return Err(Unread {
+                line,
+                why: "a story that begins with a file comes before no other",
+            });
+        }
         let mut chain = Vec::from_slice(alloc, story.before.as_slice())?;
         chain.push(place)?;
         Ok(chain)
@@ -187,7 +196,7 @@ impl<'a> Book<'a> {
     fn set_before(&mut self, alloc: Global, line: usize, name: &str) -> Result<(), Unread> {
         let chain = self.chain_to(alloc, line, name)?;
         match self.stories.last_mut() {
-            Some(story) if story.plots.is_empty() => {
+            Some(story) if story.plots.is_empty() && story.begins.is_none() => {
                 story.before = chain;
                 Ok(())
             }
@@ -207,14 +216,14 @@ impl<'a> Book<'a> {
             });
         };
         match self.stories.last_mut() {
-            Some(story) if story.plots.is_empty() => {
+            Some(story) if story.plots.is_empty() && story.begins.is_none() => {
                 let stops = story.modes.stops;
                 story.modes = Modes { stops, ..modes };
                 Ok(())
             }
             Some(_) => Err(Unread {
                 line,
-                why: "`links` stands before the first step of a story",
+                why: "`links` stands before the first step of a story that begins with no file",
             }),
             None => {
                 self.modes = modes;
@@ -233,6 +242,21 @@ impl<'a> Book<'a> {
             _ => Err(Unread {
                 line,
                 why: "`stops` stands before the first step of a story",
+            }),
+        }
+    }
+
+    // Of the story that begins.
+    fn set_begins(&mut self, line: usize, path: &'a str) -> Result<(), Unread> {
+        match self.stories.last_mut() {
+            Some(story) if story.plots.is_empty() && story.before.is_empty() => {
+                story.begins = Some(path);
+                story.modes = NONE;
+                Ok(())
+            }
+            _ => Err(Unread {
+                line,
+                why: "`begins` is the first line of a story, which comes after no other",
             }),
         }
     }
@@ -317,6 +341,7 @@ impl<'a> Book<'a> {
             Line::After(name) => self.set_before(alloc, line, name),
             Line::Links(words) => self.set_modes(line, words),
             Line::Stops => self.set_stops(line),
+            Line::FromFile(path) => self.set_begins(line, path),
             Line::Field(field) => self.add_field(line, field),
             Line::Piece(piece, text) => self.add_piece(alloc, line, piece, text),
             Line::Begins(mark, text) => self.begin(alloc, line, mark, text),

@@ -1,8 +1,8 @@
-//! An operator's command, by the words that a frame has.
-use basis::{Moment, Unfit};
+//! An operator's command, by the words that a frame has; and the list of tokens, which no frame asks for.
+use basis::{Moment, OrgName, Unfit};
 use program::headings::Heading;
 use program::lines::split_words;
-use serve::Step;
+use serve::{Admin, Step};
 use std::alloc::{AllocError, Global};
 
 // The line of a frame.
@@ -10,12 +10,29 @@ fn frame_line(alloc: Global, at: Moment, words: &str) -> Result<String, AllocErr
     format!(in alloc; "at {} admin {words}", at.seconds())
 }
 
-/// The step of a command with these words.
-pub fn read_command(alloc: Global, at: Moment, words: &str) -> Result<Step, Unfit> {
+// What lists the tokens of an organization.
+fn list_of(alloc: Global, at: Moment, org: &str) -> Result<Step, Unfit> {
+    let org = OrgName::read(alloc, org)?;
+    Ok(Step::Command {
+        at,
+        command: Admin::TokenList { org },
+    })
+}
+
+// What a frame with these words asks for.
+fn framed(alloc: Global, at: Moment, words: &str) -> Result<Step, Unfit> {
     let line = frame_line(alloc, at, words)?;
     let words = split_words(alloc, line.as_str().as_bytes())?;
     match Heading::read(alloc, words.as_slice())? {
         Heading::Command { at, command } => Ok(Step::Command { at, command }),
         Heading::Request { .. } => Err(Unfit::Syntax),
+    }
+}
+
+/// The step of a command with these words.
+pub fn read_command(alloc: Global, at: Moment, words: &str) -> Result<Step, Unfit> {
+    match words.split_once(' ') {
+        Some(("token-list", org)) => list_of(alloc, at, org),
+        _ => framed(alloc, at, words),
     }
 }

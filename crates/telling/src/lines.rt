@@ -50,6 +50,8 @@ pub enum Line<'a> {
     Links(&'a str),
     /// `stops`: the power is cut under the steps of a story.
     Stops,
+    /// `begins`: a story begins with the tables of a file.
+    FromFile(&'a str),
     Piece(Piece, &'a str),
     /// `+`: a field of a head.
     Field(&'a str),
@@ -125,6 +127,9 @@ fn story_in(line: &str) -> Option<Line<'_>> {
     }
     if line == "stops" {
         return Some(Line::Stops);
+    }
+    if let Some(path) = behind(line, "begins") {
+        return Some(Line::FromFile(path));
     }
     let field = behind(line, "+")?;
     Some(Line::Field(field))

@@ -1,6 +1,7 @@
 //! A store that refuses each change.
 use basis::{
-    Bytes, Caller, Down, Limit, Listing, Number, OrgName, Role, RunRow, VersionRow, WsName, WsRow,
+    Bounds, Bytes, Caller, Down, Limit, Listing, Number, OrgName, Prefix, Role, RunRow, VersionRow,
+    WsName, WsRow,
 };
 use machine::{Act, AdminAnswer, Change, Keep, Unit};
 use std::alloc::Global;
@@ -50,6 +51,7 @@ impl<K: Keep> Keep for Refusing<K> {
         _alloc: Global,
         _org: &OrgName,
         _after: Option<&WsName>,
+        _prefix: &Prefix,
     ) -> Result<Listing<WsRow>, Down> {
         Err(Down)
     }
@@ -113,6 +115,7 @@ impl<K: Keep> Keep for Refusing<K> {
         _name: &OrgName,
         _role: Role,
         _digest: &[u8; 32],
+        _bounds: &Bounds,
     ) -> Result<AdminAnswer, Down> {
         Err(Down)
     }
@@ -123,6 +126,10 @@ impl<K: Keep> Keep for Refusing<K> {
         _org: &OrgName,
         _name: &OrgName,
     ) -> Result<AdminAnswer, Down> {
+        Err(Down)
+    }
+
+    fn token_list(&mut self, _alloc: Global, _org: &OrgName) -> Result<AdminAnswer, Down> {
         Err(Down)
     }
 }

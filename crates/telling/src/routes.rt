@@ -1,6 +1,6 @@
 //! What a request asks, shown.
 use crate::failures::Failure;
-use basis::{Bytes, Caller, Look, Refusal, Role, Text};
+use basis::{Bytes, Caller, Look, Prefix, Refusal, Role, Text};
 use http::Method;
 use route::{Asked, AskedAct, Routes, WsAct, allowed, asked};
 use std::alloc::{AllocError, Global};
@@ -64,10 +64,19 @@ fn asked_by(alloc: Global, message: &Message) -> Result<Result<Asked, Refusal>, 
     }
 }
 
+// One who asks by a token of this role, for every workspace.
+fn caller_of(alloc: Global, role: Role) -> Caller {
+    Caller {
+        role,
+        until: None,
+        prefix: Prefix::new(alloc),
+    }
+}
+
 // The least role that may.
-fn role_word(asked: &Asked) -> &'static str {
+fn role_word(alloc: Global, asked: &Asked) -> &'static str {
     for (role, word) in [(Role::Read, "read"), (Role::Write, "write")] {
-        if allowed(asked, &Caller { role }).is_ok() {
+        if allowed(asked, &caller_of(alloc, role)).is_ok() {
             return word;
         }
     }
@@ -150,7 +159,7 @@ fn asked_act(alloc: Global, role: &str, act: &AskedAct) -> Result<String, AllocE
 }
 
 fn asked_text(alloc: Global, asked: &Asked) -> Result<String, AllocError> {
-    let mut text = asked_act(alloc, role_word(asked), &asked.act)?;
+    let mut text = asked_act(alloc, role_word(alloc, asked), &asked.act)?;
     if let Some(id) = &asked.lock_id {
         text.push_str(" with ID ")?;
         text.push_str(id.as_str())?;

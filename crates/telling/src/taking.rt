@@ -2,8 +2,8 @@
 use crate::devices::{Giver, Taker};
 use crate::failures::{Failure, compare_bytes};
 use crate::plays::{Due, Play};
-use basis::{Bytes, Down, Moment};
-use machine::{AdminAnswer, Keep, OrgRow};
+use basis::{Bytes, Down, Moment, Role};
+use machine::{AdminAnswer, Keep, OrgRow, TokenRow};
 use serve::{LinkFault, Service, Step};
 use std::alloc::{AllocError, Global};
 use wire::{FromRead, ToWrite};
@@ -88,6 +88,36 @@ fn list_lines(alloc: Global, rows: &[OrgRow]) -> Result<Vec<u8>, AllocError> {
     Ok(text)
 }
 
+fn role_word(role: Role) -> &'static str {
+    match role {
+        Role::Read => "read",
+        Role::Write => "write",
+        Role::Admin => "admin",
+    }
+}
+
+// A token's line: its name, its role, its end and its prefix, a hyphen where there is none.
+fn token_line(alloc: Global, row: &TokenRow) -> Result<String, AllocError> {
+    let (name, role) = (row.name.as_str(), role_word(row.caller.role));
+    let prefix = match row.caller.prefix.as_str() {
+        "" => "-",
+        prefix => prefix,
+    };
+    match row.caller.until {
+        Some(until) => format!(in alloc; "{name} {role} {} {prefix}\n", until.seconds()),
+        None => format!(in alloc; "{name} {role} - {prefix}\n"),
+    }
+}
+
+fn token_lines(alloc: Global, rows: &[TokenRow]) -> Result<Vec<u8>, AllocError> {
+    let mut text = Vec::new(alloc);
+    for row in rows {
+        let line = token_line(alloc, row)?;
+        text.extend_from_slice(line.as_str().as_bytes())?;
+    }
+    Ok(text)
+}
+
 // An operator's answer, a line each.
 fn answer_lines(alloc: Global, answer: &AdminAnswer) -> Result<Vec<u8>, AllocError> {
     match answer {
@@ -95,6 +125,7 @@ fn answer_lines(alloc: Global, answer: &AdminAnswer) -> Result<Vec<u8>, AllocErr
         AdminAnswer::Exists => Vec::from_slice(alloc, b"refused exists\n"),
         AdminAnswer::Absent => Vec::from_slice(alloc, b"refused absent\n"),
         AdminAnswer::Organizations(rows) => list_lines(alloc, rows.as_slice()),
+        AdminAnswer::Tokens(rows) => token_lines(alloc, rows.as_slice()),
     }
 }
 

@@ -59,7 +59,7 @@ pub record WritesSoFar (change : Tables → Tables) (law : Tables → Type 0) (o
 pub no_writes : (law : Tables → Type 0) (s : State) → ((t : Tables) → law t) → WritesSoFar (λ t. t) law s s
 no_writes law s is = record {
   so_far = λ clean. clean;
-  moves = λ clean open_is inside. record { rows = λ t holds. holds; others = λ t holds. record { schema = refl; rows = λ other own apart. refl }; was_open = open_is; is_open = open_is; committed = refl; inside = inside };
+  moves = λ clean open_is inside. record { rows = λ t holds. holds; others = λ t holds. record { schema = refl; rows = λ other own passive apart. refl }; was_open = open_is; is_open = open_is; committed = refl; inside = inside };
   told = λ clean open_is inside t holds. is t;
 }
 

@@ -35,13 +35,13 @@ module _ (old new : State) (count : ℕ) (t : Tables) (h : Holds old.now t) wher
       → Turns old.now new.now (place_added org ws n place key twin t)
   add_place_does org ws n place key twin ran =
       let row : VpageRow = record { org = org; ws = ws; number = n; place = place; key = key; twin = twin } in
-      let left = insert_own vpage_cells vpage_table vpage_casts old new held.own t.vpages held.rows held.keyed add_place_text (Text org ∷ Text ws ∷ number n ∷ number place ∷ Blob key ∷ number twin ∷ []) count ran
+      let left = insert_own vpage_cells vpage_table vpage_casts old new held.own held.steady t.vpages held.rows held.keyed add_place_text (Text org ∷ Text ws ∷ number n ∷ number place ∷ Blob key ∷ number twin ∷ []) count ran
       add_place_terms 7 (add_place_means old.now.schema _ _ held.own.place) refl refl row refl in
       vpages_written old.now new.now left.1 t h _ left.0 (keyed_next t.vpages row held.keyed)
 
   pub remove_place_does : (org ws : List ℕ) (n place : ℕ) → Executes remove_place_text (Text org ∷ Text ws ∷ number n ∷ number place ∷ []) old new (Ok count) → Turns old.now new.now (place_removed org ws n place t)
   remove_place_does org ws n place ran =
-      let left = delete_own vpage_cells vpage_table vpage_casts old new held.own t.vpages held.rows held.keyed remove_place_text (Text org ∷ Text ws ∷ number n ∷ number place ∷ []) count ran
+      let left = delete_own vpage_cells vpage_table vpage_casts old new held.own held.steady t.vpages held.rows held.keyed remove_place_text (Text org ∷ Text ws ∷ number n ∷ number place ∷ []) count ran
       (remove_place_query (tree_of old.now.schema vpage_table.name)) (remove_place_means old.now.schema _ _ held.own.place) refl refl refl (λ rows. refl)
       (is_place org ws n place) (λ x. two_texts_two_numbers x.1.org org x.1.ws ws x.1.number n x.1.place place) (λ x. refl) in
       vpages_written old.now new.now left.1 t h _ left.0 (IsKeyedBy-delete_where id_of (is_place org ws n place) t.vpages held.keyed)

@@ -87,6 +87,12 @@ module _ (key_of : List ℕ → List ℕ) (org ws : List ℕ) (n : ℕ) (text : 
   pub text_added_runs : (text_added key_of org ws n text t).runs ≡ t.runs
   text_added_runs = ap (λ (u : Tables). u.runs) text_added_rest
 
+  pub text_added_bounds : (text_added key_of org ws n text t).bounds ≡ t.bounds
+  text_added_bounds = ap (λ (u : Tables). u.bounds) text_added_rest
+
+  pub text_added_editions : (text_added key_of org ws n text t).editions ≡ t.editions
+  text_added_editions = ap (λ (u : Tables). u.editions) text_added_rest
+
 -- ---- a text that is taken away
 
 module _ (org ws : List ℕ) (n size : ℕ) (t : Tables) where
@@ -157,6 +163,12 @@ module _ (org ws : List ℕ) (n size : ℕ) (t : Tables) where
 
   pub text_removed_runs : (text_removed org ws n size t).runs ≡ t.runs
   text_removed_runs = ap (λ (u : Tables). u.runs) text_removed_rest
+
+  pub text_removed_bounds : (text_removed org ws n size t).bounds ≡ t.bounds
+  text_removed_bounds = ap (λ (u : Tables). u.bounds) text_removed_rest
+
+  pub text_removed_editions : (text_removed org ws n size t).editions ≡ t.editions
+  text_removed_editions = ap (λ (u : Tables). u.editions) text_removed_rest
 
 -- ---- tables with the same pages and rows of vpage
 

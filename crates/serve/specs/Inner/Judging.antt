@@ -14,20 +14,20 @@ use Rattle.serve.specs.declared.prepared.Found.TheVariants.{Workspaces, At}
 use Rattle.serve.specs.declared.prepared.Task.{Task}
 
 -- what is asked of, as if it were there
-abbrev pub named : AskedAct → Found
-named (ListWorkspaces after) = Workspaces after
-named (OfWorkspace ws act) = At (place ws act)
+abbrev pub named : List ℕ → AskedAct → Found
+named prefix (ListWorkspaces after) = Workspaces after prefix
+named prefix (OfWorkspace ws act) = At (place ws act)
 
 -- the digest and the document
-abbrev pub judged_task : AskedAct → Option (List ℕ) → Option (List ℕ) → List ℕ → Result Task Refusal
-judged_task asked content_md5 id body = and_then (digest_checked content_md5 body) (λ _. task_of (named asked) id body)
+abbrev pub judged_task : List ℕ → AskedAct → Option (List ℕ) → Option (List ℕ) → List ℕ → Result Task Refusal
+judged_task prefix asked content_md5 id body = and_then (digest_checked content_md5 body) (λ _. task_of (named prefix asked) id body)
 
 -- what isn't there is told before a refused digest or document
 abbrev pub missed : Option Organization → AskedAct → Refusal → Refusal
 missed r (ListWorkspaces after) refusal = refusal
 missed r (OfWorkspace ws act) refusal = cond (is_found r ws act) refusal NotFound
 
--- what is to be done is answered as what passed the checks, at each moment; what is refused is refused by them
-abbrev pub Stands : Result Task Refusal → Option Organization → Asked → Option (List ℕ) → List ℕ → Type 0
-Stands (Ok task) r asked content_md5 body = (now : ℕ) → carried asked.caller now r (Ok task) ≡ carried asked.caller now r (checked r asked content_md5 body)
-Stands (Err refusal) r asked content_md5 body = refusal ≢ Unavailable → checked r asked content_md5 body ≡ Err refusal
+-- what is to be done is answered as what passed the checks at a moment; what is refused is refused by them
+abbrev pub Stands : Result Task Refusal → Option Organization → ℕ → Asked → Option (List ℕ) → List ℕ → Type 0
+Stands (Ok task) r now asked content_md5 body = carried asked.caller now r (Ok task) ≡ carried asked.caller now r (checked r now asked content_md5 body)
+Stands (Err refusal) r now asked content_md5 body = refusal ≢ Unavailable → checked r now asked content_md5 body ≡ Err refusal

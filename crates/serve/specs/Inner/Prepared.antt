@@ -1,8 +1,10 @@
 -- Contracts between functions: an answer that is made in full before anything changes, and the change that is to follow.
-use Rattle.std.specs.Prelude.{◌≡◌, ℕ, Bool, List, Option, Some, None, Result, Ok, ⊤}
+use Rattle.std.specs.Prelude.{◌≡◌, ℕ, Bool, if◌then◌else◌, List, Option, Some, None, Result, Ok, Err, ⊤}
 use Rattle.std.specs.FinMap.{get}
 use Rattle.basis.specs.Checks.{and_then}
+use Rattle.basis.specs.Roles.{counts_at}
 use Rattle.basis.specs.declared.refusals.Refusal.{Refusal}
+use Rattle.basis.specs.declared.refusals.Refusal.TheVariants.{BadToken}
 use Rattle.basis.specs.declared.roles.Caller.{Caller}
 use Rattle.machine.specs.Ranges.{IsInRange}
 use Rattle.machine.specs.Records.{seen_in, placed}
@@ -25,9 +27,13 @@ use Rattle.serve.specs.declared.prepared.Received.TheVariants.{Whole, Refused, U
 use Rattle.serve.specs.declared.prepared.Pending.{Pending}
 use Rattle.serve.specs.declared.prepared.Prepared.{Prepared}
 
+-- a caller whose token counts at a moment
+abbrev pub counted : ℕ → Caller → Result Caller Refusal
+counted now caller = if counts_at now caller then Ok caller else Err BadToken
+
 -- who asks by the token
-abbrev pub caller_known : Option Organization → Asked → Result Caller Refusal
-caller_known r asked = and_then (known_caller r asked) (λ token. Ok token.caller)
+abbrev pub caller_known : Option Organization → ℕ → Asked → Result Caller Refusal
+caller_known r now asked = and_then (known_caller r now asked) (λ token. Ok token.caller)
 
 -- the record of an organization after a change that is to follow, or as it is
 abbrev pub ChangesTo : Option Organization → List ℕ → Option Organization → Option Pending → Type 0
@@ -56,5 +62,5 @@ IsReceived bytes Unfinished = Reads bytes unfinished
 
 -- the documents of an act that is to be done are in their ranges
 abbrev pub IsTaskInRange : Task → Type 0
-IsTaskInRange (ListAll after) = ⊤
+IsTaskInRange (ListAll after prefix) = ⊤
 IsTaskInRange (Carry order) = IsInRange order.act

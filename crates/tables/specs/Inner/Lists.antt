@@ -1,5 +1,5 @@
 -- What lists read of the rows.
-use Rattle.std.specs.Prelude.{◌≡◌, ℕ, false, List, map, Option, option_map, IsTrue, Result, IfOk, OnOk, OnErr}
+use Rattle.std.specs.Prelude.{◌≡◌, ℕ, false, List, map, Option, Some, None, option_map, IsTrue, Result, IfOk, OnOk, OnErr}
 use Rattle.sqlite.specs.State.{State, HasCleanDisk, KeepsCommit}
 use Rattle.basis.specs.Listings.{listing_of}
 use Rattle.basis.specs.declared.rows.Listing.{Listing}
@@ -7,16 +7,20 @@ use Rattle.basis.specs.declared.rows.RunRow.{RunRow}
 use Rattle.basis.specs.declared.rows.VersionRow.{VersionRow}
 use Rattle.basis.specs.declared.rows.WsRow.{WsRow}
 use Rattle.machine.specs.Showing.{holder_id}
+use Rattle.machine.specs.declared.keeps.AdminAnswer.{AdminAnswer}
+use Rattle.machine.specs.declared.keeps.AdminAnswer.TheVariants.{Absent, Tokens}
 use Rattle.machine.specs.declared.keeps.OrgRow.{OrgRow}
+use Rattle.machine.specs.declared.keeps.TokenRow.{TokenRow}
+use Rattle.statements.specs.declared.rows.NamedRole.{NamedRole}
 use Rattle.statements.specs.declared.rows.NamedWorkspace.{NamedWorkspace}
 use Rattle.statements.specs.declared.rows.Organization.{Organization as OrganizationCells}
 use Rattle.statements.specs.declared.rows.Run.{Run as RunCells}
 use Rattle.statements.specs.declared.rows.VersionHead.{VersionHead}
-use Rattle.statements.specs.Finds.{newest_of, workspaces_of}
-use Rattle.statements.specs.Listings.{organizations_in, workspace_rows_after, version_rows_after, run_rows_after}
+use Rattle.statements.specs.Finds.{cap_of, newest_of, workspaces_of}
+use Rattle.statements.specs.Listings.{organizations_in, token_rows_of, workspace_rows_after, version_rows_after, run_rows_after}
 use Rattle.statements.specs.Tables.{Tables, Holds}
 use Rattle.tables.specs.Inner.Looks.{StaysSeen}
-use Rattle.tables.specs.Records.{settings_of_cells, holder_of_cells}
+use Rattle.tables.specs.Records.{settings_of_cells, holder_of_cells, caller_with, bounds_at}
 
 -- no row changes, and the value is that of rows that obey a law; after a failure nothing is committed
 abbrev pub SeesWhere : {X E : Type 0} → (Tables → Type 0) → (Tables → X) → State → State → Result X E → Type 0
@@ -62,8 +66,24 @@ newest_number_in org ws t = option_map (λ head. head.number) (newest_of org ws 
 abbrev pub ws_row_in : List ℕ → Tables → NamedWorkspace → WsRow
 ws_row_in org t w = record { settings = settings_of_cells w.it; holder = holder_id (holder_of_cells w.it.holder); name = w.name; version = newest_number_in org w.name t }
 
-abbrev pub workspaces_listed_in : List ℕ → List ℕ → Tables → Listing WsRow
-workspaces_listed_in after org t = listing_of (map (ws_row_in org t) (workspace_rows_after org after asked_rows t))
+abbrev pub workspaces_listed_in : List ℕ → List ℕ → List ℕ → Tables → Listing WsRow
+workspaces_listed_in after prefix org t = listing_of (map (ws_row_in org t) (workspace_rows_after org after prefix asked_rows t))
+
+-- ---- tokens
+
+abbrev pub token_row_in : List ℕ → Tables → NamedRole → TokenRow
+token_row_in org t token = record { name = token.name; caller = caller_with token.role (bounds_at t org token.name) }
+
+abbrev pub tokens_listed_in : List ℕ → Tables → List TokenRow
+tokens_listed_in org t = map (token_row_in org t) (token_rows_of org t)
+
+abbrev pub tokens_told_by : Option ℕ → List ℕ → Tables → AdminAnswer
+tokens_told_by None org t = Absent
+tokens_told_by (Some cap) org t = Tokens (tokens_listed_in org t)
+
+-- what the list of an organization's tokens is answered
+abbrev pub tokens_told_in : List ℕ → Tables → AdminAnswer
+tokens_told_in org t = tokens_told_by (cap_of org t) org t
 
 -- ---- organizations
 

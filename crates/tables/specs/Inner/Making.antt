@@ -1,15 +1,13 @@
 -- A database that was made ready with the newest version of the schema, or that was taken to it from the version that it had.
-use Rattle.std.specs.Prelude.{◌≡◌, ◌≤◌, ◌+◌, ◌&&◌, if◌then◌else◌, ℕ, nat_le, true, false, List, Option, Some, None, IsTrue, Result, OnOk, OnErr}
-use Rattle.sqlite_schema.specs.declared.schema.Table.{Table}
+use Rattle.std.specs.Prelude.{◌≡◌, ◌≤◌, ◌+◌, ◌==◌, if◌then◌else◌, ℕ, true, false, List, Option, Some, None, IsTrue, Result, OnOk, OnErr}
 use Rattle.sqlite.specs.Effect.{Database}
 use Rattle.sqlite.specs.State.{State, KeepsCommit}
-use Rattle.statements.specs.Making.{HasSchema, HasMeta, told_version, version_in}
-use Rattle.statements.specs.Rows.{Kept}
-use Rattle.statements.specs.Tables.{Tables, Holds}
+use Rattle.statements.specs.Making.{HasSchema, KeepsForeign}
+use Rattle.statements.specs.Tables.{Tables, HoldsFirst}
 use Rattle.tables.specs.declared.opening.TheConstants.{NEWEST}
 use Rattle.tables.specs.declared.opening.Found.{Found}
 use Rattle.tables.specs.declared.opening.Found.TheVariants.{Nothing, Version, Other}
-use Rattle.tables.specs.Opening.{any_there, IsOther}
+use Rattle.tables.specs.Opening.{any_there, all_there, TellsIn, ToldBy, IsOther}
 use Rattle.tables.specs.Versions.{HoldsVersion, version_records}
 
 -- all tables were made beside those of others, and that is committed
@@ -20,20 +18,23 @@ pub record IsMade (old new : State) : Type 0 where
 
 -- ---- what a database has
 
--- what is found where meta tells this version
-abbrev pub found_in : Option ℕ → Found
-found_in None = Other
-found_in (Some version) = if nat_le 1 version && nat_le version NEWEST then Version version else Other
+-- what is found where the tables of a version are there, and a version is told or none
+abbrev pub found_at : ℕ → ℕ → Found
+found_at n version = if version == n then Version n else Other
 
--- meta tells this version, and no row changes
+abbrev pub found_in : ℕ → Option ℕ → Found
+found_in n None = Other
+found_in n (Some version) = found_at n version
+
+-- the tables of this version are there, which is told, and no row changes
 pub record IsTold (n : ℕ) (old new : State) : Type 0 where
-  pub least : 1 ≤ n
-  pub most : n ≤ NEWEST
-  pub version : (t : Tables) → Holds old.now t → version_in t ≡ Some n
-  pub tells : (table : Table) (metas : List (Kept ℕ)) → HasMeta old.now table metas → told_version metas ≡ Some n
+  pub there : all_there n old.now.schema ≡ true
+  pub version : TellsIn n old.now
+  pub tells : ToldBy n old.now
   pub was_open : IsTrue old.is_open
   pub is_open : IsTrue new.is_open
   pub same : new.committed ≡ old.now
+  pub kept : KeepsCommit old new
 
 -- what was found where some of our tables are there
 abbrev pub TellsFound : Found → State → State → Type 0
@@ -62,6 +63,10 @@ pub record Climbs (from to : ℕ) (old new : State) : Type 0 where
 -- a step to the next version, or none
 abbrev pub StepsFrom : {X E : Type 0} → ℕ → State → State → Result X E → Type 0
 StepsFrom from old new result = OnOk result (Climbs from (from + 1) old new × IsTrue new.is_open) × OnErr result (KeepsCommit old new)
+
+-- tables of others beside the first version's keep their places and their rows
+abbrev pub KeepsBeside : Database → Database → Type 0
+KeepsBeside old new = (t : Tables) → HoldsFirst old t → KeepsForeign old new
 
 -- the newest version is reached
 pub record IsClimbed (from : ℕ) (old new : State) : Type 0 where

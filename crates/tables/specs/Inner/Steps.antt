@@ -5,10 +5,11 @@ use Rattle.sqlite.specs.Held.{state}
 use Rattle.sqlite.specs.State.{State, HasCleanDisk, KeepsCommit}
 use Rattle.sqlite.specs.declared.transaction.Transaction.{Transaction}
 use Rattle.basis.specs.declared.roles.Role.{Role}
+use Rattle.basis.specs.declared.roles.Bounds.{Bounds}
 use Rattle.machine.specs.Effects.{Effect, effect}
 use Rattle.machine.specs.declared.keeps.AdminAnswer.{AdminAnswer}
 use Rattle.machine.specs.declared.keeps.AdminAnswer.TheVariants.{Done, Exists, Absent}
-use Rattle.statements.specs.Changes.{org_row_added, org_capped, token_row_added, token_removed}
+use Rattle.statements.specs.Changes.{org_row_added, org_capped, token_added, token_removed}
 use Rattle.statements.specs.Finds.{cap_of, workspace_of, oldest_below, role_of_name, role_of_digest}
 use Rattle.statements.specs.Steps.{ChangesBy}
 use Rattle.statements.specs.Tables.{Tables, Holds}
@@ -62,12 +63,12 @@ org_managed org limit t = org_managed_by (cap_of org t) org limit t
 abbrev pub is_taken : List ℕ → List ℕ → List ℕ → Tables → Bool
 is_taken org name digest t = is_some (role_of_name org name t) || is_some (role_of_digest org digest t)
 
-abbrev pub token_managed_by : Option ℕ → Bool → List ℕ → List ℕ → List ℕ → Role → Tables → Effect AdminAnswer Tables
-token_managed_by None taken org name digest role t = effect Absent t
-token_managed_by (Some cap) taken org name digest role t = cond taken (effect Exists t) (effect Done (token_row_added org name digest role t))
+abbrev pub token_managed_by : Option ℕ → Bool → List ℕ → List ℕ → List ℕ → Role → Bounds → Tables → Effect AdminAnswer Tables
+token_managed_by None taken org name digest role bounds t = effect Absent t
+token_managed_by (Some cap) taken org name digest role bounds t = cond taken (effect Exists t) (effect Done (token_added org name digest role bounds.until bounds.prefix t))
 
-abbrev pub token_managed : List ℕ → List ℕ → List ℕ → Role → Tables → Effect AdminAnswer Tables
-token_managed org name digest role t = token_managed_by (cap_of org t) (is_taken org name digest t) org name digest role t
+abbrev pub token_managed : List ℕ → List ℕ → List ℕ → Role → Bounds → Tables → Effect AdminAnswer Tables
+token_managed org name digest role bounds t = token_managed_by (cap_of org t) (is_taken org name digest t) org name digest role bounds t
 
 -- the limit of an organization that is there
 abbrev pub limit_managed_by : Option ℕ → List ℕ → ℕ → Tables → Effect AdminAnswer Tables

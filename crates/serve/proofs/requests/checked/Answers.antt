@@ -7,24 +7,24 @@ use Rattle.serve.proofs.JudgingLemmas.{judged_stands, missed_stands}
 use Rattle.serve.proofs.requests.checked.Goals as goal
 
 pub returns-in-Ok-judged-clause-ok : goal.returns-in-Ok-judged-clause-ok
-returns-in-Ok-judged-clause-ok g c = λ clean sound now.
+returns-in-Ok-judged-clause-ok g c = λ clean sound.
     let asked = c.args.asked.now in
     let r = g.K.Keep.rows c.args.keep.now asked.caller in
     let known = c.in-Ok.ensures.ok clean sound in
-    let reached = past_reach r asked c.args.content_md5.now c.args.body c.in-Ok.caller (after_reach r asked c.args.content_md5.now c.args.body) known
+    let reached = past_reach r c.args.at asked c.args.content_md5.now c.args.body c.in-Ok.caller (after_reach r c.in-Ok.caller.prefix asked c.args.content_md5.now c.args.body) known
     (sym c.allowed.ensures ∙ c.in_default.is) (sym c.in_reach.ensures ∙ c.in_default-in_reach.is) refl in
-    judged_stands asked.caller r asked.act c.args.content_md5.now asked.lock_id c.args.body c.in-Ok-judged.task (role_there r asked c.in-Ok.caller known) c.in-Ok-judged.ensures.ok now
-    ∙ ap (carried asked.caller now r) (sym reached)
+    judged_stands asked.caller r c.in-Ok.caller.prefix asked.act c.args.content_md5.now asked.lock_id c.args.body c.in-Ok-judged.task (role_there r c.args.at asked c.in-Ok.caller known) c.in-Ok-judged.ensures.ok c.args.at
+    ∙ ap (carried asked.caller c.args.at r) (sym reached)
 
-pub returns-in-Err-judged-clause-ok : goal.returns-in-Err-judged-clause-ok
-returns-in-Err-judged-clause-ok g c = λ clean sound apart.
+pub returns-clause-ok : goal.returns-clause-ok
+returns-clause-ok g c = λ clean sound apart.
     let asked = c.args.asked.now in
     let r = g.K.Keep.rows c.args.keep.now asked.caller in
     let before : g.K.Keep.clean c.known_caller.new.keep = c.missed.ensures.looks.so_far clean in
     let known = c.in-Ok.ensures.ok before sound in
     let same : g.K.Keep.rows c.known_caller.new.keep asked.caller ≡ r = c.known_caller.ensures.looks.same before asked.caller in
-    let some : IsSome (g.K.Keep.rows c.known_caller.new.keep asked.caller) = subst IsSome (sym same) (role_there r asked c.in-Ok.caller known) in
+    let some : IsSome (g.K.Keep.rows c.known_caller.new.keep asked.caller) = subst IsSome (sym same) (role_there r c.args.at asked c.in-Ok.caller known) in
     let missing = c.missed.ensures.ok clean (c.known_caller.ensures.looks.kept before sound) some apart in
-    past_reach r asked c.args.content_md5.now c.args.body c.in-Ok.caller (Err c.missed.result) known (sym c.allowed.ensures ∙ c.in_default.is) (sym c.in_reach.ensures ∙ c.in_default-in_reach.is)
-    (missed_stands r asked.act c.args.content_md5.now asked.lock_id c.args.body c.in-Err-judged.refusal (c.in-Err-judged.ensures.ok (c.missed.ensures.known apart))
+    past_reach r c.args.at asked c.args.content_md5.now c.args.body c.in-Ok.caller (Err c.missed.result) known (sym c.allowed.ensures ∙ c.in_default.is) (sym c.in_reach.ensures ∙ c.in_default-in_reach.is)
+    (missed_stands r c.in-Ok.caller.prefix asked.act c.args.content_md5.now asked.lock_id c.args.body c.in-Err-judged.refusal (c.in-Err-judged.ensures.ok (c.missed.ensures.known apart))
     ∙ ap Err (ap (λ (x : Option Organization). missed x asked.act c.in-Err-judged.refusal) (sym same) ∙ sym missing))

@@ -14,7 +14,7 @@ returns-in-Ok-clause-ok g c = λ clean sound.
     let some : IsSome (g.K.Keep.rows c.checked.new.keep org) = subst IsSome (sym same) (c.in-Ok.ensures.there before sound) in
     if_ok c.perform.result
     (λ p foreseen.
-    subst (λ answered. Foresees r org answered p) (c.in-Ok.ensures.ok before sound c.args.at)
+    subst (λ answered. Foresees r org answered p) (c.in-Ok.ensures.ok before sound)
     (subst (λ (x : Option Organization). Foresees x org (carried org c.args.at x (Ok c.in-Ok.task)) p) same (foreseen some c.in-Ok.ensures.range)))
     (c.perform.ensures.ok clean (c.checked.ensures.looks.kept before sound))
 

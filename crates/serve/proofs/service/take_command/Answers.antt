@@ -1,5 +1,5 @@
 use Rattle.serve.proofs.RecordLemmas.{if_ok}
-use Rattle.serve.proofs.TakenLemmas.{list_taken}
+use Rattle.serve.proofs.TakenLemmas.{list_taken, tokens_taken}
 use Rattle.serve.proofs.service.take_command.Goals as goal
 
 pub returns-in-OrgAdd-clause-ok : goal.returns-in-OrgAdd-clause-ok
@@ -18,3 +18,9 @@ pub returns-in-OrgList-clause-ok : goal.returns-in-OrgList-clause-ok
 returns-in-OrgList-clause-ok g c = λ clean sound.
     if_ok c.take_list.result (λ text listed at. list_taken (g.K.Keep.rows c.args.keep.now) (g.K.Keep.rows c.take_list.new.keep) c.args.asked.now text c.in-OrgList.is (c.take_list.ensures.looks.same clean) listed at)
     (c.take_list.ensures.ok clean sound)
+
+pub returns-in-TokenList-clause-ok : goal.returns-in-TokenList-clause-ok
+returns-in-TokenList-clause-ok g c = λ clean sound.
+    if_ok c.take_tokens.result
+    (λ text listed at. tokens_taken (g.K.Keep.rows c.args.keep.now) (g.K.Keep.rows c.take_tokens.new.keep) c.args.asked.now c.in-TokenList.org text c.in-TokenList.is (c.take_tokens.ensures.looks.same clean) listed at)
+    (c.take_tokens.ensures.ok clean sound)

@@ -1,19 +1,10 @@
-use Rattle.sqlite.specs.Held.{state}
+use Rattle.std.proofs.Common.{◌∙◌, sym, ap, subst, length, ◌==◌}
+use Rattle.statements.specs.Steps.{QueriesWhere}
 use Rattle.statements.specs.Listings.{workspace_rows_after, WorkspacesApart}
-use Rattle.statements.specs.Calls.{IsNamedRow, FirstRows}
-use Rattle.statements.proofs.Transactions.{lists_by}
-use Rattle.statements.proofs.WsTexts.{list_ws_text, list_ws_is_query}
-use Rattle.statements.proofs.WsReads.{list_ws_shows}
+use Rattle.statements.proofs.Prefixes.{empty_is}
 use Rattle.statements.proofs.workspaces.list.Goals as goal
 
-pub returns : goal.returns
-returns g c = record {
-  mode = c.first_rows-rows.ensures.mode;
-  read = λ clean.
-      let old = state g.S.Store c.args.conn.now in
-      let new = state g.S.Store c.first_rows-rows.new.conn in
-      lists_by WorkspacesApart (workspace_rows_after c.args.org.now c.args.after.now c.args.most) IsNamedRow old new (FirstRows c.args.most list_ws_text _ old new) c.first_rows-rows.result c.read_all.result
-      (rw (c.params-to_sql.ensures, c.params-to_sql-2.ensures) at (c.first_rows-rows.ensures.rows list_ws_is_query clean)) (c.first_rows-rows.ensures.calm list_ws_is_query clean) c.read_all.ensures
-      (λ t holds apart rows wss first read. list_ws_shows old new t holds c.args.org.now c.args.after.now c.args.most rows wss apart first read);
-  survives = c.first_rows-rows.ensures.survives list_ws_is_query;
-}
+pub returns-then-is_empty : goal.returns-then-is_empty
+returns-then-is_empty g c =
+    let none = empty_is c.args.prefix.now (ap (λ l. length l == 0) (sym c.as_str.ensures.text) ∙ sym c.is_empty.ensures ∙ c.if-is_empty.true) in
+    subst (λ p. QueriesWhere g.S.Store WorkspacesApart (workspace_rows_after c.args.org.now c.args.after.now p c.args.most) c.args.conn.now c.list_all.new.conn c.list_all.result) (sym none) c.list_all.ensures

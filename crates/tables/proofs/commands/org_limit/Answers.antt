@@ -1,10 +1,21 @@
-use Rattle.std.proofs.Common.{rules, ◌≡◌, false, is_none}
+use Rattle.std.proofs.Common.{rules, ◌≡◌, true, false, is_none}
 use Rattle.sqlite.specs.Held.{state}
-use Rattle.machine.specs.declared.keeps.AdminAnswer.TheVariants.{Done}
+use Rattle.machine.specs.declared.keeps.AdminAnswer.TheVariants.{Done, Absent}
 use Rattle.statements.specs.Changes.{org_capped}
 use Rattle.tables.specs.Inner.Steps.{limit_managed}
-use Rattle.tables.proofs.KeepManaged.{manages_one, unchanged_stays, limit_there}
+use Rattle.tables.proofs.KeepManaged.{manages_none, manages_one, unchanged_stays, limit_nowhere, limit_there}
 use Rattle.tables.proofs.commands.org_limit.Goals as goal
+
+pub returns-then-is_none-clause-done : goal.returns-then-is_none-clause-done
+returns-then-is_none-clause-done g c clean =
+    let org = c.args.org.now in
+    let a = state g.S.Store c.args.conn.now in
+    let b = state g.S.Store c.cap.new.conn in
+    let cap = c.in_ok-cap.ensures.read clean in
+    let nothing : is_none c.in_ok-cap.cap ≡ true = search rules in (
+      manages_none (limit_managed org c.args.limit) a b b c.assert_settled.ensures Absent cap.1.0.0.was_open cap.1.0.0.is_open (unchanged_stays a b cap.1.0) (λ t held. limit_nowhere org c.args.limit t c.in_ok-cap.cap nothing (cap.0 t held)),
+      tt,
+    )
 
 pub returns-clause-done : goal.returns-clause-done
 returns-clause-done g c clean =

@@ -1,13 +1,29 @@
-use Rattle.std.proofs.Common.{rules, ◌≡◌, false, cond, is_none, sym, subst}
+use Rattle.std.proofs.Common.{rules, ◌≡◌, true, false, cond, is_none, sym, subst}
 use Rattle.sqlite.specs.Effect.{Database}
 use Rattle.sqlite.specs.Held.{state}
 use Rattle.machine.specs.Effects.{effect}
-use Rattle.machine.specs.declared.keeps.AdminAnswer.TheVariants.{Done, Exists}
-use Rattle.statements.specs.Changes.{token_row_added}
+use Rattle.machine.specs.declared.keeps.AdminAnswer.TheVariants.{Done, Exists, Absent}
+use Rattle.statements.specs.Changes.{token_added}
 use Rattle.statements.specs.Tables.{Holds}
 use Rattle.tables.specs.Inner.Steps.{token_managed}
-use Rattle.tables.proofs.KeepManaged.{manages_none, manages_one, unchanged_stays, stays_then, token_there}
+use Rattle.tables.proofs.KeepManaged.{manages_none, manages_one, unchanged_stays, stays_then, token_nowhere, token_there}
 use Rattle.tables.proofs.commands.token_add.Goals as goal
+
+pub returns-then-is_none-clause-done : goal.returns-then-is_none-clause-done
+returns-then-is_none-clause-done g c clean =
+    let org = c.args.org.now in
+    let name = c.args.name.now in
+    let digest = c.args.digest.now in
+    let role = c.args.role in
+    let bounds = c.args.bounds.now in
+    let a = state g.S.Store c.args.conn.now in
+    let b = state g.S.Store c.cap.new.conn in
+    let cap = c.in_ok-cap.ensures.read clean in
+    let nothing : is_none c.in_ok-cap.cap ≡ true = search rules in (
+      manages_none (token_managed org name digest role bounds) a b b c.assert_settled.ensures Absent cap.1.0.0.was_open cap.1.0.0.is_open (unchanged_stays a b cap.1.0)
+          (λ t held. token_nowhere org name digest role bounds t c.in_ok-cap.cap nothing (cap.0 t held)),
+      tt,
+    )
 
 pub returns-then-branch-clause-done : goal.returns-then-branch-clause-done
 returns-then-branch-clause-done g c clean =
@@ -16,6 +32,7 @@ returns-then-branch-clause-done g c clean =
     let name = c.args.name.now in
     let digest = c.args.digest.now in
     let role = c.args.role in
+    let bounds = c.args.bounds.now in
     let a = state g.S.Store h in
     let b = state g.S.Store c.cap.new.conn in
     let d = state g.S.Store c.is_taken.new.conn in
@@ -24,9 +41,9 @@ returns-then-branch-clause-done g c clean =
     let taken = c.in_ok-is_taken.ensures.looks.sees clean in
     let is_open = c.in_ok-is_taken.ensures.is_open clean in
     let there : is_none c.in_ok-cap.cap ≡ false = search rules in (
-      manages_none (token_managed org name digest role) a d d settled Exists cap.1.0.0.was_open is_open (stays_then a b d (unchanged_stays a b cap.1.0) taken.1.0)
-          (λ t held. subst (λ x. token_managed org name digest role t ≡ cond x (effect Exists t) (effect Done (token_row_added org name digest role t))) c.if-branch.true
-          (token_there org name digest role t c.in_ok-cap.cap c.in_ok-is_taken.field-0 there (cap.0 t held) (taken.0 is_open t (subst (λ (db : Database). Holds db t) (sym cap.1.0.0.now_is) held)))),
+      manages_none (token_managed org name digest role bounds) a d d settled Exists cap.1.0.0.was_open is_open (stays_then a b d (unchanged_stays a b cap.1.0) taken.1.0)
+          (λ t held. subst (λ x. token_managed org name digest role bounds t ≡ cond x (effect Exists t) (effect Done (token_added org name digest role bounds.until bounds.prefix t))) c.if-branch.true
+          (token_there org name digest role bounds t c.in_ok-cap.cap c.in_ok-is_taken.field-0 there (cap.0 t held) (taken.0 is_open t (subst (λ (db : Database). Holds db t) (sym cap.1.0.0.now_is) held)))),
       tt,
     )
 
@@ -37,6 +54,7 @@ returns-clause-done g c clean =
     let name = c.args.name.now in
     let digest = c.args.digest.now in
     let role = c.args.role in
+    let bounds = c.args.bounds.now in
     let a = state g.S.Store h in
     let b = state g.S.Store c.cap.new.conn in
     let d = state g.S.Store c.is_taken.new.conn in
@@ -47,8 +65,8 @@ returns-clause-done g c clean =
     let taken = c.in_ok-is_taken.ensures.looks.sees clean2 in
     let is_open = c.in_ok-is_taken.ensures.is_open clean2 in
     let there : is_none c.in_ok-cap.cap ≡ false = search rules in (
-      manages_one (token_managed org name digest role) a d e settled (token_row_added org name digest role) Done (stays_then a b d (unchanged_stays a b cap.1.0) taken.1.0) (c.in_ok-add_token.ensures.done clean).0
-          (λ t held. subst (λ x. token_managed org name digest role t ≡ cond x (effect Exists t) (effect Done (token_row_added org name digest role t))) c.if-branch.false
-          (token_there org name digest role t c.in_ok-cap.cap c.in_ok-is_taken.field-0 there (cap.0 t held) (taken.0 is_open t (subst (λ (db : Database). Holds db t) (sym cap.1.0.0.now_is) held)))),
+      manages_one (token_managed org name digest role bounds) a d e settled (token_added org name digest role bounds.until bounds.prefix) Done (stays_then a b d (unchanged_stays a b cap.1.0) taken.1.0) (c.in_ok-add_token.ensures.done clean).0
+          (λ t held. subst (λ x. token_managed org name digest role bounds t ≡ cond x (effect Exists t) (effect Done (token_added org name digest role bounds.until bounds.prefix t))) c.if-branch.false
+          (token_there org name digest role bounds t c.in_ok-cap.cap c.in_ok-is_taken.field-0 there (cap.0 t held) (taken.0 is_open t (subst (λ (db : Database). Holds db t) (sym cap.1.0.0.now_is) held)))),
       tt,
     )

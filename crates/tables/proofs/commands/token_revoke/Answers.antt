@@ -1,10 +1,23 @@
-use Rattle.std.proofs.Common.{rules, ◌≡◌, false, is_none}
+use Rattle.std.proofs.Common.{rules, ◌≡◌, true, false, is_none}
 use Rattle.sqlite.specs.Held.{state}
-use Rattle.machine.specs.declared.keeps.AdminAnswer.TheVariants.{Done}
+use Rattle.machine.specs.declared.keeps.AdminAnswer.TheVariants.{Done, Absent}
 use Rattle.statements.specs.Changes.{token_removed}
 use Rattle.tables.specs.Inner.Steps.{revocation_managed}
-use Rattle.tables.proofs.KeepManaged.{manages_one, unchanged_stays, revocation_there}
+use Rattle.tables.proofs.KeepManaged.{manages_none, manages_one, unchanged_stays, revocation_nowhere, revocation_there}
 use Rattle.tables.proofs.commands.token_revoke.Goals as goal
+
+pub returns-then-is_none-clause-done : goal.returns-then-is_none-clause-done
+returns-then-is_none-clause-done g c clean =
+    let org = c.args.org.now in
+    let name = c.args.name.now in
+    let a = state g.S.Store c.args.conn.now in
+    let b = state g.S.Store c.role_of_name.new.conn in
+    let role = c.in_ok-role.ensures.read clean in
+    let nothing : is_none c.in_ok-role.role ≡ true = search rules in (
+      manages_none (revocation_managed org name) a b b c.assert_settled.ensures Absent role.1.0.0.was_open role.1.0.0.is_open (unchanged_stays a b role.1.0)
+          (λ t held. revocation_nowhere org name t c.in_ok-role.role nothing (role.0 t held)),
+      tt,
+    )
 
 pub returns-clause-done : goal.returns-clause-done
 returns-clause-done g c clean =

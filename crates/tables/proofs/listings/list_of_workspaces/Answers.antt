@@ -17,6 +17,6 @@ returns-clause-looks g c =
       so_far = λ clean. clean_before a b _ c.list.ensures.survives (c.list_workspaces.ensures.looks.so_far clean);
       sees = λ clean.
           let found = c.in_ok-rows.ensures.read (c.list_workspaces.ensures.looks.so_far clean) in
-          seen_behind WorkspacesApart (workspaces_listed_in c.args.after.now c.args.org.now) (λ t. listing_of (map (ws_row_in c.args.org.now t) c.as_slice.result.now)) a b d c.list_workspaces.result
+          seen_behind WorkspacesApart (workspaces_listed_in c.args.after.now c.args.prefix.now c.args.org.now) (λ t. listing_of (map (ws_row_in c.args.org.now t) c.as_slice.result.now)) a b d c.list_workspaces.result
           (λ t held apart. ap (λ rows. listing_of (map (ws_row_in c.args.org.now t) rows)) (c.as_slice.ensures ∙ found.0 t held apart)) found.1.0 c.list_workspaces.ensures.looks.sees clean;
     }

@@ -3,4 +3,4 @@ use Rattle.program.proofs.WordLemmas.{no_token_add}
 use Rattle.program.proofs.headings.Heading.read_token_add.Goals as goal
 
 pub returns-in_default-clause-syntax : goal.returns-in_default-clause-syntax
-returns-in_default-clause-syntax c _ = no_token_add c.args.words.now (λ e. grind arith)
+returns-in_default-clause-syntax c _ = no_token_add c.args.words.now (omega arith)

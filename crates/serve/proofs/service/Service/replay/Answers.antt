@@ -1,7 +1,7 @@
 use Rattle.serve.specs.Asks.{unattributed, operator}
 use Rattle.serve.proofs.RunLemmas.{replies_given, lists_given, orgs_given, rows_by}
 use Rattle.serve.proofs.service.Service.replay.Goals as goal
-use Rattle.serve.proofs.AbsentLemmas.{absent_forms, out_of_reach, each_reply}
+use Rattle.serve.proofs.AbsentLemmas.{absent_forms, out_of_reach, outside_the_prefix, not_admitted, each_reply}
 use Rattle.serve.proofs.BookLemmas as book
 
 pub returns-clause-readings : goal.returns-clause-readings
@@ -79,3 +79,15 @@ returns-clause-out_of_reach g c = λ clean sound.
     let old = g.K.Keep.rows c.args.self.now.keep in
     let new = g.K.Keep.rows c.run_all.new.self.keep in
     each_reply _ c.args.steps.now c.run_all.new.self.taken old new c.run_all.result (λ texts asked are own. out_of_reach c.args.steps.now old new texts asked are own) (c.run_all.ensures.ran clean sound) c.run_all.ensures.all
+
+pub returns-clause-outside_the_prefix : goal.returns-clause-outside_the_prefix
+returns-clause-outside_the_prefix g c = λ clean sound.
+    let old = g.K.Keep.rows c.args.self.now.keep in
+    let new = g.K.Keep.rows c.run_all.new.self.keep in
+    each_reply _ c.args.steps.now c.run_all.new.self.taken old new c.run_all.result (λ texts asked are own. outside_the_prefix c.args.steps.now old new texts asked are own) (c.run_all.ensures.ran clean sound) c.run_all.ensures.all
+
+pub returns-clause-not_admitted : goal.returns-clause-not_admitted
+returns-clause-not_admitted g c = λ clean sound.
+    let old = g.K.Keep.rows c.args.self.now.keep in
+    let new = g.K.Keep.rows c.run_all.new.self.keep in
+    each_reply _ c.args.steps.now c.run_all.new.self.taken old new c.run_all.result (λ texts asked are own. not_admitted c.args.steps.now old new texts asked are own) (c.run_all.ensures.ran clean sound) c.run_all.ensures.all

@@ -2,20 +2,23 @@ use Rattle.std.proofs.Common.{refl, sym, ap, subst}
 use Rattle.sqlite.specs.Effect.{Database}
 use Rattle.sqlite.specs.Held.{state}
 use Rattle.tables.specs.Stores.{records_of, IsSoundStore}
-use Rattle.tables.proofs.Stores.{first_store_is_sound, first_store_is_empty}
+use Rattle.tables.proofs.Stores.{made_store_is_sound, made_store_is_empty}
 use Rattle.tables.proofs.Telling.{sound_is_not_other}
 use Rattle.tables.proofs.store.SqlKeep.open.Goals as goal
 
 pub returns-in-Ok-clause-held : goal.returns-in-Ok-clause-held
 returns-in-Ok-clause-held g c = rw c.of-seen.ensures (λ clean there.
-    let told = c.in-Ok.ensures.told clean there in
-    (λ sound. record { store = subst IsSoundStore (sym told.same) sound; tied = λ _. refl }, λ o. ap (λ (db : Database). records_of db o) told.same))
+    let same = c.in-Ok.ensures.stays clean there in
+    (λ sound. record { store = subst IsSoundStore (sym same) sound; tied = λ _. refl }, λ o. ap (λ (db : Database). records_of db o) same))
 
 pub returns-in-Err-clause-sound : goal.returns-in-Err-clause-sound
 returns-in-Err-clause-sound g c clean schema = sound_is_not_other (state g.S.Store c.args.conn) (c.in-Err.ensures.other clean schema).1
 
+pub returns-in-Ok-clause-version : goal.returns-in-Ok-clause-version
+returns-in-Ok-clause-version g c clean n there = (c.in-Ok.ensures.told clean n there).0
+
 pub returns-in-Ok-clause-tells : goal.returns-in-Ok-clause-tells
-returns-in-Ok-clause-tells g c clean there = (c.in-Ok.ensures.told clean there).tells
+returns-in-Ok-clause-tells g c clean n there = (c.in-Ok.ensures.told clean n there).1
 
 pub returns-in-Ok-clause-climbed : goal.returns-in-Ok-clause-climbed
 returns-in-Ok-clause-climbed g c = rw c.of-seen.ensures (λ clean n h.
@@ -25,4 +28,4 @@ returns-in-Ok-clause-climbed g c = rw c.of-seen.ensures (λ clean n h.
 pub returns-in-Ok-clause-fresh : goal.returns-in-Ok-clause-fresh
 returns-in-Ok-clause-fresh g c = rw c.of-seen.ensures (λ clean none.
     let made = c.in-Ok.ensures.made clean none in
-    (record { store = first_store_is_sound _ made.schema.holds; tied = λ _. refl }, first_store_is_empty _ made.schema.holds))
+    (record { store = made_store_is_sound _ made.schema.holds; tied = λ _. refl }, made_store_is_empty _ made.schema.holds))

@@ -4,15 +4,15 @@ use Rattle.tables.proofs.store.SqlKeepKeep.token_add.Goals as goal
 
 pub returns-in-Ok-clause-kept : goal.returns-in-Ok-clause-kept
 returns-in-Ok-clause-kept g c = rw c.of.ensures (λ clean sound.
-    token_keeps (state g.S.Store c.args.self.now.seen.value).committed (state g.S.Store c.args.self.now.conn) sound (state g.S.Store c.token_add.new.conn) c.args.org.now c.args.name.now c.args.digest.now c.args.role c.in-Ok.answer
-    (rw (c.as_str.ensures.text, c.as_str-2.ensures.text, c.as_slice-digest.ensures) at (c.in-Ok.ensures.done clean).0) c.as_str-2.ensures.fits c.told-digest)
+    token_keeps (state g.S.Store c.args.self.now.seen.value).committed (state g.S.Store c.args.self.now.conn) sound (state g.S.Store c.token_add.new.conn) c.args.org.now c.args.name.now c.args.digest.now c.args.role c.args.bounds.now c.in-Ok.answer
+    (rw (c.as_str-org.ensures.text, c.as_str-name.ensures.text, c.as_slice-digest.ensures) at (c.in-Ok.ensures.done clean).0) c.as_str-name.ensures.fits c.told-digest c.assert_bounds.ensures.until c.assert_bounds.ensures.prefix)
 
 pub returns-in-Ok-clause-own : goal.returns-in-Ok-clause-own
 returns-in-Ok-clause-own g c = rw c.of.ensures (λ clean sound.
-    token_told (state g.S.Store c.args.self.now.seen.value).committed (state g.S.Store c.args.self.now.conn) sound (state g.S.Store c.token_add.new.conn) c.args.org.now c.args.name.now c.args.digest.now c.args.role c.in-Ok.answer
-    (rw (c.as_str.ensures.text, c.as_str-2.ensures.text, c.as_slice-digest.ensures) at (c.in-Ok.ensures.done clean).0))
+    token_told (state g.S.Store c.args.self.now.seen.value).committed (state g.S.Store c.args.self.now.conn) sound (state g.S.Store c.token_add.new.conn) c.args.org.now c.args.name.now c.args.digest.now c.args.role c.args.bounds.now c.in-Ok.answer
+    (rw (c.as_str-org.ensures.text, c.as_str-name.ensures.text, c.as_slice-digest.ensures) at (c.in-Ok.ensures.done clean).0))
 
 pub returns-in-Ok-clause-others : goal.returns-in-Ok-clause-others
 returns-in-Ok-clause-others g c = rw c.of.ensures (λ clean sound q apart.
-    token_others (state g.S.Store c.args.self.now.seen.value).committed (state g.S.Store c.args.self.now.conn) sound (state g.S.Store c.token_add.new.conn) c.args.org.now c.args.name.now c.args.digest.now c.args.role c.in-Ok.answer
-    (rw (c.as_str.ensures.text, c.as_str-2.ensures.text, c.as_slice-digest.ensures) at (c.in-Ok.ensures.done clean).0) q apart)
+    token_others (state g.S.Store c.args.self.now.seen.value).committed (state g.S.Store c.args.self.now.conn) sound (state g.S.Store c.token_add.new.conn) c.args.org.now c.args.name.now c.args.digest.now c.args.role c.args.bounds.now c.in-Ok.answer
+    (rw (c.as_str-org.ensures.text, c.as_str-name.ensures.text, c.as_slice-digest.ensures) at (c.in-Ok.ensures.done clean).0) q apart)

@@ -1,0 +1,9 @@
+use Rattle.std.proofs.Common.{take}
+use Rattle.std.specs.List.{flat_map}
+use Rattle.std.specs.Io.KnownBytes.{Appends}
+use Rattle.serve.specs.Service.{token_line}
+use Rattle.program.proofs.replies.print_tokens.Given as goal
+
+-- what the rows so far print has been written
+abbrev pub invariant-rows : goal.invariant-rows
+invariant-rows g l = Appends (g.O.Write.contents l.initial.output) (g.O.Write.contents l.output) (flat_map token_line (take l.row-index l.rows))

@@ -1,0 +1,51 @@
+-- What the writes to the table bound do to its rows.
+use Rattle.std.proofs.Common.{◌≡◌, ℕ, List, [], ◌∷◌, Option, Ok, refl, ◌∙◌, map, true, false, ap}
+use Rattle.sqlite_value.specs.declared.value.Value.TheVariants.{Text}
+use Rattle.sqlite_sql.specs.Program.{overlay}
+use Rattle.sqlite.specs.State.{State, Executes}
+use Rattle.sqlite_typed.specs.Columns.{or_null}
+use Rattle.sqlite_keyed.proofs.KeyedLemmas.{IsKeyedBy-delete_where}
+use Rattle.sqlite_keyed.proofs.ListLemmas.{filter_all, all_of}
+use Rattle.statements.specs.Place.{tree_of}
+use Rattle.statements.specs.Schema.{bound_table, token_table}
+use Rattle.statements.specs.Rows.{Kept, id_of, TokenRow, BoundRow, bound_cells, token_cells, number}
+use Rattle.statements.specs.Tables.{Tables, Holds, bound_layout}
+use Rattle.statements.specs.Changes.{is_bound, unbounded, bound_row_added, bound_row_removed, bounds_filled}
+use Rattle.statements.proofs.Held.{IsHeld, bounds_held, tokens_held}
+use Rattle.statements.proofs.Own.{delete_own, insert_own, fill_own, keyed_next, stored_tree}
+use Rattle.statements.proofs.Edits.{all_keyed}
+use Rattle.statements.proofs.Casts.{bound_casts}
+use Rattle.statements.proofs.Frames.{Turns, bounds_written}
+use Rattle.statements.proofs.Conditions.{two_texts}
+use Rattle.statements.proofs.Answered.{point, all_are}
+use Rattle.statements.proofs.BoundTexts.{add_bound_text, add_bound_means, add_bound_terms, remove_bound_text, remove_bound_means, remove_bound_query, fill_bounds_text, fill_bounds_means, filled_rest}
+
+module _ (old new : State) (count : ℕ) (t : Tables) (h : Holds old.now t) where
+  abbrev held : IsHeld bound_layout old.now t.bounds
+  held = bounds_held old.now t h
+
+  pub add_bound_does : (org name : List ℕ) (until : Option ℕ) (prefix : List ℕ) → Executes add_bound_text (Text org ∷ Text name ∷ or_null number until ∷ Text prefix ∷ []) old new (Ok count)
+      → Turns old.now new.now (bound_row_added org name until prefix t)
+  add_bound_does org name until prefix ran =
+      let row : BoundRow = record { org = org; name = name; until = until; prefix = prefix } in
+      let left = insert_own bound_cells bound_table bound_casts old new held.own held.steady t.bounds held.rows held.keyed add_bound_text (Text org ∷ Text name ∷ or_null number until ∷ Text prefix ∷ []) count ran
+      add_bound_terms 5 (add_bound_means old.now.schema _ _ held.own.place) refl refl row refl in
+      bounds_written old.now new.now left.1 t h _ left.0 (keyed_next t.bounds row held.keyed)
+
+  pub remove_bound_does : (org name : List ℕ) → Executes remove_bound_text (Text org ∷ Text name ∷ []) old new (Ok count) → Turns old.now new.now (bound_row_removed org name t)
+  remove_bound_does org name ran =
+      let left = delete_own bound_cells bound_table bound_casts old new held.own held.steady t.bounds held.rows held.keyed remove_bound_text (Text org ∷ Text name ∷ []) count ran
+      (remove_bound_query (tree_of old.now.schema bound_table.name)) (remove_bound_means old.now.schema _ _ held.own.place) refl refl refl (λ rows. refl) (is_bound org name) (λ x. two_texts x.1.org org x.1.name name) (λ x. refl) in
+      bounds_written old.now new.now left.1 t h _ left.0 (IsKeyedBy-delete_where id_of (is_bound org name) t.bounds held.keyed)
+
+  -- a row for each token, in the order of the tokens
+  pub fill_bounds_does : Executes fill_bounds_text [] old new (Ok count) → Turns old.now new.now (bounds_filled t)
+  fill_bounds_does ran =
+      let tokens = tokens_held old.now t h in
+      let from = tree_of old.now.schema token_table.name in
+      let each = filter_all (λ (x : Kept TokenRow). true) t.tokens (all_of (λ x. true ≡ true) (λ x. refl) t.tokens) in
+      let left = fill_own bound_cells bound_table bound_casts old new held.own held.steady t.bounds held.rows held.keyed fill_bounds_text [] count ran
+      (point filled_rest from false) (fill_bounds_means old.now.schema _ _ _ _ held.own.place tokens.own.place) refl refl (λ (x : Kept TokenRow). unbounded x.1) t.tokens
+      (λ rows answer. all_are token_cells (overlay old.now.trees []) from t.tokens (stored_tree old.now.trees from tokens.own.place.low ∙ tokens.rows) tokens.keyed filled_rest [] (λ x. true) (λ x. refl) (λ l. refl) rows answer
+      ∙ ap (map _) each) in
+      bounds_written old.now new.now left.1 t h _ left.0 (all_keyed bound_cells (map (λ (x : Kept TokenRow). unbounded x.1) t.tokens) t.bounds held.keyed)

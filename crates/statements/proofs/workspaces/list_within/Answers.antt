@@ -1,0 +1,26 @@
+use Rattle.sqlite.specs.Held.{state}
+use Rattle.statements.specs.Listings.{workspace_rows_after, WorkspacesApart}
+use Rattle.statements.specs.Calls.{IsNamedRow, FirstRows}
+use Rattle.statements.proofs.Transactions.{lists_by, left_calm}
+use Rattle.statements.proofs.WsTexts.{list_ws_within_text, list_ws_within_is_query}
+use Rattle.statements.proofs.WsReads.{list_ws_within_shows}
+use Rattle.statements.proofs.workspaces.list_within.Goals as goal
+
+pub returns : goal.returns
+returns g c = record {
+  mode = c.first_rows-rows.ensures.mode;
+  read = λ clean.
+      let old = state g.S.Store c.args.conn.now in
+      let new = state g.S.Store c.first_rows-rows.new.conn in
+      lists_by WorkspacesApart (workspace_rows_after c.args.org.now c.args.after.now c.args.prefix.now c.args.most) IsNamedRow old new (FirstRows c.args.most list_ws_within_text _ old new) c.first_rows-rows.result c.read_all.result
+      (rw (c.params-to_sql.ensures, c.params-to_sql-2.ensures, c.params-to_sql-3.ensures, c.params-to_sql-4.ensures, c.beginning-from.ensures, c.as_str.ensures.text, c.as_str-2.ensures.value, c.in-Ok.ensures) at (c.first_rows-rows.ensures.rows list_ws_within_is_query clean)) (c.first_rows-rows.ensures.calm list_ws_within_is_query clean) c.read_all.ensures
+      (λ t holds apart rows wss first read. list_ws_within_shows old new t holds c.args.org.now c.args.after.now c.args.prefix.now c.requires.some c.args.most rows wss apart first read);
+  survives = c.first_rows-rows.ensures.survives list_ws_within_is_query;
+}
+
+pub returns-in-Err : goal.returns-in-Err
+returns-in-Err g c = record {
+  mode = c.count-looked.ensures.mode;
+  read = λ clean. (tt, (tt, left_calm c.count-looked.result (c.count-looked.ensures.read clean).1));
+  survives = c.count-looked.ensures.survives;
+}

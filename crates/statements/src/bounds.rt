@@ -1,0 +1,71 @@
+//! Statements on the table bound: how far each token reaches.
+ghost use Rattle.std.specs.Prelude.{◌≡◌, ◌<◌, ◌^◌, pos, option_map, IfSome};
+ghost use Rattle.statements.specs.Steps.{WritesBy, QueriesBy};
+ghost use Rattle.statements.specs.Changes.{bound_row_added, bound_row_removed, bounds_filled};
+ghost use Rattle.statements.specs.Finds.{bound_of};
+
+use crate::calls::{first_row, read_one, signed, write};
+use crate::rows::Bound;
+use sqlite::{Alter, Connection, Error, Transaction, params};
+
+const FIND_BOUND: &str =
+    "SELECT until, prefix FROM bound WHERE org = ?1 AND name = ?2 ORDER BY rowid";
+
+/// How far the token of this name reaches.
+pub fn find<S: Alter>(
+    conn: &mut Connection<S>,
+    org: &str,
+    name: &str,
+) -> Result<Option<Bound>, Error>
+    ensures { QueriesBy S.Store (bound_of org.now name.now) conn.old conn.new result }
+{
+    let row = first_row(conn, FIND_BOUND, params![org, name]);
+    read_one(row)
+}
+
+/// A number as SQL has it, where there is one.
+fn optional_signed(n: Option<u64>) -> Option<i64>
+    requires fits { IfSome n (λ n. n < 2 ^ 63) }
+    ensures { result ≡ option_map pos n }
+{
+    match n {
+        None => None,
+        Some(n) => Some(signed(n)),
+    }
+}
+
+const ADD_BOUND: &str = "INSERT INTO bound (org, name, until, prefix) VALUES (?1, ?2, ?3, ?4)";
+
+/// Adds how far a token reaches.
+pub fn add<'v, S: Alter>(
+    tx: &mut Transaction<'_, S>,
+    org: &'v str,
+    name: &'v str,
+    until: Option<u64>,
+    prefix: &'v str,
+) -> Result<(), Error>
+    requires until_fits { IfSome until (λ n. n < 2 ^ 63) }
+    ensures { WritesBy S.Store (bound_row_added org.now name.now until prefix.now) tx.old tx.new result }
+{
+    let until = optional_signed(until);
+    write(tx, ADD_BOUND, params![org, name, until, prefix])
+}
+
+const REMOVE_BOUND: &str = "DELETE FROM bound WHERE org = ?1 AND name = ?2";
+
+/// Removes how far a token reaches.
+pub fn remove<S: Alter>(tx: &mut Transaction<'_, S>, org: &str, name: &str) -> Result<(), Error>
+    ensures { WritesBy S.Store (bound_row_removed org.now name.now) tx.old tx.new result }
+{
+    write(tx, REMOVE_BOUND, params![org, name])
+}
+
+const FILL_BOUNDS: &str =
+    "INSERT INTO bound (org, name, until, prefix) SELECT org, name, NULL, '' FROM token ORDER BY rowid";
+
+/// Says of each token that it doesn't end and is for all workspaces.
+pub fn fill<S: Alter>(tx: &mut Transaction<'_, S>) -> Result<(), Error>
+    ensures { WritesBy S.Store bounds_filled tx.old tx.new result }
+{
+    write(tx, FILL_BOUNDS, &[])
+}

@@ -1,0 +1,52 @@
+//! A story of a store that begins with a file of the first version: over that file in memory and copied, and over files
+//! in memory whose power is cut.
+use crate::cuts::{Image, opened};
+use crate::files::run_in_copy;
+use crate::programs::bytes_of;
+use crate::stops;
+use crate::stops::run_first_stops;
+use crate::ways::over_tables;
+use std::alloc::Global;
+use telling::devices::ALL;
+use telling::failures::Failure;
+use telling::keyed::Keyed;
+use telling::modes::{Counts, Modes};
+use telling::plays::Play;
+use telling::taking::Way;
+
+/// The name of the way in memory.
+const WAY: &str = "the file in memory";
+
+fn run_in_image(alloc: Global, play: &Play, image: &Image) -> Result<(), Failure> {
+    let keep = opened(alloc, 0, image)?;
+    over_tables(alloc, keep, play, Keyed::Sha, Way::Exchange(ALL))
+}
+
+fn run_over(rt: &HostRuntime, play: &Play, image: &Image) -> Result<(), Failure> {
+    if let Err(failure) = run_in_image(rt.alloc(), play, image) {
+        return Err(failure.on(WAY));
+    }
+    run_in_copy(rt, play, image.db.as_slice())
+}
+
+/// Runs a story that begins with the file at this path.
+pub fn run_begun(
+    rt: &HostRuntime,
+    path: &str,
+    play: &Play,
+    modes: Modes,
+    counts: &mut Counts,
+) -> Result<(), Failure> {
+    let image = Image {
+        log: Vec::new(rt.alloc()),
+        db: bytes_of(rt, path)?,
+    };
+    run_over(rt, play, &image)?;
+    if !modes.stops {
+        return Ok(());
+    }
+    match run_first_stops(rt, play, &image, counts) {
+        Ok(()) => Ok(()),
+        Err(failure) => Err(failure.on(stops::WAY)),
+    }
+}

@@ -1,0 +1,86 @@
+-- Which tables are there in a database of each version.
+use Rattle.std.proofs.Common.{◌≡◌, ◌≤◌, ◌⊎◌, inl, inr, ℕ, zero, suc, Bool, true, false, not, ◌&&◌, ◌||◌, is_some, List, length, [], ◌∷◌, ◌++◌, refl, ap, arith}
+use Rattle.std.specs.List.{AllByRecursion, list_any, list_all}
+use Rattle.std.proofs.lemmas.Bool.{and_from}
+use Rattle.sqlite_schema.specs.declared.schema.Schema.{Schema}
+use Rattle.sqlite_schema.specs.declared.schema.Table.{Table}
+use Rattle.sqlite.specs.Effect.{Database}
+use Rattle.statements.specs.Place.{IsOwn}
+use Rattle.statements.specs.Schema.{bound_table, edition_table}
+use Rattle.statements.specs.Tables.{Tables, Holds, HoldsFirst, first_tables, our_tables}
+use Rattle.tables.specs.Opening.{any_there, all_there}
+use Rattle.tables.specs.Stores.{is_in_schema, second_tables, IsFirstStore}
+use Rattle.tables.specs.Versions.{HoldsVersion}
+
+own_there : (s : Schema) (tables : List Table) → AllByRecursion (IsOwn s) tables → list_all (is_in_schema s) tables ≡ true
+own_there s [] own = refl
+own_there s (t ∷ tables) own = and_from _ _ (ap is_some own.0.place.named) (own_there s tables own.1)
+
+pub first_are_there : (db : Database) (t : Tables) → HoldsFirst db t → list_all (is_in_schema db.schema) first_tables ≡ true
+first_are_there db t h = own_there db.schema first_tables h.own.own
+
+pub first_is_there : (db : Database) → IsFirstStore db → all_there 1 db.schema ≡ true
+first_is_there db h = and_from _ _ (own_there db.schema first_tables h.holds.own.own) (ap not h.alone)
+
+pub newest_is_there : (db : Database) (t : Tables) → Holds db t → all_there 2 db.schema ≡ true
+newest_is_there db t h = own_there db.schema our_tables h.ours.own
+
+-- a database of some version has all tables of that, and none of a later one
+pub version_is_there : (n : ℕ) (db : Database) → HoldsVersion n db → all_there n db.schema ≡ true
+version_is_there zero db h = absurd h
+version_is_there (suc zero) db h = first_is_there db h
+version_is_there (suc (suc zero)) db h = newest_is_there db _ h.holds
+version_is_there (suc (suc (suc n))) db h = absurd h
+
+first_and : (a b : Bool) → (a && b) ≡ true → a ≡ true
+first_and true b e = refl
+first_and false b e = e
+
+second_and : (a b : Bool) → (a && b) ≡ true → b ≡ true
+second_and true b e = e
+second_and false b e = absurd (let none : ⊥ = cc in none)
+
+some_of_all : {A : Type 0} (p : A → Bool) (n : ℕ) (xs ys : List A) → length xs ≡ suc n → list_all p xs ≡ true → list_any p (xs ++ ys) ≡ true
+some_of_all p n [] ys e all = absurd (omega (arith, e))
+some_of_all p n (x ∷ xs) ys e all = ap (λ (b : Bool). b || list_any p (xs ++ ys)) (first_and (p x) (list_all p xs) all)
+
+-- where all tables of a version are there, some of ours are
+pub any_of_all : (n : ℕ) (s : Schema) → all_there n s ≡ true → any_there s ≡ true
+any_of_all zero s e = absurd (let none : ⊥ = cc in none)
+any_of_all (suc zero) s e = some_of_all (is_in_schema s) 7 first_tables second_tables refl (first_and (list_all (is_in_schema s) first_tables) (not (list_any (is_in_schema s) second_tables)) e)
+any_of_all (suc (suc zero)) s e = some_of_all (is_in_schema s) 9 our_tables [] refl e
+any_of_all (suc (suc (suc n))) s e = absurd (let none : ⊥ = cc in none)
+
+-- no database has the tables of two versions
+all_more : {A : Type 0} (p : A → Bool) (xs ys : List A) → list_all p (xs ++ ys) ≡ true → list_all p ys ≡ true
+all_more p [] ys e = e
+all_more p (x ∷ xs) ys e = all_more p xs ys (second_and (p x) (list_all p (xs ++ ys)) e)
+
+pub not_both : (s : Schema) → all_there 1 s ≡ true → all_there 2 s ≡ true → ⊥
+not_both s one two = clash (is_in_schema s bound_table) (is_in_schema s edition_table) (all_more (is_in_schema s) first_tables second_tables two) (second_and (list_all (is_in_schema s) first_tables) _ one)
+  where
+    clash : (b e : Bool) → (b && (e && true)) ≡ true → not (b || (e || false)) ≡ true → ⊥
+    clash true e all none = let no_one : ⊥ = cc in no_one
+    clash false e all none = let no_one : ⊥ = cc in no_one
+
+pub one_there : (m n : ℕ) (s : Schema) → all_there m s ≡ true → all_there n s ≡ true → m ≡ n
+one_there zero n s e f = absurd (let none : ⊥ = cc in none)
+one_there m zero s e f = absurd (let none : ⊥ = cc in none)
+one_there (suc zero) (suc zero) s e f = refl
+one_there (suc zero) (suc (suc zero)) s e f = absurd (not_both s e f)
+one_there (suc (suc zero)) (suc zero) s e f = absurd (not_both s f e)
+one_there (suc (suc zero)) (suc (suc zero)) s e f = refl
+one_there (suc (suc (suc m))) n s e f = absurd (let none : ⊥ = cc in none)
+one_there m (suc (suc (suc n))) s e f = absurd (let none : ⊥ = cc in none)
+
+pub first_or_newest : (n : ℕ) (s : Schema) → all_there n s ≡ true → (n ≡ 1) ⊎ (n ≡ 2)
+first_or_newest zero s e = absurd (let none : ⊥ = cc in none)
+first_or_newest (suc zero) s e = inl refl
+first_or_newest (suc (suc zero)) s e = inr refl
+first_or_newest (suc (suc (suc n))) s e = absurd (let none : ⊥ = cc in none)
+
+pub most_there : (n : ℕ) (s : Schema) → all_there n s ≡ true → n ≤ 2
+most_there zero s e = absurd (let none : ⊥ = cc in none)
+most_there (suc zero) s e = omega arith
+most_there (suc (suc zero)) s e = omega arith
+most_there (suc (suc (suc n))) s e = absurd (let none : ⊥ = cc in none)

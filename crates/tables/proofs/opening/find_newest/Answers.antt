@@ -1,0 +1,11 @@
+use Rattle.sqlite.specs.Held.{state}
+use Rattle.tables.proofs.Climbing.{newest_tells}
+use Rattle.tables.proofs.opening.find_newest.Goals as goal
+
+pub returns-in-Ok-clause-found : goal.returns-in-Ok-clause-found
+returns-in-Ok-clause-found g c clean =
+    let old = state g.S.Store c.args.conn.now in
+    let new = state g.S.Store c.edition.new.conn in
+    let settled = c.assert_settled.ensures in
+    let read = c.in-Ok.ensures.reads.read clean in
+    rw c.found_in.ensures (newest_tells c.in-Ok.told old new c.requires.there settled read.1.0 read.0 (c.in-Ok.ensures.told clean))
