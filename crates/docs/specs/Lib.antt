@@ -1,4 +1,5 @@
 pub mod Bodies
 pub mod Digests
 pub mod Documents
+pub mod Inner
 pub mod Readings

@@ -4,11 +4,12 @@ ghost use Rattle.serde_json.specs.Data.{Members, object};
 ghost use Rattle.serde_json.specs.Find.{get};
 ghost use Rattle.serde_json.specs.View.{view};
 ghost use Rattle.docs.specs.Readings.{StateLaw, LockLaw, SettingsLaw, AskLaw};
-ghost use Rattle.docs.specs.Documents.{object_of, serial_of, optional_text, state_head, lock_id_of, flag_of, small_object_of, settings_of, key_of, run_ask};
+ghost use Rattle.docs.specs.Documents.{object_of, optional_text, state_head, lock_id_of, flag_of, small_object_of, settings_of, key_of, run_ask};
 
 use crate::faults::DocFault;
-use basis::rows::{MAX_LINEAGE, MAX_SERIAL};
+use crate::heads::read_head;
 use basis::{LockId, RunAsk, Settings, StateHead, Text, is_free_id};
+use json::Scratch;
 use serde_json::{Map, Value};
 use std::alloc::Global;
 
@@ -22,18 +23,22 @@ pub const MAX_KEY: usize = 64;
 pub const MAX_MESSAGE: usize = 1_000;
 
 /// What custody reads of a Terraform state: a JSON object with `serial`, and with `lineage` or without.
-#[tactic(auto, unfolding(crate::specs::Documents::state_head))]
+#[tactic(auto, using(crate::proofs::Heading::head_found, crate::proofs::Heading::none_found, crate::proofs::Heading::no_serial_found, crate::proofs::Heading::no_lineage_found, crate::proofs::Objects::some_bytes))]
 pub fn read_state(alloc: Global, bytes: &[u8]) -> Result<StateHead, DocFault>
     ensures ok { IfOk result (λ head. state_head bytes.now ≡ Some head) }
     ensures bad { IsErrOf result DocFault.Bad → state_head bytes.now ≡ None }
     ensures down { IsErrOf result DocFault.Down → 0 < length bytes.now }
     ensures law { StateLaw bytes.now }
 {
-    let value = read_object(alloc, bytes)?;
-    let Some(serial) = serial_of(&value) else {
+    let mut scratch = Scratch::new(alloc);
+    let head = read_head(bytes, &mut scratch)?;
+    let Some(serial) = head.serial else {
         return Err(DocFault::Bad);
     };
-    let lineage = read_text(alloc, &value, "lineage", MAX_LINEAGE)?;
+    let Some(lineage) = head.lineage else {
+        return Err(DocFault::Bad);
+    };
+    let lineage = Text::copy_of(alloc, lineage)?;
     Ok(StateHead { serial, lineage })
 }
 
@@ -120,15 +125,6 @@ fn read_small_object(alloc: Global, bytes: &[u8]) -> Result<Value, DocFault>
         return Err(DocFault::Bad);
     }
     read_object(alloc, bytes)
-}
-
-fn serial_of(value: &Value) -> Option<u64>
-    ensures { result ≡ option_and_then serial_of (get (codes "serial") (view value.now)) }
-{
-    match value.get("serial").and_then(Value::as_u64) {
-        Some(serial) if serial <= MAX_SERIAL => Some(serial),
-        _ => None,
-    }
 }
 
 // A run's key, which may be absent.

@@ -8,6 +8,7 @@ pub mod bodies;
 pub mod digests;
 pub mod documents;
 pub mod faults;
+mod heads;
 pub mod listings;
 
 pub use bodies::{unavailable_body, write_error, write_run, write_run_holder, write_ws};
