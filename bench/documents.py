@@ -1,5 +1,5 @@
 #!/usr/bin/env python3
-"""Cost of documents: reads states of 1, 2 and 4 MiB by `docs` and by python3's json, and digests them by `docs` and by hashlib.
+"""Cost of documents: reads states of 1, 4 and 16 MiB by `docs` and by python3's json, and digests them by `docs` and by hashlib.
 
 Run it from the top of the repository: python3 bench/documents.py. It proves and builds bench/documents/main.rt.in
 with the kit, in a folder of its own over copies of the crates `basis` and `docs`, and prints a table in
@@ -76,7 +76,7 @@ def main():
         program = build(folder, "documents", "timing: basis docs", BELOW, [field_of(state)], state)
         print("state       MiB   read_state   python3 json   digest_fits   hashlib md5   (ms)")
         for shape in (terraform, objects, numbers):
-            for size in (1, 2, 4):
+            for size in (1, 4, 16):
                 read, loads, digest, md5 = measure(program, state_of(shape, size * MIB))
                 print(f"{shape.__name__:10} {size:4} {read:12.1f} {loads:14.1f} {digest:13.1f} {md5:13.1f}", flush=True)
 
