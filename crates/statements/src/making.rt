@@ -10,9 +10,8 @@ ghost use Rattle.statements.specs.Schema.{meta_table, org_table, token_table, ws
 ghost use Rattle.statements.specs.Making.{AltersBy, MakesBy, GrowsBy, GrowsByAll, HasSchema, Raises, RaisesThird, KeepsMade, LeavesOthers, HasMeta, HasEdition, edition_set, edition_moved, version_cleared, told_version, version_in, edition_in};
 ghost use Rattle.statements.specs.Rows.{Kept};
 
-use crate::bounds;
 use crate::calls::{first_row, read_one, write};
-use crate::keepings;
+use crate::{bounds, keepings};
 use sqlite::{Alter, Connection, Error, Transaction};
 
 const MAKE_META: &str =
