@@ -1,5 +1,5 @@
 -- Custody: writes under a lock carry its ID, a lock holds until it is released, and repeats change nothing.
-use Rattle.std.proofs.Common.{◌≡◌, ◌⊎◌, inl, inr, ℕ, ◌-◌, ◌≤◌, Bool, true, false, cond, List, [], ◌∷◌, ◌++◌, length, Option, Some, None, option_map, is_some, IsSome, nat_lt, refl, sym, ap, subst, ◌∙◌, arith, eq-eqb}
+use Rattle.std.proofs.Common.{◌≡◌, ◌⊎◌, inl, inr, ℕ, ◌-◌, Bool, true, false, cond, List, [], ◌∷◌, ◌++◌, length, Option, Some, None, option_map, is_some, IsSome, nat_lt, refl, sym, ap, subst, ◌∙◌, arith, eq-eqb}
 use Rattle.std.specs.Str.{bytes_eq}
 use Rattle.std.proofs.lemmas.Slice.Eq.{bytes_eq-Decides}
 use Rattle.basis.specs.declared.refusals.Refusal.{Refusal}
@@ -20,7 +20,7 @@ use Rattle.machine.specs.declared.records.Run.{Run}
 use Rattle.machine.specs.Writing.{may_write}
 use Rattle.machine.specs.Settling.{first_waiting, to_start, started, started_if, settled}
 use Rattle.machine.specs.Succession.{Succession, first, same, other_lineage, old_serial, next, succession}
-use Rattle.machine.specs.Rules.{Outcome, refused, done, Ruling, rules_missing, rules, refused_by, by_may_write, by_succession, numbered_update, number_left, with_version, settings_for, with_settings, takes_held, put, done_with, done_already, purge, purged, lock, locked, unlock, released, is_released, force_unlock, new_run, with_run, numbered_run, make_run, reported, frees, with_report, report, delete}
+use Rattle.machine.specs.Rules.{Outcome, refused, done, Ruling, rules_missing, rules, refused_by, by_may_write, by_succession, numbered_update, number_left, with_version, settings_for, with_settings, put, done_with, done_already, purge, purged, lock, locked, unlock, released, is_released, force_unlock, new_run, with_run, numbered_run, make_run, reported, frees, with_report, report, delete}
 use Rattle.machine.proofs.DeletionLemmas.{IsKept, IsGone, delete_comes, delete_left, delete_again, locked_stays}
 use Rattle.machine.proofs.CutLemmas.{last_length}
 use Rattle.machine.proofs.PuttingLemmas.{IsSet, put_comes, put_becomes, held_stay, put_once, asked_once}

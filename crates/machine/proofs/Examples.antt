@@ -387,7 +387,7 @@ abbrev last_two : List Version
 last_two = version 2 2 a1 s2 ∷ version 3 3 a1 t1 ∷ []
 
 abbrev keeping : ℕ → List Version → Workspace
-keeping keep versions = record empty { settings = record { auto_apply = false; keep_versions = keep }; next_version = 4; versions = versions }
+keeping keep stored = record empty { settings = record { auto_apply = false; keep_versions = keep }; next_version = 4; versions = stored }
 
 abbrev three : Workspace
 three = keeping 3 (version 1 1 a1 s1 ∷ last_two)

@@ -1,5 +1,5 @@
 -- What PUT comes to of a workspace that is there: it is refused and the workspace stays, or the workspace gets the settings.
-use Rattle.std.proofs.Common.{◌≡◌, ◌⊎◌, inl, inr, ℕ, ◌≤◌, nat_lt, Bool, true, false, not, ◌&&◌, cond, List, length, Option, Some, None, IfSome, IsSome, refl, sym, ap, subst, ◌∙◌, arith}
+use Rattle.std.proofs.Common.{◌≡◌, ◌⊎◌, inl, inr, ℕ, ◌≤◌, nat_lt, Bool, true, false, not, ◌&&◌, cond, List, length, Option, Some, None, IfSome, refl, sym, ap, subst, ◌∙◌, arith}
 use Rattle.std.proofs.lemmas.Bool.{ltb-false, le-ltb}
 use Rattle.basis.specs.declared.refusals.Refusal.TheVariants.{Locked}
 use Rattle.basis.specs.declared.rows.Settings.{Settings}
@@ -7,14 +7,13 @@ use Rattle.basis.specs.declared.rows.SettingsAsk.{SettingsAsk}
 use Rattle.machine.specs.Effects.{effect}
 use Rattle.machine.specs.Custody.{IsRefusal}
 use Rattle.machine.specs.Laws.{is_nobody}
-use Rattle.machine.specs.Ranges.{IsKeepCount, IsSettingsAsk}
+use Rattle.machine.specs.Ranges.{IsKeepCount}
 use Rattle.machine.specs.Settling.{settled}
-use Rattle.machine.specs.Workspaces.{last_of}
 use Rattle.machine.specs.Rules.{refused, held, Ruling, refused_by, shown_with, kept_before, kept_for, settings_for, with_settings, takes_held, put}
 use Rattle.machine.specs.declared.records.Holder.{Holder}
 use Rattle.machine.specs.declared.records.Version.{Version}
 use Rattle.machine.specs.declared.records.Workspace.{Workspace}
-use Rattle.machine.proofs.CutLemmas.{last_length, all_last}
+use Rattle.machine.proofs.CutLemmas.{all_last}
 use Rattle.machine.proofs.DeletionLemmas.{IsKept}
 
 -- it gets the settings: no version goes from under a holder

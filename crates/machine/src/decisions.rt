@@ -268,7 +268,11 @@ fn decide_settings(unit: &WorkspaceUnit, settings: &Settings) -> Result<Decision
     let shown = shown(settings, unit)?;
     let settings = *settings;
     let outgoing = unit.outgoing;
-    Ok(accept(Answer::Workspace(shown), Edit::Configure { settings, outgoing }, None))
+    Ok(accept(
+        Answer::Workspace(shown),
+        Edit::Configure { settings, outgoing },
+        None,
+    ))
 }
 
 fn decide_put(unit: &WorkspaceUnit, ask: SettingsAsk) -> Result<Decision, Down>
