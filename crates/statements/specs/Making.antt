@@ -13,8 +13,8 @@ use Rattle.sqlite_keyed.specs.Keyed.{IsKeyedBy, insert_by, get_by}
 use Rattle.statements.specs.Place.{at_of, tree_of, StandsAt, IsOwn, RefersPassively}
 use Rattle.statements.specs.Schema.{meta_table, edition_table}
 use Rattle.statements.specs.Rows.{Kept, id_of, stored, meta_cells, edition_cells}
-use Rattle.statements.specs.Tables.{Tables, Holds, HoldsFirst, HoldsSecond, HoldsAll, StoredTable, first_tables, second_tables, our_tables, no_rows}
-use Rattle.statements.specs.Changes.{with_all, unbounded, kept_first}
+use Rattle.statements.specs.Tables.{Tables, Holds, HoldsFirst, HoldsAll, StoredTable, first_tables, no_rows}
+use Rattle.statements.specs.Changes.{with_all, unbounded}
 
 -- a table with no row
 abbrev pub bare_table : Table → StoredTable
@@ -69,52 +69,34 @@ abbrev pub LeavesOthers : Table → Database → Database → Type 0
 LeavesOthers table old new =
     IsOwn old.schema table → (new.schema ≡ old.schema) × AllByRecursion (λ (t : Table). t.tree ≢ tree_of old.schema table.name → new.trees t.tree ≡ old.trees t.tree) old.schema.tables
 
--- edition tells this version in its row 1
-abbrev pub edition_set : ℕ → Tables → Tables
-edition_set version t = record t { editions = insert_by id_of t.editions (pos 1, version) }
-
--- edition tells this version, where it told one
-abbrev pub edition_moved : ℕ → Tables → Tables
-edition_moved version t = record t { editions = map (λ x. (x.0, version)) t.editions }
+-- the only row of edition, whose rowid is 1
+abbrev pub edition_set : Tables → Tables
+edition_set t = record t { editions = insert_by id_of t.editions (pos 1, 2) }
 
 -- meta tells no version
 abbrev pub version_cleared : Tables → Tables
 version_cleared t = record t { metas = [] }
 
--- The database has schema 3, with no row but the one that says so, and each table that was there is kept.
+-- The database has schema 2, with no row but the one that says so, and each table that was there is kept.
 pub record HasSchema (old new : Database) : Type 0 where
-  pub holds : Holds new (edition_set 3 no_rows)
+  pub holds : Holds new (edition_set no_rows)
   pub kept : KeepsTables old new
 
 -- schema 1 as schema 2: no token ends, each is for all workspaces, and edition tells the version in meta's place
 abbrev pub raised : Tables → Tables
 raised t = record t { metas = []; bounds = with_all (map (λ x. unbounded x.1) t.tokens) []; editions = (pos 1, 2) ∷ [] }
 
--- schema 2 as schema 3: each workspace keeps what one keeps at first, and edition tells the version
-abbrev pub raised_third : Tables → Tables
-raised_third t = record t { keepings = with_all (map (λ x. kept_first x.1) t.wss) []; editions = map (λ x. (x.0, 3)) t.editions }
-
--- the table's tree is none of those of these tables
-abbrev pub IsBeside : Database → Table → List Table → Type 0
-IsBeside db other tables = AllByRecursion (λ (ours : Table). tree_of db.schema other.name ≢ tree_of db.schema ours.name) tables
-
--- Where tables of ours became others, each table of others keeps its place beside them, and the rows of one to which no write elsewhere is passed on
--- stay.
-pub record KeepsForeign (before after : List Table) (old new : Database) : Type 0 where
-  pub owns : (other : Table) → IsOwn old.schema other → IsOwn new.schema other
+-- each table of others keeps its place, and the rows of one to which no write elsewhere is passed on stay
+pub record KeepsForeign (old new : Database) : Type 0 where
   pub stands : (other : Table) → IsOwn old.schema other → (at_of new.schema other.name ≡ at_of old.schema other.name) × (tree_of new.schema other.name ≡ tree_of old.schema other.name)
-  pub beside : (other : Table) → IsOwn old.schema other → IsBeside old other before → IsBeside new other after
-  pub rows : (other : Table) → IsOwn old.schema other → RefersPassively other → IsBeside old other before → new.trees (tree_of old.schema other.name) ≡ old.trees (tree_of old.schema other.name)
+  pub rows :
+      (other : Table) → IsOwn old.schema other → RefersPassively other → AllByRecursion (λ (ours : Table). tree_of old.schema other.name ≢ tree_of old.schema ours.name) first_tables
+      → new.trees (tree_of old.schema other.name) ≡ old.trees (tree_of old.schema other.name)
 
 -- The tables of schema 1 have become those of schema 2, and what is not ours is left.
 pub record Raises (old new : Database) : Type 0 where
-  pub holds : (t : Tables) → HoldsFirst old t → HoldsSecond new (raised t)
-  pub foreign : (t : Tables) → HoldsFirst old t → KeepsForeign first_tables (first_tables ++ second_tables) old new
-
--- The tables of schema 2 have become those of schema 3, and what is not ours is left.
-pub record RaisesThird (old new : Database) : Type 0 where
-  pub holds : (t : Tables) → HoldsSecond old t → Holds new (raised_third t)
-  pub foreign : (t : Tables) → HoldsSecond old t → KeepsForeign (first_tables ++ second_tables) our_tables old new
+  pub holds : (t : Tables) → HoldsFirst old t → Holds new (raised t)
+  pub foreign : (t : Tables) → HoldsFirst old t → KeepsForeign old new
 
 -- the version in row 1 of meta, or of edition
 abbrev pub told_version : List (Kept ℕ) → Option ℕ

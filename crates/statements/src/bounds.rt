@@ -1,7 +1,6 @@
 //! Statements on the table bound: how far each token reaches.
 ghost use Rattle.std.specs.Prelude.{◌≡◌, ◌<◌, ◌^◌, pos, option_map, IfSome};
-ghost use Rattle.statements.specs.Steps.{WritesBy, WritesIn, QueriesBy};
-ghost use Rattle.statements.specs.Tables.{second_stored};
+ghost use Rattle.statements.specs.Steps.{WritesBy, QueriesBy};
 ghost use Rattle.statements.specs.Changes.{bound_row_added, bound_row_removed, bounds_filled};
 ghost use Rattle.statements.specs.Finds.{bound_of};
 
@@ -64,9 +63,9 @@ pub fn remove<S: Alter>(tx: &mut Transaction<'_, S>, org: &str, name: &str) -> R
 const FILL_BOUNDS: &str =
     "INSERT INTO bound (org, name, until, prefix) SELECT org, name, NULL, '' FROM token ORDER BY rowid";
 
-/// Says of each token that it doesn't end and is for all workspaces, in a database that has the tables of schema 2.
+/// Says of each token that it doesn't end and is for all workspaces.
 pub fn fill<S: Alter>(tx: &mut Transaction<'_, S>) -> Result<(), Error>
-    ensures { WritesIn S.Store second_stored bounds_filled tx.old tx.new result }
+    ensures { WritesBy S.Store bounds_filled tx.old tx.new result }
 {
     write(tx, FILL_BOUNDS, &[])
 }
