@@ -1,11 +1,7 @@
 //! A story of a store that begins with a file of the first version: over that file in memory and copied, and over files
 //! in memory whose power is cut.
-use crate::cuts::{Image, opened};
 use crate::files::run_in_copy;
 use crate::programs::bytes_of;
-use crate::stops;
-use crate::stops::run_first_stops;
-use crate::ways::over_tables;
 use std::alloc::Global;
 use telling::devices::ALL;
 use telling::failures::Failure;
@@ -13,6 +9,10 @@ use telling::keyed::Keyed;
 use telling::modes::{Counts, Modes};
 use telling::plays::Play;
 use telling::taking::Way;
+use trials::cuts::{Image, opened};
+use trials::stops;
+use trials::stops::run_first_stops;
+use trials::ways::over_tables;
 
 /// The name of the way in memory.
 const WAY: &str = "the file in memory";

@@ -2,25 +2,14 @@
 #![tactic(auto)]
 
 mod begun;
-mod breaking;
 mod checks;
-mod cuts;
 mod files;
-mod images;
-mod kept;
-mod keys;
-mod laws;
 mod memories;
 mod programs;
-mod records;
-mod recovering;
 mod sockets;
-mod stops;
 mod stories;
 mod streams;
-mod units;
 mod values;
-mod ways;
 
 use std::io;
 use std::io::{BufWriter, Read, Write};

@@ -1,15 +1,10 @@
 //! A story run by its kind: of a store, of the program, of values, or of checks.
 use crate::begun::run_begun;
-use crate::breaking::run_broken;
 use crate::checks::{is_check, run_check};
 use crate::files::run_in_file;
 use crate::memories::{Memory, Place, WAY, place_of};
 use crate::programs::{Files, is_of_program};
-use crate::stops::run_stops;
-use crate::units::run_by_units;
 use crate::values::{is_of_values, take_value};
-use crate::ways::run_in_memory;
-use crate::{breaking, stops};
 use std::alloc::Global;
 use telling::books::{Book, Part, Plot, Story};
 use telling::failures::Failure;
@@ -17,6 +12,11 @@ use telling::modes::{Counts, Modes};
 use telling::plays::{Play, play_of};
 use telling::refusals;
 use telling::refusals::run_refused;
+use trials::breaking::run_broken;
+use trials::stops::run_stops;
+use trials::units::run_by_units;
+use trials::ways::run_in_memory;
+use trials::{breaking, stops};
 
 // The earlier stories and this one, in turn.
 fn run_store(

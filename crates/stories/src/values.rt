@@ -1,5 +1,4 @@
 //! Steps of values: a document, a name, a number or a message read and shown, and what a request asks.
-use crate::kept::show_kept;
 use basis::numbers::whole_number;
 use basis::{Limit, LockId, Moment, Number, OrgName, RunAsk, Secret, StateHead, Unfit, WsName};
 use docs::{DocFault, digest_fits, read_lock, read_run, read_settings, read_state};
@@ -11,6 +10,7 @@ use telling::failures::Failure;
 use telling::lines::Mark;
 use telling::messages::show_message;
 use telling::routes::{show_asks, show_route};
+use trials::kept::show_kept;
 
 /// What is read.
 #[derive(Clone, Copy)]
