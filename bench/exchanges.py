@@ -40,7 +40,7 @@ SERVERS = {
 }
 SECRET = "adminadminadmin1"
 BATCHES = 10
-BUFFER = memoryview(bytearray(8 * 1024 * 1024))
+BUFFER = memoryview(bytearray(32 * 1024 * 1024))
 LINEAGE = "6bc94f0f-8d26-ded0-6ef8-661124def35b"
 
 
@@ -148,6 +148,7 @@ def makings():
 
 
 ADD_WS = "INSERT INTO ws (org, name, auto, kind, next_version, next_run) VALUES (?, ?, 0, 0, ?, 1)"
+ADD_KEEPING = "INSERT INTO keeping (org, ws, keep) VALUES (?, ?, 100)"
 ADD_VERSION = """INSERT INTO version (org, ws, number, serial, lineage, created, size)
     VALUES (?, ?, ?, ?, ?, 1700000000, ?)"""
 ADD_RUN = """INSERT INTO run (org, ws, number, plan_only, message, created, status, action)
@@ -159,12 +160,18 @@ def add_version(db, org, ws, number, text):
     texts.add_text(db, org, ws, number, text)
 
 
+def add_workspaces(db, org, names, following):
+    """Workspaces that keep 100 versions, with the number of the next one."""
+    db.executemany(ADD_WS, ((org, name, following) for name in names))
+    db.executemany(ADD_KEEPING, ((org, name) for name in names))
+
+
 def fill(db, workspaces=(), versions=(), ended=()):
     """Puts rows beside those that the program made: (ORG, COUNT) of workspaces, each with a version; (WS, COUNT, SIZE) of
     versions, and (WS, COUNT) of runs that ended, in acme."""
     for org, count in workspaces:
         names = [f"w{number:06}" for number in range(count)]
-        db.executemany(ADD_WS, ((org, name, 2) for name in names))
+        add_workspaces(db, org, names, 2)
         for name in names:
             add_version(db, org, name, 1, b"{}")
     for ws, count, size in versions:
@@ -187,7 +194,7 @@ def make(path, also, **rows):
         admin(path, "token-add", org, "root", "admin", fed=SECRET.encode())
     with contextlib.closing(sqlite3.connect(path)) as db, db:
         db.execute(also)
-        db.executemany(ADD_WS, (("acme", name, 1) for name in ("big", "medium", "run", "small")))
+        add_workspaces(db, "acme", ("big", "medium", "run", "small"), 1)
         fill(db, **rows)
 
 

@@ -1,4 +1,4 @@
-"""The texts of versions in shared pages, as schema 1 has them, over python3's sqlite3."""
+"""The texts of versions in shared pages, as the tables have them, over python3's sqlite3."""
 import hashlib
 
 PAGE_BYTES = 16_384

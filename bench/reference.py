@@ -16,16 +16,19 @@ import pages
 
 STATUSES = ("pending", "planning", "planned", "applying", "applied", "planned_and_finished", "errored", "discarded", "canceled")
 ROLES = {"GET": 0, "POST": 1, "LOCK": 1, "UNLOCK": 1, "PUT": 2}
-ITEMS, VERSIONS, RUNS = 50, 100, 100
+ITEMS, KEPT, RUNS = 50, 100, 100
 ROLE = "SELECT role FROM token WHERE org = ? AND digest = ?"
-WORKSPACE = "SELECT kind, lock_id, lock_text, run, next_version, next_run, auto FROM ws WHERE org = ? AND name = ?"
+WORKSPACE = "SELECT kind, lock_id, lock_text, run, next_version, next_run FROM ws WHERE org = ? AND name = ?"
+KEEP = "SELECT keep FROM keeping WHERE org = ? AND ws = ?"
+COUNT = "SELECT count(*) FROM version WHERE org = ? AND ws = ?"
 NEWEST = "SELECT number, serial, lineage, size FROM version WHERE org = ? AND ws = ? ORDER BY number DESC LIMIT 1"
 ADD_VERSION = "INSERT INTO version (org, ws, number, serial, lineage, created, size) VALUES (?, ?, ?, ?, ?, ?, ?)"
 GOING = "SELECT number FROM version WHERE org = ? AND ws = ? AND number <= ?"
 REMOVE_VERSION = "DELETE FROM version WHERE org = ? AND ws = ? AND number = ?"
 RUN = "SELECT number, plan_only, rkey, message, created, status, action FROM run WHERE org = ? AND ws = ?"
 ADD_RUN = "INSERT INTO run (org, ws, number, plan_only, rkey, message, created, status) VALUES (?, ?, ?, ?, ?, ?, ?, ?)"
-PAGE = """SELECT auto, kind, lock_id, run, name,
+PAGE = """SELECT auto, kind, lock_id, run,
+    (SELECT keep FROM keeping WHERE keeping.org = ws.org AND keeping.ws = ws.name), name,
     (SELECT max(number) FROM version WHERE version.org = ws.org AND version.ws = ws.name)
     FROM ws WHERE org = ? AND name > ? ORDER BY name LIMIT ?"""
 
@@ -38,8 +41,9 @@ def text_of(value):
     return json.dumps(value, sort_keys=True, separators=(",", ":")).encode()
 
 
-def workspace_of(auto, kind, lock, run, name, version):
-    return {"auto_apply": bool(auto), "holder": (None, lock, f"run-{run}")[kind], "name": name, "version": version}
+def workspace_of(auto, kind, lock, run, keep, name, version):
+    holder = (None, lock, f"run-{run}")[kind]
+    return {"auto_apply": bool(auto), "holder": holder, "keep_versions": keep, "name": name, "version": version}
 
 
 def run_text(row):
@@ -102,17 +106,33 @@ class Exchange(BaseHTTPRequestHandler):
         return text_of({"items": [workspace_of(*row) for row in rows[:ITEMS]], "more": len(rows) > ITEMS})
 
     def PUT_workspaces(self, org, rest, query, body):
-        ws, auto = rest[0], bool(body and json.loads(body)["auto_apply"])
+        ws, ask = rest[0], json.loads(body) if body else {}
+        auto, keep = ask.get("auto_apply", False), ask.get("keep_versions")
         if self.one(WORKSPACE, org, ws) is None:
             count = self.one("SELECT count(*) FROM ws WHERE org = ?", org)[0]
             if count >= self.one("SELECT cap FROM org WHERE name = ?", org)[0]:
                 raise Refusal(409, b"")
             self.one("INSERT INTO ws (org, name, auto, kind, next_version, next_run) VALUES (?, ?, ?, 0, 1, 1)", org, ws, auto)
+            self.one("INSERT INTO keeping (org, ws, keep) VALUES (?, ?, ?)", org, ws, KEPT if keep is None else keep)
         else:
-            self.set(org, ws, "auto = ?", auto)
+            self.configure(org, ws, auto, keep)
         kind, lock, _, run, *_ = self.workspace(org, ws)
         newest = self.one(NEWEST, org, ws)
-        return text_of(workspace_of(auto, kind, lock, run, ws, newest and newest[0]))
+        return text_of(workspace_of(auto, kind, lock, run, *self.one(KEEP, org, ws), ws, newest and newest[0]))
+
+    def configure(self, org, ws, auto, keep):
+        if keep is not None:
+            kind, _, holder, _, number, *_ = self.workspace(org, ws)
+            if kind and self.one(COUNT, org, ws)[0] > keep:
+                raise Refusal(423, holder or b"")
+            self.forget(org, ws, number - 1 - keep)
+            self.one("UPDATE keeping SET keep = ? WHERE org = ? AND ws = ?", keep, org, ws)
+        self.set(org, ws, "auto = ?", auto)
+
+    def forget(self, org, ws, last):
+        for going, in self.server.db.execute(GOING, (org, ws, last)).fetchall():
+            self.one(REMOVE_VERSION, org, ws, going)
+            pages.remove_text(self.server.db, org, ws, going)
 
     def GET_state(self, org, rest, query, body):
         self.workspace(org, *rest)
@@ -132,10 +152,9 @@ class Exchange(BaseHTTPRequestHandler):
             return b""
         if newest and (newest[2] != lineage or serial <= newest[1]):
             raise Refusal(409, b"")
-        if self.one("SELECT count(*) FROM version WHERE org = ? AND ws = ?", org, ws)[0] >= VERSIONS:
-            for going, in self.server.db.execute(GOING, (org, ws, number - VERSIONS)).fetchall():
-                self.one(REMOVE_VERSION, org, ws, going)
-                pages.remove_text(self.server.db, org, ws, going)
+        keep, = self.one(KEEP, org, ws)
+        if self.one(COUNT, org, ws)[0] >= keep:
+            self.forget(org, ws, number - keep)
         self.one(ADD_VERSION, org, ws, number, serial, lineage, int(time.time()), len(body))
         pages.add_text(self.server.db, org, ws, number, body)
         self.set(org, ws, "next_version = ?", number + 1)
@@ -162,7 +181,7 @@ class Exchange(BaseHTTPRequestHandler):
         return self.make(org, *rest, json.loads(body)) if len(rest) == 1 else self.report(org, *rest)
 
     def make(self, org, ws, ask):
-        kind, _, _, _, _, number, _ = self.workspace(org, ws)
+        kind, _, _, _, _, number = self.workspace(org, ws)
         known = self.one(f"{RUN} AND rkey = ?", org, ws, ask["key"]) if "key" in ask else None
         if known:
             return run_text(known)

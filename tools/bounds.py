@@ -62,7 +62,7 @@ class Organization:
         return ["= " + self.tokens[name].line(name) for name in sorted(self.tokens)]
 
     def shown(self, name):
-        return {"auto_apply": False, "holder": None, "name": name, "version": len(self.workspaces[name]) or None}
+        return {"auto_apply": False, "holder": None, "keep_versions": 100, "name": name, "version": len(self.workspaces[name]) or None}
 
     def asked(self, prefix, after):
         names = [name for name in sorted(self.workspaces) if name.startswith(prefix) and name > after]

@@ -41,6 +41,8 @@ PLAN_ONLY = {
 }
 ROLES = {"R": 0, "W": 1, "A": 2, "B": 2}
 HOMES = {"R": "acme", "W": "acme", "A": "acme", "B": "beta"}
+# What a new workspace keeps where nothing else is asked.
+FIRST_KEPT = 100
 
 
 class Text:
@@ -122,8 +124,8 @@ class Version:
 
 
 class Workspace:
-    def __init__(self, org, name, auto_apply):
-        self.org, self.name, self.auto_apply = org, name, auto_apply
+    def __init__(self, org, name):
+        self.org, self.name, self.auto_apply, self.keep = org, name, False, FIRST_KEPT
         self.lock, self.holding, self.released = None, None, None
         self.next_version, self.versions, self.runs = 1, [], []
 
@@ -139,7 +141,7 @@ class Workspace:
 
     def shown(self):
         newest = self.versions[-1].number if self.versions else None
-        return {"auto_apply": self.auto_apply, "holder": self.holder_id(), "name": self.name, "version": newest}
+        return {"auto_apply": self.auto_apply, "holder": self.holder_id(), "keep_versions": self.keep, "name": self.name, "version": newest}
 
     def settle(self):
         """Where nobody holds, the first run that is pending starts."""
@@ -176,19 +178,28 @@ class Workspace:
                 return refused("409 serial")
         self.versions.append(Version(self.next_version, text))
         self.next_version += 1
-        assert len(self.versions) <= 100
+        self.forget_to(self.keep)
         return done()
 
-    def forget(self):
-        for version in self.versions:
-            version.go()
-        self.versions = []
+    def configure(self, auto_apply, keep):
+        """A PUT of the workspace: while anybody holds it lets no version go."""
+        keep = self.keep if keep is None else keep
+        if len(self.versions) > keep and self.holder_id() is not None:
+            return self.locked()
+        self.auto_apply, self.keep = auto_apply, keep
+        self.forget_to(keep)
+        return told(self.shown())
+
+    def forget_to(self, most):
+        """The oldest versions go, down to so many."""
+        while len(self.versions) > most:
+            self.versions.pop(0).go()
 
     def purge(self, lock_id):
         refusal = self.may_write(lock_id)
         if refusal:
             return refusal
-        self.forget()
+        self.forget_to(0)
         return done()
 
     def take_lock(self, lock_id, text):
@@ -266,7 +277,7 @@ def listed(items):
 
 class Service:
     def __init__(self):
-        self.orgs = {"acme": {"net": Workspace("acme", "net", False)}, "beta": {}}
+        self.orgs = {"acme": {"net": Workspace("acme", "net")}, "beta": {}}
 
     def reply(self, token, needed, org, ws, act):
         """The reply of an act on a workspace, past the token: its role, its organization and its workspace first."""
@@ -281,20 +292,18 @@ class Service:
             return refused("404 not-found")
         return listed([self.orgs[org][name].shown() for name in sorted(self.orgs[org])])
 
-    def put_workspace(self, token, org, ws, auto_apply):
+    def put_workspace(self, token, org, ws, auto_apply, keep):
         if ROLES[token] < 2:
             return refused("403 need-admin")
         if HOMES[token] != org:
             return refused("404 not-found")
-        workspace = self.orgs[org].setdefault(ws, Workspace(org, ws, auto_apply))
-        workspace.auto_apply = auto_apply
-        return told(workspace.shown())
+        return self.orgs[org].setdefault(ws, Workspace(org, ws)).configure(auto_apply, keep)
 
     def delete_workspace(self, token, org, ws):
         def act(workspace):
             refusal = workspace.delete_refused()
             if refusal is None:
-                workspace.forget()
+                workspace.forget_to(0)
                 del self.orgs[org][ws]
             return refusal or done()
 
@@ -346,7 +355,7 @@ class Teller:
         return token, org, self.pick("net", "net", "net", "dev")
 
     def found(self, org, ws):
-        return self.service.orgs[org].get(ws) or Workspace(org, ws, False)
+        return self.service.orgs[org].get(ws) or Workspace(org, ws)
 
     def path(self, org, rest):
         return rest if org == "acme" else "/v1/%s/%s" % (org, rest)
@@ -435,10 +444,11 @@ class Teller:
         return head, "", self.service.reply(token, 1, org, ws, lambda it: run_reported(it, number, action))
 
     def put_workspace(self, token, org, ws):
-        auto_apply = self.often(40)
+        auto_apply, keep = self.often(40), self.pick(None, None, 1, 2, 2, 3, 1000)
+        asked = {name: value for name, value in [("auto_apply", auto_apply), ("keep_versions", keep)] if value}
         head = "PUT " + self.path(org, "workspaces/" + ws)
-        body = "| %s\n" % compact({"auto_apply": auto_apply}) if auto_apply else ""
-        return head, body, self.service.put_workspace(token, org, ws, auto_apply)
+        body = "| %s\n" % compact(asked) if asked else ""
+        return head, body, self.service.put_workspace(token, org, ws, auto_apply, keep)
 
     def delete_workspace(self, token, org, ws):
         return "DELETE " + self.path(org, "workspaces/" + ws), "", self.service.delete_workspace(token, org, ws)

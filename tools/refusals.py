@@ -64,19 +64,22 @@ BEHIND = 200
 # The story that the program `stories` tells.
 LEFT = "steps that a replay left are taken once"
 
-# The tables of the file, of the first version and of the second, and those in which the rows that are due are told: a
-# version with its text, and in a file of the first version each token with no end and the empty prefix.
+# The tables of the file, of the first version, of the second and of the third, and those in which the rows that are due
+# are told: a version with its text, in a file of the first version each token with no end and the empty prefix, and in
+# one of the first or the second each workspace with 100 versions to keep.
 FIRST = ["meta", "org", "token", "ws", "version", "run", "page", "vpage"]
-TABLES = FIRST + ["bound", "edition"]
+SECOND = FIRST + ["bound", "edition"]
+TABLES = SECOND + ["keeping"]
 TOLD = """
     CREATE TABLE org (name, cap);
     CREATE TABLE token (org, name, digest, role);
     CREATE TABLE bound (org, name, until, prefix);
     CREATE TABLE ws (org, name, auto, kind, lock_id, lock_text, run, released, next_version, next_run);
+    CREATE TABLE keeping (org, ws, keep);
     CREATE TABLE version (org, ws, number, serial, lineage, created, body);
     CREATE TABLE run (org, ws, number, plan_only, rkey, message, created, status, action);
 """
-COLUMNS = {"org": "*", "token": "*", "bound": "*", "ws": "*", "version": "org, ws, number, serial, lineage, created", "run": "*"}
+COLUMNS = {"org": "*", "token": "*", "bound": "*", "ws": "*", "keeping": "*", "version": "org, ws, number, serial, lineage, created", "run": "*"}
 PAGE = 16384
 
 
@@ -132,15 +135,17 @@ def look_at_pages(db):
 
 
 def tell_version(db, names):
-    """A file tells one version of the two, by the tables that it has; one of the first gets the bounds that are due, in memory."""
+    """A file tells one version of the three, by the tables that it has; one of an earlier version gets the rows that are due, in memory."""
+    if names not in [sorted(FIRST), sorted(SECOND), sorted(TABLES)]:
+        raise Wrong("the tables are %s" % names)
     if names == sorted(FIRST):
         told, due = db.execute("SELECT one, version FROM meta").fetchall(), [(1, 1)]
         db.execute("CREATE TEMP TABLE bound AS SELECT org, name, NULL AS until, '' AS prefix FROM token")
-    elif names == sorted(TABLES):
-        told = db.execute("SELECT one, version FROM edition UNION ALL SELECT one, version FROM meta").fetchall()
-        due = [(1, 2)]
     else:
-        raise Wrong("the tables are %s" % names)
+        told = db.execute("SELECT one, version FROM edition UNION ALL SELECT one, version FROM meta").fetchall()
+        due = [(1, 2 if names == sorted(SECOND) else 3)]
+    if "keeping" not in names:
+        db.execute("CREATE TEMP TABLE keeping AS SELECT org, name AS ws, 100 AS keep FROM ws")
     if told != due:
         raise Wrong("the version told is %s" % told)
 

@@ -5,9 +5,9 @@
 
 Tells the stories of TEXT (crates/stories/stdin) with STOPS_FOLDER set, so that the program writes the two files that every
 tenth stop leaves: as all was written, as it was synced, and torn. Beside each pair stand the rows before the step in which
-the power was cut (none where there was no database yet, and those of the first version's tables where it was the first open
-of such a file) and those behind it. SQLite has to find each pair sound
-(integrity check, foreign keys check), and its rows have to be the one or the other.
+the power was cut (none where there was no database yet, and those of an earlier version's tables where it was the first open
+of such a file) and those behind it. SQLite has to find each pair sound (integrity check, foreign keys check), and its rows
+have to be the one or the other; a file of the first version may have been taken to the second, too, with the same rows.
 """
 
 import os
@@ -21,7 +21,8 @@ import tempfile
 HERE = os.path.dirname(os.path.abspath(__file__))
 STORIES = os.path.join(HERE, "..", "crates", "stories")
 FIRST = ["meta", "org", "token", "ws", "version", "run", "vpage", "page"]
-FURTHER = ["bound", "edition"]
+SECOND = FIRST + ["bound", "edition"]
+THIRD = SECOND + ["keeping"]
 WAYS = ["written", "synced", "torn"]
 
 
@@ -52,11 +53,11 @@ def marked(value):
 
 
 def rows_in(conn):
-    """The rows of each table, sorted; none where there is no table, and those of eight where the file is of the first version."""
+    """The rows of each table, sorted; none where there is no table, and those of eight or ten where the file is of the first or the second version."""
     made = {name for (name,) in conn.execute("SELECT name FROM sqlite_schema WHERE type = 'table'")}
     if not made:
         return []
-    tables = FIRST + FURTHER if made & set(FURTHER) else FIRST
+    tables = next(tables for tables in (THIRD, SECOND, FIRST) if set(tables) <= made)
     return [sorted([marked(value) for value in row] for row in conn.execute(f"SELECT * FROM {table}")) for table in tables]
 
 
@@ -77,6 +78,12 @@ def looked_at(path, before):
         conn.close()
 
 
+def second_of(first):
+    """The rows of a file of the first version once it is at the second: each token counts always and for every workspace."""
+    ends = [token[:2] + [marked(None), marked("")] for token in first[FIRST.index("token")]]
+    return [[]] + first[1:] + [sorted(ends), [[marked(1), marked(2)]]]
+
+
 def bytes_of(path):
     with open(path, "rb") as file:
         return file.read()
@@ -85,7 +92,7 @@ def bytes_of(path):
 def main():
     program = os.path.abspath(sys.argv[1] if len(sys.argv) > 1 else os.path.join(STORIES, "out", "stories"))
     text = os.path.abspath(sys.argv[2] if len(sys.argv) > 2 else os.path.join(STORIES, "stdin"))
-    counts = dict.fromkeys(["before the step", "behind it", "no database yet"], 0)
+    counts = dict.fromkeys(["before the step", "behind it", "at the second version", "no database yet"], 0)
     stops, pairs = 0, 0
     with tempfile.TemporaryDirectory() as room, tempfile.TemporaryDirectory() as folder:
         shutil.copytree(os.path.join(STORIES, "data"), room, dirs_exist_ok=True)
@@ -103,9 +110,11 @@ def main():
                     continue
                 pairs += 1
                 found = looked_at(path, before)
-                if found not in [before, after]:
+                between = second_of(before) if len(before) == len(FIRST) else None
+                if found not in [before, between, after]:
                     sys.exit(f"{path}: its rows are neither those before the step nor those behind it")
-                counts["no database yet" if not found else "before the step" if found == before else "behind it"] += 1
+                where = "before the step" if found == before else "behind it" if found == after else "at the second version"
+                counts[where if found else "no database yet"] += 1
     told = ", ".join(f"{count} {what}" for what, count in counts.items())
     print(f"{stops} stops, {pairs} pairs of files: SQLite finds each sound ({told})")
 

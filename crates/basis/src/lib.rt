@@ -15,9 +15,11 @@ pub mod texts;
 
 pub use memory::{Down, Unfit};
 pub use names::{LockId, OrgName, Prefix, Secret, WsName, is_free_id, is_run_id};
-pub use numbers::{Limit, Moment, Number};
+pub use numbers::{KeepCount, Limit, Moment, Number};
 pub use refusals::{Allow, Refusal};
 pub use roles::{Bounds, Caller, Role};
-pub use rows::{HolderId, Listing, Look, RunAsk, RunRow, Settings, StateHead, VersionRow, WsRow};
+pub use rows::{
+    HolderId, Listing, Look, RunAsk, RunRow, Settings, SettingsAsk, StateHead, VersionRow, WsRow,
+};
 pub use runs::{RunAction, RunStatus};
 pub use texts::{Bytes, Items, Text};

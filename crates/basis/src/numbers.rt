@@ -2,7 +2,7 @@
 ghost use Rattle.std.specs.Prelude.{◌≡◌, ◌↔◌, ℕ, ◌^◌, ◌<◌, ◌≤◌, length, Some, None, IsSome, IsNone, IfSome, IfOk, IfErr, IsErrOf};
 ghost use Rattle.basis.specs.Numbers.{whole_of, number_of, within};
 ghost use Rattle.basis.specs.Inner.Numbers.{begins_plainly};
-ghost use Rattle.basis.specs.declared.numbers.TheConstants.{MAX_NUMBER, MAX_MOMENT, MAX_LIMIT};
+ghost use Rattle.basis.specs.declared.numbers.TheConstants.{MAX_NUMBER, MAX_MOMENT, MAX_LIMIT, MAX_KEPT, FIRST_KEPT};
 
 use crate::memory::Unfit;
 use std::marker::Model;
@@ -18,6 +18,12 @@ pub const MAX_LIMIT: u32 = 100_000;
 
 /// The limit that an organization has at first.
 pub const FIRST_LIMIT: u32 = 200;
+
+/// The most versions that a workspace may be set to keep.
+pub const MAX_KEPT: u32 = 1_000;
+
+/// How many versions a workspace keeps that isn't set to keep another number.
+pub const FIRST_KEPT: u32 = 100;
 
 /// The number of a version or a run: 1 to 1,000,000,000.
 #[derive(Clone, Copy, PartialEq, Eq)]
@@ -134,6 +140,51 @@ impl Limit {
     pub fn get(self) -> u32
         ensures value { result ≡ self }
         ensures most { result ≤ MAX_LIMIT }
+    {
+        self.value
+    }
+}
+
+/// How many versions a workspace keeps: 1 to 1,000.
+#[derive(Clone, Copy, PartialEq, Eq)]
+pub struct KeepCount {
+    value: u32,
+}
+
+impl Model for KeepCount {
+    ghost Value = { ℕ };
+
+    ghost view = { λ k. k.value };
+
+    ghost invariant = { λ k. (1 ≤ k.value) × (k.value ≤ MAX_KEPT) };
+
+    ghost inverse = { λ n. record { value = n } };
+}
+
+impl KeepCount {
+    pub fn new(value: u64) -> Option<KeepCount>
+        ensures { result ≡ within 1 MAX_KEPT value }
+    {
+        if 1 <= value && value <= MAX_KEPT as u64 {
+            Some(KeepCount {
+                value: value as u32,
+            })
+        } else {
+            None
+        }
+    }
+
+    /// What a workspace keeps that isn't set to keep another number: 100.
+    pub fn first() -> KeepCount
+        ensures { result ≡ FIRST_KEPT }
+    {
+        KeepCount { value: FIRST_KEPT }
+    }
+
+    pub fn get(self) -> u32
+        ensures value { result ≡ self }
+        ensures least { 1 ≤ result }
+        ensures most { result ≤ MAX_KEPT }
     {
         self.value
     }

@@ -4,7 +4,7 @@ ghost use Rattle.basis.specs.Listings.{listing_of};
 
 use crate::memory::Down;
 use crate::names::{LockId, WsName};
-use crate::numbers::{Moment, Number};
+use crate::numbers::{KeepCount, Moment, Number};
 use crate::runs::{RunAction, RunStatus};
 use crate::texts::{Items, Text};
 use std::alloc::Global;
@@ -27,6 +27,17 @@ pub struct StateHead {
 #[derive(Clone, Copy, PartialEq, Eq)]
 pub struct Settings {
     pub auto_apply: bool,
+    /// How many versions are kept: as one more comes, the oldest go.
+    pub keep_versions: KeepCount,
+}
+
+/// What the document of a workspace's settings asks.
+#[derive(Clone, Copy, PartialEq, Eq)]
+pub struct SettingsAsk {
+    pub auto_apply: bool,
+    /// How many versions are to be kept. Without it a new workspace keeps 100, and one that is there
+    /// what it kept.
+    pub keep_versions: Option<KeepCount>,
 }
 
 /// What is told of a workspace; nothing changes by it.

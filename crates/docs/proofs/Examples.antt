@@ -87,15 +87,15 @@ no_id : lock_id_of (codes "{\"id\":\"x1\"}") ≡ None
 unfolding serde_json_on_literals chars is_utf8 state_head lock_id_of settings_of run_ask
 no_id = refl
 
-no_settings : settings_of [] ≡ Some (make_settings false)
+no_settings : settings_of [] ≡ Some (make_settings false None)
 unfolding serde_json_on_literals chars is_utf8 state_head lock_id_of settings_of run_ask
 no_settings = refl
 
-settings : settings_of (codes "{\"auto_apply\":true,\"x\":2}") ≡ Some (make_settings true)
+settings : settings_of (codes "{\"auto_apply\":true,\"x\":2}") ≡ Some (make_settings true None)
 unfolding serde_json_on_literals chars is_utf8 state_head lock_id_of settings_of run_ask
 settings = refl
 
-empty_settings : settings_of (codes "{}") ≡ Some (make_settings false)
+empty_settings : settings_of (codes "{}") ≡ Some (make_settings false None)
 unfolding serde_json_on_literals chars is_utf8 state_head lock_id_of settings_of run_ask
 empty_settings = refl
 
@@ -106,6 +106,34 @@ settings_of_a_list = refl
 flag_is_a_number : settings_of (codes "{\"auto_apply\":1}") ≡ None
 unfolding serde_json_on_literals chars is_utf8 state_head lock_id_of settings_of run_ask
 flag_is_a_number = refl
+
+kept : settings_of (codes "{\"keep_versions\":2}") ≡ Some (make_settings false (Some 2))
+unfolding serde_json_on_literals chars is_utf8 state_head lock_id_of settings_of run_ask
+kept = refl
+
+kept_at_most : settings_of (codes "{\"keep_versions\":1000}") ≡ Some (make_settings false (Some 1_000))
+unfolding serde_json_on_literals chars is_utf8 state_head lock_id_of settings_of run_ask
+kept_at_most = refl
+
+none_kept : settings_of (codes "{\"keep_versions\":0}") ≡ None
+unfolding serde_json_on_literals chars is_utf8 state_head lock_id_of settings_of run_ask
+none_kept = refl
+
+too_many_kept : settings_of (codes "{\"keep_versions\":1001}") ≡ None
+unfolding serde_json_on_literals chars is_utf8 state_head lock_id_of settings_of run_ask
+too_many_kept = refl
+
+fraction_kept : settings_of (codes "{\"keep_versions\":2.0}") ≡ None
+unfolding serde_json_on_literals chars is_utf8 state_head lock_id_of settings_of run_ask
+fraction_kept = refl
+
+exponent_kept : settings_of (codes "{\"keep_versions\":1e0}") ≡ None
+unfolding serde_json_on_literals chars is_utf8 state_head lock_id_of settings_of run_ask
+exponent_kept = refl
+
+kept_is_null : settings_of (codes "{\"keep_versions\":null}") ≡ None
+unfolding serde_json_on_literals chars is_utf8 state_head lock_id_of settings_of run_ask
+kept_is_null = refl
 
 a_space : settings_of (codes " ") ≡ None
 unfolding serde_json_on_literals chars is_utf8 state_head lock_id_of settings_of run_ask

@@ -40,10 +40,11 @@ abbrev pub ws_object : Settings → Data → List ℕ → Data → Data
 ws_object settings holder name version = object (
     member (codes "auto_apply") (boolean settings.auto_apply) (
     member (codes "holder") holder (
+    member (codes "keep_versions") (number (unsigned settings.keep_versions)) (
     member (codes "name") (string name) (
-    member (codes "version") version no_members))))
+    member (codes "version") version no_members)))))
 
--- auto-apply, holder, name and the number of the newest version
+-- auto-apply, holder, how many versions are kept, name and the number of the newest version
 abbrev pub ws_value : WsRow → Data
 ws_value row = ws_object row.settings (holder_value row.holder) row.name (number_value row.version)
 

@@ -8,7 +8,8 @@ use Rattle.serde_json.specs.Find.{get_member, as_bool, as_number, as_object, as_
 use Rattle.basis.specs.Names.{has_length, is_free_id}
 use Rattle.basis.specs.Numbers.{within}
 use Rattle.basis.specs.declared.rows.RunAsk.{RunAsk}
-use Rattle.basis.specs.declared.rows.Settings.{Settings}
+use Rattle.basis.specs.declared.numbers.TheConstants.{MAX_KEPT}
+use Rattle.basis.specs.declared.rows.SettingsAsk.{SettingsAsk}
 use Rattle.basis.specs.declared.rows.StateHead.{StateHead}
 use Rattle.basis.specs.declared.rows.TheConstants.{MAX_LINEAGE, MAX_SERIAL}
 use Rattle.docs.specs.declared.documents.TheConstants.{MAX_SMALL, MAX_KEY, MAX_MESSAGE}
@@ -66,16 +67,23 @@ abbrev pub small_object_of : List ℕ → Option Members
 small_object_of [] = Some no_members
 small_object_of (b ∷ bytes) = if nat_le (length (b ∷ bytes)) MAX_SMALL then object_of (b ∷ bytes) else None
 
--- the settings of a workspace
-abbrev pub make_settings : Bool → Settings
-make_settings auto_apply = record { auto_apply = auto_apply }
+-- a whole number that the reading holds as one, so neither 2.0 nor 1e0: 1 to MAX_KEPT; the key may be absent
+abbrev pub keep_of : Option Data → Option (Option ℕ)
+keep_of None = Some None
+keep_of (Some value) = option_map Some (option_and_then (within 1 MAX_KEPT) (option_and_then as_u64 (as_number value)))
 
--- auto-apply, where it is there
-abbrev pub settings_in : Members → Option Settings
-settings_in members = option_map make_settings (flag_of (get_member (codes "auto_apply") members))
+-- what is set of a workspace
+abbrev pub make_settings : Bool → Option ℕ → SettingsAsk
+make_settings auto_apply keep_versions = record { auto_apply = auto_apply; keep_versions = keep_versions }
 
--- a workspace's settings
-unfoldable pub settings_of : List ℕ → Option Settings
+-- auto-apply and how many versions are to be kept, where they are there
+abbrev pub settings_in : Members → Option SettingsAsk
+settings_in members =
+    option_and_then (λ auto_apply. option_map (make_settings auto_apply) (keep_of (get_member (codes "keep_versions") members)))
+    (flag_of (get_member (codes "auto_apply") members))
+
+-- what is asked of a workspace's settings
+unfoldable pub settings_of : List ℕ → Option SettingsAsk
 settings_of bytes = option_and_then settings_in (small_object_of bytes)
 
 -- a text of 1 to MAX_KEY bytes; the key may be absent

@@ -5,7 +5,8 @@ use Rattle.serde_json.specs.Data.{Data, boolean, number, unsigned, string, objec
 use Rattle.serde_json.specs.Read.{read}
 use Rattle.serde_json.specs.Find.{get_member}
 use Rattle.basis.specs.declared.rows.RunAsk.{RunAsk}
-use Rattle.basis.specs.declared.rows.Settings.{Settings}
+use Rattle.basis.specs.declared.numbers.TheConstants.{MAX_KEPT}
+use Rattle.basis.specs.declared.rows.SettingsAsk.{SettingsAsk}
 use Rattle.basis.specs.declared.rows.StateHead.{StateHead}
 use Rattle.basis.specs.declared.names.TheConstants.{MAX_LOCK_ID}
 use Rattle.basis.specs.declared.rows.TheConstants.{MAX_LINEAGE}
@@ -49,11 +50,18 @@ abbrev pub IsSmallObject : List ℕ → Members → Type 0
 IsSmallObject [] members = members ≡ no_members
 IsSmallObject (b ∷ bytes) members = IsObject (b ∷ bytes) members × (length (b ∷ bytes) ≤ MAX_SMALL)
 
+-- absent, or a whole number of 1 to MAX_KEPT
+abbrev pub IsKeep : Option Data → Option ℕ → Type 0
+IsKeep None keep = keep ≡ None
+IsKeep (Some value) None = ⊥
+IsKeep (Some value) (Some keep) = (value ≡ number (unsigned keep)) × (1 ≤ keep) × (keep ≤ MAX_KEPT)
+
 -- settings: auto-apply is off where it is absent
-pub record IsSettings (bytes : List ℕ) (settings : Settings) : Type 0 where
+pub record IsSettings (bytes : List ℕ) (settings : SettingsAsk) : Type 0 where
   pub members : Members
   pub document : IsSmallObject bytes members
   pub auto_apply : IsFlag (get_member (codes "auto_apply") members) settings.auto_apply
+  pub keep_versions : IsKeep (get_member (codes "keep_versions") members) settings.keep_versions
 
 -- absent, or a text of 1 to MAX_KEY bytes
 abbrev pub IsKey : Option Data → Option (List ℕ) → Type 0
@@ -81,7 +89,7 @@ LockLaw bytes = (id : List ℕ) → (lock_id_of bytes ≡ Some id) ↔ IsLock by
 
 -- `settings_of` gives settings
 abbrev pub SettingsLaw : List ℕ → Type 0
-SettingsLaw bytes = (settings : Settings) → (settings_of bytes ≡ Some settings) ↔ IsSettings bytes settings
+SettingsLaw bytes = (settings : SettingsAsk) → (settings_of bytes ≡ Some settings) ↔ IsSettings bytes settings
 
 -- `run_ask` gives what runs ask
 abbrev pub AskLaw : List ℕ → Type 0

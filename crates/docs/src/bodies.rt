@@ -89,6 +89,7 @@ fn ws_object(
     json!(in alloc; {
         "auto_apply": settings.auto_apply,
         "holder": holder,
+        "keep_versions": settings.keep_versions.get(),
         "name": name,
         "version": version,
     })

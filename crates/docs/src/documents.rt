@@ -1,14 +1,14 @@
 //! States, lock information, settings and what creates a run, as `serde_json` reads them.
-ghost use Rattle.std.specs.Prelude.{◌≡◌, ◌<◌, length, IfOk, OnOk, Err, IsErrOf, IsSome, Some, None, option_and_then, codes};
+ghost use Rattle.std.specs.Prelude.{◌≡◌, ◌≢◌, ◌<◌, length, IfOk, OnOk, OnErr, Err, IsErrOf, IsSome, Some, None, option_and_then, codes};
 ghost use Rattle.serde_json.specs.Data.{Members, object};
 ghost use Rattle.serde_json.specs.Find.{get};
 ghost use Rattle.serde_json.specs.View.{view};
 ghost use Rattle.docs.specs.Readings.{StateLaw, LockLaw, SettingsLaw, AskLaw};
-ghost use Rattle.docs.specs.Documents.{object_of, optional_text, state_head, lock_id_of, flag_of, small_object_of, settings_of, key_of, run_ask};
+ghost use Rattle.docs.specs.Documents.{object_of, optional_text, state_head, lock_id_of, flag_of, small_object_of, keep_of, settings_of, key_of, run_ask};
 
 use crate::faults::DocFault;
 use crate::heads::read_head;
-use basis::{LockId, RunAsk, Settings, StateHead, Text, is_free_id};
+use basis::{KeepCount, LockId, RunAsk, SettingsAsk, StateHead, Text, is_free_id};
 use json::Scratch;
 use serde_json::{Map, Value};
 use std::alloc::Global;
@@ -23,7 +23,7 @@ pub const MAX_KEY: usize = 64;
 pub const MAX_MESSAGE: usize = 1_000;
 
 /// What custody reads of a Terraform state: a JSON object with `serial`, and with `lineage` or without.
-#[tactic(auto, using(crate::proofs::Heading::head_found, crate::proofs::Heading::none_found, crate::proofs::Heading::no_serial_found, crate::proofs::Heading::no_lineage_found, crate::proofs::Objects::some_bytes))]
+#[tactic(auto, using(crate::proofs::Heading::none_found, crate::proofs::Heading::no_serial_found, crate::proofs::Heading::no_lineage_found, crate::proofs::Objects::some_bytes))]
 pub fn read_state(alloc: Global, bytes: &[u8]) -> Result<StateHead, DocFault>
     ensures ok { IfOk result (λ head. state_head bytes.now ≡ Some head) }
     ensures bad { IsErrOf result DocFault.Bad → state_head bytes.now ≡ None }
@@ -57,9 +57,10 @@ pub fn read_lock(alloc: Global, bytes: &[u8]) -> Result<LockId, DocFault>
     }
 }
 
-/// The settings of a workspace: no bytes, or a JSON object with `auto_apply` or without.
+/// What is asked of a workspace's settings: no bytes, or a JSON object with `auto_apply` and
+/// `keep_versions`, each or none.
 #[tactic(auto, unfolding(crate::specs::Documents::settings_of))]
-pub fn read_settings(alloc: Global, bytes: &[u8]) -> Result<Settings, DocFault>
+pub fn read_settings(alloc: Global, bytes: &[u8]) -> Result<SettingsAsk, DocFault>
     ensures ok { IfOk result (λ settings. settings_of bytes.now ≡ Some settings) }
     ensures bad { IsErrOf result DocFault.Bad → settings_of bytes.now ≡ None }
     ensures down { IsErrOf result DocFault.Down → 0 < length bytes.now }
@@ -67,10 +68,14 @@ pub fn read_settings(alloc: Global, bytes: &[u8]) -> Result<Settings, DocFault>
     ensures law { SettingsLaw bytes.now }
 {
     let value = read_small_object(alloc, bytes)?;
-    match read_flag(&value, "auto_apply") {
-        Some(auto_apply) => Ok(Settings { auto_apply }),
-        None => Err(DocFault::Bad),
-    }
+    let Some(auto_apply) = read_flag(&value, "auto_apply") else {
+        return Err(DocFault::Bad);
+    };
+    let keep_versions = read_keep(&value)?;
+    Ok(SettingsAsk {
+        auto_apply,
+        keep_versions,
+    })
 }
 
 /// What the creation of a run asks: no bytes, or a JSON object with `key`, `message` and `plan_only`, each or none.
@@ -125,6 +130,21 @@ fn read_small_object(alloc: Global, bytes: &[u8]) -> Result<Value, DocFault>
         return Err(DocFault::Bad);
     }
     read_object(alloc, bytes)
+}
+
+// How many versions are to be kept, which may be absent.
+fn read_keep(value: &Value) -> Result<Option<KeepCount>, DocFault>
+    ensures ok { IfOk result (λ keep. keep_of (get (codes "keep_versions") (view value.now)) ≡ Some keep) }
+    ensures bad { OnErr result (keep_of (get (codes "keep_versions") (view value.now)) ≡ None) }
+    ensures never_down { result ≢ Err DocFault.Down }
+{
+    let Some(found) = value.get("keep_versions") else {
+        return Ok(None);
+    };
+    match found.as_u64().and_then(KeepCount::new) {
+        Some(count) => Ok(Some(count)),
+        None => Err(DocFault::Bad),
+    }
 }
 
 // A run's key, which may be absent.

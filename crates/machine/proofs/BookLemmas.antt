@@ -1,27 +1,33 @@
 -- What the book of a workspace rests on: who makes a version, which runs wait, and what comes after many acts.
-use Rattle.std.proofs.Common.{◌≡◌, ◌⊎◌, inl, inr, ℕ, ◌<◌, ◌≤◌, ◌==◌, Bool, true, false, cond, List, [], ◌∷◌, ◌++◌, length, filter, Option, Some, None, IsSomeAnd, refl, sym, ap, subst, ◌∙◌, arith, eqb-true}
+use Rattle.std.proofs.Common.{◌≡◌, ◌⊎◌, inl, inr, ℕ, ◌<◌, ◌≤◌, ◌==◌, Bool, true, false, cond, List, [], ◌∷◌, ◌++◌, length, filter, Option, Some, None, IsSome, IsSomeAnd, refl, sym, ap, subst, ◌∙◌, arith, eqb-true, eq-eqb}
 use Rattle.std.specs.List.{AllByRecursion}
 use Rattle.basis.specs.declared.refusals.Refusal.{Refusal}
 use Rattle.basis.specs.declared.refusals.Refusal.TheVariants.{BadMessage, TwoTokens, BadQuery, BadDigest, BadState, BadLock, BadBody, NoToken, BadToken, NeedWrite, NeedAdmin, NoRoute, NotFound, NoMethod, NotHeld, NotApplying, OtherLineage, OldSerial, WrongState, HeldByRun, OpenRuns, OverLimit, Locked, NoLength, TooLarge, HeadTooLarge, Unavailable}
+use Rattle.basis.specs.Runs.{is_open}
+use Rattle.basis.specs.declared.rows.Settings.{Settings}
 use Rattle.basis.specs.declared.rows.StateHead.{StateHead}
-use Rattle.machine.specs.Laws.{Rises, holds, IsHolder, IsLawful}
+use Rattle.machine.specs.Laws.{Rises, holds, is_active, is_nobody, IsHolder, IsRun, IsLawful}
 use Rattle.machine.specs.Ranges.{IsInRange, IsMoment}
 use Rattle.machine.specs.Records.{there}
-use Rattle.machine.specs.Workspaces.{run_of, holder_status}
+use Rattle.machine.specs.Workspaces.{run_of, holder_status, open_runs}
+use Rattle.machine.specs.Units.{version_of}
 use Rattle.machine.specs.Writing.{may_write}
 use Rattle.machine.specs.Succession.{Succession, first, same, other_lineage, old_serial, next, succession}
 use Rattle.machine.specs.Settling.{is_waiting, first_waiting, to_start, started_if, settled}
-use Rattle.machine.specs.Rules.{done, rules, refused_by, by_may_write, by_succession, numbered_update, number_left, with_settings, purge, purged, locked, released}
-use Rattle.machine.specs.Custody.{IsRefusal, WritesWith}
+use Rattle.machine.specs.Rules.{done, rules, refused_by, by_may_write, by_succession, numbered_update, number_left, settings_for, with_settings, put, purge, purged, locked, released}
+use Rattle.machine.specs.Custody.{IsRefusal, IsUnlocked, IsWriter, WritesWith}
 use Rattle.machine.specs.Queue.{is_active_run, Starts, WaitedOrIsNew, AreInRange, Leads}
 use Rattle.machine.specs.declared.acts.Act.{Act}
 use Rattle.machine.specs.declared.acts.Act.TheVariants.{Look, PutWorkspace, DeleteWorkspace, UpdateState, PurgeState, Lock as LockAct, Unlock, ForceUnlock, MakeRun, ReportRun}
 use Rattle.machine.specs.declared.records.Holder.{Holder}
 use Rattle.machine.specs.declared.records.Holder.TheVariants.{Nobody, Lock, Run as HoldingRun}
 use Rattle.machine.specs.declared.records.Run.{Run}
+use Rattle.machine.specs.declared.records.Version.{Version}
 use Rattle.machine.specs.declared.records.Workspace.{Workspace}
-use Rattle.machine.proofs.CustodyLemmas.{lock_becomes, unlock_becomes, force_becomes, purge_becomes, Unlocks}
+use Rattle.machine.proofs.StepLemmas.{ended_is_idle}
+use Rattle.machine.proofs.CustodyLemmas.{held_versions_change_by_the_id, workspaces_go_by_delete, lock_becomes, unlock_becomes, force_becomes, purge_becomes, Unlocks}
 use Rattle.machine.proofs.DeletionLemmas.{delete_left}
+use Rattle.machine.proofs.PuttingLemmas.{put_becomes}
 use Rattle.machine.proofs.RunLemmas.{run_of-number, all_found}
 use Rattle.machine.proofs.RunRulings.{IsMade, IsReported, comes_to, make_comes, report_comes}
 use Rattle.machine.proofs.VersionLemmas.{numbers_rise}
@@ -69,6 +75,10 @@ purge_next : (w v : Workspace) (after : Option Workspace) → after ≡ Some v �
 purge_next w v after e (inl h) = left_next w v (sym h ∙ e)
 purge_next w v after e (inr h) = settled_next (purged w) v (sym h ∙ e)
 
+put_next : (settings : Settings) (w v : Workspace) (after : Option Workspace) → after ≡ Some v → (after ≡ Some w) ⊎ (after ≡ Some (settled (with_settings w settings))) → v.next_version ≡ w.next_version
+put_next settings w v after e (inl h) = left_next w v (sym h ∙ e)
+put_next settings w v after e (inr h) = settled_next (with_settings w settings) v (sym h ∙ e)
+
 lock_next : (w v : Workspace) (id text : List ℕ) (after : Option Workspace) → after ≡ Some v → (after ≡ Some w) ⊎ (after ≡ Some (locked id text w)) → v.next_version ≡ w.next_version
 lock_next w v id text after e (inl h) = left_next w v (sym h ∙ e)
 lock_next w v id text after e (inr h) = left_next (locked id text w) v (sym h ∙ e)
@@ -84,7 +94,9 @@ run_next w v changed after stays e (inr h) = settled_next h.0 v (sym h.2 ∙ e) 
 
 -- a version is made by an accepted update alone
 pub rises_by_write : (act : Act) (now : ℕ) (w v : Workspace) → (rules act now (there w)).left ≡ Some v → w.next_version < v.next_version → IsAcceptedWrite act now w
-rises_by_write (PutWorkspace settings) now w v e lt = none_made w v _ (settled_next (with_settings w settings) v e) lt
+rises_by_write (PutWorkspace ask) now w v e lt =
+    let settings : Settings = settings_for ask (Some w.settings) in
+    none_made w v _ (put_next settings w v (put settings w).left e (put_becomes settings w)) lt
 rises_by_write (UpdateState head text id) now w v e lt = (id, refl, update_accepted w v head text now (may_write w.holder (holder_status w.holder w.runs) id) e lt)
 rises_by_write (Look what) now w v e lt = none_made w v _ (left_next w v e) lt
 rises_by_write DeleteWorkspace now w v e lt = none_made w v _ (left_next w v (delete_left w v e)) lt
@@ -97,6 +109,56 @@ rises_by_write (MakeRun ask) now w v e lt =
     none_made w v _ (run_next w v (IsMade w ask now) _ (λ u is. ap (λ (x : Workspace). x.next_version) is.2) e (comes_to (make_comes w ask now))) lt
 rises_by_write (ReportRun n action) now w v e lt =
     none_made w v _ (run_next w v (IsReported w n action) _ (λ u is. ap (λ (x : Workspace). x.next_version) is.is) e (comes_to (report_comes w n action))) lt
+
+-- ---- who takes a version away
+
+-- while somebody holds, an accepted update or purge alone
+pub loses_by_write : (act : Act) (now : ℕ) (w v : Workspace) (n : ℕ) (u : Version) → is_nobody w.holder ≡ false → (rules act now (there w)).left ≡ Some v
+    → version_of n w.versions ≡ Some u → version_of n v.versions ≡ None → IsAcceptedWrite act now w
+loses_by_write act now w v n u somebody e was gone = by_case (held_versions_change_by_the_id act now w v somebody e)
+  where
+    by_case : (v.versions ≡ w.versions) ⊎ ((id : Option (List ℕ)) × WritesWith act id × ((rules act now (there w)).answer ≡ done) × IsWriter w.holder (holder_status w.holder w.runs) id) → IsAcceptedWrite act now w
+    by_case (inl stays) = absurd (let none : ⊥ = cc (sym was ∙ ap (version_of n) (sym stays) ∙ gone) in none)
+    by_case (inr (id, writes, is, writer)) = (id, writes, is)
+
+-- and the workspace stays: a run that holds is open
+open_found : (n : ℕ) (runs : List Run) (r : Run) → run_of n runs ≡ Some r → is_open r.status ≡ true → 1 ≤ open_runs runs
+open_found n [] r found is = absurd (let none : ⊥ = cc in none)
+open_found n (x ∷ runs) r found is = by_tests (x.number == n) (is_open x.status) refl found (λ rest. open_found n runs r rest is)
+  where
+    one : Some x ≡ Some r → x ≡ r
+    one e = cc
+
+    by_tests : (b c : Bool) → is_open x.status ≡ c → cond b (Some x) (run_of n runs) ≡ Some r → (run_of n runs ≡ Some r → 1 ≤ open_runs runs)
+        → 1 ≤ length (cond c (x ∷ filter (λ (s : Run). is_open s.status) runs) (filter (λ (s : Run). is_open s.status) runs))
+    by_tests b true o found more = omega arith
+    by_tests true false o found more = absurd (let none : ⊥ = cc (sym o ∙ ap (λ (y : Run). is_open y.status) (one found) ∙ is) in none)
+    by_tests false false o found more = more found
+
+run_is_open : (w : Workspace) (n : ℕ) → IsLawful w → w.holder ≡ HoldingRun n → 1 ≤ open_runs w.runs
+run_is_open w n lawful at = by_run (run_of n w.runs) refl (subst (λ (h : Holder). IsHolder h w.runs) at lawful.runs.held)
+  where
+    opened : (r : Run) (b : Bool) → is_open r.status ≡ b → is_active r.status ≡ true → b ≡ true
+    opened r true o active = refl
+    opened r false o active = absurd (let none : ⊥ = cc (sym (ended_is_idle r.status o) ∙ active) in none)
+
+    by_run : (o : Option Run) → run_of n w.runs ≡ o → IsSomeAnd o (λ r. r.plan_only ≡ false) → 1 ≤ open_runs w.runs
+    by_run None found queued = absurd queued
+    by_run (Some r) found queued =
+        let is : IsRun (HoldingRun n) r = all_found (IsRun (HoldingRun n)) n w.runs r (subst (λ (h : Holder). AllByRecursion (IsRun h) w.runs) at lawful.runs.each) found in
+        open_found n w.runs r found (opened r (is_open r.status) refl (is.active queued ∙ eq-eqb n r.number (sym (run_of-number n w.runs r found))))
+
+pub held_stays : (act : Act) (now : ℕ) (w : Workspace) → IsLawful w → is_nobody w.holder ≡ false → IsSome (rules act now (there w)).left
+held_stays act now w lawful somebody = by_left (rules act now (there w)).left refl
+  where
+    none_goes : (rules act now (there w)).left ≡ None → (h : Holder) → w.holder ≡ h → is_nobody h ≡ false → ⊥
+    none_goes e Nobody at b = let none : ⊥ = cc in none
+    none_goes e (Lock id text) at b = subst IsUnlocked at (workspaces_go_by_delete act now w e).1
+    none_goes e (HoldingRun n) at b = omega (arith, (workspaces_go_by_delete act now w e).2, run_is_open w n lawful at)
+
+    by_left : (o : Option Workspace) → (rules act now (there w)).left ≡ o → IsSome o
+    by_left (Some v) e = refl
+    by_left None e = absurd (none_goes e w.holder refl somebody)
 
 -- an update, or a purge, that isn't refused is answered as done
 refuses : (refusal : Refusal) (h : Holder) → IsRefusal (refused_by refusal h)

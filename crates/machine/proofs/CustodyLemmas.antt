@@ -1,11 +1,12 @@
 -- Custody: writes under a lock carry its ID, a lock holds until it is released, and repeats change nothing.
-use Rattle.std.proofs.Common.{◌≡◌, ◌⊎◌, inl, inr, ℕ, zero, suc, ◌-◌, ◌≤◌, Bool, true, false, cond, List, [], ◌∷◌, ◌++◌, length, drop, Option, Some, None, option_map, is_some, IsSome, nat_lt, refl, sym, ap, subst, ◌∙◌, arith, length-append, eq-eqb}
+use Rattle.std.proofs.Common.{◌≡◌, ◌⊎◌, inl, inr, ℕ, ◌-◌, Bool, true, false, cond, List, [], ◌∷◌, ◌++◌, length, Option, Some, None, option_map, is_some, IsSome, nat_lt, refl, sym, ap, subst, ◌∙◌, arith, eq-eqb}
 use Rattle.std.specs.Str.{bytes_eq}
 use Rattle.std.proofs.lemmas.Slice.Eq.{bytes_eq-Decides}
 use Rattle.basis.specs.declared.refusals.Refusal.{Refusal}
 use Rattle.basis.specs.declared.rows.Settings.{Settings}
+use Rattle.basis.specs.declared.rows.SettingsAsk.{SettingsAsk}
 use Rattle.basis.specs.declared.rows.StateHead.{StateHead}
-use Rattle.machine.specs.Workspaces.{newest, new_workspace, holder_status, max_versions, max_open_runs, run_of, keyed_run, open_runs}
+use Rattle.machine.specs.Workspaces.{newest, last_of, new_workspace, holder_status, max_open_runs, run_of, keyed_run, open_runs}
 use Rattle.machine.specs.RunSteps.{is_last}
 use Rattle.machine.specs.Inner.Decisions.{begun_by}
 use Rattle.machine.proofs.LawLemmas.{number_left-is}
@@ -19,9 +20,13 @@ use Rattle.machine.specs.declared.records.Run.{Run}
 use Rattle.machine.specs.Writing.{may_write}
 use Rattle.machine.specs.Settling.{first_waiting, to_start, started, started_if, settled}
 use Rattle.machine.specs.Succession.{Succession, first, same, other_lineage, old_serial, next, succession}
-use Rattle.machine.specs.Rules.{Outcome, refused, Ruling, rules_missing, rules, refused_by, by_may_write, by_succession, numbered_update, number_left, with_version, with_settings, done_with, done_already, purge, purged, lock, locked, unlock, released, is_released, force_unlock, new_run, with_run, numbered_run, make_run, reported, frees, with_report, report, delete}
+use Rattle.machine.specs.Rules.{Outcome, refused, done, Ruling, rules_missing, rules, refused_by, by_may_write, by_succession, numbered_update, number_left, with_version, settings_for, with_settings, put, done_with, done_already, purge, purged, lock, locked, unlock, released, is_released, force_unlock, new_run, with_run, numbered_run, make_run, reported, frees, with_report, report, delete}
 use Rattle.machine.proofs.DeletionLemmas.{IsKept, IsGone, delete_comes, delete_left, delete_again, locked_stays}
-use Rattle.machine.specs.Custody.{VersionsChangeByTheId, WorkspacesGoByDelete, WorkspacesBeginAnew, AcceptedActsComeAgain, IsAnew, IsUnlocked, HoldsUntilReleased, LockedWorkspacesStay, RepeatsChangeNothing, IsRefusal}
+use Rattle.machine.proofs.CutLemmas.{last_length}
+use Rattle.machine.proofs.PuttingLemmas.{IsSet, put_comes, put_becomes, held_stay, put_once, asked_once}
+use Rattle.machine.proofs.RefusalLemmas.{writes_carry_the_id}
+use Rattle.machine.specs.Laws.{is_nobody}
+use Rattle.machine.specs.Custody.{WritesWith, IsWriter, HeldVersionsChangeByTheId, VersionsChangeByTheId, WorkspacesGoByDelete, WorkspacesBeginAnew, AcceptedActsComeAgain, IsAnew, IsUnlocked, HoldsUntilReleased, LockedWorkspacesStay, RepeatsChangeNothing, IsRefusal}
 use Rattle.machine.specs.Records.{Seen, missing, there}
 use Rattle.machine.specs.Effects.{effect}
 use Rattle.machine.proofs.MissingLemmas.{IsPut, Misses, put_or_missed}
@@ -42,9 +47,9 @@ settled_twice : (w : Workspace) → settled (settled w) ≡ settled w
 settled_twice w = twice w (to_start w.holder (first_waiting w.runs)) refl
 
 -- settling keeps settings and versions
-settings_stay : (w : Workspace) (settings : Settings) (o : Option ℕ) → with_settings (started_if o (with_settings w settings)) settings ≡ started_if o (with_settings w settings)
-settings_stay w settings None = refl
-settings_stay w settings (Some n) = refl
+settings_stay : (w : Workspace) (o : Option ℕ) → (started_if o w).settings ≡ w.settings
+settings_stay w None = refl
+settings_stay w (Some n) = refl
 
 pub versions_stay : (w : Workspace) (o : Option ℕ) → (started_if o w).versions ≡ w.versions
 versions_stay w None = refl
@@ -54,22 +59,16 @@ none_stay : (w : Workspace) (o : Option ℕ) → purged (started_if o (purged w)
 none_stay w None = refl
 none_stay w (Some n) = refl
 
--- the newest of versions of which the oldest went
+-- the newest, behind others
 newest_push : (vs : List Version) (v : Version) → newest (vs ++ v ∷ []) ≡ Some v
 newest_push [] v = refl
 newest_push (u ∷ []) v = refl
 newest_push (u ∷ x ∷ vs) v = newest_push (x ∷ vs) v
 
-newest_kept : (k : ℕ) (vs : List Version) (v : Version) → k ≤ length vs → newest (drop k (vs ++ v ∷ [])) ≡ Some v
-newest_kept zero vs v h = newest_push vs v
-newest_kept (suc k) [] v h = absurd (omega arith)
-newest_kept (suc k) (u ∷ vs) v h = newest_kept k vs v (omega arith)
-
 pub newest_with : (w : Workspace) (n : ℕ) (head : StateHead) (text : List ℕ) (now : ℕ)
     → newest (with_version w n head text now).versions ≡ Some (record { number = n; serial = head.serial; lineage = head.lineage; created = now; text = text })
 newest_with w n head text now =
-    let v : Version = record { number = n; serial = head.serial; lineage = head.lineage; created = now; text = text } in
-    newest_kept (length (w.versions ++ v ∷ []) - max_versions) w.versions v (rw length-append (omega arith))
+    newest_push (last_of (w.settings.keep_versions - 1) w.versions) (record { number = n; serial = head.serial; lineage = head.lineage; created = now; text = text })
 
 bytes_same : (a : List ℕ) → bytes_eq a a ≡ true
 bytes_same a = (bytes_eq-Decides a a).1 refl
@@ -287,24 +286,42 @@ report_again n action now later w = by_becoming (comes_to (report_comes w n acti
         (told_once (settled u) (begun_by start (reported n action is.status is.run)) (taken start is.status is.run is.there) (last start is.status is.run is.there))
 
 -- a workspace that was made by PUT
-made_again : (settings : Settings) (now later : ℕ) (v : Workspace) → (rules (PutWorkspace settings) now (missing true)).left ≡ Some v → (rules (PutWorkspace settings) later (there v)).left ≡ Some v
-made_again settings now later v e = let same_one : new_workspace settings ≡ v = cc e in subst (λ (x : Workspace). (rules (PutWorkspace settings) later (there x)).left ≡ Some x) same_one refl
+made_again : (ask : SettingsAsk) (now later : ℕ) (v : Workspace) → (rules (PutWorkspace ask) now (missing true)).left ≡ Some v → (rules (PutWorkspace ask) later (there v)).left ≡ Some v
+made_again ask now later v e =
+    let settings : Settings = settings_for ask None in
+    let same_one : new_workspace settings ≡ v = cc e in
+    subst (λ (x : Workspace). (rules (PutWorkspace ask) later (there x)).left ≡ Some x) same_one
+    (put_once (settings_for ask (Some settings)) (new_workspace settings) (sym (asked_once ask None)) (omega arith) refl)
+
+-- one that was there: what goes is gone
+put_again : (ask : SettingsAsk) (now later : ℕ) (w : Workspace)
+    → ((rules (PutWorkspace ask) now (there w)).left ≡ Some w) ⊎ ((rules (PutWorkspace ask) now (there w)).left ≡ Some (settled (with_settings w (settings_for ask (Some w.settings)))))
+    → Again (PutWorkspace ask) now later w
+put_again ask now later w (inl h) = again (PutWorkspace ask) now later w w h h
+put_again ask now later w (inr h) =
+    let settings : Settings = settings_for ask (Some w.settings) in
+    let u : Workspace = with_settings w settings in
+    let start : Option ℕ = to_start u.holder (first_waiting u.runs) in
+    let has : (settled u).settings ≡ settings_for ask (Some (settled u).settings) =
+    settings_stay u start ∙ sym (asked_once ask (Some w.settings)) ∙ ap (λ (x : Settings). settings_for ask (Some x)) (sym (settings_stay u start)) in
+    let keeps : (settings_for ask (Some (settled u).settings)).keep_versions ≡ settings.keep_versions = ap (λ (x : Settings). x.keep_versions) (sym has ∙ settings_stay u start) in
+    let left : length (settled u).versions ≡ length u.versions = ap (λ (vs : List Version). length vs) (versions_stay u start) in
+    again (PutWorkspace ask) now later w (settled u) h
+    (put_once (settings_for ask (Some (settled u).settings)) (settled u) has (omega (arith, keeps, left, last_length settings.keep_versions w.versions)) (settled_twice u))
 
 -- repeats change nothing
 pub repeats : RepeatsChangeNothing
 repeats act now later (missing room) v may e = by_act (put_or_missed act)
   where
-    made : (room : Bool) (settings : Settings) → (rules_missing (PutWorkspace settings) room).left ≡ Some v → (rules (PutWorkspace settings) later (there v)).left ≡ Some v
-    made true settings e = made_again settings now later v e
-    made false settings e = absurd (let none : ⊥ = cc in none)
+    made : (room : Bool) (ask : SettingsAsk) → (rules_missing (PutWorkspace ask) room).left ≡ Some v → (rules (PutWorkspace ask) later (there v)).left ≡ Some v
+    made true ask e = made_again ask now later v e
+    made false ask e = absurd (let none : ⊥ = cc in none)
 
     by_act : IsPut act ⊎ Misses act → (rules act later (there v)).left ≡ Some v
     by_act (inl put) =
         subst (λ (a : Act). (rules a later (there v)).left ≡ Some v) (sym put.1) (made room put.0 (subst (λ (a : Act). (rules_missing a room).left ≡ Some v) put.1 e))
     by_act (inr misses) = absurd (let none : ⊥ = cc (sym (ap (λ (r : Ruling). r.left) (misses room).0) ∙ e) in none)
-repeats (PutWorkspace settings) now later (there w) v may e =
-    let u : Workspace = with_settings w settings in
-    again (PutWorkspace settings) now later w (settled u) refl (ap Some (ap settled (settings_stay w settings (to_start w.holder (first_waiting w.runs))) ∙ settled_twice u)) v e
+repeats (PutWorkspace ask) now later (there w) v may e = put_again ask now later w (put_becomes (settings_for ask (Some w.settings)) w) v e
 repeats (UpdateState head text id) now later (there w) v may e =
     update_again head text id now later w (update_becomes head text w (may_write w.holder (holder_status w.holder w.runs) id)) v e
 repeats (Look what) now later (there w) v may e = refl
@@ -345,15 +362,21 @@ purge_held : (w v : Workspace) (held text : List ℕ) (after : Option Workspace)
 purge_held w v held text after lock (inl h) e = holder_of_same w v held text (sym h ∙ e) lock
 purge_held w v held text after lock (inr h) e = holder_of_same (settled (purged w)) v held text (sym h ∙ e) (holder_stays (purged w) held text lock)
 
+put_held : (settings : Settings) (w v : Workspace) (held text : List ℕ) (after : Option Workspace) → w.holder ≡ Lock held text
+    → (after ≡ Some w) ⊎ (after ≡ Some (settled (with_settings w settings))) → after ≡ Some v → v.holder ≡ Lock held text
+put_held settings w v held text after lock (inl h) e = holder_of_same w v held text (sym h ∙ e) lock
+put_held settings w v held text after lock (inr h) e =
+    holder_of_same (settled (with_settings w settings)) v held text (sym h ∙ e) (holder_stays (with_settings w settings) held text lock)
+
 run_held : (w v : Workspace) (held text : List ℕ) (changed : Workspace → Type 0) (after : Option Workspace) → ((u : Workspace) → changed u → u.holder ≡ Lock held text)
     → w.holder ≡ Lock held text → after ≡ Some v → (after ≡ Some w) ⊎ (u : Workspace) × changed u × (after ≡ Some (settled u)) → v.holder ≡ Lock held text
 run_held w v held text changed after keeps lock e (inl h) = holder_of_same w v held text (sym h ∙ e) lock
 run_held w v held text changed after keeps lock e (inr h) = holder_of_same (settled h.0) v held text (sym h.2 ∙ e) (holder_stays h.0 held text (keeps h.0 h.1))
 
 pub holds_until_released : HoldsUntilReleased
-holds_until_released (PutWorkspace settings) now w v held text e h =
-    let u : Workspace = with_settings w settings in
-    inl (holder_of_same (settled u) v held text h (holder_stays u held text e))
+holds_until_released (PutWorkspace ask) now w v held text e h =
+    let settings : Settings = settings_for ask (Some w.settings) in
+    inl (put_held settings w v held text (put settings w).left e (put_becomes settings w) h)
 holds_until_released (UpdateState head state id) now w v held text e h =
     inl (held_by head state now w v held text (λ t. (rules (UpdateState head state id) t (there w)).left) e (update_becomes head state w (may_write w.holder (holder_status w.holder w.runs) id)) h)
 holds_until_released (Look what) now w v held text e h = inl (holder_of_same w v held text h e)
@@ -377,49 +400,81 @@ versions_of_same u w v e h = let same_one : u ≡ v = cc in ap (λ (x : Workspac
 settled_versions : (u : Workspace) → (settled u).versions ≡ u.versions
 settled_versions u = versions_stay u (to_start u.holder (first_waiting u.runs))
 
--- a write under a lock: it leaves the workspace, or it carried the ID
-kept_or_carried : (given : Option (List ℕ)) (w v : Workspace) (held text : List ℕ) (after : Option Refusal → Option Workspace)
-    → after (Some Refusal.Locked) ≡ Some w → after (may_write (Lock held text) None given) ≡ Some v → (v.versions ≡ w.versions) ⊎ (given ≡ Some held)
-kept_or_carried None w v held text after stays e = inl (versions_of_same w w v (sym stays ∙ e) refl)
-kept_or_carried (Some id) w v held text after stays e = decided (bytes_eq id held) refl e
-  where
-    decided : (b : Bool) → bytes_eq id held ≡ b → after (cond b None (Some Refusal.Locked)) ≡ Some v → (v.versions ≡ w.versions) ⊎ (Some id ≡ Some held)
-    decided true t e = inr (ap Some ((bytes_eq-Decides id held).0 t))
-    decided false t e = inl (versions_of_same w w v (sym stays ∙ e) refl)
+-- an act that writes: it leaves the versions, or it is done
+number_written : (w v : Workspace) (head : StateHead) (text : List ℕ) (now : ℕ) (n : Option ℕ) → (numbered_update n w head text now).left ≡ Some v
+    → (v.versions ≡ w.versions) ⊎ ((numbered_update n w head text now).answer ≡ done)
+number_written w v head text now None e = inl (versions_of_same w w v e refl)
+number_written w v head text now (Some n) e = inr refl
 
-unlocked_versions : (w v : Workspace) (held : List ℕ) (b c : Bool) (o : Outcome)
-    → (cond b (done_with (released held w)) (cond c (done_already w) (effect o (Some w)))).left ≡ Some v → v.versions ≡ w.versions
-unlocked_versions w v held true c o e = versions_of_same (settled (released held w)) w v e (settled_versions (released held w))
-unlocked_versions w v held false true o e = versions_of_same w w v e refl
-unlocked_versions w v held false false o e = versions_of_same w w v e refl
+succession_written : (w v : Workspace) (head : StateHead) (text : List ℕ) (now : ℕ) (s : Succession) → (by_succession s w head text now).left ≡ Some v
+    → (v.versions ≡ w.versions) ⊎ ((by_succession s w head text now).answer ≡ done)
+succession_written w v head text now first e = number_written w v head text now (number_left w.next_version) e
+succession_written w v head text now same e = inr refl
+succession_written w v head text now other_lineage e = inl (versions_of_same w w v e refl)
+succession_written w v head text now old_serial e = inl (versions_of_same w w v e refl)
+succession_written w v head text now next e = number_written w v head text now (number_left w.next_version) e
+
+update_written : (w v : Workspace) (head : StateHead) (text : List ℕ) (now : ℕ) (m : Option Refusal) → (by_may_write m w head text now).left ≡ Some v
+    → (v.versions ≡ w.versions) ⊎ ((by_may_write m w head text now).answer ≡ done)
+update_written w v head text now (Some refusal) e = inl (versions_of_same w w v e refl)
+update_written w v head text now None e = succession_written w v head text now (succession w.versions text head) e
+
+purge_written : (w v : Workspace) (m : Option Refusal) → (purge m w).left ≡ Some v → (v.versions ≡ w.versions) ⊎ ((purge m w).answer ≡ done)
+purge_written w v (Some refusal) e = inl (versions_of_same w w v e refl)
+purge_written w v None e = inr refl
+
+put_versions : (settings : Settings) (w v : Workspace) → is_nobody w.holder ≡ false → (put settings w).left ≡ Some v → IsKept (put settings w) w ⊎ IsSet (put settings w) settings w → v.versions ≡ w.versions
+put_versions settings w v somebody e (inl kept) = versions_of_same w w v (sym kept.left ∙ e) refl
+put_versions settings w v somebody e (inr set) =
+    versions_of_same (settled (with_settings w settings)) w v (sym (ap (λ (r : Ruling). r.left) set.is) ∙ e)
+    (settled_versions (with_settings w settings) ∙ held_stay settings w somebody set.free)
+
+lock_versions : (w v : Workspace) (id text : List ℕ) (after : Option Workspace) → after ≡ Some v → (after ≡ Some w) ⊎ (after ≡ Some (locked id text w)) → v.versions ≡ w.versions
+lock_versions w v id text after e (inl h) = versions_of_same w w v (sym h ∙ e) refl
+lock_versions w v id text after e (inr h) = versions_of_same (locked id text w) w v (sym h ∙ e) refl
+
+unlocked_versions : (w v : Workspace) (after : Option Workspace) → after ≡ Some v → Unlocks w after → v.versions ≡ w.versions
+unlocked_versions w v after e (inl h) = versions_of_same w w v (sym h ∙ e) refl
+unlocked_versions w v after e (inr h) = versions_of_same (settled (released h.0 w)) w v (sym h.1 ∙ e) (settled_versions (released h.0 w))
 
 run_versions : (w v : Workspace) (changed : Workspace → Type 0) (after : Option Workspace) → ((u : Workspace) → changed u → u.versions ≡ w.versions) → after ≡ Some v
     → (after ≡ Some w) ⊎ (u : Workspace) × changed u × (after ≡ Some (settled u)) → v.versions ≡ w.versions
 run_versions w v changed after keeps e (inl h) = versions_of_same w w v (sym h ∙ e) refl
 run_versions w v changed after keeps e (inr h) = versions_of_same (settled h.0) w v (sym h.2 ∙ e) (settled_versions h.0 ∙ keeps h.0 h.1)
 
+abbrev Written : Act → ℕ → Workspace → Workspace → Type 0
+Written act now w v = (v.versions ≡ w.versions) ⊎ ((id : Option (List ℕ)) × WritesWith act id × ((rules act now (there w)).answer ≡ done) × IsWriter w.holder (holder_status w.holder w.runs) id)
+
+written : (act : Act) (now : ℕ) (w v : Workspace) (id : Option (List ℕ)) → WritesWith act id → (v.versions ≡ w.versions) ⊎ ((rules act now (there w)).answer ≡ done) → Written act now w v
+written act now w v id writes (inl h) = inl h
+written act now w v id writes (inr h) = inr (id, writes, h, writes_carry_the_id act now w id writes h)
+
+pub held_versions_change_by_the_id : HeldVersionsChangeByTheId
+held_versions_change_by_the_id (PutWorkspace ask) now w v somebody e =
+    let settings : Settings = settings_for ask (Some w.settings) in
+    inl (put_versions settings w v somebody e (put_comes settings w))
+held_versions_change_by_the_id (UpdateState head state id) now w v somebody e =
+    written (UpdateState head state id) now w v id refl (update_written w v head state now (may_write w.holder (holder_status w.holder w.runs) id) e)
+held_versions_change_by_the_id (Look what) now w v somebody e = inl (versions_of_same w w v e refl)
+held_versions_change_by_the_id DeleteWorkspace now w v somebody e = inl (versions_of_same w w v (delete_left w v e) refl)
+held_versions_change_by_the_id (PurgeState id) now w v somebody e =
+    written (PurgeState id) now w v id refl (purge_written w v (may_write w.holder (holder_status w.holder w.runs) id) e)
+held_versions_change_by_the_id (LockAct id t) now w v somebody e = inl (lock_versions w v id t (rules (LockAct id t) now (there w)).left e (lock_becomes id t w w.holder))
+held_versions_change_by_the_id (Unlock id) now w v somebody e = inl (unlocked_versions w v (rules (Unlock id) now (there w)).left e (unlock_becomes id w w.holder))
+held_versions_change_by_the_id ForceUnlock now w v somebody e = inl (unlocked_versions w v (rules ForceUnlock now (there w)).left e (force_becomes w w.holder))
+held_versions_change_by_the_id (MakeRun ask) now w v somebody e =
+    inl (run_versions w v (IsMade w ask now) _ (λ u is. ap (λ (x : Workspace). x.versions) is.2) e (comes_to (make_comes w ask now)))
+held_versions_change_by_the_id (ReportRun n action) now w v somebody e =
+    inl (run_versions w v (IsReported w n action) _ (λ u is. ap (λ (x : Workspace). x.versions) is.is) e (comes_to (report_comes w n action)))
+
 pub versions_change_by_the_id : VersionsChangeByTheId
-versions_change_by_the_id (PutWorkspace settings) now w v held text lock e =
-    inl (versions_of_same (settled (with_settings w settings)) w v e (settled_versions (with_settings w settings)))
-versions_change_by_the_id (UpdateState head state given) now w v held text lock e =
-    let after : Option Refusal → Option Workspace = λ m. (by_may_write m w head state now).left in
-    kept_or_carried given w v held text after refl (subst (λ (h : Holder). after (may_write h (holder_status h w.runs) given) ≡ Some v) lock e)
-versions_change_by_the_id (Look what) now w v held text lock e = inl (versions_of_same w w v e refl)
-versions_change_by_the_id DeleteWorkspace now w v held text lock e = inl (versions_of_same w w v (delete_left w v e) refl)
-versions_change_by_the_id (PurgeState given) now w v held text lock e =
-    let after : Option Refusal → Option Workspace = λ m. (purge m w).left in
-    kept_or_carried given w v held text after refl (subst (λ (h : Holder). after (may_write h (holder_status h w.runs) given) ≡ Some v) lock e)
-versions_change_by_the_id (LockAct id t) now w v held text e h =
-    let again_held : (lock (Lock held text) id t w).left ≡ Some v = subst (λ (x : Holder). (lock x id t w).left ≡ Some v) e h in
-    inl (versions_of_same w w v (sym (stays_by (bytes_eq id held) (refused_by Refusal.Locked w.holder) w) ∙ again_held) refl)
-versions_change_by_the_id (Unlock id) now w v held text e h =
-    inl (unlocked_versions w v held (bytes_eq id held) (is_released w.released id) (refused_by Refusal.Locked w.holder) (subst (λ (x : Holder). (unlock x id w).left ≡ Some v) e h))
-versions_change_by_the_id ForceUnlock now w v held text e h =
-    inl (versions_of_same (settled (released held w)) w v (subst (λ (x : Holder). (force_unlock x w).left ≡ Some v) e h) (settled_versions (released held w)))
-versions_change_by_the_id (MakeRun ask) now w v held text e h =
-    inl (run_versions w v (IsMade w ask now) _ (λ u is. ap (λ (x : Workspace). x.versions) is.2) h (comes_to (make_comes w ask now)))
-versions_change_by_the_id (ReportRun n action) now w v held text e h =
-    inl (run_versions w v (IsReported w n action) _ (λ u is. ap (λ (x : Workspace). x.versions) is.is) h (comes_to (report_comes w n action)))
+versions_change_by_the_id act now w v own text lock e = by_case (held_versions_change_by_the_id act now w v (ap is_nobody lock) e)
+  where
+    by_case : Written act now w v → (v.versions ≡ w.versions) ⊎ WritesWith act (Some own)
+    by_case (inl h) = inl h
+    by_case (inr (id, writes, is, writer)) =
+        let own_id : id ≡ Some own = subst (λ (h : Holder). IsWriter h (holder_status h w.runs) id) lock writer in
+        inr (subst (WritesWith act) own_id writes)
 
 -- what stays there
 some_after : (w : Workspace) (after : ℕ → Option Workspace) (head : StateHead) (text : List ℕ) (now : ℕ) → Becomes head text w after → IsSome (after now)
@@ -440,7 +495,9 @@ some_after_run w changed after (inr h) = rw h.2 refl
 
 -- a workspace stays, or the act is DELETE
 stays_or_deleted : (act : Act) (now : ℕ) (w : Workspace) → IsSome (rules act now (there w)).left ⊎ (act ≡ DeleteWorkspace)
-stays_or_deleted (PutWorkspace settings) now w = inl refl
+stays_or_deleted (PutWorkspace ask) now w =
+    let settings : Settings = settings_for ask (Some w.settings) in
+    inl (some_of_two w (settled (with_settings w settings)) (put settings w).left (put_becomes settings w))
 stays_or_deleted (UpdateState head state id) now w =
     inl (some_after w (λ t. (rules (UpdateState head state id) t (there w)).left) head state now (update_becomes head state w (may_write w.holder (holder_status w.holder w.runs) id)))
 stays_or_deleted (Look what) now w = inl refl
@@ -484,9 +541,9 @@ workspaces_begin_anew act now room v e = by_act (put_or_missed act)
     anew : (settings : Settings) → new_workspace settings ≡ v → IsAnew v
     anew settings is = subst IsAnew is (record { holder = refl; released = refl; versions_begin = (refl, refl); runs_begin = (refl, refl) })
 
-    made : (room : Bool) (settings : Settings) → (rules_missing (PutWorkspace settings) room).left ≡ Some v → IsAnew v
-    made true settings e = anew settings (let same_one : new_workspace settings ≡ v = cc in same_one)
-    made false settings e = absurd (let none : ⊥ = cc in none)
+    made : (room : Bool) (ask : SettingsAsk) → (rules_missing (PutWorkspace ask) room).left ≡ Some v → IsAnew v
+    made true ask e = anew (settings_for ask None) (let same_one : new_workspace (settings_for ask None) ≡ v = cc in same_one)
+    made false ask e = absurd (let none : ⊥ = cc in none)
 
     by_act : IsPut act ⊎ Misses act → IsAnew v
     by_act (inl put) = made room put.0 (subst (λ (a : Act). (rules_missing a room).left ≡ Some v) put.1 e)
@@ -496,9 +553,9 @@ workspaces_begin_anew act now room v e = by_act (put_or_missed act)
 accepted_stays : (act : Act) (now : ℕ) (s : Seen) → (IsRefusal (rules act now s).answer → ⊥) → IsSome (rules act now s).left ⊎ (act ≡ DeleteWorkspace)
 accepted_stays act now (missing room) accepted = by_act (put_or_missed act)
   where
-    made : (room : Bool) (settings : Settings) → (IsRefusal (rules_missing (PutWorkspace settings) room).answer → ⊥) → IsSome (rules_missing (PutWorkspace settings) room).left
-    made true settings accepted = refl
-    made false settings accepted = absurd (accepted tt)
+    made : (room : Bool) (ask : SettingsAsk) → (IsRefusal (rules_missing (PutWorkspace ask) room).answer → ⊥) → IsSome (rules_missing (PutWorkspace ask) room).left
+    made true ask accepted = refl
+    made false ask accepted = absurd (accepted tt)
 
     by_act : IsPut act ⊎ Misses act → IsSome (rules_missing act room).left ⊎ (act ≡ DeleteWorkspace)
     by_act (inl put) =

@@ -1,8 +1,9 @@
--- The oldest versions that go as one more comes: those up to a number are the first ones.
-use Rattle.std.proofs.Common.{◌≡◌, ℕ, zero, suc, ◌+◌, ◌-◌, ◌<◌, ◌≤◌, List, [], ◌∷◌, ◌++◌, length, map, take, drop, slice_get, Option, Some, option_map, refl, sym, ap, ◌∙◌, arith, length-append}
+-- The oldest versions that go where the last ones stay: those up to a number are the first ones.
+use Rattle.std.proofs.Common.{◌≡◌, ℕ, zero, suc, ◌+◌, ◌-◌, ◌<◌, ◌≤◌, nat_lt, List, [], ◌∷◌, ◌++◌, length, map, take, drop, slice_get, Option, Some, option_map, is_some, refl, sym, ap, ◌∙◌, arith, length-drop}
+use Rattle.std.proofs.lemmas.Bool.{lt-ltb, le-ltb}
 use Rattle.machine.specs.Laws.{Rises}
 use Rattle.machine.specs.Changes.{left_above}
-use Rattle.machine.specs.Workspaces.{newest, last_of, outgoing, max_versions}
+use Rattle.machine.specs.Workspaces.{newest, last_of, outgoing}
 use Rattle.machine.specs.declared.records.Version.{Version}
 use Rattle.machine.proofs.PageLemmas.{behind_number}
 
@@ -29,17 +30,61 @@ there_is n [] h = absurd (omega arith)
 there_is zero (u ∷ vs) h = (u, refl)
 there_is (suc n) (u ∷ vs) h = there_is n vs (omega arith)
 
-cut : (k next : ℕ) (vs : List Version) (v : Version) → k ≤ length vs → 0 < next → v.number ≡ next → Rises 0 (map (λ (u : Version). u.number) vs) next
+cut : (k next : ℕ) (vs : List Version) → k ≤ length vs → Rises 0 (map (λ (u : Version). u.number) vs) next
+    → left_above (option_map (λ (u : Version). u.number) (newest (take k vs))) vs ≡ drop k vs
+cut zero next vs h rise = refl
+cut (suc n) next vs h rise =
+    let found : (u : Version) × (slice_get vs n ≡ Some u) = there_is n vs (omega arith) in
+    ap (λ (o : Option Version). left_above (option_map (λ (u : Version). u.number) o) vs) (last_taken n vs (omega arith) ∙ found.1)
+    ∙ behind_number (λ (u : Version). u.number) 0 next vs found.0 n rise found.1
+
+-- where the last ones stay
+pub left_is_last : (staying next : ℕ) (vs : List Version) → Rises 0 (map (λ (u : Version). u.number) vs) next → left_above (outgoing staying vs) vs ≡ last_of staying vs
+left_is_last staying next vs rise = cut (length vs - staying) next vs (omega arith) rise
+
+cut_before : (k next : ℕ) (vs : List Version) (v : Version) → k ≤ length vs → 0 < next → v.number ≡ next → Rises 0 (map (λ (u : Version). u.number) vs) next
     → left_above (option_map (λ (u : Version). u.number) (newest (take k vs))) (vs ++ v ∷ []) ≡ drop k (vs ++ v ∷ [])
-cut zero next vs v h some e rise = refl
-cut (suc n) next vs v h some e rise =
+cut_before zero next vs v h some e rise = refl
+cut_before (suc n) next vs v h some e rise =
     let found : (u : Version) × (slice_get vs n ≡ Some u) = there_is n vs (omega arith) in
     ap (λ (o : Option Version). left_above (option_map (λ (u : Version). u.number) o) (vs ++ v ∷ [])) (last_taken n vs (omega arith) ∙ found.1)
     ∙ behind_number (λ (u : Version). u.number) 0 (next + 1) (vs ++ v ∷ []) found.0 n (rises_more 0 next vs v some e rise) (first_stays n vs v (omega arith) ∙ found.1)
 
--- as one more version comes, the last ones stay
-pub cut_is_last : (next : ℕ) (vs : List Version) (v : Version) → 0 < next → v.number ≡ next → Rises 0 (map (λ (u : Version). u.number) vs) next
-    → left_above (outgoing max_versions vs) (vs ++ v ∷ []) ≡ last_of max_versions (vs ++ v ∷ [])
-cut_is_last next vs v some e rise =
-    cut (length vs + 1 - max_versions) next vs v (omega arith) some e rise
-    ∙ ap (λ (k : ℕ). drop (k - max_versions) (vs ++ v ∷ [])) (sym (length-append vs (v ∷ [])))
+drop_before : (k : ℕ) (vs : List Version) (v : Version) → k ≤ length vs → drop k (vs ++ v ∷ []) ≡ drop k vs ++ v ∷ []
+drop_before zero vs v h = refl
+drop_before (suc k) [] v h = absurd (omega arith)
+drop_before (suc k) (u ∷ vs) v h = drop_before k vs v (omega arith)
+
+-- where the last ones stay, and one more comes behind them
+pub left_before : (staying next : ℕ) (vs : List Version) (v : Version) → 0 < next → v.number ≡ next → Rises 0 (map (λ (u : Version). u.number) vs) next
+    → left_above (outgoing staying vs) (vs ++ v ∷ []) ≡ last_of staying vs ++ v ∷ []
+left_before staying next vs v some e rise =
+    cut_before (length vs - staying) next vs v (omega arith) some e rise ∙ drop_before (length vs - staying) vs v (omega arith)
+
+-- how many are left, and that all are where no more stand there
+pub last_length : (staying : ℕ) (vs : List Version) → length (last_of staying vs) ≤ staying
+last_length staying vs = rw length-drop (omega arith)
+
+pub all_last : (staying : ℕ) (vs : List Version) → length vs ≤ staying → last_of staying vs ≡ vs
+all_last staying vs le = ap (λ (k : ℕ). drop k vs) (let none : length vs - staying ≡ 0 = omega (arith, le) in none)
+
+-- one goes where more stand there
+pub some_go : (staying : ℕ) (vs : List Version) → is_some (outgoing staying vs) ≡ nat_lt staying (length vs)
+some_go staying vs = by_count (length vs - staying) refl
+  where
+    by_count : (k : ℕ) → length vs - staying ≡ k → is_some (option_map (λ (u : Version). u.number) (newest (take k vs))) ≡ nat_lt staying (length vs)
+    by_count zero e = sym (le-ltb staying (length vs) (omega (arith, e)))
+    by_count (suc n) e =
+        let found : (u : Version) × (slice_get vs n ≡ Some u) = there_is n vs (omega (arith, e)) in
+        ap (λ (o : Option Version). is_some (option_map (λ (u : Version). u.number) o)) (last_taken n vs (omega (arith, e)) ∙ found.1) ∙ sym (lt-ltb staying (length vs) (omega (arith, e)))
+
+-- the newest stays
+newest_left : (k : ℕ) (vs : List Version) → k < length vs → newest (drop k vs) ≡ newest vs
+newest_left k [] h = absurd (omega arith)
+newest_left zero (v ∷ vs) h = refl
+newest_left (suc k) (v ∷ []) h = absurd (omega arith)
+newest_left (suc k) (v ∷ w ∷ vs) h = newest_left k (w ∷ vs) (omega arith)
+
+pub newest_stays : (staying : ℕ) (vs : List Version) → 1 ≤ staying → newest (last_of staying vs) ≡ newest vs
+newest_stays staying [] some = ap newest (all_last staying [] (omega arith))
+newest_stays staying (v ∷ vs) some = newest_left (length (v ∷ vs) - staying) (v ∷ vs) (omega (arith, some))

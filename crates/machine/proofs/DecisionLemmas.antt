@@ -2,37 +2,41 @@
 use Rattle.std.specs.FinMap.{get}
 use Rattle.basis.specs.declared.rows.Look.TheVariants as look
 use Rattle.basis.specs.declared.rows.Settings.{Settings}
+use Rattle.basis.specs.declared.rows.SettingsAsk.{SettingsAsk}
 use Rattle.machine.specs.declared.records.Organization.{Organization}
-use Rattle.std.proofs.Common.{◌≡◌, ◌⊎◌, inl, inr, ℕ, ◌+◌, ◌==◌, nat_lt, Bool, true, false, not, ◌&&◌, cond, List, [], ◌∷◌, map, Option, Some, None, is_some, option_map, Result, Ok, Err, IfOk, refl, sym, ap, subst, ◌∙◌, eq-eqb, eqb-true}
+use Rattle.std.proofs.Common.{◌≡◌, ◌⊎◌, inl, inr, ℕ, ◌+◌, ◌-◌, ◌==◌, nat_lt, Bool, true, false, not, ◌&&◌, cond, List, [], ◌∷◌, length, map, Option, Some, None, is_some, option_map, Result, Ok, Err, IfSome, IfOk, refl, sym, ap, subst, ◌∙◌, eq-eqb, eqb-true}
 use Rattle.std.specs.Option.{option_or, option_map_or}
 use Rattle.std.specs.List.{AllByRecursion}
 use Rattle.std.specs.Str.{bytes_eq}
+use Rattle.std.proofs.lemmas.Bool.{le-ltb}
 use Rattle.basis.specs.declared.refusals.Refusal.{Refusal}
 use Rattle.basis.specs.declared.refusals.Refusal.TheVariants.{OpenRuns}
 use Rattle.basis.specs.declared.rows.StateHead.{StateHead}
-use Rattle.machine.specs.Workspaces.{max_open_runs, newest, holder_status, run_of, keyed_run, open_runs}
+use Rattle.machine.specs.Changes.{left_above}
+use Rattle.machine.specs.Workspaces.{max_open_runs, newest, last_of, holder_status, run_of, keyed_run, open_runs}
 use Rattle.machine.specs.Writing.{may_write}
 use Rattle.machine.specs.Succession.{after_newest, lineages_differ, same, other_lineage, old_serial, next}
 use Rattle.machine.specs.Showing.{holder_id, shown_of}
-use Rattle.machine.specs.Rules.{rules, done, no_state, state, version_answer, delete, by_may_write, by_succession, numbered_update, number_left, state_answer, workspace, refused, the_run, run_answer, told_with, told_already, new_run, with_run, with_version, purged, shown_with, numbered_run, make_run, reported, frees, with_report, by_step, report, with_settings, purge, lock, unlock, force_unlock, is_released, released, done_with, done_already, refused_by, rules_there, rules_missing, Ruling}
+use Rattle.machine.specs.Rules.{rules, done, no_state, state, version_answer, delete, by_may_write, by_succession, numbered_update, number_left, state_answer, workspace, refused, the_run, run_answer, told_with, told_already, new_run, with_run, with_version, purged, shown_with, numbered_run, make_run, reported, frees, with_report, by_step, report, kept_for, settings_for, with_settings, put, purge, lock, unlock, force_unlock, is_released, released, done_with, done_already, refused_by, rules_there, rules_missing, Ruling}
 use Rattle.machine.specs.Settling.{is_waiting, first_waiting, to_start, started_if}
 use Rattle.machine.specs.RunSteps.{next_status, is_last}
 use Rattle.machine.proofs.StepLemmas.{never_pending, pending_idle}
 use Rattle.machine.proofs.LawLemmas.{number_left-is, none_waits, nobody_starts}
-use Rattle.machine.proofs.CutLemmas.{cut_is_last}
+use Rattle.machine.proofs.CutLemmas.{left_is_last, left_before, all_last, some_go, newest_stays}
 use Rattle.machine.proofs.RunLemmas.{run_of-number, run_of-map, run_of-started, run_of-push, none_numbered, first_waiting-push, first_waiting-map}
 use Rattle.basis.specs.Runs.{is_open}
 use Rattle.basis.specs.declared.rows.RunAsk.{RunAsk}
 use Rattle.basis.specs.declared.runs.RunStatus.{RunStatus}
 use Rattle.basis.specs.declared.runs.RunAction.{RunAction}
-use Rattle.machine.specs.Needs.{needs}
-use Rattle.machine.specs.Units.{unit_of, workspace_unit, newest_unit, version_of, unit_by}
+use Rattle.machine.specs.Needs.{needs, staying_for}
+use Rattle.machine.specs.Units.{unit_of, workspace_unit, newest_unit, outgoing_by, version_of, unit_by}
 use Rattle.machine.specs.declared.acts.Act.{Act}
 use Rattle.machine.specs.declared.acts.Act.TheVariants.{Look, PutWorkspace, DeleteWorkspace, UpdateState, PurgeState, Lock as LockAct, Unlock, ForceUnlock, MakeRun, ReportRun}
 use Rattle.machine.specs.declared.acts.Decision.{Decision}
 use Rattle.machine.specs.declared.acts.Decision.TheVariants.{Refused, Accepted}
-use Rattle.machine.specs.declared.acts.Answer.TheVariants.{Done, Run as ShownRun}
-use Rattle.machine.specs.declared.acts.Edit.TheVariants.{Remove, Release}
+use Rattle.machine.specs.declared.acts.Answer.TheVariants.{Done, Workspace as ShownWorkspace, Run as ShownRun}
+use Rattle.machine.specs.declared.acts.Shown.{Shown}
+use Rattle.machine.specs.declared.acts.Edit.TheVariants.{Configure, Remove, Release}
 use Rattle.machine.specs.declared.records.Holder.{Holder}
 use Rattle.machine.specs.declared.records.Holder.TheVariants.{Nobody, Lock, Run}
 use Rattle.machine.specs.declared.acts.Newest.{Newest}
@@ -42,11 +46,11 @@ use Rattle.machine.specs.declared.records.Workspace.{Workspace}
 use Rattle.machine.specs.declared.acts.Unit.{Unit as AnyUnit}
 use Rattle.machine.proofs.RuleLemmas.{rules_are_lawful}
 use Rattle.machine.specs.Effects.{effect}
-use Rattle.machine.specs.Inner.Decisions.{decided_delete, decided_version_read, decision_of, decided_update, decided_after, decided_version, decided_number, decided_read, decided_purge, decided_lock, decided_unlock, decided_force, decided_number_of_run, decided_make, decided_read_run, decided_step, decided_report, start_freed, begun_by, acted, changing, decision_missing}
+use Rattle.machine.specs.Inner.Decisions.{AsksInRange, shown_as, decided_put, decided_delete, decided_version_read, decision_of, decided_update, decided_after, decided_version, decided_number, decided_read, decided_purge, decided_lock, decided_unlock, decided_force, decided_number_of_run, decided_make, decided_read_run, decided_step, decided_report, start_freed, begun_by, acted, changing, decision_missing}
 use Rattle.machine.specs.Meaning.{meaning, Meets, ChangeIsDue}
-use Rattle.machine.specs.Laws.{IsRun, IsLawful, IsLawfulIfThere, IsLawfulOrganization, is_pending}
+use Rattle.machine.specs.Laws.{is_nobody, AreVersions, IsRun, IsLawful, IsLawfulIfThere, IsLawfulOrganization, is_pending}
 use Rattle.machine.specs.Records.{Seen, seen_by, standing, count_of, seen_in}
-use Rattle.machine.specs.Ranges.{IsInRange, IsMoment}
+use Rattle.machine.specs.Ranges.{IsKeepCount, IsSettingsAsk, IsInRange, IsMoment}
 use Rattle.machine.proofs.MissingLemmas.{IsPut, Misses, put_or_missed}
 
 -- the newest version is the last of its number
@@ -68,7 +72,7 @@ number_model w head text id now lawful None e = refl
 number_model w head text id now lawful (Some n) e =
     let v : Version = record { number = n; serial = head.serial; lineage = head.lineage; created = now; text = text } in
     ap (λ (versions : List Version). effect done (Some (record w { next_version = n + 1; versions = versions })))
-    (cut_is_last w.next_version w.versions v lawful.versions.next.0 (number_left-is w.next_version n e).0 lawful.versions.rise)
+    (left_before (w.settings.keep_versions - 1) w.next_version w.versions v lawful.versions.next.0 (number_left-is w.next_version n e).0 lawful.versions.rise)
     ∙ ap (λ (start : Option ℕ). effect done (Some (started_if start (with_version w n head text now)))) (sym (none_starts w lawful))
 
 after_model : (w : Workspace) (head : StateHead) (text : List ℕ) (id : Option (List ℕ)) (now : ℕ) → IsLawful w → (o : Option Version)
@@ -134,11 +138,58 @@ force_model w Nobody = refl
 force_model w (Lock id_held text) = refl
 force_model w (Run n) = refl
 
-put_model : (w : Workspace) (settings : Settings) → IsLawful w → (o : Option Version) → newest w.versions ≡ o
-    → effect (workspace (record { settings = settings; holder = holder_id w.holder; version = option_map (λ (v : Newest). v.number) (option_map (newest_unit None) (newest w.versions)) })) (Some (with_settings w settings))
-    ≡ shown_with (with_settings w settings)
-put_model w settings lawful None e = rw (e, none_starts w lawful, e) refl
-put_model w settings lawful (Some v) e = rw (e, none_starts w lawful, e) refl
+-- which versions go by a PUT: those before the last ones, and none where no number is asked for
+record GoesBy (going : Option ℕ) (keep : ℕ) (versions : List Version) : Type 0 where
+  some : is_some going ≡ nat_lt keep (length versions)
+  left : left_above going versions ≡ last_of keep versions
+  newest_one : newest (last_of keep versions) ≡ newest versions
+
+goes_by : (asked : Option ℕ) (keep top : ℕ) (versions : List Version) → IfSome asked IsKeepCount → AreVersions keep top versions
+    → GoesBy (outgoing_by (staying_for asked) keep versions) (kept_for asked keep) versions
+goes_by None keep top versions range are = record {
+  some = sym (le-ltb keep (length versions) are.kept);
+  left = sym (all_last keep versions are.kept);
+  newest_one = ap newest (all_last keep versions are.kept);
+}
+goes_by (Some k) keep top versions range are = record { some = some_go k versions; left = left_is_last k top versions are.rise; newest_one = newest_stays k versions range.0 }
+
+number_shown : (o : Option Version) → option_map (λ (v : Newest). v.number) (option_map (newest_unit None) o) ≡ option_map (λ (v : Version). v.number) o
+number_shown None = refl
+number_shown (Some v) = refl
+
+put_model : (w : Workspace) (ask : SettingsAsk) → IsLawful w → IsSettingsAsk ask
+    → meaning (decided_put (settings_for ask (Some w.settings)) (workspace_unit (PutWorkspace ask) w)) (Some w) ≡ put (settings_for ask (Some w.settings)) w
+put_model w ask lawful range = chosen (not (is_nobody w.holder) && is_some going) (not (is_nobody w.holder) && nat_lt settings.keep_versions (length w.versions)) (ap (λ (b : Bool). not (is_nobody w.holder) && b) goes.some)
+  where
+    settings : Settings
+    settings = settings_for ask (Some w.settings)
+
+    going : Option ℕ
+    going = outgoing_by (staying_for ask.keep_versions) w.settings.keep_versions w.versions
+
+    goes : GoesBy going settings.keep_versions w.versions
+    goes = goes_by ask.keep_versions w.settings.keep_versions w.next_version w.versions range lawful.versions
+
+    shown_from : Option ℕ → Shown
+    shown_from version = record { settings = settings; holder = holder_id w.holder; version = version }
+
+    number : option_map (λ (v : Newest). v.number) (option_map (newest_unit None) (newest w.versions)) ≡ option_map (λ (v : Version). v.number) (newest (last_of settings.keep_versions w.versions))
+    number = number_shown (newest w.versions) ∙ ap (option_map (λ (v : Version). v.number)) (sym goes.newest_one)
+
+    set : effect (workspace (shown_from (option_map (λ (v : Newest). v.number) (option_map (newest_unit None) (newest w.versions))))) (Some (record w { settings = settings; versions = left_above going w.versions }))
+        ≡ shown_with (with_settings w settings)
+    set =
+        ap (λ (n : Option ℕ). effect (workspace (shown_from n)) (Some (record w { settings = settings; versions = left_above going w.versions }))) number
+        ∙ ap (λ (vs : List Version). effect (workspace (shown_of (with_settings w settings))) (Some (record w { settings = settings; versions = vs }))) goes.left
+        ∙ ap (λ (start : Option ℕ). effect (workspace (shown_of (started_if start (with_settings w settings)))) (Some (started_if start (with_settings w settings)))) (sym (none_starts w lawful))
+
+    chosen : (b c : Bool) → b ≡ c
+        → meaning (cond b (Refused Refusal.Locked) (changing (ShownWorkspace (shown_as settings (workspace_unit (PutWorkspace ask) w))) (Configure settings going) None)) (Some w)
+        ≡ cond c (effect (refused_by Refusal.Locked w.holder) (Some w)) (shown_with (with_settings w settings))
+    chosen true true e = refl
+    chosen true false e = absurd (let none : ⊥ = cc in none)
+    chosen false true e = absurd (let none : ⊥ = cc in none)
+    chosen false false e = set
 
 shown_model : (w : Workspace) (o : Option Version) → newest w.versions ≡ o
     → effect (workspace (record { settings = w.settings; holder = holder_id w.holder; version = option_map (λ (v : Newest). v.number) (option_map (newest_unit None) (newest w.versions)) })) (Some w)
@@ -275,22 +326,22 @@ version_model : (w : Workspace) (n : ℕ) (o : Option Version) → version_of n 
 version_model w n None at = refl
 version_model w n (Some v) at = ap (λ (o : Option Version). effect (option_map_or state (option_map (λ (u : Version). u.text) o) no_state) (Some w)) at
 
-there_model : (o : Organization) (w : Workspace) (act : Act) (now : ℕ) → IsLawful w → meaning (decision_of (unit_by o act (Some w)) act now) (Some w) ≡ rules_there act now w
-there_model o w (PutWorkspace settings) now lawful = put_model w settings lawful (newest w.versions) refl
-there_model o w (Look look.Workspace) now lawful = shown_model w (newest w.versions) refl
-there_model o w (UpdateState head text id) now lawful = update_model w head text id now lawful (may_write w.holder (holder_status w.holder w.runs) id)
-there_model o w (Look look.State) now lawful = read_model w (newest w.versions) refl
-there_model o w (PurgeState id) now lawful = purge_model w id lawful (may_write w.holder (holder_status w.holder w.runs) id)
-there_model o w (LockAct id text) now lawful = lock_model id text w w.holder
-there_model o w (Unlock id) now lawful = unlock_model id w w.holder
-there_model o w ForceUnlock now lawful = force_model w w.holder
-there_model o w DeleteWorkspace now lawful = delete_model w w.holder
-there_model o w (Look (look.Versions after)) now lawful = refl
-there_model o w (Look (look.Version n)) now lawful = version_model w n (version_of n w.versions) refl
-there_model o w (Look (look.Runs after)) now lawful = refl
-there_model o w (MakeRun ask) now lawful = make_model w ask now lawful (keyed_run ask.key w.runs)
-there_model o w (Look (look.Run n)) now lawful = read_run_model w (run_of n w.runs)
-there_model o w (ReportRun n action) now lawful = report_model w n action lawful (run_of n w.runs) refl
+there_model : (o : Organization) (w : Workspace) (act : Act) (now : ℕ) → IsLawful w → AsksInRange act → meaning (decision_of (unit_by o act (Some w)) act now) (Some w) ≡ rules_there act now w
+there_model o w (PutWorkspace ask) now lawful asked = put_model w ask lawful asked
+there_model o w (Look look.Workspace) now lawful asked = shown_model w (newest w.versions) refl
+there_model o w (UpdateState head text id) now lawful asked = update_model w head text id now lawful (may_write w.holder (holder_status w.holder w.runs) id)
+there_model o w (Look look.State) now lawful asked = read_model w (newest w.versions) refl
+there_model o w (PurgeState id) now lawful asked = purge_model w id lawful (may_write w.holder (holder_status w.holder w.runs) id)
+there_model o w (LockAct id text) now lawful asked = lock_model id text w w.holder
+there_model o w (Unlock id) now lawful asked = unlock_model id w w.holder
+there_model o w ForceUnlock now lawful asked = force_model w w.holder
+there_model o w DeleteWorkspace now lawful asked = delete_model w w.holder
+there_model o w (Look (look.Versions after)) now lawful asked = refl
+there_model o w (Look (look.Version n)) now lawful asked = version_model w n (version_of n w.versions) refl
+there_model o w (Look (look.Runs after)) now lawful asked = refl
+there_model o w (MakeRun ask) now lawful asked = make_model w ask now lawful (keyed_run ask.key w.runs)
+there_model o w (Look (look.Run n)) now lawful asked = read_run_model w (run_of n w.runs)
+there_model o w (ReportRun n action) now lawful asked = report_model w n action lawful (run_of n w.runs) refl
 
 missing_model : (o : Organization) (act : Act) → meaning (decision_missing act (nat_lt (cond (needs act).makes (count_of o) 0) o.limit)) None ≡ rules_missing act (nat_lt (count_of o) o.limit)
 missing_model o act = by_act (put_or_missed act)
@@ -298,19 +349,19 @@ missing_model o act = by_act (put_or_missed act)
     room : Bool
     room = nat_lt (count_of o) o.limit
 
-    made : (room : Bool) (settings : Settings) → meaning (decision_missing (PutWorkspace settings) room) None ≡ rules_missing (PutWorkspace settings) room
-    made true settings = refl
-    made false settings = refl
+    made : (room : Bool) (ask : SettingsAsk) → meaning (decision_missing (PutWorkspace ask) room) None ≡ rules_missing (PutWorkspace ask) room
+    made true ask = refl
+    made false ask = refl
 
     by_act : IsPut act ⊎ Misses act → meaning (decision_missing act (nat_lt (cond (needs act).makes (count_of o) 0) o.limit)) None ≡ rules_missing act room
     by_act (inl put) =
         subst (λ (a : Act). meaning (decision_missing a (nat_lt (cond (needs a).makes (count_of o) 0) o.limit)) None ≡ rules_missing a room) (sym put.1) (made room put.0)
     by_act (inr misses) = ap (λ (d : Decision). meaning d None) (misses (nat_lt (cond (needs act).makes (count_of o) 0) o.limit)).1 ∙ sym (misses room).0
 
-model : (o : Organization) (w : Option Workspace) (act : Act) (now : ℕ) → IsLawfulIfThere w
+model : (o : Organization) (w : Option Workspace) (act : Act) (now : ℕ) → IsLawfulIfThere w → AsksInRange act
     → meaning (decision_of (unit_by o act w) act now) (standing (seen_by (nat_lt (count_of o) o.limit) w)) ≡ rules act now (seen_by (nat_lt (count_of o) o.limit) w)
-model o None act now lawful = missing_model o act
-model o (Some w) act now lawful = there_model o w act now lawful
+model o None act now lawful asked = missing_model o act
+model o (Some w) act now lawful asked = there_model o w act now lawful asked
 
 -- a change that means what the rules say is due
 due_from : (s : Seen) (act : Act) (now : ℕ) (d : Decision) → meaning d (standing s) ≡ rules act now s → IsInRange act → IsMoment now → ChangeIsDue s d
@@ -319,12 +370,12 @@ due_from s act now (Accepted answer None) e range moment = tt
 due_from s act now (Accepted answer (Some change)) e range moment =
     record { act = act; now = now; range = range; moment = moment; is = ap (λ (r : Ruling). r.left) e }
 
-meets : (o : Organization) (w : Option Workspace) (act : Act) (now : ℕ) → IsLawfulIfThere w → Meets (seen_by (nat_lt (count_of o) o.limit) w) act now (decision_of (unit_by o act w) act now)
-meets o w act now there =
+meets : (o : Organization) (w : Option Workspace) (act : Act) (now : ℕ) → IsLawfulIfThere w → AsksInRange act → Meets (seen_by (nat_lt (count_of o) o.limit) w) act now (decision_of (unit_by o act w) act now)
+meets o w act now there asked =
     let s : Seen = seen_by (nat_lt (count_of o) o.limit) w in
     record {
-      model = model o w act now there;
-      due = λ range moment. due_from s act now (decision_of (unit_by o act w) act now) (model o w act now there) range moment;
+      model = model o w act now there asked;
+      due = λ range moment. due_from s act now (decision_of (unit_by o act w) act now) (model o w act now there asked) range moment;
       lawful = λ range moment lawful. rules_are_lawful act now s range moment lawful;
     }
 
@@ -332,9 +383,9 @@ lawful_there : (o : Organization) (name : List ℕ) → IsLawfulOrganization o �
 lawful_there o name lawful None e = tt
 lawful_there o name lawful (Some w) e = (lawful.workspaces name w e).lawful
 
-pub met : {E : Type 0} (unit : AnyUnit) (act : Act) (now : ℕ) (r : Result Decision E) → IfOk r (λ d. d ≡ decision_of unit act now)
+pub met : {E : Type 0} (unit : AnyUnit) (act : Act) (now : ℕ) (r : Result Decision E) → AsksInRange act → IfOk r (λ d. d ≡ decision_of unit act now)
     → IfOk r (λ d. (o : Organization) (name : List ℕ) → IsLawfulOrganization o → unit ≡ unit_of o name act → Meets (seen_in o name) act now d)
-met unit act now (Ok d) h = λ o name lawful e.
+met unit act now (Ok d) asked h = λ o name lawful e.
     let named : (w : Option Workspace) → get o.workspaces name ≡ w → IsLawfulIfThere w = lawful_there o name lawful in
-    subst (λ (x : Decision). Meets (seen_in o name) act now x) (ap (λ (u : AnyUnit). decision_of u act now) (sym e) ∙ sym h) (meets o (get o.workspaces name) act now (named (get o.workspaces name) refl))
-met unit act now (Err e) h = tt
+    subst (λ (x : Decision). Meets (seen_in o name) act now x) (ap (λ (u : AnyUnit). decision_of u act now) (sym e) ∙ sym h) (meets o (get o.workspaces name) act now (named (get o.workspaces name) refl) asked)
+met unit act now (Err e) asked h = tt

@@ -21,7 +21,8 @@ use Rattle.machine.specs.Writing.{may_write}
 use Rattle.machine.specs.Rules.{refused, held, done, no_state, state, workspace, the_run, versions, rules}
 use Rattle.machine.specs.Showing.{shown_of, row_of, comes_after, workspaces_listed}
 use Rattle.basis.specs.Listings.{listing_of}
-use Rattle.machine.specs.Laws.{Rises, IsRun, IsHolder, KeysDiffer, IsLawful}
+use Rattle.machine.specs.Ranges.{IsKeepCount}
+use Rattle.machine.specs.Laws.{Rises, AreVersions, IsRun, IsHolder, KeysDiffer, IsLawful}
 use Rattle.machine.specs.Settling.{is_waiting}
 use Rattle.machine.specs.Queue.{is_active_run, GoesOn}
 use Rattle.machine.specs.declared.acts.Act.TheVariants.{Look, PutWorkspace, DeleteWorkspace, UpdateState, PurgeState, Lock as LockAct, Unlock, ForceUnlock, MakeRun, ReportRun}
@@ -62,7 +63,7 @@ abbrev a1 : List ℕ
 a1 = codes "a1"
 
 abbrev empty : Workspace
-empty = new_workspace (record { auto_apply = false })
+empty = new_workspace (record { auto_apply = false; keep_versions = 100 })
 
 abbrev under_x1 : Workspace
 under_x1 = record empty { holder = Lock x1 t1 }
@@ -242,8 +243,8 @@ two status action = record empty { holder = HoldingRun 1; next_run = 3; runs = r
 planned_now : rules (ReportRun 1 ReportPlanned) 1_700_000_000 (there (two Planning None)) ≡ effect (the_run (run 1 Planned (Some ReportPlanned))) (Some (two Planned (Some ReportPlanned)))
 planned_now = refl
 
-applied_at_once : rules (ReportRun 1 ReportPlanned) 1_700_000_000 (there (record (two Planning None) { settings = record { auto_apply = true } }))
-    ≡ effect (the_run (run 1 Applying (Some ReportPlanned))) (Some (record (two Applying (Some ReportPlanned)) { settings = record { auto_apply = true } }))
+applied_at_once : rules (ReportRun 1 ReportPlanned) 1_700_000_000 (there (record (two Planning None) { settings = record { auto_apply = true; keep_versions = 100 } }))
+    ≡ effect (the_run (run 1 Applying (Some ReportPlanned))) (Some (record (two Applying (Some ReportPlanned)) { settings = record { auto_apply = true; keep_versions = 100 } }))
 applied_at_once = refl
 
 -- the action that was taken last is answered again, any other that no step has is refused
@@ -277,7 +278,7 @@ each_kind = record empty {
 
 each_kind_is_lawful : IsLawful each_kind
 each_kind_is_lawful = record {
-  versions = record { next = (omega arith, omega arith); rise = tt; each = tt; kept = omega arith };
+  versions = record { keep = (omega arith, omega arith); next = (omega arith, omega arith); rise = tt; each = tt; kept = omega arith };
   runs = record {
     next = (omega arith, omega arith);
     rise = (omega arith, omega arith, (omega arith, omega arith, (omega arith, omega arith, (omega arith, omega arith, (omega arith, omega arith, tt)))));
@@ -373,11 +374,58 @@ open_run_keeps_it : rules DeleteWorkspace 1_700_000_000 (there with_run_1) ≡ e
 open_run_keeps_it = refl
 
 -- one of its name begins anew
-made_anew : rules (PutWorkspace (record { auto_apply = false })) 1_700_000_000 (missing true) ≡ effect (workspace (shown_of empty)) (Some empty)
+made_anew : rules (PutWorkspace (record { auto_apply = false; keep_versions = None })) 1_700_000_000 (missing true) ≡ effect (workspace (shown_of empty)) (Some empty)
 made_anew = refl
 
-no_room : rules (PutWorkspace (record { auto_apply = false })) 1_700_000_000 (missing false) ≡ effect (refused OverLimit) None
+no_room : rules (PutWorkspace (record { auto_apply = false; keep_versions = None })) 1_700_000_000 (missing false) ≡ effect (refused OverLimit) None
 no_room = refl
+
+-- ---- how many versions are kept
+
+-- a workspace that keeps so many, with versions 1 to 3, and what is left of these
+abbrev last_two : List Version
+last_two = version 2 2 a1 s2 ∷ version 3 3 a1 t1 ∷ []
+
+abbrev keeping : ℕ → List Version → Workspace
+keeping keep stored = record empty { settings = record { auto_apply = false; keep_versions = keep }; next_version = 4; versions = stored }
+
+abbrev three : Workspace
+three = keeping 3 (version 1 1 a1 s1 ∷ last_two)
+
+abbrev held_three : Workspace
+held_three = record three { holder = Lock x1 t1 }
+
+-- a lower number lets the oldest go at once
+lowered : rules (PutWorkspace (record { auto_apply = false; keep_versions = Some 2 })) 1_700_000_000 (there three) ≡ effect (workspace (shown_of (keeping 2 last_two))) (Some (keeping 2 last_two))
+lowered = refl
+
+-- but none while somebody holds, who is told
+lowered_under_a_lock : rules (PutWorkspace (record { auto_apply = true; keep_versions = Some 2 })) 1_700_000_000 (there held_three) ≡ effect (held (Lock x1 t1)) (Some held_three)
+lowered_under_a_lock = refl
+
+-- any other PUT changes the settings under a lock, too, and without a number it keeps the one that is there
+raised_under_a_lock : (rules (PutWorkspace (record { auto_apply = false; keep_versions = Some 4 })) 1_700_000_000 (there held_three)).left
+    ≡ Some (record held_three { settings = record { auto_apply = false; keep_versions = 4 } })
+raised_under_a_lock = refl
+
+number_kept : (rules (PutWorkspace (record { auto_apply = true; keep_versions = None })) 1_700_000_000 (there held_three)).left
+    ≡ Some (record held_three { settings = record { auto_apply = true; keep_versions = 3 } })
+number_kept = refl
+
+-- as one more comes, the oldest goes
+oldest_goes : rules (UpdateState (head 4 a1) t2 None) 1_700_000_000 (there three) ≡ effect done (Some (record three { next_version = 5; versions = version 2 2 a1 s2 ∷ version 3 3 a1 t1 ∷ version 4 4 a1 t2 ∷ [] }))
+oldest_goes = refl
+
+-- and where one alone is kept, it is the one that came
+newest_alone : rules (UpdateState (head 4 a1) t2 None) 1_700_000_000 (there (keeping 1 (version 3 3 a1 t1 ∷ []))) ≡ effect done (Some (record (keeping 1 (version 4 4 a1 t2 ∷ [])) { next_version = 5 }))
+newest_alone = refl
+
+-- three are too many where two are kept, and none or 1,001 is no such number
+too_many : AreVersions 2 4 (version 1 1 a1 s1 ∷ last_two) → ⊥
+too_many are = omega (arith, are.kept)
+
+no_such_number : (IsKeepCount 0 → ⊥) × (IsKeepCount 1_001 → ⊥)
+no_such_number = ((λ is. omega (arith, is.0)), (λ is. omega (arith, is.1)))
 
 -- a version by its number, and one that isn't kept
 first_read : rules (Look (look.Version 1)) 1_700_000_000 (there with_s1) ≡ effect (state s1) (Some with_s1)

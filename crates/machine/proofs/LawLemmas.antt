@@ -1,18 +1,21 @@
 -- The rules keep the laws of a workspace.
-use Rattle.std.proofs.Common.{◌≡◌, ℕ, ◌+◌, ◌-◌, ◌<◌, ◌≤◌, nat_le, Bool, true, false, cond, List, [], ◌∷◌, ◌++◌, length, drop, map, suc, zero, ◌&&◌, not, Option, Some, None, IsTrue, refl, sym, subst, ◌∙◌, arith, length-drop}
+use Rattle.std.proofs.Common.{◌≡◌, ◌⊎◌, inl, inr, ℕ, ◌+◌, ◌-◌, ◌<◌, ◌≤◌, nat_le, Bool, true, false, cond, List, [], ◌∷◌, ◌++◌, length, drop, map, suc, zero, ◌&&◌, not, Option, Some, None, IsTrue, refl, sym, subst, ◌∙◌, arith, length-append}
 use Rattle.std.specs.Prelude.{find, option_map}
 use Rattle.std.specs.List.{AllByRecursion}
 use Rattle.std.proofs.lemmas.Bool.{leb-true}
 use Rattle.basis.specs.declared.refusals.Refusal.{Refusal}
+use Rattle.basis.specs.declared.rows.Settings.{Settings}
 use Rattle.basis.specs.declared.rows.StateHead.{StateHead}
 use Rattle.machine.specs.Laws.{IsLawful, IsVersion, Rises, IsRun, is_pending, is_nobody, IsLawfulIfThere}
-use Rattle.machine.specs.Ranges.{IsHeadInRange}
+use Rattle.machine.specs.Ranges.{IsHeadInRange, IsKeepCount}
 use Rattle.machine.specs.Effects.{effect}
-use Rattle.machine.specs.Workspaces.{max_versions}
+use Rattle.machine.specs.Workspaces.{last_of}
 use Rattle.machine.specs.Succession.{Succession, first, same, other_lineage, old_serial, next, succession}
-use Rattle.machine.specs.Rules.{Outcome, refused, by_may_write, by_succession, numbered_update, number_left, with_version, max_number, refused_by, done_with, done_already, purge, purged, lock, unlock, released, is_released, force_unlock}
+use Rattle.machine.specs.Rules.{Outcome, refused, by_may_write, by_succession, numbered_update, number_left, with_version, max_number, refused_by, done_with, done_already, with_settings, put, purge, purged, lock, unlock, released, is_released, force_unlock}
 use Rattle.machine.specs.Settling.{is_waiting, first_waiting, to_start, started_if, settled}
 use Rattle.machine.proofs.SettlingLemmas.{release_is_lawful}
+use Rattle.machine.proofs.CutLemmas.{last_length}
+use Rattle.machine.proofs.PuttingLemmas.{put_becomes}
 use Rattle.machine.specs.declared.records.Holder.{Holder}
 use Rattle.machine.specs.declared.records.Holder.TheVariants.{Nobody, Lock, Run as HoldingRun}
 use Rattle.machine.specs.declared.records.Run.{Run}
@@ -63,13 +66,15 @@ version_is_lawful w n head text now e range moment lawful =
     let below : 0 < n = omega (arith, left.1) in
     let most : n + 1 ≤ 1_000_000_001 = omega (arith, left.2) in
     let rose : Rises 0 (map (λ (u : Version). u.number) w.versions) n = subst (λ (t : ℕ). Rises 0 (map (λ (u : Version). u.number) w.versions) t) (sym left.0) lawful.versions.rise in
-    let k : ℕ = length (w.versions ++ v ∷ []) - max_versions in
-    let kept : length (drop k (w.versions ++ v ∷ [])) ≤ max_versions = rw length-drop (omega arith) in
+    let staying : ℕ = w.settings.keep_versions - 1 in
+    let k : ℕ = length w.versions - staying in
+    let kept : length (last_of staying w.versions ++ v ∷ []) ≤ w.settings.keep_versions = rw length-append (omega (arith, last_length staying w.versions, lawful.versions.keep.0)) in
     record {
       versions = record {
+        keep = lawful.versions.keep;
         next = (omega arith, most);
-        rise = Rises-drop k 0 (w.versions ++ v ∷ []) (n + 1) (Rises-push 0 w.versions v below rose);
-        each = All-drop k (w.versions ++ v ∷ []) (All-push w.versions v lawful.versions.each (record { serial = range.0; lineage = range.1; created = moment }));
+        rise = Rises-push 0 (last_of staying w.versions) v below (Rises-drop k 0 w.versions n rose);
+        each = All-push (last_of staying w.versions) v (All-drop k w.versions lawful.versions.each) (record { serial = range.0; lineage = range.1; created = moment });
         kept = kept;
       };
       runs = lawful.runs;
@@ -97,10 +102,33 @@ still_is_lawful w lawful = subst (λ (start : Option ℕ). IsLawful (started_if 
 pub purge_is_lawful : (m : Option Refusal) (w : Workspace) → IsLawful w → IsLawfulIfThere (purge m w).left
 purge_is_lawful (Some refusal) w lawful = lawful
 purge_is_lawful None w lawful = still_is_lawful (purged w) (record {
-  versions = record { next = lawful.versions.next; rise = tt; each = tt; kept = omega arith };
+  versions = record { keep = lawful.versions.keep; next = lawful.versions.next; rise = tt; each = tt; kept = omega arith };
   runs = lawful.runs;
   released = lawful.released;
 })
+
+-- with other settings, of which the number is in range
+set_is_lawful : (settings : Settings) (w : Workspace) → IsKeepCount settings.keep_versions → IsLawful w → IsLawful (with_settings w settings)
+set_is_lawful settings w range lawful =
+    let k : ℕ = length w.versions - settings.keep_versions in
+    record {
+      versions = record {
+        keep = range;
+        next = lawful.versions.next;
+        rise = Rises-drop k 0 w.versions w.next_version lawful.versions.rise;
+        each = All-drop k w.versions lawful.versions.each;
+        kept = last_length settings.keep_versions w.versions;
+      };
+      runs = lawful.runs;
+      released = lawful.released;
+    }
+
+pub put_is_lawful : (settings : Settings) (w : Workspace) → IsKeepCount settings.keep_versions → IsLawful w → IsLawfulIfThere (put settings w).left
+put_is_lawful settings w range lawful = by_case (put_becomes settings w)
+  where
+    by_case : ((put settings w).left ≡ Some w) ⊎ ((put settings w).left ≡ Some (settled (with_settings w settings))) → IsLawfulIfThere (put settings w).left
+    by_case (inl h) = subst IsLawfulIfThere (sym h) lawful
+    by_case (inr h) = subst IsLawfulIfThere (sym h) (still_is_lawful (with_settings w settings) (set_is_lawful settings w range lawful))
 
 -- under a lock the runs stand as they did under nobody
 pub under_lock : (id text : List ℕ) (runs : List Run) → AllByRecursion (IsRun Nobody) runs → AllByRecursion (IsRun (Lock id text)) runs

@@ -2,6 +2,7 @@ pub mod StepLemmas
 pub mod RunLemmas
 pub mod RunRulings
 pub mod DeletionLemmas
+pub mod PuttingLemmas
 pub mod RunLawLemmas
 pub mod RuleLemmas
 pub mod SettlingLemmas

@@ -6,6 +6,7 @@ use Rattle.std.proofs.lemmas.Bool.{eqb-false}
 use Rattle.std.proofs.lemmas.Slice.Eq.{bytes_eq-Decides}
 use Rattle.basis.specs.Runs.{is_open}
 use Rattle.basis.specs.declared.rows.RunAsk.{RunAsk}
+use Rattle.basis.specs.declared.rows.Settings.{Settings}
 use Rattle.basis.specs.declared.rows.StateHead.{StateHead}
 use Rattle.basis.specs.declared.refusals.Refusal.TheVariants.{OverLimit}
 use Rattle.basis.specs.declared.runs.RunStatus.{RunStatus}
@@ -20,11 +21,12 @@ use Rattle.machine.specs.Workspaces.{max_open_runs, run_of, is_keyed, has_key, k
 use Rattle.machine.specs.Writing.{may_write}
 use Rattle.machine.specs.RunSteps.{RunStep, plan_only_steps, auto_apply_steps, confirmed_steps, next_status, is_action, is_status, is_last}
 use Rattle.machine.specs.Settling.{is_waiting, first_waiting, to_start, begun, started_if, settled}
-use Rattle.machine.specs.Rules.{refused, rules, with_version, with_settings, purged, locked, released, new_run, with_run, number_left, numbered_run, make_run, reported, frees, with_report, told_already, by_step, report}
+use Rattle.machine.specs.Rules.{refused, rules, with_version, settings_for, with_settings, put, purged, locked, released, new_run, with_run, number_left, numbered_run, make_run, reported, frees, with_report, told_already, by_step, report}
 use Rattle.machine.specs.Custody.{IsRefusal}
 use Rattle.machine.specs.Queue.{is_active_run, OneRunIsActive, PlanOnlyRunsStayOut, Starts, WaitedOrIsNew, RunsStartInOrder, GoesOn, StaysThere, RunsStay, AreInRange, Leads, ActionsComeAgain, KeyedCreationsComeAgain}
 use Rattle.machine.specs.Inner.Decisions.{status_begun, begun_by}
 use Rattle.machine.proofs.DeletionLemmas.{delete_left}
+use Rattle.machine.proofs.PuttingLemmas.{put_becomes}
 use Rattle.machine.specs.declared.acts.Act.{Act}
 use Rattle.machine.specs.declared.acts.Act.TheVariants.{Look, PutWorkspace, DeleteWorkspace, UpdateState, PurgeState, Lock as LockAct, Unlock, ForceUnlock, MakeRun, ReportRun}
 use Rattle.machine.specs.declared.records.Holder.{Holder}
@@ -170,6 +172,10 @@ purge_after : (w v : Workspace) (after : Option Workspace) → IsLawful w → (a
 purge_after w v after lawful (inl h) e = unchanged w v (sym h ∙ e)
 purge_after w v after lawful (inr h) e = settles w (purged w) v (same_runs w (purged w) lawful refl refl (λ n is. is)) (sym h ∙ e)
 
+put_after : (settings : Settings) (w v : Workspace) (after : Option Workspace) → IsLawful w → (after ≡ Some w) ⊎ (after ≡ Some (settled (with_settings w settings))) → after ≡ Some v → After w v
+put_after settings w v after lawful (inl h) e = unchanged w v (sym h ∙ e)
+put_after settings w v after lawful (inr h) e = settles w (with_settings w settings) v (same_runs w (with_settings w settings) lawful refl refl (λ n is. is)) (sym h ∙ e)
+
 lock_after : (w v : Workspace) (id text : List ℕ) (after : Option Workspace) → (after ≡ Some w) ⊎ (after ≡ Some (locked id text w)) → after ≡ Some v → After w v
 lock_after w v id text after (inl h) e = unchanged w v (sym h ∙ e)
 lock_after w v id text after (inr h) e =
@@ -276,7 +282,9 @@ run_after w v changed after settling e (inl h) = unchanged w v (sym h ∙ e)
 run_after w v changed after settling e (inr h) = settles w h.0 v (settling h.0 h.1) (sym h.2 ∙ e)
 
 after_act : (act : Act) (now : ℕ) (w v : Workspace) → IsLawful w → (rules act now (there w)).left ≡ Some v → After w v
-after_act (PutWorkspace settings) now w v lawful e = settles w (with_settings w settings) v (same_runs w (with_settings w settings) lawful refl refl (λ n is. is)) e
+after_act (PutWorkspace ask) now w v lawful e =
+    let settings : Settings = settings_for ask (Some w.settings) in
+    put_after settings w v (put settings w).left lawful (put_becomes settings w) e
 after_act (Look what) now w v lawful e = unchanged w v e
 after_act (UpdateState head text id) now w v lawful e =
     update_after w v head text now (λ t. (rules (UpdateState head text id) t (there w)).left) lawful (update_becomes head text w (may_write w.holder (holder_status w.holder w.runs) id)) e

@@ -5,19 +5,20 @@ use Rattle.std.proofs.lemmas.Slice.Eq.{bytes_eq-Decides}
 use Rattle.basis.specs.Names.{run_id}
 use Rattle.basis.specs.declared.refusals.Refusal.{Refusal}
 use Rattle.basis.specs.declared.refusals.Refusal.TheVariants.{BadMessage, TwoTokens, BadQuery, BadDigest, BadState, BadLock, BadBody, NoToken, BadToken, NeedWrite, NeedAdmin, NoRoute, NotFound, NoMethod, NotHeld, NotApplying, OtherLineage, OldSerial, WrongState, HeldByRun, OpenRuns, OverLimit, NoLength, TooLarge, Locked, HeadTooLarge, Unavailable}
-use Rattle.basis.specs.declared.rows.Settings.{Settings}
+use Rattle.basis.specs.declared.rows.SettingsAsk.{SettingsAsk}
 use Rattle.basis.specs.declared.rows.StateHead.{StateHead}
 use Rattle.machine.proofs.MissingLemmas.{IsPut, Misses, put_or_missed}
 use Rattle.basis.specs.declared.runs.RunStatus.{RunStatus}
 use Rattle.basis.specs.declared.runs.RunStatus.TheVariants.{Pending, Planning, Planned, Applying, Applied, PlannedAndFinished, Errored, Discarded, Canceled}
 use Rattle.machine.proofs.RunRulings.{comes_leaves, comes_held, comes_unlocked, look_comes, make_comes, report_comes}
 use Rattle.machine.proofs.DeletionLemmas.{delete_leaves, delete_tells, delete_unlocked}
+use Rattle.machine.proofs.PuttingLemmas.{put_leaves, put_tells, put_unlocked}
 use Rattle.machine.specs.Effects.{effect}
 use Rattle.machine.specs.Records.{Seen, missing, there}
 use Rattle.machine.specs.Workspaces.{holder_status}
 use Rattle.machine.specs.Writing.{may_write, is_applying}
 use Rattle.machine.specs.Succession.{Succession, first, same, other_lineage, old_serial, next, succession}
-use Rattle.machine.specs.Rules.{Outcome, refused, held, done, Ruling, rules, rules_missing, refused_by, by_may_write, by_succession, numbered_update, number_left, done_with, done_already, purge, lock, unlock, released, is_released, force_unlock}
+use Rattle.machine.specs.Rules.{Outcome, refused, held, done, Ruling, settings_for, rules, rules_missing, refused_by, by_may_write, by_succession, numbered_update, number_left, done_with, done_already, purge, lock, unlock, released, is_released, force_unlock}
 use Rattle.machine.specs.Custody.{IsRefusal, IsWriter, RefusalsChangeNothing, RefusalsTellTheHolder, WritesCarryTheId}
 use Rattle.machine.specs.declared.acts.Act.{Act}
 use Rattle.machine.specs.declared.acts.Act.TheVariants.{Look, PutWorkspace, DeleteWorkspace, UpdateState, PurgeState, Lock as LockAct, Unlock, ForceUnlock, MakeRun, ReportRun}
@@ -133,15 +134,15 @@ force_leaves w (Run n) is = refl
 pub refusals_change_nothing : RefusalsChangeNothing
 refusals_change_nothing act now (missing room) is = by_act (put_or_missed act)
   where
-    made : (room : Bool) (settings : Settings) → IsRefusal (rules_missing (PutWorkspace settings) room).answer → (rules_missing (PutWorkspace settings) room).left ≡ None
-    made true settings is = absurd is
-    made false settings is = refl
+    made : (room : Bool) (ask : SettingsAsk) → IsRefusal (rules_missing (PutWorkspace ask) room).answer → (rules_missing (PutWorkspace ask) room).left ≡ None
+    made true ask is = absurd is
+    made false ask is = refl
 
     by_act : IsPut act ⊎ Misses act → (rules_missing act room).left ≡ None
     by_act (inl put) =
         subst (λ (a : Act). (rules_missing a room).left ≡ None) (sym put.1) (made room put.0 (subst (λ (a : Act). IsRefusal (rules_missing a room).answer) put.1 is))
     by_act (inr misses) = ap (λ (r : Ruling). r.left) (misses room).0
-refusals_change_nothing (PutWorkspace settings) now (there w) is = absurd is
+refusals_change_nothing (PutWorkspace ask) now (there w) is = put_leaves (settings_for ask (Some w.settings)) w is
 refusals_change_nothing (UpdateState head text id) now (there w) is = update_leaves w head text now (may_write w.holder (holder_status w.holder w.runs) id) is
 refusals_change_nothing (Look what) now (there w) is = refl
 refusals_change_nothing DeleteWorkspace now (there w) is = delete_leaves w is
@@ -202,7 +203,7 @@ force_tells w (Lock id_held text) holder e = absurd (let none : ⊥ = cc in none
 force_tells w (Run n) holder e = run_tells w.holder holder e
 
 pub refusals_tell_the_holder : RefusalsTellTheHolder
-refusals_tell_the_holder (PutWorkspace settings) now w holder e = absurd (let none : ⊥ = cc in none)
+refusals_tell_the_holder (PutWorkspace ask) now w holder e = put_tells (settings_for ask (Some w.settings)) w holder e
 refusals_tell_the_holder (UpdateState head text id) now w holder e = update_tells w head text now (may_write w.holder (holder_status w.holder w.runs) id) holder e
 refusals_tell_the_holder (Look what) now w holder e = absurd ((look_comes what w).unheld holder e)
 refusals_tell_the_holder (PurgeState id) now w holder e = purge_tells w (may_write w.holder (holder_status w.holder w.runs) id) holder e
@@ -247,7 +248,7 @@ writer (Run n) status (Some id) out isnt e = decided (bytes_eq id (run_id n)) (i
     decided false c t u e = absurd (isnt Locked e)
 
 pub writes_carry_the_id : WritesCarryTheId
-writes_carry_the_id (PutWorkspace settings) now w id writes e = absurd writes
+writes_carry_the_id (PutWorkspace ask) now w id writes e = absurd writes
 writes_carry_the_id (UpdateState head state given) now w id writes e =
     subst (IsWriter w.holder (holder_status w.holder w.runs)) writes
     (writer w.holder (holder_status w.holder w.runs) given (λ m. (by_may_write m w head state now).answer) (λ refusal is. never_done refusal w.holder is) e)
@@ -266,9 +267,9 @@ writes_carry_the_id (ReportRun n action) now w id writes e = absurd writes
 pub missing_tells_no_holder : (act : Act) (room : Bool) (holder : Holder) → (rules_missing act room).answer ≡ held holder → ⊥
 missing_tells_no_holder act room holder e = by_act (put_or_missed act)
   where
-    made : (room : Bool) (settings : Settings) → (rules_missing (PutWorkspace settings) room).answer ≡ held holder → ⊥
-    made true settings e = cc
-    made false settings e = cc
+    made : (room : Bool) (ask : SettingsAsk) → (rules_missing (PutWorkspace ask) room).answer ≡ held holder → ⊥
+    made true ask e = cc
+    made false ask e = cc
 
     by_act : IsPut act ⊎ Misses act → ⊥
     by_act (inl put) = made room put.0 (subst (λ (a : Act). (rules_missing a room).answer ≡ held holder) put.1 e)
@@ -355,9 +356,9 @@ force_other w (Run n) e = run_other e
 missing_other : (act : Act) (room : Bool) → IsOther (rules_missing act room).answer
 missing_other act room e = by_act (put_or_missed act)
   where
-    made : (room : Bool) (settings : Settings) → IsOther (rules_missing (PutWorkspace settings) room).answer
-    made true settings e = cc
-    made false settings e = cc
+    made : (room : Bool) (ask : SettingsAsk) → IsOther (rules_missing (PutWorkspace ask) room).answer
+    made true ask e = cc
+    made false ask e = cc
 
     by_act : IsPut act ⊎ Misses act → ⊥
     by_act (inl put) = made room put.0 (subst (λ (a : Act). (rules_missing a room).answer ≡ refused Locked) put.1 e)
@@ -365,7 +366,7 @@ missing_other act room e = by_act (put_or_missed act)
 
 pub never_refused_as_locked : (act : Act) (now : ℕ) (s : Seen) → IsOther (rules act now s).answer
 never_refused_as_locked act now (missing room) e = missing_other act room e
-never_refused_as_locked (PutWorkspace settings) now (there w) e = cc
+never_refused_as_locked (PutWorkspace ask) now (there w) e = put_unlocked (settings_for ask (Some w.settings)) w e
 never_refused_as_locked (UpdateState head text id) now (there w) e = update_other w head text now (may_write w.holder (holder_status w.holder w.runs) id) e
 never_refused_as_locked (Look what) now (there w) e = (look_comes what w).unlocked e
 never_refused_as_locked (PurgeState id) now (there w) e = purge_other w (may_write w.holder (holder_status w.holder w.runs) id) e

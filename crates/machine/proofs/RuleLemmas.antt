@@ -1,34 +1,36 @@
 -- The rules keep the laws of a workspace: of every act.
-use Rattle.std.proofs.Common.{◌⊎◌, inl, inr, ℕ, Bool, true, false, refl, sym, subst, arith}
-use Rattle.basis.specs.declared.rows.Settings.{Settings}
+use Rattle.std.proofs.Common.{◌⊎◌, inl, inr, ℕ, Bool, true, false, Some, refl, sym, subst, arith}
+use Rattle.basis.specs.declared.rows.SettingsAsk.{SettingsAsk}
 use Rattle.machine.specs.Laws.{IsLawfulIfThere}
-use Rattle.machine.specs.Ranges.{IsInRange, IsMoment}
+use Rattle.machine.specs.Ranges.{IsSettingsAsk, IsInRange, IsMoment}
 use Rattle.machine.specs.Records.{Seen, missing, there, standing}
 use Rattle.machine.specs.Workspaces.{holder_status}
 use Rattle.machine.specs.Writing.{may_write}
-use Rattle.machine.specs.Rules.{Ruling, rules_missing, rules, with_settings}
+use Rattle.machine.specs.Rules.{Ruling, settings_for, rules_missing, rules}
 use Rattle.machine.proofs.MissingLemmas.{IsPut, Misses, put_or_missed}
-use Rattle.machine.proofs.LawLemmas.{still_is_lawful, purge_is_lawful, lock_is_lawful, unlock_is_lawful, force_is_lawful, update_is_lawful}
+use Rattle.machine.proofs.LawLemmas.{put_is_lawful, purge_is_lawful, lock_is_lawful, unlock_is_lawful, force_is_lawful, update_is_lawful}
 use Rattle.machine.proofs.RunLawLemmas.{make_is_lawful, report_is_lawful}
 use Rattle.machine.proofs.DeletionLemmas.{delete_is_lawful}
+use Rattle.machine.proofs.PuttingLemmas.{kept_in_range}
 use Rattle.machine.specs.declared.acts.Act.{Act}
 use Rattle.machine.specs.declared.acts.Act.TheVariants.{Look, PutWorkspace, DeleteWorkspace, UpdateState, PurgeState, Lock as LockAct, Unlock, ForceUnlock, MakeRun, ReportRun}
 
 pub rules_are_lawful : (act : Act) (now : ℕ) (s : Seen) → IsInRange act → IsMoment now → IsLawfulIfThere (standing s) → IsLawfulIfThere (rules act now s).left
 rules_are_lawful act now (missing room) range moment lawful = by_act (put_or_missed act)
   where
-    made : (room : Bool) (settings : Settings) → IsLawfulIfThere (rules_missing (PutWorkspace settings) room).left
-    made true settings = record {
-      versions = record { next = (omega arith, omega arith); rise = tt; each = tt; kept = omega arith };
+    made : (room : Bool) (ask : SettingsAsk) → IsSettingsAsk ask → IsLawfulIfThere (rules_missing (PutWorkspace ask) room).left
+    made true ask asked = record {
+      versions = record { keep = kept_in_range ask.keep_versions 100 asked (omega arith, omega arith); next = (omega arith, omega arith); rise = tt; each = tt; kept = omega arith };
       runs = record { next = (omega arith, omega arith); rise = tt; each = tt; open_runs = omega arith; keys = tt; held = tt };
       released = tt;
     }
-    made false settings = tt
+    made false ask asked = tt
 
     by_act : IsPut act ⊎ Misses act → IsLawfulIfThere (rules_missing act room).left
-    by_act (inl put) = subst (λ (a : Act). IsLawfulIfThere (rules_missing a room).left) (sym put.1) (made room put.0)
+    by_act (inl put) = subst (λ (a : Act). IsLawfulIfThere (rules_missing a room).left) (sym put.1) (made room put.0 (subst IsInRange put.1 range))
     by_act (inr misses) = subst (λ (r : Ruling). IsLawfulIfThere r.left) (sym (misses room).0) tt
-rules_are_lawful (PutWorkspace settings) now (there w) range moment lawful = still_is_lawful (with_settings w settings) (record { versions = lawful.versions; runs = lawful.runs; released = lawful.released })
+rules_are_lawful (PutWorkspace ask) now (there w) range moment lawful =
+    put_is_lawful (settings_for ask (Some w.settings)) w (kept_in_range ask.keep_versions w.settings.keep_versions range lawful.versions.keep) lawful
 rules_are_lawful (Look what) now (there w) range moment lawful = lawful
 rules_are_lawful (UpdateState head text id) now (there w) range moment lawful = update_is_lawful w head text now (may_write w.holder (holder_status w.holder w.runs) id) range moment lawful
 rules_are_lawful (PurgeState id) now (there w) range moment lawful = purge_is_lawful (may_write w.holder (holder_status w.holder w.runs) id) w lawful

@@ -4,13 +4,14 @@ use Rattle.std.specs.Option.{option_or}
 use Rattle.std.specs.Str.{bytes_eq}
 use Rattle.std.proofs.lemmas.Slice.Eq.{bytes_eq-Decides}
 use Rattle.basis.specs.declared.refusals.Refusal.{Refusal}
+use Rattle.basis.specs.declared.rows.Settings.{Settings}
 use Rattle.basis.specs.declared.rows.StateHead.{StateHead}
 use Rattle.machine.specs.Records.{there}
-use Rattle.machine.specs.Workspaces.{newest, holder_status, max_versions}
+use Rattle.machine.specs.Workspaces.{newest, holder_status}
 use Rattle.machine.specs.Writing.{may_write}
 use Rattle.machine.specs.Settling.{first_waiting, to_start, started_if, settled}
 use Rattle.machine.specs.Succession.{Succession, first, same, other_lineage, old_serial, next, succession, after_newest, lineages_differ}
-use Rattle.machine.specs.Rules.{done, no_state, state, state_answer, rules, by_may_write, by_succession, numbered_update, number_left, with_version, with_settings, purge, purged, locked, released, new_run, with_run, with_report}
+use Rattle.machine.specs.Rules.{done, no_state, state, state_answer, rules, by_may_write, by_succession, numbered_update, number_left, with_version, settings_for, with_settings, put, purge, purged, locked, released, new_run, with_run, with_report}
 use Rattle.machine.proofs.RunRulings.{IsMade, IsReported, comes_to, make_comes, report_comes}
 use Rattle.basis.specs.declared.rows.RunAsk.{RunAsk}
 use Rattle.basis.specs.declared.runs.RunAction.{RunAction}
@@ -21,6 +22,7 @@ use Rattle.machine.proofs.LawLemmas.{number_left-is}
 use Rattle.machine.proofs.PlainLemmas.{find_last_push}
 use Rattle.machine.proofs.RefusalLemmas.{never_done}
 use Rattle.machine.proofs.DeletionLemmas.{delete_left}
+use Rattle.machine.proofs.PuttingLemmas.{put_becomes}
 use Rattle.machine.specs.declared.acts.Act.TheVariants.{Look, PutWorkspace, DeleteWorkspace, UpdateState, PurgeState, Lock as LockAct, Unlock, ForceUnlock, MakeRun, ReportRun}
 use Rattle.machine.specs.declared.records.Version.{Version}
 use Rattle.machine.specs.declared.records.Workspace.{Workspace}
@@ -89,13 +91,13 @@ found_in_last test (suc k) [] x e = e
 found_in_last test (suc k) (y ∷ xs) x e = or_some (find_last test xs) (cond (test y) (Some y) None) x (found_in_last test k xs x e)
 
 -- of versions of which the oldest went
-found_or_made : (n k : ℕ) (vs : List Version) (made u : Version) → version_of n (drop k (vs ++ made ∷ [])) ≡ Some u → (u ≡ made) ⊎ (version_of n vs ≡ Some u)
+found_or_made : (n k : ℕ) (vs : List Version) (made u : Version) → version_of n (drop k vs ++ made ∷ []) ≡ Some u → (u ≡ made) ⊎ (version_of n vs ≡ Some u)
 found_or_made n k vs made u e =
-    chosen (made.number == n) (sym (find_last_push (λ (v : Version). v.number == n) vs made) ∙ found_in_last (λ (v : Version). v.number == n) k (vs ++ made ∷ []) u e)
+    chosen (made.number == n) (sym (find_last_push (λ (v : Version). v.number == n) (drop k vs) made) ∙ e)
   where
-    chosen : (b : Bool) → cond b (Some made) (version_of n vs) ≡ Some u → (u ≡ made) ⊎ (version_of n vs ≡ Some u)
+    chosen : (b : Bool) → cond b (Some made) (version_of n (drop k vs)) ≡ Some u → (u ≡ made) ⊎ (version_of n vs ≡ Some u)
     chosen true e = inl (let same_one : made ≡ u = cc in sym same_one)
-    chosen false e = inr e
+    chosen false e = inr (found_in_last (λ (v : Version). v.number == n) k vs u e)
 
 abbrev Numbers : Workspace → Workspace → Type 0
 Numbers w v = (w.next_run ≤ v.next_run) × (KeepsVersions w v ⊎ GainsVersion w v)
@@ -129,7 +131,7 @@ made_numbers w n head text now e =
         number = is;
         newest = newest_with w n head text now;
         next = ap (λ (m : ℕ). m + 1) is;
-        left = λ m u found. found_or_made m (length (w.versions ++ made ∷ []) - max_versions) w.versions made u found;
+        left = λ m u found. found_or_made m (length w.versions - (w.settings.keep_versions - 1)) w.versions made u found;
       }),
     )
 
@@ -147,6 +149,15 @@ succession_numbers w v head text now next e = number_numbers w v head text now (
 update_numbers : (w v : Workspace) (head : StateHead) (text : List ℕ) (now : ℕ) (m : Option Refusal) → (by_may_write m w head text now).left ≡ Some v → Numbers w v
 update_numbers w v head text now (Some refusal) e = same_numbers w v e
 update_numbers w v head text now None e = succession_numbers w v head text now (succession w.versions text head) e
+
+-- what is left after a PUT was there
+set_numbers : (w : Workspace) (settings : Settings) → Numbers w (with_settings w settings)
+set_numbers w settings =
+    (omega arith, inl (record { next = refl; left = λ n u e. found_in_last (λ (v : Version). v.number == n) (length w.versions - settings.keep_versions) w.versions u e }))
+
+put_numbers : (settings : Settings) (w v : Workspace) (after : Option Workspace) → after ≡ Some v → (after ≡ Some w) ⊎ (after ≡ Some (settled (with_settings w settings))) → Numbers w v
+put_numbers settings w v after e (inl h) = same_numbers w v (sym h ∙ e)
+put_numbers settings w v after e (inr h) = settled_numbers w (with_settings w settings) v (sym h ∙ e) (set_numbers w settings)
 
 -- none are left after a purge
 purged_numbers : (w : Workspace) → Numbers w (purged w)
@@ -182,7 +193,9 @@ report_numbers w v n action now e =
     run_numbers w v (IsReported w n action) _ (λ u is. subst (Numbers w) (sym is.is) (kept_numbers w (with_report n action is.status w) refl refl refl)) e (comes_to (report_comes w n action))
 
 pub numbers_rise : NumbersRise
-numbers_rise (PutWorkspace settings) now w v e = settled_numbers w (with_settings w settings) v e (kept_numbers w (with_settings w settings) refl refl refl)
+numbers_rise (PutWorkspace ask) now w v e =
+    let settings : Settings = settings_for ask (Some w.settings) in
+    put_numbers settings w v (put settings w).left e (put_becomes settings w)
 numbers_rise (UpdateState head text id) now w v e = update_numbers w v head text now (may_write w.holder (holder_status w.holder w.runs) id) e
 numbers_rise (Look what) now w v e = same_numbers w v e
 numbers_rise DeleteWorkspace now w v e = same_numbers w v (delete_left w v e)

@@ -4,7 +4,7 @@ use Rattle.machine.specs.Workspaces.{new_workspace}
 use Rattle.machine.specs.Settling.{started_if}
 use Rattle.machine.specs.Ranges.{IsInRange, IsMoment}
 use Rattle.machine.specs.Records.{Seen, standing}
-use Rattle.machine.specs.Rules.{rules, with_settings, purged, locked, released, new_run, with_run, reported}
+use Rattle.machine.specs.Rules.{rules, purged, locked, released, new_run, with_run, reported}
 use Rattle.machine.specs.declared.acts.Act.{Act}
 use Rattle.machine.specs.declared.acts.Edit.{Edit}
 use Rattle.machine.specs.declared.acts.Edit.TheVariants.{Make, Configure, Remove, AddVersion, Purge, Hold, Release, AddRun, Report}
@@ -21,7 +21,7 @@ left_above (Some outgoing) versions = filter (λ (v : Version). nat_lt outgoing 
 -- the workspace after an edit
 abbrev pub edited : Edit → Option Workspace → Option Workspace
 edited (Make settings) w = Some (new_workspace settings)
-edited (Configure settings) w = option_map (λ (v : Workspace). with_settings v settings) w
+edited (Configure settings outgoing) w = option_map (λ (v : Workspace). record v { settings = settings; versions = left_above outgoing v.versions }) w
 edited Remove w = None
 edited (AddVersion version outgoing) w =
     option_map (λ (v : Workspace). record v { next_version = version.number + 1; versions = left_above outgoing (v.versions ++ version ∷ []) }) w

@@ -1,10 +1,11 @@
 -- Custody, as laws of the rules: who writes, how long a lock holds, what becomes of versions, and that repeats change nothing.
-use Rattle.std.specs.Prelude.{◌≡◌, ◌≤◌, ◌⊎◌, ◌+◌, ℕ, Bool, List, [], Option, Some, None, IsSome, ⊤}
+use Rattle.std.specs.Prelude.{◌≡◌, ◌≤◌, ◌⊎◌, ◌+◌, ℕ, Bool, false, List, [], Option, Some, None, IsSome, ⊤}
 use Rattle.basis.specs.Names.{run_id}
 use Rattle.basis.specs.declared.rows.Look.TheVariants as look
 use Rattle.basis.specs.declared.rows.StateHead.{StateHead}
 use Rattle.basis.specs.declared.runs.RunStatus.{RunStatus}
 use Rattle.basis.specs.declared.runs.RunStatus.TheVariants.{Applying}
+use Rattle.machine.specs.Laws.{is_nobody}
 use Rattle.machine.specs.Records.{Seen, missing, there, standing}
 use Rattle.machine.specs.Rules.{Outcome, refused, held, done, no_state, state, workspace, the_run, versions, runs, rules}
 use Rattle.machine.specs.Units.{version_of}
@@ -45,7 +46,7 @@ RefusalsTellTheHolder = (act : Act) (now : ℕ) (w : Workspace) (holder : Holder
 
 -- an act that writes: an update or a purge, with this ID
 abbrev pub WritesWith : Act → Option (List ℕ) → Type 0
-WritesWith (PutWorkspace settings) id = ⊥
+WritesWith (PutWorkspace ask) id = ⊥
 WritesWith (Look what) id = ⊥
 WritesWith (UpdateState head text given) id = given ≡ id
 WritesWith (PurgeState given) id = given ≡ id
@@ -67,6 +68,11 @@ abbrev pub WritesCarryTheId : Type 0
 WritesCarryTheId = (act : Act) (now : ℕ) (w : Workspace) (id : Option (List ℕ))
     → WritesWith act id → (rules act now (there w)).answer ≡ done → IsWriter w.holder (holder_status w.holder w.runs) id
 
+-- while somebody holds, versions change by an accepted update or purge, with the holder's ID, and by nothing else
+abbrev pub HeldVersionsChangeByTheId : Type 0
+HeldVersionsChangeByTheId = (act : Act) (now : ℕ) (w v : Workspace) → is_nobody w.holder ≡ false → (rules act now (there w)).left ≡ Some v
+    → (v.versions ≡ w.versions) ⊎ ((id : Option (List ℕ)) × WritesWith act id × ((rules act now (there w)).answer ≡ done) × IsWriter w.holder (holder_status w.holder w.runs) id)
+
 -- under a lock, versions change by an update or a purge that carried its ID, and by nothing else
 abbrev pub VersionsChangeByTheId : Type 0
 VersionsChangeByTheId = (act : Act) (now : ℕ) (w v : Workspace) (own text : List ℕ)
@@ -74,7 +80,7 @@ VersionsChangeByTheId = (act : Act) (now : ℕ) (w v : Workspace) (own text : Li
 
 -- an act that releases the lock of this ID
 abbrev pub Releases : Act → List ℕ → Type 0
-Releases (PutWorkspace settings) own = ⊥
+Releases (PutWorkspace ask) own = ⊥
 Releases (Look what) own = ⊥
 Releases (UpdateState head text id) own = ⊥
 Releases (PurgeState id) own = ⊥
@@ -140,7 +146,7 @@ NumbersRise = (act : Act) (now : ℕ) (w v : Workspace) → (rules act now (ther
 
 -- an act that changes nothing more where it comes again: every one but the creation of a run without a key
 abbrev pub IsRepeatable : Act → Type 0
-IsRepeatable (PutWorkspace settings) = ⊤
+IsRepeatable (PutWorkspace ask) = ⊤
 IsRepeatable (Look what) = ⊤
 IsRepeatable (UpdateState head text id) = ⊤
 IsRepeatable (PurgeState id) = ⊤

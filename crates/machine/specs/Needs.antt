@@ -5,6 +5,8 @@ use Rattle.basis.specs.declared.rows.Look.TheVariants as look
 use Rattle.machine.specs.declared.acts.Act.{Act}
 use Rattle.machine.specs.declared.acts.Act.TheVariants.{Look, PutWorkspace, DeleteWorkspace, UpdateState, PurgeState, Lock, Unlock, ForceUnlock, MakeRun, ReportRun}
 use Rattle.machine.specs.declared.acts.Needs.{Needs}
+use Rattle.machine.specs.declared.acts.Staying.{Staying}
+use Rattle.machine.specs.declared.acts.Staying.TheVariants.{StayAll, MakeRoom, StayAtMost}
 
 pub record Needed : Type 0 where
   -- the act makes the workspace where there is none: the organization's workspaces are counted there
@@ -15,8 +17,8 @@ pub record Needed : Type 0 where
   pub newest : Bool
   -- the text that the newest version's text is compared with
   pub text : Option (List ℕ)
-  -- which versions go as one more comes
-  pub outgoing : Bool
+  -- which versions go: none, those that make room for one more, or all but the last so many
+  pub outgoing : Staying
   -- the version of a number
   pub version : Option ℕ
   -- the run of a number, or the one that has a key
@@ -28,7 +30,7 @@ pub record Needed : Type 0 where
   pub open_runs : Bool
 
 abbrev pub nothing : Needed
-nothing = record { makes = false; holder_status = false; newest = false; text = None; outgoing = false; version = None; run = None; key = None; waiting = false; open_runs = false }
+nothing = record { makes = false; holder_status = false; newest = false; text = None; outgoing = StayAll; version = None; run = None; key = None; waiting = false; open_runs = false }
 
 -- what is told of a workspace needs what it tells
 abbrev pub needs_of_look : AnyLook → Needed
@@ -39,11 +41,16 @@ needs_of_look (look.Versions after) = nothing
 needs_of_look (look.Run n) = record nothing { run = Some n }
 needs_of_look (look.Runs after) = nothing
 
+-- a PUT that asks for no number of versions lets none go
+abbrev pub staying_for : Option ℕ → Staying
+staying_for None = StayAll
+staying_for (Some keep) = StayAtMost keep
+
 abbrev pub needs : Act → Needed
 needs (Look what) = needs_of_look what
-needs (PutWorkspace settings) = record nothing { makes = true; newest = true }
+needs (PutWorkspace ask) = record nothing { makes = true; newest = true; outgoing = staying_for ask.keep_versions }
 needs DeleteWorkspace = record nothing { open_runs = true }
-needs (UpdateState head text id) = record nothing { holder_status = true; newest = true; text = Some text; outgoing = true }
+needs (UpdateState head text id) = record nothing { holder_status = true; newest = true; text = Some text; outgoing = MakeRoom }
 needs (PurgeState id) = record nothing { holder_status = true }
 needs (Lock id text) = nothing
 needs (Unlock id) = record nothing { waiting = true }

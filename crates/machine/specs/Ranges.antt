@@ -1,8 +1,9 @@
 -- The ranges of what is asked.
 use Rattle.std.specs.Prelude.{ℕ, ◌^◌, ◌<◌, ◌≤◌, length, IfSome, IsTrue, ⊤}
 use Rattle.basis.specs.Names.{is_free_id, has_length}
-use Rattle.basis.specs.declared.numbers.TheConstants.{MAX_MOMENT}
+use Rattle.basis.specs.declared.numbers.TheConstants.{MAX_MOMENT, MAX_KEPT}
 use Rattle.basis.specs.declared.rows.RunAsk.{RunAsk}
+use Rattle.basis.specs.declared.rows.SettingsAsk.{SettingsAsk}
 use Rattle.basis.specs.declared.rows.StateHead.{StateHead}
 use Rattle.machine.specs.declared.acts.Act.{Act}
 use Rattle.machine.specs.declared.acts.Act.TheVariants.{Look, PutWorkspace, DeleteWorkspace, UpdateState, PurgeState, Lock as LockAct, Unlock, ForceUnlock, MakeRun, ReportRun}
@@ -15,13 +16,21 @@ IsHeadInRange head = (head.serial < 2 ^ 63) × (length head.lineage ≤ 256)
 abbrev pub IsRunAsk : RunAsk → Type 0
 IsRunAsk ask = IfSome ask.key (λ key. IsTrue (has_length 1 64 key)) × (length ask.message ≤ 1_000)
 
+-- how many versions a workspace keeps
+abbrev pub IsKeepCount : ℕ → Type 0
+IsKeepCount keep = (1 ≤ keep) × (keep ≤ MAX_KEPT)
+
+-- what a PUT asks of a workspace's settings is in range
+abbrev pub IsSettingsAsk : SettingsAsk → Type 0
+IsSettingsAsk ask = IfSome ask.keep_versions IsKeepCount
+
 -- a moment, in seconds since 1970
 abbrev pub IsMoment : ℕ → Type 0
 IsMoment now = now ≤ MAX_MOMENT
 
 -- the documents of an act are in their ranges
 abbrev pub IsInRange : Act → Type 0
-IsInRange (PutWorkspace settings) = ⊤
+IsInRange (PutWorkspace ask) = IsSettingsAsk ask
 IsInRange (Look what) = ⊤
 IsInRange (UpdateState head text id) = IsHeadInRange head
 IsInRange (PurgeState id) = ⊤

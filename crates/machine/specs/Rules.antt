@@ -1,13 +1,14 @@
 -- The rules: what an act on a workspace is answered, and the workspace after it. A refusal changes nothing.
-use Rattle.std.specs.Prelude.{ℕ, ◌+◌, Bool, false, not, ◌&&◌, nat_lt, ◌==◌, cond, List, [], ◌∷◌, ◌++◌, map, Option, Some, None}
+use Rattle.std.specs.Prelude.{ℕ, ◌+◌, ◌-◌, Bool, false, not, ◌&&◌, nat_lt, ◌==◌, cond, List, [], ◌∷◌, ◌++◌, length, map, Option, Some, None}
 use Rattle.std.specs.Str.{bytes_eq}
 use Rattle.basis.specs.Numbers.{within}
-use Rattle.basis.specs.declared.numbers.TheConstants.{MAX_NUMBER}
+use Rattle.basis.specs.declared.numbers.TheConstants.{MAX_NUMBER, FIRST_KEPT}
 use Rattle.basis.specs.declared.refusals.Refusal.{Refusal}
 use Rattle.basis.specs.declared.refusals.Refusal.TheVariants.{NotFound, OtherLineage, OldSerial, OverLimit, WrongState, HeldByRun, OpenRuns, Locked}
 use Rattle.basis.specs.declared.rows.Look.{Look as AnyLook}
 use Rattle.basis.specs.declared.rows.Look.TheVariants as look
 use Rattle.basis.specs.declared.rows.Settings.{Settings}
+use Rattle.basis.specs.declared.rows.SettingsAsk.{SettingsAsk}
 use Rattle.basis.specs.declared.rows.StateHead.{StateHead}
 use Rattle.basis.specs.declared.rows.RunAsk.{RunAsk}
 use Rattle.basis.specs.declared.rows.Listing.{Listing}
@@ -18,12 +19,12 @@ use Rattle.basis.specs.declared.runs.RunStatus.{RunStatus}
 use Rattle.basis.specs.declared.runs.RunStatus.TheVariants.{Pending, Planning}
 use Rattle.basis.specs.declared.runs.RunAction.{RunAction}
 use Rattle.machine.specs.Effects.{Effect, effect}
-use Rattle.machine.specs.Laws.{holds}
+use Rattle.machine.specs.Laws.{holds, is_nobody}
 use Rattle.machine.specs.RunSteps.{next_status, is_last}
 use Rattle.machine.specs.Records.{Seen, missing, there}
 use Rattle.machine.specs.Showing.{shown_of, versions_listed, runs_listed}
 use Rattle.machine.specs.Units.{version_of}
-use Rattle.machine.specs.Workspaces.{newest, last_of, max_versions, max_open_runs, new_workspace, holder_status, run_of, keyed_run, open_runs}
+use Rattle.machine.specs.Workspaces.{newest, last_of, max_open_runs, new_workspace, holder_status, run_of, keyed_run, open_runs}
 use Rattle.machine.specs.Writing.{may_write}
 use Rattle.machine.specs.Settling.{settled}
 use Rattle.machine.specs.Succession.{Succession, first, same, other_lineage, old_serial, next, succession}
@@ -65,12 +66,12 @@ Ruling = Effect Outcome (Option Workspace)
 abbrev pub max_number : ℕ
 max_number = MAX_NUMBER
 
--- an accepted update: the version gets the next number, and of too many versions the oldest go
+-- an accepted update: the version gets the next number, and of those before it the oldest go, so that with it no more stay than the workspace keeps
 abbrev pub with_version : Workspace → ℕ → StateHead → List ℕ → ℕ → Workspace
 with_version w number head text now =
     record w {
       next_version = number + 1;
-      versions = last_of max_versions (w.versions ++ (record { number = number; serial = head.serial; lineage = head.lineage; created = now; text = text }) ∷ []);
+      versions = last_of (w.settings.keep_versions - 1) w.versions ++ (record { number = number; serial = head.serial; lineage = head.lineage; created = now; text = text }) ∷ [];
     }
 
 -- an accepted change: the workspace settles, and what is shown is the workspace after that
@@ -118,8 +119,30 @@ abbrev pub state_answer : Option Version → Outcome
 state_answer None = no_state
 state_answer (Some v) = state v.text
 
+-- how many versions are kept: as many as are asked for; where none are, as many as before, and FIRST_KEPT of a workspace that is made
+abbrev pub kept_before : Option Settings → ℕ
+kept_before None = FIRST_KEPT
+kept_before (Some settings) = settings.keep_versions
+
+abbrev pub kept_for : Option ℕ → ℕ → ℕ
+kept_for None before = before
+kept_for (Some asked) before = asked
+
+-- the settings that a PUT asks for, of a workspace that is there with settings or is to be made
+abbrev pub settings_for : SettingsAsk → Option Settings → Settings
+settings_for ask before = record { auto_apply = ask.auto_apply; keep_versions = kept_for ask.keep_versions (kept_before before) }
+
+-- other settings: of more versions than they keep, the oldest go
 abbrev pub with_settings : Workspace → Settings → Workspace
-with_settings w settings = record w { settings = settings }
+with_settings w settings = record w { settings = settings; versions = last_of settings.keep_versions w.versions }
+
+-- whether versions would go while somebody holds, where no more than so many stay
+abbrev pub takes_held : ℕ → Workspace → Bool
+takes_held keep w = not (is_nobody w.holder) && nat_lt keep (length w.versions)
+
+-- PUT of a workspace that is there: it gets the settings, but while somebody holds no version goes by them
+abbrev pub put : Settings → Workspace → Ruling
+put settings w = cond (takes_held settings.keep_versions w) (effect (refused_by Locked w.holder) (Some w)) (shown_with (with_settings w settings))
 
 -- a purge: every version goes, and the next number stays
 abbrev pub purged : Workspace → Workspace
@@ -238,11 +261,11 @@ told (look.Runs after) w = runs (runs_listed after w.runs)
 
 -- a workspace that is missing is made by PUT where there is room, and nothing else finds it
 abbrev pub rules_missing : Act → Bool → Ruling
-rules_missing (PutWorkspace settings) room = cond room (shown_with (new_workspace settings)) (effect (refused OverLimit) None)
+rules_missing (PutWorkspace ask) room = cond room (shown_with (new_workspace (settings_for ask None))) (effect (refused OverLimit) None)
 rules_missing act room = effect (refused NotFound) None
 
 abbrev pub rules_there : Act → ℕ → Workspace → Ruling
-rules_there (PutWorkspace settings) now w = shown_with (with_settings w settings)
+rules_there (PutWorkspace ask) now w = put (settings_for ask (Some w.settings)) w
 rules_there (Look what) now w = effect (told what w) (Some w)
 rules_there (UpdateState head text id) now w = update w head text id now
 rules_there (PurgeState id) now w = purge (may_write w.holder (holder_status w.holder w.runs) id) w

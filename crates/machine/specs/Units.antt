@@ -1,14 +1,16 @@
 -- What a decision sees of a workspace.
-use Rattle.std.specs.Prelude.{ℕ, Bool, true, false, ◌==◌, cond, List, [], ◌∷◌, Option, Some, None, is_some, option_map, option_and_then}
+use Rattle.std.specs.Prelude.{ℕ, ◌-◌, Bool, true, false, ◌==◌, cond, List, [], ◌∷◌, Option, Some, None, is_some, option_map, option_and_then}
 use Rattle.std.specs.Option.{option_or}
 use Rattle.std.specs.FinMap.{get}
 use Rattle.std.specs.Str.{bytes_eq}
 use Rattle.machine.specs.Records.{count_of}
-use Rattle.machine.specs.Workspaces.{max_versions, newest, outgoing, holder_status, run_of, keyed_run, open_runs}
+use Rattle.machine.specs.Workspaces.{newest, outgoing, holder_status, run_of, keyed_run, open_runs}
 use Rattle.machine.specs.Settling.{first_waiting}
 use Rattle.machine.specs.declared.acts.Act.{Act}
 use Rattle.machine.specs.Needs.{Needed, needs}
 use Rattle.machine.specs.declared.acts.Newest.{Newest}
+use Rattle.machine.specs.declared.acts.Staying.{Staying}
+use Rattle.machine.specs.declared.acts.Staying.TheVariants.{StayAll, MakeRoom, StayAtMost}
 use Rattle.machine.specs.declared.acts.WorkspaceUnit.{WorkspaceUnit}
 use Rattle.machine.specs.declared.acts.Unit.{Unit as AnyUnit}
 use Rattle.machine.specs.declared.acts.Unit.TheVariants.{Absent, Present}
@@ -46,6 +48,12 @@ abbrev pub if_needed : {X : Type 0} → Bool → Option X → Option X
 if_needed true part = part
 if_needed false part = None
 
+-- the greatest number of the versions that go, of a workspace that keeps so many: one more that comes is one of those
+abbrev pub outgoing_by : Staying → ℕ → List Version → Option ℕ
+outgoing_by StayAll keep versions = None
+outgoing_by MakeRoom keep versions = outgoing (keep - 1) versions
+outgoing_by (StayAtMost staying) keep versions = outgoing staying versions
+
 abbrev pub newest_unit : Option (List ℕ) → Version → Newest
 newest_unit text v = record { number = v.number; serial = v.serial; lineage = v.lineage; is_same = is_text text v.text }
 
@@ -58,7 +66,7 @@ unit_for need w = record {
   next_version = w.next_version;
   next_run = w.next_run;
   newest = if_needed need.newest (option_map (newest_unit need.text) (newest w.versions));
-  outgoing = if_needed need.outgoing (outgoing max_versions w.versions);
+  outgoing = outgoing_by need.outgoing w.settings.keep_versions w.versions;
   first_waiting = if_needed need.waiting (first_waiting w.runs);
   has_version = has_version need.version w.versions;
   asked_run = asked_run need.run need.key w.runs;

@@ -1,5 +1,5 @@
 -- Parts of a workspace, and the laws that always hold of one.
-use Rattle.std.specs.Prelude.{ℕ, ◌+◌, ◌-◌, Bool, false, ◌==◌, List, [], ◌∷◌, length, take, drop, filter, find, Option, Some, None, option_map}
+use Rattle.std.specs.Prelude.{ℕ, ◌-◌, Bool, false, ◌==◌, List, [], ◌∷◌, length, take, drop, filter, find, Option, Some, None, option_map}
 use Rattle.std.specs.Str.{bytes_eq}
 use Rattle.basis.specs.Runs.{is_open}
 use Rattle.basis.specs.declared.rows.Settings.{Settings}
@@ -9,10 +9,6 @@ use Rattle.machine.specs.declared.records.Holder.TheVariants.{Nobody, Lock, Run 
 use Rattle.machine.specs.declared.records.Version.{Version}
 use Rattle.machine.specs.declared.records.Run.{Run}
 use Rattle.machine.specs.declared.records.Workspace.{Workspace}
-
--- the most versions that a workspace keeps
-abbrev pub max_versions : ℕ
-max_versions = 100
 
 -- the most open runs of a workspace
 abbrev pub max_open_runs : ℕ
@@ -28,9 +24,9 @@ newest (v ∷ w ∷ vs) = newest (w ∷ vs)
 abbrev pub last_of : ℕ → List Version → List Version
 last_of most vs = drop (length vs - most) vs
 
--- the greatest number of those that go as one more version comes and `most` are kept: that of the version before the last `most` less one
+-- the greatest number of those that go where the last `staying` stay
 abbrev pub outgoing : ℕ → List Version → Option ℕ
-outgoing most vs = option_map (λ (v : Version). v.number) (newest (take (length vs + 1 - most) vs))
+outgoing staying vs = option_map (λ (v : Version). v.number) (newest (take (length vs - staying) vs))
 
 -- a workspace at its creation
 abbrev pub new_workspace : Settings → Workspace

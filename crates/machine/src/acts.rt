@@ -1,11 +1,11 @@
 //! What is asked of a workspace, what a decision needs of it, and what is decided.
 ghost use Rattle.std.specs.Prelude.{◌≡◌, option_copied};
-ghost use Rattle.machine.specs.Needs.{needs, needs_of_look, nothing, needed_of};
+ghost use Rattle.machine.specs.Needs.{needs, needs_of_look, nothing, staying_for, needed_of};
 
 use crate::records::{Holder, Run, Version};
 use basis::{
-    Bytes, HolderId, Limit, LockId, Look, Moment, Number, Refusal, RunAction, RunAsk, RunStatus,
-    Settings, StateHead, Text,
+    Bytes, HolderId, KeepCount, Limit, LockId, Look, Moment, Number, Refusal, RunAction, RunAsk,
+    RunStatus, Settings, SettingsAsk, StateHead, Text,
 };
 
 /// What is asked of one workspace, its documents read.
@@ -14,7 +14,7 @@ pub enum Act {
     /// Something is told of it, and nothing changes.
     Look(Look),
     /// Makes the workspace, or sets the settings of the one that is there.
-    PutWorkspace(Settings),
+    PutWorkspace(SettingsAsk),
     /// The workspace goes, with its versions and runs.
     DeleteWorkspace,
     /// Terraform's `POST` of a state, with the ID of the lock that the caller says it holds.
@@ -42,6 +42,17 @@ pub enum Act {
     ReportRun(Number, RunAction),
 }
 
+/// Which versions stay, where it is asked which go: those before them.
+#[derive(Clone, Copy)]
+pub enum Staying {
+    /// All of them: it isn't asked.
+    StayAll,
+    /// One more comes: the last that stay beside it, of as many as the workspace keeps.
+    MakeRoom,
+    /// The last so many.
+    StayAtMost(KeepCount),
+}
+
 /// What a decision on an act needs of its workspace besides the workspace's own row: a store is asked
 /// for nothing else.
 #[derive(Drop)]
@@ -55,8 +66,8 @@ pub struct Needs<'a> {
     pub newest: bool,
     /// The text that the newest version's text is compared with.
     pub text: Option<&'a Bytes>,
-    /// Whether it is needed which versions go as one more comes.
-    pub outgoing: bool,
+    /// Whether it is needed which versions go, and by which that stay.
+    pub outgoing: Staying,
     /// The number of the version that is asked of.
     pub version: Option<Number>,
     /// The number of the run that is asked of.
@@ -78,7 +89,7 @@ fn nothing<'a>() -> Needs<'a>
         holder_status: false,
         newest: false,
         text: None,
-        outgoing: false,
+        outgoing: Staying::StayAll,
         version: None,
         run: None,
         key: None,
@@ -116,6 +127,16 @@ fn key_of(ask: &RunAsk) -> Option<&Text>
     }
 }
 
+// A PUT that asks for no number of versions lets none go.
+fn staying_for(keep: Option<KeepCount>) -> Staying
+    ensures { result ≡ staying_for keep }
+{
+    match keep {
+        Some(keep) => Staying::StayAtMost(keep),
+        None => Staying::StayAll,
+    }
+}
+
 impl Act {
     /// What a decision on the act needs.
     pub fn needs(&self) -> Needs<'_>
@@ -123,9 +144,10 @@ impl Act {
     {
         match self {
             Act::Look(look) => needs_of_look(*look),
-            Act::PutWorkspace(_) => Needs {
+            Act::PutWorkspace(ask) => Needs {
                 makes: true,
                 newest: true,
+                outgoing: staying_for(ask.keep_versions),
                 ..nothing()
             },
             Act::DeleteWorkspace => Needs {
@@ -136,7 +158,7 @@ impl Act {
                 holder_status: true,
                 newest: true,
                 text: Some(text),
-                outgoing: true,
+                outgoing: Staying::MakeRoom,
                 ..nothing()
             },
             Act::PurgeState { .. } => Needs {
@@ -185,7 +207,7 @@ pub struct WorkspaceUnit {
     pub next_version: u64,
     pub next_run: u64,
     pub newest: Option<Newest>,
-    /// The greatest number of the versions that go as one more comes.
+    /// The greatest number of the versions that go.
     pub outgoing: Option<Number>,
     /// The first run that waits: queued, pending, and of the least number.
     pub first_waiting: Option<Number>,
@@ -238,8 +260,12 @@ pub enum Answer {
 pub enum Edit {
     /// Makes the workspace.
     Make(Settings),
-    /// Sets the settings of the workspace that is there.
-    Configure(Settings),
+    /// Sets the settings of the workspace that is there, and lets the versions with numbers up to
+    /// `outgoing` go.
+    Configure {
+        settings: Settings,
+        outgoing: Option<Number>,
+    },
     /// The workspace goes, with its versions and runs.
     Remove,
     /// Puts a version behind the others, and lets those with numbers up to `outgoing` go.

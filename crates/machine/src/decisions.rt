@@ -1,32 +1,34 @@
 //! Decisions: what becomes of an act, from the few values that it depends on.
-ghost use Rattle.std.specs.Prelude.{◌≡◌, ◌+◌, ◌-◌, ℕ, List, ◌<◌, ◌^◌, Option, Some, None, IfOk, cond, option_map};
+ghost use Rattle.std.specs.Prelude.{◌≡◌, ◌+◌, ◌-◌, ℕ, List, not, ◌<◌, ◌^◌, Option, Some, None, IfSome, IfOk, cond, is_some, option_map};
 ghost use Rattle.std.specs.Str.{bytes_eq};
 ghost use Rattle.machine.specs.Units.{unit_of};
 ghost use Rattle.machine.specs.Records.{seen_in};
 ghost use Rattle.machine.specs.Laws.{IsLawfulOrganization};
-ghost use Rattle.machine.specs.Inner.Decisions.{decision_of, decision_missing, decided_look, decided_update, decided_after, decided_version, decided_read, decided_purge, decided_idle, decided_delete, decided_version_read, decided_lock, decided_unlock, decided_force, decided_number_of_run, decided_make, decided_read_run, decided_step, decided_report, start_with, status_begun, begun_by, changing, shown_as, new_shown};
+ghost use Rattle.machine.specs.Inner.Decisions.{AsksInRange, decision_of, decision_missing, decided_look, decided_put, decided_update, decided_after, decided_version, decided_read, decided_purge, decided_idle, decided_delete, decided_version_read, decided_lock, decided_unlock, decided_force, decided_number_of_run, decided_make, decided_read_run, decided_step, decided_report, start_with, status_begun, begun_by, changing, shown_as, new_shown};
 ghost use Rattle.machine.specs.Meaning.{Meets};
 ghost use Rattle.machine.specs.Settling.{to_start};
 ghost use Rattle.machine.specs.Writing.{may_write, is_applying};
 ghost use Rattle.machine.specs.Succession.{lineages_differ};
 ghost use Rattle.machine.specs.Showing.{holder_id};
-ghost use Rattle.machine.specs.Rules.{is_released, number_left, new_run};
-ghost use Rattle.machine.specs.Laws.{holds};
+ghost use Rattle.machine.specs.Rules.{is_released, number_left, new_run, kept_before, kept_for, settings_for};
+ghost use Rattle.machine.specs.Ranges.{IsKeepCount, IsSettingsAsk};
+ghost use Rattle.machine.specs.Laws.{holds, is_nobody};
 ghost use Rattle.machine.specs.RunSteps.{is_last};
 ghost use Rattle.machine.specs.declared.records.Organization.{Organization as AnyOrganization};
 ghost use Rattle.machine.specs.declared.records.Holder.TheVariants.{Run as HoldingRun};
 ghost use Rattle.machine.specs.declared.acts.Unit.TheVariants.{Present};
 ghost use Rattle.machine.specs.declared.acts.Act.TheVariants.{PutWorkspace};
 ghost use Rattle.machine.specs.declared.acts.Answer.TheVariants.{Done, Workspace as ShownWorkspace, Run as ShownRun};
-ghost use Rattle.machine.specs.declared.acts.Edit.TheVariants.{Release, AddRun};
+ghost use Rattle.machine.specs.declared.acts.Edit.TheVariants.{Make, Release, AddRun};
 ghost use Rattle.machine.specs.declared.acts.Decision.TheVariants.{Accepted, Refused};
 
 use crate::acts::{Act, Answer, Change, Decision, Edit, Newest, Shown, Unit, WorkspaceUnit};
 use crate::records::{Holder, Run, Version};
 use crate::run_steps::next_status;
+use basis::numbers::MAX_KEPT;
 use basis::{
-    Bytes, Down, HolderId, LockId, Look, Moment, Number, Refusal, RunAction, RunAsk, RunStatus,
-    Settings, StateHead, Text, is_run_id,
+    Bytes, Down, HolderId, KeepCount, LockId, Look, Moment, Number, Refusal, RunAction, RunAsk,
+    RunStatus, Settings, SettingsAsk, StateHead, Text, is_run_id,
 };
 use std::alloc::Global;
 
@@ -123,11 +125,11 @@ fn accept_again() -> Decision
     }
 }
 
-fn shown(settings: Settings, unit: &WorkspaceUnit) -> Result<Shown, Down>
-    ensures { IfOk result (λ shown. shown ≡ shown_as settings unit.now) }
+fn shown(settings: &Settings, unit: &WorkspaceUnit) -> Result<Shown, Down>
+    ensures { IfOk result (λ shown. shown ≡ shown_as settings.now unit.now) }
 {
     Ok(Shown {
-        settings,
+        settings: *settings,
         holder: holder_id(&unit.holder)?,
         version: number_of_newest(&unit.newest),
     })
@@ -217,17 +219,74 @@ fn decide_read(newest: &Option<Newest>) -> Decision
     }
 }
 
-fn decide_put(unit: &WorkspaceUnit, settings: Settings) -> Result<Decision, Down>
-    ensures { IfOk result (λ decision. decision ≡ decision_of (Present unit.now) (PutWorkspace settings) 0) }
+// The settings that a PUT asks for, of a workspace that has settings or is to be made.
+fn settings_for(ask: SettingsAsk, before: Option<Settings>) -> Settings
+    ensures is { result ≡ settings_for ask before }
+    ensures range { IsSettingsAsk ask }
 {
+    Settings {
+        auto_apply: ask.auto_apply,
+        keep_versions: kept_for(ask.keep_versions, kept_before(before)),
+    }
+}
+
+fn kept_before(before: Option<Settings>) -> KeepCount
+    ensures { result ≡ kept_before before }
+{
+    match before {
+        Some(settings) => settings.keep_versions,
+        None => KeepCount::first(),
+    }
+}
+
+fn kept_for(asked: Option<KeepCount>, before: KeepCount) -> KeepCount
+    ensures is { result ≡ kept_for asked before }
+    ensures range { IfSome asked IsKeepCount }
+{
+    match asked {
+        Some(keep) => {
+            prove!(1 <= keep.get() && keep.get() <= MAX_KEPT);
+            keep
+        }
+        None => before,
+    }
+}
+
+fn is_nobody(holder: &Holder) -> bool
+    ensures { result ≡ is_nobody holder.now }
+{
+    matches!(holder, Holder::Nobody)
+}
+
+// While somebody holds, no version goes by a PUT.
+fn decide_settings(unit: &WorkspaceUnit, settings: &Settings) -> Result<Decision, Down>
+    ensures { IfOk result (λ decision. decision ≡ decided_put settings.now unit.now) }
+{
+    if !is_nobody(&unit.holder) && unit.outgoing.is_some() {
+        return Ok(Decision::Refused(Refusal::Locked));
+    }
     let shown = shown(settings, unit)?;
-    Ok(accept(Answer::Workspace(shown), Edit::Configure(settings), None))
+    let settings = *settings;
+    let outgoing = unit.outgoing;
+    Ok(accept(
+        Answer::Workspace(shown),
+        Edit::Configure { settings, outgoing },
+        None,
+    ))
+}
+
+fn decide_put(unit: &WorkspaceUnit, ask: SettingsAsk) -> Result<Decision, Down>
+    ensures is { IfOk result (λ decision. decision ≡ decision_of (Present unit.now) (PutWorkspace ask) 0) }
+    ensures range { IsSettingsAsk ask }
+{
+    let settings = settings_for(ask, Some(unit.settings));
+    decide_settings(unit, &settings)
 }
 
 fn decide_show(unit: &WorkspaceUnit) -> Result<Decision, Down>
     ensures { IfOk result (λ decision. decision ≡ Accepted (ShownWorkspace (shown_as unit.now.settings unit.now)) None) }
 {
-    let shown = shown(unit.settings, unit)?;
+    let shown = shown(&unit.settings, unit)?;
     Ok(tell(Answer::Workspace(shown)))
 }
 
@@ -562,11 +621,12 @@ fn decide_look(unit: &WorkspaceUnit, look: Look) -> Result<Decision, Down>
 }
 
 fn decide_present(unit: &WorkspaceUnit, act: &Act, now: Moment) -> Result<Decision, Down>
-    ensures { IfOk result (λ decision. decision ≡ decision_of (Present unit.now) act.now now) }
+    ensures is { IfOk result (λ decision. decision ≡ decision_of (Present unit.now) act.now now) }
+    ensures range { AsksInRange act.now }
 {
     match act {
         Act::Look(look) => decide_look(unit, *look),
-        Act::PutWorkspace(settings) => decide_put(unit, *settings),
+        Act::PutWorkspace(ask) => decide_put(unit, *ask),
         Act::DeleteWorkspace => Ok(decide_delete(unit)),
         Act::UpdateState {
             head,
@@ -583,10 +643,11 @@ fn decide_present(unit: &WorkspaceUnit, act: &Act, now: Moment) -> Result<Decisi
 }
 
 fn decide_missing(act: &Act, has_room: bool) -> Decision
-    ensures { result ≡ decision_missing act.now has_room }
+    ensures is { result ≡ decision_missing act.now has_room }
+    ensures range { AsksInRange act.now }
 {
     match act {
-        Act::PutWorkspace(settings) => decide_making(*settings, has_room),
+        Act::PutWorkspace(ask) => decide_making(*ask, has_room),
         Act::Look(_) => Decision::Refused(Refusal::NotFound),
         Act::DeleteWorkspace => Decision::Refused(Refusal::NotFound),
         Act::UpdateState { .. } => Decision::Refused(Refusal::NotFound),
@@ -599,22 +660,31 @@ fn decide_missing(act: &Act, has_room: bool) -> Decision
     }
 }
 
-fn decide_making(settings: Settings, has_room: bool) -> Decision
-    ensures { result ≡ decision_missing (PutWorkspace settings) has_room }
+fn decide_making(ask: SettingsAsk, has_room: bool) -> Decision
+    ensures is { result ≡ decision_missing (PutWorkspace ask) has_room }
+    ensures range { IsSettingsAsk ask }
 {
+    let settings = settings_for(ask, None);
     if !has_room {
         return Decision::Refused(Refusal::OverLimit);
     }
+    make_with(&settings)
+}
+
+fn make_with(settings: &Settings) -> Decision
+    ensures { result ≡ changing (ShownWorkspace (new_shown settings.now)) (Make settings.now) None }
+{
     let shown = Shown {
-        settings,
+        settings: *settings,
         holder: None,
         version: None,
     };
-    accept(Answer::Workspace(shown), Edit::Make(settings), None)
+    accept(Answer::Workspace(shown), Edit::Make(*settings), None)
 }
 
 fn decided(unit: &Unit, act: &Act, now: Moment) -> Result<Decision, Down>
-    ensures { IfOk result (λ decision. decision ≡ decision_of unit.now act.now now) }
+    ensures is { IfOk result (λ decision. decision ≡ decision_of unit.now act.now now) }
+    ensures range { AsksInRange act.now }
 {
     match unit {
         Unit::Absent { workspaces, limit } => {

@@ -3,7 +3,7 @@ ghost use Rattle.machine.specs.Sameness.{SameThingsAreEqualRecords};
 ghost use Rattle.machine.specs.Settling.{SettlesOnce};
 ghost use Rattle.machine.specs.Paging.{WorkspacePagesFollow, VersionPagesFollow, RunPagesFollow};
 ghost use Rattle.machine.specs.Queue.{OneRunIsActive, PlanOnlyRunsStayOut, RunsStartInOrder, RunsStay, ActionsComeAgain, KeyedCreationsComeAgain};
-ghost use Rattle.machine.specs.Custody.{AcceptedActsComeAgain, HoldsUntilReleased, LockedWorkspacesStay, NothingIsReadOfAPurge, NumbersRise, RefusalsChangeNothing, RefusalsTellTheHolder, RepeatsChangeNothing, VersionsChangeByTheId, WhatIsPostedIsRead, WorkspacesBeginAnew, WorkspacesGoByDelete, WritesCarryTheId};
+ghost use Rattle.machine.specs.Custody.{AcceptedActsComeAgain, HeldVersionsChangeByTheId, HoldsUntilReleased, LockedWorkspacesStay, NothingIsReadOfAPurge, NumbersRise, RefusalsChangeNothing, RefusalsTellTheHolder, RepeatsChangeNothing, VersionsChangeByTheId, WhatIsPostedIsRead, WorkspacesBeginAnew, WorkspacesGoByDelete, WritesCarryTheId};
 
 /// A refusal leaves the workspace as it is.
 pub fn refusals_change_nothing()
@@ -19,6 +19,12 @@ pub fn refusals_tell_the_holder()
 /// holds was applying.
 pub fn writes_carry_the_id()
     ensures { WritesCarryTheId }
+{}
+
+/// While somebody holds, versions change by an accepted update or purge that carried the holder's ID,
+/// and by nothing else.
+pub fn held_versions_change_by_the_id()
+    ensures { HeldVersionsChangeByTheId }
 {}
 
 /// Under a lock, versions change by an update or a purge that carried its ID, and by nothing else.

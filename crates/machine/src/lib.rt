@@ -11,18 +11,21 @@ pub mod plain;
 pub mod records;
 pub mod run_steps;
 
-pub use acts::{Act, Answer, Change, Decision, Edit, Needs, Newest, Shown, Unit, WorkspaceUnit};
+pub use acts::{
+    Act, Answer, Change, Decision, Edit, Needs, Newest, Shown, Staying, Unit, WorkspaceUnit,
+};
 pub use decisions::{MAX_OPEN_RUNS, decide};
 pub use keeps::{AdminAnswer, Keep, OrgRow, TokenRow};
 pub use laws::{
-    accepted_acts_come_again, actions_come_again, holds_until_released, keyed_creations_come_again,
-    locked_workspaces_stay, nothing_is_read_of_a_purge, numbers_rise, one_run_is_active,
-    pages_follow, plan_only_runs_stay_out, refusals_change_nothing, refusals_tell_the_holder,
+    accepted_acts_come_again, actions_come_again, held_versions_change_by_the_id,
+    holds_until_released, keyed_creations_come_again, locked_workspaces_stay,
+    nothing_is_read_of_a_purge, numbers_rise, one_run_is_active, pages_follow,
+    plan_only_runs_stay_out, refusals_change_nothing, refusals_tell_the_holder,
     repeats_change_nothing, runs_start_in_order, runs_stay, same_things_are_equal_records,
     settles_once, versions_change_by_the_id, what_is_posted_is_read, workspaces_begin_anew,
     workspaces_go_by_delete, writes_carry_the_id,
 };
 pub use maps::NameMap;
 pub use plain::PlainKeep;
-pub use records::{Holder, MAX_VERSIONS, Organization, Run, Token, Version, Workspace};
+pub use records::{Holder, Organization, Run, Token, Version, Workspace};
 pub use run_steps::next_status;

@@ -13,22 +13,22 @@ ghost use Rattle.machine.specs.Changes.{left_above, edited, changed_by};
 ghost use Rattle.machine.specs.Ranges.{IsMoment};
 ghost use Rattle.machine.specs.Rules.{reported};
 ghost use Rattle.machine.specs.Needs.{needs, needed_of};
-ghost use Rattle.machine.specs.Units.{is_text, if_needed, has_version, asked_run, newest_unit, unit_for, unit_of, version_of, version_text};
+ghost use Rattle.machine.specs.Units.{is_text, if_needed, has_version, asked_run, newest_unit, outgoing_by, unit_for, unit_of, version_of, version_text};
 ghost use Rattle.basis.specs.declared.runs.RunStatus.TheVariants.{Planning};
 ghost use Rattle.machine.specs.Settling.{first_waiting, begun, started, started_if};
-ghost use Rattle.machine.specs.Workspaces.{max_versions, newest, outgoing, new_workspace, run_of, holder_status, is_keyed, keyed_run, open_runs};
+ghost use Rattle.machine.specs.Workspaces.{newest, outgoing, new_workspace, run_of, holder_status, is_keyed, keyed_run, open_runs};
 ghost use Rattle.machine.specs.Inner.Places.{org_row, is_removal};
 ghost use Rattle.machine.specs.declared.records.Organization.{Organization as AnyOrganization};
 
-use crate::acts::{Act, Change, Edit, Needs, Newest, Unit, WorkspaceUnit};
+use crate::acts::{Act, Change, Edit, Needs, Newest, Staying, Unit, WorkspaceUnit};
 use crate::decisions::{holder_id, new_run};
 use crate::keeps::{AdminAnswer, Keep, OrgRow, TokenRow};
 use crate::maps::{Entry, NameMap};
-use crate::records::{Holder, MAX_VERSIONS, Organization, Run, Token, Version, Workspace};
+use crate::records::{Holder, Organization, Run, Token, Version, Workspace};
 use basis::numbers::MAX_LIMIT;
 use basis::{
-    Bounds, Bytes, Caller, Down, Items, Limit, Listing, LockId, Moment, Number, OrgName, Prefix,
-    Role, RunAction, RunAsk, RunRow, RunStatus, Settings, Text, VersionRow, WsName, WsRow,
+    Bounds, Bytes, Caller, Down, Items, KeepCount, Limit, Listing, LockId, Moment, Number, OrgName,
+    Prefix, Role, RunAction, RunAsk, RunRow, RunStatus, Settings, Text, VersionRow, WsName, WsRow,
 };
 use std::alloc::Global;
 use std::cmp::Ordering;
@@ -400,7 +400,7 @@ impl NameMap<Workspace> {
                     self.insert(name, workspace)
                 }
                 // Nothing changes of what isn't there.
-                Edit::Configure(_) => Ok(()),
+                Edit::Configure { .. } => Ok(()),
                 Edit::Remove => Ok(()),
                 Edit::AddVersion { .. } => Ok(()),
                 Edit::Purge => Ok(()),
@@ -468,7 +468,7 @@ impl Workspace {
             next_version: self.next_version,
             next_run: self.next_run,
             newest: newest_if(needs.newest, needs.text, versions)?,
-            outgoing: outgoing_if(needs.outgoing, versions),
+            outgoing: outgoing_by(needs.outgoing, self.settings.keep_versions, versions),
             first_waiting: first_waiting_if(needs.waiting, runs),
             has_version: has_version(needs.version, versions),
             asked_run: asked_run(needs.run, needs.key, runs)?,
@@ -483,6 +483,15 @@ impl Workspace {
             Some(version) => Ok(Some(version.text.clone()?)),
             None => Ok(None),
         }
+    }
+
+    fn configure(&mut self, settings: Settings, outgoing: Option<Number>)
+        ensures { Some self.new ≡ edited (Edit.Configure settings outgoing) (Some self.old) }
+    {
+        if let Some(last) = outgoing {
+            forget_up_to(&mut self.versions, last);
+        }
+        self.settings = settings;
     }
 
     fn add_version(&mut self, version: &Version, outgoing: Option<Number>) -> Result<(), Down>
@@ -547,7 +556,7 @@ impl Workspace {
     {
         match edit {
             Edit::Make(settings) => *self = Workspace::new(alloc, *settings),
-            Edit::Configure(settings) => self.settings = *settings,
+            Edit::Configure { settings, outgoing } => self.configure(*settings, *outgoing),
             // The map of the workspaces lets it go.
             Edit::Remove => {}
             Edit::AddVersion { version, outgoing } => self.add_version(version, *outgoing)?,
@@ -675,18 +684,23 @@ fn newest_if(
     }
 }
 
-// The greatest number of the versions that go as one more comes.
-fn outgoing(versions: &[Version]) -> Option<Number>
-    ensures { result ≡ outgoing max_versions versions.now }
+// The greatest number of the versions that go where the last `staying` stay.
+fn outgoing(staying: usize, versions: &[Version]) -> Option<Number>
+    ensures { result ≡ outgoing staying versions.now }
 {
-    let going = versions.len().saturating_sub(MAX_VERSIONS - 1);
+    let going = versions.len().saturating_sub(staying);
     number_of_newest(&versions[..going])
 }
 
-fn outgoing_if(needed: bool, versions: &[Version]) -> Option<Number>
-    ensures { result ≡ if_needed needed (outgoing max_versions versions.now) }
+// The greatest number of the versions that go, of a workspace that keeps so many.
+fn outgoing_by(staying: Staying, keep: KeepCount, versions: &[Version]) -> Option<Number>
+    ensures { result ≡ outgoing_by staying keep versions.now }
 {
-    if needed { outgoing(versions) } else { None }
+    match staying {
+        Staying::StayAll => None,
+        Staying::MakeRoom => outgoing(keep.get() as usize - 1, versions),
+        Staying::StayAtMost(staying) => outgoing(staying.get() as usize, versions),
+    }
 }
 
 fn run_of(n: Number, runs: &[Run]) -> Option<&Run>

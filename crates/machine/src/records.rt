@@ -7,9 +7,6 @@ use basis::{
     Bytes, Caller, Items, Limit, LockId, Moment, Number, RunAction, RunStatus, Settings, Text,
 };
 
-/// The most versions that a workspace keeps.
-pub const MAX_VERSIONS: usize = 100;
-
 /// Who holds a workspace: nobody, a lock with the text that took it, or a run.
 #[derive(Clone, Drop)]
 pub enum Holder {

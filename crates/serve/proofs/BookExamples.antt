@@ -1,6 +1,7 @@
 -- Small histories of one workspace: how its periods are cut, and, for each law of the book, one that breaks it.
-use Rattle.std.proofs.Common.{◌≡◌, inl, inr, ℕ, Bool, true, false, List, [], ◌∷◌, Option, Some, None, refl, sym, ap, subst, ◌∙◌, arith}
+use Rattle.std.proofs.Common.{◌≡◌, inl, inr, ℕ, zero, suc, Bool, true, false, List, [], ◌∷◌, Option, Some, None, refl, sym, ap, subst, ◌∙◌, arith}
 use Rattle.std.specs.Prelude.{codes}
+use Rattle.std.specs.List.{Contains}
 use Rattle.std.specs.Fmt.{digits}
 use Rattle.std.specs.Str.{chars, is_utf8}
 use Rattle.basis.specs.declared.rows.Look.TheVariants as look
@@ -18,6 +19,7 @@ use Rattle.machine.specs.declared.acts.Act.{Act}
 use Rattle.machine.specs.declared.acts.Act.TheVariants.{PurgeState as PurgeAct, Unlock as UnlockAct, MakeRun as MakeRunAct, ReportRun as ReportRunAct}
 use Rattle.machine.specs.declared.records.Holder.TheVariants.{Nobody, Lock as HeldLock, Run as HeldRun}
 use Rattle.machine.specs.declared.records.Run.{Run}
+use Rattle.machine.specs.declared.records.Version.{Version}
 use Rattle.machine.specs.declared.records.Workspace.{Workspace}
 use Rattle.route.specs.declared.acts.AskedAct.TheVariants.{OfWorkspace}
 use Rattle.route.specs.declared.acts.WsAct.{WsAct}
@@ -25,7 +27,7 @@ use Rattle.route.specs.declared.acts.WsAct.TheVariants.{Look, Put, Delete, Updat
 use Rattle.wire.specs.Replies.{empty_answer}
 use Rattle.serve.specs.Asks.{Ask, requests}
 use Rattle.serve.specs.Steps.{replies}
-use Rattle.serve.specs.Book.{Entry, periods, is_held, is_lock, life, IsApplying, LocksKeepOthersOut, RunsKeepOthersOut, NoIdWhereNobodyHolds, LocksEndByUnlock, OneRunAtATime, StartsRise, RepeatsLeaveIt, DoneOnceIsDone}
+use Rattle.serve.specs.Book.{Entry, periods, is_held, is_lock, life, LosesVersion, IsApplying, LocksKeepOthersOut, RunsKeepOthersOut, NoIdWhereNobodyHolds, LocksEndByUnlock, OneRunAtATime, StartsRise, RepeatsLeaveIt, DoneOnceIsDone}
 use Rattle.serve.proofs.CustodyLemmas.{is_one}
 
 abbrev net : List ℕ
@@ -35,7 +37,7 @@ abbrev x1 : List ℕ
 x1 = codes "x1"
 
 abbrev empty : Workspace
-empty = new_workspace (record { auto_apply = false })
+empty = new_workspace (record { auto_apply = false; keep_versions = 100 })
 
 -- the lock x1 holds, and from it with so many versions behind
 abbrev locked_before : ℕ → Workspace
@@ -121,7 +123,44 @@ update_without_the_id law = let none : ⊥ = cc ((law x1).0.0 (inl (omega arith)
 
 -- under a lock a purge was accepted with another ID
 purge_with_another_id : LocksKeepOthersOut net (locks ∷ accepted (asks PurgeState (Some (codes "y1"))) (locked_before 1) (locked_before 1) ∷ []) → ⊥
-purge_with_another_id law = omega (arith, ap first_byte ((law x1).0.0 (inr (refl, refl))).1)
+purge_with_another_id law = omega (arith, ap first_byte ((law x1).0.0 (inr (inl (refl, refl)))).1)
+
+-- under a lock a version was let go, by a PUT of the workspace: that of number 1, of two
+abbrev version : ℕ → Version
+version number = record { number = number; serial = number; lineage = []; created = 1_700_000_000; text = [] }
+
+abbrev keeps_two : Workspace
+keeps_two = record (locked_before 3) { versions = version 1 ∷ version 2 ∷ [] }
+
+abbrev keeps_one : Workspace
+keeps_one = record (locked_before 3) { versions = version 2 ∷ [] }
+
+first_is_gone : Contains (version 2 ∷ []) (version 1) → ⊥
+first_is_gone (zero, low, same) = omega (arith, ap (λ (v : Version). v.number) same)
+first_is_gone (suc k, low, same) = omega (arith, low)
+
+version_let_go_under_a_lock : LocksKeepOthersOut net (accepted (asks Put None) keeps_two keeps_one ∷ []) → ⊥
+version_let_go_under_a_lock law = let none : ⊥ = cc ((law x1).0.0 (inr (inr (version 1, (0, omega arith, refl), first_is_gone)))).1 in none
+
+-- one that is as it was is not let go
+abbrev settings_alone : Entry
+settings_alone = accepted (asks Put None) keeps_two (record keeps_two { settings = record { auto_apply = true; keep_versions = 2 } })
+
+version_that_stays : LosesVersion settings_alone → ⊥
+version_that_stays loses = loses.2 loses.1
+
+-- in the period of a run a version went with the workspace
+abbrev run_keeps_one : Workspace
+run_keeps_one = record (held_by 1 Applying []) { versions = version 1 ∷ []; next_version = 2 }
+
+abbrev deletes_beside_a_run : Entry
+deletes_beside_a_run = record { ask = asks Delete None; said = replies false 1_700_000_000 empty_answer; before = Some run_keeps_one; after = None }
+
+none_is_left : Contains [] (version 1) → ⊥
+none_is_left (k, low, same) = omega (arith, low)
+
+version_gone_with_its_workspace : RunsKeepOthersOut net (deletes_beside_a_run ∷ []) → ⊥
+version_gone_with_its_workspace law = let none : ⊥ = cc ((law 1).0.0 (inr (inr (version 1, (0, omega arith, refl), none_is_left)))).1 in none
 
 -- in the period of a run a version was made while it was planned
 abbrev posts_planned : Entry

@@ -1,6 +1,6 @@
 -- The book of a workspace: what the rules, or nothing, made of each step, and what follows over many steps.
 use Rattle.std.proofs.Common.{◌≡◌, ◌⊎◌, inl, inr, ℕ, ◌<◌, ◌≤◌, Bool, true, false, not, ◌&&◌, List, [], ◌∷◌, cond, ◌++◌, length, filter, Option, Some, None, option_map, Result, Ok, Err, IfSome, IsSome, is_some, refl, sym, ap, subst, ◌∙◌, arith}
-use Rattle.std.specs.List.{AllByRecursion, flat_map}
+use Rattle.std.specs.List.{AllByRecursion, Contains, flat_map}
 use Rattle.std.specs.Str.{bytes_eq}
 use Rattle.std.specs.FinMap.{get}
 use Rattle.std.proofs.lemmas.Bool.{eqb-true}
@@ -15,20 +15,21 @@ use Rattle.machine.specs.Ranges.{IsInRange, IsMoment}
 use Rattle.machine.specs.Records.{Seen, missing, there, standing, workspace_in}
 use Rattle.machine.specs.Rules.{Outcome, refused, held, done, no_state, state, workspace, the_run, versions, runs, rules}
 use Rattle.machine.specs.Workspaces.{run_of, holder_status}
-use Rattle.machine.specs.Custody.{IsRefusal, IsWriter, Releases, IsRepeatable}
+use Rattle.machine.specs.Custody.{IsRefusal, IsWriter, WritesWith, Releases, IsRepeatable}
 use Rattle.machine.specs.Queue.{is_active_run, Starts}
 use Rattle.machine.specs.declared.acts.Act.{Act}
 use Rattle.machine.specs.declared.acts.Act.TheVariants.{Look as LookAct, PutWorkspace as PutAct, UpdateState as UpdateAct, PurgeState as PurgeAct, Lock as LockAct, Unlock as UnlockAct, ForceUnlock as ForceUnlockAct, DeleteWorkspace as DeleteAct, MakeRun as MakeRunAct, ReportRun as ReportRunAct}
 use Rattle.machine.specs.declared.records.Holder.{Holder}
 use Rattle.machine.specs.declared.records.Holder.TheVariants.{Nobody, Lock as HeldLock, Run as HeldRun}
 use Rattle.machine.specs.declared.records.Run.{Run}
+use Rattle.machine.specs.declared.records.Version.{Version}
 use Rattle.machine.specs.declared.records.Workspace.{Workspace}
 use Rattle.machine.specs.declared.records.Organization.{Organization}
-use Rattle.machine.proofs.CustodyLemmas.{holds_until_released, locked_workspaces_stay, accepted_acts_come_again, workspaces_begin_anew}
+use Rattle.machine.proofs.CustodyLemmas.{held_versions_change_by_the_id, holds_until_released, locked_workspaces_stay, accepted_acts_come_again, workspaces_begin_anew}
 use Rattle.machine.proofs.RefusalLemmas.{refusals_change_nothing as rules_change_nothing, writes_carry_the_id}
 use Rattle.machine.proofs.RuleLemmas.{rules_are_lawful}
 use Rattle.machine.proofs.QueueLemmas.{actions_come_again, keyed_creations_come_again}
-use Rattle.machine.proofs.BookLemmas.{IsAcceptedWrite, rises_by_write, update_done, purge_done, one_is_active, IsBelow, starts_below, stays_below, starts_above, Reaches, reaches_itself, reaches_more}
+use Rattle.machine.proofs.BookLemmas.{IsAcceptedWrite, rises_by_write, update_done, purge_done, held_stays, one_is_active, IsBelow, starts_below, stays_below, starts_above, Reaches, reaches_itself, reaches_more}
 use Rattle.route.specs.declared.acts.Asked.{Asked}
 use Rattle.route.specs.declared.acts.AskedAct.{AskedAct}
 use Rattle.route.specs.declared.acts.AskedAct.TheVariants.{OfWorkspace}
@@ -43,7 +44,7 @@ use Rattle.serve.specs.Checks.{spelt, act_of, checked}
 use Rattle.serve.specs.Steps.{Said, replies, answer_to, seen_at, carried, step}
 use Rattle.serve.specs.Service.{with_own, is_own, own_asks}
 use Rattle.serve.specs.Custody.{NamesIn, Names, CarriesId, IsActOn, ReleasesLock, asked_again, MayRepeat, IsAccepted}
-use Rattle.serve.specs.Book.{Entry, book, BooksAreOfTheRun, if_so, put_if, as_long_as, begun_periods, periods, PeriodsAreTheStepsBetween, InEachPeriod, is_lock, is_held, is_run, life, AsksOf, AsksFor, CarriesNoId, IsAcceptedUpdate, IsAcceptedPurge, next_version, MakesVersion, WritesState, IsApplying, starts, Repeats, IsDoneOnce, LocksKeepOthersOut, RunsKeepOthersOut, NoIdWhereNobodyHolds, LocksEndByUnlock, OneRunAtATime, StartsRise, RepeatsLeaveIt, DoneOnceIsDone, OfEachBook}
+use Rattle.serve.specs.Book.{Entry, book, BooksAreOfTheRun, if_so, put_if, as_long_as, begun_periods, periods, PeriodsAreTheStepsBetween, InEachPeriod, is_lock, is_held, is_run, life, AsksOf, AsksFor, CarriesNoId, IsAcceptedUpdate, IsAcceptedPurge, next_version, MakesVersion, kept_versions, LosesVersion, WritesState, IsApplying, starts, Repeats, IsDoneOnce, LocksKeepOthersOut, RunsKeepOthersOut, NoIdWhereNobodyHolds, LocksEndByUnlock, OneRunAtATime, StartsRise, RepeatsLeaveIt, DoneOnceIsDone, OfEachBook}
 use Rattle.serve.specs.Inner.Taking.{IsTimely, RunsTo}
 use Rattle.serve.proofs.CheckLemmas.{Passes, order_passes, list_passes, act_in_range}
 use Rattle.serve.proofs.RecordLemmas.{standing_at}
@@ -326,20 +327,39 @@ made_writer ws e h w lawful b makes = by_after e.after refl
         let writes : IsAcceptedWrite h.act h.now w = rises_by_write h.act h.now w v (sym (leaves_of ws e h w b) ∙ t) (rises (Some v) t) in
         subst (IsOfWriter w) (sym (writes_by h.what h.asked.lock_id h.body h.act writes.0 h.spells writes.1)) (writes_carry_the_id h.act h.now w writes.0 writes.1 writes.2)
 
--- where nothing is made of a step, no version is, and no purge is accepted
+-- where the same versions are kept, none is gone
+stays_kept : (a b : List Version) (u : Version) → b ≡ a → Contains a u → (Contains b u → ⊥) → ⊥
+stays_kept a b u same was gone = gone (subst (λ (versions : List Version). Contains versions u) (sym same) was)
+
+lost_writer : (ws : List ℕ) (e : Entry) (h : Ruled ws e) (w : Workspace) → IsLawful w → is_nobody w.holder ≡ false → e.before ≡ Some w → LosesVersion e → IsOfWriter w h.asked.lock_id
+lost_writer ws e h w lawful somebody b loses =
+    let v = some_is (rules h.act h.now (there w)).left (held_stays h.act h.now w lawful somebody) in
+    let after : e.after ≡ Some v.0 = leaves_of ws e h w b ∙ v.1 in
+    by_case v.0 after (held_versions_change_by_the_id h.act h.now w v.0 somebody v.1)
+  where
+    by_case : (v : Workspace) → e.after ≡ Some v
+        → (v.versions ≡ w.versions) ⊎ ((id : Option (List ℕ)) × WritesWith h.act id × ((rules h.act h.now (there w)).answer ≡ done) × IsOfWriter w id) → IsOfWriter w h.asked.lock_id
+    by_case v after (inl same) =
+        absurd (stays_kept (kept_versions e.before) (kept_versions e.after) loses.0 (ap kept_versions after ∙ same ∙ sym (ap kept_versions b)) loses.1 loses.2)
+    by_case v after (inr (id, writes, is, writer)) = subst (IsOfWriter w) (sym (writes_by h.what h.asked.lock_id h.body h.act id h.spells writes)) writer
+
+-- where nothing is made of a step, no version is made or goes, and no purge is accepted
 none_made : (ws : List ℕ) (e : Entry) → Unruled ws e → WritesState ws e → ⊥
 none_made ws e h (inl makes) = omega (arith, ap next_version h.stays, makes)
-none_made ws e h (inr purge) = h.refuses (asks_names ws PurgeState e.ask purge.0) purge.1
+none_made ws e h (inr (inl purge)) = h.refuses (asks_names ws PurgeState e.ask purge.0) purge.1
+none_made ws e h (inr (inr loses)) = stays_kept (kept_versions e.before) (kept_versions e.after) loses.0 (ap kept_versions h.stays) loses.1 loses.2
 
-written_by : (ws : List ℕ) (e : Entry) (w : Workspace) → IsLegal ws e → e.before ≡ Some w → WritesState ws e → (h : Ruled ws e) × IsOfWriter w h.asked.lock_id
-written_by ws e w legal b writes = by_goes legal.goes writes
+-- while somebody holds
+written_by : (ws : List ℕ) (e : Entry) (w : Workspace) → IsLegal ws e → is_nobody w.holder ≡ false → e.before ≡ Some w → WritesState ws e → (h : Ruled ws e) × IsOfWriter w h.asked.lock_id
+written_by ws e w legal somebody b writes = by_goes legal.goes writes
   where
     lawful : IsLawful w
     lawful = subst IsLawfulIfThere b legal.first
 
     by_goes : Goes ws e → WritesState ws e → (h : Ruled ws e) × IsOfWriter w h.asked.lock_id
     by_goes (inl h) (inl makes) = (h, made_writer ws e h w lawful b makes)
-    by_goes (inl h) (inr purge) = (h, purge_writer ws e h w b purge)
+    by_goes (inl h) (inr (inl purge)) = (h, purge_writer ws e h w b purge)
+    by_goes (inl h) (inr (inr loses)) = (h, lost_writer ws e h w lawful somebody b loses)
     by_goes (inr h) writes = absurd (none_made ws e h writes)
 
 accepted_by : (ws : List ℕ) (e : Entry) (w : Workspace) → IsLegal ws e → e.before ≡ Some w → IsAcceptedUpdate ws e ⊎ IsAcceptedPurge ws e → (h : Ruled ws e) × IsOfWriter w h.asked.lock_id
@@ -392,7 +412,7 @@ pub locks_keep_others_out : (ws : List ℕ) (w : Option Workspace) (es : List En
 locks_keep_others_out ws w es legal id =
     in_periods (is_held (is_lock id)) _ es w legal.0 (all_of (IsLegal ws) _ es (λ e is so writes.
     let at = lock_there id e.before so in
-    let by = written_by ws e at.0 is at.2 writes in
+    let by = written_by ws e at.0 is (ap is_nobody at.3) at.2 writes in
     (names_it ws e by.0, carries ws e by.0 id (writer_as at.0 by.0.asked.lock_id (HeldLock id at.1) at.3 by.1))) legal.1)
 
 -- in the period of a run
@@ -404,7 +424,7 @@ pub runs_keep_others_out : (ws : List ℕ) (w : Option Workspace) (es : List Ent
 runs_keep_others_out ws w es legal n =
     in_periods (is_held (is_run n)) _ es w legal.0 (all_of (IsLegal ws) _ es (λ e is so writes.
     let at = run_there n e.before so in
-    let by = written_by ws e at.0 is at.1 writes in
+    let by = written_by ws e at.0 is (ap is_nobody at.2) at.1 writes in
     let writer = writer_as at.0 by.0.asked.lock_id (HeldRun n) at.2 by.1 in
     (names_it ws e by.0, carries ws e by.0 (run_id n) writer.0, subst (IsApplying n) (sym at.1) (status_is n (run_of n at.0.runs) writer.1))) legal.1)
 
@@ -562,7 +582,7 @@ repeats_leave_it ws w (e ∷ es) legal = (
 refused_missing : (act : Act) (now : ℕ) (room : Bool) → IsDoneOnce act → IsRefusal (rules act now (missing room)).answer
 refused_missing (MakeRunAct ask) now room once = tt
 refused_missing (ReportRunAct n action) now room once = tt
-refused_missing (PutAct settings) now room once = absurd once
+refused_missing (PutAct ask) now room once = absurd once
 refused_missing (LookAct what) now room once = absurd once
 refused_missing DeleteAct now room once = absurd once
 refused_missing (UpdateAct head text id) now room once = absurd once
@@ -581,7 +601,7 @@ done_again (MakeRunAct ask) now later w v u once range moment lawful accepted le
     let key = some_key ask.key once in
     keyed_creations_come_again ask ask key.0 now later reaches.0 w v u key.1 key.1 range lawful moment accepted left reaches.1 reaches.2
 done_again (ReportRunAct n action) now later w v u once range moment lawful accepted left reaches = actions_come_again n action now later reaches.0 w v u lawful moment accepted left reaches.1 reaches.2
-done_again (PutAct settings) now later w v u once range moment lawful accepted left reaches = absurd once
+done_again (PutAct ask) now later w v u once range moment lawful accepted left reaches = absurd once
 done_again (LookAct what) now later w v u once range moment lawful accepted left reaches = absurd once
 done_again DeleteAct now later w v u once range moment lawful accepted left reaches = absurd once
 done_again (UpdateAct head text id) now later w v u once range moment lawful accepted left reaches = absurd once

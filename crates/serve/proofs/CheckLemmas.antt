@@ -9,15 +9,15 @@ use Rattle.basis.specs.declared.refusals.Refusal.{Refusal}
 use Rattle.basis.specs.declared.refusals.Refusal.TheVariants.{BadToken, NotFound, BadState, BadLock, BadBody}
 use Rattle.basis.specs.declared.roles.Caller.{Caller}
 use Rattle.basis.specs.declared.rows.RunAsk.{RunAsk}
-use Rattle.basis.specs.declared.rows.Settings.{Settings}
+use Rattle.basis.specs.declared.rows.SettingsAsk.{SettingsAsk}
 use Rattle.basis.specs.declared.rows.StateHead.{StateHead}
 use Rattle.sha2.specs.Sha256.{sha256}
 use Rattle.serde_json.specs.Data.{Data}
 use Rattle.serde_json.specs.Find.{get_member}
 use Rattle.docs.specs.Documents.{state_head, lock_id_of, settings_of, run_ask}
-use Rattle.docs.specs.Readings.{IsState, IsLock, IsText, IsKey, IsAsk}
-use Rattle.docs.proofs.ReadingLemmas.{state_law, lock_law, ask_law}
-use Rattle.machine.specs.Ranges.{IsInRange}
+use Rattle.docs.specs.Readings.{IsState, IsLock, IsText, IsKeep, IsSettings, IsKey, IsAsk}
+use Rattle.docs.proofs.ReadingLemmas.{state_law, lock_law, settings_law, ask_law}
+use Rattle.machine.specs.Ranges.{IsKeepCount, IsInRange}
 use Rattle.machine.specs.Tokens.{caller_of}
 use Rattle.machine.specs.declared.acts.Act.{Act}
 use Rattle.machine.specs.declared.acts.Act.TheVariants.{Look as LookAct, PutWorkspace as PutAct, UpdateState as UpdateAct, PurgeState as PurgeAct, Lock as LockAct, Unlock as UnlockAct, ForceUnlock as ForceUnlockAct, DeleteWorkspace as DeleteAct, MakeRun as MakeRunAct, ReportRun as ReportRunAct}
@@ -186,9 +186,16 @@ head_in_range body id (Some head) act t e =
     let is : IsState body head = (state_law body head).0 t in
     subst IsInRange (is_one (UpdateAct head body id) act e) (is.signed, lineage_most body head is)
 
-put_in_range : (o : Option Settings) (act : Act) → spelt BadBody PutAct o ≡ Ok act → IsInRange act
-put_in_range None act e = absurd (let none : ⊥ = cc in none)
-put_in_range (Some settings) act e = subst IsInRange (is_one (PutAct settings) act e) tt
+keep_within : (o : Option Data) (keep : Option ℕ) → IsKeep o keep → IfSome keep IsKeepCount
+keep_within o None h = tt
+keep_within None (Some keep) h = absurd (let none : ⊥ = cc in none)
+keep_within (Some value) (Some keep) h = (h.1, h.2)
+
+put_in_range : (body : List ℕ) (o : Option SettingsAsk) (act : Act) → settings_of body ≡ o → spelt BadBody PutAct o ≡ Ok act → IsInRange act
+put_in_range body None act t e = absurd (let none : ⊥ = cc in none)
+put_in_range body (Some ask) act t e =
+    let is : IsSettings body ask = (settings_law body ask).0 t in
+    subst IsInRange (is_one (PutAct ask) act e) (keep_within (get_member (codes "keep_versions") is.members) ask.keep_versions is.keep_versions)
 
 lock_in_range : (body : List ℕ) (o : Option (List ℕ)) (act : Act) → lock_id_of body ≡ o → spelt BadLock (λ held. LockAct held body) o ≡ Ok act → IsInRange act
 lock_in_range body None act t e = absurd (let none : ⊥ = cc in none)
@@ -216,7 +223,7 @@ ask_in_range body (Some ask) act t e =
 
 pub act_in_range : (what : WsAct) (id : Option (List ℕ)) (body : List ℕ) (act : Act) → act_of what id body ≡ Ok act → IsInRange act
 act_in_range (Look what) id body act e = subst IsInRange (is_one (LookAct what) act e) tt
-act_in_range Put id body act e = put_in_range (settings_of body) act e
+act_in_range Put id body act e = put_in_range body (settings_of body) act refl e
 act_in_range Delete id body act e = subst IsInRange (is_one DeleteAct act e) tt
 act_in_range UpdateState id body act e = head_in_range body id (state_head body) act refl e
 act_in_range PurgeState id body act e = subst IsInRange (is_one (PurgeAct id) act e) tt

@@ -6,7 +6,7 @@ use Rattle.std.proofs.lemmas.Slice.Eq.{bytes_eq-Decides}
 use Rattle.basis.specs.declared.refusals.Refusal.{Refusal}
 use Rattle.basis.specs.declared.refusals.Refusal.TheVariants.{BadToken, BadState, BadLock, BadBody}
 use Rattle.basis.specs.declared.rows.RunAsk.{RunAsk}
-use Rattle.basis.specs.declared.rows.Settings.{Settings}
+use Rattle.basis.specs.declared.rows.SettingsAsk.{SettingsAsk}
 use Rattle.basis.specs.declared.rows.StateHead.{StateHead}
 use Rattle.sha2.specs.Sha256.{sha256}
 use Rattle.docs.specs.Documents.{state_head, lock_id_of, settings_of, run_ask}
@@ -131,9 +131,9 @@ pub writes_by : (what : WsAct) (id : Option (List ℕ)) (body : List ℕ) (act :
 writes_by (Look what) id body act given is writes = absurd (subst (λ (a : Act). WritesWith a given) (is_one (LookAct what) act is) writes)
 writes_by Put id body act given is writes = by_settings (settings_of body) is
   where
-    by_settings : (o : Option Settings) → spelt BadBody PutAct o ≡ Ok act → id ≡ given
+    by_settings : (o : Option SettingsAsk) → spelt BadBody PutAct o ≡ Ok act → id ≡ given
     by_settings None is = absurd (let none : ⊥ = cc in none)
-    by_settings (Some settings) is = absurd (subst (λ (a : Act). WritesWith a given) (is_one (PutAct settings) act is) writes)
+    by_settings (Some ask) is = absurd (subst (λ (a : Act). WritesWith a given) (is_one (PutAct ask) act is) writes)
 writes_by Delete id body act given is writes = absurd (subst (λ (a : Act). WritesWith a given) (is_one DeleteAct act is) writes)
 writes_by UpdateState id body act given is writes = by_head (state_head body) is
   where

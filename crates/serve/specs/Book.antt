@@ -1,7 +1,7 @@
 -- The book of a workspace: each step of its organization's own machine, with the workspace before and after it; its periods; and
 -- what custody says of it.
 use Rattle.std.specs.Prelude.{◌≡◌, ◌<◌, ◌≤◌, ◌⊎◌, ℕ, Bool, true, false, not, ◌&&◌, List, [], ◌∷◌, length, map, filter, Option, Some, None, IfSome, IsSome, is_some, ⊤}
-use Rattle.std.specs.List.{AllByRecursion, flat_map}
+use Rattle.std.specs.List.{AllByRecursion, Contains, flat_map}
 use Rattle.std.specs.Str.{bytes_eq}
 use Rattle.basis.specs.Names.{run_id}
 use Rattle.basis.specs.declared.runs.RunStatus.TheVariants.{Applying}
@@ -14,6 +14,7 @@ use Rattle.machine.specs.declared.acts.Act.TheVariants.{Look as LookAct, PutWork
 use Rattle.machine.specs.declared.records.Holder.{Holder}
 use Rattle.machine.specs.declared.records.Holder.TheVariants.{Nobody, Lock, Run as HoldingRun}
 use Rattle.machine.specs.declared.records.Run.{Run}
+use Rattle.machine.specs.declared.records.Version.{Version}
 use Rattle.machine.specs.declared.records.Workspace.{Workspace}
 use Rattle.machine.specs.declared.records.Organization.{Organization}
 use Rattle.route.specs.declared.acts.AskedAct.TheVariants.{OfWorkspace}
@@ -142,9 +143,18 @@ next_version (Some w) = w.next_version
 abbrev pub MakesVersion : Entry → Type 0
 MakesVersion e = next_version e.before < next_version e.after
 
--- it makes a version, or is an accepted purge
+-- the versions that are kept: none where there is no workspace
+abbrev pub kept_versions : Option Workspace → List Version
+kept_versions None = []
+kept_versions (Some w) = w.versions
+
+-- a version that was kept before it is gone after it: it is one of those before, and none of those after
+abbrev pub LosesVersion : Entry → Type 0
+LosesVersion e = (v : Version) × Contains (kept_versions e.before) v × (Contains (kept_versions e.after) v → ⊥)
+
+-- it makes a version, or is an accepted purge, or a version that was kept before it is gone after it
 abbrev pub WritesState : List ℕ → Entry → Type 0
-WritesState ws e = MakesVersion e ⊎ IsAcceptedPurge ws e
+WritesState ws e = MakesVersion e ⊎ IsAcceptedPurge ws e ⊎ LosesVersion e
 
 -- a run was applying
 abbrev pub IsApplying : ℕ → Option Workspace → Type 0
@@ -161,7 +171,7 @@ Repeats e f = (at : ℕ) × (f.ask ≡ asked_again at e.ask)
 
 -- the creation of a run with a key, and an action on a run
 abbrev pub IsDoneOnce : Act → Type 0
-IsDoneOnce (PutAct settings) = ⊥
+IsDoneOnce (PutAct ask) = ⊥
 IsDoneOnce (LookAct what) = ⊥
 IsDoneOnce (UpdateAct head text id) = ⊥
 IsDoneOnce (PurgeAct id) = ⊥
@@ -174,7 +184,7 @@ IsDoneOnce (ReportRunAct n action) = ⊤
 
 -- ---- custody
 
--- in the period of a lock, a step that makes a version, or is an accepted purge, carried its ID
+-- in the period of a lock, a step that makes a version, or is an accepted purge, or after which a version is gone that was kept before it, carried its ID
 abbrev pub LocksKeepOthersOut : List ℕ → List Entry → Type 0
 LocksKeepOthersOut ws es = (id : List ℕ) → InEachPeriod (is_held (is_lock id)) (λ e. WritesState ws e → Names e.ask ws × CarriesId e.ask id) es
 

@@ -224,7 +224,7 @@ fn read_put(alloc: Global, body: &Bytes) -> Result<Act, Refusal>
     ensures { Follows result (spelt BadBody PutWorkspace (settings_of body.now)) }
 {
     match read_settings(alloc, body.as_slice()) {
-        Ok(settings) => Ok(Act::PutWorkspace(settings)),
+        Ok(ask) => Ok(Act::PutWorkspace(ask)),
         Err(DocFault::Bad) => Err(Refusal::BadBody),
         Err(DocFault::Down) => Err(Refusal::Unavailable),
     }

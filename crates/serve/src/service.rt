@@ -333,7 +333,7 @@ impl<K: Keep> Service<K> {
         ensures taken_fewer { OnErr result (self.new.taken < length steps.now) }
 
         // Custody, over the book of each workspace (`Book`): its steps with the workspace before and after each, in the own machine's run over the steps taken.
-        // In the period of a lock, a step that makes a version or is an accepted purge carried its ID.
+        // In the period of a lock, a step that makes a version, or is an accepted purge, or after which a version kept before it is gone, carried its ID.
         ensures lock_periods { K.clean self.new.keep → K.sound self.old.keep → OfEachBook LocksKeepOthersOut (take self.new.taken steps.now) (K.rows self.old.keep) }
 
         // In the period of a run, such a step carried the run's ID, and the run was applying.

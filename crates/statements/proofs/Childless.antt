@@ -1,6 +1,6 @@
--- A token that goes takes no row of bound along, where none is of its name.
-use Rattle.std.proofs.Common.{◌≡◌, inr, ℕ, ◌<ℤ◌, Bool, true, false, not, cond, ◌&&◌, List, [], ◌∷◌, map, filter, Some, option_and_then, unwrap_or, Ok, refl, sym, ap, ◌∙◌, subst, arith, is_eq, IsPermutation}
-use Rattle.std.specs.List.{AllByRecursion, list_any}
+-- A token that goes takes no row of bound along, where none is of its name; nor does a workspace a row of keeping.
+use Rattle.std.proofs.Common.{◌≡◌, ◌≢◌, inr, ℕ, ◌<ℤ◌, Bool, true, false, not, cond, ◌&&◌, List, [], ◌∷◌, map, filter, Some, option_and_then, unwrap_or, Ok, refl, sym, ap, ◌∙◌, subst, arith, is_eq, IsPermutation}
+use Rattle.std.specs.List.{AllByRecursion, list_all, list_any}
 use Rattle.std.specs.Str.{bytes_eq}
 use Rattle.std.proofs.lemmas.Bool.{and_parts}
 use Rattle.std.proofs.lemmas.Cmp.{tied_itself, int_cmp_total}
@@ -12,9 +12,12 @@ use Rattle.sqlite_value.specs.Keys.{plain}
 use Rattle.sqlite_value.specs.Order.{Row}
 use Rattle.sqlite_value.proofs.OrderLemmas.{value_cmp-Int}
 use Rattle.sqlite_trees.specs.Tree.{has_rowid}
+use Rattle.sqlite_sql.specs.Term.{holds}
 use Rattle.sqlite_sql.specs.Program.{overlay}
 use Rattle.sqlite_schema.specs.declared.schema.Keys.TheVariants.{Enforced}
+use Rattle.sqlite_schema.specs.declared.schema.Reference.{Reference}
 use Rattle.sqlite_schema.specs.declared.schema.Schema.{Schema}
+use Rattle.sqlite_schema.specs.declared.command.Command.TheVariants.{Delete}
 use Rattle.sqlite_schema.specs.Rules.{agree, ParentKey, parent_key, key_in, key_places, declared_order}
 use Rattle.sqlite_rules.specs.Action.{pairs, loses}
 use Rattle.sqlite_rules.specs.Calls.{ids_of}
@@ -28,19 +31,22 @@ use Rattle.sqlite_keyed.specs.Lists.{delete_where}
 use Rattle.sqlite_keyed.proofs.KeyedLemmas.{Less-from_lt}
 use Rattle.sqlite_keyed.proofs.ListLemmas.{map-map, all_both, all_weaker}
 use Rattle.statements.specs.Place.{at_of, tree_of, IsPassive, IsOwn}
-use Rattle.statements.specs.Schema.{token_table, bound_table, to_token}
-use Rattle.statements.specs.Rows.{Kept, id_of, stored, TokenRow, BoundRow, token_cells, bound_cells}
-use Rattle.statements.specs.Tables.{Tables, Holds, our_tables}
-use Rattle.statements.specs.Changes.{is_token, is_bound, HasNoBound}
+use Rattle.statements.specs.Schema.{token_table, ws_table, bound_table, keeping_table, to_token, to_ws}
+use Rattle.statements.specs.Rows.{Kept, id_of, stored, TokenRow, WsRow, BoundRow, KeepingRow, token_cells, ws_cells, bound_cells, keeping_cells}
+use Rattle.statements.specs.Tables.{Layout, Tables, Holds, our_tables, token_layout, ws_layout, bound_layout, keeping_layout}
+use Rattle.statements.specs.Changes.{is_token, is_bound, HasNoBound, is_ws, is_keeping, HasNoKeeping}
 use Rattle.statements.proofs.Lead.{GoesTo, IsIdle, HasNoChildren, follower_keeps}
-use Rattle.statements.proofs.Follows.{bound_follows, there, named_first}
-use Rattle.statements.proofs.Held.{tokens_held, bounds_held, trees_apart}
+use Rattle.statements.proofs.Follows.{Follows, bound_follows, keeping_follows, there, named_first}
+use Rattle.statements.proofs.Held.{IsHeld, tokens_held, wss_held, bounds_held, keepings_held, trees_apart}
 use Rattle.statements.proofs.Own.{stored_tree}
-use Rattle.statements.proofs.Writes.{deletes}
+use Rattle.statements.proofs.Writes.{deletes, plain_program}
 use Rattle.statements.proofs.Edits.{all_shown}
 use Rattle.statements.proofs.Conditions.{two_texts}
 use Rattle.statements.proofs.NameLists.{same_text}
-use Rattle.statements.proofs.TokenTexts.{remove_token_text, remove_token_means, remove_token_query}
+use Rattle.statements.proofs.Commands.{is_at, delete_query}
+use Rattle.statements.proofs.Meaning.{Means}
+use Rattle.statements.proofs.TokenTexts.{remove_token_text, remove_token_means}
+use Rattle.statements.proofs.WsTexts.{remove_ws_text, remove_ws_means}
 
 -- ---- the rows that go are those that the statement names
 
@@ -86,77 +92,118 @@ none_left p (x ∷ xs) = go (p x) refl (none_left p xs)
     go true e more = more
     go false e more = (e, more)
 
--- ---- a token and a row of bound agree by their names
-
-abbrev token_order : Order
-token_order = unwrap_or (declared_order token_table (1 ∷ 2 ∷ [])) plain
-
-places_is : (tree : ℕ) → option_and_then (key_in (record token_table { tree = tree })) (key_places (record token_table { tree = tree }) to_token.parent_columns) ≡ Some (tree, 1 ∷ 2 ∷ [], token_order)
-unfolding everything
-places_is tree = refl
-
-key_is : (s : Schema) → IsOwn s token_table → parent_key s.tables to_token ≡ Some (tree_of s token_table.name, 1 ∷ 2 ∷ [], token_order)
-key_is s own = ap (option_and_then (λ t. option_and_then (key_in t) (key_places t to_token.parent_columns))) (named_first s token_table own) ∙ places_is (tree_of s token_table.name)
-
-agree_is : (b : Kept BoundRow) (z : Kept TokenRow) → agree token_order to_token.columns (stored bound_cells b) (1 ∷ 2 ∷ []) (stored token_cells z) ≡ (bytes_eq b.1.org z.1.org && bytes_eq b.1.name z.1.name)
-unfolding everything
-agree_is b z = two_texts b.1.org z.1.org b.1.name z.1.name
+-- ---- a row and one that follows it agree by their names
 
 and_false : (a : Bool) → (a && false) ≡ false
 and_false true = refl
 and_false false = refl
 
-module _ (org name : List ℕ) where
-  disagree : (b : Kept BoundRow) (z : Kept TokenRow) → is_bound org name b ≡ false → is_token org name z ≡ true → agree token_order to_token.columns (stored bound_cells b) (1 ∷ 2 ∷ []) (stored token_cells z) ≡ false
-  disagree b z none mine =
-      let parts = and_parts (bytes_eq z.1.org org) (bytes_eq z.1.name name) mine in
-      agree_is b z ∙ ap (λ o. bytes_eq b.1.org o && bytes_eq b.1.name z.1.name) (same_text z.1.org org parts.0) ∙ ap (λ n. bytes_eq b.1.org org && bytes_eq b.1.name n) (same_text z.1.name name parts.1) ∙ none
+-- of two pairs of names the one is this one, and the other isn't
+apart_by : (org name o n a b : List ℕ) → (bytes_eq o org && bytes_eq n name) ≡ false → (bytes_eq a org && bytes_eq b name) ≡ true → (bytes_eq o a && bytes_eq n b) ≡ false
+apart_by org name o n a b none mine =
+    let parts = and_parts (bytes_eq a org) (bytes_eq b name) mine in
+    ap (λ x. bytes_eq o x && bytes_eq n b) (same_text a org parts.0) ∙ ap (λ x. bytes_eq o org && bytes_eq n x) (same_text b name parts.1) ∙ none
 
-  -- no row of bound agrees with such a token
+module _ {R C : Type 0} (parent : Layout R) (child : Layout C) (ref : Reference) (order : Order) (org name : List ℕ) (is_parent : Kept R → Bool) (is_child : Kept C → Bool)
+    (disagree : (b : Kept C) (z : Kept R) → is_child b ≡ false → is_parent z ≡ true → agree order ref.columns (stored child.cells b) (1 ∷ 2 ∷ []) (stored parent.cells z) ≡ false)
+    (tests : (x : Kept R) → list_all (holds ((Text org ∷ Text name ∷ []) ∷ stored parent.cells x ∷ [])) (is_at 1 0 ∷ is_at 2 1 ∷ []) ≡ is_parent x) where
+  -- such a row agrees with none that goes
   abbrev IsStranger : Row → Type 0
-  IsStranger r = (z : Kept TokenRow) → is_token org name z ≡ true → agree token_order to_token.columns r (1 ∷ 2 ∷ []) (stored token_cells z) ≡ false
+  IsStranger r = (z : Kept R) → is_parent z ≡ true → agree order ref.columns r (1 ∷ 2 ∷ []) (stored parent.cells z) ≡ false
 
-  strangers : (bs : List (Kept BoundRow)) → AllByRecursion (λ b. is_bound org name b ≡ false) bs → AllByRecursion IsStranger (map (stored bound_cells) bs)
+  strangers : (bs : List (Kept C)) → AllByRecursion (λ b. is_child b ≡ false) bs → AllByRecursion IsStranger (map (stored child.cells) bs)
   strangers [] h = tt
   strangers (b ∷ bs) h = ((λ z mine. disagree b z h.0 mine), strangers bs h.1)
 
-  module _ (old new : State) (t : Tables) (h : Holds old.now t) (count : ℕ) (none : HasNoBound org name t) (ran : Executes remove_token_text (Text org ∷ Text name ∷ []) old new (Ok count)) where
+  module _ (old new : State) (xs : List (Kept R)) (ours : IsHeld parent old.now xs) (ys : List (Kept C)) (theirs : IsHeld child old.now ys) (follows : Follows old.now.schema parent.table child.table)
+      (one : child.table.references ≡ ref ∷ []) (apart : tree_of old.now.schema child.table.name ≢ tree_of old.now.schema parent.table.name)
+      (key_is : parent_key old.now.schema.tables ref ≡ Some (tree_of old.now.schema parent.table.name, 1 ∷ 2 ∷ [], order)) where
     abbrev s : Schema
     s = old.now.schema
 
     abbrev here : ℕ
-    here = tree_of s token_table.name
+    here = tree_of s parent.table.name
 
-    abbrev theirs : List Row
-    theirs = map (stored bound_cells) t.bounds
+    abbrev their_rows : List Row
+    their_rows = map (stored child.cells) ys
 
-    pub token_goes : new.now.trees (tree_of s bound_table.name) ≡ old.now.trees (tree_of s bound_table.name)
-    token_goes =
-        let tokens = tokens_held old.now t h in
-        let bounds = bounds_held old.now t h in
-        let made = deletes old new remove_token_text (Text org ∷ Text name ∷ []) (at_of s token_table.name) (record token_table { tree = here }) tokens.own.place.found (remove_token_query here) (remove_token_means s _ _ tokens.own.place) count ran in
-        let some = all_shown token_cells (overlay old.now.trees []) here t.tokens (stored_tree old.now.trees here tokens.own.place.low ∙ tokens.rows) tokens.keyed (remove_token_query here) refl refl refl (Text org ∷ Text name ∷ [])
-        (is_token org name) (λ x. two_texts x.1.org org x.1.name name) (λ rows. refl) made.0 made.1 in
-        let taken = taken_are token_cells t.tokens some.0 (is_token org name) tokens.keyed some.1 in
+    known : (key : ParentKey) → parent_key s.tables ref ≡ Some key → (here, 1 ∷ 2 ∷ [], order) ≡ key
+    known key told = let e = sym key_is ∙ told in cc
+
+    childless_at : (moves : List (Row × Row)) (key : ParentKey) → (here, 1 ∷ 2 ∷ [], order) ≡ key → HasNoChildren their_rows moves ref (here, 1 ∷ 2 ∷ [], order) → HasNoChildren their_rows moves ref key
+    childless_at moves key is h = subst (λ k. HasNoChildren their_rows moves ref k) is h
+
+    goes_alone : (text : List ℕ) (count : ℕ) → AllByRecursion (λ b. is_child b ≡ false) ys → Means s (Delete (at_of s parent.table.name) (plain_program (delete_query here (is_at 1 0 ∷ is_at 2 1 ∷ [])))) text
+        → Executes text (Text org ∷ Text name ∷ []) old new (Ok count) → new.now.trees (tree_of s child.table.name) ≡ old.now.trees (tree_of s child.table.name)
+    goes_alone text count none means ran =
+        let made = deletes old new text (Text org ∷ Text name ∷ []) (at_of s parent.table.name) (record parent.table { tree = here }) ours.own.place.found (delete_query here (is_at 1 0 ∷ is_at 2 1 ∷ [])) means count ran in
+        let some = all_shown parent.cells (overlay old.now.trees []) here xs (stored_tree old.now.trees here ours.own.place.low ∙ ours.rows) ours.keyed (delete_query here (is_at 1 0 ∷ is_at 2 1 ∷ [])) refl refl refl
+        (Text org ∷ Text name ∷ []) is_parent tests (λ rows. refl) made.0 made.1 in
+        let taken = taken_are parent.cells xs some.0 is_parent ours.keyed some.1 in
         let gone : ids_of made.0 ≡ map id_of some.0 = ap ids_of some.2 ∙ map-map _ _ some.0 in
-        let childless : HasNoChildren theirs (pairs (map (row_at (old.now.trees here)) (ids_of made.0)) []) to_token (here, 1 ∷ 2 ∷ [], token_order) = λ r has.
-        let stranger = all_has IsStranger theirs r (strangers t.bounds none) has in
-        let f = λ (move : Row × Row). loses token_order (1 ∷ 2 ∷ []) move && agree token_order to_token.columns r (1 ∷ 2 ∷ []) move.0 in
+        let moves = pairs (map (row_at (old.now.trees here)) (ids_of made.0)) [] in
+        let childless : HasNoChildren their_rows moves ref (here, 1 ∷ 2 ∷ [], order) = λ r has.
+        let stranger = all_has IsStranger their_rows r (strangers ys none) has in
+        let f = λ (move : Row × Row). loses order (1 ∷ 2 ∷ []) move && agree order ref.columns r (1 ∷ 2 ∷ []) move.0 in
         ap (λ l. list_any f (pairs (map (row_at (old.now.trees here)) l) [])) gone ∙ ap (λ l. list_any f (pairs l [])) (map-map (row_at (old.now.trees here)) id_of some.0)
         ∙ none_any f (λ z. row_at (old.now.trees here) (id_of z)) some.0
-        (all_weaker (λ z. (row_at (map (stored token_cells) t.tokens) (id_of z) ≡ stored token_cells z) × (is_token org name z ≡ true)) (λ z. f (row_at (old.now.trees here) (id_of z), []) ≡ false)
+        (all_weaker (λ z. (row_at (map (stored parent.cells) xs) (id_of z) ≡ stored parent.cells z) × (is_parent z ≡ true)) (λ z. f (row_at (old.now.trees here) (id_of z), []) ≡ false)
         (λ z it.
-        let row : row_at (old.now.trees here) (id_of z) ≡ stored token_cells z = ap (λ l. row_at l (id_of z)) tokens.rows ∙ it.0 in
-        ap (λ a. loses token_order (1 ∷ 2 ∷ []) (row_at (old.now.trees here) (id_of z), []) && a) (ap (λ l. agree token_order to_token.columns r (1 ∷ 2 ∷ []) l) row ∙ stranger z it.1) ∙ and_false _) some.0 taken) in
-        let follows = bound_follows s tokens.own in
-        let idle : IsIdle s theirs here (pairs (map (row_at (old.now.trees here)) (ids_of made.0)) []) to_token = inr (λ key told. inr (childless_at (pairs (map (row_at (old.now.trees here)) (ids_of made.0)) []) key (known key told) childless)) in
-        follower_keeps s Enforced (tree_of s bound_table.name) here theirs bound_table (at_of s bound_table.name) bounds.own.place.found (there (GoesTo s here) s bound_table bounds.own follows.goes)
-        (there IsPassive s token_table tokens.own tt) old.now.trees new.now.trees (edit_of old.now.trees (record token_table { tree = here }) (ids_of made.0) Given 0 []) bounds.rows
-        (λ same. trees_apart s our_tables 2 8 token_table bound_table refl refl (omega arith) h.ours.order (sym same))
-        (there (IsIdle s theirs here (pairs (map (row_at (old.now.trees here)) (ids_of made.0)) [])) s bound_table bounds.own (idle, tt)) made.2 ∙ sym bounds.rows
-      where
-        known : (key : ParentKey) → parent_key s.tables to_token ≡ Some key → (here, 1 ∷ 2 ∷ [], token_order) ≡ key
-        known key told = let e = sym (key_is s (tokens_held old.now t h).own) ∙ told in cc
+        let row : row_at (old.now.trees here) (id_of z) ≡ stored parent.cells z = ap (λ l. row_at l (id_of z)) ours.rows ∙ it.0 in
+        ap (λ a. loses order (1 ∷ 2 ∷ []) (row_at (old.now.trees here) (id_of z), []) && a) (ap (λ l. agree order ref.columns r (1 ∷ 2 ∷ []) l) row ∙ stranger z it.1) ∙ and_false _) some.0 taken) in
+        let idle : IsIdle s their_rows here true moves ref = inr (λ key told. inr (childless_at moves key (known key told) childless)) in
+        follower_keeps s Enforced (tree_of s child.table.name) here their_rows child.table (at_of s child.table.name) theirs.own.place.found (there (GoesTo s here) s child.table theirs.own follows.goes)
+        (there IsPassive s parent.table ours.own follows.passive) old.now.trees new.now.trees (edit_of old.now.trees (record parent.table { tree = here }) (ids_of made.0) Given 0 []) theirs.rows apart
+        (there (IsIdle s their_rows here true moves) s child.table theirs.own (subst (AllByRecursion (IsIdle s their_rows here true moves)) (sym one) (idle, tt))) made.2 ∙ sym theirs.rows
 
-        childless_at : (moves : List (Row × Row)) (key : ParentKey) → (here, 1 ∷ 2 ∷ [], token_order) ≡ key → HasNoChildren theirs moves to_token (here, 1 ∷ 2 ∷ [], token_order) → HasNoChildren theirs moves to_token key
-        childless_at moves key is h = subst (λ k. HasNoChildren theirs moves to_token k) is h
+-- ---- a token and a row of bound
+
+abbrev token_order : Order
+token_order = unwrap_or (declared_order token_table (1 ∷ 2 ∷ [])) plain
+
+token_places : (tree : ℕ) → option_and_then (key_in (record token_table { tree = tree })) (key_places (record token_table { tree = tree }) to_token.parent_columns) ≡ Some (tree, 1 ∷ 2 ∷ [], token_order)
+unfolding everything
+token_places tree = refl
+
+token_key : (s : Schema) → IsOwn s token_table → parent_key s.tables to_token ≡ Some (tree_of s token_table.name, 1 ∷ 2 ∷ [], token_order)
+token_key s own = ap (option_and_then (λ t. option_and_then (key_in t) (key_places t to_token.parent_columns))) (named_first s token_table own) ∙ token_places (tree_of s token_table.name)
+
+bound_agrees : (b : Kept BoundRow) (z : Kept TokenRow) → agree token_order to_token.columns (stored bound_cells b) (1 ∷ 2 ∷ []) (stored token_cells z) ≡ (bytes_eq b.1.org z.1.org && bytes_eq b.1.name z.1.name)
+unfolding everything
+bound_agrees b z = two_texts b.1.org z.1.org b.1.name z.1.name
+
+pub token_goes : (org name : List ℕ) (old new : State) (t : Tables) → Holds old.now t → (count : ℕ) → HasNoBound org name t → Executes remove_token_text (Text org ∷ Text name ∷ []) old new (Ok count)
+    → new.now.trees (tree_of old.now.schema bound_table.name) ≡ old.now.trees (tree_of old.now.schema bound_table.name)
+token_goes org name old new t h count none ran =
+    let tokens = tokens_held old.now t h in
+    goes_alone token_layout bound_layout to_token token_order org name (is_token org name) (is_bound org name)
+    (λ b z other mine. bound_agrees b z ∙ apart_by org name b.1.org b.1.name z.1.org z.1.name other mine) (λ x. two_texts x.1.org org x.1.name name)
+    old new t.tokens tokens t.bounds (bounds_held old.now t h) (bound_follows old.now.schema tokens.own) refl
+    (λ same. trees_apart old.now.schema our_tables 2 8 token_table bound_table refl refl (omega arith) h.ours.order (sym same)) (token_key old.now.schema tokens.own)
+    remove_token_text count none (remove_token_means old.now.schema _ _ tokens.own.place) ran
+
+-- ---- a workspace and a row of keeping
+
+abbrev ws_order : Order
+ws_order = unwrap_or (declared_order ws_table (1 ∷ 2 ∷ [])) plain
+
+ws_places : (tree : ℕ) → option_and_then (key_in (record ws_table { tree = tree })) (key_places (record ws_table { tree = tree }) to_ws.parent_columns) ≡ Some (tree, 1 ∷ 2 ∷ [], ws_order)
+unfolding everything
+ws_places tree = refl
+
+ws_key : (s : Schema) → IsOwn s ws_table → parent_key s.tables to_ws ≡ Some (tree_of s ws_table.name, 1 ∷ 2 ∷ [], ws_order)
+ws_key s own = ap (option_and_then (λ t. option_and_then (key_in t) (key_places t to_ws.parent_columns))) (named_first s ws_table own) ∙ ws_places (tree_of s ws_table.name)
+
+keeping_agrees : (b : Kept KeepingRow) (z : Kept WsRow) → agree ws_order to_ws.columns (stored keeping_cells b) (1 ∷ 2 ∷ []) (stored ws_cells z) ≡ (bytes_eq b.1.org z.1.org && bytes_eq b.1.ws z.1.name)
+unfolding everything
+keeping_agrees b z = two_texts b.1.org z.1.org b.1.ws z.1.name
+
+pub ws_goes : (org name : List ℕ) (old new : State) (t : Tables) → Holds old.now t → (count : ℕ) → HasNoKeeping org name t → Executes remove_ws_text (Text org ∷ Text name ∷ []) old new (Ok count)
+    → new.now.trees (tree_of old.now.schema keeping_table.name) ≡ old.now.trees (tree_of old.now.schema keeping_table.name)
+ws_goes org name old new t h count none ran =
+    let wss = wss_held old.now t h in
+    goes_alone ws_layout keeping_layout to_ws ws_order org name (is_ws org name) (is_keeping org name)
+    (λ b z other mine. keeping_agrees b z ∙ apart_by org name b.1.org b.1.ws z.1.org z.1.name other mine) (λ x. two_texts x.1.org org x.1.name name)
+    old new t.wss wss t.keepings (keepings_held old.now t h) (keeping_follows old.now.schema wss.own) refl
+    (λ same. trees_apart old.now.schema our_tables 3 10 ws_table keeping_table refl refl (omega arith) h.ours.order (sym same)) (ws_key old.now.schema wss.own)
+    remove_ws_text count none (remove_ws_means old.now.schema _ _ wss.own.place) ran

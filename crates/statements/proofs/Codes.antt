@@ -1,8 +1,9 @@
--- The numbers by which SQL keeps a role, a status or an action: each fits, and means one.
-use Rattle.std.proofs.Common.{◌≡◌, ℕ, pos, SFits, w64, arith, refl, sym, ap, ◌∙◌, List, Option, Some, None, option_map, Bor}
+-- The numbers by which SQL keeps a role, a status or an action, or how many versions a workspace keeps: each fits, and means one.
+use Rattle.std.proofs.Common.{◌≡◌, ◌≤◌, ℕ, pos, SFits, w64, arith, refl, sym, ap, ◌∙◌, List, Option, Some, None, option_map, Bor}
 use Rattle.sqlite_value.specs.declared.value.Value.TheVariants.{Text, Int}
 use Rattle.sqlite.specs.Values.{or_null, bound_value}
 use Rattle.sqlite_typed.specs.Columns.{or_null as typed_null}
+use Rattle.basis.specs.declared.numbers.TheConstants.{MAX_KEPT}
 use Rattle.basis.specs.declared.roles.Role.{Role}
 use Rattle.basis.specs.declared.roles.Role.TheVariants.{Read, Write, Admin}
 use Rattle.basis.specs.declared.runs.RunStatus.{RunStatus}
@@ -36,6 +37,9 @@ action_fits Confirm = record { sfits = omega arith }
 action_fits ReportApplied = record { sfits = omega arith }
 action_fits Discard = record { sfits = omega arith }
 action_fits Cancel = record { sfits = omega arith }
+
+pub keep_fits : (n : ℕ) → n ≤ MAX_KEPT → SFits w64 (pos n)
+keep_fits n most = record { sfits = omega (arith, most) }
 
 -- a text that may be absent, as SQL takes it
 pub optional_text : (o : Option (Bor (List ℕ))) → or_null (λ s. Text s.now) o ≡ typed_null Text (option_map (λ s. s.now) o)

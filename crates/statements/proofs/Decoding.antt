@@ -1,5 +1,5 @@
 -- The typed rows of a database are those that it holds.
-use Rattle.std.proofs.Common.{◌≡◌, ℕ, pos, Bool, true, false, not, cond, unsigned_abs, List, map, Option, Some, None, refl, ap, ◌∙◌, int_eq}
+use Rattle.std.proofs.Common.{◌≡◌, ℕ, pos, Bool, true, false, not, cond, unsigned_abs, List, [], map, Option, Some, None, refl, ap, ◌∙◌, int_eq}
 use Rattle.sqlite_value.specs.declared.value.Value.TheVariants as cell
 use Rattle.sqlite_typed.specs.Columns.{or_null, bytes_of, int_of, unless_null}
 use Rattle.sqlite_keyed.proofs.ListLemmas.{map_back}
@@ -8,9 +8,9 @@ use Rattle.basis.specs.declared.runs.RunAction.{RunAction}
 use Rattle.statements.specs.declared.rows.Holder.{Holder}
 use Rattle.statements.specs.declared.rows.Holder.TheVariants.{Nobody, Lock, Run as HeldByRun}
 use Rattle.statements.specs.Rows.{Kept, TokenRow, WsRow, RunRow, BoundRow, stored, token_cells, ws_cells, run_cells, bound_cells, number, action_code, kind_cell, lock_id_cell, lock_text_cell, run_cell}
-use Rattle.statements.specs.Tables.{Layout, Tables, Holds, rows_of, tables_of, meta_layout, org_layout, token_layout, ws_layout, version_layout, run_layout, page_layout, vpage_layout, bound_layout, edition_layout}
+use Rattle.statements.specs.Tables.{Layout, Tables, Holds, HoldsSecond, rows_of, tables_of, second_tables_of, meta_layout, org_layout, token_layout, ws_layout, version_layout, run_layout, page_layout, vpage_layout, bound_layout, edition_layout, keeping_layout}
 use Rattle.statements.specs.Decode.{kept_by, token_at, ws_at, run_at, bound_at, holder_at, action_at}
-use Rattle.statements.proofs.Held.{IsHeld, metas_held, orgs_held, tokens_held, wss_held, versions_held, runs_held, pages_held, vpages_held, bounds_held, editions_held}
+use Rattle.statements.proofs.Held.{IsHeld, metas_held, orgs_held, tokens_held, wss_held, versions_held, runs_held, pages_held, vpages_held, bounds_held, editions_held, keepings_held, second_metas_held, second_orgs_held, second_tokens_held, second_wss_held, second_versions_held, second_runs_held, second_pages_held, second_vpages_held, second_bounds_held, second_editions_held}
 use Rattle.statements.proofs.Codes.{role_back, status_back, action_back}
 
 flag_back : (b : Bool) → not (int_eq (cond b (pos 1) (pos 0)) (pos 0)) ≡ b
@@ -85,4 +85,21 @@ tables-held db t h = λ i. record {
   vpages = rows_back vpage_layout db t.vpages (λ x. refl) (vpages_held db t h) i;
   bounds = rows_back bound_layout db t.bounds bound_back (bounds_held db t h) i;
   editions = rows_back edition_layout db t.editions (λ x. refl) (editions_held db t h) i;
+  keepings = rows_back keeping_layout db t.keepings (λ x. refl) (keepings_held db t h) i;
+}
+
+-- so it is of those of schema 2
+pub second_tables-held : (db : Database) (t : Tables) → HoldsSecond db t → second_tables_of db ≡ record t { keepings = [] }
+second_tables-held db t h = λ i. record {
+  metas = rows_back meta_layout db t.metas (λ x. refl) (second_metas_held db t h) i;
+  orgs = rows_back org_layout db t.orgs (λ x. refl) (second_orgs_held db t h) i;
+  tokens = rows_back token_layout db t.tokens token_back (second_tokens_held db t h) i;
+  wss = rows_back ws_layout db t.wss ws_back (second_wss_held db t h) i;
+  versions = rows_back version_layout db t.versions (λ x. refl) (second_versions_held db t h) i;
+  runs = rows_back run_layout db t.runs run_back (second_runs_held db t h) i;
+  pages = rows_back page_layout db t.pages (λ x. refl) (second_pages_held db t h) i;
+  vpages = rows_back vpage_layout db t.vpages (λ x. refl) (second_vpages_held db t h) i;
+  bounds = rows_back bound_layout db t.bounds bound_back (second_bounds_held db t h) i;
+  editions = rows_back edition_layout db t.editions (λ x. refl) (second_editions_held db t h) i;
+  keepings = [];
 }

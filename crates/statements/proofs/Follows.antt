@@ -9,7 +9,7 @@ use Rattle.sqlite_schema.specs.Names.{same_name}
 use Rattle.sqlite_schema.specs.Rules.{ParentKey, key_in, key_places, declared_order}
 use Rattle.sqlite_keyed.proofs.ListLemmas.{all_weaker}
 use Rattle.statements.specs.Place.{RefersPassively, IsOwn, at_of, tree_of}
-use Rattle.statements.specs.Schema.{token_table, bound_table, to_token}
+use Rattle.statements.specs.Schema.{token_table, ws_table, bound_table, keeping_table, to_token, to_ws}
 use Rattle.statements.proofs.Lead.{GoesTo}
 
 -- each reference of the table is passive or goes to the parent, whose own are passive
@@ -65,3 +65,6 @@ goes_to s parent ref own is = inr (λ key told. key_tree (record parent { tree =
 
 pub bound_follows : (s : Schema) → IsOwn s token_table → Follows s token_table bound_table
 bound_follows s own = record { own = own; passive = tt; goes = (goes_to s token_table to_token own refl, tt) }
+
+pub keeping_follows : (s : Schema) → IsOwn s ws_table → Follows s ws_table keeping_table
+keeping_follows s own = record { own = own; passive = tt; goes = (goes_to s ws_table to_ws own refl, tt) }

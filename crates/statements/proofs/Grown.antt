@@ -16,7 +16,7 @@ use Rattle.sqlite.specs.Effect.{Database}
 use Rattle.sqlite_keyed.proofs.ListLemmas.{all-append, all_weaker, all-slice_get}
 use Rattle.statements.specs.Place.{at_of, tree_of, StandsAt, IsOwn}
 use Rattle.statements.specs.Tables.{StoredTable, HasRows, HoldsAll, tables_in}
-use Rattle.statements.specs.Making.{bare_table, KeepsTables}
+use Rattle.statements.specs.Making.{bare_table, KeepsTables, sequence_name, IsNotNamed, NamesNoOther}
 
 -- the table stands behind those that were there, with the next tree and no row; what stands behind it has a later tree
 pub record Grown (table : Table) (old new : Database) : Type 0 where
@@ -27,6 +27,7 @@ pub record Grown (table : Table) (old new : Database) : Type 0 where
   pub others : KeepsRows old.schema.tables old.trees new.trees
   pub free : table_named old.schema table.name ≡ None
   pub low : next_tree old.schema < 65536
+  pub engine : AllByRecursion (λ (t : Table). t.name ≡ sequence_name) more
 
 module _ {X : Type 0} where
   position_front : (p : X → Bool) (n i : ℕ) (xs ys : List X) → position_from p n xs ≡ Some i → position_from p n (xs ++ ys) ≡ Some i
@@ -46,6 +47,15 @@ module _ {X : Type 0} where
           → cond b (Some n) (position_from p (n + 1) (xs ++ y ∷ ys)) ≡ Some (n + length (x ∷ xs))
       go true e more = absurd (cc)
       go false e more = more e ∙ ap Some (omega arith)
+
+  position_none : (p : X → Bool) (n : ℕ) (xs ys : List X) → position_from p n xs ≡ None → AllByRecursion (λ y. p y ≡ false) ys → position_from p n (xs ++ ys) ≡ None
+  position_none p n [] [] h all = refl
+  position_none p n [] (y ∷ ys) h all = rw all.0 (position_none p (n + 1) [] ys refl all.1)
+  position_none p n (x ∷ xs) ys h all = go (p x) h (λ e. position_none p (n + 1) xs ys e all)
+    where
+      go : (b : Bool) → cond b (Some n) (position_from p (n + 1) xs) ≡ None → (position_from p (n + 1) xs ≡ None → position_from p (n + 1) (xs ++ ys) ≡ None) → cond b (Some n) (position_from p (n + 1) (xs ++ ys)) ≡ None
+      go true e more = absurd (cc)
+      go false e more = more e
 
   get_front : (xs ys : List X) (i : ℕ) (x : X) → slice_get xs i ≡ Some x → slice_get (xs ++ ys) i ≡ Some x
   get_front [] ys i x h = absurd (cc)
@@ -197,6 +207,12 @@ module _ (table : Table) (old new : Database) (g : Grown table old new) where
   pub added_apart : AllByRecursion (λ (t : Table). t.tree ≢ tree_of new.schema table.name) old.schema.tables
   added_apart =
       all_weaker (λ (t : Table). t.tree < next_tree old.schema) (λ (t : Table). t.tree ≢ tree_of new.schema table.name) (λ t low same. let is = tree_added in absurd (omega arith)) old.schema.tables (trees_below old.schema)
+
+  pub names_added : NamesNoOther (table ∷ []) old new
+  names_added name engine apart none =
+      ap (position_from (λ (t : Table). same_name t.name name) 0) g.tables
+      ∙ position_none (λ (t : Table). same_name t.name name) 0 old.schema.tables (added ∷ g.more) none
+      (apart.0, all_weaker (λ (t : Table). t.name ≡ sequence_name) (IsNotNamed name) (λ t is. ap (λ n. same_name n name) is ∙ engine) g.more g.engine)
 
 -- a table of ours keeps its tree where the tables that were there are kept
 pub tree_stays : (old new : Database) → KeepsTables old new → (t : Table) → IsOwn old.schema t → tree_of new.schema t.name ≡ tree_of old.schema t.name

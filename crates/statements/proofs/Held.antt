@@ -8,10 +8,10 @@ use Rattle.sqlite_keyed.specs.Keyed.{IsKeyedBy}
 use Rattle.sqlite_keyed.proofs.ListLemmas.{all-slice_get, ascending-map, ascending_from_map}
 use Rattle.sqlite.specs.Effect.{Database}
 use Rattle.statements.specs.Place.{tree_of, IsOwn}
-use Rattle.statements.specs.Schema.{token_table, bound_table}
+use Rattle.statements.specs.Schema.{token_table, ws_table, bound_table, keeping_table}
 use Rattle.statements.specs.Rows.{Kept, id_of, stored}
-use Rattle.statements.specs.Tables.{Layout, Tables, Holds, HasRows, StoredTable, stored_table, stored_tables, our_tables, rowid_of, meta_layout, org_layout, token_layout, ws_layout, version_layout, run_layout, page_layout, vpage_layout, bound_layout, edition_layout}
-use Rattle.statements.proofs.Follows.{IsSteady, bound_follows}
+use Rattle.statements.specs.Tables.{Layout, Tables, Holds, HoldsAll, HoldsSecond, HasRows, StoredTable, stored_table, second_stored, stored_tables, tables_in, our_tables, rowid_of, meta_layout, org_layout, token_layout, ws_layout, version_layout, run_layout, page_layout, vpage_layout, bound_layout, edition_layout, keeping_layout}
+use Rattle.statements.proofs.Follows.{IsSteady, bound_follows, keeping_follows}
 
 -- the table stands in the schema, and no write to others but the one that it follows changes it, and its tree has these rows in the order of their rowids
 pub record IsHeld {R : Type 0} (layout : Layout R) (db : Database) (xs : List (Kept R)) : Type 0 where
@@ -36,16 +36,24 @@ trees_apart s (x ∷ xs) zero (suc m) a b at_n at_m low up same =
 trees_apart s (x ∷ xs) (suc n) zero a b at_n at_m low up same = absurd (omega arith)
 trees_apart s (x ∷ xs) (suc n) (suc m) a b at_n at_m low up same = trees_apart s xs n m a b at_n at_m (omega arith) up.1 same
 
-module _ (db : Database) (t : Tables) (h : Holds db t) where
-  held_at : {R : Type 0} (layout : Layout R) (n : ℕ) (xs : List (Kept R)) → slice_get (stored_tables t) n ≡ Some (stored_table layout xs) → IsSteady db.schema layout.table → IsHeld layout db xs
-  held_at layout n xs is steady =
-      let has = all-slice_get (HasRows db) (stored_tables t) n (stored_table layout xs) is h.rows in
+-- the table at a place of those that a database holds
+module _ (db : Database) (ts : List StoredTable) (h : HoldsAll db ts) where
+  held_in : {R : Type 0} (layout : Layout R) (n : ℕ) (xs : List (Kept R)) → slice_get ts n ≡ Some (stored_table layout xs) → IsSteady db.schema layout.table → IsHeld layout db xs
+  held_in layout n xs is steady =
+      let has = all-slice_get (HasRows db) ts n (stored_table layout xs) is h.rows in
       record {
-        own = all-slice_get (IsOwn db.schema) our_tables n layout.table (slice_get-map (λ (x : StoredTable). x.table) (stored_tables t) n ∙ ap (option_map (λ (x : StoredTable). x.table)) is) h.ours.own;
+        own = all-slice_get (IsOwn db.schema) (tables_in ts) n layout.table (slice_get-map (λ (x : StoredTable). x.table) ts n ∙ ap (option_map (λ (x : StoredTable). x.table)) is) h.own.own;
         steady = steady;
         rows = has.rows;
         keyed = ascending_from_map _ (stored layout.cells) xs has.keyed;
       }
+
+pub holds_all : (db : Database) (t : Tables) → Holds db t → HoldsAll db (stored_tables t)
+holds_all db t h = record { own = h.ours; rows = h.rows }
+
+module _ (db : Database) (t : Tables) (h : Holds db t) where
+  held_at : {R : Type 0} (layout : Layout R) (n : ℕ) (xs : List (Kept R)) → slice_get (stored_tables t) n ≡ Some (stored_table layout xs) → IsSteady db.schema layout.table → IsHeld layout db xs
+  held_at = held_in db (stored_tables t) (holds_all db t h)
 
   pub metas_held : IsHeld meta_layout db t.metas
   metas_held = held_at meta_layout 0 t.metas refl (inl tt)
@@ -78,3 +86,45 @@ module _ (db : Database) (t : Tables) (h : Holds db t) where
 
   pub editions_held : IsHeld edition_layout db t.editions
   editions_held = held_at edition_layout 9 t.editions refl (inl tt)
+
+  pub keepings_held : IsHeld keeping_layout db t.keepings
+  keepings_held =
+      let wss = wss_held.own in
+      held_at keeping_layout 10 t.keepings refl (inr (ws_table, keeping_follows db.schema wss, trees_apart db.schema our_tables 3 10 ws_table keeping_table refl refl (omega arith) h.ours.order))
+
+-- in a database that holds those of schema 2
+module _ (db : Database) (t : Tables) (h : HoldsSecond db t) where
+  second_held_at : {R : Type 0} (layout : Layout R) (n : ℕ) (xs : List (Kept R)) → slice_get (second_stored t) n ≡ Some (stored_table layout xs) → IsSteady db.schema layout.table → IsHeld layout db xs
+  second_held_at = held_in db (second_stored t) h
+
+  pub second_metas_held : IsHeld meta_layout db t.metas
+  second_metas_held = second_held_at meta_layout 0 t.metas refl (inl tt)
+
+  pub second_orgs_held : IsHeld org_layout db t.orgs
+  second_orgs_held = second_held_at org_layout 1 t.orgs refl (inl tt)
+
+  pub second_tokens_held : IsHeld token_layout db t.tokens
+  second_tokens_held = second_held_at token_layout 2 t.tokens refl (inl tt)
+
+  pub second_wss_held : IsHeld ws_layout db t.wss
+  second_wss_held = second_held_at ws_layout 3 t.wss refl (inl tt)
+
+  pub second_versions_held : IsHeld version_layout db t.versions
+  second_versions_held = second_held_at version_layout 4 t.versions refl (inl tt)
+
+  pub second_runs_held : IsHeld run_layout db t.runs
+  second_runs_held = second_held_at run_layout 5 t.runs refl (inl tt)
+
+  pub second_pages_held : IsHeld page_layout db t.pages
+  second_pages_held = second_held_at page_layout 6 t.pages refl (inl tt)
+
+  pub second_vpages_held : IsHeld vpage_layout db t.vpages
+  second_vpages_held = second_held_at vpage_layout 7 t.vpages refl (inl (refl, tt))
+
+  pub second_bounds_held : IsHeld bound_layout db t.bounds
+  second_bounds_held =
+      let tokens = second_tokens_held.own in
+      second_held_at bound_layout 8 t.bounds refl (inr (token_table, bound_follows db.schema tokens, trees_apart db.schema (tables_in (second_stored t)) 2 8 token_table bound_table refl refl (omega arith) h.own.order))
+
+  pub second_editions_held : IsHeld edition_layout db t.editions
+  second_editions_held = second_held_at edition_layout 9 t.editions refl (inl tt)

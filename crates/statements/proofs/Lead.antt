@@ -35,11 +35,11 @@ passive_at : (deletes : Bool) (ref : Reference) → IsPassive ref → is_passive
 passive_at true ref stays = (and_parts (is_passive ref.on_delete) (is_passive ref.on_update) stays).0
 passive_at false ref stays = (and_parts (is_passive ref.on_delete) (is_passive ref.on_update) stays).1
 
--- what a passive reference sets off is a refusal
-deed_refuses : (keys : Keys) (deletes : Bool) (ref : Reference) (d : Deed) → IsPassive ref → deed_for keys deletes ref ≡ Some d → refuses d ≡ true
+-- what a reference sets off that is passive for it is a refusal
+deed_refuses : (keys : Keys) (deletes : Bool) (ref : Reference) (d : Deed) → is_passive (cond deletes ref.on_delete ref.on_update) ≡ true → deed_for keys deletes ref ≡ Some d → refuses d ≡ true
 deed_refuses Off deletes ref d stays is = absurd (cc)
-deed_refuses Enforced deletes ref d stays is = deed_of_refuses Enforced deletes (cond deletes ref.on_delete ref.on_update) d (passive_at deletes ref stays) is
-deed_refuses Deferred deletes ref d stays is = deed_of_refuses Deferred deletes (cond deletes ref.on_delete ref.on_update) d (passive_at deletes ref stays) is
+deed_refuses Enforced deletes ref d stays is = deed_of_refuses Enforced deletes (cond deletes ref.on_delete ref.on_update) d stays is
+deed_refuses Deferred deletes ref d stays is = deed_of_refuses Deferred deletes (cond deletes ref.on_delete ref.on_update) d stays is
 
 -- no row of these refers to a row that goes
 abbrev pub HasNoChildren : List Row → List (Row × Row) → Reference → ParentKey → Type 0
@@ -49,9 +49,10 @@ HasNoChildren rows moves ref key = (r : Row) → Has rows r → list_any (λ mov
 abbrev pub GoesTo : Schema → ℕ → Reference → Type 0
 GoesTo schema parent ref = IsPassive ref ⊎ ((key : ParentKey) → parent_key schema.tables ref ≡ Some key → key.0 ≡ parent)
 
--- what is written at a tree, and goes there, sets off nothing by the reference
-abbrev pub IsIdle : Schema → List Row → ℕ → List (Row × Row) → Reference → Type 0
-IsIdle schema rows on moves ref = IsPassive ref ⊎ ((key : ParentKey) → parent_key schema.tables ref ≡ Some key → (key.0 ≢ on) ⊎ HasNoChildren rows moves ref key)
+-- what is written at a tree, and goes there or gets another key, sets off nothing by the reference
+abbrev pub IsIdle : Schema → List Row → ℕ → Bool → List (Row × Row) → Reference → Type 0
+IsIdle schema rows on deletes moves ref =
+    (is_passive (cond deletes ref.on_delete ref.on_update) ≡ true) ⊎ ((key : ParentKey) → parent_key schema.tables ref ≡ Some key → (key.0 ≢ on) ⊎ HasNoChildren rows moves ref key)
 
 same_number : (m n : ℕ) → (m == n) ≡ true → m ≡ n
 same_number m n e = eqb-true m n e
@@ -94,15 +95,15 @@ module _ (schema : Schema) (keys : Keys) (tree parent : ℕ) (rows : List Row) w
     abbrev moves : List (Row × Row)
     moves = pairs olds news
 
-    refused : (child : Table) (ref : Reference) (w : Work) → MadeOf depth on moves child ref (deed_for keys (length news == 0) ref) (parent_key schema.tables ref) w → IsPassive ref → refuses w.deed ≡ true
+    refused : (child : Table) (ref : Reference) (w : Work) → MadeOf depth on moves child ref (deed_for keys (length news == 0) ref) (parent_key schema.tables ref) w → is_passive (cond (length news == 0) ref.on_delete ref.on_update) ≡ true → refuses w.deed ≡ true
     refused child ref w made passive = deed_refuses keys (length news == 0) ref w.deed passive (made.deed_is ∙ ap (λ (v : Work). Some v.deed) (sym made.it_is))
 
-    idle : (child : Table) (ref : Reference) (w : Work) → MadeOf depth on moves child ref (deed_for keys (length news == 0) ref) (parent_key schema.tables ref) w → IsIdle schema rows on moves ref
+    idle : (child : Table) (ref : Reference) (w : Work) → MadeOf depth on moves child ref (deed_for keys (length news == 0) ref) (parent_key schema.tables ref) w → IsIdle schema rows on (length news == 0) moves ref
         → (refuses w.deed ≡ true) ⊎ IsChildless w
     idle child ref w made (inl passive) = inl (refused child ref w made passive)
     idle child ref w made (inr idles) = elim (idles made.parent made.key_is) [ inl apart ↦ absurd (apart made.on_it) | inr none ↦ inr (subst IsChildless (sym made.it_is) none) ]
 
-    child_works : (child : Table) (refs : List Reference) → (child.tree ≡ tree → AllByRecursion (IsIdle schema rows on moves) refs) → (child.tree ≡ parent → AllByRecursion IsPassive refs)
+    child_works : (child : Table) (refs : List Reference) → (child.tree ≡ tree → AllByRecursion (IsIdle schema rows on (length news == 0) moves) refs) → (child.tree ≡ parent → AllByRecursion IsPassive refs)
         → AllByRecursion IsElsewhere (filter_map (work_for schema keys depth on olds news child) refs)
     child_works child [] only firm = tt
     child_works child (ref ∷ refs) only firm = go (work_for schema keys depth on olds news child ref) refl
@@ -114,9 +115,9 @@ module _ (schema : Schema) (keys : Keys) (tree parent : ℕ) (rows : List Row) w
         go (Some w) e more =
             let made = one_work depth on moves child ref _ (parent_key schema.tables ref) w e in
             let child_is : w.child.tree ≡ child.tree = ap (λ (v : Work). v.child.tree) made.it_is in
-            rw e (((λ same. idle child ref w made (only (sym child_is ∙ same)).0), (λ same. refused child ref w made (firm (sym child_is ∙ same)).0)), more)
+            rw e (((λ same. idle child ref w made (only (sym child_is ∙ same)).0), (λ same. refused child ref w made (passive_at (length news == 0) ref (firm (sym child_is ∙ same)).0))), more)
 
-    all_works : (tables : List Table) → AllByRecursion (λ (t : Table). t.tree ≡ tree → AllByRecursion (IsIdle schema rows on moves) t.references) tables → AllByRecursion (λ (t : Table). t.tree ≡ parent → RefersPassively t) tables
+    all_works : (tables : List Table) → AllByRecursion (λ (t : Table). t.tree ≡ tree → AllByRecursion (IsIdle schema rows on (length news == 0) moves) t.references) tables → AllByRecursion (λ (t : Table). t.tree ≡ parent → RefersPassively t) tables
         → AllByRecursion IsElsewhere (flat_map (λ child. filter_map (work_for schema keys depth on olds news child) child.references) tables)
     all_works [] h firm = tt
     all_works (t ∷ tables) h firm = all-append IsElsewhere _ _ (child_works t t.references h.0 firm.0) (all_works tables h.1 firm.1)
@@ -130,13 +131,13 @@ module _ (schema : Schema) (keys : Keys) (tree parent : ℕ) (rows : List Row) w
     applied_keeps : (db next : Trees) (edit : Edit) → Applies schema keys db edit next → tree ≢ edit.table.tree → next tree ≡ db tree
     applied_keeps = applied_there schema keys table at tree found
 
-    pub elsewhere_idle : (on : ℕ) (moves : List (Row × Row)) → on ≢ parent → AllByRecursion (λ (t : Table). t.tree ≡ tree → AllByRecursion (IsIdle schema rows on moves) t.references) schema.tables
-    elsewhere_idle on moves apart =
-        all_weaker (λ (t : Table). t.tree ≡ tree → AllByRecursion (GoesTo schema parent) t.references) (λ (t : Table). t.tree ≡ tree → AllByRecursion (IsIdle schema rows on moves) t.references)
-        (λ t h same. all_weaker (GoesTo schema parent) (IsIdle schema rows on moves) one t.references (h same)) schema.tables bare
+    pub elsewhere_idle : (on : ℕ) (deletes : Bool) (moves : List (Row × Row)) → on ≢ parent → AllByRecursion (λ (t : Table). t.tree ≡ tree → AllByRecursion (IsIdle schema rows on deletes moves) t.references) schema.tables
+    elsewhere_idle on deletes moves apart =
+        all_weaker (λ (t : Table). t.tree ≡ tree → AllByRecursion (GoesTo schema parent) t.references) (λ (t : Table). t.tree ≡ tree → AllByRecursion (IsIdle schema rows on deletes moves) t.references)
+        (λ t h same. all_weaker (GoesTo schema parent) (IsIdle schema rows on deletes moves) one t.references (h same)) schema.tables bare
       where
-        one : (ref : Reference) → GoesTo schema parent ref → IsIdle schema rows on moves ref
-        one ref (inl passive) = inl passive
+        one : (ref : Reference) → GoesTo schema parent ref → IsIdle schema rows on deletes moves ref
+        one ref (inl passive) = inl (passive_at deletes ref passive)
         one ref (inr goes) = inr (λ key is. inl (λ same. apart (sym same ∙ goes key is)))
 
     pub lead_keeps : (n : ℕ) (db next : Trees) (stack : List Work) → db tree ≡ rows → AllByRecursion IsElsewhere stack → Leads schema keys n db stack (Ok next) → next tree ≡ rows
@@ -159,7 +160,7 @@ module _ (schema : Schema) (keys : Keys) (tree parent : ℕ) (rows : List Row) w
                 let there : edit.table.tree ≡ w.child.tree = ap (λ (t : Table). t.tree) is in
                 let kept = applied_keeps db went.0 edit went.1 (λ same. apart (sym (same ∙ there))) in
                 again went.0 next _ (kept ∙ seen)
-                (all-append IsElsewhere below _ away (all_works (w.depth + 1) edit.table.tree _ _ schema.tables (elsewhere_idle edit.table.tree _ (λ same. free (sym there ∙ same))) firm)) went.2
+                (all-append IsElsewhere below _ away (all_works (w.depth + 1) edit.table.tree _ _ schema.tables (elsewhere_idle edit.table.tree _ _ (λ same. free (sym there ∙ same))) firm)) went.2
 
             -- a row that is acted on is none of the table
             strange : (id : ℤ) (ids : List ℤ) → AreChildren db w (id ∷ ids) → refuses w.deed ≡ false → w.child.tree ≡ tree → ⊥
@@ -182,7 +183,7 @@ module _ (schema : Schema) (keys : Keys) (tree parent : ℕ) (rows : List Row) w
 
     -- A write to another table leaves this one, where what it takes away sets off nothing here.
     pub follower_keeps : (db next : Trees) (edit : Edit) → db tree ≡ rows → tree ≢ edit.table.tree
-        → AllByRecursion (λ (t : Table). t.tree ≡ tree → AllByRecursion (IsIdle schema rows edit.table.tree (pairs (taken_by db edit) edit.news)) t.references) schema.tables
+        → AllByRecursion (λ (t : Table). t.tree ≡ tree → AllByRecursion (IsIdle schema rows edit.table.tree (length edit.news == 0) (pairs (taken_by db edit) edit.news)) t.references) schema.tables
         → Writes schema keys db edit (Ok next) → next tree ≡ rows
     follower_keeps db next edit seen apart idles (inl refused) = absurd (let e = refused.2 in cc)
     follower_keeps db next edit seen apart idles (inr (inl big)) = absurd (let e = big.2 in cc)
@@ -193,7 +194,7 @@ module _ (schema : Schema) (keys : Keys) (tree parent : ℕ) (rows : List Row) w
 pub step_keeps : (schema : Schema) (keys : Keys) (tree parent : ℕ) (table : Table) (at : ℕ) → slice_get schema.tables at ≡ Some (record table { tree = tree })
     → AllByRecursion (λ (t : Table). t.tree ≡ tree → AllByRecursion (GoesTo schema parent) t.references) schema.tables → AllByRecursion (λ (t : Table). t.tree ≡ parent → RefersPassively t) schema.tables
     → (db next : Trees) (edit : Edit)
-    → ((rows : List Row) → AllByRecursion (λ (t : Table). t.tree ≡ tree → AllByRecursion (IsIdle schema rows edit.table.tree (pairs (taken_by db edit) edit.news)) t.references) schema.tables)
+    → ((rows : List Row) → AllByRecursion (λ (t : Table). t.tree ≡ tree → AllByRecursion (IsIdle schema rows edit.table.tree (length edit.news == 0) (pairs (taken_by db edit) edit.news)) t.references) schema.tables)
     → Writes schema keys db edit (Ok next) → (mid : Trees) × Applies schema keys db edit mid × (next tree ≡ mid tree)
 step_keeps schema keys tree parent table at found bare firm db next edit idles (inl refused) = absurd (let e = refused.2 in cc)
 step_keeps schema keys tree parent table at found bare firm db next edit idles (inr (inl big)) = absurd (let e = big.2 in cc)
@@ -208,7 +209,7 @@ step_keeps schema keys tree parent table at found bare firm db next edit idles (
 pub write_keeps : (schema : Schema) (keys : Keys) (table : Table) (at tree : ℕ) → slice_get schema.tables at ≡ Some (record table { tree = tree }) → AllByRecursion (λ (t : Table). t.tree ≡ tree → RefersPassively t) schema.tables
     → (db next : Trees) (edit : Edit) → Writes schema keys db edit (Ok next) → (mid : Trees) × Applies schema keys db edit mid × (next tree ≡ mid tree)
 write_keeps schema keys table at tree found bare db next edit =
-    step_keeps schema keys tree tree table at found (weaker (GoesTo schema tree) (λ ref passive. inl passive)) bare db next edit (λ rows. weaker (IsIdle schema rows edit.table.tree _) (λ ref passive. inl passive))
+    step_keeps schema keys tree tree table at found (weaker (GoesTo schema tree) (λ ref passive. inl passive)) bare db next edit (λ rows. weaker (IsIdle schema rows edit.table.tree (length edit.news == 0) _) (λ ref passive. inl (passive_at (length edit.news == 0) ref passive)))
   where
     weaker : (Q : Reference → Type 0) → ((ref : Reference) → IsPassive ref → Q ref) → AllByRecursion (λ (t : Table). t.tree ≡ tree → AllByRecursion Q t.references) schema.tables
     weaker Q f = all_weaker (λ (t : Table). t.tree ≡ tree → RefersPassively t) (λ (t : Table). t.tree ≡ tree → AllByRecursion Q t.references) (λ t h same. all_weaker IsPassive Q f t.references (h same)) schema.tables bare

@@ -17,6 +17,9 @@ pub mod Found
 pub mod Frames
 pub mod Grown
 pub mod Held
+pub mod KeepingReads
+pub mod KeepingTexts
+pub mod KeepingWrites
 pub mod KeyedLists
 pub mod Lead
 pub mod Listed

@@ -1,6 +1,6 @@
 -- What a CREATE TABLE and a CREATE INDEX do, in a database with whatever schema.
 use Rattle.std.proofs.Common.{◌≡◌, ◌⊎◌, inl, inr, ℕ, ◌+◌, ◌<◌, Bool, true, false, cond, ◌||◌, ◌&&◌, List, [], ◌∷◌, ◌++◌, slice_get, slice_range, Option, Some, None, is_some, Result, Ok, Err, refl, sym, ap, ◌∙◌, subst, arith, append_assoc, append-nil}
-use Rattle.std.specs.List.{AllByRecursion, AllZip}
+use Rattle.std.specs.List.{AllByRecursion, AllZip, position_from}
 use Rattle.std.proofs.lemmas.Bool.{cases_Bool, or_parts}
 use Rattle.sqlite_value.specs.Order.{Row}
 use Rattle.sqlite_trees.specs.Tree.{Trees, IsAscending}
@@ -15,7 +15,7 @@ use Rattle.sqlite_schema.specs.declared.schema.Index.{Index}
 use Rattle.sqlite_schema.specs.declared.command.Command.{Command}
 use Rattle.sqlite_schema.specs.declared.command.Command.TheVariants.{CreateTable, CreateIndex, Nothing}
 use Rattle.sqlite_schema.specs.declared.command.Returning.{Returning}
-use Rattle.sqlite_schema.specs.Names.{table_named, index_named, view_named}
+use Rattle.sqlite_schema.specs.Names.{same_name, table_named, index_named, view_named}
 use Rattle.sqlite_resolve.specs.Lowering.{Checked, and_then}
 use Rattle.sqlite_resolve.specs.declared.compiled.Compiled.{Compiled}
 use Rattle.sqlite_resolve.specs.declared.error.CompileError.{CompileError}
@@ -30,13 +30,14 @@ use Rattle.sqlite.specs.Clock as clock
 use Rattle.sqlite.specs.Effect.{Database, IsDatabase, is_query}
 use Rattle.sqlite.specs.Does.{Tally, AtPlace, Defines, MakesIndex, MakesSequence, lacks_sequence, sequence_text}
 use Rattle.sqlite.specs.Listing.{understood, reads_listing, if_select, is_select, listing_schema}
+use Rattle.sqlite_tied.specs.Compute.{everything}
 use Rattle.sqlite.specs.State.{State, mode_of, Executes, ExecutesIn, Runs, Writes, shows_rows, is_pragma, text_of}
 use Rattle.sqlite_keyed.proofs.ListLemmas.{all-slice_get, ascending_weaker}
-use Rattle.statements.specs.Making.{KeepsTables, GrowsBy, KeepsMade}
+use Rattle.statements.specs.Making.{KeepsTables, GrowsBy, KeepsMade, sequence_name}
 use Rattle.statements.specs.Tables.{StoredTable, HasRows, HoldsAll, tables_in}
 use Rattle.statements.specs.Place.{IsOwn, at_of, tree_of}
 use Rattle.statements.proofs.Meaning.{as_read}
-use Rattle.statements.proofs.Grown.{Grown, made_grown, own_kept, added_apart, trees_below}
+use Rattle.statements.proofs.Grown.{Grown, made_grown, own_kept, added_apart, names_added, trees_below}
 
 -- ---- what such a text compiles to, if it does
 
@@ -149,6 +150,14 @@ pub kept_then : (ts : List Table) (a b c : Trees) → KeepsRows ts a b → Keeps
 kept_then [] a b c h k = tt
 kept_then (t ∷ ts) a b c h k = (k.0 ∙ h.0, kept_then ts a b c h.1 k.1)
 
+abbrev name_in : Checked Table → List ℕ
+name_in (Ok t) = t.name
+name_in (Err e) = []
+
+engine_named : name_in (table_defined_by sequence_text) ≡ sequence_name
+unfolding everything
+engine_named = refl
+
 unused_name : (s : Schema) (name : List ℕ) → is_used s name ≡ false → table_named s name ≡ None
 unused_name s name h = go (table_named s name) (or_parts (is_some (table_named s name)) (is_some (index_named s name)) (or_parts (is_some (table_named s name) || is_some (index_named s name)) (is_some (view_named s name)) h).0).0
   where
@@ -195,6 +204,7 @@ module _ (table : Table) (text : List ℕ) (defines : table_defined_by text ≡ 
           others = kept_then old.schema.tables old.trees made.trees new.trees one.others kept.0;
           free = free_is;
           low = low_in (last ∷ []) is;
+          engine = (ap name_in (sym two.defined) ∙ engine_named, tt);
         }
     | inr has ↦
         let same : new ≡ made = same_value (rw has at more) in
@@ -207,6 +217,7 @@ module _ (table : Table) (text : List ℕ) (defines : table_defined_by text ≡ 
           others = subst (λ (d : Database). KeepsRows old.schema.tables old.trees d.trees) (sym same) one.others;
           free = free_is;
           low = low_in [] is;
+          engine = tt;
         }
   ]
 
@@ -235,6 +246,7 @@ module _ (table : Table) (def : TableText) (text : List ℕ) (p : Parsed) (reads
     owns = λ other own. own_kept table old.now new.now g other own;
     kept = record { more = record table { tree = next_tree old.now.schema } ∷ g.more; tables = g.tables; rows = g.others };
     apart = added_apart table old.now new.now g;
+    names = names_added table old.now new.now g;
   }
 
 -- ---- CREATE INDEX
@@ -318,7 +330,12 @@ indexes_at old new text (Some table) tally e =
     let now : new.now ≡ done.0 = ap (λ (q : Tally × Database). q.1) (same_value done.2) in
     let is : new.now.schema.tables ≡ old.now.schema.tables = ap (λ (d : Database). d.schema.tables) now ∙ ap (λ (s : Schema). s.tables) done.1.is in
     let rows : KeepsRows old.now.schema.tables old.now.trees new.now.trees = subst (λ (d : Database). KeepsRows old.now.schema.tables old.now.trees d.trees) (sym now) done.1.rows in
-    record { made = made_same old.now new.now is rows; owns = λ other own. same_tables other old.now.schema new.now.schema is own; kept = record { more = []; tables = is ∙ sym (append-nil old.now.schema.tables); rows = rows } }
+    record {
+      made = made_same old.now new.now is rows;
+      owns = λ other own. same_tables other old.now.schema new.now.schema is own;
+      kept = record { more = []; tables = is ∙ sym (append-nil old.now.schema.tables); rows = rows };
+      names = λ name _ _ none. ap (position_from (λ (t : Table). same_name t.name name) 0) is ∙ none;
+    }
 
 module _ (def : IndexText) (text : List ℕ) (p : Parsed) (reads : first text ≡ Ok (as_read p (written.CreateIndex (fresh_index def)))) (whole : slice_range text p.start p.end ≡ text) where
   quiet_index : (s : Schema) (base : ℕ) → returning s base (written.CreateIndex (fresh_index def)) ≡ Ok None

@@ -14,6 +14,7 @@ use Rattle.sqlite_sql.specs.Term.{Term, holds, eval_all}
 use Rattle.sqlite_sql.specs.Query.{Query, inner, end, page}
 use Rattle.sqlite_sql.specs.Program.{overlay}
 use Rattle.sqlite_schema.specs.declared.schema.Kind.TheVariants.{Integer}
+use Rattle.sqlite_schema.specs.declared.schema.Reference.{Reference}
 use Rattle.sqlite_schema.specs.declared.schema.Schema.{Schema}
 use Rattle.sqlite_schema.specs.declared.schema.Table.{Table}
 use Rattle.sqlite_schema.specs.declared.schema.Keys.TheVariants.{Enforced}
@@ -21,12 +22,13 @@ use Rattle.sqlite_schema.specs.declared.command.Command.TheVariants.{Insert, Upd
 use Rattle.sqlite_schema.specs.declared.command.Source.{Source}
 use Rattle.sqlite_schema.specs.declared.command.Source.TheVariants.{Values, Query as Queried}
 use Rattle.sqlite_sql.specs.Query.{IsAnswer}
-use Rattle.sqlite_keyed.proofs.ListLemmas.{map-map, map_same, all-slice_get}
+use Rattle.sqlite_keyed.proofs.ListLemmas.{map-map, map_same, all-slice_get, all_of, all_weaker}
 use Rattle.statements.specs.Changes.{with_all}
 use Rattle.sqlite_rules.specs.Cast.{cast, cast_all, cast_row}
-use Rattle.sqlite_rules.specs.declared.error.Rowids.TheVariants.{Chosen}
-use Rattle.sqlite_rules.specs.Edit.{Edit, Applies, edited, edit_of}
-use Rattle.sqlite_rules.specs.Action.{Writes}
+use Rattle.sqlite_rules.specs.declared.error.Rowids.TheVariants.{Chosen, Given}
+use Rattle.sqlite_rules.specs.Calls.{ids_of}
+use Rattle.sqlite_rules.specs.Edit.{Edit, Applies, edited, edit_of, taken_by}
+use Rattle.sqlite_rules.specs.Action.{Writes, pairs}
 use Rattle.sqlite.specs.Effect.{value_rows}
 use Rattle.sqlite.specs.Rows.{stamped}
 use Rattle.sqlite.proofs.Callers.{one_step}
@@ -36,10 +38,10 @@ use Rattle.sqlite_keyed.specs.Lists.{update_where, delete_where}
 use Rattle.sqlite_keyed.proofs.ListLemmas.{slice_get-filter}
 use Rattle.sqlite_keyed.proofs.SliceLemmas.{insert_next, is_some-map}
 use Rattle.sqlite_keyed.proofs.KeyedLemmas.{IsKeyedBy-insert_by}
-use Rattle.statements.specs.Place.{at_of, tree_of, RefersPassively, IsPassive, IsOwn}
+use Rattle.statements.specs.Place.{at_of, tree_of, is_passive, RefersPassively, IsPassive, IsOwn}
 use Rattle.statements.specs.Rows.{Kept, id_of, stored}
 use Rattle.statements.proofs.Meaning.{Means}
-use Rattle.statements.proofs.Lead.{GoesTo, write_keeps, step_keeps, elsewhere_idle, applied_there, follower_keeps, no_works_if_none}
+use Rattle.statements.proofs.Lead.{GoesTo, IsIdle, write_keeps, step_keeps, elsewhere_idle, applied_there, follower_keeps, no_works_if_none}
 use Rattle.statements.proofs.Follows.{Follows, IsSteady, there}
 use Rattle.statements.proofs.Writes.{plain_program, updates, deletes, inserts}
 use Rattle.statements.proofs.Edits.{all_shown, updated_rows, deleted_rows, inserted_rows, inserted_all, put_rows}
@@ -88,7 +90,7 @@ module _ (s : Schema) (table : Table) (own : IsOwn s table) (steady : IsSteady s
       let bare = there (GoesTo s (tree_of s parent.name)) s table own follows.goes in
       let firm = there IsPassive s parent follows.own follows.passive in
       step_keeps s Enforced tree (tree_of s parent.name) table (at_of s table.name) own.place.found bare firm db next edit
-      (λ rows. elsewhere_idle s Enforced tree (tree_of s parent.name) rows table (at_of s table.name) own.place.found bare firm edit.table.tree _ (λ same. apart (sym same ∙ on))) w
+      (λ rows. elsewhere_idle s Enforced tree (tree_of s parent.name) rows table (at_of s table.name) own.place.found bare firm edit.table.tree _ _ (λ same. apart (sym same ∙ on))) w
 
   leaves_follower : (db next : Trees) (edit : Edit) → edit.table.tree ≡ tree → Writes s Enforced db edit (Ok next) → LeavesFollowers s tree db next
   leaves_follower db next edit on w parent other is follows free apart =
@@ -96,7 +98,7 @@ module _ (s : Schema) (table : Table) (own : IsOwn s table) (steady : IsSteady s
       let bare = there (GoesTo s (tree_of s parent.name)) s other is follows.goes in
       let firm = there IsPassive s parent follows.own follows.passive in
       follower_keeps s Enforced here (tree_of s parent.name) (db here) other (at_of s other.name) is.place.found bare firm db next edit refl (λ same. apart (same ∙ on))
-      (elsewhere_idle s Enforced here (tree_of s parent.name) (db here) other (at_of s other.name) is.place.found bare firm edit.table.tree _ (λ same. free (sym same ∙ on))) w
+      (elsewhere_idle s Enforced here (tree_of s parent.name) (db here) other (at_of s other.name) is.place.found bare firm edit.table.tree _ _ (λ same. free (sym same ∙ on))) w
 
   pub written : (db next : Trees) (edit : Edit) → edit.table ≡ placed → Writes s Enforced db edit (Ok next) → Leads s tree (edited db edit) db next
   written db next edit on w =
@@ -148,6 +150,30 @@ module _ {R : Type 0} (cells : R → Row) (table : Table) (casts : (r : R) → c
       let made = updates old new text params (at_of s table.name) (record table { tree = here }) own.place.found q means count ran in
       let some = all_shown cells (overlay old.now.trees []) here xs seen keyed q from none all params p tests whole made.0 made.1 in
       made.4 ∙ ap length some.2 ∙ length-map some.0 _ ∙ length_permutation (filter p xs) some.0 some.1
+
+  -- what an UPDATE of these rows writes
+  abbrev new_rows : List Row → Edit
+  new_rows rows = edit_of old.now.trees (record table { tree = here }) (ids_of rows) Given 1 rows
+
+  update_idle : (other : Table) → IsOwn s other → AllByRecursion (λ (ref : Reference). is_passive ref.on_update ≡ true) other.references → (rows : List Row)
+      → AllByRecursion (λ (t : Table). t.tree ≡ tree_of s other.name
+      → AllByRecursion (IsIdle s (old.now.trees (tree_of s other.name)) here (length (new_rows rows).news == 0) (pairs (taken_by old.now.trees (new_rows rows)) (new_rows rows).news)) t.references) s.tables
+  update_idle other is firm [] =
+      there (IsIdle s (old.now.trees (tree_of s other.name)) here true []) s other is (all_of (IsIdle s (old.now.trees (tree_of s other.name)) here true []) (λ ref. inr (λ key told. inr (λ r has. refl))) other.references)
+  update_idle other is firm (row ∷ rows) =
+      let moves = pairs (taken_by old.now.trees (new_rows (row ∷ rows))) (new_rows (row ∷ rows)).news in
+      let some : (length (new_rows (row ∷ rows)).news == 0) ≡ false = ne_eqb _ _ (omega arith) in
+      subst (λ b. AllByRecursion (λ (t : Table). t.tree ≡ tree_of s other.name → AllByRecursion (IsIdle s (old.now.trees (tree_of s other.name)) here b moves) t.references) s.tables) (sym some)
+      (there (IsIdle s (old.now.trees (tree_of s other.name)) here false moves) s other is
+      (all_weaker (λ (ref : Reference). is_passive ref.on_update ≡ true) (IsIdle s (old.now.trees (tree_of s other.name)) here false moves) (λ ref passive. inl passive) other.references firm))
+
+  -- an UPDATE takes no row away: a table that follows this one keeps its rows, where its references are passive if a row gets another key
+  pub update_leaves : (q : Query) → Means s (Update (at_of s table.name) (plain_program q)) text → (other : Table) → IsOwn s other → Follows s table other
+      → AllByRecursion (λ (ref : Reference). is_passive ref.on_update ≡ true) other.references → tree_of s other.name ≢ here → new.now.trees (tree_of s other.name) ≡ old.now.trees (tree_of s other.name)
+  update_leaves q means other is follows firm apart =
+      let made = updates old new text params (at_of s table.name) (record table { tree = here }) own.place.found q means count ran in
+      follower_keeps s Enforced (tree_of s other.name) here (old.now.trees (tree_of s other.name)) other (at_of s other.name) is.place.found (there (GoesTo s here) s other is follows.goes) (there IsPassive s table own follows.passive)
+      old.now.trees new.now.trees (new_rows made.0) refl apart (update_idle other is firm made.0) made.2
 
   pub delete_own : (q : Query) → Means s (Delete (at_of s table.name) (plain_program q)) text → q.from ≡ inner here end → q.group ≡ None → q.distinct ≡ false → ((rows : List Row) → page q params rows ≡ rows)
       → (p : Kept R → Bool) → ((x : Kept R) → list_all (holds (params ∷ stored cells x ∷ [])) q.filter ≡ p x)

@@ -8,7 +8,7 @@ use Rattle.sqlite_ast.specs.declared.Statement.TheVariants as written
 use Rattle.sqlite_resolve.specs.Compile.{first, table_defined_by}
 use Rattle.sqlite.specs.State.{State, Executes}
 use Rattle.sqlite_tied.specs.Compute.{everything}
-use Rattle.statements.specs.Schema.{meta_table, org_table, token_table, ws_table, version_table, run_table, page_table, vpage_table, bound_table, edition_table}
+use Rattle.statements.specs.Schema.{meta_table, org_table, token_table, ws_table, version_table, run_table, page_table, vpage_table, bound_table, edition_table, keeping_table}
 use Rattle.statements.specs.Making.{GrowsBy, KeepsMade}
 use Rattle.statements.proofs.Meaning.{some_parsed, as_read}
 use Rattle.statements.proofs.Makes.{fresh_table, fresh_index, makes_behind, makes_index}
@@ -51,6 +51,9 @@ make_bound_text = codes "CREATE TABLE bound (org TEXT NOT NULL, name TEXT NOT NU
 
 abbrev pub make_edition_text : List ℕ
 make_edition_text = codes "CREATE TABLE edition (one INTEGER PRIMARY KEY CHECK (one = 1), version INTEGER NOT NULL CHECK (version >= 2)) STRICT"
+
+abbrev pub make_keeping_text : List ℕ
+make_keeping_text = codes "CREATE TABLE keeping (org TEXT NOT NULL, ws TEXT NOT NULL, keep INTEGER NOT NULL CHECK (keep BETWEEN 1 AND 1000), PRIMARY KEY (org, ws), FOREIGN KEY (org, ws) REFERENCES ws (org, name) ON DELETE CASCADE) STRICT"
 
 abbrev pub make_run_index_text : List ℕ
 make_run_index_text = codes "CREATE INDEX run_by_status ON run (org, ws, status, number)"
@@ -180,6 +183,18 @@ make_edition_reads = refl
 pub make_edition_does : (old new : State) (params : Row) (count : ℕ) → Executes make_edition_text params old new (Ok count) → GrowsBy edition_table old.now new.now
 unfolding everything
 make_edition_does = makes_behind edition_table (table_text (some_parsed (first make_edition_text)).statement) make_edition_text (some_parsed (first make_edition_text)) make_edition_reads refl make_edition_defines
+
+make_keeping_defines : table_defined_by make_keeping_text ≡ Ok keeping_table
+unfolding everything
+make_keeping_defines = refl
+
+make_keeping_reads : first make_keeping_text ≡ Ok (as_read (some_parsed (first make_keeping_text)) (written.CreateTable (fresh_table (table_text (some_parsed (first make_keeping_text)).statement))))
+unfolding everything
+make_keeping_reads = refl
+
+pub make_keeping_does : (old new : State) (params : Row) (count : ℕ) → Executes make_keeping_text params old new (Ok count) → GrowsBy keeping_table old.now new.now
+unfolding everything
+make_keeping_does = makes_behind keeping_table (table_text (some_parsed (first make_keeping_text)).statement) make_keeping_text (some_parsed (first make_keeping_text)) make_keeping_reads refl make_keeping_defines
 
 make_run_index_reads : first make_run_index_text ≡ Ok (as_read (some_parsed (first make_run_index_text)) (written.CreateIndex (fresh_index (index_text (some_parsed (first make_run_index_text)).statement))))
 unfolding everything

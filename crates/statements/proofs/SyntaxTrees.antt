@@ -38,6 +38,9 @@ one = Integer (codes "1")
 abbrev pub two : Expr
 two = Integer (codes "2")
 
+abbrev pub three : Expr
+three = Integer (codes "3")
+
 abbrev pub four : Expr
 four = Integer (codes "4")
 
@@ -163,6 +166,27 @@ fill_bounds_core = from_all (One (named (codes "org")) None (codes "org") ∷ On
 
 abbrev pub fill_bounds : Statement
 fill_bounds = written.Insert Abort (codes "bound") bound_columns (Selected (select fill_bounds_core (by_rowid false) None)) [] []
+
+abbrev pub find_keeping_core : Core
+find_keeping_core = from_table (shown_columns (codes "keep" ∷ [])) (codes "keeping") (at_key (codes "org") (codes "ws"))
+
+abbrev pub keeping_columns : List (List ℕ)
+keeping_columns = codes "org" ∷ codes "ws" ∷ codes "keep" ∷ []
+
+abbrev pub add_keeping : Statement
+add_keeping = insert (codes "keeping") keeping_columns (Parameter 1 ∷ Parameter 2 ∷ Parameter 3 ∷ [])
+
+abbrev pub set_keeping : Statement
+set_keeping = update (codes "keeping") ((codes "keep", Parameter 3) ∷ []) (at_key (codes "org") (codes "ws"))
+
+abbrev pub remove_keeping : Statement
+remove_keeping = delete (codes "keeping") (at_key (codes "org") (codes "ws"))
+
+abbrev pub fill_keepings_core : Core
+fill_keepings_core = from_all (One (named (codes "org")) None (codes "org") ∷ One (named (codes "name")) None (codes "name") ∷ One (Integer (codes "100")) None (codes "100") ∷ []) (codes "ws")
+
+abbrev pub fill_keepings : Statement
+fill_keepings = written.Insert Abort (codes "keeping") keeping_columns (Selected (select fill_keepings_core (by_rowid false) None)) [] []
 
 abbrev pub clear_version : Statement
 clear_version = written.Delete (codes "meta") None []

@@ -8,10 +8,11 @@ use Rattle.statements.specs.Calls.{Wrote, WroteAny, FirstRow, IsCalm, IsRead, Ar
 use Rattle.statements.specs.Rows.{number}
 use Rattle.sqlite.specs.Effect.{Database}
 use Rattle.statements.specs.Making.{Alters}
-use Rattle.statements.specs.Steps.{Moves, MovesWhere}
+use Rattle.sqlite_schema.specs.declared.schema.Table.{Table}
+use Rattle.statements.specs.Steps.{Moves, MovesWhere, MovesIn, LeavesBeside}
 use Rattle.sqlite.proofs.InsideLemmas.{keeps_then}
-use Rattle.statements.specs.Tables.{Tables, Holds}
-use Rattle.statements.proofs.Frames.{Turns, left_then}
+use Rattle.statements.specs.Tables.{Tables, StoredTable, Holds, HoldsAll, our_tables, tables_in}
+use Rattle.statements.proofs.Frames.{Turns, TurnsIn, left_then}
 
 pub moves_by : {X E : Type 0} (change : Tables → Tables) (old new : State) (text : List ℕ) (params : Row) (result : Result X E) → Wrote text params old new result
     → ((count : ℕ) (t : Tables) → Holds old.now t → Executes text params old new (Ok count) → Turns old.now new.now (change t)) → OnOk result (Moves change old new) × OnErr result (KeepsCommit old new)
@@ -36,6 +37,24 @@ moves_where law change old new text params (Ok x) wrote does =
       tt,
     )
 moves_where law change old new text params (Err e) wrote does = (tt, wrote.1)
+
+-- a write in a database that has the tables of an earlier schema, whatever their rows
+pub moves_in : {X E : Type 0} (stored : Tables → List StoredTable) (change : Tables → Tables) (old new : State) (text : List ℕ) (params : Row) (result : Result X E)
+    → ((t : Tables) → tables_in (stored (change t)) ≡ tables_in (stored t)) → Wrote text params old new result
+    → ((count : ℕ) (t : Tables) → HoldsAll old.now (stored t) → Executes text params old new (Ok count) → TurnsIn stored old.now new.now (change t)) → OnOk result (MovesIn stored change old new) × OnErr result (KeepsCommit old new)
+moves_in stored change old new text params (Ok x) same wrote does =
+    let ran = wrote.0.1 in (
+      record {
+        rows = λ t h. (does wrote.0.0 t h ran.0).0;
+        others = λ t h. subst (λ (l : List Table). LeavesBeside l old.now new.now) (same t) (does wrote.0.0 t h ran.0).1;
+        was_open = ran.1.was_open;
+        is_open = ran.1.is_open;
+        committed = ran.1.committed_is;
+        inside = ran.1.mode;
+      },
+      tt,
+    )
+moves_in stored change old new text params (Err e) same wrote does = (tt, wrote.1)
 
 -- a write that tells whether there were rows to write
 pub any_wrote : {E : Type 0} (old new : State) (text : List ℕ) (params : Row) (result : Result Bool E) → WroteAny text params old new result → Wrote text params old new result
@@ -119,7 +138,7 @@ counts_by read old new text params (Ok r) (Ok n) first calm is shows = (λ t h. 
 
 pub moves_then : (f g : Tables → Tables) (a b c : State) → Moves f a b → Moves g b c → Moves (λ t. g (f t)) a c
 moves_then f g a b c one two =
-    record { rows = λ t h. two.rows (f t) (one.rows t h); others = λ t h. left_then a.now b.now c.now (one.others t h) (two.others (f t) (one.rows t h)); was_open = one.was_open; is_open = two.is_open; committed = two.committed ∙ one.committed; inside = two.inside }
+    record { rows = λ t h. two.rows (f t) (one.rows t h); others = λ t h. left_then our_tables a.now b.now c.now (one.others t h) (two.others (f t) (one.rows t h)); was_open = one.was_open; is_open = two.is_open; committed = two.committed ∙ one.committed; inside = two.inside }
 
 -- one more write, which may fail
 pub moves_more : {X E : Type 0} (f g : Tables → Tables) (a b c : State) (result : Result X E) → Moves f a b → OnOk result (Moves g b c) × OnErr result (KeepsCommit b c)
@@ -134,7 +153,7 @@ moves_where_more law f g a b c (Ok x) lawful one two =
     let next = two.0 in (
       record {
         rows = λ t h. next.rows (f t) (one.rows t h) (lawful t);
-        others = λ t h. left_then a.now b.now c.now (one.others t h) (next.others (f t) (one.rows t h) (lawful t));
+        others = λ t h. left_then our_tables a.now b.now c.now (one.others t h) (next.others (f t) (one.rows t h) (lawful t));
         was_open = one.was_open;
         is_open = next.is_open;
         committed = next.committed ∙ one.committed;

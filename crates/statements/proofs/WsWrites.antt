@@ -1,17 +1,25 @@
 -- What the writes to the table ws do to its rows.
-use Rattle.std.proofs.Common.{◌≡◌, ℕ, Bool, not, ◌==◌, is_some, List, [], ◌∷◌, Ok, refl, ap, ◌∙◌}
+use Rattle.std.proofs.Common.{◌≡◌, ◌≢◌, ℕ, Bool, not, ◌==◌, is_some, List, [], ◌∷◌, Ok, refl, sym, ap, ◌∙◌, arith}
 use Rattle.sqlite_value.specs.declared.value.Value.TheVariants.{Text, Blob}
+use Rattle.sqlite_value.specs.Order.{Row}
+use Rattle.sqlite_sql.specs.Query.{Query}
+use Rattle.sqlite_schema.specs.declared.command.Command.TheVariants.{Update}
+use Rattle.sqlite_schema.specs.declared.command.Source.TheVariants.{Values}
 use Rattle.sqlite.specs.State.{State, Executes}
 use Rattle.sqlite_keyed.proofs.KeyedLemmas.{IsKeyedBy-update_where, IsKeyedBy-delete_where}
 use Rattle.statements.specs.declared.rows.Holder.TheVariants.{Nobody, Lock, Run as HeldByRun}
-use Rattle.statements.specs.Place.{tree_of}
-use Rattle.statements.specs.Schema.{ws_table}
+use Rattle.statements.specs.Place.{at_of, tree_of, IsOwn}
+use Rattle.statements.specs.Schema.{ws_table, keeping_table}
 use Rattle.statements.specs.Rows.{Kept, id_of, WsRow, ws_cells, flag, number}
-use Rattle.statements.specs.Tables.{Tables, Holds, ws_layout}
-use Rattle.statements.specs.Changes.{is_ws, with_auto, held_by, released_from, with_next_version, with_next_run, workspace_made, ws_changed, ws_added, ws_removed}
+use Rattle.statements.specs.Tables.{Tables, Holds, ws_layout, our_tables}
+use Rattle.statements.specs.Changes.{is_ws, with_auto, held_by, released_from, with_next_version, with_next_run, workspace_made, ws_changed, ws_row_added, ws_row_removed, HasNoKeeping}
 use Rattle.statements.specs.Finds.{workspace_of}
-use Rattle.statements.proofs.Held.{IsHeld, wss_held}
-use Rattle.statements.proofs.Own.{update_own, count_updated, delete_own, insert_own, keyed_next, first_if_any}
+use Rattle.statements.proofs.Held.{IsHeld, wss_held, keepings_held, trees_apart}
+use Rattle.statements.proofs.Follows.{keeping_follows}
+use Rattle.statements.proofs.Childless.{ws_goes}
+use Rattle.statements.proofs.Meaning.{Means}
+use Rattle.statements.proofs.Writes.{plain_program}
+use Rattle.statements.proofs.Own.{update_own, update_leaves, count_updated, delete_own, insert_own, insert_others, other_keeps, keyed_next, first_if_any}
 use Rattle.statements.proofs.Casts.{ws_casts}
 use Rattle.statements.proofs.Frames.{Turns, wss_written}
 use Rattle.statements.proofs.Conditions.{two_texts}
@@ -21,48 +29,62 @@ module _ (old new : State) (count : ℕ) (t : Tables) (h : Holds old.now t) wher
   abbrev held : IsHeld ws_layout old.now t.wss
   held = wss_held old.now t h
 
-  pub add_ws_does : (org name : List ℕ) (auto : Bool) → Executes add_ws_text (Text org ∷ Text name ∷ flag auto ∷ []) old new (Ok count) → Turns old.now new.now (ws_added org name auto t)
+  keeping_own : IsOwn old.now.schema keeping_table
+  keeping_own = (keepings_held old.now t h).own
+
+  keeping_apart : tree_of old.now.schema keeping_table.name ≢ tree_of old.now.schema ws_table.name
+  keeping_apart same = trees_apart old.now.schema our_tables 3 10 ws_table keeping_table refl refl (omega arith) h.ours.order (sym same)
+
+  -- the numbers of versions to keep stay where no workspace goes
+  keeping_stays : (text : List ℕ) (params : Row) → Executes text params old new (Ok count) → (q : Query) → Means old.now.schema (Update (at_of old.now.schema ws_table.name) (plain_program q)) text
+      → new.now.trees (tree_of old.now.schema keeping_table.name) ≡ old.now.trees (tree_of old.now.schema keeping_table.name)
+  keeping_stays text params ran q means =
+      update_leaves ws_cells ws_table ws_casts old new held.own held.steady t.wss held.rows held.keyed text params count ran q means keeping_table keeping_own (keeping_follows old.now.schema held.own) (refl, tt) keeping_apart
+
+  pub add_ws_does : (org name : List ℕ) (auto : Bool) → Executes add_ws_text (Text org ∷ Text name ∷ flag auto ∷ []) old new (Ok count) → Turns old.now new.now (ws_row_added org name auto t)
   add_ws_does org name auto ran =
       let row : WsRow = record { org = org; name = name; it = workspace_made auto } in
       let left = insert_own ws_cells ws_table ws_casts old new held.own held.steady t.wss held.rows held.keyed add_ws_text (Text org ∷ Text name ∷ flag auto ∷ []) count ran
       add_ws_terms 11 (add_ws_means old.now.schema _ _ held.own.place) refl refl row refl in
-      wss_written old.now new.now left.1 t h _ left.0 (keyed_next t.wss row held.keyed)
+      let others = insert_others ws_table old new held.own add_ws_text (Text org ∷ Text name ∷ flag auto ∷ []) count ran (Values add_ws_terms 11) (add_ws_means old.now.schema _ _ held.own.place) refl refl in
+      let stays = other_keeps old.now.schema (tree_of old.now.schema ws_table.name) old.now.trees new.now.trees keeping_table keeping_own others.1 keeping_apart in
+      wss_written old.now new.now left.1 t h _ stays left.0 (keyed_next t.wss row held.keyed)
 
   pub set_auto_does : (org name : List ℕ) (auto : Bool) → Executes set_auto_text (Text org ∷ Text name ∷ flag auto ∷ []) old new (Ok count) → Turns old.now new.now (ws_changed (with_auto auto) org name t)
   set_auto_does org name auto ran =
       let left = update_own ws_cells ws_table ws_casts old new held.own held.steady t.wss held.rows held.keyed set_auto_text (Text org ∷ Text name ∷ flag auto ∷ []) count ran
       (set_auto_query (tree_of old.now.schema ws_table.name)) (set_auto_means old.now.schema _ _ held.own.place) refl refl refl (λ rows. refl) (is_ws org name) (λ x. two_texts x.1.org org x.1.name name) (λ (x : Kept WsRow). (x.0, record x.1 { it = with_auto auto x.1.it })) (λ x. refl) (λ x. refl) in
-      wss_written old.now new.now left.1 t h _ left.0 (IsKeyedBy-update_where id_of (is_ws org name) (λ (x : Kept WsRow). (x.0, record x.1 { it = with_auto auto x.1.it })) (λ x. refl) t.wss held.keyed)
+      wss_written old.now new.now left.1 t h _ (keeping_stays set_auto_text (Text org ∷ Text name ∷ flag auto ∷ []) ran _ (set_auto_means old.now.schema _ _ held.own.place)) left.0 (IsKeyedBy-update_where id_of (is_ws org name) (λ (x : Kept WsRow). (x.0, record x.1 { it = with_auto auto x.1.it })) (λ x. refl) t.wss held.keyed)
 
   pub hold_by_lock_does : (org name id text : List ℕ) → Executes hold_by_lock_text (Text org ∷ Text name ∷ Text id ∷ Blob text ∷ []) old new (Ok count) → Turns old.now new.now (ws_changed (held_by (Lock id text)) org name t)
   hold_by_lock_does org name id text ran =
       let left = update_own ws_cells ws_table ws_casts old new held.own held.steady t.wss held.rows held.keyed hold_by_lock_text (Text org ∷ Text name ∷ Text id ∷ Blob text ∷ []) count ran
       (hold_by_lock_query (tree_of old.now.schema ws_table.name)) (hold_by_lock_means old.now.schema _ _ held.own.place) refl refl refl (λ rows. refl) (is_ws org name) (λ x. two_texts x.1.org org x.1.name name) (λ (x : Kept WsRow). (x.0, record x.1 { it = held_by (Lock id text) x.1.it })) (λ x. refl) (λ x. refl) in
-      wss_written old.now new.now left.1 t h _ left.0 (IsKeyedBy-update_where id_of (is_ws org name) (λ (x : Kept WsRow). (x.0, record x.1 { it = held_by (Lock id text) x.1.it })) (λ x. refl) t.wss held.keyed)
+      wss_written old.now new.now left.1 t h _ (keeping_stays hold_by_lock_text (Text org ∷ Text name ∷ Text id ∷ Blob text ∷ []) ran _ (hold_by_lock_means old.now.schema _ _ held.own.place)) left.0 (IsKeyedBy-update_where id_of (is_ws org name) (λ (x : Kept WsRow). (x.0, record x.1 { it = held_by (Lock id text) x.1.it })) (λ x. refl) t.wss held.keyed)
 
   pub hold_by_run_does : (org name : List ℕ) (run : ℕ) → Executes hold_by_run_text (Text org ∷ Text name ∷ number run ∷ []) old new (Ok count) → Turns old.now new.now (ws_changed (held_by (HeldByRun run)) org name t)
   hold_by_run_does org name run ran =
       let left = update_own ws_cells ws_table ws_casts old new held.own held.steady t.wss held.rows held.keyed hold_by_run_text (Text org ∷ Text name ∷ number run ∷ []) count ran
       (hold_by_run_query (tree_of old.now.schema ws_table.name)) (hold_by_run_means old.now.schema _ _ held.own.place) refl refl refl (λ rows. refl) (is_ws org name) (λ x. two_texts x.1.org org x.1.name name) (λ (x : Kept WsRow). (x.0, record x.1 { it = held_by (HeldByRun run) x.1.it })) (λ x. refl) (λ x. refl) in
-      wss_written old.now new.now left.1 t h _ left.0 (IsKeyedBy-update_where id_of (is_ws org name) (λ (x : Kept WsRow). (x.0, record x.1 { it = held_by (HeldByRun run) x.1.it })) (λ x. refl) t.wss held.keyed)
+      wss_written old.now new.now left.1 t h _ (keeping_stays hold_by_run_text (Text org ∷ Text name ∷ number run ∷ []) ran _ (hold_by_run_means old.now.schema _ _ held.own.place)) left.0 (IsKeyedBy-update_where id_of (is_ws org name) (λ (x : Kept WsRow). (x.0, record x.1 { it = held_by (HeldByRun run) x.1.it })) (λ x. refl) t.wss held.keyed)
 
   pub release_lock_does : (org name id : List ℕ) → Executes release_lock_text (Text org ∷ Text name ∷ Text id ∷ []) old new (Ok count) → Turns old.now new.now (ws_changed (released_from id) org name t)
   release_lock_does org name id ran =
       let left = update_own ws_cells ws_table ws_casts old new held.own held.steady t.wss held.rows held.keyed release_lock_text (Text org ∷ Text name ∷ Text id ∷ []) count ran
       (release_lock_query (tree_of old.now.schema ws_table.name)) (release_lock_means old.now.schema _ _ held.own.place) refl refl refl (λ rows. refl) (is_ws org name) (λ x. two_texts x.1.org org x.1.name name) (λ (x : Kept WsRow). (x.0, record x.1 { it = released_from id x.1.it })) (λ x. refl) (λ x. refl) in
-      wss_written old.now new.now left.1 t h _ left.0 (IsKeyedBy-update_where id_of (is_ws org name) (λ (x : Kept WsRow). (x.0, record x.1 { it = released_from id x.1.it })) (λ x. refl) t.wss held.keyed)
+      wss_written old.now new.now left.1 t h _ (keeping_stays release_lock_text (Text org ∷ Text name ∷ Text id ∷ []) ran _ (release_lock_means old.now.schema _ _ held.own.place)) left.0 (IsKeyedBy-update_where id_of (is_ws org name) (λ (x : Kept WsRow). (x.0, record x.1 { it = released_from id x.1.it })) (λ x. refl) t.wss held.keyed)
 
   pub release_run_does : (org name : List ℕ) → Executes release_run_text (Text org ∷ Text name ∷ []) old new (Ok count) → Turns old.now new.now (ws_changed (held_by Nobody) org name t)
   release_run_does org name ran =
       let left = update_own ws_cells ws_table ws_casts old new held.own held.steady t.wss held.rows held.keyed release_run_text (Text org ∷ Text name ∷ []) count ran
       (release_run_query (tree_of old.now.schema ws_table.name)) (release_run_means old.now.schema _ _ held.own.place) refl refl refl (λ rows. refl) (is_ws org name) (λ x. two_texts x.1.org org x.1.name name) (λ (x : Kept WsRow). (x.0, record x.1 { it = held_by Nobody x.1.it })) (λ x. refl) (λ x. refl) in
-      wss_written old.now new.now left.1 t h _ left.0 (IsKeyedBy-update_where id_of (is_ws org name) (λ (x : Kept WsRow). (x.0, record x.1 { it = held_by Nobody x.1.it })) (λ x. refl) t.wss held.keyed)
+      wss_written old.now new.now left.1 t h _ (keeping_stays release_run_text (Text org ∷ Text name ∷ []) ran _ (release_run_means old.now.schema _ _ held.own.place)) left.0 (IsKeyedBy-update_where id_of (is_ws org name) (λ (x : Kept WsRow). (x.0, record x.1 { it = held_by Nobody x.1.it })) (λ x. refl) t.wss held.keyed)
 
   pub set_next_version_does : (org name : List ℕ) (next : ℕ) → Executes set_next_version_text (Text org ∷ Text name ∷ number next ∷ []) old new (Ok count) → Turns old.now new.now (ws_changed (with_next_version next) org name t)
   set_next_version_does org name next ran =
       let left = update_own ws_cells ws_table ws_casts old new held.own held.steady t.wss held.rows held.keyed set_next_version_text (Text org ∷ Text name ∷ number next ∷ []) count ran
       (set_next_version_query (tree_of old.now.schema ws_table.name)) (set_next_version_means old.now.schema _ _ held.own.place) refl refl refl (λ rows. refl) (is_ws org name) (λ x. two_texts x.1.org org x.1.name name) (λ (x : Kept WsRow). (x.0, record x.1 { it = with_next_version next x.1.it })) (λ x. refl) (λ x. refl) in
-      wss_written old.now new.now left.1 t h _ left.0 (IsKeyedBy-update_where id_of (is_ws org name) (λ (x : Kept WsRow). (x.0, record x.1 { it = with_next_version next x.1.it })) (λ x. refl) t.wss held.keyed)
+      wss_written old.now new.now left.1 t h _ (keeping_stays set_next_version_text (Text org ∷ Text name ∷ number next ∷ []) ran _ (set_next_version_means old.now.schema _ _ held.own.place)) left.0 (IsKeyedBy-update_where id_of (is_ws org name) (λ (x : Kept WsRow). (x.0, record x.1 { it = with_next_version next x.1.it })) (λ x. refl) t.wss held.keyed)
 
   pub set_next_version_finds : (org name : List ℕ) (next : ℕ) → Executes set_next_version_text (Text org ∷ Text name ∷ number next ∷ []) old new (Ok count) → not (count == 0) ≡ is_some (workspace_of org name t)
   set_next_version_finds org name next ran =
@@ -74,7 +96,7 @@ module _ (old new : State) (count : ℕ) (t : Tables) (h : Holds old.now t) wher
   set_next_run_does org name next ran =
       let left = update_own ws_cells ws_table ws_casts old new held.own held.steady t.wss held.rows held.keyed set_next_run_text (Text org ∷ Text name ∷ number next ∷ []) count ran
       (set_next_run_query (tree_of old.now.schema ws_table.name)) (set_next_run_means old.now.schema _ _ held.own.place) refl refl refl (λ rows. refl) (is_ws org name) (λ x. two_texts x.1.org org x.1.name name) (λ (x : Kept WsRow). (x.0, record x.1 { it = with_next_run next x.1.it })) (λ x. refl) (λ x. refl) in
-      wss_written old.now new.now left.1 t h _ left.0 (IsKeyedBy-update_where id_of (is_ws org name) (λ (x : Kept WsRow). (x.0, record x.1 { it = with_next_run next x.1.it })) (λ x. refl) t.wss held.keyed)
+      wss_written old.now new.now left.1 t h _ (keeping_stays set_next_run_text (Text org ∷ Text name ∷ number next ∷ []) ran _ (set_next_run_means old.now.schema _ _ held.own.place)) left.0 (IsKeyedBy-update_where id_of (is_ws org name) (λ (x : Kept WsRow). (x.0, record x.1 { it = with_next_run next x.1.it })) (λ x. refl) t.wss held.keyed)
 
   pub set_next_run_finds : (org name : List ℕ) (next : ℕ) → Executes set_next_run_text (Text org ∷ Text name ∷ number next ∷ []) old new (Ok count) → not (count == 0) ≡ is_some (workspace_of org name t)
   set_next_run_finds org name next ran =
@@ -82,8 +104,8 @@ module _ (old new : State) (count : ℕ) (t : Tables) (h : Holds old.now t) wher
       (set_next_run_query (tree_of old.now.schema ws_table.name)) (set_next_run_means old.now.schema _ _ held.own.place) refl refl refl (λ rows. refl) (is_ws org name) (λ x. two_texts x.1.org org x.1.name name) in
       ap (λ n. not (n == 0)) counted ∙ first_if_any (is_ws org name) (λ x. x.1.it) t.wss
 
-  pub remove_ws_does : (org name : List ℕ) → Executes remove_ws_text (Text org ∷ Text name ∷ []) old new (Ok count) → Turns old.now new.now (ws_removed org name t)
-  remove_ws_does org name ran =
+  pub remove_ws_does : (org name : List ℕ) → HasNoKeeping org name t → Executes remove_ws_text (Text org ∷ Text name ∷ []) old new (Ok count) → Turns old.now new.now (ws_row_removed org name t)
+  remove_ws_does org name none ran =
       let left = delete_own ws_cells ws_table ws_casts old new held.own held.steady t.wss held.rows held.keyed remove_ws_text (Text org ∷ Text name ∷ []) count ran
       (remove_ws_query (tree_of old.now.schema ws_table.name)) (remove_ws_means old.now.schema _ _ held.own.place) refl refl refl (λ rows. refl) (is_ws org name) (λ x. two_texts x.1.org org x.1.name name) (λ x. refl) in
-      wss_written old.now new.now left.1 t h _ left.0 (IsKeyedBy-delete_where id_of (is_ws org name) t.wss held.keyed)
+      wss_written old.now new.now left.1 t h _ (ws_goes org name old new t h count none ran) left.0 (IsKeyedBy-delete_where id_of (is_ws org name) t.wss held.keyed)

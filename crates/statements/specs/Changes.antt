@@ -4,6 +4,7 @@ use Rattle.std.specs.Str.{bytes_eq}
 use Rattle.std.specs.List.{AllByRecursion}
 use Rattle.sqlite_keyed.specs.Keyed.{next_key}
 use Rattle.sqlite_keyed.specs.Lists.{update_where, delete_where}
+use Rattle.basis.specs.declared.numbers.TheConstants.{FIRST_KEPT}
 use Rattle.basis.specs.declared.roles.Role.{Role}
 use Rattle.basis.specs.declared.runs.RunStatus.{RunStatus}
 use Rattle.basis.specs.declared.runs.RunAction.{RunAction}
@@ -11,7 +12,7 @@ use Rattle.statements.specs.declared.rows.Holder.{Holder}
 use Rattle.statements.specs.declared.rows.Holder.TheVariants.{Nobody}
 use Rattle.statements.specs.declared.rows.Workspace.{Workspace}
 use Rattle.statements.specs.declared.rows.Run.{Run}
-use Rattle.statements.specs.Rows.{Version, Kept, id_of, OrgRow, TokenRow, WsRow, VersionRow, RunRow, BoundRow}
+use Rattle.statements.specs.Rows.{Version, Kept, id_of, OrgRow, TokenRow, WsRow, VersionRow, RunRow, BoundRow, KeepingRow}
 use Rattle.statements.specs.Tables.{Tables}
 
 -- one more row, behind the others and with the next rowid
@@ -111,11 +112,45 @@ with_next_run n w = record w { next_run = n }
 abbrev pub workspace_made : Bool → Workspace
 workspace_made auto = record { auto = auto; holder = Nobody; released = None; next_version = 1; next_run = 1 }
 
-abbrev pub ws_added : List ℕ → List ℕ → Bool → Tables → Tables
-ws_added org name auto t = record t { wss = with_next (record { org = org; name = name; it = workspace_made auto }) t.wss }
+abbrev pub ws_row_added : List ℕ → List ℕ → Bool → Tables → Tables
+ws_row_added org name auto t = record t { wss = with_next (record { org = org; name = name; it = workspace_made auto }) t.wss }
 
+abbrev pub ws_row_removed : List ℕ → List ℕ → Tables → Tables
+ws_row_removed org name t = record t { wss = delete_where (is_ws org name) t.wss }
+
+-- ---- how many versions workspaces keep
+
+abbrev pub is_keeping : List ℕ → List ℕ → Kept KeepingRow → Bool
+is_keeping org ws x = bytes_eq x.1.org org && bytes_eq x.1.ws ws
+
+abbrev pub keeping_row_added : List ℕ → List ℕ → ℕ → Tables → Tables
+keeping_row_added org ws keep t = record t { keepings = with_next (record { org = org; ws = ws; keep = keep }) t.keepings }
+
+-- the workspace keeps so many
+abbrev pub keeping_changed : ℕ → List ℕ → List ℕ → Tables → Tables
+keeping_changed keep org ws t = record t { keepings = update_where (is_keeping org ws) (λ x. (x.0, record x.1 { keep = keep })) t.keepings }
+
+abbrev pub keeping_row_removed : List ℕ → List ℕ → Tables → Tables
+keeping_row_removed org ws t = record t { keepings = delete_where (is_keeping org ws) t.keepings }
+
+-- a workspace that keeps what one keeps at first
+abbrev pub kept_first : WsRow → KeepingRow
+kept_first r = record { org = r.org; ws = r.name; keep = FIRST_KEPT }
+
+-- each workspace gets such a row, in the order of the workspaces
+abbrev pub keepings_filled : Tables → Tables
+keepings_filled t = record t { keepings = with_all (map (λ x. kept_first x.1) t.wss) t.keepings }
+
+-- a workspace with how many versions it keeps
+abbrev pub ws_added : List ℕ → List ℕ → Bool → ℕ → Tables → Tables
+ws_added org name auto keep t = keeping_row_added org name keep (ws_row_added org name auto t)
+
+abbrev pub HasNoKeeping : List ℕ → List ℕ → Tables → Type 0
+HasNoKeeping org ws t = AllByRecursion (λ x. is_keeping org ws x ≡ false) t.keepings
+
+-- how many it keeps goes first
 abbrev pub ws_removed : List ℕ → List ℕ → Tables → Tables
-ws_removed org name t = record t { wss = delete_where (is_ws org name) t.wss }
+ws_removed org name t = ws_row_removed org name (keeping_row_removed org name t)
 
 -- ---- versions
 

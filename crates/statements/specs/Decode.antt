@@ -11,7 +11,7 @@ use Rattle.basis.specs.declared.runs.RunAction.{RunAction}
 use Rattle.basis.specs.declared.runs.RunAction.TheVariants.{ReportPlanned, ReportUnchanged, Fail, Confirm, ReportApplied, Discard, Cancel}
 use Rattle.statements.specs.declared.rows.Holder.{Holder}
 use Rattle.statements.specs.declared.rows.Holder.TheVariants.{Nobody, Lock, Run as HeldByRun}
-use Rattle.statements.specs.Rows.{Kept, OrgRow, TokenRow, WsRow, VersionRow, RunRow, PageRow, VpageRow, BoundRow}
+use Rattle.statements.specs.Rows.{Kept, OrgRow, TokenRow, WsRow, VersionRow, RunRow, PageRow, VpageRow, BoundRow, KeepingRow}
 
 abbrev pub number_at : Row → ℕ → ℕ
 number_at r at = unsigned_abs (int_of (column r at))
@@ -98,6 +98,9 @@ vpage_at r = record { org = bytes_at r 1; ws = bytes_at r 2; number = number_at 
 
 abbrev pub bound_at : Row → BoundRow
 bound_at r = record { org = bytes_at r 1; name = bytes_at r 2; until = unless_null (λ v. unsigned_abs (int_of v)) (column r 3); prefix = bytes_at r 4 }
+
+abbrev pub keeping_at : Row → KeepingRow
+keeping_at r = record { org = bytes_at r 1; ws = bytes_at r 2; keep = number_at r 3 }
 
 abbrev pub edition_at : Row → ℕ
 edition_at r = number_at r 2

@@ -12,7 +12,7 @@ use Rattle.statements.specs.declared.rows.NamedRole.{NamedRole}
 use Rattle.statements.specs.declared.rows.Bound.{Bound}
 use Rattle.statements.specs.Rows.{Version, Kept, TokenRow, RunRow, BoundRow}
 use Rattle.statements.specs.Tables.{Tables}
-use Rattle.statements.specs.Changes.{is_org, is_token, is_digest_of, is_bound, is_ws_of, is_ws, is_version_of, is_version, is_version_below, is_run_row}
+use Rattle.statements.specs.Changes.{is_org, is_token, is_digest_of, is_bound, is_ws_of, is_ws, is_keeping, is_version_of, is_version, is_version_below, is_run_row}
 
 -- the last of a list
 abbrev pub last_in : {X : Type 0} → List X → Option X
@@ -49,6 +49,10 @@ bound_of org name t = option_map bound_in (find (is_bound org name) t.bounds)
 
 abbrev pub workspace_of : List ℕ → List ℕ → Tables → Option Workspace
 workspace_of org name t = option_map (λ x. x.1.it) (find (is_ws org name) t.wss)
+
+-- how many versions a workspace of this name keeps
+abbrev pub keep_of : List ℕ → List ℕ → Tables → Option ℕ
+keep_of org ws t = option_map (λ x. x.1.keep) (find (is_keeping org ws) t.keepings)
 
 abbrev pub workspaces_of : List ℕ → Tables → ℕ
 workspaces_of org t = counted (filter (is_ws_of org) t.wss)

@@ -82,6 +82,12 @@ pub record BoundRow : Type 0 where
   pub until : Option ℕ
   pub prefix : List ℕ
 
+-- how many versions a workspace keeps
+pub record KeepingRow : Type 0 where
+  pub org : List ℕ
+  pub ws : List ℕ
+  pub keep : ℕ
+
 -- ---- cells
 
 abbrev pub number : ℕ → Value
@@ -164,6 +170,9 @@ vpage_cells r = cell.Text r.org ∷ cell.Text r.ws ∷ number r.number ∷ numbe
 
 abbrev pub bound_cells : BoundRow → Row
 bound_cells r = cell.Text r.org ∷ cell.Text r.name ∷ or_null number r.until ∷ cell.Text r.prefix ∷ []
+
+abbrev pub keeping_cells : KeepingRow → Row
+keeping_cells r = cell.Text r.org ∷ cell.Text r.ws ∷ number r.keep ∷ []
 
 -- meta's column `one` is its rowid, and the row keeps Null in its place
 abbrev pub meta_cells : ℕ → Row

@@ -1,4 +1,4 @@
--- The tables of schema 1, as their texts define them.
+-- The tables, as their texts define them.
 use Rattle.std.specs.Prelude.{ℕ, pos, Bool, true, false, List, [], ◌∷◌, codes, Some, None}
 use Rattle.sqlite_value.specs.declared.keys.Collation.TheVariants.{Binary}
 use Rattle.sqlite_value.specs.declared.keys.Order.{Order}
@@ -140,3 +140,13 @@ edition_table = record {
   stamps = record { places = []; terms = []; formats = [] };
   is_counted = false;
 }
+
+-- the row of a workspace, with which a row goes
+abbrev pub to_ws : Reference
+to_ws = record { columns = 1 ∷ 2 ∷ []; parent = codes "ws"; parent_columns = codes "org" ∷ codes "name" ∷ []; on_delete = Cascade; on_update = NoAction; is_deferred = false }
+
+-- How many versions each workspace keeps. The row goes with the workspace's.
+abbrev pub keeping_table : Table
+keeping_table = record (keyed_table (codes "keeping")
+    (column (codes "org") Text true ∷ column (codes "ws") Text true ∷ column (codes "keep") Integer true ∷ [])
+    (1 ∷ 2 ∷ []) ((1 ∷ 2 ∷ []) ∷ []) (plain ∷ []) (is_between 3 1 1_000 ∷ [])) { references = to_ws ∷ [] }

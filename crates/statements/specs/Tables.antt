@@ -1,5 +1,5 @@
--- The tables of schema 2 with their rows, and the databases that hold them, or those of schema 1.
-use Rattle.std.specs.Prelude.{◌≡◌, ℕ, ℤ, List, [], ◌∷◌, map}
+-- The tables of schema 3 with their rows, and the databases that hold them, or those of schema 2 or 1.
+use Rattle.std.specs.Prelude.{◌≡◌, ℕ, ℤ, List, [], ◌∷◌, ◌++◌, map}
 use Rattle.std.specs.List.{AllByRecursion}
 use Rattle.sqlite_value.specs.Order.{Row, column}
 use Rattle.sqlite_typed.specs.Columns.{int_of}
@@ -8,9 +8,9 @@ use Rattle.sqlite_schema.specs.declared.schema.Table.{Table}
 use Rattle.sqlite_keyed.specs.Keyed.{IsKeyedBy}
 use Rattle.sqlite.specs.Effect.{Database}
 use Rattle.statements.specs.Place.{tree_of, AreOwn}
-use Rattle.statements.specs.Schema.{meta_table, org_table, token_table, ws_table, version_table, run_table, page_table, vpage_table, bound_table, edition_table}
-use Rattle.statements.specs.Rows.{Kept, OrgRow, TokenRow, WsRow, VersionRow, RunRow, PageRow, VpageRow, BoundRow, stored, meta_cells, org_cells, token_cells, ws_cells, version_cells, run_cells, page_cells, vpage_cells, bound_cells, edition_cells}
-use Rattle.statements.specs.Decode.{kept_by, meta_at, org_at, token_at, ws_at, version_at, run_at, page_at, vpage_at, bound_at, edition_at}
+use Rattle.statements.specs.Schema.{meta_table, org_table, token_table, ws_table, version_table, run_table, page_table, vpage_table, bound_table, edition_table, keeping_table}
+use Rattle.statements.specs.Rows.{Kept, OrgRow, TokenRow, WsRow, VersionRow, RunRow, PageRow, VpageRow, BoundRow, KeepingRow, stored, meta_cells, org_cells, token_cells, ws_cells, version_cells, run_cells, page_cells, vpage_cells, bound_cells, edition_cells, keeping_cells}
+use Rattle.statements.specs.Decode.{kept_by, meta_at, org_at, token_at, ws_at, version_at, run_at, page_at, vpage_at, bound_at, edition_at, keeping_at}
 
 -- A table of ours: its definition, the cells that keep a row, and the row that cells keep.
 pub record Layout (R : Type 0) : Type 0 where
@@ -48,6 +48,9 @@ bound_layout = record { table = bound_table; cells = bound_cells; read = bound_a
 abbrev pub edition_layout : Layout ℕ
 edition_layout = record { table = edition_table; cells = edition_cells; read = edition_at }
 
+abbrev pub keeping_layout : Layout KeepingRow
+keeping_layout = record { table = keeping_table; cells = keeping_cells; read = keeping_at }
+
 -- the rows of our tables
 pub record Tables : Type 0 where
   pub metas : List (Kept ℕ)
@@ -60,9 +63,10 @@ pub record Tables : Type 0 where
   pub vpages : List (Kept VpageRow)
   pub bounds : List (Kept BoundRow)
   pub editions : List (Kept ℕ)
+  pub keepings : List (Kept KeepingRow)
 
 abbrev pub no_rows : Tables
-no_rows = record { metas = []; orgs = []; tokens = []; wss = []; versions = []; runs = []; pages = []; vpages = []; bounds = []; editions = [] }
+no_rows = record { metas = []; orgs = []; tokens = []; wss = []; versions = []; runs = []; pages = []; vpages = []; bounds = []; editions = []; keepings = [] }
 
 -- a table, and the rows that its tree keeps
 pub record StoredTable : Type 0 where
@@ -72,29 +76,37 @@ pub record StoredTable : Type 0 where
 abbrev pub stored_table : {R : Type 0} → Layout R → List (Kept R) → StoredTable
 stored_table layout xs = record { table = layout.table; rows = map (stored layout.cells) xs }
 
--- our tables with these rows, in the order in which they are made
-abbrev pub stored_tables : Tables → List StoredTable
-stored_tables t =
-    stored_table meta_layout t.metas ∷ stored_table org_layout t.orgs ∷ stored_table token_layout t.tokens ∷ stored_table ws_layout t.wss
-    ∷ stored_table version_layout t.versions ∷ stored_table run_layout t.runs ∷ stored_table page_layout t.pages ∷ stored_table vpage_layout t.vpages
-    ∷ stored_table bound_layout t.bounds ∷ stored_table edition_layout t.editions ∷ []
-
--- those of schema 1: no token has bounds, and meta tells the version
+-- the tables of schema 1 with these rows, in the order in which they are made: no token has bounds, and meta tells the version
 abbrev pub first_stored : Tables → List StoredTable
 first_stored t =
     stored_table meta_layout t.metas ∷ stored_table org_layout t.orgs ∷ stored_table token_layout t.tokens ∷ stored_table ws_layout t.wss
     ∷ stored_table version_layout t.versions ∷ stored_table run_layout t.runs ∷ stored_table page_layout t.pages ∷ stored_table vpage_layout t.vpages ∷ []
 
+-- those of schema 2, which has two besides: no workspace is set to keep a number of versions
+abbrev pub second_stored : Tables → List StoredTable
+second_stored t = first_stored t ++ (stored_table bound_layout t.bounds ∷ stored_table edition_layout t.editions ∷ [])
+
+-- our tables, those of schema 3, which has one more
+abbrev pub stored_tables : Tables → List StoredTable
+stored_tables t = second_stored t ++ (stored_table keeping_layout t.keepings ∷ [])
+
 abbrev pub tables_in : List StoredTable → List Table
 tables_in = map (λ (x : StoredTable). x.table)
-
--- the tables of schema 2, in the order in which they are made
-abbrev pub our_tables : List Table
-our_tables = tables_in (stored_tables no_rows)
 
 -- the tables of schema 1
 abbrev pub first_tables : List Table
 first_tables = tables_in (first_stored no_rows)
+
+-- the tables that schema 2 added, and those that schema 3 did
+abbrev pub second_tables : List Table
+second_tables = bound_table ∷ edition_table ∷ []
+
+abbrev pub third_tables : List Table
+third_tables = keeping_table ∷ []
+
+-- the tables of schema 3, in the order in which they are made
+abbrev pub our_tables : List Table
+our_tables = tables_in (stored_tables no_rows)
 
 abbrev pub IsOurs : Schema → Type 0
 IsOurs s = AreOwn s our_tables
@@ -121,6 +133,10 @@ pub record Holds (db : Database) (t : Tables) : Type 0 where
 abbrev pub HoldsFirst : Database → Tables → Type 0
 HoldsFirst db t = HoldsAll db (first_stored t)
 
+-- The database has the tables of schema 2 with these rows; whatever else it has.
+abbrev pub HoldsSecond : Database → Tables → Type 0
+HoldsSecond db t = HoldsAll db (second_stored t)
+
 -- the typed rows that a table's tree stands for
 abbrev pub rows_of : {R : Type 0} → Layout R → Database → List (Kept R)
 rows_of layout db = map (kept_by layout.read) (db.trees (tree_of db.schema layout.table.name))
@@ -138,8 +154,13 @@ tables_of db = record {
   vpages = rows_of vpage_layout db;
   bounds = rows_of bound_layout db;
   editions = rows_of edition_layout db;
+  keepings = rows_of keeping_layout db;
 }
 
--- those of schema 1: there are no bounds and no edition
+-- those of schema 1: there are no bounds, no edition and no numbers to keep
 abbrev pub first_tables_of : Database → Tables
-first_tables_of db = record (tables_of db) { bounds = []; editions = [] }
+first_tables_of db = record (tables_of db) { bounds = []; editions = []; keepings = [] }
+
+-- those of schema 2: there are no numbers to keep
+abbrev pub second_tables_of : Database → Tables
+second_tables_of db = record (tables_of db) { keepings = [] }

@@ -1,17 +1,18 @@
 //! How a text is run, and how the row that it gives is read.
-ghost use Rattle.std.specs.Prelude.{◌≡◌, false, ◌^◌, ◌<◌, pos, IsTrue, IfOk};
+ghost use Rattle.std.specs.Prelude.{◌≡◌, false, ◌^◌, ◌<◌, ◌≤◌, pos, IsTrue, IfOk};
 ghost use Rattle.std.specs.List.{AllZip};
 ghost use Rattle.sqlite_value.specs.Order.{column, Row as SqlRow};
 ghost use Rattle.sqlite.specs.Values.{bound};
 ghost use Rattle.sqlite.specs.Held.{state};
 ghost use Rattle.sqlite.specs.State.{HasCleanDisk, Survives, Shown};
+ghost use Rattle.basis.specs.declared.numbers.TheConstants.{MAX_KEPT};
 ghost use Rattle.statements.specs.Rows.{number, role_code, status_code, action_code, flag};
 ghost use Rattle.statements.specs.Calls.{Wrote, WroteAny, IsQuery, FirstRow, FirstRows, IsCalm, IsRead, AreRead, IsNamedRow, IsOrganization, IsVersionHead, IsFlagCell, IsTextOrNull, AreHolderCells, IsWorkspace, IsHeadRow, IsRunRow, IsNamedRole, IsNumberOrNull, IsBound, IsBody, IsNumber, IsRole, IsStatusCell, IsActionOrNull, IsStatus, IsCount};
 
 use crate::rows::{
     Bound, Head, Holder, NamedRole, NamedWorkspace, Organization, Run, VersionHead, Workspace,
 };
-use basis::{Bytes, Items, Role, RunAction, RunStatus, Text};
+use basis::{Bytes, Items, KeepCount, Role, RunAction, RunStatus, Text};
 use sqlite::types::ValueRef;
 use sqlite::{Alter, Connection, Error, Row, Transaction};
 use std::alloc::Global;
@@ -345,6 +346,17 @@ impl Read for Role {
     }
 }
 
+impl Read for KeepCount {
+    ghost is_in = { IsNumber };
+
+    fn of_row(row: &Row) -> Result<KeepCount, Error> {
+        match KeepCount::new(row.get(0)?) {
+            Some(keep) => Ok(keep),
+            None => Err(Error::IntegralValueOutOfRange(0)),
+        }
+    }
+}
+
 /// The value that the row holds, or none where there is no row.
 pub fn read_one<T: Read + Drop>(row: Result<Option<Row>, Error>) -> Result<Option<T>, Error>
     ensures { IsRead T.Read.is_in row result }
@@ -395,6 +407,14 @@ pub(crate) fn role_number(role: Role) -> i64
         Role::Write => 1,
         Role::Admin => 2,
     }
+}
+
+/// How many versions a workspace keeps, as SQL has it.
+pub(crate) fn keep_number(keep: KeepCount) -> i64
+    ensures number { result ≡ pos keep }
+    ensures most { keep ≤ MAX_KEPT }
+{
+    keep.get() as i64
 }
 
 /// The number by which SQL keeps a status.

@@ -1,16 +1,17 @@
-//! Statements that make the tables of schema 2, or take those of schema 1 to it, and those on the tables edition and
-//! meta, which tell the version.
+//! Statements that make the tables of schema 3, or take those of schema 1 to schema 2 and those of schema 2 to it, and
+//! those on the tables edition and meta, which tell the version.
 ghost use Rattle.std.specs.Prelude.{◌≡◌, ℕ, List, [], ◌∷◌, IsTrue, IfOk, OnOk};
 ghost use Rattle.sqlite_schema.specs.declared.schema.Table.{Table};
 ghost use Rattle.sqlite.specs.Held.{state};
 ghost use Rattle.sqlite.specs.State.{HasCleanDisk, Survives};
-ghost use Rattle.statements.specs.Steps.{WritesBy, QueriesBy};
-ghost use Rattle.statements.specs.Schema.{meta_table, org_table, token_table, ws_table, version_table, run_table, page_table, vpage_table, bound_table, edition_table};
-ghost use Rattle.statements.specs.Making.{AltersBy, MakesBy, GrowsBy, GrowsByAll, HasSchema, Raises, KeepsMade, LeavesOthers, HasMeta, HasEdition, edition_set, version_cleared, told_version, version_in, edition_in};
+ghost use Rattle.statements.specs.Steps.{WritesBy, WritesIn, QueriesBy};
+ghost use Rattle.statements.specs.Tables.{second_stored, second_tables, third_tables};
+ghost use Rattle.statements.specs.Schema.{meta_table, org_table, token_table, ws_table, version_table, run_table, page_table, vpage_table, bound_table, edition_table, keeping_table};
+ghost use Rattle.statements.specs.Making.{AltersBy, MakesBy, GrowsBy, GrowsByAll, HasSchema, Raises, RaisesThird, KeepsMade, LeavesOthers, HasMeta, HasEdition, edition_set, edition_moved, version_cleared, told_version, version_in, edition_in};
 ghost use Rattle.statements.specs.Rows.{Kept};
 
-use crate::bounds;
 use crate::calls::{first_row, read_one, write};
+use crate::{bounds, keepings};
 use sqlite::{Alter, Connection, Error, Transaction};
 
 const MAKE_META: &str =
@@ -133,6 +134,18 @@ fn make_edition<S: Alter>(tx: &mut Transaction<'_, S>) -> Result<(), Error>
     write(tx, MAKE_EDITION, &[])
 }
 
+const MAKE_KEEPING: &str =
+    "CREATE TABLE keeping (org TEXT NOT NULL, ws TEXT NOT NULL, keep INTEGER NOT NULL CHECK (keep BETWEEN 1 AND 1000), PRIMARY KEY (org, ws), FOREIGN KEY (org, ws) REFERENCES ws (org, name) ON DELETE CASCADE) STRICT";
+
+/// Makes the table of how many versions workspaces keep.
+fn make_keeping<S: Alter>(tx: &mut Transaction<'_, S>) -> Result<(), Error>
+    ensures same_reference { tx.new.conn.ghost_name ≡ tx.old.conn.ghost_name }
+    ensures made { AltersBy (GrowsBy keeping_table) (state S.Store tx.old.conn.now) (state S.Store tx.new.conn.now) result }
+    ensures survives { Survives (state S.Store tx.old.conn.now) (state S.Store tx.new.conn.now) (λ _. ⊥) }
+{
+    write(tx, MAKE_KEEPING, &[])
+}
+
 const MAKE_RUN_INDEX: &str = "CREATE INDEX run_by_status ON run (org, ws, status, number)";
 
 /// Makes the index by which a waiting run is found.
@@ -198,32 +211,57 @@ fn make_pages<S: Alter>(tx: &mut Transaction<'_, S>) -> Result<(), Error>
 
 /// Makes the tables that schema 2 has and schema 1 hasn't, beside those of schema 1.
 pub fn make_second<S: Alter>(tx: &mut Transaction<'_, S>) -> Result<(), Error>
-    ensures { MakesBy S.Store (GrowsByAll (bound_table ∷ edition_table ∷ [])) tx.old tx.new result }
+    ensures { MakesBy S.Store (GrowsByAll second_tables) tx.old tx.new result }
 {
     make_bound(tx)?;
     make_edition(tx)
 }
 
-const SET_EDITION: &str = "INSERT INTO edition (one, version) VALUES (1, 2)";
+/// Makes the table that schema 3 has and schema 2 hasn't, beside those of schema 2.
+pub fn make_third<S: Alter>(tx: &mut Transaction<'_, S>) -> Result<(), Error>
+    ensures { MakesBy S.Store (GrowsByAll third_tables) tx.old tx.new result }
+{
+    make_keeping(tx)
+}
 
-/// Says that the database has schema 2.
-pub fn set_edition<S: Alter>(tx: &mut Transaction<'_, S>) -> Result<(), Error>
-    ensures writes { WritesBy S.Store edition_set tx.old tx.new result }
+const SET_SECOND: &str = "INSERT INTO edition (one, version) VALUES (1, 2)";
+
+/// Says that the database has schema 2, where it has the tables of that.
+pub fn set_second<S: Alter>(tx: &mut Transaction<'_, S>) -> Result<(), Error>
+    ensures { WritesIn S.Store second_stored (edition_set 2) tx.old tx.new result }
+{
+    write(tx, SET_SECOND, &[])
+}
+
+const SET_THIRD: &str = "INSERT INTO edition (one, version) VALUES (1, 3)";
+
+/// Says that the database has schema 3.
+pub fn set_third<S: Alter>(tx: &mut Transaction<'_, S>) -> Result<(), Error>
+    ensures writes { WritesBy S.Store (edition_set 3) tx.old tx.new result }
     ensures others { HasCleanDisk (state S.Store tx.new.conn.now) → IsTrue (state S.Store tx.old.conn.now).in_transaction → OnOk result (LeavesOthers edition_table (state S.Store tx.old.conn.now).now (state S.Store tx.new.conn.now).now) }
 {
-    write(tx, SET_EDITION, &[])
+    write(tx, SET_THIRD, &[])
+}
+
+const MOVE_TO_THIRD: &str = "UPDATE edition SET version = 3";
+
+/// Says that the database has schema 3, where edition tells another version.
+pub fn move_to_third<S: Alter>(tx: &mut Transaction<'_, S>) -> Result<(), Error>
+    ensures { WritesBy S.Store (edition_moved 3) tx.old tx.new result }
+{
+    write(tx, MOVE_TO_THIRD, &[])
 }
 
 const CLEAR_VERSION: &str = "DELETE FROM meta";
 
-/// Takes away what meta tells.
+/// Takes away what meta tells, in a database that has the tables of schema 2.
 pub fn clear_version<S: Alter>(tx: &mut Transaction<'_, S>) -> Result<(), Error>
-    ensures { WritesBy S.Store version_cleared tx.old tx.new result }
+    ensures { WritesIn S.Store second_stored version_cleared tx.old tx.new result }
 {
     write(tx, CLEAR_VERSION, &[])
 }
 
-/// Makes schema 2: its tables, and the row that tells its version.
+/// Makes schema 3: its tables, and the row that tells its version.
 pub fn make_schema<S: Alter>(tx: &mut Transaction<'_, S>) -> Result<(), Error>
     ensures { MakesBy S.Store HasSchema tx.old tx.new result }
 {
@@ -231,7 +269,8 @@ pub fn make_schema<S: Alter>(tx: &mut Transaction<'_, S>) -> Result<(), Error>
     make_states(tx)?;
     make_pages(tx)?;
     make_second(tx)?;
-    set_edition(tx)
+    make_third(tx)?;
+    set_third(tx)
 }
 
 /// Takes schema 1 to schema 2: each token gets its row of bound, and edition tells the version in meta's place.
@@ -241,7 +280,16 @@ pub fn raise_schema<S: Alter>(tx: &mut Transaction<'_, S>) -> Result<(), Error>
     make_second(tx)?;
     bounds::fill(tx)?;
     clear_version(tx)?;
-    set_edition(tx)
+    set_second(tx)
+}
+
+/// Takes schema 2 to schema 3: each workspace gets its row of keeping, and edition tells the version.
+pub fn raise_third<S: Alter>(tx: &mut Transaction<'_, S>) -> Result<(), Error>
+    ensures { MakesBy S.Store RaisesThird tx.old tx.new result }
+{
+    make_third(tx)?;
+    keepings::fill(tx)?;
+    move_to_third(tx)
 }
 
 const VERSION: &str = "SELECT version FROM meta WHERE one = 1 ORDER BY rowid";

@@ -1,17 +1,18 @@
-//! Statements on the table ws.
+//! Statements on the table ws. Where a workspace is added or goes, so is how many versions it keeps.
 ghost use Rattle.std.specs.Prelude.{◌≡◌, ◌≢◌, ◌<◌, ◌^◌, [], IsTrue, IfOk, is_some, string_bytes};
 ghost use Rattle.sqlite.specs.Held.{state};
 ghost use Rattle.sqlite.specs.State.{HasCleanDisk};
-ghost use Rattle.statements.specs.Steps.{WritesBy, QueriesBy, QueriesWhere};
+ghost use Rattle.statements.specs.Steps.{WritesBy, WritesWhere, QueriesBy, QueriesWhere};
 ghost use Rattle.statements.specs.Tables.{Tables, Holds};
-ghost use Rattle.statements.specs.Changes.{with_auto, held_by, released_from, with_next_version, with_next_run, ws_changed, ws_added, ws_removed};
+ghost use Rattle.statements.specs.Changes.{with_auto, held_by, released_from, with_next_version, with_next_run, ws_changed, ws_row_added, ws_row_removed, ws_added, ws_removed, HasNoKeeping};
 ghost use Rattle.statements.specs.Listings.{workspace_rows_after, WorkspacesApart, later_of, end_of};
 ghost use Rattle.statements.specs.Finds.{workspace_of, workspaces_of};
 ghost use Rattle.statements.specs.declared.rows.Holder.TheVariants.{Nobody, Lock, Run as HeldByRun};
 
 use crate::calls::{count_of, first_row, first_rows, read_all, read_one, signed, update, write};
+use crate::keepings;
 use crate::rows::{NamedWorkspace, Workspace};
-use basis::{Items, Prefix};
+use basis::{Items, KeepCount, Prefix};
 use sqlite::{Alter, Connection, Error, Transaction, params};
 use std::alloc::Global;
 
@@ -134,16 +135,30 @@ pub fn count<S: Alter>(conn: &mut Connection<S>, org: &str) -> Result<u64, Error
 const ADD_WS: &str =
     "INSERT INTO ws (org, name, auto, kind, next_version, next_run) VALUES (?1, ?2, ?3, 0, 1, 1)";
 
-/// Adds a workspace that nobody holds, whose versions and runs begin at 1.
-pub fn add<S: Alter>(
+/// Adds the row of a workspace that nobody holds, whose versions and runs begin at 1.
+fn add_row<S: Alter>(
     tx: &mut Transaction<'_, S>,
     org: &str,
     name: &str,
     auto: bool,
 ) -> Result<(), Error>
-    ensures { WritesBy S.Store (ws_added org.now name.now auto) tx.old tx.new result }
+    ensures { WritesBy S.Store (ws_row_added org.now name.now auto) tx.old tx.new result }
 {
     write(tx, ADD_WS, params![org, name, auto])
+}
+
+/// Adds a workspace that nobody holds, whose versions and runs begin at 1, and how many versions it keeps.
+pub fn add<S: Alter>(
+    tx: &mut Transaction<'_, S>,
+    org: &str,
+    name: &str,
+    auto: bool,
+    keep: KeepCount,
+) -> Result<(), Error>
+    ensures { WritesBy S.Store (ws_added org.now name.now auto keep) tx.old tx.new result }
+{
+    add_row(tx, org, name, auto)?;
+    keepings::add(tx, org, name, keep)
 }
 
 const SET_AUTO: &str = "UPDATE ws SET auto = ?3 WHERE org = ?1 AND name = ?2";
@@ -258,9 +273,17 @@ pub fn set_next_run<S: Alter>(
 
 const REMOVE_WS: &str = "DELETE FROM ws WHERE org = ?1 AND name = ?2";
 
-/// Removes a workspace. Its versions and runs have rows of their own.
+/// Removes the row of a workspace: what is told of it holds where how many versions it keeps has no row.
+fn remove_row<S: Alter>(tx: &mut Transaction<'_, S>, org: &str, name: &str) -> Result<(), Error>
+    ensures { WritesWhere S.Store (HasNoKeeping org.now name.now) (ws_row_removed org.now name.now) tx.old tx.new result }
+{
+    write(tx, REMOVE_WS, params![org, name])
+}
+
+/// Removes how many versions a workspace keeps, and then the workspace. Its versions and runs have rows of their own.
 pub fn remove<S: Alter>(tx: &mut Transaction<'_, S>, org: &str, name: &str) -> Result<(), Error>
     ensures { WritesBy S.Store (ws_removed org.now name.now) tx.old tx.new result }
 {
-    write(tx, REMOVE_WS, params![org, name])
+    keepings::remove(tx, org, name)?;
+    remove_row(tx, org, name)
 }

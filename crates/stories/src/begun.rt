@@ -1,4 +1,4 @@
-//! A story of a store that begins with a file of the first version: over that file in memory and copied, and over files
+//! A story of a store that begins with a file of an earlier version: over that file in memory and copied, and over files
 //! in memory whose power is cut.
 use crate::files::run_in_copy;
 use crate::programs::bytes_of;
@@ -11,7 +11,7 @@ use telling::plays::Play;
 use telling::taking::Way;
 use trials::cuts::{Image, opened};
 use trials::stops;
-use trials::stops::run_first_stops;
+use trials::stops::run_earlier_stops;
 use trials::ways::over_tables;
 
 /// The name of the way in memory.
@@ -45,7 +45,7 @@ pub fn run_begun(
     if !modes.stops {
         return Ok(());
     }
-    match run_first_stops(rt, play, &image, counts) {
+    match run_earlier_stops(rt, play, &image, counts) {
         Ok(()) => Ok(()),
         Err(failure) => Err(failure.on(stops::WAY)),
     }

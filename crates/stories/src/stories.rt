@@ -15,7 +15,7 @@ use telling::refusals::run_refused;
 use trials::breaking::run_broken;
 use trials::stops::run_stops;
 use trials::units::run_by_units;
-use trials::ways::run_in_memory;
+use trials::ways::{run_in_memory, run_large_in_memory};
 use trials::{breaking, stops};
 
 // The earlier stories and this one, in turn.
@@ -39,6 +39,10 @@ fn run_made(
     modes: Modes,
     counts: &mut Counts,
 ) -> Result<(), Failure> {
+    if modes.large {
+        run_large_in_memory(rt.alloc(), play)?;
+        return run_in_file(rt, play);
+    }
     run_in_memory(rt.alloc(), play)?;
     run_in_file(rt, play)?;
     run_by_units(rt.alloc(), play)?;

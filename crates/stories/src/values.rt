@@ -1,6 +1,8 @@
 //! Steps of values: a document, a name, a number or a message read and shown, and what a request asks.
 use basis::numbers::whole_number;
-use basis::{Limit, LockId, Moment, Number, OrgName, RunAsk, Secret, StateHead, Unfit, WsName};
+use basis::{
+    Limit, LockId, Moment, Number, OrgName, RunAsk, Secret, SettingsAsk, StateHead, Unfit, WsName,
+};
 use docs::{DocFault, digest_fits, read_lock, read_run, read_settings, read_state};
 use program::lines::split_line;
 use std::alloc::{AllocError, Global};
@@ -114,9 +116,17 @@ fn show_lock(alloc: Global, bytes: &[u8]) -> Shown {
     }
 }
 
+fn settings_text(alloc: Global, settings: &SettingsAsk) -> Result<String, AllocError> {
+    let auto_apply = settings.auto_apply;
+    match settings.keep_versions {
+        Some(keep) => { format!(in alloc; "auto_apply {auto_apply} keep_versions {}", keep.get()) }
+        None => format!(in alloc; "auto_apply {auto_apply}"),
+    }
+}
+
 fn show_settings(alloc: Global, bytes: &[u8]) -> Shown {
     match read_settings(alloc, bytes) {
-        Ok(settings) => Ok(format!(in alloc; "auto_apply {}", settings.auto_apply)?),
+        Ok(settings) => Ok(settings_text(alloc, &settings)?),
         Err(fault) => refused(alloc, fault),
     }
 }

@@ -1,23 +1,27 @@
 -- From the version that a database has to the newest one, step by step.
-use Rattle.std.proofs.Common.{◌≡◌, ◌≢◌, ◌≤◌, ◌+◌, ◌⊎◌, inl, inr, ℕ, Bool, true, false, true≢false, List, Option, Some, None, IsTrue, refl, sym, ap, ◌∙◌, subst}
+use Rattle.std.proofs.Common.{◌≡◌, ◌≢◌, ◌≤◌, ◌<◌, ◌+◌, ◌⊎◌, inl, inr, ℕ, zero, suc, Bool, true, false, true≢false, List, Option, Some, None, IsTrue, refl, sym, ap, ◌∙◌, subst, arith}
 use Rattle.std.specs.Prelude.{if◌then◌else◌, ◌==◌}
-use Rattle.std.proofs.lemmas.Bool.{eqb-true}
-use Rattle.statements.proofs.MetaTexts.{first_has_meta}
-use Rattle.statements.specs.Schema.{meta_table}
+use Rattle.std.proofs.lemmas.Bool.{eqb-true, or_parts}
+use Rattle.std.proofs.lemmas.Bool.Decides.{nat_tests}
 use Rattle.sqlite_schema.specs.declared.schema.Table.{Table}
 use Rattle.sqlite.specs.Effect.{Database}
 use Rattle.sqlite.specs.State.{State, HasCleanDisk, IsUnchanged, KeepsCommit}
-use Rattle.statements.specs.Making.{HasMeta, HasEdition, told_version, version_in, edition_in}
+use Rattle.sqlite.proofs.InsideLemmas.{keeps_then}
+use Rattle.statements.proofs.EditionTexts.{has_edition, second_has_edition}
+use Rattle.statements.proofs.MetaTexts.{first_has_meta}
+use Rattle.statements.proofs.Schemas.{foreign_then}
+use Rattle.statements.specs.Making.{HasMeta, HasEdition, KeepsForeign, told_version, version_in, edition_in}
 use Rattle.statements.specs.Rows.{Kept}
-use Rattle.statements.specs.Tables.{Tables, Holds, HoldsFirst}
-use Rattle.tables.specs.declared.opening.TheConstants.{FIRST, NEWEST}
+use Rattle.statements.specs.Schema.{meta_table, edition_table}
+use Rattle.statements.specs.Tables.{Tables, Holds, HoldsFirst, HoldsSecond}
+use Rattle.tables.specs.declared.opening.TheConstants.{NEWEST}
 use Rattle.tables.specs.declared.opening.Found.{Found}
 use Rattle.tables.specs.declared.opening.Found.TheVariants.{Nothing, Version, Other}
-use Rattle.tables.specs.Inner.Making.{IsTold, found_in, TellsFound, FindsOurs, KeepsBeside, Becomes, Climbs, IsClimbed, IsOnWay}
+use Rattle.tables.specs.Inner.Making.{IsTold, found_in, TellsFound, FindsOurs, Climbs, IsClimbed, IsOnWay}
 use Rattle.tables.specs.Inner.Steps.{IsSettled}
-use Rattle.tables.specs.Opening.{any_there, all_there, TellsIn, ToldBy, IsOther}
-use Rattle.tables.specs.Versions.{HoldsVersion, version_records}
-use Rattle.tables.proofs.There.{version_is_there, newest_is_there, not_both, one_there, first_or_newest, most_there}
+use Rattle.tables.specs.Opening.{any_there, all_there, tells_edition, TellsIn, ToldBy, EditionTells, IsOther, GivesBack}
+use Rattle.tables.specs.Versions.{HoldsVersion, version_records, Becomes, version_tables, HoldsTables, KeepsBeside}
+use Rattle.tables.proofs.There.{version_is_there, newest_is_there, one_there, which_there, most_there}
 
 becomes_same : (n : ℕ) (old new : Database) → new ≡ old → Becomes n n old new
 becomes_same n old new is = record { holds = λ h. subst (HoldsVersion n) (sym is) h; records = λ h org. ap (λ (db : Database). version_records n db org) is }
@@ -25,11 +29,34 @@ becomes_same n old new is = record { holds = λ h. subst (HoldsVersion n) (sym i
 becomes_then : (l m n : ℕ) (a b c : Database) → Becomes l m a b → Becomes m n b c → Becomes l n a c
 becomes_then l m n a b c f g = record { holds = λ h. g.holds (f.holds h); records = λ h org. g.records (f.holds h) org ∙ f.records h org }
 
+foreign_same : (ts : List Table) (db : Database) → KeepsForeign ts ts db db
+foreign_same ts db = record { owns = λ other own. own; stands = λ other own. (refl, refl); beside = λ other own apart. apart; rows = λ other own passive apart. refl }
+
+beside_same : (n : ℕ) (old new : Database) → new ≡ old → KeepsBeside n n old new
+beside_same n old new is = record {
+  holds = λ t h. (t, subst (λ (db : Database). HoldsTables n db t) (sym is) h);
+  foreign = λ t h. subst (λ (db : Database). KeepsForeign (version_tables n) (version_tables n) old db) (sym is) (foreign_same (version_tables n) old);
+}
+
+beside_then : (l m n : ℕ) (a b c : Database) → KeepsBeside l m a b → KeepsBeside m n b c → KeepsBeside l n a c
+beside_then l m n a b c f g = record {
+  holds = λ t h. let u = f.holds t h in g.holds u.0 u.1;
+  foreign = λ t h. let u = f.holds t h in foreign_then (version_tables l) (version_tables m) (version_tables n) a b c (f.foreign t h) (g.foreign u.0 u.1);
+}
+
 pub climbs_none : (n : ℕ) (old new : State) → KeepsCommit old new → Climbs n n old new
-climbs_none n old new kept = record { was_open = kept.was_open; becomes = λ is. becomes_same n old.committed new.committed (kept.committed is) }
+climbs_none n old new kept = record {
+  was_open = kept.was_open;
+  becomes = λ is. becomes_same n old.committed new.committed (kept.committed is);
+  beside = λ is. beside_same n old.committed new.committed (kept.committed is);
+}
 
 pub climbs_then : (l m n : ℕ) (a b c : State) → Climbs l m a b → Climbs m n b c → Climbs l n a c
-climbs_then l m n a b c f g = record { was_open = λ is. f.was_open (g.was_open is); becomes = λ is. becomes_then l m n a.committed b.committed c.committed (f.becomes (g.was_open is)) (g.becomes is) }
+climbs_then l m n a b c f g = record {
+  was_open = λ is. f.was_open (g.was_open is);
+  becomes = λ is. becomes_then l m n a.committed b.committed c.committed (f.becomes (g.was_open is)) (g.becomes is);
+  beside = λ is. beside_then l m n a.committed b.committed c.committed (f.beside (g.was_open is)) (g.beside is);
+}
 
 -- the steps so far
 pub record ClimbsSoFar (from at : ℕ) (old new : State) : Type 0 where
@@ -42,13 +69,23 @@ version_is_told : (m n : ℕ) (old new : State) → IsTold m old new → HoldsVe
 version_is_told m n old new told h = one_there n m old.now.schema (version_is_there n old.now h) told.there
 
 -- the version that was found is taken to the newest one
-pub climbed_by : (m : ℕ) (old mid new : State) → IsTold m old mid → IsClimbed m mid new → (n : ℕ) → HoldsVersion n old.now
-    → HoldsVersion NEWEST new.committed × ((o : List ℕ) → version_records NEWEST new.committed o ≡ version_records n old.now o)
-climbed_by m old mid new told climbed n h =
-    let is : n ≡ m = version_is_told m n old mid told h in
-    let becomes : Becomes m NEWEST old.now new.committed = subst (λ (db : Database). Becomes m NEWEST db new.committed) told.same ((climbed.climbs (most_there m old.now.schema told.there)).becomes (climbed.is_open told.is_open)) in
-    let held : HoldsVersion m old.now = subst (λ (k : ℕ). HoldsVersion k old.now) is h in
-    (becomes.holds held, λ o. becomes.records held o ∙ ap (λ (k : ℕ). version_records k old.now o) (sym is))
+module _ (m : ℕ) (old mid new : State) (told : IsTold m old mid) (climbed : IsClimbed m mid new) where
+  climbs : Climbs m NEWEST mid new
+  climbs = climbed.climbs (most_there m old.now.schema told.there)
+
+  pub climbed_by : (n : ℕ) → HoldsVersion n old.now → HoldsVersion NEWEST new.committed × ((o : List ℕ) → version_records NEWEST new.committed o ≡ version_records n old.now o)
+  climbed_by n h =
+      let is : n ≡ m = version_is_told m n old mid told h in
+      let becomes : Becomes m NEWEST old.now new.committed = subst (λ (db : Database). Becomes m NEWEST db new.committed) told.same (climbs.becomes (climbed.is_open told.is_open)) in
+      let held : HoldsVersion m old.now = subst (λ (k : ℕ). HoldsVersion k old.now) is h in
+      (becomes.holds held, λ o. becomes.records held o ∙ ap (λ (k : ℕ). version_records k old.now o) (sym is))
+
+  -- and tables of others are kept
+  pub kept_beside : (n : ℕ) → all_there n old.now.schema ≡ true → KeepsBeside n NEWEST old.now new.committed
+  kept_beside n there =
+      let is : m ≡ n = one_there m n old.now.schema told.there there in
+      let beside : KeepsBeside m NEWEST old.now new.committed = subst (λ (db : Database). KeepsBeside m NEWEST db new.committed) told.same (climbs.beside (climbed.is_open told.is_open)) in
+      subst (λ (k : ℕ). KeepsBeside k NEWEST old.now new.committed) is beside
 
 -- ---- what is found
 
@@ -58,47 +95,74 @@ unchanged_kept old new same = record { was_open = λ _. same.0.was_open; committ
 number_is : (a b : ℕ) → Some a ≡ Some b → a ≡ b
 number_is a b e = cc
 
+eq_itself : (n : ℕ) → (n == n) ≡ true
+eq_itself n = grind (arith, nat_tests)
+
+-- the version of the tables that are there is told, or it is another
+module _ (n : ℕ) (told : Option ℕ) (old new : State) (there : all_there n old.now.schema ≡ true) (settled : IsSettled old) (same : IsUnchanged old new) (tells : told ≡ Some n → TellsIn n old.now × ToldBy n old.now)
+    (other : told ≢ Some n → IsOther old) where
+  found_by : TellsFound (found_in n told) old new
+  found_by = by_told told refl
+    where
+      apart : told ≢ Some n → IsOther old × KeepsCommit old new
+      apart is = (other is, unchanged_kept old new same)
+
+      by_number : (k : ℕ) → told ≡ Some k → (b : Bool) → (k == n) ≡ b → TellsFound (if b then Version n else Other) old new
+      by_number k e true is =
+          let tells_it = tells (e ∙ ap Some (eqb-true k n is)) in
+          record { there = there; version = tells_it.0; tells = tells_it.1; was_open = same.0.was_open; is_open = same.0.is_open; same = same.0.committed_is ∙ sym (settled same.0.was_open); kept = unchanged_kept old new same }
+      by_number k e false is = apart (λ one. true≢false (sym (eq_itself n) ∙ ap (λ (m : ℕ). m == n) (sym (number_is k n (sym e ∙ one))) ∙ is))
+
+      by_told : (o : Option ℕ) → told ≡ o → TellsFound (found_in n o) old new
+      by_told None e = apart (λ one. absurd (let no_one : None ≡ Some n = sym e ∙ one in cc))
+      by_told (Some k) e = by_number k e (k == n) refl
+
 -- what meta tells is the first version, or none of ours
 pub first_tells : (told : Option ℕ) (old new : State) → all_there 1 old.now.schema ≡ true → IsSettled old → IsUnchanged old new → ((table : Table) (metas : List (Kept ℕ)) → HasMeta old.now table metas → told ≡ told_version metas) → TellsFound (found_in 1 told) old new
-first_tells told old new there settled same reads = by_told told refl
+first_tells told old new there settled same reads = found_by 1 told old new there settled same (λ one. (λ t h. sym (read t h) ∙ one, λ table metas has. sym (reads table metas has) ∙ one)) (λ apart. record {
+  first = λ _ t h is. apart (read t h ∙ is);
+  second = λ two. absurd (let no_two = one_there 1 2 old.now.schema there two in cc);
+  third = λ t h. absurd (let no_three = one_there 1 3 old.now.schema there (newest_is_there old.now t h) in cc);
+})
   where
     read : (t : Tables) → HoldsFirst old.now t → told ≡ version_in t
     read t h = reads meta_table t.metas (first_has_meta old.now t h)
 
-    other : (told ≢ Some 1) → IsOther old × KeepsCommit old new
-    other apart = ((λ _ t h is. apart (read t h ∙ is), λ t h is. absurd (not_both old.now.schema there (newest_is_there old.now t h))), unchanged_kept old new same)
+-- what edition tells is this version, or none of ours
+module _ (told : Option ℕ) (old new : State) (settled : IsSettled old) (same : IsUnchanged old new) (reads : (table : Table) (editions : List (Kept ℕ)) → HasEdition old.now table editions → told ≡ told_version editions) where
+  told_as_edition : (n : ℕ) → told ≡ Some n → EditionTells n old.now
+  told_as_edition n is table editions has = sym (reads table editions has) ∙ is
 
-    by_number : (n : ℕ) → told ≡ Some n → (b : Bool) → (n == 1) ≡ b → TellsFound (if b then Version 1 else Other) old new
-    by_number n e true is =
-        let one : told ≡ Some 1 = e ∙ ap Some (eqb-true n 1 is) in
-        record { there = there; version = λ t h. sym (read t h) ∙ one; tells = λ table metas has. sym (reads table metas has) ∙ one; was_open = same.0.was_open; is_open = same.0.is_open; same = same.0.committed_is ∙ sym (settled same.0.was_open); kept = unchanged_kept old new same }
-    by_number n e false is = other (λ one. true≢false (sym (ap (λ (m : ℕ). m == 1) (number_is n 1 (sym e ∙ one))) ∙ is))
+  read_second : (t : Tables) → HoldsSecond old.now t → told ≡ edition_in t
+  read_second t h = reads edition_table t.editions (second_has_edition old.now t h)
 
-    by_told : (o : Option ℕ) → told ≡ o → TellsFound (found_in 1 o) old new
-    by_told None e = other (λ one. absurd (let no_one : None ≡ Some 1 = sym e ∙ one in cc))
-    by_told (Some n) e = by_number n e (n == 1) refl
+  read_third : (t : Tables) → Holds old.now t → told ≡ edition_in t
+  read_third t h = reads edition_table t.editions (has_edition old.now t h)
 
--- what edition tells is the newest version, or none of ours
-pub newest_tells : (told : Option ℕ) (old new : State) → all_there 2 old.now.schema ≡ true → IsSettled old → IsUnchanged old new → ((t : Tables) → Holds old.now t → told ≡ edition_in t)
-    → ((table : Table) (editions : List (Kept ℕ)) → HasEdition old.now table editions → told ≡ told_version editions) → TellsFound (found_in 2 told) old new
-newest_tells told old new there settled same read reads = by_told told refl
-  where
-    other : (told ≢ Some 2) → IsOther old × KeepsCommit old new
-    other apart = ((λ first. absurd (not_both old.now.schema first there), λ t h is. apart (read t h ∙ is)), unchanged_kept old new same)
-
-    by_number : (n : ℕ) → told ≡ Some n → (b : Bool) → (n == 2) ≡ b → TellsFound (if b then Version 2 else Other) old new
-    by_number n e true is =
-        let two : told ≡ Some 2 = e ∙ ap Some (eqb-true n 2 is) in
-        record { there = there; version = λ t h. sym (read t h) ∙ two; tells = λ table editions has. sym (reads table editions has) ∙ two; was_open = same.0.was_open; is_open = same.0.is_open; same = same.0.committed_is ∙ sym (settled same.0.was_open); kept = unchanged_kept old new same }
-    by_number n e false is = other (λ two. true≢false (sym (ap (λ (m : ℕ). m == 2) (number_is n 2 (sym e ∙ two))) ∙ is))
-
-    by_told : (o : Option ℕ) → told ≡ o → TellsFound (found_in 2 o) old new
-    by_told None e = other (λ two. absurd (let no_one : None ≡ Some 2 = sym e ∙ two in cc))
-    by_told (Some n) e = by_number n e (n == 2) refl
+  pub later_tells : (n : ℕ) → 2 ≤ n → all_there n old.now.schema ≡ true → TellsFound (found_in n told) old new
+  later_tells zero least there = absurd (omega (arith, least))
+  later_tells (suc zero) least there = absurd (omega (arith, least))
+  later_tells (suc (suc zero)) least there = found_by 2 told old new there settled same (λ two. (λ t h. sym (read_second t h) ∙ two, told_as_edition 2 two)) (λ apart. record {
+    first = λ one. absurd (let no_one = one_there 1 2 old.now.schema one there in cc);
+    second = λ _ t h is. apart (read_second t h ∙ is);
+    third = λ t h. absurd (let no_three = one_there 2 3 old.now.schema there (newest_is_there old.now t h) in cc);
+  })
+  later_tells (suc (suc (suc zero))) least there = found_by 3 told old new there settled same (λ three. (λ t h. sym (read_third t h) ∙ three, told_as_edition 3 three)) (λ apart. record {
+    first = λ one. absurd (let no_one = one_there 1 3 old.now.schema one there in cc);
+    second = λ two. absurd (let no_two = one_there 2 3 old.now.schema two there in cc);
+    third = λ t h is. apart (read_third t h ∙ is);
+  })
+  later_tells (suc (suc (suc (suc n)))) least there = absurd (let none : ⊥ = cc in none)
 
 -- where the tables of no version are there, it is another
-pub none_is_other : (s : State) → all_there 1 s.now.schema ≡ false → all_there 2 s.now.schema ≡ false → IsOther s
-none_is_other s first newest = (λ there t h. absurd (true≢false (sym there ∙ first)), λ t h. absurd (true≢false (sym (newest_is_there s.now t h) ∙ newest)))
+pub none_is_other : (s : State) → all_there 1 s.now.schema ≡ false → tells_edition s.now.schema ≡ false → IsOther s
+none_is_other s first later =
+    let parts = or_parts (all_there 2 s.now.schema) (all_there 3 s.now.schema) later in
+    record {
+      first = λ there t h. absurd (true≢false (sym there ∙ first));
+      second = λ there t h. absurd (true≢false (sym there ∙ parts.0));
+      third = λ t h. absurd (true≢false (sym (newest_is_there s.now t h) ∙ parts.1));
+    }
 
 -- what was found, where some of our tables are there
 pub finds_by : (found : Found) (old new : State) → any_there old.now.schema ≡ true → TellsFound found old new → FindsOurs found old new
@@ -113,17 +177,41 @@ told_of found m old new is finds = (subst (λ (f : Found). FindsOurs f old new) 
 pub told_as : (m n : ℕ) (old new : State) → IsTold m old new → all_there n old.now.schema ≡ true → TellsIn n old.now × ToldBy n old.now
 told_as m n old new told there = subst (λ (k : ℕ). TellsIn k old.now × ToldBy k old.now) (one_there m n old.now.schema told.there there) (told.version, told.tells)
 
--- tables of others are kept, where the first version was told
-pub kept_beside : (m : ℕ) (old mid new : State) → IsTold m old mid → (m ≡ FIRST → KeepsBeside mid.committed new.committed) → all_there 1 old.now.schema ≡ true → KeepsBeside old.now new.committed
-kept_beside m old mid new told beside there = subst (λ (d : Database). KeepsBeside d new.committed) told.same (beside (one_there m 1 old.now.schema told.there there))
+-- ---- what is given back
 
--- where no step was taken, nothing is committed
-pub climb_failed : (m : ℕ) (old mid new : State) → IsTold m old mid → (m ≡ NEWEST → ⊥) → (m + 1 ≡ NEWEST → KeepsCommit mid new) → KeepsCommit old new
-climb_failed m old mid new told done kept = by_version (first_or_newest m old.now.schema told.there)
-  where
-    by_version : (m ≡ 1) ⊎ (m ≡ 2) → KeepsCommit old new
-    by_version (inl one) = let last = kept (ap (λ (k : ℕ). k + 1) one) in record { was_open = λ is. told.kept.was_open (last.was_open is); committed = λ is. last.committed is ∙ told.kept.committed (last.was_open is) }
-    by_version (inr two) = absurd (done two)
+pub kept_gives_back : (old new : State) → KeepsCommit old new → GivesBack old new
+kept_gives_back old new kept = record { was_open = kept.was_open; committed = λ is. inl (kept.committed is) }
+
+-- where the newest version wasn't reached, nothing is committed, or the first version has become the second
+module _ (m : ℕ) (old mid new : State) (told : IsTold m old mid) where
+  none_taken : KeepsCommit mid new → GivesBack old new
+  none_taken kept = kept_gives_back old new (keeps_then old mid new told.kept kept)
+
+  one_taken : m ≡ 1 → Climbs 1 2 mid new → GivesBack old new
+  one_taken first climbs = record {
+    was_open = λ is. told.kept.was_open (climbs.was_open is);
+    committed = λ is.
+        let same : mid.committed ≡ old.committed = told.kept.committed (climbs.was_open is) in
+        inr (
+          subst (λ (db : Database). all_there 1 db.schema ≡ true) (sym told.same ∙ same) (subst (λ (k : ℕ). all_there k old.now.schema ≡ true) first told.there),
+          subst (λ (db : Database). Becomes 1 2 db new.committed) same (climbs.becomes is),
+          subst (λ (db : Database). KeepsBeside 1 2 db new.committed) same (climbs.beside is),
+        );
+  }
+
+  from_first : m ≡ 1 → (k : ℕ) → m ≤ k → k < 3 → Climbs m k mid new → (k ≡ m → KeepsCommit mid new) → GivesBack old new
+  from_first first zero least most climbs none = absurd (omega (arith, first, least))
+  from_first first (suc zero) least most climbs none = none_taken (none (sym first))
+  from_first first (suc (suc zero)) least most climbs none = one_taken first (subst (λ (k : ℕ). Climbs k 2 mid new) first climbs)
+  from_first first (suc (suc (suc k))) least most climbs none = absurd (omega (arith, most))
+
+  pub gives_back : IsOnWay m mid new → GivesBack old new
+  gives_back way = by_version (which_there m old.now.schema told.there)
+    where
+      by_version : (m ≡ 1) ⊎ (m ≡ 2) ⊎ (m ≡ 3) → GivesBack old new
+      by_version (inl first) = from_first first way.to way.least way.most way.climbs way.none
+      by_version (inr (inl second)) = none_taken (way.none (let least = way.least in let most = way.most in omega (arith, second, least, most)))
+      by_version (inr (inr third)) = absurd (let least = way.least in let most = way.most in omega (arith, third, least, most))
 
 -- ---- the loop over the steps
 
@@ -137,5 +225,11 @@ climbs_on from at a b c before back step = record {
   is_open = λ clean _. (step clean).1;
 }
 
-pub climbs_stop : (from at : ℕ) (a b c : State) → from ≤ at → at ≤ NEWEST → ClimbsSoFar from at a b → HasCleanDisk b → KeepsCommit b c → IsOnWay from a c
-climbs_stop from at a b c least most before clean kept = record { to = at; least = least; most = most; climbs = climbs_then from at at a b c (before.climbs clean) (climbs_none at b c kept) }
+pub climbs_stop : (from at : ℕ) (a b c : State) → from ≤ at → at < NEWEST → ClimbsSoFar from at a b → (at ≡ from → b ≡ a) → HasCleanDisk b → KeepsCommit b c → IsOnWay from a c
+climbs_stop from at a b c least most before same clean kept = record {
+  to = at;
+  least = least;
+  most = most;
+  climbs = climbs_then from at at a b c (before.climbs clean) (climbs_none at b c kept);
+  none = λ none. subst (λ (s : State). KeepsCommit s c) (same none) kept;
+}

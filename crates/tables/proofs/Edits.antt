@@ -1,13 +1,18 @@
 -- What the rows denote after a change of a workspace.
-use Rattle.std.proofs.Common.{◌≡◌, ℕ, ◌+◌, Bool, true, false, cond, List, [], ◌∷◌, ◌++◌, map, filter, find, Option, Some, None, option_map, refl, sym, ap, subst, ◌∙◌}
+use Rattle.std.proofs.Common.{◌≡◌, ℕ, ◌+◌, Bool, true, false, cond, List, [], ◌∷◌, ◌++◌, map, filter, find, is_some, Option, Some, None, option_map, refl, sym, ap, subst, ◌∙◌}
+use Rattle.std.specs.Option.{unwrap_or}
+use Rattle.basis.specs.declared.numbers.TheConstants.{FIRST_KEPT}
 use Rattle.basis.specs.declared.rows.Settings.{Settings}
 use Rattle.basis.specs.declared.rows.RunAsk.{RunAsk}
 use Rattle.basis.specs.declared.runs.RunStatus.{RunStatus}
 use Rattle.basis.specs.declared.runs.RunStatus.TheVariants.{Pending, Planning}
 use Rattle.basis.specs.declared.runs.RunAction.{RunAction}
+use Rattle.std.specs.List.{list_any}
+use Rattle.sqlite_keyed.proofs.SliceLemmas.{any_is_found}
+use Rattle.statements.proofs.Found.{found_passes, found_holds}
 use Rattle.machine.specs.Settling.{begun, started, started_if}
 use Rattle.machine.specs.Changes.{left_above, edited, changed_by}
-use Rattle.machine.specs.Rules.{with_settings, purged, locked, released, new_run, with_run, reported}
+use Rattle.machine.specs.Rules.{purged, locked, released, new_run, with_run, reported}
 use Rattle.machine.specs.Workspaces.{new_workspace}
 use Rattle.machine.specs.declared.acts.Edit.{Edit}
 use Rattle.machine.specs.declared.acts.Edit.TheVariants.{Make, Configure, Remove, AddVersion, Purge, Hold, Release, AddRun, Report}
@@ -19,63 +24,74 @@ use Rattle.machine.specs.declared.records.Workspace.{Workspace}
 use Rattle.statements.specs.declared.rows.Holder.TheVariants.{Nobody, Lock, Run as HeldByRun}
 use Rattle.statements.specs.declared.rows.Workspace.{Workspace as WorkspaceCells}
 use Rattle.statements.specs.declared.rows.Run.{Run as RunCells}
-use Rattle.statements.specs.Rows.{Kept, WsRow, RunRow}
+use Rattle.statements.specs.Rows.{Kept, WsRow, KeepingRow, RunRow}
 use Rattle.statements.specs.Tables.{Tables}
-use Rattle.statements.specs.Changes.{is_ws, is_run_of, with_auto, held_by, released_from, with_next_version, with_next_run, ws_changed, ws_added, runs_removed, run_made as new_run_cells, run_acted}
-use Rattle.statements.specs.Finds.{workspace_of}
-use Rattle.tables.specs.Records.{run_of_cells, workspace_of_cells, versions_at, runs_at, workspace_by}
-use Rattle.tables.specs.Inner.Edits.{all_gone, removed_rows, made_rows, numbered_rows, if_there, versioned_rows, run_put, run_counted, run_rows, freed_rows, edited_rows, started_rows, changed_rows, TakesVersion, TakesEdit}
+use Rattle.statements.specs.Changes.{is_ws, is_keeping, is_run_of, with_auto, held_by, released_from, with_next_version, with_next_run, ws_changed, ws_added, runs_removed, run_made as new_run_cells, run_acted}
+use Rattle.statements.specs.Finds.{workspace_of, keep_of}
+use Rattle.tables.specs.Records.{run_of_cells, workspace_of_cells, keep_at, versions_at, runs_at, workspace_by}
+use Rattle.tables.specs.Inner.Edits.{all_gone, removed_rows, made_rows, settings_rows, configured_rows, numbered_rows, if_there, versioned_rows, run_put, run_counted, run_rows, freed_rows, edited_rows, started_rows, changed_rows, TakesVersion, TakesEdit}
 use Rattle.tables.specs.Sound.{IsSound}
 use Rattle.tables.proofs.TextRows.{Becomes, versions_carried}
-use Rattle.tables.proofs.VersionEdits.{all_go, versions_come}
-use Rattle.tables.proofs.Parts.{row_changed, row_unchanged, row_removed, row_left, row_added, row_added_other, runs_begun, runs_begun_other, runs_pushed, runs_pushed_other, runs_acted, runs_acted_other, runs_gone, runs_gone_other}
+use Rattle.tables.proofs.VersionEdits.{all_go, settings_leave, versions_come}
+use Rattle.tables.proofs.Parts.{row_changed, row_unchanged, row_removed, row_left, row_added, row_added_other, keep_removed, keep_left, keep_added, keep_added_other, keep_set, keep_set_other, runs_begun, runs_begun_other, runs_pushed, runs_pushed_other, runs_acted, runs_acted_other, runs_gone, runs_gone_other}
+use Rattle.tables.proofs.Names.{pair_first, pair_second}
 use Rattle.tables.proofs.Sets.{Puts, puts_then, same_parts}
 
 -- ---- the parts of a workspace that is changed
 
-changed_row : (g : WorkspaceCells → WorkspaceCells) (f : Workspace → Workspace) (vs us : List Version) (rs ss : List Run)
-    → ((c : WorkspaceCells) → workspace_of_cells (g c) us ss ≡ f (workspace_of_cells c vs rs)) → (row : Option WorkspaceCells)
-    → option_map (λ (c : WorkspaceCells). workspace_of_cells c us ss) (option_map g row) ≡ option_map f (option_map (λ (c : WorkspaceCells). workspace_of_cells c vs rs) row)
-changed_row g f vs us rs ss same None = refl
-changed_row g f vs us rs ss same (Some c) = ap Some (same c)
+changed_row : (g : WorkspaceCells → WorkspaceCells) (f : Workspace → Workspace) (k : ℕ) (vs us : List Version) (rs ss : List Run)
+    → ((c : WorkspaceCells) → workspace_of_cells k (g c) us ss ≡ f (workspace_of_cells k c vs rs)) → (row : Option WorkspaceCells)
+    → option_map (λ (c : WorkspaceCells). workspace_of_cells k c us ss) (option_map g row) ≡ option_map f (option_map (λ (c : WorkspaceCells). workspace_of_cells k c vs rs) row)
+changed_row g f k vs us rs ss same None = refl
+changed_row g f k vs us rs ss same (Some c) = ap Some (same c)
 
 kept_row : (row : Option WorkspaceCells) → option_map (λ (c : WorkspaceCells). c) row ≡ row
 kept_row None = refl
 kept_row (Some c) = refl
 
-no_row : (f : Workspace → Workspace) (vs : List Version) (rs : List Run) (row : Option WorkspaceCells) → row ≡ None
-    → option_map (λ (c : WorkspaceCells). workspace_of_cells c vs rs) row ≡ option_map f (option_map (λ (c : WorkspaceCells). workspace_of_cells c vs rs) row)
-no_row f vs rs None e = refl
-no_row f vs rs (Some c) e = absurd (let none : ⊥ = cc in none)
+no_row : (f : Workspace → Workspace) (k : ℕ) (vs : List Version) (rs : List Run) (row : Option WorkspaceCells) → row ≡ None
+    → option_map (λ (c : WorkspaceCells). workspace_of_cells k c vs rs) row ≡ option_map f (option_map (λ (c : WorkspaceCells). workspace_of_cells k c vs rs) row)
+no_row f k vs rs None e = refl
+no_row f k vs rs (Some c) e = absurd (let none : ⊥ = cc in none)
 
 -- a run has taken an action, and its workspace is freed or not
 abbrev after_report : ℕ → RunAction → RunStatus → Bool → Workspace → Workspace
 after_report n action status frees w = record w { holder = cond frees NoHolder w.holder; runs = map (reported n action status) w.runs }
+
+-- how many versions a workspace keeps, by rows of keeping
+abbrev kept_among : List ℕ → List ℕ → List (Kept KeepingRow) → ℕ
+kept_among a b ks = unwrap_or (option_map (λ (x : Kept KeepingRow). x.1.keep) (find (is_keeping a b) ks)) FIRST_KEPT
 
 module _ (org ws : List ℕ) (t : Tables) where
   row : Option WorkspaceCells
   row = workspace_of org ws t
 
   -- what the row holds, and nothing else
-  row_puts : (g : WorkspaceCells → WorkspaceCells) (f : Workspace → Workspace) → ((c : WorkspaceCells) (vs : List Version) (rs : List Run) → workspace_of_cells (g c) vs rs ≡ f (workspace_of_cells c vs rs))
+  row_puts : (g : WorkspaceCells → WorkspaceCells) (f : Workspace → Workspace) → ((c : WorkspaceCells) (k : ℕ) (vs : List Version) (rs : List Run) → workspace_of_cells k (g c) vs rs ≡ f (workspace_of_cells k c vs rs))
       → Puts org ws (option_map f (workspace_by t org ws)) t (ws_changed g org ws t)
   row_puts g f same = record {
     orgs = refl;
     tokens = refl;
     bounds = refl;
-    own = same_parts _ _ _ _ _ _ (row_changed org ws g t) (versions_carried t (ws_changed g org ws t) refl refl refl org ws) refl ∙ changed_row g f (versions_at t org ws) (versions_at t org ws) (runs_at t org ws) (runs_at t org ws) (λ c. same c (versions_at t org ws) (runs_at t org ws)) (workspace_of org ws t);
-    others = λ a b other. same_parts _ _ _ _ _ _ (row_unchanged org ws g t a b other) (versions_carried t (ws_changed g org ws t) refl refl refl a b) refl;
+    own = same_parts _ _ _ _ _ _ _ _ (row_changed org ws g t) refl (versions_carried t (ws_changed g org ws t) refl refl refl org ws) refl
+        ∙ changed_row g f (keep_at t org ws) (versions_at t org ws) (versions_at t org ws) (runs_at t org ws) (runs_at t org ws) (λ c. same c (keep_at t org ws) (versions_at t org ws) (runs_at t org ws)) (workspace_of org ws t);
+    others = λ a b other. same_parts _ _ _ _ _ _ _ _ (row_unchanged org ws g t a b other) refl (versions_carried t (ws_changed g org ws t) refl refl refl a b) refl;
   }
 
   -- a workspace where there is no row of its name
-  added_puts : (settings : Settings) → workspace_of org ws t ≡ None → versions_at t org ws ≡ [] → runs_at t org ws ≡ [] → Puts org ws (Some (new_workspace settings)) t (ws_added org ws settings.auto_apply t)
-  added_puts settings none no_version no_run = record {
-    orgs = refl;
-    tokens = refl;
-    bounds = refl;
-    own = same_parts _ _ _ _ _ _ (row_added org ws t settings.auto_apply none) (versions_carried t (ws_added org ws settings.auto_apply t) refl refl refl org ws ∙ no_version) no_run;
-    others = λ a b other. same_parts _ _ _ _ _ _ (row_added_other org ws t settings.auto_apply a b other) (versions_carried t (ws_added org ws settings.auto_apply t) refl refl refl a b) refl;
-  }
+  added_puts : (settings : Settings) → workspace_of org ws t ≡ None → keep_of org ws t ≡ None → versions_at t org ws ≡ [] → runs_at t org ws ≡ []
+      → Puts org ws (Some (new_workspace settings)) t (ws_added org ws settings.auto_apply settings.keep_versions t)
+  added_puts settings none no_keep no_version no_run =
+      let auto : Bool = settings.auto_apply in
+      let keep : ℕ = settings.keep_versions in
+      let after : Tables = ws_added org ws settings.auto_apply settings.keep_versions t in
+      record {
+        orgs = refl;
+        tokens = refl;
+        bounds = refl;
+        own = same_parts _ _ _ _ _ _ _ _ (row_added org ws t auto keep none) (keep_added org ws t auto keep no_keep) (versions_carried t after refl refl refl org ws ∙ no_version) no_run;
+        others = λ a b other. same_parts _ _ _ _ _ _ _ _ (row_added_other org ws t auto keep a b other) (keep_added_other org ws t auto keep a b other) (versions_carried t after refl refl refl a b) refl;
+      }
 
   -- the row and the runs of a workspace stay as its versions go
   module _ (sound : IsSound t) where
@@ -88,6 +104,9 @@ module _ (org ws : List ℕ) (t : Tables) where
     same_row : (a b : List ℕ) → workspace_of a b purged_rows ≡ workspace_of a b t
     same_row a b = ap (λ (wss : List (Kept WsRow)). option_map (λ (x : Kept WsRow). x.1.it) (find (is_ws a b) wss)) gone.rest.wss
 
+    same_keep : (a b : List ℕ) → keep_at purged_rows a b ≡ keep_at t a b
+    same_keep a b = ap (λ (ks : List (Kept KeepingRow)). kept_among a b ks) gone.rest.keepings
+
     same_runs : (a b : List ℕ) → runs_at purged_rows a b ≡ runs_at t a b
     same_runs a b = ap (λ (rs : List (Kept RunRow)). map (λ (x : Kept RunRow). run_of_cells x.1.it) (filter (is_run_of a b) rs)) gone.rest.runs
 
@@ -96,8 +115,8 @@ module _ (org ws : List ℕ) (t : Tables) where
       orgs = gone.rest.orgs;
       tokens = gone.rest.tokens;
       bounds = gone.rest.bounds;
-      own = same_parts _ _ _ _ _ _ (row_removed org ws (runs_removed org ws purged_rows)) (versions_carried purged_rows (removed_rows org ws t) refl refl refl org ws ∙ gone.own) (runs_gone org ws purged_rows);
-      others = λ a b other. same_parts _ _ _ _ _ _ (row_left org ws (runs_removed org ws purged_rows) a b other ∙ same_row a b)
+      own = same_parts _ _ _ _ _ _ _ _ (row_removed org ws (runs_removed org ws purged_rows)) refl (versions_carried purged_rows (removed_rows org ws t) refl refl refl org ws ∙ gone.own) (runs_gone org ws purged_rows);
+      others = λ a b other. same_parts _ _ _ _ _ _ _ _ (row_left org ws (runs_removed org ws purged_rows) a b other ∙ same_row a b) (keep_left org ws (runs_removed org ws purged_rows) a b other ∙ same_keep a b)
           (versions_carried purged_rows (removed_rows org ws t) refl refl refl a b ∙ gone.others a b other) (runs_gone_other org ws purged_rows a b other ∙ same_runs a b);
     }
 
@@ -109,9 +128,9 @@ module _ (org ws : List ℕ) (t : Tables) where
       orgs = gone.rest.orgs;
       tokens = gone.rest.tokens;
       bounds = gone.rest.bounds;
-      own = same_parts _ _ _ _ _ _ (same_row org ws ∙ sym (kept_row (workspace_of org ws t))) gone.own (same_runs org ws)
-          ∙ changed_row (λ c. c) purged (versions_at t org ws) [] (runs_at t org ws) (runs_at t org ws) (λ c. refl) (workspace_of org ws t);
-      others = λ a b other. same_parts _ _ _ _ _ _ (same_row a b) (gone.others a b other) (same_runs a b);
+      own = same_parts _ _ _ _ _ _ _ _ (same_row org ws ∙ sym (kept_row (workspace_of org ws t))) (same_keep org ws) gone.own (same_runs org ws)
+          ∙ changed_row (λ c. c) purged (keep_at t org ws) (versions_at t org ws) [] (runs_at t org ws) (runs_at t org ws) (λ c. refl) (workspace_of org ws t);
+      others = λ a b other. same_parts _ _ _ _ _ _ _ _ (same_row a b) (same_keep a b) (gone.others a b other) (same_runs a b);
     }
 
   started_puts : (start : Option ℕ) → Puts org ws (option_map (started_if start) (workspace_by t org ws)) t (started_rows org ws start t)
@@ -126,10 +145,64 @@ module _ (org ws : List ℕ) (t : Tables) where
         orgs = refl;
         tokens = refl;
         bounds = refl;
-        own = same_parts _ _ _ _ _ _ (row_changed org ws g t) (versions_carried t (started_rows org ws (Some n) t) refl refl refl org ws) (runs_begun org ws t n)
-            ∙ changed_row (held_by (HeldByRun n)) (started n) (versions_at t org ws) (versions_at t org ws) (runs_at t org ws) (map (begun n) (runs_at t org ws)) (λ c. refl) (workspace_of org ws t);
-        others = λ a b other. same_parts _ _ _ _ _ _ (row_unchanged org ws g t a b other) (versions_carried t (started_rows org ws (Some n) t) refl refl refl a b) (runs_begun_other org ws t n a b other);
+        own = same_parts _ _ _ _ _ _ _ _ (row_changed org ws g t) refl (versions_carried t (started_rows org ws (Some n) t) refl refl refl org ws) (runs_begun org ws t n)
+            ∙ changed_row (held_by (HeldByRun n)) (started n) (keep_at t org ws) (versions_at t org ws) (versions_at t org ws) (runs_at t org ws) (map (begun n) (runs_at t org ws)) (λ c. refl) (workspace_of org ws t);
+        others = λ a b other. same_parts _ _ _ _ _ _ _ _ (row_unchanged org ws g t a b other) refl (versions_carried t (started_rows org ws (Some n) t) refl refl refl a b) (runs_begun_other org ws t n a b other);
       }
+
+  -- ---- settings that are set
+
+  abbrev with_fewer : Settings → Option ℕ → Workspace → Workspace
+  with_fewer settings outgoing w = record w { settings = settings; versions = left_above outgoing w.versions }
+
+  -- a workspace that has a row has one of keeping
+  keep_there : IsSound t → (c : WorkspaceCells) → workspace_of org ws t ≡ Some c → is_some (find (is_keeping org ws) t.keepings) ≡ true
+  keep_there sound c e = by_row (find (is_ws org ws) t.wss) refl e
+    where
+      by_row : (r : Option (Kept WsRow)) → find (is_ws org ws) t.wss ≡ r → option_map (λ (x : Kept WsRow). x.1.it) r ≡ Some c → is_some (find (is_keeping org ws) t.keepings) ≡ true
+      by_row None f e = absurd (let none : ⊥ = cc in none)
+      by_row (Some x) f e =
+          let p = found_passes (is_ws org ws) t.wss x f in
+          let kept : list_any (is_keeping x.1.org x.1.name) t.keepings ≡ true = found_holds (λ (y : Kept WsRow). list_any (is_keeping y.1.org y.1.name) t.keepings ≡ true) (is_ws org ws) t.wss x sound.wss_kept f in
+          sym (any_is_found (is_keeping org ws) t.keepings)
+          ∙ subst (λ (a : List ℕ). list_any (is_keeping a ws) t.keepings ≡ true) (pair_first org ws x.1.org x.1.name p) (subst (λ (b : List ℕ). list_any (is_keeping x.1.org b) t.keepings ≡ true) (pair_second org ws x.1.org x.1.name p) kept)
+
+  module _ (sound : IsSound t) (settings : Settings) (outgoing : Option ℕ) where
+    abbrev with_set : Tables
+    with_set = settings_rows org ws settings t
+
+    abbrev configured : Tables
+    configured = configured_rows org ws settings outgoing t
+
+    leave : Becomes (left_above outgoing) org ws with_set configured
+    leave = settings_leave org ws t sound settings outgoing
+
+    leave_row : (a b : List ℕ) → workspace_of a b configured ≡ workspace_of a b with_set
+    leave_row a b = ap (λ (wss : List (Kept WsRow)). option_map (λ (x : Kept WsRow). x.1.it) (find (is_ws a b) wss)) leave.rest.wss
+
+    leave_keep : (a b : List ℕ) → keep_at configured a b ≡ keep_at with_set a b
+    leave_keep a b = ap (λ (ks : List (Kept KeepingRow)). kept_among a b ks) leave.rest.keepings
+
+    leave_runs : (a b : List ℕ) → runs_at configured a b ≡ runs_at t a b
+    leave_runs a b = ap (λ (rs : List (Kept RunRow)). map (λ (x : Kept RunRow). run_of_cells x.1.it) (filter (is_run_of a b) rs)) leave.rest.runs
+
+    configured_puts : Puts org ws (option_map (with_fewer settings outgoing) (workspace_by t org ws)) t configured
+    configured_puts = record {
+      orgs = leave.rest.orgs;
+      tokens = leave.rest.tokens;
+      bounds = leave.rest.bounds;
+      own = same_parts _ _ _ _ _ _ _ _ (leave_row org ws ∙ row_changed org ws (with_auto settings.auto_apply) t) (leave_keep org ws) (leave.own ∙ ap (left_above outgoing) (versions_carried t with_set refl refl refl org ws)) (leave_runs org ws)
+          ∙ by_row (workspace_of org ws t) refl;
+      others = λ a b other. same_parts _ _ _ _ _ _ _ _ (leave_row a b ∙ row_unchanged org ws (with_auto settings.auto_apply) t a b other) (leave_keep a b ∙ keep_set_other org ws t settings.keep_versions a b other)
+          (leave.others a b other ∙ versions_carried t with_set refl refl refl a b) (leave_runs a b);
+    }
+      where
+        by_row : (r : Option WorkspaceCells) → workspace_of org ws t ≡ r
+            → option_map (λ (c : WorkspaceCells). workspace_of_cells (keep_at with_set org ws) c (left_above outgoing (versions_at t org ws)) (runs_at t org ws)) (option_map (with_auto settings.auto_apply) r)
+            ≡ option_map (with_fewer settings outgoing) (option_map (λ (c : WorkspaceCells). workspace_of_cells (keep_at t org ws) c (versions_at t org ws) (runs_at t org ws)) r)
+        by_row None e = refl
+        by_row (Some c) e =
+            ap (λ (k : ℕ). Some (workspace_of_cells k (with_auto settings.auto_apply c) (left_above outgoing (versions_at t org ws)) (runs_at t org ws))) (keep_set org ws t settings.keep_versions (keep_there sound c e))
 
   -- ---- a version more, a run more
 
@@ -138,7 +211,7 @@ module _ (org ws : List ℕ) (t : Tables) where
   there_puts f after puts = by_row (workspace_of org ws t) refl
     where
       by_row : (r : Option WorkspaceCells) → workspace_of org ws t ≡ r → Puts org ws (option_map f (workspace_by t org ws)) t (if_there r after t)
-      by_row None e = record { orgs = refl; tokens = refl; bounds = refl; own = no_row f (versions_at t org ws) (runs_at t org ws) (workspace_of org ws t) e; others = λ a b other. refl }
+      by_row None e = record { orgs = refl; tokens = refl; bounds = refl; own = no_row f (keep_at t org ws) (versions_at t org ws) (runs_at t org ws) (workspace_of org ws t) e; others = λ a b other. refl }
       by_row (Some w) e = puts
 
   abbrev one_more : Version → Option ℕ → Workspace → Workspace
@@ -157,6 +230,9 @@ module _ (org ws : List ℕ) (t : Tables) where
     come_row : (a b : List ℕ) → workspace_of a b versioned ≡ workspace_of a b with_number
     come_row a b = ap (λ (wss : List (Kept WsRow)). option_map (λ (x : Kept WsRow). x.1.it) (find (is_ws a b) wss)) come.rest.wss
 
+    come_keep : (a b : List ℕ) → keep_at versioned a b ≡ keep_at t a b
+    come_keep a b = ap (λ (ks : List (Kept KeepingRow)). kept_among a b ks) come.rest.keepings
+
     come_runs : (a b : List ℕ) → runs_at versioned a b ≡ runs_at t a b
     come_runs a b = ap (λ (rs : List (Kept RunRow)). map (λ (x : Kept RunRow). run_of_cells x.1.it) (filter (is_run_of a b) rs)) come.rest.runs
 
@@ -165,10 +241,10 @@ module _ (org ws : List ℕ) (t : Tables) where
       orgs = come.rest.orgs;
       tokens = come.rest.tokens;
       bounds = come.rest.bounds;
-      own = same_parts _ _ _ _ _ _ (come_row org ws ∙ row_changed org ws (with_next_version (v.number + 1)) t)
+      own = same_parts _ _ _ _ _ _ _ _ (come_row org ws ∙ row_changed org ws (with_next_version (v.number + 1)) t) (come_keep org ws)
           (come.own ∙ ap (λ (vs : List Version). left_above outgoing (vs ++ v ∷ [])) (versions_carried t with_number refl refl refl org ws)) (come_runs org ws)
-          ∙ changed_row (with_next_version (v.number + 1)) (one_more v outgoing) (versions_at t org ws) (left_above outgoing (versions_at t org ws ++ v ∷ [])) (runs_at t org ws) (runs_at t org ws) (λ c. refl) (workspace_of org ws t);
-      others = λ a b other. same_parts _ _ _ _ _ _ (come_row a b ∙ row_unchanged org ws (with_next_version (v.number + 1)) t a b other)
+          ∙ changed_row (with_next_version (v.number + 1)) (one_more v outgoing) (keep_at t org ws) (versions_at t org ws) (left_above outgoing (versions_at t org ws ++ v ∷ [])) (runs_at t org ws) (runs_at t org ws) (λ c. refl) (workspace_of org ws t);
+      others = λ a b other. same_parts _ _ _ _ _ _ _ _ (come_row a b ∙ row_unchanged org ws (with_next_version (v.number + 1)) t a b other) (come_keep a b)
           (come.others a b other ∙ versions_carried t with_number refl refl refl a b) (come_runs a b);
     }
 
@@ -180,9 +256,9 @@ module _ (org ws : List ℕ) (t : Tables) where
           orgs = refl;
           tokens = refl;
           bounds = refl;
-          own = same_parts _ _ _ _ _ _ (row_changed org ws (with_next_run (number + 1)) t) (versions_carried t (run_put org ws number ask created (run_counted org ws number t)) refl refl refl org ws) (runs_pushed org ws t new)
-              ∙ changed_row (with_next_run (number + 1)) (with_run (new_run number ask created)) (versions_at t org ws) (versions_at t org ws) (runs_at t org ws) (runs_at t org ws ++ run_of_cells new ∷ []) (λ c. refl) (workspace_of org ws t);
-          others = λ a b other. same_parts _ _ _ _ _ _ (row_unchanged org ws (with_next_run (number + 1)) t a b other) (versions_carried t (run_put org ws number ask created (run_counted org ws number t)) refl refl refl a b) (runs_pushed_other org ws t new a b other);
+          own = same_parts _ _ _ _ _ _ _ _ (row_changed org ws (with_next_run (number + 1)) t) refl (versions_carried t (run_put org ws number ask created (run_counted org ws number t)) refl refl refl org ws) (runs_pushed org ws t new)
+              ∙ changed_row (with_next_run (number + 1)) (with_run (new_run number ask created)) (keep_at t org ws) (versions_at t org ws) (versions_at t org ws) (runs_at t org ws) (runs_at t org ws ++ run_of_cells new ∷ []) (λ c. refl) (workspace_of org ws t);
+          others = λ a b other. same_parts _ _ _ _ _ _ _ _ (row_unchanged org ws (with_next_run (number + 1)) t a b other) refl (versions_carried t (run_put org ws number ask created (run_counted org ws number t)) refl refl refl a b) (runs_pushed_other org ws t new a b other);
         })
 
   module _ (n : ℕ) (action : RunAction) (status : RunStatus) where
@@ -191,36 +267,36 @@ module _ (org ws : List ℕ) (t : Tables) where
       orgs = refl;
       tokens = refl;
       bounds = refl;
-      own = same_parts _ _ _ _ _ _ (row_changed org ws (held_by Nobody) t) (versions_carried t (freed_rows true org ws (run_acted status action org ws n t)) refl refl refl org ws) (runs_acted org ws t status action n)
-          ∙ changed_row (held_by Nobody) (after_report n action status true) (versions_at t org ws) (versions_at t org ws) (runs_at t org ws) (map (reported n action status) (runs_at t org ws)) (λ c. refl) (workspace_of org ws t);
-      others = λ a b other. same_parts _ _ _ _ _ _ (row_unchanged org ws (held_by Nobody) t a b other) (versions_carried t (freed_rows true org ws (run_acted status action org ws n t)) refl refl refl a b) (runs_acted_other org ws t status action n a b other);
+      own = same_parts _ _ _ _ _ _ _ _ (row_changed org ws (held_by Nobody) t) refl (versions_carried t (freed_rows true org ws (run_acted status action org ws n t)) refl refl refl org ws) (runs_acted org ws t status action n)
+          ∙ changed_row (held_by Nobody) (after_report n action status true) (keep_at t org ws) (versions_at t org ws) (versions_at t org ws) (runs_at t org ws) (map (reported n action status) (runs_at t org ws)) (λ c. refl) (workspace_of org ws t);
+      others = λ a b other. same_parts _ _ _ _ _ _ _ _ (row_unchanged org ws (held_by Nobody) t a b other) refl (versions_carried t (freed_rows true org ws (run_acted status action org ws n t)) refl refl refl a b) (runs_acted_other org ws t status action n a b other);
     }
     report_puts false = record {
       orgs = refl;
       tokens = refl;
       bounds = refl;
-      own = same_parts _ _ _ _ _ _ (sym (kept_row (workspace_of org ws t))) (versions_carried t (run_acted status action org ws n t) refl refl refl org ws) (runs_acted org ws t status action n)
-          ∙ changed_row (λ c. c) (after_report n action status false) (versions_at t org ws) (versions_at t org ws) (runs_at t org ws) (map (reported n action status) (runs_at t org ws)) (λ c. refl) (workspace_of org ws t);
-      others = λ a b other. same_parts _ _ _ _ _ _ refl (versions_carried t (run_acted status action org ws n t) refl refl refl a b) (runs_acted_other org ws t status action n a b other);
+      own = same_parts _ _ _ _ _ _ _ _ (sym (kept_row (workspace_of org ws t))) refl (versions_carried t (run_acted status action org ws n t) refl refl refl org ws) (runs_acted org ws t status action n)
+          ∙ changed_row (λ c. c) (after_report n action status false) (keep_at t org ws) (versions_at t org ws) (versions_at t org ws) (runs_at t org ws) (map (reported n action status) (runs_at t org ws)) (λ c. refl) (workspace_of org ws t);
+      others = λ a b other. same_parts _ _ _ _ _ _ _ _ refl refl (versions_carried t (run_acted status action org ws n t) refl refl refl a b) (runs_acted_other org ws t status action n a b other);
     }
 
-made_puts : (org ws : List ℕ) (t : Tables) → IsSound t → (settings : Settings) → Puts org ws (Some (new_workspace settings)) t (made_rows org ws settings.auto_apply t)
+made_puts : (org ws : List ℕ) (t : Tables) → IsSound t → (settings : Settings) → Puts org ws (Some (new_workspace settings)) t (made_rows org ws settings t)
 made_puts org ws t sound settings =
     let u : Tables = removed_rows org ws t in
-    puts_then org ws t u (made_rows org ws settings.auto_apply t) (removed_puts org ws t sound)
-    (added_puts org ws u settings (row_removed org ws (runs_removed org ws (all_gone org ws t))) (removed_versions org ws t sound) (runs_gone org ws (all_gone org ws t)))
+    puts_then org ws t u (made_rows org ws settings t) (removed_puts org ws t sound)
+    (added_puts org ws u settings (row_removed org ws (runs_removed org ws (all_gone org ws t))) (keep_removed org ws (runs_removed org ws (all_gone org ws t))) (removed_versions org ws t sound) (runs_gone org ws (all_gone org ws t)))
 
 module _ (key_of : List ℕ → List ℕ) (org ws : List ℕ) (t : Tables) (sound : IsSound t) where
   -- ---- an edit
 
   pub edited_puts : (edit : Edit) → TakesEdit key_of org ws edit t → Puts org ws (edited edit (workspace_by t org ws)) t (edited_rows key_of org ws edit t)
   edited_puts (Make settings) takes = made_puts org ws t sound settings
-  edited_puts (Configure settings) takes = row_puts org ws t (with_auto settings.auto_apply) (λ (w : Workspace). with_settings w settings) (λ c vs rs. refl)
+  edited_puts (Configure settings outgoing) takes = configured_puts org ws t sound settings outgoing
   edited_puts Remove takes = removed_puts org ws t sound
   edited_puts (AddVersion v outgoing) takes = version_puts org ws t sound key_of v takes outgoing
   edited_puts Purge takes = purge_puts org ws t sound
-  edited_puts (Hold id text) takes = row_puts org ws t (held_by (Lock id text)) (locked id text) (λ c vs rs. refl)
-  edited_puts (Release id) takes = row_puts org ws t (released_from id) (released id) (λ c vs rs. refl)
+  edited_puts (Hold id text) takes = row_puts org ws t (held_by (Lock id text)) (locked id text) (λ c k vs rs. refl)
+  edited_puts (Release id) takes = row_puts org ws t (released_from id) (released id) (λ c k vs rs. refl)
   edited_puts (AddRun number ask created) takes = run_puts org ws t number ask created
   edited_puts (Report number action status frees) takes = report_puts org ws t number action status frees
 

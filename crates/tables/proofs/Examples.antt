@@ -6,6 +6,7 @@ use Rattle.std.specs.FinMap.{from_entries, empty}
 use Rattle.basis.specs.declared.roles.Role.TheVariants.{Write}
 use Rattle.basis.specs.declared.runs.RunStatus.{RunStatus}
 use Rattle.basis.specs.declared.rows.RunAsk.{RunAsk}
+use Rattle.basis.specs.declared.rows.Settings.{Settings}
 use Rattle.basis.specs.declared.runs.RunStatus.TheVariants.{Pending, Planning, Canceled}
 use Rattle.basis.specs.declared.runs.RunAction.TheVariants.{Cancel}
 use Rattle.machine.specs.declared.acts.Edit.TheVariants.{Make, Configure, Remove, AddVersion, Purge, Release, AddRun, Report}
@@ -22,7 +23,7 @@ use Rattle.sqlite_schema.specs.declared.schema.Kind.TheVariants.{Blob}
 use Rattle.statements.specs.Rows.{Kept}
 use Rattle.statements.specs.Schema.{column, version_table}
 use Rattle.statements.specs.Tables.{Tables}
-use Rattle.statements.specs.Making.{raised}
+use Rattle.statements.specs.Making.{raised, raised_third}
 use Rattle.tables.specs.Records.{record_of}
 use Rattle.tables.specs.Opening.{has_versions_in}
 use Rattle.tables.specs.Sound.{IsSound}
@@ -56,7 +57,7 @@ version n body = record { number = n; serial = n; lineage = codes "a1"; created 
 abbrev run : ℕ → RunStatus → Run
 run n status = record { number = n; plan_only = false; key = None; message = codes "go"; created = 1_700_000_000; status = status; action = None }
 
--- two organizations, each with a workspace `prod`; that of acme is under a lock, and has two versions and a run, and its token ends and is for some
+-- two organizations, each with a workspace `prod`; that of acme is under a lock, keeps two versions, and has two and a run, and its token ends and is for some
 abbrev two : Tables
 two = record {
   metas = [];
@@ -79,7 +80,8 @@ two = record {
       ∷ (pos 3, record { org = acme; ws = prod; number = 2; place = 0; key = codes "{"; twin = 1 })
       ∷ [];
   bounds = (pos 1, record { org = acme; name = codes "ci"; until = Some 1_800_000_000; prefix = codes "pr" }) ∷ [];
-  editions = (pos 1, 2) ∷ [];
+  editions = (pos 1, 3) ∷ [];
+  keepings = (pos 1, record { org = globex; ws = prod; keep = 1 }) ∷ (pos 2, record { org = acme; ws = prod; keep = 2 }) ∷ [];
 }
 
 -- the key that keeps a byte
@@ -101,10 +103,10 @@ acme_has w = Some (record {
 })
 
 abbrev of_globex : Workspace
-of_globex = record { settings = record { auto_apply = true }; holder = Nobody; released = None; next_version = 2; next_run = 1; versions = version 1 s1 ∷ []; runs = [] }
+of_globex = record { settings = record { auto_apply = true; keep_versions = 1 }; holder = Nobody; released = None; next_version = 2; next_run = 1; versions = version 1 s1 ∷ []; runs = [] }
 
 abbrev of_acme : Workspace
-of_acme = record { settings = record { auto_apply = false }; holder = Lock x1 text; released = None; next_version = 3; next_run = 2; versions = version 1 s1 ∷ version 2 s2 ∷ []; runs = run 1 Pending ∷ [] }
+of_acme = record { settings = record { auto_apply = false; keep_versions = 2 }; holder = Lock x1 text; released = None; next_version = 3; next_run = 2; versions = version 1 s1 ∷ version 2 s2 ∷ []; runs = run 1 Pending ∷ [] }
 
 -- ---- records
 
@@ -119,11 +121,22 @@ no_record = refl
 
 -- ---- changes: the organization's own record has it, and that of the other is as before
 
-configured : record_of (edited_rows first_byte acme prod (Configure (record { auto_apply = true })) two) acme ≡ acme_has (record of_acme { settings = record { auto_apply = true } })
+abbrev keeping_five : Settings
+keeping_five = record { auto_apply = true; keep_versions = 5 }
+
+configured : record_of (edited_rows first_byte acme prod (Configure keeping_five None) two) acme ≡ acme_has (record of_acme { settings = keeping_five })
 configured = refl
 
-configured_other : record_of (edited_rows first_byte acme prod (Configure (record { auto_apply = true })) two) globex ≡ globex_has of_globex
+configured_other : record_of (edited_rows first_byte acme prod (Configure keeping_five None) two) globex ≡ globex_has of_globex
 configured_other = refl
+
+-- a lower number of versions, of which the oldest goes at once
+abbrev keeping_one : Settings
+keeping_one = record { auto_apply = false; keep_versions = 1 }
+
+lowered : record_of (edited_rows first_byte acme prod (Configure keeping_one (Some 1)) two) acme ≡ acme_has (record of_acme { settings = keeping_one; versions = version 2 s2 ∷ [] })
+unfolding so_many_gone gone_below
+lowered = refl
 
 purged : record_of (edited_rows first_byte acme prod Purge two) acme ≡ acme_has (record of_acme { versions = [] })
 unfolding so_many_gone gone_below
@@ -193,10 +206,10 @@ canceled_and_freed : record_of (edited_rows first_byte acme prod (Report 1 Cance
 canceled_and_freed = refl
 
 -- a workspace more, behind the other
-made : record_of (edited_rows first_byte acme (codes "dev") (Make (record { auto_apply = true })) two) acme ≡ Some (record {
+made : record_of (edited_rows first_byte acme (codes "dev") (Make keeping_five) two) acme ≡ Some (record {
   limit = 10;
   tokens = from_entries ((codes "ci", ci) ∷ []);
-  workspaces = from_entries ((prod, of_acme) ∷ (codes "dev", record { settings = record { auto_apply = true }; holder = Nobody; released = None; next_version = 1; next_run = 1; versions = []; runs = [] }) ∷ []);
+  workspaces = from_entries ((prod, of_acme) ∷ (codes "dev", record { settings = keeping_five; holder = Nobody; released = None; next_version = 1; next_run = 1; versions = []; runs = [] }) ∷ []);
 })
 unfolding so_many_gone gone_below
 made = refl
@@ -219,8 +232,8 @@ unfolding so_many_gone gone_below
 removed_other = refl
 
 -- one that is made again begins anew
-made_anew : record_of (edited_rows first_byte acme prod (Make (record { auto_apply = true })) (edited_rows first_byte acme prod Remove two)) acme
-    ≡ acme_has (record { settings = record { auto_apply = true }; holder = Nobody; released = None; next_version = 1; next_run = 1; versions = []; runs = [] })
+made_anew : record_of (edited_rows first_byte acme prod (Make keeping_five) (edited_rows first_byte acme prod Remove two)) acme
+    ≡ acme_has (record { settings = keeping_five; holder = Nobody; released = None; next_version = 1; next_run = 1; versions = []; runs = [] })
 unfolding so_many_gone gone_below
 made_anew = refl
 
@@ -244,16 +257,16 @@ revoked = refl
 reach_revoked : (token_removed acme (codes "ci") two).bounds ≡ []
 reach_revoked = refl
 
--- ---- the first version
+-- ---- the versions before
 
--- no row tells how far its token reaches: it doesn't end, and is for all workspaces
+-- no row tells how far its token reaches: it doesn't end, and is for all workspaces; and none how many versions its workspace keeps
 abbrev first : Tables
-first = record two { metas = (pos 1, 1) ∷ []; bounds = []; editions = [] }
+first = record two { metas = (pos 1, 1) ∷ []; bounds = []; editions = []; keepings = [] }
 
 first_record : record_of first acme ≡ Some (record {
   limit = 10;
   tokens = from_entries ((codes "ci", record ci { caller = record { role = Write; until = None; prefix = [] } }) ∷ []);
-  workspaces = from_entries ((prod, of_acme) ∷ []);
+  workspaces = from_entries ((prod, record of_acme { settings = record { auto_apply = false; keep_versions = 100 } }) ∷ []);
 })
 first_record = refl
 
@@ -263,6 +276,16 @@ first_raised = refl
 
 raised_record : record_of (raised first) acme ≡ record_of first acme
 raised_record = refl
+
+-- and as tables of the third each workspace has one
+second_raised : (raised_third (raised first)).keepings ≡ (pos 1, record { org = globex; ws = prod; keep = 100 }) ∷ (pos 2, record { org = acme; ws = prod; keep = 100 }) ∷ []
+second_raised = refl
+
+second_record : record_of (raised_third (raised first)) acme ≡ record_of first acme
+second_record = refl
+
+told_third : (raised_third (raised first)).editions ≡ (pos 1, 3) ∷ []
+told_third = refl
 
 -- ---- lists
 
@@ -286,10 +309,10 @@ orphaned_is_not sound = true≢false (sym sound.versions_owned.0)
 
 -- another version
 abbrev later : Tables
-later = record two { editions = (pos 1, 3) ∷ [] }
+later = record two { editions = (pos 1, 4) ∷ [] }
 
 later_is_not : IsSound later → ⊥
-later_is_not sound = true≢false (ap (list_any (λ (x : Kept ℕ). x.1 == 3)) sound.told.0)
+later_is_not sound = true≢false (ap (list_any (λ (x : Kept ℕ). x.1 == 4)) sound.told.0)
 
 -- a version that meta tells too
 abbrev twice_told : Tables
@@ -311,6 +334,27 @@ tokenless = record two { tokens = [] }
 
 tokenless_is_not : IsSound tokenless → ⊥
 tokenless_is_not sound = true≢false (sym sound.bounds_owned.0)
+
+-- a workspace of which no row tells how many versions it keeps
+abbrev unkept : Tables
+unkept = record two { keepings = [] }
+
+unkept_is_not : IsSound unkept → ⊥
+unkept_is_not sound = true≢false (sym sound.wss_kept.0)
+
+-- how many versions a workspace keeps that isn't there
+abbrev wsless : Tables
+wsless = record two { wss = (pos 2, record { org = acme; name = prod; it = record { auto = false; holder = cells.Lock x1 text; released = None; next_version = 3; next_run = 2 } }) ∷ [] }
+
+wsless_is_not : IsSound wsless → ⊥
+wsless_is_not sound = true≢false (sym sound.keepings_owned.0)
+
+-- a workspace that keeps none
+abbrev keepless : Tables
+keepless = record two { keepings = (pos 1, record { org = globex; ws = prod; keep = 0 }) ∷ (pos 2, record { org = acme; ws = prod; keep = 2 }) ∷ [] }
+
+keepless_is_not : IsSound keepless → ⊥
+keepless_is_not sound = absurd (let least = (sound.workspaces globex prod (record of_globex { settings = record { auto_apply = true; keep_versions = 0 } }) refl).lawful.versions.keep.0 in omega (arith, least))
 
 -- two rows of one organization
 abbrev doubled : Tables

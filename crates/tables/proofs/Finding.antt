@@ -17,11 +17,13 @@ use Rattle.basis.specs.declared.runs.RunStatus.TheVariants.{Pending, Planning, P
 use Rattle.machine.specs.Order.{name_cmp}
 use Rattle.machine.specs.Laws.{Rises, is_pending}
 use Rattle.machine.specs.Settling.{first_waiting, is_waiting}
-use Rattle.machine.specs.Workspaces.{max_versions, newest, outgoing, is_numbered, run_of, has_key, is_keyed, keyed_run, holder_status, open_runs}
+use Rattle.machine.specs.Workspaces.{newest, outgoing, is_numbered, run_of, has_key, is_keyed, keyed_run, holder_status, open_runs}
 use Rattle.machine.specs.Records.{count_of, workspace_in as seen_workspace}
-use Rattle.machine.specs.Units.{find_last, version_of, has_version, version_text, is_text, if_needed, asked_run, newest_unit, unit_by, unit_of}
+use Rattle.machine.specs.Units.{find_last, version_of, has_version, version_text, is_text, if_needed, asked_run, newest_unit, outgoing_by, unit_by, unit_of}
 use Rattle.machine.specs.Needs.{needs}
 use Rattle.machine.specs.declared.acts.Act.{Act}
+use Rattle.machine.specs.declared.acts.Staying.{Staying}
+use Rattle.machine.specs.declared.acts.Staying.TheVariants.{StayAll, MakeRoom, StayAtMost}
 use Rattle.machine.specs.declared.acts.Unit.TheVariants.{Absent, Present}
 use Rattle.machine.specs.declared.records.Version.{Version}
 use Rattle.machine.specs.declared.records.Run.{Run}
@@ -38,7 +40,7 @@ use Rattle.statements.specs.Changes.{is_org, is_version_of, is_version, is_run_o
 use Rattle.statements.specs.Finds.{last_in, counted, head_of, newest_of, size_of, number_back, first_waiting_of, status_at_number, workspace_of, workspaces_of, cap_of}
 use Rattle.statements.specs.Finds as finds
 use Rattle.statements.proofs.Found.{found_passes, found_holds}
-use Rattle.tables.specs.Records.{version_at, run_of_cells, settings_of_cells, holder_of_cells, versions_at, runs_at, workspace_at, workspace_by, workspaces_at, organization_at, record_of}
+use Rattle.tables.specs.Records.{version_at, run_of_cells, settings_of_cells, holder_of_cells, keep_at, versions_at, runs_at, workspace_at, workspace_by, workspaces_at, organization_at, record_of}
 use Rattle.tables.specs.Sound.{HasText, IsSound}
 use Rattle.texts.specs.Texts.{pages_for, text_of, are_pieces, IsWhole}
 use Rattle.texts.proofs.PieceLaws.{whole_size, same_is}
@@ -82,10 +84,10 @@ newest-shown show (y ∷ z ∷ ys) = newest-shown show (z ∷ ys)
 
 -- one at a place from the last is the last of those that so many stand behind
 module _ {X : Type 0} (show : X → Version) where
-  place_back : (n : ℕ) (xs : List X) → option_map show (slice_get (reverse xs) n) ≡ newest (take (length (map show xs) + 1 - suc n) (map show xs))
+  place_back : (n : ℕ) (xs : List X) → option_map show (slice_get (reverse xs) n) ≡ newest (take (length (map show xs) - n) (map show xs))
   place_back n xs = by_test (nat_lt n (length xs)) refl
     where
-      within : (ys : List X) → n < length ys → option_map show (slice_get (reverse ys) n) ≡ newest (take (length (map show ys) + 1 - suc n) (map show ys))
+      within : (ys : List X) → n < length ys → option_map show (slice_get (reverse ys) n) ≡ newest (take (length (map show ys) - n) (map show ys))
       within [] h = absurd (omega arith)
       within (y ∷ ys) h =
           let turned : slice_get (reverse (y ∷ ys)) n ≡ slice_get (y ∷ ys) (length (y ∷ ys) - 1 - n) =
@@ -93,14 +95,14 @@ module _ {X : Type 0} (show : X → Version) where
           ap (option_map show) turned
           ∙ sym (slice_get-map show (y ∷ ys) (length (y ∷ ys) - 1 - n))
           ∙ sym (last_taken (length (y ∷ ys) - 1 - n) (map show (y ∷ ys)) (omega (arith, h, length-map (y ∷ ys) show)))
-          ∙ ap (λ (m : ℕ). newest (take m (map show (y ∷ ys)))) (let same : suc (length (y ∷ ys) - 1 - n) ≡ length (map show (y ∷ ys)) + 1 - suc n = omega (arith, h, length-map (y ∷ ys) show) in same)
+          ∙ ap (λ (m : ℕ). newest (take m (map show (y ∷ ys)))) (let same : suc (length (y ∷ ys) - 1 - n) ≡ length (map show (y ∷ ys)) - n = omega (arith, h, length-map (y ∷ ys) show) in same)
 
-      by_test : (b : Bool) → nat_lt n (length xs) ≡ b → option_map show (slice_get (reverse xs) n) ≡ newest (take (length (map show xs) + 1 - suc n) (map show xs))
+      by_test : (b : Bool) → nat_lt n (length xs) ≡ b → option_map show (slice_get (reverse xs) n) ≡ newest (take (length (map show xs) - n) (map show xs))
       by_test true e = within xs (ltb-true n (length xs) e)
       by_test false e =
           let over : length xs ≤ n = ltb-false n (length xs) e in
           ap (option_map show) (slice_get_past (reverse xs) n (omega (arith, over, length-reverse xs)))
-          ∙ sym (ap (λ (m : ℕ). newest (take m (map show xs))) (let none : length (map show xs) + 1 - suc n ≡ 0 = omega (arith, over, length-map xs show) in none))
+          ∙ sym (ap (λ (m : ℕ). newest (take m (map show xs))) (let none : length (map show xs) - n ≡ 0 = omega (arith, over, length-map xs show) in none))
 
 -- texts of two sizes are two
 other_size : (xs ys : List ℕ) → (length xs == length ys) ≡ false → bytes_eq xs ys ≡ false
@@ -297,10 +299,15 @@ module _ (t : Tables) (org ws : List ℕ) where
           ap (λ (same : Bool). Some (record { number = x.1.it.number; serial = x.1.it.serial; lineage = x.1.it.lineage; is_same = same })) (same_text x whole text)
 
   -- the greatest number of those that go is found by its place from the newest
-  pub outgoing_found : outgoing_in org ws t ≡ outgoing max_versions (versions_at t org ws)
-  outgoing_found =
-      mapped (λ (x : Kept VersionRow). version_at t org ws x.1.it) (λ (v : Version). v.number) (slice_get (reverse (filter (is_version_of org ws) t.versions)) (max_versions - 1))
-      ∙ ap (option_map (λ (v : Version). v.number)) (place_back (λ (x : Kept VersionRow). version_at t org ws x.1.it) (max_versions - 1) (filter (is_version_of org ws) t.versions))
+  behind_found : (staying : ℕ) → number_back org ws staying t ≡ outgoing staying (versions_at t org ws)
+  behind_found staying =
+      mapped (λ (x : Kept VersionRow). version_at t org ws x.1.it) (λ (v : Version). v.number) (slice_get (reverse (filter (is_version_of org ws) t.versions)) staying)
+      ∙ ap (option_map (λ (v : Version). v.number)) (place_back (λ (x : Kept VersionRow). version_at t org ws x.1.it) staying (filter (is_version_of org ws) t.versions))
+
+  pub outgoing_found : (staying : Staying) (keep : ℕ) → outgoing_in staying keep org ws t ≡ outgoing_by staying keep (versions_at t org ws)
+  outgoing_found StayAll keep = refl
+  outgoing_found MakeRoom keep = behind_found (keep - 1)
+  outgoing_found (StayAtMost staying) keep = behind_found staying
 
 -- ---- counts
 
@@ -355,14 +362,14 @@ module _ (t : Tables) (sound : IsSound t) (org : List ℕ) where
           let stands : workspace_by t org ws ≡ Some (workspace_at t org ws w) = ap (option_map (workspace_at t org ws)) f in
           let lawful = (sound.workspaces org ws _ stands).lawful in
           λ i. Present (record {
-            settings = settings_of_cells w;
+            settings = settings_of_cells (keep_at t org ws) w;
             holder = holder_of_cells w.holder;
             holder_status = if_needed (needs act).holder_status (holder_status_found t org ws w.holder i);
             released = w.released;
             next_version = w.next_version;
             next_run = w.next_run;
             newest = if_needed (needs act).newest (newest_unit_found t org ws (sound_texts t sound) (needs act).text i);
-            outgoing = if_needed (needs act).outgoing (outgoing_found t org ws i);
+            outgoing = outgoing_found t org ws (needs act).outgoing (keep_at t org ws) i;
             first_waiting = if_needed (needs act).waiting (first_waiting_found t org ws i);
             has_version = has_version_found t org ws w.next_version lawful.versions.rise (needs act).version i;
             asked_run = asked_run_found t org ws (needs act).run (needs act).key i;

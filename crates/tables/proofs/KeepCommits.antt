@@ -1,5 +1,5 @@
 -- From steps inside a transaction to the transaction, which a commit ends.
-use Rattle.std.proofs.Common.{◌≡◌, inl, inr, true, false, [], IsTrue, Result, Ok, Err, IfErr, OnOk, OnErr, refl, sym, ◌∙◌, subst}
+use Rattle.std.proofs.Common.{◌≡◌, ◌+◌, ℕ, inl, inr, true, false, [], IsTrue, Result, Ok, Err, IfErr, OnOk, OnErr, refl, sym, ◌∙◌, subst}
 use Rattle.sqlite_trees.specs.declared.store.Store.{Ghosts}
 use Rattle.sqlite.specs.Effect.{Database}
 use Rattle.sqlite.specs.Held.{Held, state}
@@ -7,11 +7,11 @@ use Rattle.sqlite.specs.Steps.{FailsToCommit}
 use Rattle.sqlite.specs.State.{State, Shows, KeepsCounts, KeepsCommit}
 use Rattle.sqlite.specs.declared.error.Error.{Error}
 use Rattle.statements.specs.Steps.{Moves}
-use Rattle.statements.specs.Making.{Alters, HasSchema, Raises}
+use Rattle.statements.specs.Making.{Alters, HasSchema}
 use Rattle.statements.specs.Tables.{Tables, Holds}
 use Rattle.tables.specs.Inner.Steps.{IsSettled, Commits}
-use Rattle.tables.specs.Inner.Making.{IsMade, StepsFrom, KeepsBeside}
-use Rattle.tables.proofs.Raising.{first_becomes}
+use Rattle.tables.specs.Inner.Making.{IsMade, StepsFrom}
+use Rattle.tables.specs.Versions.{Becomes, KeepsBeside}
 
 -- what a commit promises where it is done
 abbrev pub Ends : State → State → Type 0
@@ -58,22 +58,14 @@ module _ {S : Type 0} (g : Ghosts S) (h k l m : Held S) (settled : IsSettled (st
       let from : Alters HasSchema (state g (record h { in_transaction = true })) (state g l) = subst (λ x. Alters HasSchema (state g x) (state g l)) begun made in
       (tt, failed (state g h) (state g l) (state g m) e (λ _. from.was_open) (λ _. from.committed) fails)
 
-  -- what was raised is committed
-  raises_to : Alters Raises (state g k) (state g l) → Ends (state g l) (state g m) → Raises (state g h).committed (state g m).committed
-  raises_to raised ends =
-      let from : Alters Raises (state g (record h { in_transaction = true })) (state g l) = subst (λ x. Alters Raises (state g x) (state g l)) begun raised in
-      subst (λ (d : Database). Raises d (state g m).committed) (settled from.was_open) (subst (λ (d : Database). Raises (state g h).now d) (sym ends.1.committed_is) from.change)
-
-  -- tables of others beside the first version's are kept
-  pub beside_by : {X : Type 0} (result : Result X Error) → Alters Raises (state g k) (state g l) → OnOk result (Ends (state g l) (state g m)) → OnOk result (KeepsBeside (state g h).committed (state g m).committed)
-  beside_by (Ok x) raised ends = (raises_to raised ends).foreign
-  beside_by (Err e) raised ends = tt
-
-  -- the first version has become the second
-  pub climbs_by : {X : Type 0} (result : Result X Error) → Alters Raises (state g k) (state g l) → OnOk result (Ends (state g l) (state g m)) → IfErr result (FailsToCommit (state g l) (state g m)) → StepsFrom 1 (state g h) (state g m) result
-  climbs_by (Ok x) raised ends fails =
-      let from : Alters Raises (state g (record h { in_transaction = true })) (state g l) = subst (λ x. Alters Raises (state g x) (state g l)) begun raised in
-      ((record { was_open = λ _. from.was_open; becomes = λ _. first_becomes (state g h).committed (state g m).committed (raises_to raised ends) }, ends.1.is_open), tt)
-  climbs_by (Err e) raised ends fails =
-      let from : Alters Raises (state g (record h { in_transaction = true })) (state g l) = subst (λ x. Alters Raises (state g x) (state g l)) begun raised in
+  -- a version has become the next one, and that is committed
+  pub climbs_by : {X : Type 0} (n : ℕ) (Change : Database → Database → Type 0) → ((a b : Database) → Change a b → Becomes n (n + 1) a b × KeepsBeside n (n + 1) a b) → (result : Result X Error)
+      → Alters Change (state g k) (state g l) → OnOk result (Ends (state g l) (state g m)) → IfErr result (FailsToCommit (state g l) (state g m)) → StepsFrom n (state g h) (state g m) result
+  climbs_by n Change becomes (Ok x) raised ends fails =
+      let from : Alters Change (state g (record h { in_transaction = true })) (state g l) = subst (λ x. Alters Change (state g x) (state g l)) begun raised in
+      let done : Change (state g h).committed (state g m).committed = subst (λ (d : Database). Change d (state g m).committed) (settled from.was_open) (subst (λ (d : Database). Change (state g h).now d) (sym ends.1.committed_is) from.change) in
+      let next = becomes (state g h).committed (state g m).committed done in
+      ((record { was_open = λ _. from.was_open; becomes = λ _. next.0; beside = λ _. next.1 }, ends.1.is_open), tt)
+  climbs_by n Change becomes (Err e) raised ends fails =
+      let from : Alters Change (state g (record h { in_transaction = true })) (state g l) = subst (λ x. Alters Change (state g x) (state g l)) begun raised in
       (tt, failed (state g h) (state g l) (state g m) e (λ _. from.was_open) (λ _. from.committed) fails)

@@ -97,6 +97,23 @@ module _ {P Q R T X : Type 0} (E F G H I : Type 0) (p : Tables → P) (q : Table
         );
   }
 
+-- what is found by what was found first
+module _ {P Q X : Type 0} (E F G : Type 0) (p : Tables → P) (q : P → Tables → Q) (make : P → Q → X) (x : P) (y : Q) (a b c : State) where
+  pub seen_by_first : Sees {E = E} p a b (Ok x) → Sees {E = F} (q x) b c (Ok y) → Sees {E = G} (λ t. make (p t) (q (p t) t)) a c (Ok (make x y))
+  seen_by_first one two = record {
+    mode = λ idle. two.mode (one.mode idle);
+    so_far = λ clean. one.so_far (two.so_far clean);
+    sees = λ clean.
+        let second = two.sees clean in
+        let first = one.sees (two.so_far clean) in (
+          λ open_is t held.
+              let open_b = second.1.0.was_open open_is in
+              let held_b : Holds b.now t = subst (λ (db : Database). Holds db t) (sym (first.1.0.now open_b)) held in
+              ap (make x) (second.0 open_is t held_b) ∙ (λ i. make (first.0 open_b t held i) (q (first.0 open_b t held i) t)),
+          (stays_then a b c first.1.0 second.1.0, tt),
+        );
+  }
+
 -- rows that a query read, as they are shown
 pub seen_shown : {A X E : Type 0} (law : Tables → Type 0) (q : Tables → A) (f : A → X) (x : A) (a b : State) (result : Result X E) → ((t : Tables) → Holds a.now t → law t → x ≡ q t) → IsUnchanged a b → IfOk result (λ y. y ≡ f x)
     → SeesWhere law (λ t. f (q t)) a b result

@@ -9,7 +9,7 @@ use Rattle.sqlite.specs.declared.transaction.Transaction.{Transaction}
 use Rattle.statements.specs.Steps.{Moves, WritesBy}
 use Rattle.statements.specs.declared.rows.Workspace.{Workspace}
 use Rattle.statements.specs.Finds.{workspace_of, size_of}
-use Rattle.statements.specs.Tables.{Tables, Holds}
+use Rattle.statements.specs.Tables.{Tables, Holds, our_tables}
 use Rattle.statements.proofs.Frames.{left_then}
 use Rattle.tables.specs.Inner.Edits.{if_there, numbered_rows, FitsTwins, TakesVersion}
 use Rattle.machine.specs.declared.records.Version.{Version}
@@ -26,7 +26,7 @@ pub moves_then : {X E : Type 0} (f g : Tables → Tables) (a b c : State) (resul
     → OnOk result (Moves (λ t. g (f t)) a c) × OnErr result (KeepsCommit a c)
 moves_then f g a b c (Ok x) one last =
     let two = last.0 in
-    (record { rows = λ t h. two.rows (f t) (one.rows t h); others = λ t h. left_then a.now b.now c.now (one.others t h) (two.others (f t) (one.rows t h)); was_open = one.was_open; is_open = two.is_open; committed = two.committed ∙ one.committed; inside = two.inside }, tt)
+    (record { rows = λ t h. two.rows (f t) (one.rows t h); others = λ t h. left_then our_tables a.now b.now c.now (one.others t h) (two.others (f t) (one.rows t h)); was_open = one.was_open; is_open = two.is_open; committed = two.committed ∙ one.committed; inside = two.inside }, tt)
 moves_then f g a b c (Err e) one last = (tt, record { was_open = λ _. one.was_open; committed = λ is. last.1.committed is ∙ one.committed })
 
 -- what was done of a workspace that was found is what comes of one that is there

@@ -50,7 +50,8 @@ use Rattle.tables.proofs.Finding.{unit_found, text_found}
 use Rattle.tables.proofs.Listed.{versions_told, runs_told, versions_rise, runs_rise, no_versions_after, no_runs_after, workspaces_told}
 use Rattle.tables.proofs.OrgLists.{organizations_told}
 use Rattle.tables.proofs.TokenLists.{tokens_told}
-use Rattle.tables.proofs.Stores.{store_by, records_by, store_changed_own, store_changed_other, store_changed_keeps, store_org_done, store_org_other, store_org_keeps, store_token_done, store_token_other, store_token_keeps}
+use Rattle.tables.proofs.Databases.{store_by, records_by}
+use Rattle.tables.proofs.Stores.{store_changed_own, store_changed_other, store_changed_keeps, store_org_done, store_org_other, store_org_keeps, store_token_done, store_token_other, store_token_keeps}
 
 module _ (db : Database) (a : State) (s : IsSoundKeep db a) where
   abbrev now : Tables

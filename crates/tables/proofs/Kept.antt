@@ -1,5 +1,5 @@
 -- Sound tables stay sound.
-use Rattle.std.proofs.Common.{◌≡◌, ℕ, ◌≤◌, nat_lt, Bool, true, false, ◌||◌, List, [], ◌∷◌, ◌++◌, find, length, is_some, Option, Some, None, IfSome, IsTrue, option_map, refl, sym, ap, subst, ◌∙◌, arith}
+use Rattle.std.proofs.Common.{◌≡◌, ℕ, ◌≤◌, nat_lt, Bool, true, false, List, [], ◌∷◌, ◌++◌, find, length, is_some, Option, Some, None, IfSome, IsTrue, option_map, refl, sym, ap, subst, ◌∙◌, arith}
 use Rattle.std.specs.Str.{bytes_eq}
 use Rattle.std.specs.List.{AllByRecursion, list_any}
 use Rattle.std.specs.FinMap.{get, empty, len-entries, len-empty}
@@ -40,7 +40,7 @@ use Rattle.tables.proofs.Sets.{Puts, workspace_there, one_of, put_own, put_other
 use Rattle.tables.proofs.Edits.{changed_puts}
 use Rattle.tables.proofs.Lawful.{limit_there, limit_is}
 use Rattle.tables.proofs.Counting.{count_within}
-use Rattle.tables.proofs.Owned.{AreOwned, changed_are_owned, any_pushed, pair_turned}
+use Rattle.tables.proofs.Owned.{AreOwned, changed_are_owned, any_pushed, last_found, pair_turned}
 use Rattle.tables.proofs.Operators.{org_own, org_other, none_bound}
 
 -- the laws of the rows of organizations and tokens, and of how far these reach, alone
@@ -94,7 +94,7 @@ org_there t org cap e = any_is_found (is_org org) t.orgs ∙ sym (some_mapped (f
 pub changed_keeps : (key_of : List ℕ → List ℕ) (org ws : List ℕ) (t : Tables) → IsSound t → (change : Change) → TakesEdit key_of org ws change.edit t → (o : Organization) → IsTrue (is_ws_name ws) → record_of t org ≡ Some o
     → IsDue (seen_in o ws) change → IsSound (changed_rows key_of org ws change t)
 changed_keeps key_of org ws t sound change takes o named there due = record {
-  told = told_changed key_of org ws t sound 2 sound.told change takes;
+  told = told_changed key_of org ws t sound 3 sound.told change takes;
   orgs_apart = order.orgs_apart;
   tokens_apart = order.tokens_apart;
   digests_apart = order.digests_apart;
@@ -103,7 +103,10 @@ changed_keeps key_of org ws t sound change takes o named there due = record {
   tokens_bound = order.tokens_bound;
   tokens_owned = order.tokens_owned;
   bounds_owned = order.bounds_owned;
+  keepings_apart = owned.keepings_apart;
+  wss_kept = owned.wss_kept;
   wss_owned = owned.wss_owned;
+  keepings_owned = owned.keepings_owned;
   versions_owned = owned.versions_owned;
   runs_owned = owned.runs_owned;
   org_rows = order.org_rows;
@@ -184,6 +187,9 @@ org_added_keeps org limit t sound named most none = record {
   bounds_owned = sound.bounds_owned;
   tokens_owned = all_weaker (λ x. list_any (is_org x.1.org) t.orgs ≡ true) (λ x. list_any (is_org x.1.org) (t.orgs ++ new ∷ []) ≡ true) (λ x e. any_pushed (is_org x.1.org) t.orgs new e) t.tokens sound.tokens_owned;
   wss_owned = all_weaker (λ x. list_any (is_org x.1.org) t.orgs ≡ true) (λ x. list_any (is_org x.1.org) (t.orgs ++ new ∷ []) ≡ true) (λ x e. any_pushed (is_org x.1.org) t.orgs new e) t.wss sound.wss_owned;
+  keepings_apart = sound.keepings_apart;
+  wss_kept = sound.wss_kept;
+  keepings_owned = sound.keepings_owned;
   versions_owned = sound.versions_owned;
   runs_owned = sound.runs_owned;
   org_rows = all-append IsOrgRow t.orgs (new ∷ []) sound.org_rows (record { named = named; limit = most }, tt);
@@ -193,7 +199,7 @@ org_added_keeps org limit t sound named most none = record {
   places = texts.places;
   placed = texts.placed;
   texts = texts.texts;
-  workspaces = λ a w v e. sound.workspaces a w v (sym (workspace_carried t (org_row_added org limit t) (record { wss = refl; versions = refl; runs = refl; pages = refl; vpages = refl }) a w) ∙ e);
+  workspaces = λ a w v e. sound.workspaces a w v (sym (workspace_carried t (org_row_added org limit t) (record { wss = refl; versions = refl; runs = refl; pages = refl; vpages = refl; kept = λ o w. refl }) a w) ∙ e);
 }
   where
     new : Kept OrgRow
@@ -210,14 +216,6 @@ org_added_keeps org limit t sound named most none = record {
         let here : record_of (org_row_added org limit t) org ≡ Some o = subst (λ (x : List ℕ). record_of (org_row_added org limit t) x ≡ Some o) (same_name q org same) e in
         subst (λ (r : Organization). count_of r ≤ 100_000) (one_of (new_organization limit) o (sym (org_own t sound org limit none) ∙ here)) (subst (λ (n : ℕ). n ≤ 100_000) (sym none_yet) (omega arith))
     within q o e false other = sound.counts q o (sym (org_other t sound org limit q (names_apart q org other)) ∙ e)
-
-last_found : {X : Type 0} (p : X → Bool) (xs : List X) (x : X) → p x ≡ true → list_any p (xs ++ x ∷ []) ≡ true
-last_found p [] x e = ap (λ (b : Bool). b || false) e
-last_found p (y ∷ ys) x e = go (p y) (last_found p ys x e)
-  where
-    go : (b : Bool) → list_any p (ys ++ x ∷ []) ≡ true → (b || list_any p (ys ++ x ∷ [])) ≡ true
-    go true more = refl
-    go false more = more
 
 -- a token more leaves sound tables sound
 pub token_added_keeps : (org name digest : List ℕ) (role : Role) (bounds : Bounds) (t : Tables) → IsSound t → IsTrue (is_org_name name) → length digest ≡ 32 → IfSome bounds.until IsMoment → IsTrue (is_prefix bounds.prefix) → (cap : ℕ) → cap_of org t ≡ Some cap
@@ -243,6 +241,9 @@ token_added_keeps org name digest role bounds t sound named long ends begins cap
       (all_weaker (λ x. list_any (is_token x.1.org x.1.name) t.tokens ≡ true) (λ x. list_any (is_token x.1.org x.1.name) (t.tokens ++ new ∷ []) ≡ true) (λ x e. any_pushed (is_token x.1.org x.1.name) t.tokens new e) t.bounds sound.bounds_owned)
       (last_found (is_token org name) t.tokens new (pair_is org name), tt);
   wss_owned = sound.wss_owned;
+  keepings_apart = sound.keepings_apart;
+  wss_kept = sound.wss_kept;
+  keepings_owned = sound.keepings_owned;
   versions_owned = sound.versions_owned;
   runs_owned = sound.runs_owned;
   org_rows = sound.org_rows;
@@ -265,7 +266,7 @@ token_added_keeps org name digest role bounds t sound named long ends begins cap
     no_such = none_mapped (λ (x : Kept TokenRow). x.1.it.role) (find (is_token org name) t.tokens) unnamed
 
     same_rows : KeepsWorkspaces t (token_added org name digest role bounds.until bounds.prefix t)
-    same_rows = record { wss = refl; versions = refl; runs = refl; pages = refl; vpages = refl }
+    same_rows = record { wss = refl; versions = refl; runs = refl; pages = refl; vpages = refl; kept = λ o w. refl }
 
     texts : AreTexts (token_added org name digest role bounds.until bounds.prefix t)
     texts = texts_carried t (token_added org name digest role bounds.until bounds.prefix t) refl refl refl (sound_texts t sound)
@@ -281,7 +282,7 @@ token_added_keeps org name digest role bounds t sound named long ends begins cap
 pub no_record : (editions : List (Kept ℕ)) (org : List ℕ) → record_of (record no_rows { editions = editions }) org ≡ None
 no_record editions org = refl
 
-pub no_rows_are_sound : (editions : List (Kept ℕ)) → TellsEdition 2 (record no_rows { editions = editions }) → IsSound (record no_rows { editions = editions })
+pub no_rows_are_sound : (editions : List (Kept ℕ)) → TellsEdition 3 (record no_rows { editions = editions }) → IsSound (record no_rows { editions = editions })
 no_rows_are_sound editions told = record {
   told = told;
   orgs_apart = tt;
@@ -290,9 +291,12 @@ no_rows_are_sound editions told = record {
   wss_apart = tt;
   bounds_apart = tt;
   tokens_bound = tt;
+  keepings_apart = tt;
+  wss_kept = tt;
   tokens_owned = tt;
   bounds_owned = tt;
   wss_owned = tt;
+  keepings_owned = tt;
   versions_owned = tt;
   runs_owned = tt;
   org_rows = tt;

@@ -6,12 +6,12 @@ use Rattle.machine.specs.declared.acts.Change.{Change}
 use Rattle.statements.specs.declared.rows.Holder.TheVariants.{Lock}
 use Rattle.statements.specs.declared.rows.Workspace.{Workspace as WorkspaceCells}
 use Rattle.statements.specs.Tables.{Tables}
-use Rattle.statements.specs.Changes.{with_auto, held_by, released_from, ws_changed, run_acted}
+use Rattle.statements.specs.Changes.{held_by, released_from, ws_changed, run_acted}
 use Rattle.statements.specs.Finds.{workspace_of}
 use Rattle.tables.specs.Sound.{IsSound}
 use Rattle.tables.specs.Inner.Edits.{all_gone, removed_rows, made_rows, if_there, run_put, run_counted, freed_rows, edited_rows, started_rows, changed_rows, TakesEdit}
 use Rattle.tables.proofs.TextRows.{AreTexts, sound_texts, texts_carried}
-use Rattle.tables.proofs.VersionEdits.{all_go, versions_come}
+use Rattle.tables.proofs.VersionEdits.{all_go, settings_leave, versions_come}
 
 there_texts : (w : Option WorkspaceCells) (after t : Tables) → AreTexts t → AreTexts after → AreTexts (if_there w after t)
 there_texts None after t texts more = texts
@@ -23,8 +23,8 @@ freed_texts false org ws t texts = texts
 
 module _ (key_of : List ℕ → List ℕ) (org ws : List ℕ) (t : Tables) (sound : IsSound t) where
   edited_texts : (edit : Edit) → TakesEdit key_of org ws edit t → AreTexts (edited_rows key_of org ws edit t)
-  edited_texts (Make settings) takes = texts_carried (all_gone org ws t) (made_rows org ws settings.auto_apply t) refl refl refl (all_go org ws t sound).texts
-  edited_texts (Configure settings) takes = texts_carried t (ws_changed (with_auto settings.auto_apply) org ws t) refl refl refl (sound_texts t sound)
+  edited_texts (Make settings) takes = texts_carried (all_gone org ws t) (made_rows org ws settings t) refl refl refl (all_go org ws t sound).texts
+  edited_texts (Configure settings outgoing) takes = (settings_leave org ws t sound settings outgoing).texts
   edited_texts Remove takes = texts_carried (all_gone org ws t) (removed_rows org ws t) refl refl refl (all_go org ws t sound).texts
   edited_texts (AddVersion version outgoing) takes = (versions_come org ws t sound key_of version takes outgoing).texts
   edited_texts Purge takes = (all_go org ws t sound).texts

@@ -1,6 +1,7 @@
 pub mod Changes
 pub mod Climbing
 pub mod Counting
+pub mod Databases
 pub mod Edits
 pub mod Examples
 pub mod Finding

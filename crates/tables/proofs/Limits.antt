@@ -40,7 +40,7 @@ module _ (org : List ℕ) (limit : ℕ) where
         (find_unchanged (is_org q) (is_org org) (λ x e. apart_name x.1.name q (λ same. apart (sym same ∙ same_name x.1.name org e))) recapped (λ x. refl) t.orgs)
 
     same_rows : KeepsWorkspaces t (org_capped org limit t)
-    same_rows = record { wss = refl; versions = refl; runs = refl; pages = refl; vpages = refl }
+    same_rows = record { wss = refl; versions = refl; runs = refl; pages = refl; vpages = refl; kept = λ o w. refl }
 
     pub limit_absent : cap_of org t ≡ None → effect Absent (record_of t org) ≡ org_limited limit (record_of t org)
     limit_absent e = subst (λ (r : Option Organization). effect Absent r ≡ org_limited limit r) (sym (record_missing t org e)) refl
@@ -69,6 +69,9 @@ module _ (org : List ℕ) (limit : ℕ) where
         bounds_owned = sound.bounds_owned;
         tokens_owned = all_weaker (λ x. list_any (is_org x.1.org) t.orgs ≡ true) (λ x. list_any (is_org x.1.org) (update_where (is_org org) recapped t.orgs) ≡ true) (λ x h. still x.1.org ∙ h) t.tokens sound.tokens_owned;
         wss_owned = all_weaker (λ x. list_any (is_org x.1.org) t.orgs ≡ true) (λ x. list_any (is_org x.1.org) (update_where (is_org org) recapped t.orgs) ≡ true) (λ x h. still x.1.org ∙ h) t.wss sound.wss_owned;
+        keepings_apart = sound.keepings_apart;
+        wss_kept = sound.wss_kept;
+        keepings_owned = sound.keepings_owned;
         versions_owned = sound.versions_owned;
         runs_owned = sound.runs_owned;
         org_rows = all_updated IsOrgRow (is_org org) recapped (λ x is. record { named = is.named; limit = most }) t.orgs sound.org_rows;

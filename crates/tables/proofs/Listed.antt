@@ -22,7 +22,7 @@ use Rattle.statements.specs.Tables.{Tables}
 use Rattle.statements.specs.Changes.{is_ws_of, is_version_of, is_run_of}
 use Rattle.statements.specs.Finds.{cap_of, workspace_of}
 use Rattle.statements.specs.Listings.{is_behind, workspaces_by_name, named_row as named_at, version_head_of, VersionsRise, RunsRise}
-use Rattle.tables.specs.Records.{settings_of_cells, holder_of_cells, version_at, run_of_cells, versions_at, runs_at, workspace_at, workspaces_at, organization_at, record_of}
+use Rattle.tables.specs.Records.{settings_of_cells, holder_of_cells, keep_at, version_at, run_of_cells, versions_at, runs_at, workspace_at, workspaces_at, organization_at, record_of}
 use Rattle.tables.specs.Sound.{IsSound}
 use Rattle.texts.specs.Texts.{IsWhole}
 use Rattle.texts.proofs.PieceLaws.{whole_size}
@@ -133,7 +133,7 @@ module _ (t : Tables) (org : List ℕ) where
   -- a row as it is shown is the workspace as it is shown
   row_shown : (e : List ℕ × WorkspaceCells) → ws_row_in org t (named_at e) ≡ showing.row_of e.0 (showing.shown_of (workspace_at t org e.0 e.1))
   row_shown e =
-      ap (λ (version : Option ℕ). record { settings = settings_of_cells e.1; holder = showing.holder_id (holder_of_cells e.1.holder); name = e.0; version = version })
+      ap (λ (version : Option ℕ). record { settings = settings_of_cells (keep_at t org e.0) e.1; holder = showing.holder_id (holder_of_cells e.1.holder); name = e.0; version = version })
       (newest_number_found t org e.0)
 
   record_entries : entries (workspaces_at t org) ≡ map (λ (e : List ℕ × WorkspaceCells). (e.0, workspace_at t org e.0 e.1)) (entries (workspaces_by_name org t))

@@ -156,7 +156,7 @@ module _ (t : Tables) (sound : IsSound t) (org : List ℕ) (limit : ℕ) where
   org_own e =
       ap (λ (o : Option (Kept OrgRow)). option_map (organization_at (rows.org_row_added org limit t) org) (option_map (λ (x : Kept OrgRow). x.1.cap) o))
       (find_pushed (is_org org) t.orgs (next_key id_of t.orgs, record { name = org; cap = limit }) (none_mapped (λ (x : Kept OrgRow). x.1.cap) _ e) (name_is org))
-      ∙ organization_carried t (rows.org_row_added org limit t) (record { wss = refl; versions = refl; runs = refl; pages = refl; vpages = refl }) refl refl org (Some limit)
+      ∙ organization_carried t (rows.org_row_added org limit t) (record { wss = refl; versions = refl; runs = refl; pages = refl; vpages = refl; kept = λ o w. refl }) refl refl org (Some limit)
       ∙ (λ i. Some (record {
         limit = limit;
         tokens = from_entries {R = name_cmp} (map (λ (x : Kept TokenRow). (x.1.name, token_at t x.1)) (no_tokens t sound org e i));
@@ -171,7 +171,7 @@ module _ (t : Tables) (sound : IsSound t) (org : List ℕ) (limit : ℕ) where
   org_other q apart =
       ap (λ (o : Option (Kept OrgRow)). option_map (organization_at (rows.org_row_added org limit t) q) (option_map (λ (x : Kept OrgRow). x.1.cap) o))
       (find_pushed_other (is_org q) t.orgs (next_key id_of t.orgs, record { name = org; cap = limit }) (apart_name org q (λ same. apart (sym same))))
-      ∙ organization_carried t (rows.org_row_added org limit t) (record { wss = refl; versions = refl; runs = refl; pages = refl; vpages = refl }) refl refl q (cap_of q t)
+      ∙ organization_carried t (rows.org_row_added org limit t) (record { wss = refl; versions = refl; runs = refl; pages = refl; vpages = refl; kept = λ o w. refl }) refl refl q (cap_of q t)
 
 -- ---- a token more
 
@@ -208,7 +208,7 @@ module _ (t : Tables) (sound : IsSound t) (org name digest : List ℕ) (role : R
   added = rows.token_added org name digest role bounds.until bounds.prefix t
 
   same_rows : KeepsWorkspaces t added
-  same_rows = record { wss = refl; versions = refl; runs = refl; pages = refl; vpages = refl }
+  same_rows = record { wss = refl; versions = refl; runs = refl; pages = refl; vpages = refl; kept = λ o w. refl }
 
   abbrev new_row : Kept TokenRow
   new_row = (next_key id_of t.tokens, record { org = org; name = name; it = record { digest = digest; role = role } })

@@ -9,6 +9,7 @@ use Rattle.sqlite_keyed.proofs.ListLemmas.{all_weaker, all_both, all-filter, all
 use Rattle.sqlite_keyed.proofs.RuleLemmas.{apart_update, apart_delete}
 use Rattle.sqlite_keyed.proofs.SliceLemmas.{any_is_found}
 use Rattle.basis.specs.declared.rows.RunAsk.{RunAsk}
+use Rattle.basis.specs.declared.rows.Settings.{Settings}
 use Rattle.basis.specs.declared.runs.RunStatus.{RunStatus}
 use Rattle.basis.specs.declared.runs.RunStatus.TheVariants.{Pending, Planning}
 use Rattle.basis.specs.declared.runs.RunAction.{RunAction}
@@ -19,18 +20,18 @@ use Rattle.machine.specs.declared.records.Version.{Version}
 use Rattle.statements.specs.declared.rows.Holder.TheVariants.{Nobody, Lock, Run as HeldByRun}
 use Rattle.statements.specs.declared.rows.Workspace.{Workspace as WorkspaceCells}
 use Rattle.statements.specs.declared.rows.Run.{Run as RunCells}
-use Rattle.statements.specs.Rows.{Kept, id_of, WsRow, VersionRow, RunRow}
+use Rattle.statements.specs.Rows.{Kept, id_of, WsRow, KeepingRow, VersionRow, RunRow}
 use Rattle.statements.specs.Tables.{Tables}
-use Rattle.statements.specs.Changes.{is_org, is_ws, is_version_of, is_run_of, is_run_row, with_auto, held_by, released_from, with_next_version, with_next_run, ws_changed, ws_added, ws_removed, workspace_made, runs_removed, run_made, run_added, run_changed_to, run_acted}
+use Rattle.statements.specs.Changes.{is_org, is_ws, is_keeping, HasNoKeeping, keeping_changed, is_version_of, is_run_of, is_run_row, with_auto, held_by, released_from, with_next_version, with_next_run, ws_changed, ws_added, ws_removed, workspace_made, runs_removed, run_made, run_added, run_changed_to, run_acted}
 use Rattle.statements.specs.Finds.{workspace_of}
 use Rattle.statements.proofs.Found.{all_updated, apart_pushed}
 use Rattle.tables.specs.Sound.{IsSound}
-use Rattle.tables.specs.Inner.Edits.{all_gone, removed_rows, made_rows, numbered_rows, versioned_rows, if_there, run_put, run_counted, freed_rows, edited_rows, started_rows, changed_rows, TakesVersion, TakesEdit}
+use Rattle.tables.specs.Inner.Edits.{all_gone, removed_rows, made_rows, settings_rows, configured_rows, numbered_rows, versioned_rows, if_there, run_put, run_counted, freed_rows, edited_rows, started_rows, changed_rows, TakesVersion, TakesEdit}
 use Rattle.tables.specs.Records.{versions_at}
 use Rattle.machine.specs.Changes.{left_above}
 use Rattle.tables.proofs.TextLists.{all_deleted}
 use Rattle.tables.proofs.TextRows.{Becomes, versions_counted}
-use Rattle.tables.proofs.VersionEdits.{all_go, versions_come}
+use Rattle.tables.proofs.VersionEdits.{all_go, settings_leave, versions_come}
 use Rattle.tables.proofs.Lists.{any_updated}
 use Rattle.tables.proofs.Names.{is_pair, pair_is, pair_first, pair_second, pair_apart}
 
@@ -59,19 +60,38 @@ module _ {X : Type 0} where
       go true e more = refl
       go false e more = more e
 
+  pub last_found : (p : X → Bool) (xs : List X) (x : X) → p x ≡ true → list_any p (xs ++ x ∷ []) ≡ true
+  last_found p [] x e = ap (λ (b : Bool). b || false) e
+  last_found p (y ∷ ys) x e = go (p y) (last_found p ys x e)
+    where
+      go : (b : Bool) → list_any p (ys ++ x ∷ []) ≡ true → (b || list_any p (ys ++ x ∷ [])) ≡ true
+      go true more = refl
+      go false more = more
+
 pub pair_turned : (a b p q : List ℕ) → is_pair a b p q ≡ false → is_pair p q a b ≡ false
 pair_turned a b p q e = false_from_ne_true (is_pair p q a b) (λ same.
     let none : ⊥ = cc (sym (subst (λ (x : List ℕ). is_pair a b x q ≡ true) (pair_first p q a b same) (subst (λ (y : List ℕ). is_pair a b a y ≡ true) (pair_second p q a b same) (pair_is a b))) ∙ e) in none)
 
--- a workspace has one row, and no row lacks the one that it belongs to
+-- a workspace has one row, and one of keeping, and no row lacks the one that it belongs to
 pub record AreOwned (t : Tables) : Type 0 where
   pub wss_apart : AreApart (λ a b. is_ws a.1.org a.1.name b) t.wss
+  pub keepings_apart : AreApart (λ a b. is_keeping a.1.org a.1.ws b) t.keepings
+  pub wss_kept : AllByRecursion (λ x. list_any (is_keeping x.1.org x.1.name) t.keepings ≡ true) t.wss
   pub wss_owned : AllByRecursion (λ x. list_any (is_org x.1.org) t.orgs ≡ true) t.wss
+  pub keepings_owned : AllByRecursion (λ x. list_any (is_ws x.1.org x.1.ws) t.wss ≡ true) t.keepings
   pub versions_owned : AllByRecursion (λ x. list_any (is_ws x.1.org x.1.ws) t.wss ≡ true) t.versions
   pub runs_owned : AllByRecursion (λ x. list_any (is_ws x.1.org x.1.ws) t.wss ≡ true) t.runs
 
 pub sound_are_owned : (t : Tables) → IsSound t → AreOwned t
-sound_are_owned t sound = record { wss_apart = sound.wss_apart; wss_owned = sound.wss_owned; versions_owned = sound.versions_owned; runs_owned = sound.runs_owned }
+sound_are_owned t sound = record {
+  wss_apart = sound.wss_apart;
+  keepings_apart = sound.keepings_apart;
+  wss_kept = sound.wss_kept;
+  wss_owned = sound.wss_owned;
+  keepings_owned = sound.keepings_owned;
+  versions_owned = sound.versions_owned;
+  runs_owned = sound.runs_owned;
+}
 
 module _ (org ws : List ℕ) (t : Tables) (owned : AreOwned t) where
   owned_row : (g : WorkspaceCells → WorkspaceCells) → AreOwned (ws_changed g org ws t)
@@ -79,17 +99,38 @@ module _ (org ws : List ℕ) (t : Tables) (owned : AreOwned t) where
       let f : Kept WsRow → Kept WsRow = λ x. (x.0, record x.1 { it = g x.1.it }) in
       record {
         wss_apart = apart_update (λ a b. is_ws a.1.org a.1.name b) (is_ws org ws) (λ x. (x.0, record x.1 { it = g x.1.it })) (λ a b. refl) (λ a b. refl) t.wss owned.wss_apart;
+        keepings_apart = owned.keepings_apart;
+        wss_kept = all_updated (λ x. list_any (is_keeping x.1.org x.1.name) t.keepings ≡ true) (is_ws org ws) (λ x. (x.0, record x.1 { it = g x.1.it })) (λ x h. h) t.wss owned.wss_kept;
         wss_owned = all_updated (λ x. list_any (is_org x.1.org) t.orgs ≡ true) (is_ws org ws) (λ x. (x.0, record x.1 { it = g x.1.it })) (λ x h. h) t.wss owned.wss_owned;
+        keepings_owned = all_weaker (λ x. list_any (is_ws x.1.org x.1.ws) t.wss ≡ true) (λ x. list_any (is_ws x.1.org x.1.ws) (update_where (is_ws org ws) (λ y. (y.0, record y.1 { it = g y.1.it })) t.wss) ≡ true)
+            (λ x h. any_updated (is_ws x.1.org x.1.ws) (is_ws org ws) (λ y. (y.0, record y.1 { it = g y.1.it })) (λ y. refl) t.wss ∙ h) t.keepings owned.keepings_owned;
         versions_owned = all_weaker (λ x. list_any (is_ws x.1.org x.1.ws) t.wss ≡ true) (λ x. list_any (is_ws x.1.org x.1.ws) (update_where (is_ws org ws) (λ y. (y.0, record y.1 { it = g y.1.it })) t.wss) ≡ true)
             (λ x h. any_updated (is_ws x.1.org x.1.ws) (is_ws org ws) (λ y. (y.0, record y.1 { it = g y.1.it })) (λ y. refl) t.wss ∙ h) t.versions owned.versions_owned;
         runs_owned = all_weaker (λ x. list_any (is_ws x.1.org x.1.ws) t.wss ≡ true) (λ x. list_any (is_ws x.1.org x.1.ws) (update_where (is_ws org ws) (λ y. (y.0, record y.1 { it = g y.1.it })) t.wss) ≡ true)
             (λ x h. any_updated (is_ws x.1.org x.1.ws) (is_ws org ws) (λ y. (y.0, record y.1 { it = g y.1.it })) (λ y. refl) t.wss ∙ h) t.runs owned.runs_owned;
       }
 
+  owned_kept : (keep : ℕ) → AreOwned (keeping_changed keep org ws t)
+  owned_kept keep = record {
+    wss_apart = owned.wss_apart;
+    keepings_apart = apart_update (λ a b. is_keeping a.1.org a.1.ws b) (is_keeping org ws) (λ x. (x.0, record x.1 { keep = keep })) (λ a b. refl) (λ a b. refl) t.keepings owned.keepings_apart;
+    wss_kept = all_weaker (λ x. list_any (is_keeping x.1.org x.1.name) t.keepings ≡ true) (λ x. list_any (is_keeping x.1.org x.1.name) (update_where (is_keeping org ws) (λ y. (y.0, record y.1 { keep = keep })) t.keepings) ≡ true)
+        (λ x h. any_updated (is_keeping x.1.org x.1.name) (is_keeping org ws) (λ y. (y.0, record y.1 { keep = keep })) (λ y. refl) t.keepings ∙ h) t.wss owned.wss_kept;
+    wss_owned = owned.wss_owned;
+    keepings_owned = all_updated (λ x. list_any (is_ws x.1.org x.1.ws) t.wss ≡ true) (is_keeping org ws) (λ x. (x.0, record x.1 { keep = keep })) (λ x h. h) t.keepings owned.keepings_owned;
+    versions_owned = owned.versions_owned;
+    runs_owned = owned.runs_owned;
+  }
+
   -- where versions of one workspace come and go
   owned_becomes : (f : List Version → List Version) (o w : List ℕ) (u : Tables) → Becomes f o w t u → AreOwned u
   owned_becomes f o w u made = record {
     wss_apart = subst (AreApart (λ (a b : Kept WsRow). is_ws a.1.org a.1.name b)) (sym made.rest.wss) owned.wss_apart;
+    keepings_apart = subst (AreApart (λ (a b : Kept KeepingRow). is_keeping a.1.org a.1.ws b)) (sym made.rest.keepings) owned.keepings_apart;
+    wss_kept = subst (λ ks. AllByRecursion (λ (x : Kept WsRow). list_any (is_keeping x.1.org x.1.name) ks ≡ true) u.wss) (sym made.rest.keepings)
+        (subst (AllByRecursion (λ (x : Kept WsRow). list_any (is_keeping x.1.org x.1.name) t.keepings ≡ true)) (sym made.rest.wss) owned.wss_kept);
+    keepings_owned = subst (λ wss. AllByRecursion (λ (x : Kept KeepingRow). list_any (is_ws x.1.org x.1.ws) wss ≡ true) u.keepings) (sym made.rest.wss)
+        (subst (AllByRecursion (λ (x : Kept KeepingRow). list_any (is_ws x.1.org x.1.ws) t.wss ≡ true)) (sym made.rest.keepings) owned.keepings_owned);
     wss_owned = subst (λ orgs. AllByRecursion (λ (x : Kept WsRow). list_any (is_org x.1.org) orgs ≡ true) u.wss) (sym made.rest.orgs) (subst (AllByRecursion (λ (x : Kept WsRow). list_any (is_org x.1.org) t.orgs ≡ true)) (sym made.rest.wss) owned.wss_owned);
     versions_owned = subst (λ wss. AllByRecursion (λ (x : Kept VersionRow). list_any (is_ws x.1.org x.1.ws) wss ≡ true) u.versions) (sym made.rest.wss) (made.owned owned.versions_owned);
     runs_owned = subst (λ wss. AllByRecursion (λ (x : Kept RunRow). list_any (is_ws x.1.org x.1.ws) wss ≡ true) u.runs) (sym made.rest.wss) (subst (AllByRecursion (λ (x : Kept RunRow). list_any (is_ws x.1.org x.1.ws) t.wss ≡ true)) (sym made.rest.runs) owned.runs_owned);
@@ -98,7 +139,10 @@ module _ (org ws : List ℕ) (t : Tables) (owned : AreOwned t) where
   owned_begun : (n : ℕ) → AreOwned (run_changed_to Planning org ws n t)
   owned_begun n = record {
     wss_apart = owned.wss_apart;
+    keepings_apart = owned.keepings_apart;
+    wss_kept = owned.wss_kept;
     wss_owned = owned.wss_owned;
+    keepings_owned = owned.keepings_owned;
     versions_owned = owned.versions_owned;
     runs_owned = all_updated (λ x. list_any (is_ws x.1.org x.1.ws) t.wss ≡ true) (is_run_row org ws n) (λ x. (x.0, record x.1 { it = record x.1.it { status = Planning } })) (λ x h. h) t.runs owned.runs_owned;
   }
@@ -106,7 +150,10 @@ module _ (org ws : List ℕ) (t : Tables) (owned : AreOwned t) where
   owned_run : (r : RunCells) → list_any (is_ws org ws) t.wss ≡ true → AreOwned (run_added org ws r t)
   owned_run r there = record {
     wss_apart = owned.wss_apart;
+    keepings_apart = owned.keepings_apart;
+    wss_kept = owned.wss_kept;
     wss_owned = owned.wss_owned;
+    keepings_owned = owned.keepings_owned;
     versions_owned = owned.versions_owned;
     runs_owned = all-append (λ x. list_any (is_ws x.1.org x.1.ws) t.wss ≡ true) t.runs ((next_key id_of t.runs, record { org = org; ws = ws; it = r }) ∷ []) owned.runs_owned (there, tt);
   }
@@ -114,7 +161,10 @@ module _ (org ws : List ℕ) (t : Tables) (owned : AreOwned t) where
   owned_acted : (status : RunStatus) (action : RunAction) (n : ℕ) → AreOwned (run_acted status action org ws n t)
   owned_acted status action n = record {
     wss_apart = owned.wss_apart;
+    keepings_apart = owned.keepings_apart;
+    wss_kept = owned.wss_kept;
     wss_owned = owned.wss_owned;
+    keepings_owned = owned.keepings_owned;
     versions_owned = owned.versions_owned;
     runs_owned = all_updated (λ x. list_any (is_ws x.1.org x.1.ws) t.wss ≡ true) (is_run_row org ws n) (λ x. (x.0, record x.1 { it = record x.1.it { status = status; action = Some action } })) (λ x h. h) t.runs owned.runs_owned;
   }
@@ -123,7 +173,14 @@ module _ (org ws : List ℕ) (t : Tables) (owned : AreOwned t) where
   owned_taken : versions_at t org ws ≡ [] → AreOwned (ws_removed org ws (runs_removed org ws t))
   owned_taken none = record {
     wss_apart = apart_delete (λ a b. is_ws a.1.org a.1.name b) (is_ws org ws) t.wss owned.wss_apart;
+    keepings_apart = apart_delete (λ a b. is_keeping a.1.org a.1.ws b) (is_keeping org ws) t.keepings owned.keepings_apart;
+    wss_kept = all_both (λ x. list_any (is_keeping x.1.org x.1.name) t.keepings ≡ true) (λ x. is_ws org ws x ≡ false) (λ x. list_any (is_keeping x.1.org x.1.name) (delete_where (is_keeping org ws) t.keepings) ≡ true)
+        (λ x h e. any_left (is_keeping x.1.org x.1.name) (is_keeping org ws) (λ y f. pair_apart org ws x.1.org x.1.name y.1.org y.1.ws e f) t.keepings ∙ h) (delete_where (is_ws org ws) t.wss)
+        (all-filter (λ x. list_any (is_keeping x.1.org x.1.name) t.keepings ≡ true) (λ x. not (is_ws org ws x)) t.wss owned.wss_kept) (all_deleted (is_ws org ws) t.wss);
     wss_owned = all-filter (λ x. list_any (is_org x.1.org) t.orgs ≡ true) (λ x. not (is_ws org ws x)) t.wss owned.wss_owned;
+    keepings_owned = all_both (λ x. list_any (is_ws x.1.org x.1.ws) t.wss ≡ true) (λ x. is_keeping org ws x ≡ false) (λ x. list_any (is_ws x.1.org x.1.ws) (delete_where (is_ws org ws) t.wss) ≡ true)
+        (λ x h e. still x.1.org x.1.ws e h) (delete_where (is_keeping org ws) t.keepings)
+        (all-filter (λ x. list_any (is_ws x.1.org x.1.ws) t.wss ≡ true) (λ x. not (is_keeping org ws x)) t.keepings owned.keepings_owned) (all_deleted (is_keeping org ws) t.keepings);
     versions_owned = all_both (λ x. list_any (is_ws x.1.org x.1.ws) t.wss ≡ true) (λ x. is_version_of org ws x ≡ false) (λ x. list_any (is_ws x.1.org x.1.ws) (delete_where (is_ws org ws) t.wss) ≡ true)
         (λ x h e. still x.1.org x.1.ws e h) t.versions owned.versions_owned (none_of (is_version_of org ws) t.versions (let length_none : length (filter (is_version_of org ws) t.versions) ≡ 0 = versions_counted t org ws ∙ ap length none in length_none));
     runs_owned = all_both (λ x. list_any (is_ws x.1.org x.1.ws) t.wss ≡ true) (λ x. is_run_of org ws x ≡ false) (λ x. list_any (is_ws x.1.org x.1.ws) (delete_where (is_ws org ws) t.wss) ≡ true)
@@ -136,17 +193,28 @@ module _ (org ws : List ℕ) (t : Tables) (owned : AreOwned t) where
       still a b e h = any_left (is_ws a b) (is_ws org ws) (λ x f. pair_apart org ws a b x.1.org x.1.name e f) t.wss ∙ h
 
   -- a workspace where there is no row of its name
-  owned_added : (auto : Bool) → AllByRecursion (λ x. is_ws org ws x ≡ false) t.wss → list_any (is_org org) t.orgs ≡ true → AreOwned (ws_added org ws auto t)
-  owned_added auto none there = record {
+  owned_added : (auto : Bool) (keep : ℕ) → AllByRecursion (λ x. is_ws org ws x ≡ false) t.wss → HasNoKeeping org ws t → list_any (is_org org) t.orgs ≡ true → AreOwned (ws_added org ws auto keep t)
+  owned_added auto keep none no_keep there = record {
     wss_apart = apart_pushed (λ a b. is_ws a.1.org a.1.name b) t.wss new owned.wss_apart
         (all_weaker (λ x. is_ws org ws x ≡ false) (λ x. is_ws x.1.org x.1.name new ≡ false) (λ x e. pair_turned org ws x.1.org x.1.name e) t.wss none);
+    keepings_apart = apart_pushed (λ a b. is_keeping a.1.org a.1.ws b) t.keepings new_keep owned.keepings_apart
+        (all_weaker (λ x. is_keeping org ws x ≡ false) (λ x. is_keeping x.1.org x.1.ws new_keep ≡ false) (λ x e. pair_turned org ws x.1.org x.1.ws e) t.keepings no_keep);
+    wss_kept = all-append (λ x. list_any (is_keeping x.1.org x.1.name) (t.keepings ++ new_keep ∷ []) ≡ true) t.wss (new ∷ [])
+        (all_weaker (λ x. list_any (is_keeping x.1.org x.1.name) t.keepings ≡ true) (λ x. list_any (is_keeping x.1.org x.1.name) (t.keepings ++ new_keep ∷ []) ≡ true) (λ x h. any_pushed (is_keeping x.1.org x.1.name) t.keepings new_keep h) t.wss owned.wss_kept)
+        (last_found (is_keeping org ws) t.keepings new_keep (pair_is org ws), tt);
     wss_owned = all-append (λ x. list_any (is_org x.1.org) t.orgs ≡ true) t.wss (new ∷ []) owned.wss_owned (there, tt);
+    keepings_owned = all-append (λ x. list_any (is_ws x.1.org x.1.ws) (t.wss ++ new ∷ []) ≡ true) t.keepings (new_keep ∷ [])
+        (all_weaker (λ x. list_any (is_ws x.1.org x.1.ws) t.wss ≡ true) (λ x. list_any (is_ws x.1.org x.1.ws) (t.wss ++ new ∷ []) ≡ true) (λ x h. any_pushed (is_ws x.1.org x.1.ws) t.wss new h) t.keepings owned.keepings_owned)
+        (last_found (is_ws org ws) t.wss new (pair_is org ws), tt);
     versions_owned = all_weaker (λ x. list_any (is_ws x.1.org x.1.ws) t.wss ≡ true) (λ x. list_any (is_ws x.1.org x.1.ws) (t.wss ++ new ∷ []) ≡ true) (λ x h. any_pushed (is_ws x.1.org x.1.ws) t.wss new h) t.versions owned.versions_owned;
     runs_owned = all_weaker (λ x. list_any (is_ws x.1.org x.1.ws) t.wss ≡ true) (λ x. list_any (is_ws x.1.org x.1.ws) (t.wss ++ new ∷ []) ≡ true) (λ x h. any_pushed (is_ws x.1.org x.1.ws) t.wss new h) t.runs owned.runs_owned;
   }
     where
       new : Kept WsRow
       new = (next_key id_of t.wss, record { org = org; name = ws; it = workspace_made auto })
+
+      new_keep : Kept KeepingRow
+      new_keep = (next_key id_of t.keepings, record { org = org; ws = ws; keep = keep })
 
 module _ (org ws : List ℕ) (t : Tables) (sound : IsSound t) where
   abbrev purged_rows : Tables
@@ -158,9 +226,14 @@ module _ (org ws : List ℕ) (t : Tables) (sound : IsSound t) where
   owned_removed : AreOwned (removed_rows org ws t)
   owned_removed = owned_taken org ws purged_rows owned_purged (all_go org ws t sound).own
 
-  owned_made : (auto : Bool) → list_any (is_org org) t.orgs ≡ true → AreOwned (made_rows org ws auto t)
-  owned_made auto there =
-      owned_added org ws (removed_rows org ws t) owned_removed auto (all_deleted (is_ws org ws) purged_rows.wss) (subst (λ orgs. list_any (is_org org) orgs ≡ true) (sym (all_go org ws t sound).rest.orgs) there)
+  owned_made : (settings : Settings) → list_any (is_org org) t.orgs ≡ true → AreOwned (made_rows org ws settings t)
+  owned_made settings there =
+      owned_added org ws (removed_rows org ws t) owned_removed settings.auto_apply settings.keep_versions (all_deleted (is_ws org ws) purged_rows.wss) (all_deleted (is_keeping org ws) purged_rows.keepings) (subst (λ orgs. list_any (is_org org) orgs ≡ true) (sym (all_go org ws t sound).rest.orgs) there)
+
+  owned_configured : (settings : Settings) (outgoing : Option ℕ) → AreOwned (configured_rows org ws settings outgoing t)
+  owned_configured settings outgoing =
+      owned_becomes org ws (settings_rows org ws settings t) (owned_kept org ws (ws_changed (with_auto settings.auto_apply) org ws t) (owned_row org ws t (sound_are_owned t sound) (with_auto settings.auto_apply)) settings.keep_versions)
+      (left_above outgoing) org ws (configured_rows org ws settings outgoing t) (settings_leave org ws t sound settings outgoing)
 
   owned_versioned : (key_of : List ℕ → List ℕ) (v : Version) (takes : TakesVersion key_of org ws v t) (outgoing : Option ℕ) → AreOwned (versioned_rows key_of org ws v outgoing t)
   owned_versioned key_of v takes outgoing =
@@ -187,8 +260,8 @@ module _ (org ws : List ℕ) where
   owned_freed false t owned = owned
 
   owned_edited : (key_of : List ℕ → List ℕ) (t : Tables) → IsSound t → list_any (is_org org) t.orgs ≡ true → (edit : Edit) → TakesEdit key_of org ws edit t → AreOwned (edited_rows key_of org ws edit t)
-  owned_edited key_of t sound there (Make settings) takes = owned_made org ws t sound settings.auto_apply there
-  owned_edited key_of t sound there (Configure settings) takes = owned_row org ws t (sound_are_owned t sound) (with_auto settings.auto_apply)
+  owned_edited key_of t sound there (Make settings) takes = owned_made org ws t sound settings there
+  owned_edited key_of t sound there (Configure settings outgoing) takes = owned_configured org ws t sound settings outgoing
   owned_edited key_of t sound there Remove takes = owned_removed org ws t sound
   owned_edited key_of t sound there (AddVersion v outgoing) takes = owned_versioned org ws t sound key_of v takes outgoing
   owned_edited key_of t sound there Purge takes = owned_purged org ws t sound

@@ -1,6 +1,7 @@
--- What each write does to the row and the runs of a workspace.
-use Rattle.std.proofs.Common.{◌≡◌, ℕ, Bool, true, false, ◌&&◌, ◌==◌, cond, List, [], ◌∷◌, ◌++◌, map, filter, find, Option, Some, None, option_map, refl, ap, ◌∙◌}
+-- What each write does to the rows and the runs of a workspace.
+use Rattle.std.proofs.Common.{◌≡◌, ℕ, Bool, true, false, ◌&&◌, ◌==◌, cond, List, [], ◌∷◌, ◌++◌, map, filter, find, is_some, Option, Some, None, option_map, refl, ap, ◌∙◌}
 use Rattle.std.specs.Str.{bytes_eq}
+use Rattle.std.specs.Option.{unwrap_or}
 use Rattle.sqlite_keyed.specs.Keyed.{next_key}
 use Rattle.sqlite_keyed.proofs.ListLemmas.{map_same}
 use Rattle.sqlite_keyed.proofs.SliceLemmas.{slice-push_mine, slice-push_other, slice-delete_other, slice-update_mine, slice-update_other}
@@ -12,12 +13,13 @@ use Rattle.machine.specs.Settling.{begun}
 use Rattle.machine.specs.declared.records.Run.{Run}
 use Rattle.statements.specs.declared.rows.Workspace.{Workspace as WorkspaceCells}
 use Rattle.statements.specs.declared.rows.Run.{Run as RunCells}
-use Rattle.statements.specs.Rows.{Kept, id_of, WsRow, RunRow}
+use Rattle.statements.specs.Rows.{Kept, id_of, WsRow, KeepingRow, RunRow}
 use Rattle.statements.specs.Tables.{Tables}
-use Rattle.statements.specs.Changes.{is_ws, ws_changed, ws_added, ws_removed, workspace_made, is_run_of, is_run_row, run_changed_to, run_acted, run_added, runs_removed}
-use Rattle.statements.specs.Finds.{workspace_of}
+use Rattle.statements.specs.Changes.{is_ws, is_keeping, ws_changed, ws_added, ws_removed, keeping_changed, workspace_made, is_run_of, is_run_row, run_changed_to, run_acted, run_added, runs_removed}
+use Rattle.statements.specs.Finds.{workspace_of, keep_of}
 use Rattle.statements.proofs.Found.{find_changed, find_unchanged, find_deleted, find_left, find_pushed, find_pushed_other, filter_deleted}
-use Rattle.tables.specs.Records.{run_of_cells, runs_at}
+use Rattle.basis.specs.declared.numbers.TheConstants.{FIRST_KEPT}
+use Rattle.tables.specs.Records.{run_of_cells, keep_at, runs_at}
 use Rattle.tables.proofs.Names.{is_pair, pair_is, pair_apart}
 
 map_map : {A B C D : Type 0} (f : A → B) (g : B → C) (h : A → D) (k : D → C) → ((a : A) → g (f a) ≡ k (h a)) → (o : Option A) → option_map g (option_map f o) ≡ option_map k (option_map h o)
@@ -51,6 +53,9 @@ planned x = (x.0, record x.1 { it = record x.1.it { status = Planning } })
 abbrev acted : RunStatus → RunAction → Kept RunRow → Kept RunRow
 acted status action x = (x.0, record x.1 { it = record x.1.it { status = status; action = Some action } })
 
+abbrev kept_in : Option (Kept KeepingRow) → ℕ
+kept_in r = unwrap_or (option_map (λ (x : Kept KeepingRow). x.1.keep) r) FIRST_KEPT
+
 module _ (org ws : List ℕ) where
   -- ---- the row
 
@@ -71,12 +76,40 @@ module _ (org ws : List ℕ) where
     pub row_left : (a b : List ℕ) → is_pair org ws a b ≡ false → workspace_of a b (ws_removed org ws t) ≡ workspace_of a b t
     row_left a b other = ap (option_map (λ (x : Kept WsRow). x.1.it)) (find_left (is_ws a b) (is_ws org ws) (λ x. pair_apart org ws a b x.1.org x.1.name other) t.wss)
 
-    pub row_added : (auto : Bool) → workspace_of org ws t ≡ None → workspace_of org ws (ws_added org ws auto t) ≡ Some (workspace_made auto)
-    row_added auto none = ap (option_map (λ (x : Kept WsRow). x.1.it)) (find_pushed (is_ws org ws) t.wss _ (none_mapped (λ (x : Kept WsRow). x.1.it) _ none) (pair_is org ws))
+    pub row_added : (auto : Bool) (keep : ℕ) → workspace_of org ws t ≡ None → workspace_of org ws (ws_added org ws auto keep t) ≡ Some (workspace_made auto)
+    row_added auto keep none = ap (option_map (λ (x : Kept WsRow). x.1.it)) (find_pushed (is_ws org ws) t.wss _ (none_mapped (λ (x : Kept WsRow). x.1.it) _ none) (pair_is org ws))
 
-    pub row_added_other : (auto : Bool) (a b : List ℕ) → is_pair org ws a b ≡ false → workspace_of a b (ws_added org ws auto t) ≡ workspace_of a b t
-    row_added_other auto a b other =
+    pub row_added_other : (auto : Bool) (keep : ℕ) (a b : List ℕ) → is_pair org ws a b ≡ false → workspace_of a b (ws_added org ws auto keep t) ≡ workspace_of a b t
+    row_added_other auto keep a b other =
         ap (option_map (λ (x : Kept WsRow). x.1.it)) (find_pushed_other (is_ws a b) t.wss (next_key id_of t.wss, record { org = org; name = ws; it = workspace_made auto }) (pair_apart org ws a b org ws other (pair_is org ws)))
+
+    -- ---- how many versions it keeps
+
+    pub keep_removed : keep_of org ws (ws_removed org ws t) ≡ None
+    keep_removed = ap (option_map (λ (x : Kept KeepingRow). x.1.keep)) (find_deleted (is_keeping org ws) t.keepings)
+
+    pub keep_left : (a b : List ℕ) → is_pair org ws a b ≡ false → keep_at (ws_removed org ws t) a b ≡ keep_at t a b
+    keep_left a b other = ap kept_in (find_left (is_keeping a b) (is_keeping org ws) (λ x. pair_apart org ws a b x.1.org x.1.ws other) t.keepings)
+
+    pub keep_added : (auto : Bool) (keep : ℕ) → keep_of org ws t ≡ None → keep_at (ws_added org ws auto keep t) org ws ≡ keep
+    keep_added auto keep none =
+        ap kept_in (find_pushed (is_keeping org ws) t.keepings (next_key id_of t.keepings, record { org = org; ws = ws; keep = keep }) (none_mapped (λ (x : Kept KeepingRow). x.1.keep) _ none) (pair_is org ws))
+
+    pub keep_added_other : (auto : Bool) (keep : ℕ) (a b : List ℕ) → is_pair org ws a b ≡ false → keep_at (ws_added org ws auto keep t) a b ≡ keep_at t a b
+    keep_added_other auto keep a b other =
+        ap kept_in (find_pushed_other (is_keeping a b) t.keepings (next_key id_of t.keepings, record { org = org; ws = ws; keep = keep }) (pair_apart org ws a b org ws other (pair_is org ws)))
+
+    -- a number is set where there is a row for it
+    pub keep_set : (keep : ℕ) → is_some (find (is_keeping org ws) t.keepings) ≡ true → keep_at (keeping_changed keep org ws t) org ws ≡ keep
+    keep_set keep there = ap kept_in (find_changed (is_keeping org ws) (λ x. (x.0, record x.1 { keep = keep })) (λ x. refl) t.keepings) ∙ by_row (find (is_keeping org ws) t.keepings) there
+      where
+        by_row : (r : Option (Kept KeepingRow)) → is_some r ≡ true → kept_in (option_map (λ (x : Kept KeepingRow). (x.0, record x.1 { keep = keep })) r) ≡ keep
+        by_row None e = absurd (let none : ⊥ = cc in none)
+        by_row (Some x) e = refl
+
+    pub keep_set_other : (keep : ℕ) (a b : List ℕ) → is_pair org ws a b ≡ false → keep_at (keeping_changed keep org ws t) a b ≡ keep_at t a b
+    keep_set_other keep a b other =
+        ap kept_in (find_unchanged (is_keeping a b) (is_keeping org ws) (λ x. pair_apart org ws a b x.1.org x.1.ws other) (λ x. (x.0, record x.1 { keep = keep })) (λ x. refl) t.keepings)
 
     -- ---- its runs
 

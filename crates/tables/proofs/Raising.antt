@@ -1,57 +1,41 @@
--- The first version's tables as those of the second: how far each token reaches is told by a row, and no record changes.
-use Rattle.std.proofs.Common.{◌≡◌, ℕ, Bool, true, false, ◌&&◌, ◌||◌, List, [], ◌∷◌, ◌++◌, map, filter, find, Option, Some, None, option_map, IfSome, IsTrue, refl, sym, ap, subst, ◌∙◌}
+-- The tables of a version as those of the next: each token, and later each workspace, gets a row of its own, and no record changes.
+use Rattle.std.proofs.Common.{◌≡◌, ℕ, Bool, true, false, ◌&&◌, ◌||◌, is_some, List, [], ◌∷◌, ◌++◌, map, filter, find, Option, Some, None, option_map, IfSome, IsTrue, refl, sym, ap, subst, ◌∙◌}
 use Rattle.std.specs.Option.{unwrap_or}
 use Rattle.std.specs.Str.{bytes_eq}
 use Rattle.std.specs.List.{AllByRecursion, list_any}
 use Rattle.std.specs.FinMap.{from_entries}
+use Rattle.std.proofs.lemmas.Bool.{or_parts, or_from}
 use Rattle.std.proofs.lemmas.List.{append-nil, append_assoc, map-append}
+use Rattle.sqlite_schema.specs.Names.{table_named}
 use Rattle.sqlite_trees.specs.Tree.{IsAscending}
 use Rattle.sqlite_keyed.specs.Keyed.{next_key}
 use Rattle.sqlite_keyed.specs.Rules.{AreApart}
 use Rattle.sqlite_keyed.proofs.ListLemmas.{all_weaker, all-append, ascending-map, ascending_from_map}
 use Rattle.basis.specs.Names.{is_prefix}
+use Rattle.basis.specs.declared.numbers.TheConstants.{FIRST_KEPT}
 use Rattle.machine.specs.Order.{name_cmp}
 use Rattle.machine.specs.Ranges.{IsMoment}
 use Rattle.sqlite.specs.Effect.{Database}
-use Rattle.statements.specs.Rows.{Kept, id_of, TokenRow, BoundRow}
-use Rattle.statements.specs.Tables.{Tables, first_tables_of}
-use Rattle.statements.specs.Changes.{is_token, is_bound, with_next, with_all, unbounded}
+use Rattle.statements.specs.Rows.{Kept, id_of, TokenRow, WsRow, BoundRow, KeepingRow}
+use Rattle.statements.specs.Schema.{bound_table, edition_table, keeping_table}
+use Rattle.statements.specs.Tables.{Tables, HoldsSecond, first_tables_of, second_tables_of}
+use Rattle.statements.specs.Changes.{is_bound, is_keeping, with_next, with_all, unbounded, kept_first}
 use Rattle.statements.specs.Finds.{cap_of, bound_in}
-use Rattle.statements.specs.Making.{raised, Raises}
+use Rattle.statements.specs.Making.{raised, raised_third, Raises, RaisesThird}
+use Rattle.statements.proofs.Decoding.{second_tables-held}
 use Rattle.statements.proofs.Found.{found_holds}
-use Rattle.tables.specs.Records.{no_bounds, bounds_of_cells, bounds_at, token_of_cells, is_token_of, tokens_at, record_of}
-use Rattle.tables.specs.Sound.{IsBoundRow, AreFirstSound, IsSound}
-use Rattle.tables.specs.Inner.Making.{Becomes}
-use Rattle.tables.proofs.TextRows.{AreTexts, texts_carried, KeepsWorkspaces, workspace_carried, workspaces_carried}
+use Rattle.tables.specs.Records.{no_bounds, bounds_of_cells, bounds_at, keep_at, token_of_cells, is_token_of, tokens_at, record_of}
+use Rattle.tables.specs.Sound.{IsBoundRow, AreFirstSound, AreSecondSound, IsSound}
+use Rattle.tables.specs.Stores.{is_in_schema, IsFirstStore, IsSecondStore}
+use Rattle.tables.specs.Versions.{Becomes, KeepsBeside}
+use Rattle.tables.proofs.TextRows.{AreTexts, texts_carried, KeepsWorkspaces, workspace_carried, workspaces_carried, organization_carried}
 use Rattle.tables.proofs.Names.{pair_is}
-use Rattle.tables.proofs.Stores.{store_by, records_by}
+use Rattle.tables.proofs.Databases.{store_by, records_by}
 
--- ---- rows of bound, one for each token
-
-abbrev IsUnbounded : Kept BoundRow → Type 0
-IsUnbounded x = (x.1.until ≡ None) × (x.1.prefix ≡ [])
-
-abbrev filled : List (Kept TokenRow) → List (Kept BoundRow) → List (Kept BoundRow)
-filled ts xs = with_all (map (λ x. unbounded x.1) ts) xs
-
-all_unbounded : (ts : List (Kept TokenRow)) (xs : List (Kept BoundRow)) → AllByRecursion IsUnbounded xs → AllByRecursion IsUnbounded (filled ts xs)
-all_unbounded [] xs h = h
-all_unbounded (t ∷ ts) xs h = all_unbounded ts (with_next (unbounded t.1) xs) (all-append IsUnbounded xs ((next_key id_of xs, unbounded t.1) ∷ []) h ((refl, refl), tt))
+-- ---- rows of a pair of names, one for each row of another table
 
 abbrev Pair : Type 0
 Pair = List ℕ × List ℕ
-
-abbrev token_pair : Kept TokenRow → Pair
-token_pair x = (x.1.org, x.1.name)
-
-abbrev bound_pair : Kept BoundRow → Pair
-bound_pair x = (x.1.org, x.1.name)
-
-names_filled : (ts : List (Kept TokenRow)) (xs : List (Kept BoundRow)) → map bound_pair (filled ts xs) ≡ map bound_pair xs ++ map token_pair ts
-names_filled [] xs = sym (append-nil (map bound_pair xs))
-names_filled (t ∷ ts) xs =
-    names_filled ts (with_next (unbounded t.1) xs) ∙ ap (λ ps. ps ++ map token_pair ts) (map-append bound_pair xs ((next_key id_of xs, unbounded t.1) ∷ []))
-    ∙ append_assoc (map bound_pair xs) (token_pair t ∷ []) (map token_pair ts)
 
 abbrev is_same : List ℕ → List ℕ → Pair → Bool
 is_same org name p = bytes_eq p.0 org && bytes_eq p.1 name
@@ -72,71 +56,132 @@ or_right : (a b : Bool) → b ≡ true → (a || b) ≡ true
 or_right true b e = refl
 or_right false b e = e
 
--- each token is one of the tokens
-own_found : (xs ys : List (Kept TokenRow)) → ((org name : List ℕ) → list_any (is_token org name) xs ≡ true → list_any (is_token org name) ys ≡ true) → AllByRecursion (λ x. list_any (is_token x.1.org x.1.name) ys ≡ true) xs
-own_found [] ys within = tt
-own_found (x ∷ xs) ys within =
-    (within x.1.org x.1.name (ap (λ (b : Bool). b || list_any (is_token x.1.org x.1.name) xs) (pair_is x.1.org x.1.name)), own_found xs ys (λ org name e. within org name (or_right (is_token org name x) (list_any (is_token org name) xs) e)))
+module _ {R S : Type 0} (f : R → S) where
+  -- each row of the one gets such a row of the other
+  abbrev filled : List (Kept R) → List (Kept S) → List (Kept S)
+  filled ts xs = with_all (map (λ x. f x.1) ts) xs
 
-module _ (ts : List (Kept TokenRow)) where
-  any_filled : (org name : List ℕ) → list_any (is_bound org name) (filled ts []) ≡ list_any (is_token org name) ts
-  any_filled org name = any_map bound_pair (is_same org name) (filled ts []) ∙ ap (list_any (is_same org name)) (names_filled ts []) ∙ sym (any_map token_pair (is_same org name) ts)
+  all_filled : (P : Kept S → Type 0) → ((k : _) (r : R) → P (k, f r)) → (ts : List (Kept R)) (xs : List (Kept S)) → AllByRecursion P xs → AllByRecursion P (filled ts xs)
+  all_filled P each [] xs h = h
+  all_filled P each (t ∷ ts) xs h = all_filled P each ts (with_next (f t.1) xs) (all-append P xs ((next_key id_of xs, f t.1) ∷ []) h (each (next_key id_of xs) t.1, tt))
 
-  each_bound : AllByRecursion (λ x. list_any (is_bound x.1.org x.1.name) (filled ts []) ≡ true) ts
-  each_bound = all_weaker (λ x. list_any (is_token x.1.org x.1.name) ts ≡ true) (λ x. list_any (is_bound x.1.org x.1.name) (filled ts []) ≡ true) (λ x e. any_filled x.1.org x.1.name ∙ e) ts (own_found ts ts (λ org name e. e))
+  module _ (owner : R → Pair) (pair : S → Pair) (same : (r : R) → pair (f r) ≡ owner r) where
+    abbrev owner_pair : Kept R → Pair
+    owner_pair x = owner x.1
 
-  each_owned : AllByRecursion (λ x. list_any (is_token x.1.org x.1.name) ts ≡ true) (filled ts [])
-  each_owned = all_of_map bound_pair (λ (p : Pair). list_any (is_token p.0 p.1) ts ≡ true) (filled ts [])
-      (subst (AllByRecursion (λ (p : Pair). list_any (is_token p.0 p.1) ts ≡ true)) (sym (names_filled ts [])) (all_to_map token_pair (λ (p : Pair). list_any (is_token p.0 p.1) ts ≡ true) ts (own_found ts ts (λ org name e. e))))
+    abbrev own_pair : Kept S → Pair
+    own_pair x = pair x.1
 
-  filled_apart : AreApart (λ a b. is_token a.1.org a.1.name b) ts → AreApart (λ a b. is_bound a.1.org a.1.name b) (filled ts [])
-  filled_apart apart = ascending_from_map (λ (p q : Pair). is_same p.0 p.1 q ≡ false) bound_pair (filled ts [])
-      (subst (IsAscending (λ (p q : Pair). is_same p.0 p.1 q ≡ false)) (sym (names_filled ts [])) (ascending-map (λ (p q : Pair). is_same p.0 p.1 q ≡ false) token_pair ts apart))
+    names_filled : (ts : List (Kept R)) (xs : List (Kept S)) → map own_pair (filled ts xs) ≡ map own_pair xs ++ map owner_pair ts
+    names_filled [] xs = sym (append-nil (map own_pair xs))
+    names_filled (t ∷ ts) xs =
+        names_filled ts (with_next (f t.1) xs) ∙ ap (λ ps. ps ++ map owner_pair ts) (map-append own_pair xs ((next_key id_of xs, f t.1) ∷ []))
+        ∙ append_assoc (map own_pair xs) (pair (f t.1) ∷ []) (map owner_pair ts) ∙ ap (λ (p : Pair). map own_pair xs ++ p ∷ map owner_pair ts) (same t.1)
 
-  filled_rows : AllByRecursion IsBoundRow (filled ts [])
-  filled_rows = all_weaker IsUnbounded IsBoundRow (λ x is. record { until = subst (λ (u : Option ℕ). IfSome u IsMoment) (sym is.0) tt; prefix = subst (λ (p : List ℕ). IsTrue (is_prefix p)) (sym is.1) refl }) (filled ts []) (all_unbounded ts [] tt)
+    abbrev is_owner : List ℕ → List ℕ → Kept R → Bool
+    is_owner org name x = is_same org name (owner_pair x)
 
--- ---- records
+    abbrev is_own : List ℕ → List ℕ → Kept S → Bool
+    is_own org name x = is_same org name (own_pair x)
+
+    abbrev IsIn : List (Kept R) → Kept R → Type 0
+    IsIn ys x = list_any (is_owner (owner_pair x).0 (owner_pair x).1) ys ≡ true
+
+    -- each of them is one of them
+    own_found : (xs ys : List (Kept R)) → ((org name : List ℕ) → list_any (is_owner org name) xs ≡ true → list_any (is_owner org name) ys ≡ true) → AllByRecursion (IsIn ys) xs
+    own_found [] ys within = tt
+    own_found (x ∷ xs) ys within = (
+      within (owner_pair x).0 (owner_pair x).1 (ap (λ (b : Bool). b || list_any (is_owner (owner_pair x).0 (owner_pair x).1) xs) (pair_is (owner_pair x).0 (owner_pair x).1)),
+      own_found xs ys (λ org name e. within org name (or_right (is_owner org name x) (list_any (is_owner org name) xs) e)),
+    )
+
+    module _ (ts : List (Kept R)) where
+      any_filled : (org name : List ℕ) → list_any (is_own org name) (filled ts []) ≡ list_any (is_owner org name) ts
+      any_filled org name = any_map own_pair (is_same org name) (filled ts []) ∙ ap (list_any (is_same org name)) (names_filled ts []) ∙ sym (any_map owner_pair (is_same org name) ts)
+
+      each_has : AllByRecursion (λ x. list_any (is_own (owner_pair x).0 (owner_pair x).1) (filled ts []) ≡ true) ts
+      each_has = all_weaker (IsIn ts) (λ x. list_any (is_own (owner_pair x).0 (owner_pair x).1) (filled ts []) ≡ true) (λ x e. any_filled (owner_pair x).0 (owner_pair x).1 ∙ e) ts (own_found ts ts (λ org name e. e))
+
+      abbrev IsOwned : Pair → Type 0
+      IsOwned p = list_any (is_owner p.0 p.1) ts ≡ true
+
+      each_owned : AllByRecursion (λ x. list_any (is_owner (own_pair x).0 (own_pair x).1) ts ≡ true) (filled ts [])
+      each_owned = all_of_map own_pair IsOwned (filled ts []) (subst (AllByRecursion IsOwned) (sym (names_filled ts [])) (all_to_map owner_pair IsOwned ts (own_found ts ts (λ org name e. e))))
+
+      filled_apart : AreApart (λ a b. is_owner (owner_pair a).0 (owner_pair a).1 b) ts → AreApart (λ a b. is_own (own_pair a).0 (own_pair a).1 b) (filled ts [])
+      filled_apart apart = ascending_from_map (λ (p q : Pair). is_same p.0 p.1 q ≡ false) own_pair (filled ts [])
+          (subst (IsAscending (λ (p q : Pair). is_same p.0 p.1 q ≡ false)) (sym (names_filled ts [])) (ascending-map (λ (p q : Pair). is_same p.0 p.1 q ≡ false) owner_pair ts apart))
+
+-- ---- rows of bound, one for each token, and of keeping, one for each workspace
+
+abbrev token_pair : TokenRow → Pair
+token_pair r = (r.org, r.name)
+
+abbrev bound_pair : BoundRow → Pair
+bound_pair r = (r.org, r.name)
+
+abbrev ws_pair : WsRow → Pair
+ws_pair r = (r.org, r.name)
+
+abbrev keeping_pair : KeepingRow → Pair
+keeping_pair r = (r.org, r.ws)
+
+abbrev IsUnbounded : Kept BoundRow → Type 0
+IsUnbounded x = (x.1.until ≡ None) × (x.1.prefix ≡ [])
+
+all_unbounded : (ts : List (Kept TokenRow)) → AllByRecursion IsUnbounded (filled unbounded ts [])
+all_unbounded ts = all_filled unbounded IsUnbounded (λ k r. (refl, refl)) ts [] tt
+
+filled_rows : (ts : List (Kept TokenRow)) → AllByRecursion IsBoundRow (filled unbounded ts [])
+filled_rows ts = all_weaker IsUnbounded IsBoundRow (λ x is. record { until = subst (λ (u : Option ℕ). IfSome u IsMoment) (sym is.0) tt; prefix = subst (λ (p : List ℕ). IsTrue (is_prefix p)) (sym is.1) refl }) (filled unbounded ts []) (all_unbounded ts)
+
+abbrev KeepsFirst : Kept KeepingRow → Type 0
+KeepsFirst x = x.1.keep ≡ FIRST_KEPT
+
+all_kept_first : (ts : List (Kept WsRow)) → AllByRecursion KeepsFirst (filled kept_first ts [])
+all_kept_first ts = all_filled kept_first KeepsFirst (λ k r. refl) ts [] tt
+
+-- ---- the first version's as those of the second: how far each token reaches is told by a row
 
 module _ (t : Tables) (none : t.bounds ≡ []) where
-  abbrev later : Tables
-  later = raised t
+  abbrev second : Tables
+  second = raised t
 
-  same_rows : KeepsWorkspaces t later
-  same_rows = record { wss = refl; versions = refl; runs = refl; pages = refl; vpages = refl }
+  same_workspaces : KeepsWorkspaces t second
+  same_workspaces = record { wss = refl; versions = refl; runs = refl; pages = refl; vpages = refl; kept = λ o w. refl }
 
   -- no token ends, and each is for all workspaces
-  reach_filled : (org name : List ℕ) → bounds_at later org name ≡ no_bounds
-  reach_filled org name = by_row (find (is_bound org name) later.bounds) refl
+  reach_filled : (org name : List ℕ) → bounds_at second org name ≡ no_bounds
+  reach_filled org name = by_row (find (is_bound org name) second.bounds) refl
     where
-      by_row : (o : Option (Kept BoundRow)) → find (is_bound org name) later.bounds ≡ o → unwrap_or (option_map bounds_of_cells (option_map bound_in o)) no_bounds ≡ no_bounds
+      by_row : (o : Option (Kept BoundRow)) → find (is_bound org name) second.bounds ≡ o → unwrap_or (option_map bounds_of_cells (option_map bound_in o)) no_bounds ≡ no_bounds
       by_row None e = refl
-      by_row (Some x) e = let is = found_holds IsUnbounded (is_bound org name) later.bounds x (all_unbounded t.tokens [] tt) e in λ i. record { until = is.0 i; prefix = is.1 i }
+      by_row (Some x) e = let is = found_holds IsUnbounded (is_bound org name) second.bounds x (all_unbounded t.tokens) e in λ i. record { until = is.0 i; prefix = is.1 i }
 
   reach_none : (org name : List ℕ) → bounds_at t org name ≡ no_bounds
   reach_none org name = ap (λ (bs : List (Kept BoundRow)). unwrap_or (option_map bounds_of_cells (option_map bound_in (find (is_bound org name) bs))) no_bounds) none
 
-  reach_stays : (org name : List ℕ) → bounds_at later org name ≡ bounds_at t org name
+  reach_stays : (org name : List ℕ) → bounds_at second org name ≡ bounds_at t org name
   reach_stays org name = reach_filled org name ∙ sym (reach_none org name)
 
-  tokens_raised : (org : List ℕ) → tokens_at later org ≡ tokens_at t org
+  tokens_raised : (org : List ℕ) → tokens_at second org ≡ tokens_at t org
   tokens_raised org = λ i. from_entries {R = name_cmp} (map (λ (x : Kept TokenRow). (x.1.name, token_of_cells (reach_stays x.1.org x.1.name i) x.1.it)) (filter (is_token_of org) t.tokens))
 
-  pub record_raised : (org : List ℕ) → record_of later org ≡ record_of t org
-  record_raised org = λ i. option_map (λ (cap : ℕ). record { limit = cap; tokens = tokens_raised org i; workspaces = workspaces_carried t later same_rows org i }) (cap_of org t)
+  pub record_raised : (org : List ℕ) → record_of second org ≡ record_of t org
+  record_raised org = λ i. option_map (λ (cap : ℕ). record { limit = cap; tokens = tokens_raised org i; workspaces = workspaces_carried t second same_workspaces org i }) (cap_of org t)
 
   -- sound tables of the first version become sound ones of the second
-  pub raised_sound : AreFirstSound t → IsSound later
+  pub raised_sound : AreFirstSound t → AreSecondSound second
   raised_sound sound = record {
     told = (refl, refl);
     orgs_apart = sound.orgs_apart;
     tokens_apart = sound.tokens_apart;
     digests_apart = sound.digests_apart;
     wss_apart = sound.wss_apart;
-    bounds_apart = filled_apart t.tokens sound.tokens_apart;
-    tokens_bound = each_bound t.tokens;
+    bounds_apart = filled_apart unbounded token_pair bound_pair (λ r. refl) t.tokens sound.tokens_apart;
+    tokens_bound = each_has unbounded token_pair bound_pair (λ r. refl) t.tokens;
     tokens_owned = sound.tokens_owned;
-    bounds_owned = each_owned t.tokens;
+    bounds_owned = each_owned unbounded token_pair bound_pair (λ r. refl) t.tokens;
     wss_owned = sound.wss_owned;
     versions_owned = sound.versions_owned;
     runs_owned = sound.runs_owned;
@@ -147,15 +192,115 @@ module _ (t : Tables) (none : t.bounds ≡ []) where
     places = texts.places;
     placed = texts.placed;
     texts = texts.texts;
-    workspaces = λ org name w e. sound.workspaces org name w (sym (workspace_carried t later same_rows org name) ∙ e);
+    workspaces = λ org name w e. sound.workspaces org name w (sym (workspace_carried t second same_workspaces org name) ∙ e);
   }
     where
-      texts : AreTexts later
-      texts = texts_carried t later refl refl refl (record { places = sound.places; placed = sound.placed; texts = sound.texts })
+      texts : AreTexts second
+      texts = texts_carried t second refl refl refl (record { places = sound.places; placed = sound.placed; texts = sound.texts })
+
+-- ---- the second version's as those of the third: how many versions each workspace keeps is told by a row
+
+module _ (t : Tables) (none : t.keepings ≡ []) where
+  abbrev third : Tables
+  third = raised_third t
+
+  -- each workspace keeps what one keeps at first
+  keep_filled : (org ws : List ℕ) → keep_at third org ws ≡ FIRST_KEPT
+  keep_filled org ws = by_row (find (is_keeping org ws) third.keepings) refl
+    where
+      by_row : (o : Option (Kept KeepingRow)) → find (is_keeping org ws) third.keepings ≡ o → unwrap_or (option_map (λ (x : Kept KeepingRow). x.1.keep) o) FIRST_KEPT ≡ FIRST_KEPT
+      by_row None e = refl
+      by_row (Some x) e = found_holds KeepsFirst (is_keeping org ws) third.keepings x (all_kept_first t.wss) e
+
+  keep_none : (org ws : List ℕ) → keep_at t org ws ≡ FIRST_KEPT
+  keep_none org ws = ap (λ (ks : List (Kept KeepingRow)). unwrap_or (option_map (λ (x : Kept KeepingRow). x.1.keep) (find (is_keeping org ws) ks)) FIRST_KEPT) none
+
+  kept_workspaces : KeepsWorkspaces t third
+  kept_workspaces = record { wss = refl; versions = refl; runs = refl; pages = refl; vpages = refl; kept = λ org ws. keep_filled org ws ∙ sym (keep_none org ws) }
+
+  pub third_record : (org : List ℕ) → record_of third org ≡ record_of t org
+  third_record org = organization_carried t third kept_workspaces refl refl org (cap_of org t)
+
+  -- sound tables of the second version become sound ones of the third
+  pub third_sound : AreSecondSound t → IsSound third
+  third_sound sound = record {
+    told = (ap (map (λ x. (x.0, 3))) sound.told.0, sound.told.1);
+    orgs_apart = sound.orgs_apart;
+    tokens_apart = sound.tokens_apart;
+    digests_apart = sound.digests_apart;
+    wss_apart = sound.wss_apart;
+    bounds_apart = sound.bounds_apart;
+    tokens_bound = sound.tokens_bound;
+    keepings_apart = filled_apart kept_first ws_pair keeping_pair (λ r. refl) t.wss sound.wss_apart;
+    wss_kept = each_has kept_first ws_pair keeping_pair (λ r. refl) t.wss;
+    tokens_owned = sound.tokens_owned;
+    bounds_owned = sound.bounds_owned;
+    wss_owned = sound.wss_owned;
+    keepings_owned = each_owned kept_first ws_pair keeping_pair (λ r. refl) t.wss;
+    versions_owned = sound.versions_owned;
+    runs_owned = sound.runs_owned;
+    org_rows = sound.org_rows;
+    token_rows = sound.token_rows;
+    bound_rows = sound.bound_rows;
+    counts = λ org o e. sound.counts org o (sym (third_record org) ∙ e);
+    places = texts.places;
+    placed = texts.placed;
+    texts = texts.texts;
+    workspaces = λ org name w e. sound.workspaces org name w (sym (workspace_carried t third kept_workspaces org name) ∙ e);
+  }
+    where
+      texts : AreTexts third
+      texts = texts_carried t third refl refl refl (record { places = sound.places; placed = sound.placed; texts = sound.texts })
+
+-- ---- databases
+
+none_of : (o : Option ℕ) → is_some o ≡ false → o ≡ None
+none_of None e = refl
+none_of (Some n) e = absurd (cc)
 
 -- a database of the first version has become one of the second
-pub first_becomes : (old new : Database) → Raises old new → Becomes 1 2 old new
-first_becomes old new raises = record {
-  holds = λ h. store_by new (raised (first_tables_of old)) (raises.holds (first_tables_of old) h.holds) (raised_sound (first_tables_of old) refl h.sound);
-  records = λ h org. records_by new (raised (first_tables_of old)) (raises.holds (first_tables_of old) h.holds) org ∙ record_raised (first_tables_of old) refl org;
-}
+module _ (old new : Database) (raises : Raises old new) where
+  abbrev first_rows : Tables
+  first_rows = first_tables_of old
+
+  module _ (h : IsFirstStore old) where
+    second_held : HoldsSecond new (raised first_rows)
+    second_held = raises.holds first_rows h.holds
+
+    second_is : second_tables_of new ≡ raised first_rows
+    second_is = second_tables-held new (raised first_rows) second_held
+
+    -- and the table that the third version adds hasn't come
+    lacks_keeping : is_some (table_named new.schema keeping_table.name) ≡ false
+    lacks_keeping =
+        let behind = or_parts (is_in_schema old.schema bound_table) _ h.alone in
+        let last = or_parts (is_in_schema old.schema edition_table) _ behind.1 in
+        let keeping = or_parts (is_in_schema old.schema keeping_table) false last.1 in
+        ap is_some (raises.absent first_rows h.holds (none_of _ keeping.0))
+
+    second_store : IsSecondStore new
+    second_store = record {
+      holds = subst (HoldsSecond new) (sym second_is) second_held;
+      alone = or_from (is_in_schema new.schema keeping_table) false lacks_keeping refl;
+      sound = subst AreSecondSound (sym second_is) (raised_sound first_rows refl h.sound);
+    }
+
+  pub first_becomes : Becomes 1 2 old new × KeepsBeside 1 2 old new
+  first_becomes = (
+    record { holds = second_store; records = λ h org. ap (λ (u : Tables). record_of u org) (second_is h) ∙ record_raised first_rows refl org },
+    record { holds = λ t h. (raised t, raises.holds t h); foreign = raises.foreign },
+  )
+
+-- and one of the second has become one of the third
+module _ (old new : Database) (raises : RaisesThird old new) where
+  abbrev second_rows : Tables
+  second_rows = second_tables_of old
+
+  pub second_becomes : Becomes 2 3 old new × KeepsBeside 2 3 old new
+  second_becomes = (
+    record {
+      holds = λ h. store_by new (raised_third second_rows) (raises.holds second_rows h.holds) (third_sound second_rows refl h.sound);
+      records = λ h org. records_by new (raised_third second_rows) (raises.holds second_rows h.holds) org ∙ third_record second_rows refl org;
+    },
+    record { holds = λ t h. (raised_third t, raises.holds t h); foreign = raises.foreign },
+  )

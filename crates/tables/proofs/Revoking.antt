@@ -33,7 +33,7 @@ module _ (org name : List ℕ) (t : Tables) where
   left = token_removed org name t
 
   same_rows : KeepsWorkspaces t left
-  same_rows = record { wss = refl; versions = refl; runs = refl; pages = refl; vpages = refl }
+  same_rows = record { wss = refl; versions = refl; runs = refl; pages = refl; vpages = refl; kept = λ o w. refl }
 
   pub revoke_changes : ChangesToken org name t left
   revoke_changes = record {
@@ -111,6 +111,9 @@ module _ (org name : List ℕ) (t : Tables) where
         (λ x other any. token_left x.1.org x.1.name other ∙ any) left.bounds (all_deleted (is_bound org name) t.bounds)
         (all-filter (λ x. list_any (is_token x.1.org x.1.name) t.tokens ≡ true) (λ x. not (is_bound org name x)) t.bounds sound.bounds_owned);
     wss_owned = sound.wss_owned;
+    keepings_apart = sound.keepings_apart;
+    wss_kept = sound.wss_kept;
+    keepings_owned = sound.keepings_owned;
     versions_owned = sound.versions_owned;
     runs_owned = sound.runs_owned;
     org_rows = sound.org_rows;

@@ -1,5 +1,5 @@
 -- The records of a database, and its soundness, once its rows have changed.
-use Rattle.std.proofs.Common.{◌≡◌, ◌≢◌, ℕ, ◌≤◌, List, length, Some, None, IfSome, IsTrue, refl, sym, ap, subst, ◌∙◌}
+use Rattle.std.proofs.Common.{◌≡◌, ◌≢◌, ℕ, ◌≤◌, List, length, Some, None, IfSome, IsTrue, refl, ap, ◌∙◌}
 use Rattle.std.specs.FinMap.{get}
 use Rattle.sqlite.specs.Effect.{Database}
 use Rattle.basis.specs.Names.{is_org_name, is_ws_name, is_prefix}
@@ -18,11 +18,9 @@ use Rattle.statements.specs.Changes as rows
 use Rattle.statements.specs.Finds.{cap_of, role_of_name, role_of_digest}
 use Rattle.statements.specs.Making.{edition_set}
 use Rattle.statements.specs.Tables.{Tables, Holds, no_rows, tables_of}
-use Rattle.statements.proofs.Decoding.{tables-held}
 use Rattle.tables.specs.Inner.Edits.{changed_rows, TakesEdit}
-use Rattle.tables.specs.Records.{record_of}
-use Rattle.tables.specs.Sound.{IsSound}
 use Rattle.tables.specs.Stores.{records_of, IsSoundStore}
+use Rattle.tables.proofs.Databases.{store_by, records_by}
 use Rattle.tables.proofs.Changes.{changed_own, changed_other}
 use Rattle.tables.proofs.Kept.{changed_keeps, org_added_keeps, token_added_keeps, no_rows_are_sound, no_record}
 use Rattle.tables.proofs.Lawful.{sound_is_lawful}
@@ -31,22 +29,13 @@ use Rattle.tables.proofs.Operators.{org_done, org_other, token_done, token_other
 pub store_is_lawful : (db : Database) → IsSoundStore db → AreLawful (records_of db)
 store_is_lawful db s = sound_is_lawful (tables_of db) s.sound
 
--- a database that holds sound tables is sound
-pub store_by : (db : Database) (t : Tables) → Holds db t → IsSound t → IsSoundStore db
-store_by db t holds sound =
-    let is : tables_of db ≡ t = tables-held db t holds in
-    record { holds = subst (Holds db) (sym is) holds; sound = subst IsSound (sym is) sound }
-
-pub records_by : (db : Database) (t : Tables) → Holds db t → (org : List ℕ) → records_of db org ≡ record_of t org
-records_by db t holds org = ap (λ (u : Tables). record_of u org) (tables-held db t holds)
-
 -- the tables that were just made
-module _ (db : Database) (made : Holds db (edition_set no_rows)) where
+module _ (db : Database) (made : Holds db (edition_set 3 no_rows)) where
   pub made_store_is_sound : IsSoundStore db
-  made_store_is_sound = store_by db (edition_set no_rows) made (no_rows_are_sound (edition_set no_rows).editions (refl, refl))
+  made_store_is_sound = store_by db (edition_set 3 no_rows) made (no_rows_are_sound (edition_set 3 no_rows).editions (refl, refl))
 
   pub made_store_is_empty : (org : List ℕ) → records_of db org ≡ None
-  made_store_is_empty org = records_by db (edition_set no_rows) made org ∙ no_record (edition_set no_rows).editions org
+  made_store_is_empty org = records_by db (edition_set 3 no_rows) made org ∙ no_record (edition_set 3 no_rows).editions org
 
 module _ (old new : Database) (s : IsSoundStore old) where
   abbrev rows_before : Tables

@@ -10,14 +10,14 @@ use Rattle.statements.specs.Changes.{run_acted}
 use Rattle.statements.specs.Finds.{workspace_of}
 use Rattle.statements.specs.Making.{version_in, edition_in}
 use Rattle.statements.specs.Rows.{Kept, id_of}
-use Rattle.statements.specs.Tables.{Tables, tables_of, first_tables_of}
-use Rattle.tables.specs.Inner.Edits.{all_gone, numbered_rows, versioned_rows, if_there, run_put, run_counted, freed_rows, edited_rows, started_rows, changed_rows, TakesEdit}
+use Rattle.statements.specs.Tables.{Tables, tables_of, first_tables_of, second_tables_of}
+use Rattle.tables.specs.Inner.Edits.{all_gone, settings_rows, configured_rows, numbered_rows, versioned_rows, if_there, run_put, run_counted, freed_rows, edited_rows, started_rows, changed_rows, TakesEdit}
 use Rattle.tables.specs.Sound.{TellsVersion, TellsEdition, IsSound}
 use Rattle.tables.proofs.TextRows.{KeepsRest}
-use Rattle.tables.proofs.VersionEdits.{all_go, versions_come}
+use Rattle.tables.proofs.VersionEdits.{all_go, settings_leave, versions_come}
 use Rattle.tables.specs.Opening.{IsOther}
 use Rattle.tables.specs.Versions.{HoldsVersion}
-use Rattle.tables.proofs.There.{first_is_there}
+use Rattle.tables.proofs.There.{first_is_there, second_is_there}
 
 abbrev SameTold : Tables → Tables → Type 0
 SameTold u t = (u.metas ≡ t.metas) × (u.editions ≡ t.editions)
@@ -35,7 +35,7 @@ told_rest t u rest = (rest.metas, rest.editions)
 
 told_edited : (key_of : List ℕ → List ℕ) (org ws : List ℕ) (t : Tables) → IsSound t → (edit : Edit) → TakesEdit key_of org ws edit t → SameTold (edited_rows key_of org ws edit t) t
 told_edited key_of org ws t sound (Make settings) takes = told_rest t (all_gone org ws t) (all_go org ws t sound).rest
-told_edited key_of org ws t sound (Configure settings) takes = (refl, refl)
+told_edited key_of org ws t sound (Configure settings outgoing) takes = told_rest (settings_rows org ws settings t) (configured_rows org ws settings outgoing t) (settings_leave org ws t sound settings outgoing).rest
 told_edited key_of org ws t sound Remove takes = told_rest t (all_gone org ws t) (all_go org ws t sound).rest
 told_edited key_of org ws t sound (AddVersion version outgoing) takes = told_rest (numbered_rows org ws version t) (versioned_rows key_of org ws version outgoing t) (versions_come org ws t sound key_of version takes outgoing).rest
 told_edited key_of org ws t sound Purge takes = told_rest t (all_gone org ws t) (all_go org ws t sound).rest
@@ -65,6 +65,7 @@ edition_is n t told = ap (λ (es : List (Kept ℕ)). option_map (λ x. x.1) (get
 -- a sound database of any version tells it
 pub sound_is_not_other : (s : State) → IsOther s → (n : ℕ) → HoldsVersion n s.now → ⊥
 sound_is_not_other s other zero h = h
-sound_is_not_other s other (suc zero) h = other.0 (first_is_there s.now h) (first_tables_of s.now) h.holds (told_is 1 (first_tables_of s.now) h.sound.told)
-sound_is_not_other s other (suc (suc zero)) h = other.1 (tables_of s.now) h.holds (edition_is 2 (tables_of s.now) h.sound.told)
-sound_is_not_other s other (suc (suc (suc n))) h = h
+sound_is_not_other s other (suc zero) h = other.first (first_is_there s.now h) (first_tables_of s.now) h.holds (told_is 1 (first_tables_of s.now) h.sound.told)
+sound_is_not_other s other (suc (suc zero)) h = other.second (second_is_there s.now h) (second_tables_of s.now) h.holds (edition_is 2 (second_tables_of s.now) h.sound.told)
+sound_is_not_other s other (suc (suc (suc zero))) h = other.third (tables_of s.now) h.holds (edition_is 3 (tables_of s.now) h.sound.told)
+sound_is_not_other s other (suc (suc (suc (suc n)))) h = h

@@ -23,8 +23,8 @@ use Rattle.statements.proofs.Found.{found_passes, found_holds, find_pushed, find
 use Rattle.texts.specs.Texts.{is_place_of, pages_for, text_removed, text_of, IsWhole, HasNoPlaces, HasSoundPlaces}
 use Rattle.texts.proofs.PieceLists.{none_passes, none_found}
 use Rattle.texts.proofs.PlaceLaws.{IsOtherVersion, version_parts, version_from}
-use Rattle.texts.proofs.TextLaws.{text_added_keeps, text_added_whole, text_added_text, text_added_others_whole, text_added_others_text, text_added_places, text_added_metas, text_added_orgs, text_added_tokens, text_added_wss, text_added_versions, text_added_runs, text_added_bounds, text_added_editions, text_removed_keeps, text_removed_others_whole, text_removed_others_text, text_removed_places, text_removed_none, text_removed_metas, text_removed_orgs, text_removed_tokens, text_removed_wss, text_removed_versions, text_removed_runs, text_removed_bounds, text_removed_editions, carried_whole, carried_text, carried_sound}
-use Rattle.tables.specs.Records.{version_of_cells, run_of_cells, no_bounds, bounds_of_cells, token_of_cells, workspace_of_cells, version_at, versions_at, workspace_by, is_token_of, tokens_at, workspaces_at, organization_at}
+use Rattle.texts.proofs.TextLaws.{text_added_keeps, text_added_whole, text_added_text, text_added_others_whole, text_added_others_text, text_added_places, text_added_metas, text_added_orgs, text_added_tokens, text_added_wss, text_added_versions, text_added_runs, text_added_bounds, text_added_editions, text_added_keepings, text_removed_keeps, text_removed_others_whole, text_removed_others_text, text_removed_places, text_removed_none, text_removed_metas, text_removed_orgs, text_removed_tokens, text_removed_wss, text_removed_versions, text_removed_runs, text_removed_bounds, text_removed_editions, text_removed_keepings, carried_whole, carried_text, carried_sound}
+use Rattle.tables.specs.Records.{version_of_cells, run_of_cells, no_bounds, bounds_of_cells, token_of_cells, workspace_of_cells, keep_at, version_at, versions_at, workspace_by, is_token_of, tokens_at, workspaces_at, organization_at}
 use Rattle.tables.specs.Sound.{IsPlaced, HasText, IsSound}
 use Rattle.tables.specs.Inner.Edits.{first_gone, so_many_gone, gone_below, row_added, added_rows, FitsTwins}
 use Rattle.tables.proofs.Names.{same_name, name_is, is_pair, pair_is, pair_apart}
@@ -52,9 +52,10 @@ pub record KeepsRest (t u : Tables) : Type 0 where
   pub runs : u.runs ≡ t.runs
   pub bounds : u.bounds ≡ t.bounds
   pub editions : u.editions ≡ t.editions
+  pub keepings : u.keepings ≡ t.keepings
 
 pub rest_stays : (t : Tables) → KeepsRest t t
-rest_stays t = record { metas = refl; orgs = refl; tokens = refl; wss = refl; runs = refl; bounds = refl; editions = refl }
+rest_stays t = record { metas = refl; orgs = refl; tokens = refl; wss = refl; runs = refl; bounds = refl; editions = refl; keepings = refl }
 
 pub rest_then : (t u z : Tables) → KeepsRest t u → KeepsRest u z → KeepsRest t z
 rest_then t u z one two = record {
@@ -65,6 +66,7 @@ rest_then t u z one two = record {
   runs = two.runs ∙ one.runs;
   bounds = two.bounds ∙ one.bounds;
   editions = two.editions ∙ one.editions;
+  keepings = two.keepings ∙ one.keepings;
 }
 
 -- ---- rows of a version
@@ -139,21 +141,22 @@ reach_of bounds r = unwrap_or (option_map bounds_of_cells (option_map bound_in (
 pub tokens_carried : (t u : Tables) → u.tokens ≡ t.tokens → u.bounds ≡ t.bounds → (o : List ℕ) → tokens_at u o ≡ tokens_at t o
 tokens_carried t u tokens bounds o = λ i. from_entries {R = name_cmp} (map (λ (x : Kept TokenRow). (x.1.name, token_of_cells (reach_of (bounds i) x.1) x.1.it)) (filter (is_token_of o) (tokens i)))
 
--- tables of which no other but those of organizations and tokens differ
+-- tables of which no other but those of organizations and tokens differ, and in which each workspace keeps as many versions
 pub record KeepsWorkspaces (t u : Tables) : Type 0 where
   pub wss : u.wss ≡ t.wss
   pub versions : u.versions ≡ t.versions
   pub runs : u.runs ≡ t.runs
   pub pages : u.pages ≡ t.pages
   pub vpages : u.vpages ≡ t.vpages
+  pub kept : (o w : List ℕ) → keep_at u o w ≡ keep_at t o w
 
 module _ (t u : Tables) (keeps : KeepsWorkspaces t u) where
   pub workspace_carried : (o w : List ℕ) → workspace_by u o w ≡ workspace_by t o w
-  workspace_carried o w = λ i. option_map (λ (c : WorkspaceCells). workspace_of_cells c (versions_carried t u keeps.versions keeps.pages keeps.vpages o w i) (map (λ (x : Kept RunRow). run_of_cells x.1.it) (filter (is_run_of o w) (keeps.runs i))))
+  workspace_carried o w = λ i. option_map (λ (c : WorkspaceCells). workspace_of_cells (keeps.kept o w i) c (versions_carried t u keeps.versions keeps.pages keeps.vpages o w i) (map (λ (x : Kept RunRow). run_of_cells x.1.it) (filter (is_run_of o w) (keeps.runs i))))
       (option_map (λ (x : Kept WsRow). x.1.it) (find (is_ws o w) (keeps.wss i)))
 
   pub workspaces_carried : (o : List ℕ) → workspaces_at u o ≡ workspaces_at t o
-  workspaces_carried o = λ i. from_entries {R = name_cmp} (map (λ (x : Kept WsRow). (x.1.name, workspace_of_cells x.1.it (versions_carried t u keeps.versions keeps.pages keeps.vpages o x.1.name i) (map (λ (y : Kept RunRow). run_of_cells y.1.it) (filter (is_run_of o x.1.name) (keeps.runs i)))))
+  workspaces_carried o = λ i. from_entries {R = name_cmp} (map (λ (x : Kept WsRow). (x.1.name, workspace_of_cells (keeps.kept o x.1.name i) x.1.it (versions_carried t u keeps.versions keeps.pages keeps.vpages o x.1.name i) (map (λ (y : Kept RunRow). run_of_cells y.1.it) (filter (is_run_of o x.1.name) (keeps.runs i)))))
       (filter (is_ws_of o) (keeps.wss i)))
 
   pub organization_carried : u.tokens ≡ t.tokens → u.bounds ≡ t.bounds → (o : List ℕ) (cap : Option ℕ) → option_map (organization_at u o) cap ≡ option_map (organization_at t o) cap
@@ -204,6 +207,7 @@ module _ (org ws : List ℕ) (below : ℕ) (t : Tables) (a : AreTexts t) (x : Ke
     tokens = text_removed_tokens org ws n size without;
     bounds = text_removed_bounds org ws n size without;
     editions = text_removed_editions org ws n size without;
+    keepings = text_removed_keepings org ws n size without;
     wss = text_removed_wss org ws n size without;
     runs = text_removed_runs org ws n size without;
   }
@@ -332,15 +336,15 @@ pub record Becomes (f : List Version → List Version) (org ws : List ℕ) (t u 
 pub versions_counted : (t : Tables) (org ws : List ℕ) → length (filter (is_version_of org ws) t.versions) ≡ length (versions_at t org ws)
 versions_counted t org ws = sym (length-map (filter (is_version_of org ws) t.versions) (λ (x : Kept VersionRow). version_at t org ws x.1.it))
 
-module _ (org ws : List ℕ) (below : ℕ) (t : Tables) (a : AreTexts t) (few : length (versions_at t org ws) ≤ 101) where
+module _ (org ws : List ℕ) (below : ℕ) (t : Tables) (a : AreTexts t) (few : length (versions_at t org ws) ≤ 1_001) where
   abbrev gone : Tables
   gone = gone_below org ws below t
 
-  all_go : GoesTo org ws below 101 t gone
+  all_go : GoesTo org ws below 1_001 t gone
   unfolding gone_below
-  all_go = so_many org ws below t a 101
+  all_go = so_many org ws below t a 1_001
 
-  few_go : length (filter (is_version_below org ws below) t.versions) ≤ 101
+  few_go : length (filter (is_version_below org ws below) t.versions) ≤ 1_001
   few_go =
       let fewer = filter_fewer (is_version_below org ws below) (is_version_of org ws) (λ x e. first_two (bytes_eq x.1.org org) (bytes_eq x.1.ws ws) (nat_lt x.1.it.number below) e) t.versions in
       let counted = versions_counted t org ws in
@@ -462,6 +466,7 @@ module _ (key_of : List ℕ → List ℕ) (org ws : List ℕ) (v : Version) (t :
       tokens = text_added_tokens key_of org ws v.number v.text mid;
       bounds = text_added_bounds key_of org ws v.number v.text mid;
       editions = text_added_editions key_of org ws v.number v.text mid;
+      keepings = text_added_keepings key_of org ws v.number v.text mid;
       wss = text_added_wss key_of org ws v.number v.text mid;
       runs = text_added_runs key_of org ws v.number v.text mid;
     };

@@ -4,6 +4,7 @@ use Rattle.std.specs.List.{AllByRecursion, list_any}
 use Rattle.std.proofs.lemmas.Bool.{lt-ltb}
 use Rattle.std.proofs.lemmas.List.{length-append}
 use Rattle.sqlite_keyed.specs.Lists.{delete_where}
+use Rattle.basis.specs.declared.rows.Settings.{Settings}
 use Rattle.machine.specs.Laws.{Rises}
 use Rattle.machine.specs.Changes.{left_above}
 use Rattle.machine.specs.declared.records.Version.{Version}
@@ -15,9 +16,9 @@ use Rattle.statements.specs.Finds.{workspace_of}
 use Rattle.sqlite_keyed.proofs.SliceLemmas.{any_is_found}
 use Rattle.tables.specs.Records.{versions_at, workspace_at}
 use Rattle.tables.specs.Sound.{IsSound}
-use Rattle.tables.specs.Inner.Edits.{all_gone, numbered_rows, added_rows, left_rows, versioned_rows, TakesVersion}
+use Rattle.tables.specs.Inner.Edits.{all_gone, settings_rows, configured_rows, numbered_rows, added_rows, left_rows, versioned_rows, TakesVersion}
 use Rattle.tables.proofs.Lists.{below_gone, any_updated}
-use Rattle.tables.proofs.TextRows.{sound_texts, texts_carried, versions_carried, rest_then, Becomes, go_below, comes}
+use Rattle.tables.proofs.TextRows.{AreTexts, sound_texts, texts_carried, versions_carried, rest_stays, rest_then, Becomes, go_below, comes}
 use Rattle.tables.proofs.Finding.{no_versions}
 
 pub becomes_then : (f g : List Version → List Version) (org ws : List ℕ) (t u z : Tables) → Becomes f org ws t u → Becomes g org ws u z → Becomes (λ vs. g (f vs)) org ws t z
@@ -41,12 +42,16 @@ none_above low next (v ∷ vs) rise most =
     ∙ none_above v.number next vs rise.2 most
 
 module _ (org ws : List ℕ) (t : Tables) (sound : IsSound t) where
-  few_versions : length (versions_at t org ws) ≤ 100
+  few_versions : length (versions_at t org ws) ≤ 1_000
   few_versions = by_row (workspace_of org ws t) refl
     where
-      by_row : (r : Option WorkspaceCells) → workspace_of org ws t ≡ r → length (versions_at t org ws) ≤ 100
+      by_row : (r : Option WorkspaceCells) → workspace_of org ws t ≡ r → length (versions_at t org ws) ≤ 1_000
       by_row None e = let none : length (versions_at t org ws) ≡ 0 = ap length (no_versions t sound org ws e) in omega (arith, none)
-      by_row (Some w) e = (sound.workspaces org ws (workspace_at t org ws w) (ap (option_map (workspace_at t org ws)) e)).lawful.versions.kept
+      by_row (Some w) e =
+          let lawful = (sound.workspaces org ws (workspace_at t org ws w) (ap (option_map (workspace_at t org ws)) e)).lawful.versions in
+          let kept = lawful.kept in
+          let keep = lawful.keep in
+          omega (arith, kept, keep.1)
 
   all_below : delete_where (λ (v : Version). nat_lt v.number 1_000_000_001) (versions_at t org ws) ≡ []
   all_below = by_row (workspace_of org ws t) refl
@@ -63,6 +68,26 @@ module _ (org ws : List ℕ) (t : Tables) (sound : IsSound t) where
       let few = few_versions in
       becomes_as (delete_where (λ (v : Version). nat_lt v.number 1_000_000_001)) (λ vs. []) org ws t (all_gone org ws t) all_below
       (go_below org ws 1_000_000_001 t (sound_texts t sound) (omega (arith, few)))
+
+  -- settings are set, and versions up to a number go
+  module _ (settings : Settings) where
+    abbrev set : Tables
+    set = settings_rows org ws settings t
+
+    set_texts : AreTexts set
+    set_texts = texts_carried t set refl refl refl (sound_texts t sound)
+
+    set_few : length (versions_at set org ws) ≤ 1_001
+    set_few =
+        let few = few_versions in
+        let same : length (versions_at set org ws) ≡ length (versions_at t org ws) = ap length (versions_carried t set refl refl refl org ws) in
+        omega (arith, few, same)
+
+    pub settings_leave : (outgoing : Option ℕ) → Becomes (left_above outgoing) org ws set (configured_rows org ws settings outgoing t)
+    settings_leave None = record { rest = rest_stays set; own = refl; others = λ o w other. refl; texts = set_texts; owned = λ all. all }
+    settings_leave (Some last) =
+        becomes_as (delete_where (λ (u : Version). nat_lt u.number (last + 1))) (left_above (Some last)) org ws set (left_rows (Some last) org ws set) (below_gone last (versions_at set org ws))
+        (go_below org ws (last + 1) set set_texts set_few)
 
   -- a version comes, and those up to a number go
   module _ (key_of : List ℕ → List ℕ) (v : Version) (takes : TakesVersion key_of org ws v t) where
@@ -83,7 +108,7 @@ module _ (org ws : List ℕ) (t : Tables) (sound : IsSound t) where
     come = comes key_of org ws v numbered (texts_carried t numbered refl refl refl (sound_texts t sound)) takes.fresh takes.fits
         (any_updated (is_ws org ws) (is_ws org ws) (λ x. (x.0, record x.1 { it = with_next_version (v.number + 1) x.1.it })) (λ x. refl) t.wss ∙ ws_there)
 
-    still_few : length (versions_at added org ws) ≤ 101
+    still_few : length (versions_at added org ws) ≤ 1_001
     still_few =
         let few = few_versions in
         let one : length (versions_at added org ws) ≡ length (versions_at numbered org ws ++ v ∷ []) = ap length come.own in

@@ -1,5 +1,5 @@
 -- When a store is sound, and which of our tables a database has.
-use Rattle.std.specs.Prelude.{◌≡◌, ◌≢◌, ◌==◌, ℕ, zero, suc, Bool, true, false, not, ◌&&◌, List, [], ◌∷◌, codes, slice_get, Option, Some, None, IsTrue}
+use Rattle.std.specs.Prelude.{◌≡◌, ◌≢◌, ◌==◌, ◌⊎◌, ℕ, zero, suc, Bool, true, false, not, ◌&&◌, ◌||◌, List, [], ◌∷◌, ◌++◌, codes, slice_get, Option, Some, None, IsTrue}
 use Rattle.std.specs.Str.{bytes_eq}
 use Rattle.std.specs.List.{list_any, list_all}
 use Rattle.sqlite_value.specs.declared.keys.Collation.{Collation}
@@ -17,8 +17,9 @@ use Rattle.sqlite.specs.State.{State}
 use Rattle.statements.specs.Schema.{meta_table, version_table, edition_table}
 use Rattle.statements.specs.Rows.{Kept}
 use Rattle.statements.specs.Making.{HasMeta, told_version, version_in, HasEdition, edition_in}
-use Rattle.statements.specs.Tables.{Tables, Holds, HoldsFirst, first_tables, our_tables}
-use Rattle.tables.specs.Stores.{IsSoundStore, is_in_schema, second_tables}
+use Rattle.statements.specs.Tables.{Tables, Holds, HoldsFirst, HoldsSecond, first_tables, second_tables, third_tables, our_tables}
+use Rattle.tables.specs.Stores.{IsSoundStore, is_in_schema}
+use Rattle.tables.specs.Versions.{Becomes, KeepsBeside}
 
 -- The database that was seen last is sound, and it is what the connection has committed, as long as no fault has shut it.
 pub record IsSoundKeep (seen : Database) (s : State) : Type 0 where
@@ -29,12 +30,17 @@ pub record IsSoundKeep (seen : Database) (s : State) : Type 0 where
 abbrev pub any_there : Schema → Bool
 any_there s = list_any (is_in_schema s) our_tables
 
--- whether the tables of a version are there, and none of a later one
+-- whether the tables that the database has of ours are those of a version: all of them, and none that a later one added
 abbrev pub all_there : ℕ → Schema → Bool
 all_there zero s = false
-all_there (suc zero) s = list_all (is_in_schema s) first_tables && not (list_any (is_in_schema s) second_tables)
-all_there (suc (suc zero)) s = list_all (is_in_schema s) our_tables
-all_there (suc (suc (suc n))) s = false
+all_there (suc zero) s = list_all (is_in_schema s) first_tables && not (list_any (is_in_schema s) (second_tables ++ third_tables))
+all_there (suc (suc zero)) s = list_all (is_in_schema s) (first_tables ++ second_tables) && not (list_any (is_in_schema s) third_tables)
+all_there (suc (suc (suc zero))) s = list_all (is_in_schema s) our_tables
+all_there (suc (suc (suc (suc n)))) s = false
+
+-- whether the version of these tables is told by edition
+abbrev pub tells_edition : Schema → Bool
+tells_edition s = all_there 2 s || all_there 3 s
 
 -- ---- whether the tables that tell the version have the columns of ours
 
@@ -128,16 +134,30 @@ has_versions s = has_versions_at s (table_named s version_table.name)
 abbrev pub TellsIn : ℕ → Database → Type 0
 TellsIn zero db = ⊥
 TellsIn (suc zero) db = (t : Tables) → HoldsFirst db t → version_in t ≡ Some 1
-TellsIn (suc (suc zero)) db = (t : Tables) → Holds db t → edition_in t ≡ Some 2
-TellsIn (suc (suc (suc n))) db = ⊥
+TellsIn (suc (suc zero)) db = (t : Tables) → HoldsSecond db t → edition_in t ≡ Some 2
+TellsIn (suc (suc (suc zero))) db = (t : Tables) → Holds db t → edition_in t ≡ Some 3
+TellsIn (suc (suc (suc (suc n)))) db = ⊥
+
+abbrev pub EditionTells : ℕ → Database → Type 0
+EditionTells n db = (table : Table) (editions : List (Kept ℕ)) → HasEdition db table editions → told_version editions ≡ Some n
 
 -- the same, whatever else the table that tells it is
 abbrev pub ToldBy : ℕ → Database → Type 0
 ToldBy zero db = ⊥
 ToldBy (suc zero) db = (table : Table) (metas : List (Kept ℕ)) → HasMeta db table metas → told_version metas ≡ Some 1
-ToldBy (suc (suc zero)) db = (table : Table) (editions : List (Kept ℕ)) → HasEdition db table editions → told_version editions ≡ Some 2
-ToldBy (suc (suc (suc n))) db = ⊥
+ToldBy (suc (suc zero)) db = EditionTells 2 db
+ToldBy (suc (suc (suc zero))) db = EditionTells 3 db
+ToldBy (suc (suc (suc (suc n)))) db = ⊥
 
--- the database tells no version, or another than those that there are
-abbrev pub IsOther : State → Type 0
-IsOther s = (all_there 1 s.now.schema ≡ true → (t : Tables) → HoldsFirst s.now t → version_in t ≢ Some 1) × ((t : Tables) → Holds s.now t → edition_in t ≢ Some 2)
+-- The database tells no version, or another than that of the tables which it has.
+pub record IsOther (s : State) : Type 0 where
+  pub first : all_there 1 s.now.schema ≡ true → (t : Tables) → HoldsFirst s.now t → version_in t ≢ Some 1
+  pub second : all_there 2 s.now.schema ≡ true → (t : Tables) → HoldsSecond s.now t → edition_in t ≢ Some 2
+  pub third : (t : Tables) → Holds s.now t → edition_in t ≢ Some 3
+
+-- ---- what is given back where the database wasn't opened
+
+-- The rows are as they were; or a database of the first version has become one of the second, with the same records.
+pub record GivesBack (old new : State) : Type 0 where
+  pub was_open : IsTrue new.is_open → IsTrue old.is_open
+  pub committed : IsTrue new.is_open → (new.committed ≡ old.committed) ⊎ ((all_there 1 old.committed.schema ≡ true) × Becomes 1 2 old.committed new.committed × KeepsBeside 1 2 old.committed new.committed)

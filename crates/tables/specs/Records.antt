@@ -3,6 +3,7 @@ use Rattle.std.specs.Prelude.{ℕ, Bool, List, [], map, filter, Option, None, op
 use Rattle.std.specs.Option.{unwrap_or}
 use Rattle.std.specs.Str.{bytes_eq}
 use Rattle.std.specs.FinMap.{FinMap, from_entries}
+use Rattle.basis.specs.declared.numbers.TheConstants.{FIRST_KEPT}
 use Rattle.basis.specs.declared.roles.Role.{Role}
 use Rattle.basis.specs.declared.roles.Bounds.{Bounds}
 use Rattle.basis.specs.declared.roles.Caller.{Caller}
@@ -25,13 +26,14 @@ use Rattle.statements.specs.declared.rows.Workspace.{Workspace as WorkspaceCells
 use Rattle.statements.specs.Rows.{Kept, TokenRow}
 use Rattle.statements.specs.Tables.{Tables}
 use Rattle.statements.specs.Changes.{is_ws_of, is_version_of, is_run_of}
-use Rattle.statements.specs.Finds.{cap_of, named_role_of, bound_of, workspace_of}
+use Rattle.statements.specs.Finds.{cap_of, named_role_of, bound_of, keep_of, workspace_of}
 use Rattle.texts.specs.Texts.{text_of}
 
 -- ---- what cells denote
 
-abbrev pub settings_of_cells : WorkspaceCells → Settings
-settings_of_cells w = record { auto_apply = w.auto }
+-- how many versions a workspace keeps stands in a row of its own
+abbrev pub settings_of_cells : ℕ → WorkspaceCells → Settings
+settings_of_cells keep w = record { auto_apply = w.auto; keep_versions = keep }
 
 abbrev pub holder_of_cells : HolderCells → Holder
 holder_of_cells cells.Nobody = Nobody
@@ -59,9 +61,9 @@ abbrev pub token_of_cells : Bounds → TokenCells → Token
 token_of_cells bounds t = record { digest = t.digest; caller = caller_with t.role bounds }
 
 -- a workspace with its versions and runs, which have rows of their own
-abbrev pub workspace_of_cells : WorkspaceCells → List Version → List Run → Workspace
-workspace_of_cells w versions runs = record {
-  settings = settings_of_cells w;
+abbrev pub workspace_of_cells : ℕ → WorkspaceCells → List Version → List Run → Workspace
+workspace_of_cells keep w versions runs = record {
+  settings = settings_of_cells keep w;
   holder = holder_of_cells w.holder;
   released = w.released;
   next_version = w.next_version;
@@ -83,9 +85,13 @@ versions_at t org ws = map (λ x. version_at t org ws x.1.it) (filter (is_versio
 abbrev pub runs_at : Tables → List ℕ → List ℕ → List Run
 runs_at t org ws = map (λ x. run_of_cells x.1.it) (filter (is_run_of org ws) t.runs)
 
+-- How many versions a workspace keeps. One without a row of that, as all are in the versions before the third, keeps what one keeps at first.
+abbrev pub keep_at : Tables → List ℕ → List ℕ → ℕ
+keep_at t org ws = unwrap_or (keep_of org ws t) FIRST_KEPT
+
 -- the workspace that a row denotes
 abbrev pub workspace_at : Tables → List ℕ → List ℕ → WorkspaceCells → Workspace
-workspace_at t org ws cells_of = workspace_of_cells cells_of (versions_at t org ws) (runs_at t org ws)
+workspace_at t org ws cells_of = workspace_of_cells (keep_at t org ws) cells_of (versions_at t org ws) (runs_at t org ws)
 
 -- the workspace of an organization and a name, if it has a row
 abbrev pub workspace_by : Tables → List ℕ → List ℕ → Option Workspace

@@ -9,7 +9,7 @@ ghost use Rattle.tables.specs.Records.{holder_of_cells};
 ghost use Rattle.tables.specs.Inner.Looks.{Sees};
 ghost use Rattle.tables.specs.Inner.Lists.{SeesLawful, version_row_in, versions_listed_in, run_row_in, runs_listed_in, newest_number_in, ws_row_in, workspaces_listed_in, token_row_in, tokens_listed_in, tokens_told_in, org_row_in, organizations_listed_in};
 
-use crate::looks::{caller_as, limit_of, lock_id_of, moment_of, number_of};
+use crate::looks::{caller_as, keep, limit_of, lock_id_of, moment_of, number_of};
 use basis::{
     HolderId, Items, Listing, Number, Prefix, RunRow, Settings, Text, VersionRow, WsName, WsRow,
 };
@@ -158,11 +158,13 @@ fn ws_row<S: Alter>(
     ensures is_open { HasCleanDisk (state S.Store conn.new) → OnOk result (IsTrue (state S.Store conn.new).is_open) }
 {
     let version = newest_number(conn, org, workspace.name.as_str())?;
+    let keep = keep(conn, org, workspace.name.as_str())?;
     let holder = holder_id_of(alloc, &workspace.it.holder)?;
     let name = ws_name_of(alloc, &workspace.name)?;
     Ok(WsRow {
         settings: Settings {
             auto_apply: workspace.it.auto,
+            keep_versions: keep,
         },
         holder,
         name,

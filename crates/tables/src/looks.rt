@@ -2,28 +2,26 @@
 ghost use Rattle.std.specs.Prelude.{◌≡◌, length, false, cond, is_some, option_map, option_copied, Option, IsTrue, IfOk, OnOk, ◌^◌, ◌<◌, unwrap_or};
 ghost use Rattle.sqlite.specs.Held.{state};
 ghost use Rattle.sqlite.specs.State.{HasCleanDisk};
-ghost use Rattle.statements.specs.Finds.{size_of, status_at_number, run_at_number, workspaces_of, first_waiting_of, open_runs_of};
+ghost use Rattle.statements.specs.Finds.{size_of, status_at_number, run_at_number, number_back, workspaces_of, first_waiting_of, open_runs_of};
 ghost use Rattle.machine.specs.Needs.{needed_of};
 ghost use Rattle.machine.specs.Units.{if_needed};
 ghost use Rattle.texts.specs.Texts.{pages_for, are_pieces};
-ghost use Rattle.tables.specs.Records.{bounds_of_cells, caller_with, bounds_at, caller_by, settings_of_cells, holder_of_cells, run_of_cells};
+ghost use Rattle.tables.specs.Records.{bounds_of_cells, caller_with, bounds_at, caller_by, keep_at, holder_of_cells, run_of_cells};
 ghost use Rattle.tables.specs.Inner.Units.{holder_status_in, text_in, has_text, newest_by, newest_in, outgoing_in, has_version_in, keyed_cells_in, asked_cells_in, unit_in};
 ghost use Rattle.tables.specs.Inner.Looks.{Sees, absent_in, runs_in, around_in, unit_from, present_in};
 
 use basis::{
-    Bounds, Bytes, Caller, Limit, LockId, Moment, Number, Prefix, Role, RunStatus, Settings, Text,
+    Bounds, Bytes, Caller, KeepCount, Limit, LockId, Moment, Number, Prefix, Role, RunStatus,
+    Settings, Text,
 };
-use machine::{Holder, MAX_VERSIONS, Needs, Newest, Run, Unit, WorkspaceUnit};
+use machine::{Holder, Needs, Newest, Run, Staying, Unit, WorkspaceUnit};
 use sqlite::{Alter, Connection, Error, ErrorCode};
 use statements::rows::{
     Bound as BoundCells, Head, Holder as HolderCells, NamedRole, Run as RunCells,
     Workspace as WorkspaceCells,
 };
-use statements::{bounds, organizations, runs, tokens, versions, workspaces};
+use statements::{bounds, keepings, organizations, runs, tokens, versions, workspaces};
 use std::alloc::Global;
-
-/// How many versions stand behind the newest of those that go as one more comes.
-const VERSIONS_BEHIND: u64 = MAX_VERSIONS as u64 - 1;
 
 /// What a decision needs of the runs of a workspace.
 #[derive(Drop)]
@@ -208,19 +206,47 @@ fn newest_if<S: Alter>(
     }
 }
 
-/// The greatest number of the versions that go as one more comes, where it is needed.
-fn outgoing_if<S: Alter>(
+/// How many versions a workspace keeps. One without a row of that keeps what one keeps at first.
+pub(crate) fn keep<S: Alter>(
     conn: &mut Connection<S>,
     org: &str,
     ws: &str,
-    needed: bool,
-) -> Result<Option<u64>, Error>
-    ensures looks { Sees (λ t. if_needed needed (outgoing_in org.now ws.now t)) (state S.Store conn.old) (state S.Store conn.new) result }
+) -> Result<KeepCount, Error>
+    ensures looks { Sees (λ t. keep_at t org.now ws.now) (state S.Store conn.old) (state S.Store conn.new) result }
+    ensures is_open { HasCleanDisk (state S.Store conn.new) → OnOk result (IsTrue (state S.Store conn.new).is_open) }
 {
-    if needed {
-        versions::number_back(conn, org, ws, VERSIONS_BEHIND)
-    } else {
-        Ok(None)
+    match keepings::find(conn, org, ws)? {
+        None => Ok(KeepCount::first()),
+        Some(keep) => Ok(keep),
+    }
+}
+
+/// The number of the newest version that so many stand behind.
+fn number_behind<S: Alter>(
+    conn: &mut Connection<S>,
+    org: &str,
+    ws: &str,
+    staying: u32,
+) -> Result<Option<u64>, Error>
+    ensures looks { Sees (number_back org.now ws.now staying) (state S.Store conn.old) (state S.Store conn.new) result }
+{
+    versions::number_back(conn, org, ws, staying as u64)
+}
+
+/// The greatest number of the versions that go, of a workspace that keeps so many: those that stay stand behind it.
+fn outgoing<S: Alter>(
+    conn: &mut Connection<S>,
+    org: &str,
+    ws: &str,
+    staying: Staying,
+    keep: KeepCount,
+) -> Result<Option<u64>, Error>
+    ensures looks { Sees (outgoing_in staying keep org.now ws.now) (state S.Store conn.old) (state S.Store conn.new) result }
+{
+    match staying {
+        Staying::StayAll => Ok(None),
+        Staying::MakeRoom => number_behind(conn, org, ws, keep.get() - 1),
+        Staying::StayAtMost(most) => number_behind(conn, org, ws, most.get()),
     }
 }
 
@@ -551,12 +577,13 @@ fn around<S: Alter>(
     org: &str,
     ws: &str,
     needs: &Needs<'_>,
+    keep: KeepCount,
     holder: &HolderCells,
 ) -> Result<Surroundings, Error>
-    ensures looks { Sees (around_in (needed_of needs.now) org.now ws.now holder.now) (state S.Store conn.old) (state S.Store conn.new) result }
+    ensures looks { Sees (around_in (needed_of needs.now) org.now ws.now keep holder.now) (state S.Store conn.old) (state S.Store conn.new) result }
 {
     let newest = newest_if(conn, org, ws, needs.newest, needs.text)?;
-    let outgoing = outgoing_if(conn, org, ws, needs.outgoing)?;
+    let outgoing = outgoing(conn, org, ws, needs.outgoing, keep)?;
     let has_version = has_version(conn, org, ws, needs.version)?;
     let runs = runs_around(conn, org, ws, needs, holder)?;
     Ok(Surroundings {
@@ -569,10 +596,11 @@ fn around<S: Alter>(
 
 fn unit_by(
     alloc: Global,
+    keep: KeepCount,
     workspace: WorkspaceCells,
     around: Surroundings,
 ) -> Result<WorkspaceUnit, Error>
-    ensures { IfOk result (λ unit. unit ≡ unit_from workspace around) }
+    ensures { IfOk result (λ unit. unit ≡ unit_from keep workspace around) }
 {
     let runs = around.runs;
     let outgoing = optional_number_of(around.outgoing)?;
@@ -583,6 +611,7 @@ fn unit_by(
     Ok(WorkspaceUnit {
         settings: Settings {
             auto_apply: workspace.auto,
+            keep_versions: keep,
         },
         holder,
         holder_status: runs.holder_status,
@@ -608,8 +637,9 @@ fn present<S: Alter>(
 ) -> Result<Unit, Error>
     ensures looks { Sees (present_in (needed_of needs.now) org.now ws.now workspace) (state S.Store conn.old) (state S.Store conn.new) result }
 {
-    let around = around(conn, org, ws, needs, &workspace.holder)?;
-    let unit = unit_by(alloc, workspace, around)?;
+    let keep = keep(conn, org, ws)?;
+    let around = around(conn, org, ws, needs, keep, &workspace.holder)?;
+    let unit = unit_by(alloc, keep, workspace, around)?;
     Ok(Unit::Present(unit))
 }
 

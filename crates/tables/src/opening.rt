@@ -1,16 +1,16 @@
 //! How a database is made ready for a store.
-ghost use Rattle.std.specs.Prelude.{◌≡◌, ◌+◌, true, false, ℕ, List, Option, OnOk, OnErr, IfOk, IfErr};
+ghost use Rattle.std.specs.Prelude.{◌≡◌, ◌≤◌, ◌++◌, true, false, ℕ, List, Option, OnOk, OnErr, IfOk, IfErr};
 ghost use Rattle.std.specs.List.{list_any, list_all};
 ghost use Rattle.std.specs.Str.{bytes_eq};
 ghost use Rattle.sqlite.specs.Held.{state};
 ghost use Rattle.sqlite.specs.State.{HasCleanDisk, KeepsCommit};
 ghost use Rattle.statements.specs.Place.{IsOwn};
 ghost use Rattle.statements.specs.Schema.{meta_table, version_table, edition_table};
-ghost use Rattle.statements.specs.Tables.{first_tables};
-ghost use Rattle.tables.specs.Opening.{any_there, all_there, is_integer_column, is_null, is_plain_column, tells_version, is_first_key, has_none, is_meta_table, is_meta, is_edition, have_names, version_names, has_versions, TellsIn, ToldBy, IsOther};
-ghost use Rattle.tables.specs.Stores.{is_in_schema, second_tables};
-ghost use Rattle.tables.specs.Inner.Making.{IsMade, found_in, TellsFound, FindsOurs, StepsFrom, KeepsBeside, IsClimbed, IsOnWay};
-ghost use Rattle.tables.specs.Versions.{HoldsVersion, version_records};
+ghost use Rattle.statements.specs.Tables.{first_tables, second_tables, third_tables};
+ghost use Rattle.tables.specs.Opening.{any_there, all_there, tells_edition, is_integer_column, is_null, is_plain_column, tells_version, is_first_key, has_none, is_meta_table, is_meta, is_edition, have_names, version_names, has_versions, TellsIn, ToldBy, IsOther, GivesBack};
+ghost use Rattle.tables.specs.Stores.{is_in_schema};
+ghost use Rattle.tables.specs.Inner.Making.{IsMade, found_in, TellsFound, FindsOurs, StepsFrom, IsClimbed, IsOnWay};
+ghost use Rattle.tables.specs.Versions.{HoldsVersion, version_records, KeepsBeside};
 
 use crate::transactions::{self, assert_settled};
 use sqlite::{Alter, Connection, Error};
@@ -30,8 +30,10 @@ pub enum Fault {
 /// The first version of the schema, which the table meta tells. Later ones are told by edition.
 const FIRST: u64 = 1;
 
+const SECOND: u64 = 2;
+
 /// The newest version of the schema.
-const NEWEST: u64 = 2;
+const NEWEST: u64 = 3;
 
 /// What a database has of ours.
 #[derive(Clone, Copy)]
@@ -66,10 +68,24 @@ fn any_second_there(schema: &Schema) -> bool
         || schema.table_named(b"edition".as_slice()).is_some()
 }
 
+/// Whether the table is there that the third version added.
+fn any_third_there(schema: &Schema) -> bool
+    ensures { result ≡ list_any (is_in_schema schema.now) third_tables }
+{
+    schema.table_named(b"keeping".as_slice()).is_some()
+}
+
+/// Whether one of the tables is there that later versions than the first added.
+fn any_later_there(schema: &Schema) -> bool
+    ensures { result ≡ list_any (is_in_schema schema.now) (second_tables ++ third_tables) }
+{
+    any_second_there(schema) || any_third_there(schema)
+}
+
 fn any_there(schema: &Schema) -> bool
     ensures { result ≡ any_there schema.now }
 {
-    any_first_there(schema) || any_second_there(schema)
+    any_first_there(schema) || any_later_there(schema)
 }
 
 /// Whether all tables of the first version are there.
@@ -86,20 +102,41 @@ fn has_first(schema: &Schema) -> bool
         && schema.table_named(b"vpage".as_slice()).is_some()
 }
 
-/// Whether the tables of the first version are there, and none that a later one added.
-fn first_there(schema: &Schema) -> bool
-    ensures { result ≡ all_there 1 schema.now }
-{
-    has_first(schema) && !any_second_there(schema)
-}
-
-/// Whether all tables are there.
-fn all_there(schema: &Schema) -> bool
-    ensures { result ≡ all_there 2 schema.now }
+/// Whether all tables of the second version are there.
+fn has_second(schema: &Schema) -> bool
+    ensures { result ≡ list_all (is_in_schema schema.now) (first_tables ++ second_tables) }
 {
     has_first(schema)
         && schema.table_named(b"bound".as_slice()).is_some()
         && schema.table_named(b"edition".as_slice()).is_some()
+}
+
+/// Whether the tables of the first version are there, and none that a later one added.
+fn first_there(schema: &Schema) -> bool
+    ensures { result ≡ all_there 1 schema.now }
+{
+    has_first(schema) && !any_later_there(schema)
+}
+
+/// Whether the tables of the second version are there, and not the one that the third added.
+fn second_there(schema: &Schema) -> bool
+    ensures { result ≡ all_there 2 schema.now }
+{
+    has_second(schema) && !any_third_there(schema)
+}
+
+/// Whether all tables are there.
+fn all_there(schema: &Schema) -> bool
+    ensures { result ≡ all_there 3 schema.now }
+{
+    has_second(schema) && schema.table_named(b"keeping".as_slice()).is_some()
+}
+
+/// Whether the version of these tables is told by edition.
+fn tells_edition(schema: &Schema) -> bool
+    ensures { result ≡ tells_edition schema.now }
+{
+    second_there(schema) || all_there(schema)
 }
 
 /// Whether a column has this name, and takes integers alone.
@@ -269,10 +306,11 @@ fn find_first<S: Alter>(conn: &mut Connection<S>) -> Result<Found, Error>
     }
 }
 
-/// Whether edition tells the newest version, where the tables of that are there.
-fn find_newest<S: Alter>(conn: &mut Connection<S>) -> Result<Found, Error>
+/// Whether edition tells this version, where the tables of it are there.
+fn find_later<S: Alter>(conn: &mut Connection<S>, version: u64) -> Result<Found, Error>
     requires idle { conn.old.in_transaction ≡ false }
-    requires there { all_there 2 (state S.Store conn.old).now.schema ≡ true }
+    requires there { all_there version (state S.Store conn.old).now.schema ≡ true }
+    requires later { 2 ≤ version }
     ensures idle { conn.new.in_transaction ≡ false }
     ensures so_far { HasCleanDisk (state S.Store conn.new) → HasCleanDisk (state S.Store conn.old) }
     ensures found { HasCleanDisk (state S.Store conn.new) → IfOk result (λ found. TellsFound found (state S.Store conn.old) (state S.Store conn.new)) }
@@ -280,7 +318,7 @@ fn find_newest<S: Alter>(conn: &mut Connection<S>) -> Result<Found, Error>
 {
     assert_settled(conn);
     match making::edition(conn) {
-        Ok(told) => Ok(found_in(NEWEST, told)),
+        Ok(told) => Ok(found_in(version, told)),
         Err(error) => Err(error),
     }
 }
@@ -292,19 +330,22 @@ fn find_version<S: Alter>(conn: &mut Connection<S>) -> Result<Found, Error>
     ensures so_far { HasCleanDisk (state S.Store conn.new) → HasCleanDisk (state S.Store conn.old) }
     ensures found { HasCleanDisk (state S.Store conn.new) → IfOk result (λ found. TellsFound found (state S.Store conn.old) (state S.Store conn.new)) }
     ensures err { HasCleanDisk (state S.Store conn.new) → OnErr result (KeepsCommit (state S.Store conn.old) (state S.Store conn.new)) }
-    ensures edition { all_there 2 (state S.Store conn.old).now.schema ≡ true → is_edition (state S.Store conn.old).now.schema ≡ false → IfOk result (λ found. found ≡ Found.Other) × IfErr result (λ _. ⊥) }
-    ensures missing { all_there 1 (state S.Store conn.old).now.schema ≡ false → all_there 2 (state S.Store conn.old).now.schema ≡ false → IfOk result (λ found. found ≡ Found.Other) × IfErr result (λ _. ⊥) }
+    ensures edition { tells_edition (state S.Store conn.old).now.schema ≡ true → is_edition (state S.Store conn.old).now.schema ≡ false → IfOk result (λ found. found ≡ Found.Other) × IfErr result (λ _. ⊥) }
+    ensures missing { all_there 1 (state S.Store conn.old).now.schema ≡ false → tells_edition (state S.Store conn.old).now.schema ≡ false → IfOk result (λ found. found ≡ Found.Other) × IfErr result (λ _. ⊥) }
 {
     if first_there(conn.schema()) {
         return find_first(conn);
     }
-    if !all_there(conn.schema()) {
+    if !tells_edition(conn.schema()) {
         return Ok(Found::Other);
     }
     if !is_edition(conn.schema()) {
         return Ok(Found::Other);
     }
-    find_newest(conn)
+    if second_there(conn.schema()) {
+        return find_later(conn, SECOND);
+    }
+    find_later(conn, NEWEST)
 }
 
 /// Finds what a database has of ours.
@@ -316,9 +357,9 @@ fn find<S: Alter>(conn: &mut Connection<S>) -> Result<Found, Error>
     ensures err { HasCleanDisk (state S.Store conn.new) → OnErr result (KeepsCommit (state S.Store conn.old) (state S.Store conn.new)) }
     ensures nothing { HasCleanDisk (state S.Store conn.new) → IfOk result (λ found. found ≡ Found.Nothing → conn.new ≡ conn.old) }
     ensures foreign { any_there (state S.Store conn.old).now.schema ≡ true → is_meta (state S.Store conn.old).now.schema ≡ false → IfOk result (λ found. found ≡ Found.Other) × IfErr result (λ _. ⊥) }
-    ensures edition { any_there (state S.Store conn.old).now.schema ≡ true → all_there 2 (state S.Store conn.old).now.schema ≡ true → is_edition (state S.Store conn.old).now.schema ≡ false
+    ensures edition { any_there (state S.Store conn.old).now.schema ≡ true → tells_edition (state S.Store conn.old).now.schema ≡ true → is_edition (state S.Store conn.old).now.schema ≡ false
         → IfOk result (λ found. found ≡ Found.Other) × IfErr result (λ _. ⊥) }
-    ensures missing { any_there (state S.Store conn.old).now.schema ≡ true → all_there 1 (state S.Store conn.old).now.schema ≡ false → all_there 2 (state S.Store conn.old).now.schema ≡ false
+    ensures missing { any_there (state S.Store conn.old).now.schema ≡ true → all_there 1 (state S.Store conn.old).now.schema ≡ false → tells_edition (state S.Store conn.old).now.schema ≡ false
         → IfOk result (λ found. found ≡ Found.Other) × IfErr result (λ _. ⊥) }
     ensures older { any_there (state S.Store conn.old).now.schema ≡ true → has_versions (state S.Store conn.old).now.schema ≡ false → IfOk result (λ found. found ≡ Found.Other) × IfErr result (λ _. ⊥) }
 {
@@ -340,10 +381,10 @@ fn step<S: Alter>(conn: &mut Connection<S>, from: u64) -> Result<(), Error>
     ensures idle { conn.new.in_transaction ≡ false }
     ensures so_far { HasCleanDisk (state S.Store conn.new) → HasCleanDisk (state S.Store conn.old) }
     ensures done { HasCleanDisk (state S.Store conn.new) → StepsFrom from (state S.Store conn.old) (state S.Store conn.new) result }
-    ensures beside { from ≡ FIRST → HasCleanDisk (state S.Store conn.new) → OnOk result (KeepsBeside (state S.Store conn.old).committed (state S.Store conn.new).committed) }
 {
     match from {
         FIRST => transactions::raise(conn),
+        SECOND => transactions::raise_third(conn),
         // No other version has a next one.
         _ => Err(Error::InvalidQuery),
     }
@@ -356,8 +397,6 @@ fn climb<S: Alter>(conn: &mut Connection<S>, from: u64) -> Result<(), Error>
     ensures so_far { HasCleanDisk (state S.Store conn.new) → HasCleanDisk (state S.Store conn.old) }
     ensures climbed { HasCleanDisk (state S.Store conn.new) → OnOk result (IsClimbed from (state S.Store conn.old) (state S.Store conn.new)) × OnErr result (IsOnWay from (state S.Store conn.old) (state S.Store conn.new)) }
     ensures newest { from ≡ NEWEST → (conn.new ≡ conn.old) × IfErr result (λ _. ⊥) }
-    ensures beside { from ≡ FIRST → HasCleanDisk (state S.Store conn.new) → OnOk result (KeepsBeside (state S.Store conn.old).committed (state S.Store conn.new).committed) }
-    ensures last { from + 1 ≡ NEWEST → HasCleanDisk (state S.Store conn.new) → OnErr result (KeepsCommit (state S.Store conn.old) (state S.Store conn.new)) }
 {
     for at in from..NEWEST {
         step(conn, at)?;
@@ -373,16 +412,18 @@ pub(crate) fn ready<S: Alter>(conn: &mut Connection<S>) -> Result<(), Fault>
     ensures made { HasCleanDisk (state S.Store conn.new) → OnOk result (any_there (state S.Store conn.old).now.schema ≡ false → IsMade (state S.Store conn.old) (state S.Store conn.new)) }
     ensures told { HasCleanDisk (state S.Store conn.new) → OnOk result ((n : ℕ) → all_there n (state S.Store conn.old).now.schema ≡ true
         → TellsIn n (state S.Store conn.old).now × ToldBy n (state S.Store conn.old).now) }
-    ensures stays { HasCleanDisk (state S.Store conn.new) → OnOk result (all_there 2 (state S.Store conn.old).now.schema ≡ true → (state S.Store conn.new).committed ≡ (state S.Store conn.old).now) }
-    ensures beside { HasCleanDisk (state S.Store conn.new) → OnOk result (all_there 1 (state S.Store conn.old).now.schema ≡ true → KeepsBeside (state S.Store conn.old).now (state S.Store conn.new).committed) }
+    ensures stays { HasCleanDisk (state S.Store conn.new) → OnOk result (all_there NEWEST (state S.Store conn.old).now.schema ≡ true → (state S.Store conn.new).committed ≡ (state S.Store conn.old).now) }
+    ensures beside { HasCleanDisk (state S.Store conn.new) → OnOk result ((n : ℕ) → all_there n (state S.Store conn.old).now.schema ≡ true → KeepsBeside n NEWEST (state S.Store conn.old).now (state S.Store conn.new).committed) }
     ensures climbed { HasCleanDisk (state S.Store conn.new) → OnOk result ((n : ℕ) → HoldsVersion n (state S.Store conn.old).now
         → HoldsVersion NEWEST (state S.Store conn.new).committed × ((o : List ℕ) → version_records NEWEST (state S.Store conn.new).committed o ≡ version_records n (state S.Store conn.old).now o)) }
-    ensures err { HasCleanDisk (state S.Store conn.new) → OnErr result (KeepsCommit (state S.Store conn.old) (state S.Store conn.new)) }
+    ensures err { HasCleanDisk (state S.Store conn.new) → OnErr result (GivesBack (state S.Store conn.old) (state S.Store conn.new)) }
     ensures other { HasCleanDisk (state S.Store conn.new) → IfErr result (λ fault. fault ≡ Fault.Schema → (any_there (state S.Store conn.old).now.schema ≡ true) × IsOther (state S.Store conn.old)) }
+    ensures kept { HasCleanDisk (state S.Store conn.new) → IfErr result (λ fault. fault ≡ Fault.Schema → KeepsCommit (state S.Store conn.old) (state S.Store conn.new)) }
     ensures foreign { any_there (state S.Store conn.old).now.schema ≡ true → is_meta (state S.Store conn.old).now.schema ≡ false → IfErr result (λ fault. fault ≡ Fault.Schema) × IfOk result (λ _. ⊥) }
-    ensures edition { any_there (state S.Store conn.old).now.schema ≡ true → all_there 2 (state S.Store conn.old).now.schema ≡ true → is_edition (state S.Store conn.old).now.schema ≡ false
+    ensures edition { any_there (state S.Store conn.old).now.schema ≡ true → tells_edition (state S.Store conn.old).now.schema ≡ true → is_edition (state S.Store conn.old).now.schema ≡ false
         → IfErr result (λ fault. fault ≡ Fault.Schema) × IfOk result (λ _. ⊥) }
-    ensures missing { any_there (state S.Store conn.old).now.schema ≡ true → all_there 1 (state S.Store conn.old).now.schema ≡ false → all_there 2 (state S.Store conn.old).now.schema ≡ false → IfErr result (λ fault. fault ≡ Fault.Schema) × IfOk result (λ _. ⊥) }
+    ensures missing { any_there (state S.Store conn.old).now.schema ≡ true → all_there 1 (state S.Store conn.old).now.schema ≡ false → tells_edition (state S.Store conn.old).now.schema ≡ false
+        → IfErr result (λ fault. fault ≡ Fault.Schema) × IfOk result (λ _. ⊥) }
     ensures older { any_there (state S.Store conn.old).now.schema ≡ true → has_versions (state S.Store conn.old).now.schema ≡ false → IfErr result (λ fault. fault ≡ Fault.Schema) × IfOk result (λ _. ⊥) }
 {
     match find(conn) {

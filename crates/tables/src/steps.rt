@@ -3,19 +3,19 @@ ghost use Rattle.std.specs.Prelude.{◌≡◌, ◌+◌, ◌<◌, ◌^◌, cond, 
 ghost use Rattle.sqlite.specs.Held.{state};
 ghost use Rattle.statements.specs.Changes.{run_acted};
 ghost use Rattle.statements.specs.Finds.{size_of};
-ghost use Rattle.tables.specs.Inner.Edits.{version_gone, oldest_gone, gone_below, all_gone, removed_rows, made_rows, numbered_rows, row_added, added_rows, versioned_rows, run_put, run_counted, run_rows, freed_rows, edited_rows, begun_rows, changed_rows, FitsTwins, TakesVersion, TakesEdit};
+ghost use Rattle.tables.specs.Inner.Edits.{version_gone, oldest_gone, gone_below, all_gone, removed_rows, made_rows, configured_rows, numbered_rows, row_added, added_rows, versioned_rows, run_put, run_counted, run_rows, freed_rows, edited_rows, begun_rows, changed_rows, FitsTwins, TakesVersion, TakesEdit};
 ghost use Rattle.tables.specs.Inner.Steps.{TellsIn, FindsIn, FindsOldest, StepsBy};
 
-use basis::numbers::MAX_NUMBER;
-use basis::{Moment, Number, RunAction, RunAsk, RunStatus, Text};
-use machine::{Change, Edit, MAX_VERSIONS, Version};
+use basis::numbers::{MAX_KEPT, MAX_NUMBER};
+use basis::{Moment, Number, RunAction, RunAsk, RunStatus, Settings, Text};
+use machine::{Change, Edit, Version};
 use pages::PageKey;
 use sqlite::{Alter, Error, Transaction};
 use statements::rows::Head;
-use statements::{runs, versions, workspaces};
+use statements::{keepings, runs, versions, workspaces};
 
-/// The most versions that go at once: a workspace keeps so many, and one more has come before others go.
-const MOST_GONE: usize = MAX_VERSIONS + 1;
+/// The most versions that go at once: a workspace keeps no more, and one more has come before others go.
+const MOST_GONE: usize = MAX_KEPT as usize + 1;
 
 /// No version has this number or a greater one.
 const BEYOND: u64 = MAX_NUMBER as u64 + 1;
@@ -95,11 +95,16 @@ fn remove<S: Alter>(tx: &mut Transaction<'_, S>, org: &str, ws: &str) -> Result<
 }
 
 /// Makes a workspace. It has no versions and no runs.
-fn make<S: Alter>(tx: &mut Transaction<'_, S>, org: &str, ws: &str, auto: bool) -> Result<(), Error>
-    ensures { StepsBy S.Store (made_rows org.now ws.now auto) tx.old tx.new result }
+fn make<S: Alter>(
+    tx: &mut Transaction<'_, S>,
+    org: &str,
+    ws: &str,
+    settings: &Settings,
+) -> Result<(), Error>
+    ensures { StepsBy S.Store (made_rows org.now ws.now settings.now) tx.old tx.new result }
 {
     remove(tx, org, ws)?;
-    workspaces::add(tx, org, ws, auto)
+    workspaces::add(tx, org, ws, settings.auto_apply, settings.keep_versions)
 }
 
 /// No version has this number yet, or nothing comes.
@@ -183,6 +188,24 @@ fn forget<S: Alter>(
 {
     let last = last.get() as u64;
     remove_below(tx, org, ws, last + 1)
+}
+
+/// Sets the settings of a workspace, and lets the versions with numbers up to `outgoing` go.
+fn configure<S: Alter>(
+    tx: &mut Transaction<'_, S>,
+    org: &str,
+    ws: &str,
+    settings: &Settings,
+    outgoing: Option<Number>,
+) -> Result<(), Error>
+    ensures { StepsBy S.Store (configured_rows org.now ws.now settings.now outgoing) tx.old tx.new result }
+{
+    workspaces::set_auto(tx, org, ws, settings.auto_apply)?;
+    keepings::set(tx, org, ws, settings.keep_versions)?;
+    match outgoing {
+        None => Ok(()),
+        Some(last) => forget(tx, org, ws, last),
+    }
 }
 
 /// Puts a version behind the others, and lets those with numbers up to `outgoing` go.
@@ -332,8 +355,8 @@ fn edit<K: PageKey, S: Alter>(
     ensures takes { TellsIn (TakesEdit K.key_of org.now ws.now edit.now) (state S.Store tx.old.conn.now) (state S.Store tx.new.conn.now) result }
 {
     match edit {
-        Edit::Make(settings) => make(tx, org, ws, settings.auto_apply),
-        Edit::Configure(settings) => workspaces::set_auto(tx, org, ws, settings.auto_apply),
+        Edit::Make(settings) => make(tx, org, ws, settings),
+        Edit::Configure { settings, outgoing } => configure(tx, org, ws, settings, *outgoing),
         Edit::Remove => remove(tx, org, ws),
         Edit::AddVersion { version, outgoing } => put::<K, S>(tx, org, ws, version, *outgoing),
         Edit::Purge => purge(tx, org, ws),

@@ -5,7 +5,7 @@ ghost use Rattle.sqlite.specs.State.{HasCleanDisk, KeepsCommit};
 ghost use Rattle.statements.specs.Changes.{org_row_added, org_capped, token_added, token_removed};
 ghost use Rattle.statements.specs.Steps.{WritesBy};
 ghost use Rattle.tables.specs.Inner.Edits.{changed_rows, TakesEdit};
-ghost use Rattle.tables.specs.Inner.Making.{IsMade, StepsFrom, KeepsBeside};
+ghost use Rattle.tables.specs.Inner.Making.{IsMade, StepsFrom};
 ghost use Rattle.tables.specs.Inner.Steps.{IsSettled, TransactsBy, TellsCommitted};
 
 use crate::steps;
@@ -53,10 +53,21 @@ pub(crate) fn raise<S: Alter>(conn: &mut Connection<S>) -> Result<(), Error>
     ensures idle { conn.new.in_transaction ≡ false }
     ensures so_far { HasCleanDisk (state S.Store conn.new) → HasCleanDisk (state S.Store conn.old) }
     ensures done { HasCleanDisk (state S.Store conn.new) → StepsFrom 1 (state S.Store conn.old) (state S.Store conn.new) result }
-    ensures beside { HasCleanDisk (state S.Store conn.new) → OnOk result (KeepsBeside (state S.Store conn.old).committed (state S.Store conn.new).committed) }
 {
     let mut tx = begin(conn);
     making::raise_schema(&mut tx)?;
+    tx.commit()
+}
+
+/// Takes a database of the second version to the third.
+pub(crate) fn raise_third<S: Alter>(conn: &mut Connection<S>) -> Result<(), Error>
+    requires idle { conn.old.in_transaction ≡ false }
+    ensures idle { conn.new.in_transaction ≡ false }
+    ensures so_far { HasCleanDisk (state S.Store conn.new) → HasCleanDisk (state S.Store conn.old) }
+    ensures done { HasCleanDisk (state S.Store conn.new) → StepsFrom 2 (state S.Store conn.old) (state S.Store conn.new) result }
+{
+    let mut tx = begin(conn);
+    making::raise_third(&mut tx)?;
     tx.commit()
 }
 

@@ -1,5 +1,7 @@
 //! Acts of each kind on a workspace, as what is asked of two stores.
-use basis::{Bytes, Down, LockId, Look, Number, RunAction, RunAsk, Settings, StateHead, Text};
+use basis::{
+    Bytes, Down, KeepCount, LockId, Look, Number, RunAction, RunAsk, SettingsAsk, StateHead, Text,
+};
 use machine::Act;
 use std::alloc::{AllocError, Global};
 
@@ -17,6 +19,9 @@ pub struct Known {
 
 /// How far the versions that are asked of stand behind the next one.
 const VERSIONS_BACK: &[u64] = &[0, 1, 2, 100, 101];
+
+/// How many versions are to be kept, where that is asked.
+const KEPT: &[u64] = &[1, 2, 5, 100, 1_000];
 
 /// How far the runs that are asked of stand behind the next one.
 const RUNS_BACK: &[u64] = &[0, 1, 2];
@@ -57,8 +62,24 @@ fn push_runs(acts: &mut Vec<Act>, next: u64) -> Result<(), Down> {
     Ok(())
 }
 
+fn push_settings(acts: &mut Vec<Act>, keep_versions: Option<KeepCount>) -> Result<(), Down> {
+    acts.push(Act::PutWorkspace(SettingsAsk {
+        auto_apply: true,
+        keep_versions,
+    }))?;
+    Ok(())
+}
+
+// Settings without a number of versions, and with some.
+fn push_all_settings(acts: &mut Vec<Act>) -> Result<(), Down> {
+    push_settings(acts, None)?;
+    for kept in KEPT {
+        push_settings(acts, KeepCount::new(*kept))?;
+    }
+    Ok(())
+}
+
 fn push_changes(acts: &mut Vec<Act>) -> Result<(), Down> {
-    acts.push(Act::PutWorkspace(Settings { auto_apply: true }))?;
     acts.push(Act::DeleteWorkspace)?;
     acts.push(Act::PurgeState { lock_id: None })?;
     acts.push(Act::ForceUnlock)?;
@@ -134,6 +155,7 @@ pub fn acts_on(alloc: Global, known: &Known) -> Result<Vec<Act>, Down> {
     push_looks(all)?;
     push_versions(all, known.next_version)?;
     push_runs(all, known.next_run)?;
+    push_all_settings(all)?;
     push_changes(all)?;
     push_locks(alloc, all)?;
     push_made(alloc, all, known.keys.as_slice())?;

@@ -3,7 +3,7 @@ use crate::definitions::{Definitions, Unread};
 use crate::lines::{Line, Mark, Piece, read_line, write_escaped};
 use crate::modes::{Modes, NONE};
 use basis::numbers::whole_number;
-use std::alloc::Global;
+use std::alloc::{AllocError, Global};
 
 /// The most times that a piece is written.
 const MAX_TIMES: u64 = 20_000_000;
@@ -73,44 +73,84 @@ impl<'a> Part<'a> {
             bytes.push(b'\n')?;
         }
         self.is_row = is_row;
-        write_piece(&mut bytes, line, piece, text)?;
+        write_piece(alloc, &mut bytes, line, piece, text)?;
         self.bytes = Some(bytes);
         Ok(())
     }
 }
 
-fn write_piece(bytes: &mut Vec<u8>, line: usize, piece: Piece, text: &str) -> Result<(), Unread> {
+fn write_piece(
+    alloc: Global,
+    bytes: &mut Vec<u8>,
+    line: usize,
+    piece: Piece,
+    text: &str,
+) -> Result<(), Unread> {
     match piece {
         Piece::Row => bytes.extend_from_slice(text.as_bytes())?,
         Piece::Field => {
             bytes.extend_from_slice(text.as_bytes())?;
             bytes.extend_from_slice(b"\r\n")?;
         }
-        Piece::Escaped => write_times(bytes, line, 1, text)?,
-        Piece::Repeated => write_repeated(bytes, line, text)?,
+        Piece::Escaped => write_times(alloc, bytes, line, 1, text)?,
+        Piece::Repeated => write_repeated(alloc, bytes, line, text)?,
     }
     Ok(())
 }
 
-fn write_repeated(bytes: &mut Vec<u8>, line: usize, text: &str) -> Result<(), Unread> {
+fn write_repeated(
+    alloc: Global,
+    bytes: &mut Vec<u8>,
+    line: usize,
+    text: &str,
+) -> Result<(), Unread> {
     let why = "a number of times and a text stand behind `*`";
     let Some((times, text)) = text.split_once(' ') else {
         return Err(Unread { line, why });
     };
     match whole_number(times) {
-        Some(times) if times <= MAX_TIMES => write_times(bytes, line, times, text),
+        Some(times) if times <= MAX_TIMES => write_times(alloc, bytes, line, times, text),
         _ => Err(Unread { line, why }),
     }
 }
 
-fn write_times(bytes: &mut Vec<u8>, line: usize, times: u64, text: &str) -> Result<(), Unread> {
-    for _ in 0..times {
-        if !write_escaped(bytes, text)? {
-            return Err(Unread {
-                line,
-                why: "the escapes are \\r \\n \\t \\\\ and \\xHH",
-            });
+fn write_times(
+    alloc: Global,
+    bytes: &mut Vec<u8>,
+    line: usize,
+    times: u64,
+    text: &str,
+) -> Result<(), Unread> {
+    let mut once = Vec::new(alloc);
+    if !write_escaped(&mut once, text)? {
+        return Err(Unread {
+            line,
+            why: "the escapes are \\r \\n \\t \\\\ and \\xHH",
+        });
+    }
+    repeat(alloc, bytes, once, times)?;
+    Ok(())
+}
+
+// Writes a piece so many times: each power of two of it that the number has.
+fn repeat(
+    alloc: Global,
+    bytes: &mut Vec<u8>,
+    piece: Vec<u8>,
+    times: u64,
+) -> Result<(), AllocError> {
+    let mut power = piece;
+    let mut left = times;
+    for _ in 0..u64::BITS {
+        if left % 2 == 1 {
+            bytes.extend_from_slice(power.as_slice())?;
         }
+        left /= 2;
+        if left == 0 {
+            return Ok(());
+        }
+        let again = Vec::from_slice(alloc, power.as_slice())?;
+        power.extend_from_slice(again.as_slice())?;
     }
     Ok(())
 }
@@ -217,8 +257,12 @@ impl<'a> Book<'a> {
         };
         match self.stories.last_mut() {
             Some(story) if story.plots.is_empty() && story.begins.is_none() => {
-                let stops = story.modes.stops;
-                story.modes = Modes { stops, ..modes };
+                let (stops, large) = (story.modes.stops, story.modes.large);
+                story.modes = Modes {
+                    stops,
+                    large,
+                    ..modes
+                };
                 Ok(())
             }
             Some(_) => Err(Unread {
@@ -242,6 +286,20 @@ impl<'a> Book<'a> {
             _ => Err(Unread {
                 line,
                 why: "`stops` stands before the first step of a story",
+            }),
+        }
+    }
+
+    // Of the story that begins.
+    fn set_large(&mut self, line: usize) -> Result<(), Unread> {
+        match self.stories.last_mut() {
+            Some(story) if story.plots.is_empty() && story.begins.is_none() => {
+                story.modes.large = true;
+                Ok(())
+            }
+            _ => Err(Unread {
+                line,
+                why: "`large` stands before the first step of a story that begins with no file",
             }),
         }
     }
@@ -341,6 +399,7 @@ impl<'a> Book<'a> {
             Line::After(name) => self.set_before(alloc, line, name),
             Line::Links(words) => self.set_modes(line, words),
             Line::Stops => self.set_stops(line),
+            Line::Large => self.set_large(line),
             Line::FromFile(path) => self.set_begins(line, path),
             Line::Field(field) => self.add_field(line, field),
             Line::Piece(piece, text) => self.add_piece(alloc, line, piece, text),

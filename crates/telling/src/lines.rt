@@ -50,6 +50,8 @@ pub enum Line<'a> {
     Links(&'a str),
     /// `stops`: the power is cut under the steps of a story.
     Stops,
+    /// `large`: a story is told on few ways.
+    Large,
     /// `begins`: a story begins with the tables of a file.
     FromFile(&'a str),
     Piece(Piece, &'a str),
@@ -127,6 +129,9 @@ fn story_in(line: &str) -> Option<Line<'_>> {
     }
     if line == "stops" {
         return Some(Line::Stops);
+    }
+    if line == "large" {
+        return Some(Line::Large);
     }
     if let Some(path) = behind(line, "begins") {
         return Some(Line::FromFile(path));

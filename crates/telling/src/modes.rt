@@ -1,6 +1,6 @@
 //! The ways in which links and streams break under a story, and how often they did.
 
-/// What breaks under the steps of a story.
+/// What breaks under the steps of a story, and whether it is told on few ways.
 #[derive(Clone, Copy)]
 pub struct Modes {
     /// Each request is cut behind each of its bytes but the last.
@@ -13,6 +13,8 @@ pub struct Modes {
     pub refused: bool,
     /// The power is cut at each call of the files.
     pub stops: bool,
+    /// The story is told on few ways.
+    pub large: bool,
 }
 
 /// Nothing breaks.
@@ -22,6 +24,7 @@ pub const NONE: Modes = Modes {
     writes: false,
     refused: false,
     stops: false,
+    large: false,
 };
 
 // With one word more.

@@ -1,5 +1,5 @@
 //! The two files of a database in memory, and what is left of them where the power is cut at one of their calls.
-use crate::records::first_record_of;
+use crate::records::earlier_record_of;
 use pages::ShaKey;
 use sqlite::{Connection, FileStore, Files, Options};
 use sqlite_disk::{Crash, Disk, Fuse, Memory};
@@ -172,8 +172,8 @@ pub fn open_image(alloc: Global, image: &Image, cuts: Cuts) -> Result<Opening, F
     }
 }
 
-/// What stands in the tables of files with this content, which are of the first version.
-pub fn first_record(alloc: Global, image: &Image) -> Result<Vec<u8>, Failure> {
+/// What stands in the tables of files with this content, which are of an earlier version.
+pub fn earlier_record(alloc: Global, image: &Image) -> Result<Vec<u8>, Failure> {
     let Ok(files) = image.files(alloc, NO_CUTS) else {
         return Err(Failure::refused(0, "memory was refused"));
     };
@@ -181,7 +181,7 @@ pub fn first_record(alloc: Global, image: &Image) -> Result<Vec<u8>, Failure> {
         return Err(Failure::refused(0, "memory was refused"));
     }
     match Connection::open_files(alloc, files, options()) {
-        Ok(mut conn) => first_record_of(alloc, &mut conn),
+        Ok(mut conn) => earlier_record_of(alloc, &mut conn),
         Err((_, left)) => {
             drop(left.into_files());
             Err(Failure::refused(0, "the file is no database"))

@@ -43,10 +43,22 @@ const LAWS: &[(&str, &str)] = &[
         "SELECT count(*) FROM bound WHERE NOT EXISTS (SELECT 1 FROM token WHERE token.org = bound.org AND token.name = bound.name)",
         "a row of bound belongs to no token",
     ),
+    (
+        "SELECT count(*) FROM ws WHERE NOT EXISTS (SELECT 1 FROM keeping WHERE keeping.org = ws.org AND keeping.ws = ws.name)",
+        "a workspace has no row of keeping",
+    ),
+    (
+        "SELECT count(*) FROM keeping WHERE NOT EXISTS (SELECT 1 FROM ws WHERE ws.org = keeping.org AND ws.name = keeping.ws)",
+        "a row of keeping belongs to no workspace",
+    ),
+    (
+        "SELECT count(*) FROM keeping WHERE keep < (SELECT count(*) FROM version WHERE version.org = keeping.org AND version.ws = keeping.ws)",
+        "a workspace has more versions than it keeps",
+    ),
     ("SELECT count(*) FROM meta", "meta has a row"),
     (
-        "SELECT 1 - count(*) FROM edition WHERE version = 2",
-        "edition doesn't tell the second version",
+        "SELECT 1 - count(*) FROM edition WHERE version = 3",
+        "edition doesn't tell the third version",
     ),
 ];
 

@@ -18,7 +18,13 @@ const FIRST: &[&str] = &[
 ];
 
 /// What the second version has beside them.
-const FURTHER: &[&str] = &["SELECT * FROM bound", "SELECT * FROM edition"];
+const SECOND: &[&str] = &["SELECT * FROM bound", "SELECT * FROM edition"];
+
+/// What the third version has beside these.
+const THIRD: &[&str] = &["SELECT * FROM keeping"];
+
+/// Whether there are tables of the second version.
+const HAS_SECOND: &str = "SELECT count(*) FROM sqlite_schema WHERE name = 'edition'";
 
 // A mark, and so many bytes.
 fn put_bytes(all: &mut Vec<u8>, mark: u8, bytes: &[u8]) -> Result<(), AllocError> {
@@ -71,7 +77,20 @@ fn put_tables<S: Alter>(
 
 fn put_record<S: Alter>(all: &mut Vec<u8>, conn: &mut Connection<S>) -> Result<(), Error> {
     put_tables(all, conn, FIRST)?;
-    put_tables(all, conn, FURTHER)
+    put_tables(all, conn, SECOND)?;
+    put_tables(all, conn, THIRD)
+}
+
+fn count_of<S: Alter>(conn: &mut Connection<S>, sql: &str) -> Result<i64, Error> {
+    conn.query_row(sql, &[])?.get(0)
+}
+
+fn put_earlier<S: Alter>(all: &mut Vec<u8>, conn: &mut Connection<S>) -> Result<(), Error> {
+    put_tables(all, conn, FIRST)?;
+    match count_of(conn, HAS_SECOND)? {
+        0 => Ok(()),
+        _ => put_tables(all, conn, SECOND),
+    }
 }
 
 /// What stands in the tables over a connection.
@@ -87,15 +106,15 @@ pub fn record_of<S: Alter>(
     }
 }
 
-/// What stands in tables of the first version.
-pub fn first_record_of<S: Alter>(
+/// What stands in tables of the first version, or of the second.
+pub fn earlier_record_of<S: Alter>(
     alloc: Global,
     conn: &mut Connection<S>,
 ) -> Result<Vec<u8>, Failure> {
     let mut all = Vec::new(alloc);
-    match put_tables(&mut all, conn, FIRST) {
+    match put_earlier(&mut all, conn) {
         Ok(()) => Ok(all),
-        Err(_) => Err(Failure::refused(0, "the file has no tables of the first version")),
+        Err(_) => Err(Failure::refused(0, "the file has no tables of an earlier version")),
     }
 }
 

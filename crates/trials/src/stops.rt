@@ -1,7 +1,7 @@
 //! A story of a store over files in memory, the power cut at each of their calls: what stands there then is all before
 //! the step or all behind it, and the step is sent again.
 use crate::cuts::{
-    Cuts, Image, NO_CUTS, Opening, Pair, close, closed, files_of, first_record, images_of,
+    Cuts, Image, NO_CUTS, Opening, Pair, close, closed, earlier_record, files_of, images_of,
     open_image, opened,
 };
 use crate::images::write_images;
@@ -97,7 +97,7 @@ fn recovered(
 /// What stands in the tables.
 #[derive(Drop)]
 struct Records {
-    /// Before the first open of all: nothing, or what a file of the first version has.
+    /// Before the first open of all: nothing, or what a file of an earlier version has.
     first: Vec<u8>,
     /// Before each of the story's own steps, and behind the last.
     all: Vec<Vec<u8>>,
@@ -218,8 +218,8 @@ pub fn run_stops(rt: &HostRuntime, play: &Play, counts: &mut Counts) -> Result<(
     run_from(rt, play, &image, &records, counts)
 }
 
-/// The same, of a story that begins with a file of the first version.
-pub fn run_first_stops(
+/// The same, of a story that begins with a file of an earlier version.
+pub fn run_earlier_stops(
     rt: &HostRuntime,
     play: &Play,
     image: &Image,
@@ -227,7 +227,7 @@ pub fn run_first_stops(
 ) -> Result<(), Failure> {
     let alloc = rt.alloc();
     let records = Records {
-        first: first_record(alloc, image)?,
+        first: earlier_record(alloc, image)?,
         all: records_from(alloc, play, image)?,
     };
     run_from(rt, play, image, &records, counts)

@@ -55,6 +55,20 @@ const IN_MEMORY: &[(Store, Way, &str)] = &[
     ),
 ];
 
+/// The ways of a large story.
+const FEW_IN_MEMORY: &[(Store, Way, &str)] = &[
+    (
+        Store::Values,
+        Way::Exchange(ALL),
+        "values, all bytes in one read",
+    ),
+    (
+        Store::Tables(Keyed::Sha),
+        Way::Exchange(ALL),
+        "tables, all bytes in one read",
+    ),
+];
+
 fn in_values(alloc: Global, play: &Play, way: Way) -> Result<(), Failure> {
     let (_keep, taken) = take_over(
         alloc,
@@ -165,12 +179,22 @@ fn on_way(alloc: Global, play: &Play, store: Store, way: Way) -> Result<(), Fail
     }
 }
 
-/// Runs a story on each way in memory, up to the first on which something else came.
-pub fn run_in_memory(alloc: Global, play: &Play) -> Result<(), Failure> {
-    for (store, way, name) in IN_MEMORY {
+// Up to the first way on which something else came.
+fn run_on(alloc: Global, play: &Play, ways: &[(Store, Way, &'static str)]) -> Result<(), Failure> {
+    for (store, way, name) in ways {
         if let Err(failure) = on_way(alloc, play, *store, *way) {
             return Err(failure.on(name));
         }
     }
     Ok(())
+}
+
+/// Runs a story on each way in memory.
+pub fn run_in_memory(alloc: Global, play: &Play) -> Result<(), Failure> {
+    run_on(alloc, play, IN_MEMORY)
+}
+
+/// Runs a large story on few ways in memory.
+pub fn run_large_in_memory(alloc: Global, play: &Play) -> Result<(), Failure> {
+    run_on(alloc, play, FEW_IN_MEMORY)
 }

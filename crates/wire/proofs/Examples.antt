@@ -3,7 +3,8 @@ use Rattle.std.proofs.Common.{◌≡◌, ℕ, List, length, true, false, Some, N
 use Rattle.std.specs.Prelude.{codes}
 use Rattle.std.specs.Fmt.{digits}
 use Rattle.basis.specs.declared.refusals.Allow.TheVariants.{States}
-use Rattle.basis.specs.declared.refusals.Refusal.TheVariants.{NoToken, NoMethod}
+use Rattle.basis.specs.declared.refusals.Refusal.TheVariants.{NoToken, NoMethod, TooLarge}
+use Rattle.wire.specs.Framing.{max_body, length_refusal}
 use Rattle.wire.specs.Heads.{head_len}
 use Rattle.wire.specs.Replies.{empty_answer, no_content_answer, document_answer, refused_answer, unavailable_answer, text_with_date}
 
@@ -45,7 +46,7 @@ length_document : length (text_with_date (document_answer (codes "{\"version\":4
 unfolding digits
 length_document = refl
 
-length_workspace : length (text_with_date (document_answer (codes "{\"auto_apply\":false,\"holder\":null,\"name\":\"net\",\"version\":null}")) date) ≡ 223
+length_workspace : length (text_with_date (document_answer (codes "{\"auto_apply\":false,\"holder\":null,\"keep_versions\":100,\"name\":\"net\",\"version\":null}")) date) ≡ 243
 unfolding digits
 length_workspace = refl
 
@@ -79,3 +80,22 @@ not_whole = refl
 
 breaks_alone : head_len (codes "\n\n\r\n") ≡ None
 breaks_alone = refl
+
+-- how long a body may be: of POST and PUT 16 MiB, of another method 16 KiB
+longest_state : length_refusal (Some (codes "16777216")) (max_body (codes "POST")) ≡ None
+longest_state = refl
+
+longer_state : length_refusal (Some (codes "16777217")) (max_body (codes "POST")) ≡ Some TooLarge
+longer_state = refl
+
+longest_document : length_refusal (Some (codes "16777216")) (max_body (codes "PUT")) ≡ None
+longest_document = refl
+
+longer_document : length_refusal (Some (codes "16777217")) (max_body (codes "PUT")) ≡ Some TooLarge
+longer_document = refl
+
+longest_of_another : length_refusal (Some (codes "16384")) (max_body (codes "LOCK")) ≡ None
+longest_of_another = refl
+
+longer_of_another : length_refusal (Some (codes "16385")) (max_body (codes "LOCK")) ≡ Some TooLarge
+longer_of_another = refl

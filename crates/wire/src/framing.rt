@@ -24,7 +24,7 @@ pub const MAX_FIELDS: usize = 64;
 const MAX_FEEDS: usize = MAX_FIELDS + 2;
 
 /// The most bytes of a body of POST and PUT.
-pub const MAX_STATE_BODY: usize = 4_194_304;
+pub const MAX_STATE_BODY: usize = 16_777_216;
 
 /// The most bytes of a body of another method.
 pub const MAX_OTHER_BODY: usize = 16_384;

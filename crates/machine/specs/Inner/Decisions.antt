@@ -1,6 +1,6 @@
 -- Contracts between functions: decisions in the shape of the code that makes them, and what they mean for a workspace.
 -- What a decision has to be is said by the rules; `Meets` ties the two.
-use Rattle.std.specs.Prelude.{ℕ, Bool, nat_lt, ◌==◌, cond, List, Option, Some, None, option_map}
+use Rattle.std.specs.Prelude.{ℕ, Bool, not, ◌&&◌, nat_lt, ◌==◌, cond, List, Option, Some, None, is_some, option_map, ⊤}
 use Rattle.std.specs.Str.{bytes_eq}
 use Rattle.basis.specs.declared.refusals.Refusal.{Refusal}
 use Rattle.basis.specs.declared.refusals.Refusal.TheVariants.{NotFound, OtherLineage, OldSerial, OverLimit, WrongState, HeldByRun, OpenRuns, Locked}
@@ -17,7 +17,9 @@ use Rattle.machine.specs.Succession.{lineages_differ}
 use Rattle.machine.specs.Settling.{is_waiting, to_start}
 use Rattle.machine.specs.Writing.{may_write}
 use Rattle.machine.specs.Showing.{holder_id}
-use Rattle.machine.specs.Rules.{number_left, is_released, new_run, frees}
+use Rattle.machine.specs.Laws.{is_nobody}
+use Rattle.machine.specs.Ranges.{IsSettingsAsk}
+use Rattle.machine.specs.Rules.{number_left, is_released, new_run, frees, settings_for}
 use Rattle.machine.specs.RunSteps.{next_status, is_last}
 use Rattle.machine.specs.declared.acts.Act.{Act}
 use Rattle.machine.specs.declared.acts.Act.TheVariants.{Look, PutWorkspace, DeleteWorkspace, UpdateState, PurgeState, Lock as LockAct, Unlock, ForceUnlock, MakeRun, ReportRun}
@@ -46,6 +48,15 @@ shown_as settings u = record { settings = settings; holder = holder_id u.holder;
 
 abbrev pub new_shown : Settings → Shown
 new_shown settings = record { settings = settings; holder = None; version = None }
+
+-- a workspace that is there gets settings, where no version goes from under a holder
+abbrev pub decided_put : Settings → WorkspaceUnit → Decision
+decided_put settings u = cond (not (is_nobody u.holder) && is_some u.outgoing) (Refused Locked) (changing (ShownWorkspace (shown_as settings u)) (Configure settings u.outgoing) None)
+
+-- the settings that are asked for are in range
+abbrev pub AsksInRange : Act → Type 0
+AsksInRange (PutWorkspace ask) = IsSettingsAsk ask
+AsksInRange act = ⊤
 
 -- a version more, if a number is left
 abbrev pub decided_number : Option ℕ → WorkspaceUnit → StateHead → List ℕ → ℕ → Decision
@@ -154,12 +165,13 @@ decided_look (look.Run n) u = decided_read_run u.asked_run
 decided_look (look.Runs after) u = Accepted (Runs after) None
 
 abbrev pub decision_missing : Act → Bool → Decision
-decision_missing (PutWorkspace settings) room = cond room (changing (ShownWorkspace (new_shown settings)) (Make settings) None) (Refused OverLimit)
+decision_missing (PutWorkspace ask) room =
+    cond room (changing (ShownWorkspace (new_shown (settings_for ask None))) (Make (settings_for ask None)) None) (Refused OverLimit)
 decision_missing act room = Refused NotFound
 
 abbrev pub decision_of : AnyUnit → Act → ℕ → Decision
 decision_of (Absent workspaces limit) act now = decision_missing act (nat_lt workspaces limit)
-decision_of (Present u) (PutWorkspace settings) now = changing (ShownWorkspace (shown_as settings u)) (Configure settings) None
+decision_of (Present u) (PutWorkspace ask) now = decided_put (settings_for ask (Some u.settings)) u
 decision_of (Present u) (Look what) now = decided_look what u
 decision_of (Present u) (UpdateState head text id) now = decided_update (may_write u.holder u.holder_status id) u head text now
 decision_of (Present u) (PurgeState id) now = decided_purge (may_write u.holder u.holder_status id) u

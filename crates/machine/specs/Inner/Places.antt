@@ -29,7 +29,7 @@ org_row name o = record { name = name; workspaces = count_of o; limit = o.limit 
 -- the workspace goes
 abbrev pub is_removal : Edit → Bool
 is_removal (Make settings) = false
-is_removal (Configure settings) = false
+is_removal (Configure settings outgoing) = false
 is_removal Remove = true
 is_removal (AddVersion version outgoing) = false
 is_removal Purge = false

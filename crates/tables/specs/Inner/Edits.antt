@@ -1,20 +1,20 @@
 -- What a change does to the rows, by the changes that statements make.
 use Rattle.std.specs.Prelude.{◌≡◌, ℕ, zero, suc, ◌+◌, Bool, true, cond, List, length, Option, Some, None, is_some, ⊤}
 use Rattle.basis.specs.declared.rows.RunAsk.{RunAsk}
+use Rattle.basis.specs.declared.rows.Settings.{Settings}
 use Rattle.basis.specs.declared.runs.RunStatus.TheVariants.{Pending, Planning}
 use Rattle.machine.specs.declared.acts.Edit.{Edit}
 use Rattle.machine.specs.declared.acts.Edit.TheVariants.{Make, Configure, Remove, AddVersion, Purge, Hold, Release, AddRun, Report}
 use Rattle.machine.specs.declared.acts.Change.{Change}
 use Rattle.machine.specs.declared.records.Version.{Version}
-use Rattle.machine.specs.Workspaces.{max_versions}
 use Rattle.statements.specs.declared.rows.Holder.TheVariants.{Nobody, Lock, Run as HeldByRun}
 use Rattle.statements.specs.declared.rows.Workspace.{Workspace as WorkspaceCells}
 use Rattle.statements.specs.Tables.{Tables}
-use Rattle.statements.specs.Changes.{with_auto, held_by, released_from, with_next_version, with_next_run, ws_changed, ws_added, ws_removed, new_version, version_added, version_removed, run_made, run_added, runs_removed, run_changed_to, run_acted}
+use Rattle.statements.specs.Changes.{with_auto, held_by, released_from, with_next_version, with_next_run, ws_changed, keeping_changed, ws_added, ws_removed, new_version, version_added, version_removed, run_made, run_added, runs_removed, run_changed_to, run_acted}
 use Rattle.statements.specs.Finds.{workspace_of, oldest_below, size_of}
 use Rattle.statements.specs.declared.rows.Head.{Head}
 use Rattle.texts.specs.Texts.{pages_for, text_added, text_removed, TwinsFit}
-use Rattle.basis.specs.declared.numbers.TheConstants.{MAX_NUMBER}
+use Rattle.basis.specs.declared.numbers.TheConstants.{MAX_NUMBER, MAX_KEPT}
 
 -- ---- versions that go
 
@@ -35,9 +35,9 @@ unfoldable pub so_many_gone : ℕ → List ℕ → List ℕ → ℕ → Tables �
 so_many_gone zero org ws below t = t
 so_many_gone (suc many) org ws below t = oldest_gone org ws below (so_many_gone many org ws below t)
 
--- no more versions go at once: a workspace keeps so many, and one more has come before others go
+-- no more versions go at once: a workspace keeps no more, and one more has come before others go
 abbrev pub most_gone : ℕ
-most_gone = max_versions + 1
+most_gone = MAX_KEPT + 1
 
 -- the versions with numbers below this one go
 unfoldable pub gone_below : List ℕ → List ℕ → ℕ → Tables → Tables
@@ -54,8 +54,8 @@ abbrev pub removed_rows : List ℕ → List ℕ → Tables → Tables
 removed_rows org ws t = ws_removed org ws (runs_removed org ws (all_gone org ws t))
 
 -- a new workspace has no versions and no runs: whatever rows of its name there are go first
-abbrev pub made_rows : List ℕ → List ℕ → Bool → Tables → Tables
-made_rows org ws auto t = ws_added org ws auto (removed_rows org ws t)
+abbrev pub made_rows : List ℕ → List ℕ → Settings → Tables → Tables
+made_rows org ws settings t = ws_added org ws settings.auto_apply settings.keep_versions (removed_rows org ws t)
 
 abbrev pub numbered_rows : List ℕ → List ℕ → Version → Tables → Tables
 numbered_rows org ws v t = ws_changed (with_next_version (v.number + 1)) org ws t
@@ -71,6 +71,14 @@ added_rows key_of org ws v t = text_added key_of org ws v.number v.text (row_add
 abbrev pub left_rows : Option ℕ → List ℕ → List ℕ → Tables → Tables
 left_rows None org ws t = t
 left_rows (Some last) org ws t = gone_below org ws (last + 1) t
+
+-- settings are set: they stand in two rows
+abbrev pub settings_rows : List ℕ → List ℕ → Settings → Tables → Tables
+settings_rows org ws settings t = keeping_changed settings.keep_versions org ws (ws_changed (with_auto settings.auto_apply) org ws t)
+
+-- settings are set, and versions up to a number go
+abbrev pub configured_rows : List ℕ → List ℕ → Settings → Option ℕ → Tables → Tables
+configured_rows org ws settings outgoing t = left_rows outgoing org ws (settings_rows org ws settings t)
 
 -- a version comes, and those up to a number go
 abbrev pub versioned_rows : (List ℕ → List ℕ) → List ℕ → List ℕ → Version → Option ℕ → Tables → Tables
@@ -107,8 +115,8 @@ freed_rows frees org ws t = cond frees (ws_changed (held_by Nobody) org ws t) t
 
 -- after an edit
 abbrev pub edited_rows : (List ℕ → List ℕ) → List ℕ → List ℕ → Edit → Tables → Tables
-edited_rows key_of org ws (Make settings) t = made_rows org ws settings.auto_apply t
-edited_rows key_of org ws (Configure settings) t = ws_changed (with_auto settings.auto_apply) org ws t
+edited_rows key_of org ws (Make settings) t = made_rows org ws settings t
+edited_rows key_of org ws (Configure settings outgoing) t = configured_rows org ws settings outgoing t
 edited_rows key_of org ws Remove t = removed_rows org ws t
 edited_rows key_of org ws (AddVersion version outgoing) t = versioned_rows key_of org ws version outgoing t
 edited_rows key_of org ws Purge t = all_gone org ws t
@@ -134,7 +142,7 @@ changed_rows key_of org ws change t = started_rows org ws change.start (edited_r
 abbrev pub TakesEdit : (List ℕ → List ℕ) → List ℕ → List ℕ → Edit → Tables → Type 0
 TakesEdit key_of org ws (AddVersion version outgoing) t = TakesVersion key_of org ws version t
 TakesEdit key_of org ws (Make settings) t = ⊤
-TakesEdit key_of org ws (Configure settings) t = ⊤
+TakesEdit key_of org ws (Configure settings outgoing) t = ⊤
 TakesEdit key_of org ws Remove t = ⊤
 TakesEdit key_of org ws Purge t = ⊤
 TakesEdit key_of org ws (Hold id text) t = ⊤

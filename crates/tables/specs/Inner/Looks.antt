@@ -11,7 +11,7 @@ use Rattle.statements.specs.declared.rows.Holder.{Holder as HolderCells}
 use Rattle.statements.specs.declared.rows.Workspace.{Workspace as WorkspaceCells}
 use Rattle.statements.specs.Finds.{cap_of, workspaces_of, first_waiting_of, open_runs_of}
 use Rattle.statements.specs.Tables.{Tables, Holds}
-use Rattle.tables.specs.Records.{settings_of_cells, holder_of_cells, run_of_cells}
+use Rattle.tables.specs.Records.{settings_of_cells, keep_at, holder_of_cells, run_of_cells}
 use Rattle.tables.specs.Inner.Units.{holder_status_in, newest_in, outgoing_in, has_version_in, asked_cells_in}
 use Rattle.tables.specs.declared.looks.RunsAround.{RunsAround}
 use Rattle.tables.specs.declared.looks.Surroundings.{Surroundings}
@@ -50,17 +50,17 @@ runs_in need org ws holder t = record {
   open_runs = cond need.open_runs (open_runs_of org ws t) 0;
 }
 
-abbrev pub around_in : Needed → List ℕ → List ℕ → HolderCells → Tables → Surroundings
-around_in need org ws holder t = record {
+abbrev pub around_in : Needed → List ℕ → List ℕ → ℕ → HolderCells → Tables → Surroundings
+around_in need org ws keep holder t = record {
   newest = if_needed need.newest (newest_in need.text org ws t);
-  outgoing = if_needed need.outgoing (outgoing_in org ws t);
+  outgoing = outgoing_in need.outgoing keep org ws t;
   has_version = has_version_in need.version org ws t;
   runs = runs_in need org ws holder t;
 }
 
-abbrev pub unit_from : WorkspaceCells → Surroundings → WorkspaceUnit
-unit_from w a = record {
-  settings = settings_of_cells w;
+abbrev pub unit_from : ℕ → WorkspaceCells → Surroundings → WorkspaceUnit
+unit_from keep w a = record {
+  settings = settings_of_cells keep w;
   holder = holder_of_cells w.holder;
   holder_status = a.runs.holder_status;
   released = w.released;
@@ -75,4 +75,4 @@ unit_from w a = record {
 }
 
 abbrev pub present_in : Needed → List ℕ → List ℕ → WorkspaceCells → Tables → Unit
-present_in need org ws w t = Present (unit_from w (around_in need org ws w.holder t))
+present_in need org ws w t = Present (unit_from (keep_at t org ws) w (around_in need org ws (keep_at t org ws) w.holder t))

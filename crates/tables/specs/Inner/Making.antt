@@ -1,14 +1,12 @@
 -- A database that was made ready with the newest version of the schema, or that was taken to it from the version that it had.
-use Rattle.std.specs.Prelude.{◌≡◌, ◌≤◌, ◌+◌, ◌==◌, if◌then◌else◌, ℕ, true, false, List, Option, Some, None, IsTrue, Result, OnOk, OnErr}
-use Rattle.sqlite.specs.Effect.{Database}
+use Rattle.std.specs.Prelude.{◌≡◌, ◌≤◌, ◌<◌, ◌+◌, ◌==◌, if◌then◌else◌, ℕ, true, false, Option, Some, None, IsTrue, Result, OnOk, OnErr}
 use Rattle.sqlite.specs.State.{State, KeepsCommit}
-use Rattle.statements.specs.Making.{HasSchema, KeepsForeign}
-use Rattle.statements.specs.Tables.{Tables, HoldsFirst}
+use Rattle.statements.specs.Making.{HasSchema}
 use Rattle.tables.specs.declared.opening.TheConstants.{NEWEST}
 use Rattle.tables.specs.declared.opening.Found.{Found}
 use Rattle.tables.specs.declared.opening.Found.TheVariants.{Nothing, Version, Other}
 use Rattle.tables.specs.Opening.{any_there, all_there, TellsIn, ToldBy, IsOther}
-use Rattle.tables.specs.Versions.{HoldsVersion, version_records}
+use Rattle.tables.specs.Versions.{Becomes, KeepsBeside}
 
 -- all tables were made beside those of others, and that is committed
 pub record IsMade (old new : State) : Type 0 where
@@ -50,32 +48,25 @@ FindsOurs Other old new = (any_there old.now.schema ≡ true) × IsOther old × 
 
 -- ---- from a version to a later one
 
--- A database of a version has become one of another, with the same records.
-pub record Becomes (from to : ℕ) (old new : Database) : Type 0 where
-  pub holds : HoldsVersion from old → HoldsVersion to new
-  pub records : HoldsVersion from old → (org : List ℕ) → version_records to new org ≡ version_records from old org
-
--- such is what the connection has committed, as long as no fault has shut it
+-- Such is what the connection has committed, as long as no fault has shut it.
 pub record Climbs (from to : ℕ) (old new : State) : Type 0 where
   pub was_open : IsTrue new.is_open → IsTrue old.is_open
   pub becomes : IsTrue new.is_open → Becomes from to old.committed new.committed
+  pub beside : IsTrue new.is_open → KeepsBeside from to old.committed new.committed
 
 -- a step to the next version, or none
 abbrev pub StepsFrom : {X E : Type 0} → ℕ → State → State → Result X E → Type 0
 StepsFrom from old new result = OnOk result (Climbs from (from + 1) old new × IsTrue new.is_open) × OnErr result (KeepsCommit old new)
-
--- tables of others beside the first version's keep their places and their rows
-abbrev pub KeepsBeside : Database → Database → Type 0
-KeepsBeside old new = (t : Tables) → HoldsFirst old t → KeepsForeign old new
 
 -- the newest version is reached
 pub record IsClimbed (from : ℕ) (old new : State) : Type 0 where
   pub climbs : from ≤ NEWEST → Climbs from NEWEST old new
   pub is_open : IsTrue old.is_open → IsTrue new.is_open
 
--- a version on the way is reached
+-- A version on the way is reached; where no step was taken, nothing is committed.
 pub record IsOnWay (from : ℕ) (old new : State) : Type 0 where
   pub to : ℕ
   pub least : from ≤ to
-  pub most : to ≤ NEWEST
+  pub most : to < NEWEST
   pub climbs : Climbs from to old new
+  pub none : to ≡ from → KeepsCommit old new

@@ -4,9 +4,10 @@ use Rattle.std.specs.Option.{unwrap_or}
 use Rattle.basis.specs.declared.runs.RunStatus.{RunStatus}
 use Rattle.machine.specs.Needs.{Needed}
 use Rattle.machine.specs.Units.{if_needed}
-use Rattle.machine.specs.Workspaces.{max_versions}
 use Rattle.machine.specs.declared.records.Run.{Run}
 use Rattle.machine.specs.declared.acts.Newest.{Newest}
+use Rattle.machine.specs.declared.acts.Staying.{Staying}
+use Rattle.machine.specs.declared.acts.Staying.TheVariants.{StayAll, MakeRoom, StayAtMost}
 use Rattle.machine.specs.declared.acts.Unit.{Unit as AnyUnit}
 use Rattle.machine.specs.declared.acts.Unit.TheVariants.{Absent, Present}
 use Rattle.statements.specs.declared.rows.Head.{Head}
@@ -17,7 +18,7 @@ use Rattle.statements.specs.declared.rows.Run.{Run as RunCells}
 use Rattle.statements.specs.Tables.{Tables}
 use Rattle.statements.specs.Finds.{cap_of, workspace_of, workspaces_of, newest_of, number_back, size_of, first_waiting_of, status_at_number, run_at_number, keyed_run_of, open_runs_of}
 use Rattle.texts.specs.Texts.{pages_for, text_of, are_pieces}
-use Rattle.tables.specs.Records.{settings_of_cells, holder_of_cells, run_of_cells}
+use Rattle.tables.specs.Records.{settings_of_cells, keep_at, holder_of_cells, run_of_cells}
 
 -- the status of the run that holds
 abbrev pub holder_status_in : List ℕ → List ℕ → HolderCells → Tables → Option RunStatus
@@ -40,9 +41,11 @@ newest_by text org ws t head = record { number = head.number; serial = head.seri
 abbrev pub newest_in : Option (List ℕ) → List ℕ → List ℕ → Tables → Option Newest
 newest_in text org ws t = option_map (newest_by text org ws t) (newest_of org ws t)
 
--- the greatest number of those that go as one more version comes: so many less one stand behind it
-abbrev pub outgoing_in : List ℕ → List ℕ → Tables → Option ℕ
-outgoing_in org ws t = number_back org ws (max_versions - 1) t
+-- the greatest number of the versions that go, of a workspace that keeps so many: those that stay stand behind it
+abbrev pub outgoing_in : Staying → ℕ → List ℕ → List ℕ → Tables → Option ℕ
+outgoing_in StayAll keep org ws t = None
+outgoing_in MakeRoom keep org ws t = number_back org ws (keep - 1) t
+outgoing_in (StayAtMost staying) keep org ws t = number_back org ws staying t
 
 -- whether the version that is asked of has a row
 abbrev pub has_version_in : Option ℕ → List ℕ → List ℕ → Tables → Bool
@@ -65,14 +68,14 @@ asked_run_in n key org ws t = option_map run_of_cells (asked_cells_in n key org 
 abbrev pub unit_at : Needed → List ℕ → List ℕ → Tables → Option WorkspaceCells → AnyUnit
 unit_at need org ws t None = Absent (cond need.makes (workspaces_of org t) 0) (unwrap_or (cap_of org t) 0)
 unit_at need org ws t (Some w) = Present (record {
-  settings = settings_of_cells w;
+  settings = settings_of_cells (keep_at t org ws) w;
   holder = holder_of_cells w.holder;
   holder_status = if_needed need.holder_status (holder_status_in org ws w.holder t);
   released = w.released;
   next_version = w.next_version;
   next_run = w.next_run;
   newest = if_needed need.newest (newest_in need.text org ws t);
-  outgoing = if_needed need.outgoing (outgoing_in org ws t);
+  outgoing = outgoing_in need.outgoing (keep_at t org ws) org ws t;
   first_waiting = if_needed need.waiting (first_waiting_of org ws t);
   has_version = has_version_in need.version org ws t;
   asked_run = asked_run_in need.run need.key org ws t;

@@ -1,18 +1,21 @@
+use Rattle.std.proofs.Common.{arith}
 use Rattle.sqlite.specs.Held.{state}
-use Rattle.statements.specs.Changes.{ws_added}
-use Rattle.statements.proofs.Transactions.{moves_by}
-use Rattle.statements.proofs.WsTexts.{add_ws_text}
-use Rattle.statements.proofs.WsWrites.{add_ws_does}
+use Rattle.sqlite.specs.State.{HasCleanDisk}
+use Rattle.sqlite.proofs.StateLemmas.{survives_then}
+use Rattle.statements.specs.Changes.{ws_row_added, keeping_row_added}
+use Rattle.statements.proofs.Transactions.{moves_more}
 use Rattle.statements.proofs.workspaces.add.Goals as goal
 
 pub returns : goal.returns
 returns g c = record {
-  same_reference = c.write.ensures.same_reference;
+  same_reference = search;
   changed = λ clean inside.
-      let old = state g.S.Store c.args.tx.now.conn.now in
-      let new = state g.S.Store c.write.new.tx.conn.now in
-      moves_by (ws_added c.args.org.now c.args.name.now c.args.auto) old new add_ws_text _ c.write.result
-      (rw (c.params-to_sql.ensures, c.params-to_sql-2.ensures, c.params-to_sql-3.ensures) at (c.write.ensures.runs clean inside))
-      (λ count t holds ran. add_ws_does old new count t holds c.args.org.now c.args.name.now c.args.auto ran);
-  survives = c.write.ensures.survives;
+      let s0 = state g.S.Store c.args.tx.now.conn.now in
+      let s1 = state g.S.Store c.add_row.new.tx.conn.now in
+      let s2 = state g.S.Store c.add.new.tx.conn.now in
+      let clean1 : HasCleanDisk s1 = omega (arith, c.add.ensures.survives.clean) in
+      moves_more (ws_row_added c.args.org.now c.args.name.now c.args.auto) (keeping_row_added c.args.org.now c.args.name.now c.args.keep) s0 s1 s2 c.add.result
+      (c.in_ok-add_row.ensures.changed clean1 inside).0 (c.add.ensures.changed clean (c.in_ok-add_row.ensures.changed clean1 inside).0.inside);
+  survives = survives_then (state g.S.Store c.args.tx.now.conn.now) (state g.S.Store c.add_row.new.tx.conn.now) (state g.S.Store c.add.new.tx.conn.now)
+      (λ _. ⊥) (λ _. ⊥) (λ _. ⊥) (λ _ db h. h) (λ _ db h. h) c.add_row.ensures.survives c.add.ensures.survives;
 }

@@ -5,7 +5,7 @@ use Rattle.sqlite.specs.Effect.{Database}
 use Rattle.sqlite.specs.Start.{FindsIn}
 use Rattle.sqlite.specs.State.{State, IsLive, Opens}
 use Rattle.machine.specs.declared.records.Organization.{Organization}
-use Rattle.tables.specs.Opening.{any_there, all_there}
+use Rattle.tables.specs.Opening.{any_there, all_there, tells_edition}
 use Rattle.tables.specs.Stores.{records_of, IsSoundStore}
 use Rattle.tables.specs.Versions.{HoldsVersion, version_records}
 use Rattle.system.specs.Files.{OpensOn}
@@ -18,15 +18,15 @@ one_passes false true h = inr refl
 one_passes false false h = absurd (h refl refl)
 
 opens_on : (s : State) (image : Image) (rows : List ℕ → Option Organization) (IsSound : Type 0) → FindsIn image s → Opens s → IsLive s
-    → (any_there s.now.schema ≡ true → all_there 1 s.now.schema ≡ false → all_there 2 s.now.schema ≡ false → ⊥)
-    → (all_there 2 s.now.schema ≡ true → (IsSoundStore s.now → IsSound) × ((org : List ℕ) → rows org ≡ records_of s.now org))
+    → (any_there s.now.schema ≡ true → all_there 1 s.now.schema ≡ false → tells_edition s.now.schema ≡ false → ⊥)
+    → (all_there 3 s.now.schema ≡ true → (IsSoundStore s.now → IsSound) × ((org : List ℕ) → rows org ≡ records_of s.now org))
     → ((n : ℕ) → HoldsVersion n s.now → IsSound × ((org : List ℕ) → rows org ≡ version_records n s.now org))
     → (any_there s.now.schema ≡ false → IsSound × ((org : List ℕ) → rows org ≡ None)) → OpensOn image rows IsSound
 opens_on s image rows IsSound finds opens live missing there climbed fresh = record {
   found = s.now;
   is = (live opens.is_open).0;
   holds = λ trees held. ap (λ (db : Database). db.trees) opens.clean ∙ finds.holds trees held;
-  whole = λ e. one_passes (all_there 1 s.now.schema) (all_there 2 s.now.schema) (missing e);
+  whole = λ e. one_passes (all_there 1 s.now.schema) (tells_edition s.now.schema) (missing e);
   there = λ e. ((there e).1, (there e).0);
   climbed = λ n held. ((climbed n held).1, (climbed n held).0);
   fresh = λ e. ((fresh e).1, (fresh e).0);

@@ -9,10 +9,10 @@ pub returns-in-Make-clause-takes : goal.returns-in-Make-clause-takes
 returns-in-Make-clause-takes g c = rw c.in-Make.is (λ clean inside. when_done c.make.result (λ t holds. tt))
 
 pub returns-in-Configure-clause-steps : goal.returns-in-Configure-clause-steps
-returns-in-Configure-clause-steps g c = rw c.in-Configure.is (steps_by g.S.Store _ _ _ _ c.set_auto.ensures)
+returns-in-Configure-clause-steps g c = rw c.in-Configure.is c.configure.ensures
 
 pub returns-in-Configure-clause-takes : goal.returns-in-Configure-clause-takes
-returns-in-Configure-clause-takes g c = rw c.in-Configure.is (λ clean inside. when_done c.set_auto.result (λ t holds. tt))
+returns-in-Configure-clause-takes g c = rw c.in-Configure.is (λ clean inside. when_done c.configure.result (λ t holds. tt))
 
 pub returns-in-Remove-clause-steps : goal.returns-in-Remove-clause-steps
 returns-in-Remove-clause-steps g c = rw c.in-Remove.is c.remove.ensures

@@ -25,6 +25,9 @@ returns-in-Ok-clause-climbed g c = rw c.of-seen.ensures (λ clean n h.
     let is = c.in-Ok.ensures.climbed clean n h in
     (record { store = is.0; tied = λ _. refl }, is.1))
 
+pub returns-in-Ok-clause-beside : goal.returns-in-Ok-clause-beside
+returns-in-Ok-clause-beside g c clean n there = (c.in-Ok.ensures.beside clean n there).foreign
+
 pub returns-in-Ok-clause-fresh : goal.returns-in-Ok-clause-fresh
 returns-in-Ok-clause-fresh g c = rw c.of-seen.ensures (λ clean none.
     let made = c.in-Ok.ensures.made clean none in

@@ -1,6 +1,6 @@
 use Rattle.sqlite.specs.Held.{state}
-use Rattle.tables.proofs.Climbing.{newest_tells}
-use Rattle.tables.proofs.opening.find_newest.Goals as goal
+use Rattle.tables.proofs.Climbing.{later_tells}
+use Rattle.tables.proofs.opening.find_later.Goals as goal
 
 pub returns-in-Ok-clause-found : goal.returns-in-Ok-clause-found
 returns-in-Ok-clause-found g c clean =
@@ -8,4 +8,4 @@ returns-in-Ok-clause-found g c clean =
     let new = state g.S.Store c.edition.new.conn in
     let settled = c.assert_settled.ensures in
     let read = c.in-Ok.ensures.reads.read clean in
-    rw c.found_in.ensures (newest_tells c.in-Ok.told old new c.requires.there settled read.1.0 read.0 (c.in-Ok.ensures.told clean))
+    rw c.found_in.ensures (later_tells c.in-Ok.told old new settled read.1.0 (c.in-Ok.ensures.told clean) c.args.version c.requires.later c.requires.there)

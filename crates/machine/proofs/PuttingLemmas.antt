@@ -1,0 +1,103 @@
+-- What PUT comes to of a workspace that is there: it is refused and the workspace stays, or the workspace gets the settings.
+use Rattle.std.proofs.Common.{◌≡◌, ◌⊎◌, inl, inr, ℕ, ◌≤◌, nat_lt, Bool, true, false, not, ◌&&◌, cond, List, length, Option, Some, None, IfSome, refl, sym, ap, subst, ◌∙◌, arith}
+use Rattle.std.proofs.lemmas.Bool.{ltb-false, le-ltb}
+use Rattle.basis.specs.declared.refusals.Refusal.TheVariants.{Locked}
+use Rattle.basis.specs.declared.rows.Settings.{Settings}
+use Rattle.basis.specs.declared.rows.SettingsAsk.{SettingsAsk}
+use Rattle.machine.specs.Effects.{effect}
+use Rattle.machine.specs.Custody.{IsRefusal}
+use Rattle.machine.specs.Laws.{is_nobody}
+use Rattle.machine.specs.Ranges.{IsKeepCount}
+use Rattle.machine.specs.Settling.{settled}
+use Rattle.machine.specs.Rules.{refused, held, Ruling, refused_by, shown_with, kept_before, kept_for, settings_for, with_settings, takes_held, put}
+use Rattle.machine.specs.declared.records.Holder.{Holder}
+use Rattle.machine.specs.declared.records.Version.{Version}
+use Rattle.machine.specs.declared.records.Workspace.{Workspace}
+use Rattle.machine.proofs.CutLemmas.{all_last}
+use Rattle.machine.proofs.DeletionLemmas.{IsKept}
+
+-- it gets the settings: no version goes from under a holder
+pub record IsSet (ruling : Ruling) (settings : Settings) (w : Workspace) : Type 0 where
+  pub is : ruling ≡ shown_with (with_settings w settings)
+  pub free : takes_held settings.keep_versions w ≡ false
+
+pub put_comes : (settings : Settings) (w : Workspace) → IsKept (put settings w) w ⊎ IsSet (put settings w) settings w
+put_comes settings w = by_test (takes_held settings.keep_versions w) refl
+  where
+    ruling : Bool → Ruling
+    ruling b = cond b (effect (refused_by Locked w.holder) (Some w)) (shown_with (with_settings w settings))
+
+    by_test : (b : Bool) → takes_held settings.keep_versions w ≡ b → IsKept (ruling b) w ⊎ IsSet (ruling b) settings w
+    by_test true e = inl (record { left = refl; refusal = tt; tells = λ holder t. cc; unlocked = λ t. cc })
+    by_test false e = inr (record { is = refl; free = e })
+
+pub put_becomes : (settings : Settings) (w : Workspace) → ((put settings w).left ≡ Some w) ⊎ ((put settings w).left ≡ Some (settled (with_settings w settings)))
+put_becomes settings w = by_case (put_comes settings w)
+  where
+    by_case : IsKept (put settings w) w ⊎ IsSet (put settings w) settings w → ((put settings w).left ≡ Some w) ⊎ ((put settings w).left ≡ Some (settled (with_settings w settings)))
+    by_case (inl kept) = inl kept.left
+    by_case (inr set) = inr (ap (λ (r : Ruling). r.left) set.is)
+
+pub put_leaves : (settings : Settings) (w : Workspace) → IsRefusal (put settings w).answer → (put settings w).left ≡ Some w
+put_leaves settings w is = by_case (put_comes settings w)
+  where
+    by_case : IsKept (put settings w) w ⊎ IsSet (put settings w) settings w → (put settings w).left ≡ Some w
+    by_case (inl kept) = kept.left
+    by_case (inr set) = absurd (subst (λ (r : Ruling). IsRefusal r.answer) set.is is)
+
+pub put_tells : (settings : Settings) (w : Workspace) (holder : Holder) → (put settings w).answer ≡ held holder → holder ≡ w.holder
+put_tells settings w holder e = by_case (put_comes settings w)
+  where
+    by_case : IsKept (put settings w) w ⊎ IsSet (put settings w) settings w → holder ≡ w.holder
+    by_case (inl kept) = kept.tells holder e
+    by_case (inr set) = absurd (let none : ⊥ = cc (sym (ap (λ (r : Ruling). r.answer) set.is) ∙ e) in none)
+
+pub put_unlocked : (settings : Settings) (w : Workspace) → (put settings w).answer ≡ refused Locked → ⊥
+put_unlocked settings w e = by_case (put_comes settings w)
+  where
+    by_case : IsKept (put settings w) w ⊎ IsSet (put settings w) settings w → ⊥
+    by_case (inl kept) = kept.unlocked e
+    by_case (inr set) = let none : ⊥ = cc (sym (ap (λ (r : Ruling). r.answer) set.is) ∙ e) in none
+
+-- while somebody holds, no more stand there than are to stay
+under_keep : (keep : ℕ) (w : Workspace) (b : Bool) → b ≡ false → (not b && nat_lt keep (length w.versions)) ≡ false → length w.versions ≤ keep
+under_keep keep w true somebody free = absurd (let none : ⊥ = cc in none)
+under_keep keep w false somebody free = omega (arith, ltb-false keep (length w.versions) free)
+
+pub held_stay : (settings : Settings) (w : Workspace) → is_nobody w.holder ≡ false → takes_held settings.keep_versions w ≡ false → (with_settings w settings).versions ≡ w.versions
+held_stay settings w somebody free = all_last settings.keep_versions w.versions (under_keep settings.keep_versions w (is_nobody w.holder) somebody free)
+
+-- where no more stand there than are to stay, none goes
+takes_none : (keep : ℕ) (w : Workspace) → length w.versions ≤ keep → takes_held keep w ≡ false
+takes_none keep w le = ap (λ (b : Bool). not (is_nobody w.holder) && b) (le-ltb keep (length w.versions) le) ∙ both_false (not (is_nobody w.holder))
+  where
+    both_false : (b : Bool) → (b && false) ≡ false
+    both_false true = refl
+    both_false false = refl
+
+-- and settings that it has change nothing
+same_settings : (settings : Settings) (w : Workspace) → w.settings ≡ settings → length w.versions ≤ settings.keep_versions → with_settings w settings ≡ w
+same_settings settings w e le =
+    subst (λ (x : Settings). length w.versions ≤ x.keep_versions → with_settings w x ≡ w) e
+    (λ most. ap (λ (vs : List Version). record w { versions = vs }) (all_last w.settings.keep_versions w.versions most)) le
+
+pub put_once : (settings : Settings) (w : Workspace) → w.settings ≡ settings → length w.versions ≤ settings.keep_versions → settled w ≡ w → (put settings w).left ≡ Some w
+put_once settings w e le still =
+    ap (λ (b : Bool). (cond b (effect (refused_by Locked w.holder) (Some w)) (shown_with (with_settings w settings))).left) (takes_none settings.keep_versions w le)
+    ∙ ap Some (ap settled (same_settings settings w e le) ∙ still)
+
+-- what is asked for once is kept
+kept_twice : (asked : Option ℕ) (before : ℕ) → kept_for asked (kept_for asked before) ≡ kept_for asked before
+kept_twice None before = refl
+kept_twice (Some keep) before = refl
+
+abbrev settings_of : Bool → ℕ → Settings
+settings_of auto_apply keep = record { auto_apply = auto_apply; keep_versions = keep }
+
+pub asked_once : (ask : SettingsAsk) (before : Option Settings) → settings_for ask (Some (settings_for ask before)) ≡ settings_for ask before
+asked_once ask before = ap (settings_of ask.auto_apply) (kept_twice ask.keep_versions (kept_before before))
+
+-- the settings that are asked for are in range
+pub kept_in_range : (asked : Option ℕ) (before : ℕ) → IfSome asked IsKeepCount → IsKeepCount before → IsKeepCount (kept_for asked before)
+kept_in_range None before range was = was
+kept_in_range (Some keep) before range was = range

@@ -1,0 +1,16 @@
+use Rattle.sqlite.specs.Held.{state}
+use Rattle.statements.specs.Changes.{keepings_filled}
+use Rattle.statements.proofs.Transactions.{moves_by}
+use Rattle.statements.proofs.KeepingTexts.{fill_keepings_text}
+use Rattle.statements.proofs.KeepingWrites.{fill_keepings_does}
+use Rattle.statements.proofs.keepings.fill.Goals as goal
+
+pub returns : goal.returns
+returns g c = record {
+  same_reference = c.write.ensures.same_reference;
+  changed = λ clean inside.
+      let old = state g.S.Store c.args.tx.now.conn.now in
+      let new = state g.S.Store c.write.new.tx.conn.now in
+      moves_by keepings_filled old new fill_keepings_text _ c.write.result (c.write.ensures.runs clean inside) (λ count t holds ran. fill_keepings_does old new count t holds ran);
+  survives = c.write.ensures.survives;
+}

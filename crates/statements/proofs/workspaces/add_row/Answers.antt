@@ -1,0 +1,18 @@
+use Rattle.sqlite.specs.Held.{state}
+use Rattle.statements.specs.Changes.{ws_row_added}
+use Rattle.statements.proofs.Transactions.{moves_by}
+use Rattle.statements.proofs.WsTexts.{add_ws_text}
+use Rattle.statements.proofs.WsWrites.{add_ws_does}
+use Rattle.statements.proofs.workspaces.add_row.Goals as goal
+
+pub returns : goal.returns
+returns g c = record {
+  same_reference = c.write.ensures.same_reference;
+  changed = λ clean inside.
+      let old = state g.S.Store c.args.tx.now.conn.now in
+      let new = state g.S.Store c.write.new.tx.conn.now in
+      moves_by (ws_row_added c.args.org.now c.args.name.now c.args.auto) old new add_ws_text _ c.write.result
+      (rw (c.params-to_sql.ensures, c.params-to_sql-2.ensures, c.params-to_sql-3.ensures) at (c.write.ensures.runs clean inside))
+      (λ count t holds ran. add_ws_does old new count t holds c.args.org.now c.args.name.now c.args.auto ran);
+  survives = c.write.ensures.survives;
+}

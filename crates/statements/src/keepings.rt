@@ -1,0 +1,71 @@
+//! Statements on the table keeping: how many versions each workspace keeps.
+ghost use Rattle.statements.specs.Steps.{WritesBy, QueriesBy};
+ghost use Rattle.statements.specs.Changes.{keeping_row_added, keeping_changed, keeping_row_removed, keepings_filled};
+ghost use Rattle.statements.specs.Finds.{keep_of};
+
+use crate::calls::{first_row, keep_number, read_one, write};
+use basis::KeepCount;
+use sqlite::{Alter, Connection, Error, Transaction, params};
+
+const FIND_KEEPING: &str = "SELECT keep FROM keeping WHERE org = ?1 AND ws = ?2 ORDER BY rowid";
+
+/// How many versions the workspace of this name keeps.
+pub fn find<S: Alter>(
+    conn: &mut Connection<S>,
+    org: &str,
+    ws: &str,
+) -> Result<Option<KeepCount>, Error>
+    ensures { QueriesBy S.Store (keep_of org.now ws.now) conn.old conn.new result }
+{
+    let row = first_row(conn, FIND_KEEPING, params![org, ws]);
+    read_one(row)
+}
+
+const ADD_KEEPING: &str = "INSERT INTO keeping (org, ws, keep) VALUES (?1, ?2, ?3)";
+
+/// Adds how many versions a workspace keeps.
+pub fn add<S: Alter>(
+    tx: &mut Transaction<'_, S>,
+    org: &str,
+    ws: &str,
+    keep: KeepCount,
+) -> Result<(), Error>
+    ensures { WritesBy S.Store (keeping_row_added org.now ws.now keep) tx.old tx.new result }
+{
+    let keep = keep_number(keep);
+    write(tx, ADD_KEEPING, params![org, ws, &keep])
+}
+
+const SET_KEEPING: &str = "UPDATE keeping SET keep = ?3 WHERE org = ?1 AND ws = ?2";
+
+/// Sets how many versions a workspace keeps.
+pub fn set<S: Alter>(
+    tx: &mut Transaction<'_, S>,
+    org: &str,
+    ws: &str,
+    keep: KeepCount,
+) -> Result<(), Error>
+    ensures { WritesBy S.Store (keeping_changed keep org.now ws.now) tx.old tx.new result }
+{
+    let keep = keep_number(keep);
+    write(tx, SET_KEEPING, params![org, ws, &keep])
+}
+
+const REMOVE_KEEPING: &str = "DELETE FROM keeping WHERE org = ?1 AND ws = ?2";
+
+/// Removes how many versions a workspace keeps.
+pub fn remove<S: Alter>(tx: &mut Transaction<'_, S>, org: &str, ws: &str) -> Result<(), Error>
+    ensures { WritesBy S.Store (keeping_row_removed org.now ws.now) tx.old tx.new result }
+{
+    write(tx, REMOVE_KEEPING, params![org, ws])
+}
+
+const FILL_KEEPINGS: &str =
+    "INSERT INTO keeping (org, ws, keep) SELECT org, name, 100 FROM ws ORDER BY rowid";
+
+/// Says of each workspace that it keeps what one keeps at first.
+pub fn fill<S: Alter>(tx: &mut Transaction<'_, S>) -> Result<(), Error>
+    ensures { WritesBy S.Store keepings_filled tx.old tx.new result }
+{
+    write(tx, FILL_KEEPINGS, &[])
+}

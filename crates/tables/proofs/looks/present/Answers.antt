@@ -1,0 +1,26 @@
+use Rattle.std.proofs.Common.{ℕ}
+use Rattle.sqlite.specs.Held.{state}
+use Rattle.sqlite.specs.declared.error.Error.{Error}
+use Rattle.machine.specs.Needs.{needed_of}
+use Rattle.machine.specs.declared.acts.Unit.{Unit}
+use Rattle.machine.specs.declared.acts.Unit.TheVariants.{Present}
+use Rattle.statements.specs.declared.rows.Workspace.{Workspace as WorkspaceCells}
+use Rattle.tables.specs.Inner.Looks.{around_in, unit_from}
+use Rattle.tables.specs.Records.{keep_at}
+use Rattle.tables.specs.declared.looks.Surroundings.{Surroundings}
+use Rattle.tables.proofs.KeepFound.{seen_by_first}
+use Rattle.tables.proofs.looks.present.Goals as goal
+
+make : WorkspaceCells → ℕ → Surroundings → Unit
+make w keep around = Present (unit_from keep w around)
+
+pub returns : goal.returns
+unfolding make
+returns g c =
+    let org = c.args.org.now in
+    let ws = c.args.ws.now in
+    let need = needed_of c.args.needs.now in
+    rw c.in_ok-unit.ensures (record {
+      looks = seen_by_first Error Error Error (λ t. keep_at t org ws) (λ keep. around_in need org ws keep c.args.workspace.holder) (make c.args.workspace) c.in_ok-keep.keep c.in_ok-around.around
+          (state g.S.Store c.args.conn.now) (state g.S.Store c.keep.new.conn) (state g.S.Store c.around.new.conn) c.in_ok-keep.ensures.looks c.in_ok-around.ensures.looks;
+    })

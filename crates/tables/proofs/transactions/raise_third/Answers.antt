@@ -1,0 +1,20 @@
+use Rattle.std.proofs.Common.{rules}
+use Rattle.sqlite.specs.Held.{state}
+use Rattle.sqlite.specs.State.{HasCleanDisk}
+use Rattle.statements.specs.Making.{RaisesThird}
+use Rattle.tables.proofs.KeepMoves.{clean_before}
+use Rattle.tables.proofs.KeepCommits.{inside_by, climbs_by}
+use Rattle.tables.proofs.Raising.{second_becomes}
+use Rattle.tables.proofs.transactions.raise_third.Goals as goal
+
+pub returns-clause-done : goal.returns-clause-done
+returns-clause-done g c clean =
+    let h = c.args.conn.now in
+    let k = c.begin-tx.result.conn.now in
+    let l = c.raise_third.new.tx.conn.now in
+    let m = c.commit.new.self.0 in
+    let late : HasCleanDisk (state g.S.Store m) = search rules in
+    let before = clean_before (state g.S.Store l) (state g.S.Store m) _ c.commit.ensures.survives late in
+    let made = (c.in_ok-raise_third.ensures.made before (inside_by h k c.begin-tx.ensures.begun)).0 in
+    let all = climbs_by g.S.Store h k l m c.begin-tx.ensures.settled c.begin-tx.ensures.begun 2 RaisesThird second_becomes c.commit.result made (c.commit.ensures.ok late) (c.commit.ensures.err late) in
+    search (rules, all)
