@@ -12,7 +12,8 @@ import socketserver
 import ssl
 import sys
 
-LIMIT = 8 * 1024 * 1024
+# A state has at most 16,777,216 bytes.
+LIMIT = 16_777_216
 LEFT_OUT = {"connection", "content-length", "expect", "transfer-encoding"}
 
 

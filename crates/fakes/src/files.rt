@@ -2,9 +2,11 @@
 ghost use Rattle.std.specs.Prelude.{◌≡◌, Some};
 ghost use Rattle.fakes.specs.Files.{IsKeptStore};
 
-use basis::Down;
+use basis::{Bytes, Down};
 use machine::{Keep, PlainKeep};
 use program::outside::Files;
+use program::replays::replay_over;
+use serve::Step;
 use std::alloc::Global;
 use tables::Fault;
 
@@ -64,5 +66,11 @@ impl Files<PlainKeep> for MemoryFile<'_> {
         }
         self.store = Some(store);
         if self.keeps_log { Err(Down) } else { Ok(()) }
+    }
+
+    fn replay(&self, alloc: Global, steps: &[Step]) -> Result<Vec<Bytes>, Down> {
+        let (replies, keep) = replay_over(alloc, PlainKeep::new(alloc), steps);
+        keep.is_always_clean();
+        replies
     }
 }

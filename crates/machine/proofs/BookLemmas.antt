@@ -1,35 +1,27 @@
 -- What the book of a workspace rests on: who makes a version, which runs wait, and what comes after many acts.
 use Rattle.std.proofs.Common.{◌≡◌, ◌⊎◌, inl, inr, ℕ, ◌<◌, ◌≤◌, ◌==◌, Bool, true, false, cond, List, [], ◌∷◌, ◌++◌, length, filter, Option, Some, None, IsSome, IsSomeAnd, refl, sym, ap, subst, ◌∙◌, arith, eqb-true, eq-eqb}
 use Rattle.std.specs.List.{AllByRecursion}
-use Rattle.basis.specs.declared.refusals.Refusal.{Refusal}
-use Rattle.basis.specs.declared.refusals.Refusal.TheVariants.{BadMessage, TwoTokens, BadQuery, BadDigest, BadState, BadLock, BadBody, NoToken, BadToken, NeedWrite, NeedAdmin, NoRoute, NotFound, NoMethod, NotHeld, NotApplying, OtherLineage, OldSerial, WrongState, HeldByRun, OpenRuns, OverLimit, Locked, NoLength, TooLarge, HeadTooLarge, Unavailable}
 use Rattle.basis.specs.Runs.{is_open}
-use Rattle.basis.specs.declared.rows.Settings.{Settings}
-use Rattle.basis.specs.declared.rows.StateHead.{StateHead}
 use Rattle.machine.specs.Laws.{Rises, holds, is_active, is_nobody, IsHolder, IsRun, IsLawful}
 use Rattle.machine.specs.Ranges.{IsInRange, IsMoment}
 use Rattle.machine.specs.Records.{there}
 use Rattle.machine.specs.Workspaces.{run_of, holder_status, open_runs}
 use Rattle.machine.specs.Units.{version_of}
-use Rattle.machine.specs.Writing.{may_write}
-use Rattle.machine.specs.Succession.{Succession, first, same, other_lineage, old_serial, next, succession}
-use Rattle.machine.specs.Settling.{is_waiting, first_waiting, to_start, started_if, settled}
-use Rattle.machine.specs.Rules.{done, rules, refused_by, by_may_write, by_succession, numbered_update, number_left, settings_for, with_settings, put, purge, purged, locked, released}
-use Rattle.machine.specs.Custody.{IsRefusal, IsUnlocked, IsWriter, WritesWith}
+use Rattle.machine.specs.Settling.{is_waiting, first_waiting, to_start, started_if}
+use Rattle.machine.specs.Rules.{done, rules}
+use Rattle.machine.specs.Custody.{IsUnlocked, IsWriter, WritesWith}
 use Rattle.machine.specs.Queue.{is_active_run, Starts, WaitedOrIsNew, AreInRange, Leads}
 use Rattle.machine.specs.declared.acts.Act.{Act}
-use Rattle.machine.specs.declared.acts.Act.TheVariants.{Look, PutWorkspace, DeleteWorkspace, UpdateState, PurgeState, Lock as LockAct, Unlock, ForceUnlock, MakeRun, ReportRun}
 use Rattle.machine.specs.declared.records.Holder.{Holder}
 use Rattle.machine.specs.declared.records.Holder.TheVariants.{Nobody, Lock, Run as HoldingRun}
 use Rattle.machine.specs.declared.records.Run.{Run}
 use Rattle.machine.specs.declared.records.Version.{Version}
 use Rattle.machine.specs.declared.records.Workspace.{Workspace}
 use Rattle.machine.proofs.StepLemmas.{ended_is_idle}
-use Rattle.machine.proofs.CustodyLemmas.{held_versions_change_by_the_id, workspaces_go_by_delete, lock_becomes, unlock_becomes, force_becomes, purge_becomes, Unlocks}
-use Rattle.machine.proofs.DeletionLemmas.{delete_left}
-use Rattle.machine.proofs.PuttingLemmas.{put_becomes}
+use Rattle.machine.proofs.CustodyLemmas.{held_versions_change_by_the_id, workspaces_go_by_delete}
 use Rattle.machine.proofs.RunLemmas.{run_of-number, all_found}
-use Rattle.machine.proofs.RunRulings.{IsMade, IsReported, comes_to, make_comes, report_comes}
+use Rattle.machine.proofs.RunRulings.{IsReported}
+use Rattle.machine.proofs.Rulings.{Way, version_comes, versions_go, settings_come, lock_comes, lock_goes, run_comes, run_goes_on, Leaves, leaves}
 use Rattle.machine.proofs.VersionLemmas.{numbers_rise}
 use Rattle.machine.proofs.QueueLemmas.{numbers, lawful_after, active_once, runs_start_in_order, waited_before}
 
@@ -43,72 +35,29 @@ next_stays : (o : Option ℕ) (u : Workspace) → (started_if o u).next_version 
 next_stays None u = refl
 next_stays (Some n) u = refl
 
-settled_next : (u v : Workspace) → Some (settled u) ≡ Some v → v.next_version ≡ u.next_version
-settled_next u v e = let one : settled u ≡ v = cc in ap (λ (x : Workspace). x.next_version) (sym one) ∙ next_stays (to_start u.holder (first_waiting u.runs)) u
-
-left_next : (w v : Workspace) → Some w ≡ Some v → v.next_version ≡ w.next_version
-left_next w v e = let one : w ≡ v = cc in ap (λ (x : Workspace). x.next_version) (sym one)
-
 -- where the next number stays, none is made
 none_made : (w v : Workspace) (X : Type 0) → v.next_version ≡ w.next_version → w.next_version < v.next_version → X
 none_made w v X e lt = absurd (omega (arith, e, lt))
 
-number_accepted : (w v : Workspace) (head : StateHead) (text : List ℕ) (now : ℕ) (n : Option ℕ) → (numbered_update n w head text now).left ≡ Some v → w.next_version < v.next_version
-    → (numbered_update n w head text now).answer ≡ done
-number_accepted w v head text now None e lt = none_made w v _ (left_next w v e) lt
-number_accepted w v head text now (Some n) e lt = refl
-
-succession_accepted : (w v : Workspace) (head : StateHead) (text : List ℕ) (now : ℕ) (s : Succession) → (by_succession s w head text now).left ≡ Some v → w.next_version < v.next_version
-    → (by_succession s w head text now).answer ≡ done
-succession_accepted w v head text now first e lt = number_accepted w v head text now (number_left w.next_version) e lt
-succession_accepted w v head text now same e lt = refl
-succession_accepted w v head text now other_lineage e lt = none_made w v _ (left_next w v e) lt
-succession_accepted w v head text now old_serial e lt = none_made w v _ (left_next w v e) lt
-succession_accepted w v head text now next e lt = number_accepted w v head text now (number_left w.next_version) e lt
-
-update_accepted : (w v : Workspace) (head : StateHead) (text : List ℕ) (now : ℕ) (m : Option Refusal) → (by_may_write m w head text now).left ≡ Some v → w.next_version < v.next_version
-    → (by_may_write m w head text now).answer ≡ done
-update_accepted w v head text now (Some refusal) e lt = none_made w v _ (left_next w v e) lt
-update_accepted w v head text now None e lt = succession_accepted w v head text now (succession w.versions text head) e lt
-
-purge_next : (w v : Workspace) (after : Option Workspace) → after ≡ Some v → (after ≡ Some w) ⊎ (after ≡ Some (settled (purged w))) → v.next_version ≡ w.next_version
-purge_next w v after e (inl h) = left_next w v (sym h ∙ e)
-purge_next w v after e (inr h) = settled_next (purged w) v (sym h ∙ e)
-
-put_next : (settings : Settings) (w v : Workspace) (after : Option Workspace) → after ≡ Some v → (after ≡ Some w) ⊎ (after ≡ Some (settled (with_settings w settings))) → v.next_version ≡ w.next_version
-put_next settings w v after e (inl h) = left_next w v (sym h ∙ e)
-put_next settings w v after e (inr h) = settled_next (with_settings w settings) v (sym h ∙ e)
-
-lock_next : (w v : Workspace) (id text : List ℕ) (after : Option Workspace) → after ≡ Some v → (after ≡ Some w) ⊎ (after ≡ Some (locked id text w)) → v.next_version ≡ w.next_version
-lock_next w v id text after e (inl h) = left_next w v (sym h ∙ e)
-lock_next w v id text after e (inr h) = left_next (locked id text w) v (sym h ∙ e)
-
-unlock_next : (w v : Workspace) (after : Option Workspace) → after ≡ Some v → Unlocks w after → v.next_version ≡ w.next_version
-unlock_next w v after e (inl h) = left_next w v (sym h ∙ e)
-unlock_next w v after e (inr h) = settled_next (released h.0 w) v (sym h.1 ∙ e)
-
-run_next : (w v : Workspace) (changed : Workspace → Type 0) (after : Option Workspace) → ((u : Workspace) → changed u → u.next_version ≡ w.next_version) → after ≡ Some v
-    → (after ≡ Some w) ⊎ (u : Workspace) × changed u × (after ≡ Some (settled u)) → v.next_version ≡ w.next_version
-run_next w v changed after stays e (inl h) = left_next w v (sym h ∙ e)
-run_next w v changed after stays e (inr h) = settled_next h.0 v (sym h.2 ∙ e) ∙ stays h.0 h.1
-
 -- a version is made by an accepted update alone
 pub rises_by_write : (act : Act) (now : ℕ) (w v : Workspace) → (rules act now (there w)).left ≡ Some v → w.next_version < v.next_version → IsAcceptedWrite act now w
-rises_by_write (PutWorkspace ask) now w v e lt =
-    let settings : Settings = settings_for ask (Some w.settings) in
-    none_made w v _ (put_next settings w v (put settings w).left e (put_becomes settings w)) lt
-rises_by_write (UpdateState head text id) now w v e lt = (id, refl, update_accepted w v head text now (may_write w.holder (holder_status w.holder w.runs) id) e lt)
-rises_by_write (Look what) now w v e lt = none_made w v _ (left_next w v e) lt
-rises_by_write DeleteWorkspace now w v e lt = none_made w v _ (left_next w v (delete_left w v e)) lt
-rises_by_write (PurgeState id) now w v e lt =
-    none_made w v _ (purge_next w v (rules (PurgeState id) now (there w)).left e (purge_becomes w (may_write w.holder (holder_status w.holder w.runs) id))) lt
-rises_by_write (LockAct id text) now w v e lt = none_made w v _ (lock_next w v id text (rules (LockAct id text) now (there w)).left e (lock_becomes id text w w.holder)) lt
-rises_by_write (Unlock id) now w v e lt = none_made w v _ (unlock_next w v (rules (Unlock id) now (there w)).left e (unlock_becomes id w w.holder)) lt
-rises_by_write ForceUnlock now w v e lt = none_made w v _ (unlock_next w v (rules ForceUnlock now (there w)).left e (force_becomes w w.holder)) lt
-rises_by_write (MakeRun ask) now w v e lt =
-    none_made w v _ (run_next w v (IsMade w ask now) _ (λ u is. ap (λ (x : Workspace). x.next_version) is.2) e (comes_to (make_comes w ask now))) lt
-rises_by_write (ReportRun n action) now w v e lt =
-    none_made w v _ (run_next w v (IsReported w n action) _ (λ u is. ap (λ (x : Workspace). x.next_version) is.is) e (comes_to (report_comes w n action))) lt
+rises_by_write act now w v e lt = by_case (leaves act now w v e)
+  where
+    by_case : (w ≡ v) ⊎ Leaves act now w v → IsAcceptedWrite act now w
+    by_case (inl still) = none_made w v _ (ap (λ (y : Workspace). y.next_version) (sym still)) lt
+    by_case (inr l) = by_way l.way
+      where
+        kept : l.to.next_version ≡ w.next_version → IsAcceptedWrite act now w
+        kept stays = none_made w v _ (ap (λ (y : Workspace). y.next_version) (sym l.settles) ∙ next_stays (to_start l.to.holder (first_waiting l.to.runs)) l.to ∙ stays) lt
+
+        by_way : Way act now w l.to l.answer → IsAcceptedWrite act now w
+        by_way (version_comes x) = (x.id, x.writes, l.said ∙ x.answered)
+        by_way (versions_go x) = kept (ap (λ (y : Workspace). y.next_version) x.is)
+        by_way (settings_come x) = kept (ap (λ (y : Workspace). y.next_version) x.is)
+        by_way (lock_comes x) = kept (ap (λ (y : Workspace). y.next_version) x.is)
+        by_way (lock_goes x) = kept (ap (λ (y : Workspace). y.next_version) x.is)
+        by_way (run_comes x) = kept (ap (λ (y : Workspace). y.next_version) x.made.2)
+        by_way (run_goes_on x) = let is : IsReported w x.n x.action l.to = x.reported in kept (ap (λ (y : Workspace). y.next_version) is.is)
 
 -- ---- who takes a version away
 
@@ -159,61 +108,6 @@ held_stays act now w lawful somebody = by_left (rules act now (there w)).left re
     by_left : (o : Option Workspace) → (rules act now (there w)).left ≡ o → IsSome o
     by_left (Some v) e = refl
     by_left None e = absurd (none_goes e w.holder refl somebody)
-
--- an update, or a purge, that isn't refused is answered as done
-refuses : (refusal : Refusal) (h : Holder) → IsRefusal (refused_by refusal h)
-refuses BadMessage h = tt
-refuses TwoTokens h = tt
-refuses BadQuery h = tt
-refuses BadDigest h = tt
-refuses BadState h = tt
-refuses BadLock h = tt
-refuses BadBody h = tt
-refuses NoToken h = tt
-refuses BadToken h = tt
-refuses NeedWrite h = tt
-refuses NeedAdmin h = tt
-refuses NoRoute h = tt
-refuses NotFound h = tt
-refuses (NoMethod allow) h = tt
-refuses NotHeld h = tt
-refuses NotApplying h = tt
-refuses OtherLineage h = tt
-refuses OldSerial h = tt
-refuses WrongState h = tt
-refuses HeldByRun h = tt
-refuses OpenRuns h = tt
-refuses OverLimit h = tt
-refuses Locked h = tt
-refuses NoLength h = tt
-refuses TooLarge h = tt
-refuses HeadTooLarge h = tt
-refuses Unavailable h = tt
-
-number_done : (w : Workspace) (head : StateHead) (text : List ℕ) (now : ℕ) (n : Option ℕ) → (IsRefusal (numbered_update n w head text now).answer → ⊥) → (numbered_update n w head text now).answer ≡ done
-number_done w head text now None accepted = absurd (accepted tt)
-number_done w head text now (Some n) accepted = refl
-
-succession_done : (w : Workspace) (head : StateHead) (text : List ℕ) (now : ℕ) (s : Succession) → (IsRefusal (by_succession s w head text now).answer → ⊥) → (by_succession s w head text now).answer ≡ done
-succession_done w head text now first accepted = number_done w head text now (number_left w.next_version) accepted
-succession_done w head text now same accepted = refl
-succession_done w head text now other_lineage accepted = absurd (accepted tt)
-succession_done w head text now old_serial accepted = absurd (accepted tt)
-succession_done w head text now next accepted = number_done w head text now (number_left w.next_version) accepted
-
-may_update : (w : Workspace) (head : StateHead) (text : List ℕ) (now : ℕ) (m : Option Refusal) → (IsRefusal (by_may_write m w head text now).answer → ⊥) → (by_may_write m w head text now).answer ≡ done
-may_update w head text now (Some refusal) accepted = absurd (accepted (refuses refusal w.holder))
-may_update w head text now None accepted = succession_done w head text now (succession w.versions text head) accepted
-
-pub update_done : (head : StateHead) (text : List ℕ) (id : Option (List ℕ)) (now : ℕ) (w : Workspace) → (IsRefusal (rules (UpdateState head text id) now (there w)).answer → ⊥) → (rules (UpdateState head text id) now (there w)).answer ≡ done
-update_done head text id now w accepted = may_update w head text now (may_write w.holder (holder_status w.holder w.runs) id) accepted
-
-may_purge : (w : Workspace) (m : Option Refusal) → (IsRefusal (purge m w).answer → ⊥) → (purge m w).answer ≡ done
-may_purge w (Some refusal) accepted = absurd (accepted (refuses refusal w.holder))
-may_purge w None accepted = refl
-
-pub purge_done : (id : Option (List ℕ)) (now : ℕ) (w : Workspace) → (IsRefusal (rules (PurgeState id) now (there w)).answer → ⊥) → (rules (PurgeState id) now (there w)).answer ≡ done
-purge_done id now w accepted = may_purge w (may_write w.holder (holder_status w.holder w.runs) id) accepted
 
 -- ---- who is active, and who starts
 

@@ -20,16 +20,16 @@ use Rattle.machine.specs.declared.records.Run.{Run}
 use Rattle.machine.specs.Writing.{may_write}
 use Rattle.machine.specs.Settling.{first_waiting, to_start, started, started_if, settled}
 use Rattle.machine.specs.Succession.{Succession, first, same, other_lineage, old_serial, next, succession}
-use Rattle.machine.specs.Rules.{Outcome, refused, done, Ruling, rules_missing, rules, refused_by, by_may_write, by_succession, numbered_update, number_left, with_version, settings_for, with_settings, put, done_with, done_already, purge, purged, lock, locked, unlock, released, is_released, force_unlock, new_run, with_run, numbered_run, make_run, reported, frees, with_report, report, delete}
-use Rattle.machine.proofs.DeletionLemmas.{IsKept, IsGone, delete_comes, delete_left, delete_again, locked_stays}
+use Rattle.machine.specs.Rules.{Outcome, refused, done, Ruling, rules_missing, rules, refused_by, by_may_write, by_succession, numbered_update, number_left, with_version, settings_for, with_settings, put, done_with, done_already, purge, purged, lock, locked, unlock, released, is_released, force_unlock, new_run, with_run, numbered_run, make_run, reported, frees, with_report, report}
+use Rattle.machine.proofs.DeletionLemmas.{delete_again}
 use Rattle.machine.proofs.CutLemmas.{last_length}
-use Rattle.machine.proofs.PuttingLemmas.{IsSet, put_comes, put_becomes, held_stay, put_once, asked_once}
+use Rattle.machine.proofs.PuttingLemmas.{put_becomes, held_stay, put_once, asked_once}
 use Rattle.machine.proofs.RefusalLemmas.{writes_carry_the_id}
 use Rattle.machine.specs.Laws.{is_nobody}
-use Rattle.machine.specs.Custody.{WritesWith, IsWriter, HeldVersionsChangeByTheId, VersionsChangeByTheId, WorkspacesGoByDelete, WorkspacesBeginAnew, AcceptedActsComeAgain, IsAnew, IsUnlocked, HoldsUntilReleased, LockedWorkspacesStay, RepeatsChangeNothing, IsRefusal}
+use Rattle.machine.specs.Custody.{WritesWith, Releases, IsWriter, HeldVersionsChangeByTheId, VersionsChangeByTheId, WorkspacesGoByDelete, WorkspacesBeginAnew, AcceptedActsComeAgain, IsAnew, IsUnlocked, HoldsUntilReleased, LockedWorkspacesStay, RepeatsChangeNothing, IsRefusal}
 use Rattle.machine.specs.Records.{Seen, missing, there}
 use Rattle.machine.specs.Effects.{effect}
-use Rattle.machine.proofs.MissingLemmas.{IsPut, Misses, put_or_missed}
+use Rattle.machine.proofs.Rulings.{IsPut, Misses, put_or_missed, Way, version_comes, versions_go, settings_come, lock_comes, lock_goes, run_comes, run_goes_on, Leaves, leaves, Comes, it_stays, it_goes, it_changes, comes}
 use Rattle.machine.specs.declared.acts.Act.{Act}
 use Rattle.machine.specs.declared.acts.Act.TheVariants.{Look, PutWorkspace, DeleteWorkspace, UpdateState, PurgeState, Lock as LockAct, Unlock, ForceUnlock, MakeRun, ReportRun}
 use Rattle.machine.specs.declared.records.Holder.{Holder}
@@ -341,131 +341,58 @@ repeats (ReportRun n action) now later (there w) v may e = report_again n action
 holder_stays : (u : Workspace) (held text : List ℕ) → u.holder ≡ Lock held text → (settled u).holder ≡ Lock held text
 holder_stays u held text e = ap (λ (h : Holder). (started_if (to_start h (first_waiting u.runs)) u).holder) e ∙ e
 
-holder_of_same : (u v : Workspace) (held text : List ℕ) → Some u ≡ Some v → u.holder ≡ Lock held text → v.holder ≡ Lock held text
-holder_of_same u v held text e h = let same_one : u ≡ v = cc in ap (λ (x : Workspace). x.holder) (sym same_one) ∙ h
-
-unlocked_or_held : (id : List ℕ) (w v : Workspace) (held text : List ℕ) (b : Bool) → bytes_eq id held ≡ b → w.holder ≡ Lock held text
-    → (cond b (done_with (released held w)) (cond (is_released w.released id) (done_already w) (effect (refused_by Refusal.Locked w.holder) (Some w)))).left ≡ Some v
-    → (v.holder ≡ Lock held text) ⊎ (id ≡ held)
-unlocked_or_held id w v held text true t lock e = inr ((bytes_eq-Decides id held).0 t)
-unlocked_or_held id w v held text false t lock e =
-    inl (holder_of_same w v held text (sym (stays_by (is_released w.released id) (refused_by Refusal.Locked w.holder) w) ∙ e) lock)
-
-held_by : (head : StateHead) (state : List ℕ) (now : ℕ) (w v : Workspace) (held text : List ℕ) (after : ℕ → Option Workspace) → w.holder ≡ Lock held text
-    → Becomes head state w after → after now ≡ Some v → v.holder ≡ Lock held text
-held_by head state now w v held text after lock (inl h) e = holder_of_same w v held text (sym (h now) ∙ e) lock
-held_by head state now w v held text after lock (inr h) e =
-    let u : Workspace = with_version w h.0 head state now in
-    holder_of_same (settled u) v held text (sym (h.1 now) ∙ e) (holder_stays u held text lock)
-
-purge_held : (w v : Workspace) (held text : List ℕ) (after : Option Workspace) → w.holder ≡ Lock held text → (after ≡ Some w) ⊎ (after ≡ Some (settled (purged w))) → after ≡ Some v → v.holder ≡ Lock held text
-purge_held w v held text after lock (inl h) e = holder_of_same w v held text (sym h ∙ e) lock
-purge_held w v held text after lock (inr h) e = holder_of_same (settled (purged w)) v held text (sym h ∙ e) (holder_stays (purged w) held text lock)
-
-put_held : (settings : Settings) (w v : Workspace) (held text : List ℕ) (after : Option Workspace) → w.holder ≡ Lock held text
-    → (after ≡ Some w) ⊎ (after ≡ Some (settled (with_settings w settings))) → after ≡ Some v → v.holder ≡ Lock held text
-put_held settings w v held text after lock (inl h) e = holder_of_same w v held text (sym h ∙ e) lock
-put_held settings w v held text after lock (inr h) e =
-    holder_of_same (settled (with_settings w settings)) v held text (sym h ∙ e) (holder_stays (with_settings w settings) held text lock)
-
-run_held : (w v : Workspace) (held text : List ℕ) (changed : Workspace → Type 0) (after : Option Workspace) → ((u : Workspace) → changed u → u.holder ≡ Lock held text)
-    → w.holder ≡ Lock held text → after ≡ Some v → (after ≡ Some w) ⊎ (u : Workspace) × changed u × (after ≡ Some (settled u)) → v.holder ≡ Lock held text
-run_held w v held text changed after keeps lock e (inl h) = holder_of_same w v held text (sym h ∙ e) lock
-run_held w v held text changed after keeps lock e (inr h) = holder_of_same (settled h.0) v held text (sym h.2 ∙ e) (holder_stays h.0 held text (keeps h.0 h.1))
+id_of_lock : (a b s t : List ℕ) → Lock a s ≡ Lock b t → a ≡ b
+id_of_lock a b s t e = cc
 
 pub holds_until_released : HoldsUntilReleased
-holds_until_released (PutWorkspace ask) now w v held text e h =
-    let settings : Settings = settings_for ask (Some w.settings) in
-    inl (put_held settings w v held text (put settings w).left e (put_becomes settings w) h)
-holds_until_released (UpdateState head state id) now w v held text e h =
-    inl (held_by head state now w v held text (λ t. (rules (UpdateState head state id) t (there w)).left) e (update_becomes head state w (may_write w.holder (holder_status w.holder w.runs) id)) h)
-holds_until_released (Look what) now w v held text e h = inl (holder_of_same w v held text h e)
-holds_until_released DeleteWorkspace now w v held text e h = inl (holder_of_same w v held text (delete_left w v h) e)
-holds_until_released (PurgeState id) now w v held text e h =
-    inl (purge_held w v held text (rules (PurgeState id) now (there w)).left e (purge_becomes w (may_write w.holder (holder_status w.holder w.runs) id)) h)
-holds_until_released (LockAct id t) now w v held text e h =
-    let again_held : (lock (Lock held text) id t w).left ≡ Some v = subst (λ (x : Holder). (lock x id t w).left ≡ Some v) e h in
-    inl (holder_of_same w v held text (sym (stays_by (bytes_eq id held) (refused_by Refusal.Locked w.holder) w) ∙ again_held) e)
-holds_until_released (Unlock id) now w v held text e h =
-    unlocked_or_held id w v held text (bytes_eq id held) refl e (subst (λ (x : Holder). (unlock x id w).left ≡ Some v) e h)
-holds_until_released ForceUnlock now w v held text e h = inr tt
-holds_until_released (MakeRun ask) now w v held text e h = inl (run_held w v held text (IsMade w ask now) _ (λ u is. ap (λ (x : Workspace). x.holder) is.2 ∙ e) e h (comes_to (make_comes w ask now)))
-holds_until_released (ReportRun n action) now w v held text e h =
-    inl (run_held w v held text (IsReported w n action) _ (λ u is. ap (λ (x : Workspace). x.holder) is.is ∙ ap (λ (x : Holder). cond (frees n is.status x) Nobody x) e) e h (comes_to (report_comes w n action)))
+holds_until_released act now w v held text e h = by_case (leaves act now w v h)
+  where
+    by_way : (u : Workspace) (answer : Outcome) → Way act now w u answer → (u.holder ≡ Lock held text) ⊎ Releases act held
+    by_way u answer (version_comes x) = inl (ap (λ (y : Workspace). y.holder) x.is ∙ e)
+    by_way u answer (versions_go x) = inl (ap (λ (y : Workspace). y.holder) x.is ∙ e)
+    by_way u answer (settings_come x) = inl (ap (λ (y : Workspace). y.holder) x.is ∙ e)
+    by_way u answer (lock_comes x) = absurd (let none : ⊥ = cc (sym e ∙ x.nobody) in none)
+    by_way u answer (lock_goes x) = inr (subst (Releases act) (id_of_lock x.id held x.text text (sym x.holds ∙ e)) x.releases)
+    by_way u answer (run_comes x) = inl (ap (λ (y : Workspace). y.holder) x.made.2 ∙ e)
+    by_way u answer (run_goes_on x) =
+        let is : IsReported w x.n x.action u = x.reported in
+        inl (ap (λ (y : Workspace). y.holder) is.is ∙ ap (λ (z : Holder). cond (frees x.n is.status z) Nobody z) e)
 
--- versions of a workspace that stays, or that only settles
-versions_of_same : (u w v : Workspace) → Some u ≡ Some v → u.versions ≡ w.versions → v.versions ≡ w.versions
-versions_of_same u w v e h = let same_one : u ≡ v = cc in ap (λ (x : Workspace). x.versions) (sym same_one) ∙ h
+    after : (u : Workspace) → settled u ≡ v → (u.holder ≡ Lock held text) ⊎ Releases act held → (v.holder ≡ Lock held text) ⊎ Releases act held
+    after u is (inl kept) = inl (ap (λ (y : Workspace). y.holder) (sym is) ∙ holder_stays u held text kept)
+    after u is (inr releases) = inr releases
+
+    by_case : (w ≡ v) ⊎ Leaves act now w v → (v.holder ≡ Lock held text) ⊎ Releases act held
+    by_case (inl still) = inl (ap (λ (y : Workspace). y.holder) (sym still) ∙ e)
+    by_case (inr l) = after l.to l.settles (by_way l.to l.answer l.way)
 
 settled_versions : (u : Workspace) → (settled u).versions ≡ u.versions
 settled_versions u = versions_stay u (to_start u.holder (first_waiting u.runs))
 
--- an act that writes: it leaves the versions, or it is done
-number_written : (w v : Workspace) (head : StateHead) (text : List ℕ) (now : ℕ) (n : Option ℕ) → (numbered_update n w head text now).left ≡ Some v
-    → (v.versions ≡ w.versions) ⊎ ((numbered_update n w head text now).answer ≡ done)
-number_written w v head text now None e = inl (versions_of_same w w v e refl)
-number_written w v head text now (Some n) e = inr refl
-
-succession_written : (w v : Workspace) (head : StateHead) (text : List ℕ) (now : ℕ) (s : Succession) → (by_succession s w head text now).left ≡ Some v
-    → (v.versions ≡ w.versions) ⊎ ((by_succession s w head text now).answer ≡ done)
-succession_written w v head text now first e = number_written w v head text now (number_left w.next_version) e
-succession_written w v head text now same e = inr refl
-succession_written w v head text now other_lineage e = inl (versions_of_same w w v e refl)
-succession_written w v head text now old_serial e = inl (versions_of_same w w v e refl)
-succession_written w v head text now next e = number_written w v head text now (number_left w.next_version) e
-
-update_written : (w v : Workspace) (head : StateHead) (text : List ℕ) (now : ℕ) (m : Option Refusal) → (by_may_write m w head text now).left ≡ Some v
-    → (v.versions ≡ w.versions) ⊎ ((by_may_write m w head text now).answer ≡ done)
-update_written w v head text now (Some refusal) e = inl (versions_of_same w w v e refl)
-update_written w v head text now None e = succession_written w v head text now (succession w.versions text head) e
-
-purge_written : (w v : Workspace) (m : Option Refusal) → (purge m w).left ≡ Some v → (v.versions ≡ w.versions) ⊎ ((purge m w).answer ≡ done)
-purge_written w v (Some refusal) e = inl (versions_of_same w w v e refl)
-purge_written w v None e = inr refl
-
-put_versions : (settings : Settings) (w v : Workspace) → is_nobody w.holder ≡ false → (put settings w).left ≡ Some v → IsKept (put settings w) w ⊎ IsSet (put settings w) settings w → v.versions ≡ w.versions
-put_versions settings w v somebody e (inl kept) = versions_of_same w w v (sym kept.left ∙ e) refl
-put_versions settings w v somebody e (inr set) =
-    versions_of_same (settled (with_settings w settings)) w v (sym (ap (λ (r : Ruling). r.left) set.is) ∙ e)
-    (settled_versions (with_settings w settings) ∙ held_stay settings w somebody set.free)
-
-lock_versions : (w v : Workspace) (id text : List ℕ) (after : Option Workspace) → after ≡ Some v → (after ≡ Some w) ⊎ (after ≡ Some (locked id text w)) → v.versions ≡ w.versions
-lock_versions w v id text after e (inl h) = versions_of_same w w v (sym h ∙ e) refl
-lock_versions w v id text after e (inr h) = versions_of_same (locked id text w) w v (sym h ∙ e) refl
-
-unlocked_versions : (w v : Workspace) (after : Option Workspace) → after ≡ Some v → Unlocks w after → v.versions ≡ w.versions
-unlocked_versions w v after e (inl h) = versions_of_same w w v (sym h ∙ e) refl
-unlocked_versions w v after e (inr h) = versions_of_same (settled (released h.0 w)) w v (sym h.1 ∙ e) (settled_versions (released h.0 w))
-
-run_versions : (w v : Workspace) (changed : Workspace → Type 0) (after : Option Workspace) → ((u : Workspace) → changed u → u.versions ≡ w.versions) → after ≡ Some v
-    → (after ≡ Some w) ⊎ (u : Workspace) × changed u × (after ≡ Some (settled u)) → v.versions ≡ w.versions
-run_versions w v changed after keeps e (inl h) = versions_of_same w w v (sym h ∙ e) refl
-run_versions w v changed after keeps e (inr h) = versions_of_same (settled h.0) w v (sym h.2 ∙ e) (settled_versions h.0 ∙ keeps h.0 h.1)
-
 abbrev Written : Act → ℕ → Workspace → Workspace → Type 0
 Written act now w v = (v.versions ≡ w.versions) ⊎ ((id : Option (List ℕ)) × WritesWith act id × ((rules act now (there w)).answer ≡ done) × IsWriter w.holder (holder_status w.holder w.runs) id)
 
-written : (act : Act) (now : ℕ) (w v : Workspace) (id : Option (List ℕ)) → WritesWith act id → (v.versions ≡ w.versions) ⊎ ((rules act now (there w)).answer ≡ done) → Written act now w v
-written act now w v id writes (inl h) = inl h
-written act now w v id writes (inr h) = inr (id, writes, h, writes_carry_the_id act now w id writes h)
-
 pub held_versions_change_by_the_id : HeldVersionsChangeByTheId
-held_versions_change_by_the_id (PutWorkspace ask) now w v somebody e =
-    let settings : Settings = settings_for ask (Some w.settings) in
-    inl (put_versions settings w v somebody e (put_comes settings w))
-held_versions_change_by_the_id (UpdateState head state id) now w v somebody e =
-    written (UpdateState head state id) now w v id refl (update_written w v head state now (may_write w.holder (holder_status w.holder w.runs) id) e)
-held_versions_change_by_the_id (Look what) now w v somebody e = inl (versions_of_same w w v e refl)
-held_versions_change_by_the_id DeleteWorkspace now w v somebody e = inl (versions_of_same w w v (delete_left w v e) refl)
-held_versions_change_by_the_id (PurgeState id) now w v somebody e =
-    written (PurgeState id) now w v id refl (purge_written w v (may_write w.holder (holder_status w.holder w.runs) id) e)
-held_versions_change_by_the_id (LockAct id t) now w v somebody e = inl (lock_versions w v id t (rules (LockAct id t) now (there w)).left e (lock_becomes id t w w.holder))
-held_versions_change_by_the_id (Unlock id) now w v somebody e = inl (unlocked_versions w v (rules (Unlock id) now (there w)).left e (unlock_becomes id w w.holder))
-held_versions_change_by_the_id ForceUnlock now w v somebody e = inl (unlocked_versions w v (rules ForceUnlock now (there w)).left e (force_becomes w w.holder))
-held_versions_change_by_the_id (MakeRun ask) now w v somebody e =
-    inl (run_versions w v (IsMade w ask now) _ (λ u is. ap (λ (x : Workspace). x.versions) is.2) e (comes_to (make_comes w ask now)))
-held_versions_change_by_the_id (ReportRun n action) now w v somebody e =
-    inl (run_versions w v (IsReported w n action) _ (λ u is. ap (λ (x : Workspace). x.versions) is.is) e (comes_to (report_comes w n action)))
+held_versions_change_by_the_id act now w v somebody e = by_case (leaves act now w v e)
+  where
+    by_case : (w ≡ v) ⊎ Leaves act now w v → Written act now w v
+    by_case (inl still) = inl (ap (λ (y : Workspace). y.versions) (sym still))
+    by_case (inr l) = by_way l.way
+      where
+        kept : l.to.versions ≡ w.versions → Written act now w v
+        kept stays = inl (ap (λ (y : Workspace). y.versions) (sym l.settles) ∙ settled_versions l.to ∙ stays)
+
+        written : (id : Option (List ℕ)) → WritesWith act id → l.answer ≡ done → Written act now w v
+        written id writes answered = inr (id, writes, l.said ∙ answered, writes_carry_the_id act now w id writes (l.said ∙ answered))
+
+        by_way : Way act now w l.to l.answer → Written act now w v
+        by_way (version_comes x) = written x.id x.writes x.answered
+        by_way (versions_go x) = written x.id x.writes x.answered
+        by_way (settings_come x) = kept (ap (λ (y : Workspace). y.versions) x.is ∙ held_stay x.settings w somebody x.free)
+        by_way (lock_comes x) = kept (ap (λ (y : Workspace). y.versions) x.is)
+        by_way (lock_goes x) = kept (ap (λ (y : Workspace). y.versions) x.is)
+        by_way (run_comes x) = kept (ap (λ (y : Workspace). y.versions) x.made.2)
+        by_way (run_goes_on x) = let is : IsReported w x.n x.action l.to = x.reported in kept (ap (λ (y : Workspace). y.versions) is.is)
 
 pub versions_change_by_the_id : VersionsChangeByTheId
 versions_change_by_the_id act now w v own text lock e = by_case (held_versions_change_by_the_id act now w v (ap is_nobody lock) e)
@@ -476,64 +403,35 @@ versions_change_by_the_id act now w v own text lock e = by_case (held_versions_c
         let own_id : id ≡ Some own = subst (λ (h : Holder). IsWriter h (holder_status h w.runs) id) lock writer in
         inr (subst (WritesWith act) own_id writes)
 
--- what stays there
-some_after : (w : Workspace) (after : ℕ → Option Workspace) (head : StateHead) (text : List ℕ) (now : ℕ) → Becomes head text w after → IsSome (after now)
-some_after w after head text now (inl h) = rw (h now) refl
-some_after w after head text now (inr h) = rw (h.1 now) refl
-
-some_of_two : (w v : Workspace) (after : Option Workspace) → (after ≡ Some w) ⊎ (after ≡ Some v) → IsSome after
-some_of_two w v after (inl h) = rw h refl
-some_of_two w v after (inr h) = rw h refl
-
-some_unlocked : (w : Workspace) (after : Option Workspace) → Unlocks w after → IsSome after
-some_unlocked w after (inl h) = rw h refl
-some_unlocked w after (inr h) = rw h.1 refl
-
-some_after_run : (w : Workspace) (changed : Workspace → Type 0) (after : Option Workspace) → (after ≡ Some w) ⊎ (u : Workspace) × changed u × (after ≡ Some (settled u)) → IsSome after
-some_after_run w changed after (inl h) = rw h refl
-some_after_run w changed after (inr h) = rw h.2 refl
-
 -- a workspace stays, or the act is DELETE
 stays_or_deleted : (act : Act) (now : ℕ) (w : Workspace) → IsSome (rules act now (there w)).left ⊎ (act ≡ DeleteWorkspace)
-stays_or_deleted (PutWorkspace ask) now w =
-    let settings : Settings = settings_for ask (Some w.settings) in
-    inl (some_of_two w (settled (with_settings w settings)) (put settings w).left (put_becomes settings w))
-stays_or_deleted (UpdateState head state id) now w =
-    inl (some_after w (λ t. (rules (UpdateState head state id) t (there w)).left) head state now (update_becomes head state w (may_write w.holder (holder_status w.holder w.runs) id)))
-stays_or_deleted (Look what) now w = inl refl
-stays_or_deleted DeleteWorkspace now w = inr refl
-stays_or_deleted (PurgeState id) now w =
-    inl (some_of_two w (settled (purged w)) (rules (PurgeState id) now (there w)).left (purge_becomes w (may_write w.holder (holder_status w.holder w.runs) id)))
-stays_or_deleted (LockAct id t) now w = inl (some_of_two w (locked id t w) (rules (LockAct id t) now (there w)).left (lock_becomes id t w w.holder))
-stays_or_deleted (Unlock id) now w = inl (some_unlocked w (rules (Unlock id) now (there w)).left (unlock_becomes id w w.holder))
-stays_or_deleted ForceUnlock now w = inl (some_unlocked w (rules ForceUnlock now (there w)).left (force_becomes w w.holder))
-stays_or_deleted (MakeRun ask) now w = inl (some_after_run w (IsMade w ask now) (rules (MakeRun ask) now (there w)).left (comes_to (make_comes w ask now)))
-stays_or_deleted (ReportRun n action) now w = inl (some_after_run w (IsReported w n action) (rules (ReportRun n action) now (there w)).left (comes_to (report_comes w n action)))
+stays_or_deleted act now w = by_case (comes act now w)
+  where
+    by_case : Comes act now w (rules act now (there w)) → IsSome (rules act now (there w)).left ⊎ (act ≡ DeleteWorkspace)
+    by_case (it_stays stays) = inl (subst IsSome (sym stays.left) refl)
+    by_case (it_goes goes) = inr goes.deletes
+    by_case (it_changes changes) = inl (subst (λ (r : Ruling). IsSome r.left) (sym changes.is) refl)
 
 none_of_some : {X : Type 0} (o : Option X) → IsSome o → o ≡ None → ⊥
 none_of_some None some e = let none : ⊥ = cc in none
 none_of_some (Some x) some e = let none : ⊥ = cc in none
 
 pub locked_workspaces_stay : LockedWorkspacesStay
-locked_workspaces_stay act now w held text e = by_case (stays_or_deleted act now w)
+locked_workspaces_stay act now w held text e = by_case (comes act now w)
   where
-    by_case : IsSome (rules act now (there w)).left ⊎ (act ≡ DeleteWorkspace) → IsSome (rules act now (there w)).left
-    by_case (inl some) = some
-    by_case (inr is) = subst (λ (a : Act). IsSome (rules a now (there w)).left) (sym is) (locked_stays w held text e)
+    by_case : Comes act now w (rules act now (there w)) → IsSome (rules act now (there w)).left
+    by_case (it_stays stays) = subst IsSome (sym stays.left) refl
+    by_case (it_goes goes) = absurd (subst IsUnlocked e goes.unheld)
+    by_case (it_changes changes) = subst (λ (r : Ruling). IsSome r.left) (sym changes.is) refl
 
 -- a workspace goes by DELETE alone
 pub workspaces_go_by_delete : WorkspacesGoByDelete
-workspaces_go_by_delete act now w e = by_case (stays_or_deleted act now w)
+workspaces_go_by_delete act now w e = by_case (comes act now w)
   where
-    gone : (rules DeleteWorkspace now (there w)).left ≡ None → IsKept (delete w.holder w) w ⊎ IsGone (delete w.holder w) w → IsUnlocked w.holder × (open_runs w.runs ≡ 0)
-    gone e (inl kept) = absurd (let none : ⊥ = cc (sym kept.left ∙ e) in none)
-    gone e (inr is) = (is.unheld, is.idle)
-
-    by_case : IsSome (rules act now (there w)).left ⊎ (act ≡ DeleteWorkspace) → (act ≡ DeleteWorkspace) × IsUnlocked w.holder × (open_runs w.runs ≡ 0)
-    by_case (inl some) = absurd (none_of_some (rules act now (there w)).left some e)
-    by_case (inr is) =
-        let parts = gone (subst (λ (a : Act). (rules a now (there w)).left ≡ None) is e) (delete_comes w) in
-        (is, parts.0, parts.1)
+    by_case : Comes act now w (rules act now (there w)) → (act ≡ DeleteWorkspace) × IsUnlocked w.holder × (open_runs w.runs ≡ 0)
+    by_case (it_stays stays) = absurd (let none : ⊥ = cc (sym stays.left ∙ e) in none)
+    by_case (it_goes goes) = (goes.deletes, goes.unheld, goes.idle)
+    by_case (it_changes changes) = absurd (let none : ⊥ = cc (sym (ap (λ (r : Ruling). r.left) changes.is) ∙ e) in none)
 
 pub workspaces_begin_anew : WorkspacesBeginAnew
 workspaces_begin_anew act now room v e = by_act (put_or_missed act)

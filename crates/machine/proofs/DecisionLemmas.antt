@@ -1,11 +1,11 @@
 -- A decision means what the rules say.
 use Rattle.std.specs.FinMap.{get}
-use Rattle.basis.specs.declared.rows.Look.TheVariants as look
+use Rattle.basis.specs.declared.numbers.TheConstants.{FIRST_KEPT}
 use Rattle.basis.specs.declared.rows.Settings.{Settings}
 use Rattle.basis.specs.declared.rows.SettingsAsk.{SettingsAsk}
 use Rattle.machine.specs.declared.records.Organization.{Organization}
-use Rattle.std.proofs.Common.{◌≡◌, ◌⊎◌, inl, inr, ℕ, ◌+◌, ◌-◌, ◌==◌, nat_lt, Bool, true, false, not, ◌&&◌, cond, List, [], ◌∷◌, length, map, Option, Some, None, is_some, option_map, Result, Ok, Err, IfSome, IfOk, refl, sym, ap, subst, ◌∙◌, eq-eqb, eqb-true}
-use Rattle.std.specs.Option.{option_or, option_map_or}
+use Rattle.std.proofs.Common.{◌≡◌, ◌⊎◌, inl, inr, ℕ, ◌+◌, ◌-◌, ◌==◌, nat_lt, Bool, true, false, not, ◌&&◌, cond, List, [], ◌∷◌, length, map, Option, Some, None, is_some, is_none, option_map, Result, Ok, Err, IfSome, IfOk, refl, sym, ap, subst, ◌∙◌, eq-eqb, eqb-true}
+use Rattle.std.specs.Option.{option_or}
 use Rattle.std.specs.List.{AllByRecursion}
 use Rattle.std.specs.Str.{bytes_eq}
 use Rattle.std.proofs.lemmas.Bool.{le-ltb}
@@ -17,7 +17,7 @@ use Rattle.machine.specs.Workspaces.{max_open_runs, newest, last_of, holder_stat
 use Rattle.machine.specs.Writing.{may_write}
 use Rattle.machine.specs.Succession.{after_newest, lineages_differ, same, other_lineage, old_serial, next}
 use Rattle.machine.specs.Showing.{holder_id, shown_of}
-use Rattle.machine.specs.Rules.{rules, done, no_state, state, version_answer, delete, by_may_write, by_succession, numbered_update, number_left, state_answer, workspace, refused, the_run, run_answer, told_with, told_already, new_run, with_run, with_version, purged, shown_with, numbered_run, make_run, reported, frees, with_report, by_step, report, kept_for, settings_for, with_settings, put, purge, lock, unlock, force_unlock, is_released, released, done_with, done_already, refused_by, rules_there, rules_missing, Ruling}
+use Rattle.machine.specs.Rules.{rules, done, delete, by_may_write, by_succession, numbered_update, number_left, workspace, refused, the_run, run_answer, told_with, told_already, new_run, with_run, with_version, purged, shown_with, numbered_run, make_run, reported, frees, with_report, by_step, report, kept_for, settings_for, with_settings, put, purge, lock, unlock, force_unlock, is_released, released, done_with, done_already, refused_by, rules_there, rules_missing, Ruling}
 use Rattle.machine.specs.Settling.{is_waiting, first_waiting, to_start, started_if}
 use Rattle.machine.specs.RunSteps.{next_status, is_last}
 use Rattle.machine.proofs.StepLemmas.{never_pending, pending_idle}
@@ -29,7 +29,7 @@ use Rattle.basis.specs.declared.rows.RunAsk.{RunAsk}
 use Rattle.basis.specs.declared.runs.RunStatus.{RunStatus}
 use Rattle.basis.specs.declared.runs.RunAction.{RunAction}
 use Rattle.machine.specs.Needs.{needs, staying_for}
-use Rattle.machine.specs.Units.{unit_of, workspace_unit, newest_unit, outgoing_by, version_of, unit_by}
+use Rattle.machine.specs.Units.{unit_of, workspace_unit, newest_unit, settings_unit, outgoing_by, unit_by}
 use Rattle.machine.specs.declared.acts.Act.{Act}
 use Rattle.machine.specs.declared.acts.Act.TheVariants.{Look, PutWorkspace, DeleteWorkspace, UpdateState, PurgeState, Lock as LockAct, Unlock, ForceUnlock, MakeRun, ReportRun}
 use Rattle.machine.specs.declared.acts.Decision.{Decision}
@@ -46,20 +46,13 @@ use Rattle.machine.specs.declared.records.Workspace.{Workspace}
 use Rattle.machine.specs.declared.acts.Unit.{Unit as AnyUnit}
 use Rattle.machine.proofs.RuleLemmas.{rules_are_lawful}
 use Rattle.machine.specs.Effects.{effect}
-use Rattle.machine.specs.Inner.Decisions.{AsksInRange, shown_as, decided_put, decided_delete, decided_version_read, decision_of, decided_update, decided_after, decided_version, decided_number, decided_read, decided_purge, decided_lock, decided_unlock, decided_force, decided_number_of_run, decided_make, decided_read_run, decided_step, decided_report, start_freed, begun_by, acted, changing, decision_missing}
+use Rattle.machine.specs.Inner.Decisions.{AsksInRange, shown_as, decided_put, decided_delete, decision_of, decided_update, decided_after, decided_version, decided_number, decided_purge, decided_lock, decided_unlock, decided_force, decided_number_of_run, decided_make, decided_step, decided_report, start_freed, begun_by, acted, changing, decision_missing}
 use Rattle.machine.specs.Meaning.{meaning, Meets, ChangeIsDue}
 use Rattle.machine.specs.Laws.{is_nobody, AreVersions, IsRun, IsLawful, IsLawfulIfThere, IsLawfulOrganization, is_pending}
 use Rattle.machine.specs.Records.{Seen, seen_by, standing, count_of, seen_in}
 use Rattle.machine.specs.Ranges.{IsKeepCount, IsSettingsAsk, IsInRange, IsMoment}
-use Rattle.machine.proofs.MissingLemmas.{IsPut, Misses, put_or_missed}
-
--- the newest version is the last of its number
-pub version_of-newest : (vs : List Version) (v : Version) → newest vs ≡ Some v → version_of v.number vs ≡ Some v
-version_of-newest [] v e = cc
-version_of-newest (u ∷ []) v e =
-    let is : u ≡ v = cc in
-    subst (λ (x : Version). cond (u.number == x.number) (Some u) None ≡ Some x) is (rw (eq-eqb u.number u.number refl) refl)
-version_of-newest (u ∷ w ∷ vs) v e = rw (version_of-newest (w ∷ vs) v e) refl
+use Rattle.machine.proofs.LookLemmas.{all_looks}
+use Rattle.machine.proofs.Rulings.{IsPut, Misses, put_or_missed}
 
 -- where somebody holds none starts, and where nobody does none waits
 none_starts : (w : Workspace) → IsLawful w → to_start w.holder (first_waiting w.runs) ≡ None
@@ -94,11 +87,6 @@ update_model : (w : Workspace) (head : StateHead) (text : List ℕ) (id : Option
     → meaning (decided_update m (workspace_unit (UpdateState head text id) w) head text now) (Some w) ≡ by_may_write m w head text now
 update_model w head text id now lawful (Some refusal) = refl
 update_model w head text id now lawful None = after_model w head text id now lawful (newest w.versions)
-
-read_model : (w : Workspace) (o : Option Version) → newest w.versions ≡ o
-    → meaning (decided_read (option_map (newest_unit None) o)) (Some w) ≡ effect (state_answer o) (Some w)
-read_model w None e = refl
-read_model w (Some v) e = rw (version_of-newest w.versions v e) refl
 
 purge_model : (w : Workspace) (id : Option (List ℕ)) → IsLawful w → (m : Option Refusal)
     → meaning (decided_purge m (workspace_unit (PurgeState id) w)) (Some w) ≡ purge m w
@@ -138,20 +126,28 @@ force_model w Nobody = refl
 force_model w (Lock id_held text) = refl
 force_model w (Run n) = refl
 
--- which versions go by a PUT: those before the last ones, and none where no number is asked for
+-- a PUT that asks for a number doesn't need the one that the workspace has
+kept_same : (asked : Option ℕ) (keep : ℕ) → kept_for asked (cond (is_none asked) keep FIRST_KEPT) ≡ kept_for asked keep
+kept_same None keep = refl
+kept_same (Some k) keep = refl
+
+settings_same : (ask : SettingsAsk) (s : Settings) → settings_for ask (Some (settings_unit (is_none ask.keep_versions) s)) ≡ settings_for ask (Some s)
+settings_same ask s = λ i. record { auto_apply = ask.auto_apply; keep_versions = kept_same ask.keep_versions s.keep_versions i }
+
+-- which versions go by a PUT: those before the last ones, and none where no number is asked for, whatever number is told
 record GoesBy (going : Option ℕ) (keep : ℕ) (versions : List Version) : Type 0 where
   some : is_some going ≡ nat_lt keep (length versions)
   left : left_above going versions ≡ last_of keep versions
   newest_one : newest (last_of keep versions) ≡ newest versions
 
-goes_by : (asked : Option ℕ) (keep top : ℕ) (versions : List Version) → IfSome asked IsKeepCount → AreVersions keep top versions
-    → GoesBy (outgoing_by (staying_for asked) keep versions) (kept_for asked keep) versions
-goes_by None keep top versions range are = record {
+goes_by : (asked : Option ℕ) (told keep top : ℕ) (versions : List Version) → IfSome asked IsKeepCount → AreVersions keep top versions
+    → GoesBy (outgoing_by (staying_for asked) told versions) (kept_for asked keep) versions
+goes_by None told keep top versions range are = record {
   some = sym (le-ltb keep (length versions) are.kept);
   left = sym (all_last keep versions are.kept);
   newest_one = ap newest (all_last keep versions are.kept);
 }
-goes_by (Some k) keep top versions range are = record { some = some_go k versions; left = left_is_last k top versions are.rise; newest_one = newest_stays k versions range.0 }
+goes_by (Some k) told keep top versions range are = record { some = some_go k versions; left = left_is_last k top versions are.rise; newest_one = newest_stays k versions range.0 }
 
 number_shown : (o : Option Version) → option_map (λ (v : Newest). v.number) (option_map (newest_unit None) o) ≡ option_map (λ (v : Version). v.number) o
 number_shown None = refl
@@ -164,11 +160,14 @@ put_model w ask lawful range = chosen (not (is_nobody w.holder) && is_some going
     settings : Settings
     settings = settings_for ask (Some w.settings)
 
+    told : ℕ
+    told = (settings_unit (is_none ask.keep_versions) w.settings).keep_versions
+
     going : Option ℕ
-    going = outgoing_by (staying_for ask.keep_versions) w.settings.keep_versions w.versions
+    going = outgoing_by (staying_for ask.keep_versions) told w.versions
 
     goes : GoesBy going settings.keep_versions w.versions
-    goes = goes_by ask.keep_versions w.settings.keep_versions w.next_version w.versions range lawful.versions
+    goes = goes_by ask.keep_versions told w.settings.keep_versions w.next_version w.versions range lawful.versions
 
     shown_from : Option ℕ → Shown
     shown_from version = record { settings = settings; holder = holder_id w.holder; version = version }
@@ -190,12 +189,6 @@ put_model w ask lawful range = chosen (not (is_nobody w.holder) && is_some going
     chosen true false e = absurd (let none : ⊥ = cc in none)
     chosen false true e = absurd (let none : ⊥ = cc in none)
     chosen false false e = set
-
-shown_model : (w : Workspace) (o : Option Version) → newest w.versions ≡ o
-    → effect (workspace (record { settings = w.settings; holder = holder_id w.holder; version = option_map (λ (v : Newest). v.number) (option_map (newest_unit None) (newest w.versions)) })) (Some w)
-    ≡ effect (workspace (shown_of w)) (Some w)
-shown_model w None e = rw e refl
-shown_model w (Some v) e = rw e refl
 
 -- a run more: it is told as it is once one has started
 added_model : (w : Workspace) (ask : RunAsk) (now n : ℕ) → IsLawful w → run_of n w.runs ≡ None
@@ -228,10 +221,6 @@ make_model w ask now lawful None = chosen (nat_lt (open_runs w.runs) max_open_ru
         ≡ cond b (numbered_run (number_left w.next_run) w ask now) (effect (refused Refusal.OverLimit) (Some w))
     chosen true = numbered (number_left w.next_run) refl
     chosen false = refl
-
-read_run_model : (w : Workspace) (o : Option AnyRun) → meaning (decided_read_run o) (Some w) ≡ effect (run_answer o) (Some w)
-read_run_model w None = refl
-read_run_model w (Some r) = refl
 
 -- who waits once a run has taken an action: nobody where nobody held, and the same ones where it held
 waits_after : (w : Workspace) (n : ℕ) (action : RunAction) (status : RunStatus) (r : AnyRun) → next_status r.plan_only w.settings.auto_apply r.status action ≡ Some status → IsLawful w
@@ -308,7 +297,7 @@ report_model w n action lawful (Some r) there = chosen (is_last action r.action)
     chosen true = refl
     chosen false = step_model w n action r lawful there (next_status r.plan_only w.settings.auto_apply r.status action) refl
 
--- DELETE of a workspace, and a version that is asked of
+-- DELETE of a workspace
 delete_model : (w : Workspace) (h : Holder) → meaning (decided_delete h (open_runs w.runs)) (Some w) ≡ delete h w
 delete_model w Nobody = idle (nat_lt 0 (open_runs w.runs))
   where
@@ -322,28 +311,19 @@ delete_model w (Run n) = idle (nat_lt 0 (open_runs w.runs))
     idle true = refl
     idle false = refl
 
-version_model : (w : Workspace) (n : ℕ) (o : Option Version) → version_of n w.versions ≡ o → meaning (decided_version_read (is_some o) n) (Some w) ≡ effect (version_answer o) (Some w)
-version_model w n None at = refl
-version_model w n (Some v) at = ap (λ (o : Option Version). effect (option_map_or state (option_map (λ (u : Version). u.text) o) no_state) (Some w)) at
-
 there_model : (o : Organization) (w : Workspace) (act : Act) (now : ℕ) → IsLawful w → AsksInRange act → meaning (decision_of (unit_by o act (Some w)) act now) (Some w) ≡ rules_there act now w
-there_model o w (PutWorkspace ask) now lawful asked = put_model w ask lawful asked
-there_model o w (Look look.Workspace) now lawful asked = shown_model w (newest w.versions) refl
+there_model o w (PutWorkspace ask) now lawful asked = ap (λ (s : Settings). meaning (decided_put s (workspace_unit (PutWorkspace ask) w)) (Some w)) (settings_same ask w.settings) ∙ put_model w ask lawful asked
+there_model o w (Look what) now lawful asked = (all_looks what w).model
 there_model o w (UpdateState head text id) now lawful asked = update_model w head text id now lawful (may_write w.holder (holder_status w.holder w.runs) id)
-there_model o w (Look look.State) now lawful asked = read_model w (newest w.versions) refl
 there_model o w (PurgeState id) now lawful asked = purge_model w id lawful (may_write w.holder (holder_status w.holder w.runs) id)
 there_model o w (LockAct id text) now lawful asked = lock_model id text w w.holder
 there_model o w (Unlock id) now lawful asked = unlock_model id w w.holder
 there_model o w ForceUnlock now lawful asked = force_model w w.holder
 there_model o w DeleteWorkspace now lawful asked = delete_model w w.holder
-there_model o w (Look (look.Versions after)) now lawful asked = refl
-there_model o w (Look (look.Version n)) now lawful asked = version_model w n (version_of n w.versions) refl
-there_model o w (Look (look.Runs after)) now lawful asked = refl
 there_model o w (MakeRun ask) now lawful asked = make_model w ask now lawful (keyed_run ask.key w.runs)
-there_model o w (Look (look.Run n)) now lawful asked = read_run_model w (run_of n w.runs)
 there_model o w (ReportRun n action) now lawful asked = report_model w n action lawful (run_of n w.runs) refl
 
-missing_model : (o : Organization) (act : Act) → meaning (decision_missing act (nat_lt (cond (needs act).makes (count_of o) 0) o.limit)) None ≡ rules_missing act (nat_lt (count_of o) o.limit)
+missing_model : (o : Organization) (act : Act) → meaning (decision_missing act (nat_lt (cond (needs act).makes (count_of o) 0) (cond (needs act).makes o.limit 0))) None ≡ rules_missing act (nat_lt (count_of o) o.limit)
 missing_model o act = by_act (put_or_missed act)
   where
     room : Bool
@@ -353,10 +333,10 @@ missing_model o act = by_act (put_or_missed act)
     made true ask = refl
     made false ask = refl
 
-    by_act : IsPut act ⊎ Misses act → meaning (decision_missing act (nat_lt (cond (needs act).makes (count_of o) 0) o.limit)) None ≡ rules_missing act room
+    by_act : IsPut act ⊎ Misses act → meaning (decision_missing act (nat_lt (cond (needs act).makes (count_of o) 0) (cond (needs act).makes o.limit 0))) None ≡ rules_missing act room
     by_act (inl put) =
-        subst (λ (a : Act). meaning (decision_missing a (nat_lt (cond (needs a).makes (count_of o) 0) o.limit)) None ≡ rules_missing a room) (sym put.1) (made room put.0)
-    by_act (inr misses) = ap (λ (d : Decision). meaning d None) (misses (nat_lt (cond (needs act).makes (count_of o) 0) o.limit)).1 ∙ sym (misses room).0
+        subst (λ (a : Act). meaning (decision_missing a (nat_lt (cond (needs a).makes (count_of o) 0) (cond (needs a).makes o.limit 0))) None ≡ rules_missing a room) (sym put.1) (made room put.0)
+    by_act (inr misses) = ap (λ (d : Decision). meaning d None) (misses (nat_lt (cond (needs act).makes (count_of o) 0) (cond (needs act).makes o.limit 0))).1 ∙ sym (misses room).0
 
 model : (o : Organization) (w : Option Workspace) (act : Act) (now : ℕ) → IsLawfulIfThere w → AsksInRange act
     → meaning (decision_of (unit_by o act w) act now) (standing (seen_by (nat_lt (count_of o) o.limit) w)) ≡ rules act now (seen_by (nat_lt (count_of o) o.limit) w)

@@ -1,10 +1,9 @@
 -- What DELETE of a workspace comes to: it is refused and the workspace stays, or the workspace goes.
-use Rattle.std.proofs.Common.{◌≡◌, ◌⊎◌, inl, inr, ℕ, nat_lt, Bool, true, false, cond, Some, None, List, IsSome, refl, sym, ap, subst, ◌∙◌, arith}
+use Rattle.std.proofs.Common.{◌≡◌, ◌⊎◌, inl, inr, nat_lt, Bool, true, false, cond, Some, None, refl, sym, ap, subst, ◌∙◌, arith}
 use Rattle.std.proofs.lemmas.Bool.{ltb-false}
 use Rattle.basis.specs.declared.refusals.Refusal.TheVariants.{OpenRuns, Locked}
 use Rattle.machine.specs.Effects.{effect}
 use Rattle.machine.specs.Custody.{IsRefusal, IsUnlocked}
-use Rattle.machine.specs.Laws.{IsLawful, IsLawfulIfThere}
 use Rattle.machine.specs.Workspaces.{open_runs}
 use Rattle.machine.specs.Rules.{refused, held, done, Ruling, delete}
 use Rattle.machine.specs.declared.records.Holder.{Holder}
@@ -49,39 +48,3 @@ pub delete_again : (w v : Workspace) → (delete w.holder w).left ≡ Some v →
 delete_again w v e =
     let same_one : w ≡ v = let same = delete_left w v e in cc in
     subst (λ (x : Workspace). (delete x.holder x).left ≡ Some v) same_one e
-
-pub delete_is_lawful : (w : Workspace) → IsLawful w → IsLawfulIfThere (delete w.holder w).left
-delete_is_lawful w lawful = by_case (delete_comes w)
-  where
-    by_case : IsKept (delete w.holder w) w ⊎ IsGone (delete w.holder w) w → IsLawfulIfThere (delete w.holder w).left
-    by_case (inl kept) = subst IsLawfulIfThere (sym kept.left) lawful
-    by_case (inr gone) = subst (λ (r : Ruling). IsLawfulIfThere r.left) (sym gone.is) tt
-
-pub delete_leaves : (w : Workspace) → IsRefusal (delete w.holder w).answer → (delete w.holder w).left ≡ Some w
-delete_leaves w is = by_case (delete_comes w)
-  where
-    by_case : IsKept (delete w.holder w) w ⊎ IsGone (delete w.holder w) w → (delete w.holder w).left ≡ Some w
-    by_case (inl kept) = kept.left
-    by_case (inr gone) = absurd (subst (λ (r : Ruling). IsRefusal r.answer) gone.is is)
-
-pub delete_tells : (w : Workspace) (holder : Holder) → (delete w.holder w).answer ≡ held holder → holder ≡ w.holder
-delete_tells w holder e = by_case (delete_comes w)
-  where
-    by_case : IsKept (delete w.holder w) w ⊎ IsGone (delete w.holder w) w → holder ≡ w.holder
-    by_case (inl kept) = kept.tells holder e
-    by_case (inr gone) = absurd (let none : ⊥ = cc (sym (ap (λ (r : Ruling). r.answer) gone.is) ∙ e) in none)
-
-pub delete_unlocked : (w : Workspace) → (delete w.holder w).answer ≡ refused Locked → ⊥
-delete_unlocked w e = by_case (delete_comes w)
-  where
-    by_case : IsKept (delete w.holder w) w ⊎ IsGone (delete w.holder w) w → ⊥
-    by_case (inl kept) = kept.unlocked e
-    by_case (inr gone) = let none : ⊥ = cc (sym (ap (λ (r : Ruling). r.answer) gone.is) ∙ e) in none
-
--- a workspace that a lock holds stays
-pub locked_stays : (w : Workspace) (own text : List ℕ) → w.holder ≡ Lock own text → IsSome (delete w.holder w).left
-locked_stays w own text at = by_case (delete_comes w)
-  where
-    by_case : IsKept (delete w.holder w) w ⊎ IsGone (delete w.holder w) w → IsSome (delete w.holder w).left
-    by_case (inl kept) = rw kept.left refl
-    by_case (inr gone) = absurd (subst IsUnlocked at gone.unheld)

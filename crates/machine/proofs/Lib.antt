@@ -1,6 +1,9 @@
 pub mod StepLemmas
 pub mod RunLemmas
 pub mod RunRulings
+pub mod LookLemmas
+pub mod RefusedLemmas
+pub mod Rulings
 pub mod DeletionLemmas
 pub mod PuttingLemmas
 pub mod RunLawLemmas
@@ -8,7 +11,6 @@ pub mod RuleLemmas
 pub mod SettlingLemmas
 pub mod SettlesLemmas
 pub mod Examples
-pub mod MissingLemmas
 pub mod LawLemmas
 pub mod CutLemmas
 pub mod DecisionLemmas

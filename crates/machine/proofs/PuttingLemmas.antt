@@ -1,16 +1,14 @@
 -- What PUT comes to of a workspace that is there: it is refused and the workspace stays, or the workspace gets the settings.
-use Rattle.std.proofs.Common.{◌≡◌, ◌⊎◌, inl, inr, ℕ, ◌≤◌, nat_lt, Bool, true, false, not, ◌&&◌, cond, List, length, Option, Some, None, IfSome, refl, sym, ap, subst, ◌∙◌, arith}
+use Rattle.std.proofs.Common.{◌≡◌, ◌⊎◌, inl, inr, ℕ, ◌≤◌, nat_lt, Bool, true, false, not, ◌&&◌, cond, List, length, Option, Some, None, IfSome, refl, ap, subst, ◌∙◌, arith}
 use Rattle.std.proofs.lemmas.Bool.{ltb-false, le-ltb}
 use Rattle.basis.specs.declared.refusals.Refusal.TheVariants.{Locked}
 use Rattle.basis.specs.declared.rows.Settings.{Settings}
 use Rattle.basis.specs.declared.rows.SettingsAsk.{SettingsAsk}
 use Rattle.machine.specs.Effects.{effect}
-use Rattle.machine.specs.Custody.{IsRefusal}
 use Rattle.machine.specs.Laws.{is_nobody}
 use Rattle.machine.specs.Ranges.{IsKeepCount}
 use Rattle.machine.specs.Settling.{settled}
-use Rattle.machine.specs.Rules.{refused, held, Ruling, refused_by, shown_with, kept_before, kept_for, settings_for, with_settings, takes_held, put}
-use Rattle.machine.specs.declared.records.Holder.{Holder}
+use Rattle.machine.specs.Rules.{Ruling, refused_by, shown_with, kept_before, kept_for, settings_for, with_settings, takes_held, put}
 use Rattle.machine.specs.declared.records.Version.{Version}
 use Rattle.machine.specs.declared.records.Workspace.{Workspace}
 use Rattle.machine.proofs.CutLemmas.{all_last}
@@ -37,27 +35,6 @@ put_becomes settings w = by_case (put_comes settings w)
     by_case : IsKept (put settings w) w ⊎ IsSet (put settings w) settings w → ((put settings w).left ≡ Some w) ⊎ ((put settings w).left ≡ Some (settled (with_settings w settings)))
     by_case (inl kept) = inl kept.left
     by_case (inr set) = inr (ap (λ (r : Ruling). r.left) set.is)
-
-pub put_leaves : (settings : Settings) (w : Workspace) → IsRefusal (put settings w).answer → (put settings w).left ≡ Some w
-put_leaves settings w is = by_case (put_comes settings w)
-  where
-    by_case : IsKept (put settings w) w ⊎ IsSet (put settings w) settings w → (put settings w).left ≡ Some w
-    by_case (inl kept) = kept.left
-    by_case (inr set) = absurd (subst (λ (r : Ruling). IsRefusal r.answer) set.is is)
-
-pub put_tells : (settings : Settings) (w : Workspace) (holder : Holder) → (put settings w).answer ≡ held holder → holder ≡ w.holder
-put_tells settings w holder e = by_case (put_comes settings w)
-  where
-    by_case : IsKept (put settings w) w ⊎ IsSet (put settings w) settings w → holder ≡ w.holder
-    by_case (inl kept) = kept.tells holder e
-    by_case (inr set) = absurd (let none : ⊥ = cc (sym (ap (λ (r : Ruling). r.answer) set.is) ∙ e) in none)
-
-pub put_unlocked : (settings : Settings) (w : Workspace) → (put settings w).answer ≡ refused Locked → ⊥
-put_unlocked settings w e = by_case (put_comes settings w)
-  where
-    by_case : IsKept (put settings w) w ⊎ IsSet (put settings w) settings w → ⊥
-    by_case (inl kept) = kept.unlocked e
-    by_case (inr set) = let none : ⊥ = cc (sym (ap (λ (r : Ruling). r.answer) set.is) ∙ e) in none
 
 -- while somebody holds, no more stand there than are to stay
 under_keep : (keep : ℕ) (w : Workspace) (b : Bool) → b ≡ false → (not b && nat_lt keep (length w.versions)) ≡ false → length w.versions ≤ keep

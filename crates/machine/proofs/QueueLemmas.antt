@@ -6,8 +6,6 @@ use Rattle.std.proofs.lemmas.Bool.{eqb-false}
 use Rattle.std.proofs.lemmas.Slice.Eq.{bytes_eq-Decides}
 use Rattle.basis.specs.Runs.{is_open}
 use Rattle.basis.specs.declared.rows.RunAsk.{RunAsk}
-use Rattle.basis.specs.declared.rows.Settings.{Settings}
-use Rattle.basis.specs.declared.rows.StateHead.{StateHead}
 use Rattle.basis.specs.declared.refusals.Refusal.TheVariants.{OverLimit}
 use Rattle.basis.specs.declared.runs.RunStatus.{RunStatus}
 use Rattle.basis.specs.declared.runs.RunStatus.TheVariants.{Pending, Planning, Planned, Applying, Applied, PlannedAndFinished, Errored, Discarded, Canceled}
@@ -17,30 +15,28 @@ use Rattle.machine.specs.Effects.{effect}
 use Rattle.machine.specs.Laws.{Rises, is_active, is_pending, holds, IsWhereActionEnds, ends_in, IsRun, IsHolder, IsLawful, IsLawfulIfThere}
 use Rattle.machine.specs.Ranges.{IsInRange, IsMoment}
 use Rattle.machine.specs.Records.{Seen, there, standing}
-use Rattle.machine.specs.Workspaces.{max_open_runs, run_of, is_keyed, has_key, keyed_run, open_runs, holder_status}
-use Rattle.machine.specs.Writing.{may_write}
+use Rattle.machine.specs.Workspaces.{max_open_runs, run_of, is_keyed, has_key, keyed_run, open_runs}
 use Rattle.machine.specs.RunSteps.{RunStep, plan_only_steps, auto_apply_steps, confirmed_steps, next_status, is_action, is_status, is_last}
 use Rattle.machine.specs.Settling.{is_waiting, first_waiting, to_start, begun, started_if, settled}
-use Rattle.machine.specs.Rules.{refused, rules, with_version, settings_for, with_settings, put, purged, locked, released, new_run, with_run, number_left, numbered_run, make_run, reported, frees, with_report, told_already, by_step, report}
+use Rattle.machine.specs.Rules.{Outcome, refused, rules, with_version, with_settings, purged, locked, released, new_run, with_run, number_left, numbered_run, make_run, reported, frees, with_report, told_already, by_step, report}
 use Rattle.machine.specs.Custody.{IsRefusal}
 use Rattle.machine.specs.Queue.{is_active_run, OneRunIsActive, PlanOnlyRunsStayOut, Starts, WaitedOrIsNew, RunsStartInOrder, GoesOn, StaysThere, RunsStay, AreInRange, Leads, ActionsComeAgain, KeyedCreationsComeAgain}
 use Rattle.machine.specs.Inner.Decisions.{status_begun, begun_by}
-use Rattle.machine.proofs.DeletionLemmas.{delete_left}
-use Rattle.machine.proofs.PuttingLemmas.{put_becomes}
 use Rattle.machine.specs.declared.acts.Act.{Act}
-use Rattle.machine.specs.declared.acts.Act.TheVariants.{Look, PutWorkspace, DeleteWorkspace, UpdateState, PurgeState, Lock as LockAct, Unlock, ForceUnlock, MakeRun, ReportRun}
+use Rattle.machine.specs.declared.acts.Act.TheVariants.{MakeRun, ReportRun}
 use Rattle.machine.specs.declared.records.Holder.{Holder}
 use Rattle.machine.specs.declared.records.Holder.TheVariants.{Nobody, Lock, Run as HoldingRun}
 use Rattle.machine.specs.declared.records.Run.{Run}
 use Rattle.machine.specs.declared.records.Workspace.{Workspace}
 use Rattle.machine.proofs.StepLemmas.{led, one_status, one_action, never_pending}
 use Rattle.machine.proofs.RunLemmas.{run_of-number, run_of-map, run_of-started, all_found, numbers-map, Rises-more}
-use Rattle.machine.proofs.RunRulings.{IsMade, IsReported, comes_to, make_comes, report_comes}
+use Rattle.machine.proofs.RunRulings.{IsMade, IsReported}
+use Rattle.machine.proofs.Rulings.{Way, version_comes, versions_go, settings_come, lock_comes, lock_goes, run_comes, run_goes_on, Leaves, leaves}
 use Rattle.machine.proofs.RuleLemmas.{rules_are_lawful}
 use Rattle.machine.proofs.LawLemmas.{number_left-is}
 use Rattle.machine.proofs.SettlingLemmas.{least_starts}
 use Rattle.machine.proofs.SettlesLemmas.{found_passes}
-use Rattle.machine.proofs.CustodyLemmas.{Becomes, update_becomes, Unlocks, purge_becomes, lock_becomes, unlock_becomes, force_becomes, key_is_there}
+use Rattle.machine.proofs.CustodyLemmas.{key_is_there}
 
 abbrev pub numbers : List Run → List ℕ
 numbers runs = map (λ (r : Run). r.number) runs
@@ -146,8 +142,8 @@ Quietly w v = (v.runs ≡ w.runs) × ((n : ℕ) → Starts n w v → ⊥)
 abbrev After : Workspace → Workspace → Type 0
 After w v = Quietly w v ⊎ (u : Workspace) × Settling w u × (v ≡ settled u)
 
-unchanged : (w v : Workspace) → Some w ≡ Some v → After w v
-unchanged w v e = inl (ap (λ (x : Workspace). x.runs) (sym (one_left w v e)), (λ n starts. let none : ⊥ = cc (sym starts.0 ∙ ap (λ (x : Workspace). holds x.holder n) (one_left w v e) ∙ starts.1) in none))
+unchanged : (w v : Workspace) → w ≡ v → After w v
+unchanged w v e = inl (ap (λ (x : Workspace). x.runs) (sym e), (λ n starts. let none : ⊥ = cc (sym starts.0 ∙ ap (λ (x : Workspace). holds x.holder n) e ∙ starts.1) in none))
 
 same_runs : (w u : Workspace) → IsLawful w → u.runs ≡ w.runs → u.next_run ≡ w.next_run → ((n : ℕ) → holds u.holder n ≡ true → holds w.holder n ≡ true) → Settling w u
 same_runs w u lawful runs next quiet = record {
@@ -157,35 +153,8 @@ same_runs w u lawful runs next quiet = record {
   waited = λ n f e waits. inl (f, sym (ap (run_of n) runs) ∙ e, waits);
 }
 
-settles : (w u v : Workspace) → Settling w u → Some (settled u) ≡ Some v → After w v
-settles w u v is e = inr (u, is, sym (one_left (settled u) v e))
-
 nobody_holds : (n : ℕ) (X : Type 0) → false ≡ true → X
 nobody_holds n X e = absurd (let none : ⊥ = cc in none)
-
-update_after : (w v : Workspace) (head : StateHead) (text : List ℕ) (now : ℕ) (after : ℕ → Option Workspace) → IsLawful w → Becomes head text w after → after now ≡ Some v → After w v
-update_after w v head text now after lawful (inl h) e = unchanged w v (sym (h now) ∙ e)
-update_after w v head text now after lawful (inr h) e =
-    settles w (with_version w h.0 head text now) v (same_runs w (with_version w h.0 head text now) lawful refl refl (λ n is. is)) (sym (h.1 now) ∙ e)
-
-purge_after : (w v : Workspace) (after : Option Workspace) → IsLawful w → (after ≡ Some w) ⊎ (after ≡ Some (settled (purged w))) → after ≡ Some v → After w v
-purge_after w v after lawful (inl h) e = unchanged w v (sym h ∙ e)
-purge_after w v after lawful (inr h) e = settles w (purged w) v (same_runs w (purged w) lawful refl refl (λ n is. is)) (sym h ∙ e)
-
-put_after : (settings : Settings) (w v : Workspace) (after : Option Workspace) → IsLawful w → (after ≡ Some w) ⊎ (after ≡ Some (settled (with_settings w settings))) → after ≡ Some v → After w v
-put_after settings w v after lawful (inl h) e = unchanged w v (sym h ∙ e)
-put_after settings w v after lawful (inr h) e = settles w (with_settings w settings) v (same_runs w (with_settings w settings) lawful refl refl (λ n is. is)) (sym h ∙ e)
-
-lock_after : (w v : Workspace) (id text : List ℕ) (after : Option Workspace) → (after ≡ Some w) ⊎ (after ≡ Some (locked id text w)) → after ≡ Some v → After w v
-lock_after w v id text after (inl h) e = unchanged w v (sym h ∙ e)
-lock_after w v id text after (inr h) e =
-    let is : locked id text w ≡ v = one_left (locked id text w) v (sym h ∙ e) in
-    inl (ap (λ (x : Workspace). x.runs) (sym is), (λ n starts. let none : ⊥ = cc (ap (λ (x : Workspace). holds x.holder n) is ∙ starts.1) in none))
-
-unlock_after : (w v : Workspace) (after : Option Workspace) → IsLawful w → Unlocks w after → after ≡ Some v → After w v
-unlock_after w v after lawful (inl h) e = unchanged w v (sym h ∙ e)
-unlock_after w v after lawful (inr h) e =
-    settles w (released h.0 w) v (same_runs w (released h.0 w) lawful refl refl (λ n is. nobody_holds n (holds w.holder n ≡ true) is)) (sym h.1 ∙ e)
 
 -- a run more
 found_before : (n : ℕ) (runs : List Run) (x f : Run) → run_of n (runs ++ x ∷ []) ≡ Some f → (run_of n runs ≡ Some f) ⊎ (n ≡ x.number)
@@ -276,25 +245,21 @@ reported_settling w n action u lawful is = subst (Settling w) (sym is.is) (recor
         by_test true t same_one = absurd (let none : ⊥ = cc (sym (idle_now r is.status idle) ∙ ap (λ (x : Run). is_waiting x) same_one ∙ waits) in none)
         by_test false t same_one = inl (r, e, ap (λ (x : Run). is_waiting x) same_one ∙ waits)
 
-run_after : (w v : Workspace) (changed : Workspace → Type 0) (after : Option Workspace) → ((u : Workspace) → changed u → Settling w u) → after ≡ Some v
-    → (after ≡ Some w) ⊎ (u : Workspace) × changed u × (after ≡ Some (settled u)) → After w v
-run_after w v changed after settling e (inl h) = unchanged w v (sym h ∙ e)
-run_after w v changed after settling e (inr h) = settles w h.0 v (settling h.0 h.1) (sym h.2 ∙ e)
-
 after_act : (act : Act) (now : ℕ) (w v : Workspace) → IsLawful w → (rules act now (there w)).left ≡ Some v → After w v
-after_act (PutWorkspace ask) now w v lawful e =
-    let settings : Settings = settings_for ask (Some w.settings) in
-    put_after settings w v (put settings w).left lawful (put_becomes settings w) e
-after_act (Look what) now w v lawful e = unchanged w v e
-after_act (UpdateState head text id) now w v lawful e =
-    update_after w v head text now (λ t. (rules (UpdateState head text id) t (there w)).left) lawful (update_becomes head text w (may_write w.holder (holder_status w.holder w.runs) id)) e
-after_act DeleteWorkspace now w v lawful e = unchanged w v (delete_left w v e)
-after_act (PurgeState id) now w v lawful e = purge_after w v (rules (PurgeState id) now (there w)).left lawful (purge_becomes w (may_write w.holder (holder_status w.holder w.runs) id)) e
-after_act (LockAct id text) now w v lawful e = lock_after w v id text (rules (LockAct id text) now (there w)).left (lock_becomes id text w w.holder) e
-after_act (Unlock id) now w v lawful e = unlock_after w v (rules (Unlock id) now (there w)).left lawful (unlock_becomes id w w.holder) e
-after_act ForceUnlock now w v lawful e = unlock_after w v (rules ForceUnlock now (there w)).left lawful (force_becomes w w.holder) e
-after_act (MakeRun ask) now w v lawful e = run_after w v (IsMade w ask now) _ (λ u is. made_settling w ask now u lawful is) e (comes_to (make_comes w ask now))
-after_act (ReportRun n action) now w v lawful e = run_after w v (IsReported w n action) _ (λ u is. reported_settling w n action u lawful is) e (comes_to (report_comes w n action))
+after_act act now w v lawful e = by_case (leaves act now w v e)
+  where
+    by_way : (u : Workspace) (answer : Outcome) → Way act now w u answer → Settling w u
+    by_way u answer (version_comes x) = subst (Settling w) (sym x.is) (same_runs w (with_version w x.number x.head x.text now) lawful refl refl (λ n is. is))
+    by_way u answer (versions_go x) = subst (Settling w) (sym x.is) (same_runs w (purged w) lawful refl refl (λ n is. is))
+    by_way u answer (settings_come x) = subst (Settling w) (sym x.is) (same_runs w (with_settings w x.settings) lawful refl refl (λ n is. is))
+    by_way u answer (lock_comes x) = subst (Settling w) (sym x.is) (same_runs w (locked x.id x.text w) lawful refl refl (λ n is. nobody_holds n (holds w.holder n ≡ true) is))
+    by_way u answer (lock_goes x) = subst (Settling w) (sym x.is) (same_runs w (released x.id w) lawful refl refl (λ n is. nobody_holds n (holds w.holder n ≡ true) is))
+    by_way u answer (run_comes x) = made_settling w x.ask now u lawful x.made
+    by_way u answer (run_goes_on x) = reported_settling w x.n x.action u lawful x.reported
+
+    by_case : (w ≡ v) ⊎ Leaves act now w v → After w v
+    by_case (inl still) = unchanged w v still
+    by_case (inr l) = inr (l.to, by_way l.to l.answer l.way, sym l.settles)
 
 -- ---- who starts
 

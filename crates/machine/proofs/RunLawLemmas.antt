@@ -1,22 +1,19 @@
 -- The rules on runs keep the laws of a workspace.
-use Rattle.std.proofs.Common.{◌≡◌, ◌⊎◌, inl, inr, ℕ, ◌+◌, ◌<◌, ◌≤◌, ◌==◌, nat_lt, Bool, true, false, not, ◌&&◌, cond, List, [], ◌∷◌, ◌++◌, codes, map, Option, Some, None, option_map, IsSomeAnd, refl, sym, ap, subst, ◌∙◌, arith, eqb-true, ne_eqb}
-use Rattle.std.proofs.lemmas.Bool.{eqb-false, ltb-true}
+use Rattle.std.proofs.Common.{◌≡◌, ℕ, ◌+◌, ◌<◌, ◌≤◌, ◌==◌, Bool, true, false, not, ◌&&◌, cond, List, [], ◌∷◌, ◌++◌, codes, map, Option, Some, None, option_map, IsSomeAnd, refl, sym, ap, subst, ◌∙◌, arith, eqb-true, ne_eqb}
+use Rattle.std.proofs.lemmas.Bool.{eqb-false}
 use Rattle.std.specs.List.{AllByRecursion}
 use Rattle.basis.specs.Runs.{is_open}
 use Rattle.basis.specs.declared.rows.RunAsk.{RunAsk}
-use Rattle.basis.specs.declared.refusals.Refusal.TheVariants.{OverLimit}
 use Rattle.basis.specs.declared.runs.RunStatus.{RunStatus}
 use Rattle.basis.specs.declared.runs.RunAction.{RunAction}
-use Rattle.machine.specs.Effects.{effect}
-use Rattle.machine.specs.Laws.{Rises, is_active, is_nobody, holds, IsWhereActionEnds, IsRun, IsHolder, AreRuns, IsLawful, IsLawfulIfThere}
+use Rattle.machine.specs.Laws.{Rises, is_active, is_nobody, holds, IsWhereActionEnds, IsRun, IsHolder, AreRuns, IsLawful}
 use Rattle.machine.specs.Ranges.{IsRunAsk, IsMoment}
 use Rattle.machine.specs.RunSteps.{next_status}
 use Rattle.machine.specs.Workspaces.{max_open_runs, run_of, keyed_run, open_runs}
 use Rattle.machine.specs.Settling.{settled}
-use Rattle.machine.specs.Rules.{refused, new_run, with_run, numbered_run, number_left, make_run, reported, frees, with_report, report}
+use Rattle.machine.specs.Rules.{new_run, with_run, number_left, reported, frees, with_report}
 use Rattle.machine.proofs.StepLemmas.{leads_where_it_ends, never_pending, from_open, stays_idle, open_is_active, ended_is_idle}
 use Rattle.machine.proofs.RunLemmas.{run_of-number, run_of-map, none_numbered, only_one_numbered, some_numbered-push, keys_differ-map, keys_differ-push, open_runs-push, open_runs-map, all-push, all-both, all-map, all_found, numbers-map, Rises-more}
-use Rattle.machine.proofs.RunRulings.{comes_to, IsReported, report_comes}
 use Rattle.machine.proofs.SettlingLemmas.{freed_is_lawful}
 use Rattle.machine.proofs.LawLemmas.{number_left-is, still_is_lawful, under_lock}
 use Rattle.machine.specs.declared.records.Holder.{Holder}
@@ -84,7 +81,7 @@ as_under_lock next runs are = record {
   held = refl;
 }
 
-added_is_lawful : (w : Workspace) (ask : RunAsk) (now n : ℕ) (h : Holder) → w.holder ≡ h → number_left w.next_run ≡ Some n → open_runs w.runs < max_open_runs → keyed_run ask.key w.runs ≡ None
+pub added_is_lawful : (w : Workspace) (ask : RunAsk) (now n : ℕ) (h : Holder) → w.holder ≡ h → number_left w.next_run ≡ Some n → open_runs w.runs < max_open_runs → keyed_run ask.key w.runs ≡ None
     → IsRunAsk ask → IsMoment now → IsLawful w → IsLawful (settled (with_run (new_run n ask now) w))
 added_is_lawful w ask now n h e left room unkeyed range moment lawful = by_holder h e
   where
@@ -120,25 +117,6 @@ added_is_lawful w ask now n h e left room unkeyed range moment lawful = by_holde
         freed_is_lawful (codes "x") [] (with_run (new_run n ask now) w) at lawful.versions (more_runs (Lock (codes "x") []) w.runs (new_run n ask now) above most all own room unkeyed) lawful.released
     by_holder (Lock id text) at = stays (Lock id text) at refl
     by_holder (HoldingRun m) at = stays (HoldingRun m) at refl
-
-pub make_is_lawful : (w : Workspace) (ask : RunAsk) (now : ℕ) → IsRunAsk ask → IsMoment now → IsLawful w → IsLawfulIfThere (make_run (keyed_run ask.key w.runs) w ask now).left
-make_is_lawful w ask now range moment lawful = by_key (keyed_run ask.key w.runs) refl
-  where
-    numbered : (m : Option ℕ) → number_left w.next_run ≡ m → open_runs w.runs < max_open_runs → keyed_run ask.key w.runs ≡ None → IsLawfulIfThere (numbered_run m w ask now).left
-    numbered None left room unkeyed = lawful
-    numbered (Some n) left room unkeyed = added_is_lawful w ask now n w.holder refl left room unkeyed range moment lawful
-
-    chosen : (b : Bool) → nat_lt (open_runs w.runs) max_open_runs ≡ b → keyed_run ask.key w.runs ≡ None
-        → IsLawfulIfThere (cond b (numbered_run (number_left w.next_run) w ask now) (effect (refused OverLimit) (Some w))).left
-    chosen true room unkeyed = numbered (number_left w.next_run) refl (ltb-true (open_runs w.runs) max_open_runs room) unkeyed
-    chosen false room unkeyed = lawful
-
-    by_key : (o : Option Run) → keyed_run ask.key w.runs ≡ o → IsLawfulIfThere (make_run o w ask now).left
-    by_key (Some r) e = lawful
-    by_key None e = chosen (nat_lt (open_runs w.runs) max_open_runs) refl e
-
-pub read_is_lawful : (w : Workspace) (n : ℕ) → IsLawful w → IsLawful w
-read_is_lawful w n lawful = lawful
 
 -- ---- a run takes an action
 
@@ -218,7 +196,7 @@ stays_active h n action status auto_apply r leads keeps before queued = by_hold 
     by_hold true t false o = absurd (let none : ⊥ = cc (sym (ap not o) ∙ ap (λ (b : Bool). b && not (is_open status)) (sym t) ∙ keeps) in none)
     by_hold false t c o = stays_idle auto_apply r.status action status queued_leads (before queued ∙ t)
 
-reported_is_lawful : (w : Workspace) (n : ℕ) (action : RunAction) (status : RunStatus) (r : Run) → run_of n w.runs ≡ Some r → next_status r.plan_only w.settings.auto_apply r.status action ≡ Some status
+pub reported_is_lawful : (w : Workspace) (n : ℕ) (action : RunAction) (status : RunStatus) (r : Run) → run_of n w.runs ≡ Some r → next_status r.plan_only w.settings.auto_apply r.status action ≡ Some status
     → IsLawful w → IsLawful (settled (with_report n action status w))
 reported_is_lawful w n action status r there leads lawful = by_frees (frees n status w.holder) refl
   where
@@ -248,13 +226,3 @@ reported_is_lawful w n action status r there leads lawful = by_frees (frees n st
     by_frees false keeps = still_is_lawful (record w { runs = map (reported n action status) w.runs }) (record { versions = lawful.versions; runs = stays keeps; released = lawful.released })
     by_frees true is =
         freed_is_lawful (codes "x") [] (record w { holder = Nobody; runs = map (reported n action status) w.runs }) refl lawful.versions (ends w.holder refl is) lawful.released
-
-pub report_is_lawful : (w : Workspace) (n : ℕ) (action : RunAction) → IsLawful w → IsLawfulIfThere (report (run_of n w.runs) n action w).left
-report_is_lawful w n action lawful = left (comes_to (report_comes w n action))
-  where
-    left : ((report (run_of n w.runs) n action w).left ≡ Some w) ⊎ (v : Workspace) × IsReported w n action v × ((report (run_of n w.runs) n action w).left ≡ Some (settled v))
-        → IsLawfulIfThere (report (run_of n w.runs) n action w).left
-    left (inl h) = subst IsLawfulIfThere (sym h) lawful
-    left (inr h) =
-        let is : IsReported w n action h.0 = h.1 in
-        subst IsLawfulIfThere (sym h.2) (subst (λ (v : Workspace). IsLawful (settled v)) (sym is.is) (reported_is_lawful w n action is.status is.run is.there is.leads lawful))

@@ -1,23 +1,18 @@
--- What the rules on runs come to: nothing changes and no holder is told, or a run is told as it is in the settled workspace.
-use Rattle.std.proofs.Common.{◌≡◌, ◌⊎◌, inl, inr, ℕ, nat_lt, Bool, true, false, cond, [], ◌∷◌, ◌++◌, Option, Some, None, option_map, refl, sym, ap, subst, ◌∙◌}
+-- What the rules on runs come to: nothing changes and no holder is told, or a run is told as it is in the settled workspace. `Rulings` says what every rule comes to.
+use Rattle.std.proofs.Common.{◌≡◌, ◌⊎◌, inl, inr, ℕ, nat_lt, Bool, true, false, cond, [], ◌∷◌, ◌++◌, Option, Some, None, option_map, refl, ap, ◌∙◌}
 use Rattle.basis.specs.declared.refusals.Refusal.TheVariants.{NotFound, OverLimit, WrongState, Locked}
-use Rattle.basis.specs.declared.rows.Look.{Look as AnyLook}
-use Rattle.basis.specs.declared.rows.Look.TheVariants as look
 use Rattle.basis.specs.declared.rows.RunAsk.{RunAsk}
 use Rattle.basis.specs.declared.runs.RunStatus.{RunStatus}
 use Rattle.basis.specs.declared.runs.RunAction.{RunAction}
 use Rattle.machine.specs.Effects.{effect}
-use Rattle.machine.specs.Custody.{IsRefusal}
-use Rattle.machine.specs.Workspaces.{max_open_runs, newest, run_of, keyed_run, open_runs}
+use Rattle.machine.specs.Workspaces.{max_open_runs, run_of, keyed_run, open_runs}
 use Rattle.machine.specs.RunSteps.{next_status, is_last}
 use Rattle.machine.specs.Settling.{first_waiting, to_start, settled}
-use Rattle.machine.specs.Rules.{refused, held, the_run, Ruling, run_answer, told_with, told_already, new_run, with_run, numbered_run, number_left, make_run, reported, with_report, by_step, report, state_answer, version_answer, told}
+use Rattle.machine.specs.Rules.{refused, held, the_run, Ruling, run_answer, told_with, told_already, new_run, with_run, numbered_run, number_left, make_run, reported, with_report, by_step, report}
 use Rattle.machine.specs.Inner.Decisions.{begun_by}
 use Rattle.machine.proofs.RunLemmas.{run_of-map, run_of-started, some_run-push}
 use Rattle.machine.specs.declared.records.Holder.{Holder}
-use Rattle.machine.specs.Units.{version_of}
 use Rattle.machine.specs.declared.records.Run.{Run}
-use Rattle.machine.specs.declared.records.Version.{Version}
 use Rattle.machine.specs.declared.records.Workspace.{Workspace}
 
 -- nothing changes, and neither a holder is told nor that one holds
@@ -34,18 +29,6 @@ pub record IsTold (ruling : Ruling) (v : Workspace) : Type 0 where
 abbrev pub Comes : Ruling → Workspace → (Workspace → Type 0) → Type 0
 Comes ruling w changed = IsPlain ruling w ⊎ (v : Workspace) × changed v × IsTold ruling v
 
-pub comes_leaves : {ruling : Ruling} {w : Workspace} {changed : Workspace → Type 0} → Comes ruling w changed → IsRefusal ruling.answer → ruling.left ≡ Some w
-comes_leaves (inl plain) is = plain.left
-comes_leaves (inr told) is = absurd (subst (λ (x : Ruling). IsRefusal x.answer) told.2.is is)
-
-pub comes_held : {ruling : Ruling} {w : Workspace} {changed : Workspace → Type 0} → Comes ruling w changed → (holder : Holder) → ruling.answer ≡ held holder → ⊥
-comes_held (inl plain) holder e = plain.unheld holder e
-comes_held (inr told) holder e = let none : ⊥ = cc (sym (ap (λ (x : Ruling). x.answer) told.2.is) ∙ e) in none
-
-pub comes_unlocked : {ruling : Ruling} {w : Workspace} {changed : Workspace → Type 0} → Comes ruling w changed → ruling.answer ≡ refused Locked → ⊥
-comes_unlocked (inl plain) e = plain.unlocked e
-comes_unlocked (inr told) e = let none : ⊥ = cc (sym (ap (λ (x : Ruling). x.answer) told.2.is) ∙ e) in none
-
 -- the workspace is left: as it was, or changed and settled
 pub comes_to : {ruling : Ruling} {w : Workspace} {changed : Workspace → Type 0} → Comes ruling w changed
     → (ruling.left ≡ Some w) ⊎ (v : Workspace) × changed v × (ruling.left ≡ Some (settled v))
@@ -58,14 +41,14 @@ plainly_refused_over w = record { left = refl; unheld = λ holder e. cc; unlocke
 plainly_refused_state : (w : Workspace) → IsPlain (effect (refused WrongState) (Some w)) w
 plainly_refused_state w = record { left = refl; unheld = λ holder e. cc; unlocked = λ e. cc }
 
-plainly_not_found : (w : Workspace) → IsPlain (effect (refused NotFound) (Some w)) w
+pub plainly_not_found : (w : Workspace) → IsPlain (effect (refused NotFound) (Some w)) w
 plainly_not_found w = record { left = refl; unheld = λ holder e. cc; unlocked = λ e. cc }
 
-plainly_told : (r : Run) (w : Workspace) → IsPlain (told_already r w) w
+pub plainly_told : (r : Run) (w : Workspace) → IsPlain (told_already r w) w
 plainly_told r w = record { left = refl; unheld = λ holder e. cc; unlocked = λ e. cc }
 
 -- what is told of a run that is there
-told_of : (n : ℕ) (v : Workspace) (x : Run) → run_of n v.runs ≡ Some x → IsTold (told_with n v) v
+pub told_of : (n : ℕ) (v : Workspace) (x : Run) → run_of n v.runs ≡ Some x → IsTold (told_with n v) v
 told_of n v x e =
     let start : Option ℕ = to_start v.holder (first_waiting v.runs) in
     record {
@@ -94,27 +77,6 @@ make_comes_by w ask now None = chosen (nat_lt (open_runs w.runs) max_open_runs)
 
 pub make_comes : (w : Workspace) (ask : RunAsk) (now : ℕ) → Comes (make_run (keyed_run ask.key w.runs) w ask now) w (IsMade w ask now)
 make_comes w ask now = make_comes_by w ask now (keyed_run ask.key w.runs)
-
--- what is told of a workspace: nothing changes
-pub look_comes : (what : AnyLook) (w : Workspace) → IsPlain (effect (told what w) (Some w)) w
-look_comes look.Workspace w = record { left = refl; unheld = λ holder e. cc; unlocked = λ e. cc }
-look_comes look.State w = by_newest (newest w.versions)
-  where
-    by_newest : (o : Option Version) → IsPlain (effect (state_answer o) (Some w)) w
-    by_newest None = record { left = refl; unheld = λ holder e. cc; unlocked = λ e. cc }
-    by_newest (Some v) = record { left = refl; unheld = λ holder e. cc; unlocked = λ e. cc }
-look_comes (look.Version n) w = by_version (version_of n w.versions)
-  where
-    by_version : (o : Option Version) → IsPlain (effect (version_answer o) (Some w)) w
-    by_version None = plainly_not_found w
-    by_version (Some v) = record { left = refl; unheld = λ holder e. cc; unlocked = λ e. cc }
-look_comes (look.Versions after) w = record { left = refl; unheld = λ holder e. cc; unlocked = λ e. cc }
-look_comes (look.Run n) w = by_run (run_of n w.runs)
-  where
-    by_run : (o : Option Run) → IsPlain (effect (run_answer o) (Some w)) w
-    by_run None = plainly_not_found w
-    by_run (Some r) = plainly_told r w
-look_comes (look.Runs after) w = record { left = refl; unheld = λ holder e. cc; unlocked = λ e. cc }
 
 -- a run takes an action
 pub record IsReported (w : Workspace) (n : ℕ) (action : RunAction) (v : Workspace) : Type 0 where

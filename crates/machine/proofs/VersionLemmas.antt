@@ -6,24 +6,20 @@ use Rattle.std.proofs.lemmas.Slice.Eq.{bytes_eq-Decides}
 use Rattle.basis.specs.declared.refusals.Refusal.{Refusal}
 use Rattle.basis.specs.declared.rows.Settings.{Settings}
 use Rattle.basis.specs.declared.rows.StateHead.{StateHead}
-use Rattle.machine.specs.Records.{there}
 use Rattle.machine.specs.Workspaces.{newest, holder_status}
 use Rattle.machine.specs.Writing.{may_write}
 use Rattle.machine.specs.Settling.{first_waiting, to_start, started_if, settled}
 use Rattle.machine.specs.Succession.{Succession, first, same, other_lineage, old_serial, next, succession, after_newest, lineages_differ}
-use Rattle.machine.specs.Rules.{done, no_state, state, state_answer, rules, by_may_write, by_succession, numbered_update, number_left, with_version, settings_for, with_settings, put, purge, purged, locked, released, new_run, with_run, with_report}
-use Rattle.machine.proofs.RunRulings.{IsMade, IsReported, comes_to, make_comes, report_comes}
+use Rattle.machine.specs.Rules.{Outcome, done, no_state, state, state_answer, by_may_write, by_succession, numbered_update, number_left, with_version, with_settings, purge, purged, locked, released, new_run, with_run, with_report}
+use Rattle.machine.proofs.RunRulings.{IsReported}
+use Rattle.machine.proofs.Rulings.{Way, version_comes, versions_go, settings_come, lock_comes, lock_goes, run_comes, run_goes_on, Leaves, leaves}
 use Rattle.basis.specs.declared.rows.RunAsk.{RunAsk}
-use Rattle.basis.specs.declared.runs.RunAction.{RunAction}
 use Rattle.machine.specs.Units.{find_last, version_of}
 use Rattle.machine.specs.Custody.{WhatIsPostedIsRead, NothingIsReadOfAPurge, KeepsVersions, GainsVersion, NumbersRise}
-use Rattle.machine.proofs.CustodyLemmas.{newest_with, versions_stay, lock_becomes, unlock_becomes, force_becomes, purge_becomes, Unlocks}
+use Rattle.machine.proofs.CustodyLemmas.{newest_with, versions_stay}
 use Rattle.machine.proofs.LawLemmas.{number_left-is}
 use Rattle.machine.proofs.PlainLemmas.{find_last_push}
-use Rattle.machine.proofs.RefusalLemmas.{never_done}
-use Rattle.machine.proofs.DeletionLemmas.{delete_left}
-use Rattle.machine.proofs.PuttingLemmas.{put_becomes}
-use Rattle.machine.specs.declared.acts.Act.TheVariants.{Look, PutWorkspace, DeleteWorkspace, UpdateState, PurgeState, Lock as LockAct, Unlock, ForceUnlock, MakeRun, ReportRun}
+use Rattle.machine.proofs.RefusedLemmas.{never_done}
 use Rattle.machine.specs.declared.records.Version.{Version}
 use Rattle.machine.specs.declared.records.Workspace.{Workspace}
 
@@ -115,12 +111,6 @@ started_numbers w u None h = h
 started_numbers w u (Some n) (le, inl h) = (le, inl (record { next = h.next; left = h.left }))
 started_numbers w u (Some n) (le, inr h) = (le, inr (record { made = h.made; number = h.number; newest = h.newest; next = h.next; left = h.left }))
 
-settled_numbers : (w u v : Workspace) → Some (settled u) ≡ Some v → Numbers w u → Numbers w v
-settled_numbers w u v e h = subst (Numbers w) (one_left (settled u) v e) (started_numbers w u (to_start u.holder (first_waiting u.runs)) h)
-
-same_numbers : (w v : Workspace) → Some w ≡ Some v → Numbers w v
-same_numbers w v e = subst (Numbers w) (one_left w v e) (kept_numbers w w refl refl refl)
-
 made_numbers : (w : Workspace) (n : ℕ) (head : StateHead) (text : List ℕ) (now : ℕ) → number_left w.next_version ≡ Some n → Numbers w (with_version w n head text now)
 made_numbers w n head text now e =
     let made : Version = record { number = n; serial = head.serial; lineage = head.lineage; created = now; text = text } in
@@ -135,73 +125,31 @@ made_numbers w n head text now e =
       }),
     )
 
-number_numbers : (w v : Workspace) (head : StateHead) (text : List ℕ) (now : ℕ) (n : Option ℕ) → number_left w.next_version ≡ n → (numbered_update n w head text now).left ≡ Some v → Numbers w v
-number_numbers w v head text now None t e = same_numbers w v e
-number_numbers w v head text now (Some n) t e = settled_numbers w (with_version w n head text now) v e (made_numbers w n head text now t)
-
-succession_numbers : (w v : Workspace) (head : StateHead) (text : List ℕ) (now : ℕ) (s : Succession) → (by_succession s w head text now).left ≡ Some v → Numbers w v
-succession_numbers w v head text now first e = number_numbers w v head text now (number_left w.next_version) refl e
-succession_numbers w v head text now same e = same_numbers w v e
-succession_numbers w v head text now other_lineage e = same_numbers w v e
-succession_numbers w v head text now old_serial e = same_numbers w v e
-succession_numbers w v head text now next e = number_numbers w v head text now (number_left w.next_version) refl e
-
-update_numbers : (w v : Workspace) (head : StateHead) (text : List ℕ) (now : ℕ) (m : Option Refusal) → (by_may_write m w head text now).left ≡ Some v → Numbers w v
-update_numbers w v head text now (Some refusal) e = same_numbers w v e
-update_numbers w v head text now None e = succession_numbers w v head text now (succession w.versions text head) e
-
 -- what is left after a PUT was there
 set_numbers : (w : Workspace) (settings : Settings) → Numbers w (with_settings w settings)
 set_numbers w settings =
     (omega arith, inl (record { next = refl; left = λ n u e. found_in_last (λ (v : Version). v.number == n) (length w.versions - settings.keep_versions) w.versions u e }))
 
-put_numbers : (settings : Settings) (w v : Workspace) (after : Option Workspace) → after ≡ Some v → (after ≡ Some w) ⊎ (after ≡ Some (settled (with_settings w settings))) → Numbers w v
-put_numbers settings w v after e (inl h) = same_numbers w v (sym h ∙ e)
-put_numbers settings w v after e (inr h) = settled_numbers w (with_settings w settings) v (sym h ∙ e) (set_numbers w settings)
-
 -- none are left after a purge
 purged_numbers : (w : Workspace) → Numbers w (purged w)
 purged_numbers w = (omega arith, inl (record { next = refl; left = λ n u e. absurd (let none : ⊥ = cc in none) }))
-
-purge_numbers : (w v : Workspace) (after : Option Workspace) → after ≡ Some v → (after ≡ Some w) ⊎ (after ≡ Some (settled (purged w))) → Numbers w v
-purge_numbers w v after e (inl h) = same_numbers w v (sym h ∙ e)
-purge_numbers w v after e (inr h) = settled_numbers w (purged w) v (sym h ∙ e) (purged_numbers w)
-
-lock_numbers : (w v : Workspace) (id text : List ℕ) (after : Option Workspace) → after ≡ Some v → (after ≡ Some w) ⊎ (after ≡ Some (locked id text w)) → Numbers w v
-lock_numbers w v id text after e (inl h) = same_numbers w v (sym h ∙ e)
-lock_numbers w v id text after e (inr h) = subst (Numbers w) (one_left (locked id text w) v (sym h ∙ e)) (kept_numbers w (locked id text w) refl refl refl)
-
-unlock_numbers : (w v : Workspace) (after : Option Workspace) → after ≡ Some v → Unlocks w after → Numbers w v
-unlock_numbers w v after e (inl h) = same_numbers w v (sym h ∙ e)
-unlock_numbers w v after e (inr h) = settled_numbers w (released h.0 w) v (sym h.1 ∙ e) (kept_numbers w (released h.0 w) refl refl refl)
 
 -- a run more, or an action: versions stay
 made_run_numbers : (w : Workspace) (ask : RunAsk) (now n : ℕ) → number_left w.next_run ≡ Some n → Numbers w (with_run (new_run n ask now) w)
 made_run_numbers w ask now n e = (omega (arith, (number_left-is w.next_run n e).0), inl (record { next = refl; left = λ m u found. found }))
 
-run_numbers : (w v : Workspace) (changed : Workspace → Type 0) (after : Option Workspace) → ((u : Workspace) → changed u → Numbers w u) → after ≡ Some v
-    → (after ≡ Some w) ⊎ (u : Workspace) × changed u × (after ≡ Some (settled u)) → Numbers w v
-run_numbers w v changed after numbers e (inl h) = same_numbers w v (sym h ∙ e)
-run_numbers w v changed after numbers e (inr h) = settled_numbers w h.0 v (sym h.2 ∙ e) (numbers h.0 h.1)
-
-make_numbers : (w v : Workspace) (ask : RunAsk) (now : ℕ) → (rules (MakeRun ask) now (there w)).left ≡ Some v → Numbers w v
-make_numbers w v ask now e =
-    run_numbers w v (IsMade w ask now) _ (λ u is. subst (Numbers w) (sym is.2) (made_run_numbers w ask now is.0 is.1)) e (comes_to (make_comes w ask now))
-
-report_numbers : (w v : Workspace) (n : ℕ) (action : RunAction) (now : ℕ) → (rules (ReportRun n action) now (there w)).left ≡ Some v → Numbers w v
-report_numbers w v n action now e =
-    run_numbers w v (IsReported w n action) _ (λ u is. subst (Numbers w) (sym is.is) (kept_numbers w (with_report n action is.status w) refl refl refl)) e (comes_to (report_comes w n action))
-
 pub numbers_rise : NumbersRise
-numbers_rise (PutWorkspace ask) now w v e =
-    let settings : Settings = settings_for ask (Some w.settings) in
-    put_numbers settings w v (put settings w).left e (put_becomes settings w)
-numbers_rise (UpdateState head text id) now w v e = update_numbers w v head text now (may_write w.holder (holder_status w.holder w.runs) id) e
-numbers_rise (Look what) now w v e = same_numbers w v e
-numbers_rise DeleteWorkspace now w v e = same_numbers w v (delete_left w v e)
-numbers_rise (PurgeState id) now w v e = purge_numbers w v (rules (PurgeState id) now (there w)).left e (purge_becomes w (may_write w.holder (holder_status w.holder w.runs) id))
-numbers_rise (LockAct id text) now w v e = lock_numbers w v id text (rules (LockAct id text) now (there w)).left e (lock_becomes id text w w.holder)
-numbers_rise (Unlock id) now w v e = unlock_numbers w v (rules (Unlock id) now (there w)).left e (unlock_becomes id w w.holder)
-numbers_rise ForceUnlock now w v e = unlock_numbers w v (rules ForceUnlock now (there w)).left e (force_becomes w w.holder)
-numbers_rise (MakeRun ask) now w v e = make_numbers w v ask now e
-numbers_rise (ReportRun n action) now w v e = report_numbers w v n action now e
+numbers_rise act now w v e = by_case (leaves act now w v e)
+  where
+    by_way : (u : Workspace) (answer : Outcome) → Way act now w u answer → Numbers w u
+    by_way u answer (version_comes x) = subst (Numbers w) (sym x.is) (made_numbers w x.number x.head x.text now x.left)
+    by_way u answer (versions_go x) = subst (Numbers w) (sym x.is) (purged_numbers w)
+    by_way u answer (settings_come x) = subst (Numbers w) (sym x.is) (set_numbers w x.settings)
+    by_way u answer (lock_comes x) = subst (Numbers w) (sym x.is) (kept_numbers w (locked x.id x.text w) refl refl refl)
+    by_way u answer (lock_goes x) = subst (Numbers w) (sym x.is) (kept_numbers w (released x.id w) refl refl refl)
+    by_way u answer (run_comes x) = subst (Numbers w) (sym x.made.2) (made_run_numbers w x.ask now x.made.0 x.made.1)
+    by_way u answer (run_goes_on x) = let is : IsReported w x.n x.action u = x.reported in subst (Numbers w) (sym is.is) (kept_numbers w (with_report x.n x.action is.status w) refl refl refl)
+
+    by_case : (w ≡ v) ⊎ Leaves act now w v → Numbers w v
+    by_case (inl still) = subst (Numbers w) still (kept_numbers w w refl refl refl)
+    by_case (inr l) = subst (Numbers w) l.settles (started_numbers w l.to (to_start l.to.holder (first_waiting l.to.runs)) (by_way l.to l.answer l.way))

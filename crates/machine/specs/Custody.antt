@@ -11,7 +11,7 @@ use Rattle.machine.specs.Rules.{Outcome, refused, held, done, no_state, state, w
 use Rattle.machine.specs.Units.{version_of}
 use Rattle.machine.specs.Workspaces.{newest, holder_status, open_runs}
 use Rattle.machine.specs.declared.acts.Act.{Act}
-use Rattle.machine.specs.declared.acts.Act.TheVariants.{Look, PutWorkspace, DeleteWorkspace, UpdateState, PurgeState, Lock as LockAct, Unlock, ForceUnlock, MakeRun, ReportRun}
+use Rattle.machine.specs.declared.acts.Act.TheVariants.{Look, DeleteWorkspace, UpdateState, PurgeState, Unlock, ForceUnlock, MakeRun}
 use Rattle.machine.specs.declared.records.Holder.{Holder}
 use Rattle.machine.specs.declared.records.Holder.TheVariants.{Nobody, Lock, Run}
 use Rattle.machine.specs.declared.records.Version.{Version}
@@ -46,16 +46,9 @@ RefusalsTellTheHolder = (act : Act) (now : ℕ) (w : Workspace) (holder : Holder
 
 -- an act that writes: an update or a purge, with this ID
 abbrev pub WritesWith : Act → Option (List ℕ) → Type 0
-WritesWith (PutWorkspace ask) id = ⊥
-WritesWith (Look what) id = ⊥
 WritesWith (UpdateState head text given) id = given ≡ id
 WritesWith (PurgeState given) id = given ≡ id
-WritesWith (LockAct asked text) id = ⊥
-WritesWith (Unlock asked) id = ⊥
-WritesWith ForceUnlock id = ⊥
-WritesWith DeleteWorkspace id = ⊥
-WritesWith (MakeRun ask) id = ⊥
-WritesWith (ReportRun n action) id = ⊥
+WritesWith act id = ⊥
 
 -- the ID that the holder writes with: none while nobody holds, that of the lock, or that of a run, which is applying
 abbrev pub IsWriter : Holder → Option RunStatus → Option (List ℕ) → Type 0
@@ -78,18 +71,11 @@ abbrev pub VersionsChangeByTheId : Type 0
 VersionsChangeByTheId = (act : Act) (now : ℕ) (w v : Workspace) (own text : List ℕ)
     → w.holder ≡ Lock own text → (rules act now (there w)).left ≡ Some v → (v.versions ≡ w.versions) ⊎ WritesWith act (Some own)
 
--- an act that releases the lock of this ID
+-- an act that releases the lock of this ID: an UNLOCK by it, or a forced one
 abbrev pub Releases : Act → List ℕ → Type 0
-Releases (PutWorkspace ask) own = ⊥
-Releases (Look what) own = ⊥
-Releases (UpdateState head text id) own = ⊥
-Releases (PurgeState id) own = ⊥
-Releases (LockAct id text) own = ⊥
 Releases (Unlock id) own = id ≡ own
 Releases ForceUnlock own = ⊤
-Releases DeleteWorkspace own = ⊥
-Releases (MakeRun ask) own = ⊥
-Releases (ReportRun n action) own = ⊥
+Releases act own = ⊥
 
 -- a lock holds, with its first text, until an act releases it
 abbrev pub HoldsUntilReleased : Type 0
@@ -146,16 +132,8 @@ NumbersRise = (act : Act) (now : ℕ) (w v : Workspace) → (rules act now (ther
 
 -- an act that changes nothing more where it comes again: every one but the creation of a run without a key
 abbrev pub IsRepeatable : Act → Type 0
-IsRepeatable (PutWorkspace ask) = ⊤
-IsRepeatable (Look what) = ⊤
-IsRepeatable (UpdateState head text id) = ⊤
-IsRepeatable (PurgeState id) = ⊤
-IsRepeatable (LockAct id text) = ⊤
-IsRepeatable (Unlock id) = ⊤
-IsRepeatable ForceUnlock = ⊤
-IsRepeatable DeleteWorkspace = ⊤
 IsRepeatable (MakeRun ask) = IsSome ask.key
-IsRepeatable (ReportRun n action) = ⊤
+IsRepeatable act = ⊤
 
 -- what was accepted and comes again, at whatever moment, to what it left, changes nothing more
 abbrev pub AcceptedActsComeAgain : Type 0

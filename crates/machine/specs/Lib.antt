@@ -15,6 +15,7 @@ pub mod Needs
 pub mod Changes
 pub mod Meaning
 pub mod Units
+pub mod Named
 pub mod Tokens
 pub mod Keeping
 pub mod Paging

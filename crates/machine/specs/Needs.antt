@@ -1,5 +1,5 @@
 -- What an act needs of its workspace besides the workspace's own row: a store is asked for nothing else.
-use Rattle.std.specs.Prelude.{ℕ, Bool, true, false, List, Option, Some, None, option_copied}
+use Rattle.std.specs.Prelude.{ℕ, Bool, true, false, List, Option, Some, None, is_none, option_copied}
 use Rattle.basis.specs.declared.rows.Look.{Look as AnyLook}
 use Rattle.basis.specs.declared.rows.Look.TheVariants as look
 use Rattle.machine.specs.declared.acts.Act.{Act}
@@ -9,8 +9,10 @@ use Rattle.machine.specs.declared.acts.Staying.{Staying}
 use Rattle.machine.specs.declared.acts.Staying.TheVariants.{StayAll, MakeRoom, StayAtMost}
 
 pub record Needed : Type 0 where
-  -- the act makes the workspace where there is none: the organization's workspaces are counted there
+  -- the act makes the workspace where there is none: how many the organization has there, and how many it may have
   pub makes : Bool
+  -- how many versions the workspace keeps
+  pub keep_versions : Bool
   -- the status of the run that holds
   pub holder_status : Bool
   -- the newest version
@@ -30,27 +32,27 @@ pub record Needed : Type 0 where
   pub open_runs : Bool
 
 abbrev pub nothing : Needed
-nothing = record { makes = false; holder_status = false; newest = false; text = None; outgoing = StayAll; version = None; run = None; key = None; waiting = false; open_runs = false }
+nothing = record { makes = false; keep_versions = false; holder_status = false; newest = false; text = None; outgoing = StayAll; version = None; run = None; key = None; waiting = false; open_runs = false }
 
 -- what is told of a workspace needs what it tells
 abbrev pub needs_of_look : AnyLook → Needed
-needs_of_look look.Workspace = record nothing { newest = true }
+needs_of_look look.Workspace = record nothing { keep_versions = true; newest = true }
 needs_of_look look.State = record nothing { newest = true }
 needs_of_look (look.Version n) = record nothing { version = Some n }
 needs_of_look (look.Versions after) = nothing
 needs_of_look (look.Run n) = record nothing { run = Some n }
 needs_of_look (look.Runs after) = nothing
 
--- a PUT that asks for no number of versions lets none go
+-- a PUT that asks for no number of versions lets none go, and leaves the number that the workspace has
 abbrev pub staying_for : Option ℕ → Staying
 staying_for None = StayAll
 staying_for (Some keep) = StayAtMost keep
 
 abbrev pub needs : Act → Needed
 needs (Look what) = needs_of_look what
-needs (PutWorkspace ask) = record nothing { makes = true; newest = true; outgoing = staying_for ask.keep_versions }
+needs (PutWorkspace ask) = record nothing { makes = true; keep_versions = is_none ask.keep_versions; newest = true; outgoing = staying_for ask.keep_versions }
 needs DeleteWorkspace = record nothing { open_runs = true }
-needs (UpdateState head text id) = record nothing { holder_status = true; newest = true; text = Some text; outgoing = MakeRoom }
+needs (UpdateState head text id) = record nothing { keep_versions = true; holder_status = true; newest = true; text = Some text; outgoing = MakeRoom }
 needs (PurgeState id) = record nothing { holder_status = true }
 needs (Lock id text) = nothing
 needs (Unlock id) = record nothing { waiting = true }
@@ -62,6 +64,7 @@ needs (ReportRun n action) = record nothing { run = Some n; waiting = true }
 abbrev pub needed_of : Needs → Needed
 needed_of n = record {
   makes = n.makes;
+  keep_versions = n.keep_versions;
   holder_status = n.holder_status;
   newest = n.newest;
   text = option_copied n.text;

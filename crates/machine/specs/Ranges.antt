@@ -6,7 +6,7 @@ use Rattle.basis.specs.declared.rows.RunAsk.{RunAsk}
 use Rattle.basis.specs.declared.rows.SettingsAsk.{SettingsAsk}
 use Rattle.basis.specs.declared.rows.StateHead.{StateHead}
 use Rattle.machine.specs.declared.acts.Act.{Act}
-use Rattle.machine.specs.declared.acts.Act.TheVariants.{Look, PutWorkspace, DeleteWorkspace, UpdateState, PurgeState, Lock as LockAct, Unlock, ForceUnlock, MakeRun, ReportRun}
+use Rattle.machine.specs.declared.acts.Act.TheVariants.{PutWorkspace, UpdateState, Lock as LockAct, MakeRun}
 
 -- what a state's head says is in range
 abbrev pub IsHeadInRange : StateHead → Type 0
@@ -28,15 +28,10 @@ IsSettingsAsk ask = IfSome ask.keep_versions IsKeepCount
 abbrev pub IsMoment : ℕ → Type 0
 IsMoment now = now ≤ MAX_MOMENT
 
--- the documents of an act are in their ranges
+-- the documents of an act are in their ranges, where it has any
 abbrev pub IsInRange : Act → Type 0
 IsInRange (PutWorkspace ask) = IsSettingsAsk ask
-IsInRange (Look what) = ⊤
 IsInRange (UpdateState head text id) = IsHeadInRange head
-IsInRange (PurgeState id) = ⊤
 IsInRange (LockAct id text) = IsTrue (is_free_id id)
-IsInRange (Unlock id) = ⊤
-IsInRange ForceUnlock = ⊤
-IsInRange DeleteWorkspace = ⊤
 IsInRange (MakeRun ask) = IsRunAsk ask
-IsInRange (ReportRun n action) = ⊤
+IsInRange act = ⊤

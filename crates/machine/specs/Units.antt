@@ -3,6 +3,8 @@ use Rattle.std.specs.Prelude.{ℕ, ◌-◌, Bool, true, false, ◌==◌, cond, L
 use Rattle.std.specs.Option.{option_or}
 use Rattle.std.specs.FinMap.{get}
 use Rattle.std.specs.Str.{bytes_eq}
+use Rattle.basis.specs.declared.numbers.TheConstants.{FIRST_KEPT}
+use Rattle.basis.specs.declared.rows.Settings.{Settings}
 use Rattle.machine.specs.Records.{count_of}
 use Rattle.machine.specs.Workspaces.{newest, outgoing, holder_status, run_of, keyed_run, open_runs}
 use Rattle.machine.specs.Settling.{first_waiting}
@@ -48,6 +50,10 @@ abbrev pub if_needed : {X : Type 0} → Bool → Option X → Option X
 if_needed true part = part
 if_needed false part = None
 
+-- the settings of a workspace, with the number of versions kept where that is needed, else with that of one that is made
+abbrev pub settings_unit : Bool → Settings → Settings
+settings_unit needed s = record s { keep_versions = cond needed s.keep_versions FIRST_KEPT }
+
 -- the greatest number of the versions that go, of a workspace that keeps so many: one more that comes is one of those
 abbrev pub outgoing_by : Staying → ℕ → List Version → Option ℕ
 outgoing_by StayAll keep versions = None
@@ -59,14 +65,14 @@ newest_unit text v = record { number = v.number; serial = v.serial; lineage = v.
 
 abbrev pub unit_for : Needed → Workspace → WorkspaceUnit
 unit_for need w = record {
-  settings = w.settings;
+  settings = settings_unit need.keep_versions w.settings;
   holder = w.holder;
   holder_status = if_needed need.holder_status (holder_status w.holder w.runs);
   released = w.released;
   next_version = w.next_version;
   next_run = w.next_run;
   newest = if_needed need.newest (option_map (newest_unit need.text) (newest w.versions));
-  outgoing = outgoing_by need.outgoing w.settings.keep_versions w.versions;
+  outgoing = outgoing_by need.outgoing (settings_unit need.keep_versions w.settings).keep_versions w.versions;
   first_waiting = if_needed need.waiting (first_waiting w.runs);
   has_version = has_version need.version w.versions;
   asked_run = asked_run need.run need.key w.runs;
@@ -76,9 +82,9 @@ unit_for need w = record {
 abbrev pub workspace_unit : Act → Workspace → WorkspaceUnit
 workspace_unit act w = unit_for (needs act) w
 
--- of a workspace that is missing, how many there are, where the act makes one, and how many there may be
+-- of a workspace that is missing, how many there are and how many there may be, where the act makes one
 abbrev pub unit_by : Organization → Act → Option Workspace → AnyUnit
-unit_by o act None = Absent (cond (needs act).makes (count_of o) 0) o.limit
+unit_by o act None = Absent (cond (needs act).makes (count_of o) 0) (cond (needs act).makes o.limit 0)
 unit_by o act (Some w) = Present (workspace_unit act w)
 
 -- what a decision on an act sees of the workspace of a name

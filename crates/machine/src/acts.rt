@@ -57,9 +57,11 @@ pub enum Staying {
 /// for nothing else.
 #[derive(Drop)]
 pub struct Needs<'a> {
-    /// Whether the act makes the workspace where there is none, so that the organization's workspaces
-    /// are counted there.
+    /// Whether the act makes the workspace where there is none, so that it is asked there how many the
+    /// organization has, and how many it may have.
     pub makes: bool,
+    /// Whether it is needed how many versions the workspace keeps.
+    pub keep_versions: bool,
     /// Whether the status of the run that holds is needed.
     pub holder_status: bool,
     /// Whether the newest version is needed.
@@ -86,6 +88,7 @@ fn nothing<'a>() -> Needs<'a>
 {
     Needs {
         makes: false,
+        keep_versions: false,
         holder_status: false,
         newest: false,
         text: None,
@@ -102,7 +105,12 @@ fn needs_of_look<'a>(look: Look) -> Needs<'a>
     ensures { needed_of result ≡ needs_of_look look }
 {
     match look {
-        Look::Workspace | Look::State => Needs {
+        Look::Workspace => Needs {
+            keep_versions: true,
+            newest: true,
+            ..nothing()
+        },
+        Look::State => Needs {
             newest: true,
             ..nothing()
         },
@@ -146,6 +154,7 @@ impl Act {
             Act::Look(look) => needs_of_look(*look),
             Act::PutWorkspace(ask) => Needs {
                 makes: true,
+                keep_versions: ask.keep_versions.is_none(),
                 newest: true,
                 outgoing: staying_for(ask.keep_versions),
                 ..nothing()
@@ -155,6 +164,7 @@ impl Act {
                 ..nothing()
             },
             Act::UpdateState { text, .. } => Needs {
+                keep_versions: true,
                 holder_status: true,
                 newest: true,
                 text: Some(text),
@@ -198,6 +208,8 @@ pub struct Newest {
 /// or false.
 #[derive(Drop)]
 pub struct WorkspaceUnit {
+    /// Where the act doesn't need how many versions the workspace keeps, the number is that of one that
+    /// is made.
     pub settings: Settings,
     pub holder: Holder,
     /// The status of the holding run.
@@ -222,8 +234,8 @@ pub struct WorkspaceUnit {
 /// What a decision needs of one workspace, or that it isn't there.
 #[derive(Drop)]
 pub enum Unit {
-    /// How many workspaces the organization has, where the act makes one (for any other act 0, since
-    /// nothing asks for the count), and how many it may have.
+    /// How many workspaces the organization has and how many it may have, where the act makes one: for
+    /// any other act 0 and 0, since nothing asks for them.
     Absent { workspaces: usize, limit: Limit },
     Present(WorkspaceUnit),
 }

@@ -13,7 +13,7 @@ ghost use Rattle.machine.specs.Changes.{left_above, edited, changed_by};
 ghost use Rattle.machine.specs.Ranges.{IsMoment};
 ghost use Rattle.machine.specs.Rules.{reported};
 ghost use Rattle.machine.specs.Needs.{needs, needed_of};
-ghost use Rattle.machine.specs.Units.{is_text, if_needed, has_version, asked_run, newest_unit, outgoing_by, unit_for, unit_of, version_of, version_text};
+ghost use Rattle.machine.specs.Units.{is_text, if_needed, has_version, asked_run, newest_unit, settings_unit, outgoing_by, unit_for, unit_of, version_of, version_text};
 ghost use Rattle.basis.specs.declared.runs.RunStatus.TheVariants.{Planning};
 ghost use Rattle.machine.specs.Settling.{first_waiting, begun, started, started_if};
 ghost use Rattle.machine.specs.Workspaces.{newest, outgoing, new_workspace, run_of, holder_status, is_keyed, keyed_run, open_runs};
@@ -324,7 +324,11 @@ impl Organization {
                 } else {
                     0
                 },
-                limit: self.limit,
+                limit: if needs.makes {
+                    self.limit
+                } else {
+                    Limit::new(0).unwrap()
+                },
             }),
         }
     }
@@ -458,17 +462,18 @@ impl Workspace {
     fn unit(&self, needs: &Needs<'_>) -> Result<WorkspaceUnit, Down>
         ensures { IfOk result (λ unit. unit ≡ unit_for (needed_of needs.now) self.now) }
     {
+        let settings = settings_unit(needs.keep_versions, &self.settings);
         let versions = self.versions.as_slice();
         let runs = self.runs.as_slice();
         Ok(WorkspaceUnit {
-            settings: self.settings,
+            settings,
             holder: self.holder.clone()?,
             holder_status: self.holder_status_if(needs.holder_status),
             released: self.released.clone()?,
             next_version: self.next_version,
             next_run: self.next_run,
             newest: newest_if(needs.newest, needs.text, versions)?,
-            outgoing: outgoing_by(needs.outgoing, self.settings.keep_versions, versions),
+            outgoing: outgoing_by(needs.outgoing, settings.keep_versions, versions),
             first_waiting: first_waiting_if(needs.waiting, runs),
             has_version: has_version(needs.version, versions),
             asked_run: asked_run(needs.run, needs.key, runs)?,
@@ -681,6 +686,20 @@ fn newest_if(
         newest_of(text, versions)
     } else {
         Ok(None)
+    }
+}
+
+// The settings, with the number of versions kept where that is needed.
+fn settings_unit(needed: bool, settings: &Settings) -> Settings
+    ensures { result ≡ settings_unit needed settings.now }
+{
+    Settings {
+        auto_apply: settings.auto_apply,
+        keep_versions: if needed {
+            settings.keep_versions
+        } else {
+            KeepCount::first()
+        },
     }
 }
 

@@ -1,17 +1,14 @@
--- Worked frames, and words of the program, computed by the definitions themselves.
+-- Worked frames and secrets, computed by the definitions themselves.
 use Rattle.std.proofs.Common.{◌≡◌, [], ◌∷◌, Some, None, refl}
 use Rattle.std.specs.Prelude.{codes}
 use Rattle.std.specs.Str.{chars, is_utf8}
 use lib.Utf8.{encode}
 use Rattle.basis.specs.declared.roles.Role.TheVariants.{Write}
-use Rattle.serve.specs.declared.steps.Admin.TheVariants.{OrgAdd, OrgLimit, OrgList, TokenAdd, TokenList, TokenRevoke}
+use Rattle.serve.specs.declared.steps.Admin.TheVariants.{OrgAdd, OrgLimit, OrgList, TokenAdd, TokenRevoke}
 use Rattle.serve.specs.declared.steps.Step.TheVariants.{Request, Command}
-use Rattle.clap.proofs.OnLiterals.{clap_on_literals}
-use Rattle.program.specs.Bounds.{bounds, no_bounds}
+use Rattle.command_line.specs.Bounds.{bounds, no_bounds}
 use Rattle.program.specs.Frames.{first_frame}
-use Rattle.program.specs.Orders.{carries, adds_token, serves, replays}
 use Rattle.program.specs.Secrets.{secret_in}
-use Rattle.program.specs.Words.{asked_in}
 
 -- an organization with the limit that it has at first, and what follows the line
 organization_added : first_frame (codes "at 1700000000 admin org-add acme\nat 5") ≡ Some (Command 1_700_000_000 (OrgAdd (codes "acme") 200), codes "at 5")
@@ -123,69 +120,6 @@ tokens_not_listed = refl
 unknown_command : first_frame (codes "at 1 admin org-lists\n") ≡ None
 unfolding chars is_utf8 encode
 unknown_command = refl
-
--- words
-organization_asked : asked_in (codes "org-add" ∷ codes "--db" ∷ codes "t.db" ∷ codes "acme" ∷ []) ≡ Some (carries (codes "t.db") (OrgAdd (codes "acme") 200))
-unfolding clap_on_literals chars is_utf8 encode
-organization_asked = refl
-
-limit_asked : asked_in (codes "org-add" ∷ codes "acme" ∷ codes "--limit=7" ∷ codes "--db=t.db" ∷ []) ≡ Some (carries (codes "t.db") (OrgAdd (codes "acme") 7))
-unfolding clap_on_literals chars is_utf8 encode
-limit_asked = refl
-
-no_such_limit : asked_in (codes "org-add" ∷ codes "--db" ∷ codes "t.db" ∷ codes "--limit" ∷ codes "100001" ∷ codes "beta" ∷ []) ≡ None
-unfolding clap_on_literals chars is_utf8 encode
-no_such_limit = refl
-
-no_such_name : asked_in (codes "org-add" ∷ codes "--db" ∷ codes "t.db" ∷ codes "Acme" ∷ []) ≡ None
-unfolding clap_on_literals chars is_utf8 encode
-no_such_name = refl
-
-no_file : asked_in (codes "org-add" ∷ codes "acme" ∷ []) ≡ None
-unfolding clap_on_literals chars is_utf8 encode
-no_file = refl
-
-token_asked : asked_in (codes "token-add" ∷ codes "--db" ∷ codes "t.db" ∷ codes "acme" ∷ codes "ci" ∷ codes "write" ∷ []) ≡ Some (adds_token (codes "t.db") (codes "acme") (codes "ci") Write no_bounds)
-unfolding clap_on_literals chars is_utf8 encode
-token_asked = refl
-
-bounds_asked : asked_in (codes "token-add" ∷ codes "--db" ∷ codes "t.db" ∷ codes "--until" ∷ codes "1700000010" ∷ codes "acme" ∷ codes "ci" ∷ codes "write" ∷ codes "--prefix=ne" ∷ [])
-    ≡ Some (adds_token (codes "t.db") (codes "acme") (codes "ci") Write (bounds (Some 1_700_000_010) (codes "ne")))
-unfolding clap_on_literals chars is_utf8 encode
-bounds_asked = refl
-
-empty_prefix_asked : asked_in (codes "token-add" ∷ codes "--db=t.db" ∷ codes "--prefix=" ∷ codes "acme" ∷ codes "ci" ∷ codes "write" ∷ []) ≡ Some (adds_token (codes "t.db") (codes "acme") (codes "ci") Write no_bounds)
-unfolding clap_on_literals chars is_utf8 encode
-empty_prefix_asked = refl
-
-no_such_end : asked_in (codes "token-add" ∷ codes "--db=t.db" ∷ codes "--until" ∷ codes "01" ∷ codes "acme" ∷ codes "ci" ∷ codes "write" ∷ []) ≡ None
-unfolding clap_on_literals chars is_utf8 encode
-no_such_end = refl
-
-tokens_asked : asked_in (codes "token-list" ∷ codes "--db" ∷ codes "t.db" ∷ codes "acme" ∷ []) ≡ Some (carries (codes "t.db") (TokenList (codes "acme")))
-unfolding clap_on_literals chars is_utf8 encode
-tokens_asked = refl
-
-serving_asked : asked_in (codes "serve" ∷ codes "--db" ∷ codes "t.db" ∷ codes "--port" ∷ codes "8090" ∷ codes "--count" ∷ codes "3" ∷ []) ≡ Some (serves (codes "t.db") 8090 3 (record { idle = 10; most = 120 }))
-unfolding clap_on_literals chars is_utf8 encode
-serving_asked = refl
-
-timeouts_given : asked_in (codes "serve" ∷ codes "--db" ∷ codes "t.db" ∷ codes "--most" ∷ codes "3600" ∷ codes "--idle=1" ∷ codes "--port" ∷ codes "8090" ∷ codes "--count" ∷ codes "3" ∷ [])
-    ≡ Some (serves (codes "t.db") 8090 3 (record { idle = 1; most = 3_600 }))
-unfolding clap_on_literals chars is_utf8 encode
-timeouts_given = refl
-
-no_such_seconds : asked_in (codes "serve" ∷ codes "--db" ∷ codes "t.db" ∷ codes "--port" ∷ codes "8090" ∷ codes "--count" ∷ codes "3" ∷ codes "--idle" ∷ codes "3601" ∷ []) ≡ None
-unfolding clap_on_literals chars is_utf8 encode
-no_such_seconds = refl
-
-frames_asked : asked_in (codes "replay" ∷ []) ≡ Some replays
-unfolding clap_on_literals chars is_utf8 encode
-frames_asked = refl
-
-nothing_asked : asked_in [] ≡ None
-unfolding clap_on_literals chars is_utf8 encode
-nothing_asked = refl
 
 -- the secret of a new token
 secret_alone : secret_in (codes "writewritewrite1") ≡ Some (codes "writewritewrite1")

@@ -7,7 +7,7 @@ use Rattle.program.specs.declared.endings.Ending.{Ending}
 use Rattle.program.specs.declared.outside.Clock as clock
 use Rattle.program.specs.declared.outside.Connections as connections
 use Rattle.program.specs.declared.outside.Files as files
-use Rattle.program.specs.declared.timeouts.Timeouts.{Timeouts}
+use Rattle.command_line.specs.declared.timeouts.Timeouts.{Timeouts}
 use Rattle.program.specs.Errors.{GetsConnectionLines}
 use Rattle.program.specs.Outcomes.{stream, outside, ServesFrom, SaysServed, TellsOfLog, TellsOfReaders}
 use Rattle.program.specs.Paths.{OthersStay}

@@ -22,7 +22,7 @@ use Rattle.program.specs.declared.endings.Ending.{Ending}
 use Rattle.program.specs.declared.endings.Ending.TheVariants as ending
 use Rattle.program.specs.declared.outside.Connections as connections
 use Rattle.program.specs.declared.outside.Clock as clock
-use Rattle.program.specs.declared.timeouts.Timeouts.{Timeouts}
+use Rattle.command_line.specs.declared.timeouts.Timeouts.{Timeouts}
 use Rattle.program.specs.Serving.{AreRequests, Serves, State, Answers, AnswersAll, Listens, ListensAt}
 use Rattle.program.specs.Inner.Serving.{TakesOne, ServesTo}
 

@@ -3,8 +3,9 @@ use Rattle.std.specs.Prelude.{ℕ, List, [], ◌∷◌, Option, Some, None, cond
 use Rattle.basis.specs.Numbers.{whole_of, within}
 use Rattle.serve.specs.declared.steps.Admin as Operator
 use Rattle.serve.specs.declared.steps.Admin.TheVariants.{OrgList}
-use Rattle.program.specs.Bounds.{moment_of, bounds_of}
-use Rattle.program.specs.Commands.{limit_of, org_command, limit_command, token_command, revoke_command}
+use Rattle.command_line.specs.Bounds.{moment_of}
+use Rattle.command_line.specs.Commands.{limit_of, org_command, limit_command, token_command, revoke_command}
+use Rattle.program.specs.Bounds.{bounds_of}
 use Rattle.program.specs.declared.headings.Heading.{Heading}
 use Rattle.program.specs.declared.headings.Heading.TheVariants.{Request, Command}
 

@@ -1,15 +1,12 @@
 pub mod Bounds
-pub mod Commands
 pub mod Endings
 pub mod Errors
 pub mod Frames
 pub mod Headings
 pub mod Inner
 pub mod Lines
-pub mod Orders
 pub mod Outcomes
 pub mod Paths
 pub mod Replies
 pub mod Secrets
 pub mod Serving
-pub mod Words

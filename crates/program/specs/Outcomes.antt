@@ -20,17 +20,17 @@ use Rattle.program.specs.Endings.{ending_line}
 use Rattle.program.specs.Errors.{GetsFront, GetsConnectionLines, log_line, readers_line, secret_line}
 use Rattle.program.specs.Frames.{AreFrames}
 use Rattle.program.specs.declared.outside.Files as files
-use Rattle.program.specs.Orders.{Asked, carries, adds_token, serves, replays}
+use Rattle.command_line.specs.Orders.{Asked, carries, adds_token, serves, replays}
 use Rattle.program.specs.Paths.{AllStay, OthersStay}
 use Rattle.program.specs.Replies.{printed, bad_frame_text, answer_line, AreReplies, Replays}
 use Rattle.program.specs.Secrets.{secret_in}
 use Rattle.program.specs.Serving.{listening_line, Serves, state, AnswersAtPort}
 use Rattle.program.specs.declared.outside.Clock as clock
 use Rattle.program.specs.declared.outside.Connections as connections
-use Rattle.program.specs.declared.timeouts.Timeouts.{Timeouts}
+use Rattle.command_line.specs.declared.timeouts.Timeouts.{Timeouts}
 use Rattle.wire.specs.declared.devices.Inlet as inlet
 use Rattle.wire.specs.declared.devices.Outlet as outlet
-use Rattle.program.specs.Words.{asked_in, AskForHelp, AreNoCommand}
+use Rattle.command_line.specs.Words.{asked_in, AskForHelp, AreNoCommand}
 
 -- a stream: what it holds before and after
 pub record Stream : Type 0 where

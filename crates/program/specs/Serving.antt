@@ -16,7 +16,7 @@ use Rattle.program.specs.declared.endings.Ending.{Ending}
 use Rattle.program.specs.declared.endings.Ending.TheVariants as ending
 use Rattle.program.specs.declared.outside.Connections as connections
 use Rattle.program.specs.declared.outside.Clock as clock
-use Rattle.program.specs.declared.timeouts.Timeouts.{Timeouts}
+use Rattle.command_line.specs.declared.timeouts.Timeouts.{Timeouts}
 use Rattle.wire.specs.declared.devices.Inlet as inlet
 use Rattle.wire.specs.declared.devices.Outlet as outlet
 

@@ -2,10 +2,11 @@
 ghost use Rattle.std.specs.Prelude.{◌≡◌, ℕ, List, map, Some, None, option_map, IfOk, IfErr, IsErrOf};
 ghost use Rattle.program.specs.Lines.{bytes_of};
 
-use crate::bounds::{read_bounds, read_moment};
-use crate::commands;
+use crate::bounds::read_bounds;
 use basis::numbers::{FIRST_LIMIT, whole_number};
 use basis::{Limit, Moment, Unfit};
+use command_line::bounds::read_moment;
+use command_line::commands;
 use serve::Admin;
 use std::alloc::Global;
 
@@ -21,7 +22,7 @@ pub enum Heading {
 }
 
 impl Heading {
-    ghost use Rattle.program.specs.Bounds.{moment_of};
+    ghost use Rattle.command_line.specs.Bounds.{moment_of};
     ghost use Rattle.program.specs.Headings.{length_of, org_add_of, org_limit_of, org_list_of, token_add_of, token_revoke_of, command_of, request_at, heading_at, heading_of};
 
     fn read_moment(word: &str) -> Result<Moment, Unfit>

@@ -2,18 +2,16 @@
 #![tactic(auto)]
 
 mod bounds;
-mod commands;
 pub mod endings;
 mod errors;
 pub mod frames;
 pub mod headings;
 pub mod lines;
-mod orders;
 pub mod outside;
 pub mod replays;
 pub mod replies;
 pub mod running;
 mod secrets;
 pub mod serving;
-pub mod timeouts;
-mod words;
+
+pub use command_line::timeouts;

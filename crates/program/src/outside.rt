@@ -2,11 +2,14 @@
 ghost use Rattle.std.specs.Prelude.{◌≡◌, ℕ, Bool, List, Option, Result, false, IfOk, OnOk, OnErr, IsErrOf};
 ghost use Rattle.std.specs.Net.Addr.{ipv4_octets};
 ghost use Rattle.basis.specs.declared.memory.Down.{Down as AnyDown};
-ghost use Rattle.program.specs.declared.timeouts.Timeouts.{Timeouts as AnyTimeouts};
+ghost use Rattle.command_line.specs.declared.timeouts.Timeouts.{Timeouts as AnyTimeouts};
 ghost use Rattle.program.specs.Paths.{AllStay, OthersStay};
+ghost use Rattle.program.specs.Replies.{AreReplies};
 
-use crate::timeouts::Timeouts;
-use basis::{Down, Moment};
+use basis::{Bytes, Down, Moment};
+use command_line::timeouts::Timeouts;
+use serve::Step;
+use std::alloc::Global;
 use std::net::Ipv4Addr;
 use tables::Fault;
 use wire::{Inlet, Outlet};
@@ -42,6 +45,10 @@ pub trait Files<K> {
         ensures closed { holds self.new path.now store }
         ensures copied { OnOk result (copied self.new path.now store) }
         ensures others { OthersStay holds path.now self.old self.new };
+
+    /// The replies to steps over a database in memory, in which no organization is at first.
+    fn replay(&self, alloc: Global, steps: &[Step]) -> Result<Vec<Bytes>, Down>
+        ensures { IfOk result (λ replies. AreReplies steps.now replies.items) };
 }
 
 /// What peers connect to; each connection is a reader and a writer.

@@ -1,5 +1,5 @@
 //! The command `replay`: frames from one stream, replies to another.
-ghost use Rattle.std.specs.Prelude.{◌≡◌, ◌⊎◌, codes, true, false, IfSome, IfOk, OnOk};
+ghost use Rattle.std.specs.Prelude.{◌≡◌, ◌⊎◌, ℕ, List, None, codes, true, false, IfSome, IfOk, OnOk};
 ghost use Rattle.std.specs.Io.KnownBytes.{Appends};
 ghost use Rattle.program.specs.Replies.{printed, bad_frame_text, AreReplies, AnswersFrames};
 ghost use Rattle.program.specs.Endings.{status_of};
@@ -8,15 +8,14 @@ ghost use Rattle.program.specs.declared.endings.Ending.{Ending};
 
 use crate::endings::Ending;
 use crate::frames::read_frames;
+use crate::outside::Files;
 use crate::replies::{print_bad_frame, print_replies, say};
 use basis::{Bytes, Down};
-use pages::ShaKey;
+use machine::Keep;
 use serve::{Service, Step};
-use sqlite::MemStore;
 use std::alloc::Global;
 use std::io;
 use std::io::{Read, Write};
-use tables::SqlKeep;
 
 // The replies, and the place of the frame behind them that doesn't parse.
 #[derive(Drop)]
@@ -25,16 +24,14 @@ struct Replay {
     bad_frame: Option<usize>,
 }
 
-fn replayed(alloc: Global, steps: &[Step]) -> Result<Vec<Bytes>, Down>
-    ensures { IfOk result (λ replies. AreReplies steps.now replies.items) }
+/// The replies of a store to steps, and the store afterwards.
+pub fn replay_over<K: Keep>(alloc: Global, keep: K, steps: &[Step]) -> (Result<Vec<Bytes>, Down>, K)
+    ensures { K.clean result.1 → K.sound keep → ((org : List ℕ) → K.rows keep org ≡ None) → IfOk result.0 (λ replies. AreReplies steps.now replies.items) }
 {
-    let empty = SqlKeep::<MemStore, ShaKey>::in_memory(alloc)?;
-    let mut service = Service::new(empty);
+    let mut service = Service::new(keep);
     let replies = service.replay(alloc, steps);
     let keep = service.into_keep();
-    keep.is_always_clean();
-    drop(keep.close());
-    replies
+    (replies, keep)
 }
 
 /// All that is left of a stream.
@@ -48,11 +45,11 @@ pub fn read_all<I: Read>(alloc: Global, input: &mut I) -> Result<Vec<u8>, Down>
     }
 }
 
-fn answer(alloc: Global, bytes: &[u8]) -> Result<Replay, Down>
+fn answer<K: Keep, F: Files<K>>(alloc: Global, files: &F, bytes: &[u8]) -> Result<Replay, Down>
     ensures { IfOk result (λ replay. AnswersFrames bytes.now replay.replies.items replay.bad_frame) }
 {
     let frames = read_frames(alloc, bytes)?;
-    let replies = replayed(alloc, frames.steps.as_slice())?;
+    let replies = files.replay(alloc, frames.steps.as_slice())?;
     let bad_frame = if frames.is_bad {
         Some(frames.steps.len() + 1)
     } else {
@@ -61,11 +58,15 @@ fn answer(alloc: Global, bytes: &[u8]) -> Result<Replay, Down>
     Ok(Replay { replies, bad_frame })
 }
 
-fn answer_input<I: Read>(alloc: Global, input: &mut I) -> Result<Replay, Down>
+fn answer_input<K: Keep, F: Files<K>, I: Read>(
+    alloc: Global,
+    files: &F,
+    input: &mut I,
+) -> Result<Replay, Down>
     ensures { IfOk result (λ replay. IfSome (I.remaining input.old) (λ bytes. AnswersFrames bytes replay.replies.items replay.bad_frame)) }
 {
     let bytes = read_all(alloc, input)?;
-    answer(alloc, bytes.as_slice())
+    answer::<K, F>(alloc, files, bytes.as_slice())
 }
 
 fn print_all<O: Write>(output: &mut O, replies: &[Bytes]) -> io::Result<()>
@@ -89,15 +90,16 @@ fn end_at<E: Write>(errors: &mut E, bad_frame: Option<usize>) -> Ending
 }
 
 /// Reads frames up to the first that doesn't parse, replays them and prints the replies.
-pub fn replay_frames<I: Read, O: Write, E: Write>(
+pub fn replay_frames<K: Keep, F: Files<K>, I: Read, O: Write, E: Write>(
     alloc: Global,
+    files: &F,
     input: &mut I,
     output: &mut O,
     errors: &mut E,
 ) -> Ending
     ensures { ReplaysFrames (I.remaining input.old) result (record { old = O.contents output.old; new = O.contents output.new }) (record { old = E.contents errors.old; new = E.contents errors.new }) }
 {
-    let Ok(replay) = answer_input(alloc, input) else {
+    let Ok(replay) = answer_input::<K, F, I>(alloc, files, input) else {
         return say(output, Ending::Down);
     };
     match print_all(output, replay.replies.as_slice()) {
@@ -106,14 +108,15 @@ pub fn replay_frames<I: Read, O: Write, E: Write>(
     }
 }
 
-/// As `replay_frames`, over a database in memory. The result is the exit status.
-pub fn run_frames<I: Read, O: Write, E: Write>(
+/// As `replay_frames`. The result is the exit status.
+pub fn run_frames<K: Keep, F: Files<K>, I: Read, O: Write, E: Write>(
     alloc: Global,
+    files: &F,
     input: &mut I,
     output: &mut O,
     errors: &mut E,
 ) -> u8
     ensures { (ending : Ending) × (result ≡ status_of ending) × ReplaysFrames (I.remaining input.old) ending (record { old = O.contents output.old; new = O.contents output.new }) (record { old = E.contents errors.old; new = E.contents errors.new }) }
 {
-    replay_frames(alloc, input, output, errors).status()
+    replay_frames::<K, F, I, O, E>(alloc, files, input, output, errors).status()
 }

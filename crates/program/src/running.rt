@@ -1,28 +1,26 @@
 //! The program's commands, from its words to its exit status.
-ghost use Rattle.std.specs.Prelude.{◌≡◌, ◌≢◌, ◌<◌, ◌⊎◌, ℕ, List, length, string_bytes, IfOk, OnOk, OnErr, Some, None};
+ghost use Rattle.std.specs.Prelude.{◌≡◌, ◌≢◌, ◌<◌, ◌⊎◌, ℕ, List, length, Option, IfOk, IsErrOf, OnOk, OnErr, Some, None};
 ghost use Rattle.std.specs.Io.KnownBytes.{Appends};
 ghost use Rattle.program.specs.Endings.{status_of};
 ghost use Rattle.program.specs.Errors.{GetsFront, GetsConnectionLines};
-ghost use Rattle.program.specs.Orders.{said_by, with_secret};
-ghost use Rattle.program.specs.Outcomes.{stream, IsSaid, AnswersLine, AnswersList, AnswersTokens, TellsWord, TellsList, TellsTokens, TellsAnswer, IsOperated, AnswersCommand, RefusesUsage, AddsToken, ServesAt, Does, RefusesWords, Prints, OperatesAt, AddsTokenAt, ServesFrom, RefusesToOpen, outside, IsAlone, SaysServed, TellsOfLog, TellsOfReaders, Leaves, Runs};
+ghost use Rattle.command_line.specs.Orders.{said_by, with_secret};
+ghost use Rattle.program.specs.Outcomes.{stream, IsSaid, AnswersLine, AnswersList, AnswersTokens, TellsWord, TellsList, TellsTokens, TellsAnswer, IsOperated, AnswersCommand, RefusesUsage, HasSecret, HasNoSecret, IsSecretOf, AddsToken, ServesAt, Does, RefusesWords, Prints, OperatesAt, AddsTokenAt, ServesFrom, RefusesToOpen, outside, IsAlone, SaysServed, TellsOfLog, TellsOfReaders, Leaves, Runs};
 ghost use Rattle.program.specs.Inner.Outcomes.{IsSaidWhy};
 ghost use Rattle.program.specs.Paths.{AllStay, OthersStay};
 ghost use Rattle.program.specs.Serving.{Listens, Serves, state, AnswersAtPort};
-ghost use Rattle.program.specs.Words.{words_bytes, IsWhy, AskForHelp, AreNoCommand};
+ghost use Rattle.command_line.specs.Words.{words_bytes, IsWhy, AskForHelp, AreNoCommand};
 ghost use Rattle.program.specs.declared.endings.Ending.{Ending};
 
 use crate::endings::Ending;
 use crate::errors::write_text;
-use crate::orders::{NewToken, Order};
 use crate::outside::{Clock, Connections, Files};
 use crate::replays::{read_all, replay_frames};
 use crate::replies::{print_organizations, print_tokens, say};
 use crate::secrets::read_secret;
 use crate::serving::serve_loop;
-use crate::timeouts::Timeouts;
-use crate::words::{Unasked, read_words};
 use basis::{Down, Moment, Secret, Unfit};
-use clap::Error;
+use command_line::timeouts::Timeouts;
+use command_line::{NewToken, Order, Unasked, read_words};
 use machine::{AdminAnswer, Keep};
 use serve::{Admin, Service};
 use std::alloc::Global;
@@ -247,6 +245,18 @@ fn add_token<K: Keep, F: Files<K>, O: Write, E: Write>(
     carry_out(alloc, files, db, &command, output, errors)
 }
 
+// The secret that the input holds.
+fn input_secret<I: Read>(alloc: Global, input: &mut I) -> Result<Secret, Unfit>
+    ensures is { IfOk result (λ secret. IsSecretOf (I.remaining input.old) secret) }
+    ensures has { OnOk result (HasSecret (I.remaining input.old)) }
+    ensures syntax { IsErrOf result Unfit.Syntax → HasNoSecret (I.remaining input.old) }
+{
+    match read_all(alloc, input) {
+        Ok(bytes) => read_secret(alloc, bytes.as_slice()),
+        Err(_) => Err(Unfit::Down),
+    }
+}
+
 fn read_and_add<K: Keep, F: Files<K>, I: Read, O: Write, E: Write>(
     alloc: Global,
     files: &mut F,
@@ -259,10 +269,7 @@ fn read_and_add<K: Keep, F: Files<K>, I: Read, O: Write, E: Write>(
     ensures line { AddsToken (I.remaining input.old) result (stream (O.contents output.old) (O.contents output.new)) (stream (E.contents errors.old) (E.contents errors.new)) }
     ensures adds { AddsTokenAt K.Keep F.Files db.now (with_secret token) (I.remaining input.old) files.old files.new result (stream (O.contents output.old) (O.contents output.new)) (stream (E.contents errors.old) (E.contents errors.new)) }
 {
-    let Ok(bytes) = read_all(alloc, input) else {
-        return say(output, Ending::Down);
-    };
-    match read_secret(alloc, bytes.as_slice()) {
+    match input_secret(alloc, input) {
         Ok(secret) => add_token(alloc, files, db, token, secret, output, errors),
         Err(Unfit::Syntax) => say_why(output, errors, Ending::Usage, SECRET_FORM),
         Err(Unfit::Down) => say(output, Ending::Down),
@@ -372,61 +379,31 @@ fn run_order<K: Keep, F: Files<K>, N: Connections, C: Clock, I: Read, O: Write, 
         } => serve(
             alloc, files, network, clock, db, port, count, &timeouts, output, errors,
         ),
-        Order::Replay => replay_frames(alloc, input, output, errors),
+        Order::Replay => { replay_frames::<K, F, I, O, E>(alloc, files, input, output, errors) }
     }
 }
 
-fn text_of(alloc: Global, error: &Error) -> Result<String, Down>
-    ensures { IfOk result (λ text. 0 < length (string_bytes text)) }
+fn tell_help<E: Write>(errors: &mut E, help: &str) -> Ending
+    ensures { (words : List (List ℕ)) (output : Option (List ℕ)) → AskForHelp words → 0 < length help.now → RefusesWords words result (stream output output) (stream (E.contents errors.old) (E.contents errors.new)) }
 {
-    match format!(in alloc; "{error}") {
-        Ok(text) if !text.is_empty() => Ok(text),
-        _ => Err(Down),
-    }
-}
-
-fn tell_help<O: Write, E: Write>(
-    alloc: Global,
-    output: &mut O,
-    errors: &mut E,
-    help: &Error,
-) -> Ending
-    ensures { (words : List (List ℕ)) → AskForHelp words → RefusesWords words result (stream (O.contents output.old) (O.contents output.new)) (stream (E.contents errors.old) (E.contents errors.new)) }
-{
-    let Ok(text) = text_of(alloc, help) else {
-        return say(output, Ending::Down);
-    };
-    match note(errors, text.as_str()) {
+    match note(errors, help) {
         Ok(()) => Ending::Done,
         Err(_) => Ending::Unprinted,
     }
 }
 
-fn refuse_error<O: Write, E: Write>(
-    alloc: Global,
-    output: &mut O,
-    errors: &mut E,
-    error: &Error,
-) -> Ending
-    ensures { (words : List (List ℕ)) → AreNoCommand words → RefusesWords words result (stream (O.contents output.old) (O.contents output.new)) (stream (E.contents errors.old) (E.contents errors.new)) }
+fn refuse_error<O: Write, E: Write>(output: &mut O, errors: &mut E, text: &str) -> Ending
+    ensures { (words : List (List ℕ)) → AreNoCommand words → 0 < length text.now → RefusesWords words result (stream (O.contents output.old) (O.contents output.new)) (stream (E.contents errors.old) (E.contents errors.new)) }
 {
-    let Ok(text) = text_of(alloc, error) else {
-        return say(output, Ending::Down);
-    };
-    say_why(output, errors, Ending::Usage, text.as_str())
+    say_why(output, errors, Ending::Usage, text)
 }
 
-fn refuse_words<O: Write, E: Write>(
-    alloc: Global,
-    output: &mut O,
-    errors: &mut E,
-    why: Unasked,
-) -> Ending
+fn refuse_words<O: Write, E: Write>(output: &mut O, errors: &mut E, why: Unasked) -> Ending
     ensures { (words : List (List ℕ)) → IsWhy words why → RefusesWords words result (stream (O.contents output.old) (O.contents output.new)) (stream (E.contents errors.old) (E.contents errors.new)) }
 {
     match why {
-        Unasked::Help(help) => tell_help(alloc, output, errors, &help),
-        Unasked::Words(error) => refuse_error(alloc, output, errors, &error),
+        Unasked::Help(help) => tell_help(errors, help.as_str()),
+        Unasked::Words(text) => refuse_error(output, errors, text.as_str()),
         Unasked::Value => say_why(output, errors, Ending::Usage, FORMS),
         Unasked::Down => say(output, Ending::Down),
     }
@@ -446,7 +423,7 @@ fn run<K: Keep, F: Files<K>, N: Connections, C: Clock, I: Read, O: Write, E: Wri
 {
     match read_words(alloc, words) {
         Ok(order) => run_order(alloc, files, network, clock, order, input, output, errors),
-        Err(why) => refuse_words(alloc, output, errors, why),
+        Err(why) => refuse_words(output, errors, why),
     }
 }
 

@@ -141,12 +141,7 @@ fn ws_begun_after(act: WsAct, text: &str) -> Option<WsAct>
             let after = number_after(text)?;
             Some(WsAct::Look(Look::Runs(after)))
         }
-        WsAct::Look(Look::Workspace | Look::State) => Some(act),
-        WsAct::Look(Look::Version(_) | Look::Run(_)) => Some(act),
-        WsAct::Put | WsAct::Delete => Some(act),
-        WsAct::UpdateState | WsAct::PurgeState => Some(act),
-        WsAct::Lock | WsAct::Unlock | WsAct::ForceUnlock => Some(act),
-        WsAct::MakeRun | WsAct::ReportRun(_, _) => Some(act),
+        _ => Some(act),
     }
 }
 

@@ -1,7 +1,6 @@
 -- Absent forms: what the same request asks on another workspace, and what stands at a place of a run.
 use Rattle.std.specs.Prelude.{if◌then◌else◌, codes, bytes_eq, option_and_then, option_map}
 use Rattle.std.proofs.Common.{◌≡◌, ℕ, zero, suc, Bool, true, false, ◌&&◌, List, [], ◌∷◌, take, slice_get, Option, Some, None, Result, Ok, Err, IfOk, OnOk, length, Vec, Global, refl, sym, ap, subst, ◌∙◌}
-use Rattle.basis.specs.declared.rows.Look.TheVariants as look
 use Rattle.basis.specs.Checks.{or_refused, and_then}
 use Rattle.basis.specs.Names.{is_org_name, is_ws_name}
 use Rattle.basis.specs.Numbers.{number_of}
@@ -9,7 +8,7 @@ use Rattle.basis.specs.declared.refusals.Refusal.{Refusal}
 use Rattle.basis.specs.declared.refusals.Refusal.TheVariants.{NoRoute, NoMethod, BadQuery}
 use Rattle.basis.specs.declared.runs.RunAction.{RunAction}
 use Rattle.machine.specs.declared.records.Organization.{Organization}
-use Rattle.route.specs.Acts.{verb_of, listing_act, workspace_act, runs_act, got, posted, act_at, allow_of, act_asked, act_read}
+use Rattle.route.specs.Acts.{verb_of, listing_act, workspace_act, runs_act, posted, act_at, allow_of, act_asked, act_read}
 use Rattle.route.specs.Asks.{Asking, query_text, is_bodyless, asked_made, with_query, asked_at, asked_read, asking_of, asked_of, asks}
 use Rattle.route.specs.Asks as route
 use Rattle.route.specs.Paths.{path_parts, action_of, of_workspace, of_number, of_action, after_workspace, in_org, resource_at, resource_of}
@@ -147,10 +146,10 @@ act_with : (ws : List ℕ) (resource : Resource) (verb : Verb) (bodyless : Bool)
 act_with ws AllWorkspaces verb bodyless = listed ws verb
 act_with ws (Workspace old) verb bodyless = moved old ws (workspace_act verb)
 act_with ws (State old) verb bodyless = refl
-act_with ws (AllVersions old) verb bodyless = moved old ws (got (look.Versions 0) verb)
-act_with ws (Version old number) verb bodyless = moved old ws (got (look.Version number) verb)
+act_with ws (AllVersions old) verb bodyless = moved old ws _
+act_with ws (Version old number) verb bodyless = moved old ws _
 act_with ws (AllRuns old) verb bodyless = moved old ws (runs_act verb)
-act_with ws (Run old number) verb bodyless = moved old ws (got (look.Run number) verb)
+act_with ws (Run old number) verb bodyless = moved old ws _
 act_with ws (Action old number action) verb bodyless = moved old ws (posted (ReportRun number action) verb)
 
 found_of : {A : Type 0} (refusal : Refusal) (o : Option A) (a : A) → or_refused refusal o ≡ Ok a → o ≡ Some a

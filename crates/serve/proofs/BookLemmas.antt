@@ -1,5 +1,5 @@
 -- The book of a workspace: what the rules, or nothing, made of each step, and what follows over many steps.
-use Rattle.std.proofs.Common.{◌≡◌, ◌⊎◌, inl, inr, ℕ, ◌<◌, ◌≤◌, Bool, true, false, not, ◌&&◌, List, [], ◌∷◌, cond, ◌++◌, length, filter, Option, Some, None, option_map, Result, Ok, Err, IfSome, IsSome, is_some, refl, sym, ap, subst, ◌∙◌, arith}
+use Rattle.std.proofs.Common.{◌≡◌, ◌⊎◌, inl, inr, ℕ, ◌<◌, ◌≤◌, Bool, true, false, not, ◌&&◌, List, [], ◌∷◌, cond, ◌++◌, length, filter, Option, Some, None, option_map, Result, Ok, Err, IfSome, is_some, refl, sym, ap, subst, ◌∙◌, arith}
 use Rattle.std.specs.List.{AllByRecursion, Contains, flat_map}
 use Rattle.std.specs.Str.{bytes_eq}
 use Rattle.std.specs.FinMap.{get}
@@ -18,7 +18,7 @@ use Rattle.machine.specs.Workspaces.{run_of, holder_status}
 use Rattle.machine.specs.Custody.{IsRefusal, IsWriter, WritesWith, Releases, IsRepeatable}
 use Rattle.machine.specs.Queue.{is_active_run, Starts}
 use Rattle.machine.specs.declared.acts.Act.{Act}
-use Rattle.machine.specs.declared.acts.Act.TheVariants.{Look as LookAct, PutWorkspace as PutAct, UpdateState as UpdateAct, PurgeState as PurgeAct, Lock as LockAct, Unlock as UnlockAct, ForceUnlock as ForceUnlockAct, DeleteWorkspace as DeleteAct, MakeRun as MakeRunAct, ReportRun as ReportRunAct}
+use Rattle.machine.specs.declared.acts.Act.TheVariants.{UpdateState as UpdateAct, PurgeState as PurgeAct}
 use Rattle.machine.specs.declared.records.Holder.{Holder}
 use Rattle.machine.specs.declared.records.Holder.TheVariants.{Nobody, Lock as HeldLock, Run as HeldRun}
 use Rattle.machine.specs.declared.records.Run.{Run}
@@ -29,7 +29,8 @@ use Rattle.machine.proofs.CustodyLemmas.{held_versions_change_by_the_id, holds_u
 use Rattle.machine.proofs.RefusalLemmas.{refusals_change_nothing as rules_change_nothing, writes_carry_the_id}
 use Rattle.machine.proofs.RuleLemmas.{rules_are_lawful}
 use Rattle.machine.proofs.QueueLemmas.{actions_come_again, keyed_creations_come_again}
-use Rattle.machine.proofs.BookLemmas.{IsAcceptedWrite, rises_by_write, update_done, purge_done, held_stays, one_is_active, IsBelow, starts_below, stays_below, starts_above, Reaches, reaches_itself, reaches_more}
+use Rattle.machine.proofs.Rulings.{IsWrite, all_writes}
+use Rattle.machine.proofs.BookLemmas.{IsAcceptedWrite, rises_by_write, held_stays, one_is_active, IsBelow, starts_below, stays_below, starts_above, Reaches, reaches_itself, reaches_more}
 use Rattle.route.specs.declared.acts.Asked.{Asked}
 use Rattle.route.specs.declared.acts.AskedAct.{AskedAct}
 use Rattle.route.specs.declared.acts.AskedAct.TheVariants.{OfWorkspace}
@@ -46,9 +47,10 @@ use Rattle.serve.specs.Service.{with_own, is_own, own_asks}
 use Rattle.serve.specs.Custody.{NamesIn, Names, CarriesId, IsActOn, ReleasesLock, asked_again, MayRepeat, IsAccepted}
 use Rattle.serve.specs.Book.{Entry, book, BooksAreOfTheRun, if_so, put_if, as_long_as, begun_periods, periods, PeriodsAreTheStepsBetween, InEachPeriod, is_lock, is_held, is_run, life, AsksOf, AsksFor, CarriesNoId, IsAcceptedUpdate, IsAcceptedPurge, next_version, MakesVersion, kept_versions, LosesVersion, WritesState, IsApplying, starts, Repeats, IsDoneOnce, LocksKeepOthersOut, RunsKeepOthersOut, NoIdWhereNobodyHolds, LocksEndByUnlock, OneRunAtATime, StartsRise, RepeatsLeaveIt, DoneOnceIsDone, OfEachBook}
 use Rattle.serve.specs.Inner.Taking.{IsTimely, RunsTo}
-use Rattle.serve.proofs.CheckLemmas.{Passes, order_passes, list_passes, act_in_range}
+use Rattle.serve.proofs.ActLemmas.{IsKeyed, IsAction, act_is, once_is}
+use Rattle.serve.proofs.CheckLemmas.{Passes, order_passes, list_passes}
 use Rattle.serve.proofs.RecordLemmas.{standing_at}
-use Rattle.serve.proofs.CustodyLemmas.{apart_from, one_of, own_after, other_after, names_of, act_on, command_keeps, is_one, one_name, not_refused, some_is, writes_by}
+use Rattle.serve.proofs.CustodyLemmas.{apart_from, one_of, own_after, other_after, names_of, act_on, command_keeps, is_one, one_name, not_refused, some_is}
 use Rattle.serve.proofs.RunLemmas.{all_asked_one}
 
 -- ---- what was made of a step
@@ -113,7 +115,7 @@ request_goes ws r now awaited asked content_md5 body (Ok (Carry o)) e moment = b
       asks = p.asks;
       act = o.act;
       spells = p.spelt;
-      range = act_in_range p.what asked.lock_id body o.act p.spelt;
+      range = (act_is p.what asked.lock_id body o.act p.spelt).range;
       moment = moment;
       seen = seen_at r o.ws;
       stands = standing_at r o.ws;
@@ -297,12 +299,15 @@ spells_of ws e h what asks =
 abbrev IsOfWriter : Workspace → Option (List ℕ) → Type 0
 IsOfWriter w id = IsWriter w.holder (holder_status w.holder w.runs) id
 
+accepted_writer : (ws : List ℕ) (e : Entry) (h : Ruled ws e) (w : Workspace) → e.before ≡ Some w → IsAccepted e.said → WritesWith h.act h.asked.lock_id → IsOfWriter w h.asked.lock_id
+accepted_writer ws e h w b accepted writes =
+    let write : IsWrite h.act h.now w h.asked.lock_id = all_writes h.act h.now w h.asked.lock_id writes in
+    write.carries (write.accepted (accepted_there ws e h w b accepted))
+
 purge_writer : (ws : List ℕ) (e : Entry) (h : Ruled ws e) (w : Workspace) → e.before ≡ Some w → IsAcceptedPurge ws e → IsOfWriter w h.asked.lock_id
 purge_writer ws e h w b purge =
     let is : h.act ≡ PurgeAct h.asked.lock_id = is_one (PurgeAct h.asked.lock_id) h.act (spells_of ws e h PurgeState purge.0) in
-    let accepted : IsRefusal (rules (PurgeAct h.asked.lock_id) h.now (there w)).answer → ⊥ =
-    subst (λ (a : Act). IsRefusal (rules a h.now (there w)).answer → ⊥) is (accepted_there ws e h w b purge.1) in
-    writes_carry_the_id (PurgeAct h.asked.lock_id) h.now w h.asked.lock_id refl (purge_done h.asked.lock_id h.now w accepted)
+    accepted_writer ws e h w b purge.1 (subst (λ (a : Act). WritesWith a h.asked.lock_id) (sym is) refl)
 
 update_writer : (ws : List ℕ) (e : Entry) (h : Ruled ws e) (w : Workspace) → e.before ≡ Some w → IsAcceptedUpdate ws e → IsOfWriter w h.asked.lock_id
 update_writer ws e h w b update = by_head (state_head h.body) (spells_of ws e h UpdateState update.0)
@@ -311,9 +316,7 @@ update_writer ws e h w b update = by_head (state_head h.body) (spells_of ws e h 
     by_head None is = absurd (let none : ⊥ = cc in none)
     by_head (Some head) is =
         let one : h.act ≡ UpdateAct head h.body h.asked.lock_id = is_one (UpdateAct head h.body h.asked.lock_id) h.act is in
-        let accepted : IsRefusal (rules (UpdateAct head h.body h.asked.lock_id) h.now (there w)).answer → ⊥ =
-        subst (λ (a : Act). IsRefusal (rules a h.now (there w)).answer → ⊥) one (accepted_there ws e h w b update.1) in
-        writes_carry_the_id (UpdateAct head h.body h.asked.lock_id) h.now w h.asked.lock_id refl (update_done head h.body h.asked.lock_id h.now w accepted)
+        accepted_writer ws e h w b update.1 (subst (λ (a : Act). WritesWith a h.asked.lock_id) (sym one) refl)
 
 made_writer : (ws : List ℕ) (e : Entry) (h : Ruled ws e) (w : Workspace) → IsLawful w → e.before ≡ Some w → MakesVersion e → IsOfWriter w h.asked.lock_id
 made_writer ws e h w lawful b makes = by_after e.after refl
@@ -325,7 +328,7 @@ made_writer ws e h w lawful b makes = by_after e.after refl
     by_after None t = absurd (omega (arith, rises None t, lawful.versions.next.0))
     by_after (Some v) t =
         let writes : IsAcceptedWrite h.act h.now w = rises_by_write h.act h.now w v (sym (leaves_of ws e h w b) ∙ t) (rises (Some v) t) in
-        subst (IsOfWriter w) (sym (writes_by h.what h.asked.lock_id h.body h.act writes.0 h.spells writes.1)) (writes_carry_the_id h.act h.now w writes.0 writes.1 writes.2)
+        subst (IsOfWriter w) (sym ((act_is h.what h.asked.lock_id h.body h.act h.spells).writes writes.0 writes.1)) (writes_carry_the_id h.act h.now w writes.0 writes.1 writes.2)
 
 -- where the same versions are kept, none is gone
 stays_kept : (a b : List Version) (u : Version) → b ≡ a → Contains a u → (Contains b u → ⊥) → ⊥
@@ -341,7 +344,7 @@ lost_writer ws e h w lawful somebody b loses =
         → (v.versions ≡ w.versions) ⊎ ((id : Option (List ℕ)) × WritesWith h.act id × ((rules h.act h.now (there w)).answer ≡ done) × IsOfWriter w id) → IsOfWriter w h.asked.lock_id
     by_case v after (inl same) =
         absurd (stays_kept (kept_versions e.before) (kept_versions e.after) loses.0 (ap kept_versions after ∙ same ∙ sym (ap kept_versions b)) loses.1 loses.2)
-    by_case v after (inr (id, writes, is, writer)) = subst (IsOfWriter w) (sym (writes_by h.what h.asked.lock_id h.body h.act id h.spells writes)) writer
+    by_case v after (inr (id, writes, is, writer)) = subst (IsOfWriter w) (sym ((act_is h.what h.asked.lock_id h.body h.act h.spells).writes id writes)) writer
 
 -- where nothing is made of a step, no version is made or goes, and no purge is accepted
 none_made : (ws : List ℕ) (e : Entry) → Unruled ws e → WritesState ws e → ⊥
@@ -580,35 +583,24 @@ repeats_leave_it ws w (e ∷ es) legal = (
 
 -- what is done once
 refused_missing : (act : Act) (now : ℕ) (room : Bool) → IsDoneOnce act → IsRefusal (rules act now (missing room)).answer
-refused_missing (MakeRunAct ask) now room once = tt
-refused_missing (ReportRunAct n action) now room once = tt
-refused_missing (PutAct ask) now room once = absurd once
-refused_missing (LookAct what) now room once = absurd once
-refused_missing DeleteAct now room once = absurd once
-refused_missing (UpdateAct head text id) now room once = absurd once
-refused_missing (PurgeAct id) now room once = absurd once
-refused_missing (LockAct id text) now room once = absurd once
-refused_missing (UnlockAct id) now room once = absurd once
-refused_missing ForceUnlockAct now room once = absurd once
+refused_missing act now room once = by_kind (once_is act once)
+  where
+    by_kind : IsKeyed act ⊎ IsAction act → IsRefusal (rules act now (missing room)).answer
+    by_kind (inl keyed) = subst (λ (a : Act). IsRefusal (rules a now (missing room)).answer) (sym keyed.2) tt
+    by_kind (inr action) = subst (λ (a : Act). IsRefusal (rules a now (missing room)).answer) (sym action.2) tt
 
-some_key : (o : Option (List ℕ)) → IsSome o → (key : List ℕ) × (o ≡ Some key)
-some_key None h = absurd (let none : ⊥ = cc in none)
-some_key (Some key) h = (key, refl)
-
-done_again : (act : Act) (now later : ℕ) (w v u : Workspace) → IsDoneOnce act → IsInRange act → IsMoment now → IsLawful w → (IsRefusal (rules act now (there w)).answer → ⊥)
+abbrev ComesAgain : Act → Type 0
+ComesAgain act = (now later : ℕ) (w v u : Workspace) → IsInRange act → IsMoment now → IsLawful w → (IsRefusal (rules act now (there w)).answer → ⊥)
     → (rules act now (there w)).left ≡ Some v → Reaches v u → (rules act later (there u)).left ≡ Some u
-done_again (MakeRunAct ask) now later w v u once range moment lawful accepted left reaches =
-    let key = some_key ask.key once in
-    keyed_creations_come_again ask ask key.0 now later reaches.0 w v u key.1 key.1 range lawful moment accepted left reaches.1 reaches.2
-done_again (ReportRunAct n action) now later w v u once range moment lawful accepted left reaches = actions_come_again n action now later reaches.0 w v u lawful moment accepted left reaches.1 reaches.2
-done_again (PutAct ask) now later w v u once range moment lawful accepted left reaches = absurd once
-done_again (LookAct what) now later w v u once range moment lawful accepted left reaches = absurd once
-done_again DeleteAct now later w v u once range moment lawful accepted left reaches = absurd once
-done_again (UpdateAct head text id) now later w v u once range moment lawful accepted left reaches = absurd once
-done_again (PurgeAct id) now later w v u once range moment lawful accepted left reaches = absurd once
-done_again (LockAct id text) now later w v u once range moment lawful accepted left reaches = absurd once
-done_again (UnlockAct id) now later w v u once range moment lawful accepted left reaches = absurd once
-done_again ForceUnlockAct now later w v u once range moment lawful accepted left reaches = absurd once
+
+done_again : (act : Act) → IsDoneOnce act → ComesAgain act
+done_again act once = by_kind (once_is act once)
+  where
+    by_kind : IsKeyed act ⊎ IsAction act → ComesAgain act
+    by_kind (inl (ask, key, is, k)) = subst ComesAgain (sym is) (λ now later w v u range moment lawful accepted left reaches.
+        keyed_creations_come_again ask ask key now later reaches.0 w v u k k range lawful moment accepted left reaches.1 reaches.2)
+    by_kind (inr (n, action, is)) = subst ComesAgain (sym is) (λ now later w v u range moment lawful accepted left reaches.
+        actions_come_again n action now later reaches.0 w v u lawful moment accepted left reaches.1 reaches.2)
 
 reaches_kept : (ws : List ℕ) (v : Workspace) (f : Entry) (u x : Workspace) → IsLegal ws f → f.before ≡ Some u → f.after ≡ Some x → Reaches v u → Reaches v x
 reaches_kept ws v f u x legal b a reaches = by_goes legal.goes
@@ -656,7 +648,7 @@ done_once ws e es act first legal asks once accepted = by_goes first.goes
                     by_way (inr k) = k.stays
                     by_way (inl k) =
                         leaves_of ws f k u c ∙ ap (λ (x : Act). (rules x k.now (there u)).left) (same_act ws e f h k repeats)
-                        ∙ done_again h.act h.now k.now w v u once_of h.range h.moment (lawful_at ws e w first b) (accepted_there ws e h w b accepted) left reaches ∙ sym c
+                        ∙ done_again h.act once_of h.now k.now w v u h.range h.moment (lawful_at ws e w first b) (accepted_there ws e h w b accepted) left reaches ∙ sym c
 
 pub done_once_is_done : (ws : List ℕ) (w : Option Workspace) (es : List Entry) → AreLegal ws w es → DoneOnceIsDone ws es
 done_once_is_done ws w [] legal = tt

@@ -1,26 +1,15 @@
 -- The checks of a request in their order, and what an order that passed them is.
-use Rattle.std.proofs.Common.{◌≡◌, ◌⊎◌, inl, inr, ℕ, ◌≤◌, ◌<◌, Bool, true, false, List, length, Option, Some, None, Result, Ok, Err, IsSome, IfSome, IsTrue, refl, sym, ap, subst, ◌∙◌, arith}
-use Rattle.std.specs.Prelude.{codes, if◌then◌else◌, option_map}
-use Rattle.std.proofs.lemmas.Bool.{le-leb, lt-ltb, ltb-true}
+use Rattle.std.proofs.Common.{◌≡◌, ◌⊎◌, inl, inr, ℕ, ◌≤◌, ◌<◌, Bool, true, false, List, Option, Some, None, Result, Ok, Err, IsSome, refl, sym, ap, subst, ◌∙◌, arith}
+use Rattle.std.specs.Prelude.{if◌then◌else◌, option_map}
+use Rattle.std.proofs.lemmas.Bool.{lt-ltb, ltb-true}
 use Rattle.basis.specs.Checks.{or_refused, and_then}
-use Rattle.basis.specs.Names.{is_free_id, has_length}
 use Rattle.basis.specs.Roles.{is_before, counts_at}
 use Rattle.basis.specs.declared.refusals.Refusal.{Refusal}
-use Rattle.basis.specs.declared.refusals.Refusal.TheVariants.{BadToken, NotFound, BadState, BadLock, BadBody}
+use Rattle.basis.specs.declared.refusals.Refusal.TheVariants.{BadToken, NotFound}
 use Rattle.basis.specs.declared.roles.Caller.{Caller}
-use Rattle.basis.specs.declared.rows.RunAsk.{RunAsk}
-use Rattle.basis.specs.declared.rows.SettingsAsk.{SettingsAsk}
-use Rattle.basis.specs.declared.rows.StateHead.{StateHead}
 use Rattle.sha2.specs.Sha256.{sha256}
-use Rattle.serde_json.specs.Data.{Data}
-use Rattle.serde_json.specs.Find.{get_member}
-use Rattle.docs.specs.Documents.{state_head, lock_id_of, settings_of, run_ask}
-use Rattle.docs.specs.Readings.{IsState, IsLock, IsText, IsKeep, IsSettings, IsKey, IsAsk}
-use Rattle.docs.proofs.ReadingLemmas.{state_law, lock_law, settings_law, ask_law}
-use Rattle.machine.specs.Ranges.{IsKeepCount, IsInRange}
 use Rattle.machine.specs.Tokens.{caller_of}
 use Rattle.machine.specs.declared.acts.Act.{Act}
-use Rattle.machine.specs.declared.acts.Act.TheVariants.{Look as LookAct, PutWorkspace as PutAct, UpdateState as UpdateAct, PurgeState as PurgeAct, Lock as LockAct, Unlock as UnlockAct, ForceUnlock as ForceUnlockAct, DeleteWorkspace as DeleteAct, MakeRun as MakeRunAct, ReportRun as ReportRunAct}
 use Rattle.machine.specs.declared.records.Token.{Token}
 use Rattle.machine.specs.declared.records.Organization.{Organization}
 use Rattle.route.specs.Policy.{role_refused, is_admitted, or_else_refused, caller_refused, allowed_by}
@@ -28,8 +17,7 @@ use Rattle.route.specs.declared.acts.Asked.{Asked}
 use Rattle.route.specs.declared.acts.AskedAct.{AskedAct}
 use Rattle.route.specs.declared.acts.AskedAct.TheVariants.{ListWorkspaces, OfWorkspace}
 use Rattle.route.specs.declared.acts.WsAct.{WsAct}
-use Rattle.route.specs.declared.acts.WsAct.TheVariants.{Look, Put, Delete, UpdateState, PurgeState, Lock, Unlock, ForceUnlock, MakeRun, ReportRun}
-use Rattle.serve.specs.Checks.{task_of, require, while_it_counts, known_caller, may_do, admitted, in_reach, is_found, found_if, found, place, digest_checked, spelt, act_of, order, checked}
+use Rattle.serve.specs.Checks.{task_of, require, while_it_counts, known_caller, may_do, admitted, in_reach, is_found, found_if, found, place, digest_checked, act_of, order, checked}
 use Rattle.serve.specs.Inner.Prepared.{counted, caller_known}
 use Rattle.serve.specs.declared.prepared.Place.{Place}
 use Rattle.serve.specs.declared.prepared.Order.{Order}
@@ -162,76 +150,8 @@ checked_later r now later asked content_md5 body most = by_token (caller_of r (s
         by_end false c = inl (ap if_it_counts c)
         by_end true c = inr (ap if_it_counts (c ∙ sym (counted_before now later token.caller.until most c)))
 
--- the documents of an act that is read are in their ranges
-text_most : (o : Option Data) (lineage : List ℕ) → IsText 256 o lineage → length lineage ≤ 256
-text_most None lineage h = rw h (omega arith)
-text_most (Some value) lineage h = h.1
-
 abbrev read_act : Act → Result Act Refusal
 read_act act = Ok act
-
-is_one : (a b : Act) → read_act a ≡ read_act b → a ≡ b
-is_one a b e = cc
-
-lineage_most : (body : List ℕ) (head : StateHead) → IsState body head → length head.lineage ≤ 256
-lineage_most body head is = text_most (get_member (codes "lineage") is.members) head.lineage is.lineage
-
--- an ID that is read names no run
-id_free : (body id : List ℕ) → lock_id_of body ≡ Some id → IsTrue (is_free_id id)
-id_free body id t = let is : IsLock body id = (lock_law body id).0 t in rw (le-leb 1 (length id) is.least, le-leb (length id) 128 is.most, is.free) refl
-
-head_in_range : (body : List ℕ) (id : Option (List ℕ)) (o : Option StateHead) (act : Act) → state_head body ≡ o → spelt BadState (λ head. UpdateAct head body id) o ≡ Ok act → IsInRange act
-head_in_range body id None act t e = absurd (let none : ⊥ = cc in none)
-head_in_range body id (Some head) act t e =
-    let is : IsState body head = (state_law body head).0 t in
-    subst IsInRange (is_one (UpdateAct head body id) act e) (is.signed, lineage_most body head is)
-
-keep_within : (o : Option Data) (keep : Option ℕ) → IsKeep o keep → IfSome keep IsKeepCount
-keep_within o None h = tt
-keep_within None (Some keep) h = absurd (let none : ⊥ = cc in none)
-keep_within (Some value) (Some keep) h = (h.1, h.2)
-
-put_in_range : (body : List ℕ) (o : Option SettingsAsk) (act : Act) → settings_of body ≡ o → spelt BadBody PutAct o ≡ Ok act → IsInRange act
-put_in_range body None act t e = absurd (let none : ⊥ = cc in none)
-put_in_range body (Some ask) act t e =
-    let is : IsSettings body ask = (settings_law body ask).0 t in
-    subst IsInRange (is_one (PutAct ask) act e) (keep_within (get_member (codes "keep_versions") is.members) ask.keep_versions is.keep_versions)
-
-lock_in_range : (body : List ℕ) (o : Option (List ℕ)) (act : Act) → lock_id_of body ≡ o → spelt BadLock (λ held. LockAct held body) o ≡ Ok act → IsInRange act
-lock_in_range body None act t e = absurd (let none : ⊥ = cc in none)
-lock_in_range body (Some id) act t e = subst IsInRange (is_one (LockAct id body) act e) (id_free body id t)
-
-unlock_in_range : (o : Option (List ℕ)) (act : Act) → spelt BadLock UnlockAct o ≡ Ok act → IsInRange act
-unlock_in_range None act e = absurd (let none : ⊥ = cc in none)
-unlock_in_range (Some id) act e = subst IsInRange (is_one (UnlockAct id) act e) tt
-
-message_most : (o : Option Data) (message : List ℕ) → IsText 1_000 o message → length message ≤ 1_000
-message_most None message h = rw h (omega arith)
-message_most (Some value) message h = h.1
-
-key_within : (o : Option Data) (key : Option (List ℕ)) → IsKey o key → IfSome key (λ k. IsTrue (has_length 1 64 k))
-key_within o None h = tt
-key_within None (Some key) h = absurd (let none : ⊥ = cc in none)
-key_within (Some value) (Some key) h = rw (le-leb 1 (length key) h.1, le-leb (length key) 64 h.2) refl
-
-ask_in_range : (body : List ℕ) (o : Option RunAsk) (act : Act) → run_ask body ≡ o → spelt BadBody MakeRunAct o ≡ Ok act → IsInRange act
-ask_in_range body None act t e = absurd (let none : ⊥ = cc in none)
-ask_in_range body (Some ask) act t e =
-    let is : IsAsk body ask = (ask_law body ask).0 t in
-    subst IsInRange (is_one (MakeRunAct ask) act e)
-    (key_within (get_member (codes "key") is.members) ask.key is.key, message_most (get_member (codes "message") is.members) ask.message is.message)
-
-pub act_in_range : (what : WsAct) (id : Option (List ℕ)) (body : List ℕ) (act : Act) → act_of what id body ≡ Ok act → IsInRange act
-act_in_range (Look what) id body act e = subst IsInRange (is_one (LookAct what) act e) tt
-act_in_range Put id body act e = put_in_range body (settings_of body) act refl e
-act_in_range Delete id body act e = subst IsInRange (is_one DeleteAct act e) tt
-act_in_range UpdateState id body act e = head_in_range body id (state_head body) act refl e
-act_in_range PurgeState id body act e = subst IsInRange (is_one (PurgeAct id) act e) tt
-act_in_range Lock id body act e = lock_in_range body (lock_id_of body) act refl e
-act_in_range Unlock id body act e = unlock_in_range (lock_id_of body) act e
-act_in_range ForceUnlock id body act e = subst IsInRange (is_one ForceUnlockAct act e) tt
-act_in_range MakeRun id body act e = ask_in_range body (run_ask body) act refl e
-act_in_range (ReportRun number action) id body act e = subst IsInRange (is_one (ReportRunAct number action) act e) tt
 
 -- what an order that passed the checks is: the organization is there, and this act is asked of the workspace
 pub record Passes (r : Option Organization) (asked : Asked) (body : List ℕ) (o : Order) : Type 0 where

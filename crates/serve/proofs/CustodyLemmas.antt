@@ -4,12 +4,8 @@ use Rattle.std.specs.Str.{bytes_eq}
 use Rattle.std.specs.FinMap.{get, get-empty}
 use Rattle.std.proofs.lemmas.Slice.Eq.{bytes_eq-Decides}
 use Rattle.basis.specs.declared.refusals.Refusal.{Refusal}
-use Rattle.basis.specs.declared.refusals.Refusal.TheVariants.{BadToken, BadState, BadLock, BadBody}
-use Rattle.basis.specs.declared.rows.RunAsk.{RunAsk}
-use Rattle.basis.specs.declared.rows.SettingsAsk.{SettingsAsk}
-use Rattle.basis.specs.declared.rows.StateHead.{StateHead}
+use Rattle.basis.specs.declared.refusals.Refusal.TheVariants.{BadToken}
 use Rattle.sha2.specs.Sha256.{sha256}
-use Rattle.docs.specs.Documents.{state_head, lock_id_of, settings_of, run_ask}
 use Rattle.machine.specs.Order.{name_cmp}
 use Rattle.machine.specs.Effects.{effect}
 use Rattle.machine.specs.Records.{Seen, missing, there, workspace_in, count_of, seen_by, seen_in, standing, placed}
@@ -18,7 +14,7 @@ use Rattle.machine.specs.Custody.{WritesWith, Releases, IsRepeatable, IsRefusal}
 use Rattle.machine.specs.Tokens.{new_organization, token_of, with_token, without_token, has_digest, token_added, token_revoked}
 use Rattle.machine.specs.declared.keeps.AdminAnswer.TheVariants.{Done, Exists, Absent}
 use Rattle.machine.specs.declared.acts.Act.{Act}
-use Rattle.machine.specs.declared.acts.Act.TheVariants.{Look as LookAct, PutWorkspace as PutAct, UpdateState as UpdateAct, PurgeState as PurgeAct, Lock as LockAct, Unlock as UnlockAct, ForceUnlock as ForceUnlockAct, DeleteWorkspace as DeleteAct, MakeRun as MakeRunAct, ReportRun as ReportRunAct}
+use Rattle.machine.specs.declared.acts.Act.TheVariants.{DeleteWorkspace as DeleteAct}
 use Rattle.machine.specs.declared.records.Holder.TheVariants.{Lock as HeldLock}
 use Rattle.machine.specs.declared.records.Token.{Token}
 use Rattle.machine.specs.declared.records.Workspace.{Workspace}
@@ -30,7 +26,6 @@ use Rattle.route.specs.declared.acts.Asked.{Asked}
 use Rattle.route.specs.declared.acts.AskedAct.{AskedAct}
 use Rattle.route.specs.declared.acts.AskedAct.TheVariants.{ListWorkspaces, OfWorkspace}
 use Rattle.route.specs.declared.acts.WsAct.{WsAct}
-use Rattle.route.specs.declared.acts.WsAct.TheVariants.{Look, Put, Delete, UpdateState, PurgeState, Lock, Unlock, ForceUnlock, MakeRun, ReportRun}
 use Rattle.serve.specs.declared.steps.Admin.{Admin}
 use Rattle.serve.specs.declared.steps.Admin.TheVariants.{OrgAdd, OrgLimit, OrgList, TokenAdd, TokenList, TokenRevoke}
 use Rattle.serve.specs.declared.prepared.Order.{Order}
@@ -41,6 +36,7 @@ use Rattle.serve.specs.Asks as ask
 use Rattle.serve.specs.Checks.{spelt, act_of, checked}
 use Rattle.serve.specs.Steps.{answer_to, seen_at, ruled_in, carried, command_step}
 use Rattle.serve.specs.Custody.{NamesIn, StepsChangeWhatTheyName, IsActOn, IsInCustody, LocksAreKept, asked_again, StepsAreRepeatable, RepeatsLeaveTheWorkspace, SameBytesAskAgain, RequestsChangeTheirWorkspaceAlone}
+use Rattle.serve.proofs.ActLemmas.{act_is}
 use Rattle.serve.proofs.CheckLemmas.{Passes, order_passes, list_passes, checked_later}
 use Rattle.serve.proofs.RecordLemmas.{placed_as_it_was, standing_at}
 use Rattle.serve.proofs.LawLemmas.{ruled_leaves}
@@ -120,44 +116,11 @@ steps_change_what_they_name r (ask.refused at awaited refusal is_head) ws other 
 steps_change_what_they_name r (requests at awaited asked content_md5 body) ws other = request_leaves_others r at asked content_md5 body ws (checked r at asked content_md5 body) refl other
 steps_change_what_they_name r (commands at command) ws other = command_keeps r command ws
 
--- an act that writes with an ID has it from the query
 abbrev read_act : Act → Result Act Refusal
 read_act act = Ok act
 
 pub is_one : (a b : Act) → read_act a ≡ read_act b → b ≡ a
 is_one a b e = cc
-
-pub writes_by : (what : WsAct) (id : Option (List ℕ)) (body : List ℕ) (act : Act) (given : Option (List ℕ)) → act_of what id body ≡ Ok act → WritesWith act given → id ≡ given
-writes_by (Look what) id body act given is writes = absurd (subst (λ (a : Act). WritesWith a given) (is_one (LookAct what) act is) writes)
-writes_by Put id body act given is writes = by_settings (settings_of body) is
-  where
-    by_settings : (o : Option SettingsAsk) → spelt BadBody PutAct o ≡ Ok act → id ≡ given
-    by_settings None is = absurd (let none : ⊥ = cc in none)
-    by_settings (Some ask) is = absurd (subst (λ (a : Act). WritesWith a given) (is_one (PutAct ask) act is) writes)
-writes_by Delete id body act given is writes = absurd (subst (λ (a : Act). WritesWith a given) (is_one DeleteAct act is) writes)
-writes_by UpdateState id body act given is writes = by_head (state_head body) is
-  where
-    by_head : (o : Option StateHead) → spelt BadState (λ head. UpdateAct head body id) o ≡ Ok act → id ≡ given
-    by_head None is = absurd (let none : ⊥ = cc in none)
-    by_head (Some head) is = subst (λ (a : Act). WritesWith a given) (is_one (UpdateAct head body id) act is) writes
-writes_by PurgeState id body act given is writes = subst (λ (a : Act). WritesWith a given) (is_one (PurgeAct id) act is) writes
-writes_by Lock id body act given is writes = by_id (lock_id_of body) is
-  where
-    by_id : (o : Option (List ℕ)) → spelt BadLock (λ named. LockAct named body) o ≡ Ok act → id ≡ given
-    by_id None is = absurd (let none : ⊥ = cc in none)
-    by_id (Some named) is = absurd (subst (λ (a : Act). WritesWith a given) (is_one (LockAct named body) act is) writes)
-writes_by Unlock id body act given is writes = by_id (lock_id_of body) is
-  where
-    by_id : (o : Option (List ℕ)) → spelt BadLock UnlockAct o ≡ Ok act → id ≡ given
-    by_id None is = absurd (let none : ⊥ = cc in none)
-    by_id (Some named) is = absurd (subst (λ (a : Act). WritesWith a given) (is_one (UnlockAct named) act is) writes)
-writes_by ForceUnlock id body act given is writes = absurd (subst (λ (a : Act). WritesWith a given) (is_one ForceUnlockAct act is) writes)
-writes_by MakeRun id body act given is writes = by_ask (run_ask body) is
-  where
-    by_ask : (o : Option RunAsk) → spelt BadBody MakeRunAct o ≡ Ok act → id ≡ given
-    by_ask None is = absurd (let none : ⊥ = cc in none)
-    by_ask (Some ask) is = absurd (subst (λ (a : Act). WritesWith a given) (is_one (MakeRunAct ask) act is) writes)
-writes_by (ReportRun number action) id body act given is writes = absurd (subst (λ (a : Act). WritesWith a given) (is_one (ReportRunAct number action) act is) writes)
 
 -- a workspace that a step leaves as it is
 abbrev Kept : Option Workspace → Ask → List ℕ → List ℕ → List ℕ → Workspace → Type 0
@@ -191,7 +154,7 @@ ruled_kept r now awaited asked content_md5 body o w own text p stands lock =
     carried_or_kept : (v : Workspace) → NamesIn asked.act o.ws → Passes r asked body o → (v.versions ≡ w.versions) ⊎ WritesWith o.act (Some own)
         → (v.versions ≡ w.versions) ⊎ (NamesIn asked.act o.ws × (asked.lock_id ≡ Some own))
     carried_or_kept v names p (inl h) = inl h
-    carried_or_kept v names p (inr h) = inr (names, writes_by p.what asked.lock_id body o.act (Some own) p.spelt h)
+    carried_or_kept v names p (inr h) = inr (names, (act_is p.what asked.lock_id body o.act p.spelt).writes (Some own) h)
 
     released_or_held : (v : Workspace) → NamesIn asked.act o.ws → Passes r asked body o → (v.holder ≡ HeldLock own text) ⊎ Releases o.act own
         → (v.holder ≡ HeldLock own text) ⊎ (NamesIn asked.act o.ws × ((act : Act) × IsActOn asked.act asked.lock_id body act × Releases act own))

@@ -3,11 +3,10 @@ use Rattle.std.proofs.Common.{◌≡◌, ℕ, Bool, true, false, cond, List, Opt
 use Rattle.basis.specs.Checks.{or_refused, and_then}
 use Rattle.basis.specs.Roles.{includes}
 use Rattle.basis.specs.declared.refusals.Refusal.{Refusal}
-use Rattle.basis.specs.declared.refusals.Refusal.TheVariants.{Locked, BadToken, NotFound, BadDigest, BadState, BadLock, BadBody}
+use Rattle.basis.specs.declared.refusals.Refusal.TheVariants.{Locked, BadToken, NotFound, BadDigest}
 use Rattle.basis.specs.declared.roles.Role.{Role}
 use Rattle.basis.specs.declared.roles.Role.TheVariants.{Read as Reads, Write as Writes, Admin as Manages}
 use Rattle.sha2.specs.Sha256.{sha256}
-use Rattle.docs.specs.Documents.{state_head, lock_id_of, settings_of, run_ask}
 use Rattle.machine.specs.Records.{Seen, missing, there, standing, workspace_in}
 use Rattle.machine.specs.Rules.{Outcome, refused, held, done, no_state, state, workspace, the_run, versions, runs, rules}
 use Rattle.machine.specs.Tokens.{caller_of}
@@ -21,9 +20,7 @@ use Rattle.route.specs.Policy.{allowed_by, least_role, need_of, is_admitted}
 use Rattle.route.specs.declared.acts.Asked.{Asked}
 use Rattle.route.specs.declared.acts.AskedAct.{AskedAct}
 use Rattle.route.specs.declared.acts.AskedAct.TheVariants.{ListWorkspaces, OfWorkspace}
-use Rattle.route.specs.declared.acts.WsAct.{WsAct}
-use Rattle.route.specs.declared.acts.WsAct.TheVariants.{Look, Put, Delete, UpdateState, PurgeState, Lock, Unlock, ForceUnlock, MakeRun, ReportRun}
-use Rattle.serve.specs.Checks.{task_of, require, while_it_counts, known_caller, may_do, admitted, is_in_reach, in_reach, is_found, found_if, found, place, fits, digest_checked, spelt, act_of, checked}
+use Rattle.serve.specs.Checks.{task_of, require, while_it_counts, known_caller, may_do, admitted, is_in_reach, in_reach, is_found, found_if, found, place, fits, digest_checked, act_of, checked}
 use Rattle.serve.specs.Steps.{answer_to, holder_text, seen_at, carried}
 use Rattle.serve.specs.Custody.{NamesIn, LockedTellsTheHolder}
 use Rattle.serve.specs.declared.prepared.Task.{Task}
@@ -31,6 +28,7 @@ use Rattle.serve.specs.declared.prepared.Task.TheVariants.{ListAll, Carry}
 use Rattle.serve.specs.declared.prepared.Found.{Found}
 use Rattle.serve.specs.declared.prepared.Found.TheVariants.{Workspaces, At}
 use Rattle.serve.specs.declared.prepared.Place.{Place}
+use Rattle.serve.proofs.ActLemmas.{act_other}
 use Rattle.serve.proofs.CheckLemmas.{Passes, order_passes, after_names, after_reach, after_prefix, after_role, after_caller}
 use Rattle.serve.proofs.RecordLemmas.{standing_at}
 
@@ -67,22 +65,6 @@ place_other false p e = let none : ⊥ = cc in none
 found_other : (r : Option Organization) (prefix : List ℕ) (act : AskedAct) → IsOther (found r prefix act)
 found_other r prefix (ListWorkspaces after) e = let none : ⊥ = cc in none
 found_other r prefix (OfWorkspace ws act) e = place_other (is_found r ws act) (place ws act) e
-
-spelt_other : {A : Type 0} (refusal : Refusal) (f : A → Act) (o : Option A) → (refusal ≡ Locked → ⊥) → IsOther (spelt refusal f o)
-spelt_other refusal f None apart e = apart (let same : refusal ≡ Locked = cc in same)
-spelt_other refusal f (Some a) apart e = let none : ⊥ = cc in none
-
-act_other : (act : WsAct) (id : Option (List ℕ)) (body : List ℕ) → IsOther (act_of act id body)
-act_other (Look what) id body e = let none : ⊥ = cc in none
-act_other Put id body e = spelt_other BadBody _ (settings_of body) (λ is. let none : ⊥ = cc in none) e
-act_other Delete id body e = let none : ⊥ = cc in none
-act_other UpdateState id body e = spelt_other BadState _ (state_head body) (λ is. let none : ⊥ = cc in none) e
-act_other PurgeState id body e = let none : ⊥ = cc in none
-act_other Lock id body e = spelt_other BadLock _ (lock_id_of body) (λ is. let none : ⊥ = cc in none) e
-act_other Unlock id body e = spelt_other BadLock _ (lock_id_of body) (λ is. let none : ⊥ = cc in none) e
-act_other ForceUnlock id body e = let none : ⊥ = cc in none
-act_other MakeRun id body e = spelt_other BadBody _ (run_ask body) (λ is. let none : ⊥ = cc in none) e
-act_other (ReportRun number action) id body e = let none : ⊥ = cc in none
 
 ok_other : {A : Type 0} (a : A) → IsOther (Ok a)
 ok_other a e = let none : ⊥ = cc in none

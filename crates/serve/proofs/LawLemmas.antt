@@ -3,8 +3,6 @@ use Rattle.std.specs.Prelude.{if◌then◌else◌}
 use Rattle.std.proofs.Common.{◌≡◌, ◌≢◌, ℕ, Bool, true, false, ◌||◌, cond, List, Option, Some, None, Result, Ok, Err, is_some, refl, sym, ap, ◌∙◌}
 use Rattle.std.specs.Prelude.{option_map}
 use Rattle.std.specs.FinMap.{get}
-use Rattle.basis.specs.declared.rows.Look.{Look as AnyLook}
-use Rattle.basis.specs.declared.rows.Look.TheVariants as look
 use Rattle.basis.specs.Checks.{and_then}
 use Rattle.basis.specs.declared.refusals.Refusal.{Refusal}
 use Rattle.basis.specs.declared.refusals.Refusal.TheVariants.{NotFound}
@@ -35,7 +33,7 @@ use Rattle.serve.specs.declared.prepared.Task.{Task}
 use Rattle.serve.specs.declared.prepared.Task.TheVariants.{ListAll, Carry}
 use Rattle.serve.specs.Asks.{Ask, silent, requests, commands}
 use Rattle.serve.specs.Asks as ask
-use Rattle.serve.specs.Checks.{known_caller, may_do, admitted, is_in_reach, in_reach, require, makes, is_told_of, named_by, is_there, found_if, found, place, checked}
+use Rattle.serve.specs.Checks.{known_caller, may_do, admitted, is_in_reach, in_reach, require, makes, is_there, found_if, found, place, checked}
 use Rattle.serve.specs.Steps.{replies, tells, answer_to, seen_at, ruled_in, carried, request_step, command_step, command_said}
 use Rattle.serve.specs.Laws.{RefusedStepsChangeNothing, OutOfReachIsNotFound, renamed, NeedsWorkspace, OutOfReachIsAsAbsent, OutsideThePrefixIsNotFound, OutsideThePrefixIsAsAbsent}
 use Rattle.serve.proofs.CheckLemmas.{after_ok, after_err, after_names, after_reach, after_prefix, after_role, after_caller}
@@ -149,16 +147,8 @@ outside_the_prefix_is_not_found r now asked content_md5 body token known outside
     (after_ok (may_do token asked) (λ _. after_role r token asked content_md5 body) tt (Err NotFound) may (not_admitted r token asked content_md5 body outside)))
 
 -- a workspace that is lacking isn't found
-none_told : (what : AnyLook) → is_told_of what None ≡ false
-none_told look.Workspace = refl
-none_told look.State = refl
-none_told (look.Version number) = refl
-none_told (look.Versions after) = refl
-none_told (look.Run number) = refl
-none_told (look.Runs after) = refl
-
 none_of_none : (act : WsAct) → is_there act None ≡ false
-none_of_none act = none_told (named_by act)
+none_of_none act = refl
 
 lacking : (c : Bool) (r : Option Organization) (ws : List ℕ) (what : WsAct) → workspace_in r ws ≡ None → c ≡ false → (c || is_there what (workspace_in r ws)) ≡ false
 lacking c r ws what none e = ap (λ (d : Bool). d || is_there what (workspace_in r ws)) e ∙ ap (is_there what) none ∙ none_of_none what

@@ -1,3 +1,4 @@
+pub mod ActLemmas
 pub mod CheckLemmas
 pub mod RecordLemmas
 pub mod JudgingLemmas

@@ -1,5 +1,5 @@
 -- Records that stay as they are, and answers that are foreseen.
-use Rattle.std.proofs.Common.{◌≡◌, ◌≢◌, ℕ, Bool, cond, List, Option, Some, None, Result, Ok, Err, IsSome, IfOk, OnOk, nat_lt, refl, sym, ap, subst, ◌∙◌}
+use Rattle.std.proofs.Common.{◌≡◌, ◌≢◌, ℕ, Bool, ◌&&◌, cond, List, is_some, Option, Some, None, Result, Ok, Err, IsSome, IfOk, OnOk, nat_lt, refl, sym, ap, subst, ◌∙◌}
 use Rattle.std.specs.Prelude.{option_map}
 use Rattle.std.specs.Ordering.{is_eq}
 use Rattle.std.specs.declared.cmp.Ordering.{Ordering}
@@ -12,7 +12,9 @@ use Rattle.machine.specs.Laws.{IsLawfulOrganization}
 use Rattle.machine.specs.Ranges.{IsInRange, IsMoment}
 use Rattle.machine.specs.Records.{workspace_in, count_of, seen_in, standing, with_workspace, placed}
 use Rattle.machine.specs.Rules.{Ruling, refused_by, rules}
-use Rattle.machine.specs.Units.{unit_of, unit_by}
+use Rattle.machine.specs.Named.{keeps_named, has_named_run}
+use Rattle.machine.specs.Needs.{Needed, needs_of_look}
+use Rattle.machine.specs.Units.{unit_of, unit_by, has_version, asked_run}
 use Rattle.machine.specs.Meaning.{meaning, answered, holder_of, Meets, ChangeIsDue}
 use Rattle.machine.specs.declared.acts.Act.{Act}
 use Rattle.machine.specs.declared.acts.Decision.{Decision}
@@ -29,9 +31,8 @@ use Rattle.wire.specs.Replies.{Answer as Reply}
 use Rattle.serve.specs.Steps.{Answered, answer_to, seen_at, ruled_in, refusing}
 use Rattle.serve.specs.Inner.Prepared.{Foresees}
 use Rattle.serve.specs.Checks.{named_by, is_told_of, is_there}
-use Rattle.serve.specs.Inner.Units.{holder_in, is_present}
+use Rattle.serve.specs.Inner.Units.{holder_in, if_named, is_present}
 use Rattle.basis.specs.declared.rows.Look.{Look as AnyLook}
-use Rattle.basis.specs.declared.rows.Look.TheVariants as look
 use Rattle.machine.specs.declared.acts.Act.TheVariants.{Look as LookAct}
 use Rattle.route.specs.declared.acts.WsAct.{WsAct}
 use Rattle.serve.specs.declared.prepared.Pending.{Pending}
@@ -128,19 +129,16 @@ refused_after refusal r org want (Ok p) is known h = subst (λ (w : Answered). F
 refused_after refusal r org want (Err fault) is known h = tt
 
 -- whether what is told of is there, by what was seen of it
+seen_named : (version run : Option ℕ) (key : Option (List ℕ)) (w : Workspace)
+    → (if_named version (has_version version w.versions) && if_named run (is_some (asked_run run key w.runs))) ≡ (keeps_named version w && has_named_run run w)
+seen_named None None key w = refl
+seen_named None (Some n) key w = refl
+seen_named (Some m) None key w = refl
+seen_named (Some m) (Some n) key w = refl
+
 present_is : (o : Organization) (what : AnyLook) (w : Option Workspace) → is_present what (unit_by o (LookAct what) w) ≡ is_told_of what w
-present_is o look.Workspace None = refl
-present_is o look.State None = refl
-present_is o (look.Version number) None = refl
-present_is o (look.Versions after) None = refl
-present_is o (look.Run number) None = refl
-present_is o (look.Runs after) None = refl
-present_is o look.Workspace (Some w) = refl
-present_is o look.State (Some w) = refl
-present_is o (look.Version number) (Some w) = refl
-present_is o (look.Versions after) (Some w) = refl
-present_is o (look.Run number) (Some w) = refl
-present_is o (look.Runs after) (Some w) = refl
+present_is o what None = refl
+present_is o what (Some w) = let need : Needed = needs_of_look what in seen_named need.version need.run need.key w
 
 pub there_is : (r : Option Organization) (ws : List ℕ) (act : WsAct) (unit : AnyUnit) (b : Bool) → IsSome r → ((o : Organization) → r ≡ Some o → unit ≡ unit_of o ws (LookAct (named_by act)))
     → b ≡ is_present (named_by act) unit → b ≡ is_there act (workspace_in r ws)

@@ -10,7 +10,7 @@ use Rattle.machine.specs.Queue.{is_active_run}
 use Rattle.machine.specs.Records.{workspace_in}
 use Rattle.machine.specs.Workspaces.{run_of}
 use Rattle.machine.specs.declared.acts.Act.{Act}
-use Rattle.machine.specs.declared.acts.Act.TheVariants.{Look as LookAct, PutWorkspace as PutAct, UpdateState as UpdateAct, PurgeState as PurgeAct, Lock as LockAct, Unlock as UnlockAct, ForceUnlock as ForceUnlockAct, DeleteWorkspace as DeleteAct, MakeRun as MakeRunAct, ReportRun as ReportRunAct}
+use Rattle.machine.specs.declared.acts.Act.TheVariants.{MakeRun as MakeRunAct, ReportRun as ReportRunAct}
 use Rattle.machine.specs.declared.records.Holder.{Holder}
 use Rattle.machine.specs.declared.records.Holder.TheVariants.{Nobody, Lock, Run as HoldingRun}
 use Rattle.machine.specs.declared.records.Run.{Run}
@@ -171,16 +171,9 @@ Repeats e f = (at : ℕ) × (f.ask ≡ asked_again at e.ask)
 
 -- the creation of a run with a key, and an action on a run
 abbrev pub IsDoneOnce : Act → Type 0
-IsDoneOnce (PutAct ask) = ⊥
-IsDoneOnce (LookAct what) = ⊥
-IsDoneOnce (UpdateAct head text id) = ⊥
-IsDoneOnce (PurgeAct id) = ⊥
-IsDoneOnce (LockAct id text) = ⊥
-IsDoneOnce (UnlockAct id) = ⊥
-IsDoneOnce ForceUnlockAct = ⊥
-IsDoneOnce DeleteAct = ⊥
 IsDoneOnce (MakeRunAct ask) = IsSome ask.key
 IsDoneOnce (ReportRunAct n action) = ⊤
+IsDoneOnce act = ⊥
 
 -- ---- custody
 

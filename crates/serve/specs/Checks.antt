@@ -1,6 +1,6 @@
 -- The checks of a request from the token on, each by itself: what it gives, or the refusal. The checks of the message,
 -- the path, the query and the token's form come before them (`asked_of` of route).
-use Rattle.std.specs.Prelude.{ℕ, Bool, true, false, ◌||◌, if◌then◌else◌, List, Option, Some, None, Result, Ok, Err, is_some}
+use Rattle.std.specs.Prelude.{ℕ, Bool, true, false, ◌||◌, if◌then◌else◌, List, Option, Some, None, Result, Ok, Err}
 use Rattle.std.specs.Str.{bytes_eq}
 use Rattle.basis.specs.Checks.{or_refused, and_then}
 use Rattle.basis.specs.Roles.{counts_at}
@@ -13,8 +13,8 @@ use Rattle.docs.specs.Documents.{state_head, lock_id_of, settings_of, run_ask}
 use Rattle.docs.specs.Digests.{digest_fits}
 use Rattle.machine.specs.Records.{workspace_in}
 use Rattle.machine.specs.Tokens.{caller_of}
-use Rattle.machine.specs.Units.{version_of}
-use Rattle.machine.specs.Workspaces.{run_of}
+use Rattle.machine.specs.Named.{has_named}
+use Rattle.machine.specs.Needs.{needs_of_look}
 use Rattle.machine.specs.declared.acts.Act.{Act}
 use Rattle.machine.specs.declared.acts.Act.TheVariants.{Look as LookAct, PutWorkspace as PutAct, UpdateState as UpdateAct, PurgeState as PurgeAct, Lock as LockAct, Unlock as UnlockAct, ForceUnlock as ForceUnlockAct, DeleteWorkspace as DeleteAct, MakeRun as MakeRunAct, ReportRun as ReportRunAct}
 use Rattle.machine.specs.declared.records.Token.{Token}
@@ -83,24 +83,10 @@ makes (ReportRun number action) = false
 abbrev pub place : List ℕ → WsAct → Place
 place ws act = record { ws = ws; act = act }
 
--- whether a workspace has a run of a number
-abbrev pub has_run : ℕ → Option Workspace → Bool
-has_run number None = false
-has_run number (Some w) = is_some (run_of number w.runs)
-
--- whether a workspace keeps the version of a number
-abbrev pub keeps_version : ℕ → Option Workspace → Bool
-keeps_version number None = false
-keeps_version number (Some w) = is_some (version_of number w.versions)
-
 -- what is told of is there: the workspace, and the version or the run that is named
 abbrev pub is_told_of : AnyLook → Option Workspace → Bool
-is_told_of look.Workspace w = is_some w
-is_told_of look.State w = is_some w
-is_told_of (look.Version number) w = keeps_version number w
-is_told_of (look.Versions after) w = is_some w
-is_told_of (look.Run number) w = has_run number w
-is_told_of (look.Runs after) w = is_some w
+is_told_of what None = false
+is_told_of what (Some w) = has_named (needs_of_look what) w
 
 -- what an act asks of, as what would be told of it: what it names besides the workspace is a version or a run
 abbrev pub named_by : WsAct → AnyLook

@@ -4,6 +4,7 @@ ghost use Rattle.basis.specs.Inner.Checks.{Follows};
 ghost use Rattle.basis.specs.declared.refusals.Refusal.TheVariants.{BadBody, BadLock, BadState, NotFound, Unavailable};
 ghost use Rattle.docs.specs.Documents.{settings_of, state_head, lock_id_of, run_ask};
 ghost use Rattle.machine.specs.Keeping.{Looks};
+ghost use Rattle.machine.specs.Needs.{needed_of};
 ghost use Rattle.machine.specs.Records.{workspace_in};
 ghost use Rattle.machine.specs.Units.{unit_of};
 ghost use Rattle.machine.specs.declared.acts.Act.TheVariants.{Look as LookAct, PutWorkspace, UpdateState, PurgeState, Lock, Unlock, MakeRun};
@@ -14,12 +15,12 @@ ghost use Rattle.serve.specs.declared.prepared.Found.TheVariants.{At};
 ghost use Rattle.serve.specs.declared.prepared.Task.TheVariants.{ListAll};
 ghost use Rattle.serve.specs.Inner.Judging.{named, judged_task, missed};
 ghost use Rattle.serve.specs.Inner.Prepared.{IsTaskInRange};
-ghost use Rattle.serve.specs.Inner.Units.{has_named, is_present};
+ghost use Rattle.serve.specs.Inner.Units.{if_named, sees_named, is_present};
 
 use crate::prepared::{Order, Place, Task};
-use basis::{Bytes, Caller, Down, LockId, Look, Moment, OrgName, Prefix, Refusal, WsName};
+use basis::{Bytes, Caller, Down, LockId, Look, Moment, Number, OrgName, Prefix, Refusal, WsName};
 use docs::{DocFault, digest_fits, read_lock, read_run, read_settings, read_state};
-use machine::{Act, Keep, Unit, WorkspaceUnit};
+use machine::{Act, Keep, Needs, Unit, WorkspaceUnit};
 use route::{Asked, AskedAct, WsAct, secret_digest};
 use std::alloc::Global;
 
@@ -92,16 +93,21 @@ fn named_by(act: WsAct) -> Look
     }
 }
 
-// Whether what is told of is there, once its workspace is.
-fn has_named(look: Look, unit: &WorkspaceUnit) -> bool
-    ensures { result ≡ has_named look unit.now }
+// Whether what is named is there, where a number is named.
+fn if_named(named: Option<Number>, is_there: bool) -> bool
+    ensures { result ≡ if_named named is_there }
 {
-    match look {
-        Look::Version(_) => unit.has_version,
-        Look::Run(_) => unit.asked_run.is_some(),
-        Look::Workspace | Look::State => true,
-        Look::Versions(_) | Look::Runs(_) => true,
+    match named {
+        None => true,
+        Some(_) => is_there,
     }
+}
+
+// Whether what is named was seen, once the workspace is there.
+fn sees_named(needs: &Needs<'_>, unit: &WorkspaceUnit) -> bool
+    ensures { result ≡ sees_named (needed_of needs.now) unit.now }
+{
+    if_named(needs.version, unit.has_version) && if_named(needs.run, unit.asked_run.is_some())
 }
 
 fn is_present(unit: &Unit, act: &WsAct) -> bool
@@ -109,7 +115,10 @@ fn is_present(unit: &Unit, act: &WsAct) -> bool
 {
     match unit {
         Unit::Absent { .. } => false,
-        Unit::Present(unit) => has_named(named_by(*act), unit),
+        Unit::Present(unit) => {
+            let look = telling(*act);
+            sees_named(&look.needs(), unit)
+        }
     }
 }
 

@@ -4,7 +4,7 @@ use Rattle.sqlite_value.specs.declared.value.Value.TheVariants.{Int}
 use Rattle.sqlite_value.specs.declared.keys.Collation.{Collation}
 use Rattle.sqlite_value.specs.declared.keys.Collation.TheVariants.{Binary}
 use Rattle.sqlite_sql.specs.Term.{Term, lit, col, op2}
-use Rattle.sqlite_sql.specs.Query.{Query, inner, end}
+use Rattle.sqlite_sql.specs.Query.{Query, Join, inner, end}
 use Rattle.sqlite_sql.specs.declared.aggregate.AggregateOp.TheVariants.{CountRows}
 use Rattle.sqlite_sql.specs.declared.ops.CompareOp.TheVariants.{Eq, Lt, Gt, Ge}
 use Rattle.sqlite_sql.specs.declared.ops.BinaryOp.TheVariants.{Compare}
@@ -81,6 +81,10 @@ point_draft rest tree descending = record {
 -- in the order of a column
 abbrev pub listing_draft : Query → ℕ → ℕ → Draft
 listing_draft rest tree column = record (point_draft rest tree false) { order = sorted_by column }
+
+-- with what further steps of FROM add to each row
+abbrev pub joined_draft : Query → ℕ → Join → ℕ → Draft
+joined_draft rest tree more column = record (listing_draft rest tree column) { from = inner tree more }
 
 abbrev pub tally_draft : Query → ℕ → Collation → Term → Draft
 tally_draft rest tree collation argument = record {

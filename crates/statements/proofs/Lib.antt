@@ -22,6 +22,7 @@ pub mod KeepingTexts
 pub mod KeepingWrites
 pub mod KeyedLists
 pub mod Lead
+pub mod Lefts
 pub mod Listed
 pub mod Makes
 pub mod Meaning
@@ -51,6 +52,7 @@ pub mod VersionReads
 pub mod VersionTexts
 pub mod VersionWrites
 pub mod Writes
+pub mod WsListTexts
 pub mod WsReads
 pub mod WsTexts
 pub mod WsWrites

@@ -1,5 +1,5 @@
 -- The rows of one of our tables in an order with no ties, as a function of typed rows.
-use Rattle.std.proofs.Common.{◌≡◌, inl, inr, ℕ, ◌≤◌, ◌<◌, pos, Bool, false, ◌&&◌, List, [], ◌∷◌, ◌++◌, map, filter, take, length, None, refl, sym, ap, ◌∙◌, subst, arith, Ordering, Less, Equal, int_cmp, is_eq, IsPermutation}
+use Rattle.std.proofs.Common.{◌≡◌, inl, inr, ℕ, ◌≤◌, ◌<◌, pos, Bool, false, cond, ◌&&◌, List, [], ◌∷◌, ◌++◌, map, flat_map, filter, take, length, None, refl, sym, ap, ◌∙◌, subst, arith, Ordering, Less, Equal, int_cmp, is_eq, IsPermutation}
 use Rattle.std.specs.Prelude.{nat_lt}
 use Rattle.std.specs.List.{list_all, AllZip}
 use Rattle.std.specs.Ordering.{ordering_then}
@@ -11,8 +11,8 @@ use Rattle.sqlite_value.specs.declared.value.Value.TheVariants.{Null, Int}
 use Rattle.sqlite_value.specs.Order.{Row, value_cmp}
 use Rattle.sqlite_value.proofs.OrderLemmas.{value_cmp-Int, then-Equal}
 use Rattle.sqlite_trees.specs.Tree.{Trees, IsAscending}
-use Rattle.sqlite_sql.specs.Term.{Term, col, holds, eval_all}
-use Rattle.sqlite_sql.specs.Query.{Query, Output, inner, end, output, output_cmp, page, IsAnswer}
+use Rattle.sqlite_sql.specs.Term.{Term, Env, col, holds, eval_all}
+use Rattle.sqlite_sql.specs.Query.{Query, Join, Output, inner, end, matches, output, output_cmp, page, IsAnswer}
 use Rattle.sqlite_sql.specs.Program.{overlay}
 use Rattle.sqlite_sql.proofs.QueryLemmas.{output_cmp_total}
 use Rattle.sqlite_schema.specs.declared.schema.Schema.{Schema}
@@ -20,13 +20,11 @@ use Rattle.sqlite_schema.specs.declared.schema.Table.{Table}
 use Rattle.sqlite_schema.specs.declared.command.Command.TheVariants.{Select}
 use Rattle.sqlite.specs.State.{State, Shown, Begins}
 use Rattle.sqlite.proofs.Callers.{reads_as, begins_as}
-use Rattle.sqlite_keyed.specs.Keyed.{IsKeyedBy}
 use Rattle.sqlite_keyed.specs.Lists.{sort_by}
-use Rattle.sqlite_keyed.proofs.ListLemmas.{map-map, filter-map, ascending-map, ascending_from_map, ascending_weaker, ascending-filter}
+use Rattle.sqlite_keyed.proofs.ListLemmas.{map-map, flat_map-map, flat_map_same_on, filter_as_flat_map, filter_same, filter-map, ascending-map, ascending_from_map, ascending_weaker, ascending-filter}
 use Rattle.sqlite_keyed.proofs.SortLemmas.{HasNoTies, sorted_is-sort_by, sort_by-map}
-use Rattle.sqlite_typed.proofs.AnswerLemmas.{Source, last_table, at_end, matches_are}
 use Rattle.statements.specs.Place.{tree_of, IsOwn}
-use Rattle.statements.specs.Rows.{Kept, id_of, stored}
+use Rattle.statements.specs.Rows.{Kept, stored}
 use Rattle.statements.specs.Calls.{FirstRows}
 use Rattle.statements.specs.Listings.{Rise}
 use Rattle.statements.proofs.Meaning.{Means}
@@ -34,29 +32,47 @@ use Rattle.statements.proofs.Writes.{plain_program}
 use Rattle.statements.proofs.Own.{stored_tree}
 use Rattle.statements.proofs.Sorting.{filter_both, sorted_already}
 
--- a query for rows of one table in the order of a column
+-- a query for rows of one table in the order of a column, each with what further steps of FROM add to it
 abbrev pub sorted_by : ℕ → List (Term × Key)
 sorted_by column = (col 1 column, record { collation = Binary; descending = false }) ∷ []
 
+abbrev pub joined_listing : Query → ℕ → Join → ℕ → Query
+joined_listing rest tree more column = record rest { from = inner tree more; group = None; distinct = false; order = sorted_by column }
+
 abbrev pub listing : Query → ℕ → ℕ → Query
-listing rest tree column = record rest { from = inner tree end; group = None; distinct = false; order = sorted_by column }
+listing rest tree column = joined_listing rest tree end column
 
-module _ {R : Type 0} (cells : R → Row) (db : Trees) (tree : ℕ) (xs : List (Kept R)) (held : db tree ≡ map (stored cells) xs) (keyed : IsKeyedBy id_of xs)
-    (rest : Query) (column : ℕ) (params : Row) (p : Kept R → Bool) (tests : (x : Kept R) → list_all (holds (params ∷ stored cells x ∷ [])) rest.filter ≡ p x) where
+-- each row of the table is matched once, if at all: the steps behind it add these rows to it
+abbrev pub Ends : {A : Type 0} → Trees → (A → Env) → Join → (A → Env) → Type 0
+Ends {A} db before more extra = (terms : List Term) (x : A) → matches db terms more (before x) ≡ cond (list_all (holds (before x ++ extra x)) terms) ((before x ++ extra x) ∷ []) []
+
+module _ {R : Type 0} (cells : R → Row) (db : Trees) (tree : ℕ) (xs : List (Kept R)) (held : db tree ≡ map (stored cells) xs)
+    (rest : Query) (column : ℕ) (params : Row) (more : Join) (extra : Kept R → Env) (ends : Ends db (λ (x : Kept R). params ∷ stored cells x ∷ []) more extra)
+    (p : Kept R → Bool) (tests : (x : Kept R) → list_all (holds (params ∷ stored cells x ∷ extra x)) rest.filter ≡ p x) where
   abbrev q : Query
-  q = listing rest tree column
+  q = joined_listing rest tree more column
 
-  abbrev source : Source db (inner tree end) (Kept R)
-  source = last_table db tree (stored cells) id_of xs held keyed (at_end db)
+  abbrev whole_row : Kept R → Env
+  whole_row x = params ∷ stored cells x ∷ extra x
 
   abbrev out : Kept R → Output
-  out x = output q (params ∷ stored cells x ∷ [])
+  out x = output q (whole_row x)
 
   abbrev show : Kept R → Row
-  show x = eval_all rest.project (params ∷ stored cells x ∷ [])
+  show x = eval_all rest.project (whole_row x)
+
+  matched : matches db rest.filter (inner tree more) (params ∷ []) ≡ map whole_row (filter p xs)
+  matched =
+      let below = λ (r : Row). matches db rest.filter more (params ∷ r ∷ []) in
+      let passes = λ (e : Env). list_all (holds e) rest.filter in
+      let kept = λ (e : Env). cond (passes e) (e ∷ []) [] in
+      ap (flat_map below) held ∙ flat_map-map below (stored cells) xs
+      ∙ flat_map_same_on _ (λ x. kept (whole_row x)) (λ x. ends rest.filter x) xs
+      ∙ sym (filter_as_flat_map passes _ ∙ flat_map-map kept whole_row xs)
+      ∙ filter-map passes whole_row xs ∙ ap (map whole_row) (filter_same _ p tests xs)
 
   arranged : (rows : List Row) (a : IsAnswer q db params rows) → IsPermutation (map out (filter p xs)) a.ordered
-  arranged rows a = subst (λ l. IsPermutation l a.ordered) (a.distinct ∙ ap (map (output q)) (a.grouped ∙ matches_are q db params source p tests) ∙ map-map (output q) _ _) a.same
+  arranged rows a = subst (λ l. IsPermutation l a.ordered) (a.distinct ∙ ap (map (output q)) (a.grouped ∙ matched) ∙ map-map (output q) _ _) a.same
 
   module _ (order : Kept R → Kept R → Ordering) (is : (x y : Kept R) → output_cmp q (out x) (out y) ≡ order x y) (apart : IsAscending (λ x y. is_eq (order x y) ≡ false) (filter p xs)) where
     in_order : (rows : List Row) (a : IsAnswer q db params rows) → a.ordered ≡ map out (sort_by order (filter p xs))
@@ -104,8 +120,9 @@ module _ (text : List ℕ) (params : Row) (old new : State) (q : Query) (names :
   all_listed rows all is h = is rows (shown rows h)
 
 module _ {R : Type 0} (cells : R → Row) (table : Table) (old new : State) (own : IsOwn old.now.schema table)
-    (xs : List (Kept R)) (held : old.now.trees (tree_of old.now.schema table.name) ≡ map (stored cells) xs) (keyed : IsKeyedBy id_of xs) (text : List ℕ) (params : Row)
-    (rest : Query) (column : ℕ) (names : List (List ℕ)) (p : Kept R → Bool) (tests : (x : Kept R) → list_all (holds (params ∷ stored cells x ∷ [])) rest.filter ≡ p x) where
+    (xs : List (Kept R)) (held : old.now.trees (tree_of old.now.schema table.name) ≡ map (stored cells) xs) (text : List ℕ) (params : Row)
+    (rest : Query) (column : ℕ) (names : List (List ℕ)) (more : Join) (extra : Kept R → Env) (ends : Ends (overlay old.now.trees []) (λ (x : Kept R). params ∷ stored cells x ∷ []) more extra)
+    (p : Kept R → Bool) (tests : (x : Kept R) → list_all (holds (params ∷ stored cells x ∷ extra x)) rest.filter ≡ p x) where
   abbrev s : Schema
   s = old.now.schema
 
@@ -113,19 +130,22 @@ module _ {R : Type 0} (cells : R → Row) (table : Table) (old new : State) (own
   here = tree_of s table.name
 
   abbrev sees : Kept R → Row
-  sees x = eval_all rest.project (params ∷ stored cells x ∷ [])
+  sees x = eval_all rest.project (params ∷ stored cells x ∷ extra x)
 
-  module _ (order : Kept R → Kept R → Ordering) (is : (x y : Kept R) → output_cmp (listing rest here column) (output (listing rest here column) (params ∷ stored cells x ∷ [])) (output (listing rest here column) (params ∷ stored cells y ∷ [])) ≡ order x y)
-      (apart : IsAscending (λ x y. is_eq (order x y) ≡ false) (filter p xs)) (means : Means s (Select (plain_program (listing rest here column)) names) text) (whole : (l : List Row) → page (listing rest here column) params l ≡ l)
+  abbrev asked : Query
+  asked = joined_listing rest here more column
+
+  module _ (order : Kept R → Kept R → Ordering) (is : (x y : Kept R) → output_cmp asked (output asked (params ∷ stored cells x ∷ extra x)) (output asked (params ∷ stored cells y ∷ extra y)) ≡ order x y)
+      (apart : IsAscending (λ x y. is_eq (order x y) ≡ false) (filter p xs)) (means : Means s (Select (plain_program asked) names) text) (whole : (l : List Row) → page asked params l ≡ l)
       {X : Type 0} (Is : Row → X → Type 0) (val : Kept R → X) (back : (x : Kept R) (y : X) → Is (sees x) y → y ≡ val x) where
-    only : (l : List Row) → IsAnswer (listing rest here column) (overlay old.now.trees []) params l → l ≡ map sees (sort_by order (filter p xs))
-    only = listed_is cells (overlay old.now.trees []) here xs (stored_tree old.now.trees here own.place.low ∙ held) keyed rest column params p tests order is apart whole
+    only : (l : List Row) → IsAnswer asked (overlay old.now.trees []) params l → l ≡ map sees (sort_by order (filter p xs))
+    only = listed_is cells (overlay old.now.trees []) here xs (stored_tree old.now.trees here own.place.low ∙ held) rest column params more extra ends p tests order is apart whole
 
     pub first_rows_are : (most : ℕ) (rows : List Row) → FirstRows most text params old new rows → rows ≡ take most (map sees (sort_by order (filter p xs)))
-    first_rows_are most rows h = first_listed text params old new (listing rest here column) names means most rows _ only h
+    first_rows_are most rows h = first_listed text params old new asked names means most rows _ only h
 
     pub all_rows_are : (rows : List Row) → Shown text params old new rows → rows ≡ map sees (sort_by order (filter p xs))
-    all_rows_are rows h = all_listed text params old new (listing rest here column) names means rows _ only h
+    all_rows_are rows h = all_listed text params old new asked names means rows _ only h
 
 -- ---- rows whose numbers rise
 
@@ -137,7 +157,7 @@ below m n low = grind (arith, ints)
 
 -- a list of rows above a number, which were numbered in the order of the rows
 module _ {R : Type 0} (cells : R → Row) (table : Table) (old new : State) (own : IsOwn old.now.schema table)
-    (xs : List (Kept R)) (held : old.now.trees (tree_of old.now.schema table.name) ≡ map (stored cells) xs) (keyed : IsKeyedBy id_of xs) (text : List ℕ) (params : Row)
+    (xs : List (Kept R)) (held : old.now.trees (tree_of old.now.schema table.name) ≡ map (stored cells) xs) (text : List ℕ) (params : Row)
     (rest : Query) (column : ℕ) (names : List (List ℕ)) {X : Type 0} (Is : Row → X → Type 0) (number_of : X → ℕ) (val : Kept R → X) (mine : Kept R → Bool) (after : ℕ)
     (tests : (x : Kept R) → list_all (holds (params ∷ stored cells x ∷ [])) rest.filter ≡ (mine x && nat_lt after (number_of (val x))))
     (back : (x : Kept R) (y : X) → Is (eval_all rest.project (params ∷ stored cells x ∷ [])) y → y ≡ val x) where
@@ -165,7 +185,7 @@ module _ {R : Type 0} (cells : R → Row) (table : Table) (old new : State) (own
       let show = λ (x : Kept R). eval_all rest.project (params ∷ stored cells x ∷ []) in
       let less = rising up in
       let apart = ascending_weaker (λ x y. numbered x y ≡ Less) (λ x y. is_eq (numbered x y) ≡ false) (λ x y h. ap is_eq h) (filter p xs) less in
-      let sorted = first_rows_are cells table old new own xs held keyed text params rest column names p tests numbered is apart means whole Is val back most rows first in
+      let sorted = first_rows_are cells table old new own xs held text params rest column names end (λ _. []) (λ terms x. refl) p tests numbered is apart means whole Is val back most rows first in
       let taken : rows ≡ map show (take most (filter p xs)) = sorted ∙ ap (λ l. take most (map show l)) (sorted_already numbered (filter p xs) less) ∙ take-map show most (filter p xs) in
       read_as Is show val back (take most (filter p xs)) rows ys taken read ∙ sym (take-map val most (filter p xs))
       ∙ ap (λ l. take most (map val l)) (filter_both mine (λ x. nat_lt after (num x)) xs) ∙ ap (take most) (sym (filter-map (λ y. nat_lt after (number_of y)) val (filter mine xs)))

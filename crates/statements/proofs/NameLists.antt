@@ -12,25 +12,25 @@ use Rattle.sqlite_value.specs.declared.value.Value.TheVariants.{Text}
 use Rattle.sqlite_value.specs.Order.{Row, value_cmp}
 use Rattle.sqlite_value.proofs.OrderLemmas.{value_cmp-Text, then-Equal}
 use Rattle.sqlite_trees.specs.Tree.{IsAscending}
-use Rattle.sqlite_sql.specs.Term.{holds, eval_all}
-use Rattle.sqlite_sql.specs.Query.{Query, output, output_cmp, page}
+use Rattle.sqlite_sql.specs.Term.{Env, holds, eval_all}
+use Rattle.sqlite_sql.specs.Query.{Query, Join, output, output_cmp, page}
 use Rattle.sqlite_schema.specs.declared.schema.Table.{Table}
 use Rattle.sqlite_schema.specs.declared.command.Command.TheVariants.{Select}
 use Rattle.sqlite.specs.State.{State, Shown}
-use Rattle.sqlite_keyed.specs.Keyed.{IsKeyedBy}
+use Rattle.sqlite_sql.specs.Program.{overlay}
 use Rattle.sqlite_keyed.specs.Lists.{sort_by}
 use Rattle.sqlite_keyed.specs.Rules.{AreApart}
 use Rattle.sqlite_keyed.proofs.ListLemmas.{map-map, filter-map, filter_all, all_of, ascending_weaker, ascending-filter}
 use Rattle.sqlite_typed.proofs.TestLemmas.{same_bytes, turn_eq}
 use Rattle.statements.specs.Place.{tree_of, IsOwn}
-use Rattle.statements.specs.Rows.{Kept, id_of, OrgRow, TokenRow, WsRow, stored}
+use Rattle.statements.specs.Rows.{Kept, OrgRow, TokenRow, WsRow, stored}
 use Rattle.statements.specs.Changes.{is_org, is_token, is_ws_of, is_ws}
 use Rattle.statements.specs.Calls.{FirstRows}
 use Rattle.statements.specs.Listings.{text_cmp, is_token_of}
 use Rattle.statements.proofs.Meaning.{Means}
 use Rattle.statements.proofs.Writes.{plain_program}
 use Rattle.statements.proofs.Sorting.{filter_both, filter-sort_by, entries_sorted_by}
-use Rattle.statements.proofs.Listed.{listing, first_rows_are, all_rows_are, read_as}
+use Rattle.statements.proofs.Listed.{joined_listing, Ends, first_rows_are, all_rows_are, read_as}
 
 pub by_text : (a b : List ℕ) → ordering_then (value_cmp (Text a) (Text b)) Equal ≡ text_cmp a b
 by_text a b = then-Equal _ ∙ value_cmp-Text a b
@@ -83,9 +83,10 @@ pub tokens_apart : (org : List ℕ) (xs : List (Kept TokenRow)) → AreApart (λ
 tokens_apart = apart_of (λ (r : TokenRow). r.org) (λ r. r.name)
 
 module _ {R : Type 0} (cells : R → Row) (table : Table) (old new : State) (own : IsOwn old.now.schema table)
-    (xs : List (Kept R)) (held : old.now.trees (tree_of old.now.schema table.name) ≡ map (stored cells) xs) (keyed : IsKeyedBy id_of xs) (text : List ℕ) (params : Row)
-    (rest : Query) (column : ℕ) (names : List (List ℕ)) {V X : Type 0} (Is : Row → X → Type 0) (name_of : Kept R → List ℕ) (value_of : Kept R → V) (shape : List ℕ × V → X)
-    (back : (x : Kept R) (y : X) → Is (eval_all rest.project (params ∷ stored cells x ∷ [])) y → y ≡ shape (name_of x, value_of x)) where
+    (xs : List (Kept R)) (held : old.now.trees (tree_of old.now.schema table.name) ≡ map (stored cells) xs) (text : List ℕ) (params : Row)
+    (rest : Query) (column : ℕ) (names : List (List ℕ)) (more : Join) (extra : Kept R → Env) (ends : Ends (overlay old.now.trees []) (λ (x : Kept R). params ∷ stored cells x ∷ []) more extra)
+    {V X : Type 0} (Is : Row → X → Type 0) (name_of : Kept R → List ℕ) (value_of : Kept R → V) (shape : List ℕ × V → X)
+    (back : (x : Kept R) (y : X) → Is (eval_all rest.project (params ∷ stored cells x ∷ extra x)) y → y ≡ shape (name_of x, value_of x)) where
   abbrev place : ℕ
   place = tree_of old.now.schema table.name
 
@@ -96,11 +97,14 @@ module _ {R : Type 0} (cells : R → Row) (table : Table) (old new : State) (own
   by_name x y = text_cmp (name_of x) (name_of y)
 
   abbrev show : Kept R → Row
-  show x = eval_all rest.project (params ∷ stored cells x ∷ [])
+  show x = eval_all rest.project (params ∷ stored cells x ∷ extra x)
 
-  module _ (is : (x y : Kept R) → output_cmp (listing rest place column) (output (listing rest place column) (params ∷ stored cells x ∷ [])) (output (listing rest place column) (params ∷ stored cells y ∷ [])) ≡ by_name x y)
-      (means : Means old.now.schema (Select (plain_program (listing rest place column)) names) text) (whole : (l : List Row) → page (listing rest place column) params l ≡ l) where
-    pub names_within : (mine : Kept R → Bool) (later : List ℕ → Bool) → ((x : Kept R) → list_all (holds (params ∷ stored cells x ∷ [])) rest.filter ≡ (mine x && later (name_of x)))
+  abbrev asked : Query
+  asked = joined_listing rest place more column
+
+  module _ (is : (x y : Kept R) → output_cmp asked (output asked (params ∷ stored cells x ∷ extra x)) (output asked (params ∷ stored cells y ∷ extra y)) ≡ by_name x y)
+      (means : Means old.now.schema (Select (plain_program asked) names) text) (whole : (l : List Row) → page asked params l ≡ l) where
+    pub names_within : (mine : Kept R → Bool) (later : List ℕ → Bool) → ((x : Kept R) → list_all (holds (params ∷ stored cells x ∷ extra x)) rest.filter ≡ (mine x && later (name_of x)))
         → IsAscending (λ x y. is_eq (by_name x y) ≡ false) (filter mine xs) → (most : ℕ) (rows : List Row) (ys : List X) → FirstRows most text params old new rows → AllZip Is rows ys
         → ys ≡ take most (map shape (filter (λ e. later e.0) (entries (from_entries {R = text_cmp} (map entry (filter mine xs))))))
     names_within mine later tests apart most rows ys first read =
@@ -108,7 +112,7 @@ module _ {R : Type 0} (cells : R → Row) (table : Table) (old new : State) (own
         let p = λ (x : Kept R). mine x && passes x in
         let both = filter_both mine passes xs in
         let untied = subst (IsAscending (λ x y. is_eq (by_name x y) ≡ false)) (sym both) (ascending-filter (λ x y. is_eq (by_name x y) ≡ false) passes (filter mine xs) apart) in
-        let listed = first_rows_are cells table old new own xs held keyed text params rest column names p tests by_name is untied means whole Is (λ x. shape (entry x)) back most rows first in
+        let listed = first_rows_are cells table old new own xs held text params rest column names more extra ends p tests by_name is untied means whole Is (λ x. shape (entry x)) back most rows first in
         let sorted : sort_by by_name (filter p xs) ≡ filter passes (sort_by by_name (filter mine xs)) =
         ap (sort_by by_name) both ∙ sym (filter-sort_by by_name (on_total name_of nat_list_cmp_total) passes (filter mine xs)) in
         let all = sort_by by_name (filter mine xs) in
@@ -118,14 +122,14 @@ module _ {R : Type 0} (cells : R → Row) (table : Table) (old new : State) (own
         ∙ ap (filter (λ e. later e.0)) (sym (entries_sorted_by text_cmp nat_list_cmp_total name_of value_of (filter mine xs) apart))) in
         read_as Is show (λ x. shape (entry x)) back (take most (filter passes all)) rows ys taken read ∙ sym (take-map (λ x. shape (entry x)) most (filter passes all)) ∙ ap (take most) shaped
 
-    pub own_names : (mine : Kept R → Bool) → ((x : Kept R) → list_all (holds (params ∷ stored cells x ∷ [])) rest.filter ≡ mine x) → IsAscending (λ x y. is_eq (by_name x y) ≡ false) (filter mine xs)
+    pub own_names : (mine : Kept R → Bool) → ((x : Kept R) → list_all (holds (params ∷ stored cells x ∷ extra x)) rest.filter ≡ mine x) → IsAscending (λ x y. is_eq (by_name x y) ≡ false) (filter mine xs)
         → (rows : List Row) (ys : List X) → Shown text params old new rows → AllZip Is rows ys → ys ≡ map shape (entries (from_entries {R = text_cmp} (map entry (filter mine xs))))
     own_names mine tests apart rows ys shown read =
-        let sorted = all_rows_are cells table old new own xs held keyed text params rest column names mine tests by_name is apart means whole Is (λ x. shape (entry x)) back rows shown in
+        let sorted = all_rows_are cells table old new own xs held text params rest column names more extra ends mine tests by_name is apart means whole Is (λ x. shape (entry x)) back rows shown in
         read_as Is show (λ x. shape (entry x)) back (sort_by by_name (filter mine xs)) rows ys sorted read
         ∙ sym (map-map shape entry (sort_by by_name (filter mine xs))) ∙ ap (map shape) (sym (entries_sorted_by text_cmp nat_list_cmp_total name_of value_of (filter mine xs) apart))
 
-    pub all_names : ((x : Kept R) → list_all (holds (params ∷ stored cells x ∷ [])) rest.filter ≡ true) → IsAscending (λ x y. is_eq (by_name x y) ≡ false) xs
+    pub all_names : ((x : Kept R) → list_all (holds (params ∷ stored cells x ∷ extra x)) rest.filter ≡ true) → IsAscending (λ x y. is_eq (by_name x y) ≡ false) xs
         → (rows : List Row) (ys : List X) → Shown text params old new rows → AllZip Is rows ys → ys ≡ map shape (entries (from_entries {R = text_cmp} (map entry xs)))
     all_names tests apart rows ys shown read =
         let any = λ (x : Kept R). true in

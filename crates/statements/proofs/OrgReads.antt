@@ -3,6 +3,7 @@ use Rattle.std.specs.List.{AllZip}
 use Rattle.std.proofs.Common.{◌≡◌, ℕ, List, [], ◌∷◌, Option, codes, refl}
 use Rattle.sqlite_value.specs.declared.value.Value.TheVariants.{Text}
 use Rattle.sqlite_value.specs.Order.{Row}
+use Rattle.sqlite_sql.specs.Query.{end}
 use Rattle.sqlite.specs.State.{State, Shown}
 use Rattle.statements.specs.Schema.{org_table}
 use Rattle.statements.specs.Rows.{org_cells}
@@ -30,6 +31,6 @@ module _ (old new : State) (t : Tables) (h : Holds old.now t) where
 
   pub list_orgs_shows : (rows : List Row) (orgs : List Organization) → OrgsApart t → Shown list_orgs_text [] old new rows → AllZip IsOrganization rows orgs → orgs ≡ organizations_in t
   list_orgs_shows rows orgs apart shown read =
-      all_names org_cells org_table old new held.own t.orgs held.rows held.keyed list_orgs_text [] list_orgs_rest 1 list_orgs_names
+      all_names org_cells org_table old new held.own t.orgs held.rows list_orgs_text [] list_orgs_rest 1 list_orgs_names end (λ _. []) (λ terms x. refl)
       IsOrganization (λ x. x.1.name) (λ x. x.1.cap) organization_row (λ x y told. organization_read x.1.name x.1.cap y told)
       (λ x y. by_text x.1.name y.1.name) (list_orgs_means old.now.schema _ _ held.own.place) (λ l. refl) (λ x. refl) (orgs_apart t.orgs apart) rows orgs shown read

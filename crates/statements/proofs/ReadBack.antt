@@ -1,5 +1,6 @@
 -- A row that was read as a value is the row of that value alone.
-use Rattle.std.proofs.Common.{◌≡◌, ℕ, pos, Bool, true, false, not, List, [], ◌∷◌, Option, Some, None, refl, sym, ap, ◌∙◌, int_eq}
+use Rattle.std.proofs.Common.{◌≡◌, ℕ, pos, Bool, true, false, not, List, [], ◌∷◌, Option, Some, None, refl, sym, ap, ◌∙◌, subst, int_eq}
+use Rattle.sqlite_value.specs.declared.value.Value.{Value}
 use Rattle.sqlite_value.specs.declared.value.Value.TheVariants as cell
 use Rattle.sqlite_typed.specs.Columns.{or_null}
 use Rattle.basis.specs.declared.roles.Role.{Role}
@@ -76,12 +77,19 @@ workspace_read w v told = λ i. record {
   next_run = number_read w.next_run v.next_run told.next_run i;
 }
 
-pub named_workspace_read : (name : List ℕ) (w : Workspace) (v : NamedWorkspace)
-    → IsNamedRow (flag w.auto ∷ kind_cell w.holder ∷ lock_id_cell w.holder ∷ lock_text_cell w.holder ∷ run_cell w.holder ∷ or_null cell.Text w.released ∷ number w.next_version ∷ number w.next_run ∷ cell.Text name ∷ []) v
-    → v ≡ record { name = name; it = w }
-named_workspace_read name w v told =
+optional_number_read : (o p : Option ℕ) → IsNumberOrNull (or_null number o) p → p ≡ o
+optional_number_read None None told = refl
+optional_number_read None (Some n) told = absurd (cc)
+optional_number_read (Some n) None told = absurd (cc)
+optional_number_read (Some n) (Some m) told = ap Some (number_read n m told)
+
+pub named_workspace_read : (name : List ℕ) (w : Workspace) (kept : Value) (keep : Option ℕ) → kept ≡ or_null number keep → (v : NamedWorkspace)
+    → IsNamedRow (flag w.auto ∷ kind_cell w.holder ∷ lock_id_cell w.holder ∷ lock_text_cell w.holder ∷ run_cell w.holder ∷ or_null cell.Text w.released ∷ number w.next_version ∷ number w.next_run ∷ cell.Text name ∷ kept ∷ []) v
+    → v ≡ record { name = name; it = w; keep = keep }
+named_workspace_read name w kept keep is v told =
     let it = workspace_read w v.it (record { auto = told.it.auto; holder = told.it.holder; released = told.it.released; next_version = told.it.next_version; next_run = told.it.next_run }) in
-    λ i. record { name = text_read name v.name told.name i; it = it i }
+    let number_kept = optional_number_read keep v.keep (subst (λ c. IsNumberOrNull c v.keep) is told.keep) in
+    λ i. record { name = text_read name v.name told.name i; it = it i; keep = number_kept i }
 
 pub organization_read : (name : List ℕ) (cap : ℕ) (o : Organization) → IsOrganization (cell.Text name ∷ number cap ∷ []) o → o ≡ record { name = name; cap = cap }
 organization_read name cap o told = λ i. record { name = text_read name o.name told.name i; cap = number_read cap o.cap told.cap i }
@@ -123,12 +131,6 @@ run_read r q told = λ i. record {
 
 pub named_role_read : (name : List ℕ) (role : Role) (r : NamedRole) → IsNamedRole (cell.Text name ∷ number (role_code role) ∷ []) r → r ≡ record { name = name; role = role }
 named_role_read name role r told = λ i. record { name = text_read name r.name told.name i; role = role_read role r.role told.role i }
-
-optional_number_read : (o p : Option ℕ) → IsNumberOrNull (or_null number o) p → p ≡ o
-optional_number_read None None told = refl
-optional_number_read None (Some n) told = absurd (cc)
-optional_number_read (Some n) None told = absurd (cc)
-optional_number_read (Some n) (Some m) told = ap Some (number_read n m told)
 
 pub bound_read : (until : Option ℕ) (prefix : List ℕ) (b : Bound) → IsBound (or_null number until ∷ cell.Text prefix ∷ []) b → b ≡ record { until = until; prefix = prefix }
 bound_read until prefix b told = λ i. record { until = optional_number_read until b.until told.until i; prefix = text_read prefix b.prefix told.prefix i }

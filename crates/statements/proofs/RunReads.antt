@@ -47,7 +47,7 @@ module _ (old new : State) (t : Tables) (h : Holds old.now t) where
   pub list_runs_shows : (org ws : List ℕ) (after most : ℕ) (rows : List Row) (runs : List Run) → RunsRise org ws t → FirstRows most list_runs_text (Text org ∷ Text ws ∷ number after ∷ []) old new rows → AllZip IsRunRow rows runs
       → runs ≡ run_rows_after org ws after most t
   list_runs_shows org ws after most rows runs rise first read =
-      numbered_are run_cells run_table old new held.own t.runs held.rows held.keyed list_runs_text (Text org ∷ Text ws ∷ number after ∷ []) list_runs_rest 3 run_names
+      numbered_are run_cells run_table old new held.own t.runs held.rows list_runs_text (Text org ∷ Text ws ∷ number after ∷ []) list_runs_rest 3 run_names
       IsRunRow (λ r. r.number) (λ x. x.1.it) (is_run_of org ws) after (λ x. two_texts_above x.1.org org x.1.ws ws x.1.it.number after) (λ x y told. run_read x.1.it y told)
       (λ x y. by_column x.1.it.number y.1.it.number) (list_runs_means old.now.schema _ _ held.own.place) (λ l. refl) most rows runs rise first read
 

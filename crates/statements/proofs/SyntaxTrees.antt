@@ -1,5 +1,5 @@
 -- The statements as they are written, without the blanks of their texts.
-use Rattle.std.specs.Prelude.{ℕ, Bool, false, List, [], ◌∷◌, map, codes, Option, Some, None}
+use Rattle.std.specs.Prelude.{ℕ, Bool, true, false, List, [], ◌∷◌, map, codes, Option, Some, None}
 use Rattle.sqlite_ast.specs.declared.Expr.{Expr}
 use Rattle.sqlite_ast.specs.declared.Expr.TheVariants.{Column, Parameter, Integer, Text, Null, CallStar, Binary as Two}
 use Rattle.sqlite_ast.specs.declared.Binary.TheVariants.{And, Eq, Lt, Gt, Ge}
@@ -206,13 +206,30 @@ set_cap = update (codes "org") ((codes "cap", Parameter 2) ∷ []) (is_given (co
 abbrev pub list_orgs_core : Core
 list_orgs_core = from_all (shown_columns (codes "name" ∷ codes "cap" ∷ [])) (codes "org")
 
+-- a column of a table
+abbrev pub named_of : List ℕ → List ℕ → Expr
+named_of table column = Column (Some table) column
+
+-- the workspaces with how many versions they keep
+abbrev pub from_ws_with_keeping : List Shown → Expr → Core
+from_ws_with_keeping shown test =
+    let kept = also (Two Eq (named_of (codes "keeping") (codes "org")) (Parameter 1)) (Two Eq (named_of (codes "keeping") (codes "ws")) (named (codes "name"))) in
+    let ws = roll-Source (record { is_left = false; origin = Table (codes "ws"); alias = None; on = None; using = [] }) in
+    let keeping = roll-Source (record { is_left = true; origin = Table (codes "keeping"); alias = None; on = Some kept; using = [] }) in
+    roll-Core (record { distinct = false; shown = shown; from = ws ∷ keeping ∷ []; filter = Some test; group = []; having = None })
+
+abbrev pub list_ws_columns : List Shown
+list_ws_columns = shown_columns (codes "auto" ∷ codes "kind" ∷ codes "lock_id" ∷ codes "lock_text" ∷ codes "run" ∷ codes "released" ∷ codes "next_version" ∷ codes "next_run" ∷ codes "name" ∷ codes "keep" ∷ [])
+
+abbrev pub list_ws_test : Expr
+list_ws_test = also (Two Eq (named_of (codes "ws") (codes "org")) (Parameter 1)) (is_above (codes "name") 2)
+
 abbrev pub list_ws_core : Core
-list_ws_core = from_table (shown_columns (codes "auto" ∷ codes "kind" ∷ codes "lock_id" ∷ codes "lock_text" ∷ codes "run" ∷ codes "released" ∷ codes "next_version" ∷ codes "next_run" ∷ codes "name" ∷ [])) (codes "ws") (also (is_given (codes "org") 1) (is_above (codes "name") 2))
+list_ws_core = from_ws_with_keeping list_ws_columns list_ws_test
 
 abbrev pub list_ws_within_core : Core
 list_ws_within_core =
-    from_table (shown_columns (codes "auto" ∷ codes "kind" ∷ codes "lock_id" ∷ codes "lock_text" ∷ codes "run" ∷ codes "released" ∷ codes "next_version" ∷ codes "next_run" ∷ codes "name" ∷ [])) (codes "ws")
-    (also (also (also (is_given (codes "org") 1) (is_above (codes "name") 2)) (Two Ge (named (codes "name")) (Parameter 3))) (Two Lt (named (codes "name")) (Parameter 4)))
+    from_ws_with_keeping list_ws_columns (also (also list_ws_test (Two Ge (named (codes "name")) (Parameter 3))) (Two Lt (named (codes "name")) (Parameter 4)))
 
 abbrev pub list_versions_core : Core
 list_versions_core = from_table (shown_columns (codes "number" ∷ codes "serial" ∷ codes "lineage" ∷ codes "created" ∷ codes "size" ∷ [])) (codes "version") (also (at_key (codes "org") (codes "ws")) (is_above (codes "number") 3))

@@ -3,6 +3,7 @@ use Rattle.std.specs.List.{AllZip}
 use Rattle.std.proofs.Common.{◌≡◌, ℕ, List, [], ◌∷◌, Option, codes, refl}
 use Rattle.sqlite_value.specs.declared.value.Value.TheVariants.{Text, Blob}
 use Rattle.sqlite_value.specs.Order.{Row}
+use Rattle.sqlite_sql.specs.Query.{end}
 use Rattle.sqlite.specs.State.{State, Shown}
 use Rattle.statements.specs.Schema.{token_table}
 use Rattle.statements.specs.Rows.{token_cells}
@@ -40,6 +41,6 @@ module _ (old new : State) (t : Tables) (h : Holds old.now t) where
 
   pub list_tokens_shows : (org : List ℕ) (rows : List Row) (roles : List NamedRole) → TokensApart t → Shown list_tokens_text (Text org ∷ []) old new rows → AllZip IsNamedRole rows roles → roles ≡ token_rows_of org t
   list_tokens_shows org rows roles apart shown read =
-      own_names token_cells token_table old new held.own t.tokens held.rows held.keyed list_tokens_text (Text org ∷ []) list_tokens_rest 2 token_names
+      own_names token_cells token_table old new held.own t.tokens held.rows list_tokens_text (Text org ∷ []) list_tokens_rest 2 token_names end (λ _. []) (λ terms x. refl)
       IsNamedRole (λ x. x.1.name) (λ x. x.1.it.role) role_row (λ x y told. named_role_read x.1.name x.1.it.role y told)
       (λ x y. by_text x.1.name y.1.name) (list_tokens_means old.now.schema _ _ held.own.place) (λ l. refl) (is_token_of org) (λ x. one_text x.1.org org) (tokens_apart org t.tokens apart) rows roles shown read

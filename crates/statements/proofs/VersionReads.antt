@@ -47,7 +47,7 @@ module _ (old new : State) (t : Tables) (h : Holds old.now t) where
   pub list_versions_shows : (org ws : List ℕ) (after most : ℕ) (rows : List Row) (heads : List VersionHead) → VersionsRise org ws t → FirstRows most list_versions_text (Text org ∷ Text ws ∷ number after ∷ []) old new rows
       → AllZip IsVersionHead rows heads → heads ≡ version_rows_after org ws after most t
   list_versions_shows org ws after most rows heads rise first read =
-      numbered_are version_cells version_table old new held.own t.versions held.rows held.keyed list_versions_text (Text org ∷ Text ws ∷ number after ∷ []) list_versions_rest 3 list_versions_names
+      numbered_are version_cells version_table old new held.own t.versions held.rows list_versions_text (Text org ∷ Text ws ∷ number after ∷ []) list_versions_rest 3 list_versions_names
       IsVersionHead (λ v. v.number) (λ x. version_head_of x.1.it) (is_version_of org ws) after (λ x. two_texts_above x.1.org org x.1.ws ws x.1.it.number after) (λ x y told. version_head_read x.1.it y told)
       (λ x y. by_column x.1.it.number y.1.it.number) (list_versions_means old.now.schema _ _ held.own.place) (λ l. refl) most rows heads rise first read
 

@@ -21,8 +21,7 @@ use Rattle.statements.proofs.Meaning.{Means, means, some_parsed, as_read}
 use Rattle.statements.proofs.Reading.{read_is}
 use Rattle.statements.proofs.Writes.{plain_program}
 use Rattle.statements.proofs.Answered.{point, tally}
-use Rattle.statements.proofs.Listed.{listing}
-use Rattle.statements.proofs.Commands.{is_from, is_below, is_at, update_query, delete_query, point_rest, point_draft, tally_draft, no_page, is_above, listing_draft}
+use Rattle.statements.proofs.Commands.{is_at, update_query, delete_query, point_rest, point_draft, tally_draft, no_page}
 
 abbrev pub find_ws_text : List ℕ
 find_ws_text = codes "SELECT auto, kind, lock_id, lock_text, run, released, next_version, next_run FROM ws WHERE org = ?1 AND name = ?2 ORDER BY rowid"
@@ -146,76 +145,7 @@ count_ws_is_query = (count_ws_select, some_parsed (first count_ws_text), count_w
 abbrev pub count_ws_rest : Query
 count_ws_rest = point_rest (is_at 1 0 ∷ []) [] no_page
 
-abbrev pub list_ws_text : List ℕ
-list_ws_text = codes "SELECT auto, kind, lock_id, lock_text, run, released, next_version, next_run, name FROM ws WHERE org = ?1 AND name > ?2 ORDER BY name"
-
-abbrev pub list_ws_select : ast.Select
-list_ws_select = st.select st.list_ws_core (st.by_column (codes "name")) None
-
-list_ws_reads : first list_ws_text ≡ Ok (as_read (some_parsed (first list_ws_text)) (written.Select list_ws_select))
-unfolding everything
-list_ws_reads = refl
-
-pub list_ws_is_query : IsQuery list_ws_text
-list_ws_is_query = (list_ws_select, some_parsed (first list_ws_text), list_ws_reads)
-
-abbrev pub list_ws_rest : Query
-list_ws_rest = point_rest (is_at 1 0 ∷ is_above 2 1 ∷ []) (col 1 3 ∷ col 1 4 ∷ col 1 5 ∷ col 1 6 ∷ col 1 7 ∷ col 1 8 ∷ col 1 9 ∷ col 1 10 ∷ col 1 2 ∷ []) no_page
-
-abbrev pub list_ws_within_text : List ℕ
-list_ws_within_text = codes "SELECT auto, kind, lock_id, lock_text, run, released, next_version, next_run, name FROM ws WHERE org = ?1 AND name > ?2 AND name >= ?3 AND name < ?4 ORDER BY name"
-
-abbrev pub list_ws_within_select : ast.Select
-list_ws_within_select = st.select st.list_ws_within_core (st.by_column (codes "name")) None
-
-list_ws_within_reads : first list_ws_within_text ≡ Ok (as_read (some_parsed (first list_ws_within_text)) (written.Select list_ws_within_select))
-unfolding everything
-list_ws_within_reads = refl
-
-pub list_ws_within_is_query : IsQuery list_ws_within_text
-list_ws_within_is_query = (list_ws_within_select, some_parsed (first list_ws_within_text), list_ws_within_reads)
-
-abbrev pub list_ws_within_rest : Query
-list_ws_within_rest = point_rest (is_at 1 0 ∷ is_above 2 1 ∷ is_from 2 2 ∷ is_below 2 3 ∷ []) (col 1 3 ∷ col 1 4 ∷ col 1 5 ∷ col 1 6 ∷ col 1 7 ∷ col 1 8 ∷ col 1 9 ∷ col 1 10 ∷ col 1 2 ∷ []) no_page
-
-abbrev pub list_ws_names : List (List ℕ)
-list_ws_names = codes "auto" ∷ codes "kind" ∷ codes "lock_id" ∷ codes "lock_text" ∷ codes "run" ∷ codes "released" ∷ codes "next_version" ∷ codes "next_run" ∷ codes "name" ∷ []
-
 module _ (s : Schema) (at tree : ℕ) (h : StandsAt s (codes "ws") ws_table at tree) where
-  list_ws_named : named s st.list_ws_core (st.by_column (codes "name")) no_page ≡ Ok ((listing_draft list_ws_rest tree 2), list_ws_names, (Some Binary ∷ Some Binary ∷ Some Binary ∷ Some Binary ∷ Some Binary ∷ Some Binary ∷ Some Binary ∷ Some Binary ∷ Some Binary ∷ []))
-  unfolding everything
-  list_ws_named = rw (h.named, h.found, h.found, h.found, h.found) refl
-
-  list_ws_fits : program s [] (listing_draft list_ws_rest tree 2) ≡ Ok (plain_program (listing list_ws_rest tree 2))
-  unfolding everything
-  list_ws_fits = rw (h.low, h.treed) refl
-
-  list_ws_is : (base : ℕ) → command s [] base (written.Select list_ws_select) ≡ Ok (Select (plain_program (listing list_ws_rest tree 2)) list_ws_names)
-  unfolding everything
-  list_ws_is base =
-      read_is s list_ws_select st.list_ws_core (st.by_column (codes "name")) no_page ((listing_draft list_ws_rest tree 2), list_ws_names, (Some Binary ∷ Some Binary ∷ Some Binary ∷ Some Binary ∷ Some Binary ∷ Some Binary ∷ Some Binary ∷ Some Binary ∷ Some Binary ∷ [])) refl refl refl refl refl (λ again. refl) list_ws_named (plain_program (listing list_ws_rest tree 2)) list_ws_fits base
-
-  pub list_ws_means : Means s (Select (plain_program (listing list_ws_rest tree 2)) list_ws_names) list_ws_text
-  unfolding timed returning
-  list_ws_means = means s (written.Select list_ws_select) _ refl (λ _. refl) list_ws_is list_ws_text (some_parsed (first list_ws_text)) list_ws_reads
-
-  list_ws_within_named : named s st.list_ws_within_core (st.by_column (codes "name")) no_page ≡ Ok ((listing_draft list_ws_within_rest tree 2), list_ws_names, (Some Binary ∷ Some Binary ∷ Some Binary ∷ Some Binary ∷ Some Binary ∷ Some Binary ∷ Some Binary ∷ Some Binary ∷ Some Binary ∷ []))
-  unfolding everything
-  list_ws_within_named = rw (h.named, h.found, h.found, h.found, h.found) refl
-
-  list_ws_within_fits : program s [] (listing_draft list_ws_within_rest tree 2) ≡ Ok (plain_program (listing list_ws_within_rest tree 2))
-  unfolding everything
-  list_ws_within_fits = rw (h.low, h.treed) refl
-
-  list_ws_within_is : (base : ℕ) → command s [] base (written.Select list_ws_within_select) ≡ Ok (Select (plain_program (listing list_ws_within_rest tree 2)) list_ws_names)
-  unfolding everything
-  list_ws_within_is base =
-      read_is s list_ws_within_select st.list_ws_within_core (st.by_column (codes "name")) no_page ((listing_draft list_ws_within_rest tree 2), list_ws_names, (Some Binary ∷ Some Binary ∷ Some Binary ∷ Some Binary ∷ Some Binary ∷ Some Binary ∷ Some Binary ∷ Some Binary ∷ Some Binary ∷ [])) refl refl refl refl refl (λ again. refl) list_ws_within_named (plain_program (listing list_ws_within_rest tree 2)) list_ws_within_fits base
-
-  pub list_ws_within_means : Means s (Select (plain_program (listing list_ws_within_rest tree 2)) list_ws_names) list_ws_within_text
-  unfolding timed returning
-  list_ws_within_means = means s (written.Select list_ws_within_select) _ refl (λ _. refl) list_ws_within_is list_ws_within_text (some_parsed (first list_ws_within_text)) list_ws_within_reads
-
   find_ws_named : named s st.find_ws_core (st.by_rowid false) no_page ≡ Ok ((point_draft find_ws_rest tree false), (codes "auto" ∷ codes "kind" ∷ codes "lock_id" ∷ codes "lock_text" ∷ codes "run" ∷ codes "released" ∷ codes "next_version" ∷ codes "next_run" ∷ []), (Some Binary ∷ Some Binary ∷ Some Binary ∷ Some Binary ∷ Some Binary ∷ Some Binary ∷ Some Binary ∷ Some Binary ∷ []))
   unfolding everything
   find_ws_named = rw (h.named, h.found, h.found, h.found, h.small) refl

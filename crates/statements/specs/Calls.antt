@@ -73,6 +73,10 @@ abbrev pub IsTextOrNull : Value → Option (List ℕ) → Type 0
 IsTextOrNull v None = v ≡ cell.Null
 IsTextOrNull v (Some t) = v ≡ cell.Text t
 
+abbrev pub IsNumberOrNull : Value → Option ℕ → Type 0
+IsNumberOrNull v None = v ≡ cell.Null
+IsNumberOrNull v (Some n) = v ≡ number n
+
 -- the columns are kind, lock_id, lock_text and run
 abbrev pub AreHolderCells : Value → Value → Value → Value → Holder → Type 0
 AreHolderCells kind id text run Nobody = kind ≡ number 0
@@ -89,6 +93,7 @@ pub record IsWorkspace (row : Row) (w : Workspace) : Type 0 where
 pub record IsNamedRow (row : Row) (w : NamedWorkspace) : Type 0 where
   pub it : IsWorkspace row w.it
   pub name : column row 8 ≡ cell.Text w.name
+  pub keep : IsNumberOrNull (column row 9) w.keep
 
 pub record IsOrganization (row : Row) (o : Organization) : Type 0 where
   pub name : column row 0 ≡ cell.Text o.name
@@ -126,10 +131,6 @@ pub record IsRunRow (row : Row) (r : Run) : Type 0 where
 pub record IsNamedRole (row : Row) (r : NamedRole) : Type 0 where
   pub name : column row 0 ≡ cell.Text r.name
   pub role : column row 1 ≡ number (role_code r.role)
-
-abbrev pub IsNumberOrNull : Value → Option ℕ → Type 0
-IsNumberOrNull v None = v ≡ cell.Null
-IsNumberOrNull v (Some n) = v ≡ number n
 
 pub record IsBound (row : Row) (b : Bound) : Type 0 where
   pub until : IsNumberOrNull (column row 0) b.until

@@ -17,7 +17,8 @@ use Rattle.statements.specs.declared.rows.Run.{Run}
 use Rattle.statements.specs.declared.rows.Organization.{Organization}
 use Rattle.statements.specs.Rows.{Version, Kept, TokenRow}
 use Rattle.statements.specs.Tables.{Tables}
-use Rattle.statements.specs.Changes.{is_org, is_token, is_ws_of, is_ws, is_version_of, is_run_of}
+use Rattle.statements.specs.Finds.{keep_of}
+use Rattle.statements.specs.Changes.{is_org, is_token, is_ws_of, is_ws, is_keeping, is_version_of, is_run_of}
 
 -- the order of names: that of their bytes
 abbrev pub text_cmp : List ℕ → List ℕ → Ordering
@@ -68,12 +69,12 @@ TokensApart t = AreApart (λ a b. is_token a.1.org a.1.name b) t.tokens
 abbrev pub workspaces_by_name : List ℕ → Tables → FinMap text_cmp Workspace
 workspaces_by_name org t = from_entries (map (λ x. (x.1.name, x.1.it)) (filter (is_ws_of org) t.wss))
 
-abbrev pub named_row : List ℕ × Workspace → NamedWorkspace
-named_row e = record { name = e.0; it = e.1 }
+abbrev pub named_row : List ℕ → Tables → List ℕ × Workspace → NamedWorkspace
+named_row org t e = record { name = e.0; it = e.1; keep = keep_of org e.0 t }
 
--- those of an organization that come after a name and begin with a prefix, in the order of their names, no more than so many
+-- those of an organization that come after a name and begin with a prefix, each with how many versions it keeps, in the order of their names and no more than so many
 abbrev pub workspace_rows_after : List ℕ → List ℕ → List ℕ → ℕ → Tables → List NamedWorkspace
-workspace_rows_after org after prefix most t = take most (map named_row (filter (λ e. is_behind after e.0 && admits prefix e.0) (entries (workspaces_by_name org t))))
+workspace_rows_after org after prefix most t = take most (map (named_row org t) (filter (λ e. is_behind after e.0 && admits prefix e.0) (entries (workspaces_by_name org t))))
 
 -- the greater of a name and a prefix
 abbrev pub later_of : List ℕ → List ℕ → List ℕ
@@ -85,8 +86,9 @@ end_of [] = []
 end_of (b ∷ []) = (b + 1) ∷ []
 end_of (b ∷ c ∷ bytes) = b ∷ end_of (c ∷ bytes)
 
+-- a workspace has one row, and so has how many versions it keeps
 abbrev pub WorkspacesApart : Tables → Type 0
-WorkspacesApart t = AreApart (λ a b. is_ws a.1.org a.1.name b) t.wss
+WorkspacesApart t = AreApart (λ a b. is_ws a.1.org a.1.name b) t.wss × AreApart (λ a b. is_keeping a.1.org a.1.ws b) t.keepings
 
 -- ---- versions
 

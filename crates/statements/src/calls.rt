@@ -145,6 +145,18 @@ fn optional_number(row: &Row, at: usize) -> Result<Option<u64>, Error>
     row.get::<Option<u64>>(at)
 }
 
+fn optional_keep(row: &Row, at: usize) -> Result<Option<KeepCount>, Error>
+    ensures { IfOk result (IsNumberOrNull (column row.now at)) }
+{
+    let Some(keep) = optional_number(row, at)? else {
+        return Ok(None);
+    };
+    match KeepCount::new(keep) {
+        Some(keep) => Ok(Some(keep)),
+        None => Err(Error::IntegralValueOutOfRange(at)),
+    }
+}
+
 /// The role that a number in a row stands for.
 fn role_in(row: &Row, at: usize) -> Result<Role, Error>
     ensures { IfOk result (λ role. column row.now at ≡ number (role_code role)) }
@@ -234,6 +246,7 @@ impl Read for NamedWorkspace {
         Ok(NamedWorkspace {
             it: Workspace::of_row(row)?,
             name: Text::new(row.get(8)?),
+            keep: optional_keep(row, 9)?,
         })
     }
 }

@@ -1,5 +1,5 @@
 //! What rows hold, as values.
-use basis::{Bytes, Role, RunAction, RunStatus, Text};
+use basis::{Bytes, KeepCount, Role, RunAction, RunStatus, Text};
 
 /// Who holds a workspace: nobody, a lock with the text that took it, or the run of this number.
 #[derive(Drop)]
@@ -20,11 +20,12 @@ pub struct Workspace {
     pub next_run: u64,
 }
 
-/// A workspace with its name.
+/// A workspace with its name, and how many versions it keeps, if it is set to keep a number.
 #[derive(Drop)]
 pub struct NamedWorkspace {
     pub name: Text,
     pub it: Workspace,
+    pub keep: Option<KeepCount>,
 }
 
 /// A token without its digest.

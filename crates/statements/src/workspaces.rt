@@ -32,7 +32,7 @@ pub fn find<S: Alter>(
 }
 
 const LIST_WS: &str =
-    "SELECT auto, kind, lock_id, lock_text, run, released, next_version, next_run, name FROM ws WHERE org = ?1 AND name > ?2 ORDER BY name";
+    "SELECT auto, kind, lock_id, lock_text, run, released, next_version, next_run, name, keep FROM ws LEFT JOIN keeping ON keeping.org = ?1 AND keeping.ws = name WHERE ws.org = ?1 AND name > ?2 ORDER BY name";
 
 fn list_all<S: Alter>(
     alloc: Global,
@@ -49,7 +49,7 @@ fn list_all<S: Alter>(
 
 // Of the two lower bounds the last is where the scan begins.
 const LIST_WS_WITHIN: &str =
-    "SELECT auto, kind, lock_id, lock_text, run, released, next_version, next_run, name FROM ws WHERE org = ?1 AND name > ?2 AND name >= ?3 AND name < ?4 ORDER BY name";
+    "SELECT auto, kind, lock_id, lock_text, run, released, next_version, next_run, name, keep FROM ws LEFT JOIN keeping ON keeping.org = ?1 AND keeping.ws = name WHERE ws.org = ?1 AND name > ?2 AND name >= ?3 AND name < ?4 ORDER BY name";
 
 /// Where a scan for names that begin with a prefix and come after a name begins: at the greater of the two.
 fn beginning<'v>(after: &'v str, prefix: &'v str) -> &'v str
@@ -104,8 +104,9 @@ fn list_within<'v, S: Alter>(
     read_all(alloc, rows)
 }
 
-/// The workspaces of an organization that come after a name and begin with a prefix, in the order of their names and
-/// no more than `most`. All names come after the empty one. No other name is looked at.
+/// The workspaces of an organization that come after a name and begin with a prefix, each with how many versions it
+/// keeps, in the order of their names and no more than `most`. All names come after the empty one. No other name is
+/// looked at.
 pub fn list<'v, S: Alter>(
     alloc: Global,
     conn: &mut Connection<S>,

@@ -3,23 +3,20 @@
 use crate::files::run_in_copy;
 use crate::programs::bytes_of;
 use std::alloc::Global;
-use telling::devices::ALL;
 use telling::failures::Failure;
-use telling::keyed::Keyed;
 use telling::modes::{Counts, Modes};
 use telling::plays::Play;
-use telling::taking::Way;
-use trials::cuts::{Image, opened};
+use telling::recovering::Work;
+use trials::cuts::{Image, over_whole};
 use trials::stops;
 use trials::stops::run_earlier_stops;
-use trials::ways::over_tables;
 
 /// The name of the way in memory.
 const WAY: &str = "the file in memory";
 
 fn run_in_image(alloc: Global, play: &Play, image: &Image) -> Result<(), Failure> {
-    let keep = opened(alloc, 0, image)?;
-    over_tables(alloc, keep, play, Keyed::Sha, Way::Exchange(ALL))
+    over_whole(alloc, 0, image, play, Work::Tell)?;
+    Ok(())
 }
 
 fn run_over(rt: &HostRuntime, play: &Play, image: &Image) -> Result<(), Failure> {

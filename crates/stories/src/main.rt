@@ -3,6 +3,7 @@
 
 mod begun;
 mod checks;
+mod commands;
 mod files;
 mod memories;
 mod programs;

@@ -1,6 +1,7 @@
 //! Steps of the program: its words, its streams, and files beside it.
 use basis::numbers::whole_number;
-use sqlite::{Connection, Error};
+use sqlite::{Connection, FileStore};
+use sqlite_disk::Disk;
 use std::alloc::{AllocError, Global};
 use std::fs;
 use std::fs::Permissions;
@@ -76,14 +77,17 @@ pub fn forget(rt: &HostRuntime, path: &str) -> Result<(), AllocError> {
     Ok(())
 }
 
-fn make_table(rt: &HostRuntime, path: &str, sql: &str) -> Result<(), Error> {
-    let mut conn = Connection::open(rt, path)?;
-    let made = conn.execute_batch(sql);
-    let closed = conn.close();
-    made?;
-    match closed {
-        Ok(()) => Ok(()),
-        Err(_) => Err(Error::InvalidQuery),
+// Carries SQL statements out, and closes the database: whether both went.
+fn is_made<D: Disk + Drop>(conn: Connection<FileStore<D>>, sql: &str) -> bool {
+    let mut conn = conn;
+    let is_done = conn.execute_batch(sql).is_ok();
+    conn.close().is_ok() && is_done
+}
+
+fn is_table_made(rt: &HostRuntime, path: &str, sql: &str) -> bool {
+    match Connection::open(rt, path) {
+        Ok(conn) => is_made(conn, sql),
+        Err(_) => false,
     }
 }
 
@@ -250,7 +254,7 @@ impl Files {
         let Some((path, sql)) = words.split_once(' ') else {
             return Err(Failure::from(head.unread("a table is a path and SQL")));
         };
-        if make_table(rt, path, sql).is_err() {
+        if !is_table_made(rt, path, sql) {
             return Err(Failure::refused(head.line, "the table isn't made"));
         }
         self.last = bytes_of(rt, path)?;

@@ -1,6 +1,7 @@
 //! A story run by its kind: of a store, of the program, of values, or of checks.
 use crate::begun::run_begun;
 use crate::checks::{is_check, run_check};
+use crate::commands::FrameWords;
 use crate::files::run_in_file;
 use crate::memories::{Memory, Place, WAY, place_of};
 use crate::programs::{Files, is_of_program};
@@ -12,11 +13,9 @@ use telling::modes::{Counts, Modes};
 use telling::plays::{Play, play_of};
 use telling::refusals;
 use telling::refusals::run_refused;
-use trials::breaking::run_broken;
+use trials::stops;
 use trials::stops::run_stops;
-use trials::units::run_by_units;
-use trials::ways::{run_in_memory, run_large_in_memory};
-use trials::{breaking, stops};
+use trials::ways::{run_beside, run_in_breaks, run_in_memory, run_large_in_memory};
 
 // The earlier stories and this one, in turn.
 fn run_store(
@@ -25,7 +24,7 @@ fn run_store(
     story: &Story<'_>,
     counts: &mut Counts,
 ) -> Result<(), Failure> {
-    let play = play_of(rt.alloc(), book, story)?;
+    let play = play_of(rt.alloc(), &FrameWords, book, story)?;
     match story.begins {
         Some(path) => run_begun(rt, path, &play, story.modes, counts),
         None => run_made(rt, &play, story.modes, counts),
@@ -45,8 +44,9 @@ fn run_made(
     }
     run_in_memory(rt.alloc(), play)?;
     run_in_file(rt, play)?;
-    run_by_units(rt.alloc(), play)?;
+    run_beside(rt.alloc(), play)?;
     run_in_breaks(rt.alloc(), play, modes, counts)?;
+    run_over_refusals(rt.alloc(), play, modes, counts)?;
     run_in_stops(rt, play, modes, counts)
 }
 
@@ -66,22 +66,20 @@ fn run_in_stops(
     }
 }
 
-// The story's own requests over links that break, and over a store that refuses changes.
-fn run_in_breaks(
+// The story's own requests over a store that refuses changes.
+fn run_over_refusals(
     alloc: Global,
     play: &Play,
     modes: Modes,
     counts: &mut Counts,
 ) -> Result<(), Failure> {
-    if let Err(failure) = run_broken(alloc, play, modes, counts) {
-        return Err(failure.on(breaking::WAY));
+    if !modes.refused {
+        return Ok(());
     }
-    if modes.refused {
-        if let Err(failure) = run_refused(alloc, play, counts) {
-            return Err(failure.on(refusals::WAY));
-        }
+    match run_refused(alloc, play, counts) {
+        Ok(()) => Ok(()),
+        Err(failure) => Err(failure.on(refusals::WAY)),
     }
-    Ok(())
 }
 
 fn take_all(rt: &HostRuntime, files: &mut Files, plots: &[Plot<'_>]) -> Result<(), Failure> {

@@ -3,14 +3,17 @@ ghost use Rattle.std.specs.Prelude.{◌≡◌, true, ⊤, is_some, IfOk};
 ghost use Rattle.sqlite_wal.specs.Files.{image_at};
 ghost use Rattle.system.specs.Files.{OpensOn, IsClosedOn};
 
-use basis::Down;
+use crate::replays::replayed;
+use basis::{Bytes, Down};
 use machine::Keep;
 use pages::ShaKey;
 use program::outside::Files;
+use serve::Step;
 use sqlite::Connection;
 use sqlite_disk::{Disk, Start, Unknown};
 use sqlite_std_file::FileFrom;
 use sqlite_store::FileStore;
+use std::alloc::Global;
 use std::fs::OpenOptions;
 use std::io::ErrorKind;
 use std::os::unix::fs::{MetadataExt, OpenOptionsExt};
@@ -150,5 +153,9 @@ impl<S: Start> Files<FileKeep<S>> for DiskFiles<'_, S> {
             }
             Err(down) => Err(down),
         }
+    }
+
+    fn replay(&self, alloc: Global, steps: &[Step]) -> Result<Vec<Bytes>, Down> {
+        replayed(alloc, steps)
     }
 }

@@ -3,6 +3,7 @@
 
 mod clock;
 mod files;
+mod replays;
 mod running;
 mod sockets;
 mod streams;

@@ -2,7 +2,7 @@
 ghost use Rattle.std.specs.Prelude.{◌≡◌};
 ghost use Rattle.program.specs.Endings.{status_of};
 ghost use Rattle.program.specs.Outcomes.{stream, Prints};
-ghost use Rattle.program.specs.Words.{words_bytes};
+ghost use Rattle.command_line.specs.Words.{words_bytes};
 ghost use Rattle.program.specs.declared.endings.Ending.{Ending};
 
 use crate::clock::SystemClock;

@@ -1,32 +1,32 @@
 -- The count of workspaces stays within the greatest limit.
-use Rattle.std.proofs.Common.{◌≡◌, ℕ, ◌+◌, ◌-◌, ◌<◌, ◌≤◌, nat_lt, Bool, true, false, cond, List, is_some, Option, Some, None, refl, sym, ap, subst, ◌∙◌, arith}
+use Rattle.std.proofs.Common.{◌≡◌, ◌⊎◌, inl, inr, ℕ, ◌+◌, ◌-◌, ◌<◌, ◌≤◌, nat_lt, Bool, true, false, cond, List, is_some, Option, Some, None, refl, sym, ap, subst, ◌∙◌, arith}
 use Rattle.std.specs.FinMap.{FinMap, get, len, len-insert, len-remove, len-entries}
 use Rattle.std.proofs.lemmas.Bool.{ltb-true}
+use Rattle.basis.specs.declared.rows.SettingsAsk.{SettingsAsk}
 use Rattle.machine.specs.Order.{name_cmp}
 use Rattle.machine.specs.Records.{standing, seen_by, seen_in, count_of, with_workspace, placed}
 use Rattle.machine.specs.Changes.{changed_by, IsDue}
-use Rattle.machine.specs.Rules.{rules, rules_missing}
+use Rattle.machine.specs.Rules.{Ruling, rules, rules_missing}
 use Rattle.machine.specs.declared.acts.Act.{Act}
-use Rattle.machine.specs.declared.acts.Act.TheVariants.{Look, PutWorkspace, DeleteWorkspace, UpdateState, PurgeState, Lock as LockAct, Unlock, ForceUnlock, MakeRun, ReportRun}
+use Rattle.machine.specs.declared.acts.Act.TheVariants.{PutWorkspace}
 use Rattle.machine.specs.declared.acts.Change.{Change}
 use Rattle.machine.specs.declared.records.Workspace.{Workspace}
 use Rattle.machine.specs.declared.records.Organization.{Organization}
 use Rattle.machine.proofs.KeepLemmas.{standing_is}
 use Rattle.machine.proofs.MapLemmas.{names_total}
+use Rattle.machine.proofs.Rulings.{IsPut, Misses, put_or_missed}
 
 -- a workspace is made where there is room
 made_in_room : (act : Act) (room : Bool) (w : Workspace) → Some w ≡ (rules_missing act room).left → room ≡ true
-made_in_room (PutWorkspace settings) true w e = refl
-made_in_room (PutWorkspace settings) false w e = absurd (let none : ⊥ = cc in none)
-made_in_room (Look what) room w e = absurd (let none : ⊥ = cc in none)
-made_in_room DeleteWorkspace room w e = absurd (let none : ⊥ = cc in none)
-made_in_room (UpdateState head text id) room w e = absurd (let none : ⊥ = cc in none)
-made_in_room (PurgeState id) room w e = absurd (let none : ⊥ = cc in none)
-made_in_room (LockAct id text) room w e = absurd (let none : ⊥ = cc in none)
-made_in_room (Unlock id) room w e = absurd (let none : ⊥ = cc in none)
-made_in_room ForceUnlock room w e = absurd (let none : ⊥ = cc in none)
-made_in_room (MakeRun ask) room w e = absurd (let none : ⊥ = cc in none)
-made_in_room (ReportRun n action) room w e = absurd (let none : ⊥ = cc in none)
+made_in_room act room w e = by_act (put_or_missed act)
+  where
+    made : (room : Bool) (ask : SettingsAsk) → Some w ≡ (rules_missing (PutWorkspace ask) room).left → room ≡ true
+    made true ask e = refl
+    made false ask e = absurd (let none : ⊥ = cc in none)
+
+    by_act : IsPut act ⊎ Misses act → room ≡ true
+    by_act (inl put) = made room put.0 (subst (λ (a : Act). Some w ≡ (rules_missing a room).left) put.1 e)
+    by_act (inr misses) = absurd (let none : ⊥ = cc (e ∙ ap (λ (r : Ruling). r.left) (misses room).0) in none)
 
 len_with : (m : FinMap name_cmp Workspace) (name : List ℕ) (w : Option Workspace) (limit : ℕ) → len m ≤ limit → (is_some (get m name) ≡ false → is_some w ≡ true → len m < limit) → len (with_workspace m name w) ≤ limit
 len_with m name None limit within room = subst (λ (n : ℕ). n ≤ limit) (sym (len-remove names_total m name)) (fewer (is_some (get m name)))

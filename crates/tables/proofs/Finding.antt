@@ -40,7 +40,7 @@ use Rattle.statements.specs.Changes.{is_org, is_version_of, is_version, is_run_o
 use Rattle.statements.specs.Finds.{last_in, counted, head_of, newest_of, size_of, number_back, first_waiting_of, status_at_number, workspace_of, workspaces_of, cap_of}
 use Rattle.statements.specs.Finds as finds
 use Rattle.statements.proofs.Found.{found_passes, found_holds}
-use Rattle.tables.specs.Records.{version_at, run_of_cells, settings_of_cells, holder_of_cells, keep_at, versions_at, runs_at, workspace_at, workspace_by, workspaces_at, organization_at, record_of}
+use Rattle.tables.specs.Records.{version_at, run_of_cells, settings_of_cells, holder_of_cells, versions_at, runs_at, workspace_at, workspace_by, workspaces_at, organization_at, record_of}
 use Rattle.tables.specs.Sound.{HasText, IsSound}
 use Rattle.texts.specs.Texts.{pages_for, text_of, are_pieces, IsWhole}
 use Rattle.texts.proofs.PieceLaws.{whole_size, same_is}
@@ -49,7 +49,7 @@ use Rattle.tables.proofs.Names.{same_name, apart_name, pair_first, pair_second}
 use Rattle.tables.proofs.Parts.{none_mapped}
 use Rattle.tables.proofs.Sets.{entry_found, got_workspace, workspace_there, one_of}
 use Rattle.tables.proofs.Lawful.{limit_there}
-use Rattle.tables.specs.Inner.Units.{holder_status_in, text_in, has_text, newest_by, newest_in, outgoing_in, has_version_in, keyed_cells_in, asked_run_in, unit_at, unit_in}
+use Rattle.tables.specs.Inner.Units.{holder_status_in, text_in, has_text, newest_by, newest_in, keep_in, outgoing_in, has_version_in, keyed_cells_in, asked_run_in, unit_at, unit_in}
 
 -- ---- lists
 
@@ -357,19 +357,19 @@ module _ (t : Tables) (sound : IsSound t) (org : List ℕ) where
   unit_found o ws act e = by_row (workspace_of org ws t) refl ∙ ap (unit_by o act) (sym (workspace_there t org ws o e))
     where
       by_row : (r : Option WorkspaceCells) → workspace_of org ws t ≡ r → unit_at (needs act) org ws t r ≡ unit_by o act (option_map (workspace_at t org ws) r)
-      by_row None f = λ i. Absent (cond (needs act).makes (count_found o e i) 0) (unwrap_or (limit_there t org o e i) 0)
+      by_row None f = λ i. Absent (cond (needs act).makes (count_found o e i) 0) (cond (needs act).makes (unwrap_or (limit_there t org o e i) 0) 0)
       by_row (Some w) f =
           let stands : workspace_by t org ws ≡ Some (workspace_at t org ws w) = ap (option_map (workspace_at t org ws)) f in
           let lawful = (sound.workspaces org ws _ stands).lawful in
           λ i. Present (record {
-            settings = settings_of_cells (keep_at t org ws) w;
+            settings = settings_of_cells (keep_in (needs act).keep_versions org ws t) w;
             holder = holder_of_cells w.holder;
             holder_status = if_needed (needs act).holder_status (holder_status_found t org ws w.holder i);
             released = w.released;
             next_version = w.next_version;
             next_run = w.next_run;
             newest = if_needed (needs act).newest (newest_unit_found t org ws (sound_texts t sound) (needs act).text i);
-            outgoing = outgoing_found t org ws (needs act).outgoing (keep_at t org ws) i;
+            outgoing = outgoing_found t org ws (needs act).outgoing (keep_in (needs act).keep_versions org ws t) i;
             first_waiting = if_needed (needs act).waiting (first_waiting_found t org ws i);
             has_version = has_version_found t org ws w.next_version lawful.versions.rise (needs act).version i;
             asked_run = asked_run_found t org ws (needs act).run (needs act).key i;

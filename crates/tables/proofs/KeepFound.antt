@@ -1,7 +1,7 @@
 -- What is found by more than one query.
 use Rattle.std.proofs.Common.{◌≡◌, false, List, ℕ, Option, Some, None, is_none, option_map, Result, Ok, Err, IfOk, sym, ap, ◌∙◌, subst}
 use Rattle.sqlite.specs.Effect.{Database}
-use Rattle.sqlite.specs.State.{State, IsUnchanged}
+use Rattle.sqlite.specs.State.{State, IsUnchanged, Survives}
 use Rattle.machine.specs.Needs.{Needed}
 use Rattle.machine.specs.declared.acts.Unit.{Unit}
 use Rattle.statements.specs.declared.rows.Workspace.{Workspace as WorkspaceCells}
@@ -9,11 +9,13 @@ use Rattle.machine.specs.declared.keeps.AdminAnswer.TheVariants.{Tokens}
 use Rattle.machine.specs.declared.keeps.TokenRow.{TokenRow}
 use Rattle.statements.specs.Finds.{cap_of, workspace_of}
 use Rattle.statements.specs.Listings.{TokensApart}
+use Rattle.statements.specs.Steps.{ReadsBy}
 use Rattle.statements.specs.Tables.{Tables, Holds}
 use Rattle.tables.specs.Inner.Units.{unit_at, unit_in}
 use Rattle.tables.specs.Inner.Looks.{SeesBy, Sees, absent_in, present_in}
 use Rattle.tables.specs.Inner.Lists.{SeesWhere, tokens_listed_in, tokens_told_by, tokens_told_in}
 use Rattle.tables.proofs.KeepManaged.{unchanged_stays, stays_then}
+use Rattle.tables.proofs.KeepMoves.{clean_before}
 
 -- a look at rows that obey a law, behind a query
 pub seen_behind : {X E : Type 0} (law : Tables → Type 0) (read seen : Tables → X) (a b d : State) (result : Result X E) → ((t : Tables) → Holds a.now t → law t → seen t ≡ read t)
@@ -113,6 +115,28 @@ module _ {P Q X : Type 0} (E F G : Type 0) (p : Tables → P) (q : P → Tables 
           (stays_then a b c first.1.0 second.1.0, tt),
         );
   }
+
+-- a query is a look
+pub seen_query : {X : Type 0} (E : Type 0) (q : Tables → X) (a b : State) (x : X) → (a.in_transaction ≡ false → b.in_transaction ≡ false) → Survives a b (λ _. ⊥)
+    → ReadsBy {E = E} q a b (Ok x) → Sees {E = E} q a b (Ok x)
+seen_query E q a b x mode survives read = record {
+  mode = mode;
+  so_far = clean_before a b _ survives;
+  sees = λ clean. let found = read clean in (λ _ t held. found.0 t held, (unchanged_stays a b found.1.0, tt));
+}
+
+-- what a look found, as it is shown
+pub seen_then : {Q X F : Type 0} (E : Type 0) (q : Tables → Q) (f : Q → X) (x : Q) (a b : State) (result : Result X F) → Sees {E = E} q a b (Ok x) → IfOk result (λ y. y ≡ f x) → Sees (λ t. f (q t)) a b result
+seen_then E q f x a b (Ok y) seen told = record {
+  mode = seen.mode;
+  so_far = seen.so_far;
+  sees = λ clean. let s = seen.sees clean in (λ open_is t held. told ∙ ap f (s.0 open_is t held), (s.1.0, tt));
+}
+seen_then E q f x a b (Err e) seen told = record {
+  mode = seen.mode;
+  so_far = seen.so_far;
+  sees = λ clean. let s = seen.sees clean in (tt, (tt, record { was_open = s.1.0.was_open; committed = s.1.0.committed }));
+}
 
 -- rows that a query read, as they are shown
 pub seen_shown : {A X E : Type 0} (law : Tables → Type 0) (q : Tables → A) (f : A → X) (x : A) (a b : State) (result : Result X E) → ((t : Tables) → Holds a.now t → law t → x ≡ q t) → IsUnchanged a b → IfOk result (λ y. y ≡ f x)

@@ -94,7 +94,7 @@ module _ (db : Database) (a : State) (s : IsSoundKeep db a) where
 
   pub workspaces_shown : (org : List ℕ) (after : Option (List ℕ)) (prefix : List ℕ) (list : Listing WsRow)
       → IsTrue a.is_open × ((t : Tables) → Holds a.committed t → WorkspacesApart t → list ≡ workspaces_listed_in (unwrap_or after []) prefix org t) → list ≡ showing.workspaces_after after prefix (records_of db org)
-  workspaces_shown org after prefix list told = told.1 now (held told.0) s.store.sound.wss_apart ∙ workspaces_told now org s.store.sound after prefix
+  workspaces_shown org after prefix list told = told.1 now (held told.0) (s.store.sound.wss_apart, s.store.sound.keepings_apart) ∙ workspaces_told now org s.store.sound after prefix
 
   pub tokens_shown : (org : List ℕ) (answer : AdminAnswer) → IsTrue a.is_open × ((t : Tables) → Holds a.committed t → TokensApart t → answer ≡ tokens_told_in org t) → answer ≡ tokens.tokens_told (records_of db org)
   tokens_shown org answer told = told.1 now (held told.0) s.store.sound.tokens_apart ∙ tokens_told now org

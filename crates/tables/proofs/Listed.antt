@@ -131,7 +131,7 @@ module _ (t : Tables) (org : List ℕ) where
   by_name = entries (workspaces_by_name org t)
 
   -- a row as it is shown is the workspace as it is shown
-  row_shown : (e : List ℕ × WorkspaceCells) → ws_row_in org t (named_at e) ≡ showing.row_of e.0 (showing.shown_of (workspace_at t org e.0 e.1))
+  row_shown : (e : List ℕ × WorkspaceCells) → ws_row_in org t (named_at org t e) ≡ showing.row_of e.0 (showing.shown_of (workspace_at t org e.0 e.1))
   row_shown e =
       ap (λ (version : Option ℕ). record { settings = settings_of_cells (keep_at t org e.0) e.1; holder = showing.holder_id (holder_of_cells e.1.holder); name = e.0; version = version })
       (newest_number_found t org e.0)
@@ -163,17 +163,17 @@ module _ (t : Tables) (org : List ℕ) where
 
     workspaces_rows : (after : Option (List ℕ)) (prefix : List ℕ) → workspaces_listed_in (unwrap_or after []) prefix org t ≡ showing.workspaces_listed after prefix (entries (workspaces_at t org))
     workspaces_rows after prefix =
-        listed_all (ws_row_in org t) (map named_at (filter (λ e. is_behind (unwrap_or after []) e.0 && admits prefix e.0) (entries (workspaces_by_name org t))))
+        listed_all (ws_row_in org t) (map (named_at org t) (filter (λ e. is_behind (unwrap_or after []) e.0 && admits prefix e.0) (entries (workspaces_by_name org t))))
         ∙ ap listing_of (mapped (filter (λ e. is_behind (unwrap_or after []) e.0 && admits prefix e.0) (entries (workspaces_by_name org t)))
-        ∙ ap (map (λ (e : List ℕ × WorkspaceCells). ws_row_in org t (named_at e))) (ap (filter (λ (e : List ℕ × WorkspaceCells). is_behind (unwrap_or after []) e.0 && admits prefix e.0)) (sym (itself (entries (workspaces_by_name org t)))))
-        ∙ shown_rows (λ (e : List ℕ × WorkspaceCells). e) (λ (e : List ℕ × WorkspaceCells). ws_row_in org t (named_at e)) (λ (e : List ℕ × WorkspaceCells). (e.0, workspace_at t org e.0 e.1))
+        ∙ ap (map (λ (e : List ℕ × WorkspaceCells). ws_row_in org t (named_at org t e))) (ap (filter (λ (e : List ℕ × WorkspaceCells). is_behind (unwrap_or after []) e.0 && admits prefix e.0)) (sym (itself (entries (workspaces_by_name org t)))))
+        ∙ shown_rows (λ (e : List ℕ × WorkspaceCells). e) (λ (e : List ℕ × WorkspaceCells). ws_row_in org t (named_at org t e)) (λ (e : List ℕ × WorkspaceCells). (e.0, workspace_at t org e.0 e.1))
         (λ (e : List ℕ × Workspace). showing.row_of e.0 (showing.shown_of e.1)) (λ (e : List ℕ × WorkspaceCells). is_behind (unwrap_or after []) e.0 && admits prefix e.0) (λ (e : List ℕ × Workspace). showing.is_listed after prefix e.0)
         (entries (workspaces_by_name org t)) (all_weaker (λ (e : List ℕ × WorkspaceCells). IsTrue (is_ws_name e.0)) _ (λ e named. (row_shown e, passes after prefix e named)) (entries (workspaces_by_name org t)) are_named))
         ∙ ap (showing.workspaces_listed after prefix) (sym record_entries)
       where
-        mapped : (es : List (List ℕ × WorkspaceCells)) → map (ws_row_in org t) (map named_at es) ≡ map (λ (e : List ℕ × WorkspaceCells). ws_row_in org t (named_at e)) es
+        mapped : (es : List (List ℕ × WorkspaceCells)) → map (ws_row_in org t) (map (named_at org t) es) ≡ map (λ (e : List ℕ × WorkspaceCells). ws_row_in org t (named_at org t e)) es
         mapped [] = refl
-        mapped (e ∷ es) = ap (λ rows. ws_row_in org t (named_at e) ∷ rows) (mapped es)
+        mapped (e ∷ es) = ap (λ rows. ws_row_in org t (named_at org t e) ∷ rows) (mapped es)
 
         itself : (es : List (List ℕ × WorkspaceCells)) → map (λ (e : List ℕ × WorkspaceCells). e) es ≡ es
         itself [] = refl

@@ -1,5 +1,5 @@
 //! The calls of a store, over its connection: each with what it has to look at first.
-ghost use Rattle.std.specs.Prelude.{◌≡◌, false, option_map, IsTrue, OnOk, ◌^◌, ◌<◌};
+ghost use Rattle.std.specs.Prelude.{◌≡◌, false, ◌||◌, is_some, option_map, IsTrue, OnOk, ◌^◌, ◌<◌};
 ghost use Rattle.sqlite.specs.Held.{state};
 ghost use Rattle.sqlite.specs.State.{HasCleanDisk};
 ghost use Rattle.machine.specs.Needs.{needed_of};
@@ -60,6 +60,12 @@ pub(crate) fn org_limit<S: Alter>(
     Ok(AdminAnswer::Done)
 }
 
+fn is_either(named: Option<Role>, known: Option<Role>) -> bool
+    ensures { result ≡ (is_some named || is_some known) }
+{
+    named.is_some() || known.is_some()
+}
+
 /// Whether an organization has a token of the name, or one with the digest.
 fn is_taken<S: Alter>(
     conn: &mut Connection<S>,
@@ -72,7 +78,7 @@ fn is_taken<S: Alter>(
 {
     let named = tokens::role_of_name(conn, org, name)?;
     let known = tokens::role_of_digest(conn, org, digest)?;
-    Ok(named.is_some() || known.is_some())
+    Ok(is_either(named, known))
 }
 
 /// Adds a token to an organization.

@@ -3,15 +3,18 @@ ghost use Rattle.std.specs.Prelude.{◌≡◌, false, List, [], ◌∷◌, ◌++
 ghost use Rattle.sqlite.specs.Held.{state};
 ghost use Rattle.sqlite.specs.State.{HasCleanDisk};
 ghost use Rattle.basis.specs.Listings.{listing_of};
+ghost use Rattle.basis.specs.declared.numbers.TheConstants.{FIRST_KEPT};
+ghost use Rattle.std.specs.Option.{unwrap_or};
 ghost use Rattle.machine.specs.Showing.{holder_id};
 ghost use Rattle.statements.specs.Listings.{OrgsApart, TokensApart, WorkspacesApart, VersionsRise, RunsRise};
 ghost use Rattle.tables.specs.Records.{holder_of_cells};
 ghost use Rattle.tables.specs.Inner.Looks.{Sees};
 ghost use Rattle.tables.specs.Inner.Lists.{SeesLawful, version_row_in, versions_listed_in, run_row_in, runs_listed_in, newest_number_in, ws_row_in, workspaces_listed_in, token_row_in, tokens_listed_in, tokens_told_in, org_row_in, organizations_listed_in};
 
-use crate::looks::{caller_as, keep, limit_of, lock_id_of, moment_of, number_of};
+use crate::looks::{caller_as, limit_of, lock_id_of, moment_of, number_of};
 use basis::{
-    HolderId, Items, Listing, Number, Prefix, RunRow, Settings, Text, VersionRow, WsName, WsRow,
+    HolderId, Items, KeepCount, Listing, Number, Prefix, RunRow, Settings, Text, VersionRow,
+    WsName, WsRow,
 };
 use machine::{AdminAnswer, OrgRow, TokenRow};
 use sqlite::{Alter, Connection, Error, ErrorCode};
@@ -147,6 +150,16 @@ fn ws_name_of(alloc: Global, name: &Text) -> Result<WsName, Error>
     }
 }
 
+/// How many versions a workspace keeps. One without a row of that keeps what one keeps at first.
+fn kept(keep: Option<KeepCount>) -> KeepCount
+    ensures { result ≡ unwrap_or keep FIRST_KEPT }
+{
+    match keep {
+        None => KeepCount::first(),
+        Some(keep) => keep,
+    }
+}
+
 /// A workspace as a list shows it.
 fn ws_row<S: Alter>(
     conn: &mut Connection<S>,
@@ -158,13 +171,12 @@ fn ws_row<S: Alter>(
     ensures is_open { HasCleanDisk (state S.Store conn.new) → OnOk result (IsTrue (state S.Store conn.new).is_open) }
 {
     let version = newest_number(conn, org, workspace.name.as_str())?;
-    let keep = keep(conn, org, workspace.name.as_str())?;
     let holder = holder_id_of(alloc, &workspace.it.holder)?;
     let name = ws_name_of(alloc, &workspace.name)?;
     Ok(WsRow {
         settings: Settings {
             auto_apply: workspace.it.auto,
-            keep_versions: keep,
+            keep_versions: kept(workspace.keep),
         },
         holder,
         name,

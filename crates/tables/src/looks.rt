@@ -2,12 +2,12 @@
 ghost use Rattle.std.specs.Prelude.{◌≡◌, length, false, cond, is_some, option_map, option_copied, Option, IsTrue, IfOk, OnOk, ◌^◌, ◌<◌, unwrap_or};
 ghost use Rattle.sqlite.specs.Held.{state};
 ghost use Rattle.sqlite.specs.State.{HasCleanDisk};
-ghost use Rattle.statements.specs.Finds.{size_of, status_at_number, run_at_number, number_back, workspaces_of, first_waiting_of, open_runs_of};
+ghost use Rattle.statements.specs.Finds.{size_of, status_at_number, run_at_number, number_back, cap_of, workspaces_of, first_waiting_of, open_runs_of};
 ghost use Rattle.machine.specs.Needs.{needed_of};
 ghost use Rattle.machine.specs.Units.{if_needed};
 ghost use Rattle.texts.specs.Texts.{pages_for, are_pieces};
 ghost use Rattle.tables.specs.Records.{bounds_of_cells, caller_with, bounds_at, caller_by, keep_at, holder_of_cells, run_of_cells};
-ghost use Rattle.tables.specs.Inner.Units.{holder_status_in, text_in, has_text, newest_by, newest_in, outgoing_in, has_version_in, keyed_cells_in, asked_cells_in, unit_in};
+ghost use Rattle.tables.specs.Inner.Units.{holder_status_in, text_in, has_text, newest_by, newest_in, keep_in, outgoing_in, has_version_in, keyed_cells_in, asked_cells_in, asked_run_in, unit_in};
 ghost use Rattle.tables.specs.Inner.Looks.{Sees, absent_in, runs_in, around_in, unit_from, present_in};
 
 use basis::{
@@ -27,8 +27,8 @@ use std::alloc::Global;
 #[derive(Drop)]
 struct RunsAround {
     holder_status: Option<RunStatus>,
-    first_waiting: Option<u64>,
-    asked_run: Option<RunCells>,
+    first_waiting: Option<Number>,
+    asked_run: Option<Run>,
     open_runs: u64,
 }
 
@@ -36,7 +36,7 @@ struct RunsAround {
 #[derive(Drop)]
 struct Surroundings {
     newest: Option<Newest>,
-    outgoing: Option<u64>,
+    outgoing: Option<Number>,
     has_version: bool,
     runs: RunsAround,
 }
@@ -221,16 +221,33 @@ pub(crate) fn keep<S: Alter>(
     }
 }
 
+/// How many versions a workspace keeps, where that is needed, else what one keeps at first.
+fn keep_if<S: Alter>(
+    conn: &mut Connection<S>,
+    org: &str,
+    ws: &str,
+    needed: bool,
+) -> Result<KeepCount, Error>
+    ensures looks { Sees (keep_in needed org.now ws.now) (state S.Store conn.old) (state S.Store conn.new) result }
+{
+    if needed {
+        keep(conn, org, ws)
+    } else {
+        Ok(KeepCount::first())
+    }
+}
+
 /// The number of the newest version that so many stand behind.
 fn number_behind<S: Alter>(
     conn: &mut Connection<S>,
     org: &str,
     ws: &str,
     staying: u32,
-) -> Result<Option<u64>, Error>
+) -> Result<Option<Number>, Error>
     ensures looks { Sees (number_back org.now ws.now staying) (state S.Store conn.old) (state S.Store conn.new) result }
 {
-    versions::number_back(conn, org, ws, staying as u64)
+    let number = versions::number_back(conn, org, ws, staying as u64)?;
+    optional_number_of(number)
 }
 
 /// The greatest number of the versions that go, of a workspace that keeps so many: those that stay stand behind it.
@@ -240,7 +257,7 @@ fn outgoing<S: Alter>(
     ws: &str,
     staying: Staying,
     keep: KeepCount,
-) -> Result<Option<u64>, Error>
+) -> Result<Option<Number>, Error>
     ensures looks { Sees (outgoing_in staying keep org.now ws.now) (state S.Store conn.old) (state S.Store conn.new) result }
 {
     match staying {
@@ -446,8 +463,8 @@ fn keyed_run<S: Alter>(
     }
 }
 
-/// The run that is asked of: by its number, or, where none is given, by its key.
-fn asked_run<S: Alter>(
+/// The row of the run that is asked of: by its number, or, where none is given, by its key.
+fn asked_cells<S: Alter>(
     conn: &mut Connection<S>,
     org: &str,
     ws: &str,
@@ -460,6 +477,20 @@ fn asked_run<S: Alter>(
         None => keyed_run(conn, org, ws, key),
         Some(number) => numbered_run(conn, org, ws, number),
     }
+}
+
+/// The run that is asked of: by its number, or, where none is given, by its key.
+fn asked_run<S: Alter>(
+    conn: &mut Connection<S>,
+    org: &str,
+    ws: &str,
+    number: Option<Number>,
+    key: Option<&Text>,
+) -> Result<Option<Run>, Error>
+    ensures looks { Sees (asked_run_in number (option_copied key.entry) org.now ws.now) (state S.Store conn.old) (state S.Store conn.new) result }
+{
+    let run = asked_cells(conn, org, ws, number, key)?;
+    optional_run_as(run)
 }
 
 /// Whether the version of a number is kept.
@@ -503,18 +534,48 @@ fn count_if<S: Alter>(conn: &mut Connection<S>, org: &str, makes: bool) -> Resul
     }
 }
 
-/// How many workspaces an organization has, where the act makes one, and how many it may have.
+/// How many workspaces an organization may have.
+fn limit<S: Alter>(conn: &mut Connection<S>, org: &str) -> Result<Limit, Error>
+    ensures looks { Sees (λ t. unwrap_or (cap_of org.now t) 0) (state S.Store conn.old) (state S.Store conn.new) result }
+{
+    let cap = organizations::cap(conn, org)?;
+    limit_of(cap)
+}
+
+/// How many workspaces an organization may have, where the act makes one: for any other act it isn't
+/// asked.
+fn limit_if<S: Alter>(conn: &mut Connection<S>, org: &str, makes: bool) -> Result<Limit, Error>
+    ensures looks { Sees (λ t. cond makes (unwrap_or (cap_of org.now t) 0) 0) (state S.Store conn.old) (state S.Store conn.new) result }
+{
+    if makes {
+        limit(conn, org)
+    } else {
+        limit_of(None)
+    }
+}
+
+/// How many workspaces an organization has and how many it may have, where the act makes one.
 fn absent<S: Alter>(conn: &mut Connection<S>, org: &str, needs: &Needs<'_>) -> Result<Unit, Error>
     ensures looks { Sees (absent_in (needed_of needs.now) org.now) (state S.Store conn.old) (state S.Store conn.new) result }
-    ensures is_open { HasCleanDisk (state S.Store conn.new) → OnOk result (IsTrue (state S.Store conn.new).is_open) }
 {
     let count = count_if(conn, org, needs.makes)?;
-    let cap = organizations::cap(conn, org)?;
-    let limit = limit_of(cap)?;
+    let limit = limit_if(conn, org, needs.makes)?;
     Ok(Unit::Absent {
         workspaces: count as usize,
         limit,
     })
+}
+
+/// The first run that waits.
+fn first_waiting<S: Alter>(
+    conn: &mut Connection<S>,
+    org: &str,
+    ws: &str,
+) -> Result<Option<Number>, Error>
+    ensures looks { Sees (first_waiting_of org.now ws.now) (state S.Store conn.old) (state S.Store conn.new) result }
+{
+    let number = runs::first_waiting(conn, org, ws)?;
+    optional_number_of(number)
 }
 
 /// The first run that waits, where it is needed.
@@ -523,11 +584,11 @@ fn first_waiting_if<S: Alter>(
     org: &str,
     ws: &str,
     needed: bool,
-) -> Result<Option<u64>, Error>
+) -> Result<Option<Number>, Error>
     ensures looks { Sees (λ t. if_needed needed (first_waiting_of org.now ws.now t)) (state S.Store conn.old) (state S.Store conn.new) result }
 {
     if needed {
-        runs::first_waiting(conn, org, ws)
+        first_waiting(conn, org, ws)
     } else {
         Ok(None)
     }
@@ -602,12 +663,9 @@ fn unit_by(
 ) -> Result<WorkspaceUnit, Error>
     ensures { IfOk result (λ unit. unit ≡ unit_from keep workspace around) }
 {
-    let runs = around.runs;
-    let outgoing = optional_number_of(around.outgoing)?;
-    let first_waiting = optional_number_of(runs.first_waiting)?;
-    let asked_run = optional_run_as(runs.asked_run)?;
     let released = optional_lock_id_of(alloc, &workspace.released)?;
     let holder = holder_of(alloc, workspace.holder)?;
+    let runs = around.runs;
     Ok(WorkspaceUnit {
         settings: Settings {
             auto_apply: workspace.auto,
@@ -619,10 +677,10 @@ fn unit_by(
         next_version: workspace.next_version,
         next_run: workspace.next_run,
         newest: around.newest,
-        outgoing,
-        first_waiting,
+        outgoing: around.outgoing,
+        first_waiting: runs.first_waiting,
         has_version: around.has_version,
-        asked_run,
+        asked_run: runs.asked_run,
         open_runs: runs.open_runs as usize,
     })
 }
@@ -637,7 +695,7 @@ fn present<S: Alter>(
 ) -> Result<Unit, Error>
     ensures looks { Sees (present_in (needed_of needs.now) org.now ws.now workspace) (state S.Store conn.old) (state S.Store conn.new) result }
 {
-    let keep = keep(conn, org, ws)?;
+    let keep = keep_if(conn, org, ws, needs.keep_versions)?;
     let around = around(conn, org, ws, needs, keep, &workspace.holder)?;
     let unit = unit_by(alloc, keep, workspace, around)?;
     Ok(Unit::Present(unit))

@@ -3,7 +3,7 @@
 
 pub mod acts;
 pub mod books;
-pub mod commands;
+pub mod breaking;
 pub mod definitions;
 pub mod devices;
 pub mod differences;
@@ -14,10 +14,13 @@ pub mod links;
 pub mod messages;
 pub mod modes;
 pub mod plays;
+pub mod recovering;
 pub mod refusals;
 pub mod refusing;
 pub mod requests;
 pub mod routes;
 pub mod stopping;
+pub mod stores;
 pub mod taking;
 pub mod tells;
+pub mod units;

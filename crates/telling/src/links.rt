@@ -30,6 +30,17 @@ impl<'s> Asked<'s> {
     }
 }
 
+/// How a link breaks under a request.
+#[derive(Clone, Copy)]
+pub enum Break {
+    /// The request is cut, and its reads fail, by a reader that gives so many bytes at a time. It takes no step then.
+    Reads(usize, Modes),
+    /// The reply stops at this byte.
+    Write(usize, Stop),
+    /// It doesn't: the request comes whole, by a reader that gives so many bytes at a time.
+    Nothing(usize),
+}
+
 /// How many bytes are due before the reply: those of the line that says to go on, or none.
 pub fn line_in(due: &[u8]) -> usize {
     if due.starts_with(CONTINUE) {
@@ -78,8 +89,8 @@ fn may_end_early(due: &[u8]) -> bool {
     false
 }
 
-/// How many bytes of a request are read: all of them, but where its head is refused.
-pub fn length_of<K: Keep>(alloc: Global, service: &mut Service<K>, asked: &Asked<'_>) -> usize {
+// How many bytes of a request are read: all of them, but where its head is refused.
+fn length_of<K: Keep>(alloc: Global, service: &mut Service<K>, asked: &Asked<'_>) -> usize {
     let all = asked.bytes.len();
     if !may_end_early(asked.due) {
         return all;
@@ -165,8 +176,8 @@ fn fail_reads<K: Keep>(
     Ok(reads)
 }
 
-/// A request cut behind each byte, and with each read failing. It has taken no step then.
-pub fn break_reads<K: Keep>(
+// A request cut behind each byte, and with each read failing.
+fn break_reads<K: Keep>(
     alloc: Global,
     service: &mut Service<K>,
     asked: &Asked<'_>,
@@ -186,8 +197,8 @@ pub fn break_reads<K: Keep>(
     Ok(())
 }
 
-/// A request that comes whole, by a reader of so many bytes: no read is made behind its end.
-pub fn take_whole<K: Keep>(
+// A request that comes whole: no read is made behind its end.
+fn take_whole<K: Keep>(
     alloc: Global,
     service: &mut Service<K>,
     asked: &Asked<'_>,
@@ -248,5 +259,22 @@ pub fn stop_write<K: Keep>(
             "something else came where writing stops at byte",
             stops_at,
         ))
+    }
+}
+
+/// A request over a link that breaks so.
+pub fn break_link<K: Keep>(
+    alloc: Global,
+    service: &mut Service<K>,
+    asked: &Asked<'_>,
+    how: Break,
+    counts: &mut Counts,
+) -> Result<(), Failure> {
+    match how {
+        Break::Reads(most, modes) => break_reads(alloc, service, asked, most, modes, counts),
+        Break::Write(stops_at, stop) => {
+            stop_write(alloc, service, asked, asked.due, stops_at, stop)
+        }
+        Break::Nothing(most) => take_whole(alloc, service, asked, most),
     }
 }

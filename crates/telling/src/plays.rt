@@ -1,6 +1,5 @@
 //! A story of a store as it is played: its steps, what is due to each, and what is asked of the tables.
 use crate::books::{Book, Part, Plot, Story};
-use crate::commands::read_command;
 use crate::definitions::{Definitions, Unread};
 use crate::keyed::Keyed;
 use crate::lines::Mark;
@@ -35,6 +34,12 @@ pub struct Play {
     pub own: usize,
     pub due: Vec<Due>,
     pub questions: Vec<Question>,
+}
+
+/// How an operator's command is read from its words.
+pub trait ReadsCommands {
+    /// The step of a command with these words.
+    fn read(&self, alloc: Global, at: Moment, words: &str) -> Result<Step, Unfit>;
 }
 
 // The lines of an operator's answer.
@@ -91,16 +96,17 @@ impl Play {
         Ok(())
     }
 
-    fn add_command(
+    fn add_command<R: ReadsCommands>(
         &mut self,
         alloc: Global,
+        commands: &R,
         at: Moment,
         head: &Part<'_>,
         words: &str,
         parts: &[Part<'_>],
     ) -> Result<(), Unread> {
         let due = lines_due(alloc, parts)?;
-        match read_command(alloc, at, words) {
+        match commands.read(alloc, at, words) {
             Ok(step) => self.push(head.line, step, due),
             Err(Unfit::Syntax) => Err(head.unread("these words are no operator's command")),
             Err(Unfit::Down) => Err(Unread::from(Down)),
@@ -155,9 +161,10 @@ impl Play {
         Ok(())
     }
 
-    fn add(
+    fn add<R: ReadsCommands>(
         &mut self,
         alloc: Global,
+        commands: &R,
         definitions: &Definitions<'_>,
         plot: &Plot<'_>,
     ) -> Result<(), Unread> {
@@ -168,34 +175,40 @@ impl Play {
             return Err(head.unread("this is no moment"));
         };
         match head.text.split_once(' ') {
-            Some(("admin", words)) => self.add_command(alloc, at, head, words, parts),
+            Some(("admin", words)) => self.add_command(alloc, commands, at, head, words, parts),
             Some(("sql", words)) => self.add_question(alloc, head, words, parts),
             _ => self.add_request(alloc, definitions, at, plot.date, head, parts),
         }
     }
 
-    fn add_all(
+    fn add_all<R: ReadsCommands>(
         &mut self,
         alloc: Global,
+        commands: &R,
         definitions: &Definitions<'_>,
         story: &Story<'_>,
     ) -> Result<(), Unread> {
         for plot in story.plots.as_slice() {
-            self.add(alloc, definitions, plot)?;
+            self.add(alloc, commands, definitions, plot)?;
         }
         Ok(())
     }
 }
 
 /// The steps of a story, behind those of the stories before it.
-pub fn play_of(alloc: Global, book: &Book<'_>, story: &Story<'_>) -> Result<Play, Unread> {
+pub fn play_of<R: ReadsCommands>(
+    alloc: Global,
+    commands: &R,
+    book: &Book<'_>,
+    story: &Story<'_>,
+) -> Result<Play, Unread> {
     let mut play = Play::new(alloc);
     for place in story.before.as_slice() {
         if let Some(earlier) = book.stories.get(*place) {
-            play.add_all(alloc, &book.definitions, earlier)?;
+            play.add_all(alloc, commands, &book.definitions, earlier)?;
         }
     }
     play.own = play.steps.len();
-    play.add_all(alloc, &book.definitions, story)?;
+    play.add_all(alloc, commands, &book.definitions, story)?;
     Ok(play)
 }

@@ -120,25 +120,6 @@ pub fn taken_up_to<K: Keep>(
     (service.into_keep(), stopped)
 }
 
-/// Takes steps, all of which have to be answered as is due.
-pub fn taken<K: Keep + Drop>(
-    alloc: Global,
-    keep: K,
-    play: &Play,
-    from: usize,
-    to: usize,
-) -> Result<K, Failure> {
-    let (keep, stopped) = taken_up_to(alloc, keep, play, from, to);
-    match stopped {
-        Ok(None) => Ok(keep),
-        Ok(Some(place)) => Err(Failure::refused(
-            line_at(play, place),
-            "the store is down, and the power wasn't cut",
-        )),
-        Err(failure) => Err(failure),
-    }
-}
-
 // Whether a step that was applied may be answered so where it is sent again: as before, or that what it made is there, or
 // that what it took away isn't.
 fn is_repeat(due: &Due, came: &Result<Bytes, Down>) -> bool {

@@ -1,21 +1,21 @@
 //! The two files of a database in memory, and what is left of them where the power is cut at one of their calls.
 use crate::records::earlier_record_of;
+use crate::ways::Sql;
 use pages::ShaKey;
-use sqlite::{Connection, FileStore, Files, Options};
+use sqlite::{Alter, Connection, FileStore, Files, Options};
 use sqlite_disk::{Crash, Disk, Fuse, Memory};
 use std::alloc::{AllocError, Global};
 use std::io;
-use tables::{Fault, SqlKeep};
+use tables::{Fault, SqlKeep, Unopened};
 use telling::failures::Failure;
+use telling::plays::Play;
+use telling::recovering::{Done, Ended, Work, work_over};
 
-/// A file in memory whose calls fail from one on.
-pub type Fused = Fuse<Memory>;
+// A file in memory whose calls fail from one on.
+type Fused = Fuse<Memory>;
 
-/// The log of a database and its file.
-pub type Pair = Files<Fused>;
-
-/// A store over such files.
-pub type FusedTables = SqlKeep<FileStore<Fused>, ShaKey>;
+// The log of a database and its file.
+type Pair = Files<Fused>;
 
 /// More calls than a story makes.
 pub const NEVER: u64 = u64::MAX;
@@ -107,9 +107,9 @@ impl Image {
     }
 }
 
-/// What may stand on the disk once the power is cut: all that was written; what was synced alone; of what wasn't synced
-/// every other sector. One image, where all was synced.
-pub fn images_of(alloc: Global, files: Pair) -> Result<Vec<Image>, AllocError> {
+// What may stand on the disk once the power is cut: all that was written; what was synced alone; of what wasn't synced
+// every other sector. One image, where all was synced.
+fn images_of(alloc: Global, files: Pair) -> Result<Vec<Image>, AllocError> {
     let mut files = files;
     let mut images = Vec::new(alloc);
     let written = Image::of(alloc, &files)?;
@@ -127,14 +127,6 @@ pub fn images_of(alloc: Global, files: Pair) -> Result<Vec<Image>, AllocError> {
     Ok(images)
 }
 
-/// What came of opening the files.
-#[derive(Drop)]
-pub enum Opening {
-    Tables(FusedTables),
-    /// The store is down.
-    Stopped(Pair),
-}
-
 fn options() -> Options {
     Options {
         cache_pages: PAGES_KEPT,
@@ -144,76 +136,143 @@ fn options() -> Options {
     }
 }
 
-// A store over a connection in which no transaction is open.
-fn tables_over(conn: Connection<FileStore<Fused>>) -> Result<Opening, Failure> {
+/// What work over files left.
+#[derive(Drop)]
+pub struct Left {
+    pub done: Done,
+    /// What may stand on the disk.
+    pub images: Vec<Image>,
+}
+
+// What stands in tables of an earlier version.
+fn looked_at<S: Alter>(alloc: Global, conn: &mut Connection<S>) -> Result<Done, Failure> {
+    let mut done = Done::new(alloc, Ended::Whole);
+    let record = earlier_record_of(alloc, conn)?;
+    done.records.push(record)?;
+    Ok(done)
+}
+
+// Works over a store, which is closed.
+fn work_in<S: Alter + Drop>(
+    alloc: Global,
+    keep: SqlKeep<S, ShaKey>,
+    play: &Play,
+    work: Work<'_>,
+) -> Result<(Connection<S>, Done), Failure> {
+    let (keep, done) = work_over(alloc, &Sql, keep, play, work)?;
+    Ok((keep.close(), done))
+}
+
+// A store that didn't open is down, or its tables are of another schema.
+fn left_unopened<S: Alter + Drop>(
+    alloc: Global,
+    unopened: Unopened<S>,
+) -> Result<(Connection<S>, Done), Failure> {
+    let Unopened { fault, conn } = unopened;
+    match fault {
+        Fault::Down => Ok((conn, Done::new(alloc, Ended::Unopened))),
+        Fault::Schema => Err(Failure::refused(0, "the tables are those of another schema")),
+    }
+}
+
+// The store is opened over a connection, and given back behind the work.
+fn worked<S: Alter + Drop>(
+    alloc: Global,
+    conn: Connection<S>,
+    play: &Play,
+    work: Work<'_>,
+) -> Result<(Connection<S>, Done), Failure> {
     if !conn.is_autocommit() {
         return Err(Failure::refused(0, "a transaction is open"));
     }
     match SqlKeep::open(conn) {
-        Ok(keep) => Ok(Opening::Tables(keep)),
-        Err(unopened) => match unopened.fault {
-            Fault::Down => Ok(Opening::Stopped(unopened.conn.into_store().close())),
-            Fault::Schema => Err(Failure::refused(0, "the tables are those of another schema")),
-        },
+        Ok(keep) => work_in(alloc, keep, play, work),
+        Err(unopened) => left_unopened(alloc, unopened),
     }
 }
 
-/// Opens files with this content. The power is cut behind so many calls.
-pub fn open_image(alloc: Global, image: &Image, cuts: Cuts) -> Result<Opening, Failure> {
+fn work_at<S: Alter + Drop>(
+    alloc: Global,
+    conn: Connection<S>,
+    play: &Play,
+    work: Work<'_>,
+) -> Result<(Connection<S>, Done), Failure> {
+    let mut conn = conn;
+    match work {
+        Work::LookEarlier => match looked_at(alloc, &mut conn) {
+            Ok(done) => Ok((conn, done)),
+            Err(failure) => Err(failure),
+        },
+        _ => worked(alloc, conn, play, work),
+    }
+}
+
+// Copies the log into the file. Where the power is cut, or was, the files as they are.
+fn closed<D: Disk + Drop>(conn: Connection<FileStore<D>>, ended: Ended) -> (Files<D>, Ended) {
+    if ended != Ended::Whole {
+        return (conn.into_store().close(), ended);
+    }
+    match conn.close_files() {
+        Ok(files) => (files, Ended::Whole),
+        Err((_, store)) => (store.close(), Ended::Unclosed),
+    }
+}
+
+// Opens files, works over them and closes them.
+fn over<D: Disk + Drop>(
+    alloc: Global,
+    files: Files<D>,
+    play: &Play,
+    work: Work<'_>,
+) -> Result<(Files<D>, Done), Failure> {
+    if !files.log.may_be_used() || !files.db.may_be_used() {
+        return Err(Failure::refused(0, "memory was refused"));
+    }
+    match Connection::open_files(alloc, files, options()) {
+        Ok(conn) => match work_at(alloc, conn, play, work) {
+            Ok((conn, done)) => {
+                let (files, ended) = closed(conn, done.ended);
+                let records = done.records;
+                Ok((files, Done { ended, records }))
+            }
+            Err(failure) => Err(failure),
+        },
+        Err((_, left)) => Ok((left.into_files(), Done::new(alloc, Ended::Unopened))),
+    }
+}
+
+/// Works over files with this content, the power cut behind so many calls.
+pub fn over_image(
+    alloc: Global,
+    image: &Image,
+    cuts: Cuts,
+    play: &Play,
+    work: Work<'_>,
+) -> Result<Left, Failure> {
     let Ok(files) = image.files(alloc, cuts) else {
         return Err(Failure::refused(0, "memory was refused"));
     };
-    if !files.log.may_be_used() || !files.db.may_be_used() {
-        return Err(Failure::refused(0, "memory was refused"));
-    }
-    match Connection::open_files(alloc, files, options()) {
-        Ok(conn) => tables_over(conn),
-        Err((_, left)) => Ok(Opening::Stopped(left.into_files())),
-    }
+    let (files, done) = over(alloc, files, play, work)?;
+    let images = images_of(alloc, files)?;
+    Ok(Left { done, images })
 }
 
-/// What stands in the tables of files with this content, which are of an earlier version.
-pub fn earlier_record(alloc: Global, image: &Image) -> Result<Vec<u8>, Failure> {
-    let Ok(files) = image.files(alloc, NO_CUTS) else {
-        return Err(Failure::refused(0, "memory was refused"));
-    };
-    if !files.log.may_be_used() || !files.db.may_be_used() {
-        return Err(Failure::refused(0, "memory was refused"));
-    }
-    match Connection::open_files(alloc, files, options()) {
-        Ok(mut conn) => earlier_record_of(alloc, &mut conn),
-        Err((_, left)) => {
-            drop(left.into_files());
-            Err(Failure::refused(0, "the file is no database"))
-        }
-    }
-}
-
-/// Opens files with this content, which has to go.
-pub fn opened(alloc: Global, line: usize, image: &Image) -> Result<FusedTables, Failure> {
-    match open_image(alloc, image, NO_CUTS)? {
-        Opening::Tables(keep) => Ok(keep),
-        Opening::Stopped(_) => Err(Failure::refused(line, "the files don't open again")),
-    }
-}
-
-/// The files of a store that isn't closed.
-pub fn files_of(keep: FusedTables) -> Pair {
-    keep.close().into_store().close()
-}
-
-/// Copies the log into the file. Where the power is cut, the files as they are.
-pub fn close(keep: FusedTables) -> Result<Pair, Pair> {
-    match keep.close().close_files() {
-        Ok(files) => Ok(files),
-        Err((_, store)) => Err(store.close()),
-    }
-}
-
-/// What stands in the files of a store once it is closed.
-pub fn closed(alloc: Global, line: usize, keep: FusedTables) -> Result<Image, Failure> {
-    match close(keep) {
-        Ok(files) => Ok(Image::of(alloc, &files)?),
-        Err(_) => Err(Failure::refused(line, "the files don't close")),
+/// The same, where the power isn't cut.
+pub fn over_whole(
+    alloc: Global,
+    line: usize,
+    image: &Image,
+    play: &Play,
+    work: Work<'_>,
+) -> Result<Left, Failure> {
+    let left = over_image(alloc, image, NO_CUTS, play, work)?;
+    match left.done.ended {
+        Ended::Whole => Ok(left),
+        Ended::Unopened => Err(Failure::refused(line, "the files don't open")),
+        Ended::Unclosed => Err(Failure::refused(line, "the files don't close")),
+        Ended::Stopped(_) => Err(Failure::refused(
+            line,
+            "the store is down, and the power wasn't cut",
+        )),
     }
 }

@@ -1,11 +1,12 @@
 //! A text put into tables as pages, read, compared and taken away again.
 use crate::keys::FirstByte;
-use crate::ways::{TablesBy, ask, new_tables};
+use crate::ways::{Sql, TablesBy, ask};
 use pages::{PageKey, ShaKey};
 use sqlite::{Connection, Error, MemStore};
 use std::alloc::Global;
 use telling::acts::turned;
 use telling::failures::Failure;
+use telling::stores::Makes;
 use texts::{add_text, remove_text, same_text};
 
 /// The version whose text it is.
@@ -90,7 +91,7 @@ fn told_of<K: PageKey>(alloc: Global, conn: &mut Tables, due: &[u8]) -> Result<S
 }
 
 fn show_by<K: PageKey>(alloc: Global, due: &[u8]) -> Result<String, Failure> {
-    let keep: TablesBy<K> = new_tables(alloc)?;
+    let keep: TablesBy<K> = Sql.made(alloc)?;
     let mut conn = keep.close();
     match told_of::<K>(alloc, &mut conn, due) {
         Ok(told) => Ok(told),

@@ -1,14 +1,11 @@
 //! A story's steps tried over stores: values and tables in memory, links that break, files whose power is cut.
 #![tactic(auto)]
 
-pub mod breaking;
 pub mod cuts;
 mod images;
 pub mod kept;
 mod keys;
 mod laws;
 mod records;
-mod recovering;
 pub mod stops;
-pub mod units;
 pub mod ways;

@@ -1,5 +1,4 @@
 //! All that stands in the tables, as bytes that are compared.
-use crate::ways::{Tables, reopened};
 use sqlite::types::ValueRef;
 use sqlite::{Alter, Connection, Error, Row};
 use std::alloc::{AllocError, Global};
@@ -115,16 +114,5 @@ pub fn earlier_record_of<S: Alter>(
     match put_earlier(&mut all, conn) {
         Ok(()) => Ok(all),
         Err(_) => Err(Failure::refused(0, "the file has no tables of an earlier version")),
-    }
-}
-
-/// What stands in the tables. The store is given back.
-pub fn recorded(alloc: Global, line: usize, keep: Tables) -> Result<(Tables, Vec<u8>), Failure> {
-    let mut conn = keep.close();
-    let record = record_of(alloc, line, &mut conn);
-    let keep = reopened(line, conn)?;
-    match record {
-        Ok(record) => Ok((keep, record)),
-        Err(failure) => Err(failure),
     }
 }

@@ -1,16 +1,14 @@
 //! A story of a store over files in memory, the power cut at each of their calls: what stands there then is all before
 //! the step or all behind it, and the step is sent again.
-use crate::cuts::{
-    Cuts, Image, NO_CUTS, Opening, Pair, close, closed, earlier_record, files_of, images_of,
-    open_image, opened,
-};
+use crate::cuts::{Cuts, Image, Left, NO_CUTS, over_image, over_whole};
 use crate::images::write_images;
-use crate::recovering::{gone_on, record_at, records_of, tables_behind, tables_up_to};
 use std::alloc::Global;
 use telling::failures::Failure;
 use telling::modes::Counts;
 use telling::plays::Play;
+use telling::recovering::{Ended, Work};
 use telling::stopping::{Cut, line_at};
+use telling::stores::record_at;
 
 /// The name of this way.
 pub const WAY: &str = "power that is cut";
@@ -46,37 +44,45 @@ fn begun(alloc: Global, play: &Play) -> Result<Image, Failure> {
     if play.own == 0 {
         return Ok(nothing);
     }
-    let keep = opened(alloc, 0, &nothing)?;
-    let keep = tables_behind(alloc, keep, play, 0, play.own)?;
-    closed(alloc, 0, keep)
+    let mut left = over_whole(alloc, 0, &nothing, play, Work::Begin)?;
+    left.images.truncate(1);
+    match left.images.pop() {
+        Some(image) => Ok(image),
+        None => Ok(nothing),
+    }
 }
 
 // What stands in the tables before each of the story's own steps, and behind the last.
 fn records_from(alloc: Global, play: &Play, image: &Image) -> Result<Vec<Vec<u8>>, Failure> {
-    let keep = opened(alloc, 0, image)?;
-    records_of(alloc, play, keep)
+    let left = over_whole(alloc, 0, image, play, Work::Record)?;
+    Ok(left.done.records)
+}
+
+// What stands in the tables of an earlier version.
+fn earlier_record(alloc: Global, play: &Play, image: &Image) -> Result<Vec<u8>, Failure> {
+    let mut left = over_whole(alloc, 0, image, play, Work::LookEarlier)?;
+    match left.done.records.pop() {
+        Some(record) => Ok(record),
+        None => Err(Failure::refused(0, "the tables don't answer")),
+    }
+}
+
+// Where the power was cut, unless the story came to its end.
+fn cut_of(play: &Play, ended: Ended) -> Option<Cut> {
+    match ended {
+        Ended::Unopened => Some(Cut::new(play, play.own, false)),
+        Ended::Stopped(place) => Some(Cut::new(play, place, true)),
+        Ended::Unclosed => Some(Cut::new(play, play.steps.len(), false)),
+        Ended::Whole => None,
+    }
 }
 
 // Tells the story, the power cut behind so many calls: where it was, unless the story came to its end.
-fn told(
-    alloc: Global,
-    play: &Play,
-    image: &Image,
-    cuts: Cuts,
-) -> Result<Option<(Cut, Pair)>, Failure> {
-    let end = play.steps.len();
-    let keep = match open_image(alloc, image, cuts)? {
-        Opening::Tables(keep) => keep,
-        Opening::Stopped(files) => return Ok(Some((Cut::new(play, play.own, false), files))),
-    };
-    let (keep, stopped) = tables_up_to(alloc, keep, play, play.own, end);
-    match stopped {
-        Ok(Some(place)) => Ok(Some((Cut::new(play, place, true), files_of(keep)))),
-        Ok(None) => match close(keep) {
-            Ok(_) => Ok(None),
-            Err(files) => Ok(Some((Cut::new(play, end, false), files))),
-        },
-        Err(failure) => Err(failure),
+fn told(alloc: Global, play: &Play, image: &Image, cuts: Cuts) -> Result<Option<Stop>, Failure> {
+    let Left { done, images } = over_image(alloc, image, cuts, play, Work::TakeOwn)?;
+    match cut_of(play, done.ended) {
+        Some(cut) => Ok(Some(Stop { cut, images })),
+        None => Ok(None),
     }
 }
 
@@ -88,9 +94,7 @@ fn recovered(
     cut: Cut,
     image: &Image,
 ) -> Result<(), Failure> {
-    let keep = opened(alloc, cut.line, image)?;
-    let keep = gone_on(alloc, play, records, cut, keep)?;
-    closed(alloc, cut.line, keep)?;
+    over_whole(alloc, cut.line, image, play, Work::GoOn(cut, records))?;
     Ok(())
 }
 
@@ -182,11 +186,9 @@ fn cut_each(
         images: Vec::new(alloc),
     };
     for calls in 0..MOST_CALLS {
-        let Some((cut, files)) = told(alloc, play, image, cuts_after(is_log, calls))? else {
+        let Some(stop) = told(alloc, play, image, cuts_after(is_log, calls))? else {
             return Ok(());
         };
-        let images = images_of(alloc, files)?;
-        let stop = Stop { cut, images };
         recover_each(alloc, play, records.all.as_slice(), &stop, &last, counts)?;
         keep_images(rt, play, records, &stop, counts.stops)?;
         last = stop;
@@ -227,7 +229,7 @@ pub fn run_earlier_stops(
 ) -> Result<(), Failure> {
     let alloc = rt.alloc();
     let records = Records {
-        first: earlier_record(alloc, image)?,
+        first: earlier_record(alloc, play, image)?,
         all: records_from(alloc, play, image)?,
     };
     run_from(rt, play, image, &records, counts)

@@ -1,16 +1,23 @@
 //! The ways on which a story of a store is run: over which store, and how.
 use crate::keys::FirstByte;
+use crate::laws::check_laws;
+use crate::records::record_of;
 use basis::Down;
-use machine::{Keep, PlainKeep};
+use machine::PlainKeep;
 use pages::{PageKey, ShaKey};
 use sqlite::{Alter, Connection, Error, MemStore};
 use std::alloc::Global;
 use tables::SqlKeep;
+use telling::breaking::run_broken;
 use telling::devices::ALL;
 use telling::failures::{Failure, compare_bytes};
 use telling::keyed::Keyed;
+use telling::modes::{Counts, Modes};
 use telling::plays::{Play, Question};
-use telling::taking::{Way, take_over, taken_to};
+use telling::stores::{Looks, Makes, told_over};
+use telling::taking::{Way, taken_to};
+use telling::units::run_by_units;
+use telling::{breaking, units};
 
 #[derive(Clone, Copy)]
 enum Store {
@@ -69,26 +76,16 @@ const FEW_IN_MEMORY: &[(Store, Way, &str)] = &[
     ),
 ];
 
-fn in_values(alloc: Global, play: &Play, way: Way) -> Result<(), Failure> {
-    let (_keep, taken) = take_over(
-        alloc,
-        PlainKeep::new(alloc),
-        way,
-        play.steps.as_slice(),
-        play.due.as_slice(),
-    );
-    taken
-}
-
 /// A store over tables in memory, with pages by this key.
 pub type TablesBy<K> = SqlKeep<MemStore, K>;
 
-/// A store over tables in memory.
-pub type Tables = TablesBy<ShaKey>;
+/// Stores over tables.
+pub struct Sql;
 
-/// Tables in memory with no organization.
-pub fn new_tables<K: PageKey>(alloc: Global) -> Result<TablesBy<K>, Down> {
-    SqlKeep::in_memory(alloc)
+impl<K: PageKey> Makes<TablesBy<K>> for Sql {
+    fn made(&self, alloc: Global) -> Result<TablesBy<K>, Down> {
+        SqlKeep::in_memory(alloc)
+    }
 }
 
 /// The first value of the first row, as text.
@@ -100,8 +97,37 @@ pub fn ask<S: Alter>(alloc: Global, conn: &mut Connection<S>, sql: &str) -> Resu
     }
 }
 
-/// The store over tables that were asked.
-pub fn reopened<S: Alter + Drop, K: PageKey>(
+// That the tables answer a question as is due.
+fn check_answer<S: Alter>(
+    alloc: Global,
+    conn: &mut Connection<S>,
+    question: &Question,
+) -> Result<(), Failure> {
+    match ask(alloc, conn, question.sql.as_str()) {
+        Ok(answer) => compare_bytes(
+            alloc,
+            question.line,
+            question.answer.as_slice(),
+            answer.as_str().as_bytes(),
+        ),
+        Err(_) => Err(Failure::refused(question.line, "the tables don't answer")),
+    }
+}
+
+fn lawful_record<S: Alter>(
+    alloc: Global,
+    line: usize,
+    conn: &mut Connection<S>,
+    is_lawful: bool,
+) -> Result<Vec<u8>, Failure> {
+    if is_lawful {
+        check_laws(line, conn)?;
+    }
+    record_of(alloc, line, conn)
+}
+
+// The store over tables that were asked.
+fn reopened<S: Alter + Drop, K: PageKey>(
     line: usize,
     conn: Connection<S>,
 ) -> Result<SqlKeep<S, K>, Failure> {
@@ -114,29 +140,43 @@ pub fn reopened<S: Alter + Drop, K: PageKey>(
     }
 }
 
-// Asks the tables, and gives the store back.
-fn asked<S: Alter + Drop, K: PageKey>(
-    alloc: Global,
-    keep: SqlKeep<S, K>,
-    question: &Question,
-) -> Result<SqlKeep<S, K>, Failure> {
-    let mut conn = keep.close();
-    let answer = ask(alloc, &mut conn, question.sql.as_str());
-    let keep = reopened(question.line, conn)?;
-    told(alloc, question, answer)?;
-    Ok(keep)
+impl<S: Alter + Drop, K: PageKey> Looks<SqlKeep<S, K>> for Sql {
+    fn recorded(
+        &self,
+        alloc: Global,
+        keep: SqlKeep<S, K>,
+        line: usize,
+        is_lawful: bool,
+    ) -> Result<(SqlKeep<S, K>, Vec<u8>), Failure> {
+        let mut conn = keep.close();
+        let record = lawful_record(alloc, line, &mut conn, is_lawful);
+        let keep = reopened(line, conn)?;
+        match record {
+            Ok(record) => Ok((keep, record)),
+            Err(failure) => Err(failure),
+        }
+    }
+
+    fn asked(
+        &self,
+        alloc: Global,
+        keep: SqlKeep<S, K>,
+        question: &Question,
+    ) -> Result<SqlKeep<S, K>, Failure> {
+        let mut conn = keep.close();
+        let answered = check_answer(alloc, &mut conn, question);
+        let keep = reopened(question.line, conn)?;
+        match answered {
+            Ok(()) => Ok(keep),
+            Err(failure) => Err(failure),
+        }
+    }
 }
 
-fn told(alloc: Global, question: &Question, answer: Result<String, Error>) -> Result<(), Failure> {
-    let Ok(answer) = answer else {
-        return Err(Failure::refused(question.line, "the tables don't answer"));
-    };
-    compare_bytes(
-        alloc,
-        question.line,
-        question.answer.as_slice(),
-        answer.as_str().as_bytes(),
-    )
+fn in_values(alloc: Global, play: &Play, way: Way) -> Result<(), Failure> {
+    let keep = PlainKeep::new(alloc);
+    taken_to(alloc, keep, way, play, 0, play.steps.len())?;
+    Ok(())
 }
 
 fn in_tables<K: PageKey>(
@@ -145,27 +185,8 @@ fn in_tables<K: PageKey>(
     keyed: Keyed,
     way: Way,
 ) -> Result<(), Failure> {
-    over_tables(alloc, new_tables::<K>(alloc)?, play, keyed, way)
-}
-
-/// Runs a story over these tables, which are asked what the story asks of tables with pages by this key.
-pub fn over_tables<S: Alter + Drop, K: PageKey>(
-    alloc: Global,
-    keep: SqlKeep<S, K>,
-    play: &Play,
-    keyed: Keyed,
-    way: Way,
-) -> Result<(), Failure> {
-    let mut keep = keep;
-    let mut from = 0;
-    for question in play.questions.as_slice() {
-        if question.keyed == keyed {
-            keep = taken_to(alloc, keep, way, play, from, question.place)?;
-            keep = asked(alloc, keep, question)?;
-            from = question.place;
-        }
-    }
-    taken_to(alloc, keep, way, play, from, play.steps.len())?;
+    let keep: TablesBy<K> = Sql.made(alloc)?;
+    told_over(alloc, &Sql, keep, play, keyed, way)?;
     Ok(())
 }
 
@@ -197,4 +218,31 @@ pub fn run_in_memory(alloc: Global, play: &Play) -> Result<(), Failure> {
 /// Runs a large story on few ways in memory.
 pub fn run_large_in_memory(alloc: Global, play: &Play) -> Result<(), Failure> {
     run_on(alloc, play, FEW_IN_MEMORY)
+}
+
+fn beside_values<K: PageKey>(alloc: Global, play: &Play) -> Result<(), Failure> {
+    let tables: TablesBy<K> = Sql.made(alloc)?;
+    match run_by_units(alloc, tables, play) {
+        Ok(()) => Ok(()),
+        Err(failure) => Err(failure.on(units::WAY)),
+    }
+}
+
+/// Tells a story to values and to tables side by side, by the one key of their pages and by the other.
+pub fn run_beside(alloc: Global, play: &Play) -> Result<(), Failure> {
+    beside_values::<ShaKey>(alloc, play)?;
+    beside_values::<FirstByte>(alloc, play)
+}
+
+/// Tells a story over links that break, over tables in memory.
+pub fn run_in_breaks(
+    alloc: Global,
+    play: &Play,
+    modes: Modes,
+    counts: &mut Counts,
+) -> Result<(), Failure> {
+    match run_broken::<TablesBy<ShaKey>, Sql>(alloc, &Sql, play, modes, counts) {
+        Ok(()) => Ok(()),
+        Err(failure) => Err(failure.on(breaking::WAY)),
+    }
 }

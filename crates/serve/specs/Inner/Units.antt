@@ -1,7 +1,7 @@
 -- Contracts between functions: what serving needs of a unit.
-use Rattle.std.specs.Prelude.{Bool, true, false, is_some}
+use Rattle.std.specs.Prelude.{ℕ, Bool, true, false, ◌&&◌, Option, Some, None, is_some}
 use Rattle.basis.specs.declared.rows.Look.{Look as AnyLook}
-use Rattle.basis.specs.declared.rows.Look.TheVariants as look
+use Rattle.machine.specs.Needs.{Needed, needs_of_look}
 use Rattle.machine.specs.declared.acts.WorkspaceUnit.{WorkspaceUnit}
 use Rattle.machine.specs.declared.acts.Unit.{Unit as AnyUnit}
 use Rattle.machine.specs.declared.acts.Unit.TheVariants.{Absent, Present}
@@ -13,15 +13,15 @@ abbrev pub holder_in : AnyUnit → Holder
 holder_in (Absent workspaces limit) = Nobody
 holder_in (Present u) = u.holder
 
--- whether what is told of is there, once its workspace is
-abbrev pub has_named : AnyLook → WorkspaceUnit → Bool
-has_named look.Workspace u = true
-has_named look.State u = true
-has_named (look.Version number) u = u.has_version
-has_named (look.Versions after) u = true
-has_named (look.Run number) u = is_some u.asked_run
-has_named (look.Runs after) u = true
+-- whether what is named is there, where a number is named
+abbrev pub if_named : Option ℕ → Bool → Bool
+if_named None there = true
+if_named (Some number) there = there
+
+-- whether what is named was seen, once the workspace is there
+abbrev pub sees_named : Needed → WorkspaceUnit → Bool
+sees_named need u = if_named need.version u.has_version && if_named need.run (is_some u.asked_run)
 
 abbrev pub is_present : AnyLook → AnyUnit → Bool
 is_present what (Absent workspaces limit) = false
-is_present what (Present u) = has_named what u
+is_present what (Present u) = sees_named (needs_of_look what) u

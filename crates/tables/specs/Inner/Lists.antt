@@ -1,7 +1,9 @@
 -- What lists read of the rows.
 use Rattle.std.specs.Prelude.{◌≡◌, ℕ, false, List, map, Option, Some, None, option_map, IsTrue, Result, IfOk, OnOk, OnErr}
+use Rattle.std.specs.Option.{unwrap_or}
 use Rattle.sqlite.specs.State.{State, HasCleanDisk, KeepsCommit}
 use Rattle.basis.specs.Listings.{listing_of}
+use Rattle.basis.specs.declared.numbers.TheConstants.{FIRST_KEPT}
 use Rattle.basis.specs.declared.rows.Listing.{Listing}
 use Rattle.basis.specs.declared.rows.RunRow.{RunRow}
 use Rattle.basis.specs.declared.rows.VersionRow.{VersionRow}
@@ -20,7 +22,7 @@ use Rattle.statements.specs.Finds.{cap_of, newest_of, workspaces_of}
 use Rattle.statements.specs.Listings.{organizations_in, token_rows_of, workspace_rows_after, version_rows_after, run_rows_after}
 use Rattle.statements.specs.Tables.{Tables, Holds}
 use Rattle.tables.specs.Inner.Looks.{StaysSeen}
-use Rattle.tables.specs.Records.{settings_of_cells, keep_at, holder_of_cells, caller_with, bounds_at}
+use Rattle.tables.specs.Records.{settings_of_cells, holder_of_cells, caller_with, bounds_at}
 
 -- no row changes, and the value is that of rows that obey a law; after a failure nothing is committed
 abbrev pub SeesWhere : {X E : Type 0} → (Tables → Type 0) → (Tables → X) → State → State → Result X E → Type 0
@@ -64,7 +66,7 @@ abbrev pub newest_number_in : List ℕ → List ℕ → Tables → Option ℕ
 newest_number_in org ws t = option_map (λ head. head.number) (newest_of org ws t)
 
 abbrev pub ws_row_in : List ℕ → Tables → NamedWorkspace → WsRow
-ws_row_in org t w = record { settings = settings_of_cells (keep_at t org w.name) w.it; holder = holder_id (holder_of_cells w.it.holder); name = w.name; version = newest_number_in org w.name t }
+ws_row_in org t w = record { settings = settings_of_cells (unwrap_or w.keep FIRST_KEPT) w.it; holder = holder_id (holder_of_cells w.it.holder); name = w.name; version = newest_number_in org w.name t }
 
 abbrev pub workspaces_listed_in : List ℕ → List ℕ → List ℕ → Tables → Listing WsRow
 workspaces_listed_in after prefix org t = listing_of (map (ws_row_in org t) (workspace_rows_after org after prefix asked_rows t))

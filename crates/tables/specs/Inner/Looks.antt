@@ -1,5 +1,5 @@
 -- What looks at a store leave and give.
-use Rattle.std.specs.Prelude.{◌≡◌, ℕ, false, cond, List, option_map, IsTrue, Result, IfOk, OnOk, OnErr}
+use Rattle.std.specs.Prelude.{◌≡◌, ℕ, false, cond, List, IsTrue, Result, IfOk, OnOk, OnErr}
 use Rattle.sqlite.specs.State.{State, HasCleanDisk, KeepsCommit}
 use Rattle.std.specs.Option.{unwrap_or}
 use Rattle.machine.specs.Needs.{Needed}
@@ -11,8 +11,8 @@ use Rattle.statements.specs.declared.rows.Holder.{Holder as HolderCells}
 use Rattle.statements.specs.declared.rows.Workspace.{Workspace as WorkspaceCells}
 use Rattle.statements.specs.Finds.{cap_of, workspaces_of, first_waiting_of, open_runs_of}
 use Rattle.statements.specs.Tables.{Tables, Holds}
-use Rattle.tables.specs.Records.{settings_of_cells, keep_at, holder_of_cells, run_of_cells}
-use Rattle.tables.specs.Inner.Units.{holder_status_in, newest_in, outgoing_in, has_version_in, asked_cells_in}
+use Rattle.tables.specs.Records.{settings_of_cells, holder_of_cells}
+use Rattle.tables.specs.Inner.Units.{holder_status_in, newest_in, keep_in, outgoing_in, has_version_in, asked_run_in}
 use Rattle.tables.specs.declared.looks.RunsAround.{RunsAround}
 use Rattle.tables.specs.declared.looks.Surroundings.{Surroundings}
 
@@ -38,15 +38,15 @@ pub record Sees {X E : Type 0} (read : Tables → X) (old new : State) (result :
 abbrev pub LooksBy : {X E : Type 0} → (Tables → X) → State → State → Result X E → Type 0
 LooksBy read old new result = HasCleanDisk new → IfOk result (λ x. IsTrue old.is_open × ((t : Tables) → Holds old.committed t → x ≡ read t)) × KeepsCommit old new
 
--- how many workspaces an organization has, where the act makes one, and how many it may have
+-- how many workspaces an organization has and how many it may have, where the act makes one
 abbrev pub absent_in : Needed → List ℕ → Tables → Unit
-absent_in need org t = Absent (cond need.makes (workspaces_of org t) 0) (unwrap_or (cap_of org t) 0)
+absent_in need org t = Absent (cond need.makes (workspaces_of org t) 0) (cond need.makes (unwrap_or (cap_of org t) 0) 0)
 
 abbrev pub runs_in : Needed → List ℕ → List ℕ → HolderCells → Tables → RunsAround
 runs_in need org ws holder t = record {
   holder_status = if_needed need.holder_status (holder_status_in org ws holder t);
   first_waiting = if_needed need.waiting (first_waiting_of org ws t);
-  asked_run = asked_cells_in need.run need.key org ws t;
+  asked_run = asked_run_in need.run need.key org ws t;
   open_runs = cond need.open_runs (open_runs_of org ws t) 0;
 }
 
@@ -70,9 +70,9 @@ unit_from keep w a = record {
   outgoing = a.outgoing;
   first_waiting = a.runs.first_waiting;
   has_version = a.has_version;
-  asked_run = option_map run_of_cells a.runs.asked_run;
+  asked_run = a.runs.asked_run;
   open_runs = a.runs.open_runs;
 }
 
 abbrev pub present_in : Needed → List ℕ → List ℕ → WorkspaceCells → Tables → Unit
-present_in need org ws w t = Present (unit_from (keep_at t org ws) w (around_in need org ws (keep_at t org ws) w.holder t))
+present_in need org ws w t = Present (unit_from (keep_in need.keep_versions org ws t) w (around_in need org ws (keep_in need.keep_versions org ws t) w.holder t))

@@ -1,6 +1,7 @@
 -- What a decision sees of a workspace, from what the queries find.
 use Rattle.std.specs.Prelude.{ℕ, Bool, false, ◌==◌, ◌-◌, cond, List, length, Option, Some, None, is_some, option_map}
 use Rattle.std.specs.Option.{unwrap_or}
+use Rattle.basis.specs.declared.numbers.TheConstants.{FIRST_KEPT}
 use Rattle.basis.specs.declared.runs.RunStatus.{RunStatus}
 use Rattle.machine.specs.Needs.{Needed}
 use Rattle.machine.specs.Units.{if_needed}
@@ -41,6 +42,10 @@ newest_by text org ws t head = record { number = head.number; serial = head.seri
 abbrev pub newest_in : Option (List ℕ) → List ℕ → List ℕ → Tables → Option Newest
 newest_in text org ws t = option_map (newest_by text org ws t) (newest_of org ws t)
 
+-- how many versions a workspace keeps, where that is needed, else what one keeps at first
+abbrev pub keep_in : Bool → List ℕ → List ℕ → Tables → ℕ
+keep_in needed org ws t = cond needed (keep_at t org ws) FIRST_KEPT
+
 -- the greatest number of the versions that go, of a workspace that keeps so many: those that stay stand behind it
 abbrev pub outgoing_in : Staying → ℕ → List ℕ → List ℕ → Tables → Option ℕ
 outgoing_in StayAll keep org ws t = None
@@ -66,16 +71,16 @@ abbrev pub asked_run_in : Option ℕ → Option (List ℕ) → List ℕ → List
 asked_run_in n key org ws t = option_map run_of_cells (asked_cells_in n key org ws t)
 
 abbrev pub unit_at : Needed → List ℕ → List ℕ → Tables → Option WorkspaceCells → AnyUnit
-unit_at need org ws t None = Absent (cond need.makes (workspaces_of org t) 0) (unwrap_or (cap_of org t) 0)
+unit_at need org ws t None = Absent (cond need.makes (workspaces_of org t) 0) (cond need.makes (unwrap_or (cap_of org t) 0) 0)
 unit_at need org ws t (Some w) = Present (record {
-  settings = settings_of_cells (keep_at t org ws) w;
+  settings = settings_of_cells (keep_in need.keep_versions org ws t) w;
   holder = holder_of_cells w.holder;
   holder_status = if_needed need.holder_status (holder_status_in org ws w.holder t);
   released = w.released;
   next_version = w.next_version;
   next_run = w.next_run;
   newest = if_needed need.newest (newest_in need.text org ws t);
-  outgoing = outgoing_in need.outgoing (keep_at t org ws) org ws t;
+  outgoing = outgoing_in need.outgoing (keep_in need.keep_versions org ws t) org ws t;
   first_waiting = if_needed need.waiting (first_waiting_of org ws t);
   has_version = has_version_in need.version org ws t;
   asked_run = asked_run_in need.run need.key org ws t;

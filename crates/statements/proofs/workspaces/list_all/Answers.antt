@@ -3,7 +3,7 @@ use Rattle.sqlite.specs.Held.{state}
 use Rattle.statements.specs.Listings.{workspace_rows_after, WorkspacesApart}
 use Rattle.statements.specs.Calls.{IsNamedRow, FirstRows}
 use Rattle.statements.proofs.Transactions.{lists_by}
-use Rattle.statements.proofs.WsTexts.{list_ws_text, list_ws_is_query}
+use Rattle.statements.proofs.WsListTexts.{list_ws_text, list_ws_is_query}
 use Rattle.statements.proofs.WsReads.{list_ws_shows}
 use Rattle.statements.proofs.workspaces.list_all.Goals as goal
 

@@ -5,8 +5,8 @@ use Rattle.machine.specs.Needs.{needed_of}
 use Rattle.machine.specs.declared.acts.Unit.{Unit}
 use Rattle.machine.specs.declared.acts.Unit.TheVariants.{Present}
 use Rattle.statements.specs.declared.rows.Workspace.{Workspace as WorkspaceCells}
+use Rattle.tables.specs.Inner.Units.{keep_in}
 use Rattle.tables.specs.Inner.Looks.{around_in, unit_from}
-use Rattle.tables.specs.Records.{keep_at}
 use Rattle.tables.specs.declared.looks.Surroundings.{Surroundings}
 use Rattle.tables.proofs.KeepFound.{seen_by_first}
 use Rattle.tables.proofs.looks.present.Goals as goal
@@ -21,6 +21,6 @@ returns g c =
     let ws = c.args.ws.now in
     let need = needed_of c.args.needs.now in
     rw c.in_ok-unit.ensures (record {
-      looks = seen_by_first Error Error Error (λ t. keep_at t org ws) (λ keep. around_in need org ws keep c.args.workspace.holder) (make c.args.workspace) c.in_ok-keep.keep c.in_ok-around.around
-          (state g.S.Store c.args.conn.now) (state g.S.Store c.keep.new.conn) (state g.S.Store c.around.new.conn) c.in_ok-keep.ensures.looks c.in_ok-around.ensures.looks;
+      looks = seen_by_first Error Error Error (keep_in need.keep_versions org ws) (λ keep. around_in need org ws keep c.args.workspace.holder) (make c.args.workspace) c.in_ok-keep.keep c.in_ok-around.around
+          (state g.S.Store c.args.conn.now) (state g.S.Store c.keep_if.new.conn) (state g.S.Store c.around.new.conn) c.in_ok-keep.ensures.looks c.in_ok-around.ensures.looks;
     })

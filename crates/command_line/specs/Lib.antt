@@ -1,0 +1,4 @@
+pub mod Bounds
+pub mod Commands
+pub mod Orders
+pub mod Words

@@ -1,0 +1,169 @@
+-- What the words of the program ask for, once `clap` has parted them.
+use Rattle.std.specs.Prelude.{ℕ, List, Option, Some, None, ◌&&◌, cond, option_map, option_and_then, bytes_eq, codes}
+use Rattle.std.specs.Borrow.{Bor}
+use Rattle.basis.specs.Names.{is_org_name}
+use Rattle.basis.specs.Numbers.{whole_of, within}
+use Rattle.basis.specs.declared.roles.Bounds.{Bounds}
+use Rattle.basis.specs.declared.roles.Role.{Role}
+use Rattle.clap.specs.Words.{Row, first_of, first_value}
+use Rattle.clap.specs.declared.parser.matches.Found.{Found}
+use Rattle.serve.specs.declared.steps.Admin as Operator
+use Rattle.serve.specs.declared.steps.Admin.TheVariants.{OrgList, TokenAdd}
+use Rattle.command_line.specs.Bounds.{bounds_given}
+use Rattle.command_line.specs.Commands.{limit_of, role_of, org_command, limit_command, list_command, revoke_command}
+use Rattle.command_line.specs.declared.orders.NewToken.{NewToken}
+use Rattle.command_line.specs.declared.orders.Values.{Values}
+use Rattle.command_line.specs.declared.orders.Order.{Order}
+use Rattle.command_line.specs.declared.orders.Order.TheVariants.{Carry, AddToken, Serve, Replay}
+use Rattle.command_line.specs.declared.timeouts.Timeouts.{Timeouts}
+
+-- what is asked for; a database is named by the path of its file
+pub data Asked : Type 0 where
+  -- an operator's command
+  carries : List ℕ → Operator.Admin → Asked
+  -- a token of this organization, name and role, with these bounds, its secret aside
+  adds_token : List ℕ → List ℕ → List ℕ → Role → Bounds → Asked
+  -- to serve at a port, so many connections, each waited for no longer than these timeouts
+  serves : List ℕ → ℕ → ℕ → Timeouts → Asked
+  -- to answer frames
+  replays : Asked
+
+-- the values among the words, by the names of their arguments
+pub record Given : Type 0 where
+  pub db : Option (List ℕ)
+  pub org : Option (List ℕ)
+  pub limit : Option (List ℕ)
+  pub name : Option (List ℕ)
+  pub role : Option (List ℕ)
+  pub until : Option (List ℕ)
+  pub prefix : Option (List ℕ)
+  pub port : Option (List ℕ)
+  pub count : Option (List ℕ)
+  pub idle : Option (List ℕ)
+  pub most : Option (List ℕ)
+
+-- a port: 1 to 65,535
+abbrev pub port_of : List ℕ → Option ℕ
+port_of word = option_and_then (within 1 65_535) (whole_of word)
+
+-- a number of connections: 1 to 1,000,000
+abbrev pub connections_of : List ℕ → Option ℕ
+connections_of word = option_and_then (within 1 1_000_000) (whole_of word)
+
+-- a time to wait: 1 to 3,600 seconds
+abbrev pub seconds_of : List ℕ → Option ℕ
+seconds_of word = option_and_then (within 1 3_600) (whole_of word)
+
+-- the seconds that are given, or the usual ones where none are
+abbrev pub seconds_or : ℕ → Option (List ℕ) → Option ℕ
+seconds_or usual (Some word) = seconds_of word
+seconds_or usual None = Some usual
+
+-- the limit that is given, or 200 where none is
+abbrev pub limit_or_first : Option (List ℕ) → Option ℕ
+limit_or_first (Some word) = limit_of word
+limit_or_first None = Some 200
+
+-- a command on the organization of this name
+abbrev pub command_on : List ℕ → List ℕ → Given → Option Operator.Admin
+command_on command org given =
+    cond (bytes_eq command (codes "org-add")) (org_command org (limit_or_first given.limit))
+    (cond (bytes_eq command (codes "org-limit")) (option_and_then (λ limit. limit_command org (limit_of limit)) given.limit)
+    (cond (bytes_eq command (codes "token-list")) (list_command org)
+    (cond (bytes_eq command (codes "token-revoke")) (option_and_then (λ name. revoke_command org name) given.name) None)))
+
+-- an operator's command that needs no secret
+abbrev pub command_in : List ℕ → Given → Option Operator.Admin
+command_in command given =
+    cond (bytes_eq command (codes "org-list")) (Some OrgList) (option_and_then (λ org. command_on command org given) given.org)
+
+-- a token, where organization, name, role and bounds read
+abbrev pub token_in : List ℕ → List ℕ → Option Role → Option Bounds → Option NewToken
+token_in org name role bounds =
+    cond (is_org_name org && is_org_name name) (option_and_then (λ r. option_map (λ b. record { org = org; name = name; role = r; bounds = b }) bounds) role) None
+
+abbrev pub token_asked : Given → Option NewToken
+token_asked given =
+    option_and_then (λ org. option_and_then (λ name. option_and_then (λ role. token_in org name (role_of role) (bounds_given given.until given.prefix)) given.role) given.name) given.org
+
+-- 10 seconds for a read or a write, and 120 for an exchange, unless others are given
+abbrev pub timeouts_asked : Given → Option Timeouts
+timeouts_asked given =
+    option_and_then (λ idle. option_map (λ most. record { idle = idle; most = most }) (seconds_or 120 given.most)) (seconds_or 10 given.idle)
+
+abbrev pub serving_asked : List ℕ → Given → Option Asked
+serving_asked db given =
+    option_and_then (λ port. option_and_then (λ count. option_map (λ timeouts. serves db port count timeouts) (timeouts_asked given)) (option_and_then connections_of given.count)) (option_and_then port_of given.port)
+
+-- a command on a file
+abbrev pub file_asked : List ℕ → List ℕ → Given → Option Asked
+file_asked command db given =
+    cond (bytes_eq command (codes "serve")) (serving_asked db given)
+    (cond (bytes_eq command (codes "token-add")) (option_map (λ token. adds_token db token.org token.name token.role token.bounds) (token_asked given))
+    (option_map (λ c. carries db c) (command_in command given)))
+
+-- what a command of this name asks for with these values
+abbrev pub asked_with : List ℕ → Given → Option Asked
+asked_with command given =
+    cond (bytes_eq command (codes "replay")) (Some replays) (option_and_then (λ db. file_asked command db given) given.db)
+
+-- the values of a command's arguments
+abbrev pub given_in : List Row → Given
+given_in rows = record {
+  db = first_of (codes "db") rows;
+  org = first_of (codes "org") rows;
+  limit = first_of (codes "limit") rows;
+  name = first_of (codes "name") rows;
+  role = first_of (codes "role") rows;
+  until = first_of (codes "until") rows;
+  prefix = first_of (codes "prefix") rows;
+  port = first_of (codes "port") rows;
+  count = first_of (codes "count") rows;
+  idle = first_of (codes "idle") rows;
+  most = first_of (codes "most") rows;
+}
+
+-- the same, of what a parse found
+abbrev pub given_found : Found → Given
+given_found found = record {
+  db = first_value found (codes "db");
+  org = first_value found (codes "org");
+  limit = first_value found (codes "limit");
+  name = first_value found (codes "name");
+  role = first_value found (codes "role");
+  until = first_value found (codes "until");
+  prefix = first_value found (codes "prefix");
+  port = first_value found (codes "port");
+  count = first_value found (codes "count");
+  idle = first_value found (codes "idle");
+  most = first_value found (codes "most");
+}
+
+abbrev pub text_in : Option (Bor (List ℕ)) → Option (List ℕ)
+text_in value = option_map (λ text. text.now) value
+
+abbrev pub given_of : Values → Given
+given_of values = record {
+  db = text_in values.db;
+  org = text_in values.org;
+  limit = text_in values.limit;
+  name = text_in values.name;
+  role = text_in values.role;
+  until = text_in values.until;
+  prefix = text_in values.prefix;
+  port = text_in values.port;
+  count = text_in values.count;
+  idle = text_in values.idle;
+  most = text_in values.most;
+}
+
+-- what an order says
+abbrev pub said_by : Order → Asked
+said_by (Carry db command) = carries db.now command
+said_by (AddToken db token) = adds_token db.now token.org token.name token.role token.bounds
+said_by (Serve db port count timeouts) = serves db.now port count timeouts
+said_by Replay = replays
+
+-- the command that adds a token with a secret
+abbrev pub with_secret : NewToken → List ℕ → Operator.Admin
+with_secret token secret = TokenAdd token.org token.name token.role secret token.bounds

@@ -1,0 +1,310 @@
+//! What the words of the program ask for, once `clap` has parted them.
+ghost use Rattle.std.specs.Prelude.{◌≡◌, ◌≤◌, ℕ, List, Option, Some, None, IfOk, IsErrOf, option_map, option_copied, option_and_then, IfSome};
+ghost use Rattle.basis.specs.Numbers.{whole_of, within};
+ghost use Rattle.clap.specs.Words.{found_of, first_value};
+ghost use Rattle.command_line.specs.Orders.{limit_or_first, command_on, command_in, token_in, token_asked, seconds_or, timeouts_asked, serving_asked, file_asked, asked_with, given_found, given_of, text_in, said_by, with_secret, port_of, connections_of, carries};
+ghost use Rattle.command_line.specs.Bounds.{bounds_given};
+ghost use Rattle.command_line.specs.Commands.{limit_of, limit_command, revoke_command};
+
+use crate::bounds::give_bounds;
+use crate::commands;
+use crate::timeouts::{IDLE_SECONDS, MOST_SECONDS, Seconds, Timeouts};
+use basis::numbers::{FIRST_LIMIT, whole_number};
+use basis::{Bounds, Limit, OrgName, Role, Secret, Unfit};
+use clap::ArgMatches;
+use serve::Admin;
+use std::alloc::Global;
+
+/// The greatest TCP port.
+pub const MAX_PORT: u64 = 65_535;
+
+/// The most connections that one `serve` answers.
+pub const MAX_COUNT: u64 = 1_000_000;
+
+/// A token whose secret is to be read.
+#[derive(Drop)]
+pub struct NewToken {
+    pub org: OrgName,
+    pub name: OrgName,
+    pub role: Role,
+    pub bounds: Bounds,
+}
+
+impl NewToken {
+    fn make(
+        alloc: Global,
+        org: &str,
+        name: &str,
+        role: Option<Role>,
+        until: Option<&str>,
+        prefix: Option<&str>,
+    ) -> Result<NewToken, Unfit>
+        ensures ok { IfOk result (λ token. token_in org.now name.now role (bounds_given (text_in until.entry) (text_in prefix.entry)) ≡ Some token) }
+        ensures syntax { IsErrOf result Unfit.Syntax → token_in org.now name.now role (bounds_given (text_in until.entry) (text_in prefix.entry)) ≡ None }
+    {
+        let Some(role) = role else {
+            return Err(Unfit::Syntax);
+        };
+        let org = OrgName::read(alloc, org)?;
+        let name = OrgName::read(alloc, name)?;
+        let bounds = give_bounds(alloc, until, prefix)?;
+        Ok(NewToken {
+            org,
+            name,
+            role,
+            bounds,
+        })
+    }
+
+    /// The command that adds the token with a secret.
+    pub fn with_secret(self, secret: Secret) -> Admin
+        ensures { result ≡ with_secret self secret }
+    {
+        let NewToken {
+            org,
+            name,
+            role,
+            bounds,
+        } = self;
+        Admin::TokenAdd {
+            org,
+            name,
+            role,
+            secret,
+            bounds,
+        }
+    }
+}
+
+/// What the words ask for. The file of a database is named by its path.
+#[derive(Drop)]
+pub enum Order<'a> {
+    /// To carry out an operator's command on a file.
+    Carry {
+        db: &'a str,
+        command: Admin,
+    },
+    /// To add a token on a file, once its secret is read.
+    AddToken {
+        db: &'a str,
+        token: NewToken,
+    },
+    /// To answer so many connections from a file, at a port of the loopback address.
+    Serve {
+        db: &'a str,
+        port: u16,
+        count: u32,
+        timeouts: Timeouts,
+    },
+    /// To answer frames over a database in memory.
+    Replay,
+}
+
+/// The values that stand among the words, by the names of their arguments; none where there is none.
+#[derive(Drop)]
+pub struct Values<'a> {
+    db: Option<&'a str>,
+    org: Option<&'a str>,
+    limit: Option<&'a str>,
+    name: Option<&'a str>,
+    role: Option<&'a str>,
+    until: Option<&'a str>,
+    prefix: Option<&'a str>,
+    port: Option<&'a str>,
+    count: Option<&'a str>,
+    idle: Option<&'a str>,
+    most: Option<&'a str>,
+}
+
+impl<'a> Values<'a> {
+    pub fn of(matches: &ArgMatches<'a>) -> Values<'a>
+        ensures { given_of result ≡ given_found (found_of matches.now) }
+    {
+        Values {
+            db: matches.get_str("db"),
+            org: matches.get_str("org"),
+            limit: matches.get_str("limit"),
+            name: matches.get_str("name"),
+            role: matches.get_str("role"),
+            until: matches.get_str("until"),
+            prefix: matches.get_str("prefix"),
+            port: matches.get_str("port"),
+            count: matches.get_str("count"),
+            idle: matches.get_str("idle"),
+            most: matches.get_str("most"),
+        }
+    }
+}
+
+fn number_up_to(value: &str, most: u64) -> Option<u64>
+    ensures number { result ≡ option_and_then (within 1 most) (whole_of value.now) }
+    ensures most { IfSome result (λ n. n ≤ most) }
+{
+    match whole_number(value) {
+        Some(number) if 1 <= number && number <= most => Some(number),
+        _ => None,
+    }
+}
+
+fn limit_or_first(value: Option<&str>) -> Option<Limit>
+    ensures { result ≡ limit_or_first (text_in value.entry) }
+{
+    match value {
+        Some(value) => commands::read_limit(value),
+        None => Limit::new(FIRST_LIMIT),
+    }
+}
+
+fn limit_command(alloc: Global, org: &str, limit: Option<&str>) -> Result<Admin, Unfit>
+    ensures ok { IfOk result (λ command. option_and_then (λ text. limit_command org.now (limit_of text)) (text_in limit.entry) ≡ Some command) }
+    ensures syntax { IsErrOf result Unfit.Syntax → option_and_then (λ text. limit_command org.now (limit_of text)) (text_in limit.entry) ≡ None }
+{
+    match limit {
+        Some(limit) => commands::org_limit(alloc, org, commands::read_limit(limit)),
+        None => Err(Unfit::Syntax),
+    }
+}
+
+fn revoke_command(alloc: Global, org: &str, name: Option<&str>) -> Result<Admin, Unfit>
+    ensures ok { IfOk result (λ command. option_and_then (λ text. revoke_command org.now text) (text_in name.entry) ≡ Some command) }
+    ensures syntax { IsErrOf result Unfit.Syntax → option_and_then (λ text. revoke_command org.now text) (text_in name.entry) ≡ None }
+{
+    match name {
+        Some(name) => commands::token_revoke(alloc, org, name),
+        None => Err(Unfit::Syntax),
+    }
+}
+
+fn command_on(alloc: Global, command: &str, org: &str, values: &Values<'_>) -> Result<Admin, Unfit>
+    ensures ok { IfOk result (λ asked. command_on command.now org.now (given_of values.now) ≡ Some asked) }
+    ensures syntax { IsErrOf result Unfit.Syntax → command_on command.now org.now (given_of values.now) ≡ None }
+{
+    match command {
+        "org-add" => commands::org_add(alloc, org, limit_or_first(values.limit)),
+        "org-limit" => limit_command(alloc, org, values.limit),
+        "token-list" => commands::token_list(alloc, org),
+        "token-revoke" => revoke_command(alloc, org, values.name),
+        _ => Err(Unfit::Syntax),
+    }
+}
+
+fn command_in(alloc: Global, command: &str, values: &Values<'_>) -> Result<Admin, Unfit>
+    ensures ok { IfOk result (λ asked. command_in command.now (given_of values.now) ≡ Some asked) }
+    ensures syntax { IsErrOf result Unfit.Syntax → command_in command.now (given_of values.now) ≡ None }
+{
+    if command == "org-list" {
+        return Ok(Admin::OrgList);
+    }
+    match values.org {
+        Some(org) => command_on(alloc, command, org, values),
+        None => Err(Unfit::Syntax),
+    }
+}
+
+fn new_token(alloc: Global, values: &Values<'_>) -> Result<NewToken, Unfit>
+    ensures ok { IfOk result (λ token. token_asked (given_of values.now) ≡ Some token) }
+    ensures syntax { IsErrOf result Unfit.Syntax → token_asked (given_of values.now) ≡ None }
+{
+    match (values.org, values.name, values.role) {
+        (Some(org), Some(name), Some(role)) => {
+            let role = commands::read_role(role);
+            NewToken::make(alloc, org, name, role, values.until, values.prefix)
+        }
+        _ => Err(Unfit::Syntax),
+    }
+}
+
+fn port_of(value: Option<&str>) -> Option<u16>
+    ensures { result ≡ option_and_then port_of (text_in value.entry) }
+{
+    let number = number_up_to(value?, MAX_PORT)?;
+    Some(number as u16)
+}
+
+fn count_of(value: Option<&str>) -> Option<u32>
+    ensures { result ≡ option_and_then connections_of (text_in value.entry) }
+{
+    let number = number_up_to(value?, MAX_COUNT)?;
+    Some(number as u32)
+}
+
+fn seconds_or(value: Option<&str>, usual: Seconds) -> Option<Seconds>
+    ensures { result ≡ seconds_or usual (text_in value.entry) }
+{
+    match value {
+        Some(value) => whole_number(value).and_then(Seconds::new),
+        None => Some(usual),
+    }
+}
+
+fn timeouts_of(values: &Values<'_>) -> Option<Timeouts>
+    ensures { result ≡ timeouts_asked (given_of values.now) }
+{
+    let idle = seconds_or(values.idle, Seconds::new(IDLE_SECONDS).unwrap())?;
+    let most = seconds_or(values.most, Seconds::new(MOST_SECONDS).unwrap())?;
+    Some(Timeouts { idle, most })
+}
+
+fn serving<'a>(db: &'a str, values: &Values<'a>) -> Option<Order<'a>>
+    ensures { option_map said_by result ≡ serving_asked db.entry.now (given_of values.now) }
+{
+    let port = port_of(values.port)?;
+    let count = count_of(values.count)?;
+    let timeouts = timeouts_of(values)?;
+    Some(Order::Serve {
+        db,
+        port,
+        count,
+        timeouts,
+    })
+}
+
+fn carrying<'a>(
+    alloc: Global,
+    command: &str,
+    db: &'a str,
+    values: &Values<'a>,
+) -> Result<Order<'a>, Unfit>
+    ensures ok { IfOk result (λ order. option_map (λ c. carries db.entry.now c) (command_in command.now (given_of values.now)) ≡ Some (said_by order)) }
+    ensures syntax { IsErrOf result Unfit.Syntax → option_map (λ c. carries db.entry.now c) (command_in command.now (given_of values.now)) ≡ None }
+{
+    match command_in(alloc, command, values) {
+        Ok(command) => Ok(Order::Carry { db, command }),
+        Err(unfit) => Err(unfit),
+    }
+}
+
+fn on_file<'a>(
+    alloc: Global,
+    command: &str,
+    db: &'a str,
+    values: &Values<'a>,
+) -> Result<Order<'a>, Unfit>
+    ensures ok { IfOk result (λ order. file_asked command.now db.entry.now (given_of values.now) ≡ Some (said_by order)) }
+    ensures syntax { IsErrOf result Unfit.Syntax → file_asked command.now db.entry.now (given_of values.now) ≡ None }
+{
+    match command {
+        "serve" => serving(db, values).ok_or(Unfit::Syntax),
+        "token-add" => Ok(Order::AddToken {
+            db,
+            token: new_token(alloc, values)?,
+        }),
+        _ => carrying(alloc, command, db, values),
+    }
+}
+
+impl<'a> Order<'a> {
+    /// What a command of this name asks for with these values.
+    pub fn read(alloc: Global, command: &str, values: &Values<'a>) -> Result<Order<'a>, Unfit>
+        ensures ok { IfOk result (λ order. asked_with command.now (given_of values.now) ≡ Some (said_by order)) }
+        ensures syntax { IsErrOf result Unfit.Syntax → asked_with command.now (given_of values.now) ≡ None }
+    {
+        if command == "replay" {
+            return Ok(Order::Replay);
+        }
+        match values.db {
+            Some(db) => on_file(alloc, command, db, values),
+            None => Err(Unfit::Syntax),
+        }
+    }
+}

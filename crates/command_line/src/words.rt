@@ -1,0 +1,291 @@
+//! The words of the program, by `clap`. Its types stay here.
+
+ghost use Rattle.std.specs.Prelude.{◌≡◌, ◌<◌, ◌⊎◌, IfOk, IfErr, IsErrOf, None, Some, [], codes, length, string_bytes, ℕ, List};
+ghost use Rattle.clap.specs.Words.{app_of, subcommand_of, subcommand_rows_of, HasKind, FailsBy, IsAmong, App, Rule, new_app, with_rule, with_subcommand};
+ghost use Rattle.command_line.specs.Orders.{said_by};
+ghost use Rattle.command_line.specs.Words.{words_bytes, database, organization, option_rule, value_rule, org_add, org_limit, org_list, token_add, token_list, token_revoke, serve, replay, bare, custody, faults, asked_by_command, asked_in, with_organizations, with_tokens, with_running, with_bounds, with_timeouts, IsWhy, IsArg, IsCommand};
+
+use crate::orders::{Order, Values};
+use basis::{Down, Unfit};
+use clap::error::ErrorKind;
+use clap::{Arg, ArgMatches, Command, Error};
+use std::alloc::{AllocError, Global};
+
+/// Why the words ask for nothing that is carried out.
+#[derive(Drop)]
+pub enum Unasked {
+    /// Help is asked for: this is its text.
+    Help(String),
+    /// The words aren't those of a command: this text says which.
+    Words(String),
+    /// A value among them isn't of its form.
+    Value,
+    Down,
+}
+
+fn option<'a>(alloc: Global, id: &'a str, required: bool, value: &'a str, help: &'a str) -> Arg<'a>
+    ensures { IsArg result (option_rule id.entry.now required) }
+{
+    Arg::new(alloc, id)
+        .long(id)
+        .value_name(value)
+        .required(required)
+        .help(help)
+}
+
+fn value<'a>(alloc: Global, id: &'a str, value: &'a str, help: &'a str) -> Arg<'a>
+    ensures { IsArg result (value_rule id.entry.now) }
+{
+    Arg::new(alloc, id)
+        .value_name(value)
+        .required(true)
+        .help(help)
+}
+
+fn database<'a>(alloc: Global) -> Arg<'a>
+    ensures { IsArg result database }
+{
+    let help = "The file of the database. It is made where there is none";
+    option(alloc, "db", true, "PATH", help)
+}
+
+fn organization<'a>(alloc: Global) -> Arg<'a>
+    ensures { IsArg result organization }
+{
+    let help = "The organization: 1 to 40 of a-z, 0-9 and '-', the first a letter";
+    value(alloc, "org", "ORG", help)
+}
+
+fn token_name<'a>(alloc: Global) -> Arg<'a>
+    ensures { IsArg result (value_rule (codes "name")) }
+{
+    let help = "The token's name: 1 to 40 of a-z, 0-9 and '-', the first a letter";
+    value(alloc, "name", "NAME", help)
+}
+
+fn command<'a>(alloc: Global, name: &'a str, about: &'a str) -> Command<'a>
+    ensures { IsCommand result (new_app name.entry.now) }
+{
+    Command::new(alloc, name).about(about)
+}
+
+fn with_arg<'a>(command: Command<'a>, arg: Arg<'a>) -> Result<Command<'a>, AllocError>
+    ensures { (app : App) (rule : Rule) → IsCommand command.entry app → IsArg arg.entry rule → IfOk result (λ whole. IsCommand whole (with_rule app rule)) }
+{
+    command.arg(arg)
+}
+
+fn with_command<'a>(command: Command<'a>, one: Command<'a>) -> Result<Command<'a>, AllocError>
+    ensures { (app : App) (sub : App) → IsCommand command.entry app → IsCommand one.entry sub → IfOk result (λ whole. IsCommand whole (with_subcommand app sub.top)) }
+{
+    command.subcommand(one)
+}
+
+fn org_add<'a>(alloc: Global) -> Result<Command<'a>, AllocError>
+    ensures { IfOk result (λ command. IsCommand command org_add) }
+{
+    let help = "How many workspaces it may have: 0 to 100000; 200 without";
+    let bare = command(alloc, "org-add", "Adds an organization");
+    let on_file = with_arg(bare, database(alloc))?;
+    let limited = with_arg(on_file, option(alloc, "limit", false, "N", help))?;
+    with_arg(limited, organization(alloc))
+}
+
+fn org_limit<'a>(alloc: Global) -> Result<Command<'a>, AllocError>
+    ensures { IfOk result (λ command. IsCommand command org_limit) }
+{
+    let about = "Sets how many workspaces an organization may have";
+    let help = "How many workspaces it may have: 0 to 100000; what there is stays";
+    let bare = command(alloc, "org-limit", about);
+    let on_file = with_arg(bare, database(alloc))?;
+    let of_one = with_arg(on_file, organization(alloc))?;
+    with_arg(of_one, value(alloc, "limit", "N", help))
+}
+
+fn org_list<'a>(alloc: Global) -> Result<Command<'a>, AllocError>
+    ensures { IfOk result (λ command. IsCommand command org_list) }
+{
+    let about = "Lists all organizations: a line `ORG WORKSPACES LIMIT` each";
+    let bare = command(alloc, "org-list", about);
+    with_arg(bare, database(alloc))
+}
+
+fn token_add<'a>(alloc: Global) -> Result<Command<'a>, AllocError>
+    ensures { IfOk result (λ command. IsCommand command token_add) }
+{
+    let about =
+        "Adds a token; its secret, 16 to 64 ASCII letters or digits, is the line of standard input";
+    let help = "What the token may do: read, write or admin";
+    let bare = command(alloc, "token-add", about);
+    let on_file = with_arg(bare, database(alloc))?;
+    let bounded = with_bounds(alloc, on_file)?;
+    let of_one = with_arg(bounded, organization(alloc))?;
+    let named = with_arg(of_one, token_name(alloc))?;
+    with_arg(named, value(alloc, "role", "ROLE", help))
+}
+
+fn with_bounds<'a>(alloc: Global, bare: Command<'a>) -> Result<Command<'a>, AllocError>
+    ensures { (app : App) → IsCommand bare.entry app → IfOk result (λ whole. IsCommand whole (with_bounds app)) }
+{
+    let until_help =
+        "From this moment on the token doesn't count, in seconds since 1970: 0 to 253402300799; without, it doesn't end";
+    let prefix_help =
+        "The token counts for the workspaces whose names begin so: 0 to 90 ASCII letters, digits, '-' and '_'; without, for each";
+    let ending = with_arg(bare, option(alloc, "until", false, "SECONDS", until_help))?;
+    with_arg(ending, option(alloc, "prefix", false, "TEXT", prefix_help))
+}
+
+fn token_list<'a>(alloc: Global) -> Result<Command<'a>, AllocError>
+    ensures { IfOk result (λ command. IsCommand command token_list) }
+{
+    let about =
+        "Lists an organization's tokens: a line `NAME ROLE UNTIL PREFIX` each, '-' for no end and for every workspace";
+    let bare = command(alloc, "token-list", about);
+    let on_file = with_arg(bare, database(alloc))?;
+    with_arg(on_file, organization(alloc))
+}
+
+fn token_revoke<'a>(alloc: Global) -> Result<Command<'a>, AllocError>
+    ensures { IfOk result (λ command. IsCommand command token_revoke) }
+{
+    let bare = command(alloc, "token-revoke", "Takes a token away");
+    let on_file = with_arg(bare, database(alloc))?;
+    let of_one = with_arg(on_file, organization(alloc))?;
+    with_arg(of_one, token_name(alloc))
+}
+
+fn serve<'a>(alloc: Global) -> Result<Command<'a>, AllocError>
+    ensures { IfOk result (λ command. IsCommand command serve) }
+{
+    let about = "Answers Terraform and runners on the loopback address";
+    let port_help = "The TCP port of 127.0.0.1: 1 to 65535";
+    let count_help = "How many connections are answered, one after the other: 1 to 1000000";
+    let bare = command(alloc, "serve", about);
+    let on_file = with_arg(bare, database(alloc))?;
+    let at_port = with_arg(on_file, option(alloc, "port", true, "P", port_help))?;
+    let counted = with_arg(at_port, option(alloc, "count", true, "N", count_help))?;
+    with_timeouts(alloc, counted)
+}
+
+fn with_timeouts<'a>(alloc: Global, bare: Command<'a>) -> Result<Command<'a>, AllocError>
+    ensures { (app : App) → IsCommand bare.entry app → IfOk result (λ whole. IsCommand whole (with_timeouts app)) }
+{
+    let idle_help =
+        "A read or a write that gets nothing through for so long ends its connection: 1 to 3600; 10 without";
+    let most_help = "A connection that lasts longer is ended: 1 to 3600; 120 without";
+    let waiting = with_arg(bare, option(alloc, "idle", false, "SECONDS", idle_help))?;
+    with_arg(waiting, option(alloc, "most", false, "SECONDS", most_help))
+}
+
+fn replay<'a>(alloc: Global) -> Command<'a>
+    ensures { IsCommand result replay }
+{
+    let about = "Answers frames of standard input over a database in memory";
+    command(alloc, "replay", about)
+}
+
+fn bare<'a>(alloc: Global) -> Result<Command<'a>, AllocError>
+    ensures { IfOk result (λ whole. IsCommand whole bare) }
+{
+    Command::new(alloc, "custody")
+        .about("Keeps Terraform state: who may change which state, and when")
+        .no_binary_name(true)
+        .subcommand_required(true)
+        .arg_required_else_help(true)
+        .bin_name("custody")
+}
+
+fn with_organizations<'a>(alloc: Global, bare: Command<'a>) -> Result<Command<'a>, AllocError>
+    ensures { (app : App) → IsCommand bare.entry app → IfOk result (λ whole. IsCommand whole (with_organizations app)) }
+{
+    let adding = with_command(bare, org_add(alloc)?)?;
+    let limiting = with_command(adding, org_limit(alloc)?)?;
+    with_command(limiting, org_list(alloc)?)
+}
+
+fn with_tokens<'a>(alloc: Global, bare: Command<'a>) -> Result<Command<'a>, AllocError>
+    ensures { (app : App) → IsCommand bare.entry app → IfOk result (λ whole. IsCommand whole (with_tokens app)) }
+{
+    let adding = with_command(bare, token_add(alloc)?)?;
+    let listing = with_command(adding, token_list(alloc)?)?;
+    with_command(listing, token_revoke(alloc)?)
+}
+
+fn with_running<'a>(alloc: Global, bare: Command<'a>) -> Result<Command<'a>, AllocError>
+    ensures { (app : App) → IsCommand bare.entry app → IfOk result (λ whole. IsCommand whole (with_running app)) }
+{
+    let serving = with_command(bare, serve(alloc)?)?;
+    with_command(serving, replay(alloc))
+}
+
+fn custody<'a>(alloc: Global) -> Result<Command<'a>, AllocError>
+    ensures { IfOk result (λ whole. app_of whole ≡ custody) }
+{
+    let bare = bare(alloc)?;
+    let organizations = with_organizations(alloc, bare)?;
+    let tokens = with_tokens(alloc, organizations)?;
+    with_running(alloc, tokens)
+}
+
+fn matched<'a>(alloc: Global, words: &'a [String]) -> Result<ArgMatches<'a>, Error>
+    ensures kinds { FailsBy (faults (words_bytes words.entry.now)) result }
+    ensures found { IfOk result (λ matches. subcommand_rows_of matches ≡ subcommand_of custody (words_bytes words.entry.now)) }
+{
+    let command = custody(alloc)?;
+    command.try_get_matches_from(words)
+}
+
+// The text of an error; there is some.
+fn text_of(alloc: Global, error: &Error) -> Result<String, Down>
+    ensures { IfOk result (λ text. 0 < length (string_bytes text)) }
+{
+    match format!(in alloc; "{error}") {
+        Ok(text) if !text.is_empty() => Ok(text),
+        _ => Err(Down),
+    }
+}
+
+fn why(kind: ErrorKind, text: String) -> Unasked
+    ensures { (words : List (List ℕ)) → (kind ≡ ErrorKind.OutOfMemory) ⊎ IsAmong kind (faults words) → 0 < length (string_bytes text) → IsWhy words result }
+{
+    match kind {
+        ErrorKind::DisplayHelp => Unasked::Help(text),
+        ErrorKind::OutOfMemory => Unasked::Down,
+        _ => Unasked::Words(text),
+    }
+}
+
+fn unmatched(alloc: Global, error: Error) -> Unasked
+    ensures { (words : List (List ℕ)) → HasKind (faults words) error → IsWhy words result }
+{
+    match text_of(alloc, &error) {
+        Ok(text) => why(error.kind(), text),
+        Err(_) => Unasked::Down,
+    }
+}
+
+fn ordered<'a>(alloc: Global, matches: &ArgMatches<'a>) -> Result<Order<'a>, Unfit>
+    ensures ok { IfOk result (λ order. asked_by_command (subcommand_rows_of matches.now) ≡ Some (said_by order)) }
+    ensures syntax { IsErrOf result Unfit.Syntax → asked_by_command (subcommand_rows_of matches.now) ≡ None }
+{
+    match matches.subcommand() {
+        Some((name, inner)) => Order::read(alloc, name, &Values::of(inner)),
+        None => Err(Unfit::Syntax),
+    }
+}
+
+/// What the words ask for; they come without the program's name.
+pub fn read_words<'a>(alloc: Global, words: &'a [String]) -> Result<Order<'a>, Unasked>
+    ensures asked { IfOk result (λ order. asked_in (words_bytes words.entry.now) ≡ Some (said_by order)) }
+    ensures why { IfErr result (IsWhy (words_bytes words.entry.now)) }
+{
+    let matches = match matched(alloc, words) {
+        Ok(matches) => matches,
+        Err(error) => return Err(unmatched(alloc, error)),
+    };
+    match ordered(alloc, &matches) {
+        Ok(order) => Ok(order),
+        Err(Unfit::Syntax) => Err(Unasked::Value),
+        Err(Unfit::Down) => Err(Unasked::Down),
+    }
+}

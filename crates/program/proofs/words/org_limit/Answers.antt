@@ -1,7 +1,0 @@
-use Rattle.program.proofs.words.org_limit.Goals as goal
-
-pub returns : goal.returns
-returns c =
-    let first = c.in_ok-on_file.ensures _ _ c.command-bare.ensures c.database.ensures in
-    let second = c.in_ok-of_one.ensures _ _ first c.organization.ensures in
-    c.with_arg-3.ensures _ _ second c.value.ensures

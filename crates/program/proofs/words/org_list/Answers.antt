@@ -1,5 +1,0 @@
-use Rattle.program.proofs.words.org_list.Goals as goal
-
-pub returns : goal.returns
-returns c =
-    c.with_arg.ensures _ _ c.command-bare.ensures c.database.ensures

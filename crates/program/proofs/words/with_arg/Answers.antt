@@ -1,8 +1,0 @@
-use Rattle.std.proofs.Common.{◌∙◌, ◌||◌, ap₂}
-use Rattle.std.proofs.lemmas.Result.{IfOk-weaker}
-use Rattle.clap.specs.Words.{with_rule}
-use Rattle.program.proofs.words.with_arg.Goals as goal
-
-pub returns : goal.returns
-returns c app rule is_app is_rule =
-    IfOk-weaker c.arg.result _ _ (λ whole added. (added.shape is_rule.1 ∙ ap₂ with_rule is_app.0 is_rule.0, added.globals ∙ ap₂ ◌||◌ is_app.1 is_rule.1)) c.arg.ensures

@@ -1,0 +1,43 @@
+//! An operator's command, by the words that a frame has; and the list of tokens, which no frame asks for.
+use basis::{Moment, OrgName, Unfit};
+use program::headings::Heading;
+use program::lines::split_words;
+use serve::{Admin, Step};
+use std::alloc::{AllocError, Global};
+use telling::plays::ReadsCommands;
+
+// The line of a frame.
+fn frame_line(alloc: Global, at: Moment, words: &str) -> Result<String, AllocError> {
+    format!(in alloc; "at {} admin {words}", at.seconds())
+}
+
+// What lists the tokens of an organization.
+fn list_of(alloc: Global, at: Moment, org: &str) -> Result<Step, Unfit> {
+    let org = OrgName::read(alloc, org)?;
+    Ok(Step::Command {
+        at,
+        command: Admin::TokenList { org },
+    })
+}
+
+// What a frame with these words asks for.
+fn framed(alloc: Global, at: Moment, words: &str) -> Result<Step, Unfit> {
+    let line = frame_line(alloc, at, words)?;
+    let words = split_words(alloc, line.as_str().as_bytes())?;
+    match Heading::read(alloc, words.as_slice())? {
+        Heading::Command { at, command } => Ok(Step::Command { at, command }),
+        Heading::Request { .. } => Err(Unfit::Syntax),
+    }
+}
+
+/// Reads commands as frames have them.
+pub struct FrameWords;
+
+impl ReadsCommands for FrameWords {
+    fn read(&self, alloc: Global, at: Moment, words: &str) -> Result<Step, Unfit> {
+        match words.split_once(' ') {
+            Some(("token-list", org)) => list_of(alloc, at, org),
+            _ => framed(alloc, at, words),
+        }
+    }
+}

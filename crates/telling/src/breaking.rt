@@ -1,0 +1,223 @@
+//! A story of requests told over links that break, over tables: after each break stands there what the story says.
+use crate::devices::{ALL, Stop};
+use crate::failures::Failure;
+use crate::links::{Asked, Break, break_link, line_in};
+use crate::modes::{Counts, Modes};
+use crate::plays::Play;
+use crate::stores::{Looks, Makes, checked, record_at, records_of};
+use crate::taking::{Way, taken_to};
+use machine::Keep;
+use serve::{Service, Step};
+use std::alloc::Global;
+
+/// The name of this way.
+pub const WAY: &str = "links that break";
+
+/// The most bytes that readers give at a time.
+const READERS: &[usize] = &[1, 7, ALL];
+
+/// What breaks under each of a story's own requests.
+#[derive(Clone, Copy)]
+enum Breaks<'s> {
+    /// Each read, by a reader that gives so many bytes at a time.
+    Reads(usize, Modes),
+    /// The reply, at this byte; what stands in the tables before each own step and behind the last.
+    Writes(usize, Stop, &'s [Vec<u8>]),
+}
+
+// The tables before the story's own first step.
+fn begun<K: Keep + Drop, M: Makes<K>>(alloc: Global, makes: &M, play: &Play) -> Result<K, Failure> {
+    let keep = makes.made(alloc)?;
+    taken_to(alloc, keep, Way::Replay, play, 0, play.own)
+}
+
+// The request of a place, and what is due to it; none where an operator's command stands.
+fn asked_at(play: &Play, place: usize) -> Option<Asked<'_>> {
+    let step = play.steps.get(place)?;
+    let due = play.due.get(place)?;
+    match step {
+        Step::Request { at, bytes } => Some(Asked::new(*at, bytes.as_slice(), due)),
+        Step::Command { .. } => None,
+    }
+}
+
+// The request over a link that breaks. The store is given back.
+fn over_link<K: Keep + Drop>(
+    alloc: Global,
+    keep: K,
+    asked: &Asked<'_>,
+    how: Break,
+    counts: &mut Counts,
+) -> Result<K, Failure> {
+    let mut service = Service::new(keep);
+    let broken = break_link(alloc, &mut service, asked, how, counts);
+    let keep = service.into_keep();
+    match broken {
+        Ok(()) => Ok(keep),
+        Err(failure) => Err(failure),
+    }
+}
+
+// The request is cut, and its reads fail; and then it comes whole.
+fn read_one<K: Keep + Drop, L: Looks<K>>(
+    alloc: Global,
+    looks: &L,
+    keep: K,
+    asked: &Asked<'_>,
+    most: usize,
+    modes: Modes,
+    counts: &mut Counts,
+) -> Result<K, Failure> {
+    let (keep, before) = looks.recorded(alloc, keep, asked.line, false)?;
+    let keep = over_link(alloc, keep, asked, Break::Reads(most, modes), counts)?;
+    let keep = checked(alloc, looks, keep, asked.line, before.as_slice(), false)?;
+    over_link(alloc, keep, asked, Break::Nothing(most), counts)
+}
+
+// Where the line that says to go on isn't written, no step is taken: the request comes whole then. Else the step is taken.
+// A request whose reply has fewer bytes comes whole.
+fn write_one<K: Keep + Drop, L: Looks<K>>(
+    alloc: Global,
+    looks: &L,
+    keep: K,
+    asked: &Asked<'_>,
+    around: (&[u8], &[u8]),
+    stops_at: usize,
+    stop: Stop,
+    counts: &mut Counts,
+) -> Result<K, Failure> {
+    let whole = Break::Nothing(ALL);
+    if asked.due.len() < stops_at {
+        return over_link(alloc, keep, asked, whole, counts);
+    }
+    let is_taken = stops_at > line_in(asked.due);
+    let due = if is_taken { around.1 } else { around.0 };
+    let keep = over_link(alloc, keep, asked, Break::Write(stops_at, stop), counts)?;
+    let keep = checked(alloc, looks, keep, asked.line, due, false)?;
+    if is_taken {
+        Ok(keep)
+    } else {
+        over_link(alloc, keep, asked, whole, counts)
+    }
+}
+
+// The request of a place over links that break.
+fn break_one<K: Keep + Drop, L: Looks<K>>(
+    alloc: Global,
+    looks: &L,
+    keep: K,
+    play: &Play,
+    place: usize,
+    asked: &Asked<'_>,
+    breaks: &Breaks<'_>,
+    counts: &mut Counts,
+) -> Result<K, Failure> {
+    match breaks {
+        Breaks::Reads(most, modes) => read_one(alloc, looks, keep, asked, *most, *modes, counts),
+        Breaks::Writes(stops_at, stop, records) => {
+            let before = record_at(records, play, place);
+            let after = record_at(records, play, place.saturating_add(1));
+            write_one(
+                alloc,
+                looks,
+                keep,
+                asked,
+                (before, after),
+                *stops_at,
+                *stop,
+                counts,
+            )
+        }
+    }
+}
+
+// The story's own steps, each request over links that break.
+fn break_each<K: Keep + Drop, T: Makes<K> + Looks<K>>(
+    alloc: Global,
+    tables: &T,
+    play: &Play,
+    breaks: &Breaks<'_>,
+    counts: &mut Counts,
+) -> Result<(), Failure> {
+    let mut keep: K = begun(alloc, tables, play)?;
+    for place in play.own..play.steps.len() {
+        let next = place.saturating_add(1);
+        keep = match asked_at(play, place) {
+            Some(asked) => break_one(alloc, tables, keep, play, place, &asked, breaks, counts)?,
+            None => taken_to(alloc, keep, Way::Replay, play, place, next)?,
+        };
+    }
+    Ok(())
+}
+
+// How many of the story's own requests have a reply of so many bytes.
+fn count_of(play: &Play, stops_at: usize) -> usize {
+    let mut count = 0usize;
+    for place in play.own..play.steps.len() {
+        if let Some(asked) = asked_at(play, place) {
+            if asked.due.len() >= stops_at {
+                count = count.saturating_add(1);
+            }
+        }
+    }
+    count
+}
+
+// The reply to each of the story's own requests stops at each byte. It ends with the longest.
+fn stop_writes<K: Keep + Drop, T: Makes<K> + Looks<K>>(
+    alloc: Global,
+    tables: &T,
+    play: &Play,
+    records: &[Vec<u8>],
+    stop: Stop,
+    counts: &mut Counts,
+) -> Result<(), Failure> {
+    for stops_at in 1..=ALL {
+        let count = count_of(play, stops_at);
+        if count == 0 {
+            return Ok(());
+        }
+        let breaks = Breaks::Writes(stops_at, stop, records);
+        break_each::<K, T>(alloc, tables, play, &breaks, counts)?;
+        counts.writes = counts.writes.saturating_add(count);
+    }
+    Ok(())
+}
+
+fn break_writes<K: Keep + Drop, T: Makes<K> + Looks<K>>(
+    alloc: Global,
+    tables: &T,
+    play: &Play,
+    counts: &mut Counts,
+) -> Result<(), Failure> {
+    let keep: K = begun(alloc, tables, play)?;
+    let (_, records) = records_of(alloc, tables, keep, play, Way::Replay, false)?;
+    stop_writes::<K, T>(alloc, tables, play, records.as_slice(), Stop::Fails, counts)?;
+    stop_writes::<K, T>(
+        alloc,
+        tables,
+        play,
+        records.as_slice(),
+        Stop::TakesNone,
+        counts,
+    )
+}
+
+/// Tells a story's own requests over links that break.
+pub fn run_broken<K: Keep + Drop, T: Makes<K> + Looks<K>>(
+    alloc: Global,
+    tables: &T,
+    play: &Play,
+    modes: Modes,
+    counts: &mut Counts,
+) -> Result<(), Failure> {
+    if modes.cut || modes.reads {
+        for most in READERS {
+            break_each::<K, T>(alloc, tables, play, &Breaks::Reads(*most, modes), counts)?;
+        }
+    }
+    if modes.writes {
+        break_writes::<K, T>(alloc, tables, play, counts)?;
+    }
+    Ok(())
+}

@@ -1,0 +1,96 @@
+//! What is asked of the stores to which stories are told, beside what the service asks of them.
+use crate::failures::{Failure, compare_bytes};
+use crate::keyed::Keyed;
+use crate::plays::{Play, Question};
+use crate::stopping::line_at;
+use crate::taking::{Way, taken_to};
+use basis::Down;
+use machine::Keep;
+use std::alloc::Global;
+
+/// Makes stores.
+pub trait Makes<K: Keep + Drop> {
+    /// A store with no organization.
+    fn made(&self, alloc: Global) -> Result<K, Down>;
+}
+
+/// Looks at the tables of stores. Each call gives the store back.
+pub trait Looks<K: Keep + Drop> {
+    /// All that stands in the tables, as bytes that are compared. Where `is_lawful` is set the tables have to obey their laws.
+    fn recorded(
+        &self,
+        alloc: Global,
+        keep: K,
+        line: usize,
+        is_lawful: bool,
+    ) -> Result<(K, Vec<u8>), Failure>;
+
+    /// That the tables answer a question as is due.
+    fn asked(&self, alloc: Global, keep: K, question: &Question) -> Result<K, Failure>;
+}
+
+/// Takes a story's steps over these tables, which are asked what the story asks of tables with pages by this key.
+pub fn told_over<K: Keep + Drop, L: Looks<K>>(
+    alloc: Global,
+    looks: &L,
+    keep: K,
+    play: &Play,
+    keyed: Keyed,
+    way: Way,
+) -> Result<K, Failure> {
+    let mut keep = keep;
+    let mut from = 0;
+    for question in play.questions.as_slice() {
+        if question.keyed == keyed {
+            keep = taken_to(alloc, keep, way, play, from, question.place)?;
+            keep = looks.asked(alloc, keep, question)?;
+            from = question.place;
+        }
+    }
+    taken_to(alloc, keep, way, play, from, play.steps.len())
+}
+
+/// That what stands in the tables is due.
+pub fn checked<K: Keep + Drop, L: Looks<K>>(
+    alloc: Global,
+    looks: &L,
+    keep: K,
+    line: usize,
+    due: &[u8],
+    is_lawful: bool,
+) -> Result<K, Failure> {
+    let (keep, found) = looks.recorded(alloc, keep, line, is_lawful)?;
+    match compare_bytes(alloc, line, due, found.as_slice()) {
+        Ok(()) => Ok(keep),
+        Err(failure) => Err(failure),
+    }
+}
+
+/// What stands in the tables before each of the story's own steps, and behind the last.
+pub fn records_of<K: Keep + Drop, L: Looks<K>>(
+    alloc: Global,
+    looks: &L,
+    keep: K,
+    play: &Play,
+    way: Way,
+    is_lawful: bool,
+) -> Result<(K, Vec<Vec<u8>>), Failure> {
+    let mut records = Vec::new(alloc);
+    let mut keep = keep;
+    for place in play.own..play.steps.len() {
+        let (kept, record) = looks.recorded(alloc, keep, line_at(play, place), is_lawful)?;
+        records.push(record)?;
+        keep = taken_to(alloc, kept, way, play, place, place.saturating_add(1))?;
+    }
+    let (kept, record) = looks.recorded(alloc, keep, 0, is_lawful)?;
+    records.push(record)?;
+    Ok((kept, records))
+}
+
+/// What stood in the tables before the own step of this place.
+pub fn record_at<'s>(records: &'s [Vec<u8>], play: &Play, place: usize) -> &'s [u8] {
+    match records.get(place.saturating_sub(play.own)) {
+        Some(record) => record.as_slice(),
+        None => b"",
+    }
+}
