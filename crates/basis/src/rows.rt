@@ -23,10 +23,17 @@ pub struct StateHead {
     pub lineage: Text,
 }
 
+/// The settings of a workspace that say how its runs go: each is as its document asks.
+#[derive(Clone, Copy, PartialEq, Eq)]
+pub struct RunSettings {
+    /// Whether a plan is applied without being confirmed.
+    pub auto_apply: bool,
+}
+
 /// Settings of a workspace.
 #[derive(Clone, Copy, PartialEq, Eq)]
 pub struct Settings {
-    pub auto_apply: bool,
+    pub runs: RunSettings,
     /// How many versions are kept: as one more comes, the oldest go.
     pub keep_versions: KeepCount,
 }
@@ -34,7 +41,7 @@ pub struct Settings {
 /// What the document of a workspace's settings asks.
 #[derive(Clone, Copy, PartialEq, Eq)]
 pub struct SettingsAsk {
-    pub auto_apply: bool,
+    pub runs: RunSettings,
     /// How many versions are to be kept. Without it a new workspace keeps 100, and one that is there
     /// what it kept.
     pub keep_versions: Option<KeepCount>,

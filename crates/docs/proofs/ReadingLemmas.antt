@@ -218,7 +218,7 @@ pub settings_law : (bytes : List ℕ) → SettingsLaw bytes
 unfolding settings_of
 settings_law bytes settings = (
   (λ is. option_and_then_some settings_in (small_object_of bytes) settings is (λ ms document found. settings_read bytes ms settings (small_read bytes ms document) found)),
-  (λ is. rw (small_said bytes is.members is.document, flag_said (get_member (codes "auto_apply") is.members) settings.auto_apply is.auto_apply, keep_said (get_member (codes "keep_versions") is.members) settings.keep_versions is.keep_versions) refl),
+  (λ is. rw (small_said bytes is.members is.document, flag_said (get_member (codes "auto_apply") is.members) settings.runs.auto_apply is.auto_apply, keep_said (get_member (codes "keep_versions") is.members) settings.keep_versions is.keep_versions) refl),
 )
 
 -- ---- runs

@@ -38,7 +38,7 @@ number_value (Some n) = number (unsigned n)
 -- a workspace, by its settings and the values of its other parts
 abbrev pub ws_object : Settings → Data → List ℕ → Data → Data
 ws_object settings holder name version = object (
-    member (codes "auto_apply") (boolean settings.auto_apply) (
+    member (codes "auto_apply") (boolean settings.runs.auto_apply) (
     member (codes "holder") holder (
     member (codes "keep_versions") (number (unsigned settings.keep_versions)) (
     member (codes "name") (string name) (

@@ -74,7 +74,7 @@ keep_of (Some value) = option_map Some (option_and_then (within 1 MAX_KEPT) (opt
 
 -- what is set of a workspace
 abbrev pub make_settings : Bool → Option ℕ → SettingsAsk
-make_settings auto_apply keep_versions = record { auto_apply = auto_apply; keep_versions = keep_versions }
+make_settings auto_apply keep_versions = record { runs = record { auto_apply = auto_apply }; keep_versions = keep_versions }
 
 -- auto-apply and how many versions are to be kept, where they are there
 abbrev pub settings_in : Members → Option SettingsAsk

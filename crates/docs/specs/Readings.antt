@@ -60,7 +60,7 @@ IsKeep (Some value) (Some keep) = (value ≡ number (unsigned keep)) × (1 ≤ k
 pub record IsSettings (bytes : List ℕ) (settings : SettingsAsk) : Type 0 where
   pub members : Members
   pub document : IsSmallObject bytes members
-  pub auto_apply : IsFlag (get_member (codes "auto_apply") members) settings.auto_apply
+  pub auto_apply : IsFlag (get_member (codes "auto_apply") members) settings.runs.auto_apply
   pub keep_versions : IsKeep (get_member (codes "keep_versions") members) settings.keep_versions
 
 -- absent, or a text of 1 to MAX_KEY bytes

@@ -87,7 +87,7 @@ fn ws_object(
         ≡ ws_object settings (view holder) name.now (view version)) }
 {
     json!(in alloc; {
-        "auto_apply": settings.auto_apply,
+        "auto_apply": settings.runs.auto_apply,
         "holder": holder,
         "keep_versions": settings.keep_versions.get(),
         "name": name,

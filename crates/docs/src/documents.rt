@@ -8,7 +8,7 @@ ghost use Rattle.docs.specs.Documents.{object_of, optional_text, state_head, loc
 
 use crate::faults::DocFault;
 use crate::heads::read_head;
-use basis::{KeepCount, LockId, RunAsk, SettingsAsk, StateHead, Text, is_free_id};
+use basis::{KeepCount, LockId, RunAsk, RunSettings, SettingsAsk, StateHead, Text, is_free_id};
 use json::Scratch;
 use serde_json::{Map, Value};
 use std::alloc::Global;
@@ -73,7 +73,7 @@ pub fn read_settings(alloc: Global, bytes: &[u8]) -> Result<SettingsAsk, DocFaul
     };
     let keep_versions = read_keep(&value)?;
     Ok(SettingsAsk {
-        auto_apply,
+        runs: RunSettings { auto_apply },
         keep_versions,
     })
 }

@@ -132,7 +132,7 @@ kept_same None keep = refl
 kept_same (Some k) keep = refl
 
 settings_same : (ask : SettingsAsk) (s : Settings) → settings_for ask (Some (settings_unit (is_none ask.keep_versions) s)) ≡ settings_for ask (Some s)
-settings_same ask s = λ i. record { auto_apply = ask.auto_apply; keep_versions = kept_same ask.keep_versions s.keep_versions i }
+settings_same ask s = λ i. record { runs = ask.runs; keep_versions = kept_same ask.keep_versions s.keep_versions i }
 
 -- which versions go by a PUT: those before the last ones, and none where no number is asked for, whatever number is told
 record GoesBy (going : Option ℕ) (keep : ℕ) (versions : List Version) : Type 0 where
@@ -223,7 +223,7 @@ make_model w ask now lawful None = chosen (nat_lt (open_runs w.runs) max_open_ru
     chosen false = refl
 
 -- who waits once a run has taken an action: nobody where nobody held, and the same ones where it held
-waits_after : (w : Workspace) (n : ℕ) (action : RunAction) (status : RunStatus) (r : AnyRun) → next_status r.plan_only w.settings.auto_apply r.status action ≡ Some status → IsLawful w
+waits_after : (w : Workspace) (n : ℕ) (action : RunAction) (status : RunStatus) (r : AnyRun) → next_status r.plan_only w.settings.runs.auto_apply r.status action ≡ Some status → IsLawful w
     → (h : Holder) → w.holder ≡ h
     → start_freed (frees n status h) (workspace_unit (ReportRun n action) w) ≡ to_start (cond (frees n status h) Nobody h) (first_waiting (map (reported n action status) w.runs))
 waits_after w n action status r leads lawful Nobody e =
@@ -235,7 +235,7 @@ waits_after w n action status r leads lawful Nobody e =
       where
         idle_after : (c : Bool) → is_pending x.status ≡ c → (is_pending status && not x.plan_only) ≡ (is_pending x.status && not x.plan_only)
         idle_after true p = absurd (let none : ⊥ = cc (is.waiting p).1 in none)
-        idle_after false p = rw (never_pending r.plan_only w.settings.auto_apply r.status action status leads, p) refl
+        idle_after false p = rw (never_pending r.plan_only w.settings.runs.auto_apply r.status action status leads, p) refl
     one x is false = refl
 
     as_before : (l : List AnyRun) → AllByRecursion (IsRun Nobody) l → AllByRecursion (λ (x : AnyRun). is_waiting (reported n action status x) ≡ is_waiting x) l
@@ -259,7 +259,7 @@ waits_after w n action status r leads lawful (Run m) e = by_end (m == n) refl (i
 
     one : (x : AnyRun) → IsRun (Run m) x → m ≡ n → (b : Bool) → (x.number == n) ≡ b → is_waiting (record x { status = cond b status x.status }) ≡ is_waiting x
     one x is at true t =
-        (rw (never_pending r.plan_only w.settings.auto_apply r.status action status leads) refl)
+        (rw (never_pending r.plan_only w.settings.runs.auto_apply r.status action status leads) refl)
         ∙ sym (held_idle x is (at ∙ sym (eqb-true x.number n t)) x.plan_only (is_pending x.status) refl refl)
     one x is at false t = refl
 
@@ -273,7 +273,7 @@ waits_after w n action status r leads lawful (Run m) e = by_end (m == n) refl (i
     by_end true t false = sym (first_waiting-map (reported n action status) (λ x. refl) w.runs (as_before (eqb-true m n t) w.runs each))
     by_end false t c = refl
 
-step_model : (w : Workspace) (n : ℕ) (action : RunAction) (r : AnyRun) → IsLawful w → run_of n w.runs ≡ Some r → (m : Option RunStatus) → next_status r.plan_only w.settings.auto_apply r.status action ≡ m
+step_model : (w : Workspace) (n : ℕ) (action : RunAction) (r : AnyRun) → IsLawful w → run_of n w.runs ≡ Some r → (m : Option RunStatus) → next_status r.plan_only w.settings.runs.auto_apply r.status action ≡ m
     → meaning (decided_step m (workspace_unit (ReportRun n action) w) r n action) (Some w) ≡ by_step m n action w
 step_model w n action r lawful there None leads = refl
 step_model w n action r lawful there (Some status) leads =
@@ -292,10 +292,10 @@ report_model : (w : Workspace) (n : ℕ) (action : RunAction) → IsLawful w →
 report_model w n action lawful None there = refl
 report_model w n action lawful (Some r) there = chosen (is_last action r.action)
   where
-    chosen : (b : Bool) → meaning (cond b (Accepted (ShownRun r) None) (decided_step (next_status r.plan_only w.settings.auto_apply r.status action) (workspace_unit (ReportRun n action) w) r n action)) (Some w)
-        ≡ cond b (told_already r w) (by_step (next_status r.plan_only w.settings.auto_apply r.status action) n action w)
+    chosen : (b : Bool) → meaning (cond b (Accepted (ShownRun r) None) (decided_step (next_status r.plan_only w.settings.runs.auto_apply r.status action) (workspace_unit (ReportRun n action) w) r n action)) (Some w)
+        ≡ cond b (told_already r w) (by_step (next_status r.plan_only w.settings.runs.auto_apply r.status action) n action w)
     chosen true = refl
-    chosen false = step_model w n action r lawful there (next_status r.plan_only w.settings.auto_apply r.status action) refl
+    chosen false = step_model w n action r lawful there (next_status r.plan_only w.settings.runs.auto_apply r.status action) refl
 
 -- DELETE of a workspace
 delete_model : (w : Workspace) (h : Holder) → meaning (decided_delete h (open_runs w.runs)) (Some w) ≡ delete h w

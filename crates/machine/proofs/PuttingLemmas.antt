@@ -2,6 +2,7 @@
 use Rattle.std.proofs.Common.{◌≡◌, ◌⊎◌, inl, inr, ℕ, ◌≤◌, nat_lt, Bool, true, false, not, ◌&&◌, cond, List, length, Option, Some, None, IfSome, refl, ap, subst, ◌∙◌, arith}
 use Rattle.std.proofs.lemmas.Bool.{ltb-false, le-ltb}
 use Rattle.basis.specs.declared.refusals.Refusal.TheVariants.{Locked}
+use Rattle.basis.specs.declared.rows.RunSettings.{RunSettings}
 use Rattle.basis.specs.declared.rows.Settings.{Settings}
 use Rattle.basis.specs.declared.rows.SettingsAsk.{SettingsAsk}
 use Rattle.machine.specs.Effects.{effect}
@@ -68,11 +69,11 @@ kept_twice : (asked : Option ℕ) (before : ℕ) → kept_for asked (kept_for as
 kept_twice None before = refl
 kept_twice (Some keep) before = refl
 
-abbrev settings_of : Bool → ℕ → Settings
-settings_of auto_apply keep = record { auto_apply = auto_apply; keep_versions = keep }
+abbrev settings_of : RunSettings → ℕ → Settings
+settings_of runs keep = record { runs = runs; keep_versions = keep }
 
 pub asked_once : (ask : SettingsAsk) (before : Option Settings) → settings_for ask (Some (settings_for ask before)) ≡ settings_for ask before
-asked_once ask before = ap (settings_of ask.auto_apply) (kept_twice ask.keep_versions (kept_before before))
+asked_once ask before = ap (settings_of ask.runs) (kept_twice ask.keep_versions (kept_before before))
 
 -- the settings that are asked for are in range
 pub kept_in_range : (asked : Option ℕ) (before : ℕ) → IfSome asked IsKeepCount → IsKeepCount before → IsKeepCount (kept_for asked before)

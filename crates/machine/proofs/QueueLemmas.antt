@@ -133,7 +133,7 @@ plan_only_runs_stay_out act now s v n r range moment lawful e found kind = (wait
 record Settling (w u : Workspace) : Type 0 where
   risen : Rises 0 (numbers u.runs) u.next_run
   quiet : (n : ℕ) → holds u.holder n ≡ true → holds w.holder n ≡ true
-  stays : (n : ℕ) (r : Run) → run_of n w.runs ≡ Some r → (s : Run) × (run_of n u.runs ≡ Some s) × ((s ≡ r) ⊎ ((is_waiting s ≡ false) × StaysThere w.settings.auto_apply r s))
+  stays : (n : ℕ) (r : Run) → run_of n w.runs ≡ Some r → (s : Run) × (run_of n u.runs ≡ Some s) × ((s ≡ r) ⊎ ((is_waiting s ≡ false) × StaysThere w.settings.runs.auto_apply r s))
   waited : (n : ℕ) (f : Run) → run_of n u.runs ≡ Some f → is_waiting f ≡ true → WaitedOrIsNew n w
 
 abbrev Quietly : Workspace → Workspace → Type 0
@@ -216,11 +216,11 @@ reported_settling w n action u lawful is = subst (Settling w) (sym is.is) (recor
     f = reported n action is.status
 
     idle : is_pending is.status ≡ false
-    idle = never_pending is.run.plan_only w.settings.auto_apply is.run.status action is.status is.leads
+    idle = never_pending is.run.plan_only w.settings.runs.auto_apply is.run.status action is.status is.leads
 
     by_number : (m : ℕ) (r : Run) → run_of m w.runs ≡ Some r → (b : Bool) → (r.number == n) ≡ b
         → ((record r { status = cond b is.status r.status; action = cond b (Some action) r.action }) ≡ r)
-        ⊎ (((is_pending (cond b is.status r.status) && not r.plan_only) ≡ false) × StaysThere w.settings.auto_apply r (record r { status = cond b is.status r.status; action = cond b (Some action) r.action }))
+        ⊎ (((is_pending (cond b is.status r.status) && not r.plan_only) ≡ false) × StaysThere w.settings.runs.auto_apply r (record r { status = cond b is.status r.status; action = cond b (Some action) r.action }))
     by_number m r e true t =
         let here : run_of n w.runs ≡ Some r = ap (λ (k : ℕ). run_of k w.runs) (sym (eqb-true r.number n t) ∙ run_of-number m w.runs r e) ∙ e in
         let one : is.run ≡ r = one_run is.run r (sym is.there ∙ here) in
@@ -232,7 +232,7 @@ reported_settling w n action u lawful is = subst (Settling w) (sym is.is) (recor
             key = refl;
             message = refl;
             created = refl;
-            goes = inr (inr (action, subst (λ (x : Run). next_status x.plan_only w.settings.auto_apply x.status action ≡ Some is.status) one is.leads, refl));
+            goes = inr (inr (action, subst (λ (x : Run). next_status x.plan_only w.settings.runs.auto_apply x.status action ≡ Some is.status) one is.leads, refl));
           },
         )
     by_number m r e false t = inl refl
@@ -350,28 +350,28 @@ waited_before act now w v n r lawful e found waits = by_after (after_act act now
 pub runs_stay : RunsStay
 runs_stay act now w v n r lawful e found = by_after (after_act act now w v lawful e)
   where
-    settled_run : (u : Workspace) → Settling w u → (s : Run) × (run_of n u.runs ≡ Some s) × ((s ≡ r) ⊎ ((is_waiting s ≡ false) × StaysThere w.settings.auto_apply r s))
-        → (s : Run) × (run_of n (settled u).runs ≡ Some s) × StaysThere w.settings.auto_apply r s
+    settled_run : (u : Workspace) → Settling w u → (s : Run) × (run_of n u.runs ≡ Some s) × ((s ≡ r) ⊎ ((is_waiting s ≡ false) × StaysThere w.settings.runs.auto_apply r s))
+        → (s : Run) × (run_of n (settled u).runs ≡ Some s) × StaysThere w.settings.runs.auto_apply r s
     settled_run u is (s, at, kind) = (begun_by start s, run_of-started start n u ∙ ap (option_map (begun_by start)) at, goes_on kind (begun_or_not u s n start is.risen refl at))
       where
         start : Option ℕ
         start = to_start u.holder (first_waiting u.runs)
 
-        as_it_is : StaysThere w.settings.auto_apply r s → status_begun start s.number s.status ≡ s.status → StaysThere w.settings.auto_apply r (begun_by start s)
+        as_it_is : StaysThere w.settings.runs.auto_apply r s → status_begun start s.number s.status ≡ s.status → StaysThere w.settings.runs.auto_apply r (begun_by start s)
         as_it_is is_there same_one = record {
           number = is_there.number;
           plan_only = is_there.plan_only;
           key = is_there.key;
           message = is_there.message;
           created = is_there.created;
-          goes = subst (λ (x : RunStatus). GoesOn w.settings.auto_apply r (record s { status = x })) (sym same_one) is_there.goes;
+          goes = subst (λ (x : RunStatus). GoesOn w.settings.runs.auto_apply r (record s { status = x })) (sym same_one) is_there.goes;
         }
 
-        itself : s ≡ r → StaysThere w.settings.auto_apply r s
-        itself one = subst (StaysThere w.settings.auto_apply r) (sym one) (record { number = refl; plan_only = refl; key = refl; message = refl; created = refl; goes = inl (refl, refl) })
+        itself : s ≡ r → StaysThere w.settings.runs.auto_apply r s
+        itself one = subst (StaysThere w.settings.runs.auto_apply r) (sym one) (record { number = refl; plan_only = refl; key = refl; message = refl; created = refl; goes = inl (refl, refl) })
 
-        goes_on : (s ≡ r) ⊎ ((is_waiting s ≡ false) × StaysThere w.settings.auto_apply r s) → (status_begun start s.number s.status ≡ s.status) ⊎ ((is_waiting s ≡ true) × (status_begun start s.number s.status ≡ Planning))
-            → StaysThere w.settings.auto_apply r (begun_by start s)
+        goes_on : (s ≡ r) ⊎ ((is_waiting s ≡ false) × StaysThere w.settings.runs.auto_apply r s) → (status_begun start s.number s.status ≡ s.status) ⊎ ((is_waiting s ≡ true) × (status_begun start s.number s.status ≡ Planning))
+            → StaysThere w.settings.runs.auto_apply r (begun_by start s)
         goes_on (inl one) (inl same_one) = as_it_is (itself one) same_one
         goes_on (inr acted) (inl same_one) = as_it_is acted.1 same_one
         goes_on (inr acted) (inr begins) = absurd (let none : ⊥ = cc (sym acted.0 ∙ begins.0) in none)
@@ -384,9 +384,9 @@ runs_stay act now w v n r lawful e found = by_after (after_act act now w v lawfu
           goes = inr (inl (ap (λ (x : Run). is_waiting x) (sym one) ∙ begins.0, begins.1, ap (λ (x : Run). x.action) one));
         }
 
-    by_after : After w v → (s : Run) × (run_of n v.runs ≡ Some s) × StaysThere w.settings.auto_apply r s
+    by_after : After w v → (s : Run) × (run_of n v.runs ≡ Some s) × StaysThere w.settings.runs.auto_apply r s
     by_after (inl quietly) = (r, ap (run_of n) quietly.0 ∙ found, record { number = refl; plan_only = refl; key = refl; message = refl; created = refl; goes = inl (refl, refl) })
-    by_after (inr h) = subst (λ (x : Workspace). (s : Run) × (run_of n x.runs ≡ Some s) × StaysThere w.settings.auto_apply r s) (sym h.2) (settled_run h.0 h.1 (h.1.stays n r found))
+    by_after (inr h) = subst (λ (x : Workspace). (s : Run) × (run_of n x.runs ≡ Some s) × StaysThere w.settings.runs.auto_apply r s) (sym h.2) (settled_run h.0 h.1 (h.1.stays n r found))
 
 -- ---- what comes again
 
@@ -554,11 +554,11 @@ accepted_last n action now w v accepted e = by_run (run_of n w.runs) refl accept
         )
 
     by_last : (r : Run) → run_of n w.runs ≡ Some r → (b : Bool) → is_last action r.action ≡ b
-        → (IsRefusal (cond b (told_already r w) (by_step (next_status r.plan_only w.settings.auto_apply r.status action) n action w)).answer → ⊥)
-        → (cond b (told_already r w) (by_step (next_status r.plan_only w.settings.auto_apply r.status action) n action w)).left ≡ Some v
+        → (IsRefusal (cond b (told_already r w) (by_step (next_status r.plan_only w.settings.runs.auto_apply r.status action) n action w)).answer → ⊥)
+        → (cond b (told_already r w) (by_step (next_status r.plan_only w.settings.runs.auto_apply r.status action) n action w)).left ≡ Some v
         → (s : Run) × (run_of n v.runs ≡ Some s) × (s.action ≡ Some action)
     by_last r found true t accepted e = (r, ap (λ (x : Workspace). run_of n x.runs) (sym (one_left w v e)) ∙ found, last_is r.action t)
-    by_last r found false t accepted e = by_status r found (next_status r.plan_only w.settings.auto_apply r.status action) accepted e
+    by_last r found false t accepted e = by_status r found (next_status r.plan_only w.settings.runs.auto_apply r.status action) accepted e
 
     by_run : (o : Option Run) → run_of n w.runs ≡ o → (IsRefusal (report o n action w).answer → ⊥) → (report o n action w).left ≡ Some v
         → (s : Run) × (run_of n v.runs ≡ Some s) × (s.action ≡ Some action)
@@ -570,8 +570,8 @@ behind_later n action [] v u range leads lawful behind = subst (HasBehind n acti
 behind_later n action (a ∷ acts) v u range leads lawful behind =
     let next : Workspace = leads.0 in
     let after : IsLawful next = lawful_after a.0 a.1 (there v) next range.0.0 range.0.1 lawful leads.1 in
-    let there_is : (s : Run) × (run_of n next.runs ≡ Some s) × StaysThere v.settings.auto_apply behind.0 s = runs_stay a.0 a.1 v next n behind.0 lawful leads.1 behind.1 in
-    behind_later n action acts next u range.1 leads.2 after (there_is.0, there_is.1, past_stays v.settings.auto_apply behind.0 there_is.0 action there_is.2 behind.2)
+    let there_is : (s : Run) × (run_of n next.runs ≡ Some s) × StaysThere v.settings.runs.auto_apply behind.0 s = runs_stay a.0 a.1 v next n behind.0 lawful leads.1 behind.1 in
+    behind_later n action acts next u range.1 leads.2 after (there_is.0, there_is.1, past_stays v.settings.runs.auto_apply behind.0 there_is.0 action there_is.2 behind.2)
 
 pub actions_come_again : ActionsComeAgain
 actions_come_again n action now later acts w v u lawful moment accepted e range leads =
@@ -583,13 +583,13 @@ actions_come_again n action now later acts w v u lawful moment accepted e range 
     let behind : HasBehind n action u = behind_later n action acts v u range leads after (last.0, last.1, past) in
     subst (λ (o : Option Run). (report o n action u).left ≡ Some u) (sym behind.1) (refuses behind.0 behind.2 (is_last action behind.0.action))
   where
-    none_left : (s : Run) → is_past action s.status ≡ true → (m : Option RunStatus) → next_status s.plan_only u.settings.auto_apply s.status action ≡ m → (by_step m n action u).left ≡ Some u
+    none_left : (s : Run) → is_past action s.status ≡ true → (m : Option RunStatus) → next_status s.plan_only u.settings.runs.auto_apply s.status action ≡ m → (by_step m n action u).left ≡ Some u
     none_left s past None leads = refl
-    none_left s past (Some status) leads = absurd (let none : ⊥ = cc (sym past ∙ not_past s.plan_only u.settings.auto_apply s.status action status leads) in none)
+    none_left s past (Some status) leads = absurd (let none : ⊥ = cc (sym past ∙ not_past s.plan_only u.settings.runs.auto_apply s.status action status leads) in none)
 
-    refuses : (s : Run) → is_past action s.status ≡ true → (b : Bool) → (cond b (told_already s u) (by_step (next_status s.plan_only u.settings.auto_apply s.status action) n action u)).left ≡ Some u
+    refuses : (s : Run) → is_past action s.status ≡ true → (b : Bool) → (cond b (told_already s u) (by_step (next_status s.plan_only u.settings.runs.auto_apply s.status action) n action u)).left ≡ Some u
     refuses s past true = refl
-    refuses s past false = none_left s past (next_status s.plan_only u.settings.auto_apply s.status action) refl
+    refuses s past false = none_left s past (next_status s.plan_only u.settings.runs.auto_apply s.status action) refl
 
 -- ---- a creation with a key
 
@@ -628,7 +628,7 @@ key_stays key act now w v lawful e has = by_found (keyed_run (Some key) w.runs) 
     by_found None found has = absurd (let none : ⊥ = cc in none)
     by_found (Some r) found has =
         let at : run_of r.number w.runs ≡ Some r = (found_numbered (is_keyed key) 0 w.runs w.next_run r found lawful.runs.rise).1 in
-        let s : (s : Run) × (run_of r.number v.runs ≡ Some s) × StaysThere w.settings.auto_apply r s = runs_stay act now w v r.number r lawful e at in
+        let s : (s : Run) × (run_of r.number v.runs ≡ Some s) × StaysThere w.settings.runs.auto_apply r s = runs_stay act now w v r.number r lawful e at in
         found_keyed key r.number v.runs s.0 s.1 (s.2.key ∙ key_is key r.key (passes w.runs r found))
 
 key_later : (key : List ℕ) (acts : List (Act × ℕ)) (v u : Workspace) → AreInRange acts → Leads acts v u → IsLawful v → HasKey key v → HasKey key u

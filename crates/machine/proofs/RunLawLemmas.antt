@@ -196,7 +196,7 @@ stays_active h n action status auto_apply r leads keeps before queued = by_hold 
     by_hold true t false o = absurd (let none : ⊥ = cc (sym (ap not o) ∙ ap (λ (b : Bool). b && not (is_open status)) (sym t) ∙ keeps) in none)
     by_hold false t c o = stays_idle auto_apply r.status action status queued_leads (before queued ∙ t)
 
-pub reported_is_lawful : (w : Workspace) (n : ℕ) (action : RunAction) (status : RunStatus) (r : Run) → run_of n w.runs ≡ Some r → next_status r.plan_only w.settings.auto_apply r.status action ≡ Some status
+pub reported_is_lawful : (w : Workspace) (n : ℕ) (action : RunAction) (status : RunStatus) (r : Run) → run_of n w.runs ≡ Some r → next_status r.plan_only w.settings.runs.auto_apply r.status action ≡ Some status
     → IsLawful w → IsLawful (settled (with_report n action status w))
 reported_is_lawful w n action status r there leads lawful = by_frees (frees n status w.holder) refl
   where
@@ -205,8 +205,8 @@ reported_is_lawful w n action status r there leads lawful = by_frees (frees n st
 
     stays : frees n status w.holder ≡ false → AreRuns w.holder w.next_run (map (reported n action status) w.runs)
     stays keeps =
-        reported_runs w.holder w.holder n action status w.settings.auto_apply r w.next_run w.runs there leads (λ x t. refl)
-        (stays_active w.holder n action status w.settings.auto_apply r leads keeps before) (λ e. e)
+        reported_runs w.holder w.holder n action status w.settings.runs.auto_apply r w.next_run w.runs there leads (λ x t. refl)
+        (stays_active w.holder n action status w.settings.runs.auto_apply r leads keeps before) (λ e. e)
         (holder_reported w.holder (reported n action status) (λ x. refl) (λ x. refl) w.runs lawful.runs.held) lawful.runs
 
     ends : (h : Holder) → w.holder ≡ h → frees n status h ≡ true → AreRuns (Lock (codes "x") []) w.next_run (map (reported n action status) w.runs)
@@ -217,7 +217,7 @@ reported_is_lawful w n action status r there leads lawful = by_frees (frees n st
         both : (b : Bool) → (m == n) ≡ b → (c : Bool) → is_open status ≡ c → (b && not c) ≡ true → AreRuns (Lock (codes "x") []) w.next_run (map (reported n action status) w.runs)
         both true t true o is = absurd (let none : ⊥ = cc in none)
         both true t false o is =
-            reported_runs (HoldingRun m) (Lock (codes "x") []) n action status w.settings.auto_apply r w.next_run w.runs there leads
+            reported_runs (HoldingRun m) (Lock (codes "x") []) n action status w.settings.runs.auto_apply r w.next_run w.runs there leads
             (λ x apart. sym (ne_eqb m x.number (λ at. eqb-false x.number n apart (sym at ∙ eqb-true m n t))))
             (λ queued. ended_is_idle status o) (λ e. refl) refl (subst (λ (h : Holder). AreRuns h w.next_run w.runs) e lawful.runs)
         both false t c o is = absurd (let none : ⊥ = cc in none)

@@ -83,10 +83,10 @@ pub record IsReported (w : Workspace) (n : ℕ) (action : RunAction) (v : Worksp
   pub run : Run
   pub status : RunStatus
   pub there : run_of n w.runs ≡ Some run
-  pub leads : next_status run.plan_only w.settings.auto_apply run.status action ≡ Some status
+  pub leads : next_status run.plan_only w.settings.runs.auto_apply run.status action ≡ Some status
   pub is : v ≡ with_report n action status w
 
-step_comes : (w : Workspace) (n : ℕ) (action : RunAction) (r : Run) (m : Option RunStatus) → run_of n w.runs ≡ Some r → next_status r.plan_only w.settings.auto_apply r.status action ≡ m
+step_comes : (w : Workspace) (n : ℕ) (action : RunAction) (r : Run) (m : Option RunStatus) → run_of n w.runs ≡ Some r → next_status r.plan_only w.settings.runs.auto_apply r.status action ≡ m
     → Comes (by_step m n action w) w (IsReported w n action)
 step_comes w n action r None there leads = inl (plainly_refused_state w)
 step_comes w n action r (Some status) there leads =
@@ -104,6 +104,6 @@ report_comes w n action = by_run (run_of n w.runs) refl
     by_run None e = inl (plainly_not_found w)
     by_run (Some r) e = chosen (is_last action r.action)
       where
-        chosen : (b : Bool) → Comes (cond b (told_already r w) (by_step (next_status r.plan_only w.settings.auto_apply r.status action) n action w)) w (IsReported w n action)
+        chosen : (b : Bool) → Comes (cond b (told_already r w) (by_step (next_status r.plan_only w.settings.runs.auto_apply r.status action) n action w)) w (IsReported w n action)
         chosen true = inl (plainly_told r w)
-        chosen false = step_comes w n action r (next_status r.plan_only w.settings.auto_apply r.status action) e refl
+        chosen false = step_comes w n action r (next_status r.plan_only w.settings.runs.auto_apply r.status action) e refl

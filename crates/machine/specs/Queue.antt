@@ -62,7 +62,7 @@ pub record StaysThere (auto_apply : Bool) (r s : Run) : Type 0 where
 
 abbrev pub RunsStay : Type 0
 RunsStay = (act : Act) (now : ℕ) (w v : Workspace) (n : ℕ) (r : Run) → IsLawful w → (rules act now (there w)).left ≡ Some v → run_of n w.runs ≡ Some r
-    → (s : Run) × (run_of n v.runs ≡ Some s) × StaysThere w.settings.auto_apply r s
+    → (s : Run) × (run_of n v.runs ≡ Some s) × StaysThere w.settings.runs.auto_apply r s
 
 -- acts in their ranges, each at a moment in range, one after another: what they leave of a workspace
 abbrev pub AreInRange : List (Act × ℕ) → Type 0

@@ -130,7 +130,7 @@ kept_for (Some asked) before = asked
 
 -- the settings that a PUT asks for, of a workspace that is there with settings or is to be made
 abbrev pub settings_for : SettingsAsk → Option Settings → Settings
-settings_for ask before = record { auto_apply = ask.auto_apply; keep_versions = kept_for ask.keep_versions (kept_before before) }
+settings_for ask before = record { runs = ask.runs; keep_versions = kept_for ask.keep_versions (kept_before before) }
 
 -- other settings: of more versions than they keep, the oldest go
 abbrev pub with_settings : Workspace → Settings → Workspace
@@ -248,7 +248,7 @@ by_step (Some status) n action w = told_with n (with_report n action status w)
 -- an action on a run: the one that it took last is answered again; auto-apply is the workspace's setting as it is now
 abbrev pub report : Option Run → ℕ → RunAction → Workspace → Ruling
 report None n action w = effect (refused NotFound) (Some w)
-report (Some r) n action w = cond (is_last action r.action) (told_already r w) (by_step (next_status r.plan_only w.settings.auto_apply r.status action) n action w)
+report (Some r) n action w = cond (is_last action r.action) (told_already r w) (by_step (next_status r.plan_only w.settings.runs.auto_apply r.status action) n action w)
 
 -- what is told of a workspace
 abbrev pub told : AnyLook → Workspace → Outcome

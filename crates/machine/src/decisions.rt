@@ -225,7 +225,7 @@ fn settings_for(ask: SettingsAsk, before: Option<Settings>) -> Settings
     ensures range { IsSettingsAsk ask }
 {
     Settings {
-        auto_apply: ask.auto_apply,
+        runs: ask.runs,
         keep_versions: kept_for(ask.keep_versions, kept_before(before)),
     }
 }
@@ -600,7 +600,12 @@ fn decide_report(unit: &WorkspaceUnit, n: Number, action: RunAction) -> Result<D
     if is_last(action, run.action) {
         return show_run(run);
     }
-    match next_status(run.plan_only, unit.settings.auto_apply, run.status, action) {
+    match next_status(
+        run.plan_only,
+        unit.settings.runs.auto_apply,
+        run.status,
+        action,
+    ) {
         Some(status) => decide_step(unit, run, n, action, status),
         None => Ok(Decision::Refused(Refusal::WrongState)),
     }

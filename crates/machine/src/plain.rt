@@ -694,7 +694,7 @@ fn settings_unit(needed: bool, settings: &Settings) -> Settings
     ensures { result ≡ settings_unit needed settings.now }
 {
     Settings {
-        auto_apply: settings.auto_apply,
+        runs: settings.runs,
         keep_versions: if needed {
             settings.keep_versions
         } else {

@@ -4,18 +4,22 @@ use Rattle.sqlite_value.specs.declared.value.Value.TheVariants as cell
 use Rattle.sqlite_typed.specs.Columns.{or_null, bytes_of, int_of, unless_null}
 use Rattle.sqlite_keyed.proofs.ListLemmas.{map_back}
 use Rattle.sqlite.specs.Effect.{Database}
+use Rattle.basis.specs.declared.rows.RunSettings.{RunSettings}
 use Rattle.basis.specs.declared.runs.RunAction.{RunAction}
 use Rattle.statements.specs.declared.rows.Holder.{Holder}
 use Rattle.statements.specs.declared.rows.Holder.TheVariants.{Nobody, Lock, Run as HeldByRun}
-use Rattle.statements.specs.Rows.{Kept, TokenRow, WsRow, RunRow, BoundRow, stored, token_cells, ws_cells, run_cells, bound_cells, number, action_code, kind_cell, lock_id_cell, lock_text_cell, run_cell}
+use Rattle.statements.specs.Rows.{Kept, TokenRow, WsRow, RunRow, BoundRow, stored, token_cells, ws_cells, run_cells, bound_cells, run_settings_cells, number, action_code, kind_cell, lock_id_cell, lock_text_cell, run_cell}
 use Rattle.statements.specs.Tables.{Layout, Tables, Holds, HoldsSecond, rows_of, tables_of, second_tables_of, meta_layout, org_layout, token_layout, ws_layout, version_layout, run_layout, page_layout, vpage_layout, bound_layout, edition_layout, keeping_layout}
-use Rattle.statements.specs.Decode.{kept_by, token_at, ws_at, run_at, bound_at, holder_at, action_at}
+use Rattle.statements.specs.Decode.{kept_by, token_at, ws_at, run_at, bound_at, run_settings_at, holder_at, action_at}
 use Rattle.statements.proofs.Held.{IsHeld, metas_held, orgs_held, tokens_held, wss_held, versions_held, runs_held, pages_held, vpages_held, bounds_held, editions_held, keepings_held, second_metas_held, second_orgs_held, second_tokens_held, second_wss_held, second_versions_held, second_runs_held, second_pages_held, second_vpages_held, second_bounds_held, second_editions_held}
 use Rattle.statements.proofs.Codes.{role_back, status_back, action_back}
 
 flag_back : (b : Bool) → not (int_eq (cond b (pos 1) (pos 0)) (pos 0)) ≡ b
 flag_back true = refl
 flag_back false = refl
+
+pub run_settings_back : (runs : RunSettings) → run_settings_at (run_settings_cells runs) 0 ≡ runs
+run_settings_back runs = λ i. record { auto_apply = flag_back runs.auto_apply i }
 
 text_back : (o : Option (List ℕ)) → unless_null bytes_of (or_null cell.Text o) ≡ o
 text_back None = refl
@@ -39,7 +43,7 @@ ws_back x = λ i. (
   record {
     org = x.1.org;
     name = x.1.name;
-    it = record { auto = flag_back x.1.it.auto i; holder = holder_back x.1.it.holder i; released = text_back x.1.it.released i; next_version = x.1.it.next_version; next_run = x.1.it.next_run };
+    it = record { runs = run_settings_back x.1.it.runs i; holder = holder_back x.1.it.holder i; released = text_back x.1.it.released i; next_version = x.1.it.next_version; next_run = x.1.it.next_run };
   },
 )
 

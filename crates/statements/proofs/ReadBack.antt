@@ -16,10 +16,11 @@ use Rattle.statements.specs.declared.rows.VersionHead.{VersionHead}
 use Rattle.statements.specs.declared.rows.Run.{Run}
 use Rattle.statements.specs.declared.rows.NamedRole.{NamedRole}
 use Rattle.statements.specs.declared.rows.Bound.{Bound}
-use Rattle.statements.specs.Rows.{Version, number, flag, role_code, status_code, action_code, kind_cell, lock_id_cell, lock_text_cell, run_cell}
+use Rattle.statements.specs.Rows.{Version, number, flag, role_code, status_code, action_code, run_settings_cells, kind_cell, lock_id_cell, lock_text_cell, run_cell}
 use Rattle.statements.specs.Finds.{head_of}
 use Rattle.statements.specs.Listings.{version_head_of}
 use Rattle.statements.specs.Calls.{IsFlagCell, IsTextOrNull, AreHolderCells, IsWorkspace, IsNamedRow, IsOrganization, IsHeadRow, IsVersionHead, IsActionOrNull, IsRunRow, IsNamedRole, IsNumberOrNull, IsBound}
+use Rattle.statements.proofs.Decoding.{run_settings_back}
 use Rattle.statements.proofs.Codes.{same_role, same_status, same_action}
 
 same_code : (m n : ℕ) → number m ≡ number n → m ≡ n
@@ -68,9 +69,9 @@ holder_read (HeldByRun n) (Lock i t) told = absurd (let f = same_code 2 1 told.0
 holder_read (HeldByRun n) (HeldByRun m) told = ap HeldByRun (number_read n m told.1)
 
 pub workspace_read : (w v : Workspace)
-    → IsWorkspace (flag w.auto ∷ kind_cell w.holder ∷ lock_id_cell w.holder ∷ lock_text_cell w.holder ∷ run_cell w.holder ∷ or_null cell.Text w.released ∷ number w.next_version ∷ number w.next_run ∷ []) v → v ≡ w
+    → IsWorkspace (kind_cell w.holder ∷ lock_id_cell w.holder ∷ lock_text_cell w.holder ∷ run_cell w.holder ∷ or_null cell.Text w.released ∷ number w.next_version ∷ number w.next_run ∷ run_settings_cells w.runs) v → v ≡ w
 workspace_read w v told = λ i. record {
-  auto = flag_read w.auto v.auto told.auto i;
+  runs = (told.runs ∙ run_settings_back w.runs) i;
   holder = holder_read w.holder v.holder told.holder i;
   released = optional_read w.released v.released told.released i;
   next_version = number_read w.next_version v.next_version told.next_version i;
@@ -84,10 +85,10 @@ optional_number_read (Some n) None told = absurd (cc)
 optional_number_read (Some n) (Some m) told = ap Some (number_read n m told)
 
 pub named_workspace_read : (name : List ℕ) (w : Workspace) (kept : Value) (keep : Option ℕ) → kept ≡ or_null number keep → (v : NamedWorkspace)
-    → IsNamedRow (flag w.auto ∷ kind_cell w.holder ∷ lock_id_cell w.holder ∷ lock_text_cell w.holder ∷ run_cell w.holder ∷ or_null cell.Text w.released ∷ number w.next_version ∷ number w.next_run ∷ cell.Text name ∷ kept ∷ []) v
+    → IsNamedRow (kind_cell w.holder ∷ lock_id_cell w.holder ∷ lock_text_cell w.holder ∷ run_cell w.holder ∷ or_null cell.Text w.released ∷ number w.next_version ∷ number w.next_run ∷ cell.Text name ∷ kept ∷ run_settings_cells w.runs) v
     → v ≡ record { name = name; it = w; keep = keep }
 named_workspace_read name w kept keep is v told =
-    let it = workspace_read w v.it (record { auto = told.it.auto; holder = told.it.holder; released = told.it.released; next_version = told.it.next_version; next_run = told.it.next_run }) in
+    let it = workspace_read w v.it (record { runs = told.it.runs; holder = told.it.holder; released = told.it.released; next_version = told.it.next_version; next_run = told.it.next_run }) in
     let number_kept = optional_number_read keep v.keep (subst (λ c. IsNumberOrNull c v.keep) is told.keep) in
     λ i. record { name = text_read name v.name told.name i; it = it i; keep = number_kept i }
 

@@ -1,5 +1,5 @@
 -- The statements as they are written, without the blanks of their texts.
-use Rattle.std.specs.Prelude.{ℕ, Bool, true, false, List, [], ◌∷◌, map, codes, Option, Some, None}
+use Rattle.std.specs.Prelude.{ℕ, Bool, true, false, List, [], ◌∷◌, ◌++◌, map, codes, Option, Some, None}
 use Rattle.sqlite_ast.specs.declared.Expr.{Expr}
 use Rattle.sqlite_ast.specs.declared.Expr.TheVariants.{Column, Parameter, Integer, Text, Null, CallStar, Binary as Two}
 use Rattle.sqlite_ast.specs.declared.Binary.TheVariants.{And, Eq, Lt, Gt, Ge}
@@ -80,14 +80,21 @@ select_from core order limit offset = roll-Select (record { with = []; first = c
 abbrev pub select : Core → List Sort → Option Expr → Select
 select core order limit = select_from core order limit None
 
+-- the columns of a workspace that say how runs go, and the others besides its key
+abbrev pub run_settings_names : List (List ℕ)
+run_settings_names = codes "auto" ∷ []
+
+abbrev pub ws_names : List (List ℕ)
+ws_names = codes "kind" ∷ codes "lock_id" ∷ codes "lock_text" ∷ codes "run" ∷ codes "released" ∷ codes "next_version" ∷ codes "next_run" ∷ []
+
 abbrev pub find_ws_core : Core
-find_ws_core = from_table (shown_columns (codes "auto" ∷ codes "kind" ∷ codes "lock_id" ∷ codes "lock_text" ∷ codes "run" ∷ codes "released" ∷ codes "next_version" ∷ codes "next_run" ∷ [])) (codes "ws") (at_key (codes "org") (codes "name"))
+find_ws_core = from_table (shown_columns (ws_names ++ run_settings_names)) (codes "ws") (at_key (codes "org") (codes "name"))
 
 abbrev pub add_ws : Statement
 add_ws = insert (codes "ws") (codes "org" ∷ codes "name" ∷ codes "auto" ∷ codes "kind" ∷ codes "next_version" ∷ codes "next_run" ∷ []) (Parameter 1 ∷ Parameter 2 ∷ Parameter 3 ∷ zero ∷ one ∷ one ∷ [])
 
-abbrev pub set_auto : Statement
-set_auto = update (codes "ws") ((codes "auto", Parameter 3) ∷ []) (at_key (codes "org") (codes "name"))
+abbrev pub set_run_settings : Statement
+set_run_settings = update (codes "ws") ((codes "auto", Parameter 3) ∷ []) (at_key (codes "org") (codes "name"))
 
 abbrev pub hold_by_lock : Statement
 hold_by_lock = update (codes "ws") ((codes "kind", one) ∷ (codes "lock_id", Parameter 3) ∷ (codes "lock_text", Parameter 4) ∷ (codes "run", Null) ∷ []) (at_key (codes "org") (codes "name"))
@@ -219,7 +226,7 @@ from_ws_with_keeping shown test =
     roll-Core (record { distinct = false; shown = shown; from = ws ∷ keeping ∷ []; filter = Some test; group = []; having = None })
 
 abbrev pub list_ws_columns : List Shown
-list_ws_columns = shown_columns (codes "auto" ∷ codes "kind" ∷ codes "lock_id" ∷ codes "lock_text" ∷ codes "run" ∷ codes "released" ∷ codes "next_version" ∷ codes "next_run" ∷ codes "name" ∷ codes "keep" ∷ [])
+list_ws_columns = shown_columns (ws_names ++ codes "name" ∷ codes "keep" ∷ run_settings_names)
 
 abbrev pub list_ws_test : Expr
 list_ws_test = also (Two Eq (named_of (codes "ws") (codes "org")) (Parameter 1)) (is_above (codes "name") 2)

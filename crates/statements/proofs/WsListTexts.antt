@@ -1,5 +1,5 @@
 -- What the texts of the list of workspaces mean, in each schema that has the tables ws and keeping.
-use Rattle.std.proofs.Common.{◌≡◌, ℕ, List, [], ◌∷◌, codes, Some, None, Ok, refl}
+use Rattle.std.proofs.Common.{◌≡◌, ℕ, List, [], ◌∷◌, ◌++◌, codes, Some, None, Ok, refl}
 use Rattle.sqlite_value.specs.declared.keys.Collation.TheVariants.{Binary}
 use Rattle.sqlite_sql.specs.declared.ops.CompareOp.TheVariants.{Eq}
 use Rattle.sqlite_sql.specs.declared.ops.BinaryOp.TheVariants.{Compare}
@@ -16,7 +16,9 @@ use Rattle.sqlite_tied.specs.Compute.{everything}
 use Rattle.statements.specs.Place.{StandsAt}
 use Rattle.statements.specs.Schema.{ws_table, keeping_table}
 use Rattle.statements.specs.Calls.{IsQuery}
+use Rattle.statements.specs.declared.workspaces.TheConstants.{LIST_WS, LIST_WS_WITHIN}
 use Rattle.statements.proofs.SyntaxTrees as st
+use Rattle.statements.proofs.WsTexts.{ws_columns, ws_orders, run_settings_columns, run_settings_orders}
 use Rattle.statements.proofs.Meaning.{Means, means, some_parsed, as_read}
 use Rattle.statements.proofs.Reading.{read_is}
 use Rattle.statements.proofs.Writes.{plain_program}
@@ -31,7 +33,7 @@ abbrev pub with_keeping : ℕ → Join
 with_keeping tree = left tree of_workspace end
 
 abbrev pub list_ws_text : List ℕ
-list_ws_text = codes "SELECT auto, kind, lock_id, lock_text, run, released, next_version, next_run, name, keep FROM ws LEFT JOIN keeping ON keeping.org = ?1 AND keeping.ws = name WHERE ws.org = ?1 AND name > ?2 ORDER BY name"
+list_ws_text = LIST_WS.now
 
 abbrev pub list_ws_select : ast.Select
 list_ws_select = st.select st.list_ws_core (st.by_column (codes "name")) None
@@ -44,10 +46,10 @@ pub list_ws_is_query : IsQuery list_ws_text
 list_ws_is_query = (list_ws_select, some_parsed (first list_ws_text), list_ws_reads)
 
 abbrev pub list_ws_rest : Query
-list_ws_rest = point_rest (is_at 1 0 ∷ is_above 2 1 ∷ []) (col 1 3 ∷ col 1 4 ∷ col 1 5 ∷ col 1 6 ∷ col 1 7 ∷ col 1 8 ∷ col 1 9 ∷ col 1 10 ∷ col 1 2 ∷ col 2 3 ∷ []) no_page
+list_ws_rest = point_rest (is_at 1 0 ∷ is_above 2 1 ∷ []) (ws_columns ++ col 1 2 ∷ col 2 3 ∷ run_settings_columns) no_page
 
 abbrev pub list_ws_within_text : List ℕ
-list_ws_within_text = codes "SELECT auto, kind, lock_id, lock_text, run, released, next_version, next_run, name, keep FROM ws LEFT JOIN keeping ON keeping.org = ?1 AND keeping.ws = name WHERE ws.org = ?1 AND name > ?2 AND name >= ?3 AND name < ?4 ORDER BY name"
+list_ws_within_text = LIST_WS_WITHIN.now
 
 abbrev pub list_ws_within_select : ast.Select
 list_ws_within_select = st.select st.list_ws_within_core (st.by_column (codes "name")) None
@@ -60,13 +62,13 @@ pub list_ws_within_is_query : IsQuery list_ws_within_text
 list_ws_within_is_query = (list_ws_within_select, some_parsed (first list_ws_within_text), list_ws_within_reads)
 
 abbrev pub list_ws_within_rest : Query
-list_ws_within_rest = point_rest (is_at 1 0 ∷ is_above 2 1 ∷ is_from 2 2 ∷ is_below 2 3 ∷ []) (col 1 3 ∷ col 1 4 ∷ col 1 5 ∷ col 1 6 ∷ col 1 7 ∷ col 1 8 ∷ col 1 9 ∷ col 1 10 ∷ col 1 2 ∷ col 2 3 ∷ []) no_page
+list_ws_within_rest = point_rest (is_at 1 0 ∷ is_above 2 1 ∷ is_from 2 2 ∷ is_below 2 3 ∷ []) (ws_columns ++ col 1 2 ∷ col 2 3 ∷ run_settings_columns) no_page
 
 abbrev pub list_ws_names : List (List ℕ)
-list_ws_names = codes "auto" ∷ codes "kind" ∷ codes "lock_id" ∷ codes "lock_text" ∷ codes "run" ∷ codes "released" ∷ codes "next_version" ∷ codes "next_run" ∷ codes "name" ∷ codes "keep" ∷ []
+list_ws_names = st.ws_names ++ codes "name" ∷ codes "keep" ∷ st.run_settings_names
 
 module _ (s : Schema) (at tree : ℕ) (h : StandsAt s (codes "ws") ws_table at tree) (place other : ℕ) (k : StandsAt s (codes "keeping") keeping_table place other) where
-  list_ws_named : named s st.list_ws_core (st.by_column (codes "name")) no_page ≡ Ok ((joined_draft list_ws_rest tree (with_keeping other) 2), list_ws_names, (Some Binary ∷ Some Binary ∷ Some Binary ∷ Some Binary ∷ Some Binary ∷ Some Binary ∷ Some Binary ∷ Some Binary ∷ Some Binary ∷ Some Binary ∷ []))
+  list_ws_named : named s st.list_ws_core (st.by_column (codes "name")) no_page ≡ Ok ((joined_draft list_ws_rest tree (with_keeping other) 2), list_ws_names, (ws_orders ++ Some Binary ∷ Some Binary ∷ run_settings_orders))
   unfolding everything
   list_ws_named = rw (h.named, k.named, h.found, k.found, h.found, k.found) (rw (h.found, k.found, h.found, k.found, h.found) refl)
 
@@ -77,13 +79,13 @@ module _ (s : Schema) (at tree : ℕ) (h : StandsAt s (codes "ws") ws_table at t
   list_ws_is : (base : ℕ) → command s [] base (written.Select list_ws_select) ≡ Ok (Select (plain_program (joined_listing list_ws_rest tree (with_keeping other) 2)) list_ws_names)
   unfolding everything
   list_ws_is base =
-      read_is s list_ws_select st.list_ws_core (st.by_column (codes "name")) no_page ((joined_draft list_ws_rest tree (with_keeping other) 2), list_ws_names, (Some Binary ∷ Some Binary ∷ Some Binary ∷ Some Binary ∷ Some Binary ∷ Some Binary ∷ Some Binary ∷ Some Binary ∷ Some Binary ∷ Some Binary ∷ [])) refl refl refl refl refl (λ again. refl) list_ws_named (plain_program (joined_listing list_ws_rest tree (with_keeping other) 2)) list_ws_fits base
+      read_is s list_ws_select st.list_ws_core (st.by_column (codes "name")) no_page ((joined_draft list_ws_rest tree (with_keeping other) 2), list_ws_names, (ws_orders ++ Some Binary ∷ Some Binary ∷ run_settings_orders)) refl refl refl refl refl (λ again. refl) list_ws_named (plain_program (joined_listing list_ws_rest tree (with_keeping other) 2)) list_ws_fits base
 
   pub list_ws_means : Means s (Select (plain_program (joined_listing list_ws_rest tree (with_keeping other) 2)) list_ws_names) list_ws_text
   unfolding timed returning
   list_ws_means = means s (written.Select list_ws_select) _ refl (λ _. refl) list_ws_is list_ws_text (some_parsed (first list_ws_text)) list_ws_reads
 
-  list_ws_within_named : named s st.list_ws_within_core (st.by_column (codes "name")) no_page ≡ Ok ((joined_draft list_ws_within_rest tree (with_keeping other) 2), list_ws_names, (Some Binary ∷ Some Binary ∷ Some Binary ∷ Some Binary ∷ Some Binary ∷ Some Binary ∷ Some Binary ∷ Some Binary ∷ Some Binary ∷ Some Binary ∷ []))
+  list_ws_within_named : named s st.list_ws_within_core (st.by_column (codes "name")) no_page ≡ Ok ((joined_draft list_ws_within_rest tree (with_keeping other) 2), list_ws_names, (ws_orders ++ Some Binary ∷ Some Binary ∷ run_settings_orders))
   unfolding everything
   list_ws_within_named = rw (h.named, k.named, h.found, k.found, h.found, k.found) (rw (h.found, k.found, h.found, k.found, h.found) refl)
 
@@ -94,7 +96,7 @@ module _ (s : Schema) (at tree : ℕ) (h : StandsAt s (codes "ws") ws_table at t
   list_ws_within_is : (base : ℕ) → command s [] base (written.Select list_ws_within_select) ≡ Ok (Select (plain_program (joined_listing list_ws_within_rest tree (with_keeping other) 2)) list_ws_names)
   unfolding everything
   list_ws_within_is base =
-      read_is s list_ws_within_select st.list_ws_within_core (st.by_column (codes "name")) no_page ((joined_draft list_ws_within_rest tree (with_keeping other) 2), list_ws_names, (Some Binary ∷ Some Binary ∷ Some Binary ∷ Some Binary ∷ Some Binary ∷ Some Binary ∷ Some Binary ∷ Some Binary ∷ Some Binary ∷ Some Binary ∷ [])) refl refl refl refl refl (λ again. refl) list_ws_within_named (plain_program (joined_listing list_ws_within_rest tree (with_keeping other) 2)) list_ws_within_fits base
+      read_is s list_ws_within_select st.list_ws_within_core (st.by_column (codes "name")) no_page ((joined_draft list_ws_within_rest tree (with_keeping other) 2), list_ws_names, (ws_orders ++ Some Binary ∷ Some Binary ∷ run_settings_orders)) refl refl refl refl refl (λ again. refl) list_ws_within_named (plain_program (joined_listing list_ws_within_rest tree (with_keeping other) 2)) list_ws_within_fits base
 
   pub list_ws_within_means : Means s (Select (plain_program (joined_listing list_ws_within_rest tree (with_keeping other) 2)) list_ws_names) list_ws_within_text
   unfolding timed returning

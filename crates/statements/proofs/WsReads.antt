@@ -32,7 +32,7 @@ use Rattle.statements.proofs.PointReads.{first_own, count_own}
 use Rattle.statements.proofs.ReadBack.{workspace_read, named_workspace_read}
 use Rattle.statements.proofs.Conditions.{one_text, two_texts, same_text, text_after}
 use Rattle.statements.proofs.WsListTexts.{of_workspace, with_keeping, list_ws_text, list_ws_means, list_ws_rest, list_ws_names, list_ws_within_text, list_ws_within_means, list_ws_within_rest}
-use Rattle.statements.proofs.WsTexts.{find_ws_text, find_ws_means, find_ws_rest, count_ws_text, count_ws_means, count_ws_rest}
+use Rattle.statements.proofs.WsTexts.{find_ws_names, find_ws_text, find_ws_means, find_ws_rest, count_ws_text, count_ws_means, count_ws_rest}
 
 both_true : (a b : Bool) → (a && b) ≡ true → (a ≡ true) × (b ≡ true)
 both_true true b h = (refl, h)
@@ -52,7 +52,7 @@ module _ (old new : State) (t : Tables) (h : Holds old.now t) where
 
   pub find_ws_shows : (org name : List ℕ) (row : Option Row) → FirstRow find_ws_text (Text org ∷ Text name ∷ []) old new row → Pins IsWorkspace row (workspace_of org name t)
   find_ws_shows org name row first =
-      first_own ws_cells ws_table old new held.own t.wss held.rows held.keyed find_ws_text (Text org ∷ Text name ∷ []) row first find_ws_rest (codes "auto" ∷ codes "kind" ∷ codes "lock_id" ∷ codes "lock_text" ∷ codes "run" ∷ codes "released" ∷ codes "next_version" ∷ codes "next_run" ∷ [])
+      first_own ws_cells ws_table old new held.own t.wss held.rows held.keyed find_ws_text (Text org ∷ Text name ∷ []) row first find_ws_rest find_ws_names
       (is_ws org name) (λ x. two_texts x.1.org org x.1.name name) IsWorkspace (λ x. x.1.it) (λ x y told. workspace_read x.1.it y told) (find_ws_means old.now.schema _ _ held.own.place) (λ l. refl)
 
   pub count_ws_shows : (org : List ℕ) (row : Option Row) → FirstRow count_ws_text (Text org ∷ []) old new row → row ≡ Some (number (workspaces_of org t) ∷ [])

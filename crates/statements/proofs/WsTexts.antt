@@ -1,6 +1,7 @@
 -- What the texts on the table ws mean, in each schema that has it.
-use Rattle.std.proofs.Common.{◌≡◌, ℕ, pos, false, List, [], ◌∷◌, codes, Some, None, Ok, refl}
+use Rattle.std.proofs.Common.{◌≡◌, ℕ, pos, false, List, [], ◌∷◌, ◌++◌, codes, Option, Some, None, Ok, refl}
 use Rattle.sqlite_value.specs.declared.value.Value.TheVariants.{Null, Int}
+use Rattle.sqlite_value.specs.declared.keys.Collation.{Collation}
 use Rattle.sqlite_value.specs.declared.keys.Collation.TheVariants.{Binary}
 use Rattle.sqlite_sql.specs.Term.{Term, lit, col}
 use Rattle.sqlite_sql.specs.Query.{Query}
@@ -16,6 +17,7 @@ use Rattle.sqlite_tied.specs.Compute.{everything}
 use Rattle.statements.specs.Place.{StandsAt}
 use Rattle.statements.specs.Schema.{ws_table}
 use Rattle.statements.specs.Calls.{IsQuery}
+use Rattle.statements.specs.declared.workspaces.TheConstants.{FIND_WS, ADD_WS, SET_RUN_SETTINGS, HOLD_BY_LOCK, HOLD_BY_RUN, RELEASE_LOCK, RELEASE_RUN, SET_NEXT_VERSION, SET_NEXT_RUN, REMOVE_WS, COUNT_WS}
 use Rattle.statements.proofs.SyntaxTrees as st
 use Rattle.statements.proofs.Meaning.{Means, means, some_parsed, as_read}
 use Rattle.statements.proofs.Reading.{read_is}
@@ -23,8 +25,24 @@ use Rattle.statements.proofs.Writes.{plain_program}
 use Rattle.statements.proofs.Answered.{point, tally}
 use Rattle.statements.proofs.Commands.{is_at, update_query, delete_query, point_rest, point_draft, tally_draft, no_page}
 
+-- what is shown of a row, its sort orders, and the same of what says how its runs go
+abbrev pub ws_columns : List Term
+ws_columns = col 1 4 ∷ col 1 5 ∷ col 1 6 ∷ col 1 7 ∷ col 1 8 ∷ col 1 9 ∷ col 1 10 ∷ []
+
+abbrev pub ws_orders : List (Option Collation)
+ws_orders = Some Binary ∷ Some Binary ∷ Some Binary ∷ Some Binary ∷ Some Binary ∷ Some Binary ∷ Some Binary ∷ []
+
+abbrev pub run_settings_columns : List Term
+run_settings_columns = col 1 3 ∷ []
+
+abbrev pub run_settings_orders : List (Option Collation)
+run_settings_orders = Some Binary ∷ []
+
+abbrev pub find_ws_names : List (List ℕ)
+find_ws_names = st.ws_names ++ st.run_settings_names
+
 abbrev pub find_ws_text : List ℕ
-find_ws_text = codes "SELECT auto, kind, lock_id, lock_text, run, released, next_version, next_run FROM ws WHERE org = ?1 AND name = ?2 ORDER BY rowid"
+find_ws_text = FIND_WS.now
 
 abbrev pub find_ws_select : ast.Select
 find_ws_select = st.select st.find_ws_core (st.by_rowid false) None
@@ -37,10 +55,10 @@ pub find_ws_is_query : IsQuery find_ws_text
 find_ws_is_query = (find_ws_select, some_parsed (first find_ws_text), find_ws_reads)
 
 abbrev pub find_ws_rest : Query
-find_ws_rest = point_rest (is_at 1 0 ∷ is_at 2 1 ∷ []) (col 1 3 ∷ col 1 4 ∷ col 1 5 ∷ col 1 6 ∷ col 1 7 ∷ col 1 8 ∷ col 1 9 ∷ col 1 10 ∷ []) no_page
+find_ws_rest = point_rest (is_at 1 0 ∷ is_at 2 1 ∷ []) (ws_columns ++ run_settings_columns) no_page
 
 abbrev pub add_ws_text : List ℕ
-add_ws_text = codes "INSERT INTO ws (org, name, auto, kind, next_version, next_run) VALUES (?1, ?2, ?3, 0, 1, 1)"
+add_ws_text = ADD_WS.now
 
 add_ws_reads : first add_ws_text ≡ Ok (as_read (some_parsed (first add_ws_text)) st.add_ws)
 unfolding everything
@@ -49,18 +67,18 @@ add_ws_reads = refl
 abbrev pub add_ws_terms : List Term
 add_ws_terms = lit Null ∷ col 0 0 ∷ col 0 1 ∷ col 0 2 ∷ lit (Int (pos 0)) ∷ lit Null ∷ lit Null ∷ lit Null ∷ lit Null ∷ lit (Int (pos 1)) ∷ lit (Int (pos 1)) ∷ []
 
-abbrev pub set_auto_text : List ℕ
-set_auto_text = codes "UPDATE ws SET auto = ?3 WHERE org = ?1 AND name = ?2"
+abbrev pub set_run_settings_text : List ℕ
+set_run_settings_text = SET_RUN_SETTINGS.now
 
-set_auto_reads : first set_auto_text ≡ Ok (as_read (some_parsed (first set_auto_text)) st.set_auto)
+set_run_settings_reads : first set_run_settings_text ≡ Ok (as_read (some_parsed (first set_run_settings_text)) st.set_run_settings)
 unfolding everything
-set_auto_reads = refl
+set_run_settings_reads = refl
 
-abbrev pub set_auto_query : ℕ → Query
-set_auto_query tree = update_query tree (is_at 1 0 ∷ is_at 2 1 ∷ []) (col 1 1 ∷ col 1 2 ∷ col 0 2 ∷ col 1 4 ∷ col 1 5 ∷ col 1 6 ∷ col 1 7 ∷ col 1 8 ∷ col 1 9 ∷ col 1 10 ∷ [])
+abbrev pub set_run_settings_query : ℕ → Query
+set_run_settings_query tree = update_query tree (is_at 1 0 ∷ is_at 2 1 ∷ []) (col 1 1 ∷ col 1 2 ∷ col 0 2 ∷ col 1 4 ∷ col 1 5 ∷ col 1 6 ∷ col 1 7 ∷ col 1 8 ∷ col 1 9 ∷ col 1 10 ∷ [])
 
 abbrev pub hold_by_lock_text : List ℕ
-hold_by_lock_text = codes "UPDATE ws SET kind = 1, lock_id = ?3, lock_text = ?4, run = NULL WHERE org = ?1 AND name = ?2"
+hold_by_lock_text = HOLD_BY_LOCK.now
 
 hold_by_lock_reads : first hold_by_lock_text ≡ Ok (as_read (some_parsed (first hold_by_lock_text)) st.hold_by_lock)
 unfolding everything
@@ -70,7 +88,7 @@ abbrev pub hold_by_lock_query : ℕ → Query
 hold_by_lock_query tree = update_query tree (is_at 1 0 ∷ is_at 2 1 ∷ []) (col 1 1 ∷ col 1 2 ∷ col 1 3 ∷ lit (Int (pos 1)) ∷ col 0 2 ∷ col 0 3 ∷ lit Null ∷ col 1 8 ∷ col 1 9 ∷ col 1 10 ∷ [])
 
 abbrev pub hold_by_run_text : List ℕ
-hold_by_run_text = codes "UPDATE ws SET kind = 2, lock_id = NULL, lock_text = NULL, run = ?3 WHERE org = ?1 AND name = ?2"
+hold_by_run_text = HOLD_BY_RUN.now
 
 hold_by_run_reads : first hold_by_run_text ≡ Ok (as_read (some_parsed (first hold_by_run_text)) st.hold_by_run)
 unfolding everything
@@ -80,7 +98,7 @@ abbrev pub hold_by_run_query : ℕ → Query
 hold_by_run_query tree = update_query tree (is_at 1 0 ∷ is_at 2 1 ∷ []) (col 1 1 ∷ col 1 2 ∷ col 1 3 ∷ lit (Int (pos 2)) ∷ lit Null ∷ lit Null ∷ col 0 2 ∷ col 1 8 ∷ col 1 9 ∷ col 1 10 ∷ [])
 
 abbrev pub release_lock_text : List ℕ
-release_lock_text = codes "UPDATE ws SET kind = 0, lock_id = NULL, lock_text = NULL, run = NULL, released = ?3 WHERE org = ?1 AND name = ?2"
+release_lock_text = RELEASE_LOCK.now
 
 release_lock_reads : first release_lock_text ≡ Ok (as_read (some_parsed (first release_lock_text)) st.release_lock)
 unfolding everything
@@ -90,7 +108,7 @@ abbrev pub release_lock_query : ℕ → Query
 release_lock_query tree = update_query tree (is_at 1 0 ∷ is_at 2 1 ∷ []) (col 1 1 ∷ col 1 2 ∷ col 1 3 ∷ lit (Int (pos 0)) ∷ lit Null ∷ lit Null ∷ lit Null ∷ col 0 2 ∷ col 1 9 ∷ col 1 10 ∷ [])
 
 abbrev pub release_run_text : List ℕ
-release_run_text = codes "UPDATE ws SET kind = 0, lock_id = NULL, lock_text = NULL, run = NULL WHERE org = ?1 AND name = ?2"
+release_run_text = RELEASE_RUN.now
 
 release_run_reads : first release_run_text ≡ Ok (as_read (some_parsed (first release_run_text)) st.release_run)
 unfolding everything
@@ -100,7 +118,7 @@ abbrev pub release_run_query : ℕ → Query
 release_run_query tree = update_query tree (is_at 1 0 ∷ is_at 2 1 ∷ []) (col 1 1 ∷ col 1 2 ∷ col 1 3 ∷ lit (Int (pos 0)) ∷ lit Null ∷ lit Null ∷ lit Null ∷ col 1 8 ∷ col 1 9 ∷ col 1 10 ∷ [])
 
 abbrev pub set_next_version_text : List ℕ
-set_next_version_text = codes "UPDATE ws SET next_version = ?3 WHERE org = ?1 AND name = ?2"
+set_next_version_text = SET_NEXT_VERSION.now
 
 set_next_version_reads : first set_next_version_text ≡ Ok (as_read (some_parsed (first set_next_version_text)) st.set_next_version)
 unfolding everything
@@ -110,7 +128,7 @@ abbrev pub set_next_version_query : ℕ → Query
 set_next_version_query tree = update_query tree (is_at 1 0 ∷ is_at 2 1 ∷ []) (col 1 1 ∷ col 1 2 ∷ col 1 3 ∷ col 1 4 ∷ col 1 5 ∷ col 1 6 ∷ col 1 7 ∷ col 1 8 ∷ col 0 2 ∷ col 1 10 ∷ [])
 
 abbrev pub set_next_run_text : List ℕ
-set_next_run_text = codes "UPDATE ws SET next_run = ?3 WHERE org = ?1 AND name = ?2"
+set_next_run_text = SET_NEXT_RUN.now
 
 set_next_run_reads : first set_next_run_text ≡ Ok (as_read (some_parsed (first set_next_run_text)) st.set_next_run)
 unfolding everything
@@ -120,7 +138,7 @@ abbrev pub set_next_run_query : ℕ → Query
 set_next_run_query tree = update_query tree (is_at 1 0 ∷ is_at 2 1 ∷ []) (col 1 1 ∷ col 1 2 ∷ col 1 3 ∷ col 1 4 ∷ col 1 5 ∷ col 1 6 ∷ col 1 7 ∷ col 1 8 ∷ col 1 9 ∷ col 0 2 ∷ [])
 
 abbrev pub remove_ws_text : List ℕ
-remove_ws_text = codes "DELETE FROM ws WHERE org = ?1 AND name = ?2"
+remove_ws_text = REMOVE_WS.now
 
 remove_ws_reads : first remove_ws_text ≡ Ok (as_read (some_parsed (first remove_ws_text)) st.remove_ws)
 unfolding everything
@@ -130,7 +148,7 @@ abbrev pub remove_ws_query : ℕ → Query
 remove_ws_query tree = delete_query tree (is_at 1 0 ∷ is_at 2 1 ∷ [])
 
 abbrev pub count_ws_text : List ℕ
-count_ws_text = codes "SELECT count(*) FROM ws WHERE org = ?1"
+count_ws_text = COUNT_WS.now
 
 abbrev pub count_ws_select : ast.Select
 count_ws_select = st.select st.count_ws_core [] None
@@ -146,7 +164,7 @@ abbrev pub count_ws_rest : Query
 count_ws_rest = point_rest (is_at 1 0 ∷ []) [] no_page
 
 module _ (s : Schema) (at tree : ℕ) (h : StandsAt s (codes "ws") ws_table at tree) where
-  find_ws_named : named s st.find_ws_core (st.by_rowid false) no_page ≡ Ok ((point_draft find_ws_rest tree false), (codes "auto" ∷ codes "kind" ∷ codes "lock_id" ∷ codes "lock_text" ∷ codes "run" ∷ codes "released" ∷ codes "next_version" ∷ codes "next_run" ∷ []), (Some Binary ∷ Some Binary ∷ Some Binary ∷ Some Binary ∷ Some Binary ∷ Some Binary ∷ Some Binary ∷ Some Binary ∷ []))
+  find_ws_named : named s st.find_ws_core (st.by_rowid false) no_page ≡ Ok ((point_draft find_ws_rest tree false), find_ws_names, (ws_orders ++ run_settings_orders))
   unfolding everything
   find_ws_named = rw (h.named, h.found, h.found, h.found, h.small) refl
 
@@ -154,12 +172,12 @@ module _ (s : Schema) (at tree : ℕ) (h : StandsAt s (codes "ws") ws_table at t
   unfolding everything
   find_ws_fits = rw (h.low, h.treed) refl
 
-  find_ws_is : (base : ℕ) → command s [] base (written.Select find_ws_select) ≡ Ok (Select (plain_program (point find_ws_rest tree false)) (codes "auto" ∷ codes "kind" ∷ codes "lock_id" ∷ codes "lock_text" ∷ codes "run" ∷ codes "released" ∷ codes "next_version" ∷ codes "next_run" ∷ []))
+  find_ws_is : (base : ℕ) → command s [] base (written.Select find_ws_select) ≡ Ok (Select (plain_program (point find_ws_rest tree false)) find_ws_names)
   unfolding everything
   find_ws_is base =
-      read_is s find_ws_select st.find_ws_core (st.by_rowid false) no_page ((point_draft find_ws_rest tree false), (codes "auto" ∷ codes "kind" ∷ codes "lock_id" ∷ codes "lock_text" ∷ codes "run" ∷ codes "released" ∷ codes "next_version" ∷ codes "next_run" ∷ []), (Some Binary ∷ Some Binary ∷ Some Binary ∷ Some Binary ∷ Some Binary ∷ Some Binary ∷ Some Binary ∷ Some Binary ∷ [])) refl refl refl refl refl (λ again. refl) find_ws_named (plain_program (point find_ws_rest tree false)) find_ws_fits base
+      read_is s find_ws_select st.find_ws_core (st.by_rowid false) no_page ((point_draft find_ws_rest tree false), find_ws_names, (ws_orders ++ run_settings_orders)) refl refl refl refl refl (λ again. refl) find_ws_named (plain_program (point find_ws_rest tree false)) find_ws_fits base
 
-  pub find_ws_means : Means s (Select (plain_program (point find_ws_rest tree false)) (codes "auto" ∷ codes "kind" ∷ codes "lock_id" ∷ codes "lock_text" ∷ codes "run" ∷ codes "released" ∷ codes "next_version" ∷ codes "next_run" ∷ [])) find_ws_text
+  pub find_ws_means : Means s (Select (plain_program (point find_ws_rest tree false)) find_ws_names) find_ws_text
   unfolding timed returning
   find_ws_means = means s (written.Select find_ws_select) _ refl (λ _. refl) find_ws_is find_ws_text (some_parsed (first find_ws_text)) find_ws_reads
 
@@ -171,13 +189,13 @@ module _ (s : Schema) (at tree : ℕ) (h : StandsAt s (codes "ws") ws_table at t
   unfolding everything
   add_ws_means = means s st.add_ws _ (rw (h.named, h.found) refl) (λ _. refl) add_ws_is add_ws_text (some_parsed (first add_ws_text)) add_ws_reads
 
-  set_auto_is : (base : ℕ) → command s [] base st.set_auto ≡ Ok (Update at (plain_program (set_auto_query tree)))
+  set_run_settings_is : (base : ℕ) → command s [] base st.set_run_settings ≡ Ok (Update at (plain_program (set_run_settings_query tree)))
   unfolding everything
-  set_auto_is base = rw (h.named, h.found, h.found, h.found, h.treed, h.low) refl
+  set_run_settings_is base = rw (h.named, h.found, h.found, h.found, h.treed, h.low) refl
 
-  pub set_auto_means : Means s (Update at (plain_program (set_auto_query tree))) set_auto_text
+  pub set_run_settings_means : Means s (Update at (plain_program (set_run_settings_query tree))) set_run_settings_text
   unfolding everything
-  set_auto_means = means s st.set_auto _ refl (λ _. refl) set_auto_is set_auto_text (some_parsed (first set_auto_text)) set_auto_reads
+  set_run_settings_means = means s st.set_run_settings _ refl (λ _. refl) set_run_settings_is set_run_settings_text (some_parsed (first set_run_settings_text)) set_run_settings_reads
 
   hold_by_lock_is : (base : ℕ) → command s [] base st.hold_by_lock ≡ Ok (Update at (plain_program (hold_by_lock_query tree)))
   unfolding everything

@@ -7,12 +7,13 @@ use Rattle.sqlite_schema.specs.declared.command.Command.TheVariants.{Update}
 use Rattle.sqlite_schema.specs.declared.command.Source.TheVariants.{Values}
 use Rattle.sqlite.specs.State.{State, Executes}
 use Rattle.sqlite_keyed.proofs.KeyedLemmas.{IsKeyedBy-update_where, IsKeyedBy-delete_where}
+use Rattle.basis.specs.declared.rows.RunSettings.{RunSettings}
 use Rattle.statements.specs.declared.rows.Holder.TheVariants.{Nobody, Lock, Run as HeldByRun}
 use Rattle.statements.specs.Place.{at_of, tree_of, IsOwn}
 use Rattle.statements.specs.Schema.{ws_table, keeping_table}
-use Rattle.statements.specs.Rows.{Kept, id_of, WsRow, ws_cells, flag, number}
+use Rattle.statements.specs.Rows.{Kept, id_of, WsRow, ws_cells, run_settings_cells, number}
 use Rattle.statements.specs.Tables.{Tables, Holds, ws_layout, our_tables}
-use Rattle.statements.specs.Changes.{is_ws, with_auto, held_by, released_from, with_next_version, with_next_run, workspace_made, ws_changed, ws_row_added, ws_row_removed, HasNoKeeping}
+use Rattle.statements.specs.Changes.{is_ws, with_run_settings, held_by, released_from, with_next_version, with_next_run, workspace_made, ws_changed, ws_row_added, ws_row_removed, HasNoKeeping}
 use Rattle.statements.specs.Finds.{workspace_of}
 use Rattle.statements.proofs.Held.{IsHeld, wss_held, keepings_held, trees_apart}
 use Rattle.statements.proofs.Follows.{keeping_follows}
@@ -23,7 +24,7 @@ use Rattle.statements.proofs.Own.{update_own, update_leaves, count_updated, dele
 use Rattle.statements.proofs.Casts.{ws_casts}
 use Rattle.statements.proofs.Frames.{Turns, wss_written}
 use Rattle.statements.proofs.Conditions.{two_texts}
-use Rattle.statements.proofs.WsTexts.{add_ws_text, add_ws_means, add_ws_terms, set_auto_text, set_auto_means, set_auto_query, hold_by_lock_text, hold_by_lock_means, hold_by_lock_query, hold_by_run_text, hold_by_run_means, hold_by_run_query, release_lock_text, release_lock_means, release_lock_query, release_run_text, release_run_means, release_run_query, set_next_version_text, set_next_version_means, set_next_version_query, set_next_run_text, set_next_run_means, set_next_run_query, remove_ws_text, remove_ws_means, remove_ws_query}
+use Rattle.statements.proofs.WsTexts.{add_ws_text, add_ws_means, add_ws_terms, set_run_settings_text, set_run_settings_means, set_run_settings_query, hold_by_lock_text, hold_by_lock_means, hold_by_lock_query, hold_by_run_text, hold_by_run_means, hold_by_run_query, release_lock_text, release_lock_means, release_lock_query, release_run_text, release_run_means, release_run_query, set_next_version_text, set_next_version_means, set_next_version_query, set_next_run_text, set_next_run_means, set_next_run_query, remove_ws_text, remove_ws_means, remove_ws_query}
 
 module _ (old new : State) (count : ℕ) (t : Tables) (h : Holds old.now t) where
   abbrev held : IsHeld ws_layout old.now t.wss
@@ -41,20 +42,20 @@ module _ (old new : State) (count : ℕ) (t : Tables) (h : Holds old.now t) wher
   keeping_stays text params ran q means =
       update_leaves ws_cells ws_table ws_casts old new held.own held.steady t.wss held.rows held.keyed text params count ran q means keeping_table keeping_own (keeping_follows old.now.schema held.own) (refl, tt) keeping_apart
 
-  pub add_ws_does : (org name : List ℕ) (auto : Bool) → Executes add_ws_text (Text org ∷ Text name ∷ flag auto ∷ []) old new (Ok count) → Turns old.now new.now (ws_row_added org name auto t)
-  add_ws_does org name auto ran =
-      let row : WsRow = record { org = org; name = name; it = workspace_made auto } in
-      let left = insert_own ws_cells ws_table ws_casts old new held.own held.steady t.wss held.rows held.keyed add_ws_text (Text org ∷ Text name ∷ flag auto ∷ []) count ran
+  pub add_ws_does : (org name : List ℕ) (runs : RunSettings) → Executes add_ws_text (Text org ∷ Text name ∷ run_settings_cells runs) old new (Ok count) → Turns old.now new.now (ws_row_added org name runs t)
+  add_ws_does org name runs ran =
+      let row : WsRow = record { org = org; name = name; it = workspace_made runs } in
+      let left = insert_own ws_cells ws_table ws_casts old new held.own held.steady t.wss held.rows held.keyed add_ws_text (Text org ∷ Text name ∷ run_settings_cells runs) count ran
       add_ws_terms 11 (add_ws_means old.now.schema _ _ held.own.place) refl refl row refl in
-      let others = insert_others ws_table old new held.own add_ws_text (Text org ∷ Text name ∷ flag auto ∷ []) count ran (Values add_ws_terms 11) (add_ws_means old.now.schema _ _ held.own.place) refl refl in
+      let others = insert_others ws_table old new held.own add_ws_text (Text org ∷ Text name ∷ run_settings_cells runs) count ran (Values add_ws_terms 11) (add_ws_means old.now.schema _ _ held.own.place) refl refl in
       let stays = other_keeps old.now.schema (tree_of old.now.schema ws_table.name) old.now.trees new.now.trees keeping_table keeping_own others.1 keeping_apart in
       wss_written old.now new.now left.1 t h _ stays left.0 (keyed_next t.wss row held.keyed)
 
-  pub set_auto_does : (org name : List ℕ) (auto : Bool) → Executes set_auto_text (Text org ∷ Text name ∷ flag auto ∷ []) old new (Ok count) → Turns old.now new.now (ws_changed (with_auto auto) org name t)
-  set_auto_does org name auto ran =
-      let left = update_own ws_cells ws_table ws_casts old new held.own held.steady t.wss held.rows held.keyed set_auto_text (Text org ∷ Text name ∷ flag auto ∷ []) count ran
-      (set_auto_query (tree_of old.now.schema ws_table.name)) (set_auto_means old.now.schema _ _ held.own.place) refl refl refl (λ rows. refl) (is_ws org name) (λ x. two_texts x.1.org org x.1.name name) (λ (x : Kept WsRow). (x.0, record x.1 { it = with_auto auto x.1.it })) (λ x. refl) (λ x. refl) in
-      wss_written old.now new.now left.1 t h _ (keeping_stays set_auto_text (Text org ∷ Text name ∷ flag auto ∷ []) ran _ (set_auto_means old.now.schema _ _ held.own.place)) left.0 (IsKeyedBy-update_where id_of (is_ws org name) (λ (x : Kept WsRow). (x.0, record x.1 { it = with_auto auto x.1.it })) (λ x. refl) t.wss held.keyed)
+  pub set_run_settings_does : (org name : List ℕ) (runs : RunSettings) → Executes set_run_settings_text (Text org ∷ Text name ∷ run_settings_cells runs) old new (Ok count) → Turns old.now new.now (ws_changed (with_run_settings runs) org name t)
+  set_run_settings_does org name runs ran =
+      let left = update_own ws_cells ws_table ws_casts old new held.own held.steady t.wss held.rows held.keyed set_run_settings_text (Text org ∷ Text name ∷ run_settings_cells runs) count ran
+      (set_run_settings_query (tree_of old.now.schema ws_table.name)) (set_run_settings_means old.now.schema _ _ held.own.place) refl refl refl (λ rows. refl) (is_ws org name) (λ x. two_texts x.1.org org x.1.name name) (λ (x : Kept WsRow). (x.0, record x.1 { it = with_run_settings runs x.1.it })) (λ x. refl) (λ x. refl) in
+      wss_written old.now new.now left.1 t h _ (keeping_stays set_run_settings_text (Text org ∷ Text name ∷ run_settings_cells runs) ran _ (set_run_settings_means old.now.schema _ _ held.own.place)) left.0 (IsKeyedBy-update_where id_of (is_ws org name) (λ (x : Kept WsRow). (x.0, record x.1 { it = with_run_settings runs x.1.it })) (λ x. refl) t.wss held.keyed)
 
   pub hold_by_lock_does : (org name id text : List ℕ) → Executes hold_by_lock_text (Text org ∷ Text name ∷ Text id ∷ Blob text ∷ []) old new (Ok count) → Turns old.now new.now (ws_changed (held_by (Lock id text)) org name t)
   hold_by_lock_does org name id text ran =

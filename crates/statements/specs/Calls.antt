@@ -23,6 +23,7 @@ use Rattle.statements.specs.declared.rows.Run.{Run}
 use Rattle.statements.specs.declared.rows.NamedRole.{NamedRole}
 use Rattle.statements.specs.declared.rows.Bound.{Bound}
 use Rattle.statements.specs.Rows.{number, role_code, status_code, action_code}
+use Rattle.statements.specs.Decode.{run_settings_at}
 use Rattle.sqlite.specs.State.{State, IsUnchanged, IsRolledBack, KeepsCommit, ExecutesInside, QueriesRow, Shown, Begins}
 
 -- a text that was run in a transaction
@@ -83,17 +84,21 @@ AreHolderCells kind id text run Nobody = kind ≡ number 0
 AreHolderCells kind id text run (Lock i t) = (kind ≡ number 1) × (id ≡ cell.Text i) × (text ≡ cell.Blob t)
 AreHolderCells kind id text run (HeldByRun n) = (kind ≡ number 2) × (run ≡ number n)
 
-pub record IsWorkspace (row : Row) (w : Workspace) : Type 0 where
-  pub auto : IsFlagCell (column row 0) w.auto
-  pub holder : AreHolderCells (column row 1) (column row 2) (column row 3) (column row 4) w.holder
-  pub released : IsTextOrNull (column row 5) w.released
-  pub next_version : column row 6 ≡ number w.next_version
-  pub next_run : column row 7 ≡ number w.next_run
+-- a workspace, of which the settings of runs begin in this column
+pub record IsWorkspaceWith (at : ℕ) (row : Row) (w : Workspace) : Type 0 where
+  pub runs : w.runs ≡ run_settings_at row at
+  pub holder : AreHolderCells (column row 0) (column row 1) (column row 2) (column row 3) w.holder
+  pub released : IsTextOrNull (column row 4) w.released
+  pub next_version : column row 5 ≡ number w.next_version
+  pub next_run : column row 6 ≡ number w.next_run
+
+abbrev pub IsWorkspace : Row → Workspace → Type 0
+IsWorkspace row w = IsWorkspaceWith 7 row w
 
 pub record IsNamedRow (row : Row) (w : NamedWorkspace) : Type 0 where
-  pub it : IsWorkspace row w.it
-  pub name : column row 8 ≡ cell.Text w.name
-  pub keep : IsNumberOrNull (column row 9) w.keep
+  pub it : IsWorkspaceWith 9 row w.it
+  pub name : column row 7 ≡ cell.Text w.name
+  pub keep : IsNumberOrNull (column row 8) w.keep
 
 pub record IsOrganization (row : Row) (o : Organization) : Type 0 where
   pub name : column row 0 ≡ cell.Text o.name

@@ -6,6 +6,7 @@ use Rattle.sqlite_keyed.specs.Keyed.{next_key}
 use Rattle.sqlite_keyed.specs.Lists.{update_where, delete_where}
 use Rattle.basis.specs.declared.numbers.TheConstants.{FIRST_KEPT}
 use Rattle.basis.specs.declared.roles.Role.{Role}
+use Rattle.basis.specs.declared.rows.RunSettings.{RunSettings}
 use Rattle.basis.specs.declared.runs.RunStatus.{RunStatus}
 use Rattle.basis.specs.declared.runs.RunAction.{RunAction}
 use Rattle.statements.specs.declared.rows.Holder.{Holder}
@@ -92,8 +93,8 @@ is_ws org name x = bytes_eq x.1.org org && bytes_eq x.1.name name
 abbrev pub ws_changed : (Workspace → Workspace) → List ℕ → List ℕ → Tables → Tables
 ws_changed f org name t = record t { wss = update_where (is_ws org name) (λ x. (x.0, record x.1 { it = f x.1.it })) t.wss }
 
-abbrev pub with_auto : Bool → Workspace → Workspace
-with_auto auto w = record w { auto = auto }
+abbrev pub with_run_settings : RunSettings → Workspace → Workspace
+with_run_settings runs w = record w { runs = runs }
 
 abbrev pub held_by : Holder → Workspace → Workspace
 held_by holder w = record w { holder = holder }
@@ -109,11 +110,11 @@ abbrev pub with_next_run : ℕ → Workspace → Workspace
 with_next_run n w = record w { next_run = n }
 
 -- a workspace that nobody holds or held, whose versions and runs begin at 1
-abbrev pub workspace_made : Bool → Workspace
-workspace_made auto = record { auto = auto; holder = Nobody; released = None; next_version = 1; next_run = 1 }
+abbrev pub workspace_made : RunSettings → Workspace
+workspace_made runs = record { runs = runs; holder = Nobody; released = None; next_version = 1; next_run = 1 }
 
-abbrev pub ws_row_added : List ℕ → List ℕ → Bool → Tables → Tables
-ws_row_added org name auto t = record t { wss = with_next (record { org = org; name = name; it = workspace_made auto }) t.wss }
+abbrev pub ws_row_added : List ℕ → List ℕ → RunSettings → Tables → Tables
+ws_row_added org name runs t = record t { wss = with_next (record { org = org; name = name; it = workspace_made runs }) t.wss }
 
 abbrev pub ws_row_removed : List ℕ → List ℕ → Tables → Tables
 ws_row_removed org name t = record t { wss = delete_where (is_ws org name) t.wss }
@@ -142,8 +143,8 @@ abbrev pub keepings_filled : Tables → Tables
 keepings_filled t = record t { keepings = with_all (map (λ x. kept_first x.1) t.wss) t.keepings }
 
 -- a workspace with how many versions it keeps
-abbrev pub ws_added : List ℕ → List ℕ → Bool → ℕ → Tables → Tables
-ws_added org name auto keep t = keeping_row_added org name keep (ws_row_added org name auto t)
+abbrev pub ws_added : List ℕ → List ℕ → RunSettings → ℕ → Tables → Tables
+ws_added org name runs keep t = keeping_row_added org name keep (ws_row_added org name runs t)
 
 abbrev pub HasNoKeeping : List ℕ → List ℕ → Tables → Type 0
 HasNoKeeping org ws t = AllByRecursion (λ x. is_keeping org ws x ≡ false) t.keepings

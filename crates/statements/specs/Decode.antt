@@ -5,6 +5,7 @@ use Rattle.sqlite_value.specs.Order.{Row, column}
 use Rattle.sqlite_typed.specs.Columns.{int_of, bytes_of, unless_null}
 use Rattle.basis.specs.declared.roles.Role.{Role}
 use Rattle.basis.specs.declared.roles.Role.TheVariants.{Read, Write, Admin}
+use Rattle.basis.specs.declared.rows.RunSettings.{RunSettings}
 use Rattle.basis.specs.declared.runs.RunStatus.{RunStatus}
 use Rattle.basis.specs.declared.runs.RunStatus.TheVariants.{Pending, Planning, Planned, Applying, Applied, PlannedAndFinished, Errored, Discarded, Canceled}
 use Rattle.basis.specs.declared.runs.RunAction.{RunAction}
@@ -36,6 +37,10 @@ abbrev pub action_at : ℕ → RunAction
 action_at n =
     if n == 0 then ReportPlanned else (if n == 1 then ReportUnchanged else (if n == 2 then Fail else (if n == 3 then Confirm else (if n == 4 then ReportApplied else (if n == 5 then Discard else Cancel)))))
 
+-- how runs go, of which the first column is this one
+abbrev pub run_settings_at : Row → ℕ → RunSettings
+run_settings_at r at = record { auto_apply = flag_at r at }
+
 -- from the columns kind, lock_id, lock_text and run
 abbrev pub holder_at : ℕ → List ℕ → List ℕ → ℕ → Holder
 holder_at zero id text run = Nobody
@@ -60,7 +65,7 @@ ws_at r = record {
   org = bytes_at r 1;
   name = bytes_at r 2;
   it = record {
-    auto = flag_at r 3;
+    runs = run_settings_at r 3;
     holder = holder_at (number_at r 4) (bytes_at r 5) (bytes_at r 6) (number_at r 7);
     released = unless_null bytes_of (column r 8);
     next_version = number_at r 9;

@@ -6,6 +6,7 @@ use Rattle.sqlite_value.specs.Order.{Row}
 use Rattle.sqlite_typed.specs.Columns.{or_null}
 use Rattle.basis.specs.declared.roles.Role.{Role}
 use Rattle.basis.specs.declared.roles.Role.TheVariants.{Read, Write, Admin}
+use Rattle.basis.specs.declared.rows.RunSettings.{RunSettings}
 use Rattle.basis.specs.declared.runs.RunStatus.{RunStatus}
 use Rattle.basis.specs.declared.runs.RunStatus.TheVariants.{Pending, Planning, Planned, Applying, Applied, PlannedAndFinished, Errored, Discarded, Canceled}
 use Rattle.basis.specs.declared.runs.RunAction.{RunAction}
@@ -142,6 +143,10 @@ run_cell Nobody = cell.Null
 run_cell (Lock id text) = cell.Null
 run_cell (HeldByRun n) = number n
 
+-- the columns that say how runs go
+abbrev pub run_settings_cells : RunSettings → Row
+run_settings_cells s = flag s.auto_apply ∷ []
+
 abbrev pub org_cells : OrgRow → Row
 org_cells r = cell.Text r.name ∷ number r.cap ∷ []
 
@@ -150,7 +155,7 @@ token_cells r = cell.Text r.org ∷ cell.Text r.name ∷ cell.Blob r.it.digest �
 
 abbrev pub ws_cells : WsRow → Row
 ws_cells r =
-    cell.Text r.org ∷ cell.Text r.name ∷ flag r.it.auto ∷ kind_cell r.it.holder ∷ lock_id_cell r.it.holder ∷ lock_text_cell r.it.holder ∷ run_cell r.it.holder
+    cell.Text r.org ∷ cell.Text r.name ∷ flag r.it.runs.auto_apply ∷ kind_cell r.it.holder ∷ lock_id_cell r.it.holder ∷ lock_text_cell r.it.holder ∷ run_cell r.it.holder
     ∷ or_null cell.Text r.it.released ∷ number r.it.next_version ∷ number r.it.next_run ∷ []
 
 abbrev pub version_cells : VersionRow → Row

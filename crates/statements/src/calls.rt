@@ -7,11 +7,13 @@ ghost use Rattle.sqlite.specs.Held.{state};
 ghost use Rattle.sqlite.specs.State.{HasCleanDisk, Survives, Shown};
 ghost use Rattle.basis.specs.declared.numbers.TheConstants.{MAX_KEPT};
 ghost use Rattle.statements.specs.Rows.{number, role_code, status_code, action_code, flag};
-ghost use Rattle.statements.specs.Calls.{Wrote, WroteAny, IsQuery, FirstRow, FirstRows, IsCalm, IsRead, AreRead, IsNamedRow, IsOrganization, IsVersionHead, IsFlagCell, IsTextOrNull, AreHolderCells, IsWorkspace, IsHeadRow, IsRunRow, IsNamedRole, IsNumberOrNull, IsBound, IsBody, IsNumber, IsRole, IsStatusCell, IsActionOrNull, IsStatus, IsCount};
+ghost use Rattle.statements.specs.Decode.{flag_at};
+ghost use Rattle.statements.specs.Calls.{Wrote, WroteAny, IsQuery, FirstRow, FirstRows, IsCalm, IsRead, AreRead, IsNamedRow, IsOrganization, IsVersionHead, IsFlagCell, IsTextOrNull, AreHolderCells, IsWorkspaceWith, IsWorkspace, IsHeadRow, IsRunRow, IsNamedRole, IsNumberOrNull, IsBound, IsBody, IsNumber, IsRole, IsStatusCell, IsActionOrNull, IsStatus, IsCount};
 
 use crate::rows::{
     Bound, Head, Holder, NamedRole, NamedWorkspace, Organization, Run, VersionHead, Workspace,
 };
+use crate::workspaces::run_settings_in;
 use basis::{Bytes, Items, KeepCount, Role, RunAction, RunStatus, Text};
 use sqlite::types::ValueRef;
 use sqlite::{Alter, Connection, Error, Row, Transaction};
@@ -169,17 +171,24 @@ fn role_in(row: &Row, at: usize) -> Result<Role, Error>
     }
 }
 
-fn holder_in(row: &Row) -> Result<Holder, Error>
-    ensures { IfOk result (AreHolderCells (column row.now 1) (column row.now 2) (column row.now 3) (column row.now 4)) }
+/// Whether a number in a row is another than 0.
+pub(crate) fn flag_in(row: &Row, at: usize) -> Result<bool, Error>
+    ensures { IfOk result (λ flag. flag ≡ flag_at row.now at) }
 {
-    match row.get::<u64>(1)? {
+    row.get::<bool>(at)
+}
+
+fn holder_in(row: &Row) -> Result<Holder, Error>
+    ensures { IfOk result (AreHolderCells (column row.now 0) (column row.now 1) (column row.now 2) (column row.now 3)) }
+{
+    match row.get::<u64>(0)? {
         0 => Ok(Holder::Nobody),
         1 => Ok(Holder::Lock {
-            id: Text::new(row.get(2)?),
-            text: Bytes::new(row.get(3)?),
+            id: Text::new(row.get(1)?),
+            text: Bytes::new(row.get(2)?),
         }),
-        2 => Ok(Holder::Run(row.get(4)?)),
-        _ => Err(Error::IntegralValueOutOfRange(1)),
+        2 => Ok(Holder::Run(row.get(3)?)),
+        _ => Err(Error::IntegralValueOutOfRange(0)),
     }
 }
 
@@ -225,17 +234,24 @@ pub trait Read: Sized {
         ensures { IfOk result (is_in row.now) };
 }
 
+/// A workspace, of which the settings of runs begin in this column.
+fn workspace_in(row: &Row, at: usize) -> Result<Workspace, Error>
+    ensures { IfOk result (IsWorkspaceWith at row.now) }
+{
+    Ok(Workspace {
+        runs: run_settings_in(row, at)?,
+        holder: holder_in(row)?,
+        released: optional_text(row, 4)?,
+        next_version: row.get(5)?,
+        next_run: row.get(6)?,
+    })
+}
+
 impl Read for Workspace {
     ghost is_in = { IsWorkspace };
 
     fn of_row(row: &Row) -> Result<Workspace, Error> {
-        Ok(Workspace {
-            auto: row.get(0)?,
-            holder: holder_in(row)?,
-            released: optional_text(row, 5)?,
-            next_version: row.get(6)?,
-            next_run: row.get(7)?,
-        })
+        workspace_in(row, 7)
     }
 }
 
@@ -244,9 +260,9 @@ impl Read for NamedWorkspace {
 
     fn of_row(row: &Row) -> Result<NamedWorkspace, Error> {
         Ok(NamedWorkspace {
-            it: Workspace::of_row(row)?,
-            name: Text::new(row.get(8)?),
-            keep: optional_keep(row, 9)?,
+            it: workspace_in(row, 9)?,
+            name: Text::new(row.get(7)?),
+            keep: optional_keep(row, 8)?,
         })
     }
 }

@@ -1,5 +1,5 @@
 //! What rows hold, as values.
-use basis::{Bytes, KeepCount, Role, RunAction, RunStatus, Text};
+use basis::{Bytes, KeepCount, Role, RunAction, RunSettings, RunStatus, Text};
 
 /// Who holds a workspace: nobody, a lock with the text that took it, or the run of this number.
 #[derive(Drop)]
@@ -12,7 +12,7 @@ pub enum Holder {
 /// A workspace, without its versions and runs.
 #[derive(Drop)]
 pub struct Workspace {
-    pub auto: bool,
+    pub runs: RunSettings,
     pub holder: Holder,
     /// The ID of the lock that was released last.
     pub released: Option<Text>,

@@ -4,20 +4,32 @@ ghost use Rattle.sqlite.specs.Held.{state};
 ghost use Rattle.sqlite.specs.State.{HasCleanDisk};
 ghost use Rattle.statements.specs.Steps.{WritesBy, WritesWhere, QueriesBy, QueriesWhere};
 ghost use Rattle.statements.specs.Tables.{Tables, Holds};
-ghost use Rattle.statements.specs.Changes.{with_auto, held_by, released_from, with_next_version, with_next_run, ws_changed, ws_row_added, ws_row_removed, ws_added, ws_removed, HasNoKeeping};
+ghost use Rattle.statements.specs.Changes.{with_run_settings, held_by, released_from, with_next_version, with_next_run, ws_changed, ws_row_added, ws_row_removed, ws_added, ws_removed, HasNoKeeping};
 ghost use Rattle.statements.specs.Listings.{workspace_rows_after, WorkspacesApart, later_of, end_of};
+ghost use Rattle.statements.specs.Decode.{run_settings_at};
 ghost use Rattle.statements.specs.Finds.{workspace_of, workspaces_of};
 ghost use Rattle.statements.specs.declared.rows.Holder.TheVariants.{Nobody, Lock, Run as HeldByRun};
 
-use crate::calls::{count_of, first_row, first_rows, read_all, read_one, signed, update, write};
+use crate::calls::{
+    count_of, first_row, first_rows, flag_in, read_all, read_one, signed, update, write,
+};
 use crate::keepings;
 use crate::rows::{NamedWorkspace, Workspace};
-use basis::{Items, KeepCount, Prefix};
-use sqlite::{Alter, Connection, Error, Transaction, params};
+use basis::{Items, KeepCount, Prefix, RunSettings};
+use sqlite::{Alter, Connection, Error, Row, Transaction, params};
 use std::alloc::Global;
 
+/// The settings of runs in a row of an answer, of which the first stands in this column.
+pub(crate) fn run_settings_in(row: &Row, at: usize) -> Result<RunSettings, Error>
+    ensures { IfOk result (λ runs. runs ≡ run_settings_at row.now at) }
+{
+    Ok(RunSettings {
+        auto_apply: flag_in(row, at)?,
+    })
+}
+
 const FIND_WS: &str =
-    "SELECT auto, kind, lock_id, lock_text, run, released, next_version, next_run FROM ws WHERE org = ?1 AND name = ?2 ORDER BY rowid";
+    "SELECT kind, lock_id, lock_text, run, released, next_version, next_run, auto FROM ws WHERE org = ?1 AND name = ?2 ORDER BY rowid";
 
 /// What a workspace of an organization holds, if there is one of the name.
 pub fn find<S: Alter>(
@@ -32,7 +44,7 @@ pub fn find<S: Alter>(
 }
 
 const LIST_WS: &str =
-    "SELECT auto, kind, lock_id, lock_text, run, released, next_version, next_run, name, keep FROM ws LEFT JOIN keeping ON keeping.org = ?1 AND keeping.ws = name WHERE ws.org = ?1 AND name > ?2 ORDER BY name";
+    "SELECT kind, lock_id, lock_text, run, released, next_version, next_run, name, keep, auto FROM ws LEFT JOIN keeping ON keeping.org = ?1 AND keeping.ws = name WHERE ws.org = ?1 AND name > ?2 ORDER BY name";
 
 fn list_all<S: Alter>(
     alloc: Global,
@@ -49,7 +61,7 @@ fn list_all<S: Alter>(
 
 // Of the two lower bounds the last is where the scan begins.
 const LIST_WS_WITHIN: &str =
-    "SELECT auto, kind, lock_id, lock_text, run, released, next_version, next_run, name, keep FROM ws LEFT JOIN keeping ON keeping.org = ?1 AND keeping.ws = name WHERE ws.org = ?1 AND name > ?2 AND name >= ?3 AND name < ?4 ORDER BY name";
+    "SELECT kind, lock_id, lock_text, run, released, next_version, next_run, name, keep, auto FROM ws LEFT JOIN keeping ON keeping.org = ?1 AND keeping.ws = name WHERE ws.org = ?1 AND name > ?2 AND name >= ?3 AND name < ?4 ORDER BY name";
 
 /// Where a scan for names that begin with a prefix and come after a name begins: at the greater of the two.
 fn beginning<'v>(after: &'v str, prefix: &'v str) -> &'v str
@@ -141,11 +153,11 @@ fn add_row<S: Alter>(
     tx: &mut Transaction<'_, S>,
     org: &str,
     name: &str,
-    auto: bool,
+    runs: RunSettings,
 ) -> Result<(), Error>
-    ensures { WritesBy S.Store (ws_row_added org.now name.now auto) tx.old tx.new result }
+    ensures { WritesBy S.Store (ws_row_added org.now name.now runs) tx.old tx.new result }
 {
-    write(tx, ADD_WS, params![org, name, auto])
+    write(tx, ADD_WS, params![org, name, runs.auto_apply])
 }
 
 /// Adds a workspace that nobody holds, whose versions and runs begin at 1, and how many versions it keeps.
@@ -153,27 +165,27 @@ pub fn add<S: Alter>(
     tx: &mut Transaction<'_, S>,
     org: &str,
     name: &str,
-    auto: bool,
+    runs: RunSettings,
     keep: KeepCount,
 ) -> Result<(), Error>
-    ensures { WritesBy S.Store (ws_added org.now name.now auto keep) tx.old tx.new result }
+    ensures { WritesBy S.Store (ws_added org.now name.now runs keep) tx.old tx.new result }
 {
-    add_row(tx, org, name, auto)?;
+    add_row(tx, org, name, runs)?;
     keepings::add(tx, org, name, keep)
 }
 
-const SET_AUTO: &str = "UPDATE ws SET auto = ?3 WHERE org = ?1 AND name = ?2";
+const SET_RUN_SETTINGS: &str = "UPDATE ws SET auto = ?3 WHERE org = ?1 AND name = ?2";
 
-/// Sets whether the plans of a workspace are applied without being asked for.
-pub fn set_auto<S: Alter>(
+/// Sets how the runs of a workspace go.
+pub fn set_run_settings<S: Alter>(
     tx: &mut Transaction<'_, S>,
     org: &str,
     name: &str,
-    auto: bool,
+    runs: RunSettings,
 ) -> Result<(), Error>
-    ensures { WritesBy S.Store (ws_changed (with_auto auto) org.now name.now) tx.old tx.new result }
+    ensures { WritesBy S.Store (ws_changed (with_run_settings runs) org.now name.now) tx.old tx.new result }
 {
-    write(tx, SET_AUTO, params![org, name, auto])
+    write(tx, SET_RUN_SETTINGS, params![org, name, runs.auto_apply])
 }
 
 const HOLD_BY_LOCK: &str =

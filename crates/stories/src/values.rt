@@ -117,7 +117,7 @@ fn show_lock(alloc: Global, bytes: &[u8]) -> Shown {
 }
 
 fn settings_text(alloc: Global, settings: &SettingsAsk) -> Result<String, AllocError> {
-    let auto_apply = settings.auto_apply;
+    let auto_apply = settings.runs.auto_apply;
     match settings.keep_versions {
         Some(keep) => { format!(in alloc; "auto_apply {auto_apply} keep_versions {}", keep.get()) }
         None => format!(in alloc; "auto_apply {auto_apply}"),

@@ -2,6 +2,7 @@
 use Rattle.std.proofs.Common.{◌≡◌, ℕ, ◌+◌, Bool, true, false, cond, List, [], ◌∷◌, ◌++◌, map, filter, find, is_some, Option, Some, None, option_map, refl, sym, ap, subst, ◌∙◌}
 use Rattle.std.specs.Option.{unwrap_or}
 use Rattle.basis.specs.declared.numbers.TheConstants.{FIRST_KEPT}
+use Rattle.basis.specs.declared.rows.RunSettings.{RunSettings}
 use Rattle.basis.specs.declared.rows.Settings.{Settings}
 use Rattle.basis.specs.declared.rows.RunAsk.{RunAsk}
 use Rattle.basis.specs.declared.runs.RunStatus.{RunStatus}
@@ -26,7 +27,7 @@ use Rattle.statements.specs.declared.rows.Workspace.{Workspace as WorkspaceCells
 use Rattle.statements.specs.declared.rows.Run.{Run as RunCells}
 use Rattle.statements.specs.Rows.{Kept, WsRow, KeepingRow, RunRow}
 use Rattle.statements.specs.Tables.{Tables}
-use Rattle.statements.specs.Changes.{is_ws, is_keeping, is_run_of, with_auto, held_by, released_from, with_next_version, with_next_run, ws_changed, ws_added, runs_removed, run_made as new_run_cells, run_acted}
+use Rattle.statements.specs.Changes.{is_ws, is_keeping, is_run_of, with_run_settings, held_by, released_from, with_next_version, with_next_run, ws_changed, ws_added, runs_removed, run_made as new_run_cells, run_acted}
 use Rattle.statements.specs.Finds.{workspace_of, keep_of}
 use Rattle.tables.specs.Records.{run_of_cells, workspace_of_cells, keep_at, versions_at, runs_at, workspace_by}
 use Rattle.tables.specs.Inner.Edits.{all_gone, removed_rows, made_rows, settings_rows, configured_rows, numbered_rows, if_there, versioned_rows, run_put, run_counted, run_rows, freed_rows, edited_rows, started_rows, changed_rows, TakesVersion, TakesEdit}
@@ -80,17 +81,17 @@ module _ (org ws : List ℕ) (t : Tables) where
 
   -- a workspace where there is no row of its name
   added_puts : (settings : Settings) → workspace_of org ws t ≡ None → keep_of org ws t ≡ None → versions_at t org ws ≡ [] → runs_at t org ws ≡ []
-      → Puts org ws (Some (new_workspace settings)) t (ws_added org ws settings.auto_apply settings.keep_versions t)
+      → Puts org ws (Some (new_workspace settings)) t (ws_added org ws settings.runs settings.keep_versions t)
   added_puts settings none no_keep no_version no_run =
-      let auto : Bool = settings.auto_apply in
+      let of_runs : RunSettings = settings.runs in
       let keep : ℕ = settings.keep_versions in
-      let after : Tables = ws_added org ws settings.auto_apply settings.keep_versions t in
+      let after : Tables = ws_added org ws settings.runs settings.keep_versions t in
       record {
         orgs = refl;
         tokens = refl;
         bounds = refl;
-        own = same_parts _ _ _ _ _ _ _ _ (row_added org ws t auto keep none) (keep_added org ws t auto keep no_keep) (versions_carried t after refl refl refl org ws ∙ no_version) no_run;
-        others = λ a b other. same_parts _ _ _ _ _ _ _ _ (row_added_other org ws t auto keep a b other) (keep_added_other org ws t auto keep a b other) (versions_carried t after refl refl refl a b) refl;
+        own = same_parts _ _ _ _ _ _ _ _ (row_added org ws t of_runs keep none) (keep_added org ws t of_runs keep no_keep) (versions_carried t after refl refl refl org ws ∙ no_version) no_run;
+        others = λ a b other. same_parts _ _ _ _ _ _ _ _ (row_added_other org ws t of_runs keep a b other) (keep_added_other org ws t of_runs keep a b other) (versions_carried t after refl refl refl a b) refl;
       }
 
   -- the row and the runs of a workspace stay as its versions go
@@ -191,18 +192,18 @@ module _ (org ws : List ℕ) (t : Tables) where
       orgs = leave.rest.orgs;
       tokens = leave.rest.tokens;
       bounds = leave.rest.bounds;
-      own = same_parts _ _ _ _ _ _ _ _ (leave_row org ws ∙ row_changed org ws (with_auto settings.auto_apply) t) (leave_keep org ws) (leave.own ∙ ap (left_above outgoing) (versions_carried t with_set refl refl refl org ws)) (leave_runs org ws)
+      own = same_parts _ _ _ _ _ _ _ _ (leave_row org ws ∙ row_changed org ws (with_run_settings settings.runs) t) (leave_keep org ws) (leave.own ∙ ap (left_above outgoing) (versions_carried t with_set refl refl refl org ws)) (leave_runs org ws)
           ∙ by_row (workspace_of org ws t) refl;
-      others = λ a b other. same_parts _ _ _ _ _ _ _ _ (leave_row a b ∙ row_unchanged org ws (with_auto settings.auto_apply) t a b other) (leave_keep a b ∙ keep_set_other org ws t settings.keep_versions a b other)
+      others = λ a b other. same_parts _ _ _ _ _ _ _ _ (leave_row a b ∙ row_unchanged org ws (with_run_settings settings.runs) t a b other) (leave_keep a b ∙ keep_set_other org ws t settings.keep_versions a b other)
           (leave.others a b other ∙ versions_carried t with_set refl refl refl a b) (leave_runs a b);
     }
       where
         by_row : (r : Option WorkspaceCells) → workspace_of org ws t ≡ r
-            → option_map (λ (c : WorkspaceCells). workspace_of_cells (keep_at with_set org ws) c (left_above outgoing (versions_at t org ws)) (runs_at t org ws)) (option_map (with_auto settings.auto_apply) r)
+            → option_map (λ (c : WorkspaceCells). workspace_of_cells (keep_at with_set org ws) c (left_above outgoing (versions_at t org ws)) (runs_at t org ws)) (option_map (with_run_settings settings.runs) r)
             ≡ option_map (with_fewer settings outgoing) (option_map (λ (c : WorkspaceCells). workspace_of_cells (keep_at t org ws) c (versions_at t org ws) (runs_at t org ws)) r)
         by_row None e = refl
         by_row (Some c) e =
-            ap (λ (k : ℕ). Some (workspace_of_cells k (with_auto settings.auto_apply c) (left_above outgoing (versions_at t org ws)) (runs_at t org ws))) (keep_set org ws t settings.keep_versions (keep_there sound c e))
+            ap (λ (k : ℕ). Some (workspace_of_cells k (with_run_settings settings.runs c) (left_above outgoing (versions_at t org ws)) (runs_at t org ws))) (keep_set org ws t settings.keep_versions (keep_there sound c e))
 
   -- ---- a version more, a run more
 

@@ -9,6 +9,7 @@ use Rattle.sqlite_keyed.proofs.ListLemmas.{all_weaker, all_both, all-filter, all
 use Rattle.sqlite_keyed.proofs.RuleLemmas.{apart_update, apart_delete}
 use Rattle.sqlite_keyed.proofs.SliceLemmas.{any_is_found}
 use Rattle.basis.specs.declared.rows.RunAsk.{RunAsk}
+use Rattle.basis.specs.declared.rows.RunSettings.{RunSettings}
 use Rattle.basis.specs.declared.rows.Settings.{Settings}
 use Rattle.basis.specs.declared.runs.RunStatus.{RunStatus}
 use Rattle.basis.specs.declared.runs.RunStatus.TheVariants.{Pending, Planning}
@@ -22,7 +23,7 @@ use Rattle.statements.specs.declared.rows.Workspace.{Workspace as WorkspaceCells
 use Rattle.statements.specs.declared.rows.Run.{Run as RunCells}
 use Rattle.statements.specs.Rows.{Kept, id_of, WsRow, KeepingRow, VersionRow, RunRow}
 use Rattle.statements.specs.Tables.{Tables}
-use Rattle.statements.specs.Changes.{is_org, is_ws, is_keeping, HasNoKeeping, keeping_changed, is_version_of, is_run_of, is_run_row, with_auto, held_by, released_from, with_next_version, with_next_run, ws_changed, ws_added, ws_removed, workspace_made, runs_removed, run_made, run_added, run_changed_to, run_acted}
+use Rattle.statements.specs.Changes.{is_org, is_ws, is_keeping, HasNoKeeping, keeping_changed, is_version_of, is_run_of, is_run_row, with_run_settings, held_by, released_from, with_next_version, with_next_run, ws_changed, ws_added, ws_removed, workspace_made, runs_removed, run_made, run_added, run_changed_to, run_acted}
 use Rattle.statements.specs.Finds.{workspace_of}
 use Rattle.statements.proofs.Found.{all_updated, apart_pushed}
 use Rattle.tables.specs.Sound.{IsSound}
@@ -193,8 +194,8 @@ module _ (org ws : List ℕ) (t : Tables) (owned : AreOwned t) where
       still a b e h = any_left (is_ws a b) (is_ws org ws) (λ x f. pair_apart org ws a b x.1.org x.1.name e f) t.wss ∙ h
 
   -- a workspace where there is no row of its name
-  owned_added : (auto : Bool) (keep : ℕ) → AllByRecursion (λ x. is_ws org ws x ≡ false) t.wss → HasNoKeeping org ws t → list_any (is_org org) t.orgs ≡ true → AreOwned (ws_added org ws auto keep t)
-  owned_added auto keep none no_keep there = record {
+  owned_added : (of_runs : RunSettings) (keep : ℕ) → AllByRecursion (λ x. is_ws org ws x ≡ false) t.wss → HasNoKeeping org ws t → list_any (is_org org) t.orgs ≡ true → AreOwned (ws_added org ws of_runs keep t)
+  owned_added of_runs keep none no_keep there = record {
     wss_apart = apart_pushed (λ a b. is_ws a.1.org a.1.name b) t.wss new owned.wss_apart
         (all_weaker (λ x. is_ws org ws x ≡ false) (λ x. is_ws x.1.org x.1.name new ≡ false) (λ x e. pair_turned org ws x.1.org x.1.name e) t.wss none);
     keepings_apart = apart_pushed (λ a b. is_keeping a.1.org a.1.ws b) t.keepings new_keep owned.keepings_apart
@@ -211,7 +212,7 @@ module _ (org ws : List ℕ) (t : Tables) (owned : AreOwned t) where
   }
     where
       new : Kept WsRow
-      new = (next_key id_of t.wss, record { org = org; name = ws; it = workspace_made auto })
+      new = (next_key id_of t.wss, record { org = org; name = ws; it = workspace_made of_runs })
 
       new_keep : Kept KeepingRow
       new_keep = (next_key id_of t.keepings, record { org = org; ws = ws; keep = keep })
@@ -228,11 +229,11 @@ module _ (org ws : List ℕ) (t : Tables) (sound : IsSound t) where
 
   owned_made : (settings : Settings) → list_any (is_org org) t.orgs ≡ true → AreOwned (made_rows org ws settings t)
   owned_made settings there =
-      owned_added org ws (removed_rows org ws t) owned_removed settings.auto_apply settings.keep_versions (all_deleted (is_ws org ws) purged_rows.wss) (all_deleted (is_keeping org ws) purged_rows.keepings) (subst (λ orgs. list_any (is_org org) orgs ≡ true) (sym (all_go org ws t sound).rest.orgs) there)
+      owned_added org ws (removed_rows org ws t) owned_removed settings.runs settings.keep_versions (all_deleted (is_ws org ws) purged_rows.wss) (all_deleted (is_keeping org ws) purged_rows.keepings) (subst (λ orgs. list_any (is_org org) orgs ≡ true) (sym (all_go org ws t sound).rest.orgs) there)
 
   owned_configured : (settings : Settings) (outgoing : Option ℕ) → AreOwned (configured_rows org ws settings outgoing t)
   owned_configured settings outgoing =
-      owned_becomes org ws (settings_rows org ws settings t) (owned_kept org ws (ws_changed (with_auto settings.auto_apply) org ws t) (owned_row org ws t (sound_are_owned t sound) (with_auto settings.auto_apply)) settings.keep_versions)
+      owned_becomes org ws (settings_rows org ws settings t) (owned_kept org ws (ws_changed (with_run_settings settings.runs) org ws t) (owned_row org ws t (sound_are_owned t sound) (with_run_settings settings.runs)) settings.keep_versions)
       (left_above outgoing) org ws (configured_rows org ws settings outgoing t) (settings_leave org ws t sound settings outgoing)
 
   owned_versioned : (key_of : List ℕ → List ℕ) (v : Version) (takes : TakesVersion key_of org ws v t) (outgoing : Option ℕ) → AreOwned (versioned_rows key_of org ws v outgoing t)

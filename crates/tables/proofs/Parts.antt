@@ -5,6 +5,7 @@ use Rattle.std.specs.Option.{unwrap_or}
 use Rattle.sqlite_keyed.specs.Keyed.{next_key}
 use Rattle.sqlite_keyed.proofs.ListLemmas.{map_same}
 use Rattle.sqlite_keyed.proofs.SliceLemmas.{slice-push_mine, slice-push_other, slice-delete_other, slice-update_mine, slice-update_other}
+use Rattle.basis.specs.declared.rows.RunSettings.{RunSettings}
 use Rattle.basis.specs.declared.runs.RunStatus.{RunStatus}
 use Rattle.basis.specs.declared.runs.RunStatus.TheVariants.{Planning}
 use Rattle.basis.specs.declared.runs.RunAction.{RunAction}
@@ -76,12 +77,12 @@ module _ (org ws : List ℕ) where
     pub row_left : (a b : List ℕ) → is_pair org ws a b ≡ false → workspace_of a b (ws_removed org ws t) ≡ workspace_of a b t
     row_left a b other = ap (option_map (λ (x : Kept WsRow). x.1.it)) (find_left (is_ws a b) (is_ws org ws) (λ x. pair_apart org ws a b x.1.org x.1.name other) t.wss)
 
-    pub row_added : (auto : Bool) (keep : ℕ) → workspace_of org ws t ≡ None → workspace_of org ws (ws_added org ws auto keep t) ≡ Some (workspace_made auto)
-    row_added auto keep none = ap (option_map (λ (x : Kept WsRow). x.1.it)) (find_pushed (is_ws org ws) t.wss _ (none_mapped (λ (x : Kept WsRow). x.1.it) _ none) (pair_is org ws))
+    pub row_added : (of_runs : RunSettings) (keep : ℕ) → workspace_of org ws t ≡ None → workspace_of org ws (ws_added org ws of_runs keep t) ≡ Some (workspace_made of_runs)
+    row_added of_runs keep none = ap (option_map (λ (x : Kept WsRow). x.1.it)) (find_pushed (is_ws org ws) t.wss _ (none_mapped (λ (x : Kept WsRow). x.1.it) _ none) (pair_is org ws))
 
-    pub row_added_other : (auto : Bool) (keep : ℕ) (a b : List ℕ) → is_pair org ws a b ≡ false → workspace_of a b (ws_added org ws auto keep t) ≡ workspace_of a b t
-    row_added_other auto keep a b other =
-        ap (option_map (λ (x : Kept WsRow). x.1.it)) (find_pushed_other (is_ws a b) t.wss (next_key id_of t.wss, record { org = org; name = ws; it = workspace_made auto }) (pair_apart org ws a b org ws other (pair_is org ws)))
+    pub row_added_other : (of_runs : RunSettings) (keep : ℕ) (a b : List ℕ) → is_pair org ws a b ≡ false → workspace_of a b (ws_added org ws of_runs keep t) ≡ workspace_of a b t
+    row_added_other of_runs keep a b other =
+        ap (option_map (λ (x : Kept WsRow). x.1.it)) (find_pushed_other (is_ws a b) t.wss (next_key id_of t.wss, record { org = org; name = ws; it = workspace_made of_runs }) (pair_apart org ws a b org ws other (pair_is org ws)))
 
     -- ---- how many versions it keeps
 
@@ -91,12 +92,12 @@ module _ (org ws : List ℕ) where
     pub keep_left : (a b : List ℕ) → is_pair org ws a b ≡ false → keep_at (ws_removed org ws t) a b ≡ keep_at t a b
     keep_left a b other = ap kept_in (find_left (is_keeping a b) (is_keeping org ws) (λ x. pair_apart org ws a b x.1.org x.1.ws other) t.keepings)
 
-    pub keep_added : (auto : Bool) (keep : ℕ) → keep_of org ws t ≡ None → keep_at (ws_added org ws auto keep t) org ws ≡ keep
-    keep_added auto keep none =
+    pub keep_added : (of_runs : RunSettings) (keep : ℕ) → keep_of org ws t ≡ None → keep_at (ws_added org ws of_runs keep t) org ws ≡ keep
+    keep_added of_runs keep none =
         ap kept_in (find_pushed (is_keeping org ws) t.keepings (next_key id_of t.keepings, record { org = org; ws = ws; keep = keep }) (none_mapped (λ (x : Kept KeepingRow). x.1.keep) _ none) (pair_is org ws))
 
-    pub keep_added_other : (auto : Bool) (keep : ℕ) (a b : List ℕ) → is_pair org ws a b ≡ false → keep_at (ws_added org ws auto keep t) a b ≡ keep_at t a b
-    keep_added_other auto keep a b other =
+    pub keep_added_other : (of_runs : RunSettings) (keep : ℕ) (a b : List ℕ) → is_pair org ws a b ≡ false → keep_at (ws_added org ws of_runs keep t) a b ≡ keep_at t a b
+    keep_added_other of_runs keep a b other =
         ap kept_in (find_pushed_other (is_keeping a b) t.keepings (next_key id_of t.keepings, record { org = org; ws = ws; keep = keep }) (pair_apart org ws a b org ws other (pair_is org ws)))
 
     -- a number is set where there is a row for it

@@ -33,7 +33,7 @@ use Rattle.texts.specs.Texts.{text_of}
 
 -- how many versions a workspace keeps stands in a row of its own
 abbrev pub settings_of_cells : ℕ → WorkspaceCells → Settings
-settings_of_cells keep w = record { auto_apply = w.auto; keep_versions = keep }
+settings_of_cells keep w = record { runs = w.runs; keep_versions = keep }
 
 abbrev pub holder_of_cells : HolderCells → Holder
 holder_of_cells cells.Nobody = Nobody

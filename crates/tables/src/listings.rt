@@ -175,7 +175,7 @@ fn ws_row<S: Alter>(
     let name = ws_name_of(alloc, &workspace.name)?;
     Ok(WsRow {
         settings: Settings {
-            auto_apply: workspace.it.auto,
+            runs: workspace.it.runs,
             keep_versions: kept(workspace.keep),
         },
         holder,

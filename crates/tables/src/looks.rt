@@ -668,7 +668,7 @@ fn unit_by(
     let runs = around.runs;
     Ok(WorkspaceUnit {
         settings: Settings {
-            auto_apply: workspace.auto,
+            runs: workspace.runs,
             keep_versions: keep,
         },
         holder,

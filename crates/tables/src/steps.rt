@@ -104,7 +104,7 @@ fn make<S: Alter>(
     ensures { StepsBy S.Store (made_rows org.now ws.now settings.now) tx.old tx.new result }
 {
     remove(tx, org, ws)?;
-    workspaces::add(tx, org, ws, settings.auto_apply, settings.keep_versions)
+    workspaces::add(tx, org, ws, settings.runs, settings.keep_versions)
 }
 
 /// No version has this number yet, or nothing comes.
@@ -200,7 +200,7 @@ fn configure<S: Alter>(
 ) -> Result<(), Error>
     ensures { StepsBy S.Store (configured_rows org.now ws.now settings.now outgoing) tx.old tx.new result }
 {
-    workspaces::set_auto(tx, org, ws, settings.auto_apply)?;
+    workspaces::set_run_settings(tx, org, ws, settings.runs)?;
     keepings::set(tx, org, ws, settings.keep_versions)?;
     match outgoing {
         None => Ok(()),

@@ -1,6 +1,6 @@
 //! Acts of each kind on a workspace: in words, and as what is asked of two stores.
 use basis::{
-    Bytes, Down, KeepCount, LockId, Look, Number, RunAction, RunAsk, SettingsAsk, StateHead, Text,
+    Bytes, Down, KeepCount, LockId, Look, Number, RunAction, RunAsk, RunSettings, SettingsAsk, StateHead, Text,
 };
 use machine::Act;
 use route::WsAct;
@@ -140,7 +140,7 @@ fn push_runs(acts: &mut Vec<Act>, next: u64) -> Result<(), Down> {
 
 fn push_settings(acts: &mut Vec<Act>, keep_versions: Option<KeepCount>) -> Result<(), Down> {
     acts.push(Act::PutWorkspace(SettingsAsk {
-        auto_apply: true,
+        runs: RunSettings { auto_apply: true },
         keep_versions,
     }))?;
     Ok(())

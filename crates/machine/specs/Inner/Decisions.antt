@@ -153,7 +153,7 @@ decided_step (Some status) u r n action =
 
 abbrev pub decided_report : Option Run → WorkspaceUnit → ℕ → RunAction → Decision
 decided_report None u n action = Refused NotFound
-decided_report (Some r) u n action = cond (is_last action r.action) (Accepted (ShownRun r) None) (decided_step (next_status r.plan_only u.settings.auto_apply r.status action) u r n action)
+decided_report (Some r) u n action = cond (is_last action r.action) (Accepted (ShownRun r) None) (decided_step (next_status r.plan_only u.settings.runs.auto_apply r.status action) u r n action)
 
 -- what is told; nothing changes
 abbrev pub decided_look : AnyLook → WorkspaceUnit → Decision

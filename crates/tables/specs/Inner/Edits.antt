@@ -10,7 +10,7 @@ use Rattle.machine.specs.declared.records.Version.{Version}
 use Rattle.statements.specs.declared.rows.Holder.TheVariants.{Nobody, Lock, Run as HeldByRun}
 use Rattle.statements.specs.declared.rows.Workspace.{Workspace as WorkspaceCells}
 use Rattle.statements.specs.Tables.{Tables}
-use Rattle.statements.specs.Changes.{with_auto, held_by, released_from, with_next_version, with_next_run, ws_changed, keeping_changed, ws_added, ws_removed, new_version, version_added, version_removed, run_made, run_added, runs_removed, run_changed_to, run_acted}
+use Rattle.statements.specs.Changes.{with_run_settings, held_by, released_from, with_next_version, with_next_run, ws_changed, keeping_changed, ws_added, ws_removed, new_version, version_added, version_removed, run_made, run_added, runs_removed, run_changed_to, run_acted}
 use Rattle.statements.specs.Finds.{workspace_of, oldest_below, size_of}
 use Rattle.statements.specs.declared.rows.Head.{Head}
 use Rattle.texts.specs.Texts.{pages_for, text_added, text_removed, TwinsFit}
@@ -55,7 +55,7 @@ removed_rows org ws t = ws_removed org ws (runs_removed org ws (all_gone org ws 
 
 -- a new workspace has no versions and no runs: whatever rows of its name there are go first
 abbrev pub made_rows : List ℕ → List ℕ → Settings → Tables → Tables
-made_rows org ws settings t = ws_added org ws settings.auto_apply settings.keep_versions (removed_rows org ws t)
+made_rows org ws settings t = ws_added org ws settings.runs settings.keep_versions (removed_rows org ws t)
 
 abbrev pub numbered_rows : List ℕ → List ℕ → Version → Tables → Tables
 numbered_rows org ws v t = ws_changed (with_next_version (v.number + 1)) org ws t
@@ -74,7 +74,7 @@ left_rows (Some last) org ws t = gone_below org ws (last + 1) t
 
 -- settings are set: they stand in two rows
 abbrev pub settings_rows : List ℕ → List ℕ → Settings → Tables → Tables
-settings_rows org ws settings t = keeping_changed settings.keep_versions org ws (ws_changed (with_auto settings.auto_apply) org ws t)
+settings_rows org ws settings t = keeping_changed settings.keep_versions org ws (ws_changed (with_run_settings settings.runs) org ws t)
 
 -- settings are set, and versions up to a number go
 abbrev pub configured_rows : List ℕ → List ℕ → Settings → Option ℕ → Tables → Tables

@@ -11,8 +11,8 @@ returns g c = record {
   changed = λ clean inside.
       let old = state g.S.Store c.args.tx.now.conn.now in
       let new = state g.S.Store c.write.new.tx.conn.now in
-      moves_by (ws_row_added c.args.org.now c.args.name.now c.args.auto) old new add_ws_text _ c.write.result
+      moves_by (ws_row_added c.args.org.now c.args.name.now c.args.runs) old new add_ws_text _ c.write.result
       (rw (c.params-to_sql.ensures, c.params-to_sql-2.ensures, c.params-to_sql-3.ensures) at (c.write.ensures.runs clean inside))
-      (λ count t holds ran. add_ws_does old new count t holds c.args.org.now c.args.name.now c.args.auto ran);
+      (λ count t holds ran. add_ws_does old new count t holds c.args.org.now c.args.name.now c.args.runs ran);
   survives = c.write.ensures.survives;
 }
