@@ -14,6 +14,7 @@ use Rattle.sqlite_resolve.specs.Write.{places, as_row, inserted, selected}
 use Rattle.sqlite_resolve.specs.Select.{named}
 use Rattle.sqlite_resolve.specs.Program.{program, query}
 use Rattle.sqlite_tied.specs.Compute.{everything}
+use Rattle.statements.specs.declared.bounds.TheConstants.{ADD_BOUND, FIND_BOUND, REMOVE_BOUND, FILL_BOUNDS}
 use Rattle.statements.specs.Place.{StandsAt}
 use Rattle.statements.specs.Schema.{bound_table, token_table}
 use Rattle.statements.specs.Calls.{IsQuery}
@@ -25,7 +26,7 @@ use Rattle.statements.proofs.Answered.{point}
 use Rattle.statements.proofs.Commands.{is_at, delete_query, point_rest, point_draft, no_page}
 
 abbrev pub add_bound_text : List ℕ
-add_bound_text = codes "INSERT INTO bound (org, name, until, prefix) VALUES (?1, ?2, ?3, ?4)"
+add_bound_text = ADD_BOUND.now
 
 add_bound_reads : first add_bound_text ≡ Ok (as_read (some_parsed (first add_bound_text)) st.add_bound)
 unfolding everything
@@ -35,7 +36,7 @@ abbrev pub add_bound_terms : List Term
 add_bound_terms = lit Null ∷ col 0 0 ∷ col 0 1 ∷ col 0 2 ∷ col 0 3 ∷ []
 
 abbrev pub find_bound_text : List ℕ
-find_bound_text = codes "SELECT until, prefix FROM bound WHERE org = ?1 AND name = ?2 ORDER BY rowid"
+find_bound_text = FIND_BOUND.now
 
 abbrev pub find_bound_select : ast.Select
 find_bound_select = st.select st.find_bound_core (st.by_rowid false) None
@@ -54,7 +55,7 @@ abbrev pub find_bound_names : List (List ℕ)
 find_bound_names = codes "until" ∷ codes "prefix" ∷ []
 
 abbrev pub remove_bound_text : List ℕ
-remove_bound_text = codes "DELETE FROM bound WHERE org = ?1 AND name = ?2"
+remove_bound_text = REMOVE_BOUND.now
 
 remove_bound_reads : first remove_bound_text ≡ Ok (as_read (some_parsed (first remove_bound_text)) st.remove_bound)
 unfolding everything
@@ -64,7 +65,7 @@ abbrev pub remove_bound_query : ℕ → Query
 remove_bound_query tree = delete_query tree (is_at 1 0 ∷ is_at 2 1 ∷ [])
 
 abbrev pub fill_bounds_text : List ℕ
-fill_bounds_text = codes "INSERT INTO bound (org, name, until, prefix) SELECT org, name, NULL, '' FROM token ORDER BY rowid"
+fill_bounds_text = FILL_BOUNDS.now
 
 fill_bounds_reads : first fill_bounds_text ≡ Ok (as_read (some_parsed (first fill_bounds_text)) st.fill_bounds)
 unfolding everything

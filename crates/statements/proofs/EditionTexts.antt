@@ -25,6 +25,7 @@ use Rattle.sqlite.specs.State.{State, Executes}
 use Rattle.sqlite_keyed.proofs.KeyedLemmas.{IsKeyedBy-insert_by, IsKeyedBy-update_where}
 use Rattle.sqlite_typed.proofs.TestLemmas.{at_ints, last_term}
 use Rattle.sqlite_sql.specs.declared.ops.CompareOp.TheVariants as compare
+use Rattle.statements.specs.declared.making.TheConstants.{SET_SECOND, SET_THIRD, MOVE_TO_THIRD, EDITION}
 use Rattle.statements.specs.Place.{StandsAt, tree_of}
 use Rattle.statements.specs.Schema.{edition_table}
 use Rattle.statements.specs.Rows.{Kept, id_of, stored, edition_cells}
@@ -45,7 +46,7 @@ use Rattle.statements.proofs.PointReads.{pinned}
 use Rattle.statements.proofs.ReadBack.{number_read}
 
 abbrev pub set_second_text : List ℕ
-set_second_text = codes "INSERT INTO edition (one, version) VALUES (1, 2)"
+set_second_text = SET_SECOND.now
 
 abbrev set_second : Statement
 set_second = st.insert (codes "edition") (codes "one" ∷ codes "version" ∷ []) (st.one ∷ st.two ∷ [])
@@ -55,7 +56,7 @@ unfolding everything
 set_second_reads = refl
 
 abbrev pub set_third_text : List ℕ
-set_third_text = codes "INSERT INTO edition (one, version) VALUES (1, 3)"
+set_third_text = SET_THIRD.now
 
 abbrev set_third : Statement
 set_third = st.insert (codes "edition") (codes "one" ∷ codes "version" ∷ []) (st.one ∷ st.three ∷ [])
@@ -68,7 +69,7 @@ abbrev set_edition_terms : ℕ → List Term
 set_edition_terms version = lit (Int (pos 1)) ∷ lit Null ∷ lit (Int (pos version)) ∷ []
 
 abbrev pub move_to_third_text : List ℕ
-move_to_third_text = codes "UPDATE edition SET version = 3"
+move_to_third_text = MOVE_TO_THIRD.now
 
 abbrev move_to_third : Statement
 move_to_third = written.Update (codes "edition") ((codes "version", st.three) ∷ []) None []
@@ -81,7 +82,7 @@ abbrev move_to_third_query : ℕ → Query
 move_to_third_query tree = update_query tree [] (lit Null ∷ lit (Int (pos 3)) ∷ [])
 
 abbrev pub edition_text : List ℕ
-edition_text = codes "SELECT version FROM edition WHERE one = 1 ORDER BY rowid"
+edition_text = EDITION.now
 
 abbrev edition_core : Core
 edition_core = st.from_table (st.shown_columns (codes "version" ∷ [])) (codes "edition") (Two Eq (st.named (codes "one")) st.one)

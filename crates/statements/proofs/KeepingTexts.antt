@@ -14,6 +14,7 @@ use Rattle.sqlite_resolve.specs.Write.{places, as_row, inserted, selected}
 use Rattle.sqlite_resolve.specs.Select.{named}
 use Rattle.sqlite_resolve.specs.Program.{program, query}
 use Rattle.sqlite_tied.specs.Compute.{everything}
+use Rattle.statements.specs.declared.keepings.TheConstants.{ADD_KEEPING, FIND_KEEPING, SET_KEEPING, REMOVE_KEEPING, FILL_KEEPINGS}
 use Rattle.statements.specs.Place.{StandsAt}
 use Rattle.statements.specs.Schema.{ws_table, keeping_table}
 use Rattle.statements.specs.Calls.{IsQuery}
@@ -25,7 +26,7 @@ use Rattle.statements.proofs.Answered.{point}
 use Rattle.statements.proofs.Commands.{is_at, update_query, delete_query, point_rest, point_draft, no_page}
 
 abbrev pub add_keeping_text : List ℕ
-add_keeping_text = codes "INSERT INTO keeping (org, ws, keep) VALUES (?1, ?2, ?3)"
+add_keeping_text = ADD_KEEPING.now
 
 add_keeping_reads : first add_keeping_text ≡ Ok (as_read (some_parsed (first add_keeping_text)) st.add_keeping)
 unfolding everything
@@ -35,7 +36,7 @@ abbrev pub add_keeping_terms : List Term
 add_keeping_terms = lit Null ∷ col 0 0 ∷ col 0 1 ∷ col 0 2 ∷ []
 
 abbrev pub find_keeping_text : List ℕ
-find_keeping_text = codes "SELECT keep FROM keeping WHERE org = ?1 AND ws = ?2 ORDER BY rowid"
+find_keeping_text = FIND_KEEPING.now
 
 abbrev pub find_keeping_select : ast.Select
 find_keeping_select = st.select st.find_keeping_core (st.by_rowid false) None
@@ -54,7 +55,7 @@ abbrev pub find_keeping_names : List (List ℕ)
 find_keeping_names = codes "keep" ∷ []
 
 abbrev pub set_keeping_text : List ℕ
-set_keeping_text = codes "UPDATE keeping SET keep = ?3 WHERE org = ?1 AND ws = ?2"
+set_keeping_text = SET_KEEPING.now
 
 set_keeping_reads : first set_keeping_text ≡ Ok (as_read (some_parsed (first set_keeping_text)) st.set_keeping)
 unfolding everything
@@ -64,7 +65,7 @@ abbrev pub set_keeping_query : ℕ → Query
 set_keeping_query tree = update_query tree (is_at 1 0 ∷ is_at 2 1 ∷ []) (col 1 1 ∷ col 1 2 ∷ col 0 2 ∷ [])
 
 abbrev pub remove_keeping_text : List ℕ
-remove_keeping_text = codes "DELETE FROM keeping WHERE org = ?1 AND ws = ?2"
+remove_keeping_text = REMOVE_KEEPING.now
 
 remove_keeping_reads : first remove_keeping_text ≡ Ok (as_read (some_parsed (first remove_keeping_text)) st.remove_keeping)
 unfolding everything
@@ -74,7 +75,7 @@ abbrev pub remove_keeping_query : ℕ → Query
 remove_keeping_query tree = delete_query tree (is_at 1 0 ∷ is_at 2 1 ∷ [])
 
 abbrev pub fill_keepings_text : List ℕ
-fill_keepings_text = codes "INSERT INTO keeping (org, ws, keep) SELECT org, name, 100 FROM ws ORDER BY rowid"
+fill_keepings_text = FILL_KEEPINGS.now
 
 fill_keepings_reads : first fill_keepings_text ≡ Ok (as_read (some_parsed (first fill_keepings_text)) st.fill_keepings)
 unfolding everything

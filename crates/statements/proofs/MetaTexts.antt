@@ -23,6 +23,7 @@ use Rattle.sqlite_keyed.specs.Lists.{delete_where}
 use Rattle.sqlite_keyed.proofs.ListLemmas.{ascending_from_map}
 use Rattle.sqlite_typed.proofs.TestLemmas.{at_ints, last_term}
 use Rattle.sqlite_sql.specs.declared.ops.CompareOp.TheVariants as compare
+use Rattle.statements.specs.declared.making.TheConstants.{CLEAR_VERSION, VERSION}
 use Rattle.statements.specs.Place.{StandsAt, tree_of}
 use Rattle.statements.specs.Schema.{meta_table}
 use Rattle.statements.specs.Rows.{Kept, id_of, stored, meta_cells}
@@ -43,7 +44,7 @@ use Rattle.statements.proofs.PointReads.{pinned}
 use Rattle.statements.proofs.ReadBack.{number_read}
 
 abbrev pub clear_version_text : List ℕ
-clear_version_text = codes "DELETE FROM meta"
+clear_version_text = CLEAR_VERSION.now
 
 clear_version_reads : first clear_version_text ≡ Ok (as_read (some_parsed (first clear_version_text)) st.clear_version)
 unfolding everything
@@ -53,7 +54,7 @@ abbrev clear_version_query : ℕ → Query
 clear_version_query tree = delete_query tree []
 
 abbrev pub version_text : List ℕ
-version_text = codes "SELECT version FROM meta WHERE one = 1 ORDER BY rowid"
+version_text = VERSION.now
 
 abbrev version_core : Core
 version_core = st.from_table (st.shown_columns (codes "version" ∷ [])) (codes "meta") (Two Eq (st.named (codes "one")) st.one)

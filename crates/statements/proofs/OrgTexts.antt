@@ -13,6 +13,7 @@ use Rattle.sqlite_resolve.specs.Compile.{first, command, timed, returning}
 use Rattle.sqlite_resolve.specs.Select.{named}
 use Rattle.sqlite_resolve.specs.Program.{program}
 use Rattle.sqlite_tied.specs.Compute.{everything}
+use Rattle.statements.specs.declared.organizations.TheConstants.{ADD_ORG, SET_CAP, ORG_CAP, LIST_ORGS}
 use Rattle.statements.specs.Place.{StandsAt}
 use Rattle.statements.specs.Schema.{org_table}
 use Rattle.statements.specs.Calls.{IsQuery}
@@ -25,7 +26,7 @@ use Rattle.statements.proofs.Listed.{listing}
 use Rattle.statements.proofs.Commands.{is_at, update_query, point_rest, point_draft, no_page, listing_draft}
 
 abbrev pub add_org_text : List ℕ
-add_org_text = codes "INSERT INTO org (name, cap) VALUES (?1, ?2)"
+add_org_text = ADD_ORG.now
 
 add_org_reads : first add_org_text ≡ Ok (as_read (some_parsed (first add_org_text)) st.add_org)
 unfolding everything
@@ -35,7 +36,7 @@ abbrev pub add_org_terms : List Term
 add_org_terms = lit Null ∷ col 0 0 ∷ col 0 1 ∷ []
 
 abbrev pub set_cap_text : List ℕ
-set_cap_text = codes "UPDATE org SET cap = ?2 WHERE name = ?1"
+set_cap_text = SET_CAP.now
 
 set_cap_reads : first set_cap_text ≡ Ok (as_read (some_parsed (first set_cap_text)) st.set_cap)
 unfolding everything
@@ -45,7 +46,7 @@ abbrev pub set_cap_query : ℕ → Query
 set_cap_query tree = update_query tree (is_at 1 0 ∷ []) (col 1 1 ∷ col 0 1 ∷ [])
 
 abbrev pub org_cap_text : List ℕ
-org_cap_text = codes "SELECT cap FROM org WHERE name = ?1 ORDER BY rowid"
+org_cap_text = ORG_CAP.now
 
 abbrev pub org_cap_select : ast.Select
 org_cap_select = st.select st.org_cap_core (st.by_rowid false) None
@@ -61,7 +62,7 @@ abbrev pub org_cap_rest : Query
 org_cap_rest = point_rest (is_at 1 0 ∷ []) (col 1 2 ∷ []) no_page
 
 abbrev pub list_orgs_text : List ℕ
-list_orgs_text = codes "SELECT name, cap FROM org ORDER BY name"
+list_orgs_text = LIST_ORGS.now
 
 abbrev pub list_orgs_select : ast.Select
 list_orgs_select = st.select st.list_orgs_core (st.by_column (codes "name")) None

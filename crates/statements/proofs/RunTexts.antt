@@ -14,6 +14,7 @@ use Rattle.sqlite_resolve.specs.Compile.{first, command, timed, returning}
 use Rattle.sqlite_resolve.specs.Select.{named}
 use Rattle.sqlite_resolve.specs.Program.{program}
 use Rattle.sqlite_tied.specs.Compute.{everything}
+use Rattle.statements.specs.declared.runs.TheConstants.{FIRST_WAITING, RUN_STATUS, FIND_RUN, FIND_KEYED_RUN, COUNT_OPEN_RUNS, SET_RUN_STATUS, RECORD_ACTION, ADD_RUN, REMOVE_RUNS, LIST_RUNS}
 use Rattle.statements.specs.Place.{StandsAt}
 use Rattle.statements.specs.Schema.{run_table}
 use Rattle.statements.specs.Calls.{IsQuery}
@@ -26,7 +27,7 @@ use Rattle.statements.proofs.Listed.{listing}
 use Rattle.statements.proofs.Commands.{is_at, is_number, is_under, update_query, delete_query, point_rest, point_draft, tally_draft, no_page, one_page, is_above, listing_draft}
 
 abbrev pub first_waiting_text : List ℕ
-first_waiting_text = codes "SELECT number FROM run WHERE org = ?1 AND ws = ?2 AND status = 0 AND plan_only = 0 ORDER BY rowid LIMIT 1"
+first_waiting_text = FIRST_WAITING.now
 
 abbrev pub first_waiting_select : ast.Select
 first_waiting_select = st.select st.first_waiting_core (st.by_rowid false) (Some (Integer (codes "1")))
@@ -42,7 +43,7 @@ abbrev pub first_waiting_rest : Query
 first_waiting_rest = point_rest (is_at 1 0 ∷ is_at 2 1 ∷ is_number 8 0 ∷ is_number 4 0 ∷ []) (col 1 3 ∷ []) one_page
 
 abbrev pub run_status_text : List ℕ
-run_status_text = codes "SELECT status FROM run WHERE org = ?1 AND ws = ?2 AND number = ?3 ORDER BY rowid"
+run_status_text = RUN_STATUS.now
 
 abbrev pub run_status_select : ast.Select
 run_status_select = st.select st.run_status_core (st.by_rowid false) None
@@ -64,7 +65,7 @@ abbrev pub run_shown : List Term
 run_shown = col 1 3 ∷ col 1 4 ∷ col 1 5 ∷ col 1 6 ∷ col 1 7 ∷ col 1 8 ∷ col 1 9 ∷ []
 
 abbrev pub find_run_text : List ℕ
-find_run_text = codes "SELECT number, plan_only, rkey, message, created, status, action FROM run WHERE org = ?1 AND ws = ?2 AND number = ?3 ORDER BY rowid"
+find_run_text = FIND_RUN.now
 
 abbrev pub find_run_select : ast.Select
 find_run_select = st.select st.find_run_core (st.by_rowid false) None
@@ -80,7 +81,7 @@ abbrev pub find_run_rest : Query
 find_run_rest = point_rest (is_at 1 0 ∷ is_at 2 1 ∷ is_at 3 2 ∷ []) run_shown no_page
 
 abbrev pub find_keyed_run_text : List ℕ
-find_keyed_run_text = codes "SELECT number, plan_only, rkey, message, created, status, action FROM run WHERE org = ?1 AND ws = ?2 AND rkey = ?3 ORDER BY rowid"
+find_keyed_run_text = FIND_KEYED_RUN.now
 
 abbrev pub find_keyed_run_select : ast.Select
 find_keyed_run_select = st.select st.find_keyed_run_core (st.by_rowid false) None
@@ -96,7 +97,7 @@ abbrev pub find_keyed_run_rest : Query
 find_keyed_run_rest = point_rest (is_at 1 0 ∷ is_at 2 1 ∷ is_at 5 2 ∷ []) run_shown no_page
 
 abbrev pub count_open_runs_text : List ℕ
-count_open_runs_text = codes "SELECT count(*) FROM run WHERE org = ?1 AND ws = ?2 AND status < 4"
+count_open_runs_text = COUNT_OPEN_RUNS.now
 
 abbrev pub count_open_runs_select : ast.Select
 count_open_runs_select = st.select st.count_open_runs_core [] None
@@ -112,7 +113,7 @@ abbrev pub count_open_runs_rest : Query
 count_open_runs_rest = point_rest (is_at 1 0 ∷ is_at 2 1 ∷ is_under 8 4 ∷ []) [] no_page
 
 abbrev pub set_run_status_text : List ℕ
-set_run_status_text = codes "UPDATE run SET status = ?4 WHERE org = ?1 AND ws = ?2 AND number = ?3"
+set_run_status_text = SET_RUN_STATUS.now
 
 set_run_status_reads : first set_run_status_text ≡ Ok (as_read (some_parsed (first set_run_status_text)) st.set_run_status)
 unfolding everything
@@ -122,7 +123,7 @@ abbrev pub set_run_status_query : ℕ → Query
 set_run_status_query tree = update_query tree (is_at 1 0 ∷ is_at 2 1 ∷ is_at 3 2 ∷ []) (col 1 1 ∷ col 1 2 ∷ col 1 3 ∷ col 1 4 ∷ col 1 5 ∷ col 1 6 ∷ col 1 7 ∷ col 0 3 ∷ col 1 9 ∷ [])
 
 abbrev pub record_action_text : List ℕ
-record_action_text = codes "UPDATE run SET status = ?4, action = ?5 WHERE org = ?1 AND ws = ?2 AND number = ?3"
+record_action_text = RECORD_ACTION.now
 
 record_action_reads : first record_action_text ≡ Ok (as_read (some_parsed (first record_action_text)) st.record_action)
 unfolding everything
@@ -132,7 +133,7 @@ abbrev pub record_action_query : ℕ → Query
 record_action_query tree = update_query tree (is_at 1 0 ∷ is_at 2 1 ∷ is_at 3 2 ∷ []) (col 1 1 ∷ col 1 2 ∷ col 1 3 ∷ col 1 4 ∷ col 1 5 ∷ col 1 6 ∷ col 1 7 ∷ col 0 3 ∷ col 0 4 ∷ [])
 
 abbrev pub add_run_text : List ℕ
-add_run_text = codes "INSERT INTO run (org, ws, number, plan_only, rkey, message, created, status) VALUES (?1, ?2, ?3, ?4, ?5, ?6, ?7, ?8)"
+add_run_text = ADD_RUN.now
 
 add_run_reads : first add_run_text ≡ Ok (as_read (some_parsed (first add_run_text)) st.add_run)
 unfolding everything
@@ -142,7 +143,7 @@ abbrev pub add_run_terms : List Term
 add_run_terms = lit Null ∷ col 0 0 ∷ col 0 1 ∷ col 0 2 ∷ col 0 3 ∷ col 0 4 ∷ col 0 5 ∷ col 0 6 ∷ col 0 7 ∷ lit Null ∷ []
 
 abbrev pub remove_runs_text : List ℕ
-remove_runs_text = codes "DELETE FROM run WHERE org = ?1 AND ws = ?2"
+remove_runs_text = REMOVE_RUNS.now
 
 remove_runs_reads : first remove_runs_text ≡ Ok (as_read (some_parsed (first remove_runs_text)) st.remove_runs)
 unfolding everything
@@ -152,7 +153,7 @@ abbrev pub remove_runs_query : ℕ → Query
 remove_runs_query tree = delete_query tree (is_at 1 0 ∷ is_at 2 1 ∷ [])
 
 abbrev pub list_runs_text : List ℕ
-list_runs_text = codes "SELECT number, plan_only, rkey, message, created, status, action FROM run WHERE org = ?1 AND ws = ?2 AND number > ?3 ORDER BY number"
+list_runs_text = LIST_RUNS.now
 
 abbrev pub list_runs_select : ast.Select
 list_runs_select = st.select st.list_runs_core (st.by_column (codes "number")) None

@@ -1,5 +1,5 @@
 -- What the texts that make the tables and the index mean.
-use Rattle.std.proofs.Common.{◌≡◌, ℕ, false, List, [], codes, Ok, refl}
+use Rattle.std.proofs.Common.{◌≡◌, ℕ, false, List, [], Ok, refl}
 use Rattle.sqlite_value.specs.Order.{Row}
 use Rattle.sqlite_ast.specs.declared.CreateTable.{CreateTable}
 use Rattle.sqlite_ast.specs.declared.CreateIndex.{CreateIndex}
@@ -8,6 +8,7 @@ use Rattle.sqlite_ast.specs.declared.Statement.TheVariants as written
 use Rattle.sqlite_resolve.specs.Compile.{first, table_defined_by}
 use Rattle.sqlite.specs.State.{State, Executes}
 use Rattle.sqlite_tied.specs.Compute.{everything}
+use Rattle.statements.specs.declared.making.TheConstants.{MAKE_META, MAKE_ORG, MAKE_TOKEN, MAKE_WS, MAKE_VERSION, MAKE_RUN, MAKE_PAGE, MAKE_VPAGE, MAKE_BOUND, MAKE_EDITION, MAKE_KEEPING, MAKE_RUN_INDEX, MAKE_VERSION_INDEX, MAKE_VPAGE_INDEX}
 use Rattle.statements.specs.Schema.{meta_table, org_table, token_table, ws_table, version_table, run_table, page_table, vpage_table, bound_table, edition_table, keeping_table}
 use Rattle.statements.specs.Making.{GrowsBy, KeepsMade}
 use Rattle.statements.proofs.Meaning.{some_parsed, as_read}
@@ -23,46 +24,46 @@ index_text (written.CreateIndex def) = def
 index_text _ = record { is_unique = false; if_missing = false; name = []; table = []; columns = [] }
 
 abbrev pub make_meta_text : List ℕ
-make_meta_text = codes "CREATE TABLE meta (one INTEGER PRIMARY KEY CHECK (one = 1), version INTEGER NOT NULL CHECK (version = 1)) STRICT"
+make_meta_text = MAKE_META.now
 
 abbrev pub make_org_text : List ℕ
-make_org_text = codes "CREATE TABLE org (name TEXT NOT NULL PRIMARY KEY, cap INTEGER NOT NULL CHECK (cap BETWEEN 0 AND 100000)) STRICT"
+make_org_text = MAKE_ORG.now
 
 abbrev pub make_token_text : List ℕ
-make_token_text = codes "CREATE TABLE token (org TEXT NOT NULL, name TEXT NOT NULL, digest BLOB NOT NULL, role INTEGER NOT NULL CHECK (role BETWEEN 0 AND 2), PRIMARY KEY (org, name), UNIQUE (org, digest)) STRICT"
+make_token_text = MAKE_TOKEN.now
 
 abbrev pub make_ws_text : List ℕ
-make_ws_text = codes "CREATE TABLE ws (org TEXT NOT NULL, name TEXT NOT NULL, auto INTEGER NOT NULL, kind INTEGER NOT NULL CHECK (kind BETWEEN 0 AND 2), lock_id TEXT CHECK ((lock_id IS NOT NULL) = (kind = 1)), lock_text BLOB CHECK ((lock_text IS NOT NULL) = (kind = 1)), run INTEGER CHECK ((run IS NOT NULL) = (kind = 2)), released TEXT, next_version INTEGER NOT NULL, next_run INTEGER NOT NULL, PRIMARY KEY (org, name)) STRICT"
+make_ws_text = MAKE_WS.now
 
 abbrev pub make_version_text : List ℕ
-make_version_text = codes "CREATE TABLE version (org TEXT NOT NULL, ws TEXT NOT NULL, number INTEGER NOT NULL, serial INTEGER NOT NULL, lineage TEXT NOT NULL, created INTEGER NOT NULL, size INTEGER NOT NULL, PRIMARY KEY (org, ws, number)) STRICT"
+make_version_text = MAKE_VERSION.now
 
 abbrev pub make_run_text : List ℕ
-make_run_text = codes "CREATE TABLE run (org TEXT NOT NULL, ws TEXT NOT NULL, number INTEGER NOT NULL, plan_only INTEGER NOT NULL, rkey TEXT, message TEXT NOT NULL, created INTEGER NOT NULL, status INTEGER NOT NULL CHECK (status BETWEEN 0 AND 8), action INTEGER CHECK (action BETWEEN 0 AND 6), PRIMARY KEY (org, ws, number), UNIQUE (org, ws, rkey)) STRICT"
+make_run_text = MAKE_RUN.now
 
 abbrev pub make_page_text : List ℕ
-make_page_text = codes "CREATE TABLE page (pkey BLOB NOT NULL, twin INTEGER NOT NULL, bytes BLOB NOT NULL, uses INTEGER NOT NULL CHECK (uses >= 1), PRIMARY KEY (pkey, twin)) STRICT"
+make_page_text = MAKE_PAGE.now
 
 abbrev pub make_vpage_text : List ℕ
-make_vpage_text = codes "CREATE TABLE vpage (org TEXT NOT NULL, ws TEXT NOT NULL, number INTEGER NOT NULL, place INTEGER NOT NULL, pkey BLOB NOT NULL, twin INTEGER NOT NULL, PRIMARY KEY (org, ws, number, place), FOREIGN KEY (pkey, twin) REFERENCES page (pkey, twin) ON DELETE RESTRICT) STRICT"
+make_vpage_text = MAKE_VPAGE.now
 
 abbrev pub make_bound_text : List ℕ
-make_bound_text = codes "CREATE TABLE bound (org TEXT NOT NULL, name TEXT NOT NULL, until INTEGER, prefix TEXT NOT NULL, PRIMARY KEY (org, name), FOREIGN KEY (org, name) REFERENCES token (org, name) ON DELETE CASCADE) STRICT"
+make_bound_text = MAKE_BOUND.now
 
 abbrev pub make_edition_text : List ℕ
-make_edition_text = codes "CREATE TABLE edition (one INTEGER PRIMARY KEY CHECK (one = 1), version INTEGER NOT NULL CHECK (version >= 2)) STRICT"
+make_edition_text = MAKE_EDITION.now
 
 abbrev pub make_keeping_text : List ℕ
-make_keeping_text = codes "CREATE TABLE keeping (org TEXT NOT NULL, ws TEXT NOT NULL, keep INTEGER NOT NULL CHECK (keep BETWEEN 1 AND 1000), PRIMARY KEY (org, ws), FOREIGN KEY (org, ws) REFERENCES ws (org, name) ON DELETE CASCADE) STRICT"
+make_keeping_text = MAKE_KEEPING.now
 
 abbrev pub make_run_index_text : List ℕ
-make_run_index_text = codes "CREATE INDEX run_by_status ON run (org, ws, status, number)"
+make_run_index_text = MAKE_RUN_INDEX.now
 
 abbrev pub make_version_index_text : List ℕ
-make_version_index_text = codes "CREATE INDEX version_head ON version (org, ws, number, serial, lineage, created, size)"
+make_version_index_text = MAKE_VERSION_INDEX.now
 
 abbrev pub make_vpage_index_text : List ℕ
-make_vpage_index_text = codes "CREATE INDEX vpage_page ON vpage (pkey, twin)"
+make_vpage_index_text = MAKE_VPAGE_INDEX.now
 
 make_meta_defines : table_defined_by make_meta_text ≡ Ok meta_table
 unfolding everything

@@ -13,6 +13,7 @@ use Rattle.sqlite_resolve.specs.Compile.{first, command, timed, returning}
 use Rattle.sqlite_resolve.specs.Select.{named}
 use Rattle.sqlite_resolve.specs.Program.{program}
 use Rattle.sqlite_tied.specs.Compute.{everything}
+use Rattle.statements.specs.declared.tokens.TheConstants.{ADD_TOKEN, TOKEN_ROLE, NAMED_TOKEN_ROLE, FIND_TOKEN, LIST_TOKENS, REMOVE_TOKEN}
 use Rattle.statements.specs.Place.{StandsAt}
 use Rattle.statements.specs.Schema.{token_table}
 use Rattle.statements.specs.Calls.{IsQuery}
@@ -25,7 +26,7 @@ use Rattle.statements.proofs.Listed.{listing}
 use Rattle.statements.proofs.Commands.{is_at, delete_query, point_rest, point_draft, listing_draft, no_page}
 
 abbrev pub add_token_text : List ℕ
-add_token_text = codes "INSERT INTO token (org, name, digest, role) VALUES (?1, ?2, ?3, ?4)"
+add_token_text = ADD_TOKEN.now
 
 add_token_reads : first add_token_text ≡ Ok (as_read (some_parsed (first add_token_text)) st.add_token)
 unfolding everything
@@ -35,7 +36,7 @@ abbrev pub add_token_terms : List Term
 add_token_terms = lit Null ∷ col 0 0 ∷ col 0 1 ∷ col 0 2 ∷ col 0 3 ∷ []
 
 abbrev pub token_role_text : List ℕ
-token_role_text = codes "SELECT role FROM token WHERE org = ?1 AND digest = ?2 ORDER BY rowid"
+token_role_text = TOKEN_ROLE.now
 
 abbrev pub token_role_select : ast.Select
 token_role_select = st.select st.token_role_core (st.by_rowid false) None
@@ -51,7 +52,7 @@ abbrev pub token_role_rest : Query
 token_role_rest = point_rest (is_at 1 0 ∷ is_at 3 1 ∷ []) (col 1 4 ∷ []) no_page
 
 abbrev pub named_token_role_text : List ℕ
-named_token_role_text = codes "SELECT role FROM token WHERE org = ?1 AND name = ?2 ORDER BY rowid"
+named_token_role_text = NAMED_TOKEN_ROLE.now
 
 abbrev pub named_token_role_select : ast.Select
 named_token_role_select = st.select st.named_token_role_core (st.by_rowid false) None
@@ -67,7 +68,7 @@ abbrev pub named_token_role_rest : Query
 named_token_role_rest = point_rest (is_at 1 0 ∷ is_at 2 1 ∷ []) (col 1 4 ∷ []) no_page
 
 abbrev pub find_token_text : List ℕ
-find_token_text = codes "SELECT name, role FROM token WHERE org = ?1 AND digest = ?2 ORDER BY rowid"
+find_token_text = FIND_TOKEN.now
 
 abbrev pub find_token_select : ast.Select
 find_token_select = st.select st.find_token_core (st.by_rowid false) None
@@ -86,7 +87,7 @@ abbrev pub token_names : List (List ℕ)
 token_names = codes "name" ∷ codes "role" ∷ []
 
 abbrev pub list_tokens_text : List ℕ
-list_tokens_text = codes "SELECT name, role FROM token WHERE org = ?1 ORDER BY name"
+list_tokens_text = LIST_TOKENS.now
 
 abbrev pub list_tokens_select : ast.Select
 list_tokens_select = st.select st.list_tokens_core (st.by_column (codes "name")) None
@@ -102,7 +103,7 @@ abbrev pub list_tokens_rest : Query
 list_tokens_rest = point_rest (is_at 1 0 ∷ []) (col 1 2 ∷ col 1 4 ∷ []) no_page
 
 abbrev pub remove_token_text : List ℕ
-remove_token_text = codes "DELETE FROM token WHERE org = ?1 AND name = ?2"
+remove_token_text = REMOVE_TOKEN.now
 
 remove_token_reads : first remove_token_text ≡ Ok (as_read (some_parsed (first remove_token_text)) st.remove_token)
 unfolding everything

@@ -14,6 +14,7 @@ use Rattle.sqlite_resolve.specs.Compile.{first, command, timed, returning}
 use Rattle.sqlite_resolve.specs.Select.{named}
 use Rattle.sqlite_resolve.specs.Program.{program}
 use Rattle.sqlite_tied.specs.Compute.{everything}
+use Rattle.statements.specs.declared.versions.TheConstants.{NEWEST_VERSION, OLDEST_VERSION_BELOW, VERSION_BACK, VERSION_SIZE, COUNT_VERSIONS, ADD_VERSION, REMOVE_VERSION, LIST_VERSIONS}
 use Rattle.statements.specs.Place.{StandsAt}
 use Rattle.statements.specs.Schema.{version_table}
 use Rattle.statements.specs.Calls.{IsQuery}
@@ -26,7 +27,7 @@ use Rattle.statements.proofs.Listed.{listing}
 use Rattle.statements.proofs.Commands.{is_at, is_below, delete_query, point_rest, point_draft, tally_draft, no_page, one_page, one_page_at, is_above, listing_draft}
 
 abbrev pub newest_version_text : List ℕ
-newest_version_text = codes "SELECT number, serial, lineage, size FROM version WHERE org = ?1 AND ws = ?2 ORDER BY rowid DESC LIMIT 1"
+newest_version_text = NEWEST_VERSION.now
 
 abbrev pub newest_version_select : ast.Select
 newest_version_select = st.select st.newest_version_core (st.by_rowid true) (Some (Integer (codes "1")))
@@ -42,7 +43,7 @@ abbrev pub newest_version_rest : Query
 newest_version_rest = point_rest (is_at 1 0 ∷ is_at 2 1 ∷ []) (col 1 3 ∷ col 1 4 ∷ col 1 5 ∷ col 1 7 ∷ []) one_page
 
 abbrev pub oldest_below_text : List ℕ
-oldest_below_text = codes "SELECT number, serial, lineage, size FROM version WHERE org = ?1 AND ws = ?2 AND number < ?3 ORDER BY rowid LIMIT 1"
+oldest_below_text = OLDEST_VERSION_BELOW.now
 
 abbrev pub oldest_below_select : ast.Select
 oldest_below_select = st.select st.oldest_below_core (st.by_rowid false) (Some (Integer (codes "1")))
@@ -58,7 +59,7 @@ abbrev pub oldest_below_rest : Query
 oldest_below_rest = point_rest (is_at 1 0 ∷ is_at 2 1 ∷ is_below 3 2 ∷ []) (col 1 3 ∷ col 1 4 ∷ col 1 5 ∷ col 1 7 ∷ []) one_page
 
 abbrev pub version_back_text : List ℕ
-version_back_text = codes "SELECT number FROM version WHERE org = ?1 AND ws = ?2 ORDER BY rowid DESC LIMIT 1 OFFSET ?3"
+version_back_text = VERSION_BACK.now
 
 abbrev pub version_back_select : ast.Select
 version_back_select = st.select_from st.version_back_core (st.by_rowid true) (Some (Integer (codes "1"))) (Some (Parameter 3))
@@ -74,7 +75,7 @@ abbrev pub version_back_rest : Query
 version_back_rest = point_rest (is_at 1 0 ∷ is_at 2 1 ∷ []) (col 1 3 ∷ []) (one_page_at 2)
 
 abbrev pub version_size_text : List ℕ
-version_size_text = codes "SELECT size FROM version WHERE org = ?1 AND ws = ?2 AND number = ?3 ORDER BY rowid"
+version_size_text = VERSION_SIZE.now
 
 abbrev pub version_size_select : ast.Select
 version_size_select = st.select st.version_size_core (st.by_rowid false) None
@@ -90,7 +91,7 @@ abbrev pub version_size_rest : Query
 version_size_rest = point_rest (is_at 1 0 ∷ is_at 2 1 ∷ is_at 3 2 ∷ []) (col 1 7 ∷ []) no_page
 
 abbrev pub count_versions_text : List ℕ
-count_versions_text = codes "SELECT count(*) FROM version WHERE org = ?1 AND ws = ?2"
+count_versions_text = COUNT_VERSIONS.now
 
 abbrev pub count_versions_select : ast.Select
 count_versions_select = st.select st.count_versions_core [] None
@@ -106,7 +107,7 @@ abbrev pub count_versions_rest : Query
 count_versions_rest = point_rest (is_at 1 0 ∷ is_at 2 1 ∷ []) [] no_page
 
 abbrev pub add_version_text : List ℕ
-add_version_text = codes "INSERT INTO version (org, ws, number, serial, lineage, created, size) VALUES (?1, ?2, ?3, ?4, ?5, ?6, ?7)"
+add_version_text = ADD_VERSION.now
 
 add_version_reads : first add_version_text ≡ Ok (as_read (some_parsed (first add_version_text)) st.add_version)
 unfolding everything
@@ -116,7 +117,7 @@ abbrev pub add_version_terms : List Term
 add_version_terms = lit Null ∷ col 0 0 ∷ col 0 1 ∷ col 0 2 ∷ col 0 3 ∷ col 0 4 ∷ col 0 5 ∷ col 0 6 ∷ []
 
 abbrev pub remove_version_text : List ℕ
-remove_version_text = codes "DELETE FROM version WHERE org = ?1 AND ws = ?2 AND number = ?3"
+remove_version_text = REMOVE_VERSION.now
 
 remove_version_reads : first remove_version_text ≡ Ok (as_read (some_parsed (first remove_version_text)) st.remove_version)
 unfolding everything
@@ -126,7 +127,7 @@ abbrev pub remove_version_query : ℕ → Query
 remove_version_query tree = delete_query tree (is_at 1 0 ∷ is_at 2 1 ∷ is_at 3 2 ∷ [])
 
 abbrev pub list_versions_text : List ℕ
-list_versions_text = codes "SELECT number, serial, lineage, created, size FROM version WHERE org = ?1 AND ws = ?2 AND number > ?3 ORDER BY number"
+list_versions_text = LIST_VERSIONS.now
 
 abbrev pub list_versions_select : ast.Select
 list_versions_select = st.select st.list_versions_core (st.by_column (codes "number")) None
