@@ -25,9 +25,10 @@ use Rattle.statements.proofs.Reading.{read_is}
 use Rattle.statements.proofs.Writes.{plain_program}
 use Rattle.statements.proofs.Answered.{point}
 use Rattle.statements.proofs.Commands.{is_at, update_query, delete_query, point_rest, point_draft, no_page}
+use Rattle.pages.specs.declared.rows.TheConstants.{ADD_PAGE, SET_PAGE_USES, REMOVE_PAGE, PAGE_BYTES, PAGE_USES, EQUAL_PAGE}
 
 abbrev pub add_page_text : List ℕ
-add_page_text = codes "INSERT INTO page (pkey, twin, bytes, uses) VALUES (?1, ?2, ?3, 1)"
+add_page_text = ADD_PAGE.now
 
 abbrev add_page : Statement
 add_page = st.insert (codes "page") (codes "pkey" ∷ codes "twin" ∷ codes "bytes" ∷ codes "uses" ∷ []) (Parameter 1 ∷ Parameter 2 ∷ Parameter 3 ∷ st.one ∷ [])
@@ -40,7 +41,7 @@ abbrev pub add_page_terms : List Term
 add_page_terms = lit Null ∷ col 0 0 ∷ col 0 1 ∷ col 0 2 ∷ lit (Int (pos 1)) ∷ []
 
 abbrev pub set_page_uses_text : List ℕ
-set_page_uses_text = codes "UPDATE page SET uses = ?3 WHERE pkey = ?1 AND twin = ?2"
+set_page_uses_text = SET_PAGE_USES.now
 
 abbrev set_page_uses : Statement
 set_page_uses = st.update (codes "page") ((codes "uses", Parameter 3) ∷ []) (st.at_key (codes "pkey") (codes "twin"))
@@ -53,7 +54,7 @@ abbrev pub set_page_uses_query : ℕ → Query
 set_page_uses_query tree = update_query tree (is_at 1 0 ∷ is_at 2 1 ∷ []) (col 1 1 ∷ col 1 2 ∷ col 1 3 ∷ col 0 2 ∷ [])
 
 abbrev pub remove_page_text : List ℕ
-remove_page_text = codes "DELETE FROM page WHERE pkey = ?1 AND twin = ?2"
+remove_page_text = REMOVE_PAGE.now
 
 abbrev remove_page : Statement
 remove_page = st.delete (codes "page") (st.at_key (codes "pkey") (codes "twin"))
@@ -66,7 +67,7 @@ abbrev pub remove_page_query : ℕ → Query
 remove_page_query tree = delete_query tree (is_at 1 0 ∷ is_at 2 1 ∷ [])
 
 abbrev pub page_bytes_text : List ℕ
-page_bytes_text = codes "SELECT bytes FROM page WHERE pkey = ?1 AND twin = ?2 ORDER BY rowid"
+page_bytes_text = PAGE_BYTES.now
 
 abbrev page_bytes_core : Core
 page_bytes_core = st.from_table (st.shown_columns (codes "bytes" ∷ [])) (codes "page") (st.at_key (codes "pkey") (codes "twin"))
@@ -85,7 +86,7 @@ abbrev pub page_bytes_rest : Query
 page_bytes_rest = point_rest (is_at 1 0 ∷ is_at 2 1 ∷ []) (col 1 3 ∷ []) no_page
 
 abbrev pub page_uses_text : List ℕ
-page_uses_text = codes "SELECT uses FROM page WHERE pkey = ?1 AND twin = ?2 ORDER BY rowid"
+page_uses_text = PAGE_USES.now
 
 abbrev page_uses_core : Core
 page_uses_core = st.from_table (st.shown_columns (codes "uses" ∷ [])) (codes "page") (st.at_key (codes "pkey") (codes "twin"))
@@ -104,7 +105,7 @@ abbrev pub page_uses_rest : Query
 page_uses_rest = point_rest (is_at 1 0 ∷ is_at 2 1 ∷ []) (col 1 4 ∷ []) no_page
 
 abbrev pub equal_page_text : List ℕ
-equal_page_text = codes "SELECT twin, uses FROM page WHERE pkey = ?1 AND bytes = ?2 ORDER BY rowid"
+equal_page_text = EQUAL_PAGE.now
 
 abbrev equal_page_core : Core
 equal_page_core = st.from_table (st.shown_columns (codes "twin" ∷ codes "uses" ∷ [])) (codes "page") (st.at_key (codes "pkey") (codes "bytes"))

@@ -26,6 +26,7 @@ use Rattle.statements.proofs.Reading.{read_is}
 use Rattle.statements.proofs.Writes.{plain_program}
 use Rattle.statements.proofs.Answered.{point}
 use Rattle.statements.proofs.Commands.{is_at, delete_query, point_rest, point_draft, no_page}
+use Rattle.texts.specs.declared.places.TheConstants.{ADD_PLACE, REMOVE_PLACE, PAGE_AT}
 
 -- WHERE of a place of a version
 abbrev at_place : Expr
@@ -35,7 +36,7 @@ abbrev at_place_terms : List Term
 at_place_terms = is_at 1 0 ∷ is_at 2 1 ∷ is_at 3 2 ∷ is_at 4 3 ∷ []
 
 abbrev pub add_place_text : List ℕ
-add_place_text = codes "INSERT INTO vpage (org, ws, number, place, pkey, twin) VALUES (?1, ?2, ?3, ?4, ?5, ?6)"
+add_place_text = ADD_PLACE.now
 
 abbrev add_place : Statement
 add_place =
@@ -49,7 +50,7 @@ abbrev pub add_place_terms : List Term
 add_place_terms = lit Null ∷ col 0 0 ∷ col 0 1 ∷ col 0 2 ∷ col 0 3 ∷ col 0 4 ∷ col 0 5 ∷ []
 
 abbrev pub remove_place_text : List ℕ
-remove_place_text = codes "DELETE FROM vpage WHERE org = ?1 AND ws = ?2 AND number = ?3 AND place = ?4"
+remove_place_text = REMOVE_PLACE.now
 
 abbrev remove_place : Statement
 remove_place = st.delete (codes "vpage") at_place
@@ -62,7 +63,7 @@ abbrev pub remove_place_query : ℕ → Query
 remove_place_query tree = delete_query tree at_place_terms
 
 abbrev pub page_at_text : List ℕ
-page_at_text = codes "SELECT pkey, twin FROM vpage WHERE org = ?1 AND ws = ?2 AND number = ?3 AND place = ?4 ORDER BY rowid"
+page_at_text = PAGE_AT.now
 
 abbrev page_at_core : Core
 page_at_core = st.from_table (st.shown_columns (codes "pkey" ∷ codes "twin" ∷ [])) (codes "vpage") at_place
