@@ -67,6 +67,10 @@ add_ws_reads = refl
 abbrev pub add_ws_terms : List Term
 add_ws_terms = lit Null ∷ col 0 0 ∷ col 0 1 ∷ col 0 2 ∷ lit (Int (pos 0)) ∷ lit Null ∷ lit Null ∷ lit Null ∷ lit Null ∷ lit (Int (pos 1)) ∷ lit (Int (pos 1)) ∷ []
 
+-- the columns of ws, with the rowid
+abbrev pub add_ws_width : ℕ
+add_ws_width = 11
+
 abbrev pub set_run_settings_text : List ℕ
 set_run_settings_text = SET_RUN_SETTINGS.now
 
@@ -181,11 +185,11 @@ module _ (s : Schema) (at tree : ℕ) (h : StandsAt s (codes "ws") ws_table at t
   unfolding timed returning
   find_ws_means = means s (written.Select find_ws_select) _ refl (λ _. refl) find_ws_is find_ws_text (some_parsed (first find_ws_text)) find_ws_reads
 
-  add_ws_is : (base : ℕ) → command s [] base st.add_ws ≡ Ok (Insert at (Values add_ws_terms 11))
+  add_ws_is : (base : ℕ) → command s [] base st.add_ws ≡ Ok (Insert at (Values add_ws_terms add_ws_width))
   unfolding everything
   add_ws_is base = rw (h.named, h.found) refl
 
-  pub add_ws_means : Means s (Insert at (Values add_ws_terms 11)) add_ws_text
+  pub add_ws_means : Means s (Insert at (Values add_ws_terms add_ws_width)) add_ws_text
   unfolding everything
   add_ws_means = means s st.add_ws _ (rw (h.named, h.found) refl) (λ _. refl) add_ws_is add_ws_text (some_parsed (first add_ws_text)) add_ws_reads
 

@@ -24,7 +24,7 @@ use Rattle.statements.proofs.Own.{update_own, update_leaves, count_updated, dele
 use Rattle.statements.proofs.Casts.{ws_casts}
 use Rattle.statements.proofs.Frames.{Turns, wss_written}
 use Rattle.statements.proofs.Conditions.{two_texts}
-use Rattle.statements.proofs.WsTexts.{add_ws_text, add_ws_means, add_ws_terms, set_run_settings_text, set_run_settings_means, set_run_settings_query, hold_by_lock_text, hold_by_lock_means, hold_by_lock_query, hold_by_run_text, hold_by_run_means, hold_by_run_query, release_lock_text, release_lock_means, release_lock_query, release_run_text, release_run_means, release_run_query, set_next_version_text, set_next_version_means, set_next_version_query, set_next_run_text, set_next_run_means, set_next_run_query, remove_ws_text, remove_ws_means, remove_ws_query}
+use Rattle.statements.proofs.WsTexts.{add_ws_text, add_ws_means, add_ws_terms, add_ws_width, set_run_settings_text, set_run_settings_means, set_run_settings_query, hold_by_lock_text, hold_by_lock_means, hold_by_lock_query, hold_by_run_text, hold_by_run_means, hold_by_run_query, release_lock_text, release_lock_means, release_lock_query, release_run_text, release_run_means, release_run_query, set_next_version_text, set_next_version_means, set_next_version_query, set_next_run_text, set_next_run_means, set_next_run_query, remove_ws_text, remove_ws_means, remove_ws_query}
 
 module _ (old new : State) (count : ℕ) (t : Tables) (h : Holds old.now t) where
   abbrev held : IsHeld ws_layout old.now t.wss
@@ -46,8 +46,8 @@ module _ (old new : State) (count : ℕ) (t : Tables) (h : Holds old.now t) wher
   add_ws_does org name runs ran =
       let row : WsRow = record { org = org; name = name; it = workspace_made runs } in
       let left = insert_own ws_cells ws_table ws_casts old new held.own held.steady t.wss held.rows held.keyed add_ws_text (Text org ∷ Text name ∷ run_settings_cells runs) count ran
-      add_ws_terms 11 (add_ws_means old.now.schema _ _ held.own.place) refl refl row refl in
-      let others = insert_others ws_table old new held.own add_ws_text (Text org ∷ Text name ∷ run_settings_cells runs) count ran (Values add_ws_terms 11) (add_ws_means old.now.schema _ _ held.own.place) refl refl in
+      add_ws_terms add_ws_width (add_ws_means old.now.schema _ _ held.own.place) refl refl row refl in
+      let others = insert_others ws_table old new held.own add_ws_text (Text org ∷ Text name ∷ run_settings_cells runs) count ran (Values add_ws_terms add_ws_width) (add_ws_means old.now.schema _ _ held.own.place) refl refl in
       let stays = other_keeps old.now.schema (tree_of old.now.schema ws_table.name) old.now.trees new.now.trees keeping_table keeping_own others.1 keeping_apart in
       wss_written old.now new.now left.1 t h _ stays left.0 (keyed_next t.wss row held.keyed)
 

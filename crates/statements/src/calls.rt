@@ -8,12 +8,9 @@ ghost use Rattle.sqlite.specs.State.{HasCleanDisk, Survives, Shown};
 ghost use Rattle.basis.specs.declared.numbers.TheConstants.{MAX_KEPT};
 ghost use Rattle.statements.specs.Rows.{number, role_code, status_code, action_code, flag};
 ghost use Rattle.statements.specs.Decode.{flag_at};
-ghost use Rattle.statements.specs.Calls.{Wrote, WroteAny, IsQuery, FirstRow, FirstRows, IsCalm, IsRead, AreRead, IsNamedRow, IsOrganization, IsVersionHead, IsFlagCell, IsTextOrNull, AreHolderCells, IsWorkspaceWith, IsWorkspace, IsHeadRow, IsRunRow, IsNamedRole, IsNumberOrNull, IsBound, IsBody, IsNumber, IsRole, IsStatusCell, IsActionOrNull, IsStatus, IsCount};
+ghost use Rattle.statements.specs.Calls.{Wrote, WroteAny, IsQuery, FirstRow, FirstRows, IsCalm, IsRead, AreRead, IsOrganization, IsVersionHead, IsFlagCell, IsTextOrNull, IsHeadRow, IsRunRow, IsNamedRole, IsNumberOrNull, IsBound, IsBody, IsNumber, IsRole, IsStatusCell, IsActionOrNull, IsStatus, IsCount};
 
-use crate::rows::{
-    Bound, Head, Holder, NamedRole, NamedWorkspace, Organization, Run, VersionHead, Workspace,
-};
-use crate::workspaces::run_settings_in;
+use crate::rows::{Bound, Head, NamedRole, Organization, Run, VersionHead};
 use basis::{Bytes, Items, KeepCount, Role, RunAction, RunStatus, Text};
 use sqlite::types::ValueRef;
 use sqlite::{Alter, Connection, Error, Row, Transaction};
@@ -132,7 +129,7 @@ pub fn signed(n: u64) -> i64
     n as i64
 }
 
-fn optional_text(row: &Row, at: usize) -> Result<Option<Text>, Error>
+pub(crate) fn optional_text(row: &Row, at: usize) -> Result<Option<Text>, Error>
     ensures { IfOk result (IsTextOrNull (column row.now at)) }
 {
     match row.get::<Option<String>>(at)? {
@@ -147,7 +144,7 @@ fn optional_number(row: &Row, at: usize) -> Result<Option<u64>, Error>
     row.get::<Option<u64>>(at)
 }
 
-fn optional_keep(row: &Row, at: usize) -> Result<Option<KeepCount>, Error>
+pub(crate) fn optional_keep(row: &Row, at: usize) -> Result<Option<KeepCount>, Error>
     ensures { IfOk result (IsNumberOrNull (column row.now at)) }
 {
     let Some(keep) = optional_number(row, at)? else {
@@ -176,20 +173,6 @@ pub(crate) fn flag_in(row: &Row, at: usize) -> Result<bool, Error>
     ensures { IfOk result (λ flag. flag ≡ flag_at row.now at) }
 {
     row.get::<bool>(at)
-}
-
-fn holder_in(row: &Row) -> Result<Holder, Error>
-    ensures { IfOk result (AreHolderCells (column row.now 0) (column row.now 1) (column row.now 2) (column row.now 3)) }
-{
-    match row.get::<u64>(0)? {
-        0 => Ok(Holder::Nobody),
-        1 => Ok(Holder::Lock {
-            id: Text::new(row.get(1)?),
-            text: Bytes::new(row.get(2)?),
-        }),
-        2 => Ok(Holder::Run(row.get(3)?)),
-        _ => Err(Error::IntegralValueOutOfRange(0)),
-    }
 }
 
 fn status_in(row: &Row, at: usize) -> Result<RunStatus, Error>
@@ -232,39 +215,6 @@ pub trait Read: Sized {
 
     fn of_row(row: &Row) -> Result<Self, Error>
         ensures { IfOk result (is_in row.now) };
-}
-
-/// A workspace, of which the settings of runs begin in this column.
-fn workspace_in(row: &Row, at: usize) -> Result<Workspace, Error>
-    ensures { IfOk result (IsWorkspaceWith at row.now) }
-{
-    Ok(Workspace {
-        runs: run_settings_in(row, at)?,
-        holder: holder_in(row)?,
-        released: optional_text(row, 4)?,
-        next_version: row.get(5)?,
-        next_run: row.get(6)?,
-    })
-}
-
-impl Read for Workspace {
-    ghost is_in = { IsWorkspace };
-
-    fn of_row(row: &Row) -> Result<Workspace, Error> {
-        workspace_in(row, 7)
-    }
-}
-
-impl Read for NamedWorkspace {
-    ghost is_in = { IsNamedRow };
-
-    fn of_row(row: &Row) -> Result<NamedWorkspace, Error> {
-        Ok(NamedWorkspace {
-            it: workspace_in(row, 9)?,
-            name: Text::new(row.get(7)?),
-            keep: optional_keep(row, 8)?,
-        })
-    }
 }
 
 impl Read for Organization {

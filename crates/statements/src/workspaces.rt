@@ -7,25 +7,75 @@ ghost use Rattle.statements.specs.Tables.{Tables, Holds};
 ghost use Rattle.statements.specs.Changes.{with_run_settings, held_by, released_from, with_next_version, with_next_run, ws_changed, ws_row_added, ws_row_removed, ws_added, ws_removed, HasNoKeeping};
 ghost use Rattle.statements.specs.Listings.{workspace_rows_after, WorkspacesApart, later_of, end_of};
 ghost use Rattle.statements.specs.Decode.{run_settings_at};
+ghost use Rattle.statements.specs.Calls.{AreHolderCells, IsWorkspaceWith, IsWorkspace, IsNamedRow};
+ghost use Rattle.sqlite_value.specs.Order.{column};
 ghost use Rattle.statements.specs.Finds.{workspace_of, workspaces_of};
 ghost use Rattle.statements.specs.declared.rows.Holder.TheVariants.{Nobody, Lock, Run as HeldByRun};
 
 use crate::calls::{
-    count_of, first_row, first_rows, flag_in, read_all, read_one, signed, update, write,
+    Read, count_of, first_row, first_rows, flag_in, optional_keep, optional_text, read_all,
+    read_one, signed, update, write,
 };
 use crate::keepings;
-use crate::rows::{NamedWorkspace, Workspace};
-use basis::{Items, KeepCount, Prefix, RunSettings};
+use crate::rows::{Holder, NamedWorkspace, Workspace};
+use basis::{Bytes, Items, KeepCount, Prefix, RunSettings, Text};
 use sqlite::{Alter, Connection, Error, Row, Transaction, params};
 use std::alloc::Global;
 
 /// The settings of runs in a row of an answer, of which the first stands in this column.
-pub(crate) fn run_settings_in(row: &Row, at: usize) -> Result<RunSettings, Error>
+fn run_settings_in(row: &Row, at: usize) -> Result<RunSettings, Error>
     ensures { IfOk result (λ runs. runs ≡ run_settings_at row.now at) }
 {
     Ok(RunSettings {
         auto_apply: flag_in(row, at)?,
     })
+}
+
+fn holder_in(row: &Row) -> Result<Holder, Error>
+    ensures { IfOk result (AreHolderCells (column row.now 0) (column row.now 1) (column row.now 2) (column row.now 3)) }
+{
+    match row.get::<u64>(0)? {
+        0 => Ok(Holder::Nobody),
+        1 => Ok(Holder::Lock {
+            id: Text::new(row.get(1)?),
+            text: Bytes::new(row.get(2)?),
+        }),
+        2 => Ok(Holder::Run(row.get(3)?)),
+        _ => Err(Error::IntegralValueOutOfRange(0)),
+    }
+}
+
+/// A workspace, of which the settings of runs begin in this column.
+fn workspace_in(row: &Row, at: usize) -> Result<Workspace, Error>
+    ensures { IfOk result (IsWorkspaceWith at row.now) }
+{
+    Ok(Workspace {
+        runs: run_settings_in(row, at)?,
+        holder: holder_in(row)?,
+        released: optional_text(row, 4)?,
+        next_version: row.get(5)?,
+        next_run: row.get(6)?,
+    })
+}
+
+impl Read for Workspace {
+    ghost is_in = { IsWorkspace };
+
+    fn of_row(row: &Row) -> Result<Workspace, Error> {
+        workspace_in(row, 7)
+    }
+}
+
+impl Read for NamedWorkspace {
+    ghost is_in = { IsNamedRow };
+
+    fn of_row(row: &Row) -> Result<NamedWorkspace, Error> {
+        Ok(NamedWorkspace {
+            it: workspace_in(row, 9)?,
+            name: Text::new(row.get(7)?),
+            keep: optional_keep(row, 8)?,
+        })
+    }
 }
 
 const FIND_WS: &str =
