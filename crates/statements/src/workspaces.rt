@@ -44,7 +44,7 @@ pub fn find<S: Alter>(
 }
 
 const LIST_WS: &str =
-    "SELECT kind, lock_id, lock_text, run, released, next_version, next_run, name, keep, auto FROM ws LEFT JOIN keeping ON keeping.org = ?1 AND keeping.ws = name WHERE ws.org = ?1 AND name > ?2 ORDER BY name";
+    "SELECT kind, lock_id, lock_text, run, released, next_version, next_run, name, keep, number, auto FROM ws LEFT JOIN keeping ON keeping.org = ?1 AND keeping.ws = name LEFT JOIN version ON version.org = ?1 AND version.ws = name AND number = next_version - 1 WHERE ws.org = ?1 AND name > ?2 ORDER BY name";
 
 fn list_all<S: Alter>(
     alloc: Global,
@@ -61,7 +61,7 @@ fn list_all<S: Alter>(
 
 // Of the two lower bounds the last is where the scan begins.
 const LIST_WS_WITHIN: &str =
-    "SELECT kind, lock_id, lock_text, run, released, next_version, next_run, name, keep, auto FROM ws LEFT JOIN keeping ON keeping.org = ?1 AND keeping.ws = name WHERE ws.org = ?1 AND name > ?2 AND name >= ?3 AND name < ?4 ORDER BY name";
+    "SELECT kind, lock_id, lock_text, run, released, next_version, next_run, name, keep, number, auto FROM ws LEFT JOIN keeping ON keeping.org = ?1 AND keeping.ws = name LEFT JOIN version ON version.org = ?1 AND version.ws = name AND number = next_version - 1 WHERE ws.org = ?1 AND name > ?2 AND name >= ?3 AND name < ?4 ORDER BY name";
 
 /// Where a scan for names that begin with a prefix and come after a name begins: at the greater of the two.
 fn beginning<'v>(after: &'v str, prefix: &'v str) -> &'v str
