@@ -260,9 +260,10 @@ impl Read for NamedWorkspace {
 
     fn of_row(row: &Row) -> Result<NamedWorkspace, Error> {
         Ok(NamedWorkspace {
-            it: workspace_in(row, 9)?,
+            it: workspace_in(row, 10)?,
             name: Text::new(row.get(7)?),
             keep: optional_keep(row, 8)?,
+            last: optional_number(row, 9)?,
         })
     }
 }

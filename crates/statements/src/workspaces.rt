@@ -117,8 +117,8 @@ fn list_within<'v, S: Alter>(
 }
 
 /// The workspaces of an organization that come after a name and begin with a prefix, each with how many versions it
-/// keeps, in the order of their names and no more than `most`. All names come after the empty one. No other name is
-/// looked at.
+/// keeps and the number before its next one's, in the order of their names and no more than `most`. All names come after
+/// the empty one. No other name is looked at.
 pub fn list<'v, S: Alter>(
     alloc: Global,
     conn: &mut Connection<S>,
