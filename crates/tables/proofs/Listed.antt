@@ -149,39 +149,41 @@ module _ (t : Tables) (org ws : List ℕ) where
 
 -- ---- workspaces
 
--- rows of versions are apart where in each workspace their numbers rise
-rises_apart : (xs : List (Kept VersionRow)) → ((org ws : List ℕ) → IsAscending (λ (m n : ℕ). m < n) (map (λ (x : Kept VersionRow). x.1.it.number) (filter (is_version_of org ws) xs)))
-    → AreApart (λ a b. is_version a.1.org a.1.ws a.1.it.number b) xs
-rises_apart [] up = tt
-rises_apart (x ∷ xs) up = (behind xs own.0, rises_apart xs (λ org ws. later (is_version_of org ws x) (filter (is_version_of org ws) xs) (up org ws)))
+abbrev row_numbers : List (Kept VersionRow) → List ℕ
+row_numbers = map (λ (x : Kept VersionRow). x.1.it.number)
+
+none_of : (a b : Bool) → (a && (b && false)) ≡ false
+none_of true true = refl
+none_of true false = refl
+none_of false b = refl
+
+-- no row behind one has its number, where those of its workspace have greater ones
+numbered_apart : (x : Kept VersionRow) (ys : List (Kept VersionRow)) → AllByRecursion (λ (m : ℕ). x.1.it.number < m) (row_numbers (filter (is_version_of x.1.org x.1.ws) ys))
+    → AllByRecursion (λ y. is_version x.1.org x.1.ws x.1.it.number y ≡ false) ys
+numbered_apart x [] all = tt
+numbered_apart x (y ∷ ys) all = go (is_version_of x.1.org x.1.ws y) refl (numbered_apart x ys) all
   where
-    abbrev its : Kept VersionRow → Bool
-    its = is_version_of x.1.org x.1.ws
+    go : (b : Bool) → is_version_of x.1.org x.1.ws y ≡ b
+        → (AllByRecursion (λ (m : ℕ). x.1.it.number < m) (row_numbers (filter (is_version_of x.1.org x.1.ws) ys)) → AllByRecursion (λ z. is_version x.1.org x.1.ws x.1.it.number z ≡ false) ys)
+        → AllByRecursion (λ (m : ℕ). x.1.it.number < m) (row_numbers (cond b (y ∷ filter (is_version_of x.1.org x.1.ws) ys) (filter (is_version_of x.1.org x.1.ws) ys)))
+        → (is_version x.1.org x.1.ws x.1.it.number y ≡ false) × AllByRecursion (λ z. is_version x.1.org x.1.ws x.1.it.number z ≡ false) ys
+    go true e later above = (
+      ap (λ (c : Bool). bytes_eq y.1.org x.1.org && (bytes_eq y.1.ws x.1.ws && c)) (ne_eqb y.1.it.number x.1.it.number (λ same. omega (arith, above.0, same))) ∙ none_of (bytes_eq y.1.org x.1.org) (bytes_eq y.1.ws x.1.ws),
+      later above.1,
+    )
+    go false e later above = (three (bytes_eq y.1.org x.1.org) (bytes_eq y.1.ws x.1.ws) (y.1.it.number == x.1.it.number) ∙ ap (λ (c : Bool). c && y.1.it.number == x.1.it.number) e, later above)
 
-    abbrev numbered : List (Kept VersionRow) → List ℕ
-    numbered = map (λ (y : Kept VersionRow). y.1.it.number)
-
-    later : (b : Bool) (ys : List (Kept VersionRow)) → IsAscending (λ (m n : ℕ). m < n) (numbered (cond b (x ∷ ys) ys)) → IsAscending (λ (m n : ℕ). m < n) (numbered ys)
+-- rows of versions are apart where in each workspace their numbers rise
+rises_apart : (xs : List (Kept VersionRow)) → ((org ws : List ℕ) → IsAscending (λ (m n : ℕ). m < n) (row_numbers (filter (is_version_of org ws) xs))) → AreApart (λ a b. is_version a.1.org a.1.ws a.1.it.number b) xs
+rises_apart [] up = tt
+rises_apart (x ∷ xs) up = (numbered_apart x xs own.0, rises_apart xs (λ org ws. later (is_version_of org ws x) (filter (is_version_of org ws) xs) (up org ws)))
+  where
+    later : (b : Bool) (ys : List (Kept VersionRow)) → IsAscending (λ (m n : ℕ). m < n) (row_numbers (cond b (x ∷ ys) ys)) → IsAscending (λ (m n : ℕ). m < n) (row_numbers ys)
     later true ys h = h.1
     later false ys h = h
 
-    own : IsAscending (λ (m n : ℕ). m < n) (numbered (x ∷ filter its xs))
-    own = subst (λ (b : Bool). IsAscending (λ (m n : ℕ). m < n) (numbered (cond b (x ∷ filter its xs) (filter its xs)))) (pair_is x.1.org x.1.ws) (up x.1.org x.1.ws)
-
-    none : (a b : Bool) → (a && (b && false)) ≡ false
-    none true true = refl
-    none true false = refl
-    none false b = refl
-
-    behind : (ys : List (Kept VersionRow)) → AllByRecursion (λ (m : ℕ). x.1.it.number < m) (numbered (filter its ys)) → AllByRecursion (λ y. is_version x.1.org x.1.ws x.1.it.number y ≡ false) ys
-    behind [] all = tt
-    behind (y ∷ ys) all = go (its y) refl all
-      where
-        go : (b : Bool) → its y ≡ b → AllByRecursion (λ (m : ℕ). x.1.it.number < m) (numbered (cond b (y ∷ filter its ys) (filter its ys)))
-            → (is_version x.1.org x.1.ws x.1.it.number y ≡ false) × AllByRecursion (λ z. is_version x.1.org x.1.ws x.1.it.number z ≡ false) ys
-        go true e above =
-            (ap (λ (c : Bool). bytes_eq y.1.org x.1.org && (bytes_eq y.1.ws x.1.ws && c)) (ne_eqb y.1.it.number x.1.it.number (λ same. omega (arith, above.0, same))) ∙ none (bytes_eq y.1.org x.1.org) (bytes_eq y.1.ws x.1.ws), behind ys above.1)
-        go false e above = (three (bytes_eq y.1.org x.1.org) (bytes_eq y.1.ws x.1.ws) (y.1.it.number == x.1.it.number) ∙ ap (λ (c : Bool). c && y.1.it.number == x.1.it.number) e, behind ys above)
+    own : IsAscending (λ (m n : ℕ). m < n) (row_numbers (x ∷ filter (is_version_of x.1.org x.1.ws) xs))
+    own = subst (λ (b : Bool). IsAscending (λ (m n : ℕ). m < n) (row_numbers (cond b (x ∷ filter (is_version_of x.1.org x.1.ws) xs) (filter (is_version_of x.1.org x.1.ws) xs)))) (pair_is x.1.org x.1.ws) (up x.1.org x.1.ws)
 
 pub workspaces_apart : (t : Tables) → IsSound t → WorkspacesApart t
 workspaces_apart t sound = record { wss = sound.wss_apart; keepings = sound.keepings_apart; versions = rises_apart t.versions (λ org ws. versions_rise t org ws sound) }

@@ -44,11 +44,12 @@ found_last low next m (n ∷ []) rise e = go (n + 1 == next) e
     go : (b : Bool) → cond b (Some n) None ≡ Some m → Some n ≡ Some m
     go true e = e
     go false e = absurd (let none : ⊥ = cc in none)
-found_last low next m (n ∷ k ∷ ns) rise e = go (n + 1 == next) refl e
+found_last low next m (n ∷ k ∷ ns) rise e = go (n + 1 == next) refl (found_last n next m (k ∷ ns) rise.2) e
   where
-    go : (b : Bool) → (n + 1 == next) ≡ b → cond b (Some n) (find (λ (i : ℕ). i + 1 == next) (k ∷ ns)) ≡ Some m → last_in (k ∷ ns) ≡ Some m
-    go true is e = absurd (let same : n + 1 ≡ next = eqb-true (n + 1) next is in omega (arith, same, rise.2.0, rise.2.1))
-    go false is e = found_last n next m (k ∷ ns) rise.2 e
+    go : (b : Bool) → (n + 1 == next) ≡ b → (find (λ (i : ℕ). i + 1 == next) (k ∷ ns) ≡ Some m → last_in (k ∷ ns) ≡ Some m)
+        → cond b (Some n) (find (λ (i : ℕ). i + 1 == next) (k ∷ ns)) ≡ Some m → last_in (k ∷ ns) ≡ Some m
+    go true is later e = absurd (let same : n + 1 ≡ next = eqb-true (n + 1) next is in omega (arith, same, rise.2.0, rise.2.1))
+    go false is later e = later e
 
 pub newest_told : (next : ℕ) (ns : List ℕ) → Rises 0 ns next → newest_by (find (λ (n : ℕ). n + 1 == next) ns) next (last_in ns) ≡ last_in ns
 newest_told next ns rise = by_found (find (λ (n : ℕ). n + 1 == next) ns) refl
