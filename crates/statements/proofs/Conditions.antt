@@ -1,23 +1,27 @@
 -- Terms of WHERE at typed values.
-use Rattle.std.proofs.Common.{◌≡◌, ℕ, pos, Bool, true, false, not, ◌&&◌, if◌then◌else◌, List, Option, Some, None, refl, ap, ◌∙◌, int_eq, int_lt, eqb, arith}
+use Rattle.std.proofs.Common.{◌≡◌, ℕ, pos, Bool, true, false, not, ◌&&◌, if◌then◌else◌, List, Option, Some, None, refl, sym, ap, ◌∙◌, ◌≤◌, ◌+◌, ◌-ℤ◌, int_cmp, int_eq, int_lt, eqb, arith, Ordering, Less, Equal, Greater, is_eq}
 use Rattle.std.specs.Prelude.{nat_lt}
 use Rattle.std.specs.Str.{bytes_eq}
 use Rattle.std.proofs.lemmas.Map.Text.{is_eq-slice_cmp}
 use Rattle.std.proofs.lemmas.Int.{ints}
 use Rattle.std.proofs.lemmas.Bool.Decides.{nat_tests}
 use Rattle.sqlite_value.specs.declared.keys.Collation.TheVariants.{Binary}
-use Rattle.sqlite_value.specs.declared.value.Value.TheVariants.{Int, Text, Blob}
+use Rattle.sqlite_value.specs.declared.value.Value.TheVariants.{Null, Int, Real, Text, Blob}
+use Rattle.sqlite_value.specs.declared.value.Value.{Value}
+use Rattle.sqlite_value.specs.Order.{value_cmp}
+use Rattle.sqlite_value.proofs.OrderLemmas.{value_cmp-Int, value_cmp_total}
+use Rattle.std.specs.Ordering.{ordering_reverse}
 use Rattle.sqlite_sql.specs.declared.ops.CompareOp.TheVariants.{Eq, Lt, Gt}
 use Rattle.sqlite_sql.specs.declared.ops.BinaryOp.TheVariants.{Compare}
-use Rattle.sqlite_sql.specs.Ops.{is_true, binary}
+use Rattle.sqlite_sql.specs.Ops.{is_true, from_truth, binary}
 use Rattle.sqlite_typed.specs.Columns.{or_null}
 use Rattle.basis.specs.declared.runs.RunStatus.{RunStatus}
 use Rattle.basis.specs.declared.runs.RunStatus.TheVariants.{Pending, Planning, Planned, Applying, Applied, PlannedAndFinished, Errored, Discarded, Canceled}
 use Rattle.statements.specs.Rows.{flag, status_code}
 use Rattle.basis.specs.Runs.{is_open}
-use Rattle.statements.specs.Finds.{is_pending_of, is_key_of}
+use Rattle.statements.specs.Finds.{is_pending_of, is_key_of, is_one_less}
 use Rattle.statements.specs.Listings.{is_behind}
-use Rattle.sqlite_typed.proofs.TestLemmas.{at_texts, at_blobs, at_ints, then_term, last_term}
+use Rattle.sqlite_typed.proofs.TestLemmas.{difference_fits, at_texts, at_blobs, at_ints, then_term, last_term}
 
 pub same_text : (a b : List ℕ) → is_true (binary (Compare Eq Binary) (Text a) (Text b)) ≡ bytes_eq a b
 same_text a b = at_texts _ Eq a b ∙ is_eq-slice_cmp a b
@@ -40,6 +44,44 @@ pub two_texts_number : (a b c d : List ℕ) (m n : ℕ)
     → (is_true (binary (Compare Eq Binary) (Text a) (Text b)) && (is_true (binary (Compare Eq Binary) (Text c) (Text d)) && (is_true (binary (Compare Eq Binary) (Int (pos m)) (Int (pos n))) && true)))
     ≡ (bytes_eq a b && (bytes_eq c d && eqb m n))
 two_texts_number a b c d m n = then_term (same_text a b) (then_term (same_text c d) (last_term (same_number m n)))
+
+equal_is : (o : Ordering) → is_eq o ≡ true → o ≡ Equal
+equal_is Less h = absurd (cc)
+equal_is Equal h = refl
+equal_is Greater h = absurd (cc)
+
+told : (b : Bool) → is_true (from_truth (Some b)) ≡ b
+told true = refl
+told false = refl
+
+equals : (m : ℕ) (v : Value) → is_true (binary (Compare Eq Binary) (Int (pos m)) v) ≡ true → value_cmp (Int (pos m)) v ≡ Equal
+unfolding binary
+equals m Null h = absurd (cc)
+equals m (Int n) h = equal_is (value_cmp (Int (pos m)) (Int n)) (sym (told _) ∙ h)
+equals m (Real x) h = equal_is (value_cmp (Int (pos m)) (Real x)) (sym (told _) ∙ h)
+equals m (Text t) h = equal_is (value_cmp (Int (pos m)) (Text t)) (sym (told _) ∙ h)
+equals m (Blob b) h = equal_is (value_cmp (Int (pos m)) (Blob b)) (sym (told _) ∙ h)
+
+one_int : (m n : ℕ) → int_cmp (pos m) (pos n) ≡ Equal → m ≡ n
+one_int m n h = grind (arith, ints)
+
+-- no more than one number equals a value
+pub one_number : (v : Value) (m n : ℕ) → is_true (binary (Compare Eq Binary) (Int (pos m)) v) ≡ true → is_true (binary (Compare Eq Binary) (Int (pos n)) v) ≡ true → m ≡ n
+one_number v m n one two =
+    one_int m n (sym (value_cmp-Int (pos m) (pos n)) ∙ value_cmp_total.congr (Int (pos m)) v (Int (pos n)) (equals m v one)
+    ∙ value_cmp_total.antisymm v (Int (pos n)) ∙ ap ordering_reverse (equals n v two))
+
+-- SQL's numbers are long enough for one less than a number of versions
+pub one_less_is : (m n : ℕ) → n ≤ 1_000_000_001 → is_one_less m n ≡ eqb (m + 1) n
+one_less_is m n low =
+    ap (λ (v : Value). is_true (binary (Compare Eq Binary) (Int (pos m)) v)) (difference_fits (pos n) (pos 1) (grind (arith, ints)))
+    ∙ at_ints _ Eq (pos m) (pos n -ℤ pos 1) ∙ grind (arith, ints, nat_tests)
+
+-- and of a number that is one less than another behind two texts
+pub two_texts_one_less : (a b c d : List ℕ) (m n : ℕ)
+    → (is_true (binary (Compare Eq Binary) (Text a) (Text b)) && (is_true (binary (Compare Eq Binary) (Text c) (Text d)) && (is_one_less m n && true)))
+    ≡ (bytes_eq a b && (bytes_eq c d && is_one_less m n))
+two_texts_one_less a b c d m n = then_term (same_text a b) (then_term (same_text c d) (last_term {a = is_one_less m n} refl))
 
 below_is : (a b : ℕ) → int_lt (pos a) (pos b) ≡ nat_lt a b
 below_is a b = grind (arith, ints, nat_tests)

@@ -52,6 +52,7 @@ pub mod VersionReads
 pub mod VersionTexts
 pub mod VersionWrites
 pub mod Writes
+pub mod WsListParts
 pub mod WsListTexts
 pub mod WsReads
 pub mod WsTexts

@@ -84,13 +84,14 @@ optional_number_read None (Some n) told = absurd (cc)
 optional_number_read (Some n) None told = absurd (cc)
 optional_number_read (Some n) (Some m) told = ap Some (number_read n m told)
 
-pub named_workspace_read : (name : List ℕ) (w : Workspace) (kept : Value) (keep : Option ℕ) → kept ≡ or_null number keep → (v : NamedWorkspace)
-    → IsNamedRow (kind_cell w.holder ∷ lock_id_cell w.holder ∷ lock_text_cell w.holder ∷ run_cell w.holder ∷ or_null cell.Text w.released ∷ number w.next_version ∷ number w.next_run ∷ cell.Text name ∷ kept ∷ run_settings_cells w.runs) v
-    → v ≡ record { name = name; it = w; keep = keep }
-named_workspace_read name w kept keep is v told =
+pub named_workspace_read : (name : List ℕ) (w : Workspace) (kept before : Value) (keep last : Option ℕ) → kept ≡ or_null number keep → before ≡ or_null number last → (v : NamedWorkspace)
+    → IsNamedRow (kind_cell w.holder ∷ lock_id_cell w.holder ∷ lock_text_cell w.holder ∷ run_cell w.holder ∷ or_null cell.Text w.released ∷ number w.next_version ∷ number w.next_run ∷ cell.Text name ∷ kept ∷ before ∷ run_settings_cells w.runs) v
+    → v ≡ record { name = name; it = w; keep = keep; last = last }
+named_workspace_read name w kept before keep last is was v told =
     let it = workspace_read w v.it (record { runs = told.it.runs; holder = told.it.holder; released = told.it.released; next_version = told.it.next_version; next_run = told.it.next_run }) in
     let number_kept = optional_number_read keep v.keep (subst (λ c. IsNumberOrNull c v.keep) is told.keep) in
-    λ i. record { name = text_read name v.name told.name i; it = it i; keep = number_kept i }
+    let number_before = optional_number_read last v.last (subst (λ c. IsNumberOrNull c v.last) was told.last) in
+    λ i. record { name = text_read name v.name told.name i; it = it i; keep = number_kept i; last = number_before i }
 
 pub organization_read : (name : List ℕ) (cap : ℕ) (o : Organization) → IsOrganization (cell.Text name ∷ number cap ∷ []) o → o ≡ record { name = name; cap = cap }
 organization_read name cap o told = λ i. record { name = text_read name o.name told.name i; cap = number_read cap o.cap told.cap i }

@@ -2,11 +2,11 @@
 use Rattle.std.specs.Prelude.{ℕ, Bool, true, false, List, [], ◌∷◌, ◌++◌, map, codes, Option, Some, None}
 use Rattle.sqlite_ast.specs.declared.Expr.{Expr}
 use Rattle.sqlite_ast.specs.declared.Expr.TheVariants.{Column, Parameter, Integer, Text, Null, CallStar, Binary as Two}
-use Rattle.sqlite_ast.specs.declared.Binary.TheVariants.{And, Eq, Lt, Gt, Ge}
+use Rattle.sqlite_ast.specs.declared.Binary.TheVariants.{And, Eq, Lt, Gt, Ge, Sub}
 use Rattle.sqlite_ast.specs.declared.Conflict.TheVariants.{Abort}
 use Rattle.sqlite_ast.specs.declared.Rows.TheVariants.{Values, Select as Selected}
 use Rattle.sqlite_ast.specs.declared.Origin.TheVariants.{Table}
-use Rattle.sqlite_ast.specs.declared.Source.{roll-Source}
+use Rattle.sqlite_ast.specs.declared.Source.{Source, roll-Source}
 use Rattle.sqlite_ast.specs.declared.Shown.{Shown}
 use Rattle.sqlite_ast.specs.declared.Shown.TheVariants.{One}
 use Rattle.sqlite_ast.specs.declared.Core.{Core, roll-Core}
@@ -217,26 +217,40 @@ list_orgs_core = from_all (shown_columns (codes "name" ∷ codes "cap" ∷ [])) 
 abbrev pub named_of : List ℕ → List ℕ → Expr
 named_of table column = Column (Some table) column
 
--- the workspaces with how many versions they keep
-abbrev pub from_ws_with_keeping : List Shown → Expr → Core
-from_ws_with_keeping shown test =
-    let kept = also (Two Eq (named_of (codes "keeping") (codes "org")) (Parameter 1)) (Two Eq (named_of (codes "keeping") (codes "ws")) (named (codes "name"))) in
+-- a table that is joined, where no more than one of its rows is to match
+abbrev pub joined_left : List ℕ → Expr → Source
+joined_left table on = roll-Source (record { is_left = true; origin = Table table; alias = None; on = Some on; using = [] })
+
+-- the row is one of the workspace, by its columns of these names
+abbrev pub of_workspace : List ℕ → Expr
+of_workspace table = also (Two Eq (named_of table (codes "org")) (Parameter 1)) (Two Eq (named_of table (codes "ws")) (named (codes "name")))
+
+-- and it is that of the version before the next one
+abbrev pub of_version_before : List ℕ → Expr
+of_version_before table = also (of_workspace table) (Two Eq (named (codes "number")) (Two Sub (named (codes "next_version")) one))
+
+-- the workspaces, each with how many versions it keeps and the version before its next one
+abbrev pub from_ws_joined : List Shown → Expr → Core
+from_ws_joined shown test =
     let ws = roll-Source (record { is_left = false; origin = Table (codes "ws"); alias = None; on = None; using = [] }) in
-    let keeping = roll-Source (record { is_left = true; origin = Table (codes "keeping"); alias = None; on = Some kept; using = [] }) in
-    roll-Core (record { distinct = false; shown = shown; from = ws ∷ keeping ∷ []; filter = Some test; group = []; having = None })
+    let keeping = joined_left (codes "keeping") (of_workspace (codes "keeping")) in
+    let version = joined_left (codes "version") (of_version_before (codes "version")) in
+    roll-Core (record { distinct = false; shown = shown; from = ws ∷ keeping ∷ version ∷ []; filter = Some test; group = []; having = None })
 
 abbrev pub list_ws_columns : List Shown
-list_ws_columns = shown_columns (ws_names ++ codes "name" ∷ codes "keep" ∷ run_settings_names)
+list_ws_columns = shown_columns (ws_names ++ codes "name" ∷ codes "keep" ∷ codes "number" ∷ run_settings_names)
 
 abbrev pub list_ws_test : Expr
 list_ws_test = also (Two Eq (named_of (codes "ws") (codes "org")) (Parameter 1)) (is_above (codes "name") 2)
 
 abbrev pub list_ws_core : Core
-list_ws_core = from_ws_with_keeping list_ws_columns list_ws_test
+list_ws_core = from_ws_joined list_ws_columns list_ws_test
+
+abbrev pub list_ws_within_test : Expr
+list_ws_within_test = also (also list_ws_test (Two Ge (named (codes "name")) (Parameter 3))) (Two Lt (named (codes "name")) (Parameter 4))
 
 abbrev pub list_ws_within_core : Core
-list_ws_within_core =
-    from_ws_with_keeping list_ws_columns (also (also list_ws_test (Two Ge (named (codes "name")) (Parameter 3))) (Two Lt (named (codes "name")) (Parameter 4)))
+list_ws_within_core = from_ws_joined list_ws_columns list_ws_within_test
 
 abbrev pub list_versions_core : Core
 list_versions_core = from_table (shown_columns (codes "number" ∷ codes "serial" ∷ codes "lineage" ∷ codes "created" ∷ codes "size" ∷ [])) (codes "version") (also (at_key (codes "org") (codes "ws")) (is_above (codes "number") 3))

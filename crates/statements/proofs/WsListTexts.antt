@@ -1,9 +1,11 @@
--- What the texts of the list of workspaces mean, in each schema that has the tables ws and keeping.
-use Rattle.std.proofs.Common.{◌≡◌, ℕ, List, [], ◌∷◌, ◌++◌, codes, Some, None, Ok, refl}
+-- What the texts of the list of workspaces mean, in each schema that has the tables ws, keeping and version.
+use Rattle.std.proofs.Common.{◌≡◌, ℕ, pos, List, [], ◌∷◌, ◌++◌, codes, Some, None, Ok, refl}
 use Rattle.sqlite_value.specs.declared.keys.Collation.TheVariants.{Binary}
+use Rattle.sqlite_value.specs.declared.value.Value.TheVariants.{Int}
+use Rattle.sqlite_sql.specs.declared.ops.ArithOp.TheVariants.{Sub}
 use Rattle.sqlite_sql.specs.declared.ops.CompareOp.TheVariants.{Eq}
-use Rattle.sqlite_sql.specs.declared.ops.BinaryOp.TheVariants.{Compare}
-use Rattle.sqlite_sql.specs.Term.{Term, col, op2}
+use Rattle.sqlite_sql.specs.declared.ops.BinaryOp.TheVariants.{Compare, Arith}
+use Rattle.sqlite_sql.specs.Term.{Term, lit, col, op2}
 use Rattle.sqlite_sql.specs.Query.{Query, Join, left, end}
 use Rattle.sqlite_schema.specs.declared.schema.Schema.{Schema}
 use Rattle.sqlite_schema.specs.declared.command.Command.TheVariants.{Select}
@@ -14,23 +16,17 @@ use Rattle.sqlite_resolve.specs.Select.{named}
 use Rattle.sqlite_resolve.specs.Program.{program}
 use Rattle.sqlite_tied.specs.Compute.{everything}
 use Rattle.statements.specs.Place.{StandsAt}
-use Rattle.statements.specs.Schema.{ws_table, keeping_table}
+use Rattle.statements.specs.Schema.{ws_table, keeping_table, version_table}
 use Rattle.statements.specs.Calls.{IsQuery}
 use Rattle.statements.specs.declared.workspaces.TheConstants.{LIST_WS, LIST_WS_WITHIN}
 use Rattle.statements.proofs.SyntaxTrees as st
+use Rattle.statements.proofs.WsListParts.{with_both, list_ws_rest, list_ws_within_rest, list_ws_names, list_ws_named, list_ws_within_named}
 use Rattle.statements.proofs.WsTexts.{ws_columns, ws_orders, run_settings_columns, run_settings_orders}
 use Rattle.statements.proofs.Meaning.{Means, means, some_parsed, as_read}
 use Rattle.statements.proofs.Reading.{read_is}
 use Rattle.statements.proofs.Writes.{plain_program}
 use Rattle.statements.proofs.Listed.{joined_listing}
 use Rattle.statements.proofs.Commands.{is_from, is_below, is_at, point_rest, no_page, is_above, joined_draft}
-
--- the row of keeping is that of the workspace in ws
-abbrev pub of_workspace : List Term
-of_workspace = op2 (Compare Eq Binary) (col 2 1) (col 0 0) ∷ op2 (Compare Eq Binary) (col 2 2) (col 1 2) ∷ []
-
-abbrev pub with_keeping : ℕ → Join
-with_keeping tree = left tree of_workspace end
 
 abbrev pub list_ws_text : List ℕ
 list_ws_text = LIST_WS.now
@@ -45,9 +41,6 @@ list_ws_reads = refl
 pub list_ws_is_query : IsQuery list_ws_text
 list_ws_is_query = (list_ws_select, some_parsed (first list_ws_text), list_ws_reads)
 
-abbrev pub list_ws_rest : Query
-list_ws_rest = point_rest (is_at 1 0 ∷ is_above 2 1 ∷ []) (ws_columns ++ col 1 2 ∷ col 2 3 ∷ run_settings_columns) no_page
-
 abbrev pub list_ws_within_text : List ℕ
 list_ws_within_text = LIST_WS_WITHIN.now
 
@@ -61,43 +54,30 @@ list_ws_within_reads = refl
 pub list_ws_within_is_query : IsQuery list_ws_within_text
 list_ws_within_is_query = (list_ws_within_select, some_parsed (first list_ws_within_text), list_ws_within_reads)
 
-abbrev pub list_ws_within_rest : Query
-list_ws_within_rest = point_rest (is_at 1 0 ∷ is_above 2 1 ∷ is_from 2 2 ∷ is_below 2 3 ∷ []) (ws_columns ++ col 1 2 ∷ col 2 3 ∷ run_settings_columns) no_page
-
-abbrev pub list_ws_names : List (List ℕ)
-list_ws_names = st.ws_names ++ codes "name" ∷ codes "keep" ∷ st.run_settings_names
-
-module _ (s : Schema) (at tree : ℕ) (h : StandsAt s (codes "ws") ws_table at tree) (place other : ℕ) (k : StandsAt s (codes "keeping") keeping_table place other) where
-  list_ws_named : named s st.list_ws_core (st.by_column (codes "name")) no_page ≡ Ok ((joined_draft list_ws_rest tree (with_keeping other) 2), list_ws_names, (ws_orders ++ Some Binary ∷ Some Binary ∷ run_settings_orders))
+module _ (s : Schema) (at tree : ℕ) (h : StandsAt s (codes "ws") ws_table at tree) (keep_at keepings : ℕ) (k : StandsAt s (codes "keeping") keeping_table keep_at keepings)
+    (version_at versions : ℕ) (v : StandsAt s (codes "version") version_table version_at versions) where
+  list_ws_fits : program s [] (joined_draft list_ws_rest tree (with_both keepings versions) 2) ≡ Ok (plain_program (joined_listing list_ws_rest tree (with_both keepings versions) 2))
   unfolding everything
-  list_ws_named = rw (h.named, k.named, h.found, k.found, h.found, k.found) (rw (h.found, k.found, h.found, k.found, h.found) refl)
+  list_ws_fits = rw (h.low, k.low, v.low, h.treed, k.treed, v.treed) refl
 
-  list_ws_fits : program s [] (joined_draft list_ws_rest tree (with_keeping other) 2) ≡ Ok (plain_program (joined_listing list_ws_rest tree (with_keeping other) 2))
-  unfolding everything
-  list_ws_fits = rw (h.low, k.low, h.treed, k.treed) refl
-
-  list_ws_is : (base : ℕ) → command s [] base (written.Select list_ws_select) ≡ Ok (Select (plain_program (joined_listing list_ws_rest tree (with_keeping other) 2)) list_ws_names)
+  list_ws_is : (base : ℕ) → command s [] base (written.Select list_ws_select) ≡ Ok (Select (plain_program (joined_listing list_ws_rest tree (with_both keepings versions) 2)) list_ws_names)
   unfolding everything
   list_ws_is base =
-      read_is s list_ws_select st.list_ws_core (st.by_column (codes "name")) no_page ((joined_draft list_ws_rest tree (with_keeping other) 2), list_ws_names, (ws_orders ++ Some Binary ∷ Some Binary ∷ run_settings_orders)) refl refl refl refl refl (λ again. refl) list_ws_named (plain_program (joined_listing list_ws_rest tree (with_keeping other) 2)) list_ws_fits base
+      read_is s list_ws_select st.list_ws_core (st.by_column (codes "name")) no_page ((joined_draft list_ws_rest tree (with_both keepings versions) 2), list_ws_names, (ws_orders ++ Some Binary ∷ Some Binary ∷ Some Binary ∷ run_settings_orders)) refl refl refl refl refl (λ again. refl) (list_ws_named s at tree h keep_at keepings k version_at versions v) (plain_program (joined_listing list_ws_rest tree (with_both keepings versions) 2)) list_ws_fits base
 
-  pub list_ws_means : Means s (Select (plain_program (joined_listing list_ws_rest tree (with_keeping other) 2)) list_ws_names) list_ws_text
+  pub list_ws_means : Means s (Select (plain_program (joined_listing list_ws_rest tree (with_both keepings versions) 2)) list_ws_names) list_ws_text
   unfolding timed returning
   list_ws_means = means s (written.Select list_ws_select) _ refl (λ _. refl) list_ws_is list_ws_text (some_parsed (first list_ws_text)) list_ws_reads
 
-  list_ws_within_named : named s st.list_ws_within_core (st.by_column (codes "name")) no_page ≡ Ok ((joined_draft list_ws_within_rest tree (with_keeping other) 2), list_ws_names, (ws_orders ++ Some Binary ∷ Some Binary ∷ run_settings_orders))
+  list_ws_within_fits : program s [] (joined_draft list_ws_within_rest tree (with_both keepings versions) 2) ≡ Ok (plain_program (joined_listing list_ws_within_rest tree (with_both keepings versions) 2))
   unfolding everything
-  list_ws_within_named = rw (h.named, k.named, h.found, k.found, h.found, k.found) (rw (h.found, k.found, h.found, k.found, h.found) refl)
+  list_ws_within_fits = rw (h.low, k.low, v.low, h.treed, k.treed, v.treed) refl
 
-  list_ws_within_fits : program s [] (joined_draft list_ws_within_rest tree (with_keeping other) 2) ≡ Ok (plain_program (joined_listing list_ws_within_rest tree (with_keeping other) 2))
-  unfolding everything
-  list_ws_within_fits = rw (h.low, k.low, h.treed, k.treed) refl
-
-  list_ws_within_is : (base : ℕ) → command s [] base (written.Select list_ws_within_select) ≡ Ok (Select (plain_program (joined_listing list_ws_within_rest tree (with_keeping other) 2)) list_ws_names)
+  list_ws_within_is : (base : ℕ) → command s [] base (written.Select list_ws_within_select) ≡ Ok (Select (plain_program (joined_listing list_ws_within_rest tree (with_both keepings versions) 2)) list_ws_names)
   unfolding everything
   list_ws_within_is base =
-      read_is s list_ws_within_select st.list_ws_within_core (st.by_column (codes "name")) no_page ((joined_draft list_ws_within_rest tree (with_keeping other) 2), list_ws_names, (ws_orders ++ Some Binary ∷ Some Binary ∷ run_settings_orders)) refl refl refl refl refl (λ again. refl) list_ws_within_named (plain_program (joined_listing list_ws_within_rest tree (with_keeping other) 2)) list_ws_within_fits base
+      read_is s list_ws_within_select st.list_ws_within_core (st.by_column (codes "name")) no_page ((joined_draft list_ws_within_rest tree (with_both keepings versions) 2), list_ws_names, (ws_orders ++ Some Binary ∷ Some Binary ∷ Some Binary ∷ run_settings_orders)) refl refl refl refl refl (λ again. refl) (list_ws_within_named s at tree h keep_at keepings k version_at versions v) (plain_program (joined_listing list_ws_within_rest tree (with_both keepings versions) 2)) list_ws_within_fits base
 
-  pub list_ws_within_means : Means s (Select (plain_program (joined_listing list_ws_within_rest tree (with_keeping other) 2)) list_ws_names) list_ws_within_text
+  pub list_ws_within_means : Means s (Select (plain_program (joined_listing list_ws_within_rest tree (with_both keepings versions) 2)) list_ws_names) list_ws_within_text
   unfolding timed returning
   list_ws_within_means = means s (written.Select list_ws_within_select) _ refl (λ _. refl) list_ws_within_is list_ws_within_text (some_parsed (first list_ws_within_text)) list_ws_within_reads

@@ -1,24 +1,24 @@
 -- What the queries on the table ws read of its rows.
 use Rattle.std.specs.List.{AllZip}
-use Rattle.std.proofs.Common.{◌≡◌, ◌≢◌, ◌∙◌, sym, ap, Bool, true, false, ◌&&◌, ℕ, List, [], ◌∷◌, find, Option, Some, None, option_map, codes, refl}
+use Rattle.std.proofs.Common.{◌≡◌, ◌≢◌, ◌∙◌, sym, ap, Bool, true, false, ◌&&◌, ℕ, List, [], ◌∷◌, find, Option, Some, None, option_map, codes, refl, ◌==◌, eq-eqb}
 use Rattle.sqlite_value.specs.declared.value.Value.TheVariants.{Text}
 use Rattle.sqlite_value.specs.Order.{Row, column}
-use Rattle.sqlite_sql.specs.Query.{end}
+use Rattle.sqlite_sql.specs.Query.{Join, left, end}
+use Rattle.sqlite_sql.specs.Term.{Env}
 use Rattle.sqlite_sql.specs.Program.{overlay}
 use Rattle.sqlite_typed.specs.Columns.{or_null}
-use Rattle.sqlite_keyed.specs.Rules.{AreApart}
 use Rattle.sqlite_keyed.proofs.ListLemmas.{ascending_weaker}
 use Rattle.sqlite.specs.State.{State}
 use Rattle.statements.specs.Place.{tree_of}
-use Rattle.statements.specs.Schema.{ws_table, keeping_table}
-use Rattle.statements.specs.Rows.{Kept, WsRow, KeepingRow, stored, ws_cells, keeping_cells, number}
-use Rattle.statements.specs.Tables.{Tables, Holds, ws_layout, keeping_layout}
-use Rattle.statements.specs.Changes.{is_ws, is_ws_of, is_keeping}
-use Rattle.statements.specs.Finds.{workspace_of, workspaces_of, keep_of}
+use Rattle.statements.specs.Schema.{ws_table, keeping_table, version_table}
+use Rattle.statements.specs.Rows.{Kept, WsRow, VersionRow, KeepingRow, stored, ws_cells, version_cells, keeping_cells, number}
+use Rattle.statements.specs.Tables.{Tables, Holds, ws_layout, version_layout, keeping_layout}
+use Rattle.statements.specs.Changes.{is_ws, is_ws_of, is_keeping, is_version}
+use Rattle.statements.specs.Finds.{workspace_of, workspaces_of, keep_of, is_one_less, is_version_before, version_before}
 use Rattle.statements.specs.Calls.{FirstRow, FirstRows, Pins, IsWorkspace, IsNamedRow}
 use Rattle.statements.specs.declared.rows.NamedWorkspace.{NamedWorkspace}
 use Rattle.statements.specs.Listings.{named_row, is_behind, workspace_rows_after, later_of, end_of, WorkspacesApart}
-use Rattle.statements.proofs.Held.{IsHeld, wss_held, keepings_held}
+use Rattle.statements.proofs.Held.{IsHeld, wss_held, versions_held, keepings_held}
 use Rattle.statements.proofs.NameLists.{by_text, same_text as alike, wss_apart, names_within}
 use Rattle.statements.proofs.Listed.{Ends}
 use Rattle.statements.proofs.Lefts.{row_or, left_is}
@@ -30,8 +30,9 @@ use Rattle.basis.specs.Names.{admits}
 use Rattle.std.specs.Str.{bytes_eq}
 use Rattle.statements.proofs.PointReads.{first_own, count_own}
 use Rattle.statements.proofs.ReadBack.{workspace_read, named_workspace_read}
-use Rattle.statements.proofs.Conditions.{one_text, two_texts, same_text, text_after}
-use Rattle.statements.proofs.WsListTexts.{of_workspace, with_keeping, list_ws_text, list_ws_means, list_ws_rest, list_ws_names, list_ws_within_text, list_ws_within_means, list_ws_within_rest}
+use Rattle.statements.proofs.Conditions.{one_text, two_texts, same_text, text_after, one_number, two_texts_one_less}
+use Rattle.statements.proofs.WsListParts.{of_workspace, of_version_before, with_both, list_ws_rest, list_ws_names, list_ws_within_rest}
+use Rattle.statements.proofs.WsListTexts.{list_ws_text, list_ws_means, list_ws_within_text, list_ws_within_means}
 use Rattle.statements.proofs.WsTexts.{find_ws_names, find_ws_text, find_ws_means, find_ws_rest, count_ws_text, count_ws_means, count_ws_rest}
 
 both_true : (a b : Bool) → (a && b) ≡ true → (a ≡ true) × (b ≡ true)
@@ -45,6 +46,34 @@ one_keeping org ws a b apart mine =
     let one = alike a.1.org org same.0 in
     let two = alike a.1.ws ws same.1 in
     sym (λ i. is_keeping (one i) (two i) b) ∙ apart
+
+three_true : (a b c : Bool) → (a && (b && c)) ≡ true → (a ≡ true) × (b ≡ true) × (c ≡ true)
+three_true true true c h = (refl, refl, h)
+three_true true false c h = absurd (cc)
+three_true false b c h = absurd (cc)
+
+-- two rows for one version of a workspace clash
+one_version : (org ws : List ℕ) (next : ℕ) (a b : Kept VersionRow) → is_version a.1.org a.1.ws a.1.it.number b ≡ false → is_version_before org ws next a ≡ true → is_version_before org ws next b ≡ false
+one_version org ws next a b apart mine = go (is_one_less b.1.it.number next) refl
+  where
+    there : (bytes_eq a.1.org org ≡ true) × (bytes_eq a.1.ws ws ≡ true) × (is_one_less a.1.it.number next ≡ true)
+    there = three_true (bytes_eq a.1.org org) (bytes_eq a.1.ws ws) (is_one_less a.1.it.number next) mine
+
+    none : (c d : Bool) → (c && (d && false)) ≡ false
+    none true true = refl
+    none true false = refl
+    none false d = refl
+
+    same : (m : ℕ) → a.1.it.number ≡ m → (bytes_eq b.1.org org && (bytes_eq b.1.ws ws && m == a.1.it.number)) ≡ (bytes_eq b.1.org org && (bytes_eq b.1.ws ws && true))
+    same m is = ap (λ (e : Bool). bytes_eq b.1.org org && (bytes_eq b.1.ws ws && e)) (eq-eqb m a.1.it.number (sym is))
+
+    go : (c : Bool) → is_one_less b.1.it.number next ≡ c → is_version_before org ws next b ≡ false
+    go true yours =
+        let number_is : a.1.it.number ≡ b.1.it.number = one_number _ a.1.it.number b.1.it.number there.2 yours in
+        let one = alike a.1.org org there.0 in
+        let two = alike a.1.ws ws there.1 in
+        ap (λ (e : Bool). bytes_eq b.1.org org && (bytes_eq b.1.ws ws && e)) yours ∙ sym (same b.1.it.number number_is) ∙ sym (λ i. is_version (one i) (two i) a.1.it.number b) ∙ apart
+    go false yours = ap (λ (e : Bool). bytes_eq b.1.org org && (bytes_eq b.1.ws ws && e)) yours ∙ none (bytes_eq b.1.org org) (bytes_eq b.1.ws ws)
 
 module _ (old new : State) (t : Tables) (h : Holds old.now t) where
   abbrev held : IsHeld ws_layout old.now t.wss
@@ -74,27 +103,50 @@ module _ (old new : State) (t : Tables) (h : Holds old.now t) where
       by_row None = refl
       by_row (Some y) = refl
 
-  with_kept : (org : List ℕ) (more : Row) → AreApart (λ a b. is_keeping a.1.org a.1.ws b) t.keepings
-      → Ends (overlay old.now.trees []) (λ (x : Kept WsRow). (Text org ∷ more) ∷ stored ws_cells x ∷ []) (with_keeping (tree_of old.now.schema keeping_table.name)) (λ x. kept_row org x ∷ [])
-  with_kept org more apart terms x =
+  abbrev made : IsHeld version_layout old.now t.versions
+  made = versions_held old.now t h
+
+  -- the row of version that LEFT JOIN finds for it, or none
+  abbrev before_row : List ℕ → Kept WsRow → Row
+  before_row org x = row_or (stored version_cells) (find (is_version_before org x.1.name x.1.it.next_version) t.versions)
+
+  before_cell : (org : List ℕ) (x : Kept WsRow) → column (before_row org x) 3 ≡ or_null number (version_before org x.1.name x.1.it.next_version t)
+  before_cell org x = by_row (find (is_version_before org x.1.name x.1.it.next_version) t.versions)
+    where
+      by_row : (o : Option (Kept VersionRow)) → column (row_or (stored version_cells) o) 3 ≡ or_null number (option_map (λ (y : Kept VersionRow). y.1.it.number) o)
+      by_row None = refl
+      by_row (Some y) = refl
+
+  -- the steps of FROM behind ws
+  abbrev joined : Join
+  joined = with_both (tree_of old.now.schema keeping_table.name) (tree_of old.now.schema version_table.name)
+
+  abbrev both_rows : List ℕ → Kept WsRow → Env
+  both_rows org x = kept_row org x ∷ before_row org x ∷ []
+
+  both_found : (org : List ℕ) (more : Row) → WorkspacesApart t → Ends (overlay old.now.trees []) (λ (x : Kept WsRow). (Text org ∷ more) ∷ stored ws_cells x ∷ []) joined (both_rows org)
+  both_found org more apart terms x =
       left_is (stored keeping_cells) (is_keeping org x.1.name) (overlay old.now.trees []) (tree_of old.now.schema keeping_table.name) t.keepings
-      (stored_tree old.now.trees (tree_of old.now.schema keeping_table.name) kept.own.place.low ∙ kept.rows) of_workspace ((Text org ∷ more) ∷ stored ws_cells x ∷ [])
-      (λ y. two_texts y.1.org org y.1.ws x.1.name) (ascending_weaker _ _ (λ a b. one_keeping org x.1.name a b) t.keepings apart) terms end
+      (stored_tree old.now.trees (tree_of old.now.schema keeping_table.name) kept.own.place.low ∙ kept.rows) (of_workspace 2) ((Text org ∷ more) ∷ stored ws_cells x ∷ [])
+      (λ y. two_texts y.1.org org y.1.ws x.1.name) (ascending_weaker _ _ (λ a b. one_keeping org x.1.name a b) t.keepings apart.keepings) terms (left (tree_of old.now.schema version_table.name) (of_version_before 3) end)
+      ∙ left_is (stored version_cells) (is_version_before org x.1.name x.1.it.next_version) (overlay old.now.trees []) (tree_of old.now.schema version_table.name) t.versions
+      (stored_tree old.now.trees (tree_of old.now.schema version_table.name) made.own.place.low ∙ made.rows) (of_version_before 3) ((Text org ∷ more) ∷ stored ws_cells x ∷ kept_row org x ∷ [])
+      (λ y. two_texts_one_less y.1.org org y.1.ws x.1.name y.1.it.number x.1.it.next_version) (ascending_weaker _ _ (λ a b. one_version org x.1.name x.1.it.next_version a b) t.versions apart.versions) terms end
 
   pub list_ws_shows : (org after : List ℕ) (most : ℕ) (rows : List Row) (wss : List NamedWorkspace) → WorkspacesApart t → FirstRows most list_ws_text (Text org ∷ Text after ∷ []) old new rows → AllZip IsNamedRow rows wss
       → wss ≡ workspace_rows_after org after [] most t
   list_ws_shows org after most rows wss apart first read =
-      names_within ws_cells ws_table old new held.own t.wss held.rows list_ws_text (Text org ∷ Text after ∷ []) list_ws_rest 2 list_ws_names (with_keeping (tree_of old.now.schema keeping_table.name)) (λ x. kept_row org x ∷ []) (with_kept org (Text after ∷ []) apart.1)
-      IsNamedRow (λ x. x.1.name) (λ x. x.1.it) (named_row org t) (λ x y told. named_workspace_read x.1.name x.1.it _ (keep_of org x.1.name t) (kept_cell org x) y told)
-      (λ x y. by_text x.1.name y.1.name) (list_ws_means old.now.schema _ _ held.own.place _ _ kept.own.place) (λ l. refl) (is_ws_of org) (λ n. is_behind after n && admits [] n)
-      (λ x. text_after x.1.org org x.1.name after ∙ ap (λ b. bytes_eq x.1.org org && b) (all_admitted (is_behind after x.1.name) x.1.name)) (wss_apart org t.wss apart.0) most rows wss first read
+      names_within ws_cells ws_table old new held.own t.wss held.rows list_ws_text (Text org ∷ Text after ∷ []) list_ws_rest 2 list_ws_names joined (both_rows org) (both_found org (Text after ∷ []) apart)
+      IsNamedRow (λ x. x.1.name) (λ x. x.1.it) (named_row org t) (λ x y told. named_workspace_read x.1.name x.1.it _ _ (keep_of org x.1.name t) (version_before org x.1.name x.1.it.next_version t) (kept_cell org x) (before_cell org x) y told)
+      (λ x y. by_text x.1.name y.1.name) (list_ws_means old.now.schema _ _ held.own.place _ _ kept.own.place _ _ made.own.place) (λ l. refl) (is_ws_of org) (λ n. is_behind after n && admits [] n)
+      (λ x. text_after x.1.org org x.1.name after ∙ ap (λ b. bytes_eq x.1.org org && b) (all_admitted (is_behind after x.1.name) x.1.name)) (wss_apart org t.wss apart.wss) most rows wss first read
 
   pub list_ws_within_shows : (org after prefix : List ℕ) → prefix ≢ [] → (most : ℕ) (rows : List Row) (wss : List NamedWorkspace) → WorkspacesApart t
       → FirstRows most list_ws_within_text (Text org ∷ Text after ∷ Text (later_of after prefix) ∷ Text (end_of prefix) ∷ []) old new rows → AllZip IsNamedRow rows wss
       → wss ≡ workspace_rows_after org after prefix most t
   list_ws_within_shows org after prefix some most rows wss apart first read =
-      names_within ws_cells ws_table old new held.own t.wss held.rows list_ws_within_text (Text org ∷ Text after ∷ Text (later_of after prefix) ∷ Text (end_of prefix) ∷ []) list_ws_within_rest 2 list_ws_names (with_keeping (tree_of old.now.schema keeping_table.name)) (λ x. kept_row org x ∷ []) (with_kept org (Text after ∷ Text (later_of after prefix) ∷ Text (end_of prefix) ∷ []) apart.1)
-      IsNamedRow (λ x. x.1.name) (λ x. x.1.it) (named_row org t) (λ x y told. named_workspace_read x.1.name x.1.it _ (keep_of org x.1.name t) (kept_cell org x) y told)
-      (λ x y. by_text x.1.name y.1.name) (list_ws_within_means old.now.schema _ _ held.own.place _ _ kept.own.place) (λ l. refl) (is_ws_of org) (λ n. is_behind after n && admits prefix n)
+      names_within ws_cells ws_table old new held.own t.wss held.rows list_ws_within_text (Text org ∷ Text after ∷ Text (later_of after prefix) ∷ Text (end_of prefix) ∷ []) list_ws_within_rest 2 list_ws_names joined (both_rows org) (both_found org (Text after ∷ Text (later_of after prefix) ∷ Text (end_of prefix) ∷ []) apart)
+      IsNamedRow (λ x. x.1.name) (λ x. x.1.it) (named_row org t) (λ x y told. named_workspace_read x.1.name x.1.it _ _ (keep_of org x.1.name t) (version_before org x.1.name x.1.it.next_version t) (kept_cell org x) (before_cell org x) y told)
+      (λ x y. by_text x.1.name y.1.name) (list_ws_within_means old.now.schema _ _ held.own.place _ _ kept.own.place _ _ made.own.place) (λ l. refl) (is_ws_of org) (λ n. is_behind after n && admits prefix n)
       (λ x. then_term (same_text x.1.org org) (then_term (at_texts _ Gt x.1.name after) (then_term (at_texts _ Ge x.1.name (later_of after prefix)) (last_term (at_texts _ Lt x.1.name (end_of prefix)))))
-      ∙ ap (λ b. bytes_eq x.1.org org && b) (within after prefix x.1.name some)) (wss_apart org t.wss apart.0) most rows wss first read
+      ∙ ap (λ b. bytes_eq x.1.org org && b) (within after prefix x.1.name some)) (wss_apart org t.wss apart.wss) most rows wss first read

@@ -96,9 +96,10 @@ abbrev pub IsWorkspace : Row → Workspace → Type 0
 IsWorkspace row w = IsWorkspaceWith 7 row w
 
 pub record IsNamedRow (row : Row) (w : NamedWorkspace) : Type 0 where
-  pub it : IsWorkspaceWith 9 row w.it
+  pub it : IsWorkspaceWith 10 row w.it
   pub name : column row 7 ≡ cell.Text w.name
   pub keep : IsNumberOrNull (column row 8) w.keep
+  pub last : IsNumberOrNull (column row 9) w.last
 
 pub record IsOrganization (row : Row) (o : Organization) : Type 0 where
   pub name : column row 0 ≡ cell.Text o.name

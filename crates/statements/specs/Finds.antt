@@ -1,6 +1,11 @@
 -- What each query reads of the rows.
 use Rattle.std.specs.Prelude.{ℕ, Bool, true, false, not, ◌&&◌, List, [], ◌∷◌, length, filter, reverse, find, slice_get, min, Option, Some, None, option_map}
 use Rattle.std.specs.Str.{bytes_eq}
+use Rattle.sqlite_value.specs.declared.keys.Collation.TheVariants.{Binary}
+use Rattle.sqlite_sql.specs.declared.ops.ArithOp.TheVariants.{Sub}
+use Rattle.sqlite_sql.specs.declared.ops.CompareOp.TheVariants.{Eq}
+use Rattle.sqlite_sql.specs.declared.ops.BinaryOp.TheVariants.{Compare, Arith}
+use Rattle.sqlite_sql.specs.Ops.{is_true, binary}
 use Rattle.basis.specs.declared.roles.Role.{Role}
 use Rattle.basis.specs.declared.runs.RunStatus.{RunStatus}
 use Rattle.basis.specs.declared.runs.RunStatus.TheVariants.{Pending}
@@ -10,7 +15,7 @@ use Rattle.statements.specs.declared.rows.Head.{Head}
 use Rattle.statements.specs.declared.rows.Run.{Run}
 use Rattle.statements.specs.declared.rows.NamedRole.{NamedRole}
 use Rattle.statements.specs.declared.rows.Bound.{Bound}
-use Rattle.statements.specs.Rows.{Version, Kept, TokenRow, RunRow, BoundRow}
+use Rattle.statements.specs.Rows.{Version, Kept, TokenRow, VersionRow, RunRow, BoundRow, number}
 use Rattle.statements.specs.Tables.{Tables}
 use Rattle.statements.specs.Changes.{is_org, is_token, is_digest_of, is_bound, is_ws_of, is_ws, is_keeping, is_version_of, is_version, is_version_below, is_run_row}
 
@@ -63,6 +68,17 @@ head_of v = record { number = v.number; serial = v.serial; lineage = v.lineage; 
 -- the version that was added last
 abbrev pub newest_of : List ℕ → List ℕ → Tables → Option Head
 newest_of org ws t = option_map (λ x. head_of x.1.it) (last_in (filter (is_version_of org ws) t.versions))
+
+-- whether a number is one less than another, as SQL reckons, which has 64 bits for a whole number
+abbrev pub is_one_less : ℕ → ℕ → Bool
+is_one_less m n = is_true (binary (Compare Eq Binary) (number m) (binary (Arith Sub) (number n) (number 1)))
+
+abbrev pub is_version_before : List ℕ → List ℕ → ℕ → Kept VersionRow → Bool
+is_version_before org ws next x = bytes_eq x.1.org org && (bytes_eq x.1.ws ws && is_one_less x.1.it.number next)
+
+-- the number before this one, if a version of the workspace has it
+abbrev pub version_before : List ℕ → List ℕ → ℕ → Tables → Option ℕ
+version_before org ws next t = option_map (λ x. x.1.it.number) (find (is_version_before org ws next) t.versions)
 
 -- the number of the version at a place, counted from 0 at the one that was added last
 abbrev pub number_back : List ℕ → List ℕ → ℕ → Tables → Option ℕ

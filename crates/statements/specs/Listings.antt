@@ -17,8 +17,8 @@ use Rattle.statements.specs.declared.rows.Run.{Run}
 use Rattle.statements.specs.declared.rows.Organization.{Organization}
 use Rattle.statements.specs.Rows.{Version, Kept, TokenRow}
 use Rattle.statements.specs.Tables.{Tables}
-use Rattle.statements.specs.Finds.{keep_of}
-use Rattle.statements.specs.Changes.{is_org, is_token, is_ws_of, is_ws, is_keeping, is_version_of, is_run_of}
+use Rattle.statements.specs.Finds.{keep_of, version_before}
+use Rattle.statements.specs.Changes.{is_org, is_token, is_ws_of, is_ws, is_keeping, is_version_of, is_version, is_run_of}
 
 -- the order of names: that of their bytes
 abbrev pub text_cmp : List ℕ → List ℕ → Ordering
@@ -70,9 +70,9 @@ abbrev pub workspaces_by_name : List ℕ → Tables → FinMap text_cmp Workspac
 workspaces_by_name org t = from_entries (map (λ x. (x.1.name, x.1.it)) (filter (is_ws_of org) t.wss))
 
 abbrev pub named_row : List ℕ → Tables → List ℕ × Workspace → NamedWorkspace
-named_row org t e = record { name = e.0; it = e.1; keep = keep_of org e.0 t }
+named_row org t e = record { name = e.0; it = e.1; keep = keep_of org e.0 t; last = version_before org e.0 e.1.next_version t }
 
--- those of an organization that come after a name and begin with a prefix, each with how many versions it keeps, in the order of their names and no more than so many
+-- those of an organization that come after a name and begin with a prefix, each with how many versions it keeps and the number before its next one's, in the order of their names and no more than so many
 abbrev pub workspace_rows_after : List ℕ → List ℕ → List ℕ → ℕ → Tables → List NamedWorkspace
 workspace_rows_after org after prefix most t = take most (map (named_row org t) (filter (λ e. is_behind after e.0 && admits prefix e.0) (entries (workspaces_by_name org t))))
 
@@ -86,9 +86,11 @@ end_of [] = []
 end_of (b ∷ []) = (b + 1) ∷ []
 end_of (b ∷ c ∷ bytes) = b ∷ end_of (c ∷ bytes)
 
--- a workspace has one row, and so has how many versions it keeps
-abbrev pub WorkspacesApart : Tables → Type 0
-WorkspacesApart t = AreApart (λ a b. is_ws a.1.org a.1.name b) t.wss × AreApart (λ a b. is_keeping a.1.org a.1.ws b) t.keepings
+-- a workspace has one row, and so have how many versions it keeps and each of its versions
+pub record WorkspacesApart (t : Tables) : Type 0 where
+  pub wss : AreApart (λ a b. is_ws a.1.org a.1.name b) t.wss
+  pub keepings : AreApart (λ a b. is_keeping a.1.org a.1.ws b) t.keepings
+  pub versions : AreApart (λ a b. is_version a.1.org a.1.ws a.1.it.number b) t.versions
 
 -- ---- versions
 

@@ -138,7 +138,7 @@ pub(crate) fn optional_text(row: &Row, at: usize) -> Result<Option<Text>, Error>
     }
 }
 
-fn optional_number(row: &Row, at: usize) -> Result<Option<u64>, Error>
+pub(crate) fn optional_number(row: &Row, at: usize) -> Result<Option<u64>, Error>
     ensures { IfOk result (IsNumberOrNull (column row.now at)) }
 {
     row.get::<Option<u64>>(at)

@@ -26,6 +26,8 @@ pub struct NamedWorkspace {
     pub name: Text,
     pub it: Workspace,
     pub keep: Option<KeepCount>,
+    /// The number before the next version's, if there is a version of it.
+    pub last: Option<u64>,
 }
 
 /// A token without its digest.

@@ -13,7 +13,7 @@ ghost use Rattle.statements.specs.Finds.{workspace_of, workspaces_of};
 ghost use Rattle.statements.specs.declared.rows.Holder.TheVariants.{Nobody, Lock, Run as HeldByRun};
 
 use crate::calls::{
-    Read, count_of, first_row, first_rows, flag_in, optional_keep, optional_text, read_all,
+    Read, count_of, first_row, first_rows, flag_in, optional_keep, optional_number, optional_text, read_all,
     read_one, signed, update, write,
 };
 use crate::keepings;
@@ -71,9 +71,10 @@ impl Read for NamedWorkspace {
 
     fn of_row(row: &Row) -> Result<NamedWorkspace, Error> {
         Ok(NamedWorkspace {
-            it: workspace_in(row, 9)?,
+            it: workspace_in(row, 10)?,
             name: Text::new(row.get(7)?),
             keep: optional_keep(row, 8)?,
+            last: optional_number(row, 9)?,
         })
     }
 }
@@ -94,7 +95,7 @@ pub fn find<S: Alter>(
 }
 
 const LIST_WS: &str =
-    "SELECT kind, lock_id, lock_text, run, released, next_version, next_run, name, keep, auto FROM ws LEFT JOIN keeping ON keeping.org = ?1 AND keeping.ws = name WHERE ws.org = ?1 AND name > ?2 ORDER BY name";
+    "SELECT kind, lock_id, lock_text, run, released, next_version, next_run, name, keep, number, auto FROM ws LEFT JOIN keeping ON keeping.org = ?1 AND keeping.ws = name LEFT JOIN version ON version.org = ?1 AND version.ws = name AND number = next_version - 1 WHERE ws.org = ?1 AND name > ?2 ORDER BY name";
 
 fn list_all<S: Alter>(
     alloc: Global,
@@ -111,7 +112,7 @@ fn list_all<S: Alter>(
 
 // Of the two lower bounds the last is where the scan begins.
 const LIST_WS_WITHIN: &str =
-    "SELECT kind, lock_id, lock_text, run, released, next_version, next_run, name, keep, auto FROM ws LEFT JOIN keeping ON keeping.org = ?1 AND keeping.ws = name WHERE ws.org = ?1 AND name > ?2 AND name >= ?3 AND name < ?4 ORDER BY name";
+    "SELECT kind, lock_id, lock_text, run, released, next_version, next_run, name, keep, number, auto FROM ws LEFT JOIN keeping ON keeping.org = ?1 AND keeping.ws = name LEFT JOIN version ON version.org = ?1 AND version.ws = name AND number = next_version - 1 WHERE ws.org = ?1 AND name > ?2 AND name >= ?3 AND name < ?4 ORDER BY name";
 
 /// Where a scan for names that begin with a prefix and come after a name begins: at the greater of the two.
 fn beginning<'v>(after: &'v str, prefix: &'v str) -> &'v str
@@ -167,8 +168,8 @@ fn list_within<'v, S: Alter>(
 }
 
 /// The workspaces of an organization that come after a name and begin with a prefix, each with how many versions it
-/// keeps, in the order of their names and no more than `most`. All names come after the empty one. No other name is
-/// looked at.
+/// keeps and the number before its next one's, in the order of their names and no more than `most`. All names come after
+/// the empty one. No other name is looked at.
 pub fn list<'v, S: Alter>(
     alloc: Global,
     conn: &mut Connection<S>,

@@ -53,7 +53,7 @@ use Rattle.tables.specs.Inner.Units.{holder_status_in, text_in, has_text, newest
 
 -- ---- lists
 
-find_same : {X : Type 0} (p q : X → Bool) → ((x : X) → p x ≡ q x) → (xs : List X) → find p xs ≡ find q xs
+pub find_same : {X : Type 0} (p q : X → Bool) → ((x : X) → p x ≡ q x) → (xs : List X) → find p xs ≡ find q xs
 find_same p q same [] = refl
 find_same p q same (x ∷ xs) = λ i. cond (same x i) (Some x) (find_same p q same xs i)
 
@@ -65,7 +65,7 @@ found_as : {A B : Type 0} (f : A → B) (o : Option A) → is_some (option_map f
 found_as f None = refl
 found_as f (Some a) = refl
 
-three : (a b c : Bool) → (a && (b && c)) ≡ ((a && b) && c)
+pub three : (a b c : Bool) → (a && (b && c)) ≡ ((a && b) && c)
 three true b c = refl
 three false b c = refl
 

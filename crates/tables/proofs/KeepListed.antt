@@ -16,9 +16,9 @@ pub record SeesSoFar {X : Type 0} (read : Tables → X) (old new : State) (x : X
 
 -- one row more, put behind the others
 pub seen_more : {A R L : Type 0} (E : Type 0) (f : List R → L) (row : Tables → A → R) (xs : List A) (i : ℕ) (x : A) (a b c : State) (old new : L) (r : R) → i < length xs → x ≡ get_or xs i x
-    → SeesSoFar (λ t. f (map (row t) (take i xs))) a b old → Sees {E = E} (λ t. row t x) b c (Ok r) → (HasCleanDisk c → IsTrue c.is_open) → ((ys : List R) → old ≡ f ys → new ≡ f (ys ++ r ∷ []))
+    → SeesSoFar (λ t. f (map (row t) (take i xs))) a b old → Sees {E = E} (λ t. row t x) b c (Ok r) → ((ys : List R) → old ≡ f ys → new ≡ f (ys ++ r ∷ []))
     → SeesSoFar (λ t. f (map (row t) (take (i + 1) xs))) a c new
-seen_more E f row xs i x a b c old new r within is before one is_open more = record {
+seen_more E f row xs i x a b c old new r within is before one more = record {
   so_far = λ clean. before.so_far (one.so_far clean);
   stays = λ clean. stays_then a b c (before.stays (one.so_far clean)) (one.sees clean).1.0;
   value = λ clean open_is t held.
@@ -28,5 +28,5 @@ seen_more E f row xs i x a b c old new r within is before one is_open more = rec
       more (map (row t) (take i xs)) (before.value (one.so_far clean) open_b t held)
       ∙ ap (λ y. f (map (row t) (take i xs) ++ y ∷ [])) (seen.0 open_is t held_b)
       ∙ sym (ap f (map_more (row t) xs i x within ∙ ap (λ y. map (row t) (take i xs) ++ row t y ∷ []) (sym is)));
-  opened = λ clean _. is_open clean;
+  opened = λ clean was. (one.sees clean).1.0.is_open (before.opened (one.so_far clean) was);
 }

@@ -47,7 +47,7 @@ use Rattle.tables.proofs.Operators.{caller_found, org_exists, token_absent, toke
 use Rattle.tables.proofs.Limits.{limit_absent, limit_done, limit_other, limit_keeps}
 use Rattle.tables.proofs.Revoking.{revoke_absent, revoke_done, revoke_other, revoke_keeps}
 use Rattle.tables.proofs.Finding.{unit_found, text_found}
-use Rattle.tables.proofs.Listed.{versions_told, runs_told, versions_rise, runs_rise, no_versions_after, no_runs_after, workspaces_told}
+use Rattle.tables.proofs.Listed.{workspaces_apart, versions_told, runs_told, versions_rise, runs_rise, no_versions_after, no_runs_after, workspaces_told}
 use Rattle.tables.proofs.OrgLists.{organizations_told}
 use Rattle.tables.proofs.TokenLists.{tokens_told}
 use Rattle.tables.proofs.Databases.{store_by, records_by}
@@ -94,7 +94,7 @@ module _ (db : Database) (a : State) (s : IsSoundKeep db a) where
 
   pub workspaces_shown : (org : List ℕ) (after : Option (List ℕ)) (prefix : List ℕ) (list : Listing WsRow)
       → IsTrue a.is_open × ((t : Tables) → Holds a.committed t → WorkspacesApart t → list ≡ workspaces_listed_in (unwrap_or after []) prefix org t) → list ≡ showing.workspaces_after after prefix (records_of db org)
-  workspaces_shown org after prefix list told = told.1 now (held told.0) (s.store.sound.wss_apart, s.store.sound.keepings_apart) ∙ workspaces_told now org s.store.sound after prefix
+  workspaces_shown org after prefix list told = told.1 now (held told.0) (workspaces_apart now s.store.sound) ∙ workspaces_told now org s.store.sound after prefix
 
   pub tokens_shown : (org : List ℕ) (answer : AdminAnswer) → IsTrue a.is_open × ((t : Tables) → Holds a.committed t → TokensApart t → answer ≡ tokens_told_in org t) → answer ≡ tokens.tokens_told (records_of db org)
   tokens_shown org answer told = told.1 now (held told.0) s.store.sound.tokens_apart ∙ tokens_told now org

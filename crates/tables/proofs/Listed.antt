@@ -1,14 +1,19 @@
 -- What the lists of a workspace's versions and runs, and of an organization's workspaces, show of the record.
-use Rattle.std.proofs.Common.{◌≡◌, ℕ, ◌<◌, ◌≤◌, nat_lt, Bool, true, false, ◌&&◌, List, [], ◌∷◌, map, filter, take, Option, Some, None, option_map, IsTrue, refl, sym, ap, subst, ◌∙◌, arith}
+use Rattle.std.proofs.Common.{◌≡◌, ℕ, ◌+◌, ◌==◌, ◌<◌, ◌≤◌, nat_lt, Bool, true, false, cond, ◌&&◌, List, [], ◌∷◌, map, filter, find, take, Option, Some, None, option_map, IsTrue, refl, sym, ap, subst, ◌∙◌, arith}
+use Rattle.std.specs.Str.{bytes_eq}
 use Rattle.std.specs.Option.{unwrap_or}
 use Rattle.std.specs.List.{AllByRecursion}
 use Rattle.std.specs.FinMap.{from_entries, entries, get, entries_sorted, get-entries, get-from_entries}
 use Rattle.std.specs.FinMap.Entries.{find as find_entry}
 use Rattle.std.proofs.lemmas.List.{take-map}
+use Rattle.std.proofs.lemmas.Bool.{ne_eqb}
+use Rattle.sqlite_keyed.specs.Rules.{AreApart}
 use Rattle.sqlite_keyed.proofs.ListLemmas.{all_weaker}
+use Rattle.sqlite_keyed.proofs.SliceLemmas.{find-slice}
 use Rattle.sqlite_trees.specs.Tree.{IsAscending}
 use Rattle.basis.specs.Names.{is_ws_name, admits}
 use Rattle.basis.specs.Listings.{listing_of}
+use Rattle.machine.specs.Laws.{Rises, IsNamedWorkspace}
 use Rattle.machine.specs.Order.{name_cmp}
 use Rattle.machine.specs.Records.{workspace_in as seen_workspace}
 use Rattle.machine.specs.Showing as showing
@@ -16,22 +21,25 @@ use Rattle.machine.specs.declared.records.Version.{Version}
 use Rattle.machine.specs.declared.records.Run.{Run}
 use Rattle.machine.specs.declared.records.Workspace.{Workspace}
 use Rattle.machine.proofs.MapLemmas.{names_total}
+use Rattle.statements.specs.declared.rows.Head.{Head}
 use Rattle.statements.specs.declared.rows.Workspace.{Workspace as WorkspaceCells}
 use Rattle.statements.specs.Rows.{Kept, WsRow, VersionRow, RunRow}
 use Rattle.statements.specs.Tables.{Tables}
-use Rattle.statements.specs.Changes.{is_ws_of, is_version_of, is_run_of}
-use Rattle.statements.specs.Finds.{cap_of, workspace_of}
-use Rattle.statements.specs.Listings.{is_behind, workspaces_by_name, named_row as named_at, version_head_of, VersionsRise, RunsRise}
+use Rattle.statements.specs.Changes.{is_ws_of, is_version_of, is_version, is_run_of}
+use Rattle.statements.specs.Finds.{last_in, head_of, is_version_before, version_before, cap_of, workspace_of}
+use Rattle.statements.specs.Listings.{is_behind, workspaces_by_name, named_row as named_at, version_head_of, WorkspacesApart, VersionsRise, RunsRise}
+use Rattle.statements.proofs.Conditions.{one_less_is}
 use Rattle.tables.specs.Records.{settings_of_cells, holder_of_cells, keep_at, version_at, run_of_cells, versions_at, runs_at, workspace_at, workspaces_at, organization_at, record_of}
 use Rattle.tables.specs.Sound.{IsSound}
 use Rattle.texts.specs.Texts.{IsWhole}
 use Rattle.texts.proofs.PieceLaws.{whole_size}
 use Rattle.tables.proofs.TextRows.{AreTexts, sound_texts}
-use Rattle.tables.specs.Inner.Lists.{version_row_in, versions_listed_in, run_row_in, runs_listed_in, ws_row_in, workspaces_listed_in}
+use Rattle.tables.specs.Inner.Lists.{version_row_in, versions_listed_in, run_row_in, runs_listed_in, newest_number_in, newest_by, ws_row_in, workspaces_listed_in}
 use Rattle.tables.proofs.Sets.{entry_found}
+use Rattle.tables.proofs.Names.{pair_is}
 use Rattle.tables.proofs.Operators.{no_workspaces}
-use Rattle.tables.proofs.Finding.{newest_number_found, own_whole, no_versions, no_runs, seen_in_rows}
-use Rattle.tables.proofs.Ranks.{rising, none_after, first_rows_tell, shown_rows, every, same_names, no_entries, all_found, entries_shown}
+use Rattle.tables.proofs.Finding.{find_same, three, newest_number_found, own_whole, no_versions, no_runs, seen_in_rows}
+use Rattle.tables.proofs.Ranks.{rising, newest_told, none_after, first_rows_tell, shown_rows, every, same_names, no_entries, all_found, entries_shown}
 
 -- the list of the first rows is the list of all
 listed_all : {A B : Type 0} (f : A → B) (xs : List A) → listing_of (map f (take 51 xs)) ≡ listing_of (map f xs)
@@ -66,6 +74,25 @@ module _ (t : Tables) (org ws : List ℕ) where
       listed_all run_row_in (filter (λ r. nat_lt after r.number) (map (λ (x : Kept RunRow). x.1.it) (filter (is_run_of org ws) t.runs)))
       ∙ ap listing_of (shown_rows (λ (x : Kept RunRow). x.1.it) run_row_in (λ (x : Kept RunRow). run_of_cells x.1.it) showing.run_row (λ r. nat_lt after r.number) (λ (r : Run). nat_lt after r.number)
       (filter (is_run_of org ws) t.runs) (every _ (λ x. (refl, refl)) (filter (is_run_of org ws) t.runs)))
+
+  -- where numbers rise, the newest version is that of the number before the next one, if there is such a version
+  module _ (next : ℕ) (most : next ≤ 1_000_000_001) (rise : Rises 0 (version_numbers (versions_at t org ws)) next) where
+    before_found : version_before org ws next t ≡ find (λ (n : ℕ). n + 1 == next) (map (λ (x : Kept VersionRow). x.1.it.number) (filter (is_version_of org ws) t.versions))
+    before_found =
+        ap (option_map (λ (x : Kept VersionRow). x.1.it.number)) (find_same (is_version_before org ws next) (λ x. is_version_of org ws x && (x.1.it.number + 1 == next))
+        (λ x. ap (λ (b : Bool). bytes_eq x.1.org org && (bytes_eq x.1.ws ws && b)) (one_less_is x.1.it.number next most) ∙ three (bytes_eq x.1.org org) (bytes_eq x.1.ws ws) (x.1.it.number + 1 == next)) t.versions)
+        ∙ find-slice (is_version_of org ws) (λ (x : Kept VersionRow). x.1.it.number) (λ (n : ℕ). n + 1 == next) t.versions
+
+    last_mapped : (xs : List (Kept VersionRow)) → option_map (λ (h : Head). h.number) (option_map (λ (x : Kept VersionRow). head_of x.1.it) (last_in xs)) ≡ last_in (map (λ (x : Kept VersionRow). x.1.it.number) xs)
+    last_mapped [] = refl
+    last_mapped (x ∷ []) = refl
+    last_mapped (x ∷ y ∷ xs) = last_mapped (y ∷ xs)
+
+    pub newest_is_shown : newest_by (version_before org ws next t) next (newest_number_in org ws t) ≡ newest_number_in org ws t
+    newest_is_shown =
+        let last = last_mapped (filter (is_version_of org ws) t.versions) in
+        let rising = subst (λ (ns : List ℕ). Rises 0 ns next) (same_names (λ (x : Kept VersionRow). version_at t org ws x.1.it) (λ (v : Version). v.number) (λ (x : Kept VersionRow). x.1.it.number) (λ x. refl) (filter (is_version_of org ws) t.versions)) rise in
+        (λ i. newest_by (before_found i) next (last i)) ∙ newest_told next (map (λ (x : Kept VersionRow). x.1.it.number) (filter (is_version_of org ws) t.versions)) rising ∙ sym last
 
   module _ (sound : IsSound t) where
     versions_row : (after : ℕ) (r : Option WorkspaceCells) → workspace_of org ws t ≡ r → showing.versions_listed after (versions_at t org ws) ≡ showing.versions_after after (option_map (workspace_at t org ws) r)
@@ -122,6 +149,45 @@ module _ (t : Tables) (org ws : List ℕ) where
 
 -- ---- workspaces
 
+abbrev row_numbers : List (Kept VersionRow) → List ℕ
+row_numbers = map (λ (x : Kept VersionRow). x.1.it.number)
+
+none_of : (a b : Bool) → (a && (b && false)) ≡ false
+none_of true true = refl
+none_of true false = refl
+none_of false b = refl
+
+-- no row behind one has its number, where those of its workspace have greater ones
+numbered_apart : (x : Kept VersionRow) (ys : List (Kept VersionRow)) → AllByRecursion (λ (m : ℕ). x.1.it.number < m) (row_numbers (filter (is_version_of x.1.org x.1.ws) ys))
+    → AllByRecursion (λ y. is_version x.1.org x.1.ws x.1.it.number y ≡ false) ys
+numbered_apart x [] all = tt
+numbered_apart x (y ∷ ys) all = go (is_version_of x.1.org x.1.ws y) refl (numbered_apart x ys) all
+  where
+    go : (b : Bool) → is_version_of x.1.org x.1.ws y ≡ b
+        → (AllByRecursion (λ (m : ℕ). x.1.it.number < m) (row_numbers (filter (is_version_of x.1.org x.1.ws) ys)) → AllByRecursion (λ z. is_version x.1.org x.1.ws x.1.it.number z ≡ false) ys)
+        → AllByRecursion (λ (m : ℕ). x.1.it.number < m) (row_numbers (cond b (y ∷ filter (is_version_of x.1.org x.1.ws) ys) (filter (is_version_of x.1.org x.1.ws) ys)))
+        → (is_version x.1.org x.1.ws x.1.it.number y ≡ false) × AllByRecursion (λ z. is_version x.1.org x.1.ws x.1.it.number z ≡ false) ys
+    go true e later above = (
+      ap (λ (c : Bool). bytes_eq y.1.org x.1.org && (bytes_eq y.1.ws x.1.ws && c)) (ne_eqb y.1.it.number x.1.it.number (λ same. omega (arith, above.0, same))) ∙ none_of (bytes_eq y.1.org x.1.org) (bytes_eq y.1.ws x.1.ws),
+      later above.1,
+    )
+    go false e later above = (three (bytes_eq y.1.org x.1.org) (bytes_eq y.1.ws x.1.ws) (y.1.it.number == x.1.it.number) ∙ ap (λ (c : Bool). c && y.1.it.number == x.1.it.number) e, later above)
+
+-- rows of versions are apart where in each workspace their numbers rise
+rises_apart : (xs : List (Kept VersionRow)) → ((org ws : List ℕ) → IsAscending (λ (m n : ℕ). m < n) (row_numbers (filter (is_version_of org ws) xs))) → AreApart (λ a b. is_version a.1.org a.1.ws a.1.it.number b) xs
+rises_apart [] up = tt
+rises_apart (x ∷ xs) up = (numbered_apart x xs own.0, rises_apart xs (λ org ws. later (is_version_of org ws x) (filter (is_version_of org ws) xs) (up org ws)))
+  where
+    later : (b : Bool) (ys : List (Kept VersionRow)) → IsAscending (λ (m n : ℕ). m < n) (row_numbers (cond b (x ∷ ys) ys)) → IsAscending (λ (m n : ℕ). m < n) (row_numbers ys)
+    later true ys h = h.1
+    later false ys h = h
+
+    own : IsAscending (λ (m n : ℕ). m < n) (row_numbers (x ∷ filter (is_version_of x.1.org x.1.ws) xs))
+    own = subst (λ (b : Bool). IsAscending (λ (m n : ℕ). m < n) (row_numbers (cond b (x ∷ filter (is_version_of x.1.org x.1.ws) xs) (filter (is_version_of x.1.org x.1.ws) xs)))) (pair_is x.1.org x.1.ws) (up x.1.org x.1.ws)
+
+pub workspaces_apart : (t : Tables) → IsSound t → WorkspacesApart t
+workspaces_apart t sound = record { wss = sound.wss_apart; keepings = sound.keepings_apart; versions = rises_apart t.versions (λ org ws. versions_rise t org ws sound) }
+
 comes_after_all : (name : List ℕ) → IsTrue (is_ws_name name) → is_behind [] name ≡ true
 comes_after_all [] named = absurd (let none : ⊥ = cc in none)
 comes_after_all (c ∷ cs) named = refl
@@ -129,12 +195,6 @@ comes_after_all (c ∷ cs) named = refl
 module _ (t : Tables) (org : List ℕ) where
   abbrev by_name : List (List ℕ × WorkspaceCells)
   by_name = entries (workspaces_by_name org t)
-
-  -- a row as it is shown is the workspace as it is shown
-  row_shown : (e : List ℕ × WorkspaceCells) → ws_row_in org t (named_at org t e) ≡ showing.row_of e.0 (showing.shown_of (workspace_at t org e.0 e.1))
-  row_shown e =
-      ap (λ (version : Option ℕ). record { settings = settings_of_cells (keep_at t org e.0) e.1; holder = showing.holder_id (holder_of_cells e.1.holder); name = e.0; version = version })
-      (newest_number_found t org e.0)
 
   record_entries : entries (workspaces_at t org) ≡ map (λ (e : List ℕ × WorkspaceCells). (e.0, workspace_at t org e.0 e.1)) (entries (workspaces_by_name org t))
   record_entries = entries_shown (λ (n : List ℕ) (w : WorkspaceCells). workspace_at t org n w) (λ (x : Kept WsRow). x.1.name) (λ (x : Kept WsRow). x.1.it) (filter (is_ws_of org) t.wss)
@@ -145,11 +205,17 @@ module _ (t : Tables) (org : List ℕ) where
       ∙ entry_found (is_ws_of org) (λ (x : Kept WsRow). x.1.name) (λ (x : Kept WsRow). x.1.it) q t.wss
 
   module _ (sound : IsSound t) where
-    -- each name is one
-    are_named : AllByRecursion (λ (e : List ℕ × WorkspaceCells). IsTrue (is_ws_name e.0)) (entries (workspaces_by_name org t))
-    are_named = all_weaker (λ (e : List ℕ × WorkspaceCells). find_entry name_cmp e.0 (entries (workspaces_by_name org t)) ≡ Some e.1) (λ (e : List ℕ × WorkspaceCells). IsTrue (is_ws_name e.0))
-        (λ e found. (sound.workspaces org e.0 (workspace_at t org e.0 e.1) (ap (option_map (workspace_at t org e.0)) (sym (row_of_name e.0) ∙ get-entries (workspaces_by_name org t) e.0 ∙ found))).named)
+    -- each is lawful, and its name is one
+    are_lawful : AllByRecursion (λ (e : List ℕ × WorkspaceCells). IsNamedWorkspace e.0 (workspace_at t org e.0 e.1)) (entries (workspaces_by_name org t))
+    are_lawful = all_weaker (λ (e : List ℕ × WorkspaceCells). find_entry name_cmp e.0 (entries (workspaces_by_name org t)) ≡ Some e.1) (λ (e : List ℕ × WorkspaceCells). IsNamedWorkspace e.0 (workspace_at t org e.0 e.1))
+        (λ e found. sound.workspaces org e.0 (workspace_at t org e.0 e.1) (ap (option_map (workspace_at t org e.0)) (sym (row_of_name e.0) ∙ get-entries (workspaces_by_name org t) e.0 ∙ found)))
         (entries (workspaces_by_name org t)) (all_found (entries (workspaces_by_name org t)) (entries_sorted (workspaces_by_name org t)))
+
+    -- a row as it is shown is the workspace as it is shown
+    row_shown : (e : List ℕ × WorkspaceCells) → IsNamedWorkspace e.0 (workspace_at t org e.0 e.1) → ws_row_in org t (named_at org t e) ≡ showing.row_of e.0 (showing.shown_of (workspace_at t org e.0 e.1))
+    row_shown e named =
+        ap (λ (version : Option ℕ). record { settings = settings_of_cells (keep_at t org e.0) e.1; holder = showing.holder_id (holder_of_cells e.1.holder); name = e.0; version = version })
+        (newest_is_shown t org e.0 e.1.next_version named.lawful.versions.next.1 named.lawful.versions.rise ∙ newest_number_found t org e.0)
 
     and_turned : (a b : Bool) → (a && b) ≡ (b && a)
     and_turned true true = refl
@@ -168,7 +234,7 @@ module _ (t : Tables) (org : List ℕ) where
         ∙ ap (map (λ (e : List ℕ × WorkspaceCells). ws_row_in org t (named_at org t e))) (ap (filter (λ (e : List ℕ × WorkspaceCells). is_behind (unwrap_or after []) e.0 && admits prefix e.0)) (sym (itself (entries (workspaces_by_name org t)))))
         ∙ shown_rows (λ (e : List ℕ × WorkspaceCells). e) (λ (e : List ℕ × WorkspaceCells). ws_row_in org t (named_at org t e)) (λ (e : List ℕ × WorkspaceCells). (e.0, workspace_at t org e.0 e.1))
         (λ (e : List ℕ × Workspace). showing.row_of e.0 (showing.shown_of e.1)) (λ (e : List ℕ × WorkspaceCells). is_behind (unwrap_or after []) e.0 && admits prefix e.0) (λ (e : List ℕ × Workspace). showing.is_listed after prefix e.0)
-        (entries (workspaces_by_name org t)) (all_weaker (λ (e : List ℕ × WorkspaceCells). IsTrue (is_ws_name e.0)) _ (λ e named. (row_shown e, passes after prefix e named)) (entries (workspaces_by_name org t)) are_named))
+        (entries (workspaces_by_name org t)) (all_weaker (λ (e : List ℕ × WorkspaceCells). IsNamedWorkspace e.0 (workspace_at t org e.0 e.1)) _ (λ e lawful. (row_shown e lawful, passes after prefix e lawful.named)) (entries (workspaces_by_name org t)) are_lawful))
         ∙ ap (showing.workspaces_listed after prefix) (sym record_entries)
       where
         mapped : (es : List (List ℕ × WorkspaceCells)) → map (ws_row_in org t) (map (named_at org t) es) ≡ map (λ (e : List ℕ × WorkspaceCells). ws_row_in org t (named_at org t e)) es

@@ -1,5 +1,5 @@
 -- Rising numbers, the first rows of a list, and the entries of a map.
-use Rattle.std.proofs.Common.{◌≡◌, ℕ, ◌+◌, ◌<◌, ◌≤◌, nat_lt, Bool, true, false, cond, ◌&&◌, T, List, [], ◌∷◌, map, filter, take, length, min, Some, refl, sym, ap, subst, ◌∙◌, arith}
+use Rattle.std.proofs.Common.{◌≡◌, ℕ, ◌+◌, ◌<◌, ◌≤◌, nat_lt, Bool, true, false, cond, ◌&&◌, T, List, [], ◌∷◌, map, filter, take, length, min, find, ◌==◌, Option, Some, None, refl, sym, ap, subst, ◌∙◌, arith}
 use Rattle.std.specs.Str.{bytes_eq}
 use Rattle.std.specs.List.{AllByRecursion}
 use Rattle.std.specs.Ordering.{is_lt, is_eq, eq_by_cmp}
@@ -8,13 +8,15 @@ use Rattle.std.specs.declared.cmp.Ordering.{Ordering}
 use Rattle.std.specs.declared.cmp.Ordering.TheVariants.{Less, Equal, Greater}
 use Rattle.std.specs.FinMap.{from_entries, entries, empty, entries-insert, len-entries, len-empty}
 use Rattle.std.specs.FinMap.Entries.{find as find_entry, put, is_sorted, below_all, by_order}
-use Rattle.std.proofs.lemmas.Bool.{lt-ltb, le-ltb, ltb-true, ltb-false}
+use Rattle.std.proofs.lemmas.Bool.{eqb-true, lt-ltb, le-ltb, ltb-true, ltb-false}
 use Rattle.std.proofs.lemmas.List.{take-take, length-take}
 use Rattle.sqlite_trees.specs.Tree.{IsAscending}
 use Rattle.basis.specs.Listings.{listing_of}
 use Rattle.machine.specs.Laws.{Rises}
 use Rattle.machine.specs.Order.{name_cmp}
 use Rattle.machine.proofs.MapLemmas.{names_total, names_same}
+use Rattle.statements.specs.Finds.{last_in}
+use Rattle.tables.specs.Inner.Lists.{newest_by}
 use Rattle.tables.proofs.Names.{tied, same_name}
 
 -- ---- numbers that rise
@@ -33,6 +35,36 @@ none_after number low next after [] rise h = refl
 none_after number low next after (x ∷ xs) rise h =
     let within : number x ≤ after = omega (arith, rise.1) in
     rw (le-ltb after (number x) within) (none_after number (number x) next after xs rise.2 h)
+
+-- the number before the next one is the last, where it is there, and none comes before the first
+found_last : (low next m : ℕ) (ns : List ℕ) → Rises low ns next → find (λ (n : ℕ). n + 1 == next) ns ≡ Some m → last_in ns ≡ Some m
+found_last low next m [] rise e = absurd (let none : ⊥ = cc in none)
+found_last low next m (n ∷ []) rise e = go (n + 1 == next) e
+  where
+    go : (b : Bool) → cond b (Some n) None ≡ Some m → Some n ≡ Some m
+    go true e = e
+    go false e = absurd (let none : ⊥ = cc in none)
+found_last low next m (n ∷ k ∷ ns) rise e = go (n + 1 == next) refl (found_last n next m (k ∷ ns) rise.2) e
+  where
+    go : (b : Bool) → (n + 1 == next) ≡ b → (find (λ (i : ℕ). i + 1 == next) (k ∷ ns) ≡ Some m → last_in (k ∷ ns) ≡ Some m)
+        → cond b (Some n) (find (λ (i : ℕ). i + 1 == next) (k ∷ ns)) ≡ Some m → last_in (k ∷ ns) ≡ Some m
+    go true is later e = absurd (let same : n + 1 ≡ next = eqb-true (n + 1) next is in omega (arith, same, rise.2.0, rise.2.1))
+    go false is later e = later e
+
+pub newest_told : (next : ℕ) (ns : List ℕ) → Rises 0 ns next → newest_by (find (λ (n : ℕ). n + 1 == next) ns) next (last_in ns) ≡ last_in ns
+newest_told next ns rise = by_found (find (λ (n : ℕ). n + 1 == next) ns) refl
+  where
+    none_below : (ms : List ℕ) → Rises 0 ms next → next ≡ 1 → None ≡ last_in ms
+    none_below [] rise is = refl
+    none_below (m ∷ ms) rise is = absurd (omega (arith, rise.0, rise.1, is))
+
+    by_next : (b : Bool) → (next == 1) ≡ b → cond b None (last_in ns) ≡ last_in ns
+    by_next true is = none_below ns rise (eqb-true next 1 is)
+    by_next false is = refl
+
+    by_found : (o : Option ℕ) → find (λ (n : ℕ). n + 1 == next) ns ≡ o → newest_by o next (last_in ns) ≡ last_in ns
+    by_found (Some m) is = sym (found_last 0 next m ns rise is)
+    by_found None is = by_next (next == 1) refl
 
 -- ---- the first rows
 

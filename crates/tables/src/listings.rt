@@ -1,5 +1,5 @@
 //! The lists that are asked of the tables, outside a transaction.
-ghost use Rattle.std.specs.Prelude.{◌≡◌, false, List, [], ◌∷◌, ◌++◌, map, IsTrue, IfOk, OnOk, ◌^◌, ◌<◌};
+ghost use Rattle.std.specs.Prelude.{◌≡◌, false, None, List, [], ◌∷◌, ◌++◌, map, IsTrue, IfOk, OnOk, ◌^◌, ◌<◌};
 ghost use Rattle.sqlite.specs.Held.{state};
 ghost use Rattle.sqlite.specs.State.{HasCleanDisk};
 ghost use Rattle.basis.specs.Listings.{listing_of};
@@ -9,7 +9,7 @@ ghost use Rattle.machine.specs.Showing.{holder_id};
 ghost use Rattle.statements.specs.Listings.{OrgsApart, TokensApart, WorkspacesApart, VersionsRise, RunsRise};
 ghost use Rattle.tables.specs.Records.{holder_of_cells};
 ghost use Rattle.tables.specs.Inner.Looks.{Sees};
-ghost use Rattle.tables.specs.Inner.Lists.{SeesLawful, version_row_in, versions_listed_in, run_row_in, runs_listed_in, newest_number_in, ws_row_in, workspaces_listed_in, token_row_in, tokens_listed_in, tokens_told_in, org_row_in, organizations_listed_in};
+ghost use Rattle.tables.specs.Inner.Lists.{SeesLawful, version_row_in, versions_listed_in, run_row_in, runs_listed_in, newest_number_in, newest_by, newest_shown_in, ws_row_in, workspaces_listed_in, token_row_in, tokens_listed_in, tokens_told_in, org_row_in, organizations_listed_in};
 
 use crate::looks::{caller_as, limit_of, lock_id_of, moment_of, number_of};
 use basis::{
@@ -131,6 +131,41 @@ fn newest_number<S: Alter>(
     }
 }
 
+/// The number of the newest version, where none has the one before the next: a query looks for it, but where no version
+/// was ever made.
+fn newest_looked_for<S: Alter>(
+    conn: &mut Connection<S>,
+    org: &str,
+    ws: &str,
+    next_version: u64,
+) -> Result<Option<Number>, Error>
+    ensures { Sees (λ t. newest_by None next_version (newest_number_in org.now ws.now t)) (state S.Store conn.old) (state S.Store conn.new) result }
+{
+    if next_version == 1 {
+        return Ok(None);
+    }
+    newest_number(conn, org, ws)
+}
+
+/// The number of the newest version of a workspace.
+fn newest_shown<S: Alter>(
+    conn: &mut Connection<S>,
+    org: &str,
+    workspace: &NamedWorkspace,
+) -> Result<Option<Number>, Error>
+    ensures { Sees (newest_shown_in org.now workspace.now) (state S.Store conn.old) (state S.Store conn.new) result }
+{
+    match workspace.last {
+        Some(last) => Ok(Some(number_of(last)?)),
+        None => newest_looked_for(
+            conn,
+            org,
+            workspace.name.as_str(),
+            workspace.it.next_version,
+        ),
+    }
+}
+
 fn holder_id_of(alloc: Global, holder: &HolderCells) -> Result<Option<HolderId>, Error>
     ensures { IfOk result (λ id. id ≡ holder_id (holder_of_cells holder.now)) }
 {
@@ -167,10 +202,9 @@ fn ws_row<S: Alter>(
     org: &str,
     workspace: &NamedWorkspace,
 ) -> Result<WsRow, Error>
-    ensures looks { Sees (λ t. ws_row_in org.now t workspace.now) (state S.Store conn.old) (state S.Store conn.new) result }
-    ensures is_open { HasCleanDisk (state S.Store conn.new) → OnOk result (IsTrue (state S.Store conn.new).is_open) }
+    ensures { Sees (λ t. ws_row_in org.now t workspace.now) (state S.Store conn.old) (state S.Store conn.new) result }
 {
-    let version = newest_number(conn, org, workspace.name.as_str())?;
+    let version = newest_shown(conn, org, workspace)?;
     let holder = holder_id_of(alloc, &workspace.it.holder)?;
     let name = ws_name_of(alloc, &workspace.name)?;
     Ok(WsRow {

@@ -1,5 +1,5 @@
 -- What lists read of the rows.
-use Rattle.std.specs.Prelude.{◌≡◌, ℕ, false, List, map, Option, Some, None, option_map, IsTrue, Result, IfOk, OnOk, OnErr}
+use Rattle.std.specs.Prelude.{◌≡◌, ◌==◌, cond, ℕ, false, List, map, Option, Some, None, option_map, IsTrue, Result, IfOk, OnOk, OnErr}
 use Rattle.std.specs.Option.{unwrap_or}
 use Rattle.sqlite.specs.State.{State, HasCleanDisk, KeepsCommit}
 use Rattle.basis.specs.Listings.{listing_of}
@@ -65,8 +65,16 @@ runs_listed_in after org ws t = listing_of (map run_row_in (run_rows_after org w
 abbrev pub newest_number_in : List ℕ → List ℕ → Tables → Option ℕ
 newest_number_in org ws t = option_map (λ head. head.number) (newest_of org ws t)
 
+-- the number before the next one, where a version has it; none comes before the first, and else it is what is looked for
+abbrev pub newest_by : Option ℕ → ℕ → Option ℕ → Option ℕ
+newest_by (Some last) next newest = Some last
+newest_by None next newest = cond (next == 1) None newest
+
+abbrev pub newest_shown_in : List ℕ → NamedWorkspace → Tables → Option ℕ
+newest_shown_in org w t = newest_by w.last w.it.next_version (newest_number_in org w.name t)
+
 abbrev pub ws_row_in : List ℕ → Tables → NamedWorkspace → WsRow
-ws_row_in org t w = record { settings = settings_of_cells (unwrap_or w.keep FIRST_KEPT) w.it; holder = holder_id (holder_of_cells w.it.holder); name = w.name; version = newest_number_in org w.name t }
+ws_row_in org t w = record { settings = settings_of_cells (unwrap_or w.keep FIRST_KEPT) w.it; holder = holder_id (holder_of_cells w.it.holder); name = w.name; version = newest_shown_in org w t }
 
 abbrev pub workspaces_listed_in : List ℕ → List ℕ → List ℕ → Tables → Listing WsRow
 workspaces_listed_in after prefix org t = listing_of (map (ws_row_in org t) (workspace_rows_after org after prefix asked_rows t))

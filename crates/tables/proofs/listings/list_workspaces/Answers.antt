@@ -8,8 +8,8 @@ use Rattle.tables.proofs.listings.list_workspaces.Goals as goal
 
 pub loop-workspace-preserved : goal.loop-workspace-preserved
 loop-workspace-preserved g c = (
-  λ idle. c.ws_row.ensures.looks.mode (c.loop-workspace.invariant.0 idle),
+  λ idle. c.ws_row.ensures.mode (c.loop-workspace.invariant.0 idle),
   seen_more Error listing_of (ws_row_in c.args.org.now) c.args.workspaces.now c.loop-workspace.workspace-index c.workspace-item.result (state g.S.Store c.args.conn.now) (state g.S.Store c.loop-workspace.conn) (state g.S.Store c.ws_row.new.conn)
-      c.loop-workspace.list c.offer.new.list c.in_ok-row.row (omega arith) c.workspace-item.is c.loop-workspace.invariant.1 c.in_ok-row.ensures.looks c.in_ok-row.ensures.is_open
+      c.loop-workspace.list c.offer.new.list c.in_ok-row.row (omega arith) c.workspace-item.is c.loop-workspace.invariant.1 c.in_ok-row.ensures
       c.in_ok-offer.ensures,
 )

@@ -5,7 +5,7 @@ use Rattle.basis.specs.declared.numbers.TheConstants.{FIRST_KEPT}
 use Rattle.basis.specs.declared.rows.WsRow.{WsRow}
 use Rattle.machine.specs.Showing.{holder_id}
 use Rattle.statements.specs.declared.rows.NamedWorkspace.{NamedWorkspace}
-use Rattle.tables.specs.Inner.Lists.{newest_number_in}
+use Rattle.tables.specs.Inner.Lists.{newest_shown_in}
 use Rattle.tables.specs.Records.{settings_of_cells, holder_of_cells}
 use Rattle.tables.proofs.KeepFound.{seen_then}
 use Rattle.tables.proofs.listings.ws_row.Goals as goal
@@ -13,11 +13,10 @@ use Rattle.tables.proofs.listings.ws_row.Goals as goal
 make : NamedWorkspace → Option ℕ → WsRow
 make w version = record { settings = settings_of_cells (unwrap_or w.keep FIRST_KEPT) w.it; holder = holder_id (holder_of_cells w.it.holder); name = w.name; version = version }
 
-pub returns-clause-looks : goal.returns-clause-looks
+pub returns : goal.returns
 unfolding make
-returns-clause-looks g c =
+returns g c =
     let org = c.args.org.now in
     let w = c.args.workspace.now in
     rw (c.in_ok-holder.ensures, c.in_ok-name.ensures, c.kept.ensures)
-    (seen_then Error (newest_number_in org w.name) (make w) c.in_ok-version.version
-    (state g.S.Store c.args.conn.now) (state g.S.Store c.newest_number.new.conn) (Ok _) (rw c.as_str.ensures at c.in_ok-version.ensures.looks) refl)
+    (seen_then Error (newest_shown_in org w) (make w) c.in_ok-version.version (state g.S.Store c.args.conn.now) (state g.S.Store c.newest_shown.new.conn) (Ok _) c.in_ok-version.ensures refl)

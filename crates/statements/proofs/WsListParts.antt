@@ -1,0 +1,135 @@
+-- What the parts of the list of workspaces mean, each by itself: its columns, the tables that it joins, WHERE and ORDER BY.
+use Rattle.std.proofs.Common.{◌≡◌, ℕ, pos, Bool, true, false, List, [], ◌∷◌, ◌++◌, codes, Some, None, Ok, refl}
+use Rattle.sqlite_value.specs.declared.keys.Collation.TheVariants.{Binary}
+use Rattle.sqlite_value.specs.declared.value.Value.TheVariants.{Int}
+use Rattle.sqlite_sql.specs.declared.ops.ArithOp.TheVariants.{Sub}
+use Rattle.sqlite_sql.specs.declared.ops.CompareOp.TheVariants.{Eq}
+use Rattle.sqlite_sql.specs.declared.ops.BinaryOp.TheVariants.{Compare, Arith}
+use Rattle.sqlite_sql.specs.Term.{Term, lit, col, op2}
+use Rattle.sqlite_sql.specs.Query.{Query, Join, left, end}
+use Rattle.sqlite_schema.specs.declared.schema.Schema.{Schema}
+use Rattle.sqlite_draft.specs.declared.join.Step.TheVariants.{Inner, Left}
+use Rattle.sqlite_ast.specs.declared.Expr.TheViews.{out-Core, roll-Core, out-Source, roll-Source}
+use Rattle.sqlite_ast.specs.declared.Expr.TheBlock.{hidden-the_row-Source-5, shown-the_row-Source-5, hidden-the_row-Shown-4, shown-the_row-Shown-4, hidden-the_row-Expr-0, shown-the_row-Expr-0, hidden-the_row-Expr-1, shown-the_row-Expr-1}
+use denote.Hole.Carrier.{out, roll, shown, hidden}
+use Rattle.sqlite_resolve.specs.declared.scope.Bound.{Bound}
+use Rattle.sqlite_resolve.specs.declared.scope.Level.{Level}
+use Rattle.sqlite_resolve.specs.declared.scope.Output.{Output}
+use Rattle.sqlite_resolve.specs.declared.body.Joined.{Joined}
+use Rattle.sqlite_resolve.specs.declared.state.Carried.{Carried}
+use Rattle.sqlite_resolve.specs.declared.state.State.{State}
+use Rattle.sqlite_resolve.specs.Lowering.{nothing, take_slot}
+use Rattle.sqlite_resolve.specs.Scope.{Context}
+use Rattle.sqlite_resolve.specs.Select.{outermost, inside, named, parts, having, assembled, ungrouped}
+use Rattle.sqlite_resolve.specs.Expr.{lower}
+use Rattle.sqlite_resolve.specs.Body.{within, outputs, left_join, tests, body, bounds, bound, table_in, result, matching, joins, join, inner_join, shared}
+use Rattle.sqlite_resolve.specs.Order.{sorts, keys}
+use Rattle.sqlite_tied.specs.Compute.{everything}
+use Rattle.statements.specs.Place.{StandsAt}
+use Rattle.statements.specs.Schema.{ws_table, keeping_table, version_table}
+use Rattle.statements.proofs.SyntaxTrees as st
+use Rattle.statements.proofs.Listed.{sorted_by}
+use Rattle.statements.proofs.Commands.{is_from, is_below, is_at, is_above, point_rest, no_page, joined_draft}
+use Rattle.statements.proofs.WsTexts.{ws_columns, ws_orders, run_settings_columns, run_settings_orders}
+
+-- a row that a later step of FROM finds is one of the workspace in ws
+abbrev pub of_workspace : ℕ → List Term
+of_workspace slot = op2 (Compare Eq Binary) (col slot 1) (col 0 0) ∷ op2 (Compare Eq Binary) (col slot 2) (col 1 2) ∷ []
+
+-- and it is that of the version before the next one
+abbrev pub of_version_before : ℕ → List Term
+of_version_before slot = of_workspace slot ++ op2 (Compare Eq Binary) (col slot 3) (op2 (Arith Sub) (col 1 9) (lit (Int (pos 1)))) ∷ []
+
+-- the rows of keeping and of version
+abbrev pub with_both : ℕ → ℕ → Join
+with_both keepings versions = left keepings (of_workspace 2) (left versions (of_version_before 3) end)
+
+abbrev pub list_ws_rest : Query
+list_ws_rest = point_rest (is_at 1 0 ∷ is_above 2 1 ∷ []) (ws_columns ++ col 1 2 ∷ col 2 3 ∷ col 3 3 ∷ run_settings_columns) no_page
+
+abbrev pub list_ws_within_rest : Query
+list_ws_within_rest = point_rest (is_at 1 0 ∷ is_above 2 1 ∷ is_from 2 2 ∷ is_below 2 3 ∷ []) (ws_columns ++ col 1 2 ∷ col 2 3 ∷ col 3 3 ∷ run_settings_columns) no_page
+
+abbrev pub list_ws_names : List (List ℕ)
+list_ws_names = st.ws_names ++ codes "name" ∷ codes "keep" ∷ codes "number" ∷ st.run_settings_names
+
+-- what puts the parts together
+unfoldable composed : Unit {0}
+unfolding
+    named parts having assembled ungrouped body bounds bound table_in result matching joins join inner_join shared take_slot keys
+    out-Core roll-Core out-Source roll-Source hidden-the_row-Source-5 shown-the_row-Source-5 hidden-the_row-Shown-4 shown-the_row-Shown-4 hidden-the_row-Expr-0 shown-the_row-Expr-0 hidden-the_row-Expr-1 shown-the_row-Expr-1 out roll shown hidden
+composed = tt
+
+-- what a column carries
+abbrev by_bytes : Carried
+by_bytes = record { collation = Some Binary; is_written = false }
+
+abbrev shown_as : List ℕ → ℕ → ℕ → Output
+shown_as name slot place = record { name = name; is_alias = false; is_column = true; term = col slot place; carried = by_bytes }
+
+abbrev pub list_ws_shown : List Output
+list_ws_shown =
+    shown_as (codes "kind") 1 4 ∷ shown_as (codes "lock_id") 1 5 ∷ shown_as (codes "lock_text") 1 6 ∷ shown_as (codes "run") 1 7 ∷ shown_as (codes "released") 1 8
+    ∷ shown_as (codes "next_version") 1 9 ∷ shown_as (codes "next_run") 1 10 ∷ shown_as (codes "name") 1 2 ∷ shown_as (codes "keep") 2 3 ∷ shown_as (codes "number") 3 3 ∷ shown_as (codes "auto") 1 3 ∷ []
+
+-- what is known after so much work, where this was read last
+abbrev pub read_so_far : ℕ → Carried → State
+read_so_far budget last = record { next = 4; steps = []; aggregates = []; budget = budget; written = None; last = last }
+
+module _ (s : Schema) (at tree : ℕ) (h : StandsAt s (codes "ws") ws_table at tree) (keep_at keepings : ℕ) (k : StandsAt s (codes "keeping") keeping_table keep_at keepings)
+    (version_at versions : ℕ) (v : StandsAt s (codes "version") version_table version_at versions) where
+  abbrev pub list_ws_tables : List Bound
+  list_ws_tables =
+      record { name = codes "ws"; table = at; slot = 1; shared = [] } ∷ record { name = codes "keeping"; table = keep_at; slot = 2; shared = [] }
+      ∷ record { name = codes "version"; table = version_at; slot = 3; shared = [] } ∷ []
+
+  abbrev pub list_ws_level : List Output → Level
+  list_ws_level shown = record { tables = list_ws_tables; shown = shown }
+
+  pub columns_are : outputs lower (within (outermost s) (list_ws_level []) true) list_ws_tables st.list_ws_columns (read_so_far 100_000 nothing) ≡ Ok (list_ws_shown, read_so_far 99_989 by_bytes)
+  unfolding everything
+  columns_are = rw (h.found, k.found, v.found, h.found, k.found, v.found) refl
+
+  -- ON and WHERE, which may name the columns
+  abbrev pub list_ws_inside : Context
+  list_ws_inside = within (outermost s) (list_ws_level list_ws_shown) false
+
+  pub joins_keeping : (done : Joined) → left_join lower list_ws_inside done keepings 2 [] (Some (st.of_workspace (codes "keeping"))) (read_so_far 99_989 by_bytes)
+      ≡ Ok (record done { steps = done.steps ++ Left keepings (of_workspace 2) ∷ [] }, read_so_far 99_982 nothing)
+  unfolding everything
+  joins_keeping done = rw (h.found, k.found, k.found, v.found, h.found, k.found, h.found) refl
+
+  pub joins_version : (done : Joined) → left_join lower list_ws_inside done versions 3 [] (Some (st.of_version_before (codes "version"))) (read_so_far 99_982 nothing)
+      ≡ Ok (record done { steps = done.steps ++ Left versions (of_version_before 3) ∷ [] }, read_so_far 99_969 nothing)
+  unfolding everything
+  joins_version done = rw (h.found, k.found, v.found, h.found, v.found, h.found, v.found) refl
+
+  pub those_after : tests lower list_ws_inside [] (Some st.list_ws_test) (read_so_far 99_969 nothing) ≡ Ok (is_at 1 0 ∷ is_above 2 1 ∷ [], read_so_far 99_962 nothing)
+  unfolding everything
+  those_after = rw (h.found, k.found, h.found, v.found, h.found, h.found) refl
+
+  pub those_within : tests lower list_ws_inside [] (Some st.list_ws_within_test) (read_so_far 99_969 nothing) ≡ Ok (is_at 1 0 ∷ is_above 2 1 ∷ is_from 2 2 ∷ is_below 2 3 ∷ [], read_so_far 99_954 nothing)
+  unfolding everything
+  those_within = rw (h.found, k.found, h.found, v.found, h.found, h.found) refl
+
+  pub by_name : sorts lower (inside s (list_ws_level list_ws_shown) false) list_ws_shown (st.by_column (codes "name")) (read_so_far 99_962 nothing) ≡ Ok (sorted_by 2, read_so_far 99_961 by_bytes)
+  unfolding everything
+  by_name = rw (h.found, k.found, v.found, h.found) refl
+
+  pub by_name_within : sorts lower (inside s (list_ws_level list_ws_shown) false) list_ws_shown (st.by_column (codes "name")) (read_so_far 99_954 nothing) ≡ Ok (sorted_by 2, read_so_far 99_953 by_bytes)
+  unfolding everything
+  by_name_within = rw (h.found, k.found, v.found, h.found) refl
+
+  pub no_tests : (cx : Context) (so_far : State) → tests lower cx [] None so_far ≡ Ok ([], so_far)
+  unfolding tests
+  no_tests cx so_far = refl
+
+  pub list_ws_named : named s st.list_ws_core (st.by_column (codes "name")) no_page ≡ Ok ((joined_draft list_ws_rest tree (with_both keepings versions) 2), list_ws_names, (ws_orders ++ Some Binary ∷ Some Binary ∷ Some Binary ∷ run_settings_orders))
+  unfolding composed
+  list_ws_named = rw (h.named, k.named, v.named, columns_are, h.found, no_tests list_ws_inside (read_so_far 99_989 by_bytes))
+      (rw (k.found, joins_keeping _, v.found, joins_version _, those_after) (rw (no_tests (inside s (list_ws_level list_ws_shown) false) (read_so_far 99_962 nothing), by_name) refl))
+
+  pub list_ws_within_named : named s st.list_ws_within_core (st.by_column (codes "name")) no_page ≡ Ok ((joined_draft list_ws_within_rest tree (with_both keepings versions) 2), list_ws_names, (ws_orders ++ Some Binary ∷ Some Binary ∷ Some Binary ∷ run_settings_orders))
+  unfolding composed
+  list_ws_within_named = rw (h.named, k.named, v.named, columns_are, h.found, no_tests list_ws_inside (read_so_far 99_989 by_bytes))
+      (rw (k.found, joins_keeping _, v.found, joins_version _, those_within) (rw (no_tests (inside s (list_ws_level list_ws_shown) false) (read_so_far 99_954 nothing), by_name_within) refl))
