@@ -13,8 +13,8 @@ ghost use Rattle.statements.specs.Finds.{workspace_of, workspaces_of};
 ghost use Rattle.statements.specs.declared.rows.Holder.TheVariants.{Nobody, Lock, Run as HeldByRun};
 
 use crate::calls::{
-    Read, count_of, first_row, first_rows, flag_in, optional_keep, optional_number, optional_text, read_all,
-    read_one, signed, update, write,
+    Read, count_of, first_row, first_rows, flag_in, optional_keep, optional_number, optional_text,
+    read_all, read_one, signed, update, write,
 };
 use crate::keepings;
 use crate::rows::{Holder, NamedWorkspace, Workspace};

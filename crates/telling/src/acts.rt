@@ -1,6 +1,7 @@
 //! Acts of each kind on a workspace: in words, and as what is asked of two stores.
 use basis::{
-    Bytes, Down, KeepCount, LockId, Look, Number, RunAction, RunAsk, RunSettings, SettingsAsk, StateHead, Text,
+    Bytes, Down, KeepCount, LockId, Look, Number, RunAction, RunAsk, RunSettings, SettingsAsk,
+    StateHead, Text,
 };
 use machine::Act;
 use route::WsAct;
