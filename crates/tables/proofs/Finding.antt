@@ -1,5 +1,5 @@
 -- What the queries find is the part of the record that it stands for.
-use Rattle.std.proofs.Common.{◌≡◌, ℕ, suc, ◌+◌, ◌-◌, ◌≤◌, ◌<◌, nat_lt, Bool, true, false, not, ◌&&◌, ◌==◌, cond, List, [], ◌∷◌, map, filter, find, length, take, reverse, slice_get, min, is_some, Option, Some, None, option_map, refl, sym, ap, subst, ap₂, ◌∙◌, arith}
+use Rattle.std.proofs.Common.{◌≡◌, ℕ, suc, ◌+◌, ◌-◌, ◌≤◌, ◌<◌, nat_lt, Bool, true, false, not, ◌&&◌, ◌==◌, cond, List, [], ◌∷◌, map, filter, find, length, take, reverse, slice_get, min, is_some, Option, Some, None, option_map, IfSome, refl, sym, ap, subst, ap₂, ◌∙◌, arith}
 use Rattle.std.specs.Str.{bytes_eq}
 use Rattle.std.specs.Option.{unwrap_or, option_or}
 use Rattle.std.specs.List.{AllByRecursion, list_any}
@@ -352,12 +352,16 @@ module _ (t : Tables) (sound : IsSound t) (org : List ℕ) where
       least : (n m : ℕ) → n ≡ m → m ≤ 100_000 → min n 9_223_372_036_854_775_807 ≡ m
       least n m e h = omega arith
 
-  -- what a decision sees of a workspace is what the point queries find
-  pub unit_found : (o : Organization) (ws : List ℕ) (act : Act) → record_of t org ≡ Some o → unit_in (needs act) org ws t ≡ unit_of o ws act
-  unit_found o ws act e = by_row (workspace_of org ws t) refl ∙ ap (unit_by o act) (sym (workspace_there t org ws o e))
+  -- what a decision sees of a workspace is what the point queries find, where the count that is known is right
+  known_found : (o : Organization) → record_of t org ≡ Some o → (known : Option ℕ) → IfSome known (λ n. n ≡ count_of o) → unwrap_or known (workspaces_of org t) ≡ count_of o
+  known_found o e None is = count_found o e
+  known_found o e (Some n) is = is
+
+  pub unit_found : (o : Organization) (ws : List ℕ) (act : Act) (known : Option ℕ) → IfSome known (λ n. n ≡ count_of o) → record_of t org ≡ Some o → unit_in (needs act) known org ws t ≡ unit_of o ws act
+  unit_found o ws act known is e = by_row (workspace_of org ws t) refl ∙ ap (unit_by o act) (sym (workspace_there t org ws o e))
     where
-      by_row : (r : Option WorkspaceCells) → workspace_of org ws t ≡ r → unit_at (needs act) org ws t r ≡ unit_by o act (option_map (workspace_at t org ws) r)
-      by_row None f = λ i. Absent (cond (needs act).makes (count_found o e i) 0) (cond (needs act).makes (unwrap_or (limit_there t org o e i) 0) 0)
+      by_row : (r : Option WorkspaceCells) → workspace_of org ws t ≡ r → unit_at (needs act) known org ws t r ≡ unit_by o act (option_map (workspace_at t org ws) r)
+      by_row None f = λ i. Absent (cond (needs act).makes (known_found o e known is i) 0) (cond (needs act).makes (unwrap_or (limit_there t org o e i) 0) 0)
       by_row (Some w) f =
           let stands : workspace_by t org ws ≡ Some (workspace_at t org ws w) = ap (option_map (workspace_at t org ws)) f in
           let lawful = (sound.workspaces org ws _ stands).lawful in

@@ -1,7 +1,7 @@
 -- From the rows of a connection to the records of its store.
 use Rattle.std.proofs.Common.{◌≡◌, ◌≢◌, ℕ, ◌<◌, ◌≤◌, ◌||◌, List, [], length, is_some, Option, Some, None, IfSome, option_map, IsTrue, refl, sym, ap, ◌∙◌, subst}
 use Rattle.sqlite.specs.Effect.{Database}
-use Rattle.sqlite.specs.State.{State}
+use Rattle.sqlite.specs.State.{State, KeepsCommit}
 use Rattle.basis.specs.Names.{is_org_name, is_ws_name, is_prefix}
 use Rattle.basis.specs.declared.roles.Role.{Role}
 use Rattle.basis.specs.declared.roles.Bounds.{Bounds}
@@ -42,6 +42,9 @@ use Rattle.tables.specs.Inner.Lists.{versions_listed_in, runs_listed_in, workspa
 use Rattle.tables.specs.Inner.Units.{text_in, unit_in}
 use Rattle.tables.specs.Stores.{records_of, IsSoundStore}
 use Rattle.tables.specs.Opening.{IsSoundKeep}
+use Rattle.tables.specs.declared.counts.Counted.{Counted}
+use Rattle.tables.specs.Inner.Counting.{known_of, looked, changed_count}
+use Rattle.tables.proofs.Remembering.{known_is, kept_is, changed_is}
 use Rattle.tables.specs.Inner.Steps.{Commits, Manages, org_managed_by, org_managed, limit_managed_by, limit_managed, token_managed_by, token_managed, revocation_managed_by, revocation_managed}
 use Rattle.tables.proofs.Operators.{caller_found, org_exists, token_absent, token_named, token_known}
 use Rattle.tables.proofs.Limits.{limit_absent, limit_done, limit_other, limit_keeps}
@@ -53,7 +56,7 @@ use Rattle.tables.proofs.TokenLists.{tokens_told}
 use Rattle.tables.proofs.Databases.{store_by, records_by}
 use Rattle.tables.proofs.Stores.{store_changed_own, store_changed_other, store_changed_keeps, store_org_done, store_org_other, store_org_keeps, store_token_done, store_token_other, store_token_keeps}
 
-module _ (db : Database) (a : State) (s : IsSoundKeep db a) where
+module _ {counted : Option Counted} (db : Database) (a : State) (s : IsSoundKeep db counted a) where
   abbrev now : Tables
   now = tables_of db
 
@@ -67,9 +70,19 @@ module _ (db : Database) (a : State) (s : IsSoundKeep db a) where
       → caller ≡ option_map (λ (token : Token). token.caller) (caller_of (records_of db org) digest)
   caller_told org digest caller told = told.1 now (held told.0) ∙ caller_found now s.store.sound org digest
 
-  pub unit_told : (org ws : List ℕ) (act : Act) (need : Needed) → need ≡ needs act → (unit : Unit) → IsTrue a.is_open × ((t : Tables) → Holds a.committed t → unit ≡ unit_in need org ws t)
+  pub unit_told : (org ws : List ℕ) (act : Act) (need : Needed) → need ≡ needs act → (unit : Unit) → IsTrue a.is_open × ((t : Tables) → Holds a.committed t → unit ≡ unit_in need (known_of counted org) org ws t)
       → (o : Organization) → records_of db org ≡ Some o → unit ≡ unit_of o ws act
-  unit_told org ws act need same unit told o there = told.1 now (held told.0) ∙ ap (λ (n : Needed). unit_in n org ws now) same ∙ unit_found now s.store.sound org o ws act there
+  unit_told org ws act need same unit told o there =
+      told.1 now (held told.0) ∙ ap (λ (n : Needed). unit_in n (known_of counted org) org ws now) same ∙ unit_found now s.store.sound org o ws act (known_of counted org) (known_is (records_of db) counted org s.counts o there) there
+
+  -- what is kept in memory after it is so
+  pub unit_keeps : (b : State) (org ws : List ℕ) (act : Act) (need : Needed) → need ≡ needs act → (unit : Unit) → IsTrue a.is_open × ((t : Tables) → Holds a.committed t → unit ≡ unit_in need (known_of counted org) org ws t)
+      → KeepsCommit a b → (after : Option Counted) → IfSome after (λ kept. looked counted need.makes org ws unit ≡ Some kept) → IsSoundKeep db after b
+  unit_keeps b org ws act need same unit told stays after kept = record {
+    store = s.store;
+    counts = kept_is (records_of db) counted after need.makes org ws act unit kept (ap (λ (n : Needed). n.makes) same) s.counts (unit_told org ws act need same unit told);
+    tied = λ is. stays.committed is ∙ s.tied (stays.was_open is);
+  }
 
   pub text_told : (org ws : List ℕ) (n : ℕ) (text : Option (List ℕ)) → IsTrue a.is_open × ((t : Tables) → Holds a.committed t → text ≡ text_in org ws n t)
       → text ≡ version_text n (workspace_in (records_of db org) ws)
@@ -118,8 +131,12 @@ module _ (db : Database) (a : State) (s : IsSoundKeep db a) where
       pub applied_other : (q : List ℕ) → q ≢ org → records_of b.committed q ≡ records_of db q
       applied_other q apart = store_changed_other db b.committed s.store key_of org ws change moves takes q apart
 
-      pub applied_keeps : (o : Organization) → IsTrue (is_ws_name ws) → records_of db org ≡ Some o → IsDue (seen_in o ws) change → IsSoundKeep b.committed b
-      applied_keeps o named there due = record { store = store_changed_keeps db b.committed s.store key_of org ws change moves takes o named there due; tied = λ _. refl }
+      pub applied_keeps : (o : Organization) → IsTrue (is_ws_name ws) → records_of db org ≡ Some o → IsDue (seen_in o ws) change → IsSoundKeep b.committed (changed_count counted org ws change.edit) b
+      applied_keeps o named there due = record {
+        store = store_changed_keeps db b.committed s.store key_of org ws change moves takes o named there due;
+        counts = changed_is (records_of db) (records_of b.committed) org ws change applied_other o there (applied_own o there) counted s.counts;
+        tied = λ _. refl;
+      }
 
     -- every database that holds rows holds these
     at_all : (f : Tables → Tables) → Holds b.committed (f now) → (t : Tables) → Holds db t → Holds b.committed (f t)
@@ -148,8 +165,8 @@ module _ (db : Database) (a : State) (s : IsSoundKeep db a) where
           go None e = store_org_other db b.committed s.store org limit (at_all (org_row_added org limit) (org_left None e)) q apart
           go (Some cap) e = records_by b.committed now (org_left (Some cap) e) q
 
-      pub org_keeps : IsTrue (is_org_name org) → limit ≤ 100_000 → IsSoundKeep b.committed b
-      org_keeps named most = record { store = go (cap_of org now) refl; tied = λ _. refl }
+      pub org_keeps : IsTrue (is_org_name org) → limit ≤ 100_000 → IsSoundKeep b.committed None b
+      org_keeps named most = record { store = go (cap_of org now) refl; counts = tt; tied = λ _. refl }
         where
           go : (c : Option ℕ) → cap_of org now ≡ c → IsSoundStore b.committed
           go None e = store_org_keeps db b.committed s.store org limit (at_all (org_row_added org limit) (org_left None e)) named most e
@@ -183,8 +200,8 @@ module _ (db : Database) (a : State) (s : IsSoundKeep db a) where
           go None e = records_by b.committed now (limit_by None e).1 q
           go (Some cap) e = records_by b.committed (org_capped org limit now) (limit_by (Some cap) e).1 q ∙ limit_other org limit now q apart
 
-      pub limit_stays_sound : limit ≤ 100_000 → IsSoundKeep b.committed b
-      limit_stays_sound most = record { store = go (cap_of org now) refl; tied = λ _. refl }
+      pub limit_stays_sound : limit ≤ 100_000 → IsSoundKeep b.committed None b
+      limit_stays_sound most = record { store = go (cap_of org now) refl; counts = tt; tied = λ _. refl }
         where
           go : (c : Option ℕ) → cap_of org now ≡ c → IsSoundStore b.committed
           go None e = store_by b.committed now (limit_by None e).1 s.store.sound
@@ -215,8 +232,8 @@ module _ (db : Database) (a : State) (s : IsSoundKeep db a) where
           go None e = records_by b.committed now (revoke_by None e).1 q
           go (Some role) e = records_by b.committed (token_removed org name now) (revoke_by (Some role) e).1 q ∙ revoke_other org name now q apart
 
-      pub revoke_stays_sound : IsSoundKeep b.committed b
-      revoke_stays_sound = record { store = go (role_of_name org name now) refl; tied = λ _. refl }
+      pub revoke_stays_sound : IsSoundKeep b.committed None b
+      revoke_stays_sound = record { store = go (role_of_name org name now) refl; counts = tt; tied = λ _. refl }
         where
           go : (r : Option Role) → role_of_name org name now ≡ r → IsSoundStore b.committed
           go None e = store_by b.committed now (revoke_by None e).1 s.store.sound
@@ -259,8 +276,8 @@ module _ (db : Database) (a : State) (s : IsSoundKeep db a) where
           go (Some cap) None (Some r) e f h = records_by b.committed now (told_by (Some cap) None (Some r) e f h).1 q
           go (Some cap) None None e f h = store_token_other db b.committed s.store org name digest role bounds (at_all (token_added org name digest role bounds.until bounds.prefix) (told_by (Some cap) None None e f h).1) q apart
 
-      pub token_keeps : IsTrue (is_org_name name) → length digest ≡ 32 → IfSome bounds.until IsMoment → IsTrue (is_prefix bounds.prefix) → IsSoundKeep b.committed b
-      token_keeps named long ends begins = record { store = go (cap_of org now) (role_of_name org name now) (role_of_digest org digest now) refl refl refl; tied = λ _. refl }
+      pub token_keeps : IsTrue (is_org_name name) → length digest ≡ 32 → IfSome bounds.until IsMoment → IsTrue (is_prefix bounds.prefix) → IsSoundKeep b.committed None b
+      token_keeps named long ends begins = record { store = go (cap_of org now) (role_of_name org name now) (role_of_digest org digest now) refl refl refl; counts = tt; tied = λ _. refl }
         where
           go : (c : Option ℕ) (n d : Option Role) → cap_of org now ≡ c → role_of_name org name now ≡ n → role_of_digest org digest now ≡ d → IsSoundStore b.committed
           go None n d e f h = store_by b.committed now (told_by None n d e f h).1 s.store.sound

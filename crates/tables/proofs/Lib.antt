@@ -24,6 +24,7 @@ pub mod Owned
 pub mod Parts
 pub mod Raising
 pub mod Ranks
+pub mod Remembering
 pub mod Revoking
 pub mod Sets
 pub mod Stores

@@ -1,3 +1,4 @@
+pub mod Counting
 pub mod Inner
 pub mod Laws
 pub mod Opening

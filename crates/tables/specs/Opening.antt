@@ -18,12 +18,16 @@ use Rattle.statements.specs.Schema.{meta_table, version_table, edition_table}
 use Rattle.statements.specs.Rows.{Kept}
 use Rattle.statements.specs.Making.{HasMeta, told_version, version_in, HasEdition, edition_in}
 use Rattle.statements.specs.Tables.{Tables, Holds, HoldsFirst, HoldsSecond, first_tables, second_tables, third_tables, our_tables}
-use Rattle.tables.specs.Stores.{IsSoundStore, is_in_schema}
+use Rattle.tables.specs.declared.counts.Counted.{Counted}
+use Rattle.tables.specs.Counting.{IsCounted}
+use Rattle.tables.specs.Stores.{records_of, IsSoundStore, is_in_schema}
 use Rattle.tables.specs.Versions.{Becomes, KeepsBeside}
 
--- The database that was seen last is sound, and it is what the connection has committed, as long as no fault has shut it.
-pub record IsSoundKeep (seen : Database) (s : State) : Type 0 where
+-- The database that was seen last is sound, and it is what the connection has committed, as long as no fault has shut it. What is kept in memory is
+-- so of its records.
+pub record IsSoundKeep (seen : Database) (counted : Option Counted) (s : State) : Type 0 where
   pub store : IsSoundStore seen
+  pub counts : IsCounted (records_of seen) counted
   pub tied : IsTrue s.is_open → s.committed ≡ seen
 
 -- whether one of our tables is there

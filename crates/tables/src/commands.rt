@@ -143,21 +143,22 @@ pub(crate) fn caller<S: Alter>(
     looks::caller(conn, alloc, org, digest)
 }
 
-/// What a decision on an act needs of a workspace.
+/// What a decision on an act needs of a workspace. How many its organization has may be known.
 pub(crate) fn unit<S: Alter>(
     conn: &mut Connection<S>,
     alloc: Global,
     org: &str,
     ws: &str,
     needs: &Needs<'_>,
+    known: Option<u64>,
 ) -> Result<Unit, Error>
     requires idle { conn.old.in_transaction ≡ false }
     ensures idle { conn.new.in_transaction ≡ false }
     ensures so_far { HasCleanDisk (state S.Store conn.new) → HasCleanDisk (state S.Store conn.old) }
-    ensures looks { LooksBy (unit_in (needed_of needs.now) org.now ws.now) (state S.Store conn.old) (state S.Store conn.new) result }
+    ensures looks { LooksBy (unit_in (needed_of needs.now) known org.now ws.now) (state S.Store conn.old) (state S.Store conn.new) result }
 {
     assert_settled(conn);
-    looks::unit(conn, alloc, org, ws, needs)
+    looks::unit(conn, alloc, org, ws, needs, known)
 }
 
 /// The text of a version, if it is kept.

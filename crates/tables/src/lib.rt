@@ -2,6 +2,7 @@
 #![tactic(auto)]
 
 mod commands;
+mod counts;
 mod listings;
 mod looks;
 mod opening;

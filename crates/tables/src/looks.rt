@@ -522,13 +522,28 @@ fn has_version<S: Alter>(
     }
 }
 
+/// How many workspaces an organization has. Where that is known they aren't counted.
+fn count<S: Alter>(conn: &mut Connection<S>, org: &str, known: Option<u64>) -> Result<u64, Error>
+    ensures looks { Sees (λ t. unwrap_or known (workspaces_of org.now t)) (state S.Store conn.old) (state S.Store conn.new) result }
+{
+    match known {
+        None => workspaces::count(conn, org),
+        Some(count) => Ok(count),
+    }
+}
+
 /// How many workspaces an organization has, where the act makes one: for any other act they are not
 /// counted.
-fn count_if<S: Alter>(conn: &mut Connection<S>, org: &str, makes: bool) -> Result<u64, Error>
-    ensures looks { Sees (λ t. cond makes (workspaces_of org.now t) 0) (state S.Store conn.old) (state S.Store conn.new) result }
+fn count_if<S: Alter>(
+    conn: &mut Connection<S>,
+    org: &str,
+    makes: bool,
+    known: Option<u64>,
+) -> Result<u64, Error>
+    ensures looks { Sees (λ t. cond makes (unwrap_or known (workspaces_of org.now t)) 0) (state S.Store conn.old) (state S.Store conn.new) result }
 {
     if makes {
-        workspaces::count(conn, org)
+        count(conn, org, known)
     } else {
         Ok(0)
     }
@@ -555,10 +570,15 @@ fn limit_if<S: Alter>(conn: &mut Connection<S>, org: &str, makes: bool) -> Resul
 }
 
 /// How many workspaces an organization has and how many it may have, where the act makes one.
-fn absent<S: Alter>(conn: &mut Connection<S>, org: &str, needs: &Needs<'_>) -> Result<Unit, Error>
-    ensures looks { Sees (absent_in (needed_of needs.now) org.now) (state S.Store conn.old) (state S.Store conn.new) result }
+fn absent<S: Alter>(
+    conn: &mut Connection<S>,
+    org: &str,
+    needs: &Needs<'_>,
+    known: Option<u64>,
+) -> Result<Unit, Error>
+    ensures looks { Sees (absent_in (needed_of needs.now) known org.now) (state S.Store conn.old) (state S.Store conn.new) result }
 {
-    let count = count_if(conn, org, needs.makes)?;
+    let count = count_if(conn, org, needs.makes, known)?;
     let limit = limit_if(conn, org, needs.makes)?;
     Ok(Unit::Absent {
         workspaces: count as usize,
@@ -701,19 +721,20 @@ fn present<S: Alter>(
     Ok(Unit::Present(unit))
 }
 
-/// What a decision that needs so much sees of a workspace.
+/// What a decision that needs so much sees of a workspace. How many its organization has may be known.
 pub(crate) fn unit<S: Alter>(
     conn: &mut Connection<S>,
     alloc: Global,
     org: &str,
     ws: &str,
     needs: &Needs<'_>,
+    known: Option<u64>,
 ) -> Result<Unit, Error>
-    ensures looks { Sees (unit_in (needed_of needs.now) org.now ws.now) (state S.Store conn.old) (state S.Store conn.new) result }
+    ensures looks { Sees (unit_in (needed_of needs.now) known org.now ws.now) (state S.Store conn.old) (state S.Store conn.new) result }
     ensures is_open { HasCleanDisk (state S.Store conn.new) → OnOk result (IsTrue (state S.Store conn.new).is_open) }
 {
     match workspaces::find(conn, org, ws)? {
-        None => absent(conn, org, needs),
+        None => absent(conn, org, needs, known),
         Some(workspace) => present(conn, alloc, org, ws, needs, workspace),
     }
 }

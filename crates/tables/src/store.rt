@@ -11,8 +11,9 @@ ghost use Rattle.basis.specs.Names.{is_prefix};
 ghost use Rattle.machine.specs.Ranges.{IsMoment};
 ghost use Rattle.tables.specs.Versions.{HoldsVersion, version_records, HoldsTables, version_tables};
 
+use crate::counts::Counted;
 use crate::opening::{Fault, ready};
-use crate::{commands, transactions};
+use crate::{commands, counts, transactions};
 use basis::numbers::{MAX_LIMIT, MAX_MOMENT, MAX_NUMBER};
 use basis::{
     Bounds, Bytes, Caller, Down, Limit, Listing, Number, OrgName, Prefix, Role, RunRow, VersionRow,
@@ -31,6 +32,8 @@ pub struct SqlKeep<S: Alter, K: PageKey> {
     conn: Connection<S>,
     // The connection when its rows were seen last. A store that a fault of the disk has shut stands for those.
     seen: Snapshot<Connection<S>>,
+    // How many workspaces the organization has that made one last, so that they aren't counted again.
+    counted: Option<Counted>,
     // what names the pages of texts
     key: PhantomData<K>,
     ghost idle: { conn.in_transaction ≡ false },
@@ -106,6 +109,7 @@ impl<S: Alter, K: PageKey> SqlKeep<S, K> {
                 Ok(SqlKeep {
                     conn,
                     seen,
+                    counted: None,
                     key: PhantomData,
                 })
             }
@@ -123,6 +127,7 @@ impl<S: Alter, K: PageKey> SqlKeep<S, K> {
         let SqlKeep {
             conn,
             seen: _,
+            counted: _,
             key: _,
         } = self;
         conn
@@ -155,7 +160,7 @@ impl<S: Alter, K: PageKey> Keep for SqlKeep<S, K> {
 
     ghost clean = { λ keep. HasCleanDisk (state S.Store keep.conn) };
 
-    ghost sound = { λ keep. IsSoundKeep (state S.Store keep.seen.value).committed (state S.Store keep.conn) };
+    ghost sound = { λ keep. IsSoundKeep (state S.Store keep.seen.value).committed keep.counted (state S.Store keep.conn) };
 
     fn records_are_lawful(&self) {}
 
@@ -173,8 +178,13 @@ impl<S: Alter, K: PageKey> Keep for SqlKeep<S, K> {
 
     fn unit(&mut self, alloc: Global, org: &OrgName, ws: &WsName, act: &Act) -> Result<Unit, Down> {
         let needs = act.needs();
-        match commands::unit(&mut self.conn, alloc, org.as_str(), ws.as_str(), &needs) {
-            Ok(unit) => Ok(unit),
+        let (org, ws) = (org.as_str(), ws.as_str());
+        let known = counts::known(&self.counted, org);
+        match commands::unit(&mut self.conn, alloc, org, ws, &needs, known) {
+            Ok(unit) => {
+                counts::keep(&mut self.counted, alloc, org, ws, needs.makes, &unit);
+                Ok(unit)
+            }
             Err(_) => Err(Down),
         }
     }
@@ -247,9 +257,12 @@ impl<S: Alter, K: PageKey> Keep for SqlKeep<S, K> {
         ws: &WsName,
         change: &Change,
     ) -> Result<(), Down> {
-        match transactions::change::<K, S>(&mut self.conn, org.as_str(), ws.as_str(), change) {
+        let (org, ws) = (org.as_str(), ws.as_str());
+        let counted = self.counted.take();
+        match transactions::change::<K, S>(&mut self.conn, org, ws, change) {
             Ok(()) => {
                 self.seen = Snapshot::of(&self.conn);
+                self.counted = counts::changed(counted, org, ws, change);
                 Ok(())
             }
             Err(_) => Err(Down),
@@ -263,6 +276,7 @@ impl<S: Alter, K: PageKey> Keep for SqlKeep<S, K> {
         limit: Limit,
     ) -> Result<AdminAnswer, Down> {
         prove!(limit.get() <= MAX_LIMIT);
+        self.counted = None;
         match commands::org_add(&mut self.conn, org.as_str(), limit) {
             Ok(answer) => {
                 self.seen = Snapshot::of(&self.conn);
@@ -279,6 +293,7 @@ impl<S: Alter, K: PageKey> Keep for SqlKeep<S, K> {
         limit: Limit,
     ) -> Result<AdminAnswer, Down> {
         prove!(limit.get() <= MAX_LIMIT);
+        self.counted = None;
         match commands::org_limit(&mut self.conn, org.as_str(), limit) {
             Ok(answer) => {
                 self.seen = Snapshot::of(&self.conn);
@@ -301,6 +316,7 @@ impl<S: Alter, K: PageKey> Keep for SqlKeep<S, K> {
         org: &OrgName,
         name: &OrgName,
     ) -> Result<AdminAnswer, Down> {
+        self.counted = None;
         match commands::token_revoke(&mut self.conn, org.as_str(), name.as_str()) {
             Ok(answer) => {
                 self.seen = Snapshot::of(&self.conn);
@@ -322,6 +338,7 @@ impl<S: Alter, K: PageKey> Keep for SqlKeep<S, K> {
         assert_bounds(bounds);
         let digest = digest.as_slice();
         let (org, name) = (org.as_str(), name.as_str());
+        self.counted = None;
         match commands::token_add(&mut self.conn, org, name, role, digest, bounds) {
             Ok(answer) => {
                 self.seen = Snapshot::of(&self.conn);

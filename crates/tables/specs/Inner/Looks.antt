@@ -1,5 +1,5 @@
 -- What looks at a store leave and give.
-use Rattle.std.specs.Prelude.{◌≡◌, ℕ, false, cond, List, IsTrue, Result, IfOk, OnOk, OnErr}
+use Rattle.std.specs.Prelude.{◌≡◌, ℕ, false, cond, List, Option, IsTrue, Result, IfOk, OnOk, OnErr}
 use Rattle.sqlite.specs.State.{State, HasCleanDisk, KeepsCommit}
 use Rattle.std.specs.Option.{unwrap_or}
 use Rattle.machine.specs.Needs.{Needed}
@@ -38,9 +38,9 @@ pub record Sees {X E : Type 0} (read : Tables → X) (old new : State) (result :
 abbrev pub LooksBy : {X E : Type 0} → (Tables → X) → State → State → Result X E → Type 0
 LooksBy read old new result = HasCleanDisk new → IfOk result (λ x. IsTrue old.is_open × ((t : Tables) → Holds old.committed t → x ≡ read t)) × KeepsCommit old new
 
--- how many workspaces an organization has and how many it may have, where the act makes one
-abbrev pub absent_in : Needed → List ℕ → Tables → Unit
-absent_in need org t = Absent (cond need.makes (workspaces_of org t) 0) (cond need.makes (unwrap_or (cap_of org t) 0) 0)
+-- how many workspaces an organization has and how many it may have, where the act makes one: if the first is known, they aren't counted
+abbrev pub absent_in : Needed → Option ℕ → List ℕ → Tables → Unit
+absent_in need known org t = Absent (cond need.makes (unwrap_or known (workspaces_of org t)) 0) (cond need.makes (unwrap_or (cap_of org t) 0) 0)
 
 abbrev pub runs_in : Needed → List ℕ → List ℕ → HolderCells → Tables → RunsAround
 runs_in need org ws holder t = record {

@@ -70,9 +70,10 @@ asked_cells_in None key org ws t = keyed_cells_in key org ws t
 abbrev pub asked_run_in : Option ℕ → Option (List ℕ) → List ℕ → List ℕ → Tables → Option Run
 asked_run_in n key org ws t = option_map run_of_cells (asked_cells_in n key org ws t)
 
-abbrev pub unit_at : Needed → List ℕ → List ℕ → Tables → Option WorkspaceCells → AnyUnit
-unit_at need org ws t None = Absent (cond need.makes (workspaces_of org t) 0) (cond need.makes (unwrap_or (cap_of org t) 0) 0)
-unit_at need org ws t (Some w) = Present (record {
+-- how many workspaces the organization has may be known: then they aren't counted
+abbrev pub unit_at : Needed → Option ℕ → List ℕ → List ℕ → Tables → Option WorkspaceCells → AnyUnit
+unit_at need known org ws t None = Absent (cond need.makes (unwrap_or known (workspaces_of org t)) 0) (cond need.makes (unwrap_or (cap_of org t) 0) 0)
+unit_at need known org ws t (Some w) = Present (record {
   settings = settings_of_cells (keep_in need.keep_versions org ws t) w;
   holder = holder_of_cells w.holder;
   holder_status = if_needed need.holder_status (holder_status_in org ws w.holder t);
@@ -88,5 +89,5 @@ unit_at need org ws t (Some w) = Present (record {
 })
 
 -- what a decision that needs so much sees of a workspace, by point queries
-abbrev pub unit_in : Needed → List ℕ → List ℕ → Tables → AnyUnit
-unit_in need org ws t = unit_at need org ws t (workspace_of org ws t)
+abbrev pub unit_in : Needed → Option ℕ → List ℕ → List ℕ → Tables → AnyUnit
+unit_in need known org ws t = unit_at need known org ws t (workspace_of org ws t)

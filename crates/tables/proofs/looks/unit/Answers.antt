@@ -14,7 +14,7 @@ returns-in-Some-clause-looks g c =
       so_far = λ clean. clean_before a b _ c.find.ensures.survives (c.present.ensures.looks.so_far clean);
       sees = λ clean.
           let found = c.in_ok-find.ensures.read (c.present.ensures.looks.so_far clean) in
-          unit_by_row (needed_of c.args.needs.now) c.args.org.now c.args.ws.now c.in-Some.workspace a b d c.in_ok-find.field-0 c.present.result c.in-Some.is found.0 found.1.0 c.present.ensures.looks.sees clean;
+          unit_by_row (needed_of c.args.needs.now) c.args.known c.args.org.now c.args.ws.now c.in-Some.workspace a b d c.in_ok-find.field-0 c.present.result c.in-Some.is found.0 found.1.0 c.present.ensures.looks.sees clean;
     }
 
 pub returns-in-None-clause-looks : goal.returns-in-None-clause-looks
@@ -27,5 +27,5 @@ returns-in-None-clause-looks g c =
       so_far = λ clean. clean_before a b _ c.find.ensures.survives (c.absent.ensures.looks.so_far clean);
       sees = λ clean.
           let found = c.in_ok-find.ensures.read (c.absent.ensures.looks.so_far clean) in
-          unit_without_row (needed_of c.args.needs.now) c.args.org.now c.args.ws.now a b d c.in_ok-find.field-0 c.absent.result c.in-None.is found.0 found.1.0 c.absent.ensures.looks.sees clean;
+          unit_without_row (needed_of c.args.needs.now) c.args.known c.args.org.now c.args.ws.now a b d c.in_ok-find.field-0 c.absent.result c.in-None.is found.0 found.1.0 c.absent.ensures.looks.sees clean;
     }

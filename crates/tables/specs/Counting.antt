@@ -1,0 +1,15 @@
+-- When what is kept in memory of an organization's workspaces is so.
+use Rattle.std.specs.Prelude.{◌≡◌, ℕ, List, Option, Some, None, IfSome}
+use Rattle.std.specs.FinMap.{get}
+use Rattle.machine.specs.Records.{count_of}
+use Rattle.machine.specs.declared.records.Organization.{Organization}
+use Rattle.tables.specs.declared.counts.Counted.{Counted}
+
+-- of the organization that it names, it is how many workspaces there are, and the one that it names is absent
+pub record IsCount (rows : List ℕ → Option Organization) (c : Counted) : Type 0 where
+  pub count : (o : Organization) → rows c.org ≡ Some o → c.count ≡ count_of o
+  pub absent : (o : Organization) → rows c.org ≡ Some o → IfSome c.absent (λ ws. get o.workspaces ws ≡ None)
+
+-- the same, if anything is kept
+abbrev pub IsCounted : (List ℕ → Option Organization) → Option Counted → Type 0
+IsCounted rows counted = IfSome counted (IsCount rows)
