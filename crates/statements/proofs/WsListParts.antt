@@ -1,5 +1,5 @@
--- What the parts of the list of workspaces mean, each by itself: its columns, the tables that it joins, WHERE and ORDER BY.
-use Rattle.std.proofs.Common.{◌≡◌, ℕ, pos, Bool, true, false, List, [], ◌∷◌, ◌++◌, codes, Some, None, Ok, refl}
+-- What the parts of the list of workspaces mean, each by itself: its columns, the tables that it joins, WHERE and ORDER BY. Together they are more than one `rw` takes.
+use Rattle.std.proofs.Common.{◌≡◌, ℕ, pos, true, false, List, [], ◌∷◌, ◌++◌, codes, Some, None, Ok, refl}
 use Rattle.sqlite_value.specs.declared.keys.Collation.TheVariants.{Binary}
 use Rattle.sqlite_value.specs.declared.value.Value.TheVariants.{Int}
 use Rattle.sqlite_sql.specs.declared.ops.ArithOp.TheVariants.{Sub}
@@ -8,7 +8,7 @@ use Rattle.sqlite_sql.specs.declared.ops.BinaryOp.TheVariants.{Compare, Arith}
 use Rattle.sqlite_sql.specs.Term.{Term, lit, col, op2}
 use Rattle.sqlite_sql.specs.Query.{Query, Join, left, end}
 use Rattle.sqlite_schema.specs.declared.schema.Schema.{Schema}
-use Rattle.sqlite_draft.specs.declared.join.Step.TheVariants.{Inner, Left}
+use Rattle.sqlite_draft.specs.declared.join.Step.TheVariants.{Left}
 use Rattle.sqlite_ast.specs.declared.Expr.TheViews.{out-Core, roll-Core, out-Source, roll-Source}
 use Rattle.sqlite_ast.specs.declared.Expr.TheBlock.{hidden-the_row-Source-5, shown-the_row-Source-5, hidden-the_row-Shown-4, shown-the_row-Shown-4, hidden-the_row-Expr-0, shown-the_row-Expr-0, hidden-the_row-Expr-1, shown-the_row-Expr-1}
 use denote.Hole.Carrier.{out, roll, shown, hidden}
@@ -53,7 +53,7 @@ list_ws_within_rest = point_rest (is_at 1 0 ∷ is_above 2 1 ∷ is_from 2 2 ∷
 abbrev pub list_ws_names : List (List ℕ)
 list_ws_names = st.ws_names ++ codes "name" ∷ codes "keep" ∷ codes "number" ∷ st.run_settings_names
 
--- what puts the parts together
+-- what unfolds where the parts are put together, and not inside of them
 unfoldable composed : Unit {0}
 unfolding
     named parts having assembled ungrouped body bounds bound table_in result matching joins join inner_join shared take_slot keys
@@ -72,7 +72,7 @@ list_ws_shown =
     shown_as (codes "kind") 1 4 ∷ shown_as (codes "lock_id") 1 5 ∷ shown_as (codes "lock_text") 1 6 ∷ shown_as (codes "run") 1 7 ∷ shown_as (codes "released") 1 8
     ∷ shown_as (codes "next_version") 1 9 ∷ shown_as (codes "next_run") 1 10 ∷ shown_as (codes "name") 1 2 ∷ shown_as (codes "keep") 2 3 ∷ shown_as (codes "number") 3 3 ∷ shown_as (codes "auto") 1 3 ∷ []
 
--- what is known after so much work, where this was read last
+-- the resolver's state behind FROM: how much of its budget is left, and what was read last
 abbrev pub read_so_far : ℕ → Carried → State
 read_so_far budget last = record { next = 4; steps = []; aggregates = []; budget = budget; written = None; last = last }
 

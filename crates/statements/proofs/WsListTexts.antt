@@ -1,18 +1,11 @@
 -- What the texts of the list of workspaces mean, in each schema that has the tables ws, keeping and version.
-use Rattle.std.proofs.Common.{◌≡◌, ℕ, pos, List, [], ◌∷◌, ◌++◌, codes, Some, None, Ok, refl}
+use Rattle.std.proofs.Common.{◌≡◌, ℕ, List, [], ◌∷◌, ◌++◌, codes, Some, None, Ok, refl}
 use Rattle.sqlite_value.specs.declared.keys.Collation.TheVariants.{Binary}
-use Rattle.sqlite_value.specs.declared.value.Value.TheVariants.{Int}
-use Rattle.sqlite_sql.specs.declared.ops.ArithOp.TheVariants.{Sub}
-use Rattle.sqlite_sql.specs.declared.ops.CompareOp.TheVariants.{Eq}
-use Rattle.sqlite_sql.specs.declared.ops.BinaryOp.TheVariants.{Compare, Arith}
-use Rattle.sqlite_sql.specs.Term.{Term, lit, col, op2}
-use Rattle.sqlite_sql.specs.Query.{Query, Join, left, end}
 use Rattle.sqlite_schema.specs.declared.schema.Schema.{Schema}
 use Rattle.sqlite_schema.specs.declared.command.Command.TheVariants.{Select}
 use Rattle.sqlite_ast.specs.declared.Statement.TheVariants as written
 use Rattle.sqlite_ast.specs.declared.Select as ast
 use Rattle.sqlite_resolve.specs.Compile.{first, command, timed, returning}
-use Rattle.sqlite_resolve.specs.Select.{named}
 use Rattle.sqlite_resolve.specs.Program.{program}
 use Rattle.sqlite_tied.specs.Compute.{everything}
 use Rattle.statements.specs.Place.{StandsAt}
@@ -21,12 +14,12 @@ use Rattle.statements.specs.Calls.{IsQuery}
 use Rattle.statements.specs.declared.workspaces.TheConstants.{LIST_WS, LIST_WS_WITHIN}
 use Rattle.statements.proofs.SyntaxTrees as st
 use Rattle.statements.proofs.WsListParts.{with_both, list_ws_rest, list_ws_within_rest, list_ws_names, list_ws_named, list_ws_within_named}
-use Rattle.statements.proofs.WsTexts.{ws_columns, ws_orders, run_settings_columns, run_settings_orders}
+use Rattle.statements.proofs.WsTexts.{ws_orders, run_settings_orders}
 use Rattle.statements.proofs.Meaning.{Means, means, some_parsed, as_read}
 use Rattle.statements.proofs.Reading.{read_is}
 use Rattle.statements.proofs.Writes.{plain_program}
 use Rattle.statements.proofs.Listed.{joined_listing}
-use Rattle.statements.proofs.Commands.{is_from, is_below, is_at, point_rest, no_page, is_above, joined_draft}
+use Rattle.statements.proofs.Commands.{no_page, joined_draft}
 
 abbrev pub list_ws_text : List ℕ
 list_ws_text = LIST_WS.now
