@@ -8,7 +8,7 @@ ghost use Rattle.sqlite.specs.State.{HasCleanDisk, Survives, Shown};
 ghost use Rattle.basis.specs.declared.numbers.TheConstants.{MAX_KEPT};
 ghost use Rattle.statements.specs.Rows.{number, role_code, status_code, action_code, flag};
 ghost use Rattle.statements.specs.Decode.{flag_at};
-ghost use Rattle.statements.specs.Calls.{Wrote, WroteAny, IsQuery, FirstRow, FirstRows, IsCalm, IsRead, AreRead, IsOrganization, IsVersionHead, IsFlagCell, IsTextOrNull, IsHeadRow, IsRunRow, IsNamedRole, IsNumberOrNull, IsBound, IsBody, IsNumber, IsRole, IsStatusCell, IsActionOrNull, IsStatus, IsCount};
+ghost use Rattle.statements.specs.Calls.{Wrote, WroteAny, IsQuery, FirstRow, FirstRows, IsCalm, IsRead, AreRead, IsOrganization, IsVersionHead, IsTextOrNull, IsHeadRow, IsRunRow, IsNamedRole, IsNumberOrNull, IsBound, IsBody, IsNumber, IsRole, IsStatusCell, IsActionOrNull, IsStatus, IsCount};
 
 use crate::rows::{Bound, Head, NamedRole, Organization, Run, VersionHead};
 use basis::{Bytes, Items, KeepCount, Role, RunAction, RunStatus, Text};
