@@ -3,12 +3,11 @@ ghost use Rattle.std.specs.Prelude.{◌≡◌, Some};
 ghost use Rattle.fakes.specs.Files.{IsKeptStore};
 
 use basis::{Bytes, Down};
-use machine::{Keep, PlainKeep};
+use machine::{Fault, Keep, PlainKeep};
 use program::outside::Files;
 use program::replays::replay_over;
 use serve::Step;
 use std::alloc::Global;
-use tables::Fault;
 
 /// A database at one path, in memory; nothing is opened or kept at another.
 #[derive(Drop)]

@@ -18,6 +18,14 @@ use basis::{
 };
 use std::alloc::Global;
 
+/// Why a store wasn't opened.
+#[derive(Clone, Copy, PartialEq, Eq)]
+pub enum Fault {
+    /// What is kept there is of another schema, or of none.
+    Schema,
+    Down,
+}
+
 /// An organization as an operator's list shows it.
 #[derive(Drop)]
 pub struct OrgRow {

@@ -15,7 +15,7 @@ pub use acts::{
     Act, Answer, Change, Decision, Edit, Needs, Newest, Shown, Staying, Unit, WorkspaceUnit,
 };
 pub use decisions::{MAX_OPEN_RUNS, decide};
-pub use keeps::{AdminAnswer, Keep, OrgRow, TokenRow};
+pub use keeps::{AdminAnswer, Fault, Keep, OrgRow, TokenRow};
 pub use laws::{
     accepted_acts_come_again, actions_come_again, held_versions_change_by_the_id,
     holds_until_released, keyed_creations_come_again, locked_workspaces_stay,

@@ -8,10 +8,10 @@ ghost use Rattle.program.specs.Replies.{AreReplies};
 
 use basis::{Bytes, Down, Moment};
 use command_line::timeouts::Timeouts;
+use machine::Fault;
 use serve::Step;
 use std::alloc::Global;
 use std::net::Ipv4Addr;
-use tables::Fault;
 use wire::{Inlet, Outlet};
 
 /// Where databases lie, each by its path; a database that was opened is a `K`.

@@ -21,13 +21,12 @@ use crate::serving::serve_loop;
 use basis::{Down, Moment, Secret, Unfit};
 use command_line::timeouts::Timeouts;
 use command_line::{NewToken, Order, Unasked, read_words};
-use machine::{AdminAnswer, Keep};
+use machine::{AdminAnswer, Fault, Keep};
 use serve::{Admin, Service};
 use std::alloc::Global;
 use std::io;
 use std::io::{Read, Write};
 use std::net::Ipv4Addr;
-use tables::Fault;
 
 /// What a value among the words has to be.
 const FORMS: &str =

@@ -5,7 +5,7 @@ ghost use Rattle.system.specs.Files.{OpensOn, IsClosedOn};
 
 use crate::replays::replayed;
 use basis::{Bytes, Down};
-use machine::Keep;
+use machine::{Fault, Keep};
 use pages::ShaKey;
 use program::outside::Files;
 use serve::Step;
@@ -19,7 +19,7 @@ use std::io::ErrorKind;
 use std::os::unix::fs::{MetadataExt, OpenOptionsExt};
 use std::rt::HostRuntime;
 use std::{fs, io};
-use tables::{Fault, SqlKeep};
+use tables::SqlKeep;
 
 /// The store in a file, its pages named by SHA-256, which `start` stands for as it is opened.
 pub type FileKeep<S> = SqlKeep<FileStore<FileFrom<S>>, ShaKey>;

@@ -10,5 +10,4 @@ mod steps;
 mod store;
 mod transactions;
 
-pub use opening::Fault;
 pub use store::{SqlKeep, Unopened};

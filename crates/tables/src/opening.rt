@@ -13,19 +13,12 @@ ghost use Rattle.tables.specs.Inner.Making.{IsMade, found_in, TellsFound, FindsO
 ghost use Rattle.tables.specs.Versions.{HoldsVersion, version_records, KeepsBeside};
 
 use crate::transactions::{self, assert_settled};
+use machine::Fault;
 use sqlite::{Alter, Connection, Error};
 use sqlite_schema::schema::{Column, Kind, Schema, Table};
 use sqlite_value::keys::Collation;
 use sqlite_value::value::Value;
 use statements::making;
-
-/// Why a database wasn't opened.
-#[derive(Clone, Copy, PartialEq, Eq)]
-pub enum Fault {
-    /// Some of the tables are there, but not those of this version.
-    Schema,
-    Down,
-}
 
 /// The first version of the schema, which the table meta tells. Later ones are told by edition.
 const FIRST: u64 = 1;

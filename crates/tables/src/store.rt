@@ -12,14 +12,14 @@ ghost use Rattle.machine.specs.Ranges.{IsMoment};
 ghost use Rattle.tables.specs.Versions.{HoldsVersion, version_records, HoldsTables, version_tables};
 
 use crate::counts::Counted;
-use crate::opening::{Fault, ready};
+use crate::opening::ready;
 use crate::{commands, counts, transactions};
 use basis::numbers::{MAX_LIMIT, MAX_MOMENT, MAX_NUMBER};
 use basis::{
     Bounds, Bytes, Caller, Down, Limit, Listing, Number, OrgName, Prefix, Role, RunRow, VersionRow,
     WsName, WsRow,
 };
-use machine::{Act, AdminAnswer, Change, Keep, Unit};
+use machine::{Act, AdminAnswer, Change, Fault, Keep, Unit};
 use pages::PageKey;
 use sqlite::{Alter, Connection, MemStore};
 use std::alloc::Global;

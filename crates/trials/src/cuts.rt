@@ -1,12 +1,13 @@
 //! The two files of a database in memory, and what is left of them where the power is cut at one of their calls.
 use crate::records::earlier_record_of;
 use crate::ways::Sql;
+use machine::Fault;
 use pages::ShaKey;
 use sqlite::{Alter, Connection, FileStore, Files, Options};
 use sqlite_disk::{Crash, Disk, Fuse, Memory};
 use std::alloc::{AllocError, Global};
 use std::io;
-use tables::{Fault, SqlKeep, Unopened};
+use tables::{SqlKeep, Unopened};
 use telling::failures::Failure;
 use telling::plays::Play;
 use telling::recovering::{Done, Ended, Work, work_over};
