@@ -47,7 +47,7 @@ settled_twice : (w : Workspace) → settled (settled w) ≡ settled w
 settled_twice w = twice w (to_start w.holder (first_waiting w.runs)) refl
 
 -- settling keeps settings and versions
-settings_stay : (w : Workspace) (o : Option ℕ) → (started_if o w).settings ≡ w.settings
+pub settings_stay : (w : Workspace) (o : Option ℕ) → (started_if o w).settings ≡ w.settings
 settings_stay w None = refl
 settings_stay w (Some n) = refl
 
@@ -70,7 +70,7 @@ pub newest_with : (w : Workspace) (n : ℕ) (head : StateHead) (text : List ℕ)
 newest_with w n head text now =
     newest_push (last_of (w.settings.keep_versions - 1) w.versions) (record { number = n; serial = head.serial; lineage = head.lineage; created = now; text = text })
 
-bytes_same : (a : List ℕ) → bytes_eq a a ≡ true
+pub bytes_same : (a : List ℕ) → bytes_eq a a ≡ true
 bytes_same a = (bytes_eq-Decides a a).1 refl
 
 -- a text that is the newest is answered as done
@@ -366,7 +366,7 @@ holds_until_released act now w v held text e h = by_case (leaves act now w v h)
     by_case (inl still) = inl (ap (λ (y : Workspace). y.holder) (sym still) ∙ e)
     by_case (inr l) = after l.to l.settles (by_way l.to l.answer l.way)
 
-settled_versions : (u : Workspace) → (settled u).versions ≡ u.versions
+pub settled_versions : (u : Workspace) → (settled u).versions ≡ u.versions
 settled_versions u = versions_stay u (to_start u.holder (first_waiting u.runs))
 
 abbrev Written : Act → ℕ → Workspace → Workspace → Type 0

@@ -50,7 +50,7 @@ cut_before (suc n) next vs v h some e rise =
     ap (λ (o : Option Version). left_above (option_map (λ (u : Version). u.number) o) (vs ++ v ∷ [])) (last_taken n vs (omega arith) ∙ found.1)
     ∙ behind_number (λ (u : Version). u.number) 0 (next + 1) (vs ++ v ∷ []) found.0 n (rises_more 0 next vs v some e rise) (first_stays n vs v (omega arith) ∙ found.1)
 
-drop_before : (k : ℕ) (vs : List Version) (v : Version) → k ≤ length vs → drop k (vs ++ v ∷ []) ≡ drop k vs ++ v ∷ []
+pub drop_before : (k : ℕ) (vs : List Version) (v : Version) → k ≤ length vs → drop k (vs ++ v ∷ []) ≡ drop k vs ++ v ∷ []
 drop_before zero vs v h = refl
 drop_before (suc k) [] v h = absurd (omega arith)
 drop_before (suc k) (u ∷ vs) v h = drop_before k vs v (omega arith)

@@ -15,7 +15,7 @@ use Rattle.basis.specs.declared.rows.StateHead.{StateHead}
 use Rattle.machine.specs.Changes.{left_above}
 use Rattle.machine.specs.Workspaces.{max_open_runs, newest, last_of, holder_status, run_of, keyed_run, open_runs}
 use Rattle.machine.specs.Writing.{may_write}
-use Rattle.machine.specs.Succession.{after_newest, lineages_differ, same, other_lineage, old_serial, next}
+use Rattle.machine.specs.Succession.{after_newest, lineages_differ, is_newer, same, other_lineage, old_serial, next}
 use Rattle.machine.specs.Showing.{holder_id, shown_of}
 use Rattle.machine.specs.Rules.{rules, done, delete, by_may_write, by_succession, numbered_update, number_left, workspace, refused, the_run, run_answer, told_with, told_already, new_run, with_run, with_version, purged, shown_with, numbered_run, make_run, reported, frees, with_report, by_step, report, kept_for, settings_for, with_settings, put, purge, lock, unlock, force_unlock, is_released, released, done_with, done_already, refused_by, rules_there, rules_missing, Ruling}
 use Rattle.machine.specs.Settling.{is_waiting, first_waiting, to_start, started_if}
@@ -73,7 +73,7 @@ after_model : (w : Workspace) (head : StateHead) (text : List ℕ) (id : Option 
     ≡ by_succession (after_newest text head o) w head text now
 after_model w head text id now lawful None = number_model w head text id now lawful (number_left w.next_version) refl
 after_model w head text id now lawful (Some v) =
-    chosen (bytes_eq v.text text) (lineages_differ v.lineage head.lineage) (nat_lt v.serial head.serial)
+    chosen (bytes_eq v.text text) (lineages_differ v.lineage head.lineage) (is_newer v.serial head.serial)
   where
     chosen : (a b c : Bool)
         → meaning (cond a (Accepted Done None) (cond b (Refused Refusal.OtherLineage) (cond c (decided_version (workspace_unit (UpdateState head text id) w) head text now) (Refused Refusal.OldSerial)))) (Some w)

@@ -1,8 +1,8 @@
 -- The rules keep the laws of a workspace.
-use Rattle.std.proofs.Common.{◌≡◌, ℕ, ◌+◌, ◌-◌, ◌<◌, ◌≤◌, nat_le, Bool, true, false, cond, List, [], ◌∷◌, ◌++◌, length, drop, map, suc, zero, ◌&&◌, not, Option, Some, None, IsTrue, refl, sym, subst, ◌∙◌, arith, length-append}
+use Rattle.std.proofs.Common.{◌≡◌, ℕ, ◌+◌, ◌-◌, ◌<◌, ◌≤◌, nat_le, Bool, true, false, cond, List, [], ◌∷◌, ◌++◌, length, drop, map, suc, zero, ◌&&◌, not, Option, Some, None, IsTrue, refl, sym, ap, subst, ◌∙◌, arith, length-append}
 use Rattle.std.specs.Prelude.{find, option_map}
 use Rattle.std.specs.List.{AllByRecursion}
-use Rattle.std.proofs.lemmas.Bool.{leb-true}
+use Rattle.std.proofs.lemmas.Bool.{leb-true, le-leb}
 use Rattle.basis.specs.declared.rows.Settings.{Settings}
 use Rattle.basis.specs.declared.rows.StateHead.{StateHead}
 use Rattle.machine.specs.Laws.{IsLawful, IsVersion, Rises, IsRun, is_pending, is_nobody}
@@ -51,6 +51,10 @@ number_left-is n m e = let p = tests (nat_le 1 n) (nat_le n max_number) n m e in
     tests true true n m e = (cc, refl, refl)
     tests true false n m e = absurd (let no : ⊥ = cc in no)
     tests false c n m e = absurd (let no : ⊥ = cc in no)
+
+-- a number that is in range is left
+pub in_range_is_left : (n : ℕ) → 1 ≤ n → n ≤ max_number → number_left n ≡ Some n
+in_range_is_left n low high = ap (λ (b : Bool). cond (b && nat_le n max_number) (Some n) None) (le-leb 1 n low) ∙ ap (λ (b : Bool). cond b (Some n) None) (le-leb n max_number high)
 
 pub version_is_lawful : (w : Workspace) (n : ℕ) (head : StateHead) (text : List ℕ) (now : ℕ) → number_left w.next_version ≡ Some n
     → IsHeadInRange head → now ≤ 253_402_300_799 → IsLawful w → IsLawful (with_version w n head text now)

@@ -3,6 +3,7 @@ pub mod RunLemmas
 pub mod RunRulings
 pub mod LookLemmas
 pub mod RefusedLemmas
+pub mod FollowLemmas
 pub mod Rulings
 pub mod DeletionLemmas
 pub mod PuttingLemmas
@@ -20,7 +21,9 @@ pub mod PlainLemmas
 pub mod CustodyLemmas
 pub mod RefusalLemmas
 pub mod VersionLemmas
+pub mod StayLemmas
 pub mod KeepLemmas
 pub mod QueueLemmas
 pub mod BookLemmas
 pub mod PageLemmas
+pub mod WalkLemmas

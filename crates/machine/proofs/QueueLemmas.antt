@@ -2,7 +2,7 @@
 use Rattle.std.proofs.Common.{◌≡◌, ◌⊎◌, inl, inr, ℕ, ◌<◌, ◌≤◌, ◌==◌, nat_lt, Bool, true, false, not, ◌&&◌, ◌||◌, cond, List, [], ◌∷◌, ◌++◌, length, map, filter, Option, Some, None, option_map, is_some, IsSomeAnd, refl, sym, ap, subst, ◌∙◌, arith, eq-eqb, eqb-true}
 use Rattle.std.specs.Prelude.{find}
 use Rattle.std.specs.List.{AllByRecursion}
-use Rattle.std.proofs.lemmas.Bool.{eqb-false}
+use Rattle.std.proofs.lemmas.Bool.{eqb-false, lt-ltb, le-ltb}
 use Rattle.std.proofs.lemmas.Slice.Eq.{bytes_eq-Decides}
 use Rattle.basis.specs.Runs.{is_open}
 use Rattle.basis.specs.declared.rows.RunAsk.{RunAsk}
@@ -18,9 +18,9 @@ use Rattle.machine.specs.Records.{Seen, there, standing}
 use Rattle.machine.specs.Workspaces.{max_open_runs, run_of, is_keyed, has_key, keyed_run, open_runs}
 use Rattle.machine.specs.RunSteps.{RunStep, plan_only_steps, auto_apply_steps, confirmed_steps, next_status, is_action, is_status, is_last}
 use Rattle.machine.specs.Settling.{is_waiting, first_waiting, to_start, begun, started_if, settled}
-use Rattle.machine.specs.Rules.{Outcome, refused, rules, with_version, with_settings, purged, locked, released, new_run, with_run, number_left, numbered_run, make_run, reported, frees, with_report, told_already, by_step, report}
+use Rattle.machine.specs.Rules.{Outcome, refused, Ruling, rules, run_answer, with_version, with_settings, purged, locked, released, new_run, with_run, number_left, numbered_run, make_run, reported, frees, with_report, told_with, told_already, by_step, report}
 use Rattle.machine.specs.Custody.{IsRefusal}
-use Rattle.machine.specs.Queue.{is_active_run, OneRunIsActive, PlanOnlyRunsStayOut, Starts, WaitedOrIsNew, RunsStartInOrder, GoesOn, StaysThere, RunsStay, AreInRange, Leads, ActionsComeAgain, KeyedCreationsComeAgain}
+use Rattle.machine.specs.Queue.{is_active_run, OneRunIsActive, PlanOnlyRunsStayOut, Starts, WaitedOrIsNew, RunsStartInOrder, GoesOn, StaysThere, RunsStay, AreInRange, Leads, ActionsComeAgain, KeyedCreationsComeAgain, HundredRunsAreLetIn, NoMoreRunsAreLetIn}
 use Rattle.machine.specs.Inner.Decisions.{status_begun, begun_by}
 use Rattle.machine.specs.declared.acts.Act.{Act}
 use Rattle.machine.specs.declared.acts.Act.TheVariants.{MakeRun, ReportRun}
@@ -29,11 +29,11 @@ use Rattle.machine.specs.declared.records.Holder.TheVariants.{Nobody, Lock, Run 
 use Rattle.machine.specs.declared.records.Run.{Run}
 use Rattle.machine.specs.declared.records.Workspace.{Workspace}
 use Rattle.machine.proofs.StepLemmas.{led, one_status, one_action, never_pending}
-use Rattle.machine.proofs.RunLemmas.{run_of-number, run_of-map, run_of-started, all_found, numbers-map, Rises-more}
+use Rattle.machine.proofs.RunLemmas.{some_run-push, run_of-number, run_of-map, run_of-started, all_found, numbers-map, Rises-more}
 use Rattle.machine.proofs.RunRulings.{IsMade, IsReported}
 use Rattle.machine.proofs.Rulings.{Way, version_comes, versions_go, settings_come, lock_comes, lock_goes, run_comes, run_goes_on, Leaves, leaves}
 use Rattle.machine.proofs.RuleLemmas.{rules_are_lawful}
-use Rattle.machine.proofs.LawLemmas.{number_left-is}
+use Rattle.machine.proofs.LawLemmas.{number_left-is, in_range_is_left}
 use Rattle.machine.proofs.SettlingLemmas.{least_starts}
 use Rattle.machine.proofs.SettlesLemmas.{found_passes}
 use Rattle.machine.proofs.CustodyLemmas.{key_is_there}
@@ -663,3 +663,41 @@ keyed_creations_come_again ask again key now later acts w v u k l in_range lawfu
     told : (o : Option Run) → is_some o ≡ true → (make_run o u again later).left ≡ Some u
     told None has = absurd (let none : ⊥ = cc in none)
     told (Some r) has = refl
+
+-- ---- 100 open runs are let in, and no more
+
+-- a creation without a run that has its key, by whether there is room
+made_by_room : (ask : RunAsk) (now : ℕ) (w : Workspace) (b : Bool) → keyed_run ask.key w.runs ≡ None → nat_lt (open_runs w.runs) 100 ≡ b
+    → rules (MakeRun ask) now (there w) ≡ cond b (numbered_run (number_left w.next_run) w ask now) (effect (refused OverLimit) (Some w))
+made_by_room ask now w b unkeyed room =
+    ap (λ (o : Option Run). make_run o w ask now) unkeyed
+    ∙ ap (λ (c : Bool). cond c (numbered_run (number_left w.next_run) w ask now) (effect (refused OverLimit) (Some w))) room
+
+pub hundred_runs_are_let_in : HundredRunsAreLetIn
+hundred_runs_are_let_in ask now w unkeyed room low high = record {
+  run = begun_by start found.0;
+  after = settled u;
+  left = ap (λ (r : Ruling). r.left) is;
+  stands = there_is;
+  told = ap (λ (r : Ruling). r.answer) is ∙ ap run_answer there_is;
+}
+  where
+    u : Workspace
+    u = with_run (new_run w.next_run ask now) w
+
+    start : Option ℕ
+    start = to_start u.holder (first_waiting u.runs)
+
+    found : (x : Run) × (run_of w.next_run u.runs ≡ Some x)
+    found = some_run-push w.next_run w.runs (new_run w.next_run ask now) refl
+
+    there_is : run_of w.next_run (settled u).runs ≡ Some (begun_by start found.0)
+    there_is = run_of-started start w.next_run u ∙ ap (option_map (begun_by start)) found.1
+
+    is : rules (MakeRun ask) now (there w) ≡ told_with w.next_run u
+    is =
+        made_by_room ask now w true unkeyed (lt-ltb (open_runs w.runs) 100 room)
+        ∙ ap (λ (m : Option ℕ). numbered_run m w ask now) (in_range_is_left w.next_run low high)
+
+pub no_more_runs_are_let_in : NoMoreRunsAreLetIn
+no_more_runs_are_let_in ask now w unkeyed full = ap (λ (r : Ruling). r.answer) (made_by_room ask now w false unkeyed (le-ltb (open_runs w.runs) 100 full))

@@ -74,6 +74,10 @@ pub record Goes (act : Act) (ruling : Ruling) (w : Workspace) : Type 0 where
   pub unheld : IsUnlocked w.holder
   pub idle : open_runs w.runs ≡ 0
 
+-- a text is judged the first or the next one
+abbrev pub IsFirstOrNext : Workspace → StateHead → List ℕ → Type 0
+IsFirstOrNext w head text = (succession w.versions text head ≡ first) ⊎ (succession w.versions text head ≡ next)
+
 -- a version comes
 pub record VersionComes (act : Act) (now : ℕ) (w u : Workspace) (answer : Outcome) : Type 0 where
   pub head : StateHead
@@ -84,6 +88,7 @@ pub record VersionComes (act : Act) (now : ℕ) (w u : Workspace) (answer : Outc
   pub answered : answer ≡ done
   pub range : IsInRange act → IsHeadInRange head
   pub left : number_left w.next_version ≡ Some number
+  pub judged : IsFirstOrNext w head text
   pub is : u ≡ with_version w number head text now
 
 -- every version goes
@@ -168,27 +173,41 @@ stays_either refusal w true = stays_done w
 stays_either refusal w false = stays_refused refusal w
 
 -- an update
-numbered_comes : (head : StateHead) (text : List ℕ) (id : Option (List ℕ)) (now : ℕ) (w : Workspace) (n : Option ℕ) → number_left w.next_version ≡ n
+numbered_comes : (head : StateHead) (text : List ℕ) (id : Option (List ℕ)) (now : ℕ) (w : Workspace) → IsFirstOrNext w head text → (n : Option ℕ) → number_left w.next_version ≡ n
     → Comes (UpdateState head text id) now w (numbered_update n w head text now)
-numbered_comes head text id now w None e = it_stays (stays_refused OverLimit w)
-numbered_comes head text id now w (Some number) e = it_changes (record {
+numbered_comes head text id now w judged None e = it_stays (stays_refused OverLimit w)
+numbered_comes head text id now w judged (Some number) e = it_changes (record {
   to = with_version w number head text now;
   answer = done;
-  way = version_comes (record { head = head; text = text; id = id; number = number; writes = refl; answered = refl; range = λ range. range; left = e; is = refl });
+  way = version_comes (record {
+    head = head;
+    text = text;
+    id = id;
+    number = number;
+    writes = refl;
+    answered = refl;
+    range = λ range. range;
+    left = e;
+    judged = judged;
+    is = refl;
+  });
   accepted = λ is. is;
   is = refl;
 })
 
-succession_comes : (head : StateHead) (text : List ℕ) (id : Option (List ℕ)) (now : ℕ) (w : Workspace) (s : Succession) → Comes (UpdateState head text id) now w (by_succession s w head text now)
-succession_comes head text id now w first = numbered_comes head text id now w (number_left w.next_version) refl
-succession_comes head text id now w same = it_stays (stays_done w)
-succession_comes head text id now w other_lineage = it_stays (stays_refused OtherLineage w)
-succession_comes head text id now w old_serial = it_stays (stays_refused OldSerial w)
-succession_comes head text id now w next = numbered_comes head text id now w (number_left w.next_version) refl
+succession_comes : (head : StateHead) (text : List ℕ) (id : Option (List ℕ)) (now : ℕ) (w : Workspace) (s : Succession) → succession w.versions text head ≡ s
+    → Comes (UpdateState head text id) now w (by_succession s w head text now)
+succession_comes head text id now w first t =
+    numbered_comes head text id now w (inl t) (number_left w.next_version) refl
+succession_comes head text id now w same t = it_stays (stays_done w)
+succession_comes head text id now w other_lineage t = it_stays (stays_refused OtherLineage w)
+succession_comes head text id now w old_serial t = it_stays (stays_refused OldSerial w)
+succession_comes head text id now w next t =
+    numbered_comes head text id now w (inr t) (number_left w.next_version) refl
 
 update_comes : (head : StateHead) (text : List ℕ) (id : Option (List ℕ)) (now : ℕ) (w : Workspace) (m : Option Refusal) → Comes (UpdateState head text id) now w (by_may_write m w head text now)
 update_comes head text id now w (Some refusal) = it_stays (stays_refused refusal w)
-update_comes head text id now w None = succession_comes head text id now w (succession w.versions text head)
+update_comes head text id now w None = succession_comes head text id now w (succession w.versions text head) refl
 
 -- a purge
 purge_comes : (id : Option (List ℕ)) (now : ℕ) (w : Workspace) (m : Option Refusal) → Comes (PurgeState id) now w (purge m w)

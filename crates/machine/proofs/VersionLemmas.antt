@@ -1,5 +1,5 @@
 -- What becomes of versions: numbers rise, what stays is unchanged, and what is posted is read.
-use Rattle.std.proofs.Common.{◌≡◌, ◌⊎◌, inl, inr, ℕ, zero, suc, ◌+◌, ◌-◌, ◌≤◌, ◌==◌, nat_lt, Bool, true, false, cond, List, [], ◌∷◌, ◌++◌, length, drop, Option, Some, None, refl, sym, ap, subst, ◌∙◌, arith}
+use Rattle.std.proofs.Common.{◌≡◌, ◌⊎◌, inl, inr, ℕ, zero, suc, ◌+◌, ◌-◌, ◌≤◌, ◌==◌, Bool, true, false, cond, List, [], ◌∷◌, ◌++◌, length, drop, Option, Some, None, refl, sym, ap, subst, ◌∙◌, arith}
 use Rattle.std.specs.Option.{option_or}
 use Rattle.std.specs.Str.{bytes_eq}
 use Rattle.std.proofs.lemmas.Slice.Eq.{bytes_eq-Decides}
@@ -9,7 +9,7 @@ use Rattle.basis.specs.declared.rows.StateHead.{StateHead}
 use Rattle.machine.specs.Workspaces.{newest, holder_status}
 use Rattle.machine.specs.Writing.{may_write}
 use Rattle.machine.specs.Settling.{first_waiting, to_start, started_if, settled}
-use Rattle.machine.specs.Succession.{Succession, first, same, other_lineage, old_serial, next, succession, after_newest, lineages_differ}
+use Rattle.machine.specs.Succession.{Succession, first, same, other_lineage, old_serial, next, succession, after_newest, lineages_differ, is_newer}
 use Rattle.machine.specs.Rules.{Outcome, done, no_state, state, state_answer, by_may_write, by_succession, numbered_update, number_left, with_version, with_settings, purge, purged, locked, released, new_run, with_run, with_report}
 use Rattle.machine.proofs.RunRulings.{IsReported}
 use Rattle.machine.proofs.Rulings.{Way, version_comes, versions_go, settings_come, lock_comes, lock_goes, run_comes, run_goes_on, Leaves, leaves}
@@ -43,7 +43,7 @@ number_is_read w v head text now (Some n) is e = added_is_read w v n head text n
 -- a text that is repeated is the newest
 same_is_newest : (head : StateHead) (text : List ℕ) (o : Option Version) → after_newest text head o ≡ same → state_answer o ≡ state text
 same_is_newest head text None e = absurd (let none : ⊥ = cc in none)
-same_is_newest head text (Some u) e = chosen (bytes_eq u.text text) (lineages_differ u.lineage head.lineage) (nat_lt u.serial head.serial) refl e
+same_is_newest head text (Some u) e = chosen (bytes_eq u.text text) (lineages_differ u.lineage head.lineage) (is_newer u.serial head.serial) refl e
   where
     chosen : (a b c : Bool) → bytes_eq u.text text ≡ a → cond a same (cond b other_lineage (cond c next old_serial)) ≡ same → state u.text ≡ state text
     chosen true b c t e = ap state ((bytes_eq-Decides u.text text).0 t)

@@ -20,5 +20,6 @@ pub mod Tokens
 pub mod Keeping
 pub mod Paging
 pub mod Custody
+pub mod Versions
 pub mod Queue
 pub mod Inner

@@ -1,16 +1,17 @@
 -- The queue of runs, as laws of the rules: who is active, who starts, what becomes of a run, and what comes again.
-use Rattle.std.specs.Prelude.{◌≡◌, ◌⊎◌, ◌<◌, ◌≤◌, ℕ, Bool, true, false, not, ◌&&◌, List, [], ◌∷◌, length, filter, Some}
+use Rattle.std.specs.Prelude.{◌≡◌, ◌⊎◌, ◌<◌, ◌≤◌, ℕ, Bool, true, false, not, ◌&&◌, List, [], ◌∷◌, length, filter, Some, None}
 use Rattle.std.specs.List.{AllByRecursion}
+use Rattle.basis.specs.declared.refusals.Refusal.TheVariants.{OverLimit}
 use Rattle.basis.specs.declared.rows.RunAsk.{RunAsk}
 use Rattle.basis.specs.declared.runs.RunStatus.TheVariants.{Planning}
 use Rattle.basis.specs.declared.runs.RunAction.{RunAction}
-use Rattle.machine.specs.Workspaces.{run_of}
+use Rattle.machine.specs.Workspaces.{run_of, keyed_run, open_runs}
 use Rattle.machine.specs.Laws.{is_active, is_pending, holds, IsLawful, IsLawfulIfThere}
 use Rattle.machine.specs.Ranges.{IsInRange, IsMoment}
 use Rattle.machine.specs.RunSteps.{next_status}
 use Rattle.machine.specs.Settling.{is_waiting}
 use Rattle.machine.specs.Records.{Seen, there, standing}
-use Rattle.machine.specs.Rules.{rules}
+use Rattle.machine.specs.Rules.{refused, the_run, rules}
 use Rattle.machine.specs.Custody.{IsRefusal}
 use Rattle.machine.specs.declared.acts.Act.{Act}
 use Rattle.machine.specs.declared.acts.Act.TheVariants.{MakeRun, ReportRun}
@@ -84,3 +85,21 @@ KeyedCreationsComeAgain = (ask again : RunAsk) (key : List ℕ) (now later : ℕ
     → IsInRange (MakeRun ask) → IsLawful w → IsMoment now
     → (IsRefusal (rules (MakeRun ask) now (there w)).answer → ⊥) → (rules (MakeRun ask) now (there w)).left ≡ Some v
     → AreInRange acts → Leads acts v u → (rules (MakeRun again) later (there u)).left ≡ Some u
+
+-- the creation of a run is accepted: the run stands in the workspace under the next number, and is told
+pub record RunIsMade (ask : RunAsk) (now : ℕ) (w : Workspace) : Type 0 where
+  pub run : Run
+  pub after : Workspace
+  pub left : (rules (MakeRun ask) now (there w)).left ≡ Some after
+  pub stands : run_of w.next_run after.runs ≡ Some run
+  pub told : (rules (MakeRun ask) now (there w)).answer ≡ the_run run
+
+-- a run is made while fewer than 100 are open and a number is left, where no run has its key
+abbrev pub HundredRunsAreLetIn : Type 0
+HundredRunsAreLetIn = (ask : RunAsk) (now : ℕ) (w : Workspace) → keyed_run ask.key w.runs ≡ None → open_runs w.runs < 100
+    → 1 ≤ w.next_run → w.next_run ≤ 1_000_000_000 → RunIsMade ask now w
+
+-- and while 100 are open none is
+abbrev pub NoMoreRunsAreLetIn : Type 0
+NoMoreRunsAreLetIn = (ask : RunAsk) (now : ℕ) (w : Workspace) → keyed_run ask.key w.runs ≡ None → 100 ≤ open_runs w.runs
+    → (rules (MakeRun ask) now (there w)).answer ≡ refused OverLimit

@@ -22,12 +22,16 @@ pub data Succession : Type 0 where
 abbrev pub lineages_differ : List ℕ → List ℕ → Bool
 lineages_differ a b = nat_lt 0 (length a) && nat_lt 0 (length b) && not (bytes_eq a b)
 
+-- a serial that is greater than another
+abbrev pub is_newer : (before after : ℕ) → Bool
+is_newer before after = nat_lt before after
+
 abbrev pub after_newest : List ℕ → StateHead → Option Version → Succession
 after_newest text head None = first
 after_newest text head (Some v) =
     cond (bytes_eq v.text text) same
     (cond (lineages_differ v.lineage head.lineage) other_lineage
-    (cond (nat_lt v.serial head.serial) next old_serial))
+    (cond (is_newer v.serial head.serial) next old_serial))
 
 abbrev pub succession : List Version → List ℕ → StateHead → Succession
 succession versions text head = after_newest text head (newest versions)

@@ -1,8 +1,9 @@
 //! Laws of the rules, each the contract of a call that does nothing.
 ghost use Rattle.machine.specs.Sameness.{SameThingsAreEqualRecords};
 ghost use Rattle.machine.specs.Settling.{SettlesOnce};
-ghost use Rattle.machine.specs.Paging.{WorkspacePagesFollow, VersionPagesFollow, RunPagesFollow};
-ghost use Rattle.machine.specs.Queue.{OneRunIsActive, PlanOnlyRunsStayOut, RunsStartInOrder, RunsStay, ActionsComeAgain, KeyedCreationsComeAgain};
+ghost use Rattle.machine.specs.Paging.{WorkspacePagesFollow, VersionPagesFollow, RunPagesFollow, WorkspacesAreShown, VersionsAreShown, RunsAreShown};
+ghost use Rattle.machine.specs.Queue.{OneRunIsActive, PlanOnlyRunsStayOut, RunsStartInOrder, RunsStay, ActionsComeAgain, KeyedCreationsComeAgain, HundredRunsAreLetIn, NoMoreRunsAreLetIn};
+ghost use Rattle.machine.specs.Versions.{NewestVersionsFollow, KeptVersionsFollow, AcceptedTextsStand, FollowingTextsAreAccepted, PutsLeaveWhatTheyAsk, PutsMakeWhatTheyAsk};
 ghost use Rattle.machine.specs.Custody.{AcceptedActsComeAgain, HeldVersionsChangeByTheId, HoldsUntilReleased, LockedWorkspacesStay, NothingIsReadOfAPurge, NumbersRise, RefusalsChangeNothing, RefusalsTellTheHolder, RepeatsChangeNothing, VersionsChangeByTheId, WhatIsPostedIsRead, WorkspacesBeginAnew, WorkspacesGoByDelete, WritesCarryTheId};
 
 /// A refusal leaves the workspace as it is.
@@ -68,6 +69,27 @@ pub fn numbers_rise()
     ensures { NumbersRise }
 {}
 
+/// Each version follows the one before it: its serial is greater, and their lineages are equal or one
+/// is empty. So of the newest version before and after every act, and of those that are kept.
+pub fn versions_follow()
+    ensures newest { NewestVersionsFollow }
+    ensures kept { KeptVersionsFollow }
+{}
+
+/// A text that is accepted is there afterwards, under the next number and with its moment, and the
+/// newest versions stay, as many as the workspace keeps and no fewer. One that follows is accepted.
+pub fn accepted_texts_stand()
+    ensures stands { AcceptedTextsStand }
+    ensures accepted { FollowingTextsAreAccepted }
+{}
+
+/// A PUT leaves the settings asked for, and of the versions the newest, as many as the workspace keeps
+/// then and no fewer.
+pub fn puts_leave_what_they_ask()
+    ensures there { PutsLeaveWhatTheyAsk }
+    ensures made { PutsMakeWhatTheyAsk }
+{}
+
 /// An act that comes again, at whatever moment, changes nothing more.
 pub fn repeats_change_nothing()
     ensures { RepeatsChangeNothing }
@@ -113,12 +135,22 @@ pub fn keyed_creations_come_again()
     ensures { KeyedCreationsComeAgain }
 {}
 
+/// While fewer than 100 runs are open a run is made, and while 100 are none is.
+pub fn hundred_runs_are_let_in()
+    ensures let_in { HundredRunsAreLetIn }
+    ensures no_more { NoMoreRunsAreLetIn }
+{}
+
 /// Pages of a list follow one another: what comes after a page's last item is what the page left out,
-/// of workspaces, of versions and of runs.
+/// of workspaces, of versions and of runs. Who goes on from each page's last item while more follow
+/// sees the whole list, each item once, in order; a page behind which more follow has 50 items.
 pub fn pages_follow()
     ensures workspaces { WorkspacePagesFollow }
     ensures versions { VersionPagesFollow }
     ensures runs { RunPagesFollow }
+    ensures all_workspaces { WorkspacesAreShown }
+    ensures all_versions { VersionsAreShown }
+    ensures all_runs { RunsAreShown }
 {}
 
 /// Lawful organizations that hold the same things are equal records, in whatever order these were made:

@@ -17,13 +17,14 @@ pub use acts::{
 pub use decisions::{MAX_OPEN_RUNS, decide};
 pub use keeps::{AdminAnswer, Fault, Keep, OrgRow, TokenRow};
 pub use laws::{
-    accepted_acts_come_again, actions_come_again, held_versions_change_by_the_id,
-    holds_until_released, keyed_creations_come_again, locked_workspaces_stay,
-    nothing_is_read_of_a_purge, numbers_rise, one_run_is_active, pages_follow,
-    plan_only_runs_stay_out, refusals_change_nothing, refusals_tell_the_holder,
-    repeats_change_nothing, runs_start_in_order, runs_stay, same_things_are_equal_records,
-    settles_once, versions_change_by_the_id, what_is_posted_is_read, workspaces_begin_anew,
-    workspaces_go_by_delete, writes_carry_the_id,
+    accepted_acts_come_again, accepted_texts_stand, actions_come_again,
+    held_versions_change_by_the_id, holds_until_released, hundred_runs_are_let_in,
+    keyed_creations_come_again, locked_workspaces_stay, nothing_is_read_of_a_purge, numbers_rise,
+    one_run_is_active, pages_follow, plan_only_runs_stay_out, puts_leave_what_they_ask,
+    refusals_change_nothing, refusals_tell_the_holder, repeats_change_nothing, runs_start_in_order,
+    runs_stay, same_things_are_equal_records, settles_once, versions_change_by_the_id,
+    versions_follow, what_is_posted_is_read, workspaces_begin_anew, workspaces_go_by_delete,
+    writes_carry_the_id,
 };
 pub use maps::NameMap;
 pub use plain::PlainKeep;

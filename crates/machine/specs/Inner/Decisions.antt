@@ -13,7 +13,7 @@ use Rattle.basis.specs.declared.runs.RunStatus.{RunStatus}
 use Rattle.basis.specs.declared.runs.RunStatus.TheVariants.{Planning}
 use Rattle.basis.specs.declared.runs.RunAction.{RunAction}
 use Rattle.machine.specs.Workspaces.{max_open_runs}
-use Rattle.machine.specs.Succession.{lineages_differ}
+use Rattle.machine.specs.Succession.{lineages_differ, is_newer}
 use Rattle.machine.specs.Settling.{is_waiting, to_start}
 use Rattle.machine.specs.Writing.{may_write}
 use Rattle.machine.specs.Showing.{holder_id}
@@ -72,7 +72,7 @@ decided_after None u head text now = decided_version u head text now
 decided_after (Some v) u head text now =
     cond v.is_same (Accepted Done None)
     (cond (lineages_differ v.lineage head.lineage) (Refused OtherLineage)
-    (cond (nat_lt v.serial head.serial) (decided_version u head text now) (Refused OldSerial)))
+    (cond (is_newer v.serial head.serial) (decided_version u head text now) (Refused OldSerial)))
 
 abbrev pub decided_update : Option Refusal → WorkspaceUnit → StateHead → List ℕ → ℕ → Decision
 decided_update (Some refusal) u head text now = Refused refusal
