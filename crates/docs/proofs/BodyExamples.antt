@@ -3,7 +3,7 @@ use Rattle.std.proofs.Common.{◌≡◌, [], ◌∷◌, Some, None, true, false,
 use Rattle.std.specs.Prelude.{codes}
 use Rattle.std.specs.Fmt.{digits}
 use Rattle.serde_json.proofs.OnLiterals.{serde_json_on_literals}
-use Rattle.basis.specs.declared.refusals.Refusal.TheVariants.{NoToken}
+use Rattle.basis.specs.declared.refusals.Refusal.TheVariants.{NoToken, Unavailable}
 use Rattle.basis.specs.declared.rows.HolderId.TheVariants.{Lock, Run}
 use Rattle.basis.specs.declared.runs.RunStatus.TheVariants.{Planning}
 use Rattle.basis.specs.Names.{run_id}
@@ -12,6 +12,10 @@ use Rattle.docs.specs.Bodies.{error_text, ws_text, run_text, run_holder_text, ws
 refused : error_text NoToken ≡ codes "{\"error\":\"no-token\"}"
 unfolding serde_json_on_literals digits run_id error_text ws_text run_text run_holder_text ws_list_text version_list_text run_list_text
 refused = refl
+
+down : error_text Unavailable ≡ codes "{\"error\":\"down\"}"
+unfolding serde_json_on_literals digits run_id error_text ws_text run_text run_holder_text ws_list_text version_list_text run_list_text
+down = refl
 
 new_workspace : ws_text (record { settings = record { runs = record { auto_apply = false }; keep_versions = 100 }; holder = None; name = codes "net"; version = None }) ≡ codes "{\"auto_apply\":false,\"holder\":null,\"keep_versions\":100,\"name\":\"net\",\"version\":null}"
 unfolding serde_json_on_literals digits run_id error_text ws_text run_text run_holder_text ws_list_text version_list_text run_list_text

@@ -1,6 +1,5 @@
 //! The bodies that the service writes.
 ghost use Rattle.std.specs.Prelude.{◌≡◌, IfOk, false, string_bytes};
-ghost use Rattle.basis.specs.declared.refusals.Refusal.TheVariants.{Unavailable};
 ghost use Rattle.serde_json.specs.View.{view};
 ghost use Rattle.serde_json.specs.Written.{compact_text, has_float};
 ghost use Rattle.basis.specs.Names.{run_id};
@@ -12,13 +11,6 @@ use basis::{
 };
 use serde_json::{Value, json};
 use std::alloc::{AllocError, Global};
-
-/// The body of the refusal `Unavailable`, which takes no memory.
-pub fn unavailable_body() -> &'static [u8]
-    ensures { result.now ≡ error_text Unavailable }
-{
-    b"{\"error\":\"down\"}"
-}
 
 /// The body of a refusal: its word.
 #[tactic(auto, unfolding(crate::specs::Bodies::error_text))]

@@ -11,7 +11,7 @@ pub mod faults;
 mod heads;
 pub mod listings;
 
-pub use bodies::{unavailable_body, write_error, write_run, write_run_holder, write_ws};
+pub use bodies::{write_error, write_run, write_run_holder, write_ws};
 pub use digests::digest_fits;
 pub use documents::{read_lock, read_run, read_settings, read_state};
 pub use faults::DocFault;
