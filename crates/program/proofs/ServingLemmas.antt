@@ -1,5 +1,5 @@
 -- Connections one after the other.
-use Rattle.std.proofs.Common.{◌≡◌, ◌∙◌, ◌≤◌, ◌+◌, ◌++◌, ◌∷◌, [], List, ℕ, Option, Result, Ok, Err, Bool, length, refl, sym, subst, arith, inl, inr, ap}
+use Rattle.std.proofs.Common.{◌≡◌, ◌∙◌, ◌≤◌, ◌+◌, ◌++◌, ◌∷◌, [], List, ℕ, Option, Result, Ok, Err, Bool, true, false, suc, length, refl, sym, subst, arith, inl, inr, ap}
 use Rattle.std.specs.Prelude.{◌⊎◌, IsErrOf}
 use Rattle.machine.specs.declared.records.Organization.{Organization}
 use Rattle.wire.specs.Links.{continue_if}
@@ -26,8 +26,8 @@ use Rattle.command_line.specs.declared.timeouts.Timeouts.{Timeouts}
 use Rattle.program.specs.Serving.{AreRequests, Serves, State, Answers, AnswersAll, Listens, ListensAt}
 use Rattle.program.specs.Inner.Serving.{TakesOne, ServesTo}
 
-answered : (now : ℕ) (received : List ℕ) (old new : List ℕ → Option Organization) (awaited : Bool) (text : List ℕ) → IsMoment now → IsAnswered now received old new awaited text → TakesOne old new
-answered now received old new awaited text moment (inl served) = inl (
+answered : (now : ℕ) (received : List ℕ) (old new : List ℕ → Option Organization) (awaited : Bool) (text : List ℕ) → IsMoment now → (is_down : Bool) → IsAnswered now received old new awaited text is_down → TakesOne old new
+answered now received old new awaited text moment false served = inl (
   now,
   received,
   continue_if awaited ++ text,
@@ -40,17 +40,17 @@ answered now received old new awaited text moment (inl served) = inl (
     listed = subst (λ (a : Ask). IsListed old a (continue_if awaited ++ text)) (sym served.asks.is) (reading_listed now served.asks.reading old (continue_if awaited ++ text));
   },
 )
-answered now received old new awaited text moment (inr down) = inr down.1.stays
+answered now received old new awaited text moment true down = inr down.1.stays
 
 -- one exchange takes at most one request
-pub taken_of : {T : Type 0} (now : ℕ) (received : List ℕ) (left : Option (List ℕ)) (old new : List ℕ → Option Organization) (before after : Option (List ℕ)) (res : Result T LinkFault)
-    → IsMoment now → Exchanges now received left old new before after res
+pub taken_of : {T : Type 0} (now : ℕ) (received : List ℕ) (left : Option (List ℕ)) (old new : List ℕ → Option Organization) (before after : Option (List ℕ)) (is_down : Bool) (res : Result T LinkFault)
+    → IsMoment now → Exchanges now received left old new before after is_down res
     → (IsErrOf res Ended ⊎ (IsErrOf res Read ⊎ IsErrOf res Continue) → Stays old new) → TakesOne old new
-taken_of now received left old new before after (Ok done) moment told stays = answered now received old new told.0 told.1 moment told.2
-taken_of now received left old new before after (Err Ended) moment told stays = inr (stays (inl refl))
-taken_of now received left old new before after (Err Read) moment told stays = inr (stays (inr (inl refl)))
-taken_of now received left old new before after (Err Continue) moment told stays = inr (stays (inr (inr refl)))
-taken_of now received left old new before after (Err Write) moment told stays = answered now received old new told.0 (told.1 ++ told.2) moment told.4
+taken_of now received left old new before after is_down (Ok done) moment told stays = answered now received old new told.0 told.1 moment is_down told.2
+taken_of now received left old new before after is_down (Err Ended) moment told stays = inr (stays (inl refl))
+taken_of now received left old new before after is_down (Err Read) moment told stays = inr (stays (inr (inl refl)))
+taken_of now received left old new before after is_down (Err Continue) moment told stays = inr (stays (inr (inr refl)))
+taken_of now received left old new before after is_down (Err Write) moment told stays = answered now received old new told.0 (told.1 ++ told.2) moment is_down told.4
 
 requests-push : (steps : List Step) (at : ℕ) (bytes : List ℕ) → AreRequests steps → AreRequests (steps ++ Request at bytes ∷ [])
 requests-push [] at bytes h = tt
@@ -101,9 +101,14 @@ serves_of count most old new le so_far = record {
 
 -- one connection more behind those that were answered
 module _ {K N C R W : Type 0} (k : keep.Ghosts K) (n : connections.Ghosts N R W) (c : clock.Ghosts C) (i : inlet.Ghosts R) (o : outlet.Ghosts W) where
-  pub answers_more : (timeouts : Timeouts) (moments : List ℕ) (at : ℕ) (old mid new : State N C K) → AnswersAll k n c i o timeouts moments old mid → Answers k n c i o timeouts at mid new → AnswersAll k n c i o timeouts (moments ++ at ∷ []) old new
-  answers_more timeouts [] at old mid new so_far one = (new, subst (λ (s : State N C K). Answers k n c i o timeouts at s new) so_far one, refl)
-  answers_more timeouts (m ∷ moments) at old mid new so_far one = (so_far.0, so_far.1, answers_more timeouts moments at so_far.0 mid new so_far.2 one)
+  pub answers_more : (timeouts : Timeouts) (from place : ℕ) (moments : List ℕ) (at : ℕ) (old mid new : State N C K)
+      → place ≡ from + length moments → AnswersAll k n c i o timeouts from moments old mid → Answers k n c i o timeouts place at mid new → AnswersAll k n c i o timeouts from (moments ++ at ∷ []) old new
+  answers_more timeouts from place [] at old mid new is so_far one =
+      let first : place ≡ from = omega arith in
+      (new, subst (λ (s : State N C K). Answers k n c i o timeouts from at s new) so_far (subst (λ (p : ℕ). Answers k n c i o timeouts p at mid new) first one), refl)
+  answers_more timeouts from place (m ∷ moments) at old mid new is so_far one =
+      let further : place ≡ suc from + length moments = omega arith in
+      (so_far.0, so_far.1, answers_more timeouts (suc from) place moments at so_far.0 mid new further so_far.2 one)
 
 pub one_more : (moments : List ℕ) (at count : ℕ) → length moments ≡ count → length (moments ++ at ∷ []) ≡ count + 1
 one_more moments at count is = length-push moments at ∙ ap (λ n. n + 1) is

@@ -2,7 +2,6 @@
 -- each path. Of a stream that took not all that was to be printed nothing is said.
 use Rattle.std.specs.Prelude.{◌≡◌, ◌≢◌, ◌<◌, ◌⊎◌, ◌+◌, ◌++◌, ℕ, Bool, List, ⊤, Option, Some, None, IfSome, true, false, length, is_some}
 use Rattle.std.specs.Io.KnownBytes.{Appends}
-use Rattle.std.specs.List.{flat_map}
 use Rattle.machine.specs.declared.keeps.Keep as keep
 use Rattle.machine.specs.declared.keeps.OrgRow.{OrgRow}
 use Rattle.machine.specs.declared.keeps.TokenRow.{TokenRow}
@@ -13,11 +12,11 @@ use Rattle.machine.specs.declared.keeps.AdminAnswer.{AdminAnswer}
 use Rattle.machine.specs.declared.keeps.AdminAnswer.TheVariants as answer
 use Rattle.machine.specs.declared.records.Organization.{Organization}
 use Rattle.serve.specs.Asks.{commands}
-use Rattle.serve.specs.Service.{Carries as CarriesOut, IsAdminAnswer, Stays, org_line, token_line}
+use Rattle.serve.specs.Service.{Carries as CarriesOut, IsAdminAnswer, Stays, org_lines, token_lines}
 use Rattle.program.specs.declared.endings.Ending.{Ending}
 use Rattle.program.specs.declared.endings.Ending.TheVariants as ending
 use Rattle.program.specs.Endings.{ending_line}
-use Rattle.program.specs.Errors.{GetsFront, GetsConnectionLines, log_line, readers_line, secret_line}
+use Rattle.program.specs.Errors.{GetsFront, log_line, readers_line, secret_line}
 use Rattle.program.specs.Frames.{AreFrames}
 use Rattle.program.specs.declared.outside.Files as files
 use Rattle.command_line.specs.Orders.{Asked, carries, adds_token, serves, replays}
@@ -68,7 +67,7 @@ AnswersLine ending.Unprinted output = ⊤
 
 -- the list of all organizations, a line each, or why there is none
 abbrev pub AnswersList : Ending → Stream → Type 0
-AnswersList ending.Done output = (rows : List OrgRow) × Gets output (flat_map org_line rows)
+AnswersList ending.Done output = (rows : List OrgRow) × Gets output (org_lines rows)
 AnswersList ending.Schema output = Says ending.Schema output
 AnswersList ending.Down output = Says ending.Down output
 AnswersList ending.Unprinted output = ⊤
@@ -76,7 +75,7 @@ AnswersList e output = ⊥
 
 -- the list of an organization's tokens, a line each, or why there is none
 abbrev pub AnswersTokens : Ending → Stream → Type 0
-AnswersTokens ending.Done output = (rows : List TokenRow) × Gets output (flat_map token_line rows)
+AnswersTokens ending.Done output = (rows : List TokenRow) × Gets output (token_lines rows)
 AnswersTokens ending.Absent output = Says ending.Absent output
 AnswersTokens ending.Schema output = Says ending.Schema output
 AnswersTokens ending.Down output = Says ending.Down output
@@ -102,12 +101,12 @@ TellsWord (answer.Tokens rows) e output = ⊤
 
 -- the lines of a list are told
 abbrev pub TellsList : AdminAnswer → Ending → Stream → Type 0
-TellsList (answer.Organizations rows) e output = ((e ≡ ending.Done) × Gets output (flat_map org_line rows)) ⊎ (e ≡ ending.Unprinted)
+TellsList (answer.Organizations rows) e output = ((e ≡ ending.Done) × Gets output (org_lines rows)) ⊎ (e ≡ ending.Unprinted)
 TellsList word e output = ⊤
 
 -- the lines of an organization's tokens are told, or that it isn't there
 abbrev pub TellsTokens : AdminAnswer → Ending → Stream → Type 0
-TellsTokens (answer.Tokens rows) e output = ((e ≡ ending.Done) × Gets output (flat_map token_line rows)) ⊎ (e ≡ ending.Unprinted)
+TellsTokens (answer.Tokens rows) e output = ((e ≡ ending.Done) × Gets output (token_lines rows)) ⊎ (e ≡ ending.Unprinted)
 TellsTokens answer.Absent e output = IsSaid ending.Absent e output.old output.new
 TellsTokens other e output = ⊤
 
@@ -270,14 +269,13 @@ module _ {K F N C R W : Type 0} (k : keep.Ghosts K) (f : files.Ghosts F K) (n : 
     pub serves : k.clean after → k.sound before → Serves count (k.rows before) (k.rows after)
     pub served : Ending
     pub told : Option (List ℕ)
-    pub answers : AnswersAtPort k n c i o port timeouts count (state old.network old.clock before) (state new.network new.clock after) served output.old told
-    pub says : SaysServed served e told output.new
     pub others_may_read : Bool
     pub looked : f.reads old.files path others_may_read
     pub noted : Option (List ℕ)
     pub readers : TellsOfReaders others_may_read (stream errors.old noted)
     pub lines : Option (List ℕ)
-    pub tells : GetsConnectionLines noted lines
+    pub answers : AnswersAtPort k n c i o port timeouts count (state old.network old.clock before noted) (state new.network new.clock after lines) served output.old told
+    pub says : SaysServed served e told output.new
     pub log : TellsOfLog (f.copied new.files path after) (stream lines errors.new)
 
   -- what is asked for is done to what lies at its path, and to nothing else

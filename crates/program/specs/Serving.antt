@@ -1,17 +1,17 @@
 -- The loop of `serve`: what it prints, the connections that it answers, and the records that it leaves.
-use Rattle.std.specs.Prelude.{◌≡◌, ◌<◌, ◌≤◌, ℕ, List, [], ◌∷◌, ◌++◌, ◌⊎◌, ⊤, Bool, true, false, Option, Some, None, Result, Ok, Err, codes, decimal, length}
+use Rattle.std.specs.Prelude.{◌≡◌, ◌<◌, ◌≤◌, ℕ, suc, List, [], ◌∷◌, ◌++◌, ◌⊎◌, ⊤, Bool, true, false, Option, Some, None, Result, Ok, Err, codes, decimal, length}
 use Rattle.std.specs.Io.KnownBytes.{Appends, Consumes}
 use Rattle.basis.specs.declared.memory.Down.{Down}
 use Rattle.machine.specs.declared.keeps.Keep as keep
 use Rattle.machine.specs.declared.records.Organization.{Organization}
 use Rattle.serve.specs.declared.exchanges.LinkFault.{LinkFault}
-use Rattle.serve.specs.declared.exchanges.LinkFault.TheVariants.{Ended, Read, Continue, Write}
 use Rattle.serve.specs.declared.steps.Step.{Step}
 use Rattle.serve.specs.declared.steps.Step.TheVariants.{Request, Command}
 use Rattle.serve.specs.Asks.{Ask}
 use Rattle.serve.specs.Exchanges.{Exchanges}
 use Rattle.serve.specs.Service.{AreAsked}
 use Rattle.serve.specs.Runs.{IsOwnRecord}
+use Rattle.program.specs.Errors.{GetsConnectionLines}
 use Rattle.program.specs.declared.endings.Ending.{Ending}
 use Rattle.program.specs.declared.endings.Ending.TheVariants as ending
 use Rattle.program.specs.declared.outside.Connections as connections
@@ -43,14 +43,15 @@ ListensAt port other old new = ⊥
 abbrev pub loopback : List ℕ
 loopback = 127 ∷ 0 ∷ 0 ∷ 1 ∷ []
 
--- the network, the clock and the store, between two connections
+-- the network, the clock, the store and what the error stream has, between two connections
 pub record State (N C K : Type 0) : Type 0 where
   pub network : N
   pub clock : C
   pub store : K
+  pub errors : Option (List ℕ)
 
-abbrev pub state : {N C K : Type 0} → N → C → K → State N C K
-state network clock store = record { network = network; clock = clock; store = store }
+abbrev pub state : {N C K : Type 0} → N → C → K → Option (List ℕ) → State N C K
+state network clock store errors = record { network = network; clock = clock; store = store; errors = errors }
 
 -- no connection is accepted with these timeouts, or the clock tells no moment for it: the network and the clock before
 -- and after
@@ -60,39 +61,42 @@ AcceptsNone {N} {C} {R} {W} n c timeouts network network' clock clock' =
     ⊎ ((reader : R) × (writer : W) × n.accepts network timeouts (Ok (reader, writer)) network' × c.tells clock None clock')
 
 module _ {K N R W : Type 0} (k : keep.Ghosts K) (n : connections.Ghosts N R W) (i : inlet.Ghosts R) (o : outlet.Ghosts W) where
-  -- a connection with these two sides is answered by one exchange at this moment, and ended: the network and the store
-  -- before and after
-  pub record AnswersOne (at : ℕ) (reader : R) (writer : W) (network network' : N) (store store' : K) : Type 0 where
+  -- the connection of this number, with these two sides, is answered by one exchange at this moment, told of on the error
+  -- stream and ended: the network, the store and what the error stream has, before and after
+  pub record AnswersOne (place at : ℕ) (reader : R) (writer : W) (network network' : N) (store store' : K) (errors errors' : Option (List ℕ)) : Type 0 where
     pub read : R
     pub written : W
+    pub is_down : Bool
     pub result : Result (Unit {0}) LinkFault
     pub so_far : k.clean store' → k.clean store
     pub kept : k.clean store' → k.sound store → k.sound store'
     pub exchanges : k.clean store' → k.sound store → (received : List ℕ) × Consumes (i.left reader) (i.left read) received
-        × Exchanges at received (i.left read) (k.rows store) (k.rows store') (o.written writer) (o.written written) result
+        × Exchanges at received (i.left read) (k.rows store) (k.rows store') (o.written writer) (o.written written) is_down result
+    pub lines : GetsConnectionLines place is_down result errors errors'
     pub ends : n.ends network read written network'
 
 module _ {K N C R W : Type 0} (k : keep.Ghosts K) (n : connections.Ghosts N R W) (c : clock.Ghosts C) (i : inlet.Ghosts R) (o : outlet.Ghosts W) where
-  -- a connection is accepted with these timeouts, the clock tells this moment, and the connection is answered
-  pub record Answers (timeouts : Timeouts) (at : ℕ) (old new : State N C K) : Type 0 where
+  -- a connection is accepted with these timeouts, the clock tells this moment, and the connection is answered as that of
+  -- this number
+  pub record Answers (timeouts : Timeouts) (place at : ℕ) (old new : State N C K) : Type 0 where
     pub reader : R
     pub writer : W
     pub network : N
     pub accepts : n.accepts old.network timeouts (Ok (reader, writer)) network
     pub tells : c.tells old.clock (Some at) new.clock
-    pub answers : AnswersOne k n i o at reader writer network new.network old.store new.store
+    pub answers : AnswersOne k n i o place at reader writer network new.network old.store new.store old.errors new.errors
 
-  -- connections are answered in turn, one at each of these moments, each with these timeouts
-  abbrev pub AnswersAll : Timeouts → List ℕ → State N C K → State N C K → Type 0
-  AnswersAll timeouts [] old new = new ≡ old
-  AnswersAll timeouts (at ∷ moments) old new = (mid : State N C K) × Answers timeouts at old mid × AnswersAll timeouts moments mid new
+  -- connections are answered in turn, one at each of these moments, each with these timeouts, by numbers from this one on
+  abbrev pub AnswersAll : Timeouts → ℕ → List ℕ → State N C K → State N C K → Type 0
+  AnswersAll timeouts place [] old new = new ≡ old
+  AnswersAll timeouts place (at ∷ moments) old new = (mid : State N C K) × Answers timeouts place at old mid × AnswersAll timeouts (suc place) moments mid new
 
   -- so many connections are answered; or fewer, since no further one is accepted; or none, where the line wasn't printed
   abbrev pub AnswersCount : Timeouts → ℕ → State N C K → State N C K → Ending → Type 0
-  AnswersCount timeouts count old new ending.Done = (moments : List ℕ) × (length moments ≡ count) × AnswersAll timeouts moments old new
+  AnswersCount timeouts count old new ending.Done = (moments : List ℕ) × (length moments ≡ count) × AnswersAll timeouts 1 moments old new
   AnswersCount timeouts count old new ending.Down =
-      (moments : List ℕ) × (last : State N C K) × (length moments < count) × AnswersAll timeouts moments old last
-      × AcceptsNone n c timeouts last.network new.network last.clock new.clock × (new.store ≡ last.store)
+      (moments : List ℕ) × (last : State N C K) × (length moments < count) × AnswersAll timeouts 1 moments old last
+      × AcceptsNone n c timeouts last.network new.network last.clock new.clock × (new.store ≡ last.store) × (new.errors ≡ last.errors)
   AnswersCount timeouts count old new ending.Unprinted = new ≡ old
   AnswersCount timeouts count old new other = ⊥
 
@@ -101,9 +105,9 @@ module _ {K N C R W : Type 0} (k : keep.Ghosts K) (n : connections.Ghosts N R W)
   abbrev pub AnswersAtPort : ℕ → Timeouts → ℕ → State N C K → State N C K → Ending → Option (List ℕ) → Option (List ℕ) → Type 0
   AnswersAtPort port timeouts count old new e before after =
       ((bound : N) × (given : ℕ) × n.binds old.network loopback port (Ok given) bound
-      × AnswersCount timeouts count (state bound old.clock old.store) new e × ListensAt given e before after)
+      × AnswersCount timeouts count (state bound old.clock old.store old.errors) new e × ListensAt given e before after)
       ⊎ ((refused : Down) × n.binds old.network loopback port (Err refused) new.network
-      × (new.clock ≡ old.clock) × (new.store ≡ old.store) × (e ≡ ending.Down) × (after ≡ before))
+      × (new.clock ≡ old.clock) × (new.store ≡ old.store) × (new.errors ≡ old.errors) × (e ≡ ending.Down) × (after ≡ before))
 
 -- every step is a request
 abbrev pub AreRequests : List Step → Type 0
@@ -120,22 +124,3 @@ pub record Serves (count : ℕ) (old new : List ℕ → Option Organization) : T
   pub asked : List Ask
   pub are : AreAsked steps asked
   pub rows : (org : List ℕ) → IsOwnRecord asked old new org
-
--- what the fault of a link is called
-abbrev pub fault_text : LinkFault → List ℕ
-fault_text Ended = codes "the peer closed before its request was whole"
-fault_text Read = codes "a read failed"
-fault_text Continue = codes "100 Continue could not be written"
-fault_text Write = codes "the reply could not be written whole"
-
--- a line of the error stream on the connection of this number, from 1 on
-abbrev pub connection_line : ℕ → List ℕ → List ℕ
-connection_line place text = codes "custody: connection " ++ decimal place ++ codes ": " ++ text ++ 10 ∷ []
-
-abbrev pub down_line : ℕ → Bool → List ℕ
-down_line place true = connection_line place (codes "memory or the store was refused, answered 503")
-down_line place false = []
-
-abbrev pub fault_line : {T : Type 0} → ℕ → Result T LinkFault → List ℕ
-fault_line place (Ok done) = []
-fault_line place (Err fault) = connection_line place (fault_text fault)

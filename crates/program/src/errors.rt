@@ -1,7 +1,7 @@
 //! Texts of the error stream.
 ghost use Rattle.std.specs.Prelude.{◌++◌, ◌∷◌, [], codes, decimal};
 ghost use Rattle.wire.specs.Links.{Writes};
-ghost use Rattle.program.specs.Serving.{connection_line};
+ghost use Rattle.program.specs.Errors.{connection_line};
 
 use itoa::Buffer;
 use std::io;

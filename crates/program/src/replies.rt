@@ -1,15 +1,14 @@
 //! What the program prints.
-ghost use Rattle.std.specs.Prelude.{◌≡◌, ◌++◌, OnOk, codes};
+ghost use Rattle.std.specs.Prelude.{◌≡◌, OnOk};
 ghost use Rattle.std.specs.Io.KnownBytes.{Appends};
 ghost use Rattle.program.specs.Replies.{reply_frame, printed, bad_frame_text, answer_line};
 ghost use Rattle.program.specs.Outcomes.{IsSaid};
-ghost use Rattle.basis.specs.Roles.{role_word};
-ghost use Rattle.serve.specs.Service.{org_line, token_line, until_text, prefix_text};
-ghost use Rattle.std.specs.List.{flat_map};
+ghost use Rattle.serve.specs.Service.{org_lines, token_lines};
 
 use crate::endings::Ending;
-use basis::{Bytes, Caller, Moment, Prefix, Role};
+use basis::Bytes;
 use machine::{OrgRow, TokenRow};
+use serve::{write_org_lines, write_token_lines};
 use std::io;
 use std::io::Write;
 
@@ -57,90 +56,18 @@ pub fn say<O: Write>(output: &mut O, ending: Ending) -> Ending
     }
 }
 
-fn print_organization<O: Write>(output: &mut O, row: &OrgRow) -> io::Result<()>
-    ensures { OnOk result (Appends (O.contents output.old) (O.contents output.new) (org_line row.now)) }
-{
-    writeln!(
-        output,
-        "{} {} {}",
-        row.name.as_str(),
-        row.workspaces,
-        row.limit.get()
-    )
-}
-
 /// Prints the list of all organizations: a line `ORG WORKSPACES LIMIT` each.
 pub fn print_organizations<O: Write>(output: &mut O, rows: &[OrgRow]) -> io::Result<()>
-    ensures { OnOk result (Appends (O.contents output.old) (O.contents output.new) (flat_map org_line rows.now)) }
+    ensures { OnOk result (Appends (O.contents output.old) (O.contents output.new) (org_lines rows.now)) }
 {
-    'rows: for row in rows {
-        print_organization(output, row)?;
-    }
+    write_org_lines(output, rows)?;
     output.flush()
-}
-
-fn role_word(role: Role) -> &'static str
-    ensures { result.now ≡ role_word role }
-{
-    match role {
-        Role::Read => "read",
-        Role::Write => "write",
-        Role::Admin => "admin",
-    }
-}
-
-fn print_until<O: Write>(output: &mut O, until: Option<Moment>) -> io::Result<()>
-    ensures { OnOk result (Appends (O.contents output.old) (O.contents output.new) (until_text until)) }
-{
-    match until {
-        Some(until) => write!(output, "{}", until.seconds()),
-        None => output.write_all(b"-"),
-    }
-}
-
-fn prefix_text(prefix: &Prefix) -> &[u8]
-    ensures { result.now ≡ prefix_text prefix.now }
-{
-    let text = prefix.as_str().as_bytes();
-    match text {
-        [] => b"-",
-        [_, ..] => text,
-    }
-}
-
-fn print_prefix<O: Write>(output: &mut O, prefix: &Prefix) -> io::Result<()>
-    ensures { OnOk result (Appends (O.contents output.old) (O.contents output.new) (prefix_text prefix.now ++ codes "\n")) }
-{
-    output.write_all(prefix_text(prefix))?;
-    output.write_all(b"\n")
-}
-
-// What a token may do, to the end of its line: its role, its end, and which workspaces it is for.
-fn print_caller<O: Write>(output: &mut O, caller: &Caller) -> io::Result<()>
-    ensures { OnOk result (Appends (O.contents output.old) (O.contents output.new)
-        (role_word caller.now.role ++ codes " " ++ until_text caller.now.until ++ codes " " ++ prefix_text caller.now.prefix ++ codes "\n")) }
-{
-    output.write_all(role_word(caller.role).as_bytes())?;
-    output.write_all(b" ")?;
-    print_until(output, caller.until)?;
-    output.write_all(b" ")?;
-    print_prefix(output, &caller.prefix)
-}
-
-fn print_token<O: Write>(output: &mut O, row: &TokenRow) -> io::Result<()>
-    ensures { OnOk result (Appends (O.contents output.old) (O.contents output.new) (token_line row.now)) }
-{
-    output.write_all(row.name.as_str().as_bytes())?;
-    output.write_all(b" ")?;
-    print_caller(output, &row.caller)
 }
 
 /// Prints the list of an organization's tokens: a line `NAME ROLE UNTIL PREFIX` each.
 pub fn print_tokens<O: Write>(output: &mut O, rows: &[TokenRow]) -> io::Result<()>
-    ensures { OnOk result (Appends (O.contents output.old) (O.contents output.new) (flat_map token_line rows.now)) }
+    ensures { OnOk result (Appends (O.contents output.old) (O.contents output.new) (token_lines rows.now)) }
 {
-    'rows: for row in rows {
-        print_token(output, row)?;
-    }
+    write_token_lines(output, rows)?;
     output.flush()
 }

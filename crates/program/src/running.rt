@@ -2,7 +2,7 @@
 ghost use Rattle.std.specs.Prelude.{◌≡◌, ◌≢◌, ◌<◌, ◌⊎◌, ℕ, List, length, Option, IfOk, IsErrOf, OnOk, OnErr, Some, None};
 ghost use Rattle.std.specs.Io.KnownBytes.{Appends};
 ghost use Rattle.program.specs.Endings.{status_of};
-ghost use Rattle.program.specs.Errors.{GetsFront, GetsConnectionLines};
+ghost use Rattle.program.specs.Errors.{GetsFront};
 ghost use Rattle.command_line.specs.Orders.{said_by, with_secret};
 ghost use Rattle.program.specs.Outcomes.{stream, IsSaid, AnswersLine, AnswersList, AnswersTokens, TellsWord, TellsList, TellsTokens, TellsAnswer, IsOperated, AnswersCommand, RefusesUsage, HasSecret, HasNoSecret, IsSecretOf, AddsToken, ServesAt, Does, RefusesWords, Prints, OperatesAt, AddsTokenAt, ServesFrom, RefusesToOpen, outside, IsAlone, SaysServed, TellsOfLog, TellsOfReaders, Leaves, Runs};
 ghost use Rattle.program.specs.Inner.Outcomes.{IsSaidWhy};
@@ -290,8 +290,7 @@ fn serve_at<K: Keep, N: Connections, C: Clock, O: Write, E: Write>(
     ensures kept { K.clean service.new.keep → K.sound service.old.keep → K.sound service.new.keep }
     ensures serves { K.clean service.new.keep → K.sound service.old.keep → Serves count (K.rows service.old.keep) (K.rows service.new.keep) }
     ensures listens { Listens result (O.contents output.old) (O.contents output.new) }
-    ensures answers { AnswersAtPort K.Keep N.Connections C.Clock N.Reader.Inlet N.Writer.Outlet port timeouts.now count (state network.old clock.old service.old.keep) (state network.new clock.new service.new.keep) result (O.contents output.old) (O.contents output.new) }
-    ensures tells { GetsConnectionLines (E.contents errors.old) (E.contents errors.new) }
+    ensures answers { AnswersAtPort K.Keep N.Connections C.Clock N.Reader.Inlet N.Writer.Outlet port timeouts.now count (state network.old clock.old service.old.keep (E.contents errors.old)) (state network.new clock.new service.new.keep (E.contents errors.new)) result (O.contents output.old) (O.contents output.new) }
 {
     match network.bind(Ipv4Addr::LOCALHOST, port) {
         Ok(given) => serve_loop(

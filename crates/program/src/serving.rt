@@ -4,8 +4,8 @@ ghost use Rattle.std.specs.Prelude.{◌≡◌, ◌++◌, ℕ, List, Ok, Some, If
 ghost use Rattle.std.specs.Io.KnownBytes.{Appends, Consumes};
 ghost use Rattle.serve.specs.Exchanges.{Exchanges};
 ghost use Rattle.wire.specs.Links.{Writes};
-ghost use Rattle.program.specs.Errors.{GetsConnectionLines};
-ghost use Rattle.program.specs.Serving.{listening_line, ListensAt, Serves, fault_text, down_line, fault_line, state, AcceptsNone, AnswersOne, Answers, AnswersCount};
+ghost use Rattle.program.specs.Errors.{GetsConnectionLines, fault_text, down_line, fault_line};
+ghost use Rattle.program.specs.Serving.{listening_line, ListensAt, Serves, state, AcceptsNone, AnswersOne, Answers, AnswersCount};
 ghost use Rattle.program.specs.Inner.Serving.{TakesOne};
 
 use crate::endings::Ending;
@@ -19,31 +19,7 @@ use serve::{LinkFault, Service};
 use std::alloc::Global;
 use std::io;
 use std::io::Write;
-use wire::{Broken, Inlet, Outlet};
-
-// A writer that notes whether a reply of the status 503 was begun.
-#[derive(Drop)]
-struct Watch<O: Outlet> {
-    outlet: O,
-    is_down: bool,
-}
-
-impl<O: Outlet> Outlet for Watch<O> {
-    ghost written = { λ watch. O.written watch.outlet };
-
-    ghost broken = { λ watch. O.broken watch.outlet };
-
-    fn failed(&self) -> bool {
-        self.outlet.failed()
-    }
-
-    fn write(&mut self, piece: &[u8]) -> Result<usize, Broken> {
-        if piece.starts_with(b"HTTP/1.1 503 ") {
-            self.is_down = true;
-        }
-        self.outlet.write(piece)
-    }
-}
+use wire::{Inlet, Outlet};
 
 fn fault_text(fault: LinkFault) -> &'static str
     ensures { result.now ≡ fault_text fault }
@@ -85,7 +61,7 @@ fn tell<E: Write>(
     is_down: bool,
 ) -> io::Result<()>
     ensures whole { OnOk result (Appends (E.contents errors.old) (E.contents errors.new) (down_line place is_down ++ fault_line place ended)) }
-    ensures only { GetsConnectionLines (E.contents errors.old) (E.contents errors.new) }
+    ensures front { GetsConnectionLines place is_down ended (E.contents errors.old) (E.contents errors.new) }
 {
     match tell_down(errors, place, is_down) {
         Ok(()) => {}
@@ -110,7 +86,7 @@ fn exchange_one<K: Keep, I: Inlet, O: Outlet>(
     ensures kept { K.clean service.new.keep → K.sound service.old.keep → K.sound service.new.keep }
     ensures takes { K.clean service.new.keep → K.sound service.old.keep → TakesOne (K.rows service.old.keep) (K.rows service.new.keep) }
     ensures told { K.clean service.new.keep → K.sound service.old.keep → (received : List ℕ) × Consumes (I.left inlet.old) (I.left inlet.new) received
-        × Exchanges now received (I.left inlet.new) (K.rows service.old.keep) (K.rows service.new.keep) (O.written outlet.old) (O.written outlet.new) result }
+        × Exchanges now received (I.left inlet.new) (K.rows service.old.keep) (K.rows service.new.keep) (O.written outlet.old) (O.written outlet.new) service.new.was_down result }
 {
     prove!(now.seconds() <= MAX_MOMENT);
     service.exchange(alloc, now, inlet, outlet)
@@ -131,17 +107,13 @@ fn serve_one<K: Keep, N: Connections, E: Write>(
     ensures so_far { K.clean service.new.keep → K.clean service.old.keep }
     ensures kept { K.clean service.new.keep → K.sound service.old.keep → K.sound service.new.keep }
     ensures takes { K.clean service.new.keep → K.sound service.old.keep → TakesOne (K.rows service.old.keep) (K.rows service.new.keep) }
-    ensures answers { AnswersOne K.Keep N.Connections N.Reader.Inlet N.Writer.Outlet now reader writer network.old network.new service.old.keep service.new.keep }
-    ensures tells { GetsConnectionLines (E.contents errors.old) (E.contents errors.new) }
+    ensures answers { AnswersOne K.Keep N.Connections N.Reader.Inlet N.Writer.Outlet place now reader writer network.old network.new service.old.keep service.new.keep (E.contents errors.old) (E.contents errors.new) }
 {
     let mut inlet = reader;
-    let mut watch = Watch {
-        outlet: writer,
-        is_down: false,
-    };
-    let ended = exchange_one(alloc, service, now, &mut inlet, &mut watch);
-    let _ = tell(errors, place, ended, watch.is_down);
-    network.finish(inlet, watch.outlet);
+    let mut outlet = writer;
+    let ended = exchange_one(alloc, service, now, &mut inlet, &mut outlet);
+    let _ = tell(errors, place, ended, service.was_down());
+    network.finish(inlet, outlet);
 }
 
 fn print_listening<O: Write>(output: &mut O, port: u16) -> io::Result<()>
@@ -183,9 +155,8 @@ fn serve_next<K: Keep, N: Connections, C: Clock, E: Write>(
     ensures so_far { K.clean service.new.keep → K.clean service.old.keep }
     ensures kept { K.clean service.new.keep → K.sound service.old.keep → K.sound service.new.keep }
     ensures takes { K.clean service.new.keep → K.sound service.old.keep → TakesOne (K.rows service.old.keep) (K.rows service.new.keep) }
-    ensures answers { OnOk result ((at : ℕ) × Answers K.Keep N.Connections C.Clock N.Reader.Inlet N.Writer.Outlet timeouts.now at (state network.old clock.old service.old.keep) (state network.new clock.new service.new.keep)) }
-    ensures refused { OnErr result (AcceptsNone N.Connections C.Clock timeouts.now network.old network.new clock.old clock.new × (service.new.keep ≡ service.old.keep)) }
-    ensures tells { GetsConnectionLines (E.contents errors.old) (E.contents errors.new) }
+    ensures answers { OnOk result ((at : ℕ) × Answers K.Keep N.Connections C.Clock N.Reader.Inlet N.Writer.Outlet timeouts.now place at (state network.old clock.old service.old.keep (E.contents errors.old)) (state network.new clock.new service.new.keep (E.contents errors.new))) }
+    ensures refused { OnErr result (AcceptsNone N.Connections C.Clock timeouts.now network.old network.new clock.old clock.new × (service.new.keep ≡ service.old.keep) × (E.contents errors.new ≡ E.contents errors.old)) }
 {
     let (reader, writer, now) = match accept(network, timeouts, clock) {
         Ok(found) => found,
@@ -197,8 +168,9 @@ fn serve_next<K: Keep, N: Connections, C: Clock, E: Write>(
 
 /// Says at which port it listens, and then answers so many connections, one after the other, each with
 /// one exchange. The network listens at that port already. A connection that ends in a fault of its link
-/// counts, and a line of the error stream tells the fault; so does one that the timeouts end. An accept
-/// that fails, or a clock out of range, ends it.
+/// counts, and a line of the error stream tells the fault; so does one that the timeouts end. One that is
+/// answered by the 503, since memory or the store refused, is told of so, too. An accept that fails, or a
+/// clock out of range, ends it.
 pub fn serve_loop<K: Keep, N: Connections, C: Clock, O: Write, E: Write>(
     alloc: Global,
     network: &mut N,
@@ -213,9 +185,8 @@ pub fn serve_loop<K: Keep, N: Connections, C: Clock, O: Write, E: Write>(
     ensures so_far { K.clean service.new.keep → K.clean service.old.keep }
     ensures kept { K.clean service.new.keep → K.sound service.old.keep → K.sound service.new.keep }
     ensures serves { K.clean service.new.keep → K.sound service.old.keep → Serves count (K.rows service.old.keep) (K.rows service.new.keep) }
-    ensures answers { AnswersCount K.Keep N.Connections C.Clock N.Reader.Inlet N.Writer.Outlet timeouts.now count (state network.old clock.old service.old.keep) (state network.new clock.new service.new.keep) result }
+    ensures answers { AnswersCount K.Keep N.Connections C.Clock N.Reader.Inlet N.Writer.Outlet timeouts.now count (state network.old clock.old service.old.keep (E.contents errors.old)) (state network.new clock.new service.new.keep (E.contents errors.new)) result }
     ensures listens { ListensAt port result (O.contents output.old) (O.contents output.new) }
-    ensures tells { GetsConnectionLines (E.contents errors.old) (E.contents errors.new) }
 {
     if print_listening(output, port).is_err() {
         return Ending::Unprinted;

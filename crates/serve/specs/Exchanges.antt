@@ -1,5 +1,5 @@
 -- One exchange: what is written for the bytes that were received, and the records afterwards.
-use Rattle.std.specs.Prelude.{◌≡◌, ◌≢◌, ℕ, ◌<◌, ◌++◌, ◌⊎◌, Bool, false, List, length, Option, Some, None, IfSome, Result, Ok, Err}
+use Rattle.std.specs.Prelude.{◌≡◌, ◌≢◌, ℕ, ◌<◌, ◌++◌, Bool, true, false, List, length, Option, Some, None, IfSome, Result, Ok, Err}
 use Rattle.std.specs.Io.KnownBytes.{Appends, IsAtEnd}
 use Rattle.machine.specs.declared.records.Organization.{Organization}
 use Rattle.wire.specs.Messages.{Reading, Reads, unfinished, refused, whole, AwaitsContinue}
@@ -37,19 +37,22 @@ pub record IsUnavailable (now : ℕ) (received : List ℕ) (old new : List ℕ �
   pub shaped : IsShapedBy reading awaited without_body
   pub is : IsReplyText (unavailable_answer without_body) now text
 
-abbrev pub IsAnswered : ℕ → List ℕ → (List ℕ → Option Organization) → (List ℕ → Option Organization) → Bool → List ℕ → Type 0
-IsAnswered now received old new awaited text = IsServed now received old new awaited text ⊎ ((reading : Option Reading) × IsUnavailable now received old new reading awaited text)
+-- what was received is answered: it is served (`false`), or memory or the store refused (`true`)
+abbrev pub IsAnswered : ℕ → List ℕ → (List ℕ → Option Organization) → (List ℕ → Option Organization) → Bool → List ℕ → Bool → Type 0
+IsAnswered now received old new awaited text false = IsServed now received old new awaited text
+IsAnswered now received old new awaited text true = (reading : Option Reading) × IsUnavailable now received old new reading awaited text
 
 -- what an exchange answers, by the bytes that were received from the reader, and those that it has left: the records before and after,
--- and what was written before and after. After `Write` `100 Continue` is whole where it is awaited, and the reply's text isn't
-abbrev pub Exchanges : ℕ → List ℕ → Option (List ℕ) → (List ℕ → Option Organization) → (List ℕ → Option Organization) → Option (List ℕ) → Option (List ℕ) → {T : Type 0} → Result T LinkFault → Type 0
-Exchanges now received left old new before after (Ok done) =
-    (awaited : Bool) × (text : List ℕ) × IsAnswered now received old new awaited text × Appends before after (continue_if awaited ++ text)
-Exchanges now received left old new before after (Err Ended) = Reads received unfinished × IsAtEnd left × WritesContinue received before after
-Exchanges now received left old new before after (Err Read) = Reads received unfinished × WritesContinue received before after
-Exchanges now received left old new before after (Err Continue) = AwaitsContinue received × WritesPrefix before after continue_text
-Exchanges now received left old new before after (Err Write) =
-    (awaited : Bool) × (part : List ℕ) × (rest : List ℕ) × (0 < length rest) × IsAnswered now received old new awaited (part ++ rest) × Appends before after (continue_if awaited ++ part)
+-- what was written before and after, and whether the reply is that of memory or a store that refused, which no exchange without a
+-- reply has. After `Write` `100 Continue` is whole where it is awaited, and the reply's text isn't
+abbrev pub Exchanges : ℕ → List ℕ → Option (List ℕ) → (List ℕ → Option Organization) → (List ℕ → Option Organization) → Option (List ℕ) → Option (List ℕ) → Bool → {T : Type 0} → Result T LinkFault → Type 0
+Exchanges now received left old new before after is_down (Ok done) =
+    (awaited : Bool) × (text : List ℕ) × IsAnswered now received old new awaited text is_down × Appends before after (continue_if awaited ++ text)
+Exchanges now received left old new before after is_down (Err Ended) = (is_down ≡ false) × Reads received unfinished × IsAtEnd left × WritesContinue received before after
+Exchanges now received left old new before after is_down (Err Read) = (is_down ≡ false) × Reads received unfinished × WritesContinue received before after
+Exchanges now received left old new before after is_down (Err Continue) = (is_down ≡ false) × AwaitsContinue received × WritesPrefix before after continue_text
+Exchanges now received left old new before after is_down (Err Write) =
+    (awaited : Bool) × (part : List ℕ) × (rest : List ℕ) × (0 < length rest) × IsAnswered now received old new awaited (part ++ rest) is_down × Appends before after (continue_if awaited ++ part)
 
 -- at most the record of one organization changes
 abbrev pub ChangesAtMostOne : (List ℕ → Option Organization) → (List ℕ → Option Organization) → Type 0

@@ -1,5 +1,6 @@
 -- Steps as their bytes say them, and whole runs of them over the records of all organizations.
 use Rattle.std.specs.Prelude.{◌≡◌, ℕ, Bool, true, false, List, [], ◌∷◌, ◌++◌, Option, Some, None, codes, decimal, ⊤}
+use Rattle.std.specs.List.{flat_map}
 use Rattle.std.specs.Str.{bytes_eq}
 use Rattle.machine.specs.declared.keeps.AdminAnswer.{AdminAnswer}
 use Rattle.basis.specs.Roles.{role_word}
@@ -60,8 +61,7 @@ abbrev pub org_line : OrgRow → List ℕ
 org_line row = row.name ++ codes " " ++ decimal row.workspaces ++ codes " " ++ decimal row.limit ++ codes "\n"
 
 abbrev pub org_lines : List OrgRow → List ℕ
-org_lines [] = []
-org_lines (row ∷ rows) = org_line row ++ org_lines rows
+org_lines rows = flat_map org_line rows
 
 -- the end of a token, or a hyphen
 abbrev pub until_text : Option ℕ → List ℕ
@@ -78,8 +78,7 @@ abbrev pub token_line : TokenRow → List ℕ
 token_line row = row.name ++ codes " " ++ role_word row.caller.role ++ codes " " ++ until_text row.caller.until ++ codes " " ++ prefix_text row.caller.prefix ++ codes "\n"
 
 abbrev pub token_lines : List TokenRow → List ℕ
-token_lines [] = []
-token_lines (row ∷ rows) = token_line row ++ token_lines rows
+token_lines rows = flat_map token_line rows
 
 -- the word that answers an operator's command on one organization; a list has none
 abbrev pub admin_word : AdminAnswer → List ℕ

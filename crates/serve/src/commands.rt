@@ -1,114 +1,35 @@
 //! Operator's commands.
-ghost use Rattle.std.specs.Prelude.{◌≡◌, ◌++◌, ℕ, List, IfOk, OnOk, OnErr, codes, decimal, length, ◌≤◌};
+ghost use Rattle.std.specs.Prelude.{◌≡◌, ℕ, List, IfOk, OnErr, length, ◌≤◌};
 ghost use Rattle.serve.specs.Asks.{commands};
-ghost use Rattle.basis.specs.Roles.{role_word};
-ghost use Rattle.serve.specs.Service.{Carries, Stays, IsAdminAnswer, org_line, org_lines, until_text, prefix_text, token_line, token_lines, admin_word, token_list_text};
+ghost use Rattle.serve.specs.Service.{Carries, Stays, IsAdminAnswer, org_lines, token_lines, admin_word, token_list_text};
 
+use crate::lists::{write_org_lines, write_token_lines};
 use crate::steps::Admin;
-use basis::{Caller, Down, Moment, Prefix, Role};
-use itoa::Buffer;
+use basis::Down;
 use machine::{AdminAnswer, Keep, OrgRow, TokenRow};
 use route::secret_digest;
 use std::alloc::Global;
 
-fn add_decimal(text: &mut Vec<u8>, number: u64) -> Result<(), Down>
-    ensures { OnOk result (text.new.items ≡ text.old.items ++ decimal number) }
-{
-    let mut buffer = Buffer::new();
-    let digits = buffer.format(number);
-    text.extend_from_slice(digits.as_bytes())?;
-    Ok(())
-}
-
-fn add_line(text: &mut Vec<u8>, row: &OrgRow) -> Result<(), Down>
-    ensures { OnOk result (text.new.items ≡ text.old.items ++ org_line row.now) }
-{
-    text.extend_from_slice(row.name.as_str().as_bytes())?;
-    text.extend_from_slice(b" ")?;
-    add_decimal(text, row.workspaces as u64)?;
-    text.extend_from_slice(b" ")?;
-    add_decimal(text, u64::from(row.limit.get()))?;
-    text.extend_from_slice(b"\n")?;
-    Ok(())
-}
-
-/// The list of all organizations as it is printed: a line for each, with its name, how many workspaces
-/// it has, and how many it may have.
+/// The list of all organizations as it is printed.
 pub fn org_lines(alloc: Global, rows: &[OrgRow]) -> Result<Vec<u8>, Down>
     ensures { IfOk result (λ text. text.items ≡ org_lines rows.now) }
 {
     let mut text = Vec::new(alloc);
-    for row in rows {
-        add_line(&mut text, row)?;
-    }
-    Ok(text)
-}
-
-fn role_word(role: Role) -> &'static [u8]
-    ensures { result.now ≡ role_word role }
-{
-    match role {
-        Role::Read => b"read",
-        Role::Write => b"write",
-        Role::Admin => b"admin",
+    match write_org_lines(&mut text, rows) {
+        Ok(()) => Ok(text),
+        Err(_) => Err(Down),
     }
 }
 
-fn add_until(text: &mut Vec<u8>, until: Option<Moment>) -> Result<(), Down>
-    ensures { OnOk result (text.new.items ≡ text.old.items ++ until_text until) }
-{
-    match until {
-        Some(until) => add_decimal(text, until.seconds()),
-        None => {
-            text.extend_from_slice(b"-")?;
-            Ok(())
-        }
-    }
-}
-
-fn prefix_text(prefix: &Prefix) -> &[u8]
-    ensures { result.now ≡ prefix_text prefix.now }
-{
-    let text = prefix.as_str().as_bytes();
-    match text {
-        [] => b"-",
-        [_, ..] => text,
-    }
-}
-
-// What a token may do: its role, its end, and which workspaces it is for.
-fn add_caller(text: &mut Vec<u8>, caller: &Caller) -> Result<(), Down>
-    ensures { OnOk result (text.new.items
-        ≡ text.old.items ++ role_word caller.now.role ++ codes " " ++ until_text caller.now.until ++ codes " " ++ prefix_text caller.now.prefix) }
-{
-    text.extend_from_slice(role_word(caller.role))?;
-    text.extend_from_slice(b" ")?;
-    add_until(text, caller.until)?;
-    text.extend_from_slice(b" ")?;
-    text.extend_from_slice(prefix_text(&caller.prefix))?;
-    Ok(())
-}
-
-fn add_token(text: &mut Vec<u8>, row: &TokenRow) -> Result<(), Down>
-    ensures { OnOk result (text.new.items ≡ text.old.items ++ token_line row.now) }
-{
-    text.extend_from_slice(row.name.as_str().as_bytes())?;
-    text.extend_from_slice(b" ")?;
-    add_caller(text, &row.caller)?;
-    text.extend_from_slice(b"\n")?;
-    Ok(())
-}
-
-// The list of an organization's tokens as it is printed: a line for each, with its name, its role, its
-// end and its prefix.
+// The list of an organization's tokens as it is printed.
 fn token_lines(alloc: Global, rows: &[TokenRow]) -> Result<Vec<u8>, Down>
     ensures { IfOk result (λ text. text.items ≡ token_lines rows.now) }
 {
     let mut text = Vec::new(alloc);
-    for row in rows {
-        add_token(&mut text, row)?;
+    match write_token_lines(&mut text, rows) {
+        Ok(()) => Ok(text),
+        Err(_) => Err(Down),
     }
-    Ok(text)
 }
 
 /// The list of an organization's tokens as it is printed, or the word that it isn't there.

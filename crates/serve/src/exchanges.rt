@@ -3,6 +3,7 @@ ghost use Rattle.std.specs.Prelude.{◌≡◌, ◌++◌, ◌↔◌, ℕ, List, B
 ghost use Rattle.machine.specs.declared.records.Organization.{Organization};
 ghost use Rattle.route.specs.Asks.{asked_of};
 ghost use Rattle.wire.specs.declared.messages.WireFault.TheVariants.{Ended, Read, Continue};
+ghost use Rattle.wire.specs.Replies.{unavailable_answer};
 ghost use Rattle.serve.specs.Steps.{replies};
 ghost use Rattle.serve.specs.Service.{asked_by, Carries, Stays, said_to};
 ghost use Rattle.std.specs.Io.KnownBytes.{Consumes};
@@ -29,6 +30,23 @@ pub enum LinkFault {
     Write,
 }
 
+/// The reply that is due, and whether it is the 503 of memory or a store that refused.
+#[derive(Drop)]
+pub struct Due {
+    pub reply: Reply,
+    pub is_down: bool,
+}
+
+fn unavailable(is_head: bool) -> Due
+    ensures reply { result.reply ≡ unavailable_answer is_head }
+    ensures down { result.is_down ≡ true }
+{
+    Due {
+        reply: Reply::unavailable(is_head),
+        is_down: true,
+    }
+}
+
 /// A message is answered in full, and then its change is made.
 fn answer<K: Keep>(
     alloc: Global,
@@ -50,8 +68,8 @@ fn answer<K: Keep>(
 }
 
 /// The reply where no message was read, or why there is none.
-fn fault_reply(alloc: Global, fault: WireFault) -> Result<Reply, LinkFault>
-    ensures ok { IfOk result (λ reply. (now : ℕ) (rows : List ℕ → Option Organization) → RepliesTo now (Err fault) rows rows reply) }
+fn fault_reply(alloc: Global, fault: WireFault) -> Result<Due, LinkFault>
+    ensures ok { IfOk result (λ due. (now : ℕ) (rows : List ℕ → Option Organization) → RepliesTo now (Err fault) rows rows due.reply due.is_down) }
     ensures ended { IsErrOf result LinkFault.Ended ↔ (fault ≡ Ended) }
     ensures read { IsErrOf result LinkFault.Read ↔ (fault ≡ Read) }
     ensures continues { IsErrOf result LinkFault.Continue ↔ (fault ≡ Continue) }
@@ -59,10 +77,13 @@ fn fault_reply(alloc: Global, fault: WireFault) -> Result<Reply, LinkFault>
 {
     match fault {
         WireFault::Refused(refusal, is_head) => match refused_reply(alloc, refusal, is_head) {
-            Ok(reply) => Ok(reply),
-            Err(Down) => Ok(Reply::unavailable(is_head)),
+            Ok(reply) => Ok(Due {
+                reply,
+                is_down: false,
+            }),
+            Err(Down) => Ok(unavailable(is_head)),
         },
-        WireFault::Down => Ok(Reply::unavailable(false)),
+        WireFault::Down => Ok(unavailable(false)),
         WireFault::Ended => Err(LinkFault::Ended),
         WireFault::Read => Err(LinkFault::Read),
         WireFault::Continue => Err(LinkFault::Continue),
@@ -76,10 +97,10 @@ fn reply_to<K: Keep>(
     routes: &Routes,
     now: Moment,
     read: Result<Message, WireFault>,
-) -> Result<Reply, LinkFault>
+) -> Result<Due, LinkFault>
     ensures so_far { K.clean keep.new → K.clean keep.old }
     ensures kept { K.clean keep.new → K.sound keep.old → K.sound keep.new }
-    ensures ok { K.clean keep.new → K.sound keep.old → IfOk result (RepliesTo now read (K.rows keep.old) (K.rows keep.new)) }
+    ensures ok { K.clean keep.new → K.sound keep.old → IfOk result (λ due. RepliesTo now read (K.rows keep.old) (K.rows keep.new) due.reply due.is_down) }
     ensures err { K.clean keep.new → OnErr result (Stays (K.rows keep.old) (K.rows keep.new)) }
     ensures others { K.clean keep.new → K.sound keep.old → ChangesAtMostOne (K.rows keep.old) (K.rows keep.new) }
     ensures ended { IsErrOf result LinkFault.Ended ↔ (read ≡ Err Ended) }
@@ -91,15 +112,19 @@ fn reply_to<K: Keep>(
         Ok(message) => {
             let is_head = is_head(&message);
             match answer(alloc, keep, routes, now, message) {
-                Ok(reply) => Ok(reply),
-                Err(Down) => Ok(Reply::unavailable(is_head)),
+                Ok(reply) => Ok(Due {
+                    reply,
+                    is_down: false,
+                }),
+                Err(Down) => Ok(unavailable(is_head)),
             }
         }
         Err(fault) => fault_reply(alloc, fault),
     }
 }
 
-/// One exchange over a keep.
+/// One exchange over a keep; `is_down` tells then whether it was answered by the 503 of memory or a store
+/// that refused.
 pub fn exchange<K: Keep, I: Inlet, O: Outlet>(
     alloc: Global,
     keep: &mut K,
@@ -107,13 +132,14 @@ pub fn exchange<K: Keep, I: Inlet, O: Outlet>(
     now: Moment,
     inlet: &mut I,
     outlet: &mut O,
+    is_down: &mut bool,
 ) -> Result<(), LinkFault>
     requires reads { I.broken inlet.old ≡ false }
     requires writes { O.broken outlet.old ≡ false }
     ensures so_far { K.clean keep.new → K.clean keep.old }
     ensures kept { K.clean keep.new → K.sound keep.old → K.sound keep.new }
     ensures told { K.clean keep.new → K.sound keep.old → (received : List ℕ) × Consumes (I.left inlet.old) (I.left inlet.new) received
-        × Exchanges now received (I.left inlet.new) (K.rows keep.old) (K.rows keep.new) (O.written outlet.old) (O.written outlet.new) result }
+        × Exchanges now received (I.left inlet.new) (K.rows keep.old) (K.rows keep.new) (O.written outlet.old) (O.written outlet.new) is_down.new result }
     ensures stays { K.clean keep.new → (IsErrOf result LinkFault.Ended ⊎ (IsErrOf result LinkFault.Read ⊎ IsErrOf result LinkFault.Continue))
         → Stays (K.rows keep.old) (K.rows keep.new) }
     ensures others { K.clean keep.new → K.sound keep.old → ChangesAtMostOne (K.rows keep.old) (K.rows keep.new) }
@@ -121,12 +147,16 @@ pub fn exchange<K: Keep, I: Inlet, O: Outlet>(
     ensures end { I.ended inlet.old ≡ false → ((I.ended inlet.new ≡ true) ↔ IsErrOf result LinkFault.Ended) }
     ensures written { (O.broken outlet.new ≡ true) ↔ (IsErrOf result LinkFault.Continue ⊎ IsErrOf result LinkFault.Write) }
 {
+    *is_down = false;
     let read = read_message(alloc, inlet, outlet);
     match reply_to(alloc, keep, routes, now, read) {
-        Ok(reply) => match write_reply(&reply, now, outlet) {
-            Ok(()) => Ok(()),
-            Err(_) => Err(LinkFault::Write),
-        },
+        Ok(due) => {
+            *is_down = due.is_down;
+            match write_reply(&due.reply, now, outlet) {
+                Ok(()) => Ok(()),
+                Err(_) => Err(LinkFault::Write),
+            }
+        }
         Err(fault) => Err(fault),
     }
 }

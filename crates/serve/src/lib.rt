@@ -5,6 +5,7 @@ mod checks;
 mod commands;
 mod exchanges;
 mod laws;
+mod lists;
 mod messages;
 mod prepared;
 mod requests;
@@ -19,5 +20,6 @@ pub use laws::{
     repeats_leave_the_workspace, requests_change_their_workspace_alone, same_bytes_ask_again,
     same_steps_ask_the_same, steps_are_repeatable, steps_change_what_they_name, two_worlds,
 };
+pub use lists::{write_org_lines, write_token_lines};
 pub use service::Service;
 pub use steps::{Admin, Step};

@@ -145,6 +145,8 @@ pub struct Service<K: Keep> {
     // The router, once a first message has needed it.
     routes: Option<Routes>,
     taken: u64,
+    // Whether the last exchange was answered by the 503 of memory or a store that refused.
+    was_down: bool,
 }
 
 fn take_routes(alloc: Global, routes: &mut Option<Routes>) -> Result<Routes, Down> {
@@ -170,7 +172,7 @@ fn ended(written: Result<(), WriteFault>) -> Result<(), LinkFault>
 fn refuse_exchange<O: Outlet>(now: Moment, outlet: &mut O) -> Result<(), LinkFault>
     requires { O.broken outlet.old ≡ false }
     ensures told { (left : Option (List ℕ)) (rows : List ℕ → Option Organization)
-        → Exchanges now [] left rows rows (O.written outlet.old) (O.written outlet.new) result }
+        → Exchanges now [] left rows rows (O.written outlet.old) (O.written outlet.new) true result }
     ensures fault { IfErr result (λ fault. fault ≡ LinkFault.Write) }
     ensures written { O.broken outlet.new ≡ is_err result }
 {
@@ -183,11 +185,13 @@ impl<K: Keep> Service<K> {
     pub fn new(keep: K) -> Service<K>
         ensures keep { result.keep ≡ keep }
         ensures taken { result.taken ≡ 0 }
+        ensures down { result.was_down ≡ false }
     {
         Service {
             keep,
             routes: None,
             taken: 0,
+            was_down: false,
         }
     }
 
@@ -199,9 +203,11 @@ impl<K: Keep> Service<K> {
             keep,
             routes,
             taken,
+            was_down,
         } = self;
         drop(routes);
         let _ = taken;
+        let _ = was_down;
         keep
     }
 
@@ -210,6 +216,14 @@ impl<K: Keep> Service<K> {
         ensures { result ≡ self.now.taken }
     {
         self.taken
+    }
+
+    /// Whether the last call of `exchange` was answered by the 503, since memory or the store refused; false
+    /// where it had no reply, and before any.
+    pub fn was_down(&self) -> bool
+        ensures { result ≡ self.now.was_down }
+    {
+        self.was_down
     }
 
     /// One exchange: a request is read, answered and carried out, and its reply is written. The
@@ -226,7 +240,7 @@ impl<K: Keep> Service<K> {
         ensures so_far { K.clean self.new.keep → K.clean self.old.keep }
         ensures kept { K.clean self.new.keep → K.sound self.old.keep → K.sound self.new.keep }
         ensures told { K.clean self.new.keep → K.sound self.old.keep → (received : List ℕ) × Consumes (I.left inlet.old) (I.left inlet.new) received
-            × Exchanges now received (I.left inlet.new) (K.rows self.old.keep) (K.rows self.new.keep) (O.written outlet.old) (O.written outlet.new) result }
+            × Exchanges now received (I.left inlet.new) (K.rows self.old.keep) (K.rows self.new.keep) (O.written outlet.old) (O.written outlet.new) self.new.was_down result }
 
         // What needs no bytes: where no whole message received no record changes, and never more than one does.
         ensures stays { K.clean self.new.keep → (IsErrOf result LinkFault.Ended ⊎ (IsErrOf result LinkFault.Read ⊎ IsErrOf result LinkFault.Continue))
@@ -241,11 +255,22 @@ impl<K: Keep> Service<K> {
     {
         match take_routes(alloc, &mut self.routes) {
             Ok(routes) => {
-                let result = exchange(alloc, &mut self.keep, &routes, now, inlet, outlet);
+                let result = exchange(
+                    alloc,
+                    &mut self.keep,
+                    &routes,
+                    now,
+                    inlet,
+                    outlet,
+                    &mut self.was_down,
+                );
                 self.routes = Some(routes);
                 result
             }
-            Err(_) => refuse_exchange(now, outlet),
+            Err(_) => {
+                self.was_down = true;
+                refuse_exchange(now, outlet)
+            }
         }
     }
 
@@ -257,6 +282,7 @@ impl<K: Keep> Service<K> {
             × IsAdminAnswer (K.rows self.old.keep) asked.now answer) }
         ensures err { K.clean self.new.keep → OnErr result (Stays (K.rows self.old.keep) (K.rows self.new.keep)) }
         ensures taken { self.new.taken ≡ self.old.taken }
+        ensures down { self.new.was_down ≡ self.old.was_down }
     {
         command(alloc, &mut self.keep, asked)
     }
@@ -268,6 +294,7 @@ impl<K: Keep> Service<K> {
         ensures most { self.new.taken ≤ length steps.now }
         ensures all { OnOk result (self.new.taken ≡ length steps.now) }
         ensures left { OnErr result (self.new.taken < length steps.now) }
+        ensures down { self.new.was_down ≡ self.old.was_down }
         ensures ran { K.clean self.new.keep → K.sound self.old.keep → (replies : List (List ℕ)) × RunsTo (take self.new.taken steps.now) (K.rows self.old.keep) (K.rows self.new.keep) replies
             × IfOk result (λ given. given.items ≡ replies) }
     {
@@ -331,6 +358,7 @@ impl<K: Keep> Service<K> {
 
         // After `Down` a step is left that wasn't taken.
         ensures taken_fewer { OnErr result (self.new.taken < length steps.now) }
+        ensures down { self.new.was_down ≡ self.old.was_down }
 
         // Custody, over the book of each workspace (`Book`): its steps with the workspace before and after each, in the own machine's run over the steps taken.
         // In the period of a lock, a step that makes a version, or is an accepted purge, or after which a version kept before it is gone, carried its ID.

@@ -1,5 +1,5 @@
 -- Contracts between functions: the reply to what was read, before it is written.
-use Rattle.std.specs.Prelude.{ℕ, ◌⊎◌, Bool, List, Option, Some, None, Result, Ok, Err}
+use Rattle.std.specs.Prelude.{ℕ, Bool, true, false, List, Option, Some, None, Result, Ok, Err}
 use Rattle.std.specs.Io.KnownBytes.{Appends}
 use Rattle.machine.specs.declared.records.Organization.{Organization}
 use Rattle.wire.specs.declared.messages.Message.{Message}
@@ -21,11 +21,16 @@ read_so_far (Err Ended) awaited = Some unfinished
 read_so_far (Err Read) awaited = Some unfinished
 read_so_far (Err Continue) awaited = Some unfinished
 
--- the reply to what was read
-abbrev pub RepliesTo : ℕ → Result Message WireFault → (List ℕ → Option Organization) → (List ℕ → Option Organization) → Answer → Type 0
-RepliesTo now read old new reply = (received : List ℕ) (left before after : Option (List ℕ)) → ReportsReceived received left before after read
+-- the text of the reply to what is served (`false`), or of that of memory or a store that refused (`true`)
+abbrev pub IsTextOf : Bool → ℕ → List ℕ → (List ℕ → Option Organization) → (List ℕ → Option Organization) → Option Reading → Bool → List ℕ → Type 0
+IsTextOf false now received old new reading awaited text = IsServed now received old new awaited text
+IsTextOf true now received old new reading awaited text = IsUnavailable now received old new reading awaited text
+
+-- the reply to what was read, and whether it is that of memory or a store that refused
+abbrev pub RepliesTo : ℕ → Result Message WireFault → (List ℕ → Option Organization) → (List ℕ → Option Organization) → Answer → Bool → Type 0
+RepliesTo now read old new reply is_down = (received : List ℕ) (left before after : Option (List ℕ)) → ReportsReceived received left before after read
     → (awaited : Bool) × Appends before after (continue_if awaited)
-    × ((text : List ℕ) → IsReplyText reply now text → IsServed now received old new awaited text ⊎ IsUnavailable now received old new (read_so_far read awaited) awaited text)
+    × ((text : List ℕ) → IsReplyText reply now text → IsTextOf is_down now received old new (read_so_far read awaited) awaited text)
 
 -- a reply that was written, or not whole
 abbrev pub ended_of : {T E : Type 0} → Result T E → Result T LinkFault

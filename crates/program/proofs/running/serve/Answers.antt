@@ -16,4 +16,4 @@ returns-clause-serves g c = inl (serves_from g.K.Keep g.F.Files g.N.Connections 
     c.new-service.ensures.keep c.into_keep-keep.ensures c.in-Ok.ensures.opened c.in-Ok.ensures.others
     c.serve_at-ending.ensures.so_far c.serve_at-ending.ensures.kept c.serve_at-ending.ensures.serves c.serve_at-ending.ensures.answers
     c.close_after.ensures.closed c.close_after.ensures.others c.say_served.ensures.says
-    c.others_may_read-others_may_read.ensures c.tell_of_readers.ensures c.serve_at-ending.ensures.tells c.close_after.ensures.log)
+    c.others_may_read-others_may_read.ensures c.tell_of_readers.ensures c.close_after.ensures.log)

@@ -1,6 +1,5 @@
-use Rattle.std.proofs.Common.{ℕ, ◌<◌, arith, refl, sym, subst, ◌++◌, ◌∷◌, []}
+use Rattle.std.proofs.Common.{ℕ, ◌<◌, ◌+◌, arith, refl, sym, subst, ◌++◌, ◌∷◌, []}
 use Rattle.program.specs.Serving.{state}
-use Rattle.program.proofs.ErrorLemmas.{gets_none, gets_then}
 use Rattle.program.proofs.ServingLemmas.{serves_none, serves_more, serves_of, answers_more, one_more}
 use Rattle.program.proofs.serving.serve_loop.Goals as goal
 
@@ -13,7 +12,6 @@ connections-init g c = record {
   kept = λ clean sound. sound;
   serves = λ clean sound. serves_none (g.K.Keep.rows c.args.service.now.keep);
   answers = ([], refl, refl);
-  tells = gets_none (g.E.Write.contents c.args.errors.now);
 }
 
 pub connections-preserved : goal.connections-preserved
@@ -29,11 +27,11 @@ connections-preserved g c =
       answers = (
         so_far.0 ++ one.0 ∷ [],
         one_more so_far.0 one.0 c.connections.place so_far.1,
-        answers_more g.K.Keep g.N.Connections g.C.Clock g.N.Reader.Inlet g.N.Writer.Outlet c.args.timeouts.now so_far.0 one.0
-            (state c.args.network.now c.args.clock.now c.args.service.now.keep) (state c.connections.network c.connections.clock c.connections.service.keep)
-            (state c.serve_next.new.network c.serve_next.new.clock c.serve_next.new.service.keep) so_far.2 one.1,
+        answers_more g.K.Keep g.N.Connections g.C.Clock g.N.Reader.Inlet g.N.Writer.Outlet c.args.timeouts.now 1 (c.connections.place + 1) so_far.0 one.0
+            (state c.args.network.now c.args.clock.now c.args.service.now.keep (g.E.Write.contents c.args.errors.now))
+            (state c.connections.network c.connections.clock c.connections.service.keep (g.E.Write.contents c.connections.errors))
+            (state c.serve_next.new.network c.serve_next.new.clock c.serve_next.new.service.keep (g.E.Write.contents c.serve_next.new.errors)) (let is = so_far.1 in omega arith) so_far.2 one.1,
       );
-      tells = gets_then _ _ _ c.connections.invariant.tells c.in-Ok.ensures.tells;
     }
 
 pub returns-in-Err-clause-answers : goal.returns-in-Err-clause-answers
@@ -41,15 +39,10 @@ returns-in-Err-clause-answers g c =
     let so_far = c.connections.invariant.answers in
     let none = c.in-Err.ensures.refused in (
       so_far.0,
-      state c.connections.network c.connections.clock c.connections.service.keep,
+      state c.connections.network c.connections.clock c.connections.service.keep (g.E.Write.contents c.connections.errors),
       subst (λ (n : ℕ). n < c.args.count) (sym so_far.1) c.connections-test.true,
       so_far.2,
       none.0,
       none.1,
+      none.2,
     )
-
-pub returns-in-Err-clause-tells : goal.returns-in-Err-clause-tells
-returns-in-Err-clause-tells g c = gets_then _ _ _ c.connections.invariant.tells c.in-Err.ensures.tells
-
-pub returns-then-is_err-clause-tells : goal.returns-then-is_err-clause-tells
-returns-then-is_err-clause-tells g c = gets_none (g.E.Write.contents c.args.errors.now)

@@ -1,5 +1,4 @@
 use Rattle.std.proofs.Common.{◌≡◌, ℕ, List, length}
-use Rattle.program.specs.Errors.{GetsConnectionLines}
 use Rattle.program.specs.Serving.{AnswersAll, state}
 use Rattle.program.specs.Inner.Serving.{ServesTo}
 use Rattle.program.proofs.serving.serve_loop.Given as goal
@@ -11,6 +10,5 @@ invariant-connections g l = record {
   kept : g.K.Keep.clean l.service.keep → g.K.Keep.sound l.fn.service.keep → g.K.Keep.sound l.service.keep;
   serves : g.K.Keep.clean l.service.keep → g.K.Keep.sound l.fn.service.keep → ServesTo l.place (g.K.Keep.rows l.fn.service.keep) (g.K.Keep.rows l.service.keep);
   answers : (moments : List ℕ) × (length moments ≡ l.place)
-      × AnswersAll g.K.Keep g.N.Connections g.C.Clock g.N.Reader.Inlet g.N.Writer.Outlet l.fn.timeouts moments (state l.fn.network l.fn.clock l.fn.service.keep) (state l.network l.clock l.service.keep);
-  tells : GetsConnectionLines (g.E.Write.contents l.fn.errors) (g.E.Write.contents l.errors);
+      × AnswersAll g.K.Keep g.N.Connections g.C.Clock g.N.Reader.Inlet g.N.Writer.Outlet l.fn.timeouts 1 moments (state l.fn.network l.fn.clock l.fn.service.keep (g.E.Write.contents l.fn.errors)) (state l.network l.clock l.service.keep (g.E.Write.contents l.errors));
 }

@@ -2,9 +2,9 @@ use Rattle.std.proofs.Common.{◌≡◌, ◌∙◌, ◌++◌, ℕ, List, Option,
 use Rattle.std.specs.Prelude.{OnOk}
 use Rattle.std.specs.Io.KnownBytes.{Appends}
 use Rattle.wire.proofs.LinkLemmas.{Appends-then}
-use Rattle.program.proofs.replies.print_token.Goals as goal
+use Rattle.serve.proofs.lists.write_token.Goals as goal
 
--- what is printed of a caller stands behind its name, one piece after another
+-- what is written of a caller stands behind its name, one piece after another
 onto : (x r s u p e : List ℕ) → x ++ (r ++ s ++ u ++ s ++ p ++ e) ≡ x ++ r ++ s ++ u ++ s ++ p ++ e
 onto x r s u p e =
     sym (append_assoc x (r ++ s ++ u ++ s ++ p) e)
@@ -19,4 +19,4 @@ printed (Err fault) a b c d n r s u p e first second third = tt
 pub returns : goal.returns
 returns g c =
     let named = subst (λ (t : List ℕ). Appends (g.O.Write.contents c.args.output.now) (g.O.Write.contents c.write_all.new.self) t) (c.as_bytes.ensures.value ∙ c.as_str.ensures) c.in_ok-write_all.ensures.bytes in
-    printed c.print_caller.result _ _ _ _ _ _ _ _ _ _ named c.in_ok-write_all-2.ensures.bytes c.print_caller.ensures
+    printed c.write_caller.result _ _ _ _ _ _ _ _ _ _ named c.in_ok-write_all-2.ensures.bytes c.write_caller.ensures

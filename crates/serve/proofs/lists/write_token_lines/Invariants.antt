@@ -2,8 +2,8 @@ use Rattle.std.proofs.Common.{take}
 use Rattle.std.specs.List.{flat_map}
 use Rattle.std.specs.Io.KnownBytes.{Appends}
 use Rattle.serve.specs.Service.{token_line}
-use Rattle.program.proofs.replies.print_tokens.Given as goal
+use Rattle.serve.proofs.lists.write_token_lines.Given as goal
 
--- what the rows so far print has been written
+-- the lines of the rows so far are written
 abbrev pub invariant-rows : goal.invariant-rows
 invariant-rows g l = Appends (g.O.Write.contents l.initial.output) (g.O.Write.contents l.output) (flat_map token_line (take l.row-index l.rows))
