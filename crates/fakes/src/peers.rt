@@ -7,8 +7,34 @@ use basis::{Bytes, Down};
 use program::outside::Connections;
 use program::timeouts::Timeouts;
 use std::alloc::Global;
+use std::io;
+use std::io::Write;
 use std::net::Ipv4Addr;
 use wire::{FromRead, Inlet, Outlet, ToWrite};
+
+/// What a peer got. It takes a byte a write, as a slow one does.
+#[derive(Drop)]
+pub struct Sipped {
+    bytes: Vec<u8>,
+}
+
+impl Write for Sipped {
+    ghost contents = { λ s. Some s.bytes.items };
+
+    fn write(&mut self, buf: &[u8]) -> io::Result<usize> {
+        match buf {
+            [] => Ok(0),
+            [byte, ..] => {
+                self.bytes.push(*byte)?;
+                Ok(1)
+            }
+        }
+    }
+
+    fn flush(&mut self) -> io::Result<()> {
+        Ok(())
+    }
+}
 
 /// Peers that connect one after the other. Each has sent its bytes, and sends no more.
 #[derive(Drop)]
@@ -42,13 +68,13 @@ impl<'a> MemoryPeers<'a> {
 impl<'a> Connections for MemoryPeers<'a> {
     type Reader = FromRead<&'a [u8]>;
 
-    type Writer = ToWrite<Vec<u8>>;
+    type Writer = ToWrite<Sipped>;
 
     ghost binds = { λ old address port result new. (result ≡ Ok port) × IsBound new.bound address port };
 
-    ghost accepts = { λ old timeouts result new. AcceptsNext ⟦<FromRead<&'a [u8]> as Inlet>⟧ ⟦<ToWrite<Vec<u8>> as Outlet>⟧ old.waiting.now result new.waiting.now × OnOk result (new.timeouts ≡ Some timeouts) };
+    ghost accepts = { λ old timeouts result new. AcceptsNext ⟦<FromRead<&'a [u8]> as Inlet>⟧ ⟦<ToWrite<Sipped> as Outlet>⟧ old.waiting.now result new.waiting.now × OnOk result (new.timeouts ≡ Some timeouts) };
 
-    ghost ends = { λ old _ writer new. (new.is_lost ≡ true) ⊎ IfSome (⟦<ToWrite<Vec<u8>> as Outlet>⟧.written writer) (λ bytes. new.got.items ≡ old.got.items ++ bytes ∷ []) };
+    ghost ends = { λ old _ writer new. (new.is_lost ≡ true) ⊎ IfSome (⟦<ToWrite<Sipped> as Outlet>⟧.written writer) (λ bytes. new.got.items ≡ old.got.items ++ bytes ∷ []) };
 
     fn bind(&mut self, address: Ipv4Addr, port: u16) -> Result<u16, Down> {
         self.bound = Some((address, port));
@@ -58,17 +84,20 @@ impl<'a> Connections for MemoryPeers<'a> {
     fn accept(
         &mut self,
         timeouts: &Timeouts,
-    ) -> Result<(FromRead<&'a [u8]>, ToWrite<Vec<u8>>), Down> {
+    ) -> Result<(FromRead<&'a [u8]>, ToWrite<Sipped>), Down> {
         let [sent, rest @ ..] = self.waiting else {
             return Err(Down);
         };
         self.waiting = rest;
         self.timeouts = Some(*timeouts);
-        Ok((FromRead::new(*sent), ToWrite::new(Vec::new(self.alloc))))
+        let got = Sipped {
+            bytes: Vec::new(self.alloc),
+        };
+        Ok((FromRead::new(*sent), ToWrite::new(got)))
     }
 
-    fn finish(&mut self, _reader: FromRead<&'a [u8]>, writer: ToWrite<Vec<u8>>) {
-        let bytes = Bytes::new(writer.into_inner());
+    fn finish(&mut self, _reader: FromRead<&'a [u8]>, writer: ToWrite<Sipped>) {
+        let bytes = Bytes::new(writer.into_inner().bytes);
         if self.got.push(bytes).is_err() {
             self.is_lost = true;
         }
