@@ -23,7 +23,7 @@ fn does(plot: &Plot<'_>) -> Option<Does> {
 /// Where a story of the program is run.
 #[derive(Clone, Copy)]
 pub enum Place {
-    /// A peer connects, or a clock or a log breaks.
+    /// A peer connects, or a clock, a log or an output breaks.
     Memory,
     /// A file is made or looked at.
     Files,
@@ -59,6 +59,8 @@ pub struct Memory<'s> {
     file: MemoryFile<'s>,
     // The next command can't read the clock.
     has_no_clock: bool,
+    // The next command can't flush its output.
+    is_unflushed: bool,
     sent: Vec<&'s [u8]>,
     due: Vec<Due<'s>>,
 }
@@ -80,6 +82,7 @@ impl<'s> Memory<'s> {
         Memory {
             file: MemoryFile::new(alloc, ""),
             has_no_clock: false,
+            is_unflushed: false,
             sent: Vec::new(alloc),
             due: Vec::new(alloc),
         }
@@ -145,14 +148,13 @@ impl<'s> Memory<'s> {
         parts: &[Part<'_>],
     ) -> Result<(), Failure> {
         let input = Giver::new(head.written(), ALL);
-        let left = self.ran(
-            alloc,
-            at,
-            words,
-            input,
-            Taker::new(alloc),
-            Taker::new(alloc),
-        )?;
+        let output = if self.is_unflushed {
+            Taker::unflushed(alloc)
+        } else {
+            Taker::new(alloc)
+        };
+        self.is_unflushed = false;
+        let left = self.ran(alloc, at, words, input, output, Taker::new(alloc))?;
         compare_left(alloc, answer, parts, &left)
     }
 
@@ -177,7 +179,10 @@ impl<'s> Memory<'s> {
         match what {
             "clock" => self.has_no_clock = true,
             "log" => self.file.keeps_log = true,
-            _ => return Err(Failure::from(head.unread("a clock or a log breaks"))),
+            "output" => self.is_unflushed = true,
+            _ => {
+                return Err(Failure::from(head.unread("a clock, a log or an output breaks")));
+            }
         }
         Ok(())
     }
