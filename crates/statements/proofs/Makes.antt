@@ -251,20 +251,21 @@ module _ (table : Table) (def : TableText) (text : List ℕ) (p : Parsed) (reads
 
 -- ---- CREATE INDEX
 
+-- an index is made, or nothing, where one of its name is there
 abbrev IsIndexMaking : Command → Type 0
-IsIndexMaking k = (at : ℕ) × (k ≡ CreateIndex at)
+IsIndexMaking k = (k ≡ Nothing) ⊎ ((at : ℕ) × (k ≡ CreateIndex at))
 
 module _ (def : IndexText) where
-  abbrev pub fresh_index : IndexText
-  fresh_index = record def { if_missing = false }
+  abbrev pub missing_index : IndexText
+  missing_index = record def { if_missing = true }
 
   an_index : (at : ℕ) (a b c : Bool) (r : Checked Index) (k : Command)
-      → and_then (cond a (Err Misuse) (cond b (Err Exists) (cond c (Err Exists) (Ok true)))) (λ is_new. cond is_new (and_then r (λ _. Ok (CreateIndex at))) (Ok Nothing)) ≡ Ok k → IsIndexMaking k
+      → and_then (cond a (Err Misuse) (cond b (Err Exists) (cond c (Ok false) (Ok true)))) (λ is_new. cond is_new (and_then r (λ _. Ok (CreateIndex at))) (Ok Nothing)) ≡ Ok k → IsIndexMaking k
   an_index at true b c r k h = absurd (cc)
   an_index at false true c r k h = absurd (cc)
-  an_index at false false true r k h = absurd (cc)
+  an_index at false false true r k h = inl (same_value (sym h))
   an_index at false false false (Err e) k h = absurd (cc)
-  an_index at false false false (Ok i) k h = (at, same_value (sym h))
+  an_index at false false false (Ok i) k h = inr (at, same_value (sym h))
 
   on_its_table : (r : Checked ℕ) (table_for : ℕ → Checked Table) (body : ℕ → Table → Checked Command) (k : Command) → ((at : ℕ) (t : Table) → body at t ≡ Ok k → IsIndexMaking k)
       → and_then r (λ at. and_then (table_for at) (body at)) ≡ Ok k → IsIndexMaking k
@@ -279,15 +280,17 @@ module _ (def : IndexText) where
   unreserved true body k h = absurd (cc)
   unreserved false body k h = h
 
-  makes_an_index : (s : Schema) (base : ℕ) (k : Command) → command s [] base (written.CreateIndex fresh_index) ≡ Ok k → IsIndexMaking k
+  makes_an_index : (s : Schema) (base : ℕ) (k : Command) → command s [] base (written.CreateIndex missing_index) ≡ Ok k → IsIndexMaking k
   unfolding command create_index creates
-  makes_an_index s base k h = on_its_table _ (table_at s) _ k (λ at t f. an_index at _ _ _ (define.index t fresh_index) k f) (unreserved _ _ k h)
+  makes_an_index s base k h = on_its_table _ (table_at s) _ k (λ at t f. an_index at _ _ _ (define.index t missing_index) k f) (unreserved _ _ k h)
 
 no_select_index : (k : Command) → IsIndexMaking k → is_select k ≡ false
-no_select_index k is = ap is_select is.1
+no_select_index k (inl is) = ap is_select is
+no_select_index k (inr one) = ap is_select one.1
 
 no_rows_index : (k : Command) → IsIndexMaking k → is_query k || is_pragma k ≡ false
-no_rows_index k is = ap (λ m. is_query m || is_pragma m) is.1
+no_rows_index k (inl is) = ap (λ m. is_query m || is_pragma m) is
+no_rows_index k (inr one) = ap (λ m. is_query m || is_pragma m) one.1
 
 -- what stands in a schema hangs on its tables alone
 same_tables : (t : Table) (s r : Schema) → r.tables ≡ s.tables → IsOwn s t → IsOwn r t
@@ -337,20 +340,40 @@ indexes_at old new text (Some table) tally e =
       names = λ name _ _ none. ap (position_from (λ (t : Table). same_name t.name name) 0) is ∙ none;
     }
 
-module _ (def : IndexText) (text : List ℕ) (p : Parsed) (reads : first text ≡ Ok (as_read p (written.CreateIndex (fresh_index def)))) (whole : slice_range text p.start p.end ≡ text) where
-  quiet_index : (s : Schema) (base : ℕ) → returning s base (written.CreateIndex (fresh_index def)) ≡ Ok None
+rows_kept : (ts : List Table) (trees : Trees) → KeepsRows ts trees trees
+rows_kept [] trees = tt
+rows_kept (t ∷ ts) trees = (refl, rows_kept ts trees)
+
+-- where an index of its name is there, nothing is made
+left_out : (old new : Database) → new ≡ old → KeepsMade old new
+left_out old new is = subst (KeepsMade old) (sym is) (record {
+  made = λ xs h. h;
+  owns = λ other own. own;
+  kept = record { more = []; tables = sym (append-nil old.schema.tables); rows = rows_kept old.schema.tables old.trees };
+  names = λ name _ _ none. none;
+})
+
+module _ (def : IndexText) (text : List ℕ) (p : Parsed) (reads : first text ≡ Ok (as_read p (written.CreateIndex (missing_index def)))) (whole : slice_range text p.start p.end ≡ text) where
+  quiet_index : (s : Schema) (base : ℕ) → returning s base (written.CreateIndex (missing_index def)) ≡ Ok None
   unfolding returning
   quiet_index s base = refl
 
-  timeless_index : (s : Schema) → timed s [] (written.CreateIndex (fresh_index def)) ≡ []
+  timeless_index : (s : Schema) → timed s [] (written.CreateIndex (missing_index def)) ≡ []
   unfolding timed
   timeless_index s = refl
 
   pub makes_index : (old new : State) (params : Row) (count : ℕ) → Executes text params old new (Ok count) → KeepsMade old.now new.now
   makes_index old new params count h =
-      let ran = ran_as IsIndexMaking no_select_index text (written.CreateIndex (fresh_index def)) p reads whole timeless_index quiet_index (makes_an_index def) old new params count no_rows_index h in
-      let w : Writes old new None (CreateIndex ran.1.0) text ran.2 count = subst (λ k. Runs old new None k text ran.2 count) ran.1.1 ran.3 in
-      indexes_at old new text (slice_get old.now.schema.tables ran.1.0) w.tally w.changed
+      let ran = ran_as IsIndexMaking no_select_index text (written.CreateIndex (missing_index def)) p reads whole timeless_index quiet_index (makes_an_index def) old new params count no_rows_index h in
+      made_by ran.0 ran.1 ran.2 ran.3
+    where
+      made_by : (k : Command) → IsIndexMaking k → (full : Row) → Runs old new None k text full count → KeepsMade old.now new.now
+      made_by k (inl none) full does =
+          let still : Runs old new None Nothing text full count = subst (λ m. Runs old new None m text full count) none does in
+          left_out old.now new.now still.0.0.now_is
+      made_by k (inr one) full does =
+          let w : Writes old new None (CreateIndex one.0) text full count = subst (λ m. Runs old new None m text full count) one.1 does in
+          indexes_at old new text (slice_get old.now.schema.tables one.0) w.tally w.changed
 
 -- ---- one after another
 

@@ -12,7 +12,7 @@ use Rattle.statements.specs.declared.making.TheConstants.{MAKE_META, MAKE_ORG, M
 use Rattle.statements.specs.Schema.{meta_table, org_table, token_table, ws_table, version_table, run_table, page_table, vpage_table, bound_table, edition_table, keeping_table}
 use Rattle.statements.specs.Making.{GrowsBy, KeepsMade}
 use Rattle.statements.proofs.Meaning.{some_parsed, as_read}
-use Rattle.statements.proofs.Makes.{fresh_table, fresh_index, makes_behind, makes_index}
+use Rattle.statements.proofs.Makes.{fresh_table, missing_index, makes_behind, makes_index}
 
 -- the definition that a text has
 abbrev table_text : Statement → CreateTable
@@ -197,7 +197,7 @@ pub make_keeping_does : (old new : State) (params : Row) (count : ℕ) → Execu
 unfolding everything
 make_keeping_does = makes_behind keeping_table (table_text (some_parsed (first make_keeping_text)).statement) make_keeping_text (some_parsed (first make_keeping_text)) make_keeping_reads refl make_keeping_defines
 
-make_run_index_reads : first make_run_index_text ≡ Ok (as_read (some_parsed (first make_run_index_text)) (written.CreateIndex (fresh_index (index_text (some_parsed (first make_run_index_text)).statement))))
+make_run_index_reads : first make_run_index_text ≡ Ok (as_read (some_parsed (first make_run_index_text)) (written.CreateIndex (missing_index (index_text (some_parsed (first make_run_index_text)).statement))))
 unfolding everything
 make_run_index_reads = refl
 
@@ -205,7 +205,7 @@ pub make_run_index_does : (old new : State) (params : Row) (count : ℕ) → Exe
 unfolding everything
 make_run_index_does = makes_index (index_text (some_parsed (first make_run_index_text)).statement) make_run_index_text (some_parsed (first make_run_index_text)) make_run_index_reads refl
 
-make_version_index_reads : first make_version_index_text ≡ Ok (as_read (some_parsed (first make_version_index_text)) (written.CreateIndex (fresh_index (index_text (some_parsed (first make_version_index_text)).statement))))
+make_version_index_reads : first make_version_index_text ≡ Ok (as_read (some_parsed (first make_version_index_text)) (written.CreateIndex (missing_index (index_text (some_parsed (first make_version_index_text)).statement))))
 unfolding everything
 make_version_index_reads = refl
 
@@ -213,7 +213,7 @@ pub make_version_index_does : (old new : State) (params : Row) (count : ℕ) →
 unfolding everything
 make_version_index_does = makes_index (index_text (some_parsed (first make_version_index_text)).statement) make_version_index_text (some_parsed (first make_version_index_text)) make_version_index_reads refl
 
-make_vpage_index_reads : first make_vpage_index_text ≡ Ok (as_read (some_parsed (first make_vpage_index_text)) (written.CreateIndex (fresh_index (index_text (some_parsed (first make_vpage_index_text)).statement))))
+make_vpage_index_reads : first make_vpage_index_text ≡ Ok (as_read (some_parsed (first make_vpage_index_text)) (written.CreateIndex (missing_index (index_text (some_parsed (first make_vpage_index_text)).statement))))
 unfolding everything
 make_vpage_index_reads = refl
 

@@ -5,7 +5,7 @@ ghost use Rattle.sqlite_schema.specs.declared.schema.Table.{Table};
 ghost use Rattle.sqlite.specs.Held.{state};
 ghost use Rattle.sqlite.specs.State.{HasCleanDisk, Survives};
 ghost use Rattle.statements.specs.Steps.{WritesBy, WritesIn, QueriesBy};
-ghost use Rattle.statements.specs.Tables.{second_stored, second_tables, third_tables};
+ghost use Rattle.statements.specs.Tables.{second_stored, first_tables, second_tables, third_tables, our_tables};
 ghost use Rattle.statements.specs.Schema.{meta_table, org_table, token_table, ws_table, version_table, run_table, page_table, vpage_table, bound_table, edition_table, keeping_table};
 ghost use Rattle.statements.specs.Making.{AltersBy, MakesBy, GrowsBy, GrowsByAll, HasSchema, Raises, RaisesThird, KeepsMade, LeavesOthers, HasMeta, HasEdition, edition_set, edition_moved, version_cleared, told_version, version_in, edition_in};
 ghost use Rattle.statements.specs.Rows.{Kept};
@@ -146,9 +146,10 @@ fn make_keeping<S: Alter>(tx: &mut Transaction<'_, S>) -> Result<(), Error>
     write(tx, MAKE_KEEPING, &[])
 }
 
-const MAKE_RUN_INDEX: &str = "CREATE INDEX run_by_status ON run (org, ws, status, number)";
+const MAKE_RUN_INDEX: &str =
+    "CREATE INDEX IF NOT EXISTS run_by_status ON run (org, ws, status, number)";
 
-/// Makes the index by which a waiting run is found.
+/// Makes the index by which a waiting run is found. Where an index of others has its name, it is left out.
 fn make_run_index<S: Alter>(tx: &mut Transaction<'_, S>) -> Result<(), Error>
     ensures same_reference { tx.new.conn.ghost_name ≡ tx.old.conn.ghost_name }
     ensures made { AltersBy KeepsMade (state S.Store tx.old.conn.now) (state S.Store tx.new.conn.now) result }
@@ -158,9 +159,10 @@ fn make_run_index<S: Alter>(tx: &mut Transaction<'_, S>) -> Result<(), Error>
 }
 
 const MAKE_VERSION_INDEX: &str =
-    "CREATE INDEX version_head ON version (org, ws, number, serial, lineage, created, size)";
+    "CREATE INDEX IF NOT EXISTS version_head ON version (org, ws, number, serial, lineage, created, size)";
 
 /// Makes the index by which versions are found and listed without a look at their texts.
+/// Where an index of others has its name, it is left out.
 fn make_version_index<S: Alter>(tx: &mut Transaction<'_, S>) -> Result<(), Error>
     ensures same_reference { tx.new.conn.ghost_name ≡ tx.old.conn.ghost_name }
     ensures made { AltersBy KeepsMade (state S.Store tx.old.conn.now) (state S.Store tx.new.conn.now) result }
@@ -169,9 +171,10 @@ fn make_version_index<S: Alter>(tx: &mut Transaction<'_, S>) -> Result<(), Error
     write(tx, MAKE_VERSION_INDEX, &[])
 }
 
-const MAKE_VPAGE_INDEX: &str = "CREATE INDEX vpage_page ON vpage (pkey, twin)";
+const MAKE_VPAGE_INDEX: &str = "CREATE INDEX IF NOT EXISTS vpage_page ON vpage (pkey, twin)";
 
 /// Makes the index by which it is known whether a page is still named, when it goes.
+/// Where an index of others has its name, it is left out.
 fn make_vpage_index<S: Alter>(tx: &mut Transaction<'_, S>) -> Result<(), Error>
     ensures same_reference { tx.new.conn.ghost_name ≡ tx.old.conn.ghost_name }
     ensures made { AltersBy KeepsMade (state S.Store tx.old.conn.now) (state S.Store tx.new.conn.now) result }
@@ -209,6 +212,15 @@ fn make_pages<S: Alter>(tx: &mut Transaction<'_, S>) -> Result<(), Error>
     make_vpage_index(tx)
 }
 
+/// Makes the tables of schema 1, and the indexes on them.
+fn make_first<S: Alter>(tx: &mut Transaction<'_, S>) -> Result<(), Error>
+    ensures { MakesBy S.Store (GrowsByAll first_tables) tx.old tx.new result }
+{
+    make_names(tx)?;
+    make_states(tx)?;
+    make_pages(tx)
+}
+
 /// Makes the tables that schema 2 has and schema 1 hasn't, beside those of schema 1.
 pub fn make_second<S: Alter>(tx: &mut Transaction<'_, S>) -> Result<(), Error>
     ensures { MakesBy S.Store (GrowsByAll second_tables) tx.old tx.new result }
@@ -222,6 +234,15 @@ pub fn make_third<S: Alter>(tx: &mut Transaction<'_, S>) -> Result<(), Error>
     ensures { MakesBy S.Store (GrowsByAll third_tables) tx.old tx.new result }
 {
     make_keeping(tx)
+}
+
+/// Makes the tables of schema 3, and the indexes on them.
+fn make_tables<S: Alter>(tx: &mut Transaction<'_, S>) -> Result<(), Error>
+    ensures { MakesBy S.Store (GrowsByAll our_tables) tx.old tx.new result }
+{
+    make_first(tx)?;
+    make_second(tx)?;
+    make_third(tx)
 }
 
 const SET_SECOND: &str = "INSERT INTO edition (one, version) VALUES (1, 2)";
@@ -265,11 +286,7 @@ pub fn clear_version<S: Alter>(tx: &mut Transaction<'_, S>) -> Result<(), Error>
 pub fn make_schema<S: Alter>(tx: &mut Transaction<'_, S>) -> Result<(), Error>
     ensures { MakesBy S.Store HasSchema tx.old tx.new result }
 {
-    make_names(tx)?;
-    make_states(tx)?;
-    make_pages(tx)?;
-    make_second(tx)?;
-    make_third(tx)?;
+    make_tables(tx)?;
     set_third(tx)
 }
 
