@@ -51,12 +51,6 @@ optional_read None (Some t) told = absurd (cc)
 optional_read (Some t) None told = absurd (cc)
 optional_read (Some t) (Some u) told = ap Some (text_read t u told)
 
-other_code : (m n : ℕ) → number m ≡ number n → (m ≡ n → ⊥) → ⊥
-other_code m n e apart = apart (same_code m n e)
-
-zero_one : (A : Type 0) → number 0 ≡ number 1 → A
-zero_one A e = absurd (let f = same_code 0 1 e in cc)
-
 holder_read : (h g : Holder) → AreHolderCells (kind_cell h) (lock_id_cell h) (lock_text_cell h) (run_cell h) g → g ≡ h
 holder_read Nobody Nobody told = refl
 holder_read Nobody (Lock i t) told = absurd (let f = same_code 0 1 told.0 in cc)

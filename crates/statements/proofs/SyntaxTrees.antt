@@ -132,9 +132,6 @@ version_back_core = from_table (shown_columns (codes "number" ∷ [])) (codes "v
 abbrev pub version_size_core : Core
 version_size_core = from_table (shown_columns (codes "size" ∷ [])) (codes "version") (also (at_key (codes "org") (codes "ws")) (is_given (codes "number") 3))
 
-abbrev pub count_versions_core : Core
-count_versions_core = from_table (One (CallStar (codes "count")) None (codes "count(*)") ∷ []) (codes "version") (at_key (codes "org") (codes "ws"))
-
 abbrev pub add_version : Statement
 add_version = insert (codes "version") (codes "org" ∷ codes "ws" ∷ codes "number" ∷ codes "serial" ∷ codes "lineage" ∷ codes "created" ∷ codes "size" ∷ []) (Parameter 1 ∷ Parameter 2 ∷ Parameter 3 ∷ Parameter 4 ∷ Parameter 5 ∷ Parameter 6 ∷ Parameter 7 ∷ [])
 

@@ -162,7 +162,3 @@ moves_where_more law f g a b c (Ok x) lawful one two =
       tt,
     )
 moves_where_more law f g a b c (Err e) lawful one two = (tt, keeps_then a b c (record { was_open = λ _. one.was_open; committed = λ _. one.committed }) two.1)
-
-pub alters_then : (F G : Database → Database → Type 0) (a b c : State) → Alters F a b → Alters G b c → Alters (λ x y. (z : Database) × F x z × G z y) a c
-alters_then F G a b c one two =
-    record { change = (b.now, one.change, two.change); was_open = one.was_open; is_open = two.is_open; committed = two.committed ∙ one.committed; inside = two.inside }

@@ -1,6 +1,6 @@
 -- What the queries on the table version read of its rows.
 use Rattle.std.specs.List.{AllZip}
-use Rattle.std.proofs.Common.{◌≡◌, ℕ, List, [], ◌∷◌, Option, Some, codes, refl}
+use Rattle.std.proofs.Common.{◌≡◌, ℕ, List, [], ◌∷◌, Option, codes, refl}
 use Rattle.sqlite_value.specs.declared.value.Value.TheVariants.{Text}
 use Rattle.sqlite_value.specs.Order.{Row}
 use Rattle.sqlite_keyed.proofs.ListLemmas.{first_taken}
@@ -9,16 +9,16 @@ use Rattle.statements.specs.Schema.{version_table}
 use Rattle.statements.specs.Rows.{version_cells, number}
 use Rattle.statements.specs.Tables.{Tables, Holds, version_layout}
 use Rattle.statements.specs.Changes.{is_version, is_version_of, is_version_below}
-use Rattle.statements.specs.Finds.{head_of, newest_of, number_back, oldest_below, size_of, versions_of}
+use Rattle.statements.specs.Finds.{head_of, newest_of, number_back, oldest_below, size_of}
 use Rattle.statements.specs.Calls.{FirstRow, FirstRows, Pins, IsHeadRow, IsVersionHead, IsNumber}
 use Rattle.statements.specs.declared.rows.VersionHead.{VersionHead}
 use Rattle.statements.specs.Listings.{version_head_of, version_rows_after, VersionsRise}
 use Rattle.statements.proofs.Held.{IsHeld, versions_held}
 use Rattle.statements.proofs.Listed.{by_column, numbered_are}
-use Rattle.statements.proofs.PointReads.{first_own, last_own, nth_back_own, count_own, first_behind}
+use Rattle.statements.proofs.PointReads.{first_own, last_own, nth_back_own, first_behind}
 use Rattle.statements.proofs.ReadBack.{number_read, head_read, version_head_read}
 use Rattle.statements.proofs.Conditions.{two_texts, two_texts_number, two_texts_above, two_texts_below}
-use Rattle.statements.proofs.VersionTexts.{list_versions_text, list_versions_means, list_versions_rest, list_versions_names, newest_version_text, newest_version_means, newest_version_rest, version_back_text, version_back_means, version_back_rest, oldest_below_text, oldest_below_means, oldest_below_rest, version_size_text, version_size_means, version_size_rest, count_versions_text, count_versions_means, count_versions_rest}
+use Rattle.statements.proofs.VersionTexts.{list_versions_text, list_versions_means, list_versions_rest, list_versions_names, newest_version_text, newest_version_means, newest_version_rest, version_back_text, version_back_means, version_back_rest, oldest_below_text, oldest_below_means, oldest_below_rest, version_size_text, version_size_means, version_size_rest}
 
 module _ (old new : State) (t : Tables) (h : Holds old.now t) where
   abbrev held : IsHeld version_layout old.now t.versions
@@ -50,8 +50,3 @@ module _ (old new : State) (t : Tables) (h : Holds old.now t) where
       numbered_are version_cells version_table old new held.own t.versions held.rows list_versions_text (Text org ∷ Text ws ∷ number after ∷ []) list_versions_rest 3 list_versions_names
       IsVersionHead (λ v. v.number) (λ x. version_head_of x.1.it) (is_version_of org ws) after (λ x. two_texts_above x.1.org org x.1.ws ws x.1.it.number after) (λ x y told. version_head_read x.1.it y told)
       (λ x y. by_column x.1.it.number y.1.it.number) (list_versions_means old.now.schema _ _ held.own.place) (λ l. refl) most rows heads rise first read
-
-  pub count_versions_shows : (org ws : List ℕ) (row : Option Row) → FirstRow count_versions_text (Text org ∷ Text ws ∷ []) old new row → row ≡ Some (number (versions_of org ws t) ∷ [])
-  count_versions_shows org ws row first =
-      count_own version_cells version_table old new held.own t.versions held.rows held.keyed count_versions_text (Text org ∷ Text ws ∷ []) row first count_versions_rest (codes "count(*)" ∷ [])
-      (is_version_of org ws) (λ x. two_texts x.1.org org x.1.ws ws) (count_versions_means old.now.schema _ _ held.own.place) (λ l. refl)

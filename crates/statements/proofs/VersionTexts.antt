@@ -14,7 +14,7 @@ use Rattle.sqlite_resolve.specs.Compile.{first, command, timed, returning}
 use Rattle.sqlite_resolve.specs.Select.{named}
 use Rattle.sqlite_resolve.specs.Program.{program}
 use Rattle.sqlite_tied.specs.Compute.{everything}
-use Rattle.statements.specs.declared.versions.TheConstants.{NEWEST_VERSION, OLDEST_VERSION_BELOW, VERSION_BACK, VERSION_SIZE, COUNT_VERSIONS, ADD_VERSION, REMOVE_VERSION, LIST_VERSIONS}
+use Rattle.statements.specs.declared.versions.TheConstants.{NEWEST_VERSION, OLDEST_VERSION_BELOW, VERSION_BACK, VERSION_SIZE, ADD_VERSION, REMOVE_VERSION, LIST_VERSIONS}
 use Rattle.statements.specs.Place.{StandsAt}
 use Rattle.statements.specs.Schema.{version_table}
 use Rattle.statements.specs.Calls.{IsQuery}
@@ -22,9 +22,9 @@ use Rattle.statements.proofs.SyntaxTrees as st
 use Rattle.statements.proofs.Meaning.{Means, means, some_parsed, as_read}
 use Rattle.statements.proofs.Reading.{read_is}
 use Rattle.statements.proofs.Writes.{plain_program}
-use Rattle.statements.proofs.Answered.{point, tally}
+use Rattle.statements.proofs.Answered.{point}
 use Rattle.statements.proofs.Listed.{listing}
-use Rattle.statements.proofs.Commands.{is_at, is_below, delete_query, point_rest, point_draft, tally_draft, no_page, one_page, one_page_at, is_above, listing_draft}
+use Rattle.statements.proofs.Commands.{is_at, is_below, delete_query, point_rest, point_draft, no_page, one_page, one_page_at, is_above, listing_draft}
 
 abbrev pub newest_version_text : List ℕ
 newest_version_text = NEWEST_VERSION.now
@@ -89,22 +89,6 @@ version_size_is_query = (version_size_select, some_parsed (first version_size_te
 
 abbrev pub version_size_rest : Query
 version_size_rest = point_rest (is_at 1 0 ∷ is_at 2 1 ∷ is_at 3 2 ∷ []) (col 1 7 ∷ []) no_page
-
-abbrev pub count_versions_text : List ℕ
-count_versions_text = COUNT_VERSIONS.now
-
-abbrev pub count_versions_select : ast.Select
-count_versions_select = st.select st.count_versions_core [] None
-
-count_versions_reads : first count_versions_text ≡ Ok (as_read (some_parsed (first count_versions_text)) (written.Select count_versions_select))
-unfolding everything
-count_versions_reads = refl
-
-pub count_versions_is_query : IsQuery count_versions_text
-count_versions_is_query = (count_versions_select, some_parsed (first count_versions_text), count_versions_reads)
-
-abbrev pub count_versions_rest : Query
-count_versions_rest = point_rest (is_at 1 0 ∷ is_at 2 1 ∷ []) [] no_page
 
 abbrev pub add_version_text : List ℕ
 add_version_text = ADD_VERSION.now
@@ -230,23 +214,6 @@ module _ (s : Schema) (at tree : ℕ) (h : StandsAt s (codes "version") version_
   pub version_size_means : Means s (Select (plain_program (point version_size_rest tree false)) (codes "size" ∷ [])) version_size_text
   unfolding timed returning
   version_size_means = means s (written.Select version_size_select) _ refl (λ _. refl) version_size_is version_size_text (some_parsed (first version_size_text)) version_size_reads
-
-  count_versions_named : named s st.count_versions_core [] no_page ≡ Ok ((tally_draft count_versions_rest tree Binary (lit Null)), (codes "count(*)" ∷ []), (None ∷ []))
-  unfolding everything
-  count_versions_named = rw (h.named, h.found, h.found, h.found) refl
-
-  count_versions_fits : program s [] (tally_draft count_versions_rest tree Binary (lit Null)) ≡ Ok (plain_program (tally count_versions_rest tree Binary (lit Null)))
-  unfolding everything
-  count_versions_fits = rw (h.low, h.treed) refl
-
-  count_versions_is : (base : ℕ) → command s [] base (written.Select count_versions_select) ≡ Ok (Select (plain_program (tally count_versions_rest tree Binary (lit Null))) (codes "count(*)" ∷ []))
-  unfolding everything
-  count_versions_is base =
-      read_is s count_versions_select st.count_versions_core [] no_page ((tally_draft count_versions_rest tree Binary (lit Null)), (codes "count(*)" ∷ []), (None ∷ [])) refl refl refl refl refl (λ again. refl) count_versions_named (plain_program (tally count_versions_rest tree Binary (lit Null))) count_versions_fits base
-
-  pub count_versions_means : Means s (Select (plain_program (tally count_versions_rest tree Binary (lit Null))) (codes "count(*)" ∷ [])) count_versions_text
-  unfolding timed returning
-  count_versions_means = means s (written.Select count_versions_select) _ refl (λ _. refl) count_versions_is count_versions_text (some_parsed (first count_versions_text)) count_versions_reads
 
   add_version_is : (base : ℕ) → command s [] base st.add_version ≡ Ok (Insert at (Values add_version_terms 8))
   unfolding everything

@@ -92,9 +92,6 @@ oldest_below org ws n t = option_map (λ x. head_of x.1.it) (find (is_version_be
 abbrev pub size_of : List ℕ → List ℕ → ℕ → Tables → Option ℕ
 size_of org ws n t = option_map (λ x. x.1.it.size) (find (is_version org ws n) t.versions)
 
-abbrev pub versions_of : List ℕ → List ℕ → Tables → ℕ
-versions_of org ws t = counted (filter (is_version_of org ws) t.versions)
-
 abbrev pub is_pending_of : RunStatus → Bool
 is_pending_of Pending = true
 is_pending_of _ = false

@@ -5,11 +5,9 @@ ghost use Rattle.sqlite.specs.State.{Survives};
 ghost use Rattle.statements.specs.Steps.{WritesBy, ReadsBy, QueriesBy, QueriesWhere};
 ghost use Rattle.statements.specs.Changes.{new_version, version_added, version_removed};
 ghost use Rattle.statements.specs.Listings.{version_rows_after, VersionsRise};
-ghost use Rattle.statements.specs.Finds.{newest_of, number_back, oldest_below, size_of, versions_of};
+ghost use Rattle.statements.specs.Finds.{newest_of, number_back, oldest_below, size_of};
 
-use crate::calls::{
-    count_of, first_row, first_row_inside, first_rows, read_all, read_one, signed, write,
-};
+use crate::calls::{first_row, first_row_inside, first_rows, read_all, read_one, signed, write};
 use crate::rows::{Head, VersionHead};
 use basis::Items;
 use sqlite::{Alter, Connection, Error, Transaction, params};
@@ -121,16 +119,6 @@ pub fn oldest_below<S: Alter>(
     let number = signed(number);
     let row = first_row_inside(tx, OLDEST_VERSION_BELOW, params![org, ws, &number]);
     read_one(row)
-}
-
-const COUNT_VERSIONS: &str = "SELECT count(*) FROM version WHERE org = ?1 AND ws = ?2";
-
-/// How many versions a workspace has.
-pub fn count<S: Alter>(conn: &mut Connection<S>, org: &str, ws: &str) -> Result<u64, Error>
-    ensures { QueriesBy S.Store (versions_of org.now ws.now) conn.old conn.new result }
-{
-    let row = first_row(conn, COUNT_VERSIONS, params![org, ws]);
-    count_of(row)
 }
 
 const ADD_VERSION: &str =
