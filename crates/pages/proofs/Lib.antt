@@ -6,3 +6,4 @@ pub mod PageReads
 pub mod PageTexts
 pub mod PageWrites
 pub mod Promises
+pub mod Referring

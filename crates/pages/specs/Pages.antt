@@ -76,6 +76,14 @@ ReleasesBy key twin old new result =
     HasCleanDisk new → IsTrue old.in_transaction
     → OnOk result ((t u : Tables) → Holds old.now t → Holds new.now u → ReleasesPage key twin (pages_in t) (pages_in u) × (HasSoundPages t → HasSoundPages u))
 
+-- each page that a row of vpage names is there
+abbrev pub NamedAreThere : Tables → Type 0
+NamedAreThere t = AllByRecursion (λ x. IsSome (pages_in t x.1.key x.1.twin)) t.vpages
+
+-- A page that a row of vpage names hasn't gone, in a transaction: where a page would, it is refused.
+abbrev pub SparesNamed : {E : Type 0} → State → State → Result ⊤ E → Type 0
+SparesNamed old new result = HasCleanDisk new → IsTrue old.in_transaction → OnOk result ((t u : Tables) → Holds old.now t → Holds new.now u → NamedAreThere u)
+
 -- a value that is there is read, outside a transaction; after a failure nothing is committed
 abbrev pub GetsBy : {X E : Type 0} → (Tables → Option X) → State → State → Result X E → Type 0
 GetsBy read old new result =

@@ -4,6 +4,7 @@ ghost use Rattle.sqlite.specs.Held.{state};
 ghost use Rattle.sqlite.specs.State.{Survives};
 ghost use Rattle.statements.specs.Steps.{ChangesBy, ReadsBy};
 ghost use Rattle.pages.specs.Rows.{page_added, page_used, page_removed, page_bytes, page_uses, equal_page};
+ghost use Rattle.pages.specs.Pages.{SparesNamed};
 ghost use Rattle.pages.specs.Inner.Calls.{IsPageUse};
 
 use basis::Bytes;
@@ -59,6 +60,7 @@ pub(crate) fn set_uses<'v, S: Alter>(
     requires uses_fit { uses < 2 ^ 63 }
     ensures same_reference { tx.new.conn.ghost_name ≡ tx.old.conn.ghost_name }
     ensures changed { ChangesBy (page_used key.now twin uses) (state S.Store tx.old.conn.now) (state S.Store tx.new.conn.now) result }
+    ensures spares { SparesNamed (state S.Store tx.old.conn.now) (state S.Store tx.new.conn.now) result }
     ensures survives { Survives (state S.Store tx.old.conn.now) (state S.Store tx.new.conn.now) (λ _. ⊥) }
 {
     let twin = signed(twin);
@@ -77,6 +79,7 @@ pub(crate) fn remove<'v, S: Alter>(
     requires twin_fits { twin < 2 ^ 63 }
     ensures same_reference { tx.new.conn.ghost_name ≡ tx.old.conn.ghost_name }
     ensures changed { ChangesBy (page_removed key.now twin) (state S.Store tx.old.conn.now) (state S.Store tx.new.conn.now) result }
+    ensures spares { SparesNamed (state S.Store tx.old.conn.now) (state S.Store tx.new.conn.now) result }
     ensures survives { Survives (state S.Store tx.old.conn.now) (state S.Store tx.new.conn.now) (λ _. ⊥) }
 {
     let twin = signed(twin);

@@ -8,7 +8,7 @@ ghost use Rattle.statements.specs.Steps.{ChangesBy};
 ghost use Rattle.statements.specs.Tables.{Tables, Holds};
 ghost use Rattle.pages.specs.Rows.{page_added, page_used, page_bytes, IsPageName};
 ghost use Rattle.pages.specs.Puts.{free_twin, twin_found, twin_for, put_found, page_put, lessened, released_found, page_released, is_bytes_of};
-ghost use Rattle.pages.specs.Pages.{PutsBy, ReleasesBy, GetsBy};
+ghost use Rattle.pages.specs.Pages.{PutsBy, ReleasesBy, SparesNamed, GetsBy};
 ghost use Rattle.pages.specs.Inner.Calls.{OnlyLooks, TellsBy};
 
 use crate::keys::PageKey;
@@ -192,6 +192,7 @@ fn lessen<S: Alter>(
     requires twin_fits { twin < 2 ^ 63 }
     ensures same_reference { tx.new.conn.ghost_name ≡ tx.old.conn.ghost_name }
     ensures changed { ChangesBy (lessened key.now twin uses) (state S.Store tx.old.conn.now) (state S.Store tx.new.conn.now) result }
+    ensures spares { SparesNamed (state S.Store tx.old.conn.now) (state S.Store tx.new.conn.now) result }
     ensures so_far { HasCleanDisk (state S.Store tx.new.conn.now) → HasCleanDisk (state S.Store tx.old.conn.now) }
 {
     if uses > MOST {
@@ -214,6 +215,7 @@ fn release_found<S: Alter>(
     ensures same_reference { tx.new.conn.ghost_name ≡ tx.old.conn.ghost_name }
     ensures changed { ChangesBy (released_found key.now twin uses) (state S.Store tx.old.conn.now) (state S.Store tx.new.conn.now) result }
     ensures found { OnOk result (IsSome uses) }
+    ensures spares { SparesNamed (state S.Store tx.old.conn.now) (state S.Store tx.new.conn.now) result }
     ensures so_far { HasCleanDisk (state S.Store tx.new.conn.now) → HasCleanDisk (state S.Store tx.old.conn.now) }
 {
     match uses {
@@ -222,11 +224,13 @@ fn release_found<S: Alter>(
     }
 }
 
-/// Takes one use of a page, and the page with the last. It is an error where the page isn't there.
+/// Takes one use of a page, and the page with the last. It is an error where the page isn't there,
+/// and where the last use would go of a page that a row of vpage names.
 pub fn release<S: Alter>(tx: &mut Transaction<'_, S>, id: &PageId) -> Result<(), Error>
     ensures same_reference { tx.new.conn.ghost_name ≡ tx.old.conn.ghost_name }
     ensures changed { ChangesBy (page_released id.now.key id.now.twin) (state S.Store tx.old.conn.now) (state S.Store tx.new.conn.now) result }
     ensures releases { ReleasesBy id.now.key id.now.twin (state S.Store tx.old.conn.now) (state S.Store tx.new.conn.now) result }
+    ensures spares { SparesNamed (state S.Store tx.old.conn.now) (state S.Store tx.new.conn.now) result }
     ensures so_far { HasCleanDisk (state S.Store tx.new.conn.now) → HasCleanDisk (state S.Store tx.old.conn.now) }
 {
     let twin = id.twin;
