@@ -1,5 +1,5 @@
 -- Writes, and reads, one after another: what they leave and tell, be it none.
-use Rattle.std.proofs.Common.{◌≡◌, IsTrue, Option, Some, Result, Ok, Err, OnOk, OnErr, refl, ◌∙◌}
+use Rattle.std.proofs.Common.{◌≡◌, IsTrue, Option, Some, Result, Ok, Err, OnOk, OnErr, ◌∙◌}
 use Rattle.sqlite_trees.specs.declared.store.Store.{Ghosts}
 use Rattle.sqlite.specs.Held.{state}
 use Rattle.sqlite.specs.declared.transaction.Transaction.{Transaction}
@@ -56,13 +56,6 @@ pub record WritesSoFar (change : Tables → Tables) (law : Tables → Type 0) (o
   pub moves : HasCleanDisk new → IsTrue old.is_open → IsTrue old.in_transaction → Moves change old new
   pub told : HasCleanDisk new → IsTrue old.is_open → IsTrue old.in_transaction → (t : Tables) → Holds old.now t → law t
 
-pub no_writes : (law : Tables → Type 0) (s : State) → ((t : Tables) → law t) → WritesSoFar (λ t. t) law s s
-no_writes law s is = record {
-  so_far = λ clean. clean;
-  moves = λ clean open_is inside. record { rows = λ t holds. holds; others = λ t holds. record { schema = refl; rows = λ other own passive apart. refl }; was_open = open_is; is_open = open_is; committed = refl; inside = inside };
-  told = λ clean open_is inside t holds. is t;
-}
-
 -- one more
 pub writes_more : (f g h : Tables → Tables) (law next told : Tables → Type 0) (a b c : State) → ((t : Tables) → g (f t) ≡ h t) → ((t : Tables) → law t → next (f t) → told t)
     → WritesSoFar f law a b → (HasCleanDisk c → HasCleanDisk b) → (HasCleanDisk c → IsTrue b.in_transaction → Moves g b c × ((t : Tables) → Holds b.now t → next t)) → WritesSoFar h told a c
@@ -76,13 +69,6 @@ writes_more f g h law next told a b c is tells some before last = record {
       tells t (some.told (before clean) open_is inside t holds) ((last clean one.inside).1 (f t) (one.rows t holds));
 }
 
--- the next one failed
-pub writes_failed : (f : Tables → Tables) (law : Tables → Type 0) (a b c : State) → WritesSoFar f law a b → (HasCleanDisk c → HasCleanDisk b) → (HasCleanDisk c → IsTrue b.in_transaction → KeepsCommit b c)
-    → HasCleanDisk c → IsTrue a.is_open → IsTrue a.in_transaction → KeepsCommit a c
-writes_failed f law a b c some before last clean open_is inside =
-    let one = some.moves (before clean) open_is inside in
-    record { was_open = λ _. open_is; committed = λ is. (last clean one.inside).committed is ∙ one.committed }
-
 -- ---- reads so far
 
 -- What was read so far, and what it tells of the rows.
@@ -91,9 +77,6 @@ pub record ReadsSoFar {X : Type 0} (value : Tables → X) (law : Tables → Type
   pub looks : HasCleanDisk new → LeavesAsIs old new
   pub read : HasCleanDisk new → (t : Tables) → Holds old.now t → x ≡ value t
   pub told : HasCleanDisk new → (t : Tables) → Holds old.now t → law t
-
-pub no_reads : {X : Type 0} (value : Tables → X) (law : Tables → Type 0) (s : State) (x : X) → ((t : Tables) → x ≡ value t) → ((t : Tables) → law t) → ReadsSoFar value law s s x
-no_reads value law s x is tells = record { so_far = λ clean. clean; looks = λ clean. as_it_is s; read = λ clean t holds. is t; told = λ clean t holds. tells t }
 
 -- one more
 pub reads_more : {X Y : Type 0} (value next : Tables → X) (law told : Tables → Type 0) (one : Tables → Option Y) (a b c : State) (x z : X) (y : Y) → ((t : Tables) → x ≡ value t → one t ≡ Some y → z ≡ next t)

@@ -61,6 +61,15 @@ pub same_more : (org ws : List ℕ) (n : ℕ) (t : Tables) (text : List ℕ) (pl
 same_more org ws n t text place so_far one =
     ap₂ (λ b d. b && d) so_far (sym (compared (piece_at text place) (piece_of org ws n place t) true one)) ∙ ap (λ m. are_pieces org ws n text m t) (one_more place)
 
+there_by : (org ws : List ℕ) (n : ℕ) (t : Tables) (piece : List ℕ) (place : ℕ) (o : Option (List ℕ)) → piece_of org ws n place t ≡ o → AreThere org ws n place t → option_map (λ bytes. bytes_eq bytes piece) o ≡ Some true
+    → AreThere org ws n (place + 1) t
+there_by org ws n t piece place None found there one = absurd (let none : ⊥ = cc in none)
+there_by org ws n t piece place (Some bytes) found there one = there_more org ws n t place bytes there found
+
+-- a piece that agrees is there
+pub same_there : (org ws : List ℕ) (n : ℕ) (t : Tables) (text : List ℕ) (place : ℕ) → AreThere org ws n place t → is_piece_of org ws n place (piece_at text place) t ≡ Some true → AreThere org ws n (place + 1) t
+same_there org ws n t text place there one = there_by org ws n t (piece_at text place) place (piece_of org ws n place t) refl there one
+
 and_false : (b : Bool) → (b && false) ≡ false
 and_false true = refl
 and_false false = refl

@@ -21,9 +21,6 @@ pages_hold size = omega arith
 pub page_begins : (size place : ℕ) → place < pages_for size → place * PAGE_BYTES < size
 page_begins size place below = omega (arith, below)
 
-pub no_pages : pages_for 0 ≡ 0
-no_pages = refl
-
 next_piece : (place : ℕ) → suc place * PAGE_BYTES ≡ place * PAGE_BYTES + PAGE_BYTES
 next_piece place = omega arith
 

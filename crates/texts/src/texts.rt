@@ -1,5 +1,5 @@
 //! A version's text is put, taken away, read and compared, page by page.
-ghost use Rattle.std.specs.Prelude.{◌≡◌, ◌<◌, ◌≤◌, ◌*◌, ◌^◌, length, false, IsTrue, IsSome, OnOk};
+ghost use Rattle.std.specs.Prelude.{◌≡◌, ◌<◌, ◌≤◌, ◌*◌, ◌^◌, length, false, IsTrue, IsSome, IfOk, OnOk};
 ghost use Rattle.sqlite.specs.Held.{state};
 ghost use Rattle.sqlite.specs.State.{HasCleanDisk};
 ghost use Rattle.statements.specs.Steps.{ChangesBy};
@@ -211,7 +211,8 @@ fn same_piece<S: Alter>(
 }
 
 /// Whether a version has this text, of a version whose text has the size of this one.
-/// The pages behind the first that differs are not read. It is an error where a page that is looked at isn't there.
+/// The pages behind the first that differs are not read. It is an error where a page that is looked at isn't there,
+/// so a version that lacks a page has no text.
 pub fn same_text<S: Alter>(
     conn: &mut Connection<S>,
     org: &str,
@@ -220,7 +221,8 @@ pub fn same_text<S: Alter>(
     text: &[u8],
 ) -> Result<bool, Error>
     requires number_fits { number < 2 ^ 63 }
-    ensures { QueriesAllBy S.Store (are_pieces org.now ws.now number text.now (pages_for (length text.now))) conn.old conn.new result }
+    ensures queries { QueriesAllBy S.Store (are_pieces org.now ws.now number text.now (pages_for (length text.now))) conn.old conn.new result }
+    ensures there { HasCleanDisk (state S.Store conn.new) → IfOk result (λ same. IsTrue same → (t : Tables) → Holds (state S.Store conn.old).now t → AreThere org.now ws.now number (pages_for (length text.now)) t) }
 {
     let pages = pages_for(text.len() as u64);
     'places: for place in 0..pages {

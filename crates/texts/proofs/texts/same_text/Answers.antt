@@ -1,15 +1,14 @@
 use Rattle.std.proofs.Common.{◌<◌, ◌+◌, length, true, Some, sym, ap, ◌∙◌, subst}
-use Rattle.std.specs.Prelude.{⊤}
 use Rattle.sqlite.specs.Held.{state}
 use Rattle.pages.proofs.Looking.{one_look, looks_then, still_holds}
-use Rattle.texts.specs.Texts.{pages_for, piece_at, are_pieces}
+use Rattle.texts.specs.Texts.{pages_for, piece_at, are_pieces, AreThere}
 use Rattle.texts.specs.Inner.Calls.{is_piece_of}
 use Rattle.texts.proofs.Many.{reads_more}
-use Rattle.texts.proofs.NextPiece.{one_differs, same_more}
+use Rattle.texts.proofs.NextPiece.{one_differs, same_more, same_there}
 use Rattle.texts.proofs.texts.same_text.Goals as goal
 
-pub returns-then-not-branch : goal.returns-then-not-branch
-returns-then-not-branch g c =
+pub returns-then-not-branch-clause-queries : goal.returns-then-not-branch-clause-queries
+returns-then-not-branch-clause-queries g c =
     let org = c.args.org.now in
     let ws = c.args.ws.now in
     let n = c.args.number in
@@ -45,7 +44,7 @@ places-preserved g c =
     let s1 = state g.S.Store c.places.conn in
     let s2 = state g.S.Store c.same_piece.new.conn in (
       λ is. c.in_ok-same_piece.ensures.mode (c.places.invariant.0 is),
-      reads_more (are_pieces org ws n text place) (are_pieces org ws n text (place + 1)) (λ t. ⊤) (λ t. ⊤) (is_piece_of org ws n place (piece_at text place)) s0 s1 s2 true true true
-          (λ t is one. same_more org ws n t text place is one) (λ t there one. tt) c.places.invariant.1 c.in_ok-same_piece.ensures.so_far
+      reads_more (are_pieces org ws n text place) (are_pieces org ws n text (place + 1)) (AreThere org ws n place) (AreThere org ws n (place + 1)) (is_piece_of org ws n place (piece_at text place)) s0 s1 s2 true true true
+          (λ t is one. same_more org ws n t text place is one) (λ t there one. same_there org ws n t text place there one) c.places.invariant.1 c.in_ok-same_piece.ensures.so_far
           (λ clean. let got = c.in_ok-same_piece.ensures.gets clean in (λ t holds. ap (λ p. is_piece_of org ws n place p t) (sym c.piece_at.ensures) ∙ got.0 t holds ∙ ap Some c.if-not-branch.false, got.1.0)),
     )

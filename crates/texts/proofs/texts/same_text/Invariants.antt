@@ -1,7 +1,6 @@
 use Rattle.std.proofs.Common.{◌≡◌, true, false}
-use Rattle.std.specs.Prelude.{⊤}
 use Rattle.sqlite.specs.Held.{state}
-use Rattle.texts.specs.Texts.{are_pieces}
+use Rattle.texts.specs.Texts.{are_pieces, AreThere}
 use Rattle.texts.proofs.Many.{ReadsSoFar}
 use Rattle.texts.proofs.texts.same_text.Given as goal
 
@@ -9,4 +8,4 @@ use Rattle.texts.proofs.texts.same_text.Given as goal
 abbrev pub invariant-places : goal.invariant-places
 invariant-places g l =
     (l.fn.conn.in_transaction ≡ false → l.conn.in_transaction ≡ false)
-    × ReadsSoFar (are_pieces l.org l.ws l.number l.text l.place) (λ t. ⊤) (state g.S.Store l.fn.conn) (state g.S.Store l.conn) true
+    × ReadsSoFar (are_pieces l.org l.ws l.number l.text l.place) (AreThere l.org l.ws l.number l.place) (state g.S.Store l.fn.conn) (state g.S.Store l.conn) true
