@@ -1,7 +1,7 @@
 -- From the version that a database has to the newest one, step by step.
-use Rattle.std.proofs.Common.{◌≡◌, ◌≢◌, ◌≤◌, ◌<◌, ◌+◌, ◌⊎◌, inl, inr, ℕ, zero, suc, Bool, true, false, true≢false, List, Option, Some, None, IsTrue, refl, sym, ap, ◌∙◌, subst, arith}
+use Rattle.std.proofs.Common.{◌≡◌, ◌≢◌, ◌≤◌, ◌<◌, ◌⊎◌, inl, inr, ℕ, zero, suc, Bool, true, false, true≢false, List, Option, Some, None, IsTrue, refl, sym, ap, ◌∙◌, subst, arith}
 use Rattle.std.specs.Prelude.{if◌then◌else◌, ◌==◌}
-use Rattle.std.proofs.lemmas.Bool.{eqb-true, or_parts}
+use Rattle.std.proofs.lemmas.Bool.{eqb-true}
 use Rattle.std.proofs.lemmas.Bool.Decides.{nat_tests}
 use Rattle.sqlite_schema.specs.declared.schema.Table.{Table}
 use Rattle.sqlite.specs.Effect.{Database}
@@ -19,7 +19,7 @@ use Rattle.tables.specs.declared.opening.Found.{Found}
 use Rattle.tables.specs.declared.opening.Found.TheVariants.{Nothing, Version, Other}
 use Rattle.tables.specs.Inner.Making.{IsTold, found_in, TellsFound, FindsOurs, Climbs, IsClimbed, IsOnWay}
 use Rattle.tables.specs.Inner.Steps.{IsSettled}
-use Rattle.tables.specs.Opening.{any_there, all_there, tells_edition, TellsIn, ToldBy, EditionTells, IsOther, GivesBack}
+use Rattle.tables.specs.Opening.{any_there, all_there, TellsIn, ToldBy, EditionTells, IsOther, GivesBack}
 use Rattle.tables.specs.Versions.{HoldsVersion, version_records, Becomes, version_tables, HoldsTables, KeepsBeside}
 use Rattle.tables.proofs.There.{version_is_there, newest_is_there, one_there, which_there, most_there}
 
@@ -42,20 +42,6 @@ beside_then : (l m n : ℕ) (a b c : Database) → KeepsBeside l m a b → Keeps
 beside_then l m n a b c f g = record {
   holds = λ t h. let u = f.holds t h in g.holds u.0 u.1;
   foreign = λ t h. let u = f.holds t h in foreign_then (version_tables l) (version_tables m) (version_tables n) a b c (f.foreign t h) (g.foreign u.0 u.1);
-}
-
-pub climbs_none : (n : ℕ) (old new : State) → KeepsCommit old new → Climbs n n old new
-climbs_none n old new kept = record {
-  was_open = kept.was_open;
-  becomes = λ is. becomes_same n old.committed new.committed (kept.committed is);
-  beside = λ is. beside_same n old.committed new.committed (kept.committed is);
-}
-
-pub climbs_then : (l m n : ℕ) (a b c : State) → Climbs l m a b → Climbs m n b c → Climbs l n a c
-climbs_then l m n a b c f g = record {
-  was_open = λ is. f.was_open (g.was_open is);
-  becomes = λ is. becomes_then l m n a.committed b.committed c.committed (f.becomes (g.was_open is)) (g.becomes is);
-  beside = λ is. beside_then l m n a.committed b.committed c.committed (f.beside (g.was_open is)) (g.beside is);
 }
 
 -- the steps so far
@@ -154,16 +140,6 @@ module _ (told : Option ℕ) (old new : State) (settled : IsSettled old) (same :
   })
   later_tells (suc (suc (suc (suc n)))) least there = absurd (let none : ⊥ = cc in none)
 
--- where the tables of no version are there, it is another
-pub none_is_other : (s : State) → all_there 1 s.now.schema ≡ false → tells_edition s.now.schema ≡ false → IsOther s
-none_is_other s first later =
-    let parts = or_parts (all_there 2 s.now.schema) (all_there 3 s.now.schema) later in
-    record {
-      first = λ there t h. absurd (true≢false (sym there ∙ first));
-      second = λ there t h. absurd (true≢false (sym there ∙ parts.0));
-      third = λ t h. absurd (true≢false (sym (newest_is_there s.now t h) ∙ parts.1));
-    }
-
 -- what was found, where some of our tables are there
 pub finds_by : (found : Found) (old new : State) → any_there old.now.schema ≡ true → TellsFound found old new → FindsOurs found old new
 finds_by Nothing old new there tells = absurd tells
@@ -212,24 +188,3 @@ module _ (m : ℕ) (old mid new : State) (told : IsTold m old mid) where
       by_version (inl first) = from_first first way.to way.least way.most way.climbs way.none
       by_version (inr (inl second)) = none_taken (way.none (let least = way.least in let most = way.most in omega (arith, second, least, most)))
       by_version (inr (inr third)) = absurd (let least = way.least in let most = way.most in omega (arith, third, least, most))
-
--- ---- the loop over the steps
-
-pub climbs_start : (from : ℕ) (s : State) → ClimbsSoFar from from s s
-climbs_start from s = record { so_far = λ clean. clean; climbs = λ _. climbs_none from s s (record { was_open = λ is. is; committed = λ _. refl }); is_open = λ _ is. is }
-
-pub climbs_on : (from at : ℕ) (a b c : State) → ClimbsSoFar from at a b → (HasCleanDisk c → HasCleanDisk b) → (HasCleanDisk c → Climbs at (at + 1) b c × IsTrue c.is_open) → ClimbsSoFar from (at + 1) a c
-climbs_on from at a b c before back step = record {
-  so_far = λ clean. before.so_far (back clean);
-  climbs = λ clean. climbs_then from at (at + 1) a b c (before.climbs (back clean)) (step clean).0;
-  is_open = λ clean _. (step clean).1;
-}
-
-pub climbs_stop : (from at : ℕ) (a b c : State) → from ≤ at → at < NEWEST → ClimbsSoFar from at a b → (at ≡ from → b ≡ a) → HasCleanDisk b → KeepsCommit b c → IsOnWay from a c
-climbs_stop from at a b c least most before same clean kept = record {
-  to = at;
-  least = least;
-  most = most;
-  climbs = climbs_then from at at a b c (before.climbs clean) (climbs_none at b c kept);
-  none = λ none. subst (λ (s : State). KeepsCommit s c) (same none) kept;
-}

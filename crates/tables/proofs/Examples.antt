@@ -1,14 +1,20 @@
 -- Worked rows and the records that they denote, computed by the definitions themselves.
-use Rattle.std.proofs.Common.{◌≡◌, ℕ, pos, take, ◌++◌, true, false, true≢false, List, [], ◌∷◌, Option, Some, None, refl, sym, ap, arith}
+use Rattle.std.proofs.Common.{◌≡◌, ◌≤◌, ℕ, zero, suc, pos, take, ◌++◌, Bool, true, false, true≢false, cond, ◌&&◌, List, [], ◌∷◌, length, filter, find, Option, Some, None, option_map, refl, sym, ap, ◌∙◌, subst, arith}
 use Rattle.std.specs.Prelude.{◌==◌, codes}
+use Rattle.std.specs.Option.{unwrap_or}
+use Rattle.std.specs.Str.{bytes_eq}
+use Rattle.std.proofs.lemmas.Bool.{and_parts}
 use Rattle.std.specs.List.{list_any}
-use Rattle.std.specs.FinMap.{from_entries, empty}
+use Rattle.std.specs.FinMap.{from_entries, empty, len-entries}
 use Rattle.basis.specs.declared.roles.Role.TheVariants.{Write}
 use Rattle.basis.specs.declared.runs.RunStatus.{RunStatus}
 use Rattle.basis.specs.declared.rows.RunAsk.{RunAsk}
 use Rattle.basis.specs.declared.rows.Settings.{Settings}
 use Rattle.basis.specs.declared.runs.RunStatus.TheVariants.{Pending, Planning, Canceled}
 use Rattle.basis.specs.declared.runs.RunAction.TheVariants.{Cancel}
+use Rattle.basis.specs.declared.numbers.TheConstants.{MAX_LIMIT}
+use Rattle.machine.specs.Laws.{IsNamedWorkspace}
+use Rattle.machine.specs.Records.{count_of}
 use Rattle.machine.specs.declared.acts.Edit.TheVariants.{Make, Configure, Remove, AddVersion, Purge, Release, AddRun, Report}
 use Rattle.machine.specs.declared.records.Holder.TheVariants.{Nobody, Lock, Run as HoldingRun}
 use Rattle.machine.specs.declared.records.Version.{Version}
@@ -20,15 +26,20 @@ use Rattle.machine.specs.declared.records.Organization.{Organization}
 use Rattle.statements.specs.declared.rows.Holder.TheVariants as cells
 use Rattle.statements.specs.Changes.{org_capped, token_removed}
 use Rattle.sqlite_schema.specs.declared.schema.Kind.TheVariants.{Blob}
-use Rattle.statements.specs.Rows.{Kept}
+use Rattle.statements.specs.Rows.{Kept, OrgRow, WsRow, PageRow, VpageRow}
 use Rattle.statements.specs.Schema.{column, version_table}
 use Rattle.statements.specs.Tables.{Tables}
 use Rattle.statements.specs.Making.{raised, raised_third}
-use Rattle.tables.specs.Records.{record_of}
+use Rattle.statements.proofs.NameLists.{same_text}
+use Rattle.tables.proofs.Finding.{entries_counted}
+use Rattle.tables.specs.Records.{record_of, organization_at, workspace_at, workspace_by}
 use Rattle.tables.specs.Opening.{has_versions_in}
-use Rattle.tables.specs.Sound.{IsSound}
+use Rattle.tables.specs.Sound.{HasText, IsSound}
 use Rattle.tables.specs.Inner.Edits.{so_many_gone, gone_below, edited_rows, changed_rows}
 use Rattle.tables.specs.Inner.Lists.{versions_listed_in, runs_listed_in, tokens_told_in}
+
+some_same : {A : Type 0} {a b : A} → ◌≡◌ {A = Option A} (Some a) (Some b) → a ≡ b
+some_same e = cc
 
 abbrev acme : List ℕ
 acme = codes "acme"
@@ -297,6 +308,119 @@ versions_behind = refl
 
 runs_behind : runs_listed_in 1 acme prod two ≡ record { items = []; more = false }
 runs_behind = refl
+
+-- ---- tables that are sound
+
+-- an organization with a token, and a workspace under a lock, which keeps two versions and has one, of one page, and a run that waits
+abbrev one : Tables
+one = record {
+  metas = [];
+  orgs = (pos 1, record { name = acme; cap = 10 }) ∷ [];
+  tokens = two.tokens;
+  wss = (pos 1, record { org = acme; name = prod; it = record { runs = record { auto_apply = false }; holder = cells.Lock x1 text; released = None; next_version = 2; next_run = 2 } }) ∷ [];
+  versions = (pos 1, record { org = acme; ws = prod; it = record { number = 1; serial = 1; lineage = codes "a1"; created = 1_700_000_000; size = 12 } }) ∷ [];
+  runs = two.runs;
+  pages = (pos 1, record { key = codes "{"; twin = 0; bytes = s1; uses = 1 }) ∷ [];
+  vpages = (pos 1, record { org = acme; ws = prod; number = 1; place = 0; key = codes "{"; twin = 0 }) ∷ [];
+  bounds = two.bounds;
+  editions = (pos 1, 3) ∷ [];
+  keepings = (pos 1, record { org = acme; ws = prod; keep = 2 }) ∷ [];
+}
+
+abbrev of_one : Workspace
+of_one = record of_acme { next_version = 2; versions = version 1 s1 ∷ [] }
+
+abbrev one_has : Organization
+one_has = record { limit = 10; tokens = from_entries ((codes "ci", ci) ∷ []); workspaces = from_entries ((prod, of_one) ∷ []) }
+
+one_record : record_of one acme ≡ Some one_has
+one_record = refl
+
+of_one_is_lawful : IsNamedWorkspace prod of_one
+of_one_is_lawful = record {
+  named = refl;
+  lawful = record {
+    versions = record {
+      keep = (omega arith, omega arith);
+      next = (omega arith, omega arith);
+      rise = (omega arith, omega arith, tt);
+      each = (record { serial = omega arith; lineage = omega arith; created = omega arith }, tt);
+      kept = omega arith;
+    };
+    runs = record {
+      next = (omega arith, omega arith);
+      rise = (omega arith, omega arith, tt);
+      each = (record { key = tt; message = omega arith; created = omega arith; action = tt; active = λ _. refl; waiting = λ _. (refl, refl) }, tt);
+      open_runs = omega arith;
+      keys = (tt, tt);
+      held = refl;
+    };
+    released = tt;
+  };
+}
+
+-- what is found of an organization and of a workspace, by whether the name is theirs
+abbrev record_if : Bool → List ℕ → Option Organization
+record_if b org = option_map (organization_at one org) (option_map (λ (x : Kept OrgRow). x.1.cap) (cond b (Some (pos 1, record { name = acme; cap = 10 })) None))
+
+abbrev workspace_if : Bool → List ℕ → List ℕ → Option Workspace
+workspace_if b org name = option_map (workspace_at one org name) (option_map (λ (x : Kept WsRow). x.1.it) (find (λ (x : Kept WsRow). b) one.wss))
+
+one_counts : (org : List ℕ) (o : Organization) → record_of one org ≡ Some o → count_of o ≤ MAX_LIMIT
+one_counts org o is = go (bytes_eq acme org) refl
+  where
+    go : (b : Bool) → bytes_eq acme org ≡ b → count_of o ≤ MAX_LIMIT
+    go true e =
+        let told : Some one_has ≡ Some o = subst (λ (n : List ℕ). record_of one n ≡ Some o) (sym (same_text acme org e)) is in
+        let counted : count_of one_has ≡ 1 = sym (len-entries one_has.workspaces) ∙ entries_counted acme (λ (x : Kept WsRow). workspace_at one acme x.1.name x.1.it) one.wss (tt, tt) in
+        subst (λ (x : Organization). count_of x ≤ MAX_LIMIT) (some_same told) (omega (arith, counted))
+    go false e = let none : None ≡ Some o = subst (λ (b : Bool). record_if b org ≡ Some o) e is in absurd (cc)
+
+one_workspaces : (org name : List ℕ) (w : Workspace) → workspace_by one org name ≡ Some w → IsNamedWorkspace name w
+one_workspaces org name w is = go (bytes_eq acme org && bytes_eq prod name) refl
+  where
+    go : (b : Bool) → (bytes_eq acme org && bytes_eq prod name) ≡ b → IsNamedWorkspace name w
+    go true e =
+        let parts = and_parts (bytes_eq acme org) (bytes_eq prod name) e in
+        let there : workspace_by one org prod ≡ Some w = subst (λ (n : List ℕ). workspace_by one org n ≡ Some w) (sym (same_text prod name parts.1)) is in
+        let told : Some of_one ≡ Some w = subst (λ (o : List ℕ). workspace_by one o prod ≡ Some w) (sym (same_text acme org parts.0)) there in
+        subst (λ (n : List ℕ). IsNamedWorkspace n w) (same_text prod name parts.1) (subst (IsNamedWorkspace prod) (some_same told) of_one_is_lawful)
+    go false e = let none : None ≡ Some w = subst (λ (b : Bool). workspace_if b org name ≡ Some w) e is in absurd (cc)
+
+one_use : (b : Bool) → unwrap_or (option_map (λ (x : Kept PageRow). x.1.uses) (find (λ (x : Kept PageRow). b) one.pages)) 0 ≡ length (filter (λ (x : Kept VpageRow). b) one.vpages)
+one_use true = refl
+one_use false = refl
+
+one_text : HasText one (pos 1, record { org = acme; ws = prod; it = record { number = 1; serial = 1; lineage = codes "a1"; created = 1_700_000_000; size = 12 } })
+one_text zero low = (s1, refl, refl)
+one_text (suc place) low = absurd (omega (arith, low))
+
+one_is_sound : IsSound one
+one_is_sound = record {
+  told = (refl, refl);
+  orgs_apart = (tt, tt);
+  tokens_apart = (tt, tt);
+  digests_apart = (tt, tt);
+  wss_apart = (tt, tt);
+  bounds_apart = (tt, tt);
+  tokens_bound = (refl, tt);
+  keepings_apart = (tt, tt);
+  wss_kept = (refl, tt);
+  tokens_owned = (refl, tt);
+  bounds_owned = (refl, tt);
+  wss_owned = (refl, tt);
+  keepings_owned = (refl, tt);
+  versions_owned = (refl, tt);
+  runs_owned = (refl, tt);
+  org_rows = (record { named = refl; limit = omega arith }, tt);
+  token_rows = (record { named = refl; digest = refl }, tt);
+  bound_rows = (record { until = omega arith; prefix = refl }, tt);
+  counts = one_counts;
+  places = record { pages = record { apart = (tt, tt); differ = (tt, tt); used = (omega arith, tt) }; counted = λ key twin. one_use (bytes_eq (codes "{") key && 0 == twin); apart = (tt, tt) };
+  placed = (omega arith, tt);
+  texts = (one_text, tt);
+  workspaces = one_workspaces;
+}
 
 -- ---- tables that aren't sound
 

@@ -316,7 +316,7 @@ one_longer n None e = omega arith
 one_longer n (Some w) e = absurd (let none : ⊥ = cc in none)
 
 module _ (org : List ℕ) (value : Kept WsRow → Workspace) where
-  entries_counted : (xs : List (Kept WsRow)) → AreApart (λ a b. is_ws a.1.org a.1.name b) xs → len (from_entries {R = name_cmp} (map (λ (x : Kept WsRow). (x.1.name, value x)) (filter (is_ws_of org) xs))) ≡ length (filter (is_ws_of org) xs)
+  pub entries_counted : (xs : List (Kept WsRow)) → AreApart (λ a b. is_ws a.1.org a.1.name b) xs → len (from_entries {R = name_cmp} (map (λ (x : Kept WsRow). (x.1.name, value x)) (filter (is_ws_of org) xs))) ≡ length (filter (is_ws_of org) xs)
   entries_counted [] apart = len-empty name_cmp Workspace
   entries_counted (x ∷ xs) apart = go (is_ws_of org x) refl (entries_counted xs apart.1)
     where

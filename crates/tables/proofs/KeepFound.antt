@@ -1,5 +1,5 @@
 -- What is found by more than one query.
-use Rattle.std.proofs.Common.{◌≡◌, false, List, ℕ, Option, Some, None, is_none, option_map, Result, Ok, Err, IfOk, sym, ap, ◌∙◌, subst}
+use Rattle.std.proofs.Common.{◌≡◌, false, List, ℕ, Option, Some, None, is_some, is_none, IsSome, IfSome, option_map, Result, Ok, Err, IfOk, OnOk, sym, ap, ◌∙◌, subst}
 use Rattle.sqlite.specs.Effect.{Database}
 use Rattle.sqlite.specs.State.{State, IsUnchanged, Survives}
 use Rattle.machine.specs.Needs.{Needed}
@@ -143,3 +143,19 @@ pub seen_shown : {A X E : Type 0} (law : Tables → Type 0) (q : Tables → A) (
     → SeesWhere law (λ t. f (q t)) a b result
 seen_shown law q f x a b (Ok y) read same told clean = (λ open_is t held lawful. told ∙ ap f (read t held lawful), (unchanged_stays a b same, tt))
 seen_shown law q f x a b (Err e) read same told clean = (tt, (tt, record { was_open = λ _. same.0.was_open; committed = λ open_is. same.0.committed_is }))
+
+-- ---- a token has its row of bound
+
+-- what was found is there
+pub found_there : {A X F : Type 0} (q : Tables → Option A) (x : A) (a : State) (o : Option A) (result : Result X F) → o ≡ Some x → ((t : Tables) → Holds a.now t → o ≡ q t) → OnOk result ((t : Tables) → Holds a.now t → IsSome (q t))
+found_there q x a o (Ok y) is found = λ t held. ap is_some (sym (found t held) ∙ is)
+found_there q x a o (Err e) is found = tt
+
+module _ {A : Type 0} (q : Tables → Option A) (P : A → Tables → Type 0) where
+  pub token_bound : (x : A) (a b : State) (o : Option A) → o ≡ Some x → ((t : Tables) → Holds a.now t → o ≡ q t) → IsUnchanged a b
+      → ((t : Tables) → Holds b.now t → P x t) → (t : Tables) → Holds a.now t → IfSome (q t) (λ y. P y t)
+  token_bound x a b o is found same there t held =
+      subst (λ (p : Option A). IfSome p (λ y. P y t)) (sym is ∙ found t held) (there t (subst (λ (db : Database). Holds db t) (sym same.0.now_is) held))
+
+  pub no_token_bound : (a : State) (o : Option A) → o ≡ None → ((t : Tables) → Holds a.now t → o ≡ q t) → (t : Tables) → Holds a.now t → IfSome (q t) (λ y. P y t)
+  no_token_bound a o is found t held = subst (λ (p : Option A). IfSome p (λ y. P y t)) (sym is ∙ found t held) tt

@@ -1,5 +1,5 @@
 -- From what was looked at and one transaction to a command.
-use Rattle.std.proofs.Common.{◌≡◌, ℕ, Bool, true, false, cond, List, is_some, is_none, Option, Some, None, IsTrue, refl, sym, ap, ◌∙◌, subst}
+use Rattle.std.proofs.Common.{◌≡◌, ℕ, Bool, true, false, cond, List, is_some, is_none, Option, Some, None, IsTrue, sym, ap, ◌∙◌, subst}
 use Rattle.sqlite.specs.Effect.{Database}
 use Rattle.sqlite.specs.State.{State, IsUnchanged}
 use Rattle.basis.specs.declared.roles.Role.{Role}
@@ -48,10 +48,6 @@ stays_then a b d p q = record {
   now = λ is. q.now is ∙ p.now (q.was_open is);
   committed = λ is. q.committed is ∙ p.committed (q.was_open is);
 }
-
-pub none_is : {X : Type 0} (o : Option X) → is_some o ≡ false → o ≡ None
-none_is None e = refl
-none_is (Some x) e = absurd (cc)
 
 -- ---- an organization
 

@@ -33,10 +33,6 @@ module _ {A V : Type 0} (key : A → List ℕ) (value : A → V) (q : List ℕ) 
       go true more = refl
       go false more = more
 
-or_true : (b : Bool) → (b || true) ≡ true
-or_true true = refl
-or_true false = refl
-
 module _ (t : Tables) where
   abbrev row_at : List ℕ × ℕ → OrgRow
   row_at e = org_row_in t (cells_at e)

@@ -7,7 +7,7 @@ use Rattle.sqlite_schema.specs.declared.schema.Table.{Table}
 use Rattle.sqlite.specs.Effect.{Database}
 use Rattle.statements.specs.Place.{IsOwn}
 use Rattle.statements.specs.Tables.{Tables, Holds, first_tables, second_tables, third_tables, our_tables}
-use Rattle.tables.specs.Opening.{any_there, all_there}
+use Rattle.tables.specs.Opening.{all_there}
 use Rattle.tables.specs.Stores.{is_in_schema, IsFirstStore, IsSecondStore}
 use Rattle.tables.specs.Versions.{HoldsVersion}
 
@@ -49,9 +49,6 @@ all_more p [] ys e = e
 all_more p (x ∷ xs) ys e = all_more p xs ys (second_and (p x) (list_all p (xs ++ ys)) e)
 
 -- what each version has, and what it hasn't
-has_first : (s : Schema) → all_there 1 s ≡ true → list_all (is_in_schema s) first_tables ≡ true
-has_first s e = first_and (list_all (is_in_schema s) first_tables) (not (list_any (is_in_schema s) (second_tables ++ third_tables))) e
-
 has_second : (s : Schema) → all_there 2 s ≡ true → list_all (is_in_schema s) (first_tables ++ second_tables) ≡ true
 has_second s e = first_and (list_all (is_in_schema s) (first_tables ++ second_tables)) (not (list_any (is_in_schema s) third_tables)) e
 
@@ -60,14 +57,6 @@ lacks_later s e = second_and (list_all (is_in_schema s) first_tables) (not (list
 
 lacks_third : (s : Schema) → all_there 2 s ≡ true → not (list_any (is_in_schema s) third_tables) ≡ true
 lacks_third s e = second_and (list_all (is_in_schema s) (first_tables ++ second_tables)) (not (list_any (is_in_schema s) third_tables)) e
-
--- where all tables of a version are there, some of ours are
-pub any_of_all : (n : ℕ) (s : Schema) → all_there n s ≡ true → any_there s ≡ true
-any_of_all zero s e = absurd (let none : ⊥ = cc in none)
-any_of_all (suc zero) s e = some_of_all (is_in_schema s) 7 first_tables (second_tables ++ third_tables) refl (has_first s e)
-any_of_all (suc (suc zero)) s e = some_of_all (is_in_schema s) 9 (first_tables ++ second_tables) third_tables refl (has_second s e)
-any_of_all (suc (suc (suc zero))) s e = some_of_all (is_in_schema s) 10 our_tables [] refl e
-any_of_all (suc (suc (suc (suc n)))) s e = absurd (let none : ⊥ = cc in none)
 
 -- ---- no database has the tables of two versions
 

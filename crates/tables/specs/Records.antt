@@ -1,5 +1,5 @@
 -- The record of an organization that the rows of the tables denote.
-use Rattle.std.specs.Prelude.{ℕ, Bool, List, [], map, filter, Option, None, option_map}
+use Rattle.std.specs.Prelude.{ℕ, Bool, List, [], map, filter, Option, None, option_map, IsSome, IfSome}
 use Rattle.std.specs.Option.{unwrap_or}
 use Rattle.std.specs.Str.{bytes_eq}
 use Rattle.std.specs.FinMap.{FinMap, from_entries}
@@ -124,3 +124,7 @@ record_of t org = option_map (organization_at t org) (cap_of org t)
 -- who asks by the organization's token with a digest, if it has a row
 abbrev pub caller_by : List ℕ → List ℕ → Tables → Option Caller
 caller_by org digest t = option_map (λ x. caller_with x.role (bounds_at t org x.name)) (named_role_of org digest t)
+
+-- the organization's token with this digest, if it has one, has its row of bound
+abbrev pub IsBound : List ℕ → List ℕ → Tables → Type 0
+IsBound org digest t = IfSome (named_role_of org digest t) (λ x. IsSome (bound_of org x.name t))

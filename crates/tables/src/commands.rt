@@ -1,10 +1,11 @@
 //! The calls of a store, over its connection: each with what it has to look at first.
-ghost use Rattle.std.specs.Prelude.{◌≡◌, false, ◌||◌, is_some, option_map, IsTrue, OnOk, ◌^◌, ◌<◌};
+ghost use Rattle.std.specs.Prelude.{◌≡◌, false, ◌||◌, is_some, IsTrue, OnOk, ◌^◌, ◌<◌};
 ghost use Rattle.sqlite.specs.Held.{state};
 ghost use Rattle.sqlite.specs.State.{HasCleanDisk};
 ghost use Rattle.machine.specs.Needs.{needed_of};
-ghost use Rattle.tables.specs.Records.{caller_by};
+ghost use Rattle.tables.specs.Records.{caller_by, IsBound};
 ghost use Rattle.tables.specs.Inner.Units.{text_in, unit_in};
+ghost use Rattle.statements.specs.Tables.{Tables, Holds};
 ghost use Rattle.statements.specs.Listings.{OrgsApart, TokensApart, WorkspacesApart, VersionsRise, RunsRise};
 ghost use Rattle.tables.specs.Inner.Looks.{LooksBy, Sees};
 ghost use Rattle.tables.specs.Inner.Lists.{LooksWhere, versions_listed_in, runs_listed_in, workspaces_listed_in, tokens_told_in, organizations_listed_in};
@@ -127,7 +128,7 @@ pub(crate) fn token_revoke<S: Alter>(
     Ok(AdminAnswer::Done)
 }
 
-/// Who asks by the organization's token with this digest.
+/// Who asks by the organization's token with this digest. A token without its row of bound isn't let in: it is an error.
 pub(crate) fn caller<S: Alter>(
     conn: &mut Connection<S>,
     alloc: Global,
@@ -138,6 +139,7 @@ pub(crate) fn caller<S: Alter>(
     ensures idle { conn.new.in_transaction ≡ false }
     ensures so_far { HasCleanDisk (state S.Store conn.new) → HasCleanDisk (state S.Store conn.old) }
     ensures looks { LooksBy (caller_by org.now digest.now) (state S.Store conn.old) (state S.Store conn.new) result }
+    ensures bound { HasCleanDisk (state S.Store conn.new) → OnOk result ((t : Tables) → Holds (state S.Store conn.old).now t → IsBound org.now digest.now t) }
 {
     assert_settled(conn);
     looks::caller(conn, alloc, org, digest)

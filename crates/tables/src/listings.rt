@@ -1,20 +1,17 @@
 //! The lists that are asked of the tables, outside a transaction.
-ghost use Rattle.std.specs.Prelude.{◌≡◌, false, None, List, [], ◌∷◌, ◌++◌, map, IsTrue, IfOk, OnOk, ◌^◌, ◌<◌};
+ghost use Rattle.std.specs.Prelude.{◌≡◌, None, List, [], ◌∷◌, ◌++◌, map, IsTrue, IfOk, OnOk, ◌^◌, ◌<◌};
 ghost use Rattle.sqlite.specs.Held.{state};
 ghost use Rattle.sqlite.specs.State.{HasCleanDisk};
 ghost use Rattle.basis.specs.Listings.{listing_of};
-ghost use Rattle.basis.specs.declared.numbers.TheConstants.{FIRST_KEPT};
-ghost use Rattle.std.specs.Option.{unwrap_or};
 ghost use Rattle.machine.specs.Showing.{holder_id};
 ghost use Rattle.statements.specs.Listings.{OrgsApart, TokensApart, WorkspacesApart, VersionsRise, RunsRise};
 ghost use Rattle.tables.specs.Records.{holder_of_cells};
 ghost use Rattle.tables.specs.Inner.Looks.{Sees};
 ghost use Rattle.tables.specs.Inner.Lists.{SeesLawful, version_row_in, versions_listed_in, run_row_in, runs_listed_in, newest_number_in, newest_by, newest_shown_in, ws_row_in, workspaces_listed_in, token_row_in, tokens_listed_in, tokens_told_in, org_row_in, organizations_listed_in};
 
-use crate::looks::{caller_as, limit_of, lock_id_of, moment_of, number_of};
+use crate::looks::{caller_as, kept, limit_of, lock_id_of, moment_of, number_of};
 use basis::{
-    HolderId, Items, KeepCount, Listing, Number, Prefix, RunRow, Settings, Text, VersionRow,
-    WsName, WsRow,
+    HolderId, Items, Listing, Number, Prefix, RunRow, Settings, Text, VersionRow, WsName, WsRow,
 };
 use machine::{AdminAnswer, OrgRow, TokenRow};
 use sqlite::{Alter, Connection, Error, ErrorCode};
@@ -182,16 +179,6 @@ fn ws_name_of(alloc: Global, name: &Text) -> Result<WsName, Error>
     match WsName::read(alloc, name.as_str()) {
         Ok(name) => Ok(name),
         Err(_) => Err(Error::SqliteFailure(ErrorCode::OutOfMemory)),
-    }
-}
-
-/// How many versions a workspace keeps. One without a row of that keeps what one keeps at first.
-fn kept(keep: Option<KeepCount>) -> KeepCount
-    ensures { result ≡ unwrap_or keep FIRST_KEPT }
-{
-    match keep {
-        None => KeepCount::first(),
-        Some(keep) => keep,
     }
 }
 

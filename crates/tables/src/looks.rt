@@ -1,12 +1,14 @@
 //! What is asked of the tables outside a transaction, by queries of one row each.
-ghost use Rattle.std.specs.Prelude.{◌≡◌, length, false, cond, is_some, option_map, option_copied, Option, IsTrue, IfOk, OnOk, ◌^◌, ◌<◌, unwrap_or};
+ghost use Rattle.std.specs.Prelude.{◌≡◌, length, false, cond, is_some, option_map, option_copied, Option, IsTrue, IsSome, IfOk, OnOk, ◌<◌, unwrap_or};
+ghost use Rattle.basis.specs.declared.numbers.TheConstants.{FIRST_KEPT};
 ghost use Rattle.sqlite.specs.Held.{state};
 ghost use Rattle.sqlite.specs.State.{HasCleanDisk};
-ghost use Rattle.statements.specs.Finds.{size_of, status_at_number, run_at_number, number_back, cap_of, workspaces_of, first_waiting_of, open_runs_of};
+ghost use Rattle.statements.specs.Finds.{size_of, status_at_number, run_at_number, number_back, cap_of, workspaces_of, first_waiting_of, open_runs_of, bound_of};
+ghost use Rattle.statements.specs.Tables.{Tables, Holds};
 ghost use Rattle.machine.specs.Needs.{needed_of};
 ghost use Rattle.machine.specs.Units.{if_needed};
 ghost use Rattle.texts.specs.Texts.{pages_for, are_pieces};
-ghost use Rattle.tables.specs.Records.{bounds_of_cells, caller_with, bounds_at, caller_by, keep_at, holder_of_cells, run_of_cells};
+ghost use Rattle.tables.specs.Records.{bounds_of_cells, caller_with, bounds_at, caller_by, IsBound, keep_at, holder_of_cells, run_of_cells};
 ghost use Rattle.tables.specs.Inner.Units.{holder_status_in, text_in, has_text, newest_by, newest_in, keep_in, outgoing_in, has_version_in, keyed_cells_in, asked_cells_in, asked_run_in, unit_in};
 ghost use Rattle.tables.specs.Inner.Looks.{Sees, absent_in, runs_in, around_in, unit_from, present_in};
 
@@ -206,7 +208,17 @@ fn newest_if<S: Alter>(
     }
 }
 
-/// How many versions a workspace keeps. One without a row of that keeps what one keeps at first.
+/// How many versions a workspace keeps, by its row of keeping. One without such a row keeps what one keeps at first.
+pub(crate) fn kept(keep: Option<KeepCount>) -> KeepCount
+    ensures { result ≡ unwrap_or keep FIRST_KEPT }
+{
+    match keep {
+        None => KeepCount::first(),
+        Some(keep) => keep,
+    }
+}
+
+/// How many versions a workspace keeps.
 pub(crate) fn keep<S: Alter>(
     conn: &mut Connection<S>,
     org: &str,
@@ -215,10 +227,8 @@ pub(crate) fn keep<S: Alter>(
     ensures looks { Sees (λ t. keep_at t org.now ws.now) (state S.Store conn.old) (state S.Store conn.new) result }
     ensures is_open { HasCleanDisk (state S.Store conn.new) → OnOk result (IsTrue (state S.Store conn.new).is_open) }
 {
-    match keepings::find(conn, org, ws)? {
-        None => Ok(KeepCount::first()),
-        Some(keep) => Ok(keep),
-    }
+    let found = keepings::find(conn, org, ws)?;
+    Ok(kept(found))
 }
 
 /// How many versions a workspace keeps, where that is needed, else what one keeps at first.
@@ -356,7 +366,7 @@ fn bounds_as(alloc: Global, bound: &BoundCells) -> Result<Bounds, Error>
     Ok(Bounds { until, prefix })
 }
 
-/// How far a token reaches. Each token that is there has a row of bound.
+/// How far a token reaches. It is an error where the token has no row of bound.
 fn bounds_of<S: Alter>(
     conn: &mut Connection<S>,
     alloc: Global,
@@ -365,6 +375,7 @@ fn bounds_of<S: Alter>(
 ) -> Result<Bounds, Error>
     ensures looks { Sees (λ t. bounds_at t org.now name.now) (state S.Store conn.old) (state S.Store conn.new) result }
     ensures is_open { HasCleanDisk (state S.Store conn.new) → OnOk result (IsTrue (state S.Store conn.new).is_open) }
+    ensures there { HasCleanDisk (state S.Store conn.new) → OnOk result ((t : Tables) → Holds (state S.Store conn.old).now t → IsSome (bound_of org.now name.now t)) }
 {
     match bounds::find(conn, org, name)? {
         None => Err(Error::QueryReturnedNoRows),
@@ -391,12 +402,13 @@ pub(crate) fn caller_as<S: Alter>(
 ) -> Result<Caller, Error>
     ensures looks { Sees (λ t. caller_with token.now.role (bounds_at t org.now token.now.name)) (state S.Store conn.old) (state S.Store conn.new) result }
     ensures is_open { HasCleanDisk (state S.Store conn.new) → OnOk result (IsTrue (state S.Store conn.new).is_open) }
+    ensures there { HasCleanDisk (state S.Store conn.new) → OnOk result ((t : Tables) → Holds (state S.Store conn.old).now t → IsSome (bound_of org.now token.now.name t)) }
 {
     let bounds = bounds_of(conn, alloc, org, token.name.as_str())?;
     Ok(caller_with(token.role, bounds))
 }
 
-/// Who asks by the organization's token with this digest.
+/// Who asks by the organization's token with this digest. It is an error where the token has no row of bound.
 pub(crate) fn caller<S: Alter>(
     conn: &mut Connection<S>,
     alloc: Global,
@@ -405,6 +417,7 @@ pub(crate) fn caller<S: Alter>(
 ) -> Result<Option<Caller>, Error>
     ensures looks { Sees (caller_by org.now digest.now) (state S.Store conn.old) (state S.Store conn.new) result }
     ensures is_open { HasCleanDisk (state S.Store conn.new) → OnOk result (IsTrue (state S.Store conn.new).is_open) }
+    ensures bound { HasCleanDisk (state S.Store conn.new) → OnOk result ((t : Tables) → Holds (state S.Store conn.old).now t → IsBound org.now digest.now t) }
 {
     match tokens::find_by_digest(conn, org, digest)? {
         None => Ok(None),
