@@ -1,5 +1,5 @@
 -- The loop of `serve`: what it prints, the connections that it answers, and the records that it leaves.
-use Rattle.std.specs.Prelude.{◌≡◌, ◌<◌, ◌≤◌, ℕ, suc, List, [], ◌∷◌, ◌++◌, ◌⊎◌, ⊤, Bool, true, false, Option, Some, None, Result, Ok, Err, codes, decimal, length}
+use Rattle.std.specs.Prelude.{◌≡◌, ◌<◌, ◌≤◌, ℕ, suc, List, [], ◌∷◌, ◌++◌, ◌⊎◌, ⊤, Bool, Option, Some, None, Result, Ok, Err, codes, decimal, length}
 use Rattle.std.specs.Io.KnownBytes.{Appends, Consumes}
 use Rattle.basis.specs.declared.memory.Down.{Down}
 use Rattle.machine.specs.declared.keeps.Keep as keep
