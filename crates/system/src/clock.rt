@@ -1,10 +1,21 @@
 //! The clock of the system.
-ghost use Rattle.std.specs.Prelude.{⊤};
+ghost use Rattle.std.specs.Prelude.{◌≡◌, ⊤};
+ghost use Rattle.std.specs.Time.{system_time_nanos};
+ghost use Rattle.system.specs.Clock.{moment_at};
 
 use basis::Moment;
 use program::outside::Clock;
 use std::rt::HostRuntime;
 use std::time::{SystemTime, UNIX_EPOCH};
+
+/// The moment of a time of the system: its whole seconds since 1970. There is none behind the last second of the
+/// year 9999; of a time before 1970 the system's clock gives none.
+fn moment_of(time: SystemTime) -> Option<Moment>
+    ensures { result ≡ moment_at (system_time_nanos time) }
+{
+    let since = time.duration_since(UNIX_EPOCH).ok()?;
+    Moment::new(since.as_secs())
+}
 
 /// The clock of the system.
 #[derive(Drop)]
@@ -24,7 +35,6 @@ impl Clock for SystemClock<'_> {
 
     fn now(&mut self) -> Option<Moment> {
         let now = SystemTime::now(self.rt).ok()?;
-        let since = now.duration_since(UNIX_EPOCH).ok()?;
-        Moment::new(since.as_secs())
+        moment_of(now)
     }
 }

@@ -1,6 +1,10 @@
 //! Databases in files.
-ghost use Rattle.std.specs.Prelude.{◌≡◌, true, ⊤, is_some, IfOk};
+ghost use Rattle.std.specs.Prelude.{◌≡◌, true, false, ⊤, is_some, IfOk};
+ghost use Rattle.sqlite_store.specs.FileStore.{view};
 ghost use Rattle.sqlite_wal.specs.Files.{image_at};
+ghost use Rattle.sqlite.specs.Files.{file_state, IsOpened, IsBlankAs};
+ghost use Rattle.sqlite.specs.Start.{FindsIn};
+ghost use Rattle.sqlite.specs.State.{HasCleanDisk};
 ghost use Rattle.system.specs.Files.{OpensOn, IsClosedOn};
 
 use crate::replays::replayed;
@@ -10,7 +14,7 @@ use pages::ShaKey;
 use program::outside::Files;
 use serve::Step;
 use sqlite::Connection;
-use sqlite_disk::{Disk, Start, Unknown};
+use sqlite_disk::{Disk, Start};
 use sqlite_std_file::FileFrom;
 use sqlite_store::FileStore;
 use std::alloc::Global;
@@ -64,6 +68,24 @@ fn is_any_readable(rt: &HostRuntime, path: &str) -> io::Result<bool> {
     Ok(is_readable(rt, real.as_str()) || is_readable(rt, log.as_str()))
 }
 
+/// Opens the database in a file. One that is made, where the file is empty, has SQLite's sums (cksumvfs): each page
+/// ends with one, and a page whose sum is wrong is refused. A database that is there has sums or none, as it was made.
+fn open_database<S: Start>(
+    rt: &HostRuntime,
+    path: &str,
+    start: S,
+) -> Result<Connection<FileStore<FileFrom<S>>>, Fault>
+    ensures opened { IfOk result (λ conn. HasCleanDisk (file_state conn) → IsOpened conn) }
+    ensures found { IfOk result (λ conn. HasCleanDisk (file_state conn) → FindsIn (image_at S.Start) (file_state conn)) }
+    ensures sums { IfOk result (λ conn. HasCleanDisk (file_state conn) → IsBlankAs true (image_at S.Start) → (view conn.store).has_sums ≡ true) }
+    ensures idle { IfOk result (λ conn. conn.in_transaction ≡ false) }
+{
+    match Connection::open_from(rt, path, true, start) {
+        Ok(conn) => Ok(conn),
+        Err(_) => Err(Fault::Down),
+    }
+}
+
 /// Opens the store in a file. A file that isn't there is made, for its owner alone and with no
 /// organization; one of another schema stays as it is. Nothing ties what is found to the path, but to what `start` stands for.
 pub fn open_file<S: Start>(rt: &HostRuntime, path: &str, start: S) -> Result<FileKeep<S>, Fault>
@@ -72,9 +94,9 @@ pub fn open_file<S: Start>(rt: &HostRuntime, path: &str, start: S) -> Result<Fil
     if make_private(rt, path).is_err() {
         return Err(Fault::Down);
     }
-    let conn = match Connection::open_from(rt, path, false, start) {
+    let conn = match open_database(rt, path, start) {
         Ok(conn) => conn,
-        Err(_) => return Err(Fault::Down),
+        Err(fault) => return Err(fault),
     };
     match SqlKeep::open(conn) {
         Ok(keep) => Ok(keep),
@@ -109,13 +131,6 @@ impl<'a, S: Start> DiskFiles<'a, S> {
             rt,
             start: Some(start),
         }
-    }
-}
-
-impl<'a> DiskFiles<'a, Unknown> {
-    /// The files as a program finds them, of which nothing is known.
-    pub fn unknown(rt: &'a HostRuntime) -> DiskFiles<'a, Unknown> {
-        DiskFiles::new(rt, Unknown)
     }
 }
 
