@@ -11,6 +11,11 @@ abbrev pub tells_end : {E : Type 0} → Result ℕ E → ℕ → Bool
 tells_end (Ok count) room = count == 0 && nat_lt 0 room
 tells_end (Err fault) room = false
 
+-- a writer took nothing of a piece that has bytes
+abbrev pub takes_nothing : {E : Type 0} → Result ℕ E → ℕ → Bool
+takes_nothing (Ok count) length = count == 0 && nat_lt 0 length
+takes_nothing (Err fault) length = false
+
 -- CR LF
 abbrev pub line_end : List ℕ
 line_end = 13 ∷ 10 ∷ []

@@ -1,12 +1,12 @@
 //! What a message is read from and a reply is written to.
-ghost use Rattle.std.specs.Prelude.{◌≡◌, ◌||◌, ℕ, ◌<◌, List, Bool, false, length, Option, Ok, IfOk, is_err};
+ghost use Rattle.std.specs.Prelude.{◌≡◌, ◌||◌, ℕ, ◌<◌, List, Bool, false, length, Option, Ok, IfOk, OnOk, is_err};
 ghost use Rattle.std.specs.Io.{ReadsAtMost, WritesAtMost};
 ghost use Rattle.std.specs.Io.KnownBytes.{ReadConsumes, WriteAppends};
-ghost use Rattle.wire.specs.Links.{tells_end};
+ghost use Rattle.wire.specs.Links.{tells_end, takes_nothing};
 
 use std::error::Error;
-use std::fmt;
 use std::io::{Read, Write};
+use std::{fmt, io};
 
 /// The device failed in this call, and has failed from now on.
 #[derive(Clone, Copy, Debug, PartialEq, Eq)]
@@ -72,6 +72,29 @@ pub fn tells_end(count: usize, room: usize) -> bool
     count == 0 && room > 0
 }
 
+/// A reader's answer, as it is told: as many bytes, and a failure where the reader failed.
+fn told_of_read(answer: io::Result<usize>) -> Result<usize, Broken>
+    ensures count { IfOk answer (λ count. result ≡ Ok count) }
+    ensures failed { is_err result ≡ is_err answer }
+{
+    match answer {
+        Ok(count) => Ok(count),
+        Err(_) => Err(Broken),
+    }
+}
+
+/// A writer's answer to a piece of this length, as it is told: as many bytes, and a failure where the writer failed,
+/// or took nothing of a piece that isn't empty.
+fn told_of_write(answer: io::Result<usize>, length: usize) -> Result<usize, Broken>
+    ensures count { IfOk answer (λ count. OnOk result (result ≡ Ok count)) }
+    ensures failed { is_err result ≡ (is_err answer || takes_nothing answer length) }
+{
+    match answer {
+        Ok(count) if count > 0 || length == 0 => Ok(count),
+        _ => Err(Broken),
+    }
+}
+
 /// A reader of std.
 #[derive(Drop)]
 pub struct FromRead<R: Read> {
@@ -112,16 +135,12 @@ impl<R: Read> Inlet for FromRead<R> {
     }
 
     fn read(&mut self, buf: &mut [u8]) -> Result<usize, Broken> {
-        match self.reader.read(buf) {
-            Ok(count) => {
-                self.has_ended = tells_end(count, buf.len()) || self.has_ended;
-                Ok(count)
-            }
-            Err(_) => {
-                self.has_failed = true;
-                Err(Broken)
-            }
+        let told = told_of_read(self.reader.read(buf));
+        match told {
+            Ok(count) => self.has_ended = tells_end(count, buf.len()) || self.has_ended,
+            Err(_) => self.has_failed = true,
         }
+        told
     }
 }
 
@@ -160,12 +179,8 @@ impl<W: Write> Outlet for ToWrite<W> {
     }
 
     fn write(&mut self, piece: &[u8]) -> Result<usize, Broken> {
-        match self.writer.write(piece) {
-            Ok(count) if count > 0 || piece.is_empty() => Ok(count),
-            _ => {
-                self.has_failed = true;
-                Err(Broken)
-            }
-        }
+        let told = told_of_write(self.writer.write(piece), piece.len());
+        self.has_failed = told.is_err();
+        told
     }
 }
