@@ -1,4 +1,5 @@
 //! What no line of bytes tells: checks that are run by their names.
+use crate::devices::are_asked_once;
 use crate::programs::answer_of;
 use crate::sockets::{Bout, answer_idle, answer_one, answer_rude, answer_trickling};
 use basis::{Bytes, Down, Items, Refusal, Text};
@@ -18,6 +19,8 @@ enum Check {
     Values,
     /// The clock of the system.
     Clock,
+    /// Readers and writers, and how often they are asked.
+    Devices,
     Loopback,
     RudePeers,
     IdlePeers,
@@ -27,6 +30,7 @@ enum Check {
 const CHECKS: &[(&str, Check)] = &[
     ("values", Check::Values),
     ("clock", Check::Clock),
+    ("devices", Check::Devices),
     ("loopback", Check::Loopback),
     ("rude peers", Check::RudePeers),
     ("idle peers", Check::IdlePeers),
@@ -178,6 +182,7 @@ pub fn run_check(rt: &HostRuntime, plot: &Plot<'_>) -> Result<(), Failure> {
     match check_of(head) {
         Some(Check::Values) => holds(head, check_values(rt.alloc())?),
         Some(Check::Clock) => holds(head, SystemClock::new(rt).now().is_some()),
+        Some(Check::Devices) => holds(head, are_asked_once()),
         Some(check) => run_peers(rt, check, plot.at, head, parts),
         None => Err(Failure::from(head.unread("no check has this name"))),
     }

@@ -4,6 +4,7 @@
 mod begun;
 mod checks;
 mod commands;
+mod devices;
 mod files;
 mod memories;
 mod programs;

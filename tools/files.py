@@ -1,0 +1,192 @@
+#!/usr/bin/env python3
+"""Looks at the files of the program `custody`: who may read them, who has them, and what damage to them does.
+
+    python3 tools/files.py CUSTODY    the program as `rt ci` or `rt run` leaves it
+
+A new file has the sums of SQLite's cksumvfs: of bits that are flipped one at a time in a closed file each one is refused at
+the open, or nothing of what it holds is lost by it. A file behind a link is told of by its own mode and by that of its log.
+One program at a time has a file. A file that sqlite3 wrote to, and whose sums it spoiled so, comes back by a dump. It prints
+a line for each thing that holds, and ends with status 1 at the first that doesn't.
+"""
+
+import os
+import random
+import shutil
+import sqlite3
+import subprocess
+import sys
+import tempfile
+
+from program import PATIENCE, Program, Wrong, exchanged, free_port, reply, request, said
+
+READABLE = b"custody: others than its owner may read the file or its log: chmod 600 ends that\n"
+SECRET = b"adminadminadmin1\n"
+
+# Bits that are flipped, one at a time, by a fixed seed.
+FLIPS = 200
+SEED = 45
+
+# How many bytes at the end of a page SQLite leaves to the sum, and where the header says so.
+SUM_BYTES = 8
+RESERVED_AT = 20
+
+TEXTS = [b'{"serial":%d,"x":"%s"}' % (serial, b"%d " % serial * 9000) for serial in (1, 2)]
+
+
+class Service:
+    """A service over a file, ended by its count or killed."""
+
+    def __init__(self, program, path, count):
+        self.port = free_port()
+        self.process = program.start(["serve", "--db", path, "--port", str(self.port), "--count", str(count)], subprocess.DEVNULL)
+        said("the line of a service", self.process.stdout.readline(), b"listening 127.0.0.1:%d\n" % self.port)
+
+    def ends(self):
+        output, errors = self.process.communicate(timeout=PATIENCE)
+        said("a service behind its count", (self.process.returncode, output, errors), (0, b"", b""))
+
+    def kill(self):
+        self.process.kill()
+        self.process.wait()
+
+
+def filled(program, path):
+    """A file with an organization, a workspace and two versions of two pages; closed."""
+    said("an organization", program.run(["org-add", "--db", path, "acme"]), (0, b"ok\n", b""))
+    said("a token", program.run(["token-add", "--db", path, "acme", "root", "admin"], SECRET), (0, b"ok\n", b""))
+    service = Service(program, path, 1 + len(TEXTS))
+    exchanged(service.port, request(b"PUT /v1/acme/workspaces/net HTTP/1.1"))
+    for text in TEXTS:
+        said("a state is posted", exchanged(service.port, request(b"POST /v1/acme/state/net HTTP/1.1", text)), reply(b"200 OK", b""))
+    service.ends()
+
+
+def look_at_modes(program):
+    """A link is told of by where it leads."""
+    os.mkdir(program.folder + "/there")
+    os.symlink("there/real.db", program.folder + "/link.db")
+    path, real = "link.db", program.folder + "/there/real.db"
+    program.is_due("a link to nothing is no file", ["org-list", "--db", path], 3, b"refused down\n")
+    filled(program, "there/real.db")
+    lists = ["org-list", "--db", path]
+    program.is_due("a file behind a link opens", lists, 0, b"acme 1 200\n")
+    for file in (real, real + "-wal"):
+        if not os.path.exists(file):
+            open(file, "wb").close()
+            os.chmod(file, 0o600)
+        for mode in (0o640, 0o604):
+            os.chmod(file, mode)
+            program.is_due("of mode %o is told through a link: %s" % (mode, os.path.basename(file)), lists, 0, b"acme 1 200\n", READABLE)
+        os.chmod(file, 0o620)
+        program.is_due("others may write: nothing is told of that", lists, 0, b"acme 1 200\n")
+        os.chmod(file, 0o600)
+
+
+def look_at_owners(program):
+    """One program at a time has the file."""
+    filled(program, "one.db")
+    service = Service(program, "one.db", 2)
+    try:
+        before = open(program.folder + "/one.db", "rb").read()
+        for words in (["org-list", "--db", "one.db"], ["org-add", "--db", "one.db", "beta"]):
+            program.is_due("a second program is refused the file", words, 3, b"refused down\n")
+        program.is_due("a second service, too", ["serve", "--db", "one.db", "--port", str(free_port()), "--count", "1"], 3, b"refused down\n")
+        said("the file", open(program.folder + "/one.db", "rb").read() == before, True)
+        for _ in range(2):
+            said("the first goes on", exchanged(service.port, request(b"GET /v1/acme/state/net HTTP/1.1")), reply(b"200 OK", TEXTS[-1]))
+        service.ends()
+    finally:
+        service.kill()
+    program.is_due("and leaves it to the next", ["org-list", "--db", "one.db"], 0, b"acme 1 200\n")
+
+
+def has_sums(path):
+    return open(path, "rb").read(100)[RESERVED_AT] == SUM_BYTES
+
+
+def is_right(program, path):
+    """Whether a service over the file gives the newest text and the one before it."""
+    service = Service(program, path, 2)
+    try:
+        newest = exchanged(service.port, request(b"GET /v1/acme/state/net HTTP/1.1"))
+        first = exchanged(service.port, request(b"GET /v1/acme/versions/net/1 HTTP/1.1"))
+        service.ends()
+    finally:
+        service.kill()
+    return (newest, first) == (reply(b"200 OK", TEXTS[1]), reply(b"200 OK", TEXTS[0]))
+
+
+def look_at_flips(program):
+    """Each bit that is flipped in a closed file is found at the open."""
+    filled(program, "whole.db")
+    whole = open(program.folder + "/whole.db", "rb").read()
+    said("a new file has sums", has_sums(program.folder + "/whole.db"), True)
+    said("the file as it was left", is_right(program, "whole.db"), True)
+    whole = open(program.folder + "/whole.db", "rb").read()
+    places = random.Random(SEED).sample(range(len(whole) * 8), FLIPS)
+    for place in places:
+        flipped = bytearray(whole)
+        flipped[place // 8] ^= 1 << place % 8
+        with open(program.folder + "/flipped.db", "wb") as file:
+            file.write(flipped)
+        os.chmod(program.folder + "/flipped.db", 0o600)
+        came = program.run(["org-list", "--db", "flipped.db"])
+        if came[0] != 3 or came[1] not in (b"refused down\n", b"refused schema\n") or came[2]:
+            raise Wrong("bit %d flipped: %s" % (place, came))
+        os.remove(program.folder + "/flipped.db")
+        if os.path.exists(program.folder + "/flipped.db-wal"):
+            os.remove(program.folder + "/flipped.db-wal")
+    print("right: %d bits flipped one at a time in a file of %d bytes, each is refused at the open" % (FLIPS, len(whole)))
+
+
+def dumps_of(path):
+    """The dumps of a file: by python3, whose tables come by name, and by the program sqlite3, where it is there."""
+    reader = sqlite3.connect("file:%s?mode=ro&immutable=1" % path, uri=True)
+    yield "iterdump.db", "\n".join(reader.iterdump())
+    reader.close()
+    shell = shutil.which("sqlite3")
+    if shell:
+        yield "shell.db", subprocess.run([shell, "-readonly", path, ".dump"], capture_output=True, check=True).stdout.decode()
+
+
+def look_at_spoiled(program):
+    """sqlite3 reads such a file, and spoils it when it writes; a dump brings it back."""
+    filled(program, "spoiled.db")
+    path = program.folder + "/spoiled.db"
+    with open(path, "rb") as file:
+        before = file.read()
+    reader = sqlite3.connect("file:%s?mode=ro&immutable=1" % path, uri=True)
+    said("SQLite's own library reads it", reader.execute("SELECT count(*) FROM version").fetchone(), (2,))
+    said("and finds it whole", reader.execute("PRAGMA integrity_check").fetchone(), ("ok",))
+    reader.close()
+    said("a file that is read as immutable", open(path, "rb").read() == before, True)
+    writer = sqlite3.connect(path)
+    writer.execute("UPDATE org SET cap = 7")
+    writer.commit()
+    writer.close()
+    program.is_due("a file that sqlite3 wrote to is refused", ["org-list", "--db", "spoiled.db"], 3, b"refused down\n")
+    for name, dump in dumps_of(path):
+        fresh = sqlite3.connect(program.folder + "/" + name, isolation_level=None)
+        fresh.executescript(dump)
+        fresh.close()
+        os.chmod(program.folder + "/" + name, 0o600)
+        program.is_due("its dump in a new file opens: %s" % name, ["org-list", "--db", name], 0, b"acme 1 7\n")
+        said("with its states", is_right(program, name), True)
+    print("right: a file that sqlite3 spoiled comes back by its dump")
+
+
+def main():
+    if len(sys.argv) != 2:
+        sys.exit(__doc__)
+    with tempfile.TemporaryDirectory() as folder:
+        program = Program(sys.argv[1], folder)
+        try:
+            for look in (look_at_modes, look_at_owners, look_at_flips, look_at_spoiled):
+                look(program)
+        except (Wrong, OSError, sqlite3.Error, subprocess.SubprocessError) as wrong:
+            print("WRONG:", wrong)
+            sys.exit(1)
+
+
+if __name__ == "__main__":
+    main()
