@@ -1,7 +1,9 @@
 #!/usr/bin/env python3
 """Prints a story of 400 requests of two organizations, chosen by a fixed seed, with the reply that is due to each.
 
-    python3 tools/history.py
+    python3 tools/history.py          prints it
+    python3 tools/history.py check    computes each reply of the other long history, that of one workspace, by the same rules:
+                                      whether they are those of crates/stories/stdin, and whether this story stands there
 
 The rules of custody stand here once more, over plain lists, so that what is due is computed by nothing of the program;
 and so do the rules by which pages are kept: each once, under its key and the least twin number that is free.
@@ -9,13 +11,19 @@ What is printed stands in crates/stories/stdin as the story of this name.
 """
 
 import json
+import os
 import random
+import re
+import sys
 
 SEED = 5
 REQUESTS = 400
 # The tables are asked behind each so many requests.
 ASKED_EVERY = 40
 NAME = "a long history of two organizations that share texts"
+# The story whose replies are computed from its requests, and where the stories stand.
+ONE = "a long history of one workspace"
+STORIES = os.path.join(os.path.dirname(os.path.abspath(__file__)), "..", "crates", "stories", "stdin")
 AT = 1700000000
 PAGE = 16384
 MAX_ITEMS = 50
@@ -499,14 +507,95 @@ def asked():
     return out
 
 
-def main():
+class Posted(Text):
+    """A state as it was posted, by its bytes."""
+
+    def __init__(self, body):
+        read = json.loads(body)
+        self.bytes, self.pieces = body, "| %s\n" % body
+        self.serial, self.lineage = read["serial"], read.get("lineage", "")
+
+
+def reply_to(service, token, method, path, lock_id, body):
+    """The reply to a request on the workspace net of acme, by what it asks."""
+    kind, _, *rest = path.split("/")
+    if (method, kind) == ("POST", "state"):
+        act = lambda it: it.update(Posted(body), lock_id)
+    elif (method, kind) == ("DELETE", "state"):
+        act = lambda it: it.purge(lock_id)
+    elif method == "LOCK":
+        act = lambda it: it.take_lock(json.loads(body)["ID"], body)
+    elif method == "UNLOCK":
+        act = lambda it: it.unlock(json.loads(body)["ID"])
+    elif (method, kind, len(rest)) == ("POST", "runs", 0):
+        asked = json.loads(body or "{}")
+        act = lambda it: it.make_run(asked.get("key"), asked.get("message", ""), asked.get("plan_only", False))
+    elif (method, kind) == ("POST", "runs"):
+        act = lambda it: run_reported(it, int(rest[0]), rest[2])
+    elif (method, kind) == ("GET", "state"):
+        act = newest_text
+    elif (method, kind) == ("GET", "workspaces"):
+        act = lambda it: told(it.shown())
+    elif (method, kind) == ("GET", "runs"):
+        act = lambda it: run_shown(it, int(rest[0])) if rest else listed([run.shown() for run in it.runs])
+    else:
+        sys.exit("no rule for %s %s" % (method, path))
+    return service.reply(token, 0 if method == "GET" else 1, "acme", "net", act)
+
+
+def story_of(text, name):
+    """The lines of a story behind its first two, up to what is no line of it."""
+    _, _, rest = text.partition("story %s\nafter two organizations and an empty workspace\n" % name)
+    return re.split(r"\n(?=\n|story |#)", rest, maxsplit=1)[0] + "\n"
+
+
+def replies_of_one(steps):
+    """The steps anew, each with the reply that the rules give."""
+    service, told_anew, count = Service(), "", 0
+    for step in re.findall(r"(?m)^\w [A-Z]+ .*\n(?:(?:[|=].*)\n)*", steps):
+        head, *lines = step.splitlines()
+        token, method, target = head.split(" ")
+        path, _, query = target.partition("?")
+        body = "".join(line[2:] for line in lines[: [line[0] for line in lines].index("=")])
+        lock_id = query[3:] if query.startswith("ID=") else None
+        asked_for = head + "\n" + ("| %s\n" % body if body else "")
+        told_anew += asked_for + reply_to(service, token, method, path, lock_id, body)
+        count += 1
+    return told_anew, count
+
+
+def check():
+    text = open(STORIES, encoding="utf-8").read()
+    steps = story_of(text, ONE)
+    anew, count = replies_of_one(steps)
+    for due, stands in zip(anew.splitlines(), steps.splitlines()):
+        if due != stands:
+            sys.exit("%s: by the rules %s, in the text %s" % (ONE, due, stands))
+    if anew != steps or not count:
+        sys.exit("%s: the text has other lines" % ONE)
+    print("right: %s, %d requests" % (ONE, count))
+    if story() not in text:
+        sys.exit("%s: the text has another story" % NAME)
+    print("right: %s, %d requests" % (NAME, REQUESTS))
+
+
+def story():
     teller = Teller()
-    print("story " + NAME)
-    print("after two organizations and an empty workspace")
+    out = "story %s\nafter two organizations and an empty workspace\n" % NAME
     for count in range(1, REQUESTS + 1):
-        print(teller.told(), end="")
+        out += teller.told()
         if count % ASKED_EVERY == 0:
-            print(asked(), end="")
+            out += asked()
+    return out
+
+
+def main():
+    if sys.argv[1:] == ["check"]:
+        check()
+    elif sys.argv[1:]:
+        sys.exit(__doc__)
+    else:
+        print(story(), end="")
 
 
 if __name__ == "__main__":

@@ -183,6 +183,8 @@ def main():
         service.send_signal(signal.SIGKILL)
         service.wait()
         sound(path, folder)
+    if acknowledged == 0:
+        sys.exit(f"{rounds} kills, and no request was acknowledged: nothing is shown")
     print(f"{rounds} kills, {acknowledged} requests acknowledged and kept, {under_way} under way when the service was killed, {applied} of them applied")
 
 
