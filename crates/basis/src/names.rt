@@ -1,5 +1,5 @@
 //! Names, IDs and secrets.
-ghost use Rattle.std.specs.Prelude.{◌≡◌, ◌↔◌, ℕ, List, [], true, false, IsTrue, IfOk, IsErrOf, string_bytes, bytes_eq, decimal};
+ghost use Rattle.std.specs.Prelude.{◌≡◌, ◌↔◌, ℕ, List, [], false, IsTrue, IfOk, IsErrOf, string_bytes, bytes_eq, decimal};
 ghost use Rattle.std.specs.List.{list_all};
 ghost use Rattle.std.specs.Char.{is_ascii_alphanumeric};
 ghost use Rattle.basis.specs.Names.{is_org_name, is_org_byte, is_ws_name, is_ws_byte, is_prefix, admits, is_lock_id, is_free_id, run_id, is_secret, has_length};

@@ -1,5 +1,5 @@
 //! Numbers of versions and runs, moments, and limits.
-ghost use Rattle.std.specs.Prelude.{◌≡◌, ◌↔◌, ℕ, ◌^◌, ◌<◌, ◌≤◌, length, Some, None, IsSome, IsNone, IfSome, IfOk, IfErr, IsErrOf};
+ghost use Rattle.std.specs.Prelude.{◌≡◌, ℕ, ◌<◌, ◌≤◌, Some, None, IfOk, IfErr};
 ghost use Rattle.basis.specs.Numbers.{whole_of, number_of, within};
 ghost use Rattle.basis.specs.Inner.Numbers.{begins_plainly};
 ghost use Rattle.basis.specs.declared.numbers.TheConstants.{MAX_NUMBER, MAX_MOMENT, MAX_LIMIT, MAX_KEPT, FIRST_KEPT};

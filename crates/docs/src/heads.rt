@@ -6,7 +6,7 @@ ghost use Rattle.json.specs.Lex.{tokens};
 ghost use Rattle.json.specs.Reads.{token_of};
 ghost use Rattle.json.specs.Token.{begin_object};
 ghost use Rattle.serde_json.specs.Data.{Data, Items as DataItems, Members, no_members, put};
-ghost use Rattle.serde_json.specs.Read.{number_of, number_from, float_of, of_json, of_items, of_members, converted};
+ghost use Rattle.serde_json.specs.Read.{number_of, number_from, of_json, of_items, of_members, converted};
 ghost use Rattle.serde_json.specs.View.{number_view};
 ghost use Rattle.docs.specs.Documents.{object_of};
 ghost use Rattle.docs.specs.Inner.Heads.{opens_object, object_in, IsPartOf, IsHeadOf, serial_in, lineage_in};

@@ -1,6 +1,5 @@
 //! Peers in memory, in the place of those that connect to a socket.
 ghost use Rattle.std.specs.Prelude.{◌≡◌, ◌++◌, ◌∷◌, ◌⊎◌, [], Ok, Some, true, IfSome, OnOk};
-ghost use Rattle.std.specs.Net.Addr.{ipv4_octets};
 ghost use Rattle.fakes.specs.Peers.{AcceptsNext, IsBound};
 
 use basis::{Bytes, Down};

@@ -61,15 +61,6 @@ rises_by_write act now w v e lt = by_case (leaves act now w v e)
 
 -- ---- who takes a version away
 
--- while somebody holds, an accepted update or purge alone
-pub loses_by_write : (act : Act) (now : ℕ) (w v : Workspace) (n : ℕ) (u : Version) → is_nobody w.holder ≡ false → (rules act now (there w)).left ≡ Some v
-    → version_of n w.versions ≡ Some u → version_of n v.versions ≡ None → IsAcceptedWrite act now w
-loses_by_write act now w v n u somebody e was gone = by_case (held_versions_change_by_the_id act now w v somebody e)
-  where
-    by_case : (v.versions ≡ w.versions) ⊎ ((id : Option (List ℕ)) × WritesWith act id × ((rules act now (there w)).answer ≡ done) × IsWriter w.holder (holder_status w.holder w.runs) id) → IsAcceptedWrite act now w
-    by_case (inl stays) = absurd (let none : ⊥ = cc (sym was ∙ ap (version_of n) (sym stays) ∙ gone) in none)
-    by_case (inr (id, writes, is, writer)) = (id, writes, is)
-
 -- and the workspace stays: a run that holds is open
 open_found : (n : ℕ) (runs : List Run) (r : Run) → run_of n runs ≡ Some r → is_open r.status ≡ true → 1 ≤ open_runs runs
 open_found n [] r found is = absurd (let none : ⊥ = cc in none)

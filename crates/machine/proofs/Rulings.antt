@@ -36,7 +36,7 @@ use Rattle.machine.proofs.LookLemmas.{all_looks}
 use Rattle.machine.proofs.PuttingLemmas.{IsSet, put_comes, kept_in_range}
 use Rattle.machine.proofs.RefusedLemmas.{never_done, holder_told, refused_other, refuses}
 use Rattle.machine.proofs.RunLemmas.{some_run-push}
-use Rattle.machine.proofs.RunRulings.{IsPlain, IsTold, IsMade, IsReported, plainly_told, told_of, report_comes}
+use Rattle.machine.proofs.RunRulings.{IsPlain, IsMade, IsReported, plainly_told, told_of, report_comes}
 use Rattle.machine.proofs.RunRulings as run
 
 -- ---- of a workspace that is missing: PUT makes it where there is room, and every other act misses it

@@ -1,6 +1,5 @@
 //! Decisions: what becomes of an act, from the few values that it depends on.
-ghost use Rattle.std.specs.Prelude.{◌≡◌, ◌+◌, ◌-◌, ℕ, List, not, ◌<◌, ◌^◌, Option, Some, None, IfSome, IfOk, cond, is_some, option_map};
-ghost use Rattle.std.specs.Str.{bytes_eq};
+ghost use Rattle.std.specs.Prelude.{◌≡◌, ◌-◌, ℕ, List, ◌<◌, Option, Some, None, IfSome, IfOk, cond, is_some, option_map};
 ghost use Rattle.machine.specs.Units.{unit_of};
 ghost use Rattle.machine.specs.Records.{seen_in};
 ghost use Rattle.machine.specs.Laws.{IsLawfulOrganization};

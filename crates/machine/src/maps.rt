@@ -24,7 +24,7 @@ pub struct NameMap<T> {
 }
 
 impl<T> Model for NameMap<T> {
-    ghost use Rattle.std.specs.Prelude.{ℕ, List};
+    ghost use Rattle.std.specs.Prelude.{ℕ};
     ghost use Rattle.std.specs.Coded.{coded_list, coded_ℕ};
     ghost use Rattle.std.specs.FinMap as map;
     ghost use Rattle.machine.specs.Order.{name_cmp};

@@ -1,14 +1,13 @@
 //! A store in memory: every organization's record as nested values.
 ghost use Rattle.std.specs.Prelude.{◌≡◌, ◌≢◌, ℕ, ⊤, List, Option, Some, None, IsTrue, IfSome, IfOk, OnOk, OnErr, cond, is_some, false, option_map, option_copied};
-ghost use Rattle.std.specs.Prelude.{map as map_list, find, filter, nat_lt};
+ghost use Rattle.std.specs.Prelude.{map as map_list, find, filter};
 ghost use Rattle.std.specs.FinMap as map;
 ghost use Rattle.machine.specs.Effects.{effect};
 ghost use Rattle.machine.specs.Laws.{AreLawful};
 ghost use Rattle.machine.specs.Records.{with_workspace, placed};
-ghost use Rattle.basis.specs.Listings.{listing_of};
 ghost use Rattle.basis.specs.Names.{is_prefix};
 ghost use Rattle.machine.specs.Showing.{comes_after, is_listed, shown_of, row_of, version_row, run_row, workspaces_listed, versions_listed, runs_listed};
-ghost use Rattle.machine.specs.Tokens.{token_with, has_digest, new_organization, org_added, org_limited, token_added, token_revoked, token_of, token_row, tokens_listed, tokens_told, AreOrganizations};
+ghost use Rattle.machine.specs.Tokens.{token_with, has_digest, new_organization, org_added, org_limited, token_added, token_revoked, token_of, token_row, tokens_listed, tokens_told};
 ghost use Rattle.machine.specs.Changes.{left_above, edited, changed_by};
 ghost use Rattle.machine.specs.Ranges.{IsMoment};
 ghost use Rattle.machine.specs.Rules.{reported};

@@ -1,5 +1,5 @@
 //! The steps of runs: where an action takes a run (HCP Terraform, 'Run States and Stages', a subset).
-ghost use Rattle.std.specs.Prelude.{◌≡◌, true, false, cond};
+ghost use Rattle.std.specs.Prelude.{◌≡◌};
 ghost use Rattle.machine.specs.RunSteps.{next_status, queued_steps, plan_only_steps, step_in};
 ghost use Rattle.basis.specs.declared.runs.RunStatus.{RunStatus as AnyStatus};
 ghost use Rattle.basis.specs.declared.runs.RunStatus.TheVariants.{Pending, Planning, Planned, Applying};

@@ -3,12 +3,6 @@ use Rattle.std.proofs.Common.{◌≡◌, ℕ, List, [], ◌∷◌, ◌++◌, Boo
 use Rattle.serve.specs.declared.steps.Step.{Step}
 use Rattle.program.specs.Frames.{first_frame, Ends, AreFrames, IsOnlyReading}
 
-pub one_more : (bytes : List ℕ) (steps : List Step) (step : Step) (rest left : List ℕ)
-    → ((more : List Step) (is_bad : Bool) → AreFrames rest more is_bad → AreFrames bytes (steps ++ more) is_bad)
-    → first_frame rest ≡ Some (step, left)
-    → (more : List Step) (is_bad : Bool) → AreFrames left more is_bad → AreFrames bytes ((steps ++ step ∷ []) ++ more) is_bad
-one_more bytes steps step rest left h e more is_bad k = rw append_assoc (h (step ∷ more) is_bad (left, e, k))
-
 no_frame : (bytes : List ℕ) (is_bad : Bool) → Ends bytes is_bad → first_frame bytes ≡ None
 no_frame bytes false h = rw h refl
 no_frame bytes true h = h.1

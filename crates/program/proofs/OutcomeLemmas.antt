@@ -22,10 +22,6 @@ pub said : (P : Ending → Type 0) (e result : Ending) (old new : Option (List �
 said P e result old new right wrong (inl h) = subst P (sym h.0) (right h.1)
 said P e result old new right wrong (inr h) = subst P (sym h) wrong
 
-pub said_why : (P : Ending → Type 0) (e result : Ending) (output errors : Stream) → (Says e output → GetsSome errors → P e) → P Unprinted → IsSaidWhy e result output errors → P result
-said_why P e result output errors right wrong (inl h) = subst P (sym h.0) (right h.1 h.2)
-said_why P e result output errors right wrong (inr h) = subst P (sym h) wrong
-
 pub replayed : (input : Option (List ℕ)) (replies : List (List ℕ)) (bad : Option ℕ) (result : Ending) (output errors : Stream) → IfSome input (λ bytes. AnswersFrames bytes replies bad) → Gets output (printed replies)
     → (bad ≡ None → result ≡ Done) → IfSome bad (λ frame. ((result ≡ BadFrame) × Gets errors (bad_frame_text frame)) ⊎ (result ≡ Unprinted)) → ReplaysFrames input result output errors
 replayed input replies None result output errors answers out done bad =

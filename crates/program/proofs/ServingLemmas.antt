@@ -112,14 +112,3 @@ module _ {K N C R W : Type 0} (k : keep.Ghosts K) (n : connections.Ghosts N R W)
 
 pub one_more : (moments : List ℕ) (at count : ℕ) → length moments ≡ count → length (moments ++ at ∷ []) ≡ count + 1
 one_more moments at count is = length-push moments at ∙ ap (λ n. n + 1) is
-
--- where the port is known there is one
-pub listens_at : (port : ℕ) (e : Ending) (old new : Option (List ℕ)) → ListensAt port e old new → Listens e old new
-listens_at port ending.Done old new h = (port, h)
-listens_at port ending.Down old new h = inr (port, h)
-listens_at port ending.Unprinted old new h = tt
-listens_at port ending.Exists old new h = absurd h
-listens_at port ending.Absent old new h = absurd h
-listens_at port ending.Usage old new h = absurd h
-listens_at port ending.BadFrame old new h = absurd h
-listens_at port ending.Schema old new h = absurd h

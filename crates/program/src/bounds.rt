@@ -1,5 +1,5 @@
 //! The bounds of a new token, from the words of a frame.
-ghost use Rattle.std.specs.Prelude.{◌≡◌, Some, None, IfOk, IsErrOf, option_map, codes};
+ghost use Rattle.std.specs.Prelude.{◌≡◌, Some, None, IfOk, IsErrOf, option_map};
 ghost use Rattle.program.specs.Bounds.{behind, until_word, prefix_word, either_bound, both_bounds, bounds_of};
 ghost use Rattle.program.specs.Lines.{bytes_of};
 

@@ -1,5 +1,5 @@
 //! The command `replay`: frames from one stream, replies to another.
-ghost use Rattle.std.specs.Prelude.{◌≡◌, ◌⊎◌, ℕ, List, None, codes, true, false, IfSome, IfOk, OnOk};
+ghost use Rattle.std.specs.Prelude.{◌≡◌, ◌⊎◌, ℕ, List, None, IfSome, IfOk, OnOk};
 ghost use Rattle.std.specs.Io.KnownBytes.{Appends};
 ghost use Rattle.program.specs.Replies.{printed, bad_frame_text, AreReplies, AnswersFrames};
 ghost use Rattle.program.specs.Endings.{status_of};

@@ -1,5 +1,5 @@
 //! What the program prints.
-ghost use Rattle.std.specs.Prelude.{◌≡◌, OnOk};
+ghost use Rattle.std.specs.Prelude.{OnOk};
 ghost use Rattle.std.specs.Io.KnownBytes.{Appends};
 ghost use Rattle.program.specs.Replies.{reply_frame, printed, bad_frame_text, answer_line};
 ghost use Rattle.program.specs.Outcomes.{IsSaid};

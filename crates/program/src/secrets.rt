@@ -1,6 +1,5 @@
 //! The secret of a new token: one line of standard input, with or without its line feed.
 ghost use Rattle.std.specs.Prelude.{◌≡◌, Some, None, IfOk, IsErrOf, option_map, option_and_then};
-ghost use Rattle.program.specs.Lines.{text_of};
 ghost use Rattle.program.specs.Secrets.{only_line, if_secret, secret_in};
 
 use crate::lines::{read_text, split_line};

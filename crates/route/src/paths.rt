@@ -1,5 +1,5 @@
 //! What a path names.
-ghost use Rattle.std.specs.Prelude.{◌≡◌, [], get_or, option_map};
+ghost use Rattle.std.specs.Prelude.{◌≡◌, [], get_or};
 ghost use Rattle.basis.specs.Checks.{or_refused};
 ghost use Rattle.basis.specs.Inner.Checks.{Follows};
 ghost use Rattle.route.specs.Tokens.{org_of};

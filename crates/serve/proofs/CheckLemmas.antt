@@ -111,21 +111,6 @@ role_there r now asked caller e =
 some_caller : (a b : Caller) → Some a ≡ Some b → b ≡ a
 some_caller a b e = cc
 
-pub counted_is : (x : Option Token) (now : ℕ) (caller : Caller) → Some caller ≡ option_map (λ (token : Token). token.caller) x
-    → and_then (or_refused BadToken (while_it_counts now x)) (λ token. Ok token.caller) ≡ counted now caller
-counted_is None now caller e = absurd (let none : ⊥ = cc in none)
-counted_is (Some token) now caller e = by_end (counts_at now token.caller) ∙ ap (counted now) (some_caller caller token.caller e)
-  where
-    counts : Token → Result Caller Refusal
-    counts t = Ok t.caller
-
-    one : Caller → Result Caller Refusal
-    one c = Ok c
-
-    by_end : (b : Bool) → and_then (or_refused BadToken (if b then Some token else None)) counts ≡ (if b then one token.caller else Err BadToken)
-    by_end true = refl
-    by_end false = refl
-
 -- a token that counts later counted before
 counted_before : (now later : ℕ) (until : Option ℕ) → now ≤ later → is_before later until ≡ true → is_before now until ≡ true
 counted_before now later None most e = refl

@@ -14,7 +14,7 @@ use Rattle.wire.specs.declared.messages.WireFault.TheVariants.{Refused, Down, En
 use Rattle.wire.specs.Messages.{Reading, Reads, refused, whole}
 use Rattle.wire.specs.Links.{ReportsReceived, continue_if, WritesPrefix, Writes}
 use Rattle.wire.specs.Replies.{Answer, IsReplyText, refused_answer, unavailable_answer}
-use Rattle.serve.specs.Asks.{Ask, Owner, organization, unattributed, operator, silent, requests, commands, owner_of}
+use Rattle.serve.specs.Asks.{Ask, Owner, organization, unattributed, operator, silent, requests, commands}
 use Rattle.serve.specs.Asks as ask
 use Rattle.serve.specs.Steps.{replies}
 use Rattle.serve.specs.Inner.Prepared.{IsPrepared}

@@ -62,17 +62,6 @@ message_taken old mid new at awaited message p interim bytes stays prepared carr
     let a : Ask = asked_by at awaited message (asked_of message) in
     (carries_after old mid new a stays (carried a (prepared_after old mid a p stays prepared)), said_bytes old at awaited message p interim bytes prepared e h)
 
--- a message that came
-pub whole_taken : {E : Type 0} (old new : List ℕ → Option Organization) (at : ℕ) (bytes : List ℕ) (message : Message) (interim : List ℕ) (res : Result (List ℕ) E)
-    → (awaited : Bool) × Reads bytes (whole message awaited) × (interim ≡ continue_if awaited)
-    → IfOk res (λ text. (awaited : Bool) → interim ≡ continue_if awaited
-    → Carries (asked_by at awaited message (asked_of message)) old new × IsSaidText (said_to old (asked_by at awaited message (asked_of message))) text)
-    → IfOk res (λ text. (a : Ask) × Asks at bytes a × Carries a old new × IsSaidText (said_to old a) text)
-whole_taken old new at bytes message interim res came h =
-    if_ok res (λ text taken.
-    let both = taken came.0 came.2 in
-    (asked_by at came.0 message (asked_of message), record { reading = whole message came.0; reads = came.1; is = refl }, both.0, both.1)) h
-
 -- a refused head
 pub refused_taken : {E : Type 0} (rows : List ℕ → Option Organization) (at : ℕ) (bytes : List ℕ) (refusal : Refusal) (is_head : Bool) (reply : Answer) (interim : List ℕ) (res : Result (List ℕ) E)
     → Reads bytes (wire.refused refusal is_head) → reply ≡ refused_answer refusal (error_text refusal) is_head → interim ≡ []
@@ -85,11 +74,6 @@ refused_taken rows at bytes refusal is_head reply interim res reads is none h =
       (λ org. refl),
       (made.0, subst (λ (a : Answer). IsReplyText a at made.0) is made.1, made.2 ∙ ap (λ (f : List ℕ). f ++ made.0) none),
     )) h
-
--- an unfinished message
-pub silence_taken : (rows : List ℕ → Option Organization) (at : ℕ) (bytes text : List ℕ) → Reads bytes unfinished → text ≡ []
-    → (a : Ask) × Asks at bytes a × Carries a rows rows × IsSaidText (said_to rows a) text
-silence_taken rows at bytes text reads none = (silent, record { reading = unfinished; reads = reads; is = refl }, (λ org. refl), none)
 
 -- an operator's command
 pub command_taken : {E : Type 0} (s : Step) (at : ℕ) (command : Admin) (old new : List ℕ → Option Organization) (res : Result (List ℕ) E) → s ≡ Command at command

@@ -1,5 +1,5 @@
 //! One exchange: a request is read, answered and carried out, and its reply is written.
-ghost use Rattle.std.specs.Prelude.{◌≡◌, ◌++◌, ◌↔◌, ℕ, List, Bool, Option, Err, ◌≢◌, ◌⊎◌, true, false, IfOk, IfErr, OnErr, IfSome, IsErrOf};
+ghost use Rattle.std.specs.Prelude.{◌≡◌, ◌↔◌, ℕ, List, Bool, Option, Err, ◌≢◌, ◌⊎◌, true, false, IfOk, IfErr, OnErr, IsErrOf};
 ghost use Rattle.machine.specs.declared.records.Organization.{Organization};
 ghost use Rattle.route.specs.Asks.{asked_of};
 ghost use Rattle.wire.specs.declared.messages.WireFault.TheVariants.{Ended, Read, Continue};

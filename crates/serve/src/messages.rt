@@ -1,6 +1,5 @@
 //! Messages from bytes, what they are answered, and what then changes.
-ghost use Rattle.std.specs.Prelude.{◌≡◌, ◌++◌, ℕ, List, Bool, Option, Some, None, IfOk, OnOk, OnErr, codes, vec_len};
-ghost use Rattle.std.specs.Str.{bytes_eq};
+ghost use Rattle.std.specs.Prelude.{◌≡◌, ◌++◌, ℕ, List, Bool, Some, None, IfOk, OnOk, OnErr};
 ghost use Rattle.docs.specs.Bodies.{error_text};
 ghost use Rattle.wire.specs.Replies.{IsReplyText, refused_answer};
 ghost use Rattle.wire.specs.Links.{continue_if};

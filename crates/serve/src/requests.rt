@@ -1,11 +1,9 @@
 //! A request of an organization: the checks in their order, and the answer of the rules.
 ghost use Rattle.std.specs.Prelude.{◌≡◌, ◌≢◌, ℕ, List, [], Option, Some, None, Ok, IsSome, IfOk, OnOk, option_map, option_copied};
-ghost use Rattle.docs.specs.Bodies.{error_text, ws_text};
 ghost use Rattle.machine.specs.Keeping.{Looks};
-ghost use Rattle.machine.specs.Laws.{IsLawfulOrganization};
 ghost use Rattle.machine.specs.Ranges.{IsInRange};
 ghost use Rattle.machine.specs.Records.{workspace_in, seen_in};
-ghost use Rattle.machine.specs.Rules.{refused_by, rules};
+ghost use Rattle.machine.specs.Rules.{refused_by};
 ghost use Rattle.machine.specs.Meaning.{meaning, answered, holder_of, ChangeIsDue};
 ghost use Rattle.machine.specs.declared.acts.Answer.TheVariants.{Workspace as ShownWorkspace, Run as ShownRun, Versions as ListedVersions, Runs as ListedRuns};
 ghost use Rattle.serve.specs.declared.prepared.Task.TheVariants.{ListAll, Carry};

@@ -1,5 +1,5 @@
 //! The service over a keep: what it keeps between steps, and steps in turn.
-ghost use Rattle.std.specs.Prelude.{◌≡◌, ◌≤◌, ◌<◌, ℕ, List, [], Option, Some, None, IfOk, IfErr, IfSome, IsErrOf, is_err, true, false, ◌↔◌, ◌⊎◌, OnOk, OnErr, length, take};
+ghost use Rattle.std.specs.Prelude.{◌≡◌, ◌≤◌, ◌<◌, ℕ, List, [], Option, Some, None, IfOk, IfErr, IsErrOf, is_err, true, false, ◌↔◌, ◌⊎◌, OnOk, OnErr, length, take};
 ghost use Rattle.machine.specs.declared.records.Organization.{Organization};
 ghost use Rattle.std.specs.Io.KnownBytes.{Consumes};
 ghost use Rattle.serve.specs.Exchanges.{Exchanges, ChangesAtMostOne};
