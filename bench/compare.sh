@@ -91,7 +91,10 @@ for side in a b; do
     for _ in $(seq 100); do kill -0 "$pid" 2>>"$work/log" || break; sleep 0.05; done
     if kill -0 "$pid" 2>>"$work/log"; then echo "$side: still there after its connections, stopped"; kill "$pid"; wait "$pid" || true
     else code=0; wait "$pid" || code=$?; echo "$side: ended with status $code"; fi
-    python3 - "$work/$side/custody.db" <<'PY' || true
+    # (sqlite3 spoils the sums of a file that it writes to, so it looks at a copy)
+    mkdir "$work/$side/copied"
+    cp "$work/$side"/custody.db* "$work/$side/copied"
+    python3 - "$work/$side/copied/custody.db" <<'PY' || true
 import os, sqlite3, sys
 try:
     db = sqlite3.connect(sys.argv[1])

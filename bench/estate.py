@@ -21,6 +21,7 @@ import json
 import os
 import random
 import re
+import shutil
 import sqlite3
 import statistics
 import sys
@@ -151,7 +152,11 @@ def show(load, began):
 def is_kept(path, load):
     """Whether the file has the versions and the pages that are to be kept, and no others."""
     pages, size = kept_pages(load.workspaces, load.lengths)
-    with contextlib.closing(sqlite3.connect(path)) as db:
+    for end in ("", "-wal"):
+        # (sqlite3 spoils the sums of a file that it writes to, so it looks at a copy)
+        if os.path.exists(path + end):
+            shutil.copy(path + end, path + ".copied" + end)
+    with contextlib.closing(sqlite3.connect(path + ".copied")) as db:
         found = db.execute("SELECT count(*), sum(length(bytes)) FROM page").fetchone()
         versions = db.execute("SELECT count(*) FROM version").fetchone()[0]
         uses = db.execute("SELECT sum(uses) FROM page").fetchone()[0], db.execute("SELECT count(*) FROM vpage").fetchone()[0]

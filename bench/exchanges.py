@@ -31,6 +31,7 @@ import time
 
 import pages as texts
 from building import TOP
+from sums import put_sums
 
 PROGRAM = f"{TOP}/crates/custody/out/custody"
 REFERENCE = f"{TOP}/bench/reference.py"
@@ -196,6 +197,7 @@ def make(path, also, **rows):
         db.execute(also)
         add_workspaces(db, "acme", ("big", "medium", "run", "small"), 1)
         fill(db, **rows)
+    put_sums(path)
 
 
 def digest_of(reply):
