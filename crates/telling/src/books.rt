@@ -257,11 +257,12 @@ impl<'a> Book<'a> {
         };
         match self.stories.last_mut() {
             Some(story) if story.plots.is_empty() && story.begins.is_none() => {
-                let (stops, large) = (story.modes.stops, story.modes.large);
                 story.modes = Modes {
-                    stops,
-                    large,
-                    ..modes
+                    cut: modes.cut,
+                    reads: modes.reads,
+                    writes: modes.writes,
+                    refused: modes.refused,
+                    ..story.modes
                 };
                 Ok(())
             }
@@ -300,6 +301,20 @@ impl<'a> Book<'a> {
             _ => Err(Unread {
                 line,
                 why: "`large` stands before the first step of a story that begins with no file",
+            }),
+        }
+    }
+
+    // Of the story that begins.
+    fn set_resumes(&mut self, line: usize) -> Result<(), Unread> {
+        match self.stories.last_mut() {
+            Some(story) if story.plots.is_empty() => {
+                story.modes.resumes = true;
+                Ok(())
+            }
+            _ => Err(Unread {
+                line,
+                why: "`resumes` stands before the first step of a story",
             }),
         }
     }
@@ -400,6 +415,7 @@ impl<'a> Book<'a> {
             Line::Links(words) => self.set_modes(line, words),
             Line::Stops => self.set_stops(line),
             Line::Large => self.set_large(line),
+            Line::Resumes => self.set_resumes(line),
             Line::FromFile(path) => self.set_begins(line, path),
             Line::Field(field) => self.add_field(line, field),
             Line::Piece(piece, text) => self.add_piece(alloc, line, piece, text),

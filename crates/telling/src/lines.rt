@@ -52,6 +52,8 @@ pub enum Line<'a> {
     Stops,
     /// `large`: a story is told on few ways.
     Large,
+    /// `resumes`: a replay may give up, and is gone on with.
+    Resumes,
     /// `begins`: a story begins with the tables of a file.
     FromFile(&'a str),
     Piece(Piece, &'a str),
@@ -132,6 +134,9 @@ fn story_in(line: &str) -> Option<Line<'_>> {
     }
     if line == "large" {
         return Some(Line::Large);
+    }
+    if line == "resumes" {
+        return Some(Line::Resumes);
     }
     if let Some(path) = behind(line, "begins") {
         return Some(Line::FromFile(path));

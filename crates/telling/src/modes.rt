@@ -15,6 +15,8 @@ pub struct Modes {
     pub stops: bool,
     /// The story is told on few ways.
     pub large: bool,
+    /// A replay may give up for want of memory, and is gone on with at the step where it stopped.
+    pub resumes: bool,
 }
 
 /// Nothing breaks.
@@ -25,6 +27,7 @@ pub const NONE: Modes = Modes {
     refused: false,
     stops: false,
     large: false,
+    resumes: false,
 };
 
 // With one word more.

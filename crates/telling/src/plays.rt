@@ -34,6 +34,8 @@ pub struct Play {
     pub own: usize,
     pub due: Vec<Due>,
     pub questions: Vec<Question>,
+    /// A replay may give up, and is gone on with.
+    pub resumes: bool,
 }
 
 /// How an operator's command is read from its words.
@@ -79,6 +81,7 @@ impl Play {
             own: 0,
             due: Vec::new(alloc),
             questions: Vec::new(alloc),
+            resumes: false,
         }
     }
 
@@ -209,6 +212,7 @@ pub fn play_of<R: ReadsCommands>(
         }
     }
     play.own = play.steps.len();
+    play.resumes = story.modes.resumes;
     play.add_all(alloc, commands, &book.definitions, story)?;
     Ok(play)
 }

@@ -11,8 +11,10 @@ use wire::{FromRead, ToWrite};
 /// How steps are taken.
 #[derive(Clone, Copy)]
 pub enum Way {
-    /// In turn, by `replay`.
+    /// In turn, by `replay`, which takes all of them.
     Replay,
+    /// In turn, by `replay`; where it gives up, by another one from the step where it stopped.
+    Resumed,
     /// Exchange by exchange, each read giving at most so many bytes.
     Exchange(usize),
 }
@@ -166,8 +168,8 @@ struct Replies {
     all: Vec<Bytes>,
 }
 
-// The replies of a replay. Where it was refused, to the steps that it left, which are sent again.
-fn replayed<K: Keep>(
+// The replies of a replay. Where it gave up, to the steps that it left, which are sent again.
+fn resumed<K: Keep>(
     alloc: Global,
     service: &mut Service<K>,
     steps: &[Step],
@@ -190,7 +192,11 @@ fn replies_to<K: Keep>(
     steps: &[Step],
 ) -> Result<Replies, Down> {
     match way {
-        Way::Replay => replayed(alloc, service, steps),
+        Way::Replay => {
+            let all = service.replay(alloc, steps)?;
+            Ok(Replies { from: 0, all })
+        }
+        Way::Resumed => resumed(alloc, service, steps),
         Way::Exchange(most) => {
             let all = answered_each(alloc, service, most, steps)?;
             Ok(Replies { from: 0, all })
@@ -238,6 +244,14 @@ pub fn take_over<K: Keep>(
     (keep, compared)
 }
 
+// How a replay takes the steps of a play.
+fn way_of(play: &Play, way: Way) -> Way {
+    match way {
+        Way::Replay if play.resumes => Way::Resumed,
+        _ => way,
+    }
+}
+
 /// Takes the steps up to a place, and gives the store back.
 pub fn taken_to<K: Keep + Drop>(
     alloc: Global,
@@ -248,7 +262,7 @@ pub fn taken_to<K: Keep + Drop>(
     to: usize,
 ) -> Result<K, Failure> {
     let (steps, due) = play.between(from, to);
-    let (keep, taken) = take_over(alloc, keep, way, steps, due);
+    let (keep, taken) = take_over(alloc, keep, way_of(play, way), steps, due);
     match taken {
         Ok(()) => Ok(keep),
         Err(failure) => Err(failure),
