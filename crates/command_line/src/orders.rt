@@ -1,5 +1,5 @@
 //! What the words of the program ask for, once `clap` has parted them.
-ghost use Rattle.std.specs.Prelude.{◌≡◌, ◌≤◌, ℕ, List, Option, Some, None, IfOk, IsErrOf, option_map, option_and_then, IfSome};
+ghost use Rattle.std.specs.Prelude.{◌≡◌, ◌≤◌, Option, Some, None, IfOk, IsErrOf, option_map, option_and_then, IfSome};
 ghost use Rattle.basis.specs.Numbers.{whole_of, within};
 ghost use Rattle.clap.specs.Words.{found_of};
 ghost use Rattle.command_line.specs.Orders.{limit_or_first, command_on, command_in, token_in, token_asked, seconds_or, timeouts_asked, serving_asked, file_asked, asked_with, given_found, given_of, text_in, said_by, with_secret, port_of, connections_of, carries};

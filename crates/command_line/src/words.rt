@@ -1,6 +1,6 @@
 //! The words of the program, by `clap`. Its types stay here.
 
-ghost use Rattle.std.specs.Prelude.{◌≡◌, ◌<◌, ◌⊎◌, IfOk, IfErr, IsErrOf, None, Some, [], codes, length, string_bytes, ℕ, List};
+ghost use Rattle.std.specs.Prelude.{◌≡◌, ◌<◌, ◌⊎◌, IfOk, IfErr, IsErrOf, None, Some, codes, length, string_bytes, ℕ, List};
 ghost use Rattle.clap.specs.Words.{app_of, subcommand_of, subcommand_rows_of, HasKind, FailsBy, IsAmong, App, Rule, new_app, with_rule, with_subcommand};
 ghost use Rattle.command_line.specs.Orders.{said_by};
 ghost use Rattle.command_line.specs.Words.{words_bytes, database, organization, option_rule, value_rule, org_add, org_limit, org_list, token_add, token_list, token_revoke, serve, replay, bare, custody, faults, asked_by_command, asked_in, with_organizations, with_tokens, with_running, with_bounds, with_timeouts, IsWhy, IsArg, IsCommand};

@@ -5,20 +5,18 @@ use Rattle.basis.specs.Runs.{is_open}
 use Rattle.machine.specs.Laws.{Rises, holds, is_active, is_nobody, IsHolder, IsRun, IsLawful}
 use Rattle.machine.specs.Ranges.{IsInRange, IsMoment}
 use Rattle.machine.specs.Records.{there}
-use Rattle.machine.specs.Workspaces.{run_of, holder_status, open_runs}
-use Rattle.machine.specs.Units.{version_of}
+use Rattle.machine.specs.Workspaces.{run_of, open_runs}
 use Rattle.machine.specs.Settling.{is_waiting, first_waiting, to_start, started_if}
 use Rattle.machine.specs.Rules.{done, rules}
-use Rattle.machine.specs.Custody.{IsUnlocked, IsWriter, WritesWith}
+use Rattle.machine.specs.Custody.{IsUnlocked, WritesWith}
 use Rattle.machine.specs.Queue.{is_active_run, Starts, WaitedOrIsNew, AreInRange, Leads}
 use Rattle.machine.specs.declared.acts.Act.{Act}
 use Rattle.machine.specs.declared.records.Holder.{Holder}
 use Rattle.machine.specs.declared.records.Holder.TheVariants.{Nobody, Lock, Run as HoldingRun}
 use Rattle.machine.specs.declared.records.Run.{Run}
-use Rattle.machine.specs.declared.records.Version.{Version}
 use Rattle.machine.specs.declared.records.Workspace.{Workspace}
 use Rattle.machine.proofs.StepLemmas.{ended_is_idle}
-use Rattle.machine.proofs.CustodyLemmas.{held_versions_change_by_the_id, workspaces_go_by_delete}
+use Rattle.machine.proofs.CustodyLemmas.{workspaces_go_by_delete}
 use Rattle.machine.proofs.RunLemmas.{run_of-number, all_found}
 use Rattle.machine.proofs.RunRulings.{IsReported}
 use Rattle.machine.proofs.Rulings.{Way, version_comes, versions_go, settings_come, lock_comes, lock_goes, run_comes, run_goes_on, Leaves, leaves}

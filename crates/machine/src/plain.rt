@@ -14,7 +14,7 @@ ghost use Rattle.machine.specs.Rules.{reported};
 ghost use Rattle.machine.specs.Needs.{needs, needed_of};
 ghost use Rattle.machine.specs.Units.{is_text, if_needed, has_version, asked_run, newest_unit, settings_unit, outgoing_by, unit_for, unit_of, version_of, version_text};
 ghost use Rattle.basis.specs.declared.runs.RunStatus.TheVariants.{Planning};
-ghost use Rattle.machine.specs.Settling.{first_waiting, begun, started, started_if};
+ghost use Rattle.machine.specs.Settling.{first_waiting, begun, started_if};
 ghost use Rattle.machine.specs.Workspaces.{newest, outgoing, new_workspace, run_of, holder_status, is_keyed, keyed_run, open_runs};
 ghost use Rattle.machine.specs.Inner.Places.{org_row, is_removal};
 ghost use Rattle.machine.specs.declared.records.Organization.{Organization as AnyOrganization};

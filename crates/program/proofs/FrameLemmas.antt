@@ -1,5 +1,5 @@
 -- Frames one after another: one more, and no other reading.
-use Rattle.std.proofs.Common.{◌≡◌, ℕ, List, [], ◌∷◌, ◌++◌, Bool, true, false, Option, Some, None, refl, ap, subst, append_assoc, append-nil, nat_eq, length, sym, ◌∙◌, arith, ◌≢◌, eqb-true}
+use Rattle.std.proofs.Common.{◌≡◌, ℕ, List, [], ◌∷◌, ◌++◌, Bool, true, false, Option, Some, None, refl, ap, subst, append-nil, nat_eq, length, sym, ◌∙◌, arith, ◌≢◌, eqb-true}
 use Rattle.serve.specs.declared.steps.Step.{Step}
 use Rattle.program.specs.Frames.{first_frame, Ends, AreFrames, IsOnlyReading}
 

@@ -12,8 +12,7 @@ use Rattle.std.specs.Io.KnownBytes.{Appends}
 use Rattle.program.specs.declared.endings.Ending.{Ending}
 use Rattle.program.specs.declared.endings.Ending.TheVariants.{Done, Exists, Absent, Usage, BadFrame, Schema, Down, Unprinted}
 use Rattle.program.specs.Endings.{ending_line}
-use Rattle.program.specs.Outcomes.{Stream, stream, Gets, GetsSome, Says, IsSaid, ReplaysFrames, ServesAt, TellsAnswer, IsOperated}
-use Rattle.program.specs.Inner.Outcomes.{IsSaidWhy}
+use Rattle.program.specs.Outcomes.{Stream, stream, Gets, Says, IsSaid, ReplaysFrames, ServesAt, TellsAnswer, IsOperated}
 use Rattle.program.specs.Replies.{AnswersFrames, printed, bad_frame_text, answer_line}
 use Rattle.program.specs.Serving.{Listens, listening_line}
 

@@ -18,12 +18,11 @@ use Rattle.serve.specs.Asks.{Ask}
 use Rattle.machine.specs.declared.keeps.Keep as keep
 use Rattle.wire.specs.declared.devices.Inlet as inlet
 use Rattle.wire.specs.declared.devices.Outlet as outlet
-use Rattle.program.specs.declared.endings.Ending.{Ending}
 use Rattle.program.specs.declared.endings.Ending.TheVariants as ending
 use Rattle.program.specs.declared.outside.Connections as connections
 use Rattle.program.specs.declared.outside.Clock as clock
 use Rattle.command_line.specs.declared.timeouts.Timeouts.{Timeouts}
-use Rattle.program.specs.Serving.{AreRequests, Serves, State, Answers, AnswersAll, Listens, ListensAt}
+use Rattle.program.specs.Serving.{AreRequests, Serves, State, Answers, AnswersAll}
 use Rattle.program.specs.Inner.Serving.{TakesOne, ServesTo}
 
 answered : (now : ℕ) (received : List ℕ) (old new : List ℕ → Option Organization) (awaited : Bool) (text : List ℕ) → IsMoment now → (is_down : Bool) → IsAnswered now received old new awaited text is_down → TakesOne old new

@@ -1,5 +1,5 @@
 //! The first line of a frame.
-ghost use Rattle.std.specs.Prelude.{◌≡◌, ℕ, List, Some, None, IfOk, IfErr, IsErrOf};
+ghost use Rattle.std.specs.Prelude.{◌≡◌, Some, None, IfOk, IfErr, IsErrOf};
 ghost use Rattle.program.specs.Lines.{bytes_of};
 
 use crate::bounds::read_bounds;

@@ -1,5 +1,5 @@
 //! Lines, the words of a line, and messages whose length is known.
-ghost use Rattle.std.specs.Prelude.{◌≡◌, ◌<◌, ◌==◌, ℕ, length, map, take, drop, suc, position, Some, None, IfSome, IfOk, IsErrOf, option_map};
+ghost use Rattle.std.specs.Prelude.{◌≡◌, ◌<◌, ◌==◌, length, take, drop, suc, position, Some, None, IfSome, IfOk, IsErrOf, option_map};
 ghost use Rattle.program.specs.Lines.{first_line, message_of, text_of, words_in, words_of, bytes_of};
 
 use basis::Unfit;

@@ -1,6 +1,6 @@
 -- The checks of a request in their order, and what an order that passed them is.
 use Rattle.std.proofs.Common.{◌≡◌, ◌⊎◌, inl, inr, ℕ, ◌≤◌, ◌<◌, Bool, true, false, List, Option, Some, None, Result, Ok, Err, IsSome, refl, sym, ap, subst, ◌∙◌, arith}
-use Rattle.std.specs.Prelude.{if◌then◌else◌, option_map}
+use Rattle.std.specs.Prelude.{if◌then◌else◌}
 use Rattle.std.proofs.lemmas.Bool.{lt-ltb, ltb-true}
 use Rattle.basis.specs.Checks.{or_refused, and_then}
 use Rattle.basis.specs.Roles.{is_before, counts_at}
@@ -18,7 +18,7 @@ use Rattle.route.specs.declared.acts.AskedAct.{AskedAct}
 use Rattle.route.specs.declared.acts.AskedAct.TheVariants.{ListWorkspaces, OfWorkspace}
 use Rattle.route.specs.declared.acts.WsAct.{WsAct}
 use Rattle.serve.specs.Checks.{task_of, require, while_it_counts, known_caller, may_do, admitted, in_reach, is_found, found_if, found, place, digest_checked, act_of, order, checked}
-use Rattle.serve.specs.Inner.Prepared.{counted, caller_known}
+use Rattle.serve.specs.Inner.Prepared.{caller_known}
 use Rattle.serve.specs.declared.prepared.Place.{Place}
 use Rattle.serve.specs.declared.prepared.Order.{Order}
 use Rattle.serve.specs.declared.prepared.Task.{Task}
@@ -106,10 +106,6 @@ pub role_there : (r : Option Organization) (now : ℕ) (asked : Asked) (caller :
 role_there r now asked caller e =
     let t : (token : Token) × (known_caller r now asked ≡ Ok token) × (token.caller ≡ caller) = token_of_caller (known_caller r now asked) caller e in
     caller_there r now (sha256 asked.secret) t.0 t.1
-
--- a token that was found counts or not, by who asks with it
-some_caller : (a b : Caller) → Some a ≡ Some b → b ≡ a
-some_caller a b e = cc
 
 -- a token that counts later counted before
 counted_before : (now later : ℕ) (until : Option ℕ) → now ≤ later → is_before later until ≡ true → is_before now until ≡ true

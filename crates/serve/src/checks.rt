@@ -1,5 +1,5 @@
 //! The checks of a request from the token on, each by itself.
-ghost use Rattle.std.specs.Prelude.{◌≡◌, ◌≢◌, ℕ, cond, List, IsSome, Some, IfOk, Ok};
+ghost use Rattle.std.specs.Prelude.{◌≡◌, ◌≢◌, cond, IsSome, Some, IfOk, Ok};
 ghost use Rattle.basis.specs.Inner.Checks.{Follows};
 ghost use Rattle.basis.specs.declared.refusals.Refusal.TheVariants.{BadBody, BadLock, BadState, NotFound, Unavailable};
 ghost use Rattle.docs.specs.Documents.{settings_of, state_head, lock_id_of, run_ask};

@@ -1,5 +1,5 @@
 //! Operator's commands.
-ghost use Rattle.std.specs.Prelude.{◌≡◌, ℕ, List, IfOk, OnErr, length, ◌≤◌};
+ghost use Rattle.std.specs.Prelude.{◌≡◌, ℕ, IfOk, OnErr, length, ◌≤◌};
 ghost use Rattle.serve.specs.Asks.{commands};
 ghost use Rattle.serve.specs.Service.{Carries, Stays, IsAdminAnswer, org_lines, token_lines, admin_word, token_list_text};
 

@@ -137,18 +137,6 @@ module _ (before added : List Table) (a b e : Database) (grown : GrowsByAll adde
     rows = λ other own passive apart. rows_left other own passive apart;
   }
 
--- one step behind another
-pub foreign_then : (xs ys zs : List Table) (a b c : Database) → KeepsForeign xs ys a b → KeepsForeign ys zs b c → KeepsForeign xs zs a c
-foreign_then xs ys zs a b c one two = record {
-  owns = λ other own. two.owns other (one.owns other own);
-  stands = λ other own.
-      let first = one.stands other own in
-      let later = two.stands other (one.owns other own) in
-      (later.0 ∙ first.0, later.1 ∙ first.1);
-  beside = λ other own apart. two.beside other (one.owns other own) (one.beside other own apart);
-  rows = λ other own passive apart.
-      let there = (one.stands other own).1 in
-      subst (λ n. c.trees n ≡ b.trees n) there (two.rows other (one.owns other own) passive (one.beside other own apart)) ∙ one.rows other own passive apart;
 }
 
 -- ---- from schema 1 to schema 2

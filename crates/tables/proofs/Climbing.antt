@@ -9,8 +9,7 @@ use Rattle.sqlite.specs.State.{State, HasCleanDisk, IsUnchanged, KeepsCommit}
 use Rattle.sqlite.proofs.InsideLemmas.{keeps_then}
 use Rattle.statements.proofs.EditionTexts.{has_edition, second_has_edition}
 use Rattle.statements.proofs.MetaTexts.{first_has_meta}
-use Rattle.statements.proofs.Schemas.{foreign_then}
-use Rattle.statements.specs.Making.{HasMeta, HasEdition, KeepsForeign, told_version, version_in, edition_in}
+use Rattle.statements.specs.Making.{HasMeta, HasEdition, told_version, version_in, edition_in}
 use Rattle.statements.specs.Rows.{Kept}
 use Rattle.statements.specs.Schema.{meta_table, edition_table}
 use Rattle.statements.specs.Tables.{Tables, Holds, HoldsFirst, HoldsSecond}
@@ -20,28 +19,11 @@ use Rattle.tables.specs.declared.opening.Found.TheVariants.{Nothing, Version, Ot
 use Rattle.tables.specs.Inner.Making.{IsTold, found_in, TellsFound, FindsOurs, Climbs, IsClimbed, IsOnWay}
 use Rattle.tables.specs.Inner.Steps.{IsSettled}
 use Rattle.tables.specs.Opening.{any_there, all_there, TellsIn, ToldBy, EditionTells, IsOther, GivesBack}
-use Rattle.tables.specs.Versions.{HoldsVersion, version_records, Becomes, version_tables, HoldsTables, KeepsBeside}
+use Rattle.tables.specs.Versions.{HoldsVersion, version_records, Becomes, KeepsBeside}
 use Rattle.tables.proofs.There.{version_is_there, newest_is_there, one_there, which_there, most_there}
 
-becomes_same : (n : ℕ) (old new : Database) → new ≡ old → Becomes n n old new
-becomes_same n old new is = record { holds = λ h. subst (HoldsVersion n) (sym is) h; records = λ h org. ap (λ (db : Database). version_records n db org) is }
-
-becomes_then : (l m n : ℕ) (a b c : Database) → Becomes l m a b → Becomes m n b c → Becomes l n a c
-becomes_then l m n a b c f g = record { holds = λ h. g.holds (f.holds h); records = λ h org. g.records (f.holds h) org ∙ f.records h org }
-
-foreign_same : (ts : List Table) (db : Database) → KeepsForeign ts ts db db
-foreign_same ts db = record { owns = λ other own. own; stands = λ other own. (refl, refl); beside = λ other own apart. apart; rows = λ other own passive apart. refl }
-
-beside_same : (n : ℕ) (old new : Database) → new ≡ old → KeepsBeside n n old new
-beside_same n old new is = record {
-  holds = λ t h. (t, subst (λ (db : Database). HoldsTables n db t) (sym is) h);
-  foreign = λ t h. subst (λ (db : Database). KeepsForeign (version_tables n) (version_tables n) old db) (sym is) (foreign_same (version_tables n) old);
 }
 
-beside_then : (l m n : ℕ) (a b c : Database) → KeepsBeside l m a b → KeepsBeside m n b c → KeepsBeside l n a c
-beside_then l m n a b c f g = record {
-  holds = λ t h. let u = f.holds t h in g.holds u.0 u.1;
-  foreign = λ t h. let u = f.holds t h in foreign_then (version_tables l) (version_tables m) (version_tables n) a b c (f.foreign t h) (g.foreign u.0 u.1);
 }
 
 -- the steps so far

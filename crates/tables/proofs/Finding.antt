@@ -37,7 +37,7 @@ use Rattle.statements.specs.declared.rows.Workspace.{Workspace as WorkspaceCells
 use Rattle.statements.specs.Rows.{Kept, OrgRow, WsRow, VersionRow, RunRow}
 use Rattle.statements.specs.Tables.{Tables}
 use Rattle.statements.specs.Changes.{is_org, is_version_of, is_version, is_run_of, is_run_row, is_ws, is_ws_of}
-use Rattle.statements.specs.Finds.{last_in, counted, head_of, newest_of, size_of, number_back, first_waiting_of, status_at_number, workspace_of, workspaces_of, cap_of}
+use Rattle.statements.specs.Finds.{last_in, head_of, newest_of, size_of, number_back, first_waiting_of, status_at_number, workspace_of, workspaces_of, cap_of}
 use Rattle.statements.specs.Finds as finds
 use Rattle.statements.proofs.Found.{found_passes, found_holds}
 use Rattle.tables.specs.Records.{version_at, run_of_cells, settings_of_cells, holder_of_cells, versions_at, runs_at, workspace_at, workspace_by, workspaces_at, organization_at, record_of}

@@ -1,5 +1,5 @@
 //! A key of pages that many pages share.
-ghost use Rattle.std.specs.Prelude.{◌≡◌, ◌∷◌, replicate, slice_get, unwrap_or};
+ghost use Rattle.std.specs.Prelude.{◌∷◌, replicate, slice_get, unwrap_or};
 
 use pages::PageKey;
 

@@ -1,5 +1,5 @@
 -- The places of a head's reading: what each byte does, and that bytes after the head's end change nothing.
-use Rattle.std.proofs.Common.{◌≡◌, ◌≢◌, ℕ, suc, ◌+◌, ◌<◌, ◌≤◌, List, [], ◌∷◌, ◌++◌, length, drop, get_or, Bool, true, false, ◌==◌, cond, nat_le, nat_lt, Option, Some, None, option_map, is_some, refl, sym, ap, ◌∙◌, arith, inl, inr, ◌⊎◌, length-append, append_assoc, add-one, drop-cons}
+use Rattle.std.proofs.Common.{◌≡◌, ◌≢◌, ℕ, suc, ◌+◌, ◌<◌, ◌≤◌, List, [], ◌∷◌, ◌++◌, length, drop, get_or, Bool, true, false, ◌==◌, cond, nat_le, nat_lt, Option, Some, None, option_map, is_some, refl, sym, ap, ◌∙◌, arith, inl, inr, ◌⊎◌, length-append, add-one, drop-cons}
 use Rattle.std.proofs.lemmas.List.{append-nil}
 use Rattle.std.proofs.lemmas.Bool.{ltb-false, lt-ltb, le-ltb, le-leb, lt-leb}
 use Rattle.wire.specs.declared.heads.TheConstants.{MAX_HEAD}
@@ -184,21 +184,6 @@ goes_on p q r piece i h goes after more =
     ∙ ap (λ z. option_map (λ n. i + n) z) (after (drop (i + 1) piece ++ more))
     ∙ past_step (len_from r (drop (i + 1) piece ++ more)) i
 
-pub goes_to_end : (p q : HeadPosition) (piece : List ℕ) (i : ℕ) → i < length piece → Goes p piece i q
-    → ((bytes : List ℕ) → len_from q (get_or piece i 0 ∷ bytes) ≡ Some 1) → (more : List ℕ) → len_from p (piece ++ more) ≡ Some (i + 1)
-goes_to_end p q piece i h goes after more =
-    goes more ∙ ap (λ z. option_map (λ n. i + n) (len_from q z)) (split_at piece i more h)
-    ∙ ap (λ z. option_map (λ n. i + n) z) (after (drop (i + 1) piece ++ more))
-
-pub goes_through : (p q : HeadPosition) (piece : List ℕ) → Goes p piece (length piece) q
-    → (more : List ℕ) → len_from p (piece ++ more) ≡ len_past None (length piece) q more
-goes_through p q piece goes more =
-    goes more ∙ ap (λ z. option_map (λ n. length piece + n) (len_from q z)) (ap (λ z. z ++ more) (drop_length piece))
-  where
-    drop_length : (xs : List ℕ) → drop (length xs) xs ≡ []
-    drop_length [] = refl
-    drop_length (x ∷ xs) = drop_length xs
-
 -- ---- what received in several reads
 
 abbrev pub Passes : List ℕ → HeadPosition → Type 0
@@ -207,18 +192,6 @@ Passes received q = (more : List ℕ) → head_len (received ++ more) ≡ len_pa
 pub passes_none : (received : List ℕ) (q : HeadPosition) → Passes received q → head_len received ≡ None
 passes_none received q passes =
     ap head_len (sym (append-nil received)) ∙ passes [] ∙ ap (λ z. option_map (λ n. length received + n) z) (len_nil q)
-
-past_past : (o : Option ℕ) (m n : ℕ) → option_map (λ k. m + k) (option_map (λ k. n + k) o) ≡ option_map (λ k. m + n + k) o
-past_past None m n = refl
-past_past (Some k) m n = let e : m + (n + k) ≡ m + n + k = omega arith in ap Some e
-
-pub passes_more : (received piece : List ℕ) (q r : HeadPosition) → Passes received q
-    → ((more : List ℕ) → len_from q (piece ++ more) ≡ len_past None (length piece) r more) → Passes (received ++ piece) r
-passes_more received piece q r passes goes more =
-    ap head_len (append_assoc received piece more) ∙ passes (piece ++ more)
-    ∙ ap (λ z. option_map (λ n. length received + n) z) (goes more)
-    ∙ past_past (len_from r more) (length received) (length piece)
-    ∙ ap (λ z. option_map (λ k. z + k) (len_from r more)) (sym (length-append received piece))
 
 pub passes_end : (received piece : List ℕ) (q : HeadPosition) (n : ℕ) → Passes received q
     → ((more : List ℕ) → len_from q (piece ++ more) ≡ Some n) → head_len (received ++ piece) ≡ Some (length received + n)

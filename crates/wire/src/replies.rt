@@ -1,6 +1,6 @@
 //! An answer, from which a reply is written.
 ghost use Rattle.std.specs.Prelude.{◌≡◌, false, None};
-ghost use Rattle.wire.specs.Replies.{empty_answer, no_content_answer, document_answer, refused_answer, unavailable_answer, down_text};
+ghost use Rattle.wire.specs.Replies.{empty_answer, no_content_answer, document_answer, refused_answer, unavailable_answer};
 ghost use Rattle.wire.specs.Inner.Contents.{content_bytes};
 
 use basis::{Bytes, Refusal};

@@ -3,9 +3,8 @@ ghost use Rattle.std.specs.Prelude.{◌≡◌, ◌≤◌, ◌<◌, ◌+◌, ℕ,
 ghost use Rattle.std.specs.Option.{option_copied};
 ghost use Rattle.httpdate.specs.Date.{date_text};
 ghost use Rattle.arrayvec.specs.ArrayVec.{array_vec_len};
-ghost use Rattle.basis.specs.Refusals.{allow_text};
-ghost use Rattle.wire.specs.Links.{Writes, line_end};
-ghost use Rattle.wire.specs.Replies.{IsDateOf, IsReplyText, text_with_date, head_text, phrase_of, status_line, date_line, fixed_lines, allow_line, challenge_of, challenge_field, challenge_line, type_line, length_line, sent_body};
+ghost use Rattle.wire.specs.Links.{Writes};
+ghost use Rattle.wire.specs.Replies.{IsReplyText, head_text, phrase_of, status_line, date_line, fixed_lines, allow_line, challenge_of, challenge_field, challenge_line, type_line, length_line, sent_body};
 
 use crate::devices::{Broken, Outlet};
 use crate::replies::Reply;
