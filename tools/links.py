@@ -1,18 +1,20 @@
 #!/usr/bin/env python3
-"""Looks at the sockets and the clock of the program `custody`, which no contract ties to what comes there.
+"""Looks at the links and the clock of the program `custody`: what `serve` does over sockets, and when.
 
-    python3 tools/links.py CUSTODY    the program as `rt ci` or `rt run` leaves it
+    python3 tools/links.py CUSTODY [WORD..]    the program as `rt ci` or `rt run` leaves it; only the looks of these words
 
-A service listens at 127.0.0.1 alone; a peer is cut off once it was idle for as long as it may, or its time is over, not before
-and not long after it, and one that pauses for less is served; the moment of a reply is that of the clock, now and a second
-later; a peer that sends more than is taken reads its whole reply; and a service that is stopped and goes on, while it reads and
-while it writes, takes the request and the reply up where they were. It prints a line for each thing that holds, and ends with
-status 1 at the first that doesn't.
+No contract says what a socket, a timeout or the clock of the system does. Here `serve` is asked over 127.0.0.1, and its times are
+taken from a monotonic clock: who reaches it, when a peer is cut off, which moment it tells, that a peer that sends more than is
+taken reads its whole reply, and that a service which is stopped and goes on serves. It prints a line for each thing that holds,
+and ends with status 1 at the first that doesn't.
+
+A look never fails since the machine is slow, but for the bounds of a cut-off: it comes at most SLACK seconds behind its time.
 """
 
-import email.utils
+import datetime
 import os
 import re
+import select
 import signal
 import socket
 import subprocess
@@ -20,203 +22,332 @@ import sys
 import tempfile
 import time
 
-from program import PATIENCE, Program, Wrong, exchanged, free_port, reply, request, said
+from program import MADE, Program, Wrong, free_port, reply, request, said
 
-# Seconds that a peer may say nothing, and that its connection may last.
-IDLE, MOST = 2, 4
+# Seconds after which all looks together are held for hanging, and one peer or one service.
+LIMIT = 60
+PATIENCE = 20
 
-# Seconds within which a peer is cut off once its time is over, on a machine that has other things to do.
-LATE = 1.5
+# Seconds that a peer may let nothing through, or a connection may last, and those that aren't reached where the other is tried.
+IDLE = 2
+MOST = 4
+FAR = 30
 
-# Seconds between two reads of a peer that pauses, and between a stop and the signal to go on.
-PAUSE = 0.5
+# The same for a peer that doesn't read. A call that wrote a part before it waited has let something through, and buffers
+# grow at first: so a few calls wait, one behind the other.
+UNREAD_IDLE = 1
+CALLS = 3
 
-SECRET = b"adminadminadmin1\n"
-READ = b"custody: connection %d: a read failed\n"
-GET = request(b"GET /v1/acme/workspaces HTTP/1.1")
-NONE = b'{"items":[],"more":false}'
-TOO_LARGE = b'{"error":"too-large"}'
+# By how many seconds a cut-off may come too early (a tick of the system's timers), and too late.
+EARLY = 0.05
+SLACK = 3
 
-# A state that fills the buffers of both sides.
-LARGE = b'{"serial":1,"x":"' + b"a" * 16_000_000 + b'"}'
+# Seconds that a peer pauses between its pieces: less than IDLE, and more than it in all.
+PAUSE = 0.8
+PIECES = 4
+
+# Seconds between two bytes of a peer that trickles, between two stops, and for a service to come to where it waits.
+TRICKLE = 0.3
+STOPS_EACH = 0.4
+SETTLED = 0.3
+
+# How often a service is stopped and goes on within one call that waits.
+STOPS = 3
+
+# A text that no buffers of a connection hold (what is sent has 4 MB at most), and the buffer of a peer that doesn't read.
+STATE = b'{"version":4,"serial":1,"lineage":"a1","x":"%s"}' % (b"links" * 1_600_000)
+SMALL_BUFFER = 4096
+
+# What a rude peer sends behind what is taken: less than is read of it, and more than a buffer holds that nobody reads.
+REST = b"x" * 4_000_000
+TOO_MUCH = 16_777_217
+
+HELD = MADE.replace(b'"version":null', b'"version":1')
+TOO_LARGE = reply(b"413 Payload Too Large", b'{"error":"too-large"}')
+
+GET = request(b"GET /v1/acme/state/net HTTP/1.1")
+PUT = request(b"PUT /v1/acme/workspaces/net HTTP/1.1")
+DATE = re.compile(rb"\r\nDate: ([A-Z][a-z]{2}, \d\d [A-Z][a-z]{2} \d{4} \d\d:\d\d:\d\d GMT)\r\n")
+READ_FAILED = b"custody: connection %d: a read failed\n"
+UNWRITTEN = b"custody: connection %d: the reply could not be written whole\n"
+
+
+# ----------------------------------------------------------------------------------------------------
+# A service, and its peers
+# ----------------------------------------------------------------------------------------------------
 
 
 class Service:
-    """A service of so many connections."""
+    """A service over 127.0.0.1, which ends by its count."""
 
-    def __init__(self, program, count, *more):
+    def __init__(self, program, count, *words):
         self.port = free_port()
-        words = ["serve", "--db", "t.db", "--port", str(self.port), "--count", str(count)] + list(more)
+        words = ["serve", "--db", "t.db", "--port", str(self.port), "--count", str(count), *words]
         self.process = program.start(words, subprocess.DEVNULL)
         said("the line of a service", self.process.stdout.readline(), b"listening 127.0.0.1:%d\n" % self.port)
 
     def __enter__(self):
         return self
 
-    def __exit__(self, *why):
+    def __exit__(self, *_):
         self.process.kill()
         self.process.wait()
 
-    def connected(self):
-        return socket.create_connection(("127.0.0.1", self.port), PATIENCE)
+    def peer(self, buffer=None):
+        """A connection to it; of a peer that reads little with a small buffer."""
+        stream = socket.socket()
+        stream.settimeout(PATIENCE)
+        if buffer:
+            stream.setsockopt(socket.SOL_SOCKET, socket.SO_RCVBUF, buffer)
+        stream.connect(("127.0.0.1", self.port))
+        return stream
 
-    def pauses(self):
-        """The process is stopped for a while, so that what it waits in is interrupted."""
-        os.kill(self.process.pid, signal.SIGSTOP)
-        time.sleep(PAUSE)
-        os.kill(self.process.pid, signal.SIGCONT)
+    def asked(self, sent):
+        with self.peer() as stream:
+            stream.sendall(sent)
+            return received(stream)
 
-    def ends(self, errors):
+    def ends(self, errors=b""):
         output, told = self.process.communicate(timeout=PATIENCE)
         said("a service behind its count", (self.process.returncode, output, told), (0, b"", errors))
 
+    def state(self):
+        """The letter of the process: T where it is stopped."""
+        with open("/proc/%d/stat" % self.process.pid) as file:
+            return file.read().rpartition(")")[2].split()[0]
 
-def rest_of(stream):
-    """What comes up to the end of the connection, and when that is."""
+    def stop_and_go(self):
+        """It is stopped, and goes on: a call of the system that waits with a timeout is interrupted by that."""
+        self.process.send_signal(signal.SIGSTOP)
+        wait_until(lambda: self.state() == "T")
+        self.process.send_signal(signal.SIGCONT)
+        wait_until(lambda: self.state() != "T")
+
+
+def wait_until(holds):
+    end = time.monotonic() + PATIENCE
+    while not holds():
+        if time.monotonic() > end:
+            raise Wrong("a service doesn't stop, or doesn't go on")
+        time.sleep(0.005)
+
+
+def received(stream):
+    """What comes up to the end of the connection. One that is reset has no end."""
     came = b""
     while True:
-        try:
-            piece = stream.recv(65536)
-        except ConnectionResetError:
-            raise Wrong("the connection was reset after %d bytes" % len(came))
+        piece = stream.recv(1 << 20)
         if not piece:
-            return came, time.monotonic()
+            return came
         came += piece
 
 
-def dated(came):
-    return re.sub(rb"\r\nDate: [^\r]*\r\n", b"\r\nDate: DATE\r\n", came, count=1)
+def undated(came):
+    return DATE.sub(b"\r\nDate: DATE\r\n", came, count=1)
 
 
-def is_cut_off(what, begin, end, due):
-    """From `begin` to `end` it lasted as long as it may, and not much longer."""
-    if not due <= end - begin <= due + LATE:
-        raise Wrong("%s: cut off after %.2f seconds, and %d were due" % (what, end - begin, due))
-    print("right: %s is cut off after %d seconds" % (what, due))
+def moment_of(came):
+    """The moment that a reply tells, in seconds since 1970."""
+    found = DATE.search(came)
+    if not found:
+        raise Wrong("no date: %s" % came[:200])
+    told = datetime.datetime.strptime(found.group(1).decode(), "%a, %d %b %Y %H:%M:%S GMT")
+    return int(told.replace(tzinfo=datetime.timezone.utc).timestamp())
+
+
+def is_cut_off(stream, seconds):
+    """Whether the connection ends within so many seconds, with nothing said."""
+    if not select.select([stream], [], [], seconds)[0]:
+        return False
+    try:
+        came = stream.recv(1)
+    except ConnectionError:
+        return True
+    said("a peer that is cut off", came, b"")
+    return True
+
+
+def cut_off(what, stream, begun, due, each=SLACK, act=lambda: None):
+    """The connection is cut off so many seconds behind its begin, and not long behind; until then something is done each so often."""
+    while not is_cut_off(stream, max(0, min(each, begun + due + SLACK - time.monotonic()))):
+        if time.monotonic() > begun + due + SLACK:
+            raise Wrong("%s isn't cut off behind %.1f seconds, due are %d" % (what, time.monotonic() - begun, due))
+        act()
+    in_time(what, time.monotonic() - begun, due)
+
+
+def in_time(what, lasted, due, calls=1):
+    if not due - EARLY <= lasted <= due * calls + SLACK:
+        raise Wrong("%s is cut off behind %.2f seconds, due are %d" % (what, lasted, due))
+    print("right: %s is cut off behind %.2f seconds, due are %d" % (what, lasted, due))
+
+
+# ----------------------------------------------------------------------------------------------------
+# Looks
+# ----------------------------------------------------------------------------------------------------
 
 
 def look_at_address(program):
+    """It listens at 127.0.0.1 alone."""
+    with socket.socket() as every:
+        every.bind(("0.0.0.0", 0))
+        every.listen()
+        socket.create_connection(("127.0.0.2", every.getsockname()[1]), PATIENCE).close()
     with Service(program, 1) as service:
-        with socket.socket() as other:
-            other.settimeout(PATIENCE)
-            try:
-                other.connect(("127.0.0.2", service.port))
-            except ConnectionRefusedError:
-                pass
-            else:
-                raise Wrong("it listens at 127.0.0.2")
-        said("at 127.0.0.1 it answers", exchanged(service.port, GET), reply(b"200 OK", NONE))
-        service.ends(b"")
-    print("right: it listens at 127.0.0.1, and 127.0.0.2 is refused")
-
-
-def look_at_times(program):
-    with Service(program, 4, "--idle", str(IDLE), "--most", str(MOST)) as service:
-        with service.connected() as silent:
-            begin = time.monotonic()
-            said("a peer that says nothing gets", rest_of(silent)[0], b"")
-            is_cut_off("a peer that says nothing", begin, time.monotonic(), IDLE)
-        with service.connected() as pausing:
-            for piece in (GET[:20], GET[20:40], GET[40:]):
-                pausing.sendall(piece)
-                time.sleep(IDLE * 0.6 if piece != GET[40:] else 0)
-            pausing.shutdown(socket.SHUT_WR)
-            said("a peer that pauses for less", dated(rest_of(pausing)[0]), reply(b"200 OK", NONE))
-        print("right: a peer that pauses for less than it may is served")
-        with service.connected() as trickling:
-            begin = time.monotonic()
-            trickling.settimeout(PAUSE)
-            for place in range(len(GET) - 1):
-                try:
-                    trickling.sendall(GET[place : place + 1])
-                    if trickling.recv(1) == b"":
-                        break
-                except TimeoutError:
-                    continue
-                except (BrokenPipeError, ConnectionResetError):
-                    break
-            is_cut_off("a peer that sends a byte now and then", begin, time.monotonic(), MOST)
-        said("the next", exchanged(service.port, GET), reply(b"200 OK", NONE))
-        service.ends(READ % 1 + READ % 3)
-
-
-def moment_of(service):
-    with service.connected() as stream:
-        stream.sendall(GET)
-        stream.shutdown(socket.SHUT_WR)
-        before = int(time.time())
-        came = rest_of(stream)[0]
-        after = int(time.time())
-    date = re.search(rb"\r\nDate: ([^\r]*)\r\n", came)
-    moment = email.utils.parsedate_to_datetime(date.group(1).decode()).timestamp()
-    # (the connection is accepted before the request is sent, a moment earlier)
-    if not before - 1 <= moment <= after:
-        raise Wrong("the moment of a reply is %d, and the clock told %d to %d" % (moment, before, after))
-    return moment
+        try:
+            socket.create_connection(("127.0.0.2", service.port), PATIENCE).close()
+        except ConnectionRefusedError:
+            pass
+        else:
+            raise Wrong("a connection to 127.0.0.2 is accepted")
+        said("a reply at 127.0.0.1", undated(service.asked(PUT)), reply(b"200 OK", HELD))
+        service.ends()
+    print("right: a connection to another address of the machine is refused")
 
 
 def look_at_clock(program):
+    """The moment of a reply is that of the system's clock, and goes on."""
     with Service(program, 2) as service:
-        first = moment_of(service)
-        time.sleep(2.1)
-        second = moment_of(service)
-        service.ends(b"")
-    if not 2 <= second - first <= 3 + LATE:
-        raise Wrong("two seconds later the moment is %d seconds later" % (second - first))
-    print("right: the moments of replies are those of the clock, two seconds apart")
+        for _ in range(2):
+            before = int(time.time())
+            told = moment_of(service.asked(GET))
+            after = int(time.time())
+            if not before <= told <= after:
+                raise Wrong("the moment %d is told between %d and %d" % (told, before, after))
+            time.sleep(1.1)
+        service.ends()
+    print("right: the moment of two replies, more than a second apart, is that of the system's clock")
 
 
 def look_at_rude_peers(program):
-    """More than is taken: the reply is read to its end, and the connection is not reset."""
-    with Service(program, 1) as service:
-        with service.connected() as stream:
-            stream.sendall(request(b"POST /v1/acme/state/net HTTP/1.1\r\nContent-Length: 20000000"))
-            for _ in range(20):
-                stream.sendall(b"a" * 50_000)
-            time.sleep(PAUSE)
-            stream.shutdown(socket.SHUT_WR)
-            said("a peer that sends too much", dated(rest_of(stream)[0]), reply(b"413 Payload Too Large", TOO_LARGE))
-        service.ends(b"")
-    print("right: a peer that sends more than is taken reads its whole reply")
+    """A peer that sends more than is taken, and then reads to the end, gets its whole reply."""
+    too_large = request(b"POST /v1/acme/state/net HTTP/1.1").replace(b"\r\n\r\n", b"\r\nContent-Length: %d\r\n\r\n" % TOO_MUCH)
+    with Service(program, 2) as service:
+        for what, sent, due in [("a body that is too large", too_large, TOO_LARGE), ("bytes behind a request", PUT, reply(b"200 OK", HELD))]:
+            try:
+                came = service.asked(sent + REST)
+            except ConnectionError as error:
+                raise Wrong("%s: the reply doesn't come whole: %s" % (what, error)) from None
+            said(what, undated(came), due)
+            print("right: %s: the whole reply is read" % what)
+        service.ends()
+
+
+def look_at_idle(program):
+    """A peer is cut off once it let nothing through for as long as it may, and not before."""
+    with Service(program, 3, "--idle", str(IDLE), "--most", str(FAR)) as service:
+        begun = time.monotonic()
+        with service.peer() as peer:
+            cut_off("a peer that says nothing", peer, begun, IDLE)
+        begun = time.monotonic()
+        with service.peer() as peer:
+            cut_off("one that says nothing to a service that is stopped and goes on", peer, begun, IDLE, STOPS_EACH, service.stop_and_go)
+        with service.peer() as peer:
+            for piece in range(PIECES):
+                peer.sendall(GET[len(GET) * piece // PIECES : len(GET) * (piece + 1) // PIECES])
+                time.sleep(PAUSE)
+            said("a peer that pauses", undated(received(peer)) == reply(b"200 OK", STATE), True)
+        print("right: a peer that pauses for less is served")
+        service.ends(READ_FAILED % 1 + READ_FAILED % 2)
+
+
+def look_at_unread(program):
+    """A peer that doesn't read is cut off, and the next one is served."""
+    with Service(program, 2, "--idle", str(UNREAD_IDLE), "--most", str(FAR)) as service:
+        with service.peer(SMALL_BUFFER) as peer, service.peer() as later:
+            begun = time.monotonic()
+            peer.sendall(GET)
+            later.sendall(PUT)
+            later.recv(1)
+            in_time("a peer that doesn't read its reply", time.monotonic() - begun, UNREAD_IDLE, CALLS)
+        service.ends(UNWRITTEN % 1)
+
+
+def look_at_most(program):
+    """A connection is cut off once it lasted as long as it may, whatever comes."""
+    with Service(program, 2, "--idle", str(FAR), "--most", str(MOST)) as service:
+        begun = time.monotonic()
+        with service.peer() as peer:
+            peer.sendall(b"GET /")
+            cut_off("a peer that trickles", peer, begun, MOST, TRICKLE, lambda: trickle(peer))
+        begun = time.monotonic()
+        with service.peer() as peer:
+            cut_off("a peer that says nothing, in the time of its connection,", peer, begun, MOST)
+        service.ends(READ_FAILED % 1 + READ_FAILED % 2)
+
+
+def trickle(peer):
+    try:
+        peer.sendall(b"x")
+    except ConnectionError:
+        pass
 
 
 def look_at_stops(program):
-    with Service(program, 3) as service:
-        said("a workspace", exchanged(service.port, request(b"PUT /v1/acme/workspaces/net HTTP/1.1"))[:15], b"HTTP/1.1 200 OK")
-        posted = request(b"POST /v1/acme/state/net HTTP/1.1", LARGE)
-        with service.connected() as stream:
-            for place in (0, 30, 1_000_000):
-                stream.sendall(posted[place : {0: 30, 30: 1_000_000, 1_000_000: len(posted)}[place]])
-                if place != 1_000_000:
-                    time.sleep(PAUSE)
-                    service.pauses()
-            said("a service that was stopped while it read", dated(rest_of(stream)[0]), reply(b"200 OK", b""))
-        with service.connected() as stream:
-            stream.sendall(request(b"GET /v1/acme/state/net HTTP/1.1"))
-            time.sleep(PAUSE)
-            for _ in range(2):
-                service.pauses()
-                time.sleep(PAUSE)
-            came = rest_of(stream)[0]
-            said("a service that was stopped while it wrote", dated(came) == reply(b"200 OK", LARGE), True)
-        service.ends(b"")
-    print("right: a service that is stopped and goes on takes a read and a write up again")
+    """A service that is stopped and goes on serves, wherever it waits: for a peer, for a request, for room for a reply."""
+    with Service(program, 2) as service:
+        service.stop_and_go()
+        with service.peer() as peer:
+            for piece in range(STOPS):
+                peer.sendall(GET[len(GET) * piece // STOPS : len(GET) * (piece + 1) // STOPS - 1])
+                time.sleep(SETTLED)
+                service.stop_and_go()
+                peer.sendall(GET[len(GET) * (piece + 1) // STOPS - 1 : len(GET) * (piece + 1) // STOPS])
+            said("a request that comes around stops", undated(received(peer)) == reply(b"200 OK", STATE), True)
+        print("right: a service that is stopped while a request comes answers it")
+        with service.peer(SMALL_BUFFER) as peer:
+            peer.sendall(GET)
+            for _ in range(STOPS):
+                time.sleep(SETTLED)
+                service.stop_and_go()
+            said("a reply that goes out around stops", undated(received(peer)) == reply(b"200 OK", STATE), True)
+        print("right: and one that is stopped while a reply goes out writes it whole")
+        service.ends()
 
 
-def main():
-    if len(sys.argv) != 2:
+LOOKS = {
+    "address": look_at_address,
+    "clock": look_at_clock,
+    "rude": look_at_rude_peers,
+    "idle": look_at_idle,
+    "unread": look_at_unread,
+    "most": look_at_most,
+    "stops": look_at_stops,
+}
+
+
+def fill(program):
+    """A file with an organization, a token, and a workspace with a state."""
+    said("an organization", program.run(["org-add", "--db", "t.db", "acme"]), (0, b"ok\n", b""))
+    added = program.run(["token-add", "--db", "t.db", "acme", "root", "admin"], b"adminadminadmin1\n")
+    said("a token", added, (0, b"ok\n", b""))
+    with Service(program, 2) as service:
+        said("a workspace is made", undated(service.asked(PUT)), reply(b"200 OK", MADE))
+        posted = service.asked(request(b"POST /v1/acme/state/net HTTP/1.1", STATE))
+        said("a state is posted", undated(posted), reply(b"200 OK", b""))
+        service.ends()
+
+
+def too_long(*_):
+    raise Wrong("the looks last longer than %d seconds" % LIMIT)
+
+
+def main(words):
+    if not words or not set(words[1:]) <= set(LOOKS):
         sys.exit(__doc__)
+    signal.signal(signal.SIGALRM, too_long)
+    signal.alarm(LIMIT)
     with tempfile.TemporaryDirectory() as folder:
-        program = Program(sys.argv[1], folder)
+        program = Program(words[0], folder)
         try:
-            said("an organization", program.run(["org-add", "--db", "t.db", "acme"]), (0, b"ok\n", b""))
-            said("a token", program.run(["token-add", "--db", "t.db", "acme", "root", "admin"], SECRET), (0, b"ok\n", b""))
-            for look in (look_at_address, look_at_times, look_at_clock, look_at_rude_peers, look_at_stops):
-                look(program)
+            fill(program)
+            for word, look in LOOKS.items():
+                if word in words[1:] or not words[1:]:
+                    look(program)
         except (Wrong, OSError, subprocess.TimeoutExpired) as wrong:
             print("WRONG:", wrong)
             sys.exit(1)
 
 
 if __name__ == "__main__":
-    main()
+    main(sys.argv[1:])
