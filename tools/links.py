@@ -12,7 +12,6 @@ A look never fails since the machine is slow, but for the bounds of a cut-off: i
 """
 
 import datetime
-import os
 import re
 import select
 import signal
@@ -338,14 +337,14 @@ def main(words):
     signal.signal(signal.SIGALRM, too_long)
     signal.alarm(LIMIT)
     with tempfile.TemporaryDirectory() as folder:
-        program = Program(words[0], folder)
+        program, word = Program(words[0], folder), "begin"
         try:
             fill(program)
             for word, look in LOOKS.items():
                 if word in words[1:] or not words[1:]:
                     look(program)
         except (Wrong, OSError, subprocess.TimeoutExpired) as wrong:
-            print("WRONG:", wrong)
+            print("WRONG: %s: %s" % (word, wrong))
             sys.exit(1)
 
 
