@@ -1,0 +1,118 @@
+#!/usr/bin/env python3
+"""Makes the files of earlier versions in which two organizations share a text of three pages, and one of this version that
+has no index of ours, by SQLite's own library.
+
+    python3 tools/earlier.py [FOLDER]
+
+Without a folder they go into crates/stories/data, where the stories read them. The tables of the first version and of the
+second are, text for text, those of schema-1.sqlite and schema-2.sqlite, which the program of that version made; the rows are
+those of the first steps of the story `two organizations share the pages of one text`. A page's key is the SHA-256 of its bytes."""
+import hashlib, os, sqlite3, sys
+
+DATA = os.path.join(os.path.dirname(os.path.dirname(os.path.abspath(__file__))), "crates", "stories", "data")
+PAGE = 16384
+SIZE = 40000
+AT = 1700000000
+KEPT = 100
+TOKENS = [
+    ("acme", "root", "adminadminadmin1", 2),
+    ("acme", "ci", "writewritewrite1", 1),
+    ("acme", "eye", "readreadreadread", 0),
+    ("beta", "root", "betabetabetabeta", 2),
+]
+HOMES = ["acme", "beta"]
+KEEPING = (
+    "CREATE TABLE keeping (org TEXT NOT NULL, ws TEXT NOT NULL, keep INTEGER NOT NULL CHECK (keep BETWEEN 1 AND 1000), "
+    "PRIMARY KEY (org, ws), FOREIGN KEY (org, ws) REFERENCES ws (org, name) ON DELETE CASCADE) STRICT"
+)
+
+
+def text():
+    front, end = b'{"serial":1,"x":"', b'"}'
+    return front + b"a" * (SIZE - len(front) - len(end)) + end
+
+
+def pages():
+    whole = text()
+    return [whole[at : at + PAGE] for at in range(0, SIZE, PAGE)]
+
+
+def key(page):
+    return hashlib.sha256(page).digest()
+
+
+def tables_of(name, kinds):
+    """The texts of the tables, and of the indexes, of a file in the order of their making."""
+    conn = sqlite3.connect("file:%s?mode=ro&immutable=1" % os.path.join(DATA, name), uri=True)
+    rows = conn.execute("SELECT type, sql FROM sqlite_schema WHERE sql IS NOT NULL ORDER BY rowid").fetchall()
+    conn.close()
+    return [sql for kind, sql in rows if kind in kinds]
+
+
+def put_records(conn):
+    """What stands in the tables of every version."""
+    for org in HOMES:
+        conn.execute("INSERT INTO org VALUES (?, 200)", (org,))
+    for org, name, secret, role in TOKENS:
+        conn.execute("INSERT INTO token VALUES (?, ?, ?, ?)", (org, name, hashlib.sha256(secret.encode()).digest(), role))
+    for org in HOMES:
+        conn.execute("INSERT INTO ws VALUES (?, 'net', 0, 0, NULL, NULL, NULL, NULL, 2, 1)", (org,))
+        conn.execute("INSERT INTO version VALUES (?, 'net', 1, 1, '', ?, ?)", (org, AT, SIZE))
+    for page in pages():
+        conn.execute("INSERT INTO page VALUES (?, 0, ?, ?)", (key(page), page, len(HOMES)))
+    for org in HOMES:
+        for place, page in enumerate(pages()):
+            conn.execute("INSERT INTO vpage VALUES (?, 'net', 1, ?, ?, 0)", (org, place, key(page)))
+
+
+def put_bounds(conn, version):
+    """What the second version has beside them."""
+    for org, name, _, _ in TOKENS:
+        conn.execute("INSERT INTO bound VALUES (?, ?, NULL, '')", (org, name))
+    conn.execute("INSERT INTO edition VALUES (1, ?)", (version,))
+
+
+def put_first(conn):
+    conn.execute("INSERT INTO meta VALUES (1, 1)")
+    put_records(conn)
+
+
+def put_second(conn):
+    put_records(conn)
+    put_bounds(conn, 2)
+
+
+def put_third(conn):
+    put_records(conn)
+    put_bounds(conn, 3)
+    for org in HOMES:
+        conn.execute("INSERT INTO keeping VALUES (?, 'net', ?)", (org, KEPT))
+
+
+def make(path, tables, put):
+    if os.path.exists(path):
+        os.remove(path)
+    conn = sqlite3.connect(path, isolation_level=None)
+    conn.execute("PRAGMA page_size = 4096")
+    conn.execute("PRAGMA journal_mode = wal")
+    conn.execute("BEGIN")
+    for sql in tables:
+        conn.execute(sql)
+    put(conn)
+    conn.execute("COMMIT")
+    found = conn.execute("PRAGMA integrity_check").fetchall() + conn.execute("PRAGMA foreign_key_check").fetchall()
+    conn.close()
+    if found != [("ok",)]:
+        sys.exit("%s isn't sound: %s" % (path, found))
+
+
+def main():
+    folder = sys.argv[1] if len(sys.argv) > 1 else DATA
+    both = ("table", "index")
+    make(os.path.join(folder, "schema-1-shared.sqlite"), tables_of("schema-1.sqlite", both), put_first)
+    make(os.path.join(folder, "schema-2-shared.sqlite"), tables_of("schema-2.sqlite", both), put_second)
+    bare = tables_of("schema-2.sqlite", ("table",)) + [KEEPING]
+    make(os.path.join(folder, "no-indexes.sqlite"), bare, put_third)
+
+
+main()
