@@ -137,8 +137,6 @@ module _ (before added : List Table) (a b e : Database) (grown : GrowsByAll adde
     rows = λ other own passive apart. rows_left other own passive apart;
   }
 
-}
-
 -- ---- from schema 1 to schema 2
 
 abbrev bare : Tables → Tables

@@ -22,10 +22,6 @@ use Rattle.tables.specs.Opening.{any_there, all_there, TellsIn, ToldBy, EditionT
 use Rattle.tables.specs.Versions.{HoldsVersion, version_records, Becomes, KeepsBeside}
 use Rattle.tables.proofs.There.{version_is_there, newest_is_there, one_there, which_there, most_there}
 
-}
-
-}
-
 -- the steps so far
 pub record ClimbsSoFar (from at : ℕ) (old new : State) : Type 0 where
   pub so_far : HasCleanDisk new → HasCleanDisk old
