@@ -9,7 +9,7 @@ use Rattle.sqlite_sql.specs.declared.aggregate.AggregateOp.TheVariants.{CountRow
 use Rattle.sqlite_sql.specs.declared.ops.CompareOp.TheVariants.{Eq, Lt, Gt, Ge}
 use Rattle.sqlite_sql.specs.declared.ops.BinaryOp.TheVariants.{Compare}
 use Rattle.sqlite_draft.specs.declared.query.Draft.{Draft}
-use Rattle.statements.proofs.Answered.{by_rowid}
+use Rattle.statements.proofs.Answered.{by_rowid, by_column_and_rowid}
 use Rattle.statements.proofs.Listed.{sorted_by}
 
 -- a column is a parameter, each by its place
@@ -77,6 +77,10 @@ point_draft rest tree descending = record {
   limit = rest.limit;
   offset = rest.offset;
 }
+
+-- in the order of a column, in which two rows may have one value
+abbrev pub ranked_draft : Query → ℕ → ℕ → Bool → Draft
+ranked_draft rest tree column descending = record (point_draft rest tree descending) { order = by_column_and_rowid column descending }
 
 -- in the order of a column
 abbrev pub listing_draft : Query → ℕ → ℕ → Draft

@@ -1,26 +1,27 @@
 -- What a query over one of our tables reads of its rows, whatever else stands in the database.
-use Rattle.std.proofs.Common.{◌≡◌, refl, ℕ, zero, suc, take, drop, Bool, true, false, List, [], ◌∷◌, map, filter, find, length, reverse, slice_get, Option, Some, None, option_map, ap, ◌∙◌, subst}
+use Rattle.std.proofs.Common.{◌≡◌, refl, ℕ, zero, suc, take, drop, Bool, false, List, [], ◌∷◌, map, filter, find, length, slice_get, Option, Some, None, option_map, ap, ◌∙◌, subst, Ordering, Less, int_cmp}
 use Rattle.std.specs.List.{list_all}
 use Rattle.sqlite_value.specs.declared.keys.Collation.TheVariants.{Binary}
 use Rattle.sqlite_value.specs.declared.value.Value.TheVariants.{Null}
 use Rattle.sqlite_value.specs.Order.{Row}
 use Rattle.sqlite_sql.specs.Aggregate.{count}
 use Rattle.sqlite_sql.specs.Term.{lit, holds, eval_all}
-use Rattle.sqlite_sql.specs.Query.{Query, page}
+use Rattle.sqlite_sql.specs.Query.{Query, page, output, output_cmp}
 use Rattle.sqlite_sql.specs.Program.{overlay}
 use Rattle.sqlite_schema.specs.declared.schema.Schema.{Schema}
 use Rattle.sqlite_schema.specs.declared.schema.Table.{Table}
 use Rattle.sqlite_schema.specs.declared.command.Command.TheVariants.{Select}
 use Rattle.sqlite.specs.State.{State}
 use Rattle.sqlite_keyed.specs.Keyed.{IsKeyedBy}
+use Rattle.sqlite_keyed.specs.Lists.{sort_by}
+use Rattle.sqlite_typed.proofs.AnswerLemmas.{IsNoTie}
 use Rattle.statements.specs.Place.{tree_of, IsOwn}
 use Rattle.statements.specs.Rows.{Kept, id_of, stored}
-use Rattle.statements.specs.Finds.{last_in}
 use Rattle.statements.specs.Calls.{FirstRow, Pins}
 use Rattle.statements.proofs.Meaning.{Means}
 use Rattle.statements.proofs.Writes.{plain_program}
 use Rattle.statements.proofs.Own.{stored_tree}
-use Rattle.statements.proofs.Answered.{answered, point, tally, first_is, last_is, nth_back_is, count_answer}
+use Rattle.statements.proofs.Answered.{answered, point, ranked, ranked_is, tally, first_is, count_answer}
 
 pub first_behind : {X : Type 0} (n : ℕ) (xs : List X) → slice_get (take 1 (drop n xs)) 0 ≡ slice_get xs n
 first_behind zero [] = refl
@@ -58,17 +59,13 @@ module _ {R : Type 0} (cells : R → Row) (table : Table) (old new : State) (own
         let got = answered text params old new (point rest here false) names means row first in
         pinned Is show val back row (find p xs) (got.2 ∙ first_is cells (overlay old.now.trees []) here xs seen keyed rest params p tests whole got.0 got.1)
 
-    pub last_own : Means s (Select (plain_program (point rest here true)) names) text → ((l : List Row) → slice_get (page (point rest here true) params l) 0 ≡ slice_get l 0)
-        → Pins Is row (option_map val (last_in (filter p xs)))
-    last_own means whole =
-        let got = answered text params old new (point rest here true) names means row first in
-        pinned Is show val back row (last_in (filter p xs)) (got.2 ∙ last_is cells (overlay old.now.trees []) here xs seen keyed rest params p tests whole got.0 got.1)
-
-    pub nth_back_own : (n : ℕ) → Means s (Select (plain_program (point rest here true)) names) text → ((l : List Row) → slice_get (page (point rest here true) params l) 0 ≡ slice_get l n)
-        → Pins Is row (option_map val (slice_get (reverse (filter p xs)) n))
-    nth_back_own n means at =
-        let got = answered text params old new (point rest here true) names means row first in
-        pinned Is show val back row (slice_get (reverse (filter p xs)) n) (got.2 ∙ nth_back_is cells (overlay old.now.trees []) here xs seen keyed rest params p tests n at got.0 got.1)
+    pub ranked_own : (column : ℕ) (descending : Bool) (order : Kept R → Kept R → Ordering) → ((x y : Kept R) → int_cmp (id_of x) (id_of y) ≡ Less → IsNoTie (order x y))
+        → ((x y : Kept R) → output_cmp (ranked rest here column descending) (output (ranked rest here column descending) (params ∷ stored cells x ∷ [])) (output (ranked rest here column descending) (params ∷ stored cells y ∷ [])) ≡ order x y)
+        → (n : ℕ) → Means s (Select (plain_program (ranked rest here column descending)) names) text → ((l : List Row) → slice_get (page (ranked rest here column descending) params l) 0 ≡ slice_get l n)
+        → Pins Is row (option_map val (slice_get (sort_by order (filter p xs)) n))
+    ranked_own column descending order untied is n means at =
+        let got = answered text params old new (ranked rest here column descending) names means row first in
+        pinned Is show val back row (slice_get (sort_by order (filter p xs)) n) (got.2 ∙ ranked_is cells (overlay old.now.trees []) here xs seen keyed rest params p tests column descending order untied is n at got.0 got.1)
 
   pub count_own : Means s (Select (plain_program (tally rest here Binary (lit Null))) names) text
       → ((l : List Row) → page (tally rest here Binary (lit Null)) params l ≡ l) → row ≡ Some (count (length (filter p xs)) ∷ [])

@@ -1,7 +1,8 @@
 -- Lists in the order of a key, and finite maps of them.
-use Rattle.std.proofs.Common.{◌≡◌, ◌<◌, ◌+◌, ℕ, Bool, true, false, ◌&&◌, cond, List, [], ◌∷◌, ◌++◌, map, filter, length, take, get_or, refl, sym, ap, ◌∙◌, subst, arith, Ordering, Less, Equal, Greater, is_eq, is_gt, true≢false}
+use Rattle.std.proofs.Common.{◌≡◌, ◌<◌, ◌+◌, ℕ, Bool, true, false, ◌&&◌, cond, List, [], ◌∷◌, ◌++◌, map, filter, length, reverse, take, get_or, refl, sym, ap, ◌∙◌, subst, arith, Ordering, Less, Equal, Greater, is_eq, is_gt, true≢false}
 use Rattle.std.specs.List.{AllByRecursion, AllZip}
 use Rattle.std.proofs.lemmas.List.{take_more}
+use Rattle.std.proofs.lemmas.Grind.{reverse_onto}
 use Rattle.std.specs.Cmp.{IsTotalOrder}
 use Rattle.std.specs.Ordering.{ordering_reverse}
 use Rattle.std.proofs.lemmas.Cmp.{upto}
@@ -33,14 +34,28 @@ module _ {A : Type 0} (cmp : A → A → Ordering) where
   sorted_already [] up = refl
   sorted_already (x ∷ xs) up = ap (insert_sorted cmp x) (sorted_already xs up.1) ∙ first_in x xs up.0
 
+  all_put : (P : A → Type 0) (x : A) (ys : List A) → P x → AllByRecursion P ys → AllByRecursion P (insert_sorted cmp x ys)
+  all_put P x [] h all = (h, tt)
+  all_put P x (y ∷ ys) h all = elim (is_gt (cmp x y)) as (λ b. AllByRecursion P (cond b (y ∷ insert_sorted cmp x ys) (x ∷ y ∷ ys))) [ true ↦ (all.0, all_put P x ys h all.1) | false ↦ (h, all) ]
+
+  -- what holds of all holds of all where they are sorted
+  pub all_sorted : (P : A → Type 0) (xs : List A) → AllByRecursion P xs → AllByRecursion P (sort_by cmp xs)
+  all_sorted P [] all = tt
+  all_sorted P (x ∷ xs) all = all_put P x (sort_by cmp xs) all.0 (all_sorted P xs all.1)
+
+  goes_last : (x : A) (ys : List A) → AllByRecursion (λ y. cmp x y ≡ Greater) ys → insert_sorted cmp x ys ≡ ys ++ x ∷ []
+  goes_last x [] all = refl
+  goes_last x (y ∷ ys) all = let above = all.0 in rw above (ap (λ l. y ∷ l) (goes_last x ys all.1))
+
+  -- what is in order is turned round where the order is
+  pub turned_round : (xs : List A) → IsAscending (λ a b. cmp a b ≡ Greater) xs → sort_by cmp xs ≡ reverse xs
+  turned_round [] up = refl
+  turned_round (x ∷ xs) up =
+      ap (insert_sorted cmp x) (turned_round xs up.1) ∙ goes_last x (reverse xs) (subst (AllByRecursion (λ y. cmp x y ≡ Greater)) (turned_round xs up.1) (all_sorted (λ y. cmp x y ≡ Greater) xs up.0)) ∙ sym (reverse_onto xs x [])
+
   module _ (total : IsTotalOrder cmp) where
     abbrev AtMost : A → A → Type 0
     AtMost a b = is_gt (cmp a b) ≡ false
-
-    all_inserted : (P : A → Type 0) (x : A) (ys : List A) → P x → AllByRecursion P ys → AllByRecursion P (insert_sorted cmp x ys)
-    all_inserted P x [] h all = (h, tt)
-    all_inserted P x (y ∷ ys) h all =
-        elim (is_gt (cmp x y)) as (λ b. AllByRecursion P (cond b (y ∷ insert_sorted cmp x ys) (x ∷ y ∷ ys))) [ true ↦ (all.0, all_inserted P x ys h all.1) | false ↦ (h, all) ]
 
     turned_back : (x y : A) → is_gt (cmp x y) ≡ true → AtMost y x
     turned_back x y up = ap is_gt (total.antisymm y x) ∙ go (cmp x y) up
@@ -55,7 +70,7 @@ module _ {A : Type 0} (cmp : A → A → Ordering) where
     inserted_up x (y ∷ ys) up = go (is_gt (cmp x y)) refl (inserted_up x ys up.1)
       where
         go : (b : Bool) → is_gt (cmp x y) ≡ b → IsAscending AtMost (insert_sorted cmp x ys) → IsAscending AtMost (cond b (y ∷ insert_sorted cmp x ys) (x ∷ y ∷ ys))
-        go true e more = (all_inserted (AtMost y) x ys (turned_back x y e) up.0, more)
+        go true e more = (all_put (AtMost y) x ys (turned_back x y e) up.0, more)
         go false e more = ((e, all_weaker (AtMost y) (AtMost x) (λ z. upto total x y z e) ys up.0), up)
 
     sorted_up : (xs : List A) → IsAscending AtMost (sort_by cmp xs)

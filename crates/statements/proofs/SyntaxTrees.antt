@@ -74,6 +74,9 @@ by_column column = roll-Sort (record { key = named column; descending = false; n
 abbrev pub by_rowid : Bool → List Sort
 by_rowid descending = roll-Sort (record { key = named (codes "rowid"); descending = descending; nulls_first = None }) ∷ []
 
+abbrev pub by_column_and_rowid : List ℕ → Bool → List Sort
+by_column_and_rowid column descending = roll-Sort (record { key = named column; descending = descending; nulls_first = None }) ∷ by_rowid descending
+
 abbrev pub select_from : Core → List Sort → Option Expr → Option Expr → Select
 select_from core order limit offset = roll-Select (record { with = []; first = core; others = []; order = order; limit = limit; offset = offset })
 

@@ -1,24 +1,37 @@
 -- What the queries on the table version read of its rows.
 use Rattle.std.specs.List.{AllZip}
-use Rattle.std.proofs.Common.{◌≡◌, ℕ, List, [], ◌∷◌, Option, codes, refl}
-use Rattle.sqlite_value.specs.declared.value.Value.TheVariants.{Text}
-use Rattle.sqlite_value.specs.Order.{Row}
+use Rattle.std.proofs.Common.{◌≡◌, ℕ, true, List, [], ◌∷◌, Option, codes, refl, pos, Ordering, Less, Equal, int_cmp}
+use Rattle.sqlite_value.specs.declared.value.Value.TheVariants.{Text, Int}
+use Rattle.sqlite_value.specs.Order.{Row, value_cmp}
 use Rattle.sqlite_keyed.proofs.ListLemmas.{first_taken}
 use Rattle.sqlite.specs.State.{State}
 use Rattle.statements.specs.Schema.{version_table}
-use Rattle.statements.specs.Rows.{version_cells, number}
+use Rattle.statements.specs.Rows.{Kept, VersionRow, id_of, version_cells, number}
 use Rattle.statements.specs.Tables.{Tables, Holds, version_layout}
 use Rattle.statements.specs.Changes.{is_version, is_version_of, is_version_below}
-use Rattle.statements.specs.Finds.{head_of, newest_of, number_back, oldest_below, size_of}
+use Rattle.statements.specs.Finds.{head_of, back_by_number, newest_of, number_back, oldest_below, size_of}
 use Rattle.statements.specs.Calls.{FirstRow, FirstRows, Pins, IsHeadRow, IsVersionHead, IsNumber}
 use Rattle.statements.specs.declared.rows.VersionHead.{VersionHead}
 use Rattle.statements.specs.Listings.{version_head_of, version_rows_after, VersionsRise}
 use Rattle.statements.proofs.Held.{IsHeld, versions_held}
 use Rattle.statements.proofs.Listed.{by_column, numbered_are}
-use Rattle.statements.proofs.PointReads.{first_own, last_own, nth_back_own, first_behind}
+use Rattle.statements.proofs.PointReads.{first_own, ranked_own, first_behind}
+use Rattle.statements.proofs.Answered.{in_order_of_both, untied_down}
+use Rattle.sqlite_typed.proofs.AnswerLemmas.{IsNoTie}
+use Rattle.std.specs.Ordering.{ordering_then}
 use Rattle.statements.proofs.ReadBack.{number_read, head_read, version_head_read}
 use Rattle.statements.proofs.Conditions.{two_texts, two_texts_number, two_texts_above, two_texts_below}
 use Rattle.statements.proofs.VersionTexts.{list_versions_text, list_versions_means, list_versions_rest, list_versions_names, newest_version_text, newest_version_means, newest_version_rest, version_back_text, version_back_means, version_back_rest, oldest_below_text, oldest_below_means, oldest_below_rest, version_size_text, version_size_means, version_size_rest}
+
+untied_back : (x y : Kept VersionRow) → int_cmp (id_of x) (id_of y) ≡ Less → IsNoTie (back_by_number x y)
+untied_back x y h = untied_down (pos x.1.it.number) (pos y.1.it.number) (id_of x) (id_of y) h
+
+-- two integers, one behind the other, are compared as the rows are
+abbrev by_both : Kept VersionRow → Kept VersionRow → Ordering
+by_both x y = ordering_then (value_cmp (Int (pos x.1.it.number)) (Int (pos y.1.it.number))) (ordering_then (value_cmp (Int (id_of x)) (Int (id_of y))) Equal)
+
+in_order_back : (x y : Kept VersionRow) → by_both y x ≡ back_by_number x y
+in_order_back x y = in_order_of_both (pos y.1.it.number) (pos x.1.it.number) (id_of y) (id_of x)
 
 module _ (old new : State) (t : Tables) (h : Holds old.now t) where
   abbrev held : IsHeld version_layout old.now t.versions
@@ -26,8 +39,9 @@ module _ (old new : State) (t : Tables) (h : Holds old.now t) where
 
   pub newest_version_shows : (org ws : List ℕ) (row : Option Row) → FirstRow newest_version_text (Text org ∷ Text ws ∷ []) old new row → Pins IsHeadRow row (newest_of org ws t)
   newest_version_shows org ws row first =
-      last_own version_cells version_table old new held.own t.versions held.rows held.keyed newest_version_text (Text org ∷ Text ws ∷ []) row first newest_version_rest (codes "number" ∷ codes "serial" ∷ codes "lineage" ∷ codes "size" ∷ [])
-      (is_version_of org ws) (λ x. two_texts x.1.org org x.1.ws ws) IsHeadRow (λ x. head_of x.1.it) (λ x y told. head_read x.1.it y told) (newest_version_means old.now.schema _ _ held.own.place) first_taken
+      ranked_own version_cells version_table old new held.own t.versions held.rows held.keyed newest_version_text (Text org ∷ Text ws ∷ []) row first newest_version_rest (codes "number" ∷ codes "serial" ∷ codes "lineage" ∷ codes "size" ∷ [])
+      (is_version_of org ws) (λ x. two_texts x.1.org org x.1.ws ws) IsHeadRow (λ x. head_of x.1.it) (λ x y told. head_read x.1.it y told)
+      3 true back_by_number untied_back in_order_back 0 (newest_version_means old.now.schema _ _ held.own.place) first_taken
 
   pub oldest_below_shows : (org ws : List ℕ) (n : ℕ) (row : Option Row) → FirstRow oldest_below_text (Text org ∷ Text ws ∷ number n ∷ []) old new row → Pins IsHeadRow row (oldest_below org ws n t)
   oldest_below_shows org ws n row first =
@@ -36,8 +50,9 @@ module _ (old new : State) (t : Tables) (h : Holds old.now t) where
 
   pub version_back_shows : (org ws : List ℕ) (place : ℕ) (row : Option Row) → FirstRow version_back_text (Text org ∷ Text ws ∷ number place ∷ []) old new row → Pins IsNumber row (number_back org ws place t)
   version_back_shows org ws place row first =
-      nth_back_own version_cells version_table old new held.own t.versions held.rows held.keyed version_back_text (Text org ∷ Text ws ∷ number place ∷ []) row first version_back_rest (codes "number" ∷ [])
-      (is_version_of org ws) (λ x. two_texts x.1.org org x.1.ws ws) IsNumber (λ x. x.1.it.number) (λ x y told. number_read x.1.it.number y told) place (version_back_means old.now.schema _ _ held.own.place) (λ l. first_behind place l)
+      ranked_own version_cells version_table old new held.own t.versions held.rows held.keyed version_back_text (Text org ∷ Text ws ∷ number place ∷ []) row first version_back_rest (codes "number" ∷ [])
+      (is_version_of org ws) (λ x. two_texts x.1.org org x.1.ws ws) IsNumber (λ x. x.1.it.number) (λ x y told. number_read x.1.it.number y told)
+      3 true back_by_number untied_back in_order_back place (version_back_means old.now.schema _ _ held.own.place) (λ l. first_behind place l)
 
   pub version_size_shows : (org ws : List ℕ) (n : ℕ) (row : Option Row) → FirstRow version_size_text (Text org ∷ Text ws ∷ number n ∷ []) old new row → Pins IsNumber row (size_of org ws n t)
   version_size_shows org ws n row first =

@@ -22,15 +22,15 @@ use Rattle.statements.proofs.SyntaxTrees as st
 use Rattle.statements.proofs.Meaning.{Means, means, some_parsed, as_read}
 use Rattle.statements.proofs.Reading.{read_is}
 use Rattle.statements.proofs.Writes.{plain_program}
-use Rattle.statements.proofs.Answered.{point}
+use Rattle.statements.proofs.Answered.{point, ranked}
 use Rattle.statements.proofs.Listed.{listing}
-use Rattle.statements.proofs.Commands.{is_at, is_below, delete_query, point_rest, point_draft, no_page, one_page, one_page_at, is_above, listing_draft}
+use Rattle.statements.proofs.Commands.{is_at, is_below, delete_query, point_rest, point_draft, ranked_draft, no_page, one_page, one_page_at, is_above, listing_draft}
 
 abbrev pub newest_version_text : List ℕ
 newest_version_text = NEWEST_VERSION.now
 
 abbrev pub newest_version_select : ast.Select
-newest_version_select = st.select st.newest_version_core (st.by_rowid true) (Some (Integer (codes "1")))
+newest_version_select = st.select st.newest_version_core (st.by_column_and_rowid (codes "number") true) (Some (Integer (codes "1")))
 
 newest_version_reads : first newest_version_text ≡ Ok (as_read (some_parsed (first newest_version_text)) (written.Select newest_version_select))
 unfolding everything
@@ -62,7 +62,7 @@ abbrev pub version_back_text : List ℕ
 version_back_text = VERSION_BACK.now
 
 abbrev pub version_back_select : ast.Select
-version_back_select = st.select_from st.version_back_core (st.by_rowid true) (Some (Integer (codes "1"))) (Some (Parameter 3))
+version_back_select = st.select_from st.version_back_core (st.by_column_and_rowid (codes "number") true) (Some (Integer (codes "1"))) (Some (Parameter 3))
 
 version_back_reads : first version_back_text ≡ Ok (as_read (some_parsed (first version_back_text)) (written.Select version_back_select))
 unfolding everything
@@ -147,20 +147,20 @@ module _ (s : Schema) (at tree : ℕ) (h : StandsAt s (codes "version") version_
   unfolding timed returning
   list_versions_means = means s (written.Select list_versions_select) _ refl (λ _. refl) list_versions_is list_versions_text (some_parsed (first list_versions_text)) list_versions_reads
 
-  newest_version_named : named s st.newest_version_core (st.by_rowid true) one_page ≡ Ok ((point_draft newest_version_rest tree true), (codes "number" ∷ codes "serial" ∷ codes "lineage" ∷ codes "size" ∷ []), (Some Binary ∷ Some Binary ∷ Some Binary ∷ Some Binary ∷ []))
+  newest_version_named : named s st.newest_version_core (st.by_column_and_rowid (codes "number") true) one_page ≡ Ok ((ranked_draft newest_version_rest tree 3 true), (codes "number" ∷ codes "serial" ∷ codes "lineage" ∷ codes "size" ∷ []), (Some Binary ∷ Some Binary ∷ Some Binary ∷ Some Binary ∷ []))
   unfolding everything
-  newest_version_named = rw (h.named, h.found, h.found, h.found, h.small) refl
+  newest_version_named = rw (h.named, h.found, h.found, h.found, h.found, h.small) refl
 
-  newest_version_fits : program s [] (point_draft newest_version_rest tree true) ≡ Ok (plain_program (point newest_version_rest tree true))
+  newest_version_fits : program s [] (ranked_draft newest_version_rest tree 3 true) ≡ Ok (plain_program (ranked newest_version_rest tree 3 true))
   unfolding everything
   newest_version_fits = rw (h.low, h.treed) refl
 
-  newest_version_is : (base : ℕ) → command s [] base (written.Select newest_version_select) ≡ Ok (Select (plain_program (point newest_version_rest tree true)) (codes "number" ∷ codes "serial" ∷ codes "lineage" ∷ codes "size" ∷ []))
+  newest_version_is : (base : ℕ) → command s [] base (written.Select newest_version_select) ≡ Ok (Select (plain_program (ranked newest_version_rest tree 3 true)) (codes "number" ∷ codes "serial" ∷ codes "lineage" ∷ codes "size" ∷ []))
   unfolding everything
   newest_version_is base =
-      read_is s newest_version_select st.newest_version_core (st.by_rowid true) one_page ((point_draft newest_version_rest tree true), (codes "number" ∷ codes "serial" ∷ codes "lineage" ∷ codes "size" ∷ []), (Some Binary ∷ Some Binary ∷ Some Binary ∷ Some Binary ∷ [])) refl refl refl refl refl (λ again. refl) newest_version_named (plain_program (point newest_version_rest tree true)) newest_version_fits base
+      read_is s newest_version_select st.newest_version_core (st.by_column_and_rowid (codes "number") true) one_page ((ranked_draft newest_version_rest tree 3 true), (codes "number" ∷ codes "serial" ∷ codes "lineage" ∷ codes "size" ∷ []), (Some Binary ∷ Some Binary ∷ Some Binary ∷ Some Binary ∷ [])) refl refl refl refl refl (λ again. refl) newest_version_named (plain_program (ranked newest_version_rest tree 3 true)) newest_version_fits base
 
-  pub newest_version_means : Means s (Select (plain_program (point newest_version_rest tree true)) (codes "number" ∷ codes "serial" ∷ codes "lineage" ∷ codes "size" ∷ [])) newest_version_text
+  pub newest_version_means : Means s (Select (plain_program (ranked newest_version_rest tree 3 true)) (codes "number" ∷ codes "serial" ∷ codes "lineage" ∷ codes "size" ∷ [])) newest_version_text
   unfolding timed returning
   newest_version_means = means s (written.Select newest_version_select) _ refl (λ _. refl) newest_version_is newest_version_text (some_parsed (first newest_version_text)) newest_version_reads
 
@@ -181,20 +181,20 @@ module _ (s : Schema) (at tree : ℕ) (h : StandsAt s (codes "version") version_
   unfolding timed returning
   oldest_below_means = means s (written.Select oldest_below_select) _ refl (λ _. refl) oldest_below_is oldest_below_text (some_parsed (first oldest_below_text)) oldest_below_reads
 
-  version_back_named : named s st.version_back_core (st.by_rowid true) (one_page_at 2) ≡ Ok ((point_draft version_back_rest tree true), (codes "number" ∷ []), (Some Binary ∷ []))
+  version_back_named : named s st.version_back_core (st.by_column_and_rowid (codes "number") true) (one_page_at 2) ≡ Ok ((ranked_draft version_back_rest tree 3 true), (codes "number" ∷ []), (Some Binary ∷ []))
   unfolding everything
-  version_back_named = rw (h.named, h.found, h.found, h.found, h.small) refl
+  version_back_named = rw (h.named, h.found, h.found, h.found, h.found, h.small) refl
 
-  version_back_fits : program s [] (point_draft version_back_rest tree true) ≡ Ok (plain_program (point version_back_rest tree true))
+  version_back_fits : program s [] (ranked_draft version_back_rest tree 3 true) ≡ Ok (plain_program (ranked version_back_rest tree 3 true))
   unfolding everything
   version_back_fits = rw (h.low, h.treed) refl
 
-  version_back_is : (base : ℕ) → command s [] base (written.Select version_back_select) ≡ Ok (Select (plain_program (point version_back_rest tree true)) (codes "number" ∷ []))
+  version_back_is : (base : ℕ) → command s [] base (written.Select version_back_select) ≡ Ok (Select (plain_program (ranked version_back_rest tree 3 true)) (codes "number" ∷ []))
   unfolding everything
   version_back_is base =
-      read_is s version_back_select st.version_back_core (st.by_rowid true) (one_page_at 2) ((point_draft version_back_rest tree true), (codes "number" ∷ []), (Some Binary ∷ [])) refl refl refl refl refl (λ again. refl) version_back_named (plain_program (point version_back_rest tree true)) version_back_fits base
+      read_is s version_back_select st.version_back_core (st.by_column_and_rowid (codes "number") true) (one_page_at 2) ((ranked_draft version_back_rest tree 3 true), (codes "number" ∷ []), (Some Binary ∷ [])) refl refl refl refl refl (λ again. refl) version_back_named (plain_program (ranked version_back_rest tree 3 true)) version_back_fits base
 
-  pub version_back_means : Means s (Select (plain_program (point version_back_rest tree true)) (codes "number" ∷ [])) version_back_text
+  pub version_back_means : Means s (Select (plain_program (ranked version_back_rest tree 3 true)) (codes "number" ∷ [])) version_back_text
   unfolding timed returning
   version_back_means = means s (written.Select version_back_select) _ refl (λ _. refl) version_back_is version_back_text (some_parsed (first version_back_text)) version_back_reads
 

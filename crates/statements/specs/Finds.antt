@@ -1,11 +1,14 @@
 -- What each query reads of the rows.
-use Rattle.std.specs.Prelude.{ℕ, Bool, true, false, not, ◌&&◌, List, [], ◌∷◌, length, filter, reverse, find, slice_get, min, Option, Some, None, option_map}
+use Rattle.std.specs.Prelude.{ℕ, pos, Bool, true, false, not, ◌&&◌, List, length, filter, find, slice_get, min, Option, Some, None, option_map}
+use Rattle.std.specs.declared.cmp.Ordering.{Ordering}
+use Rattle.std.specs.Ordering.{int_cmp, ordering_then}
 use Rattle.std.specs.Str.{bytes_eq}
 use Rattle.sqlite_value.specs.declared.keys.Collation.TheVariants.{Binary}
 use Rattle.sqlite_sql.specs.declared.ops.ArithOp.TheVariants.{Sub}
 use Rattle.sqlite_sql.specs.declared.ops.CompareOp.TheVariants.{Eq}
 use Rattle.sqlite_sql.specs.declared.ops.BinaryOp.TheVariants.{Compare, Arith}
 use Rattle.sqlite_sql.specs.Ops.{is_true, binary}
+use Rattle.sqlite_keyed.specs.Lists.{sort_by}
 use Rattle.basis.specs.declared.roles.Role.{Role}
 use Rattle.basis.specs.declared.runs.RunStatus.{RunStatus}
 use Rattle.basis.specs.declared.runs.RunStatus.TheVariants.{Pending}
@@ -15,15 +18,9 @@ use Rattle.statements.specs.declared.rows.Head.{Head}
 use Rattle.statements.specs.declared.rows.Run.{Run}
 use Rattle.statements.specs.declared.rows.NamedRole.{NamedRole}
 use Rattle.statements.specs.declared.rows.Bound.{Bound}
-use Rattle.statements.specs.Rows.{Version, Kept, TokenRow, VersionRow, RunRow, BoundRow, number}
+use Rattle.statements.specs.Rows.{Version, Kept, TokenRow, VersionRow, RunRow, BoundRow, id_of, number}
 use Rattle.statements.specs.Tables.{Tables}
 use Rattle.statements.specs.Changes.{is_org, is_token, is_digest_of, is_bound, is_ws_of, is_ws, is_keeping, is_version_of, is_version, is_version_below, is_run_row}
-
--- the last of a list
-abbrev pub last_in : {X : Type 0} → List X → Option X
-last_in [] = None
-last_in (x ∷ []) = Some x
-last_in (x ∷ y ∷ xs) = last_in (y ∷ xs)
 
 -- SQL counts no further than the greatest integer that it has
 abbrev pub counted : {X : Type 0} → List X → ℕ
@@ -65,9 +62,17 @@ workspaces_of org t = counted (filter (is_ws_of org) t.wss)
 abbrev pub head_of : Version → Head
 head_of v = record { number = v.number; serial = v.serial; lineage = v.lineage; size = v.size }
 
--- the version that was added last
+-- the order of rows of versions: by their numbers, and where two have one, by their rowids
+abbrev pub by_number : Kept VersionRow → Kept VersionRow → Ordering
+by_number x y = ordering_then (int_cmp (pos x.1.it.number) (pos y.1.it.number)) (int_cmp (id_of x) (id_of y))
+
+-- the other way round: the greatest number comes first
+abbrev pub back_by_number : Kept VersionRow → Kept VersionRow → Ordering
+back_by_number x y = by_number y x
+
+-- the version with the greatest number
 abbrev pub newest_of : List ℕ → List ℕ → Tables → Option Head
-newest_of org ws t = option_map (λ x. head_of x.1.it) (last_in (filter (is_version_of org ws) t.versions))
+newest_of org ws t = option_map (λ x. head_of x.1.it) (slice_get (sort_by back_by_number (filter (is_version_of org ws) t.versions)) 0)
 
 -- whether a number is one less than another, as SQL reckons, which has 64 bits for a whole number
 abbrev pub is_one_less : ℕ → ℕ → Bool
@@ -80,9 +85,9 @@ is_version_before org ws next x = bytes_eq x.1.org org && (bytes_eq x.1.ws ws &&
 abbrev pub version_before : List ℕ → List ℕ → ℕ → Tables → Option ℕ
 version_before org ws next t = option_map (λ x. x.1.it.number) (find (is_version_before org ws next) t.versions)
 
--- the number of the version at a place, counted from 0 at the one that was added last
+-- the number of the version at a place, counted from 0 at the one with the greatest number
 abbrev pub number_back : List ℕ → List ℕ → ℕ → Tables → Option ℕ
-number_back org ws place t = option_map (λ x. x.1.it.number) (slice_get (reverse (filter (is_version_of org ws) t.versions)) place)
+number_back org ws place t = option_map (λ x. x.1.it.number) (slice_get (sort_by back_by_number (filter (is_version_of org ws) t.versions)) place)
 
 -- of the versions with numbers below this one, that which was added first
 abbrev pub oldest_below : List ℕ → List ℕ → ℕ → Tables → Option Head

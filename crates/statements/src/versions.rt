@@ -14,9 +14,9 @@ use sqlite::{Alter, Connection, Error, Transaction, params};
 use std::alloc::Global;
 
 const NEWEST_VERSION: &str =
-    "SELECT number, serial, lineage, size FROM version WHERE org = ?1 AND ws = ?2 ORDER BY rowid DESC LIMIT 1";
+    "SELECT number, serial, lineage, size FROM version WHERE org = ?1 AND ws = ?2 ORDER BY number DESC, rowid DESC LIMIT 1";
 
-/// The version of a workspace that was added last, without its text.
+/// The version of a workspace with the greatest number, without its text.
 pub fn newest<S: Alter>(
     conn: &mut Connection<S>,
     org: &str,
@@ -49,9 +49,9 @@ pub fn list<S: Alter>(
 }
 
 const VERSION_BACK: &str =
-    "SELECT number FROM version WHERE org = ?1 AND ws = ?2 ORDER BY rowid DESC LIMIT 1 OFFSET ?3";
+    "SELECT number FROM version WHERE org = ?1 AND ws = ?2 ORDER BY number DESC, rowid DESC LIMIT 1 OFFSET ?3";
 
-/// The number of the version of a workspace at a place, which counts from 0 at the one that was added last.
+/// The number of the version of a workspace at a place, which counts from 0 at the one with the greatest number.
 pub fn number_back<S: Alter>(
     conn: &mut Connection<S>,
     org: &str,

@@ -1,11 +1,16 @@
 -- What the queries find is the part of the record that it stands for.
-use Rattle.std.proofs.Common.{◌≡◌, ℕ, suc, ◌+◌, ◌-◌, ◌≤◌, ◌<◌, nat_lt, Bool, true, false, not, ◌&&◌, ◌==◌, cond, List, [], ◌∷◌, map, filter, find, length, take, reverse, slice_get, min, is_some, Option, Some, None, option_map, IfSome, refl, sym, ap, subst, ap₂, ◌∙◌, arith}
+use Rattle.std.proofs.Common.{◌≡◌, ℕ, suc, ◌+◌, ◌-◌, ◌≤◌, ◌<◌, nat_lt, Bool, true, false, not, ◌&&◌, ◌==◌, cond, List, [], ◌∷◌, map, filter, find, length, take, reverse, slice_get, min, is_some, Option, Some, None, option_map, IfSome, pos, Ordering, Greater, int_cmp, refl, sym, ap, subst, ap₂, ◌∙◌, arith}
 use Rattle.std.specs.Str.{bytes_eq}
 use Rattle.std.specs.Option.{unwrap_or, option_or}
 use Rattle.std.specs.List.{AllByRecursion, list_any}
 use Rattle.std.specs.FinMap.{from_entries, entries, get, get-from_entries, len-insert, len-entries, len-empty, len}
 use Rattle.std.proofs.lemmas.Bool.{eqb-true, eq-eqb, ne_eqb, ltb-true, ltb-false}
-use Rattle.std.proofs.lemmas.List.{length-map, length-reverse, get_or-reverse}
+use Rattle.std.proofs.lemmas.List.{take_all, length-map, length-reverse, get_or-reverse}
+use Rattle.std.specs.Ordering.{ordering_then}
+use Rattle.std.proofs.lemmas.Int.{ints}
+use Rattle.sqlite_trees.specs.Tree.{IsAscending}
+use Rattle.sqlite_keyed.specs.Lists.{sort_by}
+use Rattle.statements.proofs.Sorting.{all_sorted, turned_round}
 use Rattle.std.proofs.lemmas.Option.{slice_get-map, slice_get_past, slice_get-get_or}
 use Rattle.machine.proofs.CutLemmas.{last_taken}
 use Rattle.sqlite_keyed.specs.Rules.{AreApart}
@@ -34,10 +39,10 @@ use Rattle.statements.specs.declared.rows.Head.{Head}
 use Rattle.statements.specs.declared.rows.Holder.{Holder as HolderCells}
 use Rattle.statements.specs.declared.rows.Holder.TheVariants as cells
 use Rattle.statements.specs.declared.rows.Workspace.{Workspace as WorkspaceCells}
-use Rattle.statements.specs.Rows.{Kept, OrgRow, WsRow, VersionRow, RunRow}
+use Rattle.statements.specs.Rows.{Kept, id_of, OrgRow, WsRow, VersionRow, RunRow}
 use Rattle.statements.specs.Tables.{Tables}
 use Rattle.statements.specs.Changes.{is_org, is_version_of, is_version, is_run_of, is_run_row, is_ws, is_ws_of}
-use Rattle.statements.specs.Finds.{last_in, head_of, newest_of, size_of, number_back, first_waiting_of, status_at_number, workspace_of, workspaces_of, cap_of}
+use Rattle.statements.specs.Finds.{back_by_number, head_of, newest_of, size_of, number_back, first_waiting_of, status_at_number, workspace_of, workspaces_of, cap_of}
 use Rattle.statements.specs.Finds as finds
 use Rattle.statements.proofs.Found.{found_passes, found_holds}
 use Rattle.tables.specs.Records.{version_at, run_of_cells, settings_of_cells, holder_of_cells, versions_at, runs_at, workspace_at, workspace_by, workspaces_at, organization_at, record_of}
@@ -77,11 +82,6 @@ either_none : {X : Type 0} (o : Option X) → option_or o None ≡ o
 either_none None = refl
 either_none (Some x) = refl
 
-newest-shown : {X : Type 0} (show : X → Version) (ys : List X) → option_map show (last_in ys) ≡ newest (map show ys)
-newest-shown show [] = refl
-newest-shown show (y ∷ []) = refl
-newest-shown show (y ∷ z ∷ ys) = newest-shown show (z ∷ ys)
-
 -- one at a place from the last is the last of those that so many stand behind
 module _ {X : Type 0} (show : X → Version) where
   place_back : (n : ℕ) (xs : List X) → option_map show (slice_get (reverse xs) n) ≡ newest (take (length (map show xs) - n) (map show xs))
@@ -108,10 +108,9 @@ module _ {X : Type 0} (show : X → Version) where
 other_size : (xs ys : List ℕ) → (length xs == length ys) ≡ false → bytes_eq xs ys ≡ false
 other_size xs ys e = apart_name xs ys (λ same. absurd (let no_one : ⊥ = cc (sym (eq-eqb (length xs) (length ys) (ap length same)) ∙ e) in no_one))
 
-last_holds : {X : Type 0} (P : X → Type 0) (xs : List X) (x : X) → AllByRecursion P xs → last_in xs ≡ Some x → P x
-last_holds P [] x all e = absurd (let none : ⊥ = cc in none)
-last_holds P (y ∷ []) x all e = let same : y ≡ x = cc in subst P same all.0
-last_holds P (y ∷ z ∷ xs) x all e = last_holds P (z ∷ xs) x all.1 e
+first_holds : {X : Type 0} (P : X → Type 0) (xs : List X) (x : X) → AllByRecursion P xs → slice_get xs 0 ≡ Some x → P x
+first_holds P [] x all e = absurd (let none : ⊥ = cc in none)
+first_holds P (y ∷ xs) x all e = let same : y ≡ x = cc in subst P same all.0
 
 all_passing : {X : Type 0} (p : X → Bool) (xs : List X) → AllByRecursion (λ x. p x ≡ true) (filter p xs)
 all_passing p [] = tt
@@ -181,16 +180,6 @@ key_same key (Some own) = refl
 -- ---- what each query finds
 
 module _ (t : Tables) (org ws : List ℕ) where
-  -- the version that was added last
-  newest_row : option_map (λ (x : Kept VersionRow). version_at t org ws x.1.it) (last_in (filter (is_version_of org ws) t.versions)) ≡ newest (versions_at t org ws)
-  newest_row = newest-shown (λ (x : Kept VersionRow). version_at t org ws x.1.it) (filter (is_version_of org ws) t.versions)
-
-  pub newest_number_found : option_map (λ (h : Head). h.number) (newest_of org ws t) ≡ option_map (λ (v : Version). v.number) (newest (versions_at t org ws))
-  newest_number_found =
-      sym (mapped (λ (x : Kept VersionRow). head_of x.1.it) (λ (h : Head). h.number) (last_in (filter (is_version_of org ws) t.versions)))
-      ∙ mapped (λ (x : Kept VersionRow). version_at t org ws x.1.it) (λ (v : Version). v.number) (last_in (filter (is_version_of org ws) t.versions))
-      ∙ ap (option_map (λ (v : Version). v.number)) newest_row
-
   body_found : (n : ℕ) → text_in org ws n t ≡ option_map (λ (v : Version). v.text) (find (numbered n) (versions_at t org ws))
   body_found n =
       by_row (find (is_version org ws n) t.versions) refl
@@ -277,37 +266,70 @@ module _ (t : Tables) (org ws : List ℕ) where
       whole x there e =
           subst (λ (p : List ℕ). IsWhole p ws x.1.it.number x.1.it.size t) (pair_first org ws x.1.org x.1.ws e) (subst (λ (q : List ℕ). IsWhole x.1.org q x.1.it.number x.1.it.size t) (pair_second org ws x.1.org x.1.ws e) there)
 
-  -- the text of the newest version is compared page by page, and one of another size isn't the asked one
-  pub newest_unit_found : AreTexts t → (text : Option (List ℕ)) → newest_in text org ws t ≡ option_map (newest_unit text) (newest (versions_at t org ws))
-  newest_unit_found a text = by_row (last_in (filter (is_version_of org ws) t.versions)) refl ∙ ap (option_map (newest_unit text)) newest_row
-    where
-      same_text : (x : Kept VersionRow) → IsWhole org ws x.1.it.number x.1.it.size t → (asked : Option (List ℕ)) → has_text asked org ws (head_of x.1.it) t ≡ is_text asked (text_of org ws x.1.it.number x.1.it.size t)
-      same_text x whole None = refl
-      same_text x whole (Some asked) = by_size (x.1.it.size == length asked) refl
-        where
-          by_size : (b : Bool) → (x.1.it.size == length asked) ≡ b → cond b (are_pieces org ws x.1.it.number asked (pages_for (length asked)) t) false ≡ bytes_eq (text_of org ws x.1.it.number x.1.it.size t) asked
-          by_size true e =
-              let same : x.1.it.size ≡ length asked = eqb-true x.1.it.size (length asked) e in
-              same_is org ws x.1.it.number asked t (subst (λ (m : ℕ). IsWhole org ws x.1.it.number m t) same whole) ∙ ap (λ (m : ℕ). bytes_eq (text_of org ws x.1.it.number m t) asked) (sym same)
-          by_size false e = sym (other_size (text_of org ws x.1.it.number x.1.it.size t) asked (ap (λ (m : ℕ). m == length asked) (whole_size org ws x.1.it.number t x.1.it.size whole) ∙ e))
+  -- where numbers rise with the rows, the rows from the greatest number down are the rows the other way round
+  above : (x y : Kept VersionRow) → x.1.it.number < y.1.it.number → back_by_number x y ≡ Greater
+  above x y low = ap (λ (o : Ordering). ordering_then o (int_cmp (id_of y) (id_of x))) (let greater : int_cmp (pos y.1.it.number) (pos x.1.it.number) ≡ Greater = grind (arith, ints) in greater)
 
-      by_row : (r : Option (Kept VersionRow)) → last_in (filter (is_version_of org ws) t.versions) ≡ r
-          → option_map (newest_by text org ws t) (option_map (λ (x : Kept VersionRow). head_of x.1.it) r) ≡ option_map (newest_unit text) (option_map (λ (x : Kept VersionRow). version_at t org ws x.1.it) r)
-      by_row None e = refl
-      by_row (Some x) e =
-          let whole : IsWhole org ws x.1.it.number x.1.it.size t = last_holds (λ y. IsWhole org ws y.1.it.number y.1.it.size t) (filter (is_version_of org ws) t.versions) x (own_whole a) e in
-          ap (λ (same : Bool). Some (record { number = x.1.it.number; serial = x.1.it.serial; lineage = x.1.it.lineage; is_same = same })) (same_text x whole text)
+  all_above : (x : Kept VersionRow) (low next : ℕ) (xs : List (Kept VersionRow)) → x.1.it.number ≤ low → Rises low (numbers (map (λ (y : Kept VersionRow). version_at t org ws y.1.it) xs)) next → AllByRecursion (λ y. back_by_number x y ≡ Greater) xs
+  all_above x low next [] h rise = tt
+  all_above x low next (y ∷ ys) h rise = (above x y (omega (arith, h, rise.0)), all_above x y.1.it.number next ys (omega (arith, h, rise.0)) rise.2)
 
-  -- the greatest number of those that go is found by its place from the newest
-  behind_found : (staying : ℕ) → number_back org ws staying t ≡ outgoing staying (versions_at t org ws)
-  behind_found staying =
-      mapped (λ (x : Kept VersionRow). version_at t org ws x.1.it) (λ (v : Version). v.number) (slice_get (reverse (filter (is_version_of org ws) t.versions)) staying)
-      ∙ ap (option_map (λ (v : Version). v.number)) (place_back (λ (x : Kept VersionRow). version_at t org ws x.1.it) staying (filter (is_version_of org ws) t.versions))
+  each_above : (low next : ℕ) (xs : List (Kept VersionRow)) → Rises low (numbers (map (λ (y : Kept VersionRow). version_at t org ws y.1.it) xs)) next → IsAscending (λ x y. back_by_number x y ≡ Greater) xs
+  each_above low next [] rise = tt
+  each_above low next (x ∷ xs) rise = (all_above x x.1.it.number next xs (omega arith) rise.2, each_above x.1.it.number next xs rise.2)
 
-  pub outgoing_found : (staying : Staying) (keep : ℕ) → outgoing_in staying keep org ws t ≡ outgoing_by staying keep (versions_at t org ws)
-  outgoing_found StayAll keep = refl
-  outgoing_found MakeRoom keep = behind_found (keep - 1)
-  outgoing_found (StayAtMost staying) keep = behind_found staying
+  module _ (next : ℕ) (rise : Rises 0 (numbers (versions_at t org ws)) next) where
+    abbrev rows : List (Kept VersionRow)
+    rows = filter (is_version_of org ws) t.versions
+
+    abbrev rows_back : List (Kept VersionRow)
+    rows_back = sort_by back_by_number rows
+
+    turned : rows_back ≡ reverse rows
+    turned = turned_round back_by_number rows (each_above 0 next rows rise)
+
+    -- the greatest number of those that go is found by its place from the newest
+    row_behind : (staying : ℕ) → option_map (λ (x : Kept VersionRow). version_at t org ws x.1.it) (slice_get rows_back staying) ≡ newest (take (length (versions_at t org ws) - staying) (versions_at t org ws))
+    row_behind staying = ap (λ (xs : List (Kept VersionRow)). option_map (λ (x : Kept VersionRow). version_at t org ws x.1.it) (slice_get xs staying)) turned ∙ place_back (λ (x : Kept VersionRow). version_at t org ws x.1.it) staying rows
+
+    -- the version with the greatest number
+    newest_row : option_map (λ (x : Kept VersionRow). version_at t org ws x.1.it) (slice_get rows_back 0) ≡ newest (versions_at t org ws)
+    newest_row = row_behind 0 ∙ ap newest (take_all (length (versions_at t org ws) - 0) (versions_at t org ws) (omega arith))
+
+    pub newest_number_found : option_map (λ (h : Head). h.number) (newest_of org ws t) ≡ option_map (λ (v : Version). v.number) (newest (versions_at t org ws))
+    newest_number_found =
+        sym (mapped (λ (x : Kept VersionRow). head_of x.1.it) (λ (h : Head). h.number) (slice_get rows_back 0))
+        ∙ mapped (λ (x : Kept VersionRow). version_at t org ws x.1.it) (λ (v : Version). v.number) (slice_get rows_back 0)
+        ∙ ap (option_map (λ (v : Version). v.number)) newest_row
+
+    -- the text of the newest version is compared page by page, and one of another size isn't the asked one
+    pub newest_unit_found : AreTexts t → (text : Option (List ℕ)) → newest_in text org ws t ≡ option_map (newest_unit text) (newest (versions_at t org ws))
+    newest_unit_found a text = by_row (slice_get rows_back 0) refl ∙ ap (option_map (newest_unit text)) newest_row
+      where
+        same_text : (x : Kept VersionRow) → IsWhole org ws x.1.it.number x.1.it.size t → (asked : Option (List ℕ)) → has_text asked org ws (head_of x.1.it) t ≡ is_text asked (text_of org ws x.1.it.number x.1.it.size t)
+        same_text x whole None = refl
+        same_text x whole (Some asked) = by_size (x.1.it.size == length asked) refl
+          where
+            by_size : (b : Bool) → (x.1.it.size == length asked) ≡ b → cond b (are_pieces org ws x.1.it.number asked (pages_for (length asked)) t) false ≡ bytes_eq (text_of org ws x.1.it.number x.1.it.size t) asked
+            by_size true e =
+                let same : x.1.it.size ≡ length asked = eqb-true x.1.it.size (length asked) e in
+                same_is org ws x.1.it.number asked t (subst (λ (m : ℕ). IsWhole org ws x.1.it.number m t) same whole) ∙ ap (λ (m : ℕ). bytes_eq (text_of org ws x.1.it.number m t) asked) (sym same)
+            by_size false e = sym (other_size (text_of org ws x.1.it.number x.1.it.size t) asked (ap (λ (m : ℕ). m == length asked) (whole_size org ws x.1.it.number t x.1.it.size whole) ∙ e))
+
+        by_row : (r : Option (Kept VersionRow)) → slice_get rows_back 0 ≡ r
+            → option_map (newest_by text org ws t) (option_map (λ (x : Kept VersionRow). head_of x.1.it) r) ≡ option_map (newest_unit text) (option_map (λ (x : Kept VersionRow). version_at t org ws x.1.it) r)
+        by_row None e = refl
+        by_row (Some x) e =
+            let whole : IsWhole org ws x.1.it.number x.1.it.size t = first_holds (λ y. IsWhole org ws y.1.it.number y.1.it.size t) rows_back x (all_sorted back_by_number (λ y. IsWhole org ws y.1.it.number y.1.it.size t) rows (own_whole a)) e in
+            ap (λ (same : Bool). Some (record { number = x.1.it.number; serial = x.1.it.serial; lineage = x.1.it.lineage; is_same = same })) (same_text x whole text)
+
+    behind_found : (staying : ℕ) → number_back org ws staying t ≡ outgoing staying (versions_at t org ws)
+    behind_found staying = mapped (λ (x : Kept VersionRow). version_at t org ws x.1.it) (λ (v : Version). v.number) (slice_get rows_back staying) ∙ ap (option_map (λ (v : Version). v.number)) (row_behind staying)
+
+    pub outgoing_found : (staying : Staying) (keep : ℕ) → outgoing_in staying keep org ws t ≡ outgoing_by staying keep (versions_at t org ws)
+    outgoing_found StayAll keep = refl
+    outgoing_found MakeRoom keep = behind_found (keep - 1)
+    outgoing_found (StayAtMost staying) keep = behind_found staying
 
 -- ---- counts
 
@@ -372,8 +394,8 @@ module _ (t : Tables) (sound : IsSound t) (org : List ℕ) where
             released = w.released;
             next_version = w.next_version;
             next_run = w.next_run;
-            newest = if_needed (needs act).newest (newest_unit_found t org ws (sound_texts t sound) (needs act).text i);
-            outgoing = outgoing_found t org ws (needs act).outgoing (keep_in (needs act).keep_versions org ws t) i;
+            newest = if_needed (needs act).newest (newest_unit_found t org ws w.next_version lawful.versions.rise (sound_texts t sound) (needs act).text i);
+            outgoing = outgoing_found t org ws w.next_version lawful.versions.rise (needs act).outgoing (keep_in (needs act).keep_versions org ws t) i;
             first_waiting = if_needed (needs act).waiting (first_waiting_found t org ws i);
             has_version = has_version_found t org ws w.next_version lawful.versions.rise (needs act).version i;
             asked_run = asked_run_found t org ws (needs act).run (needs act).key i;

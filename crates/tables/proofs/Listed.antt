@@ -21,12 +21,12 @@ use Rattle.machine.specs.declared.records.Version.{Version}
 use Rattle.machine.specs.declared.records.Run.{Run}
 use Rattle.machine.specs.declared.records.Workspace.{Workspace}
 use Rattle.machine.proofs.MapLemmas.{names_total}
-use Rattle.statements.specs.declared.rows.Head.{Head}
+use Rattle.machine.specs.Workspaces.{newest}
 use Rattle.statements.specs.declared.rows.Workspace.{Workspace as WorkspaceCells}
 use Rattle.statements.specs.Rows.{Kept, WsRow, VersionRow, RunRow}
 use Rattle.statements.specs.Tables.{Tables}
 use Rattle.statements.specs.Changes.{is_ws_of, is_version_of, is_version, is_run_of}
-use Rattle.statements.specs.Finds.{last_in, head_of, is_version_before, version_before, cap_of, workspace_of}
+use Rattle.statements.specs.Finds.{is_version_before, version_before, cap_of, workspace_of}
 use Rattle.statements.specs.Listings.{is_behind, workspaces_by_name, named_row as named_at, version_head_of, WorkspacesApart, VersionsRise, RunsRise}
 use Rattle.statements.proofs.Conditions.{one_less_is}
 use Rattle.tables.specs.Records.{settings_of_cells, holder_of_cells, keep_at, version_at, run_of_cells, versions_at, runs_at, workspace_at, workspaces_at, organization_at, record_of}
@@ -39,7 +39,7 @@ use Rattle.tables.proofs.Sets.{entry_found}
 use Rattle.tables.proofs.Names.{pair_is}
 use Rattle.tables.proofs.Operators.{no_workspaces}
 use Rattle.tables.proofs.Finding.{find_same, three, newest_number_found, own_whole, no_versions, no_runs, seen_in_rows}
-use Rattle.tables.proofs.Ranks.{rising, newest_told, none_after, first_rows_tell, shown_rows, every, same_names, no_entries, all_found, entries_shown}
+use Rattle.tables.proofs.Ranks.{last_in, rising, newest_told, none_after, first_rows_tell, shown_rows, every, same_names, no_entries, all_found, entries_shown}
 
 -- the list of the first rows is the list of all
 listed_all : {A B : Type 0} (f : A → B) (xs : List A) → listing_of (map f (take 51 xs)) ≡ listing_of (map f xs)
@@ -83,14 +83,14 @@ module _ (t : Tables) (org ws : List ℕ) where
         (λ x. ap (λ (b : Bool). bytes_eq x.1.org org && (bytes_eq x.1.ws ws && b)) (one_less_is x.1.it.number next most) ∙ three (bytes_eq x.1.org org) (bytes_eq x.1.ws ws) (x.1.it.number + 1 == next)) t.versions)
         ∙ find-slice (is_version_of org ws) (λ (x : Kept VersionRow). x.1.it.number) (λ (n : ℕ). n + 1 == next) t.versions
 
-    last_mapped : (xs : List (Kept VersionRow)) → option_map (λ (h : Head). h.number) (option_map (λ (x : Kept VersionRow). head_of x.1.it) (last_in xs)) ≡ last_in (map (λ (x : Kept VersionRow). x.1.it.number) xs)
-    last_mapped [] = refl
-    last_mapped (x ∷ []) = refl
-    last_mapped (x ∷ y ∷ xs) = last_mapped (y ∷ xs)
+    last_shown : (xs : List (Kept VersionRow)) → option_map (λ (v : Version). v.number) (newest (map (λ (x : Kept VersionRow). version_at t org ws x.1.it) xs)) ≡ last_in (map (λ (x : Kept VersionRow). x.1.it.number) xs)
+    last_shown [] = refl
+    last_shown (x ∷ []) = refl
+    last_shown (x ∷ y ∷ xs) = last_shown (y ∷ xs)
 
     pub newest_is_shown : newest_by (version_before org ws next t) next (newest_number_in org ws t) ≡ newest_number_in org ws t
     newest_is_shown =
-        let last = last_mapped (filter (is_version_of org ws) t.versions) in
+        let last = newest_number_found t org ws next rise ∙ last_shown (filter (is_version_of org ws) t.versions) in
         let rising = subst (λ (ns : List ℕ). Rises 0 ns next) (same_names (λ (x : Kept VersionRow). version_at t org ws x.1.it) (λ (v : Version). v.number) (λ (x : Kept VersionRow). x.1.it.number) (λ x. refl) (filter (is_version_of org ws) t.versions)) rise in
         (λ i. newest_by (before_found i) next (last i)) ∙ newest_told next (map (λ (x : Kept VersionRow). x.1.it.number) (filter (is_version_of org ws) t.versions)) rising ∙ sym last
 
@@ -215,7 +215,7 @@ module _ (t : Tables) (org : List ℕ) where
     row_shown : (e : List ℕ × WorkspaceCells) → IsNamedWorkspace e.0 (workspace_at t org e.0 e.1) → ws_row_in org t (named_at org t e) ≡ showing.row_of e.0 (showing.shown_of (workspace_at t org e.0 e.1))
     row_shown e named =
         ap (λ (version : Option ℕ). record { settings = settings_of_cells (keep_at t org e.0) e.1; holder = showing.holder_id (holder_of_cells e.1.holder); name = e.0; version = version })
-        (newest_is_shown t org e.0 e.1.next_version named.lawful.versions.next.1 named.lawful.versions.rise ∙ newest_number_found t org e.0)
+        (newest_is_shown t org e.0 e.1.next_version named.lawful.versions.next.1 named.lawful.versions.rise ∙ newest_number_found t org e.0 e.1.next_version named.lawful.versions.rise)
 
     and_turned : (a b : Bool) → (a && b) ≡ (b && a)
     and_turned true true = refl

@@ -15,9 +15,14 @@ use Rattle.basis.specs.Listings.{listing_of}
 use Rattle.machine.specs.Laws.{Rises}
 use Rattle.machine.specs.Order.{name_cmp}
 use Rattle.machine.proofs.MapLemmas.{names_total, names_same}
-use Rattle.statements.specs.Finds.{last_in}
 use Rattle.tables.specs.Inner.Lists.{newest_by}
 use Rattle.tables.proofs.Names.{tied, same_name}
+
+-- the last of a list
+abbrev pub last_in : {X : Type 0} → List X → Option X
+last_in [] = None
+last_in (x ∷ []) = Some x
+last_in (x ∷ y ∷ xs) = last_in (y ∷ xs)
 
 -- ---- numbers that rise
 
