@@ -100,6 +100,17 @@ const VERSIONS_BACK: &[u64] = &[0, 1, 2, 100, 101];
 /// How many versions are to be kept, where that is asked.
 const KEPT: &[u64] = &[1, 2, 5, 100, 1_000];
 
+/// The actions on a run.
+const ACTIONS: &[RunAction] = &[
+    RunAction::ReportPlanned,
+    RunAction::ReportUnchanged,
+    RunAction::Fail,
+    RunAction::Confirm,
+    RunAction::ReportApplied,
+    RunAction::Discard,
+    RunAction::Cancel,
+];
+
 /// How far the runs that are asked of stand behind the next one.
 const RUNS_BACK: &[u64] = &[0, 1, 2];
 
@@ -124,7 +135,16 @@ fn push_versions(acts: &mut Vec<Act>, next: u64) -> Result<(), Down> {
     for back in VERSIONS_BACK {
         if let Some(number) = number_back(next, *back) {
             acts.push(Act::Look(Look::Version(number)))?;
+            acts.push(Act::Look(Look::Versions(u64::from(number.get()))))?;
         }
+    }
+    Ok(())
+}
+
+// Each action on a run.
+fn push_reports(acts: &mut Vec<Act>, number: Number) -> Result<(), Down> {
+    for action in ACTIONS {
+        acts.push(Act::ReportRun(number, *action))?;
     }
     Ok(())
 }
@@ -133,7 +153,8 @@ fn push_runs(acts: &mut Vec<Act>, next: u64) -> Result<(), Down> {
     for back in RUNS_BACK {
         if let Some(number) = number_back(next, *back) {
             acts.push(Act::Look(Look::Run(number)))?;
-            acts.push(Act::ReportRun(number, RunAction::Confirm))?;
+            acts.push(Act::Look(Look::Runs(u64::from(number.get()))))?;
+            push_reports(acts, number)?;
         }
     }
     Ok(())
@@ -175,6 +196,9 @@ fn push_locks(alloc: Global, acts: &mut Vec<Act>) -> Result<(), Down> {
     let id = id_of(alloc, "x1")?;
     acts.push(Act::Lock { id, text })?;
     acts.push(Act::Unlock(id_of(alloc, "x1")?))?;
+    acts.push(Act::PurgeState {
+        lock_id: Some(id_of(alloc, "x1")?),
+    })?;
     Ok(())
 }
 
@@ -197,12 +221,17 @@ fn push_made(alloc: Global, acts: &mut Vec<Act>, keys: &[Text]) -> Result<(), Do
     Ok(())
 }
 
-fn push_update(alloc: Global, acts: &mut Vec<Act>, text: Vec<u8>) -> Result<(), Down> {
+fn push_update(
+    alloc: Global,
+    acts: &mut Vec<Act>,
+    text: Vec<u8>,
+    lock_id: Option<LockId>,
+) -> Result<(), Down> {
     let lineage = Text::copy_of(alloc, "a1")?;
     acts.push(Act::UpdateState {
         head: StateHead { serial: 1, lineage },
         text: Bytes::new(text),
-        lock_id: None,
+        lock_id,
     })?;
     Ok(())
 }
@@ -216,13 +245,15 @@ pub fn turned(alloc: Global, text: &[u8]) -> Result<Vec<u8>, AllocError> {
     Ok(turned)
 }
 
-// Updates by the newest text, by another of its size, and by one that is longer by a byte.
+// Updates by the newest text, without an ID and with one, by another of its size, and by one that is longer by a byte.
 fn push_updates(alloc: Global, acts: &mut Vec<Act>, text: &[u8]) -> Result<(), Down> {
-    push_update(alloc, acts, Vec::from_slice(alloc, text)?)?;
-    push_update(alloc, acts, turned(alloc, text)?)?;
+    push_update(alloc, acts, Vec::from_slice(alloc, text)?, None)?;
+    let id = id_of(alloc, "x1")?;
+    push_update(alloc, acts, Vec::from_slice(alloc, text)?, Some(id))?;
+    push_update(alloc, acts, turned(alloc, text)?, None)?;
     let mut longer = Vec::from_slice(alloc, text)?;
     longer.push(b' ')?;
-    push_update(alloc, acts, longer)
+    push_update(alloc, acts, longer, None)
 }
 
 /// Acts of each kind on a workspace.
