@@ -39,7 +39,7 @@ pub fn run_begun(
         db: bytes_of(rt, path)?,
     };
     run_over(rt, play, &image)?;
-    if !modes.stops {
+    if modes.stops.is_none() {
         return Ok(());
     }
     match run_earlier_stops(rt, play, &image, counts) {

@@ -57,7 +57,7 @@ fn run_in_stops(
     modes: Modes,
     counts: &mut Counts,
 ) -> Result<(), Failure> {
-    if !modes.stops {
+    if modes.stops.is_none() {
         return Ok(());
     }
     match run_stops(rt, play, counts) {

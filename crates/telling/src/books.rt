@@ -1,5 +1,6 @@
 //! The text of the stories: of each its name and the parts of its steps.
 use crate::definitions::{Definitions, Unread};
+use crate::keyed::Keyed;
 use crate::lines::{Line, Mark, Piece, read_line, write_escaped};
 use crate::modes::{Modes, NONE};
 use basis::numbers::whole_number;
@@ -278,10 +279,10 @@ impl<'a> Book<'a> {
     }
 
     // Of the story that begins.
-    fn set_stops(&mut self, line: usize) -> Result<(), Unread> {
+    fn set_stops(&mut self, line: usize, keyed: Keyed) -> Result<(), Unread> {
         match self.stories.last_mut() {
             Some(story) if story.plots.is_empty() => {
-                story.modes.stops = true;
+                story.modes.stops = Some(keyed);
                 Ok(())
             }
             _ => Err(Unread {
@@ -413,7 +414,7 @@ impl<'a> Book<'a> {
             Line::Story(name) => self.begin_story(alloc, line, name),
             Line::After(name) => self.set_before(alloc, line, name),
             Line::Links(words) => self.set_modes(line, words),
-            Line::Stops => self.set_stops(line),
+            Line::Stops(keyed) => self.set_stops(line, keyed),
             Line::Large => self.set_large(line),
             Line::Resumes => self.set_resumes(line),
             Line::FromFile(path) => self.set_begins(line, path),

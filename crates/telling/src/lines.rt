@@ -1,4 +1,5 @@
 //! One line of the text: what it is by how it begins, and the bytes that a piece writes.
+use crate::keyed::Keyed;
 use std::alloc::AllocError;
 
 /// What a line of a step begins: the step itself, or a part of what is due.
@@ -48,8 +49,8 @@ pub enum Line<'a> {
     After(&'a str),
     /// `links`: what breaks under the steps of a story.
     Links(&'a str),
-    /// `stops`: the power is cut under the steps of a story.
-    Stops,
+    /// `stops`, or `stops first-byte`: the power is cut under the steps of a story, over tables whose pages have this key.
+    Stops(Keyed),
     /// `large`: a story is told on few ways.
     Large,
     /// `resumes`: a replay may give up, and is gone on with.
@@ -130,7 +131,10 @@ fn story_in(line: &str) -> Option<Line<'_>> {
         return Some(Line::Links(words));
     }
     if line == "stops" {
-        return Some(Line::Stops);
+        return Some(Line::Stops(Keyed::Sha));
+    }
+    if line == "stops first-byte" {
+        return Some(Line::Stops(Keyed::FirstByte));
     }
     if line == "large" {
         return Some(Line::Large);

@@ -1,4 +1,5 @@
 //! The ways in which links and streams break under a story, and how often they did.
+use crate::keyed::Keyed;
 
 /// What breaks under the steps of a story, and whether it is told on few ways.
 #[derive(Clone, Copy)]
@@ -11,8 +12,8 @@ pub struct Modes {
     pub writes: bool,
     /// The store refuses each change.
     pub refused: bool,
-    /// The power is cut at each call of the files.
-    pub stops: bool,
+    /// The power is cut at each call of the files, whose tables have their pages by this key; it isn't where there is none.
+    pub stops: Option<Keyed>,
     /// The story is told on few ways.
     pub large: bool,
     /// A replay may give up for want of memory, and is gone on with at the step where it stopped.
@@ -25,7 +26,7 @@ pub const NONE: Modes = Modes {
     reads: false,
     writes: false,
     refused: false,
-    stops: false,
+    stops: None,
     large: false,
     resumes: false,
 };

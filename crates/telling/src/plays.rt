@@ -36,6 +36,8 @@ pub struct Play {
     pub questions: Vec<Question>,
     /// A replay may give up, and is gone on with.
     pub resumes: bool,
+    /// By which key its tables have their pages where the power is cut.
+    pub keyed: Keyed,
 }
 
 /// How an operator's command is read from its words.
@@ -82,6 +84,7 @@ impl Play {
             due: Vec::new(alloc),
             questions: Vec::new(alloc),
             resumes: false,
+            keyed: Keyed::Sha,
         }
     }
 
@@ -206,6 +209,9 @@ pub fn play_of<R: ReadsCommands>(
     story: &Story<'_>,
 ) -> Result<Play, Unread> {
     let mut play = Play::new(alloc);
+    if let Some(keyed) = story.modes.stops {
+        play.keyed = keyed;
+    }
     for place in story.before.as_slice() {
         if let Some(earlier) = book.stories.get(*place) {
             play.add_all(alloc, commands, &book.definitions, earlier)?;

@@ -1,14 +1,16 @@
 //! The two files of a database in memory, and what is left of them where the power is cut at one of their calls.
+use crate::keys::FirstByte;
 use crate::records::earlier_record_of;
 use crate::ways::Sql;
 use machine::Fault;
-use pages::ShaKey;
+use pages::{PageKey, ShaKey};
 use sqlite::{Alter, Connection, FileStore, Files, Options};
 use sqlite_disk::{Crash, Disk, Fuse, Memory};
 use std::alloc::{AllocError, Global};
 use std::io;
 use tables::{SqlKeep, Unopened};
 use telling::failures::Failure;
+use telling::keyed::Keyed;
 use telling::plays::Play;
 use telling::recovering::{Done, Ended, Work, work_over};
 
@@ -154,9 +156,9 @@ fn looked_at<S: Alter>(alloc: Global, conn: &mut Connection<S>) -> Result<Done, 
 }
 
 // Works over a store, which is closed.
-fn work_in<S: Alter + Drop>(
+fn work_in<S: Alter + Drop, K: PageKey>(
     alloc: Global,
-    keep: SqlKeep<S, ShaKey>,
+    keep: SqlKeep<S, K>,
     play: &Play,
     work: Work<'_>,
 ) -> Result<(Connection<S>, Done), Failure> {
@@ -177,7 +179,7 @@ fn left_unopened<S: Alter + Drop>(
 }
 
 // The store is opened over a connection, and given back behind the work.
-fn worked<S: Alter + Drop>(
+fn worked_by<S: Alter + Drop, K: PageKey>(
     alloc: Global,
     conn: Connection<S>,
     play: &Play,
@@ -186,9 +188,22 @@ fn worked<S: Alter + Drop>(
     if !conn.is_autocommit() {
         return Err(Failure::refused(0, "a transaction is open"));
     }
-    match SqlKeep::open(conn) {
-        Ok(keep) => work_in(alloc, keep, play, work),
+    match SqlKeep::<S, K>::open(conn) {
+        Ok(keep) => work_in::<S, K>(alloc, keep, play, work),
         Err(unopened) => left_unopened(alloc, unopened),
+    }
+}
+
+// The same, with pages by the key that the story asks for.
+fn worked<S: Alter + Drop>(
+    alloc: Global,
+    conn: Connection<S>,
+    play: &Play,
+    work: Work<'_>,
+) -> Result<(Connection<S>, Done), Failure> {
+    match play.keyed {
+        Keyed::Sha => worked_by::<S, ShaKey>(alloc, conn, play, work),
+        Keyed::FirstByte => worked_by::<S, FirstByte>(alloc, conn, play, work),
     }
 }
 
