@@ -3,6 +3,7 @@ use crate::programs::{Does, Left, answer_of, compare_left, split, words_of};
 use crate::streams::{Told, break_streams};
 use basis::Moment;
 use fakes::{MemoryFile, MemoryPeers, StandingClock};
+use program::replays::run_frames;
 use program::running::run_words;
 use std::alloc::Global;
 use std::mem;
@@ -77,6 +78,14 @@ fn compare_got(alloc: Global, due: &[Due<'_>], peers: &MemoryPeers<'_>) -> Resul
     Ok(())
 }
 
+// Whether the words ask for a replay of frames, which a call of its own answers.
+fn are_of_frames(words: &[String]) -> bool {
+    match words {
+        [word] => word.as_str() == "replay",
+        _ => false,
+    }
+}
+
 impl<'s> Memory<'s> {
     pub fn new(alloc: Global) -> Memory<'s> {
         Memory {
@@ -118,16 +127,20 @@ impl<'s> Memory<'s> {
                 Moment::new(at)
             },
         };
-        let status = run_words(
-            alloc,
-            &mut self.file,
-            &mut peers,
-            &mut clock,
-            words,
-            &mut input,
-            &mut output,
-            &mut errors,
-        );
+        let status = if are_of_frames(words) {
+            run_frames(alloc, &self.file, &mut input, &mut output, &mut errors)
+        } else {
+            run_words(
+                alloc,
+                &mut self.file,
+                &mut peers,
+                &mut clock,
+                words,
+                &mut input,
+                &mut output,
+                &mut errors,
+            )
+        };
         self.has_no_clock = false;
         self.file.keeps_log = false;
         compare_got(alloc, due.as_slice(), &peers)?;
