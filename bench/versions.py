@@ -14,6 +14,7 @@ import sqlite3
 import tempfile
 
 import exchanges
+from sums import put_sums
 
 KEPT = (1, 100, 1000)
 SIZE = 1000
@@ -45,6 +46,7 @@ def measure(path, kept):
         exchanges.add_workspaces(db, "acme", ("small",), 1)
         db.execute("UPDATE keeping SET keep = ?", (kept,))
         exchanges.fill(db, versions=(("small", kept, SIZE),))
+    put_sums(path)
     server = exchanges.Server(exchanges.SERVERS["program"], path)
     read = [exchanges.request("GET", "state/small")] * TURNS
     posted = [exchanges.request("POST", "state/small", exchanges.state_of(kept + turn, SIZE)) for turn in range(1, TURNS + 1)]
