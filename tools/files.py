@@ -14,10 +14,8 @@ import random
 import shutil
 import sqlite3
 import subprocess
-import sys
-import tempfile
 
-from program import PATIENCE, Program, Wrong, exchanged, free_port, reply, request, said
+from program import PATIENCE, Wrong, exchanged, free_port, look_at, reply, request, said
 
 READABLE = b"custody: others than its owner may read the file or its log: chmod 600 ends that\n"
 SECRET = b"adminadminadmin1\n"
@@ -175,18 +173,5 @@ def look_at_spoiled(program):
     print("right: a file that sqlite3 spoiled comes back by its dump")
 
 
-def main():
-    if len(sys.argv) != 2:
-        sys.exit(__doc__)
-    with tempfile.TemporaryDirectory() as folder:
-        program = Program(sys.argv[1], folder)
-        try:
-            for look in (look_at_modes, look_at_owners, look_at_flips, look_at_spoiled):
-                look(program)
-        except (Wrong, OSError, sqlite3.Error, subprocess.SubprocessError) as wrong:
-            print("WRONG:", wrong)
-            sys.exit(1)
-
-
 if __name__ == "__main__":
-    main()
+    look_at(__doc__, look_at_modes, look_at_owners, look_at_flips, look_at_spoiled)

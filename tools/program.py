@@ -12,6 +12,7 @@ first that doesn't.
 import os
 import re
 import socket
+import sqlite3
 import subprocess
 import sys
 import tempfile
@@ -185,19 +186,19 @@ def look_at_service(program):
         program.is_due("a port that is taken", words, 3, b"refused down\n")
 
 
-def main():
+def look_at(doc, *looks):
+    """Looks at the program that the one word names, in a folder of its own; ends with status 1 at the first thing that is wrong."""
     if len(sys.argv) != 2:
-        sys.exit(__doc__)
+        sys.exit(doc)
     with tempfile.TemporaryDirectory() as folder:
         program = Program(sys.argv[1], folder)
         try:
-            look_at_words(program)
-            look_at_streams(program)
-            look_at_service(program)
-        except (Wrong, OSError, subprocess.TimeoutExpired) as wrong:
+            for look in looks:
+                look(program)
+        except (Wrong, OSError, sqlite3.Error, subprocess.SubprocessError) as wrong:
             print("WRONG:", wrong)
             sys.exit(1)
 
 
 if __name__ == "__main__":
-    main()
+    look_at(__doc__, look_at_words, look_at_streams, look_at_service)
