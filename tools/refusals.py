@@ -2,7 +2,7 @@
 """Refuses each request for memory in turn, and looks at what comes of it.
 
     python3 tools/refusals.py CUSTODY STORIES    the two programs as `rt ci` or `rt run` leaves them
-    python3 tools/refusals.py CUSTODY            all but the replay that the program `stories` tells
+    python3 tools/refusals.py CUSTODY            all but the replays that the program `stories` tells
 
 Request for memory number N is refused, for N from 1 on, until a run meets no refusal; and then N and the one behind it.
 tools/refusals.txt has what is done meanwhile: requests of a service over a file, each by itself, over what the requests
@@ -15,6 +15,7 @@ import collections
 import concurrent.futures
 import hashlib
 import os
+import re
 import select
 import shutil
 import signal
@@ -61,8 +62,10 @@ REPLAYED = [
 
 # No replay asks for memory so often once its last step is taken.
 BEHIND = 200
-# The story that the program `stories` tells.
+# The stories that the program `stories` replays, over so many stores, where a replay is gone on with.
 LEFT = "steps that a replay left are taken once"
+RESUMED = REPLAYED[:5] + [LEFT]
+STORES = 3
 
 # The tables of the file, of the first version, of the second and of the third, and those in which the rows that are due
 # are told: a version with its text, in a file of the first version each token with no end and the empty prefix, and in
@@ -442,24 +445,24 @@ def refuse_service(custody, library, story, folder):
 # ----------------------------------------------------------------------------------------------------
 
 
-def refuse_run(program, counts, judge, file=None, first=1, is_left=lambda: False):
+def refuse_run(program, counts, judge, file=None, first=1, is_left=lambda errors: False):
     """A copy is made before each request for memory of a run, from the `first` on. `judge` says of the exit status, of all that
     was printed and of what came on the error stream whether they are right; it is asked of the run itself too, to which
-    nothing is refused. What the run asks for where it `is_left` is not refused. How many requests there were."""
+    nothing is refused. What the run asks for where it `is_left`, by what it said on its error stream, is not refused. How many
+    requests there were."""
     printed, place = b"", 0
     while program.is_ready():
         place += 1
-        if place < first or is_left():
+        out, errors = program.said()
+        printed += out
+        if is_left(errors) or place < first:
             program.ask("go")
             continue
-        printed += program.said()[0]
         stood = file and file.bytes()
         program.ask("try 1 1")
         _, status, _, met = program.counted()
         out, errors = program.said()
         try:
-            if is_left():
-                raise Wrong("a copy left its file")
             counts.of(met, judge(status, printed + out, errors))
         except Wrong as wrong:
             raise Wrong("request %d for memory refused: %s" % (place, wrong))
@@ -576,14 +579,44 @@ def shown(text):
     return text.replace(b"\r", b"\\r").replace(b"\n", b"\\n")
 
 
-def refuse_told(program, library, story, folder):
-    """A story on each way in memory: where a replay is refused, the steps that are left are sent again. The way over a file,
-    which comes last, is left: its file is that of all copies."""
-    counts, text = Counts(), told_text(story)
-    whole = b"passed %s\n1 stories passed\n" % story.name.encode()
+class Taken:
+    """Behind how many of a story's own steps its replays gave up, in the order of the requests that were refused, store by store."""
 
-    def judge(status, out, _):
+    def __init__(self):
+        self.store, self.found, self.steps = None, collections.defaultdict(list), None
+
+    def is_left(self, errors):
+        """Whether the run itself is past a replay of its own steps, or before the first."""
+        for line in errors.split(b"\n"):
+            if line.startswith(b"replay over "):
+                self.store = line
+            elif line == b"replayed":
+                self.store = None
+        return self.store is None
+
+    def add(self, errors):
+        for taken, steps in re.findall(rb"^gave up behind (\d+) of (\d+) steps$", errors, re.M):
+            self.found[self.store].append(int(taken))
+            self.steps = int(steps)
+
+    def look(self, stores):
+        """Each step asks for memory: as later and later requests are refused, each number of steps before them is told, rising from 0."""
+        for store, found in self.found.items():
+            if found != sorted(found) or set(found) != set(range(self.steps)):
+                raise Wrong("%s gave up behind %s of %s steps" % (store.decode(), sorted(set(found)), self.steps))
+        if len(self.found) != stores:
+            raise Wrong("replays over %d stores gave up" % len(self.found))
+
+
+def refuse_told(program, library, story, folder):
+    """A story's own steps replayed over each store in memory: where a replay is refused, the steps that are left are sent again."""
+    counts, taken, text = Counts(), Taken(), told_text(story)
+    names = [before.name.encode() for before in chain_of(story)]
+    whole = b"".join(b"passed %s\n" % name for name in names) + b"%d stories passed\n" % len(names)
+
+    def judge(status, out, errors):
         if (status, out) == (0, whole):
+            taken.add(errors)
             return True
         lines = out.split(b"\n")
         is_down = b"came: " + shown(DOWN) in lines or any(word in out for word in WANT)
@@ -592,17 +625,28 @@ def refuse_told(program, library, story, folder):
         return False
 
     with Program(library, "request", [program], folder, text) as told:
-        refuse_run(told, counts, judge, is_left=lambda: os.path.exists(folder + "/stories.db"))
+        refuse_run(told, counts, judge, is_left=taken.is_left)
+    taken.look(STORES)
     return counts
 
 
+def chain_of(story):
+    """The stories before it, and it."""
+    return (chain_of(story.after) if story.after else []) + [story]
+
+
 def told_text(story):
-    """A story as the program takes it, below the definitions."""
+    """A story as the program takes it, below the definitions and the stories before it."""
     with open(stories.TEXT, encoding="utf-8") as file:
-        definitions = file.read().split("\nstory ")[0]
+        text = file.read().split("\nstory ")[0] + "\n"
     with open(TEXT, encoding="utf-8") as file:
-        own = file.read().split("\nstory %s\n" % story.name)[1].split("\nstory ")[0]
-    return ("%s\nstory %s\n%s\n" % (definitions, story.name, own)).encode()
+        parts = file.read().split("\nstory ")
+    own = dict(part.split("\n", 1) for part in parts[1:])
+    for one in chain_of(story):
+        lines = [line for line in own[one.name].split("\n") if not line.startswith(("now ", "after ", "resumes"))]
+        after = ["after " + one.after.name] if one.after else []
+        text += "\n".join(["story " + one.name] + after + ["resumes"] * (one is story) + lines) + "\n"
+    return text.encode()
 
 
 # ----------------------------------------------------------------------------------------------------
@@ -621,10 +665,11 @@ def jobs_of(told, custody, program):
     """What is to be run: a kind, its function, its program, and a story."""
     jobs = []
     for story in told.values():
+        if story.name in RESUMED and program:
+            jobs.append(("steps that a replay left", refuse_told, program, story))
         if story.name == LEFT:
-            if program:
-                jobs.append(("steps that a replay left", refuse_told, program, story))
-        elif any(parts[0].line.startswith("$") for parts in story.plots):
+            continue
+        if any(parts[0].line.startswith("$") for parts in story.plots):
             jobs.append(("commands on a file", refuse_commands, custody, story))
         else:
             if story.name in REPLAYED:

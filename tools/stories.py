@@ -195,7 +195,8 @@ def broken_requests(story):
     asked = [(length(sent, due), len(due)) for _, sent, due in filter(None, story.steps) if isinstance(sent, bytes)]
     cut = sum(len(READERS) * (n - 1) for n, _ in asked)
     reads = sum(-(-n // most) for n, _ in asked for most in READERS)
-    return {"cut": cut, "reads": reads, "writes": 2 * sum(due for _, due in asked)}
+    readers = len(READERS) if "again" in story.links else 1
+    return {"cut": cut, "reads": reads, "writes": 2 * readers * sum(due for _, due in asked)}
 
 
 def broken_words(story):

@@ -13,6 +13,7 @@ use telling::modes::{Counts, Modes};
 use telling::plays::{Play, play_of};
 use telling::refusals;
 use telling::refusals::run_refused;
+use trials::resuming::run_resumed;
 use trials::stops;
 use trials::stops::run_stops;
 use trials::ways::{run_beside, run_in_breaks, run_in_memory, run_large_in_memory};
@@ -38,6 +39,9 @@ fn run_made(
     modes: Modes,
     counts: &mut Counts,
 ) -> Result<(), Failure> {
+    if modes.resumes {
+        return run_resumed(rt, play);
+    }
     if modes.large {
         run_large_in_memory(rt.alloc(), play)?;
         return run_in_file(rt, play);

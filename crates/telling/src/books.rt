@@ -262,6 +262,7 @@ impl<'a> Book<'a> {
                     cut: modes.cut,
                     reads: modes.reads,
                     writes: modes.writes,
+                    again: modes.again,
                     refused: modes.refused,
                     ..story.modes
                 };

@@ -1,7 +1,7 @@
 //! A story of requests told over links that break, over tables: after each break stands there what the story says.
 use crate::devices::{ALL, Stop};
 use crate::failures::Failure;
-use crate::links::{Asked, Break, break_link, line_in};
+use crate::links::{Asked, Break, WriteStop, break_link, line_in, makes_more};
 use crate::modes::{Counts, Modes};
 use crate::plays::Play;
 use crate::stores::{Looks, Makes, checked, record_at, records_of};
@@ -21,8 +21,9 @@ const READERS: &[usize] = &[1, 7, ALL];
 enum Breaks<'s> {
     /// Each read, by a reader that gives so many bytes at a time.
     Reads(usize, Modes),
-    /// The reply, at this byte; what stands in the tables before each own step and behind the last.
-    Writes(usize, Stop, &'s [Vec<u8>]),
+    /// The reply, at one of its bytes; whether a request that was taken comes again; what stands in the tables before each own
+    /// step and behind the last.
+    Writes(WriteStop, bool, &'s [Vec<u8>]),
 }
 
 // The tables before the story's own first step.
@@ -74,31 +75,35 @@ fn read_one<K: Keep + Drop, L: Looks<K>>(
     over_link(alloc, keep, asked, Break::Nothing(most), counts)
 }
 
-// Where the line that says to go on isn't written, no step is taken: the request comes whole then. Else the step is taken.
-// A request whose reply has fewer bytes comes whole.
+// Where the line that says to go on isn't written, no step is taken: the request comes whole then. Else the step is taken, and
+// where requests come again it leaves the tables as they are, but for one that makes something more: that doesn't come again. A
+// request whose reply has fewer bytes comes whole.
 fn write_one<K: Keep + Drop, L: Looks<K>>(
     alloc: Global,
     looks: &L,
     keep: K,
     asked: &Asked<'_>,
     around: (&[u8], &[u8]),
-    stops_at: usize,
-    stop: Stop,
+    stops: WriteStop,
+    again: bool,
     counts: &mut Counts,
 ) -> Result<K, Failure> {
-    let whole = Break::Nothing(ALL);
-    if asked.due.len() < stops_at {
+    let whole = Break::Nothing(stops.most);
+    if asked.due.len() < stops.at {
         return over_link(alloc, keep, asked, whole, counts);
     }
-    let is_taken = stops_at > line_in(asked.due);
+    let is_taken = stops.at > line_in(asked.due);
     let due = if is_taken { around.1 } else { around.0 };
-    let keep = over_link(alloc, keep, asked, Break::Write(stops_at, stop), counts)?;
+    let keep = over_link(alloc, keep, asked, Break::Write(stops), counts)?;
     let keep = checked(alloc, looks, keep, asked.line, due, false)?;
-    if is_taken {
-        Ok(keep)
-    } else {
-        over_link(alloc, keep, asked, whole, counts)
+    if !is_taken {
+        return over_link(alloc, keep, asked, whole, counts);
     }
+    if !again || makes_more(asked.bytes) {
+        return Ok(keep);
+    }
+    let keep = over_link(alloc, keep, asked, Break::Again(stops.most), counts)?;
+    checked(alloc, looks, keep, asked.line, due, false)
 }
 
 // The request of a place over links that break.
@@ -114,19 +119,11 @@ fn break_one<K: Keep + Drop, L: Looks<K>>(
 ) -> Result<K, Failure> {
     match breaks {
         Breaks::Reads(most, modes) => read_one(alloc, looks, keep, asked, *most, *modes, counts),
-        Breaks::Writes(stops_at, stop, records) => {
+        Breaks::Writes(stops, again, records) => {
             let before = record_at(records, play, place);
             let after = record_at(records, play, place.saturating_add(1));
-            write_one(
-                alloc,
-                looks,
-                keep,
-                asked,
-                (before, after),
-                *stops_at,
-                *stop,
-                counts,
-            )
+            let around = (before, after);
+            write_one(alloc, looks, keep, asked, around, *stops, *again, counts)
         }
     }
 }
@@ -169,15 +166,17 @@ fn stop_writes<K: Keep + Drop, T: Makes<K> + Looks<K>>(
     tables: &T,
     play: &Play,
     records: &[Vec<u8>],
+    most: usize,
     stop: Stop,
+    again: bool,
     counts: &mut Counts,
 ) -> Result<(), Failure> {
-    for stops_at in 1..=ALL {
-        let count = count_of(play, stops_at);
+    for at in 1..=ALL {
+        let count = count_of(play, at);
         if count == 0 {
             return Ok(());
         }
-        let breaks = Breaks::Writes(stops_at, stop, records);
+        let breaks = Breaks::Writes(WriteStop { most, at, stop }, again, records);
         break_each::<K, T>(alloc, tables, play, &breaks, counts)?;
         counts.writes = counts.writes.saturating_add(count);
     }
@@ -188,19 +187,19 @@ fn break_writes<K: Keep + Drop, T: Makes<K> + Looks<K>>(
     alloc: Global,
     tables: &T,
     play: &Play,
+    again: bool,
     counts: &mut Counts,
 ) -> Result<(), Failure> {
     let keep: K = begun(alloc, tables, play)?;
     let (_, records) = records_of(alloc, tables, keep, play, Way::Replay, false)?;
-    stop_writes::<K, T>(alloc, tables, play, records.as_slice(), Stop::Fails, counts)?;
-    stop_writes::<K, T>(
-        alloc,
-        tables,
-        play,
-        records.as_slice(),
-        Stop::TakesNone,
-        counts,
-    )
+    let records = records.as_slice();
+    let readers = if again { READERS } else { &[ALL] };
+    for most in readers {
+        for stop in &[Stop::Fails, Stop::TakesNone] {
+            stop_writes::<K, T>(alloc, tables, play, records, *most, *stop, again, counts)?;
+        }
+    }
+    Ok(())
 }
 
 /// Tells a story's own requests over links that break.
@@ -217,7 +216,7 @@ pub fn run_broken<K: Keep + Drop, T: Makes<K> + Looks<K>>(
         }
     }
     if modes.writes {
-        break_writes::<K, T>(alloc, tables, play, counts)?;
+        break_writes::<K, T>(alloc, tables, play, modes.again, counts)?;
     }
     Ok(())
 }

@@ -24,3 +24,4 @@ pub mod stores;
 pub mod taking;
 pub mod tells;
 pub mod units;
+pub mod whole;

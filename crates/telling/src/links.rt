@@ -1,9 +1,10 @@
 //! One request over links that break: cut behind each byte, each read failing, each write failing.
-use crate::devices::{ALL, Giver, Stop, Taker};
+use crate::devices::{Giver, Stop, Taker};
 use crate::failures::{Failure, compare_bytes};
 use crate::messages::CONTINUE;
 use crate::modes::{Counts, Modes};
 use crate::plays::Due;
+use crate::stopping::is_repeat;
 use crate::taking::{Came, exchange_over};
 use basis::Moment;
 use machine::Keep;
@@ -35,10 +36,20 @@ impl<'s> Asked<'s> {
 pub enum Break {
     /// The request is cut, and its reads fail, by a reader that gives so many bytes at a time. It takes no step then.
     Reads(usize, Modes),
-    /// The reply stops at this byte.
-    Write(usize, Stop),
+    /// The reply stops at one of its bytes.
+    Write(WriteStop),
     /// It doesn't: the request comes whole, by a reader that gives so many bytes at a time.
     Nothing(usize),
+    /// The same of a request that was taken before.
+    Again(usize),
+}
+
+/// At which byte a reply stops, how, and by a reader that gives how many bytes at a time.
+#[derive(Clone, Copy)]
+pub struct WriteStop {
+    pub most: usize,
+    pub at: usize,
+    pub stop: Stop,
 }
 
 /// How many bytes are due before the reply: those of the line that says to go on, or none.
@@ -245,21 +256,50 @@ pub fn stop_write<K: Keep>(
     service: &mut Service<K>,
     asked: &Asked<'_>,
     due: &[u8],
-    stops_at: usize,
-    stop: Stop,
+    stops: WriteStop,
 ) -> Result<(), Failure> {
-    let giver = Giver::new(asked.bytes, ALL);
-    let taker = Taker::stopping(alloc, stops_at, stop);
+    let giver = Giver::new(asked.bytes, stops.most);
+    let taker = Taker::stopping(alloc, stops.at, stops.stop);
     let came = exchange_over(alloc, service, asked.at, giver, taker);
-    if is_stopped(&came, due, stops_at) {
+    if is_stopped(&came, due, stops.at) {
         Ok(())
     } else {
         Err(Failure::broken(
             asked.line,
             "something else came where writing stops at byte",
-            stops_at,
+            stops.at,
         ))
     }
+}
+
+/// Whether a request that comes again makes something more: a run without a key.
+pub fn makes_more(bytes: &[u8]) -> bool {
+    let Ok(text) = str::from_utf8(bytes) else {
+        return false;
+    };
+    let Some((line, rest)) = text.split_once("\r\n") else {
+        return false;
+    };
+    line.starts_with("POST ")
+        && line.split_once("/runs/").is_some()
+        && line.split_once("/actions/").is_none()
+        && rest.split_once("\"key\"").is_none()
+}
+
+// A request that was taken comes again, whole.
+fn take_again<K: Keep>(
+    alloc: Global,
+    service: &mut Service<K>,
+    asked: &Asked<'_>,
+    most: usize,
+) -> Result<(), Failure> {
+    let giver = Giver::new(asked.bytes, most);
+    let came = exchange_over(alloc, service, asked.at, giver, Taker::new(alloc));
+    if came.ended == Ok(()) && is_repeat(asked.due, came.written.as_slice()) {
+        return Ok(());
+    }
+    compare_bytes(alloc, asked.line, asked.due, came.written.as_slice())?;
+    Err(Failure::refused(asked.line, "the link broke where the request came again"))
 }
 
 /// A request over a link that breaks so.
@@ -272,9 +312,8 @@ pub fn break_link<K: Keep>(
 ) -> Result<(), Failure> {
     match how {
         Break::Reads(most, modes) => break_reads(alloc, service, asked, most, modes, counts),
-        Break::Write(stops_at, stop) => {
-            stop_write(alloc, service, asked, asked.due, stops_at, stop)
-        }
+        Break::Write(stops) => stop_write(alloc, service, asked, asked.due, stops),
         Break::Nothing(most) => take_whole(alloc, service, asked, most),
+        Break::Again(most) => take_again(alloc, service, asked, most),
     }
 }

@@ -10,13 +10,15 @@ pub struct Modes {
     pub reads: bool,
     /// Each write of a byte fails in turn, or takes nothing.
     pub writes: bool,
+    /// So by readers that give few bytes at a time, too, and the request that was taken comes again.
+    pub again: bool,
     /// The store refuses each change.
     pub refused: bool,
     /// The power is cut at each call of the files, whose tables have their pages by this key; it isn't where there is none.
     pub stops: Option<Keyed>,
     /// The story is told on few ways.
     pub large: bool,
-    /// A replay may give up for want of memory, and is gone on with at the step where it stopped.
+    /// The story is replayed alone. A replay may give up for want of memory, and is gone on with at the step where it stopped.
     pub resumes: bool,
 }
 
@@ -25,6 +27,7 @@ pub const NONE: Modes = Modes {
     cut: false,
     reads: false,
     writes: false,
+    again: false,
     refused: false,
     stops: None,
     large: false,
@@ -38,6 +41,7 @@ fn with_word(modes: Modes, word: &str) -> Option<Modes> {
         "cut" => more.cut = true,
         "reads" => more.reads = true,
         "writes" => more.writes = true,
+        "again" => more.again = true,
         "refused" => more.refused = true,
         "nothing" => {}
         _ => return None,

@@ -34,8 +34,6 @@ pub struct Play {
     pub own: usize,
     pub due: Vec<Due>,
     pub questions: Vec<Question>,
-    /// A replay may give up, and is gone on with.
-    pub resumes: bool,
     /// By which key its tables have their pages where the power is cut.
     pub keyed: Keyed,
 }
@@ -83,7 +81,6 @@ impl Play {
             own: 0,
             due: Vec::new(alloc),
             questions: Vec::new(alloc),
-            resumes: false,
             keyed: Keyed::Sha,
         }
     }
@@ -218,7 +215,6 @@ pub fn play_of<R: ReadsCommands>(
         }
     }
     play.own = play.steps.len();
-    play.resumes = story.modes.resumes;
     play.add_all(alloc, commands, &book.definitions, story)?;
     Ok(play)
 }

@@ -1,7 +1,7 @@
 //! A story of requests told to a store that refuses each change: a 503 is due then, and nothing changes.
 use crate::devices::{ALL, Giver, Stop, Taker};
 use crate::failures::{Failure, compare_bytes};
-use crate::links::{Asked, line_in, stop_write};
+use crate::links::{Asked, WriteStop, line_in, stop_write};
 use crate::messages::CONTINUE;
 use crate::modes::Counts;
 use crate::plays::Play;
@@ -52,8 +52,13 @@ fn stop_each<K: Keep>(
     asked: &Asked<'_>,
     down: &[u8],
 ) -> Result<(), Failure> {
-    for stops_at in 1..=down.len() {
-        stop_write(alloc, service, asked, down, stops_at, Stop::Fails)?;
+    for at in 1..=down.len() {
+        let stops = WriteStop {
+            most: ALL,
+            at,
+            stop: Stop::Fails,
+        };
+        stop_write(alloc, service, asked, down, stops)?;
     }
     Ok(())
 }

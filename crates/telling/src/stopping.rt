@@ -120,19 +120,18 @@ pub fn taken_up_to<K: Keep>(
     (service.into_keep(), stopped)
 }
 
-// Whether a step that was applied may be answered so where it is sent again: as before, or that what it made is there, or
-// that what it took away isn't.
-fn is_repeat(due: &Due, came: &Result<Bytes, Down>) -> bool {
-    if is_due(due, came) {
-        return true;
-    }
+/// Whether a step that was applied may be answered so where it is sent again: as before, or that what it made is there, or
+/// that what it took away isn't.
+pub fn is_repeat(due: &[u8], reply: &[u8]) -> bool {
+    reply == due
+        || reply == b"refused exists\n".as_slice()
+        || reply == b"refused absent\n".as_slice()
+        || reply.starts_with(b"HTTP/1.1 404 ")
+}
+
+fn is_repeated(due: &Due, came: &Result<Bytes, Down>) -> bool {
     match came {
-        Ok(reply) => {
-            let reply = reply.as_slice();
-            reply == b"refused exists\n".as_slice()
-                || reply == b"refused absent\n".as_slice()
-                || reply.starts_with(b"HTTP/1.1 404 ")
-        }
+        Ok(reply) => is_repeat(due.bytes.as_slice(), reply.as_slice()),
         Err(_) => false,
     }
 }
@@ -152,7 +151,7 @@ pub fn sent_again<K: Keep + Drop>(
     let came = answered(alloc, &mut service, ALL, step);
     let keep = service.into_keep();
     let is_right = if is_applied {
-        is_repeat(due, &came)
+        is_repeated(due, &came)
     } else {
         is_due(due, &came)
     };

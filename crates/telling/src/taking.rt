@@ -13,8 +13,6 @@ use wire::{FromRead, ToWrite};
 pub enum Way {
     /// In turn, by `replay`, which takes all of them.
     Replay,
-    /// In turn, by `replay`; where it gives up, by another one from the step where it stopped.
-    Resumed,
     /// Exchange by exchange, each read giving at most so many bytes.
     Exchange(usize),
 }
@@ -161,28 +159,30 @@ fn answered_each<K: Keep>(
     Ok(replies)
 }
 
-// The replies to the steps from a place on.
+// The replies of a replay, or, where it gave up behind so many steps, those to the steps that it left, which are sent again.
 #[derive(Drop)]
 struct Replies {
-    from: usize,
+    gave_up: Option<usize>,
     all: Vec<Bytes>,
 }
 
-// The replies of a replay. Where it gave up, to the steps that it left, which are sent again.
 fn resumed<K: Keep>(
     alloc: Global,
     service: &mut Service<K>,
     steps: &[Step],
 ) -> Result<Replies, Down> {
     if let Ok(all) = service.replay(alloc, steps) {
-        return Ok(Replies { from: 0, all });
+        return Ok(Replies { gave_up: None, all });
     }
-    let from = service.taken() as usize;
-    let Some(left) = steps.get(from..) else {
+    let taken = service.taken() as usize;
+    let Some(left) = steps.get(taken..) else {
         return Err(Down);
     };
     let all = service.replay(alloc, left)?;
-    Ok(Replies { from, all })
+    Ok(Replies {
+        gave_up: Some(taken),
+        all,
+    })
 }
 
 fn replies_to<K: Keep>(
@@ -190,17 +190,10 @@ fn replies_to<K: Keep>(
     service: &mut Service<K>,
     way: Way,
     steps: &[Step],
-) -> Result<Replies, Down> {
+) -> Result<Vec<Bytes>, Down> {
     match way {
-        Way::Replay => {
-            let all = service.replay(alloc, steps)?;
-            Ok(Replies { from: 0, all })
-        }
-        Way::Resumed => resumed(alloc, service, steps),
-        Way::Exchange(most) => {
-            let all = answered_each(alloc, service, most, steps)?;
-            Ok(Replies { from: 0, all })
-        }
+        Way::Replay => service.replay(alloc, steps),
+        Way::Exchange(most) => answered_each(alloc, service, most, steps),
     }
 }
 
@@ -219,11 +212,30 @@ fn compare(alloc: Global, due: &[Due], replies: &[Bytes]) -> Result<(), Failure>
     Ok(())
 }
 
-fn compare_from(alloc: Global, due: &[Due], replies: &Replies) -> Result<(), Failure> {
-    match due.get(replies.from..) {
-        Some(due) => compare(alloc, due, replies.all.as_slice()),
-        None => Err(Failure::refused(0, "more steps were taken than there are")),
-    }
+fn compare_left(alloc: Global, due: &[Due], replies: &Replies) -> Result<Option<usize>, Failure> {
+    let Some(left) = due.get(replies.gave_up.unwrap_or(0)..) else {
+        return Err(Failure::refused(0, "more steps were taken than there are"));
+    };
+    compare(alloc, left, replies.all.as_slice())?;
+    Ok(replies.gave_up)
+}
+
+/// Takes a story's own steps by `replay`. Where it gives up, another one takes those that it left; it is told behind how many
+/// steps it gave up. The store is given back.
+pub fn resume_over<K: Keep>(
+    alloc: Global,
+    keep: K,
+    play: &Play,
+) -> (K, Result<Option<usize>, Failure>) {
+    let (steps, due) = play.between(play.own, play.steps.len());
+    let mut service = Service::new(keep);
+    let replies = resumed(alloc, &mut service, steps);
+    let keep = service.into_keep();
+    let compared = match replies {
+        Ok(replies) => compare_left(alloc, due, &replies),
+        Err(_) => Err(Failure::refused(0, "memory or the store refused")),
+    };
+    (keep, compared)
 }
 
 /// Takes steps over a store and compares the replies with those that are due. The store is given back.
@@ -238,18 +250,10 @@ pub fn take_over<K: Keep>(
     let replies = replies_to(alloc, &mut service, way, steps);
     let keep = service.into_keep();
     let compared = match replies {
-        Ok(replies) => compare_from(alloc, due, &replies),
+        Ok(replies) => compare(alloc, due, replies.as_slice()),
         Err(_) => Err(Failure::refused(0, "memory or the store refused")),
     };
     (keep, compared)
-}
-
-// How a replay takes the steps of a play.
-fn way_of(play: &Play, way: Way) -> Way {
-    match way {
-        Way::Replay if play.resumes => Way::Resumed,
-        _ => way,
-    }
 }
 
 /// Takes the steps up to a place, and gives the store back.
@@ -262,7 +266,7 @@ pub fn taken_to<K: Keep + Drop>(
     to: usize,
 ) -> Result<K, Failure> {
     let (steps, due) = play.between(from, to);
-    let (keep, taken) = take_over(alloc, keep, way_of(play, way), steps, due);
+    let (keep, taken) = take_over(alloc, keep, way, steps, due);
     match taken {
         Ok(()) => Ok(keep),
         Err(failure) => Err(failure),

@@ -14,9 +14,9 @@ pub const WAY: &str = "values and tables, asked by each act";
 
 /// A workspace of an organization.
 #[derive(Drop)]
-struct Named {
-    org: OrgName,
-    ws: WsName,
+pub struct Named {
+    pub org: OrgName,
+    pub ws: WsName,
 }
 
 // The target of a request, up to its query.
@@ -63,14 +63,14 @@ fn is_there(alloc: Global, values: &mut PlainKeep, org: &OrgName) -> Result<bool
 }
 
 // The key of the first run behind a number.
-fn push_key(
+fn push_key<K: Keep>(
     alloc: Global,
-    values: &mut PlainKeep,
+    keep: &mut K,
     named: &Named,
     after: u64,
     keys: &mut Vec<Text>,
 ) -> Result<(), Down> {
-    let list = values.runs(alloc, &named.org, &named.ws, after)?;
+    let list = keep.runs(alloc, &named.org, &named.ws, after)?;
     if let Some(run) = list.items.as_slice().first() {
         if let Some(key) = &run.key {
             keys.push(Text::copy_of(alloc, key.as_str())?)?;
@@ -80,50 +80,50 @@ fn push_key(
 }
 
 // The text of the newest version.
-fn newest_text(
+fn newest_text<K: Keep>(
     alloc: Global,
-    values: &mut PlainKeep,
+    keep: &mut K,
     named: &Named,
     unit: &WorkspaceUnit,
 ) -> Result<Vec<u8>, Down> {
     let Some(newest) = &unit.newest else {
         return Ok(Vec::new(alloc));
     };
-    match values.text(alloc, &named.org, &named.ws, newest.number)? {
+    match keep.text(alloc, &named.org, &named.ws, newest.number)? {
         Some(text) => Ok(text.into_vec()),
         None => Ok(Vec::new(alloc)),
     }
 }
 
 // What is known of a workspace that is there.
-fn fill(
+fn fill<K: Keep>(
     alloc: Global,
-    values: &mut PlainKeep,
+    keep: &mut K,
     named: &Named,
     unit: &WorkspaceUnit,
     known: &mut Known,
 ) -> Result<(), Down> {
     known.next_version = unit.next_version;
     known.next_run = unit.next_run;
-    known.text = newest_text(alloc, values, named, unit)?;
+    known.text = newest_text(alloc, keep, named, unit)?;
     let keys = &mut known.keys;
-    push_key(alloc, values, named, 0, keys)?;
-    push_key(alloc, values, named, unit.next_run.saturating_sub(2), keys)
+    push_key(alloc, keep, named, 0, keys)?;
+    push_key(alloc, keep, named, unit.next_run.saturating_sub(2), keys)
 }
 
-fn known(alloc: Global, values: &mut PlainKeep, named: &Named) -> Result<Known, Down> {
+fn known<K: Keep>(alloc: Global, keep: &mut K, named: &Named) -> Result<Known, Down> {
     let mut known = Known::new(alloc);
     let look = Act::Look(Look::State);
-    let unit = values.unit(alloc, &named.org, &named.ws, &look)?;
+    let unit = keep.unit(alloc, &named.org, &named.ws, &look)?;
     if let Unit::Present(unit) = &unit {
-        fill(alloc, values, named, unit, &mut known)?;
+        fill(alloc, keep, named, unit, &mut known)?;
     }
     Ok(known)
 }
 
-// Acts of each kind on a workspace.
-fn acts_in(alloc: Global, values: &mut PlainKeep, named: &Named) -> Result<Vec<Act>, Down> {
-    let known = known(alloc, values, named)?;
+/// Acts of each kind on a workspace, by what a store says of it.
+pub fn acts_in<K: Keep>(alloc: Global, keep: &mut K, named: &Named) -> Result<Vec<Act>, Down> {
+    let known = known(alloc, keep, named)?;
     acts_on(alloc, &known)
 }
 
@@ -163,6 +163,14 @@ fn compare_acts<K: Keep>(
     Ok(())
 }
 
+/// The workspace that a step names, and the line where the step stands.
+pub fn named_behind(alloc: Global, play: &Play, place: usize) -> Option<(Named, usize)> {
+    let (Step::Request { bytes, .. }, due) = (play.steps.get(place)?, play.due.get(place)?) else {
+        return None;
+    };
+    Some((named_in(alloc, bytes.as_slice())?, due.line))
+}
+
 // Behind a step, the workspace that it names.
 fn compare_behind<K: Keep>(
     alloc: Global,
@@ -171,14 +179,8 @@ fn compare_behind<K: Keep>(
     play: &Play,
     place: usize,
 ) -> Result<(), Failure> {
-    let (Some(Step::Request { bytes, .. }), Some(due)) = (
-        play.steps.get(place),
-        play.due.get(place),
-    ) else {
-        return Ok(());
-    };
-    match named_in(alloc, bytes.as_slice()) {
-        Some(named) => compare_acts(alloc, values, tables, &named, due.line),
+    match named_behind(alloc, play, place) {
+        Some((named, line)) => compare_acts(alloc, values, tables, &named, line),
         None => Ok(()),
     }
 }

@@ -7,5 +7,7 @@ pub mod kept;
 mod keys;
 mod laws;
 mod records;
+pub mod resuming;
 pub mod stops;
 pub mod ways;
+mod whole;

@@ -17,7 +17,8 @@ use telling::plays::{Play, Question};
 use telling::stores::{Looks, Makes, told_over};
 use telling::taking::{Way, taken_to};
 use telling::units::run_by_units;
-use telling::{breaking, units};
+use telling::whole::run_by_whole;
+use telling::{breaking, units, whole};
 
 #[derive(Clone, Copy)]
 enum Store {
@@ -127,7 +128,7 @@ fn lawful_record<S: Alter>(
 }
 
 // The store over tables that were asked.
-fn reopened<S: Alter + Drop, K: PageKey>(
+pub(crate) fn reopened<S: Alter + Drop, K: PageKey>(
     line: usize,
     conn: Connection<S>,
 ) -> Result<SqlKeep<S, K>, Failure> {
@@ -228,10 +229,20 @@ fn beside_values<K: PageKey>(alloc: Global, play: &Play) -> Result<(), Failure> 
     }
 }
 
-/// Tells a story to values and to tables side by side, by the one key of their pages and by the other.
+fn by_whole<K: PageKey>(alloc: Global, play: &Play) -> Result<(), Failure> {
+    let tables: TablesBy<K> = Sql.made(alloc)?;
+    match run_by_whole(alloc, &Sql, tables, play) {
+        Ok(()) => Ok(()),
+        Err(failure) => Err(failure.on(whole::WAY)),
+    }
+}
+
+/// Tells a story to values and to tables side by side, by the one key of their pages and by the other, and to tables that are read whole.
 pub fn run_beside(alloc: Global, play: &Play) -> Result<(), Failure> {
     beside_values::<ShaKey>(alloc, play)?;
-    beside_values::<FirstByte>(alloc, play)
+    beside_values::<FirstByte>(alloc, play)?;
+    by_whole::<ShaKey>(alloc, play)?;
+    by_whole::<FirstByte>(alloc, play)
 }
 
 /// Tells a story over links that break, over tables in memory.
