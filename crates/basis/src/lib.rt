@@ -19,7 +19,7 @@ pub use numbers::{KeepCount, Limit, Moment, Number};
 pub use refusals::{Allow, Refusal};
 pub use roles::{Bounds, Caller, Role};
 pub use rows::{
-    HolderId, Listing, Look, RunAsk, RunRow, RunSettings, Settings, SettingsAsk, StateHead,
+    Holder, HolderId, Listing, Look, RunAsk, RunRow, RunSettings, Settings, SettingsAsk, StateHead,
     VersionRow, WsRow,
 };
 pub use runs::{RunAction, RunStatus};

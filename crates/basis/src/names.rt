@@ -1,5 +1,5 @@
 //! Names, IDs and secrets.
-ghost use Rattle.std.specs.Prelude.{◌≡◌, ◌↔◌, ℕ, List, [], false, IsTrue, IfOk, IsErrOf, string_bytes, bytes_eq, decimal};
+ghost use Rattle.std.specs.Prelude.{◌≡◌, ◌↔◌, ℕ, List, [], false, IsTrue, Some, None, cond, IfOk, IsErrOf, string_bytes, bytes_eq, decimal};
 ghost use Rattle.std.specs.List.{list_all};
 ghost use Rattle.std.specs.Char.{is_ascii_alphanumeric};
 ghost use Rattle.basis.specs.Names.{is_org_name, is_org_byte, is_ws_name, is_ws_byte, is_prefix, admits, is_lock_id, is_free_id, run_id, is_secret, has_length};
@@ -93,6 +93,17 @@ impl WsName {
         Ok(WsName { text })
     }
 
+    /// The same of a text that is taken whole: none where it is no name.
+    pub fn from_string(text: String) -> Option<WsName>
+        ensures { result ≡ cond (is_ws_name (string_bytes text)) (Some (string_bytes text)) None }
+    {
+        if is_ws_name(text.as_bytes()) {
+            Some(WsName { text })
+        } else {
+            None
+        }
+    }
+
     pub fn as_str(&self) -> &str
         ensures text { result.now ≡ self.now }
         ensures fits { IsTrue (is_ws_name self.now) }
@@ -138,6 +149,17 @@ impl Prefix {
         Ok(Prefix { text })
     }
 
+    /// The same of a text that is taken whole: none where it is no prefix.
+    pub fn from_string(text: String) -> Option<Prefix>
+        ensures { result ≡ cond (is_prefix (string_bytes text)) (Some (string_bytes text)) None }
+    {
+        if is_prefix(text.as_bytes()) {
+            Some(Prefix { text })
+        } else {
+            None
+        }
+    }
+
     pub fn as_str(&self) -> &str
         ensures text { result.now ≡ self.now }
         ensures fits { IsTrue (is_prefix self.now) }
@@ -178,6 +200,17 @@ impl LockId {
         }
         let text = String::from_str(alloc, text)?;
         Ok(LockId { text })
+    }
+
+    /// The same of a text that is taken whole: none where it is no ID.
+    pub fn from_string(text: String) -> Option<LockId>
+        ensures { result ≡ cond (is_lock_id (string_bytes text)) (Some (string_bytes text)) None }
+    {
+        if is_lock_id(text.as_bytes()) {
+            Some(LockId { text })
+        } else {
+            None
+        }
     }
 
     pub fn as_str(&self) -> &str

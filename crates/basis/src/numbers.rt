@@ -137,6 +137,13 @@ impl Limit {
         }
     }
 
+    /// No workspace at all: 0.
+    pub fn none() -> Limit
+        ensures { result ≡ 0 }
+    {
+        Limit { value: 0 }
+    }
+
     pub fn get(self) -> u32
         ensures value { result ≡ self }
         ensures most { result ≤ MAX_LIMIT }

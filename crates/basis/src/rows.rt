@@ -6,7 +6,7 @@ use crate::memory::Down;
 use crate::names::{LockId, WsName};
 use crate::numbers::{KeepCount, Moment, Number};
 use crate::runs::{RunAction, RunStatus};
-use crate::texts::{Items, Text};
+use crate::texts::{Bytes, Items, Text};
 use std::alloc::Global;
 
 /// The greatest serial of a state: 2 ^ 63 - 1.
@@ -79,6 +79,14 @@ pub enum HolderId {
     Run(Number),
 }
 
+/// Who holds a workspace: nobody, a lock with the text that took it, or a run.
+#[derive(Clone, Drop)]
+pub enum Holder {
+    Nobody,
+    Lock { id: LockId, text: Bytes },
+    Run(Number),
+}
+
 /// A workspace as it is shown.
 #[derive(Drop)]
 pub struct WsRow {
@@ -89,7 +97,7 @@ pub struct WsRow {
     pub version: Option<Number>,
 }
 
-/// A version as it is listed.
+/// A version without its text, as it is listed.
 #[derive(Drop)]
 pub struct VersionRow {
     pub created: Moment,
@@ -100,8 +108,8 @@ pub struct VersionRow {
     pub size: u64,
 }
 
-/// A run as it is shown.
-#[derive(Drop)]
+/// A run of a workspace, as it is kept and shown.
+#[derive(Clone, Drop)]
 pub struct RunRow {
     /// The last accepted action.
     pub action: Option<RunAction>,
@@ -131,6 +139,21 @@ impl<T> Listing<T> {
         Listing {
             items: Items::new(Vec::new(alloc)),
             more: false,
+        }
+    }
+
+    /// The listing of these items: those past the most that it has are let go.
+    pub fn of(items: Items<T>) -> Listing<T>
+    where
+        T: Drop,
+        ensures { result ≡ listing_of items }
+    {
+        let more = items.as_slice().len() > MAX_ITEMS;
+        let mut items = items.into_vec();
+        items.truncate(MAX_ITEMS);
+        Listing {
+            items: Items::new(items),
+            more,
         }
     }
 

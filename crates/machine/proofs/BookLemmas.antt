@@ -11,9 +11,9 @@ use Rattle.machine.specs.Rules.{done, rules}
 use Rattle.machine.specs.Custody.{IsUnlocked, WritesWith}
 use Rattle.machine.specs.Queue.{is_active_run, Starts, WaitedOrIsNew, AreInRange, Leads}
 use Rattle.machine.specs.declared.acts.Act.{Act}
-use Rattle.machine.specs.declared.records.Holder.{Holder}
-use Rattle.machine.specs.declared.records.Holder.TheVariants.{Nobody, Lock, Run as HoldingRun}
-use Rattle.machine.specs.declared.records.Run.{Run}
+use Rattle.basis.specs.declared.rows.Holder.{Holder}
+use Rattle.basis.specs.declared.rows.Holder.TheVariants.{Nobody, Lock, Run as HoldingRun}
+use Rattle.basis.specs.declared.rows.RunRow.{RunRow as Run}
 use Rattle.machine.specs.declared.records.Workspace.{Workspace}
 use Rattle.machine.proofs.StepLemmas.{ended_is_idle}
 use Rattle.machine.proofs.CustodyLemmas.{workspaces_go_by_delete}

@@ -16,7 +16,7 @@ use Rattle.machine.proofs.RunRulings.{IsMade, IsReported, comes_to, make_comes, 
 use Rattle.basis.specs.declared.rows.RunAsk.{RunAsk}
 use Rattle.basis.specs.declared.runs.RunStatus.{RunStatus}
 use Rattle.basis.specs.declared.runs.RunAction.{RunAction}
-use Rattle.machine.specs.declared.records.Run.{Run}
+use Rattle.basis.specs.declared.rows.RunRow.{RunRow as Run}
 use Rattle.machine.specs.Writing.{may_write}
 use Rattle.machine.specs.Settling.{first_waiting, to_start, started, started_if, settled}
 use Rattle.machine.specs.Succession.{Succession, first, same, other_lineage, old_serial, next, succession}
@@ -32,8 +32,8 @@ use Rattle.machine.specs.Effects.{effect}
 use Rattle.machine.proofs.Rulings.{IsPut, Misses, put_or_missed, Way, version_comes, versions_go, settings_come, lock_comes, lock_goes, run_comes, run_goes_on, Leaves, leaves, Comes, it_stays, it_goes, it_changes, comes}
 use Rattle.machine.specs.declared.acts.Act.{Act}
 use Rattle.machine.specs.declared.acts.Act.TheVariants.{Look, PutWorkspace, DeleteWorkspace, UpdateState, PurgeState, Lock as LockAct, Unlock, ForceUnlock, MakeRun, ReportRun}
-use Rattle.machine.specs.declared.records.Holder.{Holder}
-use Rattle.machine.specs.declared.records.Holder.TheVariants.{Nobody, Lock, Run as HoldingRun}
+use Rattle.basis.specs.declared.rows.Holder.{Holder}
+use Rattle.basis.specs.declared.rows.Holder.TheVariants.{Nobody, Lock, Run as HoldingRun}
 use Rattle.machine.specs.declared.records.Version.{Version}
 use Rattle.machine.specs.declared.records.Workspace.{Workspace}
 

@@ -37,10 +37,10 @@ use Rattle.machine.specs.declared.acts.Decision.TheVariants.{Refused, Accepted}
 use Rattle.machine.specs.declared.acts.Answer.TheVariants.{Done, Workspace as ShownWorkspace, Run as ShownRun}
 use Rattle.machine.specs.declared.acts.Shown.{Shown}
 use Rattle.machine.specs.declared.acts.Edit.TheVariants.{Configure, Remove, Release}
-use Rattle.machine.specs.declared.records.Holder.{Holder}
-use Rattle.machine.specs.declared.records.Holder.TheVariants.{Nobody, Lock, Run}
+use Rattle.basis.specs.declared.rows.Holder.{Holder}
+use Rattle.basis.specs.declared.rows.Holder.TheVariants.{Nobody, Lock, Run}
 use Rattle.machine.specs.declared.acts.Newest.{Newest}
-use Rattle.machine.specs.declared.records.Run.{Run as AnyRun}
+use Rattle.basis.specs.declared.rows.RunRow.{RunRow as AnyRun}
 use Rattle.machine.specs.declared.records.Version.{Version}
 use Rattle.machine.specs.declared.records.Workspace.{Workspace}
 use Rattle.machine.specs.declared.acts.Unit.{Unit as AnyUnit}

@@ -6,8 +6,8 @@ use Rattle.machine.specs.Effects.{effect}
 use Rattle.machine.specs.Custody.{IsRefusal, IsUnlocked}
 use Rattle.machine.specs.Workspaces.{open_runs}
 use Rattle.machine.specs.Rules.{refused, held, done, Ruling, delete}
-use Rattle.machine.specs.declared.records.Holder.{Holder}
-use Rattle.machine.specs.declared.records.Holder.TheVariants.{Nobody, Lock, Run}
+use Rattle.basis.specs.declared.rows.Holder.{Holder}
+use Rattle.basis.specs.declared.rows.Holder.TheVariants.{Nobody, Lock, Run}
 use Rattle.machine.specs.declared.records.Workspace.{Workspace}
 
 -- it is refused: the workspace stays, and whoever holds is told

@@ -26,9 +26,9 @@ use Rattle.machine.specs.Laws.{Rises, AreVersions, IsRun, IsHolder, KeysDiffer, 
 use Rattle.machine.specs.Settling.{is_waiting}
 use Rattle.machine.specs.Queue.{is_active_run, GoesOn}
 use Rattle.machine.specs.declared.acts.Act.TheVariants.{Look, PutWorkspace, DeleteWorkspace, UpdateState, PurgeState, Lock as LockAct, Unlock, ForceUnlock, MakeRun, ReportRun}
-use Rattle.machine.specs.declared.records.Holder.TheVariants.{Nobody, Lock, Run as HoldingRun}
+use Rattle.basis.specs.declared.rows.Holder.TheVariants.{Nobody, Lock, Run as HoldingRun}
 use Rattle.machine.specs.declared.records.Version.{Version}
-use Rattle.machine.specs.declared.records.Run.{Run}
+use Rattle.basis.specs.declared.rows.RunRow.{RunRow as Run}
 use Rattle.machine.specs.declared.records.Workspace.{Workspace}
 use Rattle.machine.specs.Effects.{effect}
 use Rattle.machine.specs.Records.{missing, there}

@@ -15,7 +15,7 @@ use Rattle.machine.specs.Units.{workspace_unit, newest_unit, version_of}
 use Rattle.machine.specs.Workspaces.{newest, run_of}
 use Rattle.machine.specs.declared.acts.Act.TheVariants.{Look}
 use Rattle.machine.specs.declared.acts.Newest.{Newest}
-use Rattle.machine.specs.declared.records.Run.{Run}
+use Rattle.basis.specs.declared.rows.RunRow.{RunRow as Run}
 use Rattle.machine.specs.declared.records.Version.{Version}
 use Rattle.machine.specs.declared.records.Workspace.{Workspace}
 use Rattle.machine.proofs.RunRulings.{IsPlain, plainly_not_found, plainly_told}

@@ -15,7 +15,7 @@ use Rattle.machine.specs.Laws.{Rises}
 use Rattle.machine.specs.Showing.{comes_after}
 use Rattle.machine.specs.Paging.{workspaces_from, WorkspacePagesFollow, VersionPagesFollow, RunPagesFollow}
 use Rattle.machine.specs.declared.records.Organization.{Organization}
-use Rattle.machine.specs.declared.records.Run.{Run}
+use Rattle.basis.specs.declared.rows.RunRow.{RunRow as Run}
 use Rattle.machine.specs.declared.records.Version.{Version}
 use Rattle.machine.specs.declared.records.Workspace.{Workspace}
 use Rattle.machine.proofs.MapLemmas.{names_total, both_first, both_second}

@@ -24,9 +24,9 @@ use Rattle.machine.specs.Queue.{is_active_run, OneRunIsActive, PlanOnlyRunsStayO
 use Rattle.machine.specs.Inner.Decisions.{status_begun, begun_by}
 use Rattle.machine.specs.declared.acts.Act.{Act}
 use Rattle.machine.specs.declared.acts.Act.TheVariants.{MakeRun, ReportRun}
-use Rattle.machine.specs.declared.records.Holder.{Holder}
-use Rattle.machine.specs.declared.records.Holder.TheVariants.{Nobody, Lock, Run as HoldingRun}
-use Rattle.machine.specs.declared.records.Run.{Run}
+use Rattle.basis.specs.declared.rows.Holder.{Holder}
+use Rattle.basis.specs.declared.rows.Holder.TheVariants.{Nobody, Lock, Run as HoldingRun}
+use Rattle.basis.specs.declared.rows.RunRow.{RunRow as Run}
 use Rattle.machine.specs.declared.records.Workspace.{Workspace}
 use Rattle.machine.proofs.StepLemmas.{led, one_status, one_action, never_pending}
 use Rattle.machine.proofs.RunLemmas.{some_run-push, run_of-number, run_of-map, run_of-started, all_found, numbers-map, Rises-more}

@@ -7,7 +7,7 @@ use Rattle.machine.specs.Records.{Seen, missing, there}
 use Rattle.machine.specs.Rules.{Outcome, refused, held, Ruling, rules, rules_missing}
 use Rattle.machine.specs.declared.acts.Act.{Act}
 use Rattle.machine.specs.declared.acts.Act.TheVariants.{PutWorkspace}
-use Rattle.machine.specs.declared.records.Holder.{Holder}
+use Rattle.basis.specs.declared.rows.Holder.{Holder}
 use Rattle.machine.proofs.Rulings.{IsPut, Misses, put_or_missed, Comes, it_stays, it_goes, it_changes, comes, all_writes}
 
 pub refusals_change_nothing : RefusalsChangeNothing

@@ -4,7 +4,7 @@ use Rattle.basis.specs.declared.refusals.Refusal.{Refusal}
 use Rattle.basis.specs.declared.refusals.Refusal.TheVariants.{BadMessage, TwoTokens, BadQuery, BadDigest, BadState, BadLock, BadBody, NoToken, BadToken, NeedWrite, NeedAdmin, NoRoute, NotFound, NoMethod, NotHeld, NotApplying, OtherLineage, OldSerial, WrongState, HeldByRun, OpenRuns, OverLimit, Locked, NoLength, TooLarge, HeadTooLarge, Unavailable}
 use Rattle.machine.specs.Custody.{IsRefusal}
 use Rattle.machine.specs.Rules.{Outcome, refused, held, done, refused_by}
-use Rattle.machine.specs.declared.records.Holder.{Holder}
+use Rattle.basis.specs.declared.rows.Holder.{Holder}
 
 -- it is told as it is, and isn't `Locked`
 abbrev IsTold : Refusal → Outcome → Type 0

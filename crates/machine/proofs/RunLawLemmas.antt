@@ -16,9 +16,9 @@ use Rattle.machine.proofs.StepLemmas.{leads_where_it_ends, never_pending, from_o
 use Rattle.machine.proofs.RunLemmas.{run_of-number, run_of-map, none_numbered, only_one_numbered, some_numbered-push, keys_differ-map, keys_differ-push, open_runs-push, open_runs-map, all-push, all-both, all-map, all_found, numbers-map, Rises-more}
 use Rattle.machine.proofs.SettlingLemmas.{freed_is_lawful}
 use Rattle.machine.proofs.LawLemmas.{number_left-is, still_is_lawful, under_lock}
-use Rattle.machine.specs.declared.records.Holder.{Holder}
-use Rattle.machine.specs.declared.records.Holder.TheVariants.{Nobody, Lock, Run as HoldingRun}
-use Rattle.machine.specs.declared.records.Run.{Run}
+use Rattle.basis.specs.declared.rows.Holder.{Holder}
+use Rattle.basis.specs.declared.rows.Holder.TheVariants.{Nobody, Lock, Run as HoldingRun}
+use Rattle.basis.specs.declared.rows.RunRow.{RunRow as Run}
 use Rattle.machine.specs.declared.records.Workspace.{Workspace}
 
 -- ---- a run is made

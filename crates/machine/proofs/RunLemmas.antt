@@ -11,7 +11,7 @@ use Rattle.machine.specs.Workspaces.{run_of, has_key, keyed_run, open_runs}
 use Rattle.machine.specs.Laws.{Rises, KeysDiffer}
 use Rattle.machine.specs.Settling.{is_waiting, first_waiting, begun, started_if}
 use Rattle.machine.specs.Inner.Decisions.{begun_by}
-use Rattle.machine.specs.declared.records.Run.{Run}
+use Rattle.basis.specs.declared.rows.RunRow.{RunRow as Run}
 use Rattle.machine.specs.declared.records.Workspace.{Workspace}
 
 -- ---- by a number

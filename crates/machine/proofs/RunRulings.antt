@@ -11,8 +11,8 @@ use Rattle.machine.specs.Settling.{first_waiting, to_start, settled}
 use Rattle.machine.specs.Rules.{refused, held, the_run, Ruling, run_answer, told_with, told_already, new_run, with_run, numbered_run, number_left, make_run, reported, with_report, by_step, report}
 use Rattle.machine.specs.Inner.Decisions.{begun_by}
 use Rattle.machine.proofs.RunLemmas.{run_of-map, run_of-started, some_run-push}
-use Rattle.machine.specs.declared.records.Holder.{Holder}
-use Rattle.machine.specs.declared.records.Run.{Run}
+use Rattle.basis.specs.declared.rows.Holder.{Holder}
+use Rattle.basis.specs.declared.rows.RunRow.{RunRow as Run}
 use Rattle.machine.specs.declared.records.Workspace.{Workspace}
 
 -- nothing changes, and neither a holder is told nor that one holds

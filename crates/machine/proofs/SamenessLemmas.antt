@@ -5,10 +5,10 @@ use Rattle.machine.specs.Laws.{Rises, IsLawful}
 use Rattle.machine.specs.Sameness.{IsOneOf, HoldTheSame, HoldTheSameIfThere, SameThingsAreEqualRecords}
 use Rattle.basis.specs.declared.rows.Settings.{Settings}
 use Rattle.machine.specs.Order.{name_cmp}
-use Rattle.machine.specs.declared.records.Holder.{Holder}
+use Rattle.basis.specs.declared.rows.Holder.{Holder}
 use Rattle.machine.specs.declared.records.Token.{Token}
 use Rattle.machine.specs.declared.records.Version.{Version}
-use Rattle.machine.specs.declared.records.Run.{Run}
+use Rattle.basis.specs.declared.rows.RunRow.{RunRow as Run}
 use Rattle.machine.specs.declared.records.Workspace.{Workspace}
 use Rattle.machine.specs.declared.records.Organization.{Organization}
 use Rattle.machine.proofs.MapLemmas.{names_total, names_same}

@@ -5,9 +5,9 @@ use Rattle.std.specs.List.{AllByRecursion}
 use Rattle.machine.specs.Workspaces.{run_of, is_numbered}
 use Rattle.machine.specs.Laws.{Rises}
 use Rattle.machine.specs.Settling.{is_waiting, first_waiting, to_start, started_if, settled, NoneWaits, LeastStarts, Settles, SettlesOnce}
-use Rattle.machine.specs.declared.records.Holder.{Holder}
-use Rattle.machine.specs.declared.records.Holder.TheVariants.{Nobody, Lock, Run as HoldingRun}
-use Rattle.machine.specs.declared.records.Run.{Run}
+use Rattle.basis.specs.declared.rows.Holder.{Holder}
+use Rattle.basis.specs.declared.rows.Holder.TheVariants.{Nobody, Lock, Run as HoldingRun}
+use Rattle.basis.specs.declared.rows.RunRow.{RunRow as Run}
 use Rattle.machine.specs.declared.records.Workspace.{Workspace}
 use Rattle.machine.proofs.SettlingLemmas.{least_starts, first_alone}
 

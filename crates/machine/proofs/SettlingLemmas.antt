@@ -13,9 +13,9 @@ use Rattle.machine.specs.Laws.{Rises, IsRun, AreVersions, AreRuns, IsLawful, IsW
 use Rattle.machine.specs.Settling.{is_waiting, first_waiting, begun, to_start, started_if, settled}
 use Rattle.machine.proofs.RunLemmas.{numbers-map, keys_differ-map}
 use Rattle.machine.specs.Rules.{released}
-use Rattle.machine.specs.declared.records.Holder.{Holder}
-use Rattle.machine.specs.declared.records.Holder.TheVariants.{Nobody, Lock, Run as HoldingRun}
-use Rattle.machine.specs.declared.records.Run.{Run}
+use Rattle.basis.specs.declared.rows.Holder.{Holder}
+use Rattle.basis.specs.declared.rows.Holder.TheVariants.{Nobody, Lock, Run as HoldingRun}
+use Rattle.basis.specs.declared.rows.RunRow.{RunRow as Run}
 use Rattle.machine.specs.declared.records.Workspace.{Workspace}
 
 -- a run that waits is pending, and not plan-only

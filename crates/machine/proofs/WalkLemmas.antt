@@ -4,12 +4,11 @@ use Rattle.std.proofs.lemmas.Bool.{ltb-true, ltb-false}
 use Rattle.std.proofs.lemmas.List.{take-append-drop, take_all, length-take-le}
 use Rattle.basis.specs.Listings.{listing_of}
 use Rattle.basis.specs.declared.rows.Listing.{Listing}
-use Rattle.basis.specs.declared.rows.RunRow.{RunRow}
+use Rattle.basis.specs.declared.rows.RunRow.{RunRow as Run}
 use Rattle.basis.specs.declared.rows.VersionRow.{VersionRow}
 use Rattle.basis.specs.declared.rows.WsRow.{WsRow}
 use Rattle.machine.specs.Paging.{workspaces_from, versions_from, runs_from, IsPage, last_item, ArePages, items_of, ShowsAll, WorkspacesAreShown, VersionsAreShown, RunsAreShown}
-use Rattle.machine.specs.Showing.{shown_of, row_of, version_row, run_row, workspaces_after, versions_after, runs_after}
-use Rattle.machine.specs.declared.records.Run.{Run}
+use Rattle.machine.specs.Showing.{shown_of, row_of, version_row, workspaces_after, versions_after, runs_after}
 use Rattle.machine.specs.declared.records.Version.{Version}
 use Rattle.machine.specs.declared.records.Workspace.{Workspace}
 use Rattle.machine.proofs.PageLemmas.{workspace_pages, version_pages, run_pages}
@@ -141,12 +140,4 @@ versions_are_shown after w lawful = shows_all (λ (from : ℕ). versions_after f
         ap (λ (y : VersionRow). shown y.number) (sym found.2) ∙ ap (map version_row) (version_pages from w found.0 lawful found.1) ∙ map_drop version_row 50 (versions_from from w)
 
 pub runs_are_shown : RunsAreShown
-runs_are_shown after w lawful = shows_all (λ (from : ℕ). runs_after from (Some w)) (λ (row : RunRow). row.number) shown (λ from. refl) goes after
-  where
-    shown : ℕ → List RunRow
-    shown from = map run_row (runs_from from w)
-
-    goes : (from : ℕ) (x : RunRow) → slice_get (shown from) 49 ≡ Some x → shown x.number ≡ drop 50 (shown from)
-    goes from x at =
-        let found : (r : Run) × (slice_get (runs_from from w) 49 ≡ Some r) × (run_row r ≡ x) = shown_at run_row 49 (runs_from from w) x at in
-        ap (λ (y : RunRow). shown y.number) (sym found.2) ∙ ap (map run_row) (run_pages from w found.0 lawful found.1) ∙ map_drop run_row 50 (runs_from from w)
+runs_are_shown after w lawful = shows_all (λ (from : ℕ). runs_after from (Some w)) (λ (row : Run). row.number) (λ (from : ℕ). runs_from from w) (λ from. refl) (λ from r at. run_pages from w r lawful at) after

@@ -12,8 +12,8 @@ use Rattle.machine.specs.Units.{version_of}
 use Rattle.machine.specs.Workspaces.{newest, holder_status, open_runs}
 use Rattle.machine.specs.declared.acts.Act.{Act}
 use Rattle.machine.specs.declared.acts.Act.TheVariants.{Look, DeleteWorkspace, UpdateState, PurgeState, Unlock, ForceUnlock, MakeRun}
-use Rattle.machine.specs.declared.records.Holder.{Holder}
-use Rattle.machine.specs.declared.records.Holder.TheVariants.{Nobody, Lock, Run}
+use Rattle.basis.specs.declared.rows.Holder.{Holder}
+use Rattle.basis.specs.declared.rows.Holder.TheVariants.{Nobody, Lock, Run}
 use Rattle.machine.specs.declared.records.Version.{Version}
 use Rattle.machine.specs.declared.records.Workspace.{Workspace}
 

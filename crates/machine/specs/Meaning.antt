@@ -15,8 +15,8 @@ use Rattle.machine.specs.declared.acts.Answer.TheVariants.{Done, NoState, State,
 use Rattle.machine.specs.declared.acts.Change.{Change}
 use Rattle.machine.specs.declared.acts.Decision.{Decision}
 use Rattle.machine.specs.declared.acts.Decision.TheVariants.{Refused, Accepted}
-use Rattle.machine.specs.declared.records.Holder.{Holder}
-use Rattle.machine.specs.declared.records.Holder.TheVariants.{Nobody}
+use Rattle.basis.specs.declared.rows.Holder.{Holder}
+use Rattle.basis.specs.declared.rows.Holder.TheVariants.{Nobody}
 use Rattle.machine.specs.declared.records.Workspace.{Workspace}
 
 abbrev pub changed : Option Change → Option Workspace → Option Workspace

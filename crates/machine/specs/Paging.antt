@@ -4,13 +4,12 @@ use Rattle.std.specs.Prelude.{◌≡◌, ◌≤◌, ◌-◌, ℕ, nat_lt, true, 
 use Rattle.std.specs.FinMap.{entries}
 use Rattle.basis.specs.Listings.{max_items}
 use Rattle.basis.specs.declared.rows.Listing.{Listing}
-use Rattle.basis.specs.declared.rows.RunRow.{RunRow}
+use Rattle.basis.specs.declared.rows.RunRow.{RunRow as Run}
 use Rattle.basis.specs.declared.rows.VersionRow.{VersionRow}
 use Rattle.basis.specs.declared.rows.WsRow.{WsRow}
 use Rattle.machine.specs.Laws.{IsLawful}
-use Rattle.machine.specs.Showing.{shown_of, row_of, version_row, run_row, is_listed, workspaces_after, versions_after, runs_after}
+use Rattle.machine.specs.Showing.{shown_of, row_of, version_row, is_listed, workspaces_after, versions_after, runs_after}
 use Rattle.machine.specs.declared.records.Organization.{Organization}
-use Rattle.machine.specs.declared.records.Run.{Run}
 use Rattle.machine.specs.declared.records.Version.{Version}
 use Rattle.machine.specs.declared.records.Workspace.{Workspace}
 
@@ -77,4 +76,4 @@ VersionsAreShown = (after : ℕ) (w : Workspace) → IsLawful w
 
 abbrev pub RunsAreShown : Type 0
 RunsAreShown = (after : ℕ) (w : Workspace) → IsLawful w
-    → ShowsAll (λ (from : ℕ). runs_after from (Some w)) (λ (row : RunRow). row.number) after (map run_row (runs_from after w))
+    → ShowsAll (λ (from : ℕ). runs_after from (Some w)) (λ (row : Run). row.number) after (runs_from after w)

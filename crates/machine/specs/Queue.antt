@@ -15,7 +15,7 @@ use Rattle.machine.specs.Rules.{refused, the_run, rules}
 use Rattle.machine.specs.Custody.{IsRefusal}
 use Rattle.machine.specs.declared.acts.Act.{Act}
 use Rattle.machine.specs.declared.acts.Act.TheVariants.{MakeRun, ReportRun}
-use Rattle.machine.specs.declared.records.Run.{Run}
+use Rattle.basis.specs.declared.rows.RunRow.{RunRow as Run}
 use Rattle.machine.specs.declared.records.Workspace.{Workspace}
 
 -- a queued run that is planning, planned or applying

@@ -12,7 +12,7 @@ use Rattle.basis.specs.declared.rows.SettingsAsk.{SettingsAsk}
 use Rattle.basis.specs.declared.rows.StateHead.{StateHead}
 use Rattle.basis.specs.declared.rows.RunAsk.{RunAsk}
 use Rattle.basis.specs.declared.rows.Listing.{Listing}
-use Rattle.basis.specs.declared.rows.RunRow.{RunRow}
+use Rattle.basis.specs.declared.rows.RunRow.{RunRow as Run}
 use Rattle.basis.specs.declared.rows.VersionRow.{VersionRow}
 use Rattle.basis.specs.Runs.{is_open}
 use Rattle.basis.specs.declared.runs.RunStatus.{RunStatus}
@@ -31,9 +31,8 @@ use Rattle.machine.specs.Succession.{Succession, first, same, other_lineage, old
 use Rattle.machine.specs.declared.acts.Act.{Act}
 use Rattle.machine.specs.declared.acts.Act.TheVariants.{Look, PutWorkspace, DeleteWorkspace, UpdateState, PurgeState, Lock as LockAct, Unlock, ForceUnlock, MakeRun, ReportRun}
 use Rattle.machine.specs.declared.acts.Shown.{Shown}
-use Rattle.machine.specs.declared.records.Holder.{Holder}
-use Rattle.machine.specs.declared.records.Holder.TheVariants.{Nobody, Lock, Run as HoldingRun}
-use Rattle.machine.specs.declared.records.Run.{Run}
+use Rattle.basis.specs.declared.rows.Holder.{Holder}
+use Rattle.basis.specs.declared.rows.Holder.TheVariants.{Nobody, Lock, Run as HoldingRun}
 use Rattle.machine.specs.declared.records.Version.{Version}
 use Rattle.machine.specs.declared.records.Workspace.{Workspace}
 
@@ -56,7 +55,7 @@ pub data Outcome : Type 0 where
   -- the list of versions
   versions : Listing VersionRow → Outcome
   -- the list of runs
-  runs : Listing RunRow → Outcome
+  runs : Listing Run → Outcome
 
 -- an answer, and the workspace after it, if there is one
 abbrev pub Ruling : Type 0

@@ -7,15 +7,14 @@ use Rattle.basis.specs.Names.{admits}
 use Rattle.basis.specs.declared.rows.HolderId.{HolderId}
 use Rattle.basis.specs.declared.rows.HolderId.TheVariants.{Lock as LockHolder, Run as RunHolder}
 use Rattle.basis.specs.declared.rows.Listing.{Listing}
-use Rattle.basis.specs.declared.rows.RunRow.{RunRow}
+use Rattle.basis.specs.declared.rows.RunRow.{RunRow as Run}
 use Rattle.basis.specs.declared.rows.VersionRow.{VersionRow}
 use Rattle.basis.specs.declared.rows.WsRow.{WsRow}
 use Rattle.machine.specs.Order.{name_cmp}
 use Rattle.machine.specs.Workspaces.{newest}
 use Rattle.machine.specs.declared.acts.Shown.{Shown}
-use Rattle.machine.specs.declared.records.Holder.{Holder}
-use Rattle.machine.specs.declared.records.Holder.TheVariants.{Nobody, Lock, Run as HoldingRun}
-use Rattle.machine.specs.declared.records.Run.{Run}
+use Rattle.basis.specs.declared.rows.Holder.{Holder}
+use Rattle.basis.specs.declared.rows.Holder.TheVariants.{Nobody, Lock, Run as HoldingRun}
 use Rattle.machine.specs.declared.records.Version.{Version}
 use Rattle.machine.specs.declared.records.Workspace.{Workspace}
 use Rattle.machine.specs.declared.records.Organization.{Organization}
@@ -37,10 +36,6 @@ row_of name shown = record { settings = shown.settings; holder = shown.holder; n
 -- a version as it is listed; its size is the number of its text's bytes
 abbrev pub version_row : Version → VersionRow
 version_row v = record { created = v.created; lineage = v.lineage; number = v.number; serial = v.serial; size = length v.text }
-
--- a run as it is shown
-abbrev pub run_row : Run → RunRow
-run_row r = record { action = r.action; created = r.created; key = r.key; message = r.message; number = r.number; plan_only = r.plan_only; status = r.status }
 
 -- whether a name comes after another, if there is another
 abbrev pub comes_after : Option (List ℕ) → List ℕ → Bool
@@ -67,9 +62,9 @@ abbrev pub versions_after : ℕ → Option Workspace → Listing VersionRow
 versions_after after None = listing_of []
 versions_after after (Some w) = versions_listed after w.versions
 
-abbrev pub runs_listed : ℕ → List Run → Listing RunRow
-runs_listed after runs = listing_of (map run_row (filter (λ (r : Run). nat_lt after r.number) runs))
+abbrev pub runs_listed : ℕ → List Run → Listing Run
+runs_listed after runs = listing_of (filter (λ (r : Run). nat_lt after r.number) runs)
 
-abbrev pub runs_after : ℕ → Option Workspace → Listing RunRow
+abbrev pub runs_after : ℕ → Option Workspace → Listing Run
 runs_after after None = listing_of []
 runs_after after (Some w) = runs_listed after w.runs

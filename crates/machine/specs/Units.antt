@@ -17,7 +17,7 @@ use Rattle.machine.specs.declared.acts.WorkspaceUnit.{WorkspaceUnit}
 use Rattle.machine.specs.declared.acts.Unit.{Unit as AnyUnit}
 use Rattle.machine.specs.declared.acts.Unit.TheVariants.{Absent, Present}
 use Rattle.machine.specs.declared.records.Organization.{Organization}
-use Rattle.machine.specs.declared.records.Run.{Run}
+use Rattle.basis.specs.declared.rows.RunRow.{RunRow as Run}
 use Rattle.machine.specs.declared.records.Version.{Version}
 use Rattle.machine.specs.declared.records.Workspace.{Workspace}
 

@@ -7,8 +7,8 @@ use Rattle.basis.specs.declared.refusals.Refusal.{Refusal}
 use Rattle.basis.specs.declared.refusals.Refusal.TheVariants.{NotHeld, NotApplying, Locked}
 use Rattle.basis.specs.declared.runs.RunStatus.{RunStatus}
 use Rattle.basis.specs.declared.runs.RunStatus.TheVariants.{Pending, Planning, Planned, Applying, Applied, PlannedAndFinished, Errored, Discarded, Canceled}
-use Rattle.machine.specs.declared.records.Holder.{Holder}
-use Rattle.machine.specs.declared.records.Holder.TheVariants.{Nobody, Lock, Run}
+use Rattle.basis.specs.declared.rows.Holder.{Holder}
+use Rattle.basis.specs.declared.rows.Holder.TheVariants.{Nobody, Lock, Run}
 
 abbrev pub is_applying : Option RunStatus → Bool
 is_applying None = false

@@ -2,10 +2,10 @@
 ghost use Rattle.std.specs.Prelude.{◌≡◌, option_copied};
 ghost use Rattle.machine.specs.Needs.{needs, needs_of_look, nothing, staying_for, needed_of};
 
-use crate::records::{Holder, Run, Version};
+use crate::records::Version;
 use basis::{
-    Bytes, HolderId, KeepCount, Limit, LockId, Look, Moment, Number, Refusal, RunAction, RunAsk,
-    RunStatus, Settings, SettingsAsk, StateHead, Text,
+    Bytes, Holder, HolderId, KeepCount, Limit, LockId, Look, Moment, Number, Refusal, RunAction,
+    RunAsk, RunRow, RunStatus, Settings, SettingsAsk, StateHead, Text,
 };
 
 /// What is asked of one workspace, its documents read.
@@ -226,7 +226,7 @@ pub struct WorkspaceUnit {
     /// Whether the version that is asked of is kept.
     pub has_version: bool,
     /// The run that is asked of: by its number, or, where one is to be made, by its key.
-    pub asked_run: Option<Run>,
+    pub asked_run: Option<RunRow>,
     /// How many runs are open.
     pub open_runs: usize,
 }
@@ -260,7 +260,7 @@ pub enum Answer {
     /// The workspace after the act.
     Workspace(Shown),
     /// The run after the act.
-    Run(Run),
+    Run(RunRow),
     /// The list of the versions whose numbers come after this one.
     Versions(u64),
     /// The list of the runs whose numbers come after this one.

@@ -14,7 +14,7 @@ ghost use Rattle.machine.specs.Ranges.{IsKeepCount, IsSettingsAsk};
 ghost use Rattle.machine.specs.Laws.{holds, is_nobody};
 ghost use Rattle.machine.specs.RunSteps.{is_last};
 ghost use Rattle.machine.specs.declared.records.Organization.{Organization as AnyOrganization};
-ghost use Rattle.machine.specs.declared.records.Holder.TheVariants.{Run as HoldingRun};
+ghost use Rattle.basis.specs.declared.rows.Holder.TheVariants.{Run as HoldingRun};
 ghost use Rattle.machine.specs.declared.acts.Unit.TheVariants.{Present};
 ghost use Rattle.machine.specs.declared.acts.Act.TheVariants.{PutWorkspace};
 ghost use Rattle.machine.specs.declared.acts.Answer.TheVariants.{Done, Workspace as ShownWorkspace, Run as ShownRun};
@@ -22,12 +22,12 @@ ghost use Rattle.machine.specs.declared.acts.Edit.TheVariants.{Make, Release, Ad
 ghost use Rattle.machine.specs.declared.acts.Decision.TheVariants.{Accepted, Refused};
 
 use crate::acts::{Act, Answer, Change, Decision, Edit, Newest, Shown, Unit, WorkspaceUnit};
-use crate::records::{Holder, Run, Version};
+use crate::records::{Version, is_waiting};
 use crate::run_steps::next_status;
 use basis::numbers::MAX_KEPT;
 use basis::{
-    Bytes, Down, HolderId, KeepCount, LockId, Look, Moment, Number, Refusal, RunAction, RunAsk,
-    RunStatus, Settings, SettingsAsk, StateHead, Text, is_run_id,
+    Bytes, Down, Holder, HolderId, KeepCount, LockId, Look, Moment, Number, Refusal, RunAction,
+    RunAsk, RunRow, RunStatus, Settings, SettingsAsk, StateHead, Text, is_run_id,
 };
 use std::alloc::Global;
 
@@ -433,14 +433,14 @@ fn status_begun(start: Option<Number>, number: Number, status: RunStatus) -> Run
 
 // A run as it is after an act: in a status, or planning where it is the one that starts.
 fn run_after(
-    run: &Run,
+    run: &RunRow,
     action: Option<RunAction>,
     status: RunStatus,
     start: Option<Number>,
-) -> Result<Run, Down>
+) -> Result<RunRow, Down>
     ensures { IfOk result (λ after. after ≡ begun_by start (record run.now { action = action; status = status })) }
 {
-    Ok(Run {
+    Ok(RunRow {
         number: run.number,
         plan_only: run.plan_only,
         key: run.key.clone()?,
@@ -461,7 +461,7 @@ fn copy_of(ask: &RunAsk) -> Result<RunAsk, Down>
     })
 }
 
-pub(crate) fn new_run(number: Number, ask: &RunAsk, now: Moment) -> Result<Run, Down>
+pub(crate) fn new_run(number: Number, ask: &RunAsk, now: Moment) -> Result<RunRow, Down>
     ensures { IfOk result (λ run. run ≡ new_run number ask.now now) }
 {
     let status = if ask.plan_only {
@@ -469,7 +469,7 @@ pub(crate) fn new_run(number: Number, ask: &RunAsk, now: Moment) -> Result<Run, 
     } else {
         RunStatus::Pending
     };
-    Ok(Run {
+    Ok(RunRow {
         number,
         plan_only: ask.plan_only,
         key: ask.key.clone()?,
@@ -481,10 +481,10 @@ pub(crate) fn new_run(number: Number, ask: &RunAsk, now: Moment) -> Result<Run, 
 }
 
 // The run that starts once a run has come behind the others: no other one waits where nobody holds.
-fn start_with(unit: &WorkspaceUnit, run: &Run) -> Option<Number>
+fn start_with(unit: &WorkspaceUnit, run: &RunRow) -> Option<Number>
     ensures { result ≡ start_with unit.now run.now }
 {
-    let own = if run.is_waiting() {
+    let own = if is_waiting(run) {
         Some(run.number)
     } else {
         None
@@ -493,7 +493,7 @@ fn start_with(unit: &WorkspaceUnit, run: &Run) -> Option<Number>
 }
 
 // A run comes behind the others, and is told as it is once one has started.
-fn add_run(run: &Run, ask: &RunAsk, now: Moment, start: Option<Number>) -> Result<Decision, Down>
+fn add_run(run: &RunRow, ask: &RunAsk, now: Moment, start: Option<Number>) -> Result<Decision, Down>
     ensures { IfOk result (λ decision. decision ≡ changing (ShownRun (begun_by start run.now)) (AddRun run.now.number ask.now now) start) }
 {
     let answer = Answer::Run(run_after(run, run.action, run.status, start)?);
@@ -516,7 +516,7 @@ fn decide_new_run(unit: &WorkspaceUnit, ask: &RunAsk, now: Moment) -> Result<Dec
     add_run(&run, ask, now, start)
 }
 
-fn show_run(run: &Run) -> Result<Decision, Down>
+fn show_run(run: &RunRow) -> Result<Decision, Down>
     ensures { IfOk result (λ decision. decision ≡ Accepted (ShownRun run.now) None) }
 {
     Ok(Decision::Accepted {
@@ -540,7 +540,7 @@ fn decide_make(unit: &WorkspaceUnit, ask: &RunAsk, now: Moment) -> Result<Decisi
     }
 }
 
-fn decide_read_run(asked_run: &Option<Run>) -> Result<Decision, Down>
+fn decide_read_run(asked_run: &Option<RunRow>) -> Result<Decision, Down>
     ensures { IfOk result (λ decision. decision ≡ decided_read_run asked_run.now) }
 {
     match asked_run {
@@ -562,7 +562,7 @@ fn holds(holder: &Holder, n: Number) -> bool
 // A run took an action that leads it to a status: where it held and has ended, the first run that waits starts.
 fn decide_step(
     unit: &WorkspaceUnit,
-    run: &Run,
+    run: &RunRow,
     n: Number,
     action: RunAction,
     status: RunStatus,

@@ -28,5 +28,5 @@ pub use laws::{
 };
 pub use maps::NameMap;
 pub use plain::PlainKeep;
-pub use records::{Holder, Organization, Run, Token, Version, Workspace};
+pub use records::{Organization, Token, Version, Workspace};
 pub use run_steps::next_status;

@@ -6,7 +6,7 @@ ghost use Rattle.machine.specs.Effects.{effect};
 ghost use Rattle.machine.specs.Laws.{AreLawful};
 ghost use Rattle.machine.specs.Records.{with_workspace, placed};
 ghost use Rattle.basis.specs.Names.{is_prefix};
-ghost use Rattle.machine.specs.Showing.{comes_after, is_listed, shown_of, row_of, version_row, run_row, workspaces_listed, versions_listed, runs_listed};
+ghost use Rattle.machine.specs.Showing.{comes_after, is_listed, shown_of, row_of, version_row, workspaces_listed, versions_listed, runs_listed};
 ghost use Rattle.machine.specs.Tokens.{token_with, has_digest, new_organization, org_added, org_limited, token_added, token_revoked, token_of, token_row, tokens_listed, tokens_told};
 ghost use Rattle.machine.specs.Changes.{left_above, edited, changed_by};
 ghost use Rattle.machine.specs.Ranges.{IsMoment};
@@ -23,11 +23,12 @@ use crate::acts::{Act, Change, Edit, Needs, Newest, Staying, Unit, WorkspaceUnit
 use crate::decisions::{holder_id, new_run};
 use crate::keeps::{AdminAnswer, Keep, OrgRow, TokenRow};
 use crate::maps::{Entry, NameMap};
-use crate::records::{Holder, Organization, Run, Token, Version, Workspace};
+use crate::records::{Organization, Token, Version, Workspace, is_waiting};
 use basis::numbers::MAX_LIMIT;
 use basis::{
-    Bounds, Bytes, Caller, Down, Items, KeepCount, Limit, Listing, LockId, Moment, Number, OrgName,
-    Prefix, Role, RunAction, RunAsk, RunRow, RunStatus, Settings, Text, VersionRow, WsName, WsRow,
+    Bounds, Bytes, Caller, Down, Holder, Items, KeepCount, Limit, Listing, LockId, Moment, Number,
+    OrgName, Prefix, Role, RunAction, RunAsk, RunRow, RunStatus, Settings, Text, VersionRow,
+    WsName, WsRow,
 };
 use std::alloc::Global;
 use std::cmp::Ordering;
@@ -609,7 +610,7 @@ fn is_removal(edit: &Edit) -> bool
 }
 
 // The run of this number is planning.
-fn begin(runs: &mut Items<Run>, n: Number)
+fn begin(runs: &mut Items<RunRow>, n: Number)
     ensures { runs.new ≡ map_list (begun n) runs.old }
 {
     for run in runs.items.iter_mut() {
@@ -624,7 +625,7 @@ fn begun_status(starts: bool, status: RunStatus) -> RunStatus
 }
 
 // The run of this number took this action last, and is in this status.
-fn record(runs: &mut Items<Run>, n: Number, action: RunAction, status: RunStatus)
+fn record(runs: &mut Items<RunRow>, n: Number, action: RunAction, status: RunStatus)
     ensures { runs.new ≡ map_list (reported n action status) runs.old }
 {
     for run in runs.items.iter_mut() {
@@ -721,13 +722,13 @@ fn outgoing_by(staying: Staying, keep: KeepCount, versions: &[Version]) -> Optio
     }
 }
 
-fn run_of(n: Number, runs: &[Run]) -> Option<&Run>
+fn run_of(n: Number, runs: &[RunRow]) -> Option<&RunRow>
     ensures { option_copied result ≡ run_of n runs.now }
 {
     runs.iter().find(|run| run.number == n)
 }
 
-fn is_keyed(key: &Text, run: &Run) -> bool
+fn is_keyed(key: &Text, run: &RunRow) -> bool
     ensures { result ≡ is_keyed key.now run.now }
 {
     match &run.key {
@@ -736,13 +737,13 @@ fn is_keyed(key: &Text, run: &Run) -> bool
     }
 }
 
-fn run_with_key<'a>(key: &Text, runs: &'a [Run]) -> Option<&'a Run>
+fn run_with_key<'a>(key: &Text, runs: &'a [RunRow]) -> Option<&'a RunRow>
     ensures { option_copied result ≡ find (is_keyed key.now) runs.now }
 {
     runs.iter().find(|run| is_keyed(key, run))
 }
 
-fn keyed_run<'a>(key: Option<&Text>, runs: &'a [Run]) -> Option<&'a Run>
+fn keyed_run<'a>(key: Option<&Text>, runs: &'a [RunRow]) -> Option<&'a RunRow>
     ensures { option_copied result ≡ keyed_run (option_copied key.entry) runs.now }
 {
     match key {
@@ -751,7 +752,7 @@ fn keyed_run<'a>(key: Option<&Text>, runs: &'a [Run]) -> Option<&'a Run>
     }
 }
 
-fn copy_of(run: Option<&Run>) -> Result<Option<Run>, Down>
+fn copy_of(run: Option<&RunRow>) -> Result<Option<RunRow>, Down>
     ensures { IfOk result (λ copy. copy ≡ option_copied run.entry) }
 {
     match run {
@@ -761,7 +762,11 @@ fn copy_of(run: Option<&Run>) -> Result<Option<Run>, Down>
 }
 
 // The run that is asked of: by its number, or, where none is given, by its key.
-fn asked_run(number: Option<Number>, key: Option<&Text>, runs: &[Run]) -> Result<Option<Run>, Down>
+fn asked_run(
+    number: Option<Number>,
+    key: Option<&Text>,
+    runs: &[RunRow],
+) -> Result<Option<RunRow>, Down>
     ensures { IfOk result (λ run. run ≡ asked_run number (option_copied key.entry) runs.now) }
 {
     match number {
@@ -770,28 +775,28 @@ fn asked_run(number: Option<Number>, key: Option<&Text>, runs: &[Run]) -> Result
     }
 }
 
-fn open_runs(runs: &[Run]) -> usize
+fn open_runs(runs: &[RunRow]) -> usize
     ensures { result ≡ open_runs runs.now }
 {
     runs.iter().filter(|run| run.status.is_open()).count()
 }
 
-fn open_runs_if(needed: bool, runs: &[Run]) -> usize
+fn open_runs_if(needed: bool, runs: &[RunRow]) -> usize
     ensures { result ≡ cond needed (open_runs runs.now) 0 }
 {
     if needed { open_runs(runs) } else { 0 }
 }
 
-fn first_waiting_if(needed: bool, runs: &[Run]) -> Option<Number>
+fn first_waiting_if(needed: bool, runs: &[RunRow]) -> Option<Number>
     ensures { result ≡ if_needed needed (first_waiting runs.now) }
 {
     if needed { first_waiting(runs) } else { None }
 }
 
-fn first_waiting(runs: &[Run]) -> Option<Number>
+fn first_waiting(runs: &[RunRow]) -> Option<Number>
     ensures { result ≡ first_waiting runs.now }
 {
-    match runs.iter().find(|run| run.is_waiting()) {
+    match runs.iter().find(|run| is_waiting(run)) {
         Some(run) => Some(run.number),
         None => None,
     }
@@ -904,27 +909,13 @@ fn list_versions(
     Ok(list)
 }
 
-fn run_row(run: &Run) -> Result<RunRow, Down>
-    ensures { IfOk result (λ row. row ≡ run_row run.now) }
-{
-    Ok(RunRow {
-        action: run.action,
-        created: run.created,
-        key: run.key.clone()?,
-        message: run.message.clone()?,
-        number: run.number,
-        plan_only: run.plan_only,
-        status: run.status,
-    })
-}
-
-fn list_runs(alloc: Global, after: u64, runs: &[Run]) -> Result<Listing<RunRow>, Down>
+fn list_runs(alloc: Global, after: u64, runs: &[RunRow]) -> Result<Listing<RunRow>, Down>
     ensures { IfOk result (λ list. list ≡ runs_listed after runs.now) }
 {
     let mut list = Listing::new(alloc);
     for run in runs {
         if after < run.number.get() as u64 {
-            list.offer(run_row(run)?)?;
+            list.offer(run.clone()?)?;
         }
     }
     Ok(list)

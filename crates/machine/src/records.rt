@@ -4,16 +4,8 @@ ghost use Rattle.machine.specs.Settling.{is_waiting};
 
 use crate::maps::NameMap;
 use basis::{
-    Bytes, Caller, Items, Limit, LockId, Moment, Number, RunAction, RunStatus, Settings, Text,
+    Bytes, Caller, Holder, Items, Limit, LockId, Moment, Number, RunRow, RunStatus, Settings, Text,
 };
-
-/// Who holds a workspace: nobody, a lock with the text that took it, or a run.
-#[derive(Clone, Drop)]
-pub enum Holder {
-    Nobody,
-    Lock { id: LockId, text: Bytes },
-    Run(Number),
-}
 
 /// A version of a workspace's state. Its text is kept byte for byte as it was sent.
 #[derive(Clone, Drop)]
@@ -25,25 +17,11 @@ pub struct Version {
     pub text: Bytes,
 }
 
-/// A run of a workspace.
-#[derive(Clone, Drop)]
-pub struct Run {
-    pub number: Number,
-    pub plan_only: bool,
-    pub key: Option<Text>,
-    pub message: Text,
-    pub created: Moment,
-    pub status: RunStatus,
-    pub action: Option<RunAction>,
-}
-
-impl Run {
-    /// Whether it is a queued run that is pending.
-    pub fn is_waiting(&self) -> bool
-        ensures { result ≡ is_waiting self.now }
-    {
-        matches!(self.status, RunStatus::Pending) && !self.plan_only
-    }
+/// Whether it is a queued run that is pending.
+pub(crate) fn is_waiting(run: &RunRow) -> bool
+    ensures { result ≡ is_waiting run.now }
+{
+    matches!(run.status, RunStatus::Pending) && !run.plan_only
 }
 
 /// What a workspace holds.
@@ -58,7 +36,7 @@ pub struct Workspace {
     /// The versions kept, rising by number.
     pub versions: Items<Version>,
     /// The runs, rising by number.
-    pub runs: Items<Run>,
+    pub runs: Items<RunRow>,
 }
 
 /// A bearer token: the SHA-256 of its secret, and who asks by it.

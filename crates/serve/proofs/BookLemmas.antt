@@ -19,9 +19,9 @@ use Rattle.machine.specs.Custody.{IsRefusal, IsWriter, WritesWith, Releases, IsR
 use Rattle.machine.specs.Queue.{is_active_run, Starts}
 use Rattle.machine.specs.declared.acts.Act.{Act}
 use Rattle.machine.specs.declared.acts.Act.TheVariants.{UpdateState as UpdateAct, PurgeState as PurgeAct}
-use Rattle.machine.specs.declared.records.Holder.{Holder}
-use Rattle.machine.specs.declared.records.Holder.TheVariants.{Nobody, Lock as HeldLock, Run as HeldRun}
-use Rattle.machine.specs.declared.records.Run.{Run}
+use Rattle.basis.specs.declared.rows.Holder.{Holder}
+use Rattle.basis.specs.declared.rows.Holder.TheVariants.{Nobody, Lock as HeldLock, Run as HeldRun}
+use Rattle.basis.specs.declared.rows.RunRow.{RunRow as Run}
 use Rattle.machine.specs.declared.records.Version.{Version}
 use Rattle.machine.specs.declared.records.Workspace.{Workspace}
 use Rattle.machine.specs.declared.records.Organization.{Organization}

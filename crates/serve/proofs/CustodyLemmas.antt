@@ -15,7 +15,7 @@ use Rattle.machine.specs.Tokens.{new_organization, token_of, with_token, without
 use Rattle.machine.specs.declared.keeps.AdminAnswer.TheVariants.{Done, Exists, Absent}
 use Rattle.machine.specs.declared.acts.Act.{Act}
 use Rattle.machine.specs.declared.acts.Act.TheVariants.{DeleteWorkspace as DeleteAct}
-use Rattle.machine.specs.declared.records.Holder.TheVariants.{Lock as HeldLock}
+use Rattle.basis.specs.declared.rows.Holder.TheVariants.{Lock as HeldLock}
 use Rattle.machine.specs.declared.records.Token.{Token}
 use Rattle.machine.specs.declared.records.Workspace.{Workspace}
 use Rattle.machine.specs.declared.records.Organization.{Organization}

@@ -11,7 +11,7 @@ use Rattle.machine.specs.Records.{Seen, missing, there, standing, workspace_in}
 use Rattle.machine.specs.Rules.{Outcome, refused, held, done, no_state, state, workspace, the_run, versions, runs, rules}
 use Rattle.machine.specs.Tokens.{caller_of}
 use Rattle.machine.specs.declared.acts.Act.{Act}
-use Rattle.machine.specs.declared.records.Holder.{Holder}
+use Rattle.basis.specs.declared.rows.Holder.{Holder}
 use Rattle.machine.specs.declared.records.Token.{Token}
 use Rattle.machine.specs.declared.records.Workspace.{Workspace}
 use Rattle.machine.specs.declared.records.Organization.{Organization}

@@ -22,7 +22,7 @@ use Rattle.machine.specs.declared.acts.Answer.{Answer as ActAnswer}
 use Rattle.machine.specs.declared.acts.Change.{Change}
 use Rattle.machine.specs.declared.acts.Decision.TheVariants.{Refused, Accepted}
 use Rattle.machine.specs.declared.acts.Unit.{Unit as AnyUnit}
-use Rattle.machine.specs.declared.records.Holder.{Holder}
+use Rattle.basis.specs.declared.rows.Holder.{Holder}
 use Rattle.machine.specs.declared.records.Workspace.{Workspace}
 use Rattle.machine.specs.declared.records.Organization.{Organization}
 use Rattle.machine.proofs.MapLemmas.{names_total, names_same, remove_absent}

@@ -5,7 +5,7 @@ use Rattle.machine.specs.Records.{workspace_in}
 use Rattle.machine.specs.Custody.{Releases, IsRepeatable}
 use Rattle.machine.specs.declared.acts.Act.{Act}
 use Rattle.machine.specs.declared.keeps.AdminAnswer.TheVariants.{Done}
-use Rattle.machine.specs.declared.records.Holder.TheVariants.{Lock}
+use Rattle.basis.specs.declared.rows.Holder.TheVariants.{Lock}
 use Rattle.machine.specs.declared.records.Workspace.{Workspace}
 use Rattle.machine.specs.declared.records.Organization.{Organization}
 use Rattle.route.specs.declared.acts.Asked.{Asked}

@@ -6,13 +6,13 @@ use Rattle.sha2.specs.Sha256.{sha256}
 use Rattle.docs.specs.Bodies.{error_text, ws_text, ws_list_text, version_list_text, run_text, run_list_text, run_holder_text}
 use Rattle.machine.specs.Effects.{Effect, effect}
 use Rattle.machine.specs.Rules.{Outcome, refused, held, done, no_state, state, workspace, the_run, versions, runs, Ruling, rules}
-use Rattle.machine.specs.Showing.{row_of, run_row, workspaces_after}
+use Rattle.machine.specs.Showing.{row_of, workspaces_after}
 use Rattle.machine.specs.Records.{Seen, missing, seen_in, placed}
 use Rattle.machine.specs.Tokens.{Managed, org_added, org_limited, token_added, token_revoked, token_of}
 use Rattle.machine.specs.declared.keeps.AdminAnswer.{AdminAnswer}
 use Rattle.machine.specs.declared.keeps.AdminAnswer.TheVariants.{Done}
-use Rattle.machine.specs.declared.records.Holder.{Holder}
-use Rattle.machine.specs.declared.records.Holder.TheVariants.{Nobody, Lock as HeldLock, Run as HeldRun}
+use Rattle.basis.specs.declared.rows.Holder.{Holder}
+use Rattle.basis.specs.declared.rows.Holder.TheVariants.{Nobody, Lock as HeldLock, Run as HeldRun}
 use Rattle.machine.specs.declared.records.Organization.{Organization}
 use Rattle.route.specs.declared.acts.Asked.{Asked}
 use Rattle.wire.specs.Replies.{Answer, empty_answer, no_content_answer, document_answer, refused_answer}
@@ -59,7 +59,7 @@ answer_to org ws done = empty_answer
 answer_to org ws no_state = no_content_answer
 answer_to org ws (state text) = document_answer text
 answer_to org ws (workspace shown) = document_answer (ws_text (row_of ws shown))
-answer_to org ws (the_run r) = document_answer (run_text (run_row r))
+answer_to org ws (the_run r) = document_answer (run_text r)
 answer_to org ws (versions list) = document_answer (version_list_text list)
 answer_to org ws (runs list) = document_answer (run_list_text list)
 

@@ -17,12 +17,12 @@ ghost use Rattle.serve.specs.Inner.Units.{holder_in};
 use crate::checks::{in_reach, judged, known_caller, missed};
 use crate::prepared::{Order, Pending, Prepared, Task};
 use basis::numbers::MAX_MOMENT;
-use basis::{Bytes, Down, Moment, OrgName, Prefix, Refusal, RunRow, WsName, WsRow};
+use basis::{Bytes, Down, Holder, Moment, OrgName, Prefix, Refusal, RunRow, WsName, WsRow};
 use docs::{
     write_error, write_run, write_run_holder, write_run_list, write_version_list, write_ws,
     write_ws_list,
 };
-use machine::{Answer, Change, Decision, Holder, Keep, Run, Shown, Unit, decide};
+use machine::{Answer, Change, Decision, Keep, Shown, Unit, decide};
 use route::{Asked, allowed};
 use std::alloc::Global;
 use wire::Reply;
@@ -150,19 +150,10 @@ fn workspace_reply(alloc: Global, ws: &WsName, shown: Shown) -> Result<Reply, Do
     Ok(Reply::document(Bytes::new(write_ws(alloc, &row)?)))
 }
 
-fn run_reply(alloc: Global, run: Run) -> Result<Reply, Down>
-    ensures { IfOk result (λ reply. reply ≡ answer_to [] [] (answered (ShownRun run) None)) }
+fn run_reply(alloc: Global, run: &RunRow) -> Result<Reply, Down>
+    ensures { IfOk result (λ reply. reply ≡ answer_to [] [] (answered (ShownRun run.now) None)) }
 {
-    let row = RunRow {
-        action: run.action,
-        created: run.created,
-        key: run.key,
-        message: run.message,
-        number: run.number,
-        plan_only: run.plan_only,
-        status: run.status,
-    };
-    Ok(Reply::document(Bytes::new(write_run(alloc, &row)?)))
+    Ok(Reply::document(Bytes::new(write_run(alloc, run)?)))
 }
 
 /// The reply of an accepted act.
@@ -185,7 +176,7 @@ fn accepted_reply<K: Keep>(
             None => Ok(Reply::no_content()),
         },
         Answer::Workspace(shown) => workspace_reply(alloc, ws, shown),
-        Answer::Run(run) => run_reply(alloc, run),
+        Answer::Run(run) => run_reply(alloc, &run),
         Answer::Versions(after) => list_versions(alloc, keep, org, ws, after),
         Answer::Runs(after) => list_runs(alloc, keep, org, ws, after),
     }

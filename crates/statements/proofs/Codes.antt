@@ -1,9 +1,9 @@
--- The numbers by which SQL keeps a role, a status or an action, or how many versions a workspace keeps: each fits, and means one.
+-- The numbers by which SQL keeps a role, a status or an action: each means one. Moments fit into an integer of SQL. Texts and numbers that may be absent.
 use Rattle.std.proofs.Common.{◌≡◌, ◌≤◌, ℕ, pos, SFits, w64, arith, refl, sym, ap, ◌∙◌, List, Option, Some, None, option_map, Bor}
 use Rattle.sqlite_value.specs.declared.value.Value.TheVariants.{Text, Int}
 use Rattle.sqlite.specs.Values.{or_null, bound_value}
 use Rattle.sqlite_typed.specs.Columns.{or_null as typed_null}
-use Rattle.basis.specs.declared.numbers.TheConstants.{MAX_KEPT}
+use Rattle.basis.specs.declared.numbers.TheConstants.{MAX_MOMENT}
 use Rattle.basis.specs.declared.roles.Role.{Role}
 use Rattle.basis.specs.declared.roles.Role.TheVariants.{Read, Write, Admin}
 use Rattle.basis.specs.declared.runs.RunStatus.{RunStatus}
@@ -13,33 +13,8 @@ use Rattle.basis.specs.declared.runs.RunAction.TheVariants.{ReportPlanned, Repor
 use Rattle.statements.specs.Rows.{number, role_code, status_code, action_code}
 use Rattle.statements.specs.Decode.{role_at, status_at, action_at}
 
-pub role_fits : (r : Role) → SFits w64 (pos (role_code r))
-role_fits Read = record { sfits = omega arith }
-role_fits Write = record { sfits = omega arith }
-role_fits Admin = record { sfits = omega arith }
-
-pub status_fits : (s : RunStatus) → SFits w64 (pos (status_code s))
-status_fits Pending = record { sfits = omega arith }
-status_fits Planning = record { sfits = omega arith }
-status_fits Planned = record { sfits = omega arith }
-status_fits Applying = record { sfits = omega arith }
-status_fits Applied = record { sfits = omega arith }
-status_fits PlannedAndFinished = record { sfits = omega arith }
-status_fits Errored = record { sfits = omega arith }
-status_fits Discarded = record { sfits = omega arith }
-status_fits Canceled = record { sfits = omega arith }
-
-pub action_fits : (a : RunAction) → SFits w64 (pos (action_code a))
-action_fits ReportPlanned = record { sfits = omega arith }
-action_fits ReportUnchanged = record { sfits = omega arith }
-action_fits Fail = record { sfits = omega arith }
-action_fits Confirm = record { sfits = omega arith }
-action_fits ReportApplied = record { sfits = omega arith }
-action_fits Discard = record { sfits = omega arith }
-action_fits Cancel = record { sfits = omega arith }
-
-pub keep_fits : (n : ℕ) → n ≤ MAX_KEPT → SFits w64 (pos n)
-keep_fits n most = record { sfits = omega (arith, most) }
+pub moment_fits : (n : ℕ) → n ≤ MAX_MOMENT → SFits w64 (pos n)
+moment_fits n most = record { sfits = omega (arith, most) }
 
 -- a text that may be absent, as SQL takes it
 pub optional_text : (o : Option (Bor (List ℕ))) → or_null (λ s. Text s.now) o ≡ typed_null Text (option_map (λ s. s.now) o)

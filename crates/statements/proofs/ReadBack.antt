@@ -6,20 +6,17 @@ use Rattle.sqlite_typed.specs.Columns.{or_null}
 use Rattle.basis.specs.declared.roles.Role.{Role}
 use Rattle.basis.specs.declared.runs.RunStatus.{RunStatus}
 use Rattle.basis.specs.declared.runs.RunAction.{RunAction}
-use Rattle.statements.specs.declared.rows.Holder.{Holder}
-use Rattle.statements.specs.declared.rows.Holder.TheVariants.{Nobody, Lock, Run as HeldByRun}
+use Rattle.basis.specs.declared.rows.Holder.{Holder}
+use Rattle.basis.specs.declared.rows.Holder.TheVariants.{Nobody, Lock, Run as HeldByRun}
+use Rattle.basis.specs.declared.rows.VersionRow.{VersionRow as Version}
 use Rattle.statements.specs.declared.rows.Workspace.{Workspace}
-use Rattle.statements.specs.declared.rows.Head.{Head}
 use Rattle.statements.specs.declared.rows.NamedWorkspace.{NamedWorkspace}
 use Rattle.statements.specs.declared.rows.Organization.{Organization}
-use Rattle.statements.specs.declared.rows.VersionHead.{VersionHead}
-use Rattle.statements.specs.declared.rows.Run.{Run}
+use Rattle.basis.specs.declared.rows.RunRow.{RunRow as Run}
 use Rattle.statements.specs.declared.rows.NamedRole.{NamedRole}
-use Rattle.statements.specs.declared.rows.Bound.{Bound}
-use Rattle.statements.specs.Rows.{Version, number, flag, role_code, status_code, action_code, run_settings_cells, kind_cell, lock_id_cell, lock_text_cell, run_cell}
-use Rattle.statements.specs.Finds.{head_of}
-use Rattle.statements.specs.Listings.{version_head_of}
-use Rattle.statements.specs.Calls.{IsFlagCell, IsTextOrNull, AreHolderCells, IsWorkspace, IsNamedRow, IsOrganization, IsHeadRow, IsVersionHead, IsActionOrNull, IsRunRow, IsNamedRole, IsNumberOrNull, IsBound}
+use Rattle.basis.specs.declared.roles.Bounds.{Bounds}
+use Rattle.statements.specs.Rows.{number, flag, role_code, status_code, action_code, run_settings_cells, kind_cell, lock_id_cell, lock_text_cell, run_cell}
+use Rattle.statements.specs.Calls.{IsFlagCell, IsTextOrNull, AreHolderCells, IsWorkspace, IsNamedRow, IsOrganization, IsVersionRow, IsActionOrNull, IsRunRow, IsNamedRole, IsNumberOrNull, IsBound}
 use Rattle.statements.proofs.Decoding.{run_settings_back}
 use Rattle.statements.proofs.Codes.{same_role, same_status, same_action}
 
@@ -90,20 +87,12 @@ named_workspace_read name w kept before keep last is was v told =
 pub organization_read : (name : List ℕ) (cap : ℕ) (o : Organization) → IsOrganization (cell.Text name ∷ number cap ∷ []) o → o ≡ record { name = name; cap = cap }
 organization_read name cap o told = λ i. record { name = text_read name o.name told.name i; cap = number_read cap o.cap told.cap i }
 
-pub version_head_read : (v : Version) (h : VersionHead) → IsVersionHead (number v.number ∷ number v.serial ∷ cell.Text v.lineage ∷ number v.created ∷ number v.size ∷ []) h → h ≡ version_head_of v
-version_head_read v h told = λ i. record {
+pub version_read : (v h : Version) → IsVersionRow (number v.number ∷ number v.serial ∷ cell.Text v.lineage ∷ number v.created ∷ number v.size ∷ []) h → h ≡ v
+version_read v h told = λ i. record {
   number = number_read v.number h.number told.number_is i;
   serial = number_read v.serial h.serial told.serial i;
   lineage = text_read v.lineage h.lineage told.lineage i;
   created = number_read v.created h.created told.created i;
-  size = number_read v.size h.size told.size i;
-}
-
-pub head_read : (v : Version) (h : Head) → IsHeadRow (number v.number ∷ number v.serial ∷ cell.Text v.lineage ∷ number v.size ∷ []) h → h ≡ head_of v
-head_read v h told = λ i. record {
-  number = number_read v.number h.number told.number_is i;
-  serial = number_read v.serial h.serial told.serial i;
-  lineage = text_read v.lineage h.lineage told.lineage i;
   size = number_read v.size h.size told.size i;
 }
 
@@ -128,5 +117,5 @@ run_read r q told = λ i. record {
 pub named_role_read : (name : List ℕ) (role : Role) (r : NamedRole) → IsNamedRole (cell.Text name ∷ number (role_code role) ∷ []) r → r ≡ record { name = name; role = role }
 named_role_read name role r told = λ i. record { name = text_read name r.name told.name i; role = role_read role r.role told.role i }
 
-pub bound_read : (until : Option ℕ) (prefix : List ℕ) (b : Bound) → IsBound (or_null number until ∷ cell.Text prefix ∷ []) b → b ≡ record { until = until; prefix = prefix }
+pub bound_read : (until : Option ℕ) (prefix : List ℕ) (b : Bounds) → IsBound (or_null number until ∷ cell.Text prefix ∷ []) b → b ≡ record { until = until; prefix = prefix }
 bound_read until prefix b told = λ i. record { until = optional_number_read until b.until told.until i; prefix = text_read prefix b.prefix told.prefix i }

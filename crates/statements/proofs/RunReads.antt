@@ -11,7 +11,7 @@ use Rattle.statements.specs.Tables.{Tables, Holds, run_layout}
 use Rattle.statements.specs.Changes.{is_run_row, is_run_of}
 use Rattle.statements.specs.Finds.{is_waiting_of, first_waiting_of, status_at_number, is_run_with_key, is_open_run_of, run_at_number, keyed_run_of, open_runs_of}
 use Rattle.statements.specs.Calls.{FirstRow, FirstRows, Pins, IsNumber, IsStatus, IsRunRow}
-use Rattle.statements.specs.declared.rows.Run.{Run}
+use Rattle.basis.specs.declared.rows.RunRow.{RunRow as Run}
 use Rattle.statements.specs.Listings.{run_rows_after, RunsRise}
 use Rattle.statements.proofs.Held.{IsHeld, runs_held}
 use Rattle.statements.proofs.Listed.{by_column, numbered_are}

@@ -124,10 +124,10 @@ abbrev pub count_ws_core : Core
 count_ws_core = from_table (One (CallStar (codes "count")) None (codes "count(*)") ∷ []) (codes "ws") (is_given (codes "org") 1)
 
 abbrev pub newest_version_core : Core
-newest_version_core = from_table (shown_columns (codes "number" ∷ codes "serial" ∷ codes "lineage" ∷ codes "size" ∷ [])) (codes "version") (at_key (codes "org") (codes "ws"))
+newest_version_core = from_table (shown_columns (codes "number" ∷ codes "serial" ∷ codes "lineage" ∷ codes "created" ∷ codes "size" ∷ [])) (codes "version") (at_key (codes "org") (codes "ws"))
 
 abbrev pub oldest_below_core : Core
-oldest_below_core = from_table (shown_columns (codes "number" ∷ codes "serial" ∷ codes "lineage" ∷ codes "size" ∷ [])) (codes "version") (also (at_key (codes "org") (codes "ws")) (Two Lt (named (codes "number")) (Parameter 3)))
+oldest_below_core = from_table (shown_columns (codes "number" ∷ codes "serial" ∷ codes "lineage" ∷ codes "created" ∷ codes "size" ∷ [])) (codes "version") (also (at_key (codes "org") (codes "ws")) (Two Lt (named (codes "number")) (Parameter 3)))
 
 abbrev pub version_back_core : Core
 version_back_core = from_table (shown_columns (codes "number" ∷ [])) (codes "version") (at_key (codes "org") (codes "ws"))

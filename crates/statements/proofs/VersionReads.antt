@@ -5,21 +5,21 @@ use Rattle.sqlite_value.specs.declared.value.Value.TheVariants.{Text, Int}
 use Rattle.sqlite_value.specs.Order.{Row, value_cmp}
 use Rattle.sqlite_keyed.proofs.ListLemmas.{first_taken}
 use Rattle.sqlite.specs.State.{State}
+use Rattle.basis.specs.declared.rows.VersionRow.{VersionRow as Version}
 use Rattle.statements.specs.Schema.{version_table}
 use Rattle.statements.specs.Rows.{Kept, VersionRow, id_of, version_cells, number}
 use Rattle.statements.specs.Tables.{Tables, Holds, version_layout}
 use Rattle.statements.specs.Changes.{is_version, is_version_of, is_version_below}
-use Rattle.statements.specs.Finds.{head_of, back_by_number, newest_of, number_back, oldest_below, size_of}
-use Rattle.statements.specs.Calls.{FirstRow, FirstRows, Pins, IsHeadRow, IsVersionHead, IsNumber}
-use Rattle.statements.specs.declared.rows.VersionHead.{VersionHead}
-use Rattle.statements.specs.Listings.{version_head_of, version_rows_after, VersionsRise}
+use Rattle.statements.specs.Finds.{back_by_number, newest_of, number_back, oldest_below, size_of}
+use Rattle.statements.specs.Calls.{FirstRow, FirstRows, Pins, IsVersionRow, IsNumber}
+use Rattle.statements.specs.Listings.{version_rows_after, VersionsRise}
 use Rattle.statements.proofs.Held.{IsHeld, versions_held}
 use Rattle.statements.proofs.Listed.{by_column, numbered_are}
 use Rattle.statements.proofs.PointReads.{first_own, ranked_own, first_behind}
 use Rattle.statements.proofs.Answered.{in_order_of_both, untied_down}
 use Rattle.sqlite_typed.proofs.AnswerLemmas.{IsNoTie}
 use Rattle.std.specs.Ordering.{ordering_then}
-use Rattle.statements.proofs.ReadBack.{number_read, head_read, version_head_read}
+use Rattle.statements.proofs.ReadBack.{number_read, version_read}
 use Rattle.statements.proofs.Conditions.{two_texts, two_texts_number, two_texts_above, two_texts_below}
 use Rattle.statements.proofs.VersionTexts.{list_versions_text, list_versions_means, list_versions_rest, list_versions_names, newest_version_text, newest_version_means, newest_version_rest, version_back_text, version_back_means, version_back_rest, oldest_below_text, oldest_below_means, oldest_below_rest, version_size_text, version_size_means, version_size_rest}
 
@@ -37,16 +37,16 @@ module _ (old new : State) (t : Tables) (h : Holds old.now t) where
   abbrev held : IsHeld version_layout old.now t.versions
   held = versions_held old.now t h
 
-  pub newest_version_shows : (org ws : List ℕ) (row : Option Row) → FirstRow newest_version_text (Text org ∷ Text ws ∷ []) old new row → Pins IsHeadRow row (newest_of org ws t)
+  pub newest_version_shows : (org ws : List ℕ) (row : Option Row) → FirstRow newest_version_text (Text org ∷ Text ws ∷ []) old new row → Pins IsVersionRow row (newest_of org ws t)
   newest_version_shows org ws row first =
-      ranked_own version_cells version_table old new held.own t.versions held.rows held.keyed newest_version_text (Text org ∷ Text ws ∷ []) row first newest_version_rest (codes "number" ∷ codes "serial" ∷ codes "lineage" ∷ codes "size" ∷ [])
-      (is_version_of org ws) (λ x. two_texts x.1.org org x.1.ws ws) IsHeadRow (λ x. head_of x.1.it) (λ x y told. head_read x.1.it y told)
+      ranked_own version_cells version_table old new held.own t.versions held.rows held.keyed newest_version_text (Text org ∷ Text ws ∷ []) row first newest_version_rest (codes "number" ∷ codes "serial" ∷ codes "lineage" ∷ codes "created" ∷ codes "size" ∷ [])
+      (is_version_of org ws) (λ x. two_texts x.1.org org x.1.ws ws) IsVersionRow (λ x. x.1.it) (λ x y told. version_read x.1.it y told)
       3 true back_by_number untied_back in_order_back 0 (newest_version_means old.now.schema _ _ held.own.place) first_taken
 
-  pub oldest_below_shows : (org ws : List ℕ) (n : ℕ) (row : Option Row) → FirstRow oldest_below_text (Text org ∷ Text ws ∷ number n ∷ []) old new row → Pins IsHeadRow row (oldest_below org ws n t)
+  pub oldest_below_shows : (org ws : List ℕ) (n : ℕ) (row : Option Row) → FirstRow oldest_below_text (Text org ∷ Text ws ∷ number n ∷ []) old new row → Pins IsVersionRow row (oldest_below org ws n t)
   oldest_below_shows org ws n row first =
-      first_own version_cells version_table old new held.own t.versions held.rows held.keyed oldest_below_text (Text org ∷ Text ws ∷ number n ∷ []) row first oldest_below_rest (codes "number" ∷ codes "serial" ∷ codes "lineage" ∷ codes "size" ∷ [])
-      (is_version_below org ws n) (λ x. two_texts_below x.1.org org x.1.ws ws x.1.it.number n) IsHeadRow (λ x. head_of x.1.it) (λ x y told. head_read x.1.it y told) (oldest_below_means old.now.schema _ _ held.own.place) first_taken
+      first_own version_cells version_table old new held.own t.versions held.rows held.keyed oldest_below_text (Text org ∷ Text ws ∷ number n ∷ []) row first oldest_below_rest (codes "number" ∷ codes "serial" ∷ codes "lineage" ∷ codes "created" ∷ codes "size" ∷ [])
+      (is_version_below org ws n) (λ x. two_texts_below x.1.org org x.1.ws ws x.1.it.number n) IsVersionRow (λ x. x.1.it) (λ x y told. version_read x.1.it y told) (oldest_below_means old.now.schema _ _ held.own.place) first_taken
 
   pub version_back_shows : (org ws : List ℕ) (place : ℕ) (row : Option Row) → FirstRow version_back_text (Text org ∷ Text ws ∷ number place ∷ []) old new row → Pins IsNumber row (number_back org ws place t)
   version_back_shows org ws place row first =
@@ -59,9 +59,9 @@ module _ (old new : State) (t : Tables) (h : Holds old.now t) where
       first_own version_cells version_table old new held.own t.versions held.rows held.keyed version_size_text (Text org ∷ Text ws ∷ number n ∷ []) row first version_size_rest (codes "size" ∷ [])
       (is_version org ws n) (λ x. two_texts_number x.1.org org x.1.ws ws x.1.it.number n) IsNumber (λ x. x.1.it.size) (λ x y told. number_read x.1.it.size y told) (version_size_means old.now.schema _ _ held.own.place) (λ l. refl)
 
-  pub list_versions_shows : (org ws : List ℕ) (after most : ℕ) (rows : List Row) (heads : List VersionHead) → VersionsRise org ws t → FirstRows most list_versions_text (Text org ∷ Text ws ∷ number after ∷ []) old new rows
-      → AllZip IsVersionHead rows heads → heads ≡ version_rows_after org ws after most t
+  pub list_versions_shows : (org ws : List ℕ) (after most : ℕ) (rows : List Row) (heads : List Version) → VersionsRise org ws t → FirstRows most list_versions_text (Text org ∷ Text ws ∷ number after ∷ []) old new rows
+      → AllZip IsVersionRow rows heads → heads ≡ version_rows_after org ws after most t
   list_versions_shows org ws after most rows heads rise first read =
       numbered_are version_cells version_table old new held.own t.versions held.rows list_versions_text (Text org ∷ Text ws ∷ number after ∷ []) list_versions_rest 3 list_versions_names
-      IsVersionHead (λ v. v.number) (λ x. version_head_of x.1.it) (is_version_of org ws) after (λ x. two_texts_above x.1.org org x.1.ws ws x.1.it.number after) (λ x y told. version_head_read x.1.it y told)
+      IsVersionRow (λ v. v.number) (λ x. x.1.it) (is_version_of org ws) after (λ x. two_texts_above x.1.org org x.1.ws ws x.1.it.number after) (λ x y told. version_read x.1.it y told)
       (λ x y. by_column x.1.it.number y.1.it.number) (list_versions_means old.now.schema _ _ held.own.place) (λ l. refl) most rows heads rise first read

@@ -40,7 +40,7 @@ pub newest_version_is_query : IsQuery newest_version_text
 newest_version_is_query = (newest_version_select, some_parsed (first newest_version_text), newest_version_reads)
 
 abbrev pub newest_version_rest : Query
-newest_version_rest = point_rest (is_at 1 0 ∷ is_at 2 1 ∷ []) (col 1 3 ∷ col 1 4 ∷ col 1 5 ∷ col 1 7 ∷ []) one_page
+newest_version_rest = point_rest (is_at 1 0 ∷ is_at 2 1 ∷ []) (col 1 3 ∷ col 1 4 ∷ col 1 5 ∷ col 1 6 ∷ col 1 7 ∷ []) one_page
 
 abbrev pub oldest_below_text : List ℕ
 oldest_below_text = OLDEST_VERSION_BELOW.now
@@ -56,7 +56,7 @@ pub oldest_below_is_query : IsQuery oldest_below_text
 oldest_below_is_query = (oldest_below_select, some_parsed (first oldest_below_text), oldest_below_reads)
 
 abbrev pub oldest_below_rest : Query
-oldest_below_rest = point_rest (is_at 1 0 ∷ is_at 2 1 ∷ is_below 3 2 ∷ []) (col 1 3 ∷ col 1 4 ∷ col 1 5 ∷ col 1 7 ∷ []) one_page
+oldest_below_rest = point_rest (is_at 1 0 ∷ is_at 2 1 ∷ is_below 3 2 ∷ []) (col 1 3 ∷ col 1 4 ∷ col 1 5 ∷ col 1 6 ∷ col 1 7 ∷ []) one_page
 
 abbrev pub version_back_text : List ℕ
 version_back_text = VERSION_BACK.now
@@ -147,7 +147,7 @@ module _ (s : Schema) (at tree : ℕ) (h : StandsAt s (codes "version") version_
   unfolding timed returning
   list_versions_means = means s (written.Select list_versions_select) _ refl (λ _. refl) list_versions_is list_versions_text (some_parsed (first list_versions_text)) list_versions_reads
 
-  newest_version_named : named s st.newest_version_core (st.by_column_and_rowid (codes "number") true) one_page ≡ Ok ((ranked_draft newest_version_rest tree 3 true), (codes "number" ∷ codes "serial" ∷ codes "lineage" ∷ codes "size" ∷ []), (Some Binary ∷ Some Binary ∷ Some Binary ∷ Some Binary ∷ []))
+  newest_version_named : named s st.newest_version_core (st.by_column_and_rowid (codes "number") true) one_page ≡ Ok ((ranked_draft newest_version_rest tree 3 true), (codes "number" ∷ codes "serial" ∷ codes "lineage" ∷ codes "created" ∷ codes "size" ∷ []), (Some Binary ∷ Some Binary ∷ Some Binary ∷ Some Binary ∷ Some Binary ∷ []))
   unfolding everything
   newest_version_named = rw (h.named, h.found, h.found, h.found, h.found, h.small) refl
 
@@ -155,16 +155,16 @@ module _ (s : Schema) (at tree : ℕ) (h : StandsAt s (codes "version") version_
   unfolding everything
   newest_version_fits = rw (h.low, h.treed) refl
 
-  newest_version_is : (base : ℕ) → command s [] base (written.Select newest_version_select) ≡ Ok (Select (plain_program (ranked newest_version_rest tree 3 true)) (codes "number" ∷ codes "serial" ∷ codes "lineage" ∷ codes "size" ∷ []))
+  newest_version_is : (base : ℕ) → command s [] base (written.Select newest_version_select) ≡ Ok (Select (plain_program (ranked newest_version_rest tree 3 true)) (codes "number" ∷ codes "serial" ∷ codes "lineage" ∷ codes "created" ∷ codes "size" ∷ []))
   unfolding everything
   newest_version_is base =
-      read_is s newest_version_select st.newest_version_core (st.by_column_and_rowid (codes "number") true) one_page ((ranked_draft newest_version_rest tree 3 true), (codes "number" ∷ codes "serial" ∷ codes "lineage" ∷ codes "size" ∷ []), (Some Binary ∷ Some Binary ∷ Some Binary ∷ Some Binary ∷ [])) refl refl refl refl refl (λ again. refl) newest_version_named (plain_program (ranked newest_version_rest tree 3 true)) newest_version_fits base
+      read_is s newest_version_select st.newest_version_core (st.by_column_and_rowid (codes "number") true) one_page ((ranked_draft newest_version_rest tree 3 true), (codes "number" ∷ codes "serial" ∷ codes "lineage" ∷ codes "created" ∷ codes "size" ∷ []), (Some Binary ∷ Some Binary ∷ Some Binary ∷ Some Binary ∷ Some Binary ∷ [])) refl refl refl refl refl (λ again. refl) newest_version_named (plain_program (ranked newest_version_rest tree 3 true)) newest_version_fits base
 
-  pub newest_version_means : Means s (Select (plain_program (ranked newest_version_rest tree 3 true)) (codes "number" ∷ codes "serial" ∷ codes "lineage" ∷ codes "size" ∷ [])) newest_version_text
+  pub newest_version_means : Means s (Select (plain_program (ranked newest_version_rest tree 3 true)) (codes "number" ∷ codes "serial" ∷ codes "lineage" ∷ codes "created" ∷ codes "size" ∷ [])) newest_version_text
   unfolding timed returning
   newest_version_means = means s (written.Select newest_version_select) _ refl (λ _. refl) newest_version_is newest_version_text (some_parsed (first newest_version_text)) newest_version_reads
 
-  oldest_below_named : named s st.oldest_below_core (st.by_rowid false) one_page ≡ Ok ((point_draft oldest_below_rest tree false), (codes "number" ∷ codes "serial" ∷ codes "lineage" ∷ codes "size" ∷ []), (Some Binary ∷ Some Binary ∷ Some Binary ∷ Some Binary ∷ []))
+  oldest_below_named : named s st.oldest_below_core (st.by_rowid false) one_page ≡ Ok ((point_draft oldest_below_rest tree false), (codes "number" ∷ codes "serial" ∷ codes "lineage" ∷ codes "created" ∷ codes "size" ∷ []), (Some Binary ∷ Some Binary ∷ Some Binary ∷ Some Binary ∷ Some Binary ∷ []))
   unfolding everything
   oldest_below_named = rw (h.named, h.found, h.found, h.found, h.small) refl
 
@@ -172,12 +172,12 @@ module _ (s : Schema) (at tree : ℕ) (h : StandsAt s (codes "version") version_
   unfolding everything
   oldest_below_fits = rw (h.low, h.treed) refl
 
-  oldest_below_is : (base : ℕ) → command s [] base (written.Select oldest_below_select) ≡ Ok (Select (plain_program (point oldest_below_rest tree false)) (codes "number" ∷ codes "serial" ∷ codes "lineage" ∷ codes "size" ∷ []))
+  oldest_below_is : (base : ℕ) → command s [] base (written.Select oldest_below_select) ≡ Ok (Select (plain_program (point oldest_below_rest tree false)) (codes "number" ∷ codes "serial" ∷ codes "lineage" ∷ codes "created" ∷ codes "size" ∷ []))
   unfolding everything
   oldest_below_is base =
-      read_is s oldest_below_select st.oldest_below_core (st.by_rowid false) one_page ((point_draft oldest_below_rest tree false), (codes "number" ∷ codes "serial" ∷ codes "lineage" ∷ codes "size" ∷ []), (Some Binary ∷ Some Binary ∷ Some Binary ∷ Some Binary ∷ [])) refl refl refl refl refl (λ again. refl) oldest_below_named (plain_program (point oldest_below_rest tree false)) oldest_below_fits base
+      read_is s oldest_below_select st.oldest_below_core (st.by_rowid false) one_page ((point_draft oldest_below_rest tree false), (codes "number" ∷ codes "serial" ∷ codes "lineage" ∷ codes "created" ∷ codes "size" ∷ []), (Some Binary ∷ Some Binary ∷ Some Binary ∷ Some Binary ∷ Some Binary ∷ [])) refl refl refl refl refl (λ again. refl) oldest_below_named (plain_program (point oldest_below_rest tree false)) oldest_below_fits base
 
-  pub oldest_below_means : Means s (Select (plain_program (point oldest_below_rest tree false)) (codes "number" ∷ codes "serial" ∷ codes "lineage" ∷ codes "size" ∷ [])) oldest_below_text
+  pub oldest_below_means : Means s (Select (plain_program (point oldest_below_rest tree false)) (codes "number" ∷ codes "serial" ∷ codes "lineage" ∷ codes "created" ∷ codes "size" ∷ [])) oldest_below_text
   unfolding timed returning
   oldest_below_means = means s (written.Select oldest_below_select) _ refl (λ _. refl) oldest_below_is oldest_below_text (some_parsed (first oldest_below_text)) oldest_below_reads
 

@@ -8,7 +8,7 @@ use Rattle.sqlite_schema.specs.declared.command.Source.TheVariants.{Values}
 use Rattle.sqlite.specs.State.{State, Executes}
 use Rattle.sqlite_keyed.proofs.KeyedLemmas.{IsKeyedBy-update_where, IsKeyedBy-delete_where}
 use Rattle.basis.specs.declared.rows.RunSettings.{RunSettings}
-use Rattle.statements.specs.declared.rows.Holder.TheVariants.{Nobody, Lock, Run as HeldByRun}
+use Rattle.basis.specs.declared.rows.Holder.TheVariants.{Nobody, Lock, Run as HeldByRun}
 use Rattle.statements.specs.Place.{at_of, tree_of, IsOwn}
 use Rattle.statements.specs.Schema.{ws_table, keeping_table}
 use Rattle.statements.specs.Rows.{Kept, id_of, WsRow, ws_cells, run_settings_cells, number}

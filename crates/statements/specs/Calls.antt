@@ -12,16 +12,15 @@ use Rattle.sqlite_value.specs.Order.{Row, column}
 use Rattle.basis.specs.declared.roles.Role.{Role}
 use Rattle.basis.specs.declared.runs.RunStatus.{RunStatus}
 use Rattle.basis.specs.declared.runs.RunAction.{RunAction}
-use Rattle.statements.specs.declared.rows.Holder.{Holder}
-use Rattle.statements.specs.declared.rows.Holder.TheVariants.{Nobody, Lock, Run as HeldByRun}
+use Rattle.basis.specs.declared.rows.Holder.{Holder}
+use Rattle.basis.specs.declared.rows.Holder.TheVariants.{Nobody, Lock, Run as HeldByRun}
+use Rattle.basis.specs.declared.rows.VersionRow.{VersionRow as Version}
 use Rattle.statements.specs.declared.rows.Workspace.{Workspace}
 use Rattle.statements.specs.declared.rows.NamedWorkspace.{NamedWorkspace}
 use Rattle.statements.specs.declared.rows.Organization.{Organization}
-use Rattle.statements.specs.declared.rows.Head.{Head}
-use Rattle.statements.specs.declared.rows.VersionHead.{VersionHead}
-use Rattle.statements.specs.declared.rows.Run.{Run}
+use Rattle.basis.specs.declared.rows.RunRow.{RunRow as Run}
 use Rattle.statements.specs.declared.rows.NamedRole.{NamedRole}
-use Rattle.statements.specs.declared.rows.Bound.{Bound}
+use Rattle.basis.specs.declared.roles.Bounds.{Bounds}
 use Rattle.statements.specs.Rows.{number, role_code, status_code, action_code}
 use Rattle.statements.specs.Decode.{run_settings_at}
 use Rattle.sqlite.specs.State.{State, IsUnchanged, IsRolledBack, KeepsCommit, ExecutesInside, QueriesRow, Shown, Begins}
@@ -105,18 +104,12 @@ pub record IsOrganization (row : Row) (o : Organization) : Type 0 where
   pub name : column row 0 ≡ cell.Text o.name
   pub cap : column row 1 ≡ number o.cap
 
-pub record IsHeadRow (row : Row) (h : Head) : Type 0 where
-  pub number_is : column row 0 ≡ number h.number
-  pub serial : column row 1 ≡ number h.serial
-  pub lineage : column row 2 ≡ cell.Text h.lineage
-  pub size : column row 3 ≡ number h.size
-
-pub record IsVersionHead (row : Row) (h : VersionHead) : Type 0 where
-  pub number_is : column row 0 ≡ number h.number
-  pub serial : column row 1 ≡ number h.serial
-  pub lineage : column row 2 ≡ cell.Text h.lineage
-  pub created : column row 3 ≡ number h.created
-  pub size : column row 4 ≡ number h.size
+pub record IsVersionRow (row : Row) (v : Version) : Type 0 where
+  pub number_is : column row 0 ≡ number v.number
+  pub serial : column row 1 ≡ number v.serial
+  pub lineage : column row 2 ≡ cell.Text v.lineage
+  pub created : column row 3 ≡ number v.created
+  pub size : column row 4 ≡ number v.size
 
 abbrev pub IsStatusCell : Value → RunStatus → Type 0
 IsStatusCell v status = v ≡ number (status_code status)
@@ -138,7 +131,7 @@ pub record IsNamedRole (row : Row) (r : NamedRole) : Type 0 where
   pub name : column row 0 ≡ cell.Text r.name
   pub role : column row 1 ≡ number (role_code r.role)
 
-pub record IsBound (row : Row) (b : Bound) : Type 0 where
+pub record IsBound (row : Row) (b : Bounds) : Type 0 where
   pub until : IsNumberOrNull (column row 0) b.until
   pub prefix : column row 1 ≡ cell.Text b.prefix
 

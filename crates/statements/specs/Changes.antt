@@ -9,11 +9,12 @@ use Rattle.basis.specs.declared.roles.Role.{Role}
 use Rattle.basis.specs.declared.rows.RunSettings.{RunSettings}
 use Rattle.basis.specs.declared.runs.RunStatus.{RunStatus}
 use Rattle.basis.specs.declared.runs.RunAction.{RunAction}
-use Rattle.statements.specs.declared.rows.Holder.{Holder}
-use Rattle.statements.specs.declared.rows.Holder.TheVariants.{Nobody}
+use Rattle.basis.specs.declared.rows.Holder.{Holder}
+use Rattle.basis.specs.declared.rows.Holder.TheVariants.{Nobody}
+use Rattle.basis.specs.declared.rows.VersionRow.{VersionRow as Version}
 use Rattle.statements.specs.declared.rows.Workspace.{Workspace}
-use Rattle.statements.specs.declared.rows.Run.{Run}
-use Rattle.statements.specs.Rows.{Version, Kept, id_of, OrgRow, TokenRow, WsRow, VersionRow, RunRow, BoundRow, KeepingRow}
+use Rattle.basis.specs.declared.rows.RunRow.{RunRow as Run}
+use Rattle.statements.specs.Rows.{Kept, id_of, OrgRow, TokenRow, WsRow, VersionRow, RunRow, BoundRow, KeepingRow}
 use Rattle.statements.specs.Tables.{Tables}
 
 -- one more row, behind the others and with the next rowid

@@ -13,12 +13,12 @@ use Rattle.basis.specs.declared.roles.Role.{Role}
 use Rattle.basis.specs.declared.runs.RunStatus.{RunStatus}
 use Rattle.basis.specs.declared.runs.RunStatus.TheVariants.{Pending}
 use Rattle.basis.specs.Runs.{is_open}
+use Rattle.basis.specs.declared.rows.VersionRow.{VersionRow as Version}
 use Rattle.statements.specs.declared.rows.Workspace.{Workspace}
-use Rattle.statements.specs.declared.rows.Head.{Head}
-use Rattle.statements.specs.declared.rows.Run.{Run}
+use Rattle.basis.specs.declared.rows.RunRow.{RunRow as Run}
 use Rattle.statements.specs.declared.rows.NamedRole.{NamedRole}
-use Rattle.statements.specs.declared.rows.Bound.{Bound}
-use Rattle.statements.specs.Rows.{Version, Kept, TokenRow, VersionRow, RunRow, BoundRow, id_of, number}
+use Rattle.basis.specs.declared.roles.Bounds.{Bounds}
+use Rattle.statements.specs.Rows.{Kept, TokenRow, VersionRow, RunRow, BoundRow, id_of, number}
 use Rattle.statements.specs.Tables.{Tables}
 use Rattle.statements.specs.Changes.{is_org, is_token, is_digest_of, is_bound, is_ws_of, is_ws, is_keeping, is_version_of, is_version, is_version_below, is_run_row}
 
@@ -42,11 +42,11 @@ named_role x = record { name = x.1.name; role = x.1.it.role }
 abbrev pub named_role_of : List ℕ → List ℕ → Tables → Option NamedRole
 named_role_of org digest t = option_map named_role (find (is_digest_of org digest) t.tokens)
 
-abbrev pub bound_in : Kept BoundRow → Bound
+abbrev pub bound_in : Kept BoundRow → Bounds
 bound_in x = record { until = x.1.until; prefix = x.1.prefix }
 
 -- how far a token of this name reaches
-abbrev pub bound_of : List ℕ → List ℕ → Tables → Option Bound
+abbrev pub bound_of : List ℕ → List ℕ → Tables → Option Bounds
 bound_of org name t = option_map bound_in (find (is_bound org name) t.bounds)
 
 abbrev pub workspace_of : List ℕ → List ℕ → Tables → Option Workspace
@@ -59,9 +59,6 @@ keep_of org ws t = option_map (λ x. x.1.keep) (find (is_keeping org ws) t.keepi
 abbrev pub workspaces_of : List ℕ → Tables → ℕ
 workspaces_of org t = counted (filter (is_ws_of org) t.wss)
 
-abbrev pub head_of : Version → Head
-head_of v = record { number = v.number; serial = v.serial; lineage = v.lineage; size = v.size }
-
 -- the order of rows of versions: by their numbers, and where two have one, by their rowids
 abbrev pub by_number : Kept VersionRow → Kept VersionRow → Ordering
 by_number x y = ordering_then (int_cmp (pos x.1.it.number) (pos y.1.it.number)) (int_cmp (id_of x) (id_of y))
@@ -71,8 +68,8 @@ abbrev pub back_by_number : Kept VersionRow → Kept VersionRow → Ordering
 back_by_number x y = by_number y x
 
 -- the version with the greatest number
-abbrev pub newest_of : List ℕ → List ℕ → Tables → Option Head
-newest_of org ws t = option_map (λ x. head_of x.1.it) (slice_get (sort_by back_by_number (filter (is_version_of org ws) t.versions)) 0)
+abbrev pub newest_of : List ℕ → List ℕ → Tables → Option Version
+newest_of org ws t = option_map (λ x. x.1.it) (slice_get (sort_by back_by_number (filter (is_version_of org ws) t.versions)) 0)
 
 -- whether a number is one less than another, as SQL reckons, which has 64 bits for a whole number
 abbrev pub is_one_less : ℕ → ℕ → Bool
@@ -90,8 +87,8 @@ abbrev pub number_back : List ℕ → List ℕ → ℕ → Tables → Option ℕ
 number_back org ws place t = option_map (λ x. x.1.it.number) (slice_get (sort_by back_by_number (filter (is_version_of org ws) t.versions)) place)
 
 -- of the versions with numbers below this one, that which was added first
-abbrev pub oldest_below : List ℕ → List ℕ → ℕ → Tables → Option Head
-oldest_below org ws n t = option_map (λ x. head_of x.1.it) (find (is_version_below org ws n) t.versions)
+abbrev pub oldest_below : List ℕ → List ℕ → ℕ → Tables → Option Version
+oldest_below org ws n t = option_map (λ x. x.1.it) (find (is_version_below org ws n) t.versions)
 
 -- how many bytes the text of a version has, if it is there
 abbrev pub size_of : List ℕ → List ℕ → ℕ → Tables → Option ℕ

@@ -9,13 +9,13 @@ use Rattle.sqlite_keyed.specs.Rules.{AreApart}
 use Rattle.std.specs.Str.{bytes_eq}
 use Rattle.basis.specs.Names.{admits}
 use Rattle.basis.specs.declared.roles.Role.{Role}
+use Rattle.basis.specs.declared.rows.VersionRow.{VersionRow as Version}
 use Rattle.statements.specs.declared.rows.NamedRole.{NamedRole}
 use Rattle.statements.specs.declared.rows.Workspace.{Workspace}
 use Rattle.statements.specs.declared.rows.NamedWorkspace.{NamedWorkspace}
-use Rattle.statements.specs.declared.rows.VersionHead.{VersionHead}
-use Rattle.statements.specs.declared.rows.Run.{Run}
+use Rattle.basis.specs.declared.rows.RunRow.{RunRow as Run}
 use Rattle.statements.specs.declared.rows.Organization.{Organization}
-use Rattle.statements.specs.Rows.{Version, Kept, TokenRow}
+use Rattle.statements.specs.Rows.{Kept, TokenRow}
 use Rattle.statements.specs.Tables.{Tables}
 use Rattle.statements.specs.Finds.{keep_of, version_before}
 use Rattle.statements.specs.Changes.{is_org, is_token, is_ws_of, is_ws, is_keeping, is_version_of, is_version, is_run_of}
@@ -94,12 +94,9 @@ pub record WorkspacesApart (t : Tables) : Type 0 where
 
 -- ---- versions
 
-abbrev pub version_head_of : Version → VersionHead
-version_head_of v = record { number = v.number; serial = v.serial; lineage = v.lineage; created = v.created; size = v.size }
-
 -- those of a workspace whose numbers are above this one, no more than so many
-abbrev pub version_rows_after : List ℕ → List ℕ → ℕ → ℕ → Tables → List VersionHead
-version_rows_after org ws after most t = take most (filter (λ v. nat_lt after v.number) (map (λ x. version_head_of x.1.it) (filter (is_version_of org ws) t.versions)))
+abbrev pub version_rows_after : List ℕ → List ℕ → ℕ → ℕ → Tables → List Version
+version_rows_after org ws after most t = take most (filter (λ v. nat_lt after v.number) (map (λ x. x.1.it) (filter (is_version_of org ws) t.versions)))
 
 abbrev pub VersionsRise : List ℕ → List ℕ → Tables → Type 0
 VersionsRise org ws t = Rise (map (λ x. x.1.it.number) (filter (is_version_of org ws) t.versions))

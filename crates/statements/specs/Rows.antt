@@ -11,23 +11,16 @@ use Rattle.basis.specs.declared.runs.RunStatus.{RunStatus}
 use Rattle.basis.specs.declared.runs.RunStatus.TheVariants.{Pending, Planning, Planned, Applying, Applied, PlannedAndFinished, Errored, Discarded, Canceled}
 use Rattle.basis.specs.declared.runs.RunAction.{RunAction}
 use Rattle.basis.specs.declared.runs.RunAction.TheVariants.{ReportPlanned, ReportUnchanged, Fail, Confirm, ReportApplied, Discard, Cancel}
-use Rattle.statements.specs.declared.rows.Holder.{Holder}
-use Rattle.statements.specs.declared.rows.Holder.TheVariants.{Nobody, Lock, Run as HeldByRun}
+use Rattle.basis.specs.declared.rows.Holder.{Holder}
+use Rattle.basis.specs.declared.rows.Holder.TheVariants.{Nobody, Lock, Run as HeldByRun}
+use Rattle.basis.specs.declared.rows.VersionRow.{VersionRow as Version}
 use Rattle.statements.specs.declared.rows.Workspace.{Workspace}
-use Rattle.statements.specs.declared.rows.Run.{Run}
+use Rattle.basis.specs.declared.rows.RunRow.{RunRow as Run}
 
 -- a token: the digest of its secret, and its role
 pub record Token : Type 0 where
   pub digest : List ℕ
   pub role : Role
-
--- A version of a workspace's state: its text stands in pages, and the row has the number of its bytes. The moment is in seconds since 1970 (UTC).
-pub record Version : Type 0 where
-  pub number : ℕ
-  pub serial : ℕ
-  pub lineage : List ℕ
-  pub created : ℕ
-  pub size : ℕ
 
 -- a row with its rowid
 abbrev pub Kept : Type 0 → Type 0

@@ -1,12 +1,11 @@
 //! Statements on the table bound: how far each token reaches.
-ghost use Rattle.std.specs.Prelude.{◌≡◌, ◌<◌, ◌^◌, pos, option_map, IfSome};
 ghost use Rattle.statements.specs.Steps.{WritesBy, WritesIn, QueriesBy};
 ghost use Rattle.statements.specs.Tables.{second_stored};
 ghost use Rattle.statements.specs.Changes.{bound_row_added, bound_row_removed, bounds_filled};
 ghost use Rattle.statements.specs.Finds.{bound_of};
 
-use crate::calls::{first_row, read_one, signed, write};
-use crate::rows::Bound;
+use crate::calls::{first_row, optional_seconds, read_one, write};
+use basis::Bounds;
 use sqlite::{Alter, Connection, Error, Transaction, params};
 
 const FIND_BOUND: &str =
@@ -17,22 +16,11 @@ pub fn find<S: Alter>(
     conn: &mut Connection<S>,
     org: &str,
     name: &str,
-) -> Result<Option<Bound>, Error>
+) -> Result<Option<Bounds>, Error>
     ensures { QueriesBy S.Store (bound_of org.now name.now) conn.old conn.new result }
 {
     let row = first_row(conn, FIND_BOUND, params![org, name]);
     read_one(row)
-}
-
-/// A number as SQL has it, where there is one.
-fn optional_signed(n: Option<u64>) -> Option<i64>
-    requires fits { IfSome n (λ n. n < 2 ^ 63) }
-    ensures { result ≡ option_map pos n }
-{
-    match n {
-        None => None,
-        Some(n) => Some(signed(n)),
-    }
 }
 
 const ADD_BOUND: &str = "INSERT INTO bound (org, name, until, prefix) VALUES (?1, ?2, ?3, ?4)";
@@ -42,13 +30,12 @@ pub fn add<'v, S: Alter>(
     tx: &mut Transaction<'_, S>,
     org: &'v str,
     name: &'v str,
-    until: Option<u64>,
-    prefix: &'v str,
+    bounds: &'v Bounds,
 ) -> Result<(), Error>
-    requires until_fits { IfSome until (λ n. n < 2 ^ 63) }
-    ensures { WritesBy S.Store (bound_row_added org.now name.now until prefix.now) tx.old tx.new result }
+    ensures { WritesBy S.Store (bound_row_added org.now name.now bounds.now.until bounds.now.prefix) tx.old tx.new result }
 {
-    let until = optional_signed(until);
+    let until = optional_seconds(bounds.until);
+    let prefix = bounds.prefix.as_str();
     write(tx, ADD_BOUND, params![org, name, until, prefix])
 }
 

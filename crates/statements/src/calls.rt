@@ -1,18 +1,21 @@
 //! How a text is run, and how the row that it gives is read.
-ghost use Rattle.std.specs.Prelude.{◌≡◌, false, ◌^◌, ◌<◌, ◌≤◌, pos, IsTrue, IfOk};
+ghost use Rattle.std.specs.Prelude.{◌≡◌, false, ◌^◌, ◌<◌, ◌≤◌, pos, option_map, string_bytes, IsTrue, IfOk};
 ghost use Rattle.std.specs.List.{AllZip};
 ghost use Rattle.sqlite_value.specs.Order.{column, Row as SqlRow};
 ghost use Rattle.sqlite.specs.Values.{bound};
 ghost use Rattle.sqlite.specs.Held.{state};
 ghost use Rattle.sqlite.specs.State.{HasCleanDisk, Survives, Shown};
-ghost use Rattle.basis.specs.declared.numbers.TheConstants.{MAX_KEPT};
+ghost use Rattle.basis.specs.declared.numbers.TheConstants.{MAX_MOMENT};
 ghost use Rattle.statements.specs.Rows.{number, role_code, status_code, action_code, flag};
 ghost use Rattle.statements.specs.Decode.{flag_at};
-ghost use Rattle.statements.specs.Calls.{Wrote, WroteAny, IsQuery, FirstRow, FirstRows, IsCalm, IsRead, AreRead, IsOrganization, IsVersionHead, IsTextOrNull, IsHeadRow, IsRunRow, IsNamedRole, IsNumberOrNull, IsBound, IsBody, IsNumber, IsRole, IsStatusCell, IsActionOrNull, IsStatus, IsCount};
+ghost use Rattle.statements.specs.Calls.{Wrote, WroteAny, IsQuery, FirstRow, FirstRows, IsCalm, IsRead, AreRead, IsOrganization, IsVersionRow, IsTextOrNull, IsRunRow, IsNamedRole, IsNumberOrNull, IsBound, IsBody, IsNumber, IsRole, IsStatusCell, IsActionOrNull, IsStatus, IsCount};
 
-use crate::rows::{Bound, Head, NamedRole, Organization, Run, VersionHead};
-use basis::{Bytes, Items, KeepCount, Role, RunAction, RunStatus, Text};
-use sqlite::types::ValueRef;
+use crate::rows::{NamedRole, Organization};
+use basis::{
+    Bounds, Bytes, Items, KeepCount, Limit, LockId, Moment, Number, Prefix, Role, RunAction,
+    RunRow, RunStatus, Text, VersionRow, WsName,
+};
+use sqlite::types::{Type, ValueRef};
 use sqlite::{Alter, Connection, Error, Row, Transaction};
 use std::alloc::Global;
 
@@ -129,6 +132,24 @@ pub fn signed(n: u64) -> i64
     n as i64
 }
 
+/// The seconds of a moment since 1970 (UTC), as SQL has them.
+pub(crate) fn seconds(moment: Moment) -> i64
+    ensures number { result ≡ pos moment }
+    ensures most { moment ≤ MAX_MOMENT }
+{
+    signed(moment.seconds())
+}
+
+/// The same of a moment that may be absent.
+pub(crate) fn optional_seconds(moment: Option<Moment>) -> Option<i64>
+    ensures { result ≡ option_map pos moment }
+{
+    match moment {
+        Some(moment) => Some(seconds(moment)),
+        None => None,
+    }
+}
+
 pub(crate) fn optional_text(row: &Row, at: usize) -> Result<Option<Text>, Error>
     ensures { IfOk result (IsTextOrNull (column row.now at)) }
 {
@@ -138,21 +159,109 @@ pub(crate) fn optional_text(row: &Row, at: usize) -> Result<Option<Text>, Error>
     }
 }
 
-pub(crate) fn optional_number(row: &Row, at: usize) -> Result<Option<u64>, Error>
+/// The number of a version or of a run.
+pub(crate) fn number_of(number: u64, at: usize) -> Result<Number, Error>
+    ensures { IfOk result (λ x. x ≡ number) }
+{
+    match Number::new(number) {
+        Some(number) => Ok(number),
+        None => Err(Error::IntegralValueOutOfRange(at)),
+    }
+}
+
+/// A moment, from the seconds since 1970 (UTC).
+fn moment_of(seconds: u64, at: usize) -> Result<Moment, Error>
+    ensures { IfOk result (λ x. x ≡ seconds) }
+{
+    match Moment::new(seconds) {
+        Some(moment) => Ok(moment),
+        None => Err(Error::IntegralValueOutOfRange(at)),
+    }
+}
+
+/// How many versions a workspace keeps.
+fn keep_of(keep: u64, at: usize) -> Result<KeepCount, Error>
+    ensures { IfOk result (λ x. x ≡ keep) }
+{
+    match KeepCount::new(keep) {
+        Some(keep) => Ok(keep),
+        None => Err(Error::IntegralValueOutOfRange(at)),
+    }
+}
+
+/// How many workspaces an organization may have.
+fn limit_of(cap: u32, at: usize) -> Result<Limit, Error>
+    ensures { IfOk result (λ x. x ≡ cap) }
+{
+    match Limit::new(cap) {
+        Some(limit) => Ok(limit),
+        None => Err(Error::IntegralValueOutOfRange(at)),
+    }
+}
+
+/// The ID of a lock.
+pub(crate) fn lock_id_of(id: String, at: usize) -> Result<LockId, Error>
+    ensures { IfOk result (λ x. x ≡ string_bytes id) }
+{
+    match LockId::from_string(id) {
+        Some(id) => Ok(id),
+        None => Err(Error::InvalidColumnType(at, Type::Text)),
+    }
+}
+
+/// How the names of a token's workspaces begin.
+fn prefix_of(prefix: String, at: usize) -> Result<Prefix, Error>
+    ensures { IfOk result (λ x. x ≡ string_bytes prefix) }
+{
+    match Prefix::from_string(prefix) {
+        Some(prefix) => Ok(prefix),
+        None => Err(Error::InvalidColumnType(at, Type::Text)),
+    }
+}
+
+/// A workspace's name.
+pub(crate) fn name_of(name: String, at: usize) -> Result<WsName, Error>
+    ensures { IfOk result (λ x. x ≡ string_bytes name) }
+{
+    match WsName::from_string(name) {
+        Some(name) => Ok(name),
+        None => Err(Error::InvalidColumnType(at, Type::Text)),
+    }
+}
+
+pub(crate) fn optional_number(row: &Row, at: usize) -> Result<Option<Number>, Error>
     ensures { IfOk result (IsNumberOrNull (column row.now at)) }
 {
-    row.get::<Option<u64>>(at)
+    match row.get::<Option<u64>>(at)? {
+        Some(value) => Ok(Some(number_of(value, at)?)),
+        None => Ok(None),
+    }
+}
+
+fn optional_moment(row: &Row, at: usize) -> Result<Option<Moment>, Error>
+    ensures { IfOk result (IsNumberOrNull (column row.now at)) }
+{
+    match row.get::<Option<u64>>(at)? {
+        Some(value) => Ok(Some(moment_of(value, at)?)),
+        None => Ok(None),
+    }
 }
 
 pub(crate) fn optional_keep(row: &Row, at: usize) -> Result<Option<KeepCount>, Error>
     ensures { IfOk result (IsNumberOrNull (column row.now at)) }
 {
-    let Some(keep) = optional_number(row, at)? else {
-        return Ok(None);
-    };
-    match KeepCount::new(keep) {
-        Some(keep) => Ok(Some(keep)),
-        None => Err(Error::IntegralValueOutOfRange(at)),
+    match row.get::<Option<u64>>(at)? {
+        Some(value) => Ok(Some(keep_of(value, at)?)),
+        None => Ok(None),
+    }
+}
+
+pub(crate) fn optional_lock_id(row: &Row, at: usize) -> Result<Option<LockId>, Error>
+    ensures { IfOk result (IsTextOrNull (column row.now at)) }
+{
+    match row.get::<Option<String>>(at)? {
+        Some(value) => Ok(Some(lock_id_of(value, at)?)),
+        None => Ok(None),
     }
 }
 
@@ -223,48 +332,35 @@ impl Read for Organization {
     fn of_row(row: &Row) -> Result<Organization, Error> {
         Ok(Organization {
             name: Text::new(row.get(0)?),
-            cap: row.get(1)?,
+            cap: limit_of(row.get(1)?, 1)?,
         })
     }
 }
 
-impl Read for Head {
-    ghost is_in = { IsHeadRow };
+impl Read for VersionRow {
+    ghost is_in = { IsVersionRow };
 
-    fn of_row(row: &Row) -> Result<Head, Error> {
-        Ok(Head {
-            number: row.get(0)?,
+    fn of_row(row: &Row) -> Result<VersionRow, Error> {
+        Ok(VersionRow {
+            number: number_of(row.get(0)?, 0)?,
             serial: row.get(1)?,
             lineage: Text::new(row.get(2)?),
-            size: row.get(3)?,
-        })
-    }
-}
-
-impl Read for VersionHead {
-    ghost is_in = { IsVersionHead };
-
-    fn of_row(row: &Row) -> Result<VersionHead, Error> {
-        Ok(VersionHead {
-            number: row.get(0)?,
-            serial: row.get(1)?,
-            lineage: Text::new(row.get(2)?),
-            created: row.get(3)?,
+            created: moment_of(row.get(3)?, 3)?,
             size: row.get(4)?,
         })
     }
 }
 
-impl Read for Run {
+impl Read for RunRow {
     ghost is_in = { IsRunRow };
 
-    fn of_row(row: &Row) -> Result<Run, Error> {
-        Ok(Run {
-            number: row.get(0)?,
+    fn of_row(row: &Row) -> Result<RunRow, Error> {
+        Ok(RunRow {
+            number: number_of(row.get(0)?, 0)?,
             plan_only: row.get(1)?,
             key: optional_text(row, 2)?,
             message: Text::new(row.get(3)?),
-            created: row.get(4)?,
+            created: moment_of(row.get(4)?, 4)?,
             status: status_in(row, 5)?,
             action: action_in(row, 6)?,
         })
@@ -287,6 +383,22 @@ impl Read for u64 {
     }
 }
 
+impl Read for Number {
+    ghost is_in = { IsNumber };
+
+    fn of_row(row: &Row) -> Result<Number, Error> {
+        number_of(row.get(0)?, 0)
+    }
+}
+
+impl Read for Limit {
+    ghost is_in = { IsNumber };
+
+    fn of_row(row: &Row) -> Result<Limit, Error> {
+        limit_of(row.get(0)?, 0)
+    }
+}
+
 impl Read for RunStatus {
     ghost is_in = { IsStatus };
 
@@ -306,13 +418,13 @@ impl Read for NamedRole {
     }
 }
 
-impl Read for Bound {
+impl Read for Bounds {
     ghost is_in = { IsBound };
 
-    fn of_row(row: &Row) -> Result<Bound, Error> {
-        Ok(Bound {
-            until: optional_number(row, 0)?,
-            prefix: Text::new(row.get(1)?),
+    fn of_row(row: &Row) -> Result<Bounds, Error> {
+        Ok(Bounds {
+            until: optional_moment(row, 0)?,
+            prefix: prefix_of(row.get(1)?, 1)?,
         })
     }
 }
@@ -329,10 +441,7 @@ impl Read for KeepCount {
     ghost is_in = { IsNumber };
 
     fn of_row(row: &Row) -> Result<KeepCount, Error> {
-        match KeepCount::new(row.get(0)?) {
-            Some(keep) => Ok(keep),
-            None => Err(Error::IntegralValueOutOfRange(0)),
-        }
+        keep_of(row.get(0)?, 0)
     }
 }
 
@@ -378,8 +487,8 @@ pub(crate) fn count_of(row: Result<Option<Row>, Error>) -> Result<u64, Error>
 }
 
 /// The number by which SQL keeps a role.
-pub(crate) fn role_number(role: Role) -> i64
-    ensures { result ≡ pos (role_code role) }
+pub(crate) fn role_number(role: Role) -> u32
+    ensures { result ≡ role_code role }
 {
     match role {
         Role::Read => 0,
@@ -388,17 +497,9 @@ pub(crate) fn role_number(role: Role) -> i64
     }
 }
 
-/// How many versions a workspace keeps, as SQL has it.
-pub(crate) fn keep_number(keep: KeepCount) -> i64
-    ensures number { result ≡ pos keep }
-    ensures most { keep ≤ MAX_KEPT }
-{
-    keep.get() as i64
-}
-
 /// The number by which SQL keeps a status.
-pub(crate) fn status_number(status: RunStatus) -> i64
-    ensures { result ≡ pos (status_code status) }
+pub(crate) fn status_number(status: RunStatus) -> u32
+    ensures { result ≡ status_code status }
 {
     match status {
         RunStatus::Pending => 0,
@@ -414,8 +515,8 @@ pub(crate) fn status_number(status: RunStatus) -> i64
 }
 
 /// The number by which SQL keeps an action.
-pub(crate) fn action_number(action: RunAction) -> i64
-    ensures { result ≡ pos (action_code action) }
+pub(crate) fn action_number(action: RunAction) -> u32
+    ensures { result ≡ action_code action }
 {
     match action {
         RunAction::ReportPlanned => 0,

@@ -3,7 +3,7 @@ ghost use Rattle.statements.specs.Steps.{WritesBy, QueriesBy};
 ghost use Rattle.statements.specs.Changes.{keeping_row_added, keeping_changed, keeping_row_removed, keepings_filled};
 ghost use Rattle.statements.specs.Finds.{keep_of};
 
-use crate::calls::{first_row, keep_number, read_one, write};
+use crate::calls::{first_row, read_one, write};
 use basis::KeepCount;
 use sqlite::{Alter, Connection, Error, Transaction, params};
 
@@ -32,8 +32,8 @@ pub fn add<S: Alter>(
 ) -> Result<(), Error>
     ensures { WritesBy S.Store (keeping_row_added org.now ws.now keep) tx.old tx.new result }
 {
-    let keep = keep_number(keep);
-    write(tx, ADD_KEEPING, params![org, ws, &keep])
+    let keep = keep.get();
+    write(tx, ADD_KEEPING, params![org, ws, keep])
 }
 
 const SET_KEEPING: &str = "UPDATE keeping SET keep = ?3 WHERE org = ?1 AND ws = ?2";
@@ -47,8 +47,8 @@ pub fn set<S: Alter>(
 ) -> Result<(), Error>
     ensures { WritesBy S.Store (keeping_changed keep org.now ws.now) tx.old tx.new result }
 {
-    let keep = keep_number(keep);
-    write(tx, SET_KEEPING, params![org, ws, &keep])
+    let keep = keep.get();
+    write(tx, SET_KEEPING, params![org, ws, keep])
 }
 
 const REMOVE_KEEPING: &str = "DELETE FROM keeping WHERE org = ?1 AND ws = ?2";

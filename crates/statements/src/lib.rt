@@ -13,6 +13,4 @@ pub mod tokens;
 pub mod versions;
 pub mod workspaces;
 
-pub use rows::{
-    Bound, Head, Holder, NamedRole, NamedWorkspace, Organization, Run, VersionHead, Workspace,
-};
+pub use rows::{NamedRole, NamedWorkspace, Organization, Workspace};

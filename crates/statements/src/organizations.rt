@@ -1,20 +1,19 @@
 //! Statements on the table org.
-ghost use Rattle.std.specs.Prelude.{◌<◌, ◌^◌};
 ghost use Rattle.statements.specs.Steps.{WritesBy, QueriesBy, QueriesWhere};
 ghost use Rattle.statements.specs.Changes.{org_row_added, org_capped};
 ghost use Rattle.statements.specs.Listings.{organizations_in, OrgsApart};
 ghost use Rattle.statements.specs.Finds.{cap_of};
 
-use crate::calls::{all_rows, first_row, read_all, read_one, signed, write};
+use crate::calls::{all_rows, first_row, read_all, read_one, write};
 use crate::rows::Organization;
-use basis::Items;
+use basis::{Items, Limit};
 use sqlite::{Alter, Connection, Error, Transaction, params};
 use std::alloc::Global;
 
 const ORG_CAP: &str = "SELECT cap FROM org WHERE name = ?1 ORDER BY rowid";
 
 /// How many workspaces an organization may have, if there is one of the name.
-pub fn cap<S: Alter>(conn: &mut Connection<S>, name: &str) -> Result<Option<u64>, Error>
+pub fn cap<S: Alter>(conn: &mut Connection<S>, name: &str) -> Result<Option<Limit>, Error>
     ensures { QueriesBy S.Store (cap_of name.now) conn.old conn.new result }
 {
     let row = first_row(conn, ORG_CAP, params![name]);
@@ -34,21 +33,19 @@ pub fn list<S: Alter>(alloc: Global, conn: &mut Connection<S>) -> Result<Items<O
 const ADD_ORG: &str = "INSERT INTO org (name, cap) VALUES (?1, ?2)";
 
 /// Adds an organization, and how many workspaces it may have.
-pub fn add<S: Alter>(tx: &mut Transaction<'_, S>, name: &str, cap: u64) -> Result<(), Error>
-    requires cap_fits { cap < 2 ^ 63 }
+pub fn add<S: Alter>(tx: &mut Transaction<'_, S>, name: &str, cap: Limit) -> Result<(), Error>
     ensures { WritesBy S.Store (org_row_added name.now cap) tx.old tx.new result }
 {
-    let cap = signed(cap);
-    write(tx, ADD_ORG, params![name, &cap])
+    let cap = cap.get();
+    write(tx, ADD_ORG, params![name, cap])
 }
 
 const SET_CAP: &str = "UPDATE org SET cap = ?2 WHERE name = ?1";
 
 /// Sets how many workspaces an organization may have.
-pub fn set_cap<S: Alter>(tx: &mut Transaction<'_, S>, name: &str, cap: u64) -> Result<(), Error>
-    requires cap_fits { cap < 2 ^ 63 }
+pub fn set_cap<S: Alter>(tx: &mut Transaction<'_, S>, name: &str, cap: Limit) -> Result<(), Error>
     ensures { WritesBy S.Store (org_capped name.now cap) tx.old tx.new result }
 {
-    let cap = signed(cap);
-    write(tx, SET_CAP, params![name, &cap])
+    let cap = cap.get();
+    write(tx, SET_CAP, params![name, cap])
 }

@@ -1,16 +1,15 @@
 //! Statements on the table run.
-ghost use Rattle.std.specs.Prelude.{option_map, ◌<◌, ◌^◌};
+ghost use Rattle.std.specs.Prelude.{option_map};
 ghost use Rattle.statements.specs.Steps.{WritesBy, QueriesBy, QueriesWhere};
 ghost use Rattle.statements.specs.Changes.{run_changed_to, run_acted, run_added, run_made, runs_removed};
 ghost use Rattle.statements.specs.Listings.{run_rows_after, RunsRise};
 ghost use Rattle.statements.specs.Finds.{first_waiting_of, status_at_number, run_at_number, keyed_run_of, open_runs_of};
 
 use crate::calls::{
-    action_number, count_of, first_row, first_rows, read_all, read_one, signed, status_number,
+    action_number, count_of, first_row, first_rows, read_all, read_one, seconds, status_number,
     write,
 };
-use crate::rows::Run;
-use basis::{Items, RunAction, RunStatus};
+use basis::{Items, Moment, Number, RunAction, RunRow, RunStatus};
 use sqlite::{Alter, Connection, Error, Transaction, params};
 use std::alloc::Global;
 
@@ -22,7 +21,7 @@ pub fn first_waiting<S: Alter>(
     conn: &mut Connection<S>,
     org: &str,
     ws: &str,
-) -> Result<Option<u64>, Error>
+) -> Result<Option<Number>, Error>
     ensures { QueriesBy S.Store (first_waiting_of org.now ws.now) conn.old conn.new result }
 {
     let row = first_row(conn, FIRST_WAITING, params![org, ws]);
@@ -37,13 +36,12 @@ pub fn status<S: Alter>(
     conn: &mut Connection<S>,
     org: &str,
     ws: &str,
-    run: u64,
+    run: Number,
 ) -> Result<Option<RunStatus>, Error>
-    requires run_fits { run < 2 ^ 63 }
     ensures { QueriesBy S.Store (status_at_number org.now ws.now run) conn.old conn.new result }
 {
-    let run = signed(run);
-    let row = first_row(conn, RUN_STATUS, params![org, ws, &run]);
+    let run = run.get();
+    let row = first_row(conn, RUN_STATUS, params![org, ws, run]);
     read_one(row)
 }
 
@@ -55,13 +53,12 @@ pub fn find<S: Alter>(
     conn: &mut Connection<S>,
     org: &str,
     ws: &str,
-    number: u64,
-) -> Result<Option<Run>, Error>
-    requires number_fits { number < 2 ^ 63 }
+    number: Number,
+) -> Result<Option<RunRow>, Error>
     ensures { QueriesBy S.Store (run_at_number org.now ws.now number) conn.old conn.new result }
 {
-    let number = signed(number);
-    let row = first_row(conn, FIND_RUN, params![org, ws, &number]);
+    let number = number.get();
+    let row = first_row(conn, FIND_RUN, params![org, ws, number]);
     read_one(row)
 }
 
@@ -74,14 +71,12 @@ pub fn list<S: Alter>(
     conn: &mut Connection<S>,
     org: &str,
     ws: &str,
-    after: u64,
+    after: u32,
     most: usize,
-) -> Result<Items<Run>, Error>
-    requires after_fits { after < 2 ^ 63 }
+) -> Result<Items<RunRow>, Error>
     ensures { QueriesWhere S.Store (RunsRise org.now ws.now) (run_rows_after org.now ws.now after most) conn.old conn.new result }
 {
-    let after = signed(after);
-    let rows = first_rows(alloc, conn, LIST_RUNS, params![org, ws, &after], most);
+    let rows = first_rows(alloc, conn, LIST_RUNS, params![org, ws, after], most);
     read_all(alloc, rows)
 }
 
@@ -94,7 +89,7 @@ pub fn find_by_key<S: Alter>(
     org: &str,
     ws: &str,
     key: &str,
-) -> Result<Option<Run>, Error>
+) -> Result<Option<RunRow>, Error>
     ensures { QueriesBy S.Store (keyed_run_of org.now ws.now key.now) conn.old conn.new result }
 {
     let row = first_row(conn, FIND_KEYED_RUN, params![org, ws, key]);
@@ -119,15 +114,14 @@ pub fn set_status<S: Alter>(
     tx: &mut Transaction<'_, S>,
     org: &str,
     ws: &str,
-    run: u64,
+    run: Number,
     status: RunStatus,
 ) -> Result<(), Error>
-    requires run_fits { run < 2 ^ 63 }
     ensures { WritesBy S.Store (run_changed_to status org.now ws.now run) tx.old tx.new result }
 {
-    let run = signed(run);
+    let run = run.get();
     let status = status_number(status);
-    write(tx, SET_RUN_STATUS, params![org, ws, &run, &status])
+    write(tx, SET_RUN_STATUS, params![org, ws, run, status])
 }
 
 const RECORD_ACTION: &str =
@@ -138,45 +132,42 @@ pub fn record_action<S: Alter>(
     tx: &mut Transaction<'_, S>,
     org: &str,
     ws: &str,
-    run: u64,
+    run: Number,
     status: RunStatus,
     action: RunAction,
 ) -> Result<(), Error>
-    requires run_fits { run < 2 ^ 63 }
     ensures { WritesBy S.Store (run_acted status action org.now ws.now run) tx.old tx.new result }
 {
-    let run = signed(run);
+    let run = run.get();
     let status = status_number(status);
     let action = action_number(action);
-    write(tx, RECORD_ACTION, params![org, ws, &run, &status, &action])
+    write(tx, RECORD_ACTION, params![org, ws, run, status, action])
 }
 
 const ADD_RUN: &str =
     "INSERT INTO run (org, ws, number, plan_only, rkey, message, created, status) VALUES (?1, ?2, ?3, ?4, ?5, ?6, ?7, ?8)";
 
-/// Adds a run, on which nothing has acted. `created` is in seconds since 1970 (UTC).
+/// Adds a run, on which nothing has acted.
 pub fn add<'v, S: Alter>(
     tx: &mut Transaction<'_, S>,
     org: &'v str,
     ws: &'v str,
-    number: u64,
+    number: Number,
     plan_only: bool,
     key: Option<&'v str>,
     message: &'v str,
-    created: u64,
+    created: Moment,
     status: RunStatus,
 ) -> Result<(), Error>
-    requires number_fits { number < 2 ^ 63 }
-    requires created_fits { created < 2 ^ 63 }
     ensures { WritesBy S.Store (run_added org.now ws.now (run_made number plan_only (option_map (λ s. s.now) key.entry) message.now created status)) tx.old tx.new result }
 {
-    let number = signed(number);
-    let created = signed(created);
+    let number = number.get();
+    let created = seconds(created);
     let status = status_number(status);
     write(
         tx,
         ADD_RUN,
-        params![org, ws, &number, plan_only, key, message, &created, &status],
+        params![org, ws, number, plan_only, key, message, &created, status],
     )
 }
 

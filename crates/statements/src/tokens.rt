@@ -1,5 +1,4 @@
 //! Statements on the table token. Where a token is added or goes, so is how far it reaches.
-ghost use Rattle.std.specs.Prelude.{◌<◌, ◌^◌, IfSome};
 ghost use Rattle.statements.specs.Steps.{WritesBy, WritesWhere, QueriesBy, QueriesWhere};
 ghost use Rattle.statements.specs.Changes.{token_row_added, token_row_removed, token_added, token_removed, HasNoBound};
 ghost use Rattle.statements.specs.Listings.{token_rows_of, TokensApart};
@@ -8,7 +7,7 @@ ghost use Rattle.statements.specs.Finds.{named_role_of, role_of_digest, role_of_
 use crate::bounds;
 use crate::calls::{all_rows, first_row, read_all, read_one, role_number, write};
 use crate::rows::NamedRole;
-use basis::{Items, Role};
+use basis::{Bounds, Items, Role};
 use sqlite::{Alter, Connection, Error, Transaction, params};
 use std::alloc::Global;
 
@@ -82,7 +81,7 @@ fn add_row<'v, S: Alter>(
     ensures { WritesBy S.Store (token_row_added org.now name.now digest.now role) tx.old tx.new result }
 {
     let role = role_number(role);
-    write(tx, ADD_TOKEN, params![org, name, digest, &role])
+    write(tx, ADD_TOKEN, params![org, name, digest, role])
 }
 
 /// Adds a token, and how far it reaches.
@@ -92,14 +91,12 @@ pub fn add<'v, S: Alter>(
     name: &'v str,
     digest: &'v [u8],
     role: Role,
-    until: Option<u64>,
-    prefix: &'v str,
+    bounds: &'v Bounds,
 ) -> Result<(), Error>
-    requires until_fits { IfSome until (λ n. n < 2 ^ 63) }
-    ensures { WritesBy S.Store (token_added org.now name.now digest.now role until prefix.now) tx.old tx.new result }
+    ensures { WritesBy S.Store (token_added org.now name.now digest.now role bounds.now.until bounds.now.prefix) tx.old tx.new result }
 {
     add_row(tx, org, name, digest, role)?;
-    bounds::add(tx, org, name, until, prefix)
+    bounds::add(tx, org, name, bounds)
 }
 
 const REMOVE_TOKEN: &str = "DELETE FROM token WHERE org = ?1 AND name = ?2";

@@ -7,21 +7,22 @@ ghost use Rattle.statements.specs.Changes.{new_version, version_added, version_r
 ghost use Rattle.statements.specs.Listings.{version_rows_after, VersionsRise};
 ghost use Rattle.statements.specs.Finds.{newest_of, number_back, oldest_below, size_of};
 
-use crate::calls::{first_row, first_row_inside, first_rows, read_all, read_one, signed, write};
-use crate::rows::{Head, VersionHead};
-use basis::Items;
+use crate::calls::{
+    first_row, first_row_inside, first_rows, read_all, read_one, seconds, signed, write,
+};
+use basis::{Items, Moment, Number, VersionRow};
 use sqlite::{Alter, Connection, Error, Transaction, params};
 use std::alloc::Global;
 
 const NEWEST_VERSION: &str =
-    "SELECT number, serial, lineage, size FROM version WHERE org = ?1 AND ws = ?2 ORDER BY number DESC, rowid DESC LIMIT 1";
+    "SELECT number, serial, lineage, created, size FROM version WHERE org = ?1 AND ws = ?2 ORDER BY number DESC, rowid DESC LIMIT 1";
 
-/// The version of a workspace with the greatest number, without its text.
+/// The version of a workspace with the greatest number.
 pub fn newest<S: Alter>(
     conn: &mut Connection<S>,
     org: &str,
     ws: &str,
-) -> Result<Option<Head>, Error>
+) -> Result<Option<VersionRow>, Error>
     ensures { QueriesBy S.Store (newest_of org.now ws.now) conn.old conn.new result }
 {
     let row = first_row(conn, NEWEST_VERSION, params![org, ws]);
@@ -37,14 +38,12 @@ pub fn list<S: Alter>(
     conn: &mut Connection<S>,
     org: &str,
     ws: &str,
-    after: u64,
+    after: u32,
     most: usize,
-) -> Result<Items<VersionHead>, Error>
-    requires after_fits { after < 2 ^ 63 }
+) -> Result<Items<VersionRow>, Error>
     ensures { QueriesWhere S.Store (VersionsRise org.now ws.now) (version_rows_after org.now ws.now after most) conn.old conn.new result }
 {
-    let after = signed(after);
-    let rows = first_rows(alloc, conn, LIST_VERSIONS, params![org, ws, &after], most);
+    let rows = first_rows(alloc, conn, LIST_VERSIONS, params![org, ws, after], most);
     read_all(alloc, rows)
 }
 
@@ -56,13 +55,11 @@ pub fn number_back<S: Alter>(
     conn: &mut Connection<S>,
     org: &str,
     ws: &str,
-    place: u64,
-) -> Result<Option<u64>, Error>
-    requires place_fits { place < 2 ^ 63 }
+    place: u32,
+) -> Result<Option<Number>, Error>
     ensures { QueriesBy S.Store (number_back org.now ws.now place) conn.old conn.new result }
 {
-    let place = signed(place);
-    let row = first_row(conn, VERSION_BACK, params![org, ws, &place]);
+    let row = first_row(conn, VERSION_BACK, params![org, ws, place]);
     read_one(row)
 }
 
@@ -74,13 +71,12 @@ pub fn size<S: Alter>(
     conn: &mut Connection<S>,
     org: &str,
     ws: &str,
-    number: u64,
+    number: Number,
 ) -> Result<Option<u64>, Error>
-    requires number_fits { number < 2 ^ 63 }
     ensures { QueriesBy S.Store (size_of org.now ws.now number) conn.old conn.new result }
 {
-    let number = signed(number);
-    let row = first_row(conn, VERSION_SIZE, params![org, ws, &number]);
+    let number = number.get();
+    let row = first_row(conn, VERSION_SIZE, params![org, ws, number]);
     read_one(row)
 }
 
@@ -89,66 +85,62 @@ pub fn size_inside<S: Alter>(
     tx: &mut Transaction<'_, S>,
     org: &str,
     ws: &str,
-    number: u64,
+    number: Number,
 ) -> Result<Option<u64>, Error>
-    requires number_fits { number < 2 ^ 63 }
     ensures same_reference { tx.new.conn.ghost_name ≡ tx.old.conn.ghost_name }
     ensures reads { ReadsBy (size_of org.now ws.now number) (state S.Store tx.old.conn.now) (state S.Store tx.new.conn.now) result }
     ensures survives { Survives (state S.Store tx.old.conn.now) (state S.Store tx.new.conn.now) (λ _. ⊥) }
 {
-    let number = signed(number);
-    let row = first_row_inside(tx, VERSION_SIZE, params![org, ws, &number]);
+    let number = number.get();
+    let row = first_row_inside(tx, VERSION_SIZE, params![org, ws, number]);
     read_one(row)
 }
 
 const OLDEST_VERSION_BELOW: &str =
-    "SELECT number, serial, lineage, size FROM version WHERE org = ?1 AND ws = ?2 AND number < ?3 ORDER BY rowid LIMIT 1";
+    "SELECT number, serial, lineage, created, size FROM version WHERE org = ?1 AND ws = ?2 AND number < ?3 ORDER BY rowid LIMIT 1";
 
-/// Of the versions of a workspace with numbers below this one, that which was added first, without its text.
+/// Of the versions of a workspace with numbers below this one, which may be one more than the greatest, that which was
+/// added first, without its text.
 pub fn oldest_below<S: Alter>(
     tx: &mut Transaction<'_, S>,
     org: &str,
     ws: &str,
-    number: u64,
-) -> Result<Option<Head>, Error>
-    requires number_fits { number < 2 ^ 63 }
+    number: u32,
+) -> Result<Option<VersionRow>, Error>
     ensures same_reference { tx.new.conn.ghost_name ≡ tx.old.conn.ghost_name }
     ensures reads { ReadsBy (oldest_below org.now ws.now number) (state S.Store tx.old.conn.now) (state S.Store tx.new.conn.now) result }
     ensures survives { Survives (state S.Store tx.old.conn.now) (state S.Store tx.new.conn.now) (λ _. ⊥) }
 {
-    let number = signed(number);
-    let row = first_row_inside(tx, OLDEST_VERSION_BELOW, params![org, ws, &number]);
+    let row = first_row_inside(tx, OLDEST_VERSION_BELOW, params![org, ws, number]);
     read_one(row)
 }
 
 const ADD_VERSION: &str =
     "INSERT INTO version (org, ws, number, serial, lineage, created, size) VALUES (?1, ?2, ?3, ?4, ?5, ?6, ?7)";
 
-/// Adds a version whose text has so many bytes. `created` is in seconds since 1970 (UTC).
+/// Adds a version whose text has so many bytes.
 pub fn add<'v, S: Alter>(
     tx: &mut Transaction<'_, S>,
     org: &'v str,
     ws: &'v str,
-    number: u64,
+    number: Number,
     serial: u64,
     lineage: &'v str,
-    created: u64,
+    created: Moment,
     size: u64,
 ) -> Result<(), Error>
-    requires number_fits { number < 2 ^ 63 }
     requires serial_fits { serial < 2 ^ 63 }
-    requires created_fits { created < 2 ^ 63 }
     requires size_fits { size < 2 ^ 63 }
     ensures { WritesBy S.Store (version_added org.now ws.now (new_version number serial lineage.now created size)) tx.old tx.new result }
 {
-    let number = signed(number);
+    let number = number.get();
     let serial = signed(serial);
-    let created = signed(created);
+    let created = seconds(created);
     let size = signed(size);
     write(
         tx,
         ADD_VERSION,
-        params![org, ws, &number, &serial, lineage, &created, &size],
+        params![org, ws, number, &serial, lineage, &created, &size],
     )
 }
 
@@ -159,11 +151,10 @@ pub fn remove<S: Alter>(
     tx: &mut Transaction<'_, S>,
     org: &str,
     ws: &str,
-    number: u64,
+    number: Number,
 ) -> Result<(), Error>
-    requires number_fits { number < 2 ^ 63 }
     ensures { WritesBy S.Store (version_removed org.now ws.now number) tx.old tx.new result }
 {
-    let number = signed(number);
-    write(tx, REMOVE_VERSION, params![org, ws, &number])
+    let number = number.get();
+    write(tx, REMOVE_VERSION, params![org, ws, number])
 }

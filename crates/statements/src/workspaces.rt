@@ -1,5 +1,5 @@
 //! Statements on the table ws. Where a workspace is added or goes, so is how many versions it keeps.
-ghost use Rattle.std.specs.Prelude.{◌≡◌, ◌≢◌, ◌<◌, ◌^◌, [], IsTrue, IfOk, is_some, string_bytes};
+ghost use Rattle.std.specs.Prelude.{◌≡◌, ◌≢◌, [], IsTrue, IfOk, is_some, string_bytes};
 ghost use Rattle.sqlite.specs.Held.{state};
 ghost use Rattle.sqlite.specs.State.{HasCleanDisk};
 ghost use Rattle.statements.specs.Steps.{WritesBy, WritesWhere, QueriesBy, QueriesWhere};
@@ -10,15 +10,15 @@ ghost use Rattle.statements.specs.Decode.{run_settings_at};
 ghost use Rattle.statements.specs.Calls.{AreHolderCells, IsWorkspaceWith, IsWorkspace, IsNamedRow};
 ghost use Rattle.sqlite_value.specs.Order.{column};
 ghost use Rattle.statements.specs.Finds.{workspace_of, workspaces_of};
-ghost use Rattle.statements.specs.declared.rows.Holder.TheVariants.{Nobody, Lock, Run as HeldByRun};
+ghost use Rattle.basis.specs.declared.rows.Holder.TheVariants.{Nobody, Lock, Run as HeldByRun};
 
 use crate::calls::{
-    Read, count_of, first_row, first_rows, flag_in, optional_keep, optional_number, optional_text,
-    read_all, read_one, signed, update, write,
+    Read, count_of, first_row, first_rows, flag_in, lock_id_of, name_of, number_of, optional_keep,
+    optional_lock_id, optional_number, read_all, read_one, update, write,
 };
 use crate::keepings;
-use crate::rows::{Holder, NamedWorkspace, Workspace};
-use basis::{Bytes, Items, KeepCount, Prefix, RunSettings, Text};
+use crate::rows::{NamedWorkspace, Workspace};
+use basis::{Bytes, Holder, Items, KeepCount, LockId, Number, Prefix, RunSettings};
 use sqlite::{Alter, Connection, Error, Row, Transaction, params};
 use std::alloc::Global;
 
@@ -37,10 +37,10 @@ fn holder_in(row: &Row) -> Result<Holder, Error>
     match row.get::<u64>(0)? {
         0 => Ok(Holder::Nobody),
         1 => Ok(Holder::Lock {
-            id: Text::new(row.get(1)?),
+            id: lock_id_of(row.get(1)?, 1)?,
             text: Bytes::new(row.get(2)?),
         }),
-        2 => Ok(Holder::Run(row.get(3)?)),
+        2 => Ok(Holder::Run(number_of(row.get(3)?, 3)?)),
         _ => Err(Error::IntegralValueOutOfRange(0)),
     }
 }
@@ -52,7 +52,7 @@ fn workspace_in(row: &Row, at: usize) -> Result<Workspace, Error>
     Ok(Workspace {
         runs: run_settings_in(row, at)?,
         holder: holder_in(row)?,
-        released: optional_text(row, 4)?,
+        released: optional_lock_id(row, 4)?,
         next_version: row.get(5)?,
         next_run: row.get(6)?,
     })
@@ -72,7 +72,7 @@ impl Read for NamedWorkspace {
     fn of_row(row: &Row) -> Result<NamedWorkspace, Error> {
         Ok(NamedWorkspace {
             it: workspace_in(row, 10)?,
-            name: Text::new(row.get(7)?),
+            name: name_of(row.get(7)?, 7)?,
             keep: optional_keep(row, 8)?,
             last: optional_number(row, 9)?,
         })
@@ -247,11 +247,12 @@ pub fn hold_by_lock<S: Alter>(
     tx: &mut Transaction<'_, S>,
     org: &str,
     name: &str,
-    id: &str,
+    id: &LockId,
     text: &[u8],
 ) -> Result<(), Error>
     ensures { WritesBy S.Store (ws_changed (held_by (Lock id.now text.now)) org.now name.now) tx.old tx.new result }
 {
+    let id = id.as_str();
     write(tx, HOLD_BY_LOCK, params![org, name, id, text])
 }
 
@@ -263,13 +264,12 @@ pub fn hold_by_run<S: Alter>(
     tx: &mut Transaction<'_, S>,
     org: &str,
     name: &str,
-    run: u64,
+    run: Number,
 ) -> Result<(), Error>
-    requires run_fits { run < 2 ^ 63 }
     ensures { WritesBy S.Store (ws_changed (held_by (HeldByRun run)) org.now name.now) tx.old tx.new result }
 {
-    let run = signed(run);
-    write(tx, HOLD_BY_RUN, params![org, name, &run])
+    let run = run.get();
+    write(tx, HOLD_BY_RUN, params![org, name, run])
 }
 
 const RELEASE_LOCK: &str =
@@ -280,10 +280,11 @@ pub fn release_lock<S: Alter>(
     tx: &mut Transaction<'_, S>,
     org: &str,
     name: &str,
-    id: &str,
+    id: &LockId,
 ) -> Result<(), Error>
     ensures { WritesBy S.Store (ws_changed (released_from id.now) org.now name.now) tx.old tx.new result }
 {
+    let id = id.as_str();
     write(tx, RELEASE_LOCK, params![org, name, id])
 }
 
@@ -308,14 +309,12 @@ pub fn set_next_version<S: Alter>(
     tx: &mut Transaction<'_, S>,
     org: &str,
     name: &str,
-    next: u64,
+    next: u32,
 ) -> Result<bool, Error>
-    requires next_fits { next < 2 ^ 63 }
     ensures writes { WritesBy S.Store (ws_changed (with_next_version next) org.now name.now) tx.old tx.new result }
     ensures found { HasCleanDisk (state S.Store tx.new.conn.now) → IsTrue (state S.Store tx.old.conn.now).in_transaction → IfOk result (λ found. (t : Tables) → Holds (state S.Store tx.old.conn.now).now t → found ≡ is_some (workspace_of org.now name.now t)) }
 {
-    let next = signed(next);
-    update(tx, SET_NEXT_VERSION, params![org, name, &next])
+    update(tx, SET_NEXT_VERSION, params![org, name, next])
 }
 
 const SET_NEXT_RUN: &str = "UPDATE ws SET next_run = ?3 WHERE org = ?1 AND name = ?2";
@@ -325,14 +324,12 @@ pub fn set_next_run<S: Alter>(
     tx: &mut Transaction<'_, S>,
     org: &str,
     name: &str,
-    next: u64,
+    next: u32,
 ) -> Result<bool, Error>
-    requires next_fits { next < 2 ^ 63 }
     ensures writes { WritesBy S.Store (ws_changed (with_next_run next) org.now name.now) tx.old tx.new result }
     ensures found { HasCleanDisk (state S.Store tx.new.conn.now) → IsTrue (state S.Store tx.old.conn.now).in_transaction → IfOk result (λ found. (t : Tables) → Holds (state S.Store tx.old.conn.now).now t → found ≡ is_some (workspace_of org.now name.now t)) }
 {
-    let next = signed(next);
-    update(tx, SET_NEXT_RUN, params![org, name, &next])
+    update(tx, SET_NEXT_RUN, params![org, name, next])
 }
 
 const REMOVE_WS: &str = "DELETE FROM ws WHERE org = ?1 AND name = ?2";

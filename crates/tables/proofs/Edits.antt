@@ -18,18 +18,16 @@ use Rattle.machine.specs.Workspaces.{new_workspace}
 use Rattle.machine.specs.declared.acts.Edit.{Edit}
 use Rattle.machine.specs.declared.acts.Edit.TheVariants.{Make, Configure, Remove, AddVersion, Purge, Hold, Release, AddRun, Report}
 use Rattle.machine.specs.declared.acts.Change.{Change}
-use Rattle.machine.specs.declared.records.Holder.TheVariants.{Nobody as NoHolder}
 use Rattle.machine.specs.declared.records.Version.{Version}
-use Rattle.machine.specs.declared.records.Run.{Run}
+use Rattle.basis.specs.declared.rows.RunRow.{RunRow as Run}
 use Rattle.machine.specs.declared.records.Workspace.{Workspace}
-use Rattle.statements.specs.declared.rows.Holder.TheVariants.{Nobody, Lock, Run as HeldByRun}
+use Rattle.basis.specs.declared.rows.Holder.TheVariants.{Nobody, Lock, Run as HeldByRun}
 use Rattle.statements.specs.declared.rows.Workspace.{Workspace as WorkspaceCells}
-use Rattle.statements.specs.declared.rows.Run.{Run as RunCells}
 use Rattle.statements.specs.Rows.{Kept, WsRow, KeepingRow, RunRow}
 use Rattle.statements.specs.Tables.{Tables}
 use Rattle.statements.specs.Changes.{is_ws, is_keeping, is_run_of, with_run_settings, held_by, released_from, with_next_version, with_next_run, ws_changed, ws_added, runs_removed, run_made as new_run_cells, run_acted}
 use Rattle.statements.specs.Finds.{workspace_of, keep_of}
-use Rattle.tables.specs.Records.{run_of_cells, workspace_of_cells, keep_at, versions_at, runs_at, workspace_by}
+use Rattle.tables.specs.Records.{workspace_of_cells, keep_at, versions_at, runs_at, workspace_by}
 use Rattle.tables.specs.Inner.Edits.{all_gone, removed_rows, made_rows, settings_rows, configured_rows, numbered_rows, if_there, versioned_rows, run_put, run_counted, run_rows, freed_rows, edited_rows, started_rows, changed_rows, TakesVersion, TakesEdit}
 use Rattle.tables.specs.Sound.{IsSound}
 use Rattle.tables.proofs.TextRows.{Becomes, versions_carried}
@@ -57,7 +55,7 @@ no_row f k vs rs (Some c) e = absurd (let none : ⊥ = cc in none)
 
 -- a run has taken an action, and its workspace is freed or not
 abbrev after_report : ℕ → RunAction → RunStatus → Bool → Workspace → Workspace
-after_report n action status frees w = record w { holder = cond frees NoHolder w.holder; runs = map (reported n action status) w.runs }
+after_report n action status frees w = record w { holder = cond frees Nobody w.holder; runs = map (reported n action status) w.runs }
 
 -- how many versions a workspace keeps, by rows of keeping
 abbrev kept_among : List ℕ → List ℕ → List (Kept KeepingRow) → ℕ
@@ -109,7 +107,7 @@ module _ (org ws : List ℕ) (t : Tables) where
     same_keep a b = ap (λ (ks : List (Kept KeepingRow)). kept_among a b ks) gone.rest.keepings
 
     same_runs : (a b : List ℕ) → runs_at purged_rows a b ≡ runs_at t a b
-    same_runs a b = ap (λ (rs : List (Kept RunRow)). map (λ (x : Kept RunRow). run_of_cells x.1.it) (filter (is_run_of a b) rs)) gone.rest.runs
+    same_runs a b = ap (λ (rs : List (Kept RunRow)). map (λ (x : Kept RunRow). x.1.it) (filter (is_run_of a b) rs)) gone.rest.runs
 
     removed_puts : Puts org ws None t (removed_rows org ws t)
     removed_puts = record {
@@ -185,7 +183,7 @@ module _ (org ws : List ℕ) (t : Tables) where
     leave_keep a b = ap (λ (ks : List (Kept KeepingRow)). kept_among a b ks) leave.rest.keepings
 
     leave_runs : (a b : List ℕ) → runs_at configured a b ≡ runs_at t a b
-    leave_runs a b = ap (λ (rs : List (Kept RunRow)). map (λ (x : Kept RunRow). run_of_cells x.1.it) (filter (is_run_of a b) rs)) leave.rest.runs
+    leave_runs a b = ap (λ (rs : List (Kept RunRow)). map (λ (x : Kept RunRow). x.1.it) (filter (is_run_of a b) rs)) leave.rest.runs
 
     configured_puts : Puts org ws (option_map (with_fewer settings outgoing) (workspace_by t org ws)) t configured
     configured_puts = record {
@@ -235,7 +233,7 @@ module _ (org ws : List ℕ) (t : Tables) where
     come_keep a b = ap (λ (ks : List (Kept KeepingRow)). kept_among a b ks) come.rest.keepings
 
     come_runs : (a b : List ℕ) → runs_at versioned a b ≡ runs_at t a b
-    come_runs a b = ap (λ (rs : List (Kept RunRow)). map (λ (x : Kept RunRow). run_of_cells x.1.it) (filter (is_run_of a b) rs)) come.rest.runs
+    come_runs a b = ap (λ (rs : List (Kept RunRow)). map (λ (x : Kept RunRow). x.1.it) (filter (is_run_of a b) rs)) come.rest.runs
 
     version_puts : Puts org ws (option_map (one_more v outgoing) (workspace_by t org ws)) t versioned
     version_puts = record {
@@ -252,13 +250,13 @@ module _ (org ws : List ℕ) (t : Tables) where
   module _ (number : ℕ) (ask : RunAsk) (created : ℕ) where
     run_puts : Puts org ws (option_map (with_run (new_run number ask created)) (workspace_by t org ws)) t (run_rows org ws number ask created t)
     run_puts =
-        let new : RunCells = new_run_cells number ask.plan_only ask.key ask.message created (cond ask.plan_only Planning Pending) in
+        let new : Run = new_run_cells number ask.plan_only ask.key ask.message created (cond ask.plan_only Planning Pending) in
         there_puts (with_run (new_run number ask created)) (run_put org ws number ask created (run_counted org ws number t)) (record {
           orgs = refl;
           tokens = refl;
           bounds = refl;
           own = same_parts _ _ _ _ _ _ _ _ (row_changed org ws (with_next_run (number + 1)) t) refl (versions_carried t (run_put org ws number ask created (run_counted org ws number t)) refl refl refl org ws) (runs_pushed org ws t new)
-              ∙ changed_row (with_next_run (number + 1)) (with_run (new_run number ask created)) (keep_at t org ws) (versions_at t org ws) (versions_at t org ws) (runs_at t org ws) (runs_at t org ws ++ run_of_cells new ∷ []) (λ c. refl) (workspace_of org ws t);
+              ∙ changed_row (with_next_run (number + 1)) (with_run (new_run number ask created)) (keep_at t org ws) (versions_at t org ws) (versions_at t org ws) (runs_at t org ws) (runs_at t org ws ++ new ∷ []) (λ c. refl) (workspace_of org ws t);
           others = λ a b other. same_parts _ _ _ _ _ _ _ _ (row_unchanged org ws (with_next_run (number + 1)) t a b other) refl (versions_carried t (run_put org ws number ask created (run_counted org ws number t)) refl refl refl a b) (runs_pushed_other org ws t new a b other);
         })
 

@@ -16,14 +16,13 @@ use Rattle.basis.specs.declared.numbers.TheConstants.{MAX_LIMIT}
 use Rattle.machine.specs.Laws.{IsNamedWorkspace}
 use Rattle.machine.specs.Records.{count_of}
 use Rattle.machine.specs.declared.acts.Edit.TheVariants.{Make, Configure, Remove, AddVersion, Purge, Release, AddRun, Report}
-use Rattle.machine.specs.declared.records.Holder.TheVariants.{Nobody, Lock, Run as HoldingRun}
+use Rattle.basis.specs.declared.rows.Holder.TheVariants.{Nobody, Lock, Run as HoldingRun}
 use Rattle.machine.specs.declared.records.Version.{Version}
-use Rattle.machine.specs.declared.records.Run.{Run}
+use Rattle.basis.specs.declared.rows.RunRow.{RunRow as Run}
 use Rattle.machine.specs.declared.records.Token.{Token}
 use Rattle.machine.specs.declared.keeps.AdminAnswer.TheVariants.{Absent}
 use Rattle.machine.specs.declared.records.Workspace.{Workspace}
 use Rattle.machine.specs.declared.records.Organization.{Organization}
-use Rattle.statements.specs.declared.rows.Holder.TheVariants as cells
 use Rattle.statements.specs.Changes.{org_capped, token_removed}
 use Rattle.sqlite_schema.specs.declared.schema.Kind.TheVariants.{Blob}
 use Rattle.statements.specs.Rows.{Kept, OrgRow, WsRow, PageRow, VpageRow}
@@ -75,8 +74,8 @@ two = record {
   orgs = (pos 1, record { name = acme; cap = 10 }) ∷ (pos 2, record { name = globex; cap = 1 }) ∷ [];
   tokens = (pos 1, record { org = acme; name = codes "ci"; it = record { digest = codes "01234567890123456789012345678901"; role = Write } }) ∷ [];
   wss =
-      (pos 1, record { org = globex; name = prod; it = record { runs = record { auto_apply = true }; holder = cells.Nobody; released = None; next_version = 2; next_run = 1 } })
-      ∷ (pos 2, record { org = acme; name = prod; it = record { runs = record { auto_apply = false }; holder = cells.Lock x1 text; released = None; next_version = 3; next_run = 2 } })
+      (pos 1, record { org = globex; name = prod; it = record { runs = record { auto_apply = true }; holder = Nobody; released = None; next_version = 2; next_run = 1 } })
+      ∷ (pos 2, record { org = acme; name = prod; it = record { runs = record { auto_apply = false }; holder = Lock x1 text; released = None; next_version = 3; next_run = 2 } })
       ∷ [];
   versions =
       (pos 1, record { org = acme; ws = prod; it = record { number = 1; serial = 1; lineage = codes "a1"; created = 1_700_000_000; size = 12 } })
@@ -317,7 +316,7 @@ one = record {
   metas = [];
   orgs = (pos 1, record { name = acme; cap = 10 }) ∷ [];
   tokens = two.tokens;
-  wss = (pos 1, record { org = acme; name = prod; it = record { runs = record { auto_apply = false }; holder = cells.Lock x1 text; released = None; next_version = 2; next_run = 2 } }) ∷ [];
+  wss = (pos 1, record { org = acme; name = prod; it = record { runs = record { auto_apply = false }; holder = Lock x1 text; released = None; next_version = 2; next_run = 2 } }) ∷ [];
   versions = (pos 1, record { org = acme; ws = prod; it = record { number = 1; serial = 1; lineage = codes "a1"; created = 1_700_000_000; size = 12 } }) ∷ [];
   runs = two.runs;
   pages = (pos 1, record { key = codes "{"; twin = 0; bytes = s1; uses = 1 }) ∷ [];
@@ -468,7 +467,7 @@ unkept_is_not sound = true≢false (sym sound.wss_kept.0)
 
 -- how many versions a workspace keeps that isn't there
 abbrev wsless : Tables
-wsless = record two { wss = (pos 2, record { org = acme; name = prod; it = record { runs = record { auto_apply = false }; holder = cells.Lock x1 text; released = None; next_version = 3; next_run = 2 } }) ∷ [] }
+wsless = record two { wss = (pos 2, record { org = acme; name = prod; it = record { runs = record { auto_apply = false }; holder = Lock x1 text; released = None; next_version = 3; next_run = 2 } }) ∷ [] }
 
 wsless_is_not : IsSound wsless → ⊥
 wsless_is_not sound = true≢false (sym sound.keepings_owned.0)

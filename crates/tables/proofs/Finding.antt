@@ -31,21 +31,21 @@ use Rattle.machine.specs.declared.acts.Staying.{Staying}
 use Rattle.machine.specs.declared.acts.Staying.TheVariants.{StayAll, MakeRoom, StayAtMost}
 use Rattle.machine.specs.declared.acts.Unit.TheVariants.{Absent, Present}
 use Rattle.machine.specs.declared.records.Version.{Version}
-use Rattle.machine.specs.declared.records.Run.{Run}
+use Rattle.basis.specs.declared.rows.RunRow.{RunRow as Run}
 use Rattle.machine.specs.declared.records.Workspace.{Workspace}
 use Rattle.machine.specs.declared.records.Organization.{Organization}
 use Rattle.machine.proofs.MapLemmas.{names_total}
-use Rattle.statements.specs.declared.rows.Head.{Head}
-use Rattle.statements.specs.declared.rows.Holder.{Holder as HolderCells}
-use Rattle.statements.specs.declared.rows.Holder.TheVariants as cells
+use Rattle.basis.specs.declared.rows.VersionRow.{VersionRow as Head}
+use Rattle.basis.specs.declared.rows.Holder.{Holder}
+use Rattle.basis.specs.declared.rows.Holder.TheVariants.{Nobody, Lock, Run as HoldingRun}
 use Rattle.statements.specs.declared.rows.Workspace.{Workspace as WorkspaceCells}
 use Rattle.statements.specs.Rows.{Kept, id_of, OrgRow, WsRow, VersionRow, RunRow}
 use Rattle.statements.specs.Tables.{Tables}
 use Rattle.statements.specs.Changes.{is_org, is_version_of, is_version, is_run_of, is_run_row, is_ws, is_ws_of}
-use Rattle.statements.specs.Finds.{back_by_number, head_of, newest_of, size_of, number_back, first_waiting_of, status_at_number, workspace_of, workspaces_of, cap_of}
+use Rattle.statements.specs.Finds.{back_by_number, newest_of, size_of, number_back, first_waiting_of, status_at_number, workspace_of, workspaces_of, cap_of}
 use Rattle.statements.specs.Finds as finds
 use Rattle.statements.proofs.Found.{found_passes, found_holds}
-use Rattle.tables.specs.Records.{version_at, run_of_cells, settings_of_cells, holder_of_cells, versions_at, runs_at, workspace_at, workspace_by, workspaces_at, organization_at, record_of}
+use Rattle.tables.specs.Records.{version_at, settings_of_cells, versions_at, runs_at, workspace_at, workspace_by, workspaces_at, organization_at, record_of}
 use Rattle.tables.specs.Sound.{HasText, IsSound}
 use Rattle.texts.specs.Texts.{pages_for, text_of, are_pieces, IsWhole}
 use Rattle.texts.proofs.PieceLaws.{whole_size, same_is}
@@ -54,7 +54,7 @@ use Rattle.tables.proofs.Names.{same_name, apart_name, pair_first, pair_second}
 use Rattle.tables.proofs.Parts.{none_mapped}
 use Rattle.tables.proofs.Sets.{entry_found, got_workspace, workspace_there, one_of}
 use Rattle.tables.proofs.Lawful.{limit_there}
-use Rattle.tables.specs.Inner.Units.{holder_status_in, text_in, has_text, newest_by, newest_in, keep_in, outgoing_in, has_version_in, keyed_cells_in, asked_run_in, unit_at, unit_in}
+use Rattle.tables.specs.Inner.Units.{holder_status_in, text_in, has_text, newest_by, newest_in, keep_in, outgoing_in, has_version_in, keyed_run_in, asked_run_in, unit_at, unit_in}
 
 -- ---- lists
 
@@ -194,29 +194,28 @@ module _ (t : Tables) (org ws : List ℕ) where
 
   pub first_waiting_found : first_waiting_of org ws t ≡ first_waiting (runs_at t org ws)
   first_waiting_found =
-      ap (option_map (λ (x : Kept RunRow). x.1.it.number)) (find_same (finds.is_waiting_of org ws) (λ x. is_run_of org ws x && is_waiting (run_of_cells x.1.it))
+      ap (option_map (λ (x : Kept RunRow). x.1.it.number)) (find_same (finds.is_waiting_of org ws) (λ x. is_run_of org ws x && is_waiting x.1.it)
       (λ x. three (bytes_eq x.1.org org) (bytes_eq x.1.ws ws) (finds.is_pending_of x.1.it.status && not x.1.it.plan_only)
       ∙ ap (λ (b : Bool). (bytes_eq x.1.org org && bytes_eq x.1.ws ws) && (b && not x.1.it.plan_only)) (pending_same x.1.it.status)) t.runs)
-      ∙ mapped (λ (x : Kept RunRow). run_of_cells x.1.it) (λ (r : Run). r.number) (find (λ x. is_run_of org ws x && is_waiting (run_of_cells x.1.it)) t.runs)
-      ∙ ap (option_map (λ (r : Run). r.number)) (find-slice (is_run_of org ws) (λ (x : Kept RunRow). run_of_cells x.1.it) is_waiting t.runs)
+      ∙ mapped (λ (x : Kept RunRow). x.1.it) (λ (r : Run). r.number) (find (λ x. is_run_of org ws x && is_waiting x.1.it) t.runs)
+      ∙ ap (option_map (λ (r : Run). r.number)) (find-slice (is_run_of org ws) (λ (x : Kept RunRow). x.1.it) is_waiting t.runs)
 
   pub status_found : (n : ℕ) → status_at_number org ws n t ≡ option_map (λ (r : Run). r.status) (run_of n (runs_at t org ws))
   status_found n =
-      ap (option_map (λ (x : Kept RunRow). x.1.it.status)) (find_same (is_run_row org ws n) (λ x. is_run_of org ws x && (run_of_cells x.1.it).number == n) (λ x. three (bytes_eq x.1.org org) (bytes_eq x.1.ws ws) (x.1.it.number == n)) t.runs)
-      ∙ mapped (λ (x : Kept RunRow). run_of_cells x.1.it) (λ (r : Run). r.status) (find (λ x. is_run_of org ws x && (run_of_cells x.1.it).number == n) t.runs)
-      ∙ ap (option_map (λ (r : Run). r.status)) (find-slice (is_run_of org ws) (λ (x : Kept RunRow). run_of_cells x.1.it) (λ (r : Run). r.number == n) t.runs)
+      ap (option_map (λ (x : Kept RunRow). x.1.it.status)) (find_same (is_run_row org ws n) (λ x. is_run_of org ws x && x.1.it.number == n) (λ x. three (bytes_eq x.1.org org) (bytes_eq x.1.ws ws) (x.1.it.number == n)) t.runs)
+      ∙ mapped (λ (x : Kept RunRow). x.1.it) (λ (r : Run). r.status) (find (λ x. is_run_of org ws x && x.1.it.number == n) t.runs)
+      ∙ ap (option_map (λ (r : Run). r.status)) (find-slice (is_run_of org ws) (λ (x : Kept RunRow). x.1.it) (λ (r : Run). r.number == n) t.runs)
 
   -- the run of a row that passes a test of its own
-  run_found : (p : Kept RunRow → Bool) (q : Run → Bool) → ((x : Kept RunRow) → p x ≡ (is_run_of org ws x && q (run_of_cells x.1.it))) → option_map run_of_cells (option_map (λ (x : Kept RunRow). x.1.it) (find p t.runs)) ≡ find q (runs_at t org ws)
+  run_found : (p : Kept RunRow → Bool) (q : Run → Bool) → ((x : Kept RunRow) → p x ≡ (is_run_of org ws x && q x.1.it)) → option_map (λ (x : Kept RunRow). x.1.it) (find p t.runs) ≡ find q (runs_at t org ws)
   run_found p q same =
-      sym (mapped (λ (x : Kept RunRow). x.1.it) run_of_cells (find p t.runs))
-      ∙ ap (option_map (λ (x : Kept RunRow). run_of_cells x.1.it)) (find_same p (λ x. is_run_of org ws x && q (run_of_cells x.1.it)) same t.runs)
-      ∙ find-slice (is_run_of org ws) (λ (x : Kept RunRow). run_of_cells x.1.it) q t.runs
+      ap (option_map (λ (x : Kept RunRow). x.1.it)) (find_same p (λ x. is_run_of org ws x && q x.1.it) same t.runs)
+      ∙ find-slice (is_run_of org ws) (λ (x : Kept RunRow). x.1.it) q t.runs
 
-  numbered_found : (n : ℕ) → option_map run_of_cells (finds.run_at_number org ws n t) ≡ run_of n (runs_at t org ws)
+  numbered_found : (n : ℕ) → finds.run_at_number org ws n t ≡ run_of n (runs_at t org ws)
   numbered_found n = run_found (is_run_row org ws n) (is_numbered n) (λ x. three (bytes_eq x.1.org org) (bytes_eq x.1.ws ws) (x.1.it.number == n))
 
-  keyed_found : (key : Option (List ℕ)) → option_map run_of_cells (keyed_cells_in key org ws t) ≡ keyed_run key (runs_at t org ws)
+  keyed_found : (key : Option (List ℕ)) → keyed_run_in key org ws t ≡ keyed_run key (runs_at t org ws)
   keyed_found None = refl
   keyed_found (Some key) = run_found (finds.is_run_with_key org ws key) (is_keyed key) (λ x.
       three (bytes_eq x.1.org org) (bytes_eq x.1.ws ws) (finds.is_key_of key x.1.it.key) ∙ ap (λ (b : Bool). (bytes_eq x.1.org org && bytes_eq x.1.ws ws) && b) (key_same key x.1.it.key))
@@ -231,17 +230,17 @@ module _ (t : Tables) (org ws : List ℕ) where
     where
       same : open_runs (runs_at t org ws) ≡ length (filter (finds.is_open_run_of org ws) t.runs)
       same =
-          ap length (sym (filter-slice (is_run_of org ws) (λ (x : Kept RunRow). run_of_cells x.1.it) (λ (r : Run). is_open r.status) t.runs))
-          ∙ length-map (filter (λ (x : Kept RunRow). is_run_of org ws x && is_open x.1.it.status) t.runs) (λ (x : Kept RunRow). run_of_cells x.1.it)
+          ap length (sym (filter-slice (is_run_of org ws) (λ (x : Kept RunRow). x.1.it) (λ (r : Run). is_open r.status) t.runs))
+          ∙ length-map (filter (λ (x : Kept RunRow). is_run_of org ws x && is_open x.1.it.status) t.runs) (λ (x : Kept RunRow). x.1.it)
           ∙ ap length (sym (filter_same (finds.is_open_run_of org ws) (λ (x : Kept RunRow). is_run_of org ws x && is_open x.1.it.status) (λ x. three (bytes_eq x.1.org org) (bytes_eq x.1.ws ws) (is_open x.1.it.status)) t.runs))
 
       least : (n m : ℕ) → m ≡ n → m ≤ 100 → min n 9_223_372_036_854_775_807 ≡ m
       least n m e h = omega arith
 
-  pub holder_status_found : (holder : HolderCells) → holder_status_in org ws holder t ≡ holder_status (holder_of_cells holder) (runs_at t org ws)
-  holder_status_found cells.Nobody = refl
-  holder_status_found (cells.Lock id text) = refl
-  holder_status_found (cells.Run n) = status_found n
+  pub holder_status_found : (holder : Holder) → holder_status_in org ws holder t ≡ holder_status holder (runs_at t org ws)
+  holder_status_found Nobody = refl
+  holder_status_found (Lock id text) = refl
+  holder_status_found (HoldingRun n) = status_found n
 
   -- the version that is asked of is kept where it has a row
   module _ (next : ℕ) (rise : Rises 0 (numbers (versions_at t org ws)) next) where
@@ -298,7 +297,7 @@ module _ (t : Tables) (org ws : List ℕ) where
 
     pub newest_number_found : option_map (λ (h : Head). h.number) (newest_of org ws t) ≡ option_map (λ (v : Version). v.number) (newest (versions_at t org ws))
     newest_number_found =
-        sym (mapped (λ (x : Kept VersionRow). head_of x.1.it) (λ (h : Head). h.number) (slice_get rows_back 0))
+        sym (mapped (λ (x : Kept VersionRow). x.1.it) (λ (h : Head). h.number) (slice_get rows_back 0))
         ∙ mapped (λ (x : Kept VersionRow). version_at t org ws x.1.it) (λ (v : Version). v.number) (slice_get rows_back 0)
         ∙ ap (option_map (λ (v : Version). v.number)) newest_row
 
@@ -306,7 +305,7 @@ module _ (t : Tables) (org ws : List ℕ) where
     pub newest_unit_found : AreTexts t → (text : Option (List ℕ)) → newest_in text org ws t ≡ option_map (newest_unit text) (newest (versions_at t org ws))
     newest_unit_found a text = by_row (slice_get rows_back 0) refl ∙ ap (option_map (newest_unit text)) newest_row
       where
-        same_text : (x : Kept VersionRow) → IsWhole org ws x.1.it.number x.1.it.size t → (asked : Option (List ℕ)) → has_text asked org ws (head_of x.1.it) t ≡ is_text asked (text_of org ws x.1.it.number x.1.it.size t)
+        same_text : (x : Kept VersionRow) → IsWhole org ws x.1.it.number x.1.it.size t → (asked : Option (List ℕ)) → has_text asked org ws x.1.it t ≡ is_text asked (text_of org ws x.1.it.number x.1.it.size t)
         same_text x whole None = refl
         same_text x whole (Some asked) = by_size (x.1.it.size == length asked) refl
           where
@@ -317,7 +316,7 @@ module _ (t : Tables) (org ws : List ℕ) where
             by_size false e = sym (other_size (text_of org ws x.1.it.number x.1.it.size t) asked (ap (λ (m : ℕ). m == length asked) (whole_size org ws x.1.it.number t x.1.it.size whole) ∙ e))
 
         by_row : (r : Option (Kept VersionRow)) → slice_get rows_back 0 ≡ r
-            → option_map (newest_by text org ws t) (option_map (λ (x : Kept VersionRow). head_of x.1.it) r) ≡ option_map (newest_unit text) (option_map (λ (x : Kept VersionRow). version_at t org ws x.1.it) r)
+            → option_map (newest_by text org ws t) (option_map (λ (x : Kept VersionRow). x.1.it) r) ≡ option_map (newest_unit text) (option_map (λ (x : Kept VersionRow). version_at t org ws x.1.it) r)
         by_row None e = refl
         by_row (Some x) e =
             let whole : IsWhole org ws x.1.it.number x.1.it.size t = first_holds (λ y. IsWhole org ws y.1.it.number y.1.it.size t) rows_back x (all_sorted back_by_number (λ y. IsWhole org ws y.1.it.number y.1.it.size t) rows (own_whole a)) e in
@@ -389,7 +388,7 @@ module _ (t : Tables) (sound : IsSound t) (org : List ℕ) where
           let lawful = (sound.workspaces org ws _ stands).lawful in
           λ i. Present (record {
             settings = settings_of_cells (keep_in (needs act).keep_versions org ws t) w;
-            holder = holder_of_cells w.holder;
+            holder = w.holder;
             holder_status = if_needed (needs act).holder_status (holder_status_found t org ws w.holder i);
             released = w.released;
             next_version = w.next_version;
@@ -428,7 +427,7 @@ module _ (t : Tables) (sound : IsSound t) (org : List ℕ) where
       (λ x f. ap₂ (λ (a b : List ℕ). list_any (is_ws a b) t.wss) (pair_first org ws x.1.org x.1.ws f) (pair_second org ws x.1.org x.1.ws f) ∙ none_is ws e) t.versions sound.versions_owned)
 
   pub no_runs : (ws : List ℕ) → workspace_of org ws t ≡ None → runs_at t org ws ≡ []
-  no_runs ws e = ap (map (λ (x : Kept RunRow). run_of_cells x.1.it)) (no_orphans (is_run_of org ws) (λ x. is_ws x.1.org x.1.ws) t.wss
+  no_runs ws e = ap (map (λ (x : Kept RunRow). x.1.it)) (no_orphans (is_run_of org ws) (λ x. is_ws x.1.org x.1.ws) t.wss
       (λ x f. ap₂ (λ (a b : List ℕ). list_any (is_ws a b) t.wss) (pair_first org ws x.1.org x.1.ws f) (pair_second org ws x.1.org x.1.ws f) ∙ none_is ws e) t.runs sound.runs_owned)
 
   pub seen_in_rows : (ws : List ℕ) → seen_workspace (record_of t org) ws ≡ workspace_by t org ws

@@ -3,7 +3,7 @@ use Rattle.std.proofs.Common.{ℕ, Bool, true, false, List, Option, Some, None, 
 use Rattle.machine.specs.declared.acts.Edit.{Edit}
 use Rattle.machine.specs.declared.acts.Edit.TheVariants.{Make, Configure, Remove, AddVersion, Purge, Hold, Release, AddRun, Report}
 use Rattle.machine.specs.declared.acts.Change.{Change}
-use Rattle.statements.specs.declared.rows.Holder.TheVariants.{Lock}
+use Rattle.basis.specs.declared.rows.Holder.TheVariants.{Lock}
 use Rattle.statements.specs.declared.rows.Workspace.{Workspace as WorkspaceCells}
 use Rattle.statements.specs.Tables.{Tables}
 use Rattle.statements.specs.Changes.{held_by, released_from, ws_changed, run_acted}

@@ -14,7 +14,7 @@ use Rattle.statements.specs.Tables.{Tables}
 use Rattle.statements.specs.Changes.{is_org, is_token, is_digest_of, is_bound}
 use Rattle.statements.specs.Finds.{cap_of, bound_in}
 use Rattle.statements.proofs.Found.{found_passes, found_holds, apart_one}
-use Rattle.tables.specs.Records.{no_bounds, bounds_of_cells, bounds_at, token_at, organization_at, record_of}
+use Rattle.tables.specs.Records.{no_bounds, bounds_at, token_at, organization_at, record_of}
 use Rattle.tables.specs.Sound.{IsOrgRow, IsTokenRow, IsBoundRow, IsSound}
 use Rattle.tables.specs.Laws.{SoundTablesAreLawful}
 use Rattle.tables.proofs.Names.{name_is, pair_first, pair_second}
@@ -65,7 +65,7 @@ record InRange (b : Bounds) : Type 0 where
 reach_in_range : (t : Tables) → IsSound t → (org name : List ℕ) → InRange (bounds_at t org name)
 reach_in_range t sound org name = by_row (find (is_bound org name) t.bounds) refl
   where
-    by_row : (o : Option (Kept BoundRow)) → find (is_bound org name) t.bounds ≡ o → InRange (unwrap_or (option_map bounds_of_cells (option_map bound_in o)) no_bounds)
+    by_row : (o : Option (Kept BoundRow)) → find (is_bound org name) t.bounds ≡ o → InRange (unwrap_or (option_map bound_in o) no_bounds)
     by_row None e = record { until = tt; prefix = refl }
     by_row (Some x) e = let is = found_holds IsBoundRow (is_bound org name) t.bounds x sound.bound_rows e in record { until = is.until; prefix = is.prefix }
 

@@ -1,5 +1,5 @@
 -- What the lists of a workspace's versions and runs, and of an organization's workspaces, show of the record.
-use Rattle.std.proofs.Common.{◌≡◌, ℕ, ◌+◌, ◌==◌, ◌<◌, ◌≤◌, nat_lt, Bool, true, false, cond, ◌&&◌, List, [], ◌∷◌, map, filter, find, take, Option, Some, None, option_map, IsTrue, refl, sym, ap, subst, ◌∙◌, arith}
+use Rattle.std.proofs.Common.{map-id, ◌≡◌, ℕ, ◌+◌, ◌==◌, ◌<◌, ◌≤◌, nat_lt, Bool, true, false, cond, ◌&&◌, List, [], ◌∷◌, map, filter, find, take, Option, Some, None, option_map, IsTrue, refl, sym, ap, subst, ◌∙◌, arith}
 use Rattle.std.specs.Str.{bytes_eq}
 use Rattle.std.specs.Option.{unwrap_or}
 use Rattle.std.specs.List.{AllByRecursion}
@@ -18,7 +18,8 @@ use Rattle.machine.specs.Order.{name_cmp}
 use Rattle.machine.specs.Records.{workspace_in as seen_workspace}
 use Rattle.machine.specs.Showing as showing
 use Rattle.machine.specs.declared.records.Version.{Version}
-use Rattle.machine.specs.declared.records.Run.{Run}
+use Rattle.basis.specs.declared.rows.RunRow.{RunRow as Run}
+use Rattle.basis.specs.declared.rows.VersionRow.{VersionRow as Head}
 use Rattle.machine.specs.declared.records.Workspace.{Workspace}
 use Rattle.machine.proofs.MapLemmas.{names_total}
 use Rattle.machine.specs.Workspaces.{newest}
@@ -27,19 +28,19 @@ use Rattle.statements.specs.Rows.{Kept, WsRow, VersionRow, RunRow}
 use Rattle.statements.specs.Tables.{Tables}
 use Rattle.statements.specs.Changes.{is_ws_of, is_version_of, is_version, is_run_of}
 use Rattle.statements.specs.Finds.{is_version_before, version_before, cap_of, workspace_of}
-use Rattle.statements.specs.Listings.{is_behind, workspaces_by_name, named_row as named_at, version_head_of, WorkspacesApart, VersionsRise, RunsRise}
+use Rattle.statements.specs.Listings.{is_behind, workspaces_by_name, named_row as named_at, WorkspacesApart, VersionsRise, RunsRise}
 use Rattle.statements.proofs.Conditions.{one_less_is}
-use Rattle.tables.specs.Records.{settings_of_cells, holder_of_cells, keep_at, version_at, run_of_cells, versions_at, runs_at, workspace_at, workspaces_at, organization_at, record_of}
+use Rattle.tables.specs.Records.{settings_of_cells, keep_at, version_at, versions_at, runs_at, workspace_at, workspaces_at, organization_at, record_of}
 use Rattle.tables.specs.Sound.{IsSound}
 use Rattle.texts.specs.Texts.{IsWhole}
 use Rattle.texts.proofs.PieceLaws.{whole_size}
 use Rattle.tables.proofs.TextRows.{AreTexts, sound_texts}
-use Rattle.tables.specs.Inner.Lists.{version_row_in, versions_listed_in, run_row_in, runs_listed_in, newest_number_in, newest_by, ws_row_in, workspaces_listed_in}
+use Rattle.tables.specs.Inner.Lists.{versions_listed_in, runs_listed_in, newest_number_in, newest_by, ws_row_in, workspaces_listed_in}
 use Rattle.tables.proofs.Sets.{entry_found}
 use Rattle.tables.proofs.Names.{pair_is}
 use Rattle.tables.proofs.Operators.{no_workspaces}
 use Rattle.tables.proofs.Finding.{find_same, three, newest_number_found, own_whole, no_versions, no_runs, seen_in_rows}
-use Rattle.tables.proofs.Ranks.{last_in, rising, newest_told, none_after, first_rows_tell, shown_rows, every, same_names, no_entries, all_found, entries_shown}
+use Rattle.tables.proofs.Ranks.{last_in, rising, newest_told, none_after, first_rows_tell, shown_rows, same_names, no_entries, all_found, entries_shown}
 
 -- the list of the first rows is the list of all
 listed_all : {A B : Type 0} (f : A → B) (xs : List A) → listing_of (map f (take 51 xs)) ≡ listing_of (map f xs)
@@ -62,18 +63,18 @@ module _ (t : Tables) (org ws : List ℕ) where
 
   versions_rows : AreTexts t → (after : ℕ) → versions_listed_in after org ws t ≡ showing.versions_listed after (versions_at t org ws)
   versions_rows a after =
-      listed_all version_row_in (filter (λ v. nat_lt after v.number) (map (λ (x : Kept VersionRow). version_head_of x.1.it) (filter (is_version_of org ws) t.versions)))
-      ∙ ap listing_of (shown_rows (λ (x : Kept VersionRow). version_head_of x.1.it) version_row_in (λ (x : Kept VersionRow). version_at t org ws x.1.it) showing.version_row (λ v. nat_lt after v.number) (λ (v : Version). nat_lt after v.number)
+      first_rows_tell heads
+      ∙ ap listing_of (sym (map-id heads) ∙ shown_rows (λ (x : Kept VersionRow). x.1.it) (λ v. v) (λ (x : Kept VersionRow). version_at t org ws x.1.it) showing.version_row (λ v. nat_lt after v.number) (λ (v : Version). nat_lt after v.number)
       (filter (is_version_of org ws) t.versions) (all_weaker (λ x. IsWhole org ws x.1.it.number x.1.it.size t) _ (λ x whole. (shown x whole, refl)) (filter (is_version_of org ws) t.versions) (own_whole t org ws a)))
     where
-      shown : (x : Kept VersionRow) → IsWhole org ws x.1.it.number x.1.it.size t → version_row_in (version_head_of x.1.it) ≡ showing.version_row (version_at t org ws x.1.it)
+      heads : List Head
+      heads = filter (λ v. nat_lt after v.number) (map (λ (x : Kept VersionRow). x.1.it) (filter (is_version_of org ws) t.versions))
+
+      shown : (x : Kept VersionRow) → IsWhole org ws x.1.it.number x.1.it.size t → x.1.it ≡ showing.version_row (version_at t org ws x.1.it)
       shown x whole = ap (λ (size : ℕ). record { created = x.1.it.created; lineage = x.1.it.lineage; number = x.1.it.number; serial = x.1.it.serial; size = size }) (sym (whole_size org ws x.1.it.number t x.1.it.size whole))
 
   runs_rows : (after : ℕ) → runs_listed_in after org ws t ≡ showing.runs_listed after (runs_at t org ws)
-  runs_rows after =
-      listed_all run_row_in (filter (λ r. nat_lt after r.number) (map (λ (x : Kept RunRow). x.1.it) (filter (is_run_of org ws) t.runs)))
-      ∙ ap listing_of (shown_rows (λ (x : Kept RunRow). x.1.it) run_row_in (λ (x : Kept RunRow). run_of_cells x.1.it) showing.run_row (λ r. nat_lt after r.number) (λ (r : Run). nat_lt after r.number)
-      (filter (is_run_of org ws) t.runs) (every _ (λ x. (refl, refl)) (filter (is_run_of org ws) t.runs)))
+  runs_rows after = first_rows_tell (filter (λ (r : Run). nat_lt after r.number) (runs_at t org ws))
 
   -- where numbers rise, the newest version is that of the number before the next one, if there is such a version
   module _ (next : ℕ) (most : next ≤ 1_000_000_001) (rise : Rises 0 (version_numbers (versions_at t org ws)) next) where
@@ -120,7 +121,7 @@ module _ (t : Tables) (org ws : List ℕ) where
         by_row (Some w) e = rising 0 w.next_version (version_numbers (versions_at t org ws)) (sound.workspaces org ws (workspace_at t org ws w) (ap (option_map (workspace_at t org ws)) e)).lawful.versions.rise
 
     pub runs_rise : RunsRise org ws t
-    runs_rise = subst (IsAscending (λ (m n : ℕ). m < n)) (same_names (λ (x : Kept RunRow). run_of_cells x.1.it) (λ (r : Run). r.number) (λ (x : Kept RunRow). x.1.it.number) (λ x. refl) (filter (is_run_of org ws) t.runs)) (by_row (workspace_of org ws t) refl)
+    runs_rise = subst (IsAscending (λ (m n : ℕ). m < n)) (same_names (λ (x : Kept RunRow). x.1.it) (λ (r : Run). r.number) (λ (x : Kept RunRow). x.1.it.number) (λ x. refl) (filter (is_run_of org ws) t.runs)) (by_row (workspace_of org ws t) refl)
       where
         by_row : (r : Option WorkspaceCells) → workspace_of org ws t ≡ r → IsAscending (λ (m n : ℕ). m < n) (run_numbers (runs_at t org ws))
         by_row None e = subst (λ (rs : List Run). IsAscending (λ (m n : ℕ). m < n) (run_numbers rs)) (sym (no_runs t sound org ws e)) tt
@@ -145,7 +146,7 @@ module _ (t : Tables) (org ws : List ℕ) where
         by_row (Some w) e =
             let lawful = (sound.workspaces org ws (workspace_at t org ws w) (ap (option_map (workspace_at t org ws)) e)).lawful.runs in
             let most : w.next_run ≤ 1_000_000_001 = lawful.next.1 in
-            sym (ap (λ (rs : List Run). listing_of (map showing.run_row rs)) (none_after (λ (r : Run). r.number) 0 w.next_run after (runs_at t org ws) lawful.rise (omega (arith, most, beyond))))
+            sym (ap listing_of (none_after (λ (r : Run). r.number) 0 w.next_run after (runs_at t org ws) lawful.rise (omega (arith, most, beyond))))
 
 -- ---- workspaces
 
@@ -214,7 +215,7 @@ module _ (t : Tables) (org : List ℕ) where
     -- a row as it is shown is the workspace as it is shown
     row_shown : (e : List ℕ × WorkspaceCells) → IsNamedWorkspace e.0 (workspace_at t org e.0 e.1) → ws_row_in org t (named_at org t e) ≡ showing.row_of e.0 (showing.shown_of (workspace_at t org e.0 e.1))
     row_shown e named =
-        ap (λ (version : Option ℕ). record { settings = settings_of_cells (keep_at t org e.0) e.1; holder = showing.holder_id (holder_of_cells e.1.holder); name = e.0; version = version })
+        ap (λ (version : Option ℕ). record { settings = settings_of_cells (keep_at t org e.0) e.1; holder = showing.holder_id e.1.holder; name = e.0; version = version })
         (newest_is_shown t org e.0 e.1.next_version named.lawful.versions.next.1 named.lawful.versions.rise ∙ newest_number_found t org e.0 e.1.next_version named.lawful.versions.rise)
 
     and_turned : (a b : Bool) → (a && b) ≡ (b && a)

@@ -28,7 +28,7 @@ use Rattle.statements.specs.Changes.{is_org, is_token, is_digest_of, is_bound, i
 use Rattle.statements.specs.Changes as rows
 use Rattle.statements.specs.Finds.{cap_of, role_of_digest, role_of_name, named_role, bound_in}
 use Rattle.statements.proofs.Found.{found_passes, find_pushed, find_pushed_other, found_holds}
-use Rattle.tables.specs.Records.{no_bounds, bounds_of_cells, caller_with, bounds_at, caller_by, token_of_cells, token_at, is_token_of, tokens_at, workspace_at, organization_at, record_of}
+use Rattle.tables.specs.Records.{no_bounds, caller_with, bounds_at, caller_by, token_of_cells, token_at, is_token_of, tokens_at, workspace_at, organization_at, record_of}
 use Rattle.tables.specs.Sound.{IsSound}
 use Rattle.tables.proofs.TextRows.{KeepsWorkspaces, workspaces_carried, organization_carried}
 use Rattle.tables.proofs.Names.{same_name, name_is, apart_name, names_apart, is_pair, pair_first, pair_second, pair_is}
@@ -258,7 +258,7 @@ module _ (t : Tables) (sound : IsSound t) (org name digest : List ℕ) (role : R
       unbound = none_bound t sound org name (none_mapped (λ (x : Kept TokenRow). x.1.it.role) _ unnamed)
 
       reach : bounds_at added org name ≡ record { until = bounds.until; prefix = bounds.prefix }
-      reach = ap (λ (o : Option (Kept BoundRow)). unwrap_or (option_map bounds_of_cells (option_map bound_in o)) no_bounds) (find_pushed (is_bound org name) t.bounds new_bound unbound (pair_is org name))
+      reach = ap (λ (o : Option (Kept BoundRow)). unwrap_or (option_map bound_in o) no_bounds) (find_pushed (is_bound org name) t.bounds new_bound unbound (pair_is org name))
 
       put_tokens : tokens_at added org ≡ insert (tokens_at t org) name new_token
       put_tokens = same_map names_total names_same _ _ (λ q. by_name q (bytes_eq q name) refl)

@@ -18,9 +18,9 @@ use Rattle.machine.specs.declared.acts.Edit.{Edit}
 use Rattle.machine.specs.declared.acts.Edit.TheVariants.{Make, Configure, Remove, AddVersion, Purge, Hold, Release, AddRun, Report}
 use Rattle.machine.specs.declared.acts.Change.{Change}
 use Rattle.machine.specs.declared.records.Version.{Version}
-use Rattle.statements.specs.declared.rows.Holder.TheVariants.{Nobody, Lock, Run as HeldByRun}
+use Rattle.basis.specs.declared.rows.Holder.TheVariants.{Nobody, Lock, Run as HeldByRun}
 use Rattle.statements.specs.declared.rows.Workspace.{Workspace as WorkspaceCells}
-use Rattle.statements.specs.declared.rows.Run.{Run as RunCells}
+use Rattle.basis.specs.declared.rows.RunRow.{RunRow as Run}
 use Rattle.statements.specs.Rows.{Kept, id_of, WsRow, KeepingRow, VersionRow, RunRow}
 use Rattle.statements.specs.Tables.{Tables}
 use Rattle.statements.specs.Changes.{is_org, is_ws, is_keeping, HasNoKeeping, keeping_changed, is_version_of, is_run_of, is_run_row, with_run_settings, held_by, released_from, with_next_version, with_next_run, ws_changed, ws_added, ws_removed, workspace_made, runs_removed, run_made, run_added, run_changed_to, run_acted}
@@ -148,7 +148,7 @@ module _ (org ws : List ℕ) (t : Tables) (owned : AreOwned t) where
     runs_owned = all_updated (λ x. list_any (is_ws x.1.org x.1.ws) t.wss ≡ true) (is_run_row org ws n) (λ x. (x.0, record x.1 { it = record x.1.it { status = Planning } })) (λ x h. h) t.runs owned.runs_owned;
   }
 
-  owned_run : (r : RunCells) → list_any (is_ws org ws) t.wss ≡ true → AreOwned (run_added org ws r t)
+  owned_run : (r : Run) → list_any (is_ws org ws) t.wss ≡ true → AreOwned (run_added org ws r t)
   owned_run r there = record {
     wss_apart = owned.wss_apart;
     keepings_apart = owned.keepings_apart;

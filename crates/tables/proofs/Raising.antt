@@ -24,7 +24,7 @@ use Rattle.statements.specs.Finds.{cap_of, bound_in}
 use Rattle.statements.specs.Making.{raised, raised_third, Raises, RaisesThird}
 use Rattle.statements.proofs.Decoding.{second_tables-held}
 use Rattle.statements.proofs.Found.{found_holds}
-use Rattle.tables.specs.Records.{no_bounds, bounds_of_cells, bounds_at, keep_at, token_of_cells, is_token_of, tokens_at, record_of}
+use Rattle.tables.specs.Records.{no_bounds, bounds_at, keep_at, token_of_cells, is_token_of, tokens_at, record_of}
 use Rattle.tables.specs.Sound.{IsBoundRow, AreFirstSound, AreSecondSound, IsSound}
 use Rattle.tables.specs.Stores.{is_in_schema, IsFirstStore, IsSecondStore}
 use Rattle.tables.specs.Versions.{Becomes, KeepsBeside}
@@ -154,12 +154,12 @@ module _ (t : Tables) (none : t.bounds ≡ []) where
   reach_filled : (org name : List ℕ) → bounds_at second org name ≡ no_bounds
   reach_filled org name = by_row (find (is_bound org name) second.bounds) refl
     where
-      by_row : (o : Option (Kept BoundRow)) → find (is_bound org name) second.bounds ≡ o → unwrap_or (option_map bounds_of_cells (option_map bound_in o)) no_bounds ≡ no_bounds
+      by_row : (o : Option (Kept BoundRow)) → find (is_bound org name) second.bounds ≡ o → unwrap_or (option_map bound_in o) no_bounds ≡ no_bounds
       by_row None e = refl
       by_row (Some x) e = let is = found_holds IsUnbounded (is_bound org name) second.bounds x (all_unbounded t.tokens) e in λ i. record { until = is.0 i; prefix = is.1 i }
 
   reach_none : (org name : List ℕ) → bounds_at t org name ≡ no_bounds
-  reach_none org name = ap (λ (bs : List (Kept BoundRow)). unwrap_or (option_map bounds_of_cells (option_map bound_in (find (is_bound org name) bs))) no_bounds) none
+  reach_none org name = ap (λ (bs : List (Kept BoundRow)). unwrap_or (option_map bound_in (find (is_bound org name) bs)) no_bounds) none
 
   reach_stays : (org name : List ℕ) → bounds_at second org name ≡ bounds_at t org name
   reach_stays org name = reach_filled org name ∙ sym (reach_none org name)

@@ -6,7 +6,7 @@ use Rattle.std.specs.FinMap.Entries.{find as find_entry}
 use Rattle.machine.specs.Order.{name_cmp}
 use Rattle.machine.specs.Records.{with_workspace, placed}
 use Rattle.machine.specs.declared.records.Version.{Version}
-use Rattle.machine.specs.declared.records.Run.{Run}
+use Rattle.basis.specs.declared.rows.RunRow.{RunRow as Run}
 use Rattle.machine.specs.declared.records.Workspace.{Workspace}
 use Rattle.machine.specs.declared.records.Organization.{Organization}
 use Rattle.machine.proofs.MapLemmas.{names_total, names_same}

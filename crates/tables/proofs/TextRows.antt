@@ -18,13 +18,13 @@ use Rattle.std.specs.FinMap.{from_entries}
 use Rattle.machine.specs.Order.{name_cmp}
 use Rattle.statements.specs.Tables.{Tables}
 use Rattle.statements.specs.Changes.{is_bound, is_ws, is_ws_of, is_run_of, is_version_of, is_version, is_version_below, new_version, version_removed}
-use Rattle.statements.specs.Finds.{bound_in, head_of, oldest_below, size_of}
+use Rattle.statements.specs.Finds.{bound_in, oldest_below, size_of}
 use Rattle.statements.proofs.Found.{found_passes, found_holds, find_pushed, find_left}
 use Rattle.texts.specs.Texts.{is_place_of, pages_for, text_removed, text_of, IsWhole, HasNoPlaces, HasSoundPlaces}
 use Rattle.texts.proofs.PieceLists.{none_passes, none_found}
 use Rattle.texts.proofs.PlaceLaws.{IsOtherVersion, version_parts, version_from}
 use Rattle.texts.proofs.TextLaws.{text_added_keeps, text_added_whole, text_added_text, text_added_others_whole, text_added_others_text, text_added_places, text_added_metas, text_added_orgs, text_added_tokens, text_added_wss, text_added_versions, text_added_runs, text_added_bounds, text_added_editions, text_added_keepings, text_removed_keeps, text_removed_others_whole, text_removed_others_text, text_removed_places, text_removed_none, text_removed_metas, text_removed_orgs, text_removed_tokens, text_removed_wss, text_removed_versions, text_removed_runs, text_removed_bounds, text_removed_editions, text_removed_keepings, carried_whole, carried_text, carried_sound}
-use Rattle.tables.specs.Records.{version_of_cells, run_of_cells, no_bounds, bounds_of_cells, token_of_cells, workspace_of_cells, keep_at, version_at, versions_at, workspace_by, is_token_of, tokens_at, workspaces_at, organization_at}
+use Rattle.tables.specs.Records.{version_of_cells, no_bounds, token_of_cells, workspace_of_cells, keep_at, version_at, versions_at, workspace_by, is_token_of, tokens_at, workspaces_at, organization_at}
 use Rattle.tables.specs.Sound.{IsPlaced, HasText, IsSound}
 use Rattle.tables.specs.Inner.Edits.{first_gone, so_many_gone, gone_below, row_added, added_rows, FitsTwins}
 use Rattle.tables.proofs.Names.{same_name, name_is, is_pair, pair_is, pair_apart}
@@ -136,7 +136,7 @@ module _ (t u : Tables) (versions : u.versions ≡ t.versions) (pages : u.pages 
 
 -- tokens, and how far each reaches
 abbrev reach_of : List (Kept BoundRow) → TokenRow → Bounds
-reach_of bounds r = unwrap_or (option_map bounds_of_cells (option_map bound_in (find (is_bound r.org r.name) bounds))) no_bounds
+reach_of bounds r = unwrap_or (option_map bound_in (find (is_bound r.org r.name) bounds)) no_bounds
 
 pub tokens_carried : (t u : Tables) → u.tokens ≡ t.tokens → u.bounds ≡ t.bounds → (o : List ℕ) → tokens_at u o ≡ tokens_at t o
 tokens_carried t u tokens bounds o = λ i. from_entries {R = name_cmp} (map (λ (x : Kept TokenRow). (x.1.name, token_of_cells (reach_of (bounds i) x.1) x.1.it)) (filter (is_token_of o) (tokens i)))
@@ -152,11 +152,11 @@ pub record KeepsWorkspaces (t u : Tables) : Type 0 where
 
 module _ (t u : Tables) (keeps : KeepsWorkspaces t u) where
   pub workspace_carried : (o w : List ℕ) → workspace_by u o w ≡ workspace_by t o w
-  workspace_carried o w = λ i. option_map (λ (c : WorkspaceCells). workspace_of_cells (keeps.kept o w i) c (versions_carried t u keeps.versions keeps.pages keeps.vpages o w i) (map (λ (x : Kept RunRow). run_of_cells x.1.it) (filter (is_run_of o w) (keeps.runs i))))
+  workspace_carried o w = λ i. option_map (λ (c : WorkspaceCells). workspace_of_cells (keeps.kept o w i) c (versions_carried t u keeps.versions keeps.pages keeps.vpages o w i) (map (λ (x : Kept RunRow). x.1.it) (filter (is_run_of o w) (keeps.runs i))))
       (option_map (λ (x : Kept WsRow). x.1.it) (find (is_ws o w) (keeps.wss i)))
 
   pub workspaces_carried : (o : List ℕ) → workspaces_at u o ≡ workspaces_at t o
-  workspaces_carried o = λ i. from_entries {R = name_cmp} (map (λ (x : Kept WsRow). (x.1.name, workspace_of_cells (keeps.kept o x.1.name i) x.1.it (versions_carried t u keeps.versions keeps.pages keeps.vpages o x.1.name i) (map (λ (y : Kept RunRow). run_of_cells y.1.it) (filter (is_run_of o x.1.name) (keeps.runs i)))))
+  workspaces_carried o = λ i. from_entries {R = name_cmp} (map (λ (x : Kept WsRow). (x.1.name, workspace_of_cells (keeps.kept o x.1.name i) x.1.it (versions_carried t u keeps.versions keeps.pages keeps.vpages o x.1.name i) (map (λ (y : Kept RunRow). y.1.it) (filter (is_run_of o x.1.name) (keeps.runs i)))))
       (filter (is_ws_of o) (keeps.wss i)))
 
   pub organization_carried : u.tokens ≡ t.tokens → u.bounds ≡ t.bounds → (o : List ℕ) (cap : Option ℕ) → option_map (organization_at u o) cap ≡ option_map (organization_at t o) cap
@@ -288,7 +288,7 @@ module _ (org ws : List ℕ) (below : ℕ) (t : Tables) (a : AreTexts t) where
   one_more : (many : ℕ) (u : Tables) → GoesTo org ws below many t u → GoesTo org ws below (suc many) t (first_gone org ws (oldest_below org ws below u) u)
   one_more many u so_far = go (find (is_version_below org ws below) u.versions) refl
     where
-      go : (r : Option (Kept VersionRow)) → find (is_version_below org ws below) u.versions ≡ r → GoesTo org ws below (suc many) t (first_gone org ws (option_map (λ (x : Kept VersionRow). head_of x.1.it) r) u)
+      go : (r : Option (Kept VersionRow)) → find (is_version_below org ws below) u.versions ≡ r → GoesTo org ws below (suc many) t (first_gone org ws (option_map (λ (x : Kept VersionRow). x.1.it) r) u)
       go None e = record {
         rest = so_far.rest;
         left = so_far.left;

@@ -4,13 +4,12 @@ use Rattle.std.specs.Option.{unwrap_or}
 use Rattle.std.specs.FinMap.{get, same_map}
 use Rattle.basis.specs.declared.roles.Bounds.{Bounds}
 use Rattle.machine.proofs.MapLemmas.{names_total, names_same}
-use Rattle.statements.specs.declared.rows.Bound.{Bound as BoundCells}
 use Rattle.statements.specs.Rows.{Kept, TokenRow}
 use Rattle.statements.specs.Tables.{Tables}
 use Rattle.statements.specs.Changes.{is_token}
 use Rattle.statements.specs.Finds.{bound_of}
 use Rattle.statements.proofs.Found.{found_passes}
-use Rattle.tables.specs.Records.{no_bounds, bounds_of_cells, bounds_at, token_of_cells, token_at, tokens_at}
+use Rattle.tables.specs.Records.{no_bounds, bounds_at, token_of_cells, token_at, tokens_at}
 use Rattle.tables.proofs.Names.{is_pair, pair_first, pair_second}
 use Rattle.tables.proofs.Sets.{got_token, other_org}
 
@@ -21,7 +20,7 @@ pub record ChangesToken (org name : List ℕ) (t u : Tables) : Type 0 where
 
 module _ (org name : List ℕ) (t u : Tables) (c : ChangesToken org name t u) where
   same_reach : (a q : List ℕ) → is_pair org name a q ≡ false → bounds_at u a q ≡ bounds_at t a q
-  same_reach a q other = ap (λ (b : Option BoundCells). unwrap_or (option_map bounds_of_cells b) no_bounds) (c.bounds a q other)
+  same_reach a q other = ap (λ (b : Option Bounds). unwrap_or b no_bounds) (c.bounds a q other)
 
   same_token : (a q : List ℕ) → is_pair org name a q ≡ false → (o : Option (Kept TokenRow)) → find (is_token a q) t.tokens ≡ o
       → option_map (λ (x : Kept TokenRow). token_at u x.1) o ≡ option_map (λ (x : Kept TokenRow). token_at t x.1) o

@@ -9,19 +9,13 @@ use Rattle.basis.specs.declared.roles.Bounds.{Bounds}
 use Rattle.basis.specs.declared.roles.Caller.{Caller}
 use Rattle.basis.specs.declared.rows.Settings.{Settings}
 use Rattle.machine.specs.Order.{name_cmp}
-use Rattle.machine.specs.declared.records.Holder.{Holder}
-use Rattle.machine.specs.declared.records.Holder.TheVariants.{Nobody, Lock, Run as HoldingRun}
 use Rattle.machine.specs.declared.records.Version.{Version}
-use Rattle.machine.specs.declared.records.Run.{Run}
+use Rattle.basis.specs.declared.rows.RunRow.{RunRow as Run}
 use Rattle.machine.specs.declared.records.Token.{Token}
 use Rattle.machine.specs.declared.records.Workspace.{Workspace}
 use Rattle.machine.specs.declared.records.Organization.{Organization}
-use Rattle.statements.specs.declared.rows.Holder.{Holder as HolderCells}
-use Rattle.statements.specs.declared.rows.Holder.TheVariants as cells
-use Rattle.statements.specs.Rows.{Version as VersionCells}
-use Rattle.statements.specs.declared.rows.Run.{Run as RunCells}
+use Rattle.basis.specs.declared.rows.VersionRow.{VersionRow as VersionCells}
 use Rattle.statements.specs.Rows.{Token as TokenCells}
-use Rattle.statements.specs.declared.rows.Bound.{Bound as BoundCells}
 use Rattle.statements.specs.declared.rows.Workspace.{Workspace as WorkspaceCells}
 use Rattle.statements.specs.Rows.{Kept, TokenRow}
 use Rattle.statements.specs.Tables.{Tables}
@@ -35,24 +29,13 @@ use Rattle.texts.specs.Texts.{text_of}
 abbrev pub settings_of_cells : ℕ → WorkspaceCells → Settings
 settings_of_cells keep w = record { runs = w.runs; keep_versions = keep }
 
-abbrev pub holder_of_cells : HolderCells → Holder
-holder_of_cells cells.Nobody = Nobody
-holder_of_cells (cells.Lock id text) = Lock id text
-holder_of_cells (cells.Run n) = HoldingRun n
-
 -- the cells have the number of the text's bytes, and the text stands in pages
 abbrev pub version_of_cells : List ℕ → VersionCells → Version
 version_of_cells text v = record { number = v.number; serial = v.serial; lineage = v.lineage; created = v.created; text = text }
 
-abbrev pub run_of_cells : RunCells → Run
-run_of_cells r = record { number = r.number; plan_only = r.plan_only; key = r.key; message = r.message; created = r.created; status = r.status; action = r.action }
-
 -- a token that never ends, for all workspaces
 abbrev pub no_bounds : Bounds
 no_bounds = record { until = None; prefix = [] }
-
-abbrev pub bounds_of_cells : BoundCells → Bounds
-bounds_of_cells b = record { until = b.until; prefix = b.prefix }
 
 abbrev pub caller_with : Role → Bounds → Caller
 caller_with role bounds = record { role = role; until = bounds.until; prefix = bounds.prefix }
@@ -64,7 +47,7 @@ token_of_cells bounds t = record { digest = t.digest; caller = caller_with t.rol
 abbrev pub workspace_of_cells : ℕ → WorkspaceCells → List Version → List Run → Workspace
 workspace_of_cells keep w versions runs = record {
   settings = settings_of_cells keep w;
-  holder = holder_of_cells w.holder;
+  holder = w.holder;
   released = w.released;
   next_version = w.next_version;
   next_run = w.next_run;
@@ -83,7 +66,7 @@ abbrev pub versions_at : Tables → List ℕ → List ℕ → List Version
 versions_at t org ws = map (λ x. version_at t org ws x.1.it) (filter (is_version_of org ws) t.versions)
 
 abbrev pub runs_at : Tables → List ℕ → List ℕ → List Run
-runs_at t org ws = map (λ x. run_of_cells x.1.it) (filter (is_run_of org ws) t.runs)
+runs_at t org ws = map (λ x. x.1.it) (filter (is_run_of org ws) t.runs)
 
 -- How many versions a workspace keeps. One without a row of that, as all are in the versions before the third, keeps what one keeps at first.
 abbrev pub keep_at : Tables → List ℕ → List ℕ → ℕ
@@ -102,7 +85,7 @@ is_token_of org x = bytes_eq x.1.org org
 
 -- the bounds of a token stand in a row of their own: a token without one, as all are in the first version, has none
 abbrev pub bounds_at : Tables → List ℕ → List ℕ → Bounds
-bounds_at t org name = unwrap_or (option_map bounds_of_cells (bound_of org name t)) no_bounds
+bounds_at t org name = unwrap_or (bound_of org name t) no_bounds
 
 -- the token that a row denotes
 abbrev pub token_at : Tables → TokenRow → Token

@@ -1,5 +1,5 @@
 //! The calls of a store, over its connection: each with what it has to look at first.
-ghost use Rattle.std.specs.Prelude.{◌≡◌, false, ◌||◌, is_some, IsTrue, OnOk, ◌^◌, ◌<◌};
+ghost use Rattle.std.specs.Prelude.{◌≡◌, false, ◌||◌, is_some, IsTrue, OnOk};
 ghost use Rattle.sqlite.specs.Held.{state};
 ghost use Rattle.sqlite.specs.State.{HasCleanDisk};
 ghost use Rattle.machine.specs.Needs.{needed_of};
@@ -131,7 +131,6 @@ pub(crate) fn token_revoke<S: Alter>(
 /// Who asks by the organization's token with this digest. A token without its row of bound isn't let in: it is an error.
 pub(crate) fn caller<S: Alter>(
     conn: &mut Connection<S>,
-    alloc: Global,
     org: &str,
     digest: &[u8],
 ) -> Result<Option<Caller>, Error>
@@ -142,13 +141,12 @@ pub(crate) fn caller<S: Alter>(
     ensures bound { HasCleanDisk (state S.Store conn.new) → OnOk result ((t : Tables) → Holds (state S.Store conn.old).now t → IsBound org.now digest.now t) }
 {
     assert_settled(conn);
-    looks::caller(conn, alloc, org, digest)
+    looks::caller(conn, org, digest)
 }
 
 /// What a decision on an act needs of a workspace. How many its organization has may be known.
 pub(crate) fn unit<S: Alter>(
     conn: &mut Connection<S>,
-    alloc: Global,
     org: &str,
     ws: &str,
     needs: &Needs<'_>,
@@ -160,7 +158,7 @@ pub(crate) fn unit<S: Alter>(
     ensures looks { LooksBy (unit_in (needed_of needs.now) known org.now ws.now) (state S.Store conn.old) (state S.Store conn.new) result }
 {
     assert_settled(conn);
-    looks::unit(conn, alloc, org, ws, needs, known)
+    looks::unit(conn, org, ws, needs, known)
 }
 
 /// The text of a version, if it is kept.
@@ -176,7 +174,6 @@ pub(crate) fn text<S: Alter>(
     ensures so_far { HasCleanDisk (state S.Store conn.new) → HasCleanDisk (state S.Store conn.old) }
     ensures looks { LooksBy (text_in org.now ws.now number) (state S.Store conn.old) (state S.Store conn.new) result }
 {
-    let number = number.get() as u64;
     assert_settled(conn);
     looks::text(conn, alloc, org, ws, number)
 }
@@ -204,10 +201,9 @@ pub(crate) fn versions<S: Alter>(
     alloc: Global,
     org: &str,
     ws: &str,
-    after: u64,
+    after: u32,
 ) -> Result<Listing<VersionRow>, Error>
     requires idle { conn.old.in_transaction ≡ false }
-    requires after_fits { after < 2 ^ 63 }
     ensures idle { conn.new.in_transaction ≡ false }
     ensures so_far { HasCleanDisk (state S.Store conn.new) → HasCleanDisk (state S.Store conn.old) }
     ensures looks { LooksWhere (VersionsRise org.now ws.now) (versions_listed_in after org.now ws.now) (state S.Store conn.old) (state S.Store conn.new) result }
@@ -222,10 +218,9 @@ pub(crate) fn runs<S: Alter>(
     alloc: Global,
     org: &str,
     ws: &str,
-    after: u64,
+    after: u32,
 ) -> Result<Listing<RunRow>, Error>
     requires idle { conn.old.in_transaction ≡ false }
-    requires after_fits { after < 2 ^ 63 }
     ensures idle { conn.new.in_transaction ≡ false }
     ensures so_far { HasCleanDisk (state S.Store conn.new) → HasCleanDisk (state S.Store conn.old) }
     ensures looks { LooksWhere (RunsRise org.now ws.now) (runs_listed_in after org.now ws.now) (state S.Store conn.old) (state S.Store conn.new) result }

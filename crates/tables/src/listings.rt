@@ -1,24 +1,20 @@
 //! The lists that are asked of the tables, outside a transaction.
-ghost use Rattle.std.specs.Prelude.{◌≡◌, None, List, [], ◌∷◌, ◌++◌, map, IsTrue, IfOk, OnOk, ◌^◌, ◌<◌};
+ghost use Rattle.std.specs.Prelude.{◌≡◌, None, List, [], ◌∷◌, ◌++◌, map, IsTrue, IfOk, OnOk};
 ghost use Rattle.sqlite.specs.Held.{state};
 ghost use Rattle.sqlite.specs.State.{HasCleanDisk};
 ghost use Rattle.basis.specs.Listings.{listing_of};
 ghost use Rattle.machine.specs.Showing.{holder_id};
 ghost use Rattle.statements.specs.Listings.{OrgsApart, TokensApart, WorkspacesApart, VersionsRise, RunsRise};
-ghost use Rattle.tables.specs.Records.{holder_of_cells};
 ghost use Rattle.tables.specs.Inner.Looks.{Sees};
-ghost use Rattle.tables.specs.Inner.Lists.{SeesLawful, version_row_in, versions_listed_in, run_row_in, runs_listed_in, newest_number_in, newest_by, newest_shown_in, ws_row_in, workspaces_listed_in, token_row_in, tokens_listed_in, tokens_told_in, org_row_in, organizations_listed_in};
+ghost use Rattle.tables.specs.Inner.Lists.{SeesLawful, versions_listed_in, runs_listed_in, newest_number_in, newest_by, newest_shown_in, ws_row_in, workspaces_listed_in, token_row_in, tokens_listed_in, tokens_told_in, org_row_in, organizations_listed_in};
 
-use crate::looks::{caller_as, kept, limit_of, lock_id_of, moment_of, number_of};
+use crate::looks::{caller_as, kept};
 use basis::{
-    HolderId, Items, Listing, Number, Prefix, RunRow, Settings, Text, VersionRow, WsName, WsRow,
+    Holder, HolderId, Items, Listing, Number, Prefix, RunRow, Settings, VersionRow, WsName, WsRow,
 };
 use machine::{AdminAnswer, OrgRow, TokenRow};
 use sqlite::{Alter, Connection, Error, ErrorCode};
-use statements::rows::{
-    Holder as HolderCells, NamedRole, NamedWorkspace, Organization as OrganizationCells,
-    Run as RunCells, VersionHead,
-};
+use statements::rows::{NamedRole, NamedWorkspace, Organization as OrganizationCells};
 use statements::{organizations, runs, tokens, versions, workspaces};
 use std::alloc::Global;
 
@@ -35,66 +31,19 @@ fn offer<T: Drop>(list: &mut Listing<T>, item: T) -> Result<(), Error>
     }
 }
 
-fn version_row(head: &VersionHead) -> Result<VersionRow, Error>
-    ensures { IfOk result (λ row. row ≡ version_row_in head.now) }
-{
-    Ok(VersionRow {
-        created: moment_of(head.created)?,
-        lineage: head.lineage.clone()?,
-        number: number_of(head.number)?,
-        serial: head.serial,
-        size: head.size,
-    })
-}
-
-fn list_versions(alloc: Global, heads: &[VersionHead]) -> Result<Listing<VersionRow>, Error>
-    ensures { IfOk result (λ list. list ≡ listing_of (map version_row_in heads.now)) }
-{
-    let mut list = Listing::new(alloc);
-    for head in heads {
-        offer(&mut list, version_row(head)?)?;
-    }
-    Ok(list)
-}
-
 /// The versions of a workspace whose numbers are greater than this one.
 pub(crate) fn list_of_versions<S: Alter>(
     conn: &mut Connection<S>,
     alloc: Global,
     org: &str,
     ws: &str,
-    after: u64,
+    after: u32,
 ) -> Result<Listing<VersionRow>, Error>
-    requires after_fits { after < 2 ^ 63 }
     ensures looks { SeesLawful (VersionsRise org.now ws.now) (versions_listed_in after org.now ws.now) (state S.Store conn.old) (state S.Store conn.new) result }
     ensures is_open { HasCleanDisk (state S.Store conn.new) → OnOk result (IsTrue (state S.Store conn.new).is_open) }
 {
-    let heads = versions::list(alloc, conn, org, ws, after, ASKED_ROWS)?;
-    list_versions(alloc, heads.as_slice())
-}
-
-fn run_row(run: &RunCells) -> Result<RunRow, Error>
-    ensures { IfOk result (λ row. row ≡ run_row_in run.now) }
-{
-    Ok(RunRow {
-        action: run.action,
-        created: moment_of(run.created)?,
-        key: run.key.clone()?,
-        message: run.message.clone()?,
-        number: number_of(run.number)?,
-        plan_only: run.plan_only,
-        status: run.status,
-    })
-}
-
-fn list_runs(alloc: Global, runs: &[RunCells]) -> Result<Listing<RunRow>, Error>
-    ensures { IfOk result (λ list. list ≡ listing_of (map run_row_in runs.now)) }
-{
-    let mut list = Listing::new(alloc);
-    for run in runs {
-        offer(&mut list, run_row(run)?)?;
-    }
-    Ok(list)
+    let rows = versions::list(alloc, conn, org, ws, after, ASKED_ROWS)?;
+    Ok(Listing::of(rows))
 }
 
 /// The runs of a workspace whose numbers are greater than this one.
@@ -103,14 +52,13 @@ pub(crate) fn list_of_runs<S: Alter>(
     alloc: Global,
     org: &str,
     ws: &str,
-    after: u64,
+    after: u32,
 ) -> Result<Listing<RunRow>, Error>
-    requires after_fits { after < 2 ^ 63 }
     ensures looks { SeesLawful (RunsRise org.now ws.now) (runs_listed_in after org.now ws.now) (state S.Store conn.old) (state S.Store conn.new) result }
     ensures is_open { HasCleanDisk (state S.Store conn.new) → OnOk result (IsTrue (state S.Store conn.new).is_open) }
 {
     let rows = runs::list(alloc, conn, org, ws, after, ASKED_ROWS)?;
-    list_runs(alloc, rows.as_slice())
+    Ok(Listing::of(rows))
 }
 
 /// The number of the newest version.
@@ -124,7 +72,7 @@ fn newest_number<S: Alter>(
 {
     match versions::newest(conn, org, ws)? {
         None => Ok(None),
-        Some(head) => Ok(Some(number_of(head.number)?)),
+        Some(version) => Ok(Some(version.number)),
     }
 }
 
@@ -153,7 +101,7 @@ fn newest_shown<S: Alter>(
     ensures { Sees (newest_shown_in org.now workspace.now) (state S.Store conn.old) (state S.Store conn.new) result }
 {
     match workspace.last {
-        Some(last) => Ok(Some(number_of(last)?)),
+        Some(last) => Ok(Some(last)),
         None => newest_looked_for(
             conn,
             org,
@@ -163,37 +111,33 @@ fn newest_shown<S: Alter>(
     }
 }
 
-fn holder_id_of(alloc: Global, holder: &HolderCells) -> Result<Option<HolderId>, Error>
-    ensures { IfOk result (λ id. id ≡ holder_id (holder_of_cells holder.now)) }
+fn holder_id(holder: &Holder) -> Result<Option<HolderId>, Error>
+    ensures { IfOk result (λ id. id ≡ holder_id holder.now) }
 {
     match holder {
-        HolderCells::Nobody => Ok(None),
-        HolderCells::Lock { id, .. } => Ok(Some(HolderId::Lock(lock_id_of(alloc, id)?))),
-        HolderCells::Run(run) => Ok(Some(HolderId::Run(number_of(*run)?))),
+        Holder::Nobody => Ok(None),
+        Holder::Lock { id, .. } => Ok(Some(HolderId::Lock(id.clone()?))),
+        Holder::Run(run) => Ok(Some(HolderId::Run(*run))),
     }
 }
 
-fn ws_name_of(alloc: Global, name: &Text) -> Result<WsName, Error>
-    ensures { IfOk result (λ read. read ≡ name.now) }
+fn copy_of(name: &WsName) -> Result<WsName, Error>
+    ensures { IfOk result (λ copy. copy ≡ name.now) }
 {
-    match WsName::read(alloc, name.as_str()) {
-        Ok(name) => Ok(name),
-        Err(_) => Err(Error::SqliteFailure(ErrorCode::OutOfMemory)),
-    }
+    Ok(name.clone()?)
 }
 
 /// A workspace as a list shows it.
 fn ws_row<S: Alter>(
     conn: &mut Connection<S>,
-    alloc: Global,
     org: &str,
     workspace: &NamedWorkspace,
 ) -> Result<WsRow, Error>
     ensures { Sees (λ t. ws_row_in org.now t workspace.now) (state S.Store conn.old) (state S.Store conn.new) result }
 {
     let version = newest_shown(conn, org, workspace)?;
-    let holder = holder_id_of(alloc, &workspace.it.holder)?;
-    let name = ws_name_of(alloc, &workspace.name)?;
+    let holder = holder_id(&workspace.it.holder)?;
+    let name = copy_of(&workspace.name)?;
     Ok(WsRow {
         settings: Settings {
             runs: workspace.it.runs,
@@ -216,7 +160,7 @@ fn list_workspaces<S: Alter>(
 {
     let mut list = Listing::new(alloc);
     for workspace in workspaces {
-        let row = ws_row(conn, alloc, org, workspace)?;
+        let row = ws_row(conn, org, workspace)?;
         offer(&mut list, row)?;
     }
     Ok(list)
@@ -247,11 +191,10 @@ fn org_row<S: Alter>(
 {
     let count = workspaces::count(conn, organization.name.as_str())?;
     let name = organization.name.clone()?;
-    let limit = limit_of(Some(organization.cap))?;
     Ok(OrgRow {
         name,
         workspaces: count as usize,
-        limit,
+        limit: organization.cap,
     })
 }
 
@@ -296,14 +239,13 @@ pub(crate) fn list_of_organizations<S: Alter>(
 /// A token as an operator's list shows it.
 fn token_row<S: Alter>(
     conn: &mut Connection<S>,
-    alloc: Global,
     org: &str,
     token: &NamedRole,
 ) -> Result<TokenRow, Error>
     ensures looks { Sees (λ t. token_row_in org.now t token.now) (state S.Store conn.old) (state S.Store conn.new) result }
     ensures is_open { HasCleanDisk (state S.Store conn.new) → OnOk result (IsTrue (state S.Store conn.new).is_open) }
 {
-    let caller = caller_as(conn, alloc, org, token)?;
+    let caller = caller_as(conn, org, token)?;
     let name = token.name.clone()?;
     Ok(TokenRow { name, caller })
 }
@@ -319,7 +261,7 @@ fn list_tokens<S: Alter>(
 {
     let mut rows = Items::new(Vec::new(alloc));
     for token in tokens {
-        let row = token_row(conn, alloc, org, token)?;
+        let row = token_row(conn, org, token)?;
         push(&mut rows, row)?;
     }
     Ok(rows)

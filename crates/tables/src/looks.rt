@@ -1,27 +1,23 @@
 //! What is asked of the tables outside a transaction, by queries of one row each.
-ghost use Rattle.std.specs.Prelude.{◌≡◌, length, false, cond, is_some, option_map, option_copied, Option, IsTrue, IsSome, IfOk, OnOk, ◌<◌, unwrap_or};
+ghost use Rattle.std.specs.Prelude.{◌≡◌, false, cond, is_some, option_copied, Option, IsTrue, IsSome, OnOk, unwrap_or};
 ghost use Rattle.basis.specs.declared.numbers.TheConstants.{FIRST_KEPT};
 ghost use Rattle.sqlite.specs.Held.{state};
 ghost use Rattle.sqlite.specs.State.{HasCleanDisk};
-ghost use Rattle.statements.specs.Finds.{size_of, status_at_number, run_at_number, number_back, cap_of, workspaces_of, first_waiting_of, open_runs_of, bound_of};
+ghost use Rattle.statements.specs.Finds.{size_of, number_back, cap_of, workspaces_of, first_waiting_of, open_runs_of, bound_of};
 ghost use Rattle.statements.specs.Tables.{Tables, Holds};
 ghost use Rattle.machine.specs.Needs.{needed_of};
 ghost use Rattle.machine.specs.Units.{if_needed};
-ghost use Rattle.texts.specs.Texts.{pages_for, are_pieces};
-ghost use Rattle.tables.specs.Records.{bounds_of_cells, caller_with, bounds_at, caller_by, IsBound, keep_at, holder_of_cells, run_of_cells};
-ghost use Rattle.tables.specs.Inner.Units.{holder_status_in, text_in, has_text, newest_by, newest_in, keep_in, outgoing_in, has_version_in, keyed_cells_in, asked_cells_in, asked_run_in, unit_in};
+ghost use Rattle.tables.specs.Records.{caller_with, bounds_at, caller_by, IsBound, keep_at};
+ghost use Rattle.tables.specs.Inner.Units.{holder_status_in, text_in, has_text, newest_by, newest_in, keep_in, outgoing_in, has_version_in, keyed_run_in, asked_run_in, unit_in};
 ghost use Rattle.tables.specs.Inner.Looks.{Sees, absent_in, runs_in, around_in, unit_from, present_in};
 
 use basis::{
-    Bounds, Bytes, Caller, KeepCount, Limit, LockId, Moment, Number, Prefix, Role, RunStatus,
-    Settings, Text,
+    Bounds, Bytes, Caller, Holder, KeepCount, Limit, Number, Role, RunRow, RunStatus, Settings,
+    Text, VersionRow,
 };
-use machine::{Holder, Needs, Newest, Run, Staying, Unit, WorkspaceUnit};
-use sqlite::{Alter, Connection, Error, ErrorCode};
-use statements::rows::{
-    Bound as BoundCells, Head, Holder as HolderCells, NamedRole, Run as RunCells,
-    Workspace as WorkspaceCells,
-};
+use machine::{Needs, Newest, Staying, Unit, WorkspaceUnit};
+use sqlite::{Alter, Connection, Error};
+use statements::rows::{NamedRole, Workspace as WorkspaceCells};
 use statements::{bounds, keepings, organizations, runs, tokens, versions, workspaces};
 use std::alloc::Global;
 
@@ -30,7 +26,7 @@ use std::alloc::Global;
 struct RunsAround {
     holder_status: Option<RunStatus>,
     first_waiting: Option<Number>,
-    asked_run: Option<Run>,
+    asked_run: Option<RunRow>,
     open_runs: u64,
 }
 
@@ -49,33 +45,15 @@ pub(crate) fn text<S: Alter>(
     alloc: Global,
     org: &str,
     ws: &str,
-    number: u64,
+    number: Number,
 ) -> Result<Option<Bytes>, Error>
     ensures looks { Sees (text_in org.now ws.now number) (state S.Store conn.old) (state S.Store conn.new) result }
     ensures is_open { HasCleanDisk (state S.Store conn.new) → OnOk result (IsTrue (state S.Store conn.new).is_open) }
 {
-    if number > i64::MAX as u64 {
-        return Err(Error::IntegralValueOutOfRange(0));
-    }
     match versions::size(conn, org, ws, number)? {
         None => Ok(None),
         Some(size) => Ok(Some(texts::text(alloc, conn, org, ws, number, size)?)),
     }
-}
-
-/// The status of a run.
-fn status<S: Alter>(
-    conn: &mut Connection<S>,
-    org: &str,
-    ws: &str,
-    run: u64,
-) -> Result<Option<RunStatus>, Error>
-    ensures looks { Sees (status_at_number org.now ws.now run) (state S.Store conn.old) (state S.Store conn.new) result }
-{
-    if run > i64::MAX as u64 {
-        return Err(Error::IntegralValueOutOfRange(0));
-    }
-    runs::status(conn, org, ws, run)
 }
 
 /// The status of the run that holds.
@@ -83,14 +61,14 @@ fn holder_status<S: Alter>(
     conn: &mut Connection<S>,
     org: &str,
     ws: &str,
-    holder: &HolderCells,
+    holder: &Holder,
 ) -> Result<Option<RunStatus>, Error>
     ensures looks { Sees (holder_status_in org.now ws.now holder.now) (state S.Store conn.old) (state S.Store conn.new) result }
 {
     match holder {
-        HolderCells::Nobody => Ok(None),
-        HolderCells::Lock { .. } => Ok(None),
-        HolderCells::Run(run) => status(conn, org, ws, *run),
+        Holder::Nobody => Ok(None),
+        Holder::Lock { .. } => Ok(None),
+        Holder::Run(run) => runs::status(conn, org, ws, *run),
     }
 }
 
@@ -100,7 +78,7 @@ fn holder_status_if<S: Alter>(
     org: &str,
     ws: &str,
     needed: bool,
-    holder: &HolderCells,
+    holder: &Holder,
 ) -> Result<Option<RunStatus>, Error>
     ensures looks { Sees (λ t. if_needed needed (holder_status_in org.now ws.now holder.now t)) (state S.Store conn.old) (state S.Store conn.new) result }
 {
@@ -111,29 +89,13 @@ fn holder_status_if<S: Alter>(
     }
 }
 
-/// Whether the text of a version, which has the size of this one, is this one, byte for byte.
-fn is_text<S: Alter>(
-    conn: &mut Connection<S>,
-    org: &str,
-    ws: &str,
-    number: u64,
-    text: &Bytes,
-) -> Result<bool, Error>
-    ensures looks { Sees (are_pieces org.now ws.now number text.now (pages_for (length text.now))) (state S.Store conn.old) (state S.Store conn.new) result }
-{
-    if number > i64::MAX as u64 {
-        return Err(Error::IntegralValueOutOfRange(0));
-    }
-    texts::same_text(conn, org, ws, number, text.as_slice())
-}
-
 /// Whether a version has the text that it is compared with. Of one of another size the text isn't looked up.
 fn has_text<S: Alter>(
     conn: &mut Connection<S>,
     org: &str,
     ws: &str,
     text: Option<&Bytes>,
-    head: &Head,
+    head: &VersionRow,
 ) -> Result<bool, Error>
     ensures looks { Sees (has_text (option_copied text.entry) org.now ws.now head.now) (state S.Store conn.old) (state S.Store conn.new) result }
 {
@@ -141,18 +103,9 @@ fn has_text<S: Alter>(
         return Ok(false);
     };
     if head.size == text.as_slice().len() as u64 {
-        is_text(conn, org, ws, head.number, text)
+        texts::same_text(conn, org, ws, head.number, text.as_slice())
     } else {
         Ok(false)
-    }
-}
-
-pub(crate) fn number_of(number: u64) -> Result<Number, Error>
-    ensures { IfOk result (λ n. n ≡ number) }
-{
-    match Number::new(number) {
-        Some(number) => Ok(number),
-        None => Err(Error::IntegralValueOutOfRange(0)),
     }
 }
 
@@ -162,14 +115,13 @@ fn newest_as<S: Alter>(
     org: &str,
     ws: &str,
     text: Option<&Bytes>,
-    head: Head,
+    head: VersionRow,
 ) -> Result<Newest, Error>
     ensures looks { Sees (λ t. newest_by (option_copied text.entry) org.now ws.now t head) (state S.Store conn.old) (state S.Store conn.new) result }
 {
-    let number = number_of(head.number)?;
     let is_same = has_text(conn, org, ws, text, &head)?;
     Ok(Newest {
-        number,
+        number: head.number,
         serial: head.serial,
         lineage: head.lineage,
         is_same,
@@ -256,8 +208,7 @@ fn number_behind<S: Alter>(
 ) -> Result<Option<Number>, Error>
     ensures looks { Sees (number_back org.now ws.now staying) (state S.Store conn.old) (state S.Store conn.new) result }
 {
-    let number = versions::number_back(conn, org, ws, staying as u64)?;
-    optional_number_of(number)
+    versions::number_back(conn, org, ws, staying)
 }
 
 /// The greatest number of the versions that go, of a workspace that keeps so many: those that stay stand behind it.
@@ -277,109 +228,15 @@ fn outgoing<S: Alter>(
     }
 }
 
-fn optional_number_of(number: Option<u64>) -> Result<Option<Number>, Error>
-    ensures { IfOk result (λ n. n ≡ number) }
-{
-    match number {
-        None => Ok(None),
-        Some(number) => Ok(Some(number_of(number)?)),
-    }
-}
-
-pub(crate) fn lock_id_of(alloc: Global, id: &Text) -> Result<LockId, Error>
-    ensures { IfOk result (λ read. read ≡ id.now) }
-{
-    match LockId::read(alloc, id.as_str()) {
-        Ok(id) => Ok(id),
-        Err(_) => Err(Error::SqliteFailure(ErrorCode::OutOfMemory)),
-    }
-}
-
-fn optional_lock_id_of(alloc: Global, id: &Option<Text>) -> Result<Option<LockId>, Error>
-    ensures { IfOk result (λ read. read ≡ id.now) }
-{
-    match id {
-        None => Ok(None),
-        Some(id) => Ok(Some(lock_id_of(alloc, id)?)),
-    }
-}
-
-fn holder_of(alloc: Global, holder: HolderCells) -> Result<Holder, Error>
-    ensures { IfOk result (λ read. read ≡ holder_of_cells holder) }
-{
-    match holder {
-        HolderCells::Nobody => Ok(Holder::Nobody),
-        HolderCells::Lock { id, text } => Ok(Holder::Lock {
-            id: lock_id_of(alloc, &id)?,
-            text,
-        }),
-        HolderCells::Run(run) => Ok(Holder::Run(number_of(run)?)),
-    }
-}
-
-pub(crate) fn limit_of(cap: Option<u64>) -> Result<Limit, Error>
-    ensures { IfOk result (λ limit. limit ≡ unwrap_or cap 0) }
-{
-    let cap = cap.unwrap_or(0);
-    if cap > u32::MAX as u64 {
-        return Err(Error::IntegralValueOutOfRange(0));
-    }
-    match Limit::new(cap as u32) {
-        Some(limit) => Ok(limit),
-        None => Err(Error::IntegralValueOutOfRange(0)),
-    }
-}
-
-pub(crate) fn moment_of(seconds: u64) -> Result<Moment, Error>
-    ensures { IfOk result (λ moment. moment ≡ seconds) }
-{
-    match Moment::new(seconds) {
-        Some(moment) => Ok(moment),
-        None => Err(Error::IntegralValueOutOfRange(0)),
-    }
-}
-
-fn optional_moment_of(seconds: Option<u64>) -> Result<Option<Moment>, Error>
-    ensures { IfOk result (λ moment. moment ≡ seconds) }
-{
-    match seconds {
-        None => Ok(None),
-        Some(seconds) => Ok(Some(moment_of(seconds)?)),
-    }
-}
-
-fn prefix_of(alloc: Global, prefix: &Text) -> Result<Prefix, Error>
-    ensures { IfOk result (λ read. read ≡ prefix.now) }
-{
-    match Prefix::read(alloc, prefix.as_str()) {
-        Ok(prefix) => Ok(prefix),
-        Err(_) => Err(Error::SqliteFailure(ErrorCode::OutOfMemory)),
-    }
-}
-
-/// How far a token reaches, from its row of bound.
-fn bounds_as(alloc: Global, bound: &BoundCells) -> Result<Bounds, Error>
-    ensures { IfOk result (λ bounds. bounds ≡ bounds_of_cells bound.now) }
-{
-    let until = optional_moment_of(bound.until)?;
-    let prefix = prefix_of(alloc, &bound.prefix)?;
-    Ok(Bounds { until, prefix })
-}
-
 /// How far a token reaches. It is an error where the token has no row of bound.
-fn bounds_of<S: Alter>(
-    conn: &mut Connection<S>,
-    alloc: Global,
-    org: &str,
-    name: &str,
-) -> Result<Bounds, Error>
+fn bounds_of<S: Alter>(conn: &mut Connection<S>, org: &str, name: &str) -> Result<Bounds, Error>
     ensures looks { Sees (λ t. bounds_at t org.now name.now) (state S.Store conn.old) (state S.Store conn.new) result }
     ensures is_open { HasCleanDisk (state S.Store conn.new) → OnOk result (IsTrue (state S.Store conn.new).is_open) }
     ensures there { HasCleanDisk (state S.Store conn.new) → OnOk result ((t : Tables) → Holds (state S.Store conn.old).now t → IsSome (bound_of org.now name.now t)) }
 {
     match bounds::find(conn, org, name)? {
         None => Err(Error::QueryReturnedNoRows),
-        Some(bound) => bounds_as(alloc, &bound),
+        Some(bounds) => Ok(bounds),
     }
 }
 
@@ -396,7 +253,6 @@ fn caller_with(role: Role, bounds: Bounds) -> Caller
 /// Who asks by a token of this name and role.
 pub(crate) fn caller_as<S: Alter>(
     conn: &mut Connection<S>,
-    alloc: Global,
     org: &str,
     token: &NamedRole,
 ) -> Result<Caller, Error>
@@ -404,14 +260,13 @@ pub(crate) fn caller_as<S: Alter>(
     ensures is_open { HasCleanDisk (state S.Store conn.new) → OnOk result (IsTrue (state S.Store conn.new).is_open) }
     ensures there { HasCleanDisk (state S.Store conn.new) → OnOk result ((t : Tables) → Holds (state S.Store conn.old).now t → IsSome (bound_of org.now token.now.name t)) }
 {
-    let bounds = bounds_of(conn, alloc, org, token.name.as_str())?;
+    let bounds = bounds_of(conn, org, token.name.as_str())?;
     Ok(caller_with(token.role, bounds))
 }
 
 /// Who asks by the organization's token with this digest. It is an error where the token has no row of bound.
 pub(crate) fn caller<S: Alter>(
     conn: &mut Connection<S>,
-    alloc: Global,
     org: &str,
     digest: &[u8],
 ) -> Result<Option<Caller>, Error>
@@ -421,44 +276,8 @@ pub(crate) fn caller<S: Alter>(
 {
     match tokens::find_by_digest(conn, org, digest)? {
         None => Ok(None),
-        Some(token) => Ok(Some(caller_as(conn, alloc, org, &token)?)),
+        Some(token) => Ok(Some(caller_as(conn, org, &token)?)),
     }
-}
-
-fn run_as(run: RunCells) -> Result<Run, Error>
-    ensures { IfOk result (λ read. read ≡ run_of_cells run) }
-{
-    Ok(Run {
-        number: number_of(run.number)?,
-        plan_only: run.plan_only,
-        key: run.key,
-        message: run.message,
-        created: moment_of(run.created)?,
-        status: run.status,
-        action: run.action,
-    })
-}
-
-fn optional_run_as(run: Option<RunCells>) -> Result<Option<Run>, Error>
-    ensures { IfOk result (λ read. read ≡ option_map run_of_cells run) }
-{
-    match run {
-        None => Ok(None),
-        Some(run) => Ok(Some(run_as(run)?)),
-    }
-}
-
-/// The run of a number.
-fn numbered_run<S: Alter>(
-    conn: &mut Connection<S>,
-    org: &str,
-    ws: &str,
-    number: Number,
-) -> Result<Option<RunCells>, Error>
-    ensures looks { Sees (run_at_number org.now ws.now number) (state S.Store conn.old) (state S.Store conn.new) result }
-{
-    let number = number.get() as u64;
-    runs::find(conn, org, ws, number)
 }
 
 /// The run that has a key, if a key is given.
@@ -467,28 +286,12 @@ fn keyed_run<S: Alter>(
     org: &str,
     ws: &str,
     key: Option<&Text>,
-) -> Result<Option<RunCells>, Error>
-    ensures looks { Sees (keyed_cells_in (option_copied key.entry) org.now ws.now) (state S.Store conn.old) (state S.Store conn.new) result }
+) -> Result<Option<RunRow>, Error>
+    ensures looks { Sees (keyed_run_in (option_copied key.entry) org.now ws.now) (state S.Store conn.old) (state S.Store conn.new) result }
 {
     match key {
         None => Ok(None),
         Some(key) => runs::find_by_key(conn, org, ws, key.as_str()),
-    }
-}
-
-/// The row of the run that is asked of: by its number, or, where none is given, by its key.
-fn asked_cells<S: Alter>(
-    conn: &mut Connection<S>,
-    org: &str,
-    ws: &str,
-    number: Option<Number>,
-    key: Option<&Text>,
-) -> Result<Option<RunCells>, Error>
-    ensures looks { Sees (asked_cells_in number (option_copied key.entry) org.now ws.now) (state S.Store conn.old) (state S.Store conn.new) result }
-{
-    match number {
-        None => keyed_run(conn, org, ws, key),
-        Some(number) => numbered_run(conn, org, ws, number),
     }
 }
 
@@ -499,11 +302,13 @@ fn asked_run<S: Alter>(
     ws: &str,
     number: Option<Number>,
     key: Option<&Text>,
-) -> Result<Option<Run>, Error>
+) -> Result<Option<RunRow>, Error>
     ensures looks { Sees (asked_run_in number (option_copied key.entry) org.now ws.now) (state S.Store conn.old) (state S.Store conn.new) result }
 {
-    let run = asked_cells(conn, org, ws, number, key)?;
-    optional_run_as(run)
+    match number {
+        None => keyed_run(conn, org, ws, key),
+        Some(number) => runs::find(conn, org, ws, number),
+    }
 }
 
 /// Whether the version of a number is kept.
@@ -515,7 +320,6 @@ fn is_kept<S: Alter>(
 ) -> Result<bool, Error>
     ensures looks { Sees (λ t. is_some (size_of org.now ws.now number t)) (state S.Store conn.old) (state S.Store conn.new) result }
 {
-    let number = number.get() as u64;
     let size = versions::size(conn, org, ws, number)?;
     Ok(size.is_some())
 }
@@ -562,12 +366,22 @@ fn count_if<S: Alter>(
     }
 }
 
+/// How many workspaces an organization may have, by its row. One without a row may have none.
+fn allowed(cap: Option<Limit>) -> Limit
+    ensures { result ≡ unwrap_or cap 0 }
+{
+    match cap {
+        None => Limit::none(),
+        Some(limit) => limit,
+    }
+}
+
 /// How many workspaces an organization may have.
 fn limit<S: Alter>(conn: &mut Connection<S>, org: &str) -> Result<Limit, Error>
     ensures looks { Sees (λ t. unwrap_or (cap_of org.now t) 0) (state S.Store conn.old) (state S.Store conn.new) result }
 {
     let cap = organizations::cap(conn, org)?;
-    limit_of(cap)
+    Ok(allowed(cap))
 }
 
 /// How many workspaces an organization may have, where the act makes one: for any other act it isn't
@@ -578,7 +392,7 @@ fn limit_if<S: Alter>(conn: &mut Connection<S>, org: &str, makes: bool) -> Resul
     if makes {
         limit(conn, org)
     } else {
-        limit_of(None)
+        Ok(Limit::none())
     }
 }
 
@@ -607,8 +421,7 @@ fn first_waiting<S: Alter>(
 ) -> Result<Option<Number>, Error>
     ensures looks { Sees (first_waiting_of org.now ws.now) (state S.Store conn.old) (state S.Store conn.new) result }
 {
-    let number = runs::first_waiting(conn, org, ws)?;
-    optional_number_of(number)
+    runs::first_waiting(conn, org, ws)
 }
 
 /// The first run that waits, where it is needed.
@@ -649,7 +462,7 @@ fn runs_around<S: Alter>(
     org: &str,
     ws: &str,
     needs: &Needs<'_>,
-    holder: &HolderCells,
+    holder: &Holder,
 ) -> Result<RunsAround, Error>
     ensures looks { Sees (runs_in (needed_of needs.now) org.now ws.now holder.now) (state S.Store conn.old) (state S.Store conn.new) result }
 {
@@ -672,7 +485,7 @@ fn around<S: Alter>(
     ws: &str,
     needs: &Needs<'_>,
     keep: KeepCount,
-    holder: &HolderCells,
+    holder: &Holder,
 ) -> Result<Surroundings, Error>
     ensures looks { Sees (around_in (needed_of needs.now) org.now ws.now keep holder.now) (state S.Store conn.old) (state S.Store conn.new) result }
 {
@@ -688,25 +501,18 @@ fn around<S: Alter>(
     })
 }
 
-fn unit_by(
-    alloc: Global,
-    keep: KeepCount,
-    workspace: WorkspaceCells,
-    around: Surroundings,
-) -> Result<WorkspaceUnit, Error>
-    ensures { IfOk result (λ unit. unit ≡ unit_from keep workspace around) }
+fn unit_by(keep: KeepCount, workspace: WorkspaceCells, around: Surroundings) -> WorkspaceUnit
+    ensures { result ≡ unit_from keep workspace around }
 {
-    let released = optional_lock_id_of(alloc, &workspace.released)?;
-    let holder = holder_of(alloc, workspace.holder)?;
     let runs = around.runs;
-    Ok(WorkspaceUnit {
+    WorkspaceUnit {
         settings: Settings {
             runs: workspace.runs,
             keep_versions: keep,
         },
-        holder,
+        holder: workspace.holder,
         holder_status: runs.holder_status,
-        released,
+        released: workspace.released,
         next_version: workspace.next_version,
         next_run: workspace.next_run,
         newest: around.newest,
@@ -715,12 +521,11 @@ fn unit_by(
         has_version: around.has_version,
         asked_run: runs.asked_run,
         open_runs: runs.open_runs as usize,
-    })
+    }
 }
 
 fn present<S: Alter>(
     conn: &mut Connection<S>,
-    alloc: Global,
     org: &str,
     ws: &str,
     needs: &Needs<'_>,
@@ -730,14 +535,12 @@ fn present<S: Alter>(
 {
     let keep = keep_if(conn, org, ws, needs.keep_versions)?;
     let around = around(conn, org, ws, needs, keep, &workspace.holder)?;
-    let unit = unit_by(alloc, keep, workspace, around)?;
-    Ok(Unit::Present(unit))
+    Ok(Unit::Present(unit_by(keep, workspace, around)))
 }
 
 /// What a decision that needs so much sees of a workspace. How many its organization has may be known.
 pub(crate) fn unit<S: Alter>(
     conn: &mut Connection<S>,
-    alloc: Global,
     org: &str,
     ws: &str,
     needs: &Needs<'_>,
@@ -748,6 +551,6 @@ pub(crate) fn unit<S: Alter>(
 {
     match workspaces::find(conn, org, ws)? {
         None => absent(conn, org, needs, known),
-        Some(workspace) => present(conn, alloc, org, ws, needs, workspace),
+        Some(workspace) => present(conn, org, ws, needs, workspace),
     }
 }

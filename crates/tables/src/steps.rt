@@ -1,5 +1,5 @@
 //! What a change of a workspace does to the tables, inside one transaction.
-ghost use Rattle.std.specs.Prelude.{◌≡◌, ◌+◌, ◌<◌, ◌^◌, cond, option_map, None};
+ghost use Rattle.std.specs.Prelude.{◌≡◌, ◌+◌, cond, option_map, None};
 ghost use Rattle.sqlite.specs.Held.{state};
 ghost use Rattle.statements.specs.Changes.{run_acted};
 ghost use Rattle.statements.specs.Finds.{size_of};
@@ -7,34 +7,29 @@ ghost use Rattle.tables.specs.Inner.Edits.{version_gone, oldest_gone, gone_below
 ghost use Rattle.tables.specs.Inner.Steps.{TellsIn, FindsIn, FindsOldest, StepsBy};
 
 use basis::numbers::{MAX_KEPT, MAX_NUMBER};
-use basis::{Moment, Number, RunAction, RunAsk, RunStatus, Settings, Text};
+use basis::{Moment, Number, RunAction, RunAsk, RunStatus, Settings, Text, VersionRow};
 use machine::{Change, Edit, Version};
 use pages::PageKey;
 use sqlite::{Alter, Error, Transaction};
-use statements::rows::Head;
 use statements::{keepings, runs, versions, workspaces};
 
 /// The most versions that go at once: a workspace keeps no more, and one more has come before others go.
 const MOST_GONE: usize = MAX_KEPT as usize + 1;
 
 /// No version has this number or a greater one.
-const BEYOND: u64 = MAX_NUMBER as u64 + 1;
+const BEYOND: u32 = MAX_NUMBER + 1;
 
 /// Removes a version with its text.
 fn remove_version<S: Alter>(
     tx: &mut Transaction<'_, S>,
     org: &str,
     ws: &str,
-    head: &Head,
+    head: &VersionRow,
 ) -> Result<(), Error>
     ensures { StepsBy S.Store (version_gone org.now ws.now head.now) tx.old tx.new result }
 {
-    let number = head.number;
-    if number > i64::MAX as u64 {
-        return Err(Error::IntegralValueOutOfRange(0));
-    }
-    versions::remove(tx, org, ws, number)?;
-    texts::remove_text(tx, org, ws, number, head.size)
+    versions::remove(tx, org, ws, head.number)?;
+    texts::remove_text(tx, org, ws, head.number, head.size)
 }
 
 /// Of the versions with numbers below this one, that which was added first goes. It tells whether there was one.
@@ -42,9 +37,8 @@ fn remove_oldest<S: Alter>(
     tx: &mut Transaction<'_, S>,
     org: &str,
     ws: &str,
-    below: u64,
+    below: u32,
 ) -> Result<bool, Error>
-    requires below_fits { below < 2 ^ 63 }
     ensures steps { StepsBy S.Store (oldest_gone org.now ws.now below) tx.old tx.new result }
     ensures found { FindsOldest org.now ws.now below (state S.Store tx.old.conn.now) (state S.Store tx.new.conn.now) result }
 {
@@ -62,9 +56,8 @@ fn remove_below<S: Alter>(
     tx: &mut Transaction<'_, S>,
     org: &str,
     ws: &str,
-    below: u64,
+    below: u32,
 ) -> Result<(), Error>
-    requires below_fits { below < 2 ^ 63 }
     ensures { StepsBy S.Store (gone_below org.now ws.now below) tx.old tx.new result }
 {
     if !remove_oldest(tx, org, ws, below)? {
@@ -117,7 +110,6 @@ fn assert_new<S: Alter>(
     ensures steps { StepsBy S.Store (λ t. t) tx.old tx.new result }
     ensures fresh { TellsIn (λ t. size_of org.now ws.now number t ≡ None) (state S.Store tx.old.conn.now) (state S.Store tx.new.conn.now) result }
 {
-    let number = number.get() as u64;
     match versions::size_inside(tx, org, ws, number)? {
         None => Ok(()),
         Some(_) => Err(Error::InvalidQuery),
@@ -137,11 +129,18 @@ fn add_row<S: Alter>(
     if serial > i64::MAX as u64 {
         return Err(Error::IntegralValueOutOfRange(3));
     }
-    let number = version.number.get() as u64;
     let lineage = version.lineage.as_str();
-    let created = version.created.seconds();
     let size = version.text.as_slice().len() as u64;
-    versions::add(tx, org, ws, number, serial, lineage, created, size)
+    versions::add(
+        tx,
+        org,
+        ws,
+        version.number,
+        serial,
+        lineage,
+        version.created,
+        size,
+    )
 }
 
 /// Adds a version behind the others, with its text.
@@ -154,10 +153,9 @@ fn add<K: PageKey, S: Alter>(
     ensures steps { StepsBy S.Store (added_rows K.key_of org.now ws.now version.now) tx.old tx.new result }
     ensures fits { TellsIn (FitsTwins K.key_of org.now ws.now version.now) (state S.Store tx.old.conn.now) (state S.Store tx.new.conn.now) result }
 {
-    let number = version.number.get() as u64;
     let text = version.text.as_slice();
     add_row(tx, org, ws, version)?;
-    texts::add_text::<K, S>(tx, org, ws, number, text)
+    texts::add_text::<K, S>(tx, org, ws, version.number, text)
 }
 
 /// The next version has the number behind this one's. There is a workspace for it, or nothing comes.
@@ -170,7 +168,7 @@ fn count_on<S: Alter>(
     ensures steps { StepsBy S.Store (numbered_rows org.now ws.now version.now) tx.old tx.new result }
     ensures found { FindsIn org.now ws.now (state S.Store tx.old.conn.now) (state S.Store tx.new.conn.now) result }
 {
-    let number = version.number.get() as u64;
+    let number = version.number.get();
     if !workspaces::set_next_version(tx, org, ws, number + 1)? {
         return Err(Error::QueryReturnedNoRows);
     }
@@ -186,7 +184,7 @@ fn forget<S: Alter>(
 ) -> Result<(), Error>
     ensures { StepsBy S.Store (gone_below org.now ws.now (last + 1)) tx.old tx.new result }
 {
-    let last = last.get() as u64;
+    let last = last.get();
     remove_below(tx, org, ws, last + 1)
 }
 
@@ -259,8 +257,6 @@ fn put_run<S: Alter>(
 ) -> Result<(), Error>
     ensures { StepsBy S.Store (run_put org.now ws.now number ask.now created) tx.old tx.new result }
 {
-    let number = number.get() as u64;
-    let created = created.seconds();
     let key = optional_str(&ask.key);
     let message = ask.message.as_str();
     let status = first_status(ask.plan_only);
@@ -287,7 +283,7 @@ fn count_run<S: Alter>(
     ensures steps { StepsBy S.Store (run_counted org.now ws.now number) tx.old tx.new result }
     ensures found { FindsIn org.now ws.now (state S.Store tx.old.conn.now) (state S.Store tx.new.conn.now) result }
 {
-    let number = number.get() as u64;
+    let number = number.get();
     if !workspaces::set_next_run(tx, org, ws, number + 1)? {
         return Err(Error::QueryReturnedNoRows);
     }
@@ -309,21 +305,6 @@ fn add_run<S: Alter>(
     put_run(tx, org, ws, number, ask, created)
 }
 
-/// Records an action on a run.
-fn act<S: Alter>(
-    tx: &mut Transaction<'_, S>,
-    org: &str,
-    ws: &str,
-    number: Number,
-    action: RunAction,
-    status: RunStatus,
-) -> Result<(), Error>
-    ensures { StepsBy S.Store (run_acted status action org.now ws.now number) tx.old tx.new result }
-{
-    let number = number.get() as u64;
-    runs::record_action(tx, org, ws, number, status, action)
-}
-
 /// Records an action on a run; where it frees the workspace, nobody holds any more.
 fn report<S: Alter>(
     tx: &mut Transaction<'_, S>,
@@ -336,7 +317,7 @@ fn report<S: Alter>(
 ) -> Result<(), Error>
     ensures { StepsBy S.Store (λ t. freed_rows frees org.now ws.now (run_acted status action org.now ws.now number t)) tx.old tx.new result }
 {
-    act(tx, org, ws, number, action, status)?;
+    runs::record_action(tx, org, ws, number, status, action)?;
     if frees {
         workspaces::release_run(tx, org, ws)
     } else {
@@ -360,10 +341,8 @@ fn edit<K: PageKey, S: Alter>(
         Edit::Remove => remove(tx, org, ws),
         Edit::AddVersion { version, outgoing } => put::<K, S>(tx, org, ws, version, *outgoing),
         Edit::Purge => purge(tx, org, ws),
-        Edit::Hold { id, text } => {
-            workspaces::hold_by_lock(tx, org, ws, id.as_str(), text.as_slice())
-        }
-        Edit::Release(id) => workspaces::release_lock(tx, org, ws, id.as_str()),
+        Edit::Hold { id, text } => workspaces::hold_by_lock(tx, org, ws, id, text.as_slice()),
+        Edit::Release(id) => workspaces::release_lock(tx, org, ws, id),
         Edit::AddRun {
             number,
             ask,
@@ -387,7 +366,6 @@ fn start<S: Alter>(
 ) -> Result<(), Error>
     ensures { StepsBy S.Store (begun_rows org.now ws.now number) tx.old tx.new result }
 {
-    let number = number.get() as u64;
     workspaces::hold_by_run(tx, org, ws, number)?;
     runs::set_status(tx, org, ws, number, RunStatus::Planning)
 }

@@ -166,11 +166,11 @@ impl<S: Alter, K: PageKey> Keep for SqlKeep<S, K> {
 
     fn caller(
         &mut self,
-        alloc: Global,
+        _alloc: Global,
         org: &OrgName,
         digest: &[u8; 32],
     ) -> Result<Option<Caller>, Down> {
-        match commands::caller(&mut self.conn, alloc, org.as_str(), digest.as_slice()) {
+        match commands::caller(&mut self.conn, org.as_str(), digest.as_slice()) {
             Ok(caller) => Ok(caller),
             Err(_) => Err(Down),
         }
@@ -180,7 +180,7 @@ impl<S: Alter, K: PageKey> Keep for SqlKeep<S, K> {
         let needs = act.needs();
         let (org, ws) = (org.as_str(), ws.as_str());
         let known = counts::known(&self.counted, org);
-        match commands::unit(&mut self.conn, alloc, org, ws, &needs, known) {
+        match commands::unit(&mut self.conn, org, ws, &needs, known) {
             Ok(unit) => {
                 counts::keep(&mut self.counted, alloc, org, ws, needs.makes, &unit);
                 Ok(unit)
@@ -227,7 +227,13 @@ impl<S: Alter, K: PageKey> Keep for SqlKeep<S, K> {
         if after > MAX_NUMBER as u64 {
             return Ok(Listing::new(alloc));
         }
-        match commands::versions(&mut self.conn, alloc, org.as_str(), ws.as_str(), after) {
+        match commands::versions(
+            &mut self.conn,
+            alloc,
+            org.as_str(),
+            ws.as_str(),
+            after as u32,
+        ) {
             Ok(list) => Ok(list),
             Err(_) => Err(Down),
         }
@@ -244,7 +250,13 @@ impl<S: Alter, K: PageKey> Keep for SqlKeep<S, K> {
         if after > MAX_NUMBER as u64 {
             return Ok(Listing::new(alloc));
         }
-        match commands::runs(&mut self.conn, alloc, org.as_str(), ws.as_str(), after) {
+        match commands::runs(
+            &mut self.conn,
+            alloc,
+            org.as_str(),
+            ws.as_str(),
+            after as u32,
+        ) {
             Ok(list) => Ok(list),
             Err(_) => Err(Down),
         }

@@ -1,15 +1,14 @@
 //! The transactions of a store, each as one function: its change is committed, or nothing is.
-ghost use Rattle.std.specs.Prelude.{◌≡◌, true, false, ◌<◌, ◌^◌, IfSome, OnOk, OnErr};
+ghost use Rattle.std.specs.Prelude.{◌≡◌, true, false, OnOk, OnErr};
 ghost use Rattle.sqlite.specs.Held.{state};
 ghost use Rattle.sqlite.specs.State.{HasCleanDisk, KeepsCommit};
 ghost use Rattle.statements.specs.Changes.{org_row_added, org_capped, token_added, token_removed};
-ghost use Rattle.statements.specs.Steps.{WritesBy};
 ghost use Rattle.tables.specs.Inner.Edits.{changed_rows, TakesEdit};
 ghost use Rattle.tables.specs.Inner.Making.{IsMade, StepsFrom};
 ghost use Rattle.tables.specs.Inner.Steps.{IsSettled, TransactsBy, TellsCommitted};
 
 use crate::steps;
-use basis::{Bounds, Limit, Moment, Role};
+use basis::{Bounds, Limit, Role};
 use machine::Change;
 use pages::PageKey;
 use sqlite::{Alter, Connection, Error, Transaction};
@@ -89,18 +88,6 @@ pub(crate) fn change<K: PageKey, S: Alter>(
     tx.commit()
 }
 
-/// Adds an organization, inside a transaction.
-fn put_organization<S: Alter>(
-    tx: &mut Transaction<'_, S>,
-    org: &str,
-    limit: Limit,
-) -> Result<(), Error>
-    ensures { WritesBy S.Store (org_row_added org.now limit) tx.old tx.new result }
-{
-    let cap = limit.get() as u64;
-    organizations::add(tx, org, cap)
-}
-
 /// Adds an organization.
 pub(crate) fn add_organization<S: Alter>(
     conn: &mut Connection<S>,
@@ -113,16 +100,8 @@ pub(crate) fn add_organization<S: Alter>(
     ensures done { TransactsBy (org_row_added org.now limit) (state S.Store conn.old) (state S.Store conn.new) result }
 {
     let mut tx = begin(conn);
-    put_organization(&mut tx, org, limit)?;
+    organizations::add(&mut tx, org, limit)?;
     tx.commit()
-}
-
-/// Sets how many workspaces an organization may have, inside a transaction.
-fn put_limit<S: Alter>(tx: &mut Transaction<'_, S>, org: &str, limit: Limit) -> Result<(), Error>
-    ensures { WritesBy S.Store (org_capped org.now limit) tx.old tx.new result }
-{
-    let cap = limit.get() as u64;
-    organizations::set_cap(tx, org, cap)
 }
 
 /// Sets how many workspaces an organization may have.
@@ -137,35 +116,8 @@ pub(crate) fn set_limit<S: Alter>(
     ensures done { TransactsBy (org_capped org.now limit) (state S.Store conn.old) (state S.Store conn.new) result }
 {
     let mut tx = begin(conn);
-    put_limit(&mut tx, org, limit)?;
+    organizations::set_cap(&mut tx, org, limit)?;
     tx.commit()
-}
-
-/// The end of a token, if it has one, as its row keeps it.
-fn seconds_of(until: Option<Moment>) -> Option<u64>
-    ensures same { result ≡ until }
-    ensures fits { IfSome result (λ seconds. seconds < 2 ^ 63) }
-{
-    match until {
-        None => None,
-        Some(until) => Some(until.seconds()),
-    }
-}
-
-/// Adds a token and how far it reaches, inside a transaction.
-fn put_token<'v, S: Alter>(
-    tx: &mut Transaction<'_, S>,
-    org: &'v str,
-    name: &'v str,
-    role: Role,
-    digest: &'v [u8],
-    bounds: &'v Bounds,
-) -> Result<(), Error>
-    ensures { WritesBy S.Store (token_added org.now name.now digest.now role bounds.now.until bounds.now.prefix) tx.old tx.new result }
-{
-    let until = seconds_of(bounds.until);
-    let prefix = bounds.prefix.as_str();
-    tokens::add(tx, org, name, digest, role, until, prefix)
 }
 
 /// Adds a token, with its row of bound.
@@ -183,7 +135,7 @@ pub(crate) fn add_token<S: Alter>(
     ensures done { TransactsBy (token_added org.now name.now digest.now role bounds.now.until bounds.now.prefix) (state S.Store conn.old) (state S.Store conn.new) result }
 {
     let mut tx = begin(conn);
-    put_token(&mut tx, org, name, role, digest, bounds)?;
+    tokens::add(&mut tx, org, name, digest, role, bounds)?;
     tx.commit()
 }
 

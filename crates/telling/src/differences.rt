@@ -1,6 +1,6 @@
 //! Where two stores say different things of a workspace.
-use basis::{LockId, Text};
-use machine::{Holder, Newest, Run, Unit, WorkspaceUnit};
+use basis::{Holder, LockId, RunRow, Text};
+use machine::{Newest, Unit, WorkspaceUnit};
 
 fn is_same_text(one: &Option<Text>, other: &Option<Text>) -> bool {
     match (one, other) {
@@ -48,7 +48,7 @@ fn is_same_newest(one: &Option<Newest>, other: &Option<Newest>) -> bool {
     }
 }
 
-fn is_same_run(one: &Run, other: &Run) -> bool {
+fn is_same_run(one: &RunRow, other: &RunRow) -> bool {
     one.number == other.number
         && one.plan_only == other.plan_only
         && is_same_text(&one.key, &other.key)
@@ -58,7 +58,7 @@ fn is_same_run(one: &Run, other: &Run) -> bool {
         && one.action == other.action
 }
 
-fn is_same_asked(one: &Option<Run>, other: &Option<Run>) -> bool {
+fn is_same_asked(one: &Option<RunRow>, other: &Option<RunRow>) -> bool {
     match (one, other) {
         (None, None) => true,
         (Some(one), Some(other)) => is_same_run(one, other),

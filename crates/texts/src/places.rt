@@ -5,6 +5,7 @@ ghost use Rattle.sqlite.specs.State.{Survives};
 ghost use Rattle.statements.specs.Steps.{WritesBy, QueriesBy, ReadsBy};
 ghost use Rattle.texts.specs.Texts.{place_added, place_removed, page_at};
 
+use basis::Number;
 use pages::PageId;
 use sqlite::{Alter, Connection, Error, Transaction, params};
 use statements::calls::{first_row, first_row_inside, read_one, signed, write};
@@ -17,20 +18,19 @@ pub(crate) fn add<'v, S: Alter>(
     tx: &mut Transaction<'_, S>,
     org: &'v str,
     ws: &'v str,
-    number: u64,
+    number: Number,
     place: u64,
     key: &'v [u8],
     twin: u64,
 ) -> Result<(), Error>
-    requires number_fits { number < 2 ^ 63 }
     requires place_fits { place < 2 ^ 63 }
     requires twin_fits { twin < 2 ^ 63 }
     ensures { WritesBy S.Store (place_added org.now ws.now number place key.now twin) tx.old tx.new result }
 {
-    let number = signed(number);
+    let number = number.get();
     let place = signed(place);
     let twin = signed(twin);
-    write(tx, ADD_PLACE, params![org, ws, &number, &place, key, &twin])
+    write(tx, ADD_PLACE, params![org, ws, number, &place, key, &twin])
 }
 
 const REMOVE_PLACE: &str =
@@ -41,16 +41,15 @@ pub(crate) fn remove<S: Alter>(
     tx: &mut Transaction<'_, S>,
     org: &str,
     ws: &str,
-    number: u64,
+    number: Number,
     place: u64,
 ) -> Result<(), Error>
-    requires number_fits { number < 2 ^ 63 }
     requires place_fits { place < 2 ^ 63 }
     ensures { WritesBy S.Store (place_removed org.now ws.now number place) tx.old tx.new result }
 {
-    let number = signed(number);
+    let number = number.get();
     let place = signed(place);
-    write(tx, REMOVE_PLACE, params![org, ws, &number, &place])
+    write(tx, REMOVE_PLACE, params![org, ws, number, &place])
 }
 
 const PAGE_AT: &str =
@@ -61,16 +60,15 @@ pub(crate) fn find<S: Alter>(
     conn: &mut Connection<S>,
     org: &str,
     ws: &str,
-    number: u64,
+    number: Number,
     place: u64,
 ) -> Result<Option<PageId>, Error>
-    requires number_fits { number < 2 ^ 63 }
     requires place_fits { place < 2 ^ 63 }
     ensures { QueriesBy S.Store (page_at org.now ws.now number place) conn.old conn.new result }
 {
-    let number = signed(number);
+    let number = number.get();
     let place = signed(place);
-    let row = first_row(conn, PAGE_AT, params![org, ws, &number, &place]);
+    let row = first_row(conn, PAGE_AT, params![org, ws, number, &place]);
     read_one(row)
 }
 
@@ -79,17 +77,16 @@ pub(crate) fn find_inside<S: Alter>(
     tx: &mut Transaction<'_, S>,
     org: &str,
     ws: &str,
-    number: u64,
+    number: Number,
     place: u64,
 ) -> Result<Option<PageId>, Error>
-    requires number_fits { number < 2 ^ 63 }
     requires place_fits { place < 2 ^ 63 }
     ensures same_reference { tx.new.conn.ghost_name ≡ tx.old.conn.ghost_name }
     ensures read { ReadsBy (page_at org.now ws.now number place) (state S.Store tx.old.conn.now) (state S.Store tx.new.conn.now) result }
     ensures survives { Survives (state S.Store tx.old.conn.now) (state S.Store tx.new.conn.now) (λ _. ⊥) }
 {
-    let number = signed(number);
+    let number = number.get();
     let place = signed(place);
-    let row = first_row_inside(tx, PAGE_AT, params![org, ws, &number, &place]);
+    let row = first_row_inside(tx, PAGE_AT, params![org, ws, number, &place]);
     read_one(row)
 }

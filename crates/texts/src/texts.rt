@@ -11,7 +11,7 @@ ghost use Rattle.texts.specs.Steps.{WritesAllBy, TellsBefore, QueriesAllBy};
 ghost use Rattle.texts.specs.Inner.Calls.{piece_placed, named_removed, is_piece_of};
 
 use crate::places::{add, find, find_inside, remove};
-use basis::Bytes;
+use basis::{Bytes, Number};
 use pages::{PageId, PageKey, get, put, release, same};
 use sqlite::{Alter, Connection, Error, Transaction};
 use std::alloc::Global;
@@ -48,11 +48,10 @@ fn add_piece<K: PageKey, S: Alter>(
     tx: &mut Transaction<'_, S>,
     org: &str,
     ws: &str,
-    number: u64,
+    number: Number,
     place: u64,
     piece: &[u8],
 ) -> Result<(), Error>
-    requires number_fits { number < 2 ^ 63 }
     requires place_fits { place < 2 ^ 63 }
     ensures same_reference { tx.new.conn.ghost_name ≡ tx.old.conn.ghost_name }
     ensures changed { ChangesBy (piece_placed K.key_of org.now ws.now number place piece.now) (state S.Store tx.old.conn.now) (state S.Store tx.new.conn.now) result }
@@ -69,10 +68,9 @@ pub fn add_text<K: PageKey, S: Alter>(
     tx: &mut Transaction<'_, S>,
     org: &str,
     ws: &str,
-    number: u64,
+    number: Number,
     text: &[u8],
 ) -> Result<(), Error>
-    requires number_fits { number < 2 ^ 63 }
     ensures writes { WritesAllBy S.Store (text_added K.key_of org.now ws.now number text.now) tx.old tx.new result }
     ensures fits { TellsBefore (TwinsFit K.key_of org.now ws.now number text.now (pages_for (length text.now))) (state S.Store tx.old.conn.now) (state S.Store tx.new.conn.now) result }
 {
@@ -87,11 +85,10 @@ fn remove_named<S: Alter>(
     tx: &mut Transaction<'_, S>,
     org: &str,
     ws: &str,
-    number: u64,
+    number: Number,
     place: u64,
     id: Option<PageId>,
 ) -> Result<(), Error>
-    requires number_fits { number < 2 ^ 63 }
     requires place_fits { place < 2 ^ 63 }
     ensures same_reference { tx.new.conn.ghost_name ≡ tx.old.conn.ghost_name }
     ensures changed { ChangesBy (named_removed org.now ws.now number place id) (state S.Store tx.old.conn.now) (state S.Store tx.new.conn.now) result }
@@ -112,10 +109,9 @@ fn remove_piece<S: Alter>(
     tx: &mut Transaction<'_, S>,
     org: &str,
     ws: &str,
-    number: u64,
+    number: Number,
     place: u64,
 ) -> Result<(), Error>
-    requires number_fits { number < 2 ^ 63 }
     requires place_fits { place < 2 ^ 63 }
     ensures same_reference { tx.new.conn.ghost_name ≡ tx.old.conn.ghost_name }
     ensures changed { ChangesBy (piece_removed org.now ws.now number place) (state S.Store tx.old.conn.now) (state S.Store tx.new.conn.now) result }
@@ -131,10 +127,9 @@ pub fn remove_text<S: Alter>(
     tx: &mut Transaction<'_, S>,
     org: &str,
     ws: &str,
-    number: u64,
+    number: Number,
     size: u64,
 ) -> Result<(), Error>
-    requires number_fits { number < 2 ^ 63 }
     ensures writes { WritesAllBy S.Store (text_removed org.now ws.now number size) tx.old tx.new result }
     ensures there { TellsBefore (WereThere org.now ws.now number (pages_for size)) (state S.Store tx.old.conn.now) (state S.Store tx.new.conn.now) result }
 {
@@ -150,10 +145,9 @@ fn piece<S: Alter>(
     conn: &mut Connection<S>,
     org: &str,
     ws: &str,
-    number: u64,
+    number: Number,
     place: u64,
 ) -> Result<Bytes, Error>
-    requires number_fits { number < 2 ^ 63 }
     requires place_fits { place < 2 ^ 63 }
     ensures mode { conn.old.in_transaction ≡ false → conn.new.in_transaction ≡ false }
     ensures gets { GetsBy (piece_of org.now ws.now number place) (state S.Store conn.old) (state S.Store conn.new) result }
@@ -172,10 +166,9 @@ pub fn text<S: Alter>(
     conn: &mut Connection<S>,
     org: &str,
     ws: &str,
-    number: u64,
+    number: Number,
     size: u64,
 ) -> Result<Bytes, Error>
-    requires number_fits { number < 2 ^ 63 }
     ensures queries { QueriesAllBy S.Store (text_of org.now ws.now number size) conn.old conn.new result }
     ensures there { HasCleanDisk (state S.Store conn.new) → OnOk result ((t : Tables) → Holds (state S.Store conn.old).now t → AreThere org.now ws.now number (pages_for size) t) }
 {
@@ -193,11 +186,10 @@ fn same_piece<S: Alter>(
     conn: &mut Connection<S>,
     org: &str,
     ws: &str,
-    number: u64,
+    number: Number,
     place: u64,
     piece: &[u8],
 ) -> Result<bool, Error>
-    requires number_fits { number < 2 ^ 63 }
     requires place_fits { place < 2 ^ 63 }
     ensures mode { conn.old.in_transaction ≡ false → conn.new.in_transaction ≡ false }
     ensures gets { GetsBy (is_piece_of org.now ws.now number place piece.now) (state S.Store conn.old) (state S.Store conn.new) result }
@@ -217,10 +209,9 @@ pub fn same_text<S: Alter>(
     conn: &mut Connection<S>,
     org: &str,
     ws: &str,
-    number: u64,
+    number: Number,
     text: &[u8],
 ) -> Result<bool, Error>
-    requires number_fits { number < 2 ^ 63 }
     ensures queries { QueriesAllBy S.Store (are_pieces org.now ws.now number text.now (pages_for (length text.now))) conn.old conn.new result }
     ensures there { HasCleanDisk (state S.Store conn.new) → IfOk result (λ same. IsTrue same → (t : Tables) → Holds (state S.Store conn.old).now t → AreThere org.now ws.now number (pages_for (length text.now)) t) }
 {

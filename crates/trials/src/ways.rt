@@ -229,8 +229,9 @@ fn beside_values<K: PageKey>(alloc: Global, play: &Play) -> Result<(), Failure> 
     }
 }
 
-fn by_whole<K: PageKey>(alloc: Global, play: &Play) -> Result<(), Failure> {
-    let tables: TablesBy<K> = Sql.made(alloc)?;
+// Over pages that have numbers of their own under one key, which no text has by SHA-256.
+fn by_whole(alloc: Global, play: &Play) -> Result<(), Failure> {
+    let tables: TablesBy<FirstByte> = Sql.made(alloc)?;
     match run_by_whole(alloc, &Sql, tables, play) {
         Ok(()) => Ok(()),
         Err(failure) => Err(failure.on(whole::WAY)),
@@ -241,8 +242,7 @@ fn by_whole<K: PageKey>(alloc: Global, play: &Play) -> Result<(), Failure> {
 pub fn run_beside(alloc: Global, play: &Play) -> Result<(), Failure> {
     beside_values::<ShaKey>(alloc, play)?;
     beside_values::<FirstByte>(alloc, play)?;
-    by_whole::<ShaKey>(alloc, play)?;
-    by_whole::<FirstByte>(alloc, play)
+    by_whole(alloc, play)
 }
 
 /// Tells a story over links that break, over tables in memory.

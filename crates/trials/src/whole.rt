@@ -1,10 +1,10 @@
 //! A workspace read whole, as lists of all its rows, and what a decision needs of it, taken from these lists.
 use crate::ways::{Sql, reopened};
 use basis::{
-    Bytes, Items, KeepCount, Limit, LockId, Moment, Number, OrgName, RunAction, RunSettings,
-    RunStatus, Settings, Text,
+    Bytes, Holder, Items, KeepCount, Limit, LockId, Moment, Number, OrgName, RunAction, RunRow,
+    RunSettings, RunStatus, Settings, Text,
 };
-use machine::{Act, Holder, Needs, Newest, Run, Staying, Unit, Version, Workspace, WorkspaceUnit};
+use machine::{Act, Needs, Newest, Staying, Unit, Version, Workspace, WorkspaceUnit};
 use pages::PageKey;
 use sqlite::{Alter, Connection, Error, Row, params};
 use std::alloc::{AllocError, Global};
@@ -134,10 +134,10 @@ fn action_in(row: &Row, at: usize) -> Result<Option<RunAction>, Error> {
     Ok(Some(action))
 }
 
-fn run_in(row: &Row) -> Result<Run, Error> {
+fn run_in(row: &Row) -> Result<RunRow, Error> {
     let key = key_in(row, 2)?;
     let message = text_in(row, 3)?;
-    Ok(Run {
+    Ok(RunRow {
         number: number_in(row, 0)?,
         plan_only: row.get(1)?,
         key,
@@ -153,7 +153,7 @@ fn runs_in<S: Alter>(
     alloc: Global,
     conn: &mut Connection<S>,
     named: &Named,
-) -> Result<Vec<Run>, Error> {
+) -> Result<Vec<RunRow>, Error> {
     let rows = conn.query_all(RUNS, params![named.org.as_str(), named.ws.as_str()])?;
     let mut runs = Vec::new(alloc);
     for row in rows.as_slice() {
@@ -358,23 +358,23 @@ fn has_version(versions: &[Version], number: Option<Number>) -> bool {
     }
 }
 
-fn run_of(runs: &[Run], number: Number) -> Option<&Run> {
+fn run_of(runs: &[RunRow], number: Number) -> Option<&RunRow> {
     runs.iter().find(|run| run.number == number)
 }
 
-fn has_key(run: &Run, key: &Text) -> bool {
+fn has_key(run: &RunRow, key: &Text) -> bool {
     match &run.key {
         Some(own) => own.as_str() == key.as_str(),
         None => false,
     }
 }
 
-fn keyed_run<'r>(runs: &'r [Run], key: Option<&Text>) -> Option<&'r Run> {
+fn keyed_run<'r>(runs: &'r [RunRow], key: Option<&Text>) -> Option<&'r RunRow> {
     let key = key?;
     runs.iter().find(|run| has_key(run, key))
 }
 
-fn asked_run(runs: &[Run], needs: &Needs<'_>) -> Result<Option<Run>, AllocError> {
+fn asked_run(runs: &[RunRow], needs: &Needs<'_>) -> Result<Option<RunRow>, AllocError> {
     let asked = match needs.run {
         Some(number) => run_of(runs, number),
         None => keyed_run(runs, needs.key),
@@ -394,7 +394,7 @@ fn holder_status(workspace: &Workspace) -> Option<RunStatus> {
 }
 
 // The least number of the queued runs that are pending.
-fn first_waiting(runs: &[Run]) -> Option<Number> {
+fn first_waiting(runs: &[RunRow]) -> Option<Number> {
     let mut first = None;
     for run in runs {
         if run.status == RunStatus::Pending && !run.plan_only {
@@ -412,7 +412,7 @@ fn has_ended(status: RunStatus) -> bool {
     }
 }
 
-fn count_open(runs: &[Run]) -> usize {
+fn count_open(runs: &[RunRow]) -> usize {
     runs.iter().filter(|run| !has_ended(run.status)).count()
 }
 

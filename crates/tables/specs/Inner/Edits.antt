@@ -7,12 +7,12 @@ use Rattle.machine.specs.declared.acts.Edit.{Edit}
 use Rattle.machine.specs.declared.acts.Edit.TheVariants.{Make, Configure, Remove, AddVersion, Purge, Hold, Release, AddRun, Report}
 use Rattle.machine.specs.declared.acts.Change.{Change}
 use Rattle.machine.specs.declared.records.Version.{Version}
-use Rattle.statements.specs.declared.rows.Holder.TheVariants.{Nobody, Lock, Run as HeldByRun}
+use Rattle.basis.specs.declared.rows.Holder.TheVariants.{Nobody, Lock, Run as HeldByRun}
 use Rattle.statements.specs.declared.rows.Workspace.{Workspace as WorkspaceCells}
 use Rattle.statements.specs.Tables.{Tables}
 use Rattle.statements.specs.Changes.{with_run_settings, held_by, released_from, with_next_version, with_next_run, ws_changed, keeping_changed, ws_added, ws_removed, new_version, version_added, version_removed, run_made, run_added, runs_removed, run_changed_to, run_acted}
 use Rattle.statements.specs.Finds.{workspace_of, oldest_below, size_of}
-use Rattle.statements.specs.declared.rows.Head.{Head}
+use Rattle.basis.specs.declared.rows.VersionRow.{VersionRow as Head}
 use Rattle.texts.specs.Texts.{pages_for, text_added, text_removed, TwinsFit}
 use Rattle.basis.specs.declared.numbers.TheConstants.{MAX_NUMBER, MAX_KEPT}
 

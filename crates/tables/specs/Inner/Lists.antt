@@ -16,13 +16,11 @@ use Rattle.machine.specs.declared.keeps.TokenRow.{TokenRow}
 use Rattle.statements.specs.declared.rows.NamedRole.{NamedRole}
 use Rattle.statements.specs.declared.rows.NamedWorkspace.{NamedWorkspace}
 use Rattle.statements.specs.declared.rows.Organization.{Organization as OrganizationCells}
-use Rattle.statements.specs.declared.rows.Run.{Run as RunCells}
-use Rattle.statements.specs.declared.rows.VersionHead.{VersionHead}
 use Rattle.statements.specs.Finds.{cap_of, newest_of, workspaces_of}
 use Rattle.statements.specs.Listings.{organizations_in, token_rows_of, workspace_rows_after, version_rows_after, run_rows_after}
 use Rattle.statements.specs.Tables.{Tables, Holds}
 use Rattle.tables.specs.Inner.Looks.{StaysSeen}
-use Rattle.tables.specs.Records.{settings_of_cells, holder_of_cells, caller_with, bounds_at}
+use Rattle.tables.specs.Records.{settings_of_cells, caller_with, bounds_at}
 
 -- no row changes, and the value is that of rows that obey a law; after a failure nothing is committed
 abbrev pub SeesWhere : {X E : Type 0} → (Tables → Type 0) → (Tables → X) → State → State → Result X E → Type 0
@@ -46,19 +44,13 @@ asked_rows = 51
 
 -- ---- versions
 
-abbrev pub version_row_in : VersionHead → VersionRow
-version_row_in v = record { created = v.created; lineage = v.lineage; number = v.number; serial = v.serial; size = v.size }
-
 abbrev pub versions_listed_in : ℕ → List ℕ → List ℕ → Tables → Listing VersionRow
-versions_listed_in after org ws t = listing_of (map version_row_in (version_rows_after org ws after asked_rows t))
+versions_listed_in after org ws t = listing_of (version_rows_after org ws after asked_rows t)
 
 -- ---- runs
 
-abbrev pub run_row_in : RunCells → RunRow
-run_row_in r = record { action = r.action; created = r.created; key = r.key; message = r.message; number = r.number; plan_only = r.plan_only; status = r.status }
-
 abbrev pub runs_listed_in : ℕ → List ℕ → List ℕ → Tables → Listing RunRow
-runs_listed_in after org ws t = listing_of (map run_row_in (run_rows_after org ws after asked_rows t))
+runs_listed_in after org ws t = listing_of (run_rows_after org ws after asked_rows t)
 
 -- ---- workspaces
 
@@ -74,7 +66,7 @@ abbrev pub newest_shown_in : List ℕ → NamedWorkspace → Tables → Option �
 newest_shown_in org w t = newest_by w.last w.it.next_version (newest_number_in org w.name t)
 
 abbrev pub ws_row_in : List ℕ → Tables → NamedWorkspace → WsRow
-ws_row_in org t w = record { settings = settings_of_cells (unwrap_or w.keep FIRST_KEPT) w.it; holder = holder_id (holder_of_cells w.it.holder); name = w.name; version = newest_shown_in org w t }
+ws_row_in org t w = record { settings = settings_of_cells (unwrap_or w.keep FIRST_KEPT) w.it; holder = holder_id w.it.holder; name = w.name; version = newest_shown_in org w t }
 
 abbrev pub workspaces_listed_in : List ℕ → List ℕ → List ℕ → Tables → Listing WsRow
 workspaces_listed_in after prefix org t = listing_of (map (ws_row_in org t) (workspace_rows_after org after prefix asked_rows t))

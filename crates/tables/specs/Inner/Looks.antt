@@ -7,11 +7,11 @@ use Rattle.machine.specs.Units.{if_needed}
 use Rattle.machine.specs.declared.acts.Unit.{Unit}
 use Rattle.machine.specs.declared.acts.Unit.TheVariants.{Absent, Present}
 use Rattle.machine.specs.declared.acts.WorkspaceUnit.{WorkspaceUnit}
-use Rattle.statements.specs.declared.rows.Holder.{Holder as HolderCells}
+use Rattle.basis.specs.declared.rows.Holder.{Holder}
 use Rattle.statements.specs.declared.rows.Workspace.{Workspace as WorkspaceCells}
 use Rattle.statements.specs.Finds.{cap_of, workspaces_of, first_waiting_of, open_runs_of}
 use Rattle.statements.specs.Tables.{Tables, Holds}
-use Rattle.tables.specs.Records.{settings_of_cells, holder_of_cells}
+use Rattle.tables.specs.Records.{settings_of_cells}
 use Rattle.tables.specs.Inner.Units.{holder_status_in, newest_in, keep_in, outgoing_in, has_version_in, asked_run_in}
 use Rattle.tables.specs.declared.looks.RunsAround.{RunsAround}
 use Rattle.tables.specs.declared.looks.Surroundings.{Surroundings}
@@ -42,7 +42,7 @@ LooksBy read old new result = HasCleanDisk new → IfOk result (λ x. IsTrue old
 abbrev pub absent_in : Needed → Option ℕ → List ℕ → Tables → Unit
 absent_in need known org t = Absent (cond need.makes (unwrap_or known (workspaces_of org t)) 0) (cond need.makes (unwrap_or (cap_of org t) 0) 0)
 
-abbrev pub runs_in : Needed → List ℕ → List ℕ → HolderCells → Tables → RunsAround
+abbrev pub runs_in : Needed → List ℕ → List ℕ → Holder → Tables → RunsAround
 runs_in need org ws holder t = record {
   holder_status = if_needed need.holder_status (holder_status_in org ws holder t);
   first_waiting = if_needed need.waiting (first_waiting_of org ws t);
@@ -50,7 +50,7 @@ runs_in need org ws holder t = record {
   open_runs = cond need.open_runs (open_runs_of org ws t) 0;
 }
 
-abbrev pub around_in : Needed → List ℕ → List ℕ → ℕ → HolderCells → Tables → Surroundings
+abbrev pub around_in : Needed → List ℕ → List ℕ → ℕ → Holder → Tables → Surroundings
 around_in need org ws keep holder t = record {
   newest = if_needed need.newest (newest_in need.text org ws t);
   outgoing = outgoing_in need.outgoing keep org ws t;
@@ -61,7 +61,7 @@ around_in need org ws keep holder t = record {
 abbrev pub unit_from : ℕ → WorkspaceCells → Surroundings → WorkspaceUnit
 unit_from keep w a = record {
   settings = settings_of_cells keep w;
-  holder = holder_of_cells w.holder;
+  holder = w.holder;
   holder_status = a.runs.holder_status;
   released = w.released;
   next_version = w.next_version;

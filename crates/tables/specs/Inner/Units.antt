@@ -5,27 +5,26 @@ use Rattle.basis.specs.declared.numbers.TheConstants.{FIRST_KEPT}
 use Rattle.basis.specs.declared.runs.RunStatus.{RunStatus}
 use Rattle.machine.specs.Needs.{Needed}
 use Rattle.machine.specs.Units.{if_needed}
-use Rattle.machine.specs.declared.records.Run.{Run}
+use Rattle.basis.specs.declared.rows.RunRow.{RunRow as Run}
 use Rattle.machine.specs.declared.acts.Newest.{Newest}
 use Rattle.machine.specs.declared.acts.Staying.{Staying}
 use Rattle.machine.specs.declared.acts.Staying.TheVariants.{StayAll, MakeRoom, StayAtMost}
 use Rattle.machine.specs.declared.acts.Unit.{Unit as AnyUnit}
 use Rattle.machine.specs.declared.acts.Unit.TheVariants.{Absent, Present}
-use Rattle.statements.specs.declared.rows.Head.{Head}
-use Rattle.statements.specs.declared.rows.Holder.{Holder as HolderCells}
-use Rattle.statements.specs.declared.rows.Holder.TheVariants as cells
+use Rattle.basis.specs.declared.rows.VersionRow.{VersionRow as Head}
+use Rattle.basis.specs.declared.rows.Holder.{Holder}
+use Rattle.basis.specs.declared.rows.Holder.TheVariants.{Nobody, Lock, Run as HoldingRun}
 use Rattle.statements.specs.declared.rows.Workspace.{Workspace as WorkspaceCells}
-use Rattle.statements.specs.declared.rows.Run.{Run as RunCells}
 use Rattle.statements.specs.Tables.{Tables}
 use Rattle.statements.specs.Finds.{cap_of, workspace_of, workspaces_of, newest_of, number_back, size_of, first_waiting_of, status_at_number, run_at_number, keyed_run_of, open_runs_of}
 use Rattle.texts.specs.Texts.{pages_for, text_of, are_pieces}
-use Rattle.tables.specs.Records.{settings_of_cells, keep_at, holder_of_cells, run_of_cells}
+use Rattle.tables.specs.Records.{settings_of_cells, keep_at}
 
 -- the status of the run that holds
-abbrev pub holder_status_in : List ℕ → List ℕ → HolderCells → Tables → Option RunStatus
-holder_status_in org ws cells.Nobody t = None
-holder_status_in org ws (cells.Lock id text) t = None
-holder_status_in org ws (cells.Run n) t = status_at_number org ws n t
+abbrev pub holder_status_in : List ℕ → List ℕ → Holder → Tables → Option RunStatus
+holder_status_in org ws Nobody t = None
+holder_status_in org ws (Lock id text) t = None
+holder_status_in org ws (HoldingRun n) t = status_at_number org ws n t
 
 -- the text of a version, if it has a row
 abbrev pub text_in : List ℕ → List ℕ → ℕ → Tables → Option (List ℕ)
@@ -57,25 +56,22 @@ abbrev pub has_version_in : Option ℕ → List ℕ → List ℕ → Tables → 
 has_version_in None org ws t = false
 has_version_in (Some n) org ws t = is_some (size_of org ws n t)
 
--- the row of the run that has a key, if a key is given
-abbrev pub keyed_cells_in : Option (List ℕ) → List ℕ → List ℕ → Tables → Option RunCells
-keyed_cells_in None org ws t = None
-keyed_cells_in (Some key) org ws t = keyed_run_of org ws key t
+-- the run that has a key, if a key is given
+abbrev pub keyed_run_in : Option (List ℕ) → List ℕ → List ℕ → Tables → Option Run
+keyed_run_in None org ws t = None
+keyed_run_in (Some key) org ws t = keyed_run_of org ws key t
 
--- the row of the run that is asked of: by its number, or, where none is given, by its key
-abbrev pub asked_cells_in : Option ℕ → Option (List ℕ) → List ℕ → List ℕ → Tables → Option RunCells
-asked_cells_in (Some n) key org ws t = run_at_number org ws n t
-asked_cells_in None key org ws t = keyed_cells_in key org ws t
-
+-- the run that is asked of: by its number, or, where none is given, by its key
 abbrev pub asked_run_in : Option ℕ → Option (List ℕ) → List ℕ → List ℕ → Tables → Option Run
-asked_run_in n key org ws t = option_map run_of_cells (asked_cells_in n key org ws t)
+asked_run_in (Some n) key org ws t = run_at_number org ws n t
+asked_run_in None key org ws t = keyed_run_in key org ws t
 
 -- how many workspaces the organization has may be known: then they aren't counted
 abbrev pub unit_at : Needed → Option ℕ → List ℕ → List ℕ → Tables → Option WorkspaceCells → AnyUnit
 unit_at need known org ws t None = Absent (cond need.makes (unwrap_or known (workspaces_of org t)) 0) (cond need.makes (unwrap_or (cap_of org t) 0) 0)
 unit_at need known org ws t (Some w) = Present (record {
   settings = settings_of_cells (keep_in need.keep_versions org ws t) w;
-  holder = holder_of_cells w.holder;
+  holder = w.holder;
   holder_status = if_needed need.holder_status (holder_status_in org ws w.holder t);
   released = w.released;
   next_version = w.next_version;

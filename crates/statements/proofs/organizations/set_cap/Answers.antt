@@ -1,5 +1,3 @@
-use Rattle.std.proofs.Common.{pos, w64}
-use Rattle.std.proofs.lemmas.Int.{to_z-of_z}
 use Rattle.sqlite.specs.Held.{state}
 use Rattle.statements.specs.Changes.{org_capped}
 use Rattle.statements.proofs.Transactions.{moves_by}
@@ -14,7 +12,7 @@ returns g c = record {
       let old = state g.S.Store c.args.tx.now.conn.now in
       let new = state g.S.Store c.write.new.tx.conn.now in
       moves_by (org_capped c.args.name.now c.args.cap) old new set_cap_text _ c.write.result
-      (rw (c.params-to_sql.ensures, c.params-to_sql-2.ensures, c.signed-cap.ensures, to_z-of_z w64 (pos c.args.cap) (record { sfits = c.requires.cap_fits })) at (c.write.ensures.runs clean inside))
+      (rw (c.params-to_sql.ensures, c.params-to_sql-2.ensures, c.get-cap.ensures.value) at (c.write.ensures.runs clean inside))
       (λ count t holds ran. set_cap_does old new count t holds c.args.name.now c.args.cap ran);
   survives = c.write.ensures.survives;
 }

@@ -1,5 +1,3 @@
-use Rattle.std.proofs.Common.{pos, w64}
-use Rattle.std.proofs.lemmas.Int.{to_z-of_z}
 use Rattle.sqlite.specs.Held.{state}
 use Rattle.statements.specs.Finds.{status_at_number}
 use Rattle.statements.specs.Calls.{IsStatus}
@@ -15,7 +13,7 @@ returns g c = record {
       let old = state g.S.Store c.args.conn.now in
       let new = state g.S.Store c.first_row-row.new.conn in
       reads_by (status_at_number c.args.org.now c.args.ws.now c.args.run) IsStatus old new run_status_text _ c.first_row-row.result c.read_one.result
-      (rw (c.params-to_sql.ensures, c.params-to_sql-2.ensures, c.params-to_sql-3.ensures, c.signed-run.ensures, to_z-of_z w64 (pos c.args.run) (record { sfits = c.requires.run_fits })) at (c.first_row-row.ensures.row run_status_is_query clean)) (c.first_row-row.ensures.calm run_status_is_query clean) c.read_one.ensures
+      (rw (c.params-to_sql.ensures, c.params-to_sql-2.ensures, c.params-to_sql-3.ensures, c.get-run.ensures.value) at (c.first_row-row.ensures.row run_status_is_query clean)) (c.first_row-row.ensures.calm run_status_is_query clean) c.read_one.ensures
       (λ t holds row first. run_status_shows old new t holds c.args.org.now c.args.ws.now c.args.run row first);
   survives = c.first_row-row.ensures.survives run_status_is_query;
 }

@@ -14,7 +14,7 @@ returns g c = record {
       let s1 = state g.S.Store c.add_row.new.tx.conn.now in
       let s2 = state g.S.Store c.add.new.tx.conn.now in
       let clean1 : HasCleanDisk s1 = omega (arith, c.add.ensures.survives.clean) in
-      moves_more (token_row_added c.args.org.now c.args.name.now c.args.digest.now c.args.role) (bound_row_added c.args.org.now c.args.name.now c.args.until c.args.prefix.now) s0 s1 s2 c.add.result
+      moves_more (token_row_added c.args.org.now c.args.name.now c.args.digest.now c.args.role) (bound_row_added c.args.org.now c.args.name.now c.args.bounds.now.until c.args.bounds.now.prefix) s0 s1 s2 c.add.result
       (c.in_ok-add_row.ensures.changed clean1 inside).0 (c.add.ensures.changed clean (c.in_ok-add_row.ensures.changed clean1 inside).0.inside);
   survives = survives_then (state g.S.Store c.args.tx.now.conn.now) (state g.S.Store c.add_row.new.tx.conn.now) (state g.S.Store c.add.new.tx.conn.now)
       (λ _. ⊥) (λ _. ⊥) (λ _. ⊥) (λ _ db h. h) (λ _ db h. h) c.add_row.ensures.survives c.add.ensures.survives;

@@ -1,7 +1,3 @@
-use Rattle.std.proofs.Common.{pos, w64}
-use Rattle.std.proofs.lemmas.Int.{to_z-of_z}
-use Rattle.statements.specs.Rows.{role_code}
-use Rattle.statements.proofs.Codes.{role_fits}
 use Rattle.sqlite.specs.Held.{state}
 use Rattle.statements.specs.Changes.{token_row_added}
 use Rattle.statements.proofs.Transactions.{moves_by}
@@ -16,7 +12,7 @@ returns g c = record {
       let old = state g.S.Store c.args.tx.now.conn.now in
       let new = state g.S.Store c.write.new.tx.conn.now in
       moves_by (token_row_added c.args.org.now c.args.name.now c.args.digest.now c.args.role) old new add_token_text _ c.write.result
-      (rw (c.params-to_sql.ensures, c.params-to_sql-2.ensures, c.params-to_sql-3.ensures, c.params-to_sql-4.ensures, c.role_number-role.ensures, to_z-of_z w64 (pos (role_code c.args.role)) (role_fits c.args.role)) at (c.write.ensures.runs clean inside))
+      (rw (c.params-to_sql.ensures, c.params-to_sql-2.ensures, c.params-to_sql-3.ensures, c.params-to_sql-4.ensures, c.role_number-role.ensures) at (c.write.ensures.runs clean inside))
       (λ count t holds ran. add_token_does old new count t holds c.args.org.now c.args.name.now c.args.digest.now c.args.role ran);
   survives = c.write.ensures.survives;
 }

@@ -1,8 +1,6 @@
-use Rattle.std.proofs.Common.{pos, w64}
-use Rattle.std.proofs.lemmas.Int.{to_z-of_z}
 use Rattle.sqlite.specs.Held.{state}
 use Rattle.statements.specs.Listings.{version_rows_after, VersionsRise}
-use Rattle.statements.specs.Calls.{IsVersionHead, FirstRows}
+use Rattle.statements.specs.Calls.{IsVersionRow, FirstRows}
 use Rattle.statements.proofs.Transactions.{lists_by}
 use Rattle.statements.proofs.VersionTexts.{list_versions_text, list_versions_is_query}
 use Rattle.statements.proofs.VersionReads.{list_versions_shows}
@@ -14,8 +12,8 @@ returns g c = record {
   read = λ clean.
       let old = state g.S.Store c.args.conn.now in
       let new = state g.S.Store c.first_rows-rows.new.conn in
-      lists_by (VersionsRise c.args.org.now c.args.ws.now) (version_rows_after c.args.org.now c.args.ws.now c.args.after c.args.most) IsVersionHead old new (FirstRows c.args.most list_versions_text _ old new) c.first_rows-rows.result c.read_all.result
-      (rw (c.params-to_sql.ensures, c.params-to_sql-2.ensures, c.params-to_sql-3.ensures, c.signed-after.ensures, to_z-of_z w64 (pos c.args.after) (record { sfits = c.requires.after_fits })) at (c.first_rows-rows.ensures.rows list_versions_is_query clean)) (c.first_rows-rows.ensures.calm list_versions_is_query clean) c.read_all.ensures
+      lists_by (VersionsRise c.args.org.now c.args.ws.now) (version_rows_after c.args.org.now c.args.ws.now c.args.after c.args.most) IsVersionRow old new (FirstRows c.args.most list_versions_text _ old new) c.first_rows-rows.result c.read_all.result
+      (rw (c.params-to_sql.ensures, c.params-to_sql-2.ensures, c.params-to_sql-3.ensures) at (c.first_rows-rows.ensures.rows list_versions_is_query clean)) (c.first_rows-rows.ensures.calm list_versions_is_query clean) c.read_all.ensures
       (λ t holds rise rows heads first read. list_versions_shows old new t holds c.args.org.now c.args.ws.now c.args.after c.args.most rows heads rise first read);
   survives = c.first_rows-rows.ensures.survives list_versions_is_query;
 }

@@ -1,5 +1,3 @@
-use Rattle.std.proofs.Common.{pos, w64}
-use Rattle.std.proofs.lemmas.Int.{to_z-of_z}
 use Rattle.sqlite.specs.Held.{state}
 use Rattle.statements.specs.Finds.{number_back}
 use Rattle.statements.specs.Calls.{IsNumber}
@@ -15,7 +13,7 @@ returns g c = record {
       let old = state g.S.Store c.args.conn.now in
       let new = state g.S.Store c.first_row-row.new.conn in
       reads_by (number_back c.args.org.now c.args.ws.now c.args.place) IsNumber old new version_back_text _ c.first_row-row.result c.read_one.result
-      (rw (c.params-to_sql.ensures, c.params-to_sql-2.ensures, c.params-to_sql-3.ensures, c.signed-place.ensures, to_z-of_z w64 (pos c.args.place) (record { sfits = c.requires.place_fits })) at (c.first_row-row.ensures.row version_back_is_query clean)) (c.first_row-row.ensures.calm version_back_is_query clean) c.read_one.ensures
+      (rw (c.params-to_sql.ensures, c.params-to_sql-2.ensures, c.params-to_sql-3.ensures) at (c.first_row-row.ensures.row version_back_is_query clean)) (c.first_row-row.ensures.calm version_back_is_query clean) c.read_one.ensures
       (λ t holds row first. version_back_shows old new t holds c.args.org.now c.args.ws.now c.args.place row first);
   survives = c.first_row-row.ensures.survives version_back_is_query;
 }

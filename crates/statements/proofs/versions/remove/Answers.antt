@@ -1,5 +1,3 @@
-use Rattle.std.proofs.Common.{pos, w64}
-use Rattle.std.proofs.lemmas.Int.{to_z-of_z}
 use Rattle.sqlite.specs.Held.{state}
 use Rattle.statements.specs.Changes.{version_removed}
 use Rattle.statements.proofs.Transactions.{moves_by}
@@ -14,7 +12,7 @@ returns g c = record {
       let old = state g.S.Store c.args.tx.now.conn.now in
       let new = state g.S.Store c.write.new.tx.conn.now in
       moves_by (version_removed c.args.org.now c.args.ws.now c.args.number) old new remove_version_text _ c.write.result
-      (rw (c.params-to_sql.ensures, c.params-to_sql-2.ensures, c.params-to_sql-3.ensures, c.signed-number.ensures, to_z-of_z w64 (pos c.args.number) (record { sfits = c.requires.number_fits })) at (c.write.ensures.runs clean inside))
+      (rw (c.params-to_sql.ensures, c.params-to_sql-2.ensures, c.params-to_sql-3.ensures, c.get-number.ensures.value) at (c.write.ensures.runs clean inside))
       (λ count t holds ran. remove_version_does old new count t holds c.args.org.now c.args.ws.now c.args.number ran);
   survives = c.write.ensures.survives;
 }

@@ -1,5 +1,3 @@
-use Rattle.std.proofs.Common.{pos, w64}
-use Rattle.std.proofs.lemmas.Int.{to_z-of_z}
 use Rattle.sqlite.specs.Held.{state}
 use Rattle.statements.specs.Finds.{size_of}
 use Rattle.statements.specs.Calls.{IsNumber}
@@ -15,7 +13,7 @@ returns g c = record {
       let old = state g.S.Store c.args.conn.now in
       let new = state g.S.Store c.first_row-row.new.conn in
       reads_by (size_of c.args.org.now c.args.ws.now c.args.number) IsNumber old new version_size_text _ c.first_row-row.result c.read_one.result
-      (rw (c.params-to_sql.ensures, c.params-to_sql-2.ensures, c.params-to_sql-3.ensures, c.signed-number.ensures, to_z-of_z w64 (pos c.args.number) (record { sfits = c.requires.number_fits })) at (c.first_row-row.ensures.row version_size_is_query clean)) (c.first_row-row.ensures.calm version_size_is_query clean) c.read_one.ensures
+      (rw (c.params-to_sql.ensures, c.params-to_sql-2.ensures, c.params-to_sql-3.ensures, c.get-number.ensures.value) at (c.first_row-row.ensures.row version_size_is_query clean)) (c.first_row-row.ensures.calm version_size_is_query clean) c.read_one.ensures
       (λ t holds row first. version_size_shows old new t holds c.args.org.now c.args.ws.now c.args.number row first);
   survives = c.first_row-row.ensures.survives version_size_is_query;
 }

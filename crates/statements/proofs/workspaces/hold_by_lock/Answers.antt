@@ -1,4 +1,4 @@
-use Rattle.statements.specs.declared.rows.Holder.TheVariants.{Lock}
+use Rattle.basis.specs.declared.rows.Holder.TheVariants.{Lock}
 use Rattle.sqlite.specs.Held.{state}
 use Rattle.statements.specs.Changes.{held_by, ws_changed}
 use Rattle.statements.proofs.Transactions.{moves_by}
@@ -13,7 +13,7 @@ returns g c = record {
       let old = state g.S.Store c.args.tx.now.conn.now in
       let new = state g.S.Store c.write.new.tx.conn.now in
       moves_by (ws_changed (held_by (Lock c.args.id.now c.args.text.now)) c.args.org.now c.args.name.now) old new hold_by_lock_text _ c.write.result
-      (rw (c.params-to_sql.ensures, c.params-to_sql-2.ensures, c.params-to_sql-3.ensures, c.params-to_sql-4.ensures) at (c.write.ensures.runs clean inside))
+      (rw (c.params-to_sql.ensures, c.params-to_sql-2.ensures, c.params-to_sql-3.ensures, c.params-to_sql-4.ensures, c.as_str-id.ensures) at (c.write.ensures.runs clean inside))
       (λ count t holds ran. hold_by_lock_does old new count t holds c.args.org.now c.args.name.now c.args.id.now c.args.text.now ran);
   survives = c.write.ensures.survives;
 }

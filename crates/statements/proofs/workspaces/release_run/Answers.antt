@@ -1,4 +1,4 @@
-use Rattle.statements.specs.declared.rows.Holder.TheVariants.{Nobody}
+use Rattle.basis.specs.declared.rows.Holder.TheVariants.{Nobody}
 use Rattle.sqlite.specs.Held.{state}
 use Rattle.statements.specs.Changes.{held_by, ws_changed}
 use Rattle.statements.proofs.Transactions.{moves_by}

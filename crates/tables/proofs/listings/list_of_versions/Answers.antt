@@ -1,9 +1,9 @@
-use Rattle.std.proofs.Common.{List, map, ◌∙◌}
+use Rattle.std.proofs.Common.{Ok}
 use Rattle.sqlite.specs.Held.{state}
+use Rattle.sqlite.specs.declared.error.Error.{Error}
 use Rattle.basis.specs.Listings.{listing_of}
-use Rattle.statements.specs.declared.rows.VersionHead.{VersionHead as Cells}
 use Rattle.statements.specs.Listings.{VersionsRise, version_rows_after}
-use Rattle.tables.specs.Inner.Lists.{asked_rows, version_row_in}
+use Rattle.tables.specs.Inner.Lists.{asked_rows}
 use Rattle.tables.proofs.KeepFound.{seen_shown}
 use Rattle.tables.proofs.KeepMoves.{clean_before}
 use Rattle.tables.proofs.listings.list_of_versions.Goals as goal
@@ -18,7 +18,6 @@ returns-clause-looks g c =
       mode = c.list.ensures.mode;
       so_far = λ clean. clean_before a b _ c.list.ensures.survives clean;
       sees = λ clean.
-          let found = c.in_ok-heads.ensures.read clean in
-          seen_shown (VersionsRise org ws) (version_rows_after org ws c.args.after asked_rows) (λ (rows : List Cells). listing_of (map version_row_in rows)) c.as_slice.result.now a b c.list_versions.result
-          (λ t held rise. c.as_slice.ensures ∙ found.0 t held rise) found.1.0 c.list_versions.ensures clean;
+          let found = c.in_ok-rows.ensures.read clean in
+          seen_shown {E = Error} (VersionsRise org ws) (version_rows_after org ws c.args.after asked_rows) listing_of c.in_ok-rows.rows a b (Ok c.of.result) found.0 found.1.0 c.of.ensures clean;
     }

@@ -1,9 +1,10 @@
-use Rattle.std.proofs.Common.{Option, option_map, sym, ap}
+use Rattle.std.proofs.Common.{Option, Ok, refl, sym, ap}
 use Rattle.std.specs.Option.{unwrap_or}
 use Rattle.sqlite.specs.Held.{state}
-use Rattle.statements.specs.declared.rows.Bound.{Bound}
+use Rattle.sqlite.specs.declared.error.Error.{Error}
+use Rattle.basis.specs.declared.roles.Bounds.{Bounds}
 use Rattle.statements.specs.Finds.{bound_of}
-use Rattle.tables.specs.Records.{no_bounds, bounds_of_cells, bounds_at}
+use Rattle.tables.specs.Records.{no_bounds, bounds_at}
 use Rattle.tables.proofs.KeepMoves.{clean_before}
 use Rattle.tables.proofs.KeepFound.{seen_value, found_there}
 use Rattle.tables.proofs.looks.bounds_of.Goals as goal
@@ -19,10 +20,10 @@ returns-in-Some-clause-looks g c =
       so_far = λ clean. clean_before a b _ c.find.ensures.survives clean;
       sees = λ clean.
           let found = c.in_ok-find.ensures.read clean in
-          seen_value (bound_of org name) (λ t. bounds_at t org name) c.in-Some.bound (bounds_of_cells c.in-Some.bound) a b c.in_ok-find.field-0 c.bounds_as.result c.in-Some.is found.0 found.1.0
-          (λ t e. sym (ap (λ (o : Option Bound). unwrap_or (option_map bounds_of_cells o) no_bounds) e)) c.bounds_as.ensures clean;
+          seen_value {E = Error} (bound_of org name) (λ t. bounds_at t org name) c.in-Some.bounds c.in-Some.bounds a b c.in_ok-find.field-0 (Ok c.in-Some.bounds) c.in-Some.is found.0 found.1.0
+          (λ t e. sym (ap (λ (o : Option Bounds). unwrap_or o no_bounds) e)) refl clean;
     }
 
 pub returns-in-Some-clause-there : goal.returns-in-Some-clause-there
 returns-in-Some-clause-there g c clean =
-    found_there (bound_of c.args.org.now c.args.name.now) c.in-Some.bound (state g.S.Store c.args.conn.now) c.in_ok-find.field-0 c.bounds_as.result c.in-Some.is (c.in_ok-find.ensures.read clean).0
+    found_there {F = Error} (bound_of c.args.org.now c.args.name.now) c.in-Some.bounds (state g.S.Store c.args.conn.now) c.in_ok-find.field-0 (Ok c.in-Some.bounds) c.in-Some.is (c.in_ok-find.ensures.read clean).0

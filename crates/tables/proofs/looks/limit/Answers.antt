@@ -12,5 +12,5 @@ returns g c =
     let b = state g.S.Store c.cap.new.conn in
     let found = c.in_ok-cap.cap in
     record {
-      looks = seen_then Error (cap_of c.args.org.now) (λ (cap : Option ℕ). unwrap_or cap 0) found a b c.limit_of.result (seen_query Error (cap_of c.args.org.now) a b found c.cap.ensures.mode c.cap.ensures.survives c.in_ok-cap.ensures.read) c.limit_of.ensures;
+      looks = seen_then Error (cap_of c.args.org.now) (λ (cap : Option ℕ). unwrap_or cap 0) found a b _ (seen_query Error (cap_of c.args.org.now) a b found c.cap.ensures.mode c.cap.ensures.survives c.in_ok-cap.ensures.read) c.allowed.ensures;
     }

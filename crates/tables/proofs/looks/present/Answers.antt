@@ -20,7 +20,7 @@ returns g c =
     let org = c.args.org.now in
     let ws = c.args.ws.now in
     let need = needed_of c.args.needs.now in
-    rw c.in_ok-unit.ensures (record {
+    rw c.unit_by.ensures (record {
       looks = seen_by_first Error Error Error (keep_in need.keep_versions org ws) (λ keep. around_in need org ws keep c.args.workspace.holder) (make c.args.workspace) c.in_ok-keep.keep c.in_ok-around.around
           (state g.S.Store c.args.conn.now) (state g.S.Store c.keep_if.new.conn) (state g.S.Store c.around.new.conn) c.in_ok-keep.ensures.looks c.in_ok-around.ensures.looks;
     })

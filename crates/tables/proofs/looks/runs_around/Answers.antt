@@ -4,7 +4,7 @@ use Rattle.sqlite.specs.declared.error.Error.{Error}
 use Rattle.basis.specs.declared.runs.RunStatus.{RunStatus}
 use Rattle.machine.specs.Needs.{needed_of}
 use Rattle.machine.specs.Units.{if_needed}
-use Rattle.machine.specs.declared.records.Run.{Run}
+use Rattle.basis.specs.declared.rows.RunRow.{RunRow as Run}
 use Rattle.statements.specs.Finds.{first_waiting_of, open_runs_of}
 use Rattle.tables.specs.Inner.Units.{holder_status_in, asked_run_in}
 use Rattle.tables.specs.declared.looks.RunsAround.{RunsAround}

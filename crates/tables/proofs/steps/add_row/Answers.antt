@@ -2,4 +2,4 @@ use Rattle.tables.proofs.KeepMoves.{steps_by}
 use Rattle.tables.proofs.steps.add_row.Goals as goal
 
 pub returns : goal.returns
-returns g c = rw (c.get-number.ensures.value, c.as_str-lineage.ensures, c.seconds-created.ensures.value, c.as_slice.ensures) at (steps_by g.S.Store _ _ _ _ c.add.ensures)
+returns g c = rw (c.as_str-lineage.ensures, c.as_slice.ensures) at (steps_by g.S.Store _ _ _ _ c.add.ensures)

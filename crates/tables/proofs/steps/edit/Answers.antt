@@ -33,13 +33,13 @@ pub returns-in-Purge-clause-takes : goal.returns-in-Purge-clause-takes
 returns-in-Purge-clause-takes g c = rw c.in-Purge.is (λ clean inside. when_done c.purge.result (λ t holds. tt))
 
 pub returns-in-Hold-clause-steps : goal.returns-in-Hold-clause-steps
-returns-in-Hold-clause-steps g c = rw c.in-Hold.is (rw (c.as_str.ensures, c.as_slice.ensures) at (steps_by g.S.Store _ _ _ _ c.hold_by_lock.ensures))
+returns-in-Hold-clause-steps g c = rw c.in-Hold.is (rw c.as_slice.ensures at (steps_by g.S.Store _ _ _ _ c.hold_by_lock.ensures))
 
 pub returns-in-Hold-clause-takes : goal.returns-in-Hold-clause-takes
 returns-in-Hold-clause-takes g c = rw c.in-Hold.is (λ clean inside. when_done c.hold_by_lock.result (λ t holds. tt))
 
 pub returns-in-Release-clause-steps : goal.returns-in-Release-clause-steps
-returns-in-Release-clause-steps g c = rw c.in-Release.is (rw c.as_str-in-Release.ensures at (steps_by g.S.Store _ _ _ _ c.release_lock.ensures))
+returns-in-Release-clause-steps g c = rw c.in-Release.is (steps_by g.S.Store _ _ _ _ c.release_lock.ensures)
 
 pub returns-in-Release-clause-takes : goal.returns-in-Release-clause-takes
 returns-in-Release-clause-takes g c = rw c.in-Release.is (λ clean inside. when_done c.release_lock.result (λ t holds. tt))

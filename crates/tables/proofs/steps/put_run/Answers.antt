@@ -2,4 +2,4 @@ use Rattle.tables.proofs.KeepMoves.{steps_by}
 use Rattle.tables.proofs.steps.put_run.Goals as goal
 
 pub returns : goal.returns
-returns g c = rw (c.get-number.ensures.value, c.seconds-created.ensures.value, c.optional_str-key.ensures, c.as_str-message.ensures, c.first_status-status.ensures) at (steps_by g.S.Store _ _ _ _ c.add.ensures)
+returns g c = rw (c.optional_str-key.ensures, c.as_str-message.ensures, c.first_status-status.ensures) at (steps_by g.S.Store _ _ _ _ c.add.ensures)

@@ -1,5 +1,5 @@
 use Rattle.std.proofs.Common.{true, Option, refl, sym, ap, ◌∙◌}
-use Rattle.statements.specs.declared.rows.Head.{Head}
+use Rattle.basis.specs.declared.rows.VersionRow.{VersionRow as Head}
 use Rattle.tables.specs.Inner.Edits.{first_gone, version_gone, oldest_gone}
 use Rattle.tables.proofs.KeepMoves.{step_behind, step_none, step_as}
 use Rattle.tables.proofs.steps.remove_oldest.Goals as goal

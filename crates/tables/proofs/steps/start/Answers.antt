@@ -2,6 +2,4 @@ use Rattle.tables.proofs.KeepMoves.{steps_by, steps_then}
 use Rattle.tables.proofs.steps.start.Goals as goal
 
 pub returns : goal.returns
-returns g c =
-    steps_then g.S.Store _ _ _ _ _ _ _ (rw c.get-number.ensures.value at (steps_by g.S.Store _ _ _ _ c.in_ok-hold_by_run.ensures))
-    (rw c.get-number.ensures.value at (steps_by g.S.Store _ _ _ _ c.set_status.ensures))
+returns g c = steps_then g.S.Store _ _ _ _ _ _ _ (steps_by g.S.Store _ _ _ _ c.in_ok-hold_by_run.ensures) (steps_by g.S.Store _ _ _ _ c.set_status.ensures)

@@ -10,11 +10,11 @@ pub returns-clause-done : goal.returns-clause-done
 returns-clause-done g c clean =
     let h = c.args.conn.now in
     let k = c.begin-tx.result.conn.now in
-    let l = c.put_limit.new.tx.conn.now in
+    let l = c.set_cap.new.tx.conn.now in
     let m = c.commit.new.self.0 in
     let late : HasCleanDisk (state g.S.Store m) = search rules in
     let before = clean_before (state g.S.Store l) (state g.S.Store m) _ c.commit.ensures.survives late in
     let settled = c.begin-tx.ensures.settled in
-    let moved = (c.in_ok-put_limit.ensures.changed before (inside_by c.args.conn.now c.begin-tx.result.conn.now c.begin-tx.ensures.begun)).0 in
+    let moved = (c.in_ok-set_cap.ensures.changed before (inside_by c.args.conn.now c.begin-tx.result.conn.now c.begin-tx.ensures.begun)).0 in
     let all = commits_by g.S.Store h k l m settled c.begin-tx.ensures.begun (org_capped c.args.org.now c.args.limit) c.commit.result moved (c.commit.ensures.ok late) (c.commit.ensures.err late) in
     search (rules, all)

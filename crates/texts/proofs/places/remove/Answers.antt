@@ -14,7 +14,7 @@ returns g c = record {
       let old = state g.S.Store c.args.tx.now.conn.now in
       let new = state g.S.Store c.write.new.tx.conn.now in
       moves_by (place_removed c.args.org.now c.args.ws.now c.args.number c.args.place) old new remove_place_text _ c.write.result
-      (rw (c.signed-number.ensures, to_z-of_z w64 (pos c.args.number) (record { sfits = c.requires.number_fits }), c.signed-place.ensures, to_z-of_z w64 (pos c.args.place) (record { sfits = c.requires.place_fits })) at (rw (c.params-to_sql.ensures, c.params-to_sql-2.ensures, c.params-to_sql-3.ensures, c.params-to_sql-4.ensures) at (c.write.ensures.runs clean inside)))
+      (rw (c.get-number.ensures.value, c.signed-place.ensures, to_z-of_z w64 (pos c.args.place) (record { sfits = c.requires.place_fits })) at (rw (c.params-to_sql.ensures, c.params-to_sql-2.ensures, c.params-to_sql-3.ensures, c.params-to_sql-4.ensures) at (c.write.ensures.runs clean inside)))
       (λ count t holds ran. remove_place_does old new count t holds c.args.org.now c.args.ws.now c.args.number c.args.place ran);
   survives = c.write.ensures.survives;
 }
