@@ -1,5 +1,5 @@
 -- What the writes to the table bound do to its rows.
-use Rattle.std.proofs.Common.{◌≡◌, ℕ, List, [], ◌∷◌, Option, Ok, refl, ◌∙◌, map, true, false, ap}
+use Rattle.std.proofs.Common.{◌≡◌, ℕ, List, [], ◌∷◌, Option, Ok, refl, ◌∙◌, map, true, false, ap, arith}
 use Rattle.sqlite_value.specs.declared.value.Value.TheVariants.{Text}
 use Rattle.sqlite_sql.specs.Program.{overlay}
 use Rattle.sqlite.specs.State.{State, Executes}
@@ -9,13 +9,14 @@ use Rattle.sqlite_keyed.proofs.ListLemmas.{filter_all, all_of}
 use Rattle.statements.specs.Place.{tree_of}
 use Rattle.statements.specs.Schema.{bound_table, token_table}
 use Rattle.statements.specs.Rows.{Kept, id_of, TokenRow, BoundRow, bound_cells, token_cells, number}
-use Rattle.statements.specs.Tables.{Tables, Holds, HoldsSecond, second_stored, bound_layout}
+use Rattle.statements.specs.Tables.{Tables, Holds, bound_layout}
 use Rattle.statements.specs.Changes.{is_bound, unbounded, bound_row_added, bound_row_removed, bounds_filled}
-use Rattle.statements.proofs.Held.{IsHeld, bounds_held, second_bounds_held, second_tokens_held}
+use Rattle.statements.specs.Inner.Making.{Moved}
+use Rattle.statements.proofs.Held.{IsHeld, bounds, tokens, held_in, bounds_held}
 use Rattle.statements.proofs.Own.{delete_own, insert_own, fill_own, keyed_next, stored_tree}
 use Rattle.statements.proofs.Edits.{all_keyed}
 use Rattle.statements.proofs.Casts.{bound_casts}
-use Rattle.statements.proofs.Frames.{Turns, TurnsIn, bounds_written, second_bounds_written}
+use Rattle.statements.proofs.Frames.{Turns, moved_by, written_in, bounds_written}
 use Rattle.statements.proofs.Conditions.{two_texts}
 use Rattle.statements.proofs.Answered.{point, all_are}
 use Rattle.statements.proofs.BoundTexts.{add_bound_text, add_bound_means, add_bound_terms, remove_bound_text, remove_bound_means, remove_bound_query, fill_bounds_text, fill_bounds_means, filled_rest}
@@ -39,15 +40,14 @@ module _ (old new : State) (count : ℕ) (t : Tables) (h : Holds old.now t) wher
       bounds_written old.now new.now left.1 t h _ left.0 (IsKeyedBy-delete_where id_of (is_bound org name) t.bounds held.keyed)
 
 -- a row for each token, in the order of the tokens
-module _ (old new : State) (count : ℕ) (t : Tables) (h : HoldsSecond old.now t) where
-  pub fill_bounds_does : Executes fill_bounds_text [] old new (Ok count) → TurnsIn second_stored old.now new.now (bounds_filled t)
-  fill_bounds_does ran =
-      let held = second_bounds_held old.now t h in
-      let tokens = second_tokens_held old.now t h in
-      let from = tree_of old.now.schema token_table.name in
-      let each = filter_all (λ (x : Kept TokenRow). true) t.tokens (all_of (λ x. true ≡ true) (λ x. refl) t.tokens) in
-      let left = fill_own bound_cells bound_table bound_casts old new held.own held.steady t.bounds held.rows held.keyed fill_bounds_text [] count ran
-      (point filled_rest from false) (fill_bounds_means old.now.schema _ _ _ _ held.own.place tokens.own.place) refl refl (λ (x : Kept TokenRow). unbounded x.1) t.tokens
-      (λ rows answer. all_are token_cells (overlay old.now.trees []) from t.tokens (stored_tree old.now.trees from tokens.own.place.low ∙ tokens.rows) tokens.keyed filled_rest [] (λ x. true) (λ x. refl) (λ l. refl) rows answer
-      ∙ ap (map _) each) in
-      second_bounds_written old.now new.now left.1 t h _ left.0 (all_keyed bound_cells (map (λ (x : Kept TokenRow). unbounded x.1) t.tokens) t.bounds held.keyed)
+pub fill_bounds_does : (old new : State) (count : ℕ) → Executes fill_bounds_text [] old new (Ok count) → Moved 2 bounds_filled old.now new.now
+fill_bounds_does old new count ran = moved_by 2 bounds_filled old.now new.now (λ t h.
+    let held = held_in bounds 10 (omega arith) old.now t h in
+    let tokens = held_in tokens 10 (omega arith) old.now t h in
+    let from = tree_of old.now.schema token_table.name in
+    let each = filter_all (λ (x : Kept TokenRow). true) t.tokens (all_of (λ x. true ≡ true) (λ x. refl) t.tokens) in
+    let left = fill_own bound_cells bound_table bound_casts old new held.own held.steady t.bounds held.rows held.keyed fill_bounds_text [] count ran
+    (point filled_rest from false) (fill_bounds_means old.now.schema _ _ _ _ held.own.place tokens.own.place) refl refl (λ (x : Kept TokenRow). unbounded x.1) t.tokens
+    (λ rows answer. all_are token_cells (overlay old.now.trees []) from t.tokens (stored_tree old.now.trees from tokens.own.place.low ∙ tokens.rows) tokens.keyed filled_rest [] (λ x. true) (λ x. refl) (λ l. refl) rows answer
+    ∙ ap (map _) each) in
+    written_in old.now new.now left.1 bounds t _ 10 (omega arith) h tt left.0 (all_keyed bound_cells (map (λ (x : Kept TokenRow). unbounded x.1) t.tokens) t.bounds held.keyed))

@@ -1,7 +1,8 @@
 -- The typed rows of a database are those that it holds.
-use Rattle.std.proofs.Common.{◌≡◌, ℕ, pos, Bool, true, false, not, cond, unsigned_abs, List, [], map, Option, Some, None, refl, ap, ◌∙◌, int_eq}
+use Rattle.std.proofs.Common.{◌≡◌, ℕ, pos, nat_lt, arith, Bool, true, false, not, cond, unsigned_abs, List, [], map, Option, Some, None, refl, ap, ◌∙◌, int_eq}
 use Rattle.sqlite_value.specs.declared.value.Value.TheVariants as cell
 use Rattle.sqlite_typed.specs.Columns.{or_null, bytes_of, int_of, unless_null}
+use Rattle.std.proofs.lemmas.Bool.Decides.{nat_tests}
 use Rattle.sqlite_keyed.proofs.ListLemmas.{map_back}
 use Rattle.sqlite.specs.Effect.{Database}
 use Rattle.basis.specs.declared.rows.RunSettings.{RunSettings}
@@ -9,9 +10,10 @@ use Rattle.basis.specs.declared.runs.RunAction.{RunAction}
 use Rattle.basis.specs.declared.rows.Holder.{Holder}
 use Rattle.basis.specs.declared.rows.Holder.TheVariants.{Nobody, Lock, Run as HeldByRun}
 use Rattle.statements.specs.Rows.{Kept, TokenRow, WsRow, RunRow, BoundRow, stored, token_cells, ws_cells, run_cells, bound_cells, run_settings_cells, number, action_code, kind_cell, lock_id_cell, lock_text_cell, run_cell}
-use Rattle.statements.specs.Tables.{Layout, Tables, Holds, HoldsSecond, rows_of, tables_of, second_tables_of, meta_layout, org_layout, token_layout, ws_layout, version_layout, run_layout, page_layout, vpage_layout, bound_layout, edition_layout, keeping_layout}
+use Rattle.statements.specs.declared.making.TheConstants.{NEWEST}
+use Rattle.statements.specs.Tables.{Layout, Tables, Holds, HoldsIn, count_in, rows_in, up_to, rows_of, tables_of, tables_at}
 use Rattle.statements.specs.Decode.{kept_by, token_at, ws_at, run_at, bound_at, run_settings_at, holder_at, action_at}
-use Rattle.statements.proofs.Held.{IsHeld, metas_held, orgs_held, tokens_held, wss_held, versions_held, runs_held, pages_held, vpages_held, bounds_held, editions_held, keepings_held, second_metas_held, second_orgs_held, second_tokens_held, second_wss_held, second_versions_held, second_runs_held, second_pages_held, second_vpages_held, second_bounds_held, second_editions_held}
+use Rattle.statements.proofs.Held.{IsHeld, Ours, metas, orgs, tokens, wss, versions, runs, pages, vpages, bounds, editions, keepings, held_in, holds_all}
 use Rattle.statements.proofs.Codes.{role_back, status_back, action_back}
 
 flag_back : (b : Bool) → not (int_eq (cond b (pos 1) (pos 0)) (pos 0)) ≡ b
@@ -76,34 +78,32 @@ bound_back x = λ i. (x.0, record { org = x.1.org; name = x.1.name; until = unti
 rows_back : {R : Type 0} (layout : Layout R) (db : Database) (xs : List (Kept R)) → ((x : Kept R) → kept_by layout.read (stored layout.cells x) ≡ x) → IsHeld layout db xs → rows_of layout db ≡ xs
 rows_back layout db xs back held = ap (map (kept_by layout.read)) held.rows ∙ map_back (stored layout.cells) (kept_by layout.read) back xs
 
--- a database holds the rows of one `Tables` at most, and these are they
-pub tables-held : (db : Database) (t : Tables) → Holds db t → tables_of db ≡ t
-tables-held db t h = λ i. record {
-  metas = rows_back meta_layout db t.metas (λ x. refl) (metas_held db t h) i;
-  orgs = rows_back org_layout db t.orgs (λ x. refl) (orgs_held db t h) i;
-  tokens = rows_back token_layout db t.tokens token_back (tokens_held db t h) i;
-  wss = rows_back ws_layout db t.wss ws_back (wss_held db t h) i;
-  versions = rows_back version_layout db t.versions (λ x. refl) (versions_held db t h) i;
-  runs = rows_back run_layout db t.runs run_back (runs_held db t h) i;
-  pages = rows_back page_layout db t.pages (λ x. refl) (pages_held db t h) i;
-  vpages = rows_back vpage_layout db t.vpages (λ x. refl) (vpages_held db t h) i;
-  bounds = rows_back bound_layout db t.bounds bound_back (bounds_held db t h) i;
-  editions = rows_back edition_layout db t.editions (λ x. refl) (editions_held db t h) i;
-  keepings = rows_back keeping_layout db t.keepings (λ x. refl) (keepings_held db t h) i;
-}
+-- ---- a database holds the rows of one `Tables` at most
 
--- so it is of those of schema 2
-pub second_tables-held : (db : Database) (t : Tables) → HoldsSecond db t → second_tables_of db ≡ record t { keepings = [] }
-second_tables-held db t h = λ i. record {
-  metas = rows_back meta_layout db t.metas (λ x. refl) (second_metas_held db t h) i;
-  orgs = rows_back org_layout db t.orgs (λ x. refl) (second_orgs_held db t h) i;
-  tokens = rows_back token_layout db t.tokens token_back (second_tokens_held db t h) i;
-  wss = rows_back ws_layout db t.wss ws_back (second_wss_held db t h) i;
-  versions = rows_back version_layout db t.versions (λ x. refl) (second_versions_held db t h) i;
-  runs = rows_back run_layout db t.runs run_back (second_runs_held db t h) i;
-  pages = rows_back page_layout db t.pages (λ x. refl) (second_pages_held db t h) i;
-  vpages = rows_back vpage_layout db t.vpages (λ x. refl) (second_vpages_held db t h) i;
-  bounds = rows_back bound_layout db t.bounds bound_back (second_bounds_held db t h) i;
-  editions = rows_back edition_layout db t.editions (λ x. refl) (second_editions_held db t h) i;
-  keepings = [];
-}
+-- of a version: these are they
+module _ (n : ℕ) (db : Database) (t : Tables) (h : HoldsIn n db t) where
+  read_back : {R : Type 0} (x : Ours R) → ((r : Kept R) → kept_by x.layout.read (stored x.layout.cells r) ≡ r) → rows_in n x.place (rows_of x.layout db) ≡ rows_in n x.place (x.rows t)
+  read_back x back = by_place (nat_lt x.place (count_in n)) refl
+    where
+      by_place : (b : Bool) → nat_lt x.place (count_in n) ≡ b → cond b (rows_of x.layout db) [] ≡ cond b (x.rows t) []
+      by_place true low = rows_back x.layout db (x.rows t) back (held_in x (count_in n) (grind (arith, nat_tests)) db t h)
+      by_place false high = refl
+
+  pub tables_at-held : tables_at n db ≡ up_to n t
+  tables_at-held = λ i. record {
+    metas = read_back metas (λ x. refl) i;
+    orgs = read_back orgs (λ x. refl) i;
+    tokens = read_back tokens token_back i;
+    wss = read_back wss ws_back i;
+    versions = read_back versions (λ x. refl) i;
+    runs = read_back runs run_back i;
+    pages = read_back pages (λ x. refl) i;
+    vpages = read_back vpages (λ x. refl) i;
+    bounds = read_back bounds bound_back i;
+    editions = read_back editions (λ x. refl) i;
+    keepings = read_back keepings (λ x. refl) i;
+  }
+
+-- and of ours
+pub tables-held : (db : Database) (t : Tables) → Holds db t → tables_of db ≡ t
+tables-held db t h = tables_at-held NEWEST db t (holds_all db t h)

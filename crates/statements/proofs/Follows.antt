@@ -1,5 +1,6 @@
 -- A table of ours that follows another one: its rows go where rows of that one go, and no other write elsewhere changes them.
-use Rattle.std.proofs.Common.{◌≡◌, ◌≢◌, inr, ◌⊎◌, ℕ, suc, ◌+◌, Bool, true, false, cond, List, [], ◌∷◌, find, slice_get, Option, Some, None, option_map, option_and_then, refl, sym, ap, ◌∙◌, subst, arith}
+use Rattle.std.proofs.Common.{◌≡◌, ◌≢◌, inr, ◌⊎◌, ℕ, zero, suc, ◌+◌, ◌<◌, Bool, true, false, cond, List, [], ◌∷◌, find, slice_get, Option, Some, None, option_map, option_and_then, refl, sym, ap, ◌∙◌, subst, arith}
+use Rattle.std.specs.Prelude.{⊤}
 use Rattle.std.specs.List.{AllByRecursion, position_from}
 use Rattle.sqlite_value.specs.declared.keys.Order.{Order}
 use Rattle.sqlite_schema.specs.declared.schema.Reference.{Reference}
@@ -9,7 +10,7 @@ use Rattle.sqlite_schema.specs.Names.{same_name}
 use Rattle.sqlite_schema.specs.Rules.{ParentKey, key_in, key_places, declared_order}
 use Rattle.sqlite_keyed.proofs.ListLemmas.{all_weaker}
 use Rattle.statements.specs.Place.{RefersPassively, IsOwn, at_of, tree_of}
-use Rattle.statements.specs.Schema.{token_table, ws_table, bound_table, keeping_table, to_token, to_ws}
+use Rattle.statements.specs.Schema.{token_table, ws_table, bound_table, keeping_table}
 use Rattle.statements.proofs.Lead.{GoesTo}
 
 -- each reference of the table is passive or goes to the parent, whose own are passive
@@ -63,8 +64,36 @@ pub goes_to : (s : Schema) (parent : Table) (ref : Reference) → IsOwn s parent
 goes_to s parent ref own is = inr (λ key told. key_tree (record parent { tree = tree_of s parent.name }) ref.parent_columns key (
     sym (ap (option_and_then (λ t. option_and_then (key_in t) (key_places t ref.parent_columns))) (ap (λ name. find (λ (t : Table). same_name t.name name) s.tables) is ∙ named_first s parent own)) ∙ told))
 
+pub follows_by : (s : Schema) (parent table : Table) → IsOwn s parent → RefersPassively parent → AllByRecursion (λ (ref : Reference). ref.parent ≡ parent.name) table.references → Follows s parent table
+follows_by s parent table own passive refs = record { own = own; passive = passive; goes = all_weaker (λ (ref : Reference). ref.parent ≡ parent.name) (GoesTo s (tree_of s parent.name)) (λ ref is. goes_to s parent ref own is) table.references refs }
+
 pub bound_follows : (s : Schema) → IsOwn s token_table → Follows s token_table bound_table
-bound_follows s own = record { own = own; passive = tt; goes = (goes_to s token_table to_token own refl, tt) }
+bound_follows s own = follows_by s token_table bound_table own tt (refl, tt)
 
 pub keeping_follows : (s : Schema) → IsOwn s ws_table → Follows s ws_table keeping_table
-keeping_follows s own = record { own = own; passive = tt; goes = (goes_to s ws_table to_ws own refl, tt) }
+keeping_follows s own = follows_by s ws_table keeping_table own tt (refl, tt)
+
+-- ---- which of several follows which
+
+-- the references of the table at a place are passive, or go to one before it, whose own are
+abbrev pub IsFollowing : List Table → ℕ → Table → Option ℕ → Type 0
+IsFollowing all n table None = RefersPassively table
+IsFollowing all n table (Some m) = (m < n) × (parent : Table) × (slice_get all m ≡ Some parent) × RefersPassively parent × AllByRecursion (λ (ref : Reference). ref.parent ≡ parent.name) table.references
+
+abbrev pub AllFollow : List Table → ℕ → List Table → List (Option ℕ) → Type 0
+AllFollow all n [] [] = ⊤
+AllFollow all n [] (o ∷ os) = ⊥
+AllFollow all n (x ∷ xs) [] = ⊥
+AllFollow all n (x ∷ xs) (o ∷ os) = IsFollowing all n x o × AllFollow all (suc n) xs os
+
+pub follow_at : (all : List Table) (k : ℕ) (ts : List Table) (os : List (Option ℕ)) → AllFollow all k ts os → (n : ℕ) (table : Table) → slice_get ts n ≡ Some table → (o : Option ℕ) × IsFollowing all (n + k) table o
+follow_at all k [] os f n table at = absurd (cc)
+follow_at all k (t ∷ ts) [] f n table at = absurd f
+follow_at all k (t ∷ ts) (o ∷ os) f zero table at =
+    let is : t ≡ table = cc in
+    let here : k ≡ 0 + k = omega arith in
+    (o, subst (λ m. IsFollowing all m table o) here (subst (λ u. IsFollowing all k u o) is f.0))
+follow_at all k (t ∷ ts) (o ∷ os) f (suc n) table at =
+    let it = follow_at all (suc k) ts os f.1 n table at in
+    let on : n + suc k ≡ suc n + k = omega arith in
+    (it.0, subst (λ m. IsFollowing all m table it.0) on it.1)

@@ -1,40 +1,51 @@
 -- A database holds the rows of our tables after one of the tables has got other rows.
-use Rattle.std.proofs.Common.{◌≡◌, ◌≢◌, ℕ, zero, suc, ◌<◌, List, [], ◌∷◌, ◌++◌, map, slice_get, Some, arith, refl, sym, ap, ◌∙◌, subst}
+use Rattle.std.proofs.Common.{◌≡◌, ◌≢◌, ℕ, zero, suc, ◌+◌, ◌<◌, Bool, true, false, cond, List, [], ◌∷◌, map, take, slice_get, Option, Some, None, option_map, arith, refl, sym, ap, ◌∙◌, subst}
+use Rattle.std.specs.Prelude.{◌==◌}
 use Rattle.std.specs.List.{AllByRecursion}
+use Rattle.std.proofs.lemmas.Option.{slice_get-map}
 use Rattle.sqlite_value.specs.Order.{Row}
 use Rattle.sqlite_schema.specs.declared.schema.Schema.{Schema}
 use Rattle.sqlite_schema.specs.declared.schema.Table.{Table}
 use Rattle.sqlite_keyed.specs.Keyed.{IsKeyedBy}
-use Rattle.sqlite_keyed.proofs.ListLemmas.{all_weaker, all-append, all-slice_get}
+use Rattle.sqlite_keyed.proofs.ListLemmas.{all_weaker, all-slice_get}
 use Rattle.sqlite.specs.Effect.{Database}
-use Rattle.statements.specs.Place.{tree_of, RefersPassively, IsOwn, AreOwn}
+use Rattle.statements.specs.Place.{tree_of, IsOwn, AreOwn}
 use Rattle.statements.specs.Rows.{Kept, id_of, OrgRow, TokenRow, WsRow, VersionRow, RunRow, PageRow, VpageRow, BoundRow, KeepingRow, stored}
-use Rattle.statements.specs.Tables.{Layout, Tables, Holds, HoldsAll, HoldsSecond, HasRows, StoredTable, second_stored, stored_tables, tables_in, first_tables, second_tables, third_tables, our_tables, rowid_of, meta_layout, org_layout, token_layout, ws_layout, version_layout, run_layout, page_layout, vpage_layout, bound_layout, edition_layout, keeping_layout}
+use Rattle.statements.specs.declared.making.TheConstants.{NEWEST}
+use Rattle.statements.specs.Tables.{count_in, Tables, Holds, HoldsAll, HoldsIn, HasRows, StoredTable, stored_tables, version_tables, tables_in, our_tables, rowid_of}
 use Rattle.statements.specs.Steps.{LeavesBeside, LeavesForeign}
-use Rattle.statements.specs.Schema.{meta_table, org_table, token_table, ws_table, version_table, run_table, page_table, vpage_table, bound_table, edition_table, keeping_table}
-use Rattle.statements.proofs.Held.{rows_keyed, holds_all, trees_apart}
-use Rattle.statements.proofs.Follows.{bound_follows, keeping_follows}
-use Rattle.statements.proofs.Makes.{front}
+use Rattle.statements.specs.Inner.Making.{Moved}
+use Rattle.statements.specs.Schema.{bound_table, keeping_table}
+use Rattle.statements.proofs.Counts.{get_take}
+use Rattle.statements.proofs.Held.{Ours, followed, our_follow, metas, orgs, tokens, wss, versions, runs, pages, vpages, bounds, editions, keepings, with_rows, rows_keyed, holds_all, tables_taken, own_in, apart_both}
+use Rattle.statements.proofs.Follows.{IsFollowing, AllFollow, follows_by}
 use Rattle.statements.proofs.Own.{Leads}
-
--- the table at a place with other rows
-abbrev with_rows : ℕ → List Row → List StoredTable → List StoredTable
-with_rows n rows [] = []
-with_rows zero rows (x ∷ xs) = record x { rows = rows } ∷ xs
-with_rows (suc n) rows (x ∷ xs) = x ∷ with_rows n rows xs
 
 same_tables : (n : ℕ) (rows : List Row) (xs : List StoredTable) → tables_in (with_rows n rows xs) ≡ tables_in xs
 same_tables n rows [] = refl
 same_tables zero rows (x ∷ xs) = refl
 same_tables (suc n) rows (x ∷ xs) = ap (λ l. x.table ∷ l) (same_tables n rows xs)
 
+rows_taken : (n k : ℕ) (rows : List Row) (xs : List StoredTable) → with_rows n rows (take k xs) ≡ take k (with_rows n rows xs)
+rows_taken n zero rows xs = refl
+rows_taken n (suc k) rows [] = refl
+rows_taken zero (suc k) rows (x ∷ xs) = refl
+rows_taken (suc n) (suc k) rows (x ∷ xs) = ap (λ l. x ∷ l) (rows_taken n k rows xs)
+
+-- those of ours that follow the one at a place
+abbrev pub followers : ℕ → List Table → List (Option ℕ) → List Table
+followers n [] os = []
+followers n (x ∷ xs) [] = []
+followers n (x ∷ xs) (None ∷ os) = followers n xs os
+followers n (x ∷ xs) (Some m ∷ os) = cond (m == n) (x ∷ followers n xs os) (followers n xs os)
+
 -- the database holds these rows of our tables, and what is not ours is left
 abbrev pub Turns : Database → Database → Tables → Type 0
 Turns old new u = Holds new u × LeavesForeign old new
 
--- so it is of the tables of an earlier schema
-abbrev pub TurnsIn : (Tables → List StoredTable) → Database → Database → Tables → Type 0
-TurnsIn stored old new u = HoldsAll new (stored u) × LeavesBeside (tables_in (stored u)) old new
+-- so it is of the tables of a version
+pub moved_by : (n : ℕ) (change : Tables → Tables) (old new : Database) → ((t : Tables) → HoldsIn n old t → HoldsIn n new (change t) × LeavesBeside (version_tables n) old new) → Moved n change old new
+moved_by n change old new does = record { rows = λ t h. (does t h).0; others = λ t h. (does t h).1 }
 
 pub left_then : (tables : List Table) (a b c : Database) → LeavesBeside tables a b → LeavesBeside tables b c → LeavesBeside tables a c
 left_then tables a b c one two = record {
@@ -56,36 +67,24 @@ module _ (old new : Database) (same : new.schema ≡ old.schema) where
     abbrev Stays : Table → Type 0
     Stays other = tree_of s other.name ≢ tree_of s table.name → new.trees (tree_of s other.name) ≡ old.trees (tree_of s other.name)
 
-    -- those of schema 1 do, since their references are passive
-    first_stay : AllByRecursion (IsOwn s) first_tables → AllByRecursion Stays first_tables
-    first_stay o =
-        let o2 = o.1.1 in
-        let o4 = o2.1.1 in
-        let o6 = o4.1.1 in
-        let passive = λ (t : Table) (own : IsOwn s t) (p : RefersPassively t) (apart : tree_of s t.name ≢ tree_of s table.name). w.others t own p apart in (
-          passive meta_table o.0 tt,
-          (
-            passive org_table o.1.0 tt,
-            (
-              passive token_table o2.0 tt,
-              (
-                passive ws_table o2.1.0 tt,
-                (passive version_table o4.0 tt, (passive run_table o4.1.0 tt, (passive page_table o6.0 tt, (passive vpage_table o6.1.0 (refl, tt), tt)))),
-              ),
-            ),
-          ),
-        )
+    -- Those of ours do, of which these are the first ones, but for those that follow the one that is written, of which it has to be shown.
+    module _ (place all : ℕ) (at : slice_get our_tables place ≡ Some table) (within : place < all) (ours : AreOwn s (take all our_tables)) where
+      -- one that follows another one does
+      other_stays : (n m : ℕ) (x : Table) → n < all → IsOwn s x → (m == place) ≡ false → IsFollowing our_tables n x (Some m) → Stays x
+      other_stays n m x low own other follows apart =
+          w.followers follows.1 x own (follows_by s follows.1 x (own_in s all ours m follows.1 (omega (arith, low, follows.0)) follows.2) follows.3 follows.4)
+          (apart_both s all ours m place follows.1 table follows.2 at (omega (arith, low, follows.0)) within other) apart
 
-    -- of those of schema 2 bound does, if that is shown
-    second_stay : AllByRecursion (IsOwn s) (first_tables ++ second_tables) → Stays bound_table → AllByRecursion Stays (first_tables ++ second_tables)
-    second_stay o bound =
-        let own = front (IsOwn s) first_tables second_tables o in
-        all-append Stays first_tables second_tables (first_stay own.0) (bound, ((λ apart. w.others edition_table own.1.1.0 tt apart), tt))
-
-    -- and of ours so does keeping
-    all_stay : AllByRecursion (IsOwn s) our_tables → Stays bound_table → Stays keeping_table → AllByRecursion Stays our_tables
-    all_stay o bound keeping =
-        all-append Stays (first_tables ++ second_tables) third_tables (second_stay (front (IsOwn s) (first_tables ++ second_tables) third_tables o).0 bound) (keeping, tt)
+      all_stay : (k n : ℕ) (ts : List Table) (os : List (Option ℕ)) → n + k ≡ all → AllFollow our_tables n ts os → AllByRecursion (IsOwn s) (take k ts) → AllByRecursion Stays (followers place ts os) → AllByRecursion Stays (take k ts)
+      all_stay zero n ts os whole f own stay = tt
+      all_stay (suc k) n [] os whole f own stay = tt
+      all_stay (suc k) n (x ∷ ts) [] whole f own stay = absurd f
+      all_stay (suc k) n (x ∷ ts) (None ∷ os) whole f own stay = (w.others x own.0 f.0, all_stay k (suc n) ts os (omega (arith, whole)) f.1 own.1 stay)
+      all_stay (suc k) n (x ∷ ts) (Some m ∷ os) whole f own stay = by_test (m == place) refl stay (all_stay k (suc n) ts os (omega (arith, whole)) f.1 own.1)
+        where
+          by_test : (b : Bool) → (m == place) ≡ b → AllByRecursion Stays (cond b (x ∷ followers place ts os) (followers place ts os)) → (AllByRecursion Stays (followers place ts os) → AllByRecursion Stays (take k ts)) → Stays x × AllByRecursion Stays (take k ts)
+          by_test true e given more = (given.0, more given.1)
+          by_test false e given more = (other_stays n m x (omega (arith, whole)) own.0 e f.0, more given)
 
     others_stay : (xs : List StoredTable) → AllByRecursion Stays (tables_in xs) → AllByRecursion (λ (b : Table). tree_of s b.name ≢ tree_of s table.name) (tables_in xs)
         → AllByRecursion (HasRows old) xs → AllByRecursion (HasRows now) xs
@@ -116,108 +115,75 @@ module _ (old new : Database) (same : new.schema ≡ old.schema) where
       record { schema = same; rows = λ other own passive apart. w.others other own passive (all-slice_get (λ (ours : Table). tree_of s other.name ≢ tree_of s ours.name) (tables_in xs) n table at apart) },
     )
 
-  -- a write to the table at this tree leaves this other one
-  abbrev pub Spares : ℕ → List Row → Table → Type 0
-  Spares tree rows other = Leads s tree rows old.trees new.trees → tree_of s other.name ≢ tree → new.trees (tree_of s other.name) ≡ old.trees (tree_of s other.name)
+  -- the rows of a table of ours were written, in a database that holds the first ones of ours
+  module _ {R : Type 0} (x : Ours R) (t : Tables) (xs : List (Kept R)) where
+    abbrev table : Table
+    table = x.layout.table
 
-  -- bound follows token alone, and keeping follows ws alone, and so they keep their rows where another table is written
-  bound_spared : IsOwn s token_table → IsOwn s bound_table → (tree : ℕ) (rows : List Row) → tree_of s token_table.name ≢ tree → Spares tree rows bound_table
-  bound_spared parent own tree rows free w apart = w.followers token_table bound_table own (bound_follows s parent) free apart
+    abbrev rows : List Row
+    rows = map (stored x.layout.cells) xs
 
-  keeping_spared : IsOwn s ws_table → IsOwn s keeping_table → (tree : ℕ) (rows : List Row) → tree_of s ws_table.name ≢ tree → Spares tree rows keeping_table
-  keeping_spared parent own tree rows free w apart = w.followers ws_table keeping_table own (keeping_follows s parent) free apart
+    abbrev IsWritten : Type 0
+    IsWritten = Leads s (tree_of s table.name) rows old.trees new.trees
+
+    -- another table keeps its rows
+    abbrev Keeps : Table → Type 0
+    Keeps other = tree_of s other.name ≢ tree_of s table.name → new.trees (tree_of s other.name) ≡ old.trees (tree_of s other.name)
+
+    -- the followers of the table do so, if it has any
+    abbrev pub FollowersStay : Type 0
+    FollowersStay = AllByRecursion Keeps (followers x.place our_tables followed)
+
+    pub written_in : (k : ℕ) → x.place < k → HoldsAll old (take k (stored_tables t)) → FollowersStay → IsWritten → IsKeyedBy id_of xs
+        → HoldsAll new (take k (stored_tables (x.put xs t))) × LeavesBeside (take k our_tables) old new
+    written_in k low h stay w keyed =
+        let risen = rows_keyed x.layout xs keyed in
+        let ours = subst (AreOwn s) (tables_taken k t) h.own in
+        let at : slice_get our_tables x.place ≡ Some table = slice_get-map (λ (y : StoredTable). y.table) (stored_tables t) x.place ∙ ap (option_map (λ (y : StoredTable). y.table)) (x.at t) in
+        let at_taken : slice_get (tables_in (take k (stored_tables t))) x.place ≡ Some table = ap (λ l. slice_get l x.place) (tables_taken k t) ∙ get_take k x.place our_tables low ∙ at in
+        let all = all_stay table rows w risen x.place k at low ours k 0 our_tables followed (omega arith) our_follow ours.own stay in
+        let it = turned table rows w risen x.place (take k (stored_tables t)) (take k (stored_tables (x.put xs t))) at_taken (rows_taken x.place k rows (stored_tables t) ∙ ap (take k) (x.puts t xs)) h
+        (subst (AllByRecursion (Keeps)) (sym (tables_taken k t)) all) in
+        (it.0, subst (λ l. LeavesBeside l old new) (tables_taken k t) it.1)
+
+    abbrev pub Written : Type 0
+    Written = IsWritten → IsKeyedBy id_of xs → Turns old new (x.put xs t)
+
+    written : Holds old t → FollowersStay → IsWritten → IsKeyedBy id_of xs → Turns old new (x.put xs t)
+    written h stay w keyed = let it = written_in (count_in NEWEST) x.low (holds_all old t h) stay w keyed in (record { ours = it.0.own; rows = it.0.rows }, it.1)
 
   module _ (t : Tables) (h : Holds old t) where
-    -- the rows of a table of ours were written, and the database then holds `u` and leaves what is not ours
-    abbrev Written : {R : Type 0} → Layout R → List (Kept R) → Tables → Type 0
-    Written layout xs u = Leads s (tree_of s layout.table.name) (map (stored layout.cells) xs) old.trees new.trees → IsKeyedBy id_of xs → Turns old new u
+    pub metas_written : (xs : List (Kept ℕ)) → Written metas t xs
+    metas_written xs = written metas t xs h tt
 
-    written : {R : Type 0} (layout : Layout R) (n : ℕ) (xs : List (Kept R)) (u : Tables) → slice_get our_tables n ≡ Some layout.table → with_rows n (map (stored layout.cells) xs) (stored_tables t) ≡ stored_tables u
-        → Spares (tree_of s layout.table.name) (map (stored layout.cells) xs) bound_table → Spares (tree_of s layout.table.name) (map (stored layout.cells) xs) keeping_table → Written layout xs u
-    written layout n xs u at is bound keeping w keyed =
-        let rows = map (stored layout.cells) xs in
-        let risen = rows_keyed layout xs keyed in
-        let it = turned layout.table rows w risen n (stored_tables t) (stored_tables u) at is (holds_all old t h) (all_stay layout.table rows w risen h.ours.own (bound w) (keeping w)) in
-        (record { ours = it.0.own; rows = it.0.rows }, it.1)
-
-    own_at : (n : ℕ) (table : Table) → slice_get our_tables n ≡ Some table → IsOwn s table
-    own_at n table at = all-slice_get (IsOwn s) our_tables n table at h.ours.own
-
-    before : (n m : ℕ) (a b : Table) → slice_get our_tables n ≡ Some a → slice_get our_tables m ≡ Some b → n < m → tree_of s b.name ≢ tree_of s a.name
-    before n m a b at_n at_m low same = trees_apart s our_tables n m a b at_n at_m low h.ours.order (sym same)
-
-    behind : (n m : ℕ) (a b : Table) → slice_get our_tables n ≡ Some a → slice_get our_tables m ≡ Some b → n < m → tree_of s a.name ≢ tree_of s b.name
-    behind n m a b at_n at_m low = trees_apart s our_tables n m a b at_n at_m low h.ours.order
-
-    bound_stays : (tree : ℕ) (rows : List Row) → tree_of s token_table.name ≢ tree → Spares tree rows bound_table
-    bound_stays = bound_spared (own_at 2 token_table refl) (own_at 8 bound_table refl)
-
-    keeping_stays : (tree : ℕ) (rows : List Row) → tree_of s ws_table.name ≢ tree → Spares tree rows keeping_table
-    keeping_stays = keeping_spared (own_at 3 ws_table refl) (own_at 10 keeping_table refl)
-
-    -- a table behind ws
-    written_behind : {R : Type 0} (layout : Layout R) (n : ℕ) (xs : List (Kept R)) (u : Tables) → slice_get our_tables n ≡ Some layout.table → 3 < n
-        → with_rows n (map (stored layout.cells) xs) (stored_tables t) ≡ stored_tables u → Written layout xs u
-    written_behind layout n xs u at low is =
-        written layout n xs u at is (bound_stays _ _ (behind 2 n token_table layout.table refl at (omega (arith, low)))) (keeping_stays _ _ (behind 3 n ws_table layout.table refl at low))
-
-    pub metas_written : (xs : List (Kept ℕ)) → Written meta_layout xs (record t { metas = xs })
-    metas_written xs = written meta_layout 0 xs (record t { metas = xs }) refl refl (bound_stays _ _ (before 0 2 meta_table token_table refl refl (omega arith))) (keeping_stays _ _ (before 0 3 meta_table ws_table refl refl (omega arith)))
-
-    pub orgs_written : (xs : List (Kept OrgRow)) → Written org_layout xs (record t { orgs = xs })
-    orgs_written xs = written org_layout 1 xs (record t { orgs = xs }) refl refl (bound_stays _ _ (before 1 2 org_table token_table refl refl (omega arith))) (keeping_stays _ _ (before 1 3 org_table ws_table refl refl (omega arith)))
+    pub orgs_written : (xs : List (Kept OrgRow)) → Written orgs t xs
+    orgs_written xs = written orgs t xs h tt
 
     -- where a token goes, it has to be shown that no row of bound does
-    pub tokens_written : (xs : List (Kept TokenRow)) → new.trees (tree_of s bound_table.name) ≡ old.trees (tree_of s bound_table.name) → Written token_layout xs (record t { tokens = xs })
-    tokens_written xs stays = written token_layout 2 xs (record t { tokens = xs }) refl refl (λ w apart. stays) (keeping_stays _ _ (before 2 3 token_table ws_table refl refl (omega arith)))
+    pub tokens_written : (xs : List (Kept TokenRow)) → new.trees (tree_of s bound_table.name) ≡ old.trees (tree_of s bound_table.name) → Written tokens t xs
+    tokens_written xs stays = written tokens t xs h ((λ _. stays), tt)
 
     -- and where a workspace does, that no row of keeping does
-    pub wss_written : (xs : List (Kept WsRow)) → new.trees (tree_of s keeping_table.name) ≡ old.trees (tree_of s keeping_table.name) → Written ws_layout xs (record t { wss = xs })
-    wss_written xs stays = written ws_layout 3 xs (record t { wss = xs }) refl refl (bound_stays _ _ (behind 2 3 token_table ws_table refl refl (omega arith))) (λ w apart. stays)
+    pub wss_written : (xs : List (Kept WsRow)) → new.trees (tree_of s keeping_table.name) ≡ old.trees (tree_of s keeping_table.name) → Written wss t xs
+    wss_written xs stays = written wss t xs h ((λ _. stays), tt)
 
-    pub versions_written : (xs : List (Kept VersionRow)) → Written version_layout xs (record t { versions = xs })
-    versions_written xs = written_behind version_layout 4 xs (record t { versions = xs }) refl (omega arith) refl
+    pub versions_written : (xs : List (Kept VersionRow)) → Written versions t xs
+    versions_written xs = written versions t xs h tt
 
-    pub runs_written : (xs : List (Kept RunRow)) → Written run_layout xs (record t { runs = xs })
-    runs_written xs = written_behind run_layout 5 xs (record t { runs = xs }) refl (omega arith) refl
+    pub runs_written : (xs : List (Kept RunRow)) → Written runs t xs
+    runs_written xs = written runs t xs h tt
 
-    pub pages_written : (xs : List (Kept PageRow)) → Written page_layout xs (record t { pages = xs })
-    pages_written xs = written_behind page_layout 6 xs (record t { pages = xs }) refl (omega arith) refl
+    pub pages_written : (xs : List (Kept PageRow)) → Written pages t xs
+    pages_written xs = written pages t xs h tt
 
-    pub vpages_written : (xs : List (Kept VpageRow)) → Written vpage_layout xs (record t { vpages = xs })
-    vpages_written xs = written_behind vpage_layout 7 xs (record t { vpages = xs }) refl (omega arith) refl
+    pub vpages_written : (xs : List (Kept VpageRow)) → Written vpages t xs
+    vpages_written xs = written vpages t xs h tt
 
-    pub bounds_written : (xs : List (Kept BoundRow)) → Written bound_layout xs (record t { bounds = xs })
-    bounds_written xs = written_behind bound_layout 8 xs (record t { bounds = xs }) refl (omega arith) refl
+    pub bounds_written : (xs : List (Kept BoundRow)) → Written bounds t xs
+    bounds_written xs = written bounds t xs h tt
 
-    pub editions_written : (xs : List (Kept ℕ)) → Written edition_layout xs (record t { editions = xs })
-    editions_written xs = written_behind edition_layout 9 xs (record t { editions = xs }) refl (omega arith) refl
+    pub editions_written : (xs : List (Kept ℕ)) → Written editions t xs
+    editions_written xs = written editions t xs h tt
 
-    pub keepings_written : (xs : List (Kept KeepingRow)) → Written keeping_layout xs (record t { keepings = xs })
-    keepings_written xs = written_behind keeping_layout 10 xs (record t { keepings = xs }) refl (omega arith) refl
-
-  -- and in a database that holds those of schema 2
-  module _ (t : Tables) (h : HoldsSecond old t) where
-    abbrev ten_tables : List Table
-    ten_tables = first_tables ++ second_tables
-
-    abbrev WrittenSecond : {R : Type 0} → Layout R → List (Kept R) → Tables → Type 0
-    WrittenSecond layout xs u = Leads s (tree_of s layout.table.name) (map (stored layout.cells) xs) old.trees new.trees → IsKeyedBy id_of xs → TurnsIn second_stored old new u
-
-    second_written : {R : Type 0} (layout : Layout R) (n : ℕ) (xs : List (Kept R)) (u : Tables) → slice_get ten_tables n ≡ Some layout.table → with_rows n (map (stored layout.cells) xs) (second_stored t) ≡ second_stored u
-        → tree_of s token_table.name ≢ tree_of s layout.table.name → WrittenSecond layout xs u
-    second_written layout n xs u at is free w keyed =
-        let rows = map (stored layout.cells) xs in
-        let risen = rows_keyed layout xs keyed in
-        let parent = all-slice_get (IsOwn s) ten_tables 2 token_table refl h.own.own in
-        let own = all-slice_get (IsOwn s) ten_tables 8 bound_table refl h.own.own in
-        turned layout.table rows w risen n (second_stored t) (second_stored u) at is h (second_stay layout.table rows w risen h.own.own (bound_spared parent own _ rows free w))
-
-    pub second_metas_written : (xs : List (Kept ℕ)) → WrittenSecond meta_layout xs (record t { metas = xs })
-    second_metas_written xs = second_written meta_layout 0 xs (record t { metas = xs }) refl refl (λ same. trees_apart s ten_tables 0 2 meta_table token_table refl refl (omega arith) h.own.order (sym same))
-
-    pub second_bounds_written : (xs : List (Kept BoundRow)) → WrittenSecond bound_layout xs (record t { bounds = xs })
-    second_bounds_written xs = second_written bound_layout 8 xs (record t { bounds = xs }) refl refl (trees_apart s ten_tables 2 8 token_table bound_table refl refl (omega arith) h.own.order)
-
-    pub second_editions_written : (xs : List (Kept ℕ)) → WrittenSecond edition_layout xs (record t { editions = xs })
-    second_editions_written xs = second_written edition_layout 9 xs (record t { editions = xs }) refl refl (trees_apart s ten_tables 2 9 token_table edition_table refl refl (omega arith) h.own.order)
+    pub keepings_written : (xs : List (Kept KeepingRow)) → Written keepings t xs
+    keepings_written xs = written keepings t xs h tt

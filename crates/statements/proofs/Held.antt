@@ -1,17 +1,85 @@
--- One table of ours, as a database that holds our rows has it.
-use Rattle.std.proofs.Common.{◌≡◌, ◌≢◌, ◌<◌, inl, inr, arith, ℕ, zero, suc, [], ◌∷◌, List, map, slice_get, option_map, Some, refl, ap, ◌∙◌}
+-- Our tables, each as one value, and as a database that holds those of a version has it.
+use Rattle.std.proofs.Common.{◌≡◌, ◌≢◌, ◌<◌, ◌+◌, inl, inr, arith, ℕ, zero, suc, nat_lt, Bool, true, false, List, [], ◌∷◌, map, take, slice_get, Option, Some, None, option_map, refl, sym, ap, ◌∙◌, subst}
+use Rattle.std.specs.Prelude.{◌==◌}
+use Rattle.std.proofs.lemmas.Bool.Decides.{nat_tests}
+use Rattle.std.proofs.lemmas.List.{take-map}
 use Rattle.std.proofs.lemmas.Option.{slice_get-map}
 use Rattle.sqlite_trees.specs.Tree.{IsAscending}
+use Rattle.sqlite_value.specs.Order.{Row}
 use Rattle.sqlite_schema.specs.declared.schema.Schema.{Schema}
 use Rattle.sqlite_schema.specs.declared.schema.Table.{Table}
 use Rattle.sqlite_keyed.specs.Keyed.{IsKeyedBy}
 use Rattle.sqlite_keyed.proofs.ListLemmas.{all-slice_get, ascending-map, ascending_from_map}
 use Rattle.sqlite.specs.Effect.{Database}
-use Rattle.statements.specs.Place.{tree_of, IsOwn}
-use Rattle.statements.specs.Schema.{token_table, ws_table, bound_table, keeping_table}
-use Rattle.statements.specs.Rows.{Kept, id_of, stored}
-use Rattle.statements.specs.Tables.{Layout, Tables, Holds, HoldsAll, HoldsSecond, HasRows, StoredTable, stored_table, second_stored, stored_tables, tables_in, our_tables, rowid_of, meta_layout, org_layout, token_layout, ws_layout, version_layout, run_layout, page_layout, vpage_layout, bound_layout, edition_layout, keeping_layout}
-use Rattle.statements.proofs.Follows.{IsSteady, bound_follows, keeping_follows}
+use Rattle.statements.specs.Place.{tree_of, IsOwn, AreOwn}
+use Rattle.statements.specs.Rows.{Kept, id_of, OrgRow, TokenRow, WsRow, VersionRow, RunRow, PageRow, VpageRow, BoundRow, KeepingRow, stored}
+use Rattle.statements.specs.Schema.{token_table, ws_table}
+use Rattle.statements.specs.declared.making.TheConstants.{NEWEST}
+use Rattle.statements.specs.Tables.{count_in, Layout, Tables, Holds, HoldsAll, HasRows, StoredTable, stored_table, stored_tables, tables_in, our_tables, rowid_of, meta_layout, org_layout, token_layout, ws_layout, version_layout, run_layout, page_layout, vpage_layout, bound_layout, edition_layout, keeping_layout}
+use Rattle.statements.proofs.Counts.{rising, get_take}
+use Rattle.statements.proofs.Follows.{IsSteady, IsFollowing, AllFollow, follow_at, follows_by}
+
+-- the table at a place with other rows
+abbrev pub with_rows : ℕ → List Row → List StoredTable → List StoredTable
+with_rows n rows [] = []
+with_rows zero rows (x ∷ xs) = record x { rows = rows } ∷ xs
+with_rows (suc n) rows (x ∷ xs) = x ∷ with_rows n rows xs
+
+-- A table of ours: its place in the list of them, and its rows among those of all.
+pub record Ours (R : Type 0) : Type 0 where
+  pub layout : Layout R
+  pub place : ℕ
+  pub rows : Tables → List (Kept R)
+  pub put : List (Kept R) → Tables → Tables
+  pub low : place < count_in NEWEST
+  pub at : (t : Tables) → slice_get (stored_tables t) place ≡ Some (stored_table layout (rows t))
+  pub puts : (t : Tables) (xs : List (Kept R)) → with_rows place (map (stored layout.cells) xs) (stored_tables t) ≡ stored_tables (put xs t)
+
+abbrev pub metas : Ours ℕ
+metas = record { layout = meta_layout; place = 0; rows = λ t. t.metas; put = λ xs t. record t { metas = xs }; low = omega arith; at = λ t. refl; puts = λ t xs. refl }
+
+abbrev pub orgs : Ours OrgRow
+orgs = record { layout = org_layout; place = 1; rows = λ t. t.orgs; put = λ xs t. record t { orgs = xs }; low = omega arith; at = λ t. refl; puts = λ t xs. refl }
+
+abbrev pub tokens : Ours TokenRow
+tokens = record { layout = token_layout; place = 2; rows = λ t. t.tokens; put = λ xs t. record t { tokens = xs }; low = omega arith; at = λ t. refl; puts = λ t xs. refl }
+
+abbrev pub wss : Ours WsRow
+wss = record { layout = ws_layout; place = 3; rows = λ t. t.wss; put = λ xs t. record t { wss = xs }; low = omega arith; at = λ t. refl; puts = λ t xs. refl }
+
+abbrev pub versions : Ours VersionRow
+versions = record { layout = version_layout; place = 4; rows = λ t. t.versions; put = λ xs t. record t { versions = xs }; low = omega arith; at = λ t. refl; puts = λ t xs. refl }
+
+abbrev pub runs : Ours RunRow
+runs = record { layout = run_layout; place = 5; rows = λ t. t.runs; put = λ xs t. record t { runs = xs }; low = omega arith; at = λ t. refl; puts = λ t xs. refl }
+
+abbrev pub pages : Ours PageRow
+pages = record { layout = page_layout; place = 6; rows = λ t. t.pages; put = λ xs t. record t { pages = xs }; low = omega arith; at = λ t. refl; puts = λ t xs. refl }
+
+abbrev pub vpages : Ours VpageRow
+vpages = record { layout = vpage_layout; place = 7; rows = λ t. t.vpages; put = λ xs t. record t { vpages = xs }; low = omega arith; at = λ t. refl; puts = λ t xs. refl }
+
+abbrev pub bounds : Ours BoundRow
+bounds = record { layout = bound_layout; place = 8; rows = λ t. t.bounds; put = λ xs t. record t { bounds = xs }; low = omega arith; at = λ t. refl; puts = λ t xs. refl }
+
+abbrev pub editions : Ours ℕ
+editions = record { layout = edition_layout; place = 9; rows = λ t. t.editions; put = λ xs t. record t { editions = xs }; low = omega arith; at = λ t. refl; puts = λ t xs. refl }
+
+abbrev pub keepings : Ours KeepingRow
+keepings = record { layout = keeping_layout; place = 10; rows = λ t. t.keepings; put = λ xs t. record t { keepings = xs }; low = omega arith; at = λ t. refl; puts = λ t xs. refl }
+
+-- the place of the one that each of ours follows, if it follows one
+abbrev pub followed : List (Option ℕ)
+followed = None ∷ None ∷ None ∷ None ∷ None ∷ None ∷ None ∷ None ∷ Some 2 ∷ None ∷ Some 3 ∷ []
+
+pub our_follow : AllFollow our_tables 0 our_tables followed
+our_follow = (tt, (tt, (tt, (tt, (tt, (tt, (tt, ((refl, tt), ((omega arith, token_table, refl, tt, (refl, tt)), (tt, ((omega arith, ws_table, refl, tt, (refl, tt)), tt)))))))))))
+
+followed_at : (n : ℕ) (table : Table) → slice_get our_tables n ≡ Some table → (o : Option ℕ) × IsFollowing our_tables n table o
+followed_at n table at =
+    let it = follow_at our_tables 0 our_tables followed our_follow n table at in
+    let same : n + 0 ≡ n = omega arith in
+    (it.0, subst (λ m. IsFollowing our_tables m table it.0) same it.1)
 
 -- the table stands in the schema, and no write to others but the one that it follows changes it, and its tree has these rows in the order of their rowids
 pub record IsHeld {R : Type 0} (layout : Layout R) (db : Database) (xs : List (Kept R)) : Type 0 where
@@ -26,105 +94,94 @@ rows_keyed layout xs = ascending-map _ (stored layout.cells) xs
 -- two of them have different trees
 pub trees_apart : (s : Schema) (xs : List Table) (n m : ℕ) (a b : Table) → slice_get xs n ≡ Some a → slice_get xs m ≡ Some b → n < m → IsAscending (λ (x y : Table). tree_of s x.name < tree_of s y.name) xs
     → tree_of s a.name ≢ tree_of s b.name
-trees_apart s [] n m a b at_n at_m low up same = absurd (cc)
-trees_apart s (x ∷ xs) zero zero a b at_n at_m low up same = absurd (omega arith)
-trees_apart s (x ∷ xs) zero (suc m) a b at_n at_m low up same =
-    let is : x ≡ a = cc in
-    let below : tree_of s x.name < tree_of s b.name = all-slice_get (λ (y : Table). tree_of s x.name < tree_of s y.name) xs m b at_m up.0 in
-    let there : tree_of s x.name ≡ tree_of s a.name = ap (λ (y : Table). tree_of s y.name) is in
-    omega arith
-trees_apart s (x ∷ xs) (suc n) zero a b at_n at_m low up same = absurd (omega arith)
-trees_apart s (x ∷ xs) (suc n) (suc m) a b at_n at_m low up same = trees_apart s xs n m a b at_n at_m (omega arith) up.1 same
+trees_apart s xs n m a b at_n at_m low up same = let below = rising (λ (x y : Table). tree_of s x.name < tree_of s y.name) xs n m a b at_n at_m low up in absurd (omega (arith, below, same))
 
--- the table at a place of those that a database holds
-module _ (db : Database) (ts : List StoredTable) (h : HoldsAll db ts) where
-  held_in : {R : Type 0} (layout : Layout R) (n : ℕ) (xs : List (Kept R)) → slice_get ts n ≡ Some (stored_table layout xs) → IsSteady db.schema layout.table → IsHeld layout db xs
-  held_in layout n xs is steady =
-      let has = all-slice_get (HasRows db) ts n (stored_table layout xs) is h.rows in
-      record {
-        own = all-slice_get (IsOwn db.schema) (tables_in ts) n layout.table (slice_get-map (λ (x : StoredTable). x.table) ts n ∙ ap (option_map (λ (x : StoredTable). x.table)) is) h.own.own;
-        steady = steady;
-        rows = has.rows;
-        keyed = ascending_from_map _ (stored layout.cells) xs has.keyed;
-      }
+-- the first ones of our tables, whatever their rows
+pub tables_taken : (k : ℕ) (t : Tables) → tables_in (take k (stored_tables t)) ≡ take k our_tables
+tables_taken k t = sym (take-map (λ (x : StoredTable). x.table) k (stored_tables t))
+
+-- ---- in a database that has the first ones of our tables
+
+module _ (s : Schema) (k : ℕ) (own : AreOwn s (take k our_tables)) where
+  pub own_in : (n : ℕ) (table : Table) → n < k → slice_get our_tables n ≡ Some table → IsOwn s table
+  own_in n table low at = all-slice_get (IsOwn s) (take k our_tables) n table (get_take k n our_tables low ∙ at) own.own
+
+  pub apart_in : (n m : ℕ) (a b : Table) → slice_get our_tables n ≡ Some a → slice_get our_tables m ≡ Some b → n < m → m < k → tree_of s a.name ≢ tree_of s b.name
+  apart_in n m a b at_n at_m less low = trees_apart s (take k our_tables) n m a b (get_take k n our_tables (omega (arith, less, low)) ∙ at_n) (get_take k m our_tables low ∙ at_m) less own.order
+
+  -- in whichever order they stand
+  pub apart_both : (n m : ℕ) (a b : Table) → slice_get our_tables n ≡ Some a → slice_get our_tables m ≡ Some b → n < k → m < k → (n == m) ≡ false → tree_of s a.name ≢ tree_of s b.name
+  apart_both n m a b at_n at_m low_n low_m other = by_order (nat_lt n m) refl
+    where
+      by_order : (c : Bool) → nat_lt n m ≡ c → tree_of s a.name ≢ tree_of s b.name
+      by_order true less same = apart_in n m a b at_n at_m (grind (arith, nat_tests)) low_m same
+      by_order false more same = apart_in m n b a at_m at_n (grind (arith, nat_tests)) low_n (sym same)
+
+  pub steady_in : (n : ℕ) (table : Table) → n < k → slice_get our_tables n ≡ Some table → IsSteady s table
+  steady_in n table low at = let it = followed_at n table at in by_parent it.0 it.1
+    where
+      by_parent : (o : Option ℕ) → IsFollowing our_tables n table o → IsSteady s table
+      by_parent None passive = inl passive
+      by_parent (Some m) follows =
+          inr (
+            follows.1,
+            follows_by s follows.1 table (own_in m follows.1 (omega (arith, low, follows.0)) follows.2) follows.3 follows.4,
+            apart_in m n follows.1 table follows.2 at follows.0 low,
+          )
+
+own_taken : (s : Schema) (k : ℕ) (t : Tables) → AreOwn s (tables_in (take k (stored_tables t))) → AreOwn s (take k our_tables)
+own_taken s k t = subst (AreOwn s) (tables_taken k t)
+
+pub held_in : {R : Type 0} (x : Ours R) (k : ℕ) → x.place < k → (db : Database) (t : Tables) → HoldsAll db (take k (stored_tables t)) → IsHeld x.layout db (x.rows t)
+held_in x k low db t h =
+    let has = all-slice_get (HasRows db) (take k (stored_tables t)) x.place (stored_table x.layout (x.rows t)) (get_take k x.place (stored_tables t) low ∙ x.at t) h.rows in
+    let at : slice_get our_tables x.place ≡ Some x.layout.table = slice_get-map (λ (y : StoredTable). y.table) (stored_tables t) x.place ∙ ap (option_map (λ (y : StoredTable). y.table)) (x.at t) in
+    let own = own_taken db.schema k t h.own in
+    record {
+      own = own_in db.schema k own x.place x.layout.table low at;
+      steady = steady_in db.schema k own x.place x.layout.table low at;
+      rows = has.rows;
+      keyed = ascending_from_map _ (stored x.layout.cells) (x.rows t) has.keyed;
+    }
 
 pub holds_all : (db : Database) (t : Tables) → Holds db t → HoldsAll db (stored_tables t)
 holds_all db t h = record { own = h.ours; rows = h.rows }
 
+-- ---- in one that has them all
+
 module _ (db : Database) (t : Tables) (h : Holds db t) where
-  held_at : {R : Type 0} (layout : Layout R) (n : ℕ) (xs : List (Kept R)) → slice_get (stored_tables t) n ≡ Some (stored_table layout xs) → IsSteady db.schema layout.table → IsHeld layout db xs
-  held_at = held_in db (stored_tables t) (holds_all db t h)
+  held : {R : Type 0} (x : Ours R) → IsHeld x.layout db (x.rows t)
+  held x = held_in x (count_in NEWEST) x.low db t (holds_all db t h)
 
   pub metas_held : IsHeld meta_layout db t.metas
-  metas_held = held_at meta_layout 0 t.metas refl (inl tt)
+  metas_held = held metas
 
   pub orgs_held : IsHeld org_layout db t.orgs
-  orgs_held = held_at org_layout 1 t.orgs refl (inl tt)
+  orgs_held = held orgs
 
   pub tokens_held : IsHeld token_layout db t.tokens
-  tokens_held = held_at token_layout 2 t.tokens refl (inl tt)
+  tokens_held = held tokens
 
   pub wss_held : IsHeld ws_layout db t.wss
-  wss_held = held_at ws_layout 3 t.wss refl (inl tt)
+  wss_held = held wss
 
   pub versions_held : IsHeld version_layout db t.versions
-  versions_held = held_at version_layout 4 t.versions refl (inl tt)
+  versions_held = held versions
 
   pub runs_held : IsHeld run_layout db t.runs
-  runs_held = held_at run_layout 5 t.runs refl (inl tt)
+  runs_held = held runs
 
   pub pages_held : IsHeld page_layout db t.pages
-  pages_held = held_at page_layout 6 t.pages refl (inl tt)
+  pages_held = held pages
 
   pub vpages_held : IsHeld vpage_layout db t.vpages
-  vpages_held = held_at vpage_layout 7 t.vpages refl (inl (refl, tt))
+  vpages_held = held vpages
 
   pub bounds_held : IsHeld bound_layout db t.bounds
-  bounds_held =
-      let tokens = tokens_held.own in
-      held_at bound_layout 8 t.bounds refl (inr (token_table, bound_follows db.schema tokens, trees_apart db.schema our_tables 2 8 token_table bound_table refl refl (omega arith) h.ours.order))
+  bounds_held = held bounds
 
   pub editions_held : IsHeld edition_layout db t.editions
-  editions_held = held_at edition_layout 9 t.editions refl (inl tt)
+  editions_held = held editions
 
   pub keepings_held : IsHeld keeping_layout db t.keepings
-  keepings_held =
-      let wss = wss_held.own in
-      held_at keeping_layout 10 t.keepings refl (inr (ws_table, keeping_follows db.schema wss, trees_apart db.schema our_tables 3 10 ws_table keeping_table refl refl (omega arith) h.ours.order))
-
--- in a database that holds those of schema 2
-module _ (db : Database) (t : Tables) (h : HoldsSecond db t) where
-  second_held_at : {R : Type 0} (layout : Layout R) (n : ℕ) (xs : List (Kept R)) → slice_get (second_stored t) n ≡ Some (stored_table layout xs) → IsSteady db.schema layout.table → IsHeld layout db xs
-  second_held_at = held_in db (second_stored t) h
-
-  pub second_metas_held : IsHeld meta_layout db t.metas
-  second_metas_held = second_held_at meta_layout 0 t.metas refl (inl tt)
-
-  pub second_orgs_held : IsHeld org_layout db t.orgs
-  second_orgs_held = second_held_at org_layout 1 t.orgs refl (inl tt)
-
-  pub second_tokens_held : IsHeld token_layout db t.tokens
-  second_tokens_held = second_held_at token_layout 2 t.tokens refl (inl tt)
-
-  pub second_wss_held : IsHeld ws_layout db t.wss
-  second_wss_held = second_held_at ws_layout 3 t.wss refl (inl tt)
-
-  pub second_versions_held : IsHeld version_layout db t.versions
-  second_versions_held = second_held_at version_layout 4 t.versions refl (inl tt)
-
-  pub second_runs_held : IsHeld run_layout db t.runs
-  second_runs_held = second_held_at run_layout 5 t.runs refl (inl tt)
-
-  pub second_pages_held : IsHeld page_layout db t.pages
-  second_pages_held = second_held_at page_layout 6 t.pages refl (inl tt)
-
-  pub second_vpages_held : IsHeld vpage_layout db t.vpages
-  second_vpages_held = second_held_at vpage_layout 7 t.vpages refl (inl (refl, tt))
-
-  pub second_bounds_held : IsHeld bound_layout db t.bounds
-  second_bounds_held =
-      let tokens = second_tokens_held.own in
-      second_held_at bound_layout 8 t.bounds refl (inr (token_table, bound_follows db.schema tokens, trees_apart db.schema (tables_in (second_stored t)) 2 8 token_table bound_table refl refl (omega arith) h.own.order))
-
-  pub second_editions_held : IsHeld edition_layout db t.editions
-  second_editions_held = second_held_at edition_layout 9 t.editions refl (inl tt)
+  keepings_held = held keepings

@@ -1,5 +1,5 @@
 -- What the writes to the table keeping do to its rows.
-use Rattle.std.proofs.Common.{◌≡◌, ℕ, List, [], ◌∷◌, Ok, refl, ◌∙◌, map, true, false, ap}
+use Rattle.std.proofs.Common.{◌≡◌, ℕ, List, [], ◌∷◌, Ok, refl, ◌∙◌, map, true, false, ap, arith}
 use Rattle.sqlite_value.specs.declared.value.Value.TheVariants.{Text}
 use Rattle.sqlite_sql.specs.Program.{overlay}
 use Rattle.sqlite.specs.State.{State, Executes}
@@ -10,11 +10,12 @@ use Rattle.statements.specs.Schema.{ws_table, keeping_table}
 use Rattle.statements.specs.Rows.{Kept, id_of, WsRow, KeepingRow, ws_cells, keeping_cells, number}
 use Rattle.statements.specs.Tables.{Tables, Holds, keeping_layout}
 use Rattle.statements.specs.Changes.{is_keeping, kept_first, keeping_row_added, keeping_changed, keeping_row_removed, keepings_filled}
-use Rattle.statements.proofs.Held.{IsHeld, wss_held, keepings_held}
+use Rattle.statements.specs.Inner.Making.{Moved}
+use Rattle.statements.proofs.Held.{IsHeld, wss, keepings, held_in, keepings_held}
 use Rattle.statements.proofs.Own.{update_own, delete_own, insert_own, fill_own, keyed_next, stored_tree}
 use Rattle.statements.proofs.Edits.{all_keyed}
 use Rattle.statements.proofs.Casts.{keeping_casts}
-use Rattle.statements.proofs.Frames.{Turns, keepings_written}
+use Rattle.statements.proofs.Frames.{Turns, moved_by, written_in, keepings_written}
 use Rattle.statements.proofs.Conditions.{two_texts}
 use Rattle.statements.proofs.Answered.{point, all_are}
 use Rattle.statements.proofs.KeepingTexts.{add_keeping_text, add_keeping_means, add_keeping_terms, set_keeping_text, set_keeping_means, set_keeping_query, remove_keeping_text, remove_keeping_means, remove_keeping_query, fill_keepings_text, fill_keepings_means, filled_rest}
@@ -43,14 +44,15 @@ module _ (old new : State) (count : ℕ) (t : Tables) (h : Holds old.now t) wher
       (remove_keeping_query (tree_of old.now.schema keeping_table.name)) (remove_keeping_means old.now.schema _ _ held.own.place) refl refl refl (λ rows. refl) (is_keeping org ws) (λ x. two_texts x.1.org org x.1.ws ws) (λ x. refl) in
       keepings_written old.now new.now left.1 t h _ left.0 (IsKeyedBy-delete_where id_of (is_keeping org ws) t.keepings held.keyed)
 
-  -- a row for each workspace, in the order of the workspaces
-  pub fill_keepings_does : Executes fill_keepings_text [] old new (Ok count) → Turns old.now new.now (keepings_filled t)
-  fill_keepings_does ran =
-      let wss = wss_held old.now t h in
-      let from = tree_of old.now.schema ws_table.name in
-      let each = filter_all (λ (x : Kept WsRow). true) t.wss (all_of (λ x. true ≡ true) (λ x. refl) t.wss) in
-      let left = fill_own keeping_cells keeping_table keeping_casts old new held.own held.steady t.keepings held.rows held.keyed fill_keepings_text [] count ran
-      (point filled_rest from false) (fill_keepings_means old.now.schema _ _ _ _ held.own.place wss.own.place) refl refl (λ (x : Kept WsRow). kept_first x.1) t.wss
-      (λ rows answer. all_are ws_cells (overlay old.now.trees []) from t.wss (stored_tree old.now.trees from wss.own.place.low ∙ wss.rows) wss.keyed filled_rest [] (λ x. true) (λ x. refl) (λ l. refl) rows answer
-      ∙ ap (map _) each) in
-      keepings_written old.now new.now left.1 t h _ left.0 (all_keyed keeping_cells (map (λ (x : Kept WsRow). kept_first x.1) t.wss) t.keepings held.keyed)
+-- a row for each workspace, in the order of the workspaces
+pub fill_keepings_does : (old new : State) (count : ℕ) → Executes fill_keepings_text [] old new (Ok count) → Moved 3 keepings_filled old.now new.now
+fill_keepings_does old new count ran = moved_by 3 keepings_filled old.now new.now (λ t h.
+    let held = held_in keepings 11 (omega arith) old.now t h in
+    let wss = held_in wss 11 (omega arith) old.now t h in
+    let from = tree_of old.now.schema ws_table.name in
+    let each = filter_all (λ (x : Kept WsRow). true) t.wss (all_of (λ x. true ≡ true) (λ x. refl) t.wss) in
+    let left = fill_own keeping_cells keeping_table keeping_casts old new held.own held.steady t.keepings held.rows held.keyed fill_keepings_text [] count ran
+    (point filled_rest from false) (fill_keepings_means old.now.schema _ _ _ _ held.own.place wss.own.place) refl refl (λ (x : Kept WsRow). kept_first x.1) t.wss
+    (λ rows answer. all_are ws_cells (overlay old.now.trees []) from t.wss (stored_tree old.now.trees from wss.own.place.low ∙ wss.rows) wss.keyed filled_rest [] (λ x. true) (λ x. refl) (λ l. refl) rows answer
+    ∙ ap (map _) each) in
+    written_in old.now new.now left.1 keepings t _ 11 (omega arith) h tt left.0 (all_keyed keeping_cells (map (λ (x : Kept WsRow). kept_first x.1) t.wss) t.keepings held.keyed))

@@ -9,6 +9,7 @@ pub mod Childless
 pub mod Codes
 pub mod Commands
 pub mod Conditions
+pub mod Counts
 pub mod Decoding
 pub mod EditionTexts
 pub mod Edits

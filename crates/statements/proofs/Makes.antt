@@ -33,7 +33,8 @@ use Rattle.sqlite.specs.Listing.{understood, reads_listing, if_select, is_select
 use Rattle.sqlite_tied.specs.Compute.{everything}
 use Rattle.sqlite.specs.State.{State, mode_of, Executes, ExecutesIn, Runs, Writes, shows_rows, is_pragma, text_of}
 use Rattle.sqlite_keyed.proofs.ListLemmas.{all-slice_get, ascending_weaker}
-use Rattle.statements.specs.Making.{KeepsTables, GrowsBy, KeepsMade, sequence_name}
+use Rattle.statements.specs.Making.{KeepsTables, sequence_name}
+use Rattle.statements.specs.Inner.Making.{Grows, IsMaker}
 use Rattle.statements.specs.Tables.{StoredTable, HasRows, HoldsAll, tables_in}
 use Rattle.statements.specs.Place.{IsOwn, at_of, tree_of}
 use Rattle.statements.proofs.Meaning.{as_read}
@@ -95,7 +96,7 @@ abbrev IsTableMaking : Command → Type 0
 IsTableMaking k = k ≡ CreateTable
 
 module _ (def : TableText) where
-  abbrev pub fresh_table : TableText
+  abbrev fresh_table : TableText
   fresh_table = record def { if_missing = false }
 
   only_new : (a b c : Bool) (body : Checked Command) (k : Command)
@@ -231,7 +232,7 @@ module _ (table : Table) (def : TableText) (text : List ℕ) (p : Parsed) (reads
   unfolding timed
   timeless s = refl
 
-  pub makes_table : (old new : State) (params : Row) (count : ℕ) → Executes text params old new (Ok count) → Grown table old.now new.now
+  makes_table : (old new : State) (params : Row) (count : ℕ) → Executes text params old new (Ok count) → Grown table old.now new.now
   makes_table old new params count h =
       let ran = ran_as IsTableMaking no_selecting text (written.CreateTable (fresh_table def)) p reads whole timeless quiet (makes_a_table def) old new params count no_showing h in
       let w : Writes old new None CreateTable text ran.2 count = subst (λ k. Runs old new None k text ran.2 count) ran.1 ran.3 in
@@ -240,12 +241,12 @@ module _ (table : Table) (def : TableText) (text : List ℕ) (p : Parsed) (reads
       let now : new.now ≡ done.0 = ap (λ (q : Tally × Database). q.1) (same_value done.2) in
       grown table text defines old.now new.now made.0 made.1 w.sound (subst (λ d. MakesSequence made.0 (Ok d)) (sym now) made.2)
 
-  pub makes_behind : (old new : State) (params : Row) (count : ℕ) → Executes text params old new (Ok count) → GrowsBy table old.now new.now
+  makes_behind : (old new : State) (params : Row) (count : ℕ) → Executes text params old new (Ok count) → Grows (table ∷ []) old.now new.now
   makes_behind old new params count h = let g = makes_table old new params count h in record {
     made = made_grown table old.now new.now g;
     owns = λ other own. own_kept table old.now new.now g other own;
     kept = record { more = record table { tree = next_tree old.now.schema } ∷ g.more; tables = g.tables; rows = g.others };
-    apart = added_apart table old.now new.now g;
+    apart = (added_apart table old.now new.now g, tt);
     names = names_added table old.now new.now g;
   }
 
@@ -256,7 +257,7 @@ abbrev IsIndexMaking : Command → Type 0
 IsIndexMaking k = (k ≡ Nothing) ⊎ ((at : ℕ) × (k ≡ CreateIndex at))
 
 module _ (def : IndexText) where
-  abbrev pub missing_index : IndexText
+  abbrev missing_index : IndexText
   missing_index = record def { if_missing = true }
 
   an_index : (at : ℕ) (a b c : Bool) (r : Checked Index) (k : Command)
@@ -326,7 +327,7 @@ module _ (old new : Database) (is : new.schema.tables ≡ old.schema.tables) (ro
 
 indexes_at : (old new : State) (text : List ℕ) (place : Option Table) (tally : Tally)
     → AtPlace (λ table. Defines (mode_of old) (MakesIndex text old.now table)) place (Ok (tally, new.now))
-    → KeepsMade old.now new.now
+    → Grows [] old.now new.now
 indexes_at old new text None tally e = absurd (cc)
 indexes_at old new text (Some table) tally e =
     let done = went e in
@@ -334,9 +335,10 @@ indexes_at old new text (Some table) tally e =
     let is : new.now.schema.tables ≡ old.now.schema.tables = ap (λ (d : Database). d.schema.tables) now ∙ ap (λ (s : Schema). s.tables) done.1.is in
     let rows : KeepsRows old.now.schema.tables old.now.trees new.now.trees = subst (λ (d : Database). KeepsRows old.now.schema.tables old.now.trees d.trees) (sym now) done.1.rows in
     record {
-      made = made_same old.now new.now is rows;
+      made = λ xs m. subst (λ l. HoldsAll new.now l) (sym (append-nil xs)) (made_same old.now new.now is rows xs m);
       owns = λ other own. same_tables other old.now.schema new.now.schema is own;
       kept = record { more = []; tables = is ∙ sym (append-nil old.now.schema.tables); rows = rows };
+      apart = tt;
       names = λ name _ _ none. ap (position_from (λ (t : Table). same_name t.name name) 0) is ∙ none;
     }
 
@@ -345,11 +347,12 @@ rows_kept [] trees = tt
 rows_kept (t ∷ ts) trees = (refl, rows_kept ts trees)
 
 -- where an index of its name is there, nothing is made
-left_out : (old new : Database) → new ≡ old → KeepsMade old new
-left_out old new is = subst (KeepsMade old) (sym is) (record {
-  made = λ xs h. h;
+left_out : (old new : Database) → new ≡ old → Grows [] old new
+left_out old new is = subst (Grows [] old) (sym is) (record {
+  made = λ xs h. subst (λ l. HoldsAll old l) (sym (append-nil xs)) h;
   owns = λ other own. own;
   kept = record { more = []; tables = sym (append-nil old.schema.tables); rows = rows_kept old.schema.tables old.trees };
+  apart = tt;
   names = λ name _ _ none. none;
 })
 
@@ -362,18 +365,24 @@ module _ (def : IndexText) (text : List ℕ) (p : Parsed) (reads : first text �
   unfolding timed
   timeless_index s = refl
 
-  pub makes_index : (old new : State) (params : Row) (count : ℕ) → Executes text params old new (Ok count) → KeepsMade old.now new.now
+  makes_index : (old new : State) (params : Row) (count : ℕ) → Executes text params old new (Ok count) → Grows [] old.now new.now
   makes_index old new params count h =
       let ran = ran_as IsIndexMaking no_select_index text (written.CreateIndex (missing_index def)) p reads whole timeless_index quiet_index (makes_an_index def) old new params count no_rows_index h in
       made_by ran.0 ran.1 ran.2 ran.3
     where
-      made_by : (k : Command) → IsIndexMaking k → (full : Row) → Runs old new None k text full count → KeepsMade old.now new.now
+      made_by : (k : Command) → IsIndexMaking k → (full : Row) → Runs old new None k text full count → Grows [] old.now new.now
       made_by k (inl none) full does =
           let still : Runs old new None Nothing text full count = subst (λ m. Runs old new None m text full count) none does in
           left_out old.now new.now still.0.0.now_is
       made_by k (inr one) full does =
           let w : Writes old new None (CreateIndex one.0) text full count = subst (λ m. Runs old new None m text full count) one.1 does in
           indexes_at old new text (slice_get old.now.schema.tables one.0) w.tally w.changed
+
+-- what such a text does
+pub maker_does : (text : List ℕ) (made : List Table) → IsMaker text made → (old new : State) (params : Row) (count : ℕ) → Executes text params old new (Ok count) → Grows made old.now new.now
+maker_does text [] is = makes_index is.def text is.parsed is.reads is.whole
+maker_does text (table ∷ []) is = makes_behind table is.def text is.parsed is.reads is.whole is.defines
+maker_does text (table ∷ other ∷ made) is = absurd is
 
 -- ---- one after another
 

@@ -1,5 +1,5 @@
 -- What the texts on the table meta mean and do, in each schema that has it.
-use Rattle.std.proofs.Common.{◌≡◌, ℕ, pos, true, false, List, [], ◌∷◌, map, codes, find, Option, Some, None, Ok, int_eq, refl, ◌∙◌, subst}
+use Rattle.std.proofs.Common.{◌≡◌, ℕ, pos, true, false, List, [], ◌∷◌, map, codes, find, Option, Some, None, Ok, int_eq, refl, ◌∙◌, subst, ◌<◌, arith}
 use Rattle.sqlite_value.specs.declared.keys.Collation.TheVariants.{Binary}
 use Rattle.sqlite_value.specs.Order.{Row}
 use Rattle.sqlite_sql.specs.Program.{overlay}
@@ -20,15 +20,15 @@ use Rattle.sqlite_resolve.specs.Program.{program}
 use Rattle.sqlite_tied.specs.Compute.{everything}
 use Rattle.sqlite.specs.State.{State, Executes}
 use Rattle.sqlite_keyed.specs.Lists.{delete_where}
-use Rattle.sqlite_keyed.proofs.ListLemmas.{ascending_from_map}
 use Rattle.sqlite_typed.proofs.TestLemmas.{at_ints, last_term}
 use Rattle.sqlite_sql.specs.declared.ops.CompareOp.TheVariants as compare
-use Rattle.statements.specs.declared.making.TheConstants.{CLEAR_VERSION, VERSION}
+use Rattle.statements.specs.declared.making.TheConstants.{CLEAR_VERSION, VERSION, NEWEST}
 use Rattle.statements.specs.Place.{StandsAt, tree_of}
 use Rattle.statements.specs.Schema.{meta_table}
 use Rattle.statements.specs.Rows.{Kept, id_of, stored, meta_cells}
-use Rattle.statements.specs.Tables.{Tables, Holds, HoldsFirst, HoldsSecond, second_stored}
-use Rattle.statements.specs.Making.{HasMeta, like_meta, version_cleared, told_version, version_in}
+use Rattle.statements.specs.Tables.{Tables, Holds, HoldsIn, count_in}
+use Rattle.statements.specs.Making.{HasMeta, like_meta, told_version, version_in}
+use Rattle.statements.specs.Inner.Making.{Moved, version_cleared}
 use Rattle.statements.specs.Calls.{IsQuery, FirstRow, Pins, IsNumber}
 use Rattle.statements.proofs.SyntaxTrees as st
 use Rattle.statements.proofs.Meaning.{Means, means, some_parsed, as_read}
@@ -38,8 +38,8 @@ use Rattle.statements.proofs.Answered.{answered, point, first_is}
 use Rattle.statements.proofs.Commands.{is_number, delete_query, point_rest, point_draft, no_page}
 use Rattle.statements.proofs.Own.{Leads, delete_own, stored_tree}
 use Rattle.statements.proofs.Casts.{meta_casts}
-use Rattle.statements.proofs.Frames.{TurnsIn, second_metas_written}
-use Rattle.statements.proofs.Held.{metas_held, second_metas_held}
+use Rattle.statements.proofs.Frames.{moved_by, written_in}
+use Rattle.statements.proofs.Held.{metas, held_in, holds_all}
 use Rattle.statements.proofs.PointReads.{pinned}
 use Rattle.statements.proofs.ReadBack.{number_read}
 
@@ -108,26 +108,21 @@ version_told old new table metas has row first =
     (got.2 ∙ first_is meta_cells (overlay old.now.trees []) tree metas (stored_tree old.now.trees tree has.place.low ∙ has.rows) has.keyed version_rest []
     (λ x. int_eq (id_of x) (pos 1)) (λ x. last_term (at_ints _ compare.Eq (id_of x) (pos 1))) (λ l. refl) got.0 got.1)
 
--- what tables hold is a case of it, those of schema 3 and those of schema 1
-pub has_meta : (db : Database) (t : Tables) → Holds db t → HasMeta db meta_table t.metas
-has_meta db t h = let held = metas_held db t h in record { place = held.own.place; rows = held.rows; keyed = held.keyed }
-
-pub first_has_meta : (db : Database) (t : Tables) → HoldsFirst db t → HasMeta db meta_table t.metas
-first_has_meta db t h = record { place = h.own.own.0.place; rows = h.rows.0.rows; keyed = ascending_from_map _ (stored meta_cells) t.metas h.rows.0.keyed }
+-- what the tables of a version hold is a case of it
+pub has_meta : (n : ℕ) → 0 < count_in n → (db : Database) (t : Tables) → HoldsIn n db t → HasMeta db meta_table t.metas
+has_meta n some db t h = let held = held_in metas (count_in n) some db t h in record { place = held.own.place; rows = held.rows; keyed = held.keyed }
 
 all_gone : {X : Type 0} (xs : List X) → delete_where (λ x. true) xs ≡ []
 all_gone [] = refl
 all_gone (x ∷ xs) = all_gone xs
 
-module _ (old new : State) (t : Tables) (h : HoldsSecond old.now t) where
-  pub clear_version_does : (count : ℕ) → Executes clear_version_text [] old new (Ok count) → TurnsIn second_stored old.now new.now (version_cleared t)
-  clear_version_does count ran =
-      let held = second_metas_held old.now t h in
-      let left = delete_own meta_cells meta_table meta_casts old new held.own held.steady t.metas held.rows held.keyed clear_version_text [] count ran
-      (clear_version_query (tree_of old.now.schema meta_table.name)) (clear_version_means old.now.schema _ _ held.own.place) refl refl refl (λ rows. refl) (λ x. true) (λ x. refl) (λ x. refl) in
-      let leads = subst (λ (l : List (Kept ℕ)). Leads old.now.schema (tree_of old.now.schema meta_table.name) (map (stored meta_cells) l) old.now.trees new.now.trees) (all_gone t.metas) left.0 in
-      second_metas_written old.now new.now left.1 t h [] leads tt
+pub clear_version_does : (old new : State) (count : ℕ) → Executes clear_version_text [] old new (Ok count) → Moved 2 version_cleared old.now new.now
+clear_version_does old new count ran = moved_by 2 version_cleared old.now new.now (λ t h.
+    let held = held_in metas 10 (omega arith) old.now t h in
+    let left = delete_own meta_cells meta_table meta_casts old new held.own held.steady t.metas held.rows held.keyed clear_version_text [] count ran
+    (clear_version_query (tree_of old.now.schema meta_table.name)) (clear_version_means old.now.schema _ _ held.own.place) refl refl refl (λ rows. refl) (λ x. true) (λ x. refl) (λ x. refl) in
+    let leads = subst (λ (l : List (Kept ℕ)). Leads old.now.schema (tree_of old.now.schema meta_table.name) (map (stored meta_cells) l) old.now.trees new.now.trees) (all_gone t.metas) left.0 in
+    written_in old.now new.now left.1 metas t [] 10 (omega arith) h tt leads tt)
 
-module _ (old new : State) (t : Tables) (h : Holds old.now t) where
-  pub version_shows : (row : Option Row) → FirstRow version_text [] old new row → Pins IsNumber row (version_in t)
-  version_shows = version_told old new meta_table t.metas (has_meta old.now t h)
+pub version_shows : (old new : State) (t : Tables) → Holds old.now t → (row : Option Row) → FirstRow version_text [] old new row → Pins IsNumber row (version_in t)
+version_shows old new t h = version_told old new meta_table t.metas (has_meta NEWEST (omega arith) old.now t (holds_all old.now t h))

@@ -1,29 +1,32 @@
--- The tables of schema 3 are made one after another, and schema 1 is taken to schema 2 and that to it.
-use Rattle.std.proofs.Common.{◌≡◌, ◌≢◌, false, List, [], ◌∷◌, ◌++◌, map, Result, Ok, Err, OnOk, OnErr, refl, sym, ap, ◌∙◌, subst, append_assoc, append-nil}
+-- The tables of all versions are made one after another, and a version is raised to the next.
+use Rattle.std.proofs.Common.{◌≡◌, ◌≢◌, ◌≤◌, ◌+◌, ℕ, zero, suc, true, ◌<◌, length, take, get_or, IsTrue, arith, List, [], ◌∷◌, ◌++◌, map, Result, Ok, Err, OnOk, OnErr, refl, sym, ap, ◌∙◌, subst, append_assoc, append-nil}
 use Rattle.std.proofs.lemmas.List.{map-append}
-use Rattle.std.specs.List.{AllByRecursion}
+use Rattle.std.specs.Borrow.{Bor}
+use Rattle.std.specs.List.{AllByRecursion, AllZip}
+use Rattle.std.specs.Result.{IsErr}
 use Rattle.sqlite_schema.specs.declared.schema.Table.{Table}
-use Rattle.sqlite_schema.specs.Names.{same_name, table_named}
+use Rattle.sqlite_schema.specs.Names.{table_named}
 use Rattle.sqlite_keyed.proofs.ListLemmas.{all_weaker, all_both, all-append, all-slice_get}
 use Rattle.sqlite.specs.Effect.{Database}
-use Rattle.sqlite.specs.State.{State, KeepsCommit}
+use Rattle.sqlite.specs.Held.{state}
+use Rattle.sqlite.specs.State.{State, HasCleanDisk, KeepsCommit}
+use Rattle.sqlite.specs.declared.transaction.Transaction.{Transaction}
+use Rattle.sqlite_trees.specs.declared.store.Store.{Ghosts}
+use Rattle.sqlite_trees.specs.View.{doubt}
 use Rattle.sqlite.proofs.InsideLemmas.{keeps_then}
 use Rattle.statements.specs.Place.{IsOwn, RefersPassively, at_of, tree_of}
-use Rattle.statements.specs.Schema.{edition_table, keeping_table}
-use Rattle.statements.specs.Steps.{Moves, MovesIn, LeavesBeside}
-use Rattle.statements.specs.Tables.{Tables, Holds, HoldsFirst, HoldsSecond, HoldsAll, StoredTable, no_rows, our_tables, first_tables, second_tables, third_tables, first_stored, second_stored, tables_in}
-use Rattle.statements.specs.Making.{bare_table, sequence_name, IsNotNamed, KeepsTables, GrowsBy, GrowsByAll, KeepsMade, LeavesOthers, HasSchema, Alters, IsBeside, KeepsForeign, Raises, RaisesThird, edition_set, edition_moved, version_cleared}
-use Rattle.statements.specs.Changes.{bounds_filled, keepings_filled}
-use Rattle.statements.proofs.Begin.{none_made, holds_none, holds_second, holds_third}
+use Rattle.statements.specs.Schema.{edition_table}
+use Rattle.statements.specs.Steps.{LeavesBeside}
+use Rattle.statements.specs.declared.making.TheConstants.{NEWEST}
+use Rattle.statements.specs.Tables.{Tables, HoldsAll, HoldsIn, StoredTable, no_rows, our_tables, is_known, count_in, stored_in, version_tables, added_by, up_to, tables_in}
+use Rattle.statements.specs.Making.{bare_table, IsNotNamed, KeepsTables, HasSchema, Alters, AltersBy, MakesBy, IsBeside, KeepsForeign, Raises, raised}
+use Rattle.statements.specs.Inner.Making.{Grows, IsMaker, texts_in, all_of, Moved, Told}
+use Rattle.statements.proofs.Begin.{none_made}
+use Rattle.statements.proofs.Counts.{version_grows}
+use Rattle.statements.proofs.Held.{tables_taken}
 use Rattle.statements.proofs.Grown.{tree_stays, at_stays}
 use Rattle.statements.proofs.Frames.{left_then}
 use Rattle.statements.proofs.Makes.{tables_kept_then, kept_then, front}
-
-pub one_grown : (t : Table) (a b : Database) → GrowsBy t a b → GrowsByAll (t ∷ []) a b
-one_grown t a b g = record { made = g.made; owns = g.owns; kept = g.kept; apart = (g.apart, tt); names = g.names }
-
-pub none_grown : (a b : Database) → KeepsMade a b → GrowsByAll [] a b
-none_grown a b k = record { made = λ ts m. subst (λ l. HoldsAll b l) (sym (append-nil ts)) (k.made ts m); owns = k.owns; kept = k.kept; apart = tt; names = k.names }
 
 moved_apart : (a b c : Database) (k : KeepsTables b c) (ts : List Table) → AllByRecursion (IsOwn b.schema) ts
     → AllByRecursion (λ (x : Table). AllByRecursion (λ (t : Table). t.tree ≢ tree_of b.schema x.name) a.schema.tables) ts
@@ -47,7 +50,7 @@ own_bare P (t ∷ ts) h = (h.0, own_bare P ts h.1)
 bare_both : (xs : List StoredTable) (ts us : List Table) → (xs ++ map bare_table ts) ++ map bare_table us ≡ xs ++ map bare_table (ts ++ us)
 bare_both xs ts us = append_assoc xs (map bare_table ts) (map bare_table us) ∙ ap (λ l. xs ++ l) (sym (map-append bare_table ts us))
 
-pub grown_then : (xs ys : List Table) (a b c : Database) → GrowsByAll xs a b → GrowsByAll ys b c → GrowsByAll (xs ++ ys) a c
+pub grown_then : (xs ys : List Table) (a b c : Database) → Grows xs a b → Grows ys b c → Grows (xs ++ ys) a c
 grown_then xs ys a b c g h = record {
   made = λ ts m. subst (λ l. HoldsAll c l) (bare_both ts xs ys) (h.made (ts ++ map bare_table xs) (g.made ts m));
   owns = λ other own. h.owns other (g.owns other own);
@@ -57,53 +60,105 @@ grown_then xs ys a b c g h = record {
 }
 
 -- the last step: the version is set
-pub schema_set : (a b c : Database) → GrowsByAll our_tables a b → ((t : _) → Holds b t → Holds c (edition_set 3 t)) → LeavesOthers edition_table b c → HasSchema a c
-schema_set a b c g sets leaves =
+pub schema_set : (a b c : Database) → Grows our_tables a b → Told NEWEST b c → HasSchema a c
+schema_set a b c g told =
     let made = g.made [] (none_made a) in
-    let left = leaves made.own.own.1.1.1.1.1.1.1.1.1.0 in
+    let set = told.moved.rows no_rows made in
+    let left = told.leaves (all-slice_get (IsOwn b.schema) our_tables 9 edition_table refl made.own.own) in
+    let apart = all-slice_get (λ (x : Table). AllByRecursion (λ (t : Table). t.tree ≢ tree_of b.schema x.name) a.schema.tables) our_tables 9 edition_table refl g.apart in
     let rows = (front (λ (t : Table). t.tree ≢ tree_of b.schema edition_table.name → c.trees t.tree ≡ b.trees t.tree) a.schema.tables g.kept.more
     (subst (AllByRecursion (λ (t : Table). t.tree ≢ tree_of b.schema edition_table.name → c.trees t.tree ≡ b.trees t.tree)) g.kept.tables left.1)).0 in
     record {
-      holds = sets no_rows (holds_none b made);
+      holds = record { ours = set.own; rows = set.rows };
       kept = record {
         more = g.kept.more;
         tables = ap (λ (s : _). s.tables) left.0 ∙ g.kept.tables;
-        rows = kept_then a.schema.tables a.trees b.trees c.trees g.kept.rows (all_both _ _ (λ (t : Table). c.trees t.tree ≡ b.trees t.tree) (λ t keeps apart. keeps apart) a.schema.tables rows g.apart.1.1.1.1.1.1.1.1.1.0);
+        rows = kept_then a.schema.tables a.trees b.trees c.trees g.kept.rows (all_both _ _ (λ (t : Table). c.trees t.tree ≡ b.trees t.tree) (λ t keeps apart. keeps apart) a.schema.tables rows apart);
       };
     }
 
 -- ---- inside one transaction
 
-pub alters_as : (F G : Database → Database → Type 0) (a b : State) → (F a.now b.now → G a.now b.now) → Alters F a b → Alters G a b
-alters_as F G a b f h = record { change = f h.change; was_open = h.was_open; is_open = h.is_open; committed = h.committed; inside = h.inside }
-
--- what one step promises, said otherwise
-pub alters_on : {X E : Type 0} (F G : Database → Database → Type 0) (a b : State) (result : Result X E) → (F a.now b.now → G a.now b.now) → OnOk result (Alters F a b) × OnErr result (KeepsCommit a b)
-    → OnOk result (Alters G a b) × OnErr result (KeepsCommit a b)
-alters_on F G a b (Ok x) f done = (alters_as F G a b f done.0, tt)
-alters_on F G a b (Err e) f done = (tt, done.1)
-
-pub alters_join : (F G H : Database → Database → Type 0) (a b c : State) → (F a.now b.now → G b.now c.now → H a.now c.now) → Alters F a b → Alters G b c → Alters H a c
-alters_join F G H a b c f one two = record { change = f one.change two.change; was_open = one.was_open; is_open = two.is_open; committed = two.committed ∙ one.committed; inside = two.inside }
-
 -- one more step, which may fail
-pub alters_more : {X E : Type 0} (F G H : Database → Database → Type 0) (a b c : State) (result : Result X E) → (F a.now b.now → G b.now c.now → H a.now c.now) → Alters F a b
+alters_more : {X E : Type 0} (F G H : Database → Database → Type 0) (a b c : State) (result : Result X E) → (F a.now b.now → G b.now c.now → H a.now c.now) → Alters F a b
     → OnOk result (Alters G b c) × OnErr result (KeepsCommit b c) → OnOk result (Alters H a c) × OnErr result (KeepsCommit a c)
 alters_more F G H a b c (Ok x) f one two =
     (record { change = f one.change two.0.change; was_open = one.was_open; is_open = two.0.is_open; committed = two.0.committed ∙ one.committed; inside = two.0.inside }, tt)
 alters_more F G H a b c (Err e) f one two = (tt, keeps_then a b c (record { was_open = λ _. one.was_open; committed = λ _. one.committed }) two.1)
 
-pub schema_more : {X E : Type 0} (a b c : State) (result : Result X E) → Alters (GrowsByAll our_tables) a b → OnOk result (Moves (edition_set 3) b c) × OnErr result (KeepsCommit b c)
-    → OnOk result (LeavesOthers edition_table b.now c.now) → OnOk result (Alters HasSchema a c) × OnErr result (KeepsCommit a c)
-schema_more a b c (Ok x) one two leaves =
-    let moved = two.0 in
-    (record { change = schema_set a.now b.now c.now one.change moved.rows leaves; was_open = one.was_open; is_open = moved.is_open; committed = moved.committed ∙ one.committed; inside = moved.inside }, tt)
-schema_more a b c (Err e) one two leaves = (tt, keeps_then a b c (record { was_open = λ _. one.was_open; committed = λ _. one.committed }) two.1)
+module _ {S : Type 0} (g : Ghosts S) where
+  -- one step, and others
+  pub makes_then : {X Y E : Type 0} (F G H : Database → Database → Type 0) → ((a b c : Database) → F a b → G b c → H a c) → (a b c : Transaction S) (x : X) (result : Result Y E)
+      → MakesBy {E = E} g F a b (Ok x) → MakesBy g G b c result → MakesBy g H a c result
+  makes_then F G H f a b c x result one two = record {
+    same_reference = two.same_reference ∙ one.same_reference;
+    made = λ clean inside.
+        let before : HasCleanDisk (state g b.conn.now) = omega (arith, two.clean, clean) in
+        let first = (one.made before inside).0 in
+        alters_more F G H (state g a.conn.now) (state g b.conn.now) (state g c.conn.now) result (f (state g a.conn.now).now (state g b.conn.now).now (state g c.conn.now).now) first (two.made clean first.inside);
+    clean = omega (arith, one.clean, two.clean);
+  }
+
+  -- What was made so far: where it is nothing, the connection is as it was.
+  pub record MadeSoFar (n : ℕ) (tables : List Table) (old new : Transaction S) : Type 0 where
+    pub same_reference : new.conn.ghost_name ≡ old.conn.ghost_name
+    pub start : n ≡ 0 → (new.conn.now ≡ old.conn.now) × (tables ≡ [])
+    pub made : 1 ≤ n → HasCleanDisk (state g new.conn.now) → IsTrue (state g old.conn.now).in_transaction → Alters (Grows tables) (state g old.conn.now) (state g new.conn.now)
+    pub clean : doubt (state g old.conn.now).is_clean ≤ doubt (state g new.conn.now).is_clean
+
+  pub made_all : {X E : Type 0} (n : ℕ) (tables : List Table) (a b : Transaction S) (x : X) → 1 ≤ n → MadeSoFar n tables a b → MakesBy {E = E} g (Grows tables) a b (Ok x)
+  made_all n tables a b x some h = record { same_reference = h.same_reference; made = λ clean inside. (h.made some clean inside, tt); clean = h.clean }
+
+  -- such a call, told of the connection before the first
+  from_start : {X E : Type 0} (ts us : List Table) (a b c : Transaction S) (result : Result X E) → (b.conn.now ≡ a.conn.now) × (ts ≡ []) → MakesBy g (Grows us) b c result
+      → AltersBy (Grows (ts ++ us)) (state g a.conn.now) (state g c.conn.now) result
+  from_start ts us a b c result same one =
+      subst (λ l. AltersBy (Grows (l ++ us)) (state g a.conn.now) (state g c.conn.now) result) (sym same.1) (subst (λ h. AltersBy (Grows us) (state g h) (state g c.conn.now) result) same.0 one.made)
+
+  by_count : {X E : Type 0} (n : ℕ) (ts us : List Table) (a b c : Transaction S) (result : Result X E) → MadeSoFar n ts a b → MakesBy g (Grows us) b c result → AltersBy (Grows (ts ++ us)) (state g a.conn.now) (state g c.conn.now) result
+  by_count zero ts us a b c result h one = from_start ts us a b c result (h.start refl) one
+  by_count (suc n) ts us a b c result h one = (makes_then (Grows ts) (Grows us) (Grows (ts ++ us)) (grown_then ts us) a b c (tt {0}) result (made_all (suc n) ts a b (tt {0}) (omega arith) h) one).made
+
+  pub made_more : {X E : Type 0} (n : ℕ) (ts us : List Table) (a b c : Transaction S) (x : X) → MadeSoFar n ts a b → MakesBy {E = E} g (Grows us) b c (Ok x) → MadeSoFar (n + 1) (ts ++ us) a c
+  made_more n ts us a b c x h one = record {
+    same_reference = one.same_reference ∙ h.same_reference;
+    start = λ none. absurd (omega (arith, none));
+    made = λ _ clean inside. (by_count n ts us a b c (Ok x) h one clean inside).0;
+    clean = omega (arith, h.clean, one.clean);
+  }
+
+  pub made_failed : {X Y E F : Type 0} (n : ℕ) (ts us vs : List Table) (a b c : Transaction S) (e : E) (result : Result Y F) → IsErr result → MadeSoFar n ts a b → MakesBy {X = X} g (Grows us) b c (Err e) → MakesBy g (Grows vs) a c result
+  made_failed n ts us vs a b c e (Ok y) is h one = absurd (cc)
+  made_failed n ts us vs a b c e (Err f) is h one = record {
+    same_reference = one.same_reference ∙ h.same_reference;
+    made = λ clean inside. (tt, (by_count n ts us a b c (Err e) h one clean inside).1);
+    clean = omega (arith, h.clean, one.clean);
+  }
+
+-- the next text, and what it makes
+pub next_made : (texts : List (Bor (List ℕ))) (made : List (List Table)) (i : ℕ) (other : Bor (List ℕ)) → AllZip IsMaker (texts_in texts) made → i < length texts
+    → (one : List Table) × IsMaker (get_or texts i other).now one × (all_of (take (i + 1) made) ≡ all_of (take i made) ++ one)
+next_made [] made i other are low = absurd (omega (arith, low))
+next_made (t ∷ texts) [] i other are low = absurd are
+next_made (t ∷ texts) (m ∷ made) zero other are low = (m, are.0, append-nil m)
+next_made (t ∷ texts) (m ∷ made) (suc i) other are low =
+    let more = next_made texts made i other are.1 (omega arith) in
+    let one_on : suc i + 1 ≡ suc (i + 1) = omega arith in
+    (more.0, more.1, ap (λ k. all_of (take k (m ∷ made))) one_on ∙ ap (λ l. m ++ l) more.2 ∙ sym (append_assoc m (all_of (take i made)) more.0))
+
+-- where none is next, all are made
+pub last_made : (texts : List (Bor (List ℕ))) (made : List (List Table)) (i : ℕ) → AllZip IsMaker (texts_in texts) made → length texts ≤ i → take i made ≡ made
+last_made [] [] zero are high = refl
+last_made [] [] (suc i) are high = refl
+last_made [] (m ∷ made) i are high = absurd are
+last_made (t ∷ texts) [] i are high = absurd are
+last_made (t ∷ texts) (m ∷ made) zero are high = absurd (omega (arith, high))
+last_made (t ∷ texts) (m ∷ made) (suc i) are high = ap (λ l. m ∷ l) (last_made texts made i are.1 (omega arith))
 
 -- ---- from one schema to the next
 
 -- what is not ours is left by the new tables, and by what is written behind them
-module _ (before added : List Table) (a b e : Database) (grown : GrowsByAll added a b) (left : LeavesBeside (before ++ added) b e) (were : AllByRecursion (IsOwn a.schema) before) where
+module _ (before added : List Table) (a b e : Database) (grown : Grows added a b) (left : LeavesBeside (before ++ added) b e) (were : AllByRecursion (IsOwn a.schema) before) where
   module _ (other : Table) (own : IsOwn a.schema other) where
     tree_there : tree_of b.schema other.name ≡ tree_of a.schema other.name
     tree_there = tree_stays a b grown.kept other own
@@ -137,79 +192,22 @@ module _ (before added : List Table) (a b e : Database) (grown : GrowsByAll adde
     rows = λ other own passive apart. rows_left other own passive apart;
   }
 
--- ---- from schema 1 to schema 2
+-- one write, and others
+pub moved_then : (n : ℕ) (f h : Tables → Tables) (a b c : Database) → Moved n f a b → Moved n h b c → Moved n (λ t. h (f t)) a c
+moved_then n f h a b c one two = record { rows = λ t held. two.rows (f t) (one.rows t held); others = λ t held. left_then (version_tables n) a b c (one.others t held) (two.others (f t) (one.rows t held)) }
 
-abbrev bare : Tables → Tables
-bare t = record t { bounds = []; editions = [] }
+-- A version is raised to the next: its tables are made behind those that there were, and rows are written.
+module _ (n : ℕ) (is : is_known (suc n) ≡ true) (change : Tables → Tables) (behind : (t : Tables) → stored_in n t ++ map bare_table (added_by (suc n)) ≡ stored_in (suc n) (up_to n t))
+    (then : (t : Tables) → stored_in (suc n) (change (up_to n t)) ≡ stored_in (suc n) (raised n t)) where
+  bare : (a b : Database) → Grows (added_by (suc n)) a b → (t : Tables) → HoldsIn n a t → HoldsIn (suc n) b (up_to n t)
+  bare a b one t h = subst (HoldsAll b) (behind t) (one.made (stored_in n t) h)
 
--- keeping is none of the names that schema 2 adds
-keeping_is_other : same_name sequence_name keeping_table.name ≡ false
-unfolding same_name
-keeping_is_other = refl
-
-keeping_is_new : AllByRecursion (IsNotNamed keeping_table.name) second_tables
-unfolding same_name
-keeping_is_new = (refl, (refl, tt))
-
-abbrev ours : List Table
-ours = first_tables ++ second_tables
-
-module _ (a b c d e : State) (one : Alters (GrowsByAll second_tables) a b) (two : MovesIn second_stored bounds_filled b c) (three : MovesIn second_stored version_cleared c d) (four : MovesIn second_stored (edition_set 2) d e) where
-  module _ (t : Tables) (h : HoldsFirst a.now t) where
-    bare_held : HoldsSecond b.now (bare t)
-    bare_held = holds_second b.now t (one.change.made (first_stored t) h)
-
-    filled_held : HoldsSecond c.now (bounds_filled (bare t))
-    filled_held = two.rows (bare t) bare_held
-
-    cleared_held : HoldsSecond d.now (version_cleared (bounds_filled (bare t)))
-    cleared_held = three.rows (bounds_filled (bare t)) filled_held
-
-    all_left : LeavesBeside ours b.now e.now
-    all_left = left_then ours b.now d.now e.now (left_then ours b.now c.now d.now (two.others (bare t) bare_held) (three.others (bounds_filled (bare t)) filled_held)) (four.others (version_cleared (bounds_filled (bare t))) cleared_held)
-
-  raised_by : Raises a.now e.now
-  raised_by = record {
-    holds = λ t h. four.rows (version_cleared (bounds_filled (bare t))) (cleared_held t h);
-    absent = λ t h none. ap (λ s. table_named s keeping_table.name) (all_left t h).schema ∙ one.change.names keeping_table.name keeping_is_other keeping_is_new none;
-    foreign = λ t h. foreign_kept first_tables second_tables a.now b.now e.now one.change (all_left t h) h.own.own;
+  pub raised_by : (a b c : Database) → Grows (added_by (suc n)) a b → Moved (suc n) change b c → Raises n a c
+  raised_by a b c one two = record {
+    holds = λ t h. subst (HoldsAll c) (then t) (two.rows (up_to n t) (bare a b one t h));
+    names = λ t h name engine apart none. ap (λ s. table_named s name) (two.others (up_to n t) (bare a b one t h)).schema ∙ one.names name engine apart none;
+    foreign = λ t h.
+        let left = subst (λ l. LeavesBeside l b c) (sym (version_grows n is)) (two.others (up_to n t) (bare a b one t h)) in
+        subst (λ l. KeepsForeign (version_tables n) l a c) (version_grows n is)
+        (foreign_kept (version_tables n) (added_by (suc n)) a b c one left (subst (AllByRecursion (IsOwn a.schema)) (tables_taken (count_in n) t) h.own.own));
   }
-
-pub raise_more : {X E : Type 0} (a b c d e : State) (result : Result X E) → Alters (GrowsByAll second_tables) a b → MovesIn second_stored bounds_filled b c → MovesIn second_stored version_cleared c d
-    → OnOk result (MovesIn second_stored (edition_set 2) d e) × OnErr result (KeepsCommit d e) → OnOk result (Alters Raises a e) × OnErr result (KeepsCommit a e)
-raise_more a b c d e (Ok x) one two three four = (
-  record {
-    change = raised_by a b c d e one two three four.0;
-    was_open = one.was_open;
-    is_open = four.0.is_open;
-    committed = four.0.committed ∙ three.committed ∙ two.committed ∙ one.committed;
-    inside = four.0.inside;
-  },
-  tt,
-)
-raise_more a b c d e (Err x) one two three four = (tt, keeps_then a d e (record { was_open = λ _. one.was_open; committed = λ _. three.committed ∙ two.committed ∙ one.committed }) four.1)
-
--- ---- from schema 2 to schema 3
-
-third_by : (a b c d : State) → Alters (GrowsByAll third_tables) a b → Moves keepings_filled b c → Moves (edition_moved 3) c d → RaisesThird a.now d.now
-third_by a b c d one two three = record {
-  holds = λ t h. three.rows _ (two.rows _ (holds_third b.now t (one.change.made (second_stored t) h)));
-  foreign = λ t h.
-      let before = holds_third b.now t (one.change.made (second_stored t) h) in
-      let left = left_then our_tables b.now c.now d.now (two.others _ before) (three.others _ (two.rows _ before)) in
-      foreign_kept (first_tables ++ second_tables) third_tables a.now b.now d.now one.change left h.own.own;
-}
-
-pub third_more : {X E : Type 0} (a b c d : State) (result : Result X E) → Alters (GrowsByAll third_tables) a b → Moves keepings_filled b c
-    → OnOk result (Moves (edition_moved 3) c d) × OnErr result (KeepsCommit c d) → OnOk result (Alters RaisesThird a d) × OnErr result (KeepsCommit a d)
-third_more a b c d (Ok x) one two three = (
-  record {
-    change = third_by a b c d one two three.0;
-    was_open = one.was_open;
-    is_open = three.0.is_open;
-    committed = three.0.committed ∙ two.committed ∙ one.committed;
-    inside = three.0.inside;
-  },
-  tt,
-)
-third_more a b c d (Err x) one two three = (tt, keeps_then a c d (record { was_open = λ _. one.was_open; committed = λ _. two.committed ∙ one.committed }) three.1)

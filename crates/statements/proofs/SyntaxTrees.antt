@@ -38,9 +38,6 @@ one = Integer (codes "1")
 abbrev pub two : Expr
 two = Integer (codes "2")
 
-abbrev pub three : Expr
-three = Integer (codes "3")
-
 abbrev pub four : Expr
 four = Integer (codes "4")
 

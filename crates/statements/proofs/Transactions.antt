@@ -8,11 +8,10 @@ use Rattle.statements.specs.Calls.{Wrote, WroteAny, FirstRow, IsCalm, IsRead, Ar
 use Rattle.statements.specs.Rows.{number}
 use Rattle.sqlite.specs.Effect.{Database}
 use Rattle.statements.specs.Making.{Alters}
-use Rattle.sqlite_schema.specs.declared.schema.Table.{Table}
-use Rattle.statements.specs.Steps.{Moves, MovesWhere, MovesIn, LeavesBeside}
+use Rattle.statements.specs.Steps.{Moves, MovesWhere}
 use Rattle.sqlite.proofs.InsideLemmas.{keeps_then}
-use Rattle.statements.specs.Tables.{Tables, StoredTable, Holds, HoldsAll, our_tables, tables_in}
-use Rattle.statements.proofs.Frames.{Turns, TurnsIn, left_then}
+use Rattle.statements.specs.Tables.{Tables, Holds, our_tables}
+use Rattle.statements.proofs.Frames.{Turns, left_then}
 
 pub moves_by : {X E : Type 0} (change : Tables → Tables) (old new : State) (text : List ℕ) (params : Row) (result : Result X E) → Wrote text params old new result
     → ((count : ℕ) (t : Tables) → Holds old.now t → Executes text params old new (Ok count) → Turns old.now new.now (change t)) → OnOk result (Moves change old new) × OnErr result (KeepsCommit old new)
@@ -38,24 +37,6 @@ moves_where law change old new text params (Ok x) wrote does =
     )
 moves_where law change old new text params (Err e) wrote does = (tt, wrote.1)
 
--- a write in a database that has the tables of an earlier schema, whatever their rows
-pub moves_in : {X E : Type 0} (stored : Tables → List StoredTable) (change : Tables → Tables) (old new : State) (text : List ℕ) (params : Row) (result : Result X E)
-    → ((t : Tables) → tables_in (stored (change t)) ≡ tables_in (stored t)) → Wrote text params old new result
-    → ((count : ℕ) (t : Tables) → HoldsAll old.now (stored t) → Executes text params old new (Ok count) → TurnsIn stored old.now new.now (change t)) → OnOk result (MovesIn stored change old new) × OnErr result (KeepsCommit old new)
-moves_in stored change old new text params (Ok x) same wrote does =
-    let ran = wrote.0.1 in (
-      record {
-        rows = λ t h. (does wrote.0.0 t h ran.0).0;
-        others = λ t h. subst (λ (l : List Table). LeavesBeside l old.now new.now) (same t) (does wrote.0.0 t h ran.0).1;
-        was_open = ran.1.was_open;
-        is_open = ran.1.is_open;
-        committed = ran.1.committed_is;
-        inside = ran.1.mode;
-      },
-      tt,
-    )
-moves_in stored change old new text params (Err e) same wrote does = (tt, wrote.1)
-
 -- a write that tells whether there were rows to write
 pub any_wrote : {E : Type 0} (old new : State) (text : List ℕ) (params : Row) (result : Result Bool E) → WroteAny text params old new result → Wrote text params old new result
 any_wrote old new text params (Ok any) wrote = ((wrote.0.0, wrote.0.1), tt)
@@ -65,10 +46,6 @@ pub finds_by : {E : Type 0} (has : Tables → Bool) (old new : State) (text : Li
     → ((count : ℕ) (t : Tables) → Holds old.now t → Executes text params old new (Ok count) → not (count == 0) ≡ has t) → IfOk result (λ found. (t : Tables) → Holds old.now t → found ≡ has t)
 finds_by has old new text params (Ok any) wrote tells = λ t h. wrote.0.2 ∙ tells wrote.0.0 t h wrote.0.1.0
 finds_by has old new text params (Err e) wrote tells = tt
-
-pub ok_by : {X E : Type 0} (P : Type 0) (old new : State) (text : List ℕ) (params : Row) (result : Result X E) → Wrote text params old new result → ((count : ℕ) → Executes text params old new (Ok count) → P) → OnOk result P
-ok_by P old new text params (Ok x) wrote does = does wrote.0.0 wrote.0.1.0
-ok_by P old new text params (Err e) wrote does = tt
 
 pub alters_by : {X E : Type 0} (Change : Database → Database → Type 0) (old new : State) (text : List ℕ) (params : Row) (result : Result X E) → Wrote text params old new result
     → ((count : ℕ) → Executes text params old new (Ok count) → Change old.now new.now) → OnOk result (Alters Change old new) × OnErr result (KeepsCommit old new)

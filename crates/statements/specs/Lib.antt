@@ -2,6 +2,7 @@ pub mod Calls
 pub mod Changes
 pub mod Decode
 pub mod Finds
+pub mod Inner
 pub mod Listings
 pub mod Making
 pub mod Place

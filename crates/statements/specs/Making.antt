@@ -1,5 +1,5 @@
 -- How the tables are made, in a database that may hold tables of others.
-use Rattle.std.specs.Prelude.{◌≡◌, ◌≢◌, ◌≤◌, ℕ, pos, false, List, [], ◌∷◌, ◌++◌, codes, map, IsTrue, Result, OnOk, OnErr, Option, None, option_map}
+use Rattle.std.specs.Prelude.{◌≡◌, ◌≢◌, ◌≤◌, ℕ, zero, suc, pos, false, List, [], ◌∷◌, ◌++◌, codes, map, IsTrue, Result, OnOk, OnErr, Option, None, option_map}
 use Rattle.std.specs.List.{AllByRecursion}
 use Rattle.sqlite_schema.specs.declared.schema.Table.{Table}
 use Rattle.sqlite_schema.specs.Names.{same_name, table_named}
@@ -10,11 +10,12 @@ use Rattle.sqlite.specs.Effect.{Database}
 use Rattle.sqlite.specs.Held.{state}
 use Rattle.sqlite.specs.State.{State, HasCleanDisk, KeepsCommit}
 use Rattle.sqlite.specs.declared.transaction.Transaction.{Transaction}
-use Rattle.sqlite_keyed.specs.Keyed.{IsKeyedBy, insert_by, get_by}
+use Rattle.sqlite_keyed.specs.Keyed.{IsKeyedBy, get_by}
+use Rattle.statements.specs.declared.making.TheConstants.{NEWEST}
 use Rattle.statements.specs.Place.{at_of, tree_of, StandsAt, IsOwn, RefersPassively}
-use Rattle.statements.specs.Schema.{meta_table, edition_table, keeping_table}
+use Rattle.statements.specs.Schema.{meta_table, edition_table}
 use Rattle.statements.specs.Rows.{Kept, id_of, stored, meta_cells, edition_cells}
-use Rattle.statements.specs.Tables.{Tables, Holds, HoldsFirst, HoldsSecond, HoldsAll, StoredTable, first_tables, second_tables, our_tables, no_rows}
+use Rattle.statements.specs.Tables.{Tables, Holds, HoldsIn, StoredTable, version_tables, added_by, no_rows}
 use Rattle.statements.specs.Changes.{with_all, unbounded, kept_first}
 
 -- a table with no row
@@ -38,29 +39,6 @@ IsNotNamed name t = same_name t.name name ≡ false
 abbrev pub NamesNoOther : List Table → Database → Database → Type 0
 NamesNoOther added old new = (name : List ℕ) → same_name sequence_name name ≡ false → AllByRecursion (IsNotNamed name) added → table_named old.schema name ≡ None → table_named new.schema name ≡ None
 
--- The table stands behind those of ours that were made before, with no row and a tree of its own, and each table that was there is kept.
-pub record GrowsBy (table : Table) (old new : Database) : Type 0 where
-  pub made : (xs : List StoredTable) → HoldsAll old xs → HoldsAll new (xs ++ bare_table table ∷ [])
-  pub owns : (other : Table) → IsOwn old.schema other → IsOwn new.schema other
-  pub kept : KeepsTables old new
-  pub apart : AllByRecursion (λ (t : Table). t.tree ≢ tree_of new.schema table.name) old.schema.tables
-  pub names : NamesNoOther (table ∷ []) old new
-
--- what was made stays
-pub record KeepsMade (old new : Database) : Type 0 where
-  pub made : (xs : List StoredTable) → HoldsAll old xs → HoldsAll new xs
-  pub owns : (other : Table) → IsOwn old.schema other → IsOwn new.schema other
-  pub kept : KeepsTables old new
-  pub names : NamesNoOther [] old new
-
--- several tables, one behind the other
-pub record GrowsByAll (added : List Table) (old new : Database) : Type 0 where
-  pub made : (xs : List StoredTable) → HoldsAll old xs → HoldsAll new (xs ++ map bare_table added)
-  pub owns : (other : Table) → IsOwn old.schema other → IsOwn new.schema other
-  pub kept : KeepsTables old new
-  pub apart : AllByRecursion (λ (a : Table). AllByRecursion (λ (t : Table). t.tree ≢ tree_of new.schema a.name) old.schema.tables) added
-  pub names : NamesNoOther added old new
-
 -- the schema changes inside the transaction, which goes on
 pub record Alters (Change : Database → Database → Type 0) (old new : State) : Type 0 where
   pub change : Change old.now new.now
@@ -79,35 +57,17 @@ pub record MakesBy {S X E : Type 0} (g : Ghosts S) (Change : Database → Databa
   pub made : AltersBy Change (state g old.conn.now) (state g new.conn.now) result
   pub clean : doubt (state g old.conn.now).is_clean ≤ doubt (state g new.conn.now).is_clean
 
--- Only the rows of the table differ, if it is one of ours.
-abbrev pub LeavesOthers : Table → Database → Database → Type 0
-LeavesOthers table old new =
-    IsOwn old.schema table → (new.schema ≡ old.schema) × AllByRecursion (λ (t : Table). t.tree ≢ tree_of old.schema table.name → new.trees t.tree ≡ old.trees t.tree) old.schema.tables
-
--- edition tells this version in its row 1
-abbrev pub edition_set : ℕ → Tables → Tables
-edition_set version t = record t { editions = insert_by id_of t.editions (pos 1, version) }
-
--- edition tells this version, where it told one
-abbrev pub edition_moved : ℕ → Tables → Tables
-edition_moved version t = record t { editions = map (λ x. (x.0, version)) t.editions }
-
--- meta tells no version
-abbrev pub version_cleared : Tables → Tables
-version_cleared t = record t { metas = [] }
-
--- The database has schema 3, with no row but the one that says so, and each table that was there is kept.
+-- The database has the newest schema, with no row but the one that says so, and each table that was there is kept.
 pub record HasSchema (old new : Database) : Type 0 where
-  pub holds : Holds new (edition_set 3 no_rows)
+  pub holds : Holds new (record no_rows { editions = (pos 1, NEWEST) ∷ [] })
   pub kept : KeepsTables old new
 
--- schema 1 as schema 2: no token ends, each is for all workspaces, and edition tells the version in meta's place
-abbrev pub raised : Tables → Tables
-raised t = record t { metas = []; bounds = with_all (map (λ x. unbounded x.1) t.tokens) []; editions = (pos 1, 2) ∷ [] }
-
--- schema 2 as schema 3: each workspace keeps what one keeps at first, and edition tells the version
-abbrev pub raised_third : Tables → Tables
-raised_third t = record t { keepings = with_all (map (λ x. kept_first x.1) t.wss) []; editions = map (λ x. (x.0, 3)) t.editions }
+-- The rows of a version as those of the next. From the first to the second no token ends, each is for all workspaces, and edition tells the version
+-- in meta's place; from the second to the third each workspace keeps what one keeps at first, and edition tells the version.
+abbrev pub raised : ℕ → Tables → Tables
+raised (suc zero) t = record t { metas = []; bounds = with_all (map (λ x. unbounded x.1) t.tokens) []; editions = (pos 1, 2) ∷ [] }
+raised (suc (suc zero)) t = record t { keepings = with_all (map (λ x. kept_first x.1) t.wss) []; editions = map (λ x. (x.0, 3)) t.editions }
+raised n t = t
 
 -- the table's tree is none of those of these tables
 abbrev pub IsBeside : Database → Table → List Table → Type 0
@@ -121,16 +81,11 @@ pub record KeepsForeign (before after : List Table) (old new : Database) : Type 
   pub beside : (other : Table) → IsOwn old.schema other → IsBeside old other before → IsBeside new other after
   pub rows : (other : Table) → IsOwn old.schema other → RefersPassively other → IsBeside old other before → new.trees (tree_of old.schema other.name) ≡ old.trees (tree_of old.schema other.name)
 
--- The tables of schema 1 have become those of schema 2, the one that schema 3 adds hasn't come, and what is not ours is left.
-pub record Raises (old new : Database) : Type 0 where
-  pub holds : (t : Tables) → HoldsFirst old t → HoldsSecond new (raised t)
-  pub absent : (t : Tables) → HoldsFirst old t → table_named old.schema keeping_table.name ≡ None → table_named new.schema keeping_table.name ≡ None
-  pub foreign : (t : Tables) → HoldsFirst old t → KeepsForeign first_tables (first_tables ++ second_tables) old new
-
--- The tables of schema 2 have become those of schema 3, and what is not ours is left.
-pub record RaisesThird (old new : Database) : Type 0 where
-  pub holds : (t : Tables) → HoldsSecond old t → Holds new (raised_third t)
-  pub foreign : (t : Tables) → HoldsSecond old t → KeepsForeign (first_tables ++ second_tables) our_tables old new
+-- The tables of a version have become those of the next, no table of another name has come, and what is not ours is left.
+pub record Raises (n : ℕ) (old new : Database) : Type 0 where
+  pub holds : (t : Tables) → HoldsIn n old t → HoldsIn (suc n) new (raised n t)
+  pub names : (t : Tables) → HoldsIn n old t → NamesNoOther (added_by (suc n)) old new
+  pub foreign : (t : Tables) → HoldsIn n old t → KeepsForeign (version_tables n) (version_tables (suc n)) old new
 
 -- the version in row 1 of meta, or of edition
 abbrev pub told_version : List (Kept ℕ) → Option ℕ

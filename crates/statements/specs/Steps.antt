@@ -8,7 +8,7 @@ use Rattle.sqlite.specs.declared.transaction.Transaction.{Transaction}
 use Rattle.sqlite_schema.specs.declared.schema.Table.{Table}
 use Rattle.sqlite.specs.Effect.{Database}
 use Rattle.statements.specs.Place.{tree_of, IsOwn, RefersPassively}
-use Rattle.statements.specs.Tables.{Tables, StoredTable, Holds, HoldsAll, tables_in, our_tables}
+use Rattle.statements.specs.Tables.{Tables, Holds, our_tables}
 
 -- The schema stays, and so do the rows of each table that is none of these, and to which no write elsewhere is passed on.
 pub record LeavesBeside (tables : List Table) (old new : Database) : Type 0 where
@@ -46,18 +46,6 @@ pub record MovesWhere (law : Tables → Type 0) (change : Tables → Tables) (ol
 abbrev pub ChangesWhere : {X E : Type 0} → (Tables → Type 0) → (Tables → Tables) → State → State → Result X E → Type 0
 ChangesWhere law change old new result = HasCleanDisk new → IsTrue old.in_transaction → OnOk result (MovesWhere law change old new) × OnErr result (KeepsCommit old new)
 
--- such a change in a database that has the tables of an earlier schema
-pub record MovesIn (stored : Tables → List StoredTable) (change : Tables → Tables) (old new : State) : Type 0 where
-  pub rows : (t : Tables) → HoldsAll old.now (stored t) → HoldsAll new.now (stored (change t))
-  pub others : (t : Tables) → HoldsAll old.now (stored t) → LeavesBeside (tables_in (stored t)) old.now new.now
-  pub was_open : IsTrue old.is_open
-  pub is_open : IsTrue new.is_open
-  pub committed : new.committed ≡ old.committed
-  pub inside : IsTrue new.in_transaction
-
-abbrev pub ChangesIn : {X E : Type 0} → (Tables → List StoredTable) → (Tables → Tables) → State → State → Result X E → Type 0
-ChangesIn stored change old new result = HasCleanDisk new → IsTrue old.in_transaction → OnOk result (MovesIn stored change old new) × OnErr result (KeepsCommit old new)
-
 -- What a write promises: the transaction stays that of the same connection, the rows change by the function, and what the disk has promised stays.
 pub record WritesBy {S X E : Type 0} (g : Ghosts S) (change : Tables → Tables) (old new : Transaction S) (result : Result X E) : Type 0 where
   pub same_reference : new.conn.ghost_name ≡ old.conn.ghost_name
@@ -68,12 +56,6 @@ pub record WritesBy {S X E : Type 0} (g : Ghosts S) (change : Tables → Tables)
 pub record WritesWhere {S X E : Type 0} (g : Ghosts S) (law : Tables → Type 0) (change : Tables → Tables) (old new : Transaction S) (result : Result X E) : Type 0 where
   pub same_reference : new.conn.ghost_name ≡ old.conn.ghost_name
   pub changed : ChangesWhere law change (state g old.conn.now) (state g new.conn.now) result
-  pub survives : Survives (state g old.conn.now) (state g new.conn.now) (λ _. ⊥)
-
--- such a write in a database that has the tables of an earlier schema
-pub record WritesIn {S X E : Type 0} (g : Ghosts S) (stored : Tables → List StoredTable) (change : Tables → Tables) (old new : Transaction S) (result : Result X E) : Type 0 where
-  pub same_reference : new.conn.ghost_name ≡ old.conn.ghost_name
-  pub changed : ChangesIn stored change (state g old.conn.now) (state g new.conn.now) result
   pub survives : Survives (state g old.conn.now) (state g new.conn.now) (λ _. ⊥)
 
 -- a read outside a transaction: nothing changes, and the value is that of the rows

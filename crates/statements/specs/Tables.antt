@@ -1,5 +1,5 @@
--- The tables of schema 3 with their rows, and the databases that hold them, or those of schema 2 or 1.
-use Rattle.std.specs.Prelude.{◌≡◌, ℕ, ℤ, List, [], ◌∷◌, ◌++◌, map}
+-- Our tables with their rows, and the databases that hold them, or those of an earlier version of the schema.
+use Rattle.std.specs.Prelude.{◌≡◌, ℕ, zero, suc, nat_lt, ℤ, Bool, false, cond, is_some, List, [], ◌∷◌, map, take, drop, slice_get, unwrap_or}
 use Rattle.std.specs.List.{AllByRecursion}
 use Rattle.sqlite_value.specs.Order.{Row, column}
 use Rattle.sqlite_typed.specs.Columns.{int_of}
@@ -76,37 +76,45 @@ pub record StoredTable : Type 0 where
 abbrev pub stored_table : {R : Type 0} → Layout R → List (Kept R) → StoredTable
 stored_table layout xs = record { table = layout.table; rows = map (stored layout.cells) xs }
 
--- the tables of schema 1 with these rows, in the order in which they are made: no token has bounds, and meta tells the version
-abbrev pub first_stored : Tables → List StoredTable
-first_stored t =
-    stored_table meta_layout t.metas ∷ stored_table org_layout t.orgs ∷ stored_table token_layout t.tokens ∷ stored_table ws_layout t.wss
-    ∷ stored_table version_layout t.versions ∷ stored_table run_layout t.runs ∷ stored_table page_layout t.pages ∷ stored_table vpage_layout t.vpages ∷ []
-
--- those of schema 2, which has two besides: no workspace is set to keep a number of versions
-abbrev pub second_stored : Tables → List StoredTable
-second_stored t = first_stored t ++ (stored_table bound_layout t.bounds ∷ stored_table edition_layout t.editions ∷ [])
-
--- our tables, those of schema 3, which has one more
+-- our tables with these rows, in the order in which they are made
 abbrev pub stored_tables : Tables → List StoredTable
-stored_tables t = second_stored t ++ (stored_table keeping_layout t.keepings ∷ [])
+stored_tables t =
+    stored_table meta_layout t.metas ∷ stored_table org_layout t.orgs ∷ stored_table token_layout t.tokens ∷ stored_table ws_layout t.wss
+    ∷ stored_table version_layout t.versions ∷ stored_table run_layout t.runs ∷ stored_table page_layout t.pages ∷ stored_table vpage_layout t.vpages
+    ∷ stored_table bound_layout t.bounds ∷ stored_table edition_layout t.editions ∷ stored_table keeping_layout t.keepings ∷ []
 
 abbrev pub tables_in : List StoredTable → List Table
 tables_in = map (λ (x : StoredTable). x.table)
 
--- the tables of schema 1
-abbrev pub first_tables : List Table
-first_tables = tables_in (first_stored no_rows)
-
--- the tables that schema 2 added, and those that schema 3 did
-abbrev pub second_tables : List Table
-second_tables = bound_table ∷ edition_table ∷ []
-
-abbrev pub third_tables : List Table
-third_tables = keeping_table ∷ []
-
--- the tables of schema 3, in the order in which they are made
 abbrev pub our_tables : List Table
 our_tables = tables_in (stored_tables no_rows)
+
+-- How many of them each version of the schema has, from version 0 on, which has none: they are the first ones, since those that a version adds are
+-- made behind those that there were.
+abbrev pub table_counts : List ℕ
+table_counts = 0 ∷ 8 ∷ 10 ∷ 11 ∷ []
+
+abbrev pub is_known : ℕ → Bool
+is_known zero = false
+is_known (suc n) = is_some (slice_get table_counts (suc n))
+
+abbrev pub count_in : ℕ → ℕ
+count_in n = unwrap_or (slice_get table_counts n) 0
+
+-- the tables of a version with these rows
+abbrev pub stored_in : ℕ → Tables → List StoredTable
+stored_in n t = take (count_in n) (stored_tables t)
+
+-- the tables of a version, those that later ones add, and those that it added
+abbrev pub version_tables : ℕ → List Table
+version_tables n = take (count_in n) our_tables
+
+abbrev pub later_tables : ℕ → List Table
+later_tables n = drop (count_in n) our_tables
+
+abbrev pub added_by : ℕ → List Table
+added_by zero = []
+added_by (suc n) = drop (count_in n) (version_tables (suc n))
 
 abbrev pub IsOurs : Schema → Type 0
 IsOurs s = AreOwn s our_tables
@@ -129,13 +137,9 @@ pub record Holds (db : Database) (t : Tables) : Type 0 where
   pub ours : IsOurs db.schema
   pub rows : AllByRecursion (HasRows db) (stored_tables t)
 
--- The database has the tables of schema 1 with these rows; whatever else it has.
-abbrev pub HoldsFirst : Database → Tables → Type 0
-HoldsFirst db t = HoldsAll db (first_stored t)
-
--- The database has the tables of schema 2 with these rows; whatever else it has.
-abbrev pub HoldsSecond : Database → Tables → Type 0
-HoldsSecond db t = HoldsAll db (second_stored t)
+-- The database has the tables of a version with these rows; whatever else it has.
+abbrev pub HoldsIn : ℕ → Database → Tables → Type 0
+HoldsIn n db t = HoldsAll db (stored_in n t)
 
 -- the typed rows that a table's tree stands for
 abbrev pub rows_of : {R : Type 0} → Layout R → Database → List (Kept R)
@@ -157,10 +161,25 @@ tables_of db = record {
   keepings = rows_of keeping_layout db;
 }
 
--- those of schema 1: there are no bounds, no edition and no numbers to keep
-abbrev pub first_tables_of : Database → Tables
-first_tables_of db = record (tables_of db) { bounds = []; editions = []; keepings = [] }
+-- the rows of the table at a place, as a version has them: none where it hasn't that table
+abbrev pub rows_in : {X : Type 0} → ℕ → ℕ → List X → List X
+rows_in n place xs = cond (nat_lt place (count_in n)) xs []
 
--- those of schema 2: there are no numbers to keep
-abbrev pub second_tables_of : Database → Tables
-second_tables_of db = record (tables_of db) { keepings = [] }
+abbrev pub up_to : ℕ → Tables → Tables
+up_to n t = record {
+  metas = rows_in n 0 t.metas;
+  orgs = rows_in n 1 t.orgs;
+  tokens = rows_in n 2 t.tokens;
+  wss = rows_in n 3 t.wss;
+  versions = rows_in n 4 t.versions;
+  runs = rows_in n 5 t.runs;
+  pages = rows_in n 6 t.pages;
+  vpages = rows_in n 7 t.vpages;
+  bounds = rows_in n 8 t.bounds;
+  editions = rows_in n 9 t.editions;
+  keepings = rows_in n 10 t.keepings;
+}
+
+-- the rows of our tables in a database of a version
+abbrev pub tables_at : ℕ → Database → Tables
+tables_at n db = up_to n (tables_of db)

@@ -1,6 +1,7 @@
 //! Statements on the table bound: how far each token reaches.
-ghost use Rattle.statements.specs.Steps.{WritesBy, WritesIn, QueriesBy};
-ghost use Rattle.statements.specs.Tables.{second_stored};
+ghost use Rattle.statements.specs.Steps.{WritesBy, QueriesBy};
+ghost use Rattle.statements.specs.Making.{MakesBy};
+ghost use Rattle.statements.specs.Inner.Making.{Moved};
 ghost use Rattle.statements.specs.Changes.{bound_row_added, bound_row_removed, bounds_filled};
 ghost use Rattle.statements.specs.Finds.{bound_of};
 
@@ -52,8 +53,8 @@ const FILL_BOUNDS: &str =
     "INSERT INTO bound (org, name, until, prefix) SELECT org, name, NULL, '' FROM token ORDER BY rowid";
 
 /// Says of each token that it doesn't end and is for all workspaces, in a database that has the tables of schema 2.
-pub fn fill<S: Alter>(tx: &mut Transaction<'_, S>) -> Result<(), Error>
-    ensures { WritesIn S.Store second_stored bounds_filled tx.old tx.new result }
+pub(crate) fn fill<S: Alter>(tx: &mut Transaction<'_, S>) -> Result<(), Error>
+    ensures { MakesBy S.Store (Moved 2 bounds_filled) tx.old tx.new result }
 {
     write(tx, FILL_BOUNDS, &[])
 }

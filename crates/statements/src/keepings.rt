@@ -2,6 +2,8 @@
 ghost use Rattle.statements.specs.Steps.{WritesBy, QueriesBy};
 ghost use Rattle.statements.specs.Changes.{keeping_row_added, keeping_changed, keeping_row_removed, keepings_filled};
 ghost use Rattle.statements.specs.Finds.{keep_of};
+ghost use Rattle.statements.specs.Making.{MakesBy};
+ghost use Rattle.statements.specs.Inner.Making.{Moved};
 
 use crate::calls::{first_row, read_one, write};
 use basis::KeepCount;
@@ -63,9 +65,9 @@ pub fn remove<S: Alter>(tx: &mut Transaction<'_, S>, org: &str, ws: &str) -> Res
 const FILL_KEEPINGS: &str =
     "INSERT INTO keeping (org, ws, keep) SELECT org, name, 100 FROM ws ORDER BY rowid";
 
-/// Says of each workspace that it keeps what one keeps at first.
-pub fn fill<S: Alter>(tx: &mut Transaction<'_, S>) -> Result<(), Error>
-    ensures { WritesBy S.Store keepings_filled tx.old tx.new result }
+/// Says of each workspace that it keeps what one keeps at first, in a database that has the tables of schema 3.
+pub(crate) fn fill<S: Alter>(tx: &mut Transaction<'_, S>) -> Result<(), Error>
+    ensures { MakesBy S.Store (Moved 3 keepings_filled) tx.old tx.new result }
 {
     write(tx, FILL_KEEPINGS, &[])
 }

@@ -1,312 +1,205 @@
-//! Statements that make the tables of schema 3, or take those of schema 1 to schema 2 and those of schema 2 to it, and
+//! Statements that make the tables of the newest schema, or take those of a version to the next, and
 //! those on the tables edition and meta, which tell the version.
-ghost use Rattle.std.specs.Prelude.{◌≡◌, ℕ, List, [], ◌∷◌, IsTrue, IfOk, OnOk};
+ghost use Rattle.std.specs.Prelude.{◌≡◌, ◌≤◌, ◌<◌, ◌^◌, ℕ, List, length, IfOk};
+ghost use Rattle.std.specs.List.{AllZip};
 ghost use Rattle.sqlite_schema.specs.declared.schema.Table.{Table};
 ghost use Rattle.sqlite.specs.Held.{state};
-ghost use Rattle.sqlite.specs.State.{HasCleanDisk, Survives};
-ghost use Rattle.statements.specs.Steps.{WritesBy, WritesIn, QueriesBy};
-ghost use Rattle.statements.specs.Tables.{second_stored, first_tables, second_tables, third_tables, our_tables};
-ghost use Rattle.statements.specs.Schema.{meta_table, org_table, token_table, ws_table, version_table, run_table, page_table, vpage_table, bound_table, edition_table, keeping_table};
-ghost use Rattle.statements.specs.Making.{AltersBy, MakesBy, GrowsBy, GrowsByAll, HasSchema, Raises, RaisesThird, KeepsMade, LeavesOthers, HasMeta, HasEdition, edition_set, edition_moved, version_cleared, told_version, version_in, edition_in};
+ghost use Rattle.sqlite.specs.State.{HasCleanDisk};
+ghost use Rattle.statements.specs.Steps.{QueriesBy};
+ghost use Rattle.statements.specs.Tables.{count_in, added_by, our_tables};
+ghost use Rattle.statements.specs.Making.{MakesBy, HasSchema, Raises, HasMeta, HasEdition, told_version, version_in, edition_in};
+ghost use Rattle.statements.specs.Inner.Making.{Grows, IsMaker, texts_in, all_of, Moved, Told, edition_moved, version_cleared};
 ghost use Rattle.statements.specs.Rows.{Kept};
 
-use crate::calls::{first_row, read_one, write};
+use crate::calls::{first_row, read_one, signed, write};
 use crate::{bounds, keepings};
-use sqlite::{Alter, Connection, Error, Transaction};
+use sqlite::{Alter, Connection, Error, Transaction, params};
+
+/// The newest version of the schema.
+pub const NEWEST: u64 = 3;
+
+/// The names of the tables, in the order in which they are made.
+pub const TABLES: &[&str] = &[
+    "meta", "org", "token", "ws", "version", "run", "page", "vpage", "bound", "edition", "keeping",
+];
+
+/// How many of them each version has, from version 0 on: the first ones.
+pub const TABLE_COUNTS: &[usize] = &[0, 8, 10, 11];
 
 const MAKE_META: &str =
     "CREATE TABLE meta (one INTEGER PRIMARY KEY CHECK (one = 1), version INTEGER NOT NULL CHECK (version = 1)) STRICT";
 
-/// Makes the table of the version of the schema.
-fn make_meta<S: Alter>(tx: &mut Transaction<'_, S>) -> Result<(), Error>
-    ensures same_reference { tx.new.conn.ghost_name ≡ tx.old.conn.ghost_name }
-    ensures made { AltersBy (GrowsBy meta_table) (state S.Store tx.old.conn.now) (state S.Store tx.new.conn.now) result }
-    ensures survives { Survives (state S.Store tx.old.conn.now) (state S.Store tx.new.conn.now) (λ _. ⊥) }
-{
-    write(tx, MAKE_META, &[])
-}
-
 const MAKE_ORG: &str =
     "CREATE TABLE org (name TEXT NOT NULL PRIMARY KEY, cap INTEGER NOT NULL CHECK (cap BETWEEN 0 AND 100000)) STRICT";
-
-/// Makes the table of organizations.
-fn make_org<S: Alter>(tx: &mut Transaction<'_, S>) -> Result<(), Error>
-    ensures same_reference { tx.new.conn.ghost_name ≡ tx.old.conn.ghost_name }
-    ensures made { AltersBy (GrowsBy org_table) (state S.Store tx.old.conn.now) (state S.Store tx.new.conn.now) result }
-    ensures survives { Survives (state S.Store tx.old.conn.now) (state S.Store tx.new.conn.now) (λ _. ⊥) }
-{
-    write(tx, MAKE_ORG, &[])
-}
 
 const MAKE_TOKEN: &str =
     "CREATE TABLE token (org TEXT NOT NULL, name TEXT NOT NULL, digest BLOB NOT NULL, role INTEGER NOT NULL CHECK (role BETWEEN 0 AND 2), PRIMARY KEY (org, name), UNIQUE (org, digest)) STRICT";
 
-/// Makes the table of tokens.
-fn make_token<S: Alter>(tx: &mut Transaction<'_, S>) -> Result<(), Error>
-    ensures same_reference { tx.new.conn.ghost_name ≡ tx.old.conn.ghost_name }
-    ensures made { AltersBy (GrowsBy token_table) (state S.Store tx.old.conn.now) (state S.Store tx.new.conn.now) result }
-    ensures survives { Survives (state S.Store tx.old.conn.now) (state S.Store tx.new.conn.now) (λ _. ⊥) }
-{
-    write(tx, MAKE_TOKEN, &[])
-}
-
 const MAKE_WS: &str =
     "CREATE TABLE ws (org TEXT NOT NULL, name TEXT NOT NULL, auto INTEGER NOT NULL, kind INTEGER NOT NULL CHECK (kind BETWEEN 0 AND 2), lock_id TEXT CHECK ((lock_id IS NOT NULL) = (kind = 1)), lock_text BLOB CHECK ((lock_text IS NOT NULL) = (kind = 1)), run INTEGER CHECK ((run IS NOT NULL) = (kind = 2)), released TEXT, next_version INTEGER NOT NULL, next_run INTEGER NOT NULL, PRIMARY KEY (org, name)) STRICT";
-
-/// Makes the table of workspaces.
-fn make_ws<S: Alter>(tx: &mut Transaction<'_, S>) -> Result<(), Error>
-    ensures same_reference { tx.new.conn.ghost_name ≡ tx.old.conn.ghost_name }
-    ensures made { AltersBy (GrowsBy ws_table) (state S.Store tx.old.conn.now) (state S.Store tx.new.conn.now) result }
-    ensures survives { Survives (state S.Store tx.old.conn.now) (state S.Store tx.new.conn.now) (λ _. ⊥) }
-{
-    write(tx, MAKE_WS, &[])
-}
 
 const MAKE_VERSION: &str =
     "CREATE TABLE version (org TEXT NOT NULL, ws TEXT NOT NULL, number INTEGER NOT NULL, serial INTEGER NOT NULL, lineage TEXT NOT NULL, created INTEGER NOT NULL, size INTEGER NOT NULL, PRIMARY KEY (org, ws, number)) STRICT";
 
-/// Makes the table of versions of states.
-fn make_version<S: Alter>(tx: &mut Transaction<'_, S>) -> Result<(), Error>
-    ensures same_reference { tx.new.conn.ghost_name ≡ tx.old.conn.ghost_name }
-    ensures made { AltersBy (GrowsBy version_table) (state S.Store tx.old.conn.now) (state S.Store tx.new.conn.now) result }
-    ensures survives { Survives (state S.Store tx.old.conn.now) (state S.Store tx.new.conn.now) (λ _. ⊥) }
-{
-    write(tx, MAKE_VERSION, &[])
-}
-
 const MAKE_RUN: &str =
     "CREATE TABLE run (org TEXT NOT NULL, ws TEXT NOT NULL, number INTEGER NOT NULL, plan_only INTEGER NOT NULL, rkey TEXT, message TEXT NOT NULL, created INTEGER NOT NULL, status INTEGER NOT NULL CHECK (status BETWEEN 0 AND 8), action INTEGER CHECK (action BETWEEN 0 AND 6), PRIMARY KEY (org, ws, number), UNIQUE (org, ws, rkey)) STRICT";
-
-/// Makes the table of runs.
-fn make_run<S: Alter>(tx: &mut Transaction<'_, S>) -> Result<(), Error>
-    ensures same_reference { tx.new.conn.ghost_name ≡ tx.old.conn.ghost_name }
-    ensures made { AltersBy (GrowsBy run_table) (state S.Store tx.old.conn.now) (state S.Store tx.new.conn.now) result }
-    ensures survives { Survives (state S.Store tx.old.conn.now) (state S.Store tx.new.conn.now) (λ _. ⊥) }
-{
-    write(tx, MAKE_RUN, &[])
-}
 
 const MAKE_PAGE: &str =
     "CREATE TABLE page (pkey BLOB NOT NULL, twin INTEGER NOT NULL, bytes BLOB NOT NULL, uses INTEGER NOT NULL CHECK (uses >= 1), PRIMARY KEY (pkey, twin)) STRICT";
 
-/// Makes the table of pages.
-fn make_page<S: Alter>(tx: &mut Transaction<'_, S>) -> Result<(), Error>
-    ensures same_reference { tx.new.conn.ghost_name ≡ tx.old.conn.ghost_name }
-    ensures made { AltersBy (GrowsBy page_table) (state S.Store tx.old.conn.now) (state S.Store tx.new.conn.now) result }
-    ensures survives { Survives (state S.Store tx.old.conn.now) (state S.Store tx.new.conn.now) (λ _. ⊥) }
-{
-    write(tx, MAKE_PAGE, &[])
-}
-
 const MAKE_VPAGE: &str =
     "CREATE TABLE vpage (org TEXT NOT NULL, ws TEXT NOT NULL, number INTEGER NOT NULL, place INTEGER NOT NULL, pkey BLOB NOT NULL, twin INTEGER NOT NULL, PRIMARY KEY (org, ws, number, place), FOREIGN KEY (pkey, twin) REFERENCES page (pkey, twin) ON DELETE RESTRICT) STRICT";
-
-/// Makes the table of the pages that stand in the texts of versions.
-fn make_vpage<S: Alter>(tx: &mut Transaction<'_, S>) -> Result<(), Error>
-    ensures same_reference { tx.new.conn.ghost_name ≡ tx.old.conn.ghost_name }
-    ensures made { AltersBy (GrowsBy vpage_table) (state S.Store tx.old.conn.now) (state S.Store tx.new.conn.now) result }
-    ensures survives { Survives (state S.Store tx.old.conn.now) (state S.Store tx.new.conn.now) (λ _. ⊥) }
-{
-    write(tx, MAKE_VPAGE, &[])
-}
 
 const MAKE_BOUND: &str =
     "CREATE TABLE bound (org TEXT NOT NULL, name TEXT NOT NULL, until INTEGER, prefix TEXT NOT NULL, PRIMARY KEY (org, name), FOREIGN KEY (org, name) REFERENCES token (org, name) ON DELETE CASCADE) STRICT";
 
-/// Makes the table of how far tokens reach.
-fn make_bound<S: Alter>(tx: &mut Transaction<'_, S>) -> Result<(), Error>
-    ensures same_reference { tx.new.conn.ghost_name ≡ tx.old.conn.ghost_name }
-    ensures made { AltersBy (GrowsBy bound_table) (state S.Store tx.old.conn.now) (state S.Store tx.new.conn.now) result }
-    ensures survives { Survives (state S.Store tx.old.conn.now) (state S.Store tx.new.conn.now) (λ _. ⊥) }
-{
-    write(tx, MAKE_BOUND, &[])
-}
-
 const MAKE_EDITION: &str =
     "CREATE TABLE edition (one INTEGER PRIMARY KEY CHECK (one = 1), version INTEGER NOT NULL CHECK (version >= 2)) STRICT";
-
-/// Makes the table of the version of the schema, from schema 2 on.
-fn make_edition<S: Alter>(tx: &mut Transaction<'_, S>) -> Result<(), Error>
-    ensures same_reference { tx.new.conn.ghost_name ≡ tx.old.conn.ghost_name }
-    ensures made { AltersBy (GrowsBy edition_table) (state S.Store tx.old.conn.now) (state S.Store tx.new.conn.now) result }
-    ensures survives { Survives (state S.Store tx.old.conn.now) (state S.Store tx.new.conn.now) (λ _. ⊥) }
-{
-    write(tx, MAKE_EDITION, &[])
-}
 
 const MAKE_KEEPING: &str =
     "CREATE TABLE keeping (org TEXT NOT NULL, ws TEXT NOT NULL, keep INTEGER NOT NULL CHECK (keep BETWEEN 1 AND 1000), PRIMARY KEY (org, ws), FOREIGN KEY (org, ws) REFERENCES ws (org, name) ON DELETE CASCADE) STRICT";
 
-/// Makes the table of how many versions workspaces keep.
-fn make_keeping<S: Alter>(tx: &mut Transaction<'_, S>) -> Result<(), Error>
-    ensures same_reference { tx.new.conn.ghost_name ≡ tx.old.conn.ghost_name }
-    ensures made { AltersBy (GrowsBy keeping_table) (state S.Store tx.old.conn.now) (state S.Store tx.new.conn.now) result }
-    ensures survives { Survives (state S.Store tx.old.conn.now) (state S.Store tx.new.conn.now) (λ _. ⊥) }
-{
-    write(tx, MAKE_KEEPING, &[])
-}
-
+/// By it a waiting run is found.
 const MAKE_RUN_INDEX: &str =
     "CREATE INDEX IF NOT EXISTS run_by_status ON run (org, ws, status, number)";
 
-/// Makes the index by which a waiting run is found. Where an index of others has its name, it is left out.
-fn make_run_index<S: Alter>(tx: &mut Transaction<'_, S>) -> Result<(), Error>
-    ensures same_reference { tx.new.conn.ghost_name ≡ tx.old.conn.ghost_name }
-    ensures made { AltersBy KeepsMade (state S.Store tx.old.conn.now) (state S.Store tx.new.conn.now) result }
-    ensures survives { Survives (state S.Store tx.old.conn.now) (state S.Store tx.new.conn.now) (λ _. ⊥) }
-{
-    write(tx, MAKE_RUN_INDEX, &[])
-}
-
+/// By it versions are found and listed without a look at their texts.
 const MAKE_VERSION_INDEX: &str =
     "CREATE INDEX IF NOT EXISTS version_head ON version (org, ws, number, serial, lineage, created, size)";
 
-/// Makes the index by which versions are found and listed without a look at their texts.
-/// Where an index of others has its name, it is left out.
-fn make_version_index<S: Alter>(tx: &mut Transaction<'_, S>) -> Result<(), Error>
-    ensures same_reference { tx.new.conn.ghost_name ≡ tx.old.conn.ghost_name }
-    ensures made { AltersBy KeepsMade (state S.Store tx.old.conn.now) (state S.Store tx.new.conn.now) result }
-    ensures survives { Survives (state S.Store tx.old.conn.now) (state S.Store tx.new.conn.now) (λ _. ⊥) }
-{
-    write(tx, MAKE_VERSION_INDEX, &[])
-}
-
+/// By it it is known whether a page is still named, when it goes.
 const MAKE_VPAGE_INDEX: &str = "CREATE INDEX IF NOT EXISTS vpage_page ON vpage (pkey, twin)";
 
-/// Makes the index by which it is known whether a page is still named, when it goes.
-/// Where an index of others has its name, it is left out.
-fn make_vpage_index<S: Alter>(tx: &mut Transaction<'_, S>) -> Result<(), Error>
-    ensures same_reference { tx.new.conn.ghost_name ≡ tx.old.conn.ghost_name }
-    ensures made { AltersBy KeepsMade (state S.Store tx.old.conn.now) (state S.Store tx.new.conn.now) result }
-    ensures survives { Survives (state S.Store tx.old.conn.now) (state S.Store tx.new.conn.now) (λ _. ⊥) }
+/// The texts that make the tables of schema 1 and the indexes on them, in the order in which they are run.
+/// An index is left out where one of others has its name.
+const FIRST: &[&str] = &[
+    MAKE_META,
+    MAKE_ORG,
+    MAKE_TOKEN,
+    MAKE_WS,
+    MAKE_VERSION,
+    MAKE_RUN,
+    MAKE_RUN_INDEX,
+    MAKE_VERSION_INDEX,
+    MAKE_PAGE,
+    MAKE_VPAGE,
+    MAKE_VPAGE_INDEX,
+];
+
+/// Those of the tables that schema 2 has besides.
+const SECOND: &[&str] = &[MAKE_BOUND, MAKE_EDITION];
+
+/// Those of the table that schema 3 has besides.
+const THIRD: &[&str] = &[MAKE_KEEPING];
+
+/// Makes a table or an index.
+fn make<S: Alter>(tx: &mut Transaction<'_, S>, text: &str) -> Result<(), Error>
+    ensures { (made : List Table) → IsMaker text.now made → MakesBy S.Store (Grows made) tx.old tx.new result }
 {
-    write(tx, MAKE_VPAGE_INDEX, &[])
+    write(tx, text, &[])
 }
 
-/// Makes the tables of names: the version, organizations, tokens and workspaces.
-fn make_names<S: Alter>(tx: &mut Transaction<'_, S>) -> Result<(), Error>
-    ensures { MakesBy S.Store (GrowsByAll (meta_table ∷ org_table ∷ token_table ∷ ws_table ∷ [])) tx.old tx.new result }
+/// Makes tables and indexes, one behind the other.
+fn make_all<S: Alter>(tx: &mut Transaction<'_, S>, texts: &[&str]) -> Result<(), Error>
+    ensures { (made : List (List Table)) → AllZip IsMaker (texts_in texts.now) made → 1 ≤ length made → MakesBy S.Store (Grows (all_of made)) tx.old tx.new result }
 {
-    make_meta(tx)?;
-    make_org(tx)?;
-    make_token(tx)?;
-    make_ws(tx)
+    for text in texts {
+        make(tx, text)?;
+    }
+    Ok(())
 }
 
-/// Makes the tables of versions and runs, and an index on each.
-fn make_states<S: Alter>(tx: &mut Transaction<'_, S>) -> Result<(), Error>
-    ensures { MakesBy S.Store (GrowsByAll (version_table ∷ run_table ∷ [])) tx.old tx.new result }
+/// Makes the tables that a version adds, and the indexes on them.
+fn make_version<S: Alter>(tx: &mut Transaction<'_, S>, version: u64) -> Result<(), Error>
+    ensures { MakesBy S.Store (Grows (added_by version)) tx.old tx.new result }
 {
-    make_version(tx)?;
-    make_run(tx)?;
-    make_run_index(tx)?;
-    make_version_index(tx)
+    match version {
+        1 => make_all(tx, FIRST),
+        2 => make_all(tx, SECOND),
+        3 => make_all(tx, THIRD),
+        _ => Err(Error::InvalidQuery),
+    }
 }
 
-/// Makes the tables of pages and of where they stand, and the index on these.
-fn make_pages<S: Alter>(tx: &mut Transaction<'_, S>) -> Result<(), Error>
-    ensures { MakesBy S.Store (GrowsByAll (page_table ∷ vpage_table ∷ [])) tx.old tx.new result }
-{
-    make_page(tx)?;
-    make_vpage(tx)?;
-    make_vpage_index(tx)
-}
-
-/// Makes the tables of schema 1, and the indexes on them.
-fn make_first<S: Alter>(tx: &mut Transaction<'_, S>) -> Result<(), Error>
-    ensures { MakesBy S.Store (GrowsByAll first_tables) tx.old tx.new result }
-{
-    make_names(tx)?;
-    make_states(tx)?;
-    make_pages(tx)
-}
-
-/// Makes the tables that schema 2 has and schema 1 hasn't, beside those of schema 1.
-pub fn make_second<S: Alter>(tx: &mut Transaction<'_, S>) -> Result<(), Error>
-    ensures { MakesBy S.Store (GrowsByAll second_tables) tx.old tx.new result }
-{
-    make_bound(tx)?;
-    make_edition(tx)
-}
-
-/// Makes the table that schema 3 has and schema 2 hasn't, beside those of schema 2.
-pub fn make_third<S: Alter>(tx: &mut Transaction<'_, S>) -> Result<(), Error>
-    ensures { MakesBy S.Store (GrowsByAll third_tables) tx.old tx.new result }
-{
-    make_keeping(tx)
-}
-
-/// Makes the tables of schema 3, and the indexes on them.
+/// Makes the tables of all versions, one version behind the other.
 fn make_tables<S: Alter>(tx: &mut Transaction<'_, S>) -> Result<(), Error>
-    ensures { MakesBy S.Store (GrowsByAll our_tables) tx.old tx.new result }
+    ensures { MakesBy S.Store (Grows our_tables) tx.old tx.new result }
 {
-    make_first(tx)?;
-    make_second(tx)?;
-    make_third(tx)
+    for version in 0..NEWEST {
+        make_version(tx, version + 1)?;
+    }
+    Ok(())
 }
 
-const SET_SECOND: &str = "INSERT INTO edition (one, version) VALUES (1, 2)";
+const SET_VERSION: &str = "INSERT INTO edition (one, version) VALUES (1, ?1)";
 
-/// Says that the database has schema 2, where it has the tables of that.
-pub fn set_second<S: Alter>(tx: &mut Transaction<'_, S>) -> Result<(), Error>
-    ensures { WritesIn S.Store second_stored (edition_set 2) tx.old tx.new result }
+/// Says which version a database has, in one that has the tables of that and tells none.
+fn set_version<S: Alter>(tx: &mut Transaction<'_, S>, version: u64) -> Result<(), Error>
+    requires fits { version < 2 ^ 63 }
+    requires there { 9 < count_in version }
+    ensures { MakesBy S.Store (Told version) tx.old tx.new result }
 {
-    write(tx, SET_SECOND, &[])
+    let version = signed(version);
+    write(tx, SET_VERSION, params![&version])
 }
 
-const SET_THIRD: &str = "INSERT INTO edition (one, version) VALUES (1, 3)";
+const MOVE_VERSION: &str = "UPDATE edition SET version = ?1";
 
-/// Says that the database has schema 3.
-pub fn set_third<S: Alter>(tx: &mut Transaction<'_, S>) -> Result<(), Error>
-    ensures writes { WritesBy S.Store (edition_set 3) tx.old tx.new result }
-    ensures others { HasCleanDisk (state S.Store tx.new.conn.now) → IsTrue (state S.Store tx.old.conn.now).in_transaction → OnOk result (LeavesOthers edition_table (state S.Store tx.old.conn.now).now (state S.Store tx.new.conn.now).now) }
+/// Says which version a database has, in one that has the tables of that and tells another.
+fn move_version<S: Alter>(tx: &mut Transaction<'_, S>, version: u64) -> Result<(), Error>
+    requires fits { version < 2 ^ 63 }
+    requires there { 9 < count_in version }
+    ensures { MakesBy S.Store (Moved version (edition_moved version)) tx.old tx.new result }
 {
-    write(tx, SET_THIRD, &[])
-}
-
-const MOVE_TO_THIRD: &str = "UPDATE edition SET version = 3";
-
-/// Says that the database has schema 3, where edition tells another version.
-pub fn move_to_third<S: Alter>(tx: &mut Transaction<'_, S>) -> Result<(), Error>
-    ensures { WritesBy S.Store (edition_moved 3) tx.old tx.new result }
-{
-    write(tx, MOVE_TO_THIRD, &[])
+    let version = signed(version);
+    write(tx, MOVE_VERSION, params![&version])
 }
 
 const CLEAR_VERSION: &str = "DELETE FROM meta";
 
 /// Takes away what meta tells, in a database that has the tables of schema 2.
-pub fn clear_version<S: Alter>(tx: &mut Transaction<'_, S>) -> Result<(), Error>
-    ensures { WritesIn S.Store second_stored version_cleared tx.old tx.new result }
+fn clear_version<S: Alter>(tx: &mut Transaction<'_, S>) -> Result<(), Error>
+    ensures { MakesBy S.Store (Moved 2 version_cleared) tx.old tx.new result }
 {
     write(tx, CLEAR_VERSION, &[])
 }
 
-/// Makes schema 3: its tables, and the row that tells its version.
+/// Makes the newest schema: its tables, and the row that tells its version.
 pub fn make_schema<S: Alter>(tx: &mut Transaction<'_, S>) -> Result<(), Error>
     ensures { MakesBy S.Store HasSchema tx.old tx.new result }
 {
     make_tables(tx)?;
-    set_third(tx)
+    set_version(tx, NEWEST)
 }
 
 /// Takes schema 1 to schema 2: each token gets its row of bound, and edition tells the version in meta's place.
-pub fn raise_schema<S: Alter>(tx: &mut Transaction<'_, S>) -> Result<(), Error>
-    ensures { MakesBy S.Store Raises tx.old tx.new result }
+fn raise_first<S: Alter>(tx: &mut Transaction<'_, S>) -> Result<(), Error>
+    ensures { MakesBy S.Store (Raises 1) tx.old tx.new result }
 {
-    make_second(tx)?;
+    make_version(tx, 2)?;
     bounds::fill(tx)?;
     clear_version(tx)?;
-    set_second(tx)
+    set_version(tx, 2)
 }
 
 /// Takes schema 2 to schema 3: each workspace gets its row of keeping, and edition tells the version.
-pub fn raise_third<S: Alter>(tx: &mut Transaction<'_, S>) -> Result<(), Error>
-    ensures { MakesBy S.Store RaisesThird tx.old tx.new result }
+fn raise_second<S: Alter>(tx: &mut Transaction<'_, S>) -> Result<(), Error>
+    ensures { MakesBy S.Store (Raises 2) tx.old tx.new result }
 {
-    make_third(tx)?;
+    make_version(tx, 3)?;
     keepings::fill(tx)?;
-    move_to_third(tx)
+    move_version(tx, 3)
+}
+
+/// Takes a schema to the next, if there is one.
+pub fn raise<S: Alter>(tx: &mut Transaction<'_, S>, from: u64) -> Result<(), Error>
+    ensures { MakesBy S.Store (Raises from) tx.old tx.new result }
+{
+    match from {
+        1 => raise_first(tx),
+        2 => raise_second(tx),
+        _ => Err(Error::InvalidQuery),
+    }
 }
 
 const VERSION: &str = "SELECT version FROM meta WHERE one = 1 ORDER BY rowid";

@@ -6,6 +6,8 @@ use Rattle.statements.proofs.Decoding.{tables-held}
 use Rattle.tables.specs.Records.{record_of}
 use Rattle.tables.specs.Sound.{IsSound}
 use Rattle.tables.specs.Stores.{records_of, IsSoundStore}
+use Rattle.tables.specs.Versions.{HoldsVersion}
+use Rattle.statements.specs.declared.making.TheConstants.{NEWEST}
 
 -- a database that holds sound tables is sound
 pub store_by : (db : Database) (t : Tables) → Holds db t → IsSound t → IsSoundStore db
@@ -15,3 +17,7 @@ store_by db t holds sound =
 
 pub records_by : (db : Database) (t : Tables) → Holds db t → (org : List ℕ) → records_of db org ≡ record_of t org
 records_by db t holds org = ap (λ (u : Tables). record_of u org) (tables-held db t holds)
+
+-- and one of the newest version is
+pub store_is : (db : Database) → HoldsVersion NEWEST db → IsSoundStore db
+store_is db h = record { holds = record { ours = h.holds.own; rows = h.holds.rows }; sound = h.sound }

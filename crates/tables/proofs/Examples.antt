@@ -28,7 +28,7 @@ use Rattle.sqlite_schema.specs.declared.schema.Kind.TheVariants.{Blob}
 use Rattle.statements.specs.Rows.{Kept, OrgRow, WsRow, PageRow, VpageRow}
 use Rattle.statements.specs.Schema.{column, version_table}
 use Rattle.statements.specs.Tables.{Tables}
-use Rattle.statements.specs.Making.{raised, raised_third}
+use Rattle.statements.specs.Making.{raised}
 use Rattle.statements.proofs.NameLists.{same_text}
 use Rattle.tables.proofs.Finding.{entries_counted}
 use Rattle.tables.specs.Records.{record_of, organization_at, workspace_at, workspace_by}
@@ -281,20 +281,20 @@ first_record : record_of first acme ≡ Some (record {
 first_record = refl
 
 -- as tables of the second version each token has a row, and the record is the same
-first_raised : (raised first).bounds ≡ (pos 1, record { org = acme; name = codes "ci"; until = None; prefix = [] }) ∷ []
+first_raised : (raised 1 first).bounds ≡ (pos 1, record { org = acme; name = codes "ci"; until = None; prefix = [] }) ∷ []
 first_raised = refl
 
-raised_record : record_of (raised first) acme ≡ record_of first acme
+raised_record : record_of (raised 1 first) acme ≡ record_of first acme
 raised_record = refl
 
 -- and as tables of the third each workspace has one
-second_raised : (raised_third (raised first)).keepings ≡ (pos 1, record { org = globex; ws = prod; keep = 100 }) ∷ (pos 2, record { org = acme; ws = prod; keep = 100 }) ∷ []
+second_raised : (raised 2 (raised 1 first)).keepings ≡ (pos 1, record { org = globex; ws = prod; keep = 100 }) ∷ (pos 2, record { org = acme; ws = prod; keep = 100 }) ∷ []
 second_raised = refl
 
-second_record : record_of (raised_third (raised first)) acme ≡ record_of first acme
+second_record : record_of (raised 2 (raised 1 first)) acme ≡ record_of first acme
 second_record = refl
 
-told_third : (raised_third (raised first)).editions ≡ (pos 1, 3) ∷ []
+told_third : (raised 2 (raised 1 first)).editions ≡ (pos 1, 3) ∷ []
 told_third = refl
 
 -- ---- lists

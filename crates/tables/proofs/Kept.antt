@@ -23,12 +23,13 @@ use Rattle.machine.specs.declared.records.Organization.{Organization}
 use Rattle.machine.proofs.RuleLemmas.{rules_are_lawful}
 use Rattle.machine.proofs.KeepLemmas.{standing_is}
 use Rattle.statements.specs.Rows.{Kept, id_of, OrgRow, TokenRow, BoundRow}
+use Rattle.statements.specs.declared.making.TheConstants.{NEWEST}
 use Rattle.statements.specs.Tables.{Tables, no_rows}
 use Rattle.statements.specs.Changes.{is_org, is_token, is_digest_of, is_bound, org_row_added, token_added}
 use Rattle.statements.specs.Finds.{cap_of, role_of_name, role_of_digest}
 use Rattle.statements.proofs.Found.{apart_pushed}
 use Rattle.tables.specs.Records.{workspace_by, tokens_at, organization_at, record_of}
-use Rattle.tables.specs.Sound.{TellsEdition, IsOrgRow, IsTokenRow, IsBoundRow, IsSound}
+use Rattle.tables.specs.Sound.{TellsVersion, IsOrgRow, IsTokenRow, IsBoundRow, IsSound}
 use Rattle.tables.specs.Inner.Edits.{changed_rows, TakesEdit}
 use Rattle.texts.proofs.TextLaws.{carried_sound, no_rows_sound}
 use Rattle.tables.proofs.TextRows.{AreTexts, sound_texts, texts_carried, KeepsWorkspaces, workspace_carried, workspaces_carried}
@@ -94,7 +95,7 @@ org_there t org cap e = any_is_found (is_org org) t.orgs ∙ sym (some_mapped (f
 pub changed_keeps : (key_of : List ℕ → List ℕ) (org ws : List ℕ) (t : Tables) → IsSound t → (change : Change) → TakesEdit key_of org ws change.edit t → (o : Organization) → IsTrue (is_ws_name ws) → record_of t org ≡ Some o
     → IsDue (seen_in o ws) change → IsSound (changed_rows key_of org ws change t)
 changed_keeps key_of org ws t sound change takes o named there due = record {
-  told = told_changed key_of org ws t sound 3 sound.told change takes;
+  told = told_changed key_of org ws t sound change takes;
   orgs_apart = order.orgs_apart;
   tokens_apart = order.tokens_apart;
   digests_apart = order.digests_apart;
@@ -282,7 +283,7 @@ token_added_keeps org name digest role bounds t sound named long ends begins cap
 pub no_record : (editions : List (Kept ℕ)) (org : List ℕ) → record_of (record no_rows { editions = editions }) org ≡ None
 no_record editions org = refl
 
-pub no_rows_are_sound : (editions : List (Kept ℕ)) → TellsEdition 3 (record no_rows { editions = editions }) → IsSound (record no_rows { editions = editions })
+pub no_rows_are_sound : (editions : List (Kept ℕ)) → TellsVersion NEWEST (record no_rows { editions = editions }) → IsSound (record no_rows { editions = editions })
 no_rows_are_sound editions told = record {
   told = told;
   orgs_apart = tt;

@@ -1,12 +1,13 @@
 -- The tables of a version as those of the next: each token, and later each workspace, gets a row of its own, and no record changes.
-use Rattle.std.proofs.Common.{◌≡◌, ℕ, Bool, true, false, ◌&&◌, ◌||◌, is_some, List, [], ◌∷◌, ◌++◌, map, filter, find, Option, Some, None, option_map, IfSome, IsTrue, refl, sym, ap, subst, ◌∙◌}
+use Rattle.std.proofs.Common.{◌≡◌, ◌≤◌, ◌<◌, ℕ, zero, suc, arith, drop, not, Bool, true, false, ◌&&◌, ◌||◌, is_some, List, [], ◌∷◌, ◌++◌, map, filter, find, Option, Some, None, option_map, IfSome, IsTrue, refl, sym, ap, subst, ◌∙◌}
 use Rattle.std.specs.Option.{unwrap_or}
 use Rattle.std.specs.Str.{bytes_eq}
-use Rattle.std.specs.List.{AllByRecursion, list_any}
+use Rattle.std.specs.List.{AllByRecursion, list_any, list_all}
 use Rattle.std.specs.FinMap.{from_entries}
-use Rattle.std.proofs.lemmas.Bool.{or_parts, or_from}
+use Rattle.std.proofs.lemmas.Bool.{and_parts, or_parts, or_from}
 use Rattle.std.proofs.lemmas.List.{append-nil, append_assoc, map-append}
-use Rattle.sqlite_schema.specs.Names.{table_named}
+use Rattle.sqlite_schema.specs.declared.schema.Table.{Table}
+use Rattle.sqlite_schema.specs.Names.{same_name}
 use Rattle.sqlite_trees.specs.Tree.{IsAscending}
 use Rattle.sqlite_keyed.specs.Keyed.{next_key}
 use Rattle.sqlite_keyed.specs.Rules.{AreApart}
@@ -17,20 +18,20 @@ use Rattle.machine.specs.Order.{name_cmp}
 use Rattle.machine.specs.Ranges.{IsMoment}
 use Rattle.sqlite.specs.Effect.{Database}
 use Rattle.statements.specs.Rows.{Kept, id_of, TokenRow, WsRow, BoundRow, KeepingRow}
-use Rattle.statements.specs.Schema.{bound_table, edition_table, keeping_table}
-use Rattle.statements.specs.Tables.{Tables, HoldsSecond, first_tables_of, second_tables_of}
+use Rattle.statements.specs.declared.making.TheConstants.{NEWEST}
+use Rattle.statements.specs.Tables.{Tables, HoldsIn, is_known, count_in, our_tables, later_tables, added_by, up_to, tables_of, tables_at}
 use Rattle.statements.specs.Changes.{is_bound, is_keeping, with_next, with_all, unbounded, kept_first}
 use Rattle.statements.specs.Finds.{cap_of, bound_in}
-use Rattle.statements.specs.Making.{raised, raised_third, Raises, RaisesThird}
-use Rattle.statements.proofs.Decoding.{second_tables-held}
+use Rattle.statements.specs.Making.{sequence_name, IsNotNamed, NamesNoOther, raised, Raises}
+use Rattle.statements.proofs.Counts.{next_version, more_tables}
+use Rattle.statements.proofs.Decoding.{tables_at-held}
 use Rattle.statements.proofs.Found.{found_holds}
 use Rattle.tables.specs.Records.{no_bounds, bounds_at, keep_at, token_of_cells, is_token_of, tokens_at, record_of}
-use Rattle.tables.specs.Sound.{IsBoundRow, AreFirstSound, AreSecondSound, IsSound}
-use Rattle.tables.specs.Stores.{is_in_schema, IsFirstStore, IsSecondStore}
-use Rattle.tables.specs.Versions.{Becomes, KeepsBeside}
+use Rattle.tables.specs.Sound.{IsBoundRow, IsSoundIn}
+use Rattle.tables.specs.Stores.{is_in_schema}
+use Rattle.tables.specs.Versions.{HoldsVersion, Becomes, KeepsBeside}
 use Rattle.tables.proofs.TextRows.{AreTexts, texts_carried, KeepsWorkspaces, workspace_carried, workspaces_carried, organization_carried}
 use Rattle.tables.proofs.Names.{pair_is}
-use Rattle.tables.proofs.Databases.{store_by, records_by}
 
 -- ---- rows of a pair of names, one for each row of another table
 
@@ -145,7 +146,7 @@ all_kept_first ts = all_filled kept_first KeepsFirst (λ k r. refl) ts [] tt
 
 module _ (t : Tables) (none : t.bounds ≡ []) where
   abbrev second : Tables
-  second = raised t
+  second = raised 1 t
 
   same_workspaces : KeepsWorkspaces t second
   same_workspaces = record { wss = refl; versions = refl; runs = refl; pages = refl; vpages = refl; kept = λ o w. refl }
@@ -171,7 +172,7 @@ module _ (t : Tables) (none : t.bounds ≡ []) where
   record_raised org = λ i. option_map (λ (cap : ℕ). record { limit = cap; tokens = tokens_raised org i; workspaces = workspaces_carried t second same_workspaces org i }) (cap_of org t)
 
   -- sound tables of the first version become sound ones of the second
-  pub raised_sound : AreFirstSound t → AreSecondSound second
+  pub raised_sound : IsSoundIn 1 t → IsSoundIn 2 second
   raised_sound sound = record {
     told = (refl, refl);
     orgs_apart = sound.orgs_apart;
@@ -180,9 +181,12 @@ module _ (t : Tables) (none : t.bounds ≡ []) where
     wss_apart = sound.wss_apart;
     bounds_apart = filled_apart unbounded token_pair bound_pair (λ r. refl) t.tokens sound.tokens_apart;
     tokens_bound = each_has unbounded token_pair bound_pair (λ r. refl) t.tokens;
+    keepings_apart = sound.keepings_apart;
+    wss_kept = tt;
     tokens_owned = sound.tokens_owned;
     bounds_owned = each_owned unbounded token_pair bound_pair (λ r. refl) t.tokens;
     wss_owned = sound.wss_owned;
+    keepings_owned = sound.keepings_owned;
     versions_owned = sound.versions_owned;
     runs_owned = sound.runs_owned;
     org_rows = sound.org_rows;
@@ -202,7 +206,7 @@ module _ (t : Tables) (none : t.bounds ≡ []) where
 
 module _ (t : Tables) (none : t.keepings ≡ []) where
   abbrev third : Tables
-  third = raised_third t
+  third = raised 2 t
 
   -- each workspace keeps what one keeps at first
   keep_filled : (org ws : List ℕ) → keep_at third org ws ≡ FIRST_KEPT
@@ -222,7 +226,7 @@ module _ (t : Tables) (none : t.keepings ≡ []) where
   third_record org = organization_carried t third kept_workspaces refl refl org (cap_of org t)
 
   -- sound tables of the second version become sound ones of the third
-  pub third_sound : AreSecondSound t → IsSound third
+  pub third_sound : IsSoundIn 2 t → IsSoundIn 3 third
   third_sound sound = record {
     told = (ap (map (λ x. (x.0, 3))) sound.told.0, sound.told.1);
     orgs_apart = sound.orgs_apart;
@@ -252,55 +256,91 @@ module _ (t : Tables) (none : t.keepings ≡ []) where
       texts : AreTexts third
       texts = texts_carried t third refl refl refl (record { places = sound.places; placed = sound.placed; texts = sound.texts })
 
+-- ---- a step from a version to the next
+
+-- no table that is added has the name of this one, nor has the engine's own
+abbrev is_apart : List Table → Table → Bool
+is_apart added x = not (same_name sequence_name x.name) && list_all (λ (y : Table). not (same_name y.name x.name)) added
+
+-- The records stay, what was sound is sound as the next version, and no table that a later one adds comes along.
+record Step (n : ℕ) : Type 0 where
+  same : (t : Tables) (org : List ℕ) → record_of (raised n (up_to n t)) org ≡ record_of (up_to n t) org
+  sound : (t : Tables) → IsSoundIn n (up_to n t) → IsSoundIn (suc n) (raised n (up_to n t))
+  still : (t : Tables) → up_to (suc n) (raised n (up_to n t)) ≡ raised n (up_to n t)
+  apart : list_all (is_apart (added_by (suc n))) (later_tables (suc n)) ≡ true
+
+first_step : Step 1
+unfolding same_name
+first_step = record { same = λ t. record_raised (up_to 1 t) refl; sound = λ t. raised_sound (up_to 1 t) refl; still = λ t. refl; apart = refl }
+
+second_step : Step 2
+unfolding same_name
+second_step = record { same = λ t. third_record (up_to 2 t) refl; sound = λ t. third_sound (up_to 2 t) refl; still = λ t. refl; apart = refl }
+
+step_of : (n : ℕ) → is_known n ≡ true → n < NEWEST → Step n
+step_of zero known low = absurd (cc)
+step_of (suc zero) known low = first_step
+step_of (suc (suc zero)) known low = second_step
+step_of (suc (suc (suc n))) known low = absurd (omega (arith, low))
+
 -- ---- databases
 
 none_of : (o : Option ℕ) → is_some o ≡ false → o ≡ None
 none_of None e = refl
 none_of (Some n) e = absurd (cc)
 
--- a database of the first version has become one of the second
-module _ (old new : Database) (raises : Raises old new) where
-  abbrev first_rows : Tables
-  first_rows = first_tables_of old
+is_not : (b : Bool) → not b ≡ true → b ≡ false
+is_not false e = refl
+is_not true e = absurd (cc)
 
-  module _ (h : IsFirstStore old) where
-    second_held : HoldsSecond new (raised first_rows)
-    second_held = raises.holds first_rows h.holds
+not_named : (name : List ℕ) (ts : List Table) → list_all (λ (y : Table). not (same_name y.name name)) ts ≡ true → AllByRecursion (IsNotNamed name) ts
+not_named name [] e = tt
+not_named name (t ∷ ts) e =
+    let parts = and_parts (not (same_name t.name name)) (list_all (λ (y : Table). not (same_name y.name name)) ts) e in
+    (is_not (same_name t.name name) parts.0, not_named name ts parts.1)
 
-    second_is : second_tables_of new ≡ raised first_rows
-    second_is = second_tables-held new (raised first_rows) second_held
+none_behind : (p : Table → Bool) (i j : ℕ) (xs : List Table) → i ≤ j → list_any p (drop i xs) ≡ false → list_any p (drop j xs) ≡ false
+none_behind p zero zero xs low e = e
+none_behind p zero (suc j) [] low e = refl
+none_behind p zero (suc j) (x ∷ xs) low e = none_behind p zero j xs (omega arith) (or_parts (p x) (list_any p xs) e).1
+none_behind p (suc i) zero xs low e = absurd (omega (arith, low))
+none_behind p (suc i) (suc j) [] low e = refl
+none_behind p (suc i) (suc j) (x ∷ xs) low e = none_behind p i j xs (omega arith) e
 
-    -- and the table that the third version adds hasn't come
-    lacks_keeping : is_some (table_named new.schema keeping_table.name) ≡ false
-    lacks_keeping =
-        let behind = or_parts (is_in_schema old.schema bound_table) _ h.alone in
-        let last = or_parts (is_in_schema old.schema edition_table) _ behind.1 in
-        let keeping = or_parts (is_in_schema old.schema keeping_table) false last.1 in
-        ap is_some (raises.absent first_rows h.holds (none_of _ keeping.0))
+-- what wasn't there and isn't added isn't there
+still_absent : (old new : Database) (added : List Table) → NamesNoOther added old new → (xs : List Table) → list_all (is_apart added) xs ≡ true → list_any (is_in_schema old.schema) xs ≡ false → list_any (is_in_schema new.schema) xs ≡ false
+still_absent old new added names [] apart none = refl
+still_absent old new added names (x ∷ xs) apart none =
+    let parts = and_parts (is_apart added x) (list_all (is_apart added) xs) apart in
+    let own = and_parts (not (same_name sequence_name x.name)) (list_all (λ (y : Table). not (same_name y.name x.name)) added) parts.0 in
+    let lacks = or_parts (is_in_schema old.schema x) (list_any (is_in_schema old.schema) xs) none in
+    or_from _ _ (ap is_some (names x.name (is_not _ own.0) (not_named x.name added own.1) (none_of _ lacks.0))) (still_absent old new added names xs parts.1 lacks.1)
 
-    second_store : IsSecondStore new
-    second_store = record {
-      holds = subst (HoldsSecond new) (sym second_is) second_held;
-      alone = or_from (is_in_schema new.schema keeping_table) false lacks_keeping refl;
-      sound = subst AreSecondSound (sym second_is) (raised_sound first_rows refl h.sound);
-    }
+module _ (n : ℕ) (low : n < NEWEST) (old new : Database) (raises : Raises n old new) where
+  abbrev rows : Tables
+  rows = tables_at n old
 
-  pub first_becomes : Becomes 1 2 old new × KeepsBeside 1 2 old new
-  first_becomes = (
-    record { holds = second_store; records = λ h org. ap (λ (u : Tables). record_of u org) (second_is h) ∙ record_raised first_rows refl org },
-    record { holds = λ t h. (raised t, raises.holds t h); foreign = raises.foreign },
-  )
+  module _ (h : HoldsVersion n old) where
+    step : Step n
+    step = step_of n h.known low
 
--- and one of the second has become one of the third
-module _ (old new : Database) (raises : RaisesThird old new) where
-  abbrev second_rows : Tables
-  second_rows = second_tables_of old
+    rows_are : tables_at (suc n) new ≡ raised n rows
+    rows_are = tables_at-held (suc n) new (raised n rows) (raises.holds rows h.holds) ∙ step.still (tables_of old)
 
-  pub second_becomes : Becomes 2 3 old new × KeepsBeside 2 3 old new
-  second_becomes = (
-    record {
-      holds = λ h. store_by new (raised_third second_rows) (raises.holds second_rows h.holds) (third_sound second_rows refl h.sound);
-      records = λ h org. records_by new (raised_third second_rows) (raises.holds second_rows h.holds) org ∙ third_record second_rows refl org;
-    },
-    record { holds = λ t h. (raised_third t, raises.holds t h); foreign = raises.foreign },
+    next_holds : HoldsVersion (suc n) new
+    next_holds =
+        let known = next_version n (omega (arith, low)) in
+        let more = more_tables n (suc n) (omega arith) known in
+        record {
+          known = known;
+          holds = subst (HoldsIn (suc n) new) (sym rows_are) (raises.holds rows h.holds);
+          alone = still_absent old new (added_by (suc n)) (raises.names rows h.holds) (later_tables (suc n)) step.apart (none_behind (is_in_schema old.schema) (count_in n) (count_in (suc n)) our_tables (omega (arith, more)) h.alone);
+          sound = subst (IsSoundIn (suc n)) (sym rows_are) (step.sound (tables_of old) h.sound);
+        }
+
+  -- a database of a version has become one of the next
+  pub becomes_next : Becomes n (suc n) old new × KeepsBeside n (suc n) old new
+  becomes_next = (
+    record { holds = next_holds; records = λ h org. ap (λ (u : Tables). record_of u org) (rows_are h) ∙ (step h).same (tables_of old) org },
+    record { holds = λ t h. (raised n t, raises.holds t h); foreign = raises.foreign },
   )

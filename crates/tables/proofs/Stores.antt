@@ -1,5 +1,5 @@
 -- The records of a database, and its soundness, once its rows have changed.
-use Rattle.std.proofs.Common.{◌≡◌, ◌≢◌, ℕ, ◌≤◌, List, length, Some, None, IfSome, IsTrue, refl, ap, ◌∙◌}
+use Rattle.std.proofs.Common.{◌≡◌, ◌≢◌, ℕ, pos, ◌≤◌, List, [], ◌∷◌, length, Some, None, IfSome, IsTrue, refl, ap, ◌∙◌}
 use Rattle.std.specs.FinMap.{get}
 use Rattle.sqlite.specs.Effect.{Database}
 use Rattle.basis.specs.Names.{is_org_name, is_ws_name, is_prefix}
@@ -16,7 +16,7 @@ use Rattle.machine.specs.declared.keeps.AdminAnswer.TheVariants.{Done}
 use Rattle.machine.specs.declared.records.Organization.{Organization}
 use Rattle.statements.specs.Changes as rows
 use Rattle.statements.specs.Finds.{cap_of, role_of_name, role_of_digest}
-use Rattle.statements.specs.Making.{edition_set}
+use Rattle.statements.specs.declared.making.TheConstants.{NEWEST}
 use Rattle.statements.specs.Tables.{Tables, Holds, no_rows, tables_of}
 use Rattle.tables.specs.Inner.Edits.{changed_rows, TakesEdit}
 use Rattle.tables.specs.Stores.{records_of, IsSoundStore}
@@ -30,12 +30,15 @@ pub store_is_lawful : (db : Database) → IsSoundStore db → AreLawful (records
 store_is_lawful db s = sound_is_lawful (tables_of db) s.sound
 
 -- the tables that were just made
-module _ (db : Database) (made : Holds db (edition_set 3 no_rows)) where
+abbrev just_made : Tables
+just_made = record no_rows { editions = (pos 1, NEWEST) ∷ [] }
+
+module _ (db : Database) (made : Holds db just_made) where
   pub made_store_is_sound : IsSoundStore db
-  made_store_is_sound = store_by db (edition_set 3 no_rows) made (no_rows_are_sound (edition_set 3 no_rows).editions (refl, refl))
+  made_store_is_sound = store_by db just_made made (no_rows_are_sound just_made.editions (refl, refl))
 
   pub made_store_is_empty : (org : List ℕ) → records_of db org ≡ None
-  made_store_is_empty org = records_by db (edition_set 3 no_rows) made org ∙ no_record (edition_set 3 no_rows).editions org
+  made_store_is_empty org = records_by db just_made made org ∙ no_record just_made.editions org
 
 module _ (old new : Database) (s : IsSoundStore old) where
   abbrev rows_before : Tables

@@ -8,16 +8,16 @@ use Rattle.statements.specs.declared.rows.Workspace.{Workspace as WorkspaceCells
 use Rattle.sqlite.specs.State.{State}
 use Rattle.statements.specs.Changes.{run_acted}
 use Rattle.statements.specs.Finds.{workspace_of}
-use Rattle.statements.specs.Making.{version_in, edition_in}
+use Rattle.statements.specs.declared.making.TheConstants.{NEWEST}
 use Rattle.statements.specs.Rows.{Kept, id_of}
-use Rattle.statements.specs.Tables.{Tables, tables_of, first_tables_of, second_tables_of}
+use Rattle.statements.specs.Tables.{Tables, tables_at}
 use Rattle.tables.specs.Inner.Edits.{all_gone, settings_rows, configured_rows, numbered_rows, versioned_rows, if_there, run_put, run_counted, freed_rows, edited_rows, started_rows, changed_rows, TakesEdit}
-use Rattle.tables.specs.Sound.{TellsVersion, TellsEdition, IsSound}
+use Rattle.tables.specs.Sound.{TellsVersion, IsSound}
 use Rattle.tables.proofs.TextRows.{KeepsRest}
 use Rattle.tables.proofs.VersionEdits.{all_go, settings_leave, versions_come}
-use Rattle.tables.specs.Opening.{IsOther}
+use Rattle.tables.specs.Opening.{told_in, IsOther}
 use Rattle.tables.specs.Versions.{HoldsVersion}
-use Rattle.tables.proofs.There.{first_is_there, second_is_there}
+use Rattle.tables.proofs.There.{version_is_there}
 
 abbrev SameTold : Tables → Tables → Type 0
 SameTold u t = (u.metas ≡ t.metas) × (u.editions ≡ t.editions)
@@ -49,23 +49,18 @@ told_started org ws None t = (refl, refl)
 told_started org ws (Some n) t = (refl, refl)
 
 -- a change of a workspace leaves what tells the version as it is
-pub told_changed : (key_of : List ℕ → List ℕ) (org ws : List ℕ) (t : Tables) → IsSound t → (n : ℕ) → TellsEdition n t → (change : Change) → TakesEdit key_of org ws change.edit t → TellsEdition n (changed_rows key_of org ws change t)
-told_changed key_of org ws t sound n told change takes =
+pub told_changed : (key_of : List ℕ → List ℕ) (org ws : List ℕ) (t : Tables) → IsSound t → (change : Change) → TakesEdit key_of org ws change.edit t → TellsVersion NEWEST (changed_rows key_of org ws change t)
+told_changed key_of org ws t sound change takes =
     let started = told_started org ws change.start (edited_rows key_of org ws change.edit t) in
     let edited = told_edited key_of org ws t sound change.edit takes in
-    (started.1 ∙ edited.1 ∙ told.0, started.0 ∙ edited.0 ∙ told.1)
+    (started.1 ∙ edited.1 ∙ sound.told.0, started.0 ∙ edited.0 ∙ sound.told.1)
 
 -- the version that rows tell is the one in row 1 of meta, or of edition
-pub told_is : (n : ℕ) (t : Tables) → TellsVersion n t → version_in t ≡ Some n
-told_is n t told = ap (λ (ms : List (Kept ℕ)). option_map (λ x. x.1) (get_by id_of ms (pos 1))) told
-
-pub edition_is : (n : ℕ) (t : Tables) → TellsEdition n t → edition_in t ≡ Some n
-edition_is n t told = ap (λ (es : List (Kept ℕ)). option_map (λ x. x.1) (get_by id_of es (pos 1))) told.0
+told_is : (n : ℕ) (t : Tables) → TellsVersion n t → told_in n t ≡ Some n
+told_is zero t told = absurd told
+told_is (suc zero) t told = ap (λ (ms : List (Kept ℕ)). option_map (λ x. x.1) (get_by id_of ms (pos 1))) told
+told_is (suc (suc n)) t told = ap (λ (es : List (Kept ℕ)). option_map (λ x. x.1) (get_by id_of es (pos 1))) told.0
 
 -- a sound database of any version tells it
 pub sound_is_not_other : (s : State) → IsOther s → (n : ℕ) → HoldsVersion n s.now → ⊥
-sound_is_not_other s other zero h = h
-sound_is_not_other s other (suc zero) h = other.first (first_is_there s.now h) (first_tables_of s.now) h.holds (told_is 1 (first_tables_of s.now) h.sound.told)
-sound_is_not_other s other (suc (suc zero)) h = other.second (second_is_there s.now h) (second_tables_of s.now) h.holds (edition_is 2 (second_tables_of s.now) h.sound.told)
-sound_is_not_other s other (suc (suc (suc zero))) h = other.third (tables_of s.now) h.holds (edition_is 3 (tables_of s.now) h.sound.told)
-sound_is_not_other s other (suc (suc (suc (suc n)))) h = h
+sound_is_not_other s other n h = other n (version_is_there n s.now h) (tables_at n s.now) h.holds (told_is n (tables_at n s.now) h.sound.told)

@@ -1,103 +1,87 @@
 -- Which tables are there in a database of each version.
-use Rattle.std.proofs.Common.{◌≡◌, ◌≤◌, ◌⊎◌, inl, inr, ℕ, zero, suc, Bool, true, false, true≢false, not, ◌&&◌, ◌||◌, is_some, List, length, [], ◌∷◌, ◌++◌, refl, sym, ap, ◌∙◌, arith}
+use Rattle.std.proofs.Common.{◌≡◌, ◌≤◌, ◌<◌, ℕ, zero, suc, nat_lt, Bool, true, false, true≢false, not, ◌&&◌, ◌||◌, is_some, List, length, [], ◌∷◌, take, drop, map, refl, sym, ap, ◌∙◌, subst, arith}
 use Rattle.std.specs.List.{AllByRecursion, list_any, list_all}
-use Rattle.std.proofs.lemmas.Bool.{and_from}
+use Rattle.std.proofs.lemmas.Bool.{and_from, and_parts}
+use Rattle.std.proofs.lemmas.List.{take-map, drop-map}
+use Rattle.std.proofs.lemmas.List.Folds.{list_all-map}
+use Rattle.std.proofs.lemmas.Bool.Decides.{nat_tests}
 use Rattle.sqlite_schema.specs.declared.schema.Schema.{Schema}
 use Rattle.sqlite_schema.specs.declared.schema.Table.{Table}
+use Rattle.sqlite_schema.specs.Names.{table_named}
 use Rattle.sqlite.specs.Effect.{Database}
 use Rattle.statements.specs.Place.{IsOwn}
-use Rattle.statements.specs.Tables.{Tables, Holds, first_tables, second_tables, third_tables, our_tables}
+use Rattle.statements.specs.Tables.{is_known, count_in, our_tables, version_tables, tables_at}
+use Rattle.statements.proofs.Counts.{more_tables, most_tables}
+use Rattle.statements.proofs.Held.{tables_taken}
 use Rattle.tables.specs.Opening.{all_there}
-use Rattle.tables.specs.Stores.{is_in_schema, IsFirstStore, IsSecondStore}
+use Rattle.tables.specs.Stores.{is_in_schema}
 use Rattle.tables.specs.Versions.{HoldsVersion}
 
 own_there : (s : Schema) (tables : List Table) → AllByRecursion (IsOwn s) tables → list_all (is_in_schema s) tables ≡ true
 own_there s [] own = refl
 own_there s (t ∷ tables) own = and_from _ _ (ap is_some own.0.place.named) (own_there s tables own.1)
 
-pub first_is_there : (db : Database) → IsFirstStore db → all_there 1 db.schema ≡ true
-first_is_there db h = and_from _ _ (own_there db.schema first_tables h.holds.own.own) (ap not h.alone)
-
-pub second_is_there : (db : Database) → IsSecondStore db → all_there 2 db.schema ≡ true
-second_is_there db h = and_from _ _ (own_there db.schema (first_tables ++ second_tables) h.holds.own.own) (ap not h.alone)
-
-pub newest_is_there : (db : Database) (t : Tables) → Holds db t → all_there 3 db.schema ≡ true
-newest_is_there db t h = own_there db.schema our_tables h.ours.own
-
 -- a database of some version has all tables of that, and none of a later one
 pub version_is_there : (n : ℕ) (db : Database) → HoldsVersion n db → all_there n db.schema ≡ true
-version_is_there zero db h = absurd h
-version_is_there (suc zero) db h = first_is_there db h
-version_is_there (suc (suc zero)) db h = second_is_there db h
-version_is_there (suc (suc (suc zero))) db h = newest_is_there db _ h.holds
-version_is_there (suc (suc (suc (suc n)))) db h = absurd h
-
-first_and : (a b : Bool) → (a && b) ≡ true → a ≡ true
-first_and true b e = refl
-first_and false b e = e
-
-second_and : (a b : Bool) → (a && b) ≡ true → b ≡ true
-second_and true b e = e
-second_and false b e = absurd (let none : ⊥ = cc in none)
-
-some_of_all : {A : Type 0} (p : A → Bool) (n : ℕ) (xs ys : List A) → length xs ≡ suc n → list_all p xs ≡ true → list_any p (xs ++ ys) ≡ true
-some_of_all p n [] ys e all = absurd (omega (arith, e))
-some_of_all p n (x ∷ xs) ys e all = ap (λ (b : Bool). b || list_any p (xs ++ ys)) (first_and (p x) (list_all p xs) all)
-
-all_more : {A : Type 0} (p : A → Bool) (xs ys : List A) → list_all p (xs ++ ys) ≡ true → list_all p ys ≡ true
-all_more p [] ys e = e
-all_more p (x ∷ xs) ys e = all_more p xs ys (second_and (p x) (list_all p (xs ++ ys)) e)
-
--- what each version has, and what it hasn't
-has_second : (s : Schema) → all_there 2 s ≡ true → list_all (is_in_schema s) (first_tables ++ second_tables) ≡ true
-has_second s e = first_and (list_all (is_in_schema s) (first_tables ++ second_tables)) (not (list_any (is_in_schema s) third_tables)) e
-
-lacks_later : (s : Schema) → all_there 1 s ≡ true → not (list_any (is_in_schema s) (second_tables ++ third_tables)) ≡ true
-lacks_later s e = second_and (list_all (is_in_schema s) first_tables) (not (list_any (is_in_schema s) (second_tables ++ third_tables))) e
-
-lacks_third : (s : Schema) → all_there 2 s ≡ true → not (list_any (is_in_schema s) third_tables) ≡ true
-lacks_third s e = second_and (list_all (is_in_schema s) (first_tables ++ second_tables)) (not (list_any (is_in_schema s) third_tables)) e
+version_is_there n db h =
+    and_from _ _ h.known (and_from _ _ (own_there db.schema (version_tables n) (subst (AllByRecursion (IsOwn db.schema)) (tables_taken (count_in n) (tables_at n db)) h.holds.own.own)) (ap not h.alone))
 
 -- ---- no database has the tables of two versions
 
-clash : (b : Bool) → not b ≡ true → b ≡ true → ⊥
-clash b none is = true≢false (sym none ∙ ap not is)
+pub known_there : (n : ℕ) (s : Schema) → all_there n s ≡ true → is_known n ≡ true
+known_there n s e = (and_parts (is_known n) _ e).0
 
-not_first_and_second : (s : Schema) → all_there 1 s ≡ true → all_there 2 s ≡ true → ⊥
-not_first_and_second s one two = clash _ (lacks_later s one) (some_of_all (is_in_schema s) 1 second_tables third_tables refl (all_more (is_in_schema s) first_tables second_tables (has_second s two)))
+-- of the first ones all pass, and so one does of those behind fewer
+some_behind : {A : Type 0} (p : A → Bool) (xs : List A) (j k : ℕ) → j < k → k ≤ length xs → list_all p (take k xs) ≡ true → list_any p (drop j xs) ≡ true
+some_behind p [] j k low most all = absurd (omega (arith, low, most))
+some_behind p (x ∷ xs) j zero low most all = absurd (omega (arith, low))
+some_behind p (x ∷ xs) zero (suc k) low most all = ap (λ (b : Bool). b || list_any p xs) (and_parts (p x) (list_all p (take k xs)) all).0
+some_behind p (x ∷ xs) (suc j) (suc k) low most all = some_behind p xs j k (omega arith) (omega arith) (and_parts (p x) (list_all p (take k xs)) all).1
 
-not_first_and_third : (s : Schema) → all_there 1 s ≡ true → all_there 3 s ≡ true → ⊥
-not_first_and_third s one three =
-    clash _ (lacks_later s one) (some_of_all (is_in_schema s) 2 (second_tables ++ third_tables) [] refl (all_more (is_in_schema s) first_tables (second_tables ++ third_tables) three))
-
-not_second_and_third : (s : Schema) → all_there 2 s ≡ true → all_there 3 s ≡ true → ⊥
-not_second_and_third s two three = clash _ (lacks_third s two) (some_of_all (is_in_schema s) 0 third_tables [] refl (all_more (is_in_schema s) (first_tables ++ second_tables) third_tables three))
+apart : (m n : ℕ) (s : Schema) → m < n → all_there m s ≡ true → all_there n s ≡ true → ⊥
+apart m n s low e f =
+    let lacks = (and_parts (list_all (is_in_schema s) (version_tables m)) _ (and_parts (is_known m) _ e).1).1 in
+    let has = (and_parts (list_all (is_in_schema s) (version_tables n)) _ (and_parts (is_known n) _ f).1).0 in
+    true≢false (sym lacks ∙ ap not (some_behind (is_in_schema s) our_tables (count_in m) (count_in n) (more_tables m n low (known_there n s f)) (most_tables n) has))
 
 pub one_there : (m n : ℕ) (s : Schema) → all_there m s ≡ true → all_there n s ≡ true → m ≡ n
-one_there zero n s e f = absurd (let none : ⊥ = cc in none)
-one_there m zero s e f = absurd (let none : ⊥ = cc in none)
-one_there (suc zero) (suc zero) s e f = refl
-one_there (suc zero) (suc (suc zero)) s e f = absurd (not_first_and_second s e f)
-one_there (suc zero) (suc (suc (suc zero))) s e f = absurd (not_first_and_third s e f)
-one_there (suc (suc zero)) (suc zero) s e f = absurd (not_first_and_second s f e)
-one_there (suc (suc zero)) (suc (suc zero)) s e f = refl
-one_there (suc (suc zero)) (suc (suc (suc zero))) s e f = absurd (not_second_and_third s e f)
-one_there (suc (suc (suc zero))) (suc zero) s e f = absurd (not_first_and_third s f e)
-one_there (suc (suc (suc zero))) (suc (suc zero)) s e f = absurd (not_second_and_third s f e)
-one_there (suc (suc (suc zero))) (suc (suc (suc zero))) s e f = refl
-one_there (suc (suc (suc (suc m)))) n s e f = absurd (let none : ⊥ = cc in none)
-one_there m (suc (suc (suc (suc n)))) s e f = absurd (let none : ⊥ = cc in none)
+one_there m n s e f = by_order (nat_lt m n) (nat_lt n m) refl refl
+  where
+    by_order : (b c : Bool) → nat_lt m n ≡ b → nat_lt n m ≡ c → m ≡ n
+    by_order true c below above = absurd (apart m n s (grind (arith, nat_tests)) e f)
+    by_order false true below above = absurd (apart n m s (grind (arith, nat_tests)) f e)
+    by_order false false below above = grind (arith, nat_tests)
 
-pub which_there : (n : ℕ) (s : Schema) → all_there n s ≡ true → (n ≡ 1) ⊎ (n ≡ 2) ⊎ (n ≡ 3)
-which_there zero s e = absurd (let none : ⊥ = cc in none)
-which_there (suc zero) s e = inl refl
-which_there (suc (suc zero)) s e = inr (inl refl)
-which_there (suc (suc (suc zero))) s e = inr (inr refl)
-which_there (suc (suc (suc (suc n)))) s e = absurd (let none : ⊥ = cc in none)
+-- ---- by their names
 
-pub most_there : (n : ℕ) (s : Schema) → all_there n s ≡ true → n ≤ 3
-most_there zero s e = absurd (let none : ⊥ = cc in none)
-most_there (suc zero) s e = omega arith
-most_there (suc (suc zero)) s e = omega arith
-most_there (suc (suc (suc zero))) s e = omega arith
-most_there (suc (suc (suc (suc n)))) s e = absurd (let none : ⊥ = cc in none)
+any_map : {A B : Type 0} (f : A → B) (p : B → Bool) (xs : List A) → list_any (λ x. p (f x)) xs ≡ list_any p (map f xs)
+any_map f p [] = refl
+any_map f p (x ∷ xs) = ap (λ (b : Bool). p (f x) || b) (any_map f p xs)
+
+first_or : (a b : Bool) → a ≡ false → a ≡ (a && b)
+first_or false b e = refl
+first_or true b e = absurd (cc)
+
+module _ {A : Type 0} (f : A → List ℕ) (s : Schema) (k : ℕ) (xs front back : List A) (same : map f xs ≡ map (λ (t : Table). t.name) our_tables) (front_is : front ≡ take k xs) (back_is : back ≡ drop k xs) where
+  abbrev named : List ℕ → Bool
+  named name = is_some (table_named s name)
+
+  all_by_name : list_all (λ x. named (f x)) front ≡ list_all (is_in_schema s) (take k our_tables)
+  all_by_name =
+      ap (list_all (λ x. named (f x))) front_is ∙ sym (list_all-map named f (take k xs)) ∙ ap (list_all named) (sym (take-map f k xs) ∙ ap (take k) same ∙ take-map (λ (t : Table). t.name) k our_tables)
+      ∙ list_all-map named (λ (t : Table). t.name) (take k our_tables)
+
+  any_by_name : list_any (λ x. named (f x)) back ≡ list_any (is_in_schema s) (drop k our_tables)
+  any_by_name =
+      ap (list_any (λ x. named (f x))) back_is ∙ any_map f named (drop k xs) ∙ ap (list_any named) (sym (drop-map f k xs) ∙ ap (drop k) same ∙ drop-map (λ (t : Table). t.name) k our_tables)
+      ∙ sym (any_map (λ (t : Table). t.name) named (drop k our_tables))
+
+  abbrev Answer : Bool
+  Answer = list_all (is_in_schema s) (take k our_tables) && not (list_any (is_in_schema s) (drop k our_tables))
+
+  pub all_named_then : (a b : Bool) → a ≡ list_all (λ x. named (f x)) front → a ≡ true → b ≡ list_any (λ x. named (f x)) back → not b ≡ Answer
+  all_named_then a b is every other = ap (λ (c : Bool). c && not b) (sym every ∙ is ∙ all_by_name) ∙ ap (λ (c : Bool). list_all (is_in_schema s) (take k our_tables) && not c) (other ∙ any_by_name)
+
+  pub not_all_named : (a : Bool) → a ≡ list_all (λ x. named (f x)) front → a ≡ false → a ≡ Answer
+  not_all_named a is none =
+      first_or a (not (list_any (is_in_schema s) (drop k our_tables))) none ∙ ap (λ (c : Bool). c && not (list_any (is_in_schema s) (drop k our_tables))) (is ∙ all_by_name)

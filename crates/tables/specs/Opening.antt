@@ -1,5 +1,5 @@
 -- When a store is sound, and which of our tables a database has.
-use Rattle.std.specs.Prelude.{◌≡◌, ◌≢◌, ◌==◌, ◌⊎◌, ℕ, zero, suc, Bool, true, false, not, ◌&&◌, ◌||◌, List, [], ◌∷◌, ◌++◌, codes, slice_get, Option, Some, None, IsTrue}
+use Rattle.std.specs.Prelude.{◌≡◌, ◌≢◌, ◌==◌, ◌<◌, ◌⊎◌, ℕ, zero, suc, Bool, true, false, not, ◌&&◌, ◌||◌, List, [], ◌∷◌, codes, slice_get, Option, Some, None, IsTrue}
 use Rattle.std.specs.Str.{bytes_eq}
 use Rattle.std.specs.List.{list_any, list_all}
 use Rattle.sqlite_value.specs.declared.keys.Collation.{Collation}
@@ -17,7 +17,8 @@ use Rattle.sqlite.specs.State.{State}
 use Rattle.statements.specs.Schema.{meta_table, version_table, edition_table}
 use Rattle.statements.specs.Rows.{Kept}
 use Rattle.statements.specs.Making.{HasMeta, told_version, version_in, HasEdition, edition_in}
-use Rattle.statements.specs.Tables.{Tables, Holds, HoldsFirst, HoldsSecond, first_tables, second_tables, third_tables, our_tables}
+use Rattle.statements.specs.declared.making.TheConstants.{NEWEST}
+use Rattle.statements.specs.Tables.{Tables, HoldsIn, is_known, version_tables, later_tables, our_tables}
 use Rattle.tables.specs.declared.counts.Counted.{Counted}
 use Rattle.tables.specs.Counting.{IsCounted}
 use Rattle.tables.specs.Stores.{records_of, IsSoundStore, is_in_schema}
@@ -36,15 +37,20 @@ any_there s = list_any (is_in_schema s) our_tables
 
 -- whether the tables that the database has of ours are those of a version: all of them, and none that a later one added
 abbrev pub all_there : ℕ → Schema → Bool
-all_there zero s = false
-all_there (suc zero) s = list_all (is_in_schema s) first_tables && not (list_any (is_in_schema s) (second_tables ++ third_tables))
-all_there (suc (suc zero)) s = list_all (is_in_schema s) (first_tables ++ second_tables) && not (list_any (is_in_schema s) third_tables)
-all_there (suc (suc (suc zero))) s = list_all (is_in_schema s) our_tables
-all_there (suc (suc (suc (suc n)))) s = false
+all_there n s = is_known n && (list_all (is_in_schema s) (version_tables n) && not (list_any (is_in_schema s) (later_tables n)))
+
+abbrev pub newest_there : Schema → Bool
+newest_there = all_there NEWEST
+
+-- whether they are those of a version from the second up to this one
+abbrev pub later_there : ℕ → Schema → Bool
+later_there zero s = false
+later_there (suc zero) s = false
+later_there (suc (suc n)) s = later_there (suc n) s || all_there (suc (suc n)) s
 
 -- whether the version of these tables is told by edition
 abbrev pub tells_edition : Schema → Bool
-tells_edition s = all_there 2 s || all_there 3 s
+tells_edition = later_there NEWEST
 
 -- ---- whether the tables that tell the version have the columns of ours
 
@@ -134,13 +140,15 @@ has_versions s = has_versions_at s (table_named s version_table.name)
 
 -- ---- what tells the version
 
+-- the version that meta tells in tables of the first, and edition in those of each later one
+abbrev pub told_in : ℕ → Tables → Option ℕ
+told_in zero t = None
+told_in (suc zero) t = version_in t
+told_in (suc (suc n)) t = edition_in t
+
 -- What tells the version in a database that holds the tables of one tells this one.
 abbrev pub TellsIn : ℕ → Database → Type 0
-TellsIn zero db = ⊥
-TellsIn (suc zero) db = (t : Tables) → HoldsFirst db t → version_in t ≡ Some 1
-TellsIn (suc (suc zero)) db = (t : Tables) → HoldsSecond db t → edition_in t ≡ Some 2
-TellsIn (suc (suc (suc zero))) db = (t : Tables) → Holds db t → edition_in t ≡ Some 3
-TellsIn (suc (suc (suc (suc n)))) db = ⊥
+TellsIn n db = (t : Tables) → HoldsIn n db t → told_in n t ≡ Some n
 
 abbrev pub EditionTells : ℕ → Database → Type 0
 EditionTells n db = (table : Table) (editions : List (Kept ℕ)) → HasEdition db table editions → told_version editions ≡ Some n
@@ -149,19 +157,25 @@ EditionTells n db = (table : Table) (editions : List (Kept ℕ)) → HasEdition 
 abbrev pub ToldBy : ℕ → Database → Type 0
 ToldBy zero db = ⊥
 ToldBy (suc zero) db = (table : Table) (metas : List (Kept ℕ)) → HasMeta db table metas → told_version metas ≡ Some 1
-ToldBy (suc (suc zero)) db = EditionTells 2 db
-ToldBy (suc (suc (suc zero))) db = EditionTells 3 db
-ToldBy (suc (suc (suc (suc n)))) db = ⊥
+ToldBy (suc (suc n)) db = EditionTells (suc (suc n)) db
 
 -- The database tells no version, or another than that of the tables which it has.
-pub record IsOther (s : State) : Type 0 where
-  pub first : all_there 1 s.now.schema ≡ true → (t : Tables) → HoldsFirst s.now t → version_in t ≢ Some 1
-  pub second : all_there 2 s.now.schema ≡ true → (t : Tables) → HoldsSecond s.now t → edition_in t ≢ Some 2
-  pub third : (t : Tables) → Holds s.now t → edition_in t ≢ Some 3
+abbrev pub IsOther : State → Type 0
+IsOther s = (n : ℕ) → all_there n s.now.schema ≡ true → (t : Tables) → HoldsIn n s.now t → told_in n t ≢ Some n
 
 -- ---- what is given back where the database wasn't opened
 
--- The rows are as they were; or a database of the first version has become one of the second, with the same records.
+-- A database of a version has become one of a later version, which isn't the newest, with the same records.
+pub record IsOnTheWay (old new : Database) : Type 0 where
+  pub from : ℕ
+  pub to : ℕ
+  pub later : from < to
+  pub most : to < NEWEST
+  pub there : all_there from old.schema ≡ true
+  pub becomes : Becomes from to old new
+  pub beside : KeepsBeside from to old new
+
+-- the rows are as they were, or the version is on the way to the newest
 pub record GivesBack (old new : State) : Type 0 where
   pub was_open : IsTrue new.is_open → IsTrue old.is_open
-  pub committed : IsTrue new.is_open → (new.committed ≡ old.committed) ⊎ ((all_there 1 old.committed.schema ≡ true) × Becomes 1 2 old.committed new.committed × KeepsBeside 1 2 old.committed new.committed)
+  pub committed : IsTrue new.is_open → (new.committed ≡ old.committed) ⊎ IsOnTheWay old.committed new.committed

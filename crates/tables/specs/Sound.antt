@@ -1,5 +1,5 @@
 -- When tables are sound.
-use Rattle.std.specs.Prelude.{◌≡◌, ◌≤◌, ◌<◌, ℕ, pos, true, List, [], ◌∷◌, length, Some, IfSome, IsSomeAnd, IsTrue}
+use Rattle.std.specs.Prelude.{◌≡◌, ◌≤◌, ◌<◌, ℕ, zero, suc, pos, true, List, [], ◌∷◌, length, Some, IfSome, IsSomeAnd, IsTrue}
 use Rattle.std.specs.List.{AllByRecursion, list_any}
 use Rattle.sqlite_keyed.specs.Rules.{AreApart}
 use Rattle.basis.specs.Names.{is_org_name, is_prefix}
@@ -10,7 +10,8 @@ use Rattle.machine.specs.Records.{count_of}
 use Rattle.machine.specs.declared.records.Workspace.{Workspace}
 use Rattle.machine.specs.declared.records.Organization.{Organization}
 use Rattle.statements.specs.Rows.{Kept, OrgRow, TokenRow, BoundRow, VersionRow, VpageRow}
-use Rattle.statements.specs.Tables.{Tables}
+use Rattle.statements.specs.declared.making.TheConstants.{NEWEST}
+use Rattle.statements.specs.Tables.{Tables, rows_in}
 use Rattle.statements.specs.Changes.{is_org, is_token, is_digest_of, is_bound, is_ws, is_keeping}
 use Rattle.statements.specs.Finds.{size_of}
 use Rattle.texts.specs.Texts.{pages_for, IsWhole, HasSoundPlaces}
@@ -30,13 +31,11 @@ pub record IsBoundRow (x : Kept BoundRow) : Type 0 where
   pub until : IfSome x.1.until IsMoment
   pub prefix : IsTrue (is_prefix x.1.prefix)
 
--- meta has the one row of a database of this version
+-- The one row that tells the version: in the first version meta has it, and in each later one edition, and then meta has none.
 abbrev pub TellsVersion : ℕ → Tables → Type 0
-TellsVersion n t = t.metas ≡ (pos 1, n) ∷ []
-
--- edition has the one row of a database of this version, and meta has none
-abbrev pub TellsEdition : ℕ → Tables → Type 0
-TellsEdition n t = (t.editions ≡ (pos 1, n) ∷ []) × (t.metas ≡ [])
+TellsVersion zero t = ⊥
+TellsVersion (suc zero) t = t.metas ≡ (pos 1, 1) ∷ []
+TellsVersion (suc (suc n)) t = (t.editions ≡ (pos 1, suc (suc n)) ∷ []) × (t.metas ≡ [])
 
 -- a place of a version that has a row, below the number of the pages of its text
 abbrev pub IsPlaced : Tables → Kept VpageRow → Type 0
@@ -46,21 +45,21 @@ IsPlaced t x = IsSomeAnd (size_of x.1.org x.1.ws x.1.number t) (λ size. x.1.pla
 abbrev pub HasText : Tables → Kept VersionRow → Type 0
 HasText t x = IsWhole x.1.org x.1.ws x.1.it.number x.1.it.size t
 
--- When tables of the newest version are sound.
-pub record IsSound (t : Tables) : Type 0 where
-  -- the tables are those of version 3, and edition says so
-  pub told : TellsEdition 3 t
+-- When tables of a version are sound. A law of a table that the version hasn't asks for nothing: that table has no rows.
+pub record IsSoundIn (n : ℕ) (t : Tables) : Type 0 where
+  -- the tables are those of this version, and say so
+  pub told : TellsVersion n t
   -- an organization has one row, so has a token and a workspace; no two tokens of an organization have one digest
   pub orgs_apart : AreApart (λ a b. is_org a.1.name b) t.orgs
   pub tokens_apart : AreApart (λ a b. is_token a.1.org a.1.name b) t.tokens
   pub digests_apart : AreApart (λ a b. is_digest_of a.1.org a.1.it.digest b) t.tokens
   pub wss_apart : AreApart (λ a b. is_ws a.1.org a.1.name b) t.wss
-  -- each token has one row of bound
+  -- each token has one row of bound, in a version that has that table
   pub bounds_apart : AreApart (λ a b. is_bound a.1.org a.1.name b) t.bounds
-  pub tokens_bound : AllByRecursion (λ x. list_any (is_bound x.1.org x.1.name) t.bounds ≡ true) t.tokens
-  -- each workspace has one row of keeping
+  pub tokens_bound : AllByRecursion (λ x. list_any (is_bound x.1.org x.1.name) t.bounds ≡ true) (rows_in n 8 t.tokens)
+  -- each workspace has one row of keeping, in a version that has that table
   pub keepings_apart : AreApart (λ a b. is_keeping a.1.org a.1.ws b) t.keepings
-  pub wss_kept : AllByRecursion (λ x. list_any (is_keeping x.1.org x.1.name) t.keepings ≡ true) t.wss
+  pub wss_kept : AllByRecursion (λ x. list_any (is_keeping x.1.org x.1.name) t.keepings ≡ true) (rows_in n 10 t.wss)
   -- no row lacks the one that it belongs to
   pub tokens_owned : AllByRecursion (λ x. list_any (is_org x.1.org) t.orgs ≡ true) t.tokens
   pub bounds_owned : AllByRecursion (λ x. list_any (is_token x.1.org x.1.name) t.tokens ≡ true) t.bounds
@@ -82,61 +81,6 @@ pub record IsSound (t : Tables) : Type 0 where
   -- each workspace that the rows denote is lawful: what it keeps is in range, and of its versions and runs the numbers rise in the order of their rows
   pub workspaces : (org name : List ℕ) (w : Workspace) → workspace_by t org name ≡ Some w → IsNamedWorkspace name w
 
--- When tables of the second version are sound: none has a row of keeping.
-pub record AreSecondSound (t : Tables) : Type 0 where
-  -- the tables are those of version 2, and edition says so
-  pub told : TellsEdition 2 t
-  -- an organization has one row, so has a token and a workspace; no two tokens of an organization have one digest
-  pub orgs_apart : AreApart (λ a b. is_org a.1.name b) t.orgs
-  pub tokens_apart : AreApart (λ a b. is_token a.1.org a.1.name b) t.tokens
-  pub digests_apart : AreApart (λ a b. is_digest_of a.1.org a.1.it.digest b) t.tokens
-  pub wss_apart : AreApart (λ a b. is_ws a.1.org a.1.name b) t.wss
-  -- each token has one row of bound
-  pub bounds_apart : AreApart (λ a b. is_bound a.1.org a.1.name b) t.bounds
-  pub tokens_bound : AllByRecursion (λ x. list_any (is_bound x.1.org x.1.name) t.bounds ≡ true) t.tokens
-  -- no row lacks the one that it belongs to
-  pub tokens_owned : AllByRecursion (λ x. list_any (is_org x.1.org) t.orgs ≡ true) t.tokens
-  pub bounds_owned : AllByRecursion (λ x. list_any (is_token x.1.org x.1.name) t.tokens ≡ true) t.bounds
-  pub wss_owned : AllByRecursion (λ x. list_any (is_org x.1.org) t.orgs ≡ true) t.wss
-  pub versions_owned : AllByRecursion (λ x. list_any (is_ws x.1.org x.1.ws) t.wss ≡ true) t.versions
-  pub runs_owned : AllByRecursion (λ x. list_any (is_ws x.1.org x.1.ws) t.wss ≡ true) t.runs
-  -- names, limits, digests, ends and prefixes are in range
-  pub org_rows : AllByRecursion IsOrgRow t.orgs
-  pub token_rows : AllByRecursion IsTokenRow t.tokens
-  pub bound_rows : AllByRecursion IsBoundRow t.bounds
-  -- no organization has more workspaces than the greatest limit; where its limit was lowered, it may have more than that
-  pub counts : (org : List ℕ) (o : Organization) → record_of t org ≡ Some o → count_of o ≤ MAX_LIMIT
-  -- The pages are sound, the uses of each are the places that name it, and each place of a version has one row; none but those of versions
-  -- has one, and the text of each version is whole.
-  pub places : HasSoundPlaces t
-  pub placed : AllByRecursion (IsPlaced t) t.vpages
-  pub texts : AllByRecursion (HasText t) t.versions
-  -- each workspace that the rows denote is lawful: of its versions and runs the numbers rise in the order of their rows
-  pub workspaces : (org name : List ℕ) (w : Workspace) → workspace_by t org name ≡ Some w → IsNamedWorkspace name w
-
--- When tables of the first version are sound: none has a row of bound.
-pub record AreFirstSound (t : Tables) : Type 0 where
-  -- the tables are those of version 1, and meta says so
-  pub told : TellsVersion 1 t
-  -- an organization has one row, so has a token and a workspace; no two tokens of an organization have one digest
-  pub orgs_apart : AreApart (λ a b. is_org a.1.name b) t.orgs
-  pub tokens_apart : AreApart (λ a b. is_token a.1.org a.1.name b) t.tokens
-  pub digests_apart : AreApart (λ a b. is_digest_of a.1.org a.1.it.digest b) t.tokens
-  pub wss_apart : AreApart (λ a b. is_ws a.1.org a.1.name b) t.wss
-  -- no row lacks the one that it belongs to
-  pub tokens_owned : AllByRecursion (λ x. list_any (is_org x.1.org) t.orgs ≡ true) t.tokens
-  pub wss_owned : AllByRecursion (λ x. list_any (is_org x.1.org) t.orgs ≡ true) t.wss
-  pub versions_owned : AllByRecursion (λ x. list_any (is_ws x.1.org x.1.ws) t.wss ≡ true) t.versions
-  pub runs_owned : AllByRecursion (λ x. list_any (is_ws x.1.org x.1.ws) t.wss ≡ true) t.runs
-  -- names, limits and digests are in range
-  pub org_rows : AllByRecursion IsOrgRow t.orgs
-  pub token_rows : AllByRecursion IsTokenRow t.tokens
-  -- no organization has more workspaces than the greatest limit; where its limit was lowered, it may have more than that
-  pub counts : (org : List ℕ) (o : Organization) → record_of t org ≡ Some o → count_of o ≤ MAX_LIMIT
-  -- The pages are sound, the uses of each are the places that name it, and each place of a version has one row; none but those of versions
-  -- has one, and the text of each version is whole.
-  pub places : HasSoundPlaces t
-  pub placed : AllByRecursion (IsPlaced t) t.vpages
-  pub texts : AllByRecursion (HasText t) t.versions
-  -- each workspace that the rows denote is lawful: of its versions and runs the numbers rise in the order of their rows
-  pub workspaces : (org name : List ℕ) (w : Workspace) → workspace_by t org name ≡ Some w → IsNamedWorkspace name w
+-- when tables of the newest version are sound
+abbrev pub IsSound : Tables → Type 0
+IsSound = IsSoundIn NEWEST

@@ -1,15 +1,16 @@
 //! How a database is made ready for a store.
-ghost use Rattle.std.specs.Prelude.{◌≡◌, ◌≤◌, ◌++◌, true, false, ℕ, List, Option, OnOk, OnErr, IfOk, IfErr};
+ghost use Rattle.std.specs.Prelude.{◌≡◌, ◌≤◌, ◌&&◌, true, false, not, is_some, ℕ, List, length, take, drop, slice_get, Option, IfSome, OnOk, OnErr, IfOk, IfErr};
 ghost use Rattle.std.specs.List.{list_any, list_all};
 ghost use Rattle.std.specs.Str.{bytes_eq};
 ghost use Rattle.sqlite.specs.Held.{state};
 ghost use Rattle.sqlite.specs.State.{HasCleanDisk, KeepsCommit};
 ghost use Rattle.statements.specs.Place.{IsOwn};
 ghost use Rattle.statements.specs.Schema.{meta_table, version_table, edition_table};
-ghost use Rattle.statements.specs.Tables.{first_tables, second_tables, third_tables};
-ghost use Rattle.tables.specs.Opening.{any_there, all_there, tells_edition, is_integer_column, is_null, is_plain_column, tells_version, is_first_key, has_none, is_meta_table, is_meta, is_edition, have_names, version_names, has_versions, TellsIn, ToldBy, IsOther, GivesBack};
+ghost use Rattle.statements.specs.Tables.{our_tables, table_counts};
+ghost use Rattle.statements.specs.declared.making.TheConstants.{NEWEST};
+ghost use Rattle.tables.specs.Opening.{any_there, all_there, newest_there, tells_edition, is_integer_column, is_null, is_plain_column, tells_version, is_first_key, has_none, is_meta_table, is_meta, is_edition, have_names, version_names, has_versions, TellsIn, ToldBy, IsOther, GivesBack};
 ghost use Rattle.tables.specs.Stores.{is_in_schema};
-ghost use Rattle.tables.specs.Inner.Making.{IsMade, found_in, TellsFound, FindsOurs, StepsFrom, IsClimbed, IsOnWay};
+ghost use Rattle.tables.specs.Inner.Making.{is_there, IsMade, found_in, TellsFound, FindsOurs, IsClimbed, IsOnWay};
 ghost use Rattle.tables.specs.Versions.{HoldsVersion, version_records, KeepsBeside};
 
 use crate::transactions::{self, assert_settled};
@@ -18,15 +19,10 @@ use sqlite::{Alter, Connection, Error};
 use sqlite_schema::schema::{Column, Kind, Schema, Table};
 use sqlite_value::keys::Collation;
 use sqlite_value::value::Value;
-use statements::making;
+use statements::making::{self, NEWEST, TABLE_COUNTS, TABLES};
 
 /// The first version of the schema, which the table meta tells. Later ones are told by edition.
 const FIRST: u64 = 1;
-
-const SECOND: u64 = 2;
-
-/// The newest version of the schema.
-const NEWEST: u64 = 3;
 
 /// What a database has of ours.
 #[derive(Clone, Copy)]
@@ -39,97 +35,74 @@ enum Found {
     Other,
 }
 
-/// Whether one of the tables of the first version is there.
-fn any_first_there(schema: &Schema) -> bool
-    ensures { result ≡ list_any (is_in_schema schema.now) first_tables }
+/// Whether a name means a table.
+fn is_there(schema: &Schema, name: &str) -> bool
+    ensures { result ≡ is_there schema.now name.now }
 {
-    schema.table_named(b"meta".as_slice()).is_some()
-        || schema.table_named(b"org".as_slice()).is_some()
-        || schema.table_named(b"token".as_slice()).is_some()
-        || schema.table_named(b"ws".as_slice()).is_some()
-        || schema.table_named(b"version".as_slice()).is_some()
-        || schema.table_named(b"run".as_slice()).is_some()
-        || schema.table_named(b"page".as_slice()).is_some()
-        || schema.table_named(b"vpage".as_slice()).is_some()
+    schema.table_named(name.as_bytes()).is_some()
 }
 
-/// Whether one of the tables is there that the second version added.
-fn any_second_there(schema: &Schema) -> bool
-    ensures { result ≡ list_any (is_in_schema schema.now) second_tables }
+/// Whether each of these names means a table.
+fn all_named(schema: &Schema, names: &[&str]) -> bool
+    ensures { result ≡ list_all (λ name. is_there schema.now name.now) names.now }
 {
-    schema.table_named(b"bound".as_slice()).is_some()
-        || schema.table_named(b"edition".as_slice()).is_some()
+    names.iter().all(|name| is_there(schema, name))
 }
 
-/// Whether the table is there that the third version added.
-fn any_third_there(schema: &Schema) -> bool
-    ensures { result ≡ list_any (is_in_schema schema.now) third_tables }
+/// Whether one of these names means a table.
+fn any_named(schema: &Schema, names: &[&str]) -> bool
+    ensures { result ≡ list_any (λ name. is_there schema.now name.now) names.now }
 {
-    schema.table_named(b"keeping".as_slice()).is_some()
+    names.iter().any(|name| is_there(schema, name))
 }
 
-/// Whether one of the tables is there that later versions than the first added.
-fn any_later_there(schema: &Schema) -> bool
-    ensures { result ≡ list_any (is_in_schema schema.now) (second_tables ++ third_tables) }
-{
-    any_second_there(schema) || any_third_there(schema)
-}
-
+/// Whether one of the tables is there.
 fn any_there(schema: &Schema) -> bool
     ensures { result ≡ any_there schema.now }
 {
-    any_first_there(schema) || any_later_there(schema)
+    any_named(schema, TABLES)
 }
 
-/// Whether all tables of the first version are there.
-fn has_first(schema: &Schema) -> bool
-    ensures { result ≡ list_all (is_in_schema schema.now) first_tables }
+/// How many tables a version has, if there is that version.
+fn count_in(version: u64) -> Option<usize>
+    ensures { result ≡ slice_get table_counts version }
 {
-    schema.table_named(b"meta".as_slice()).is_some()
-        && schema.table_named(b"org".as_slice()).is_some()
-        && schema.table_named(b"token".as_slice()).is_some()
-        && schema.table_named(b"ws".as_slice()).is_some()
-        && schema.table_named(b"version".as_slice()).is_some()
-        && schema.table_named(b"run".as_slice()).is_some()
-        && schema.table_named(b"page".as_slice()).is_some()
-        && schema.table_named(b"vpage".as_slice()).is_some()
+    TABLE_COUNTS.get(version as usize).copied()
 }
 
-/// Whether all tables of the second version are there.
-fn has_second(schema: &Schema) -> bool
-    ensures { result ≡ list_all (is_in_schema schema.now) (first_tables ++ second_tables) }
+/// Whether the first so many tables are there, and none of the others.
+fn first_there(schema: &Schema, count: usize) -> bool
+    requires within { count ≤ length our_tables }
+    ensures { result ≡ (list_all (is_in_schema schema.now) (take count our_tables) && not (list_any (is_in_schema schema.now) (drop count our_tables))) }
 {
-    has_first(schema)
-        && schema.table_named(b"bound".as_slice()).is_some()
-        && schema.table_named(b"edition".as_slice()).is_some()
+    let (first, others) = TABLES.split_at(count);
+    all_named(schema, first) && !any_named(schema, others)
 }
 
-/// Whether the tables of the first version are there, and none that a later one added.
-fn first_there(schema: &Schema) -> bool
-    ensures { result ≡ all_there 1 schema.now }
+/// Whether all tables of a version are there, and none that a later one added.
+fn all_there(schema: &Schema, version: u64) -> bool
+    ensures { result ≡ all_there version schema.now }
 {
-    has_first(schema) && !any_later_there(schema)
+    if version == 0 {
+        return false;
+    }
+    match count_in(version) {
+        Some(count) => first_there(schema, count),
+        None => false,
+    }
 }
 
-/// Whether the tables of the second version are there, and not the one that the third added.
-fn second_there(schema: &Schema) -> bool
-    ensures { result ≡ all_there 2 schema.now }
+/// The version from the second on of which the tables are there, if they are those of one.
+fn later_there(schema: &Schema) -> Option<u64>
+    ensures there { IfSome result (λ n. (2 ≤ n) × (all_there n schema.now ≡ true)) }
+    ensures told { is_some result ≡ tells_edition schema.now }
 {
-    has_second(schema) && !any_third_there(schema)
-}
-
-/// Whether all tables are there.
-fn all_there(schema: &Schema) -> bool
-    ensures { result ≡ all_there 3 schema.now }
-{
-    has_second(schema) && schema.table_named(b"keeping".as_slice()).is_some()
-}
-
-/// Whether the version of these tables is told by edition.
-fn tells_edition(schema: &Schema) -> bool
-    ensures { result ≡ tells_edition schema.now }
-{
-    second_there(schema) || all_there(schema)
+    for version in FIRST..NEWEST {
+        if all_there(schema, version + 1) {
+            return Some(version + 1);
+        }
+    }
+    None
 }
 
 /// Whether a column has this name, and takes integers alone.
@@ -326,19 +299,21 @@ fn find_version<S: Alter>(conn: &mut Connection<S>) -> Result<Found, Error>
     ensures edition { tells_edition (state S.Store conn.old).now.schema ≡ true → is_edition (state S.Store conn.old).now.schema ≡ false → IfOk result (λ found. found ≡ Found.Other) × IfErr result (λ _. ⊥) }
     ensures missing { all_there 1 (state S.Store conn.old).now.schema ≡ false → tells_edition (state S.Store conn.old).now.schema ≡ false → IfOk result (λ found. found ≡ Found.Other) × IfErr result (λ _. ⊥) }
 {
-    if first_there(conn.schema()) {
-        return find_first(conn);
+    let later = later_there(conn.schema());
+    match later {
+        Some(version) => {
+            if !is_edition(conn.schema()) {
+                return Ok(Found::Other);
+            }
+            find_later(conn, version)
+        }
+        None => {
+            if !all_there(conn.schema(), FIRST) {
+                return Ok(Found::Other);
+            }
+            find_first(conn)
+        }
     }
-    if !tells_edition(conn.schema()) {
-        return Ok(Found::Other);
-    }
-    if !is_edition(conn.schema()) {
-        return Ok(Found::Other);
-    }
-    if second_there(conn.schema()) {
-        return find_later(conn, SECOND);
-    }
-    find_later(conn, NEWEST)
 }
 
 /// Finds what a database has of ours.
@@ -368,22 +343,7 @@ fn find<S: Alter>(conn: &mut Connection<S>) -> Result<Found, Error>
     find_version(conn)
 }
 
-/// Takes a database of a version to the next one, in one transaction.
-fn step<S: Alter>(conn: &mut Connection<S>, from: u64) -> Result<(), Error>
-    requires idle { conn.old.in_transaction ≡ false }
-    ensures idle { conn.new.in_transaction ≡ false }
-    ensures so_far { HasCleanDisk (state S.Store conn.new) → HasCleanDisk (state S.Store conn.old) }
-    ensures done { HasCleanDisk (state S.Store conn.new) → StepsFrom from (state S.Store conn.old) (state S.Store conn.new) result }
-{
-    match from {
-        FIRST => transactions::raise(conn),
-        SECOND => transactions::raise_third(conn),
-        // No other version has a next one.
-        _ => Err(Error::InvalidQuery),
-    }
-}
-
-/// Takes a database of a version to the newest one, a step at a time.
+/// Takes a database of a version to the newest one, a step at a time, each in one transaction.
 fn climb<S: Alter>(conn: &mut Connection<S>, from: u64) -> Result<(), Error>
     requires idle { conn.old.in_transaction ≡ false }
     ensures idle { conn.new.in_transaction ≡ false }
@@ -392,7 +352,7 @@ fn climb<S: Alter>(conn: &mut Connection<S>, from: u64) -> Result<(), Error>
     ensures newest { from ≡ NEWEST → (conn.new ≡ conn.old) × IfErr result (λ _. ⊥) }
 {
     for at in from..NEWEST {
-        step(conn, at)?;
+        transactions::raise(conn, at)?;
     }
     Ok(())
 }
@@ -405,7 +365,7 @@ pub(crate) fn ready<S: Alter>(conn: &mut Connection<S>) -> Result<(), Fault>
     ensures made { HasCleanDisk (state S.Store conn.new) → OnOk result (any_there (state S.Store conn.old).now.schema ≡ false → IsMade (state S.Store conn.old) (state S.Store conn.new)) }
     ensures told { HasCleanDisk (state S.Store conn.new) → OnOk result ((n : ℕ) → all_there n (state S.Store conn.old).now.schema ≡ true
         → TellsIn n (state S.Store conn.old).now × ToldBy n (state S.Store conn.old).now) }
-    ensures stays { HasCleanDisk (state S.Store conn.new) → OnOk result (all_there NEWEST (state S.Store conn.old).now.schema ≡ true → (state S.Store conn.new).committed ≡ (state S.Store conn.old).now) }
+    ensures stays { HasCleanDisk (state S.Store conn.new) → OnOk result (newest_there (state S.Store conn.old).now.schema ≡ true → (state S.Store conn.new).committed ≡ (state S.Store conn.old).now) }
     ensures beside { HasCleanDisk (state S.Store conn.new) → OnOk result ((n : ℕ) → all_there n (state S.Store conn.old).now.schema ≡ true → KeepsBeside n NEWEST (state S.Store conn.old).now (state S.Store conn.new).committed) }
     ensures climbed { HasCleanDisk (state S.Store conn.new) → OnOk result ((n : ℕ) → HoldsVersion n (state S.Store conn.old).now
         → HoldsVersion NEWEST (state S.Store conn.new).committed × ((o : List ℕ) → version_records NEWEST (state S.Store conn.new).committed o ≡ version_records n (state S.Store conn.old).now o)) }

@@ -5,11 +5,11 @@ ghost use Rattle.sqlite.specs.Held.{state};
 ghost use Rattle.sqlite.specs.State.{HasCleanDisk, KeepsCommit};
 ghost use Rattle.tables.specs.Stores.{records_of, IsSoundStore};
 ghost use Rattle.statements.specs.Making.{KeepsTables, KeepsForeign};
-ghost use Rattle.statements.specs.Tables.{Tables, our_tables};
-ghost use Rattle.tables.specs.Opening.{IsSoundKeep, any_there, all_there, tells_edition, is_meta, is_edition, has_versions, TellsIn, ToldBy, IsOther, GivesBack};
+ghost use Rattle.statements.specs.Tables.{Tables, HoldsIn, version_tables, our_tables};
+ghost use Rattle.tables.specs.Opening.{IsSoundKeep, any_there, all_there, newest_there, tells_edition, is_meta, is_edition, has_versions, TellsIn, ToldBy, IsOther, GivesBack};
 ghost use Rattle.basis.specs.Names.{is_prefix};
 ghost use Rattle.machine.specs.Ranges.{IsMoment};
-ghost use Rattle.tables.specs.Versions.{HoldsVersion, version_records, HoldsTables, version_tables};
+ghost use Rattle.tables.specs.Versions.{HoldsVersion, version_records};
 
 use crate::counts::Counted;
 use crate::opening::ready;
@@ -69,8 +69,8 @@ impl<S: Alter, K: PageKey> SqlKeep<S, K> {
     /// Opens a database. One that has none of the tables gets them all, in one transaction; each
     /// table of others that it holds stays as it is. One that has them stays as it is; one of an
     /// earlier version is taken to the newest, a step at a time, each in one transaction.
-    /// One in which some of the names mean other tables is given back as it was, and so is one
-    /// that a fault kept from being opened, unless it was of the first version: that may then be of the second.
+    /// One in which some of the names mean other tables is given back as it was, and so is one that
+    /// a fault kept from being opened, unless it was on the way to the newest version: it may then be of one between.
     pub fn open(mut conn: Connection<S>) -> Result<SqlKeep<S, K>, Unopened<S>>
         requires idle { conn.in_transaction ≡ false }
         ensures so_far { IfOk result (λ keep. ⟦<SqlKeep<S, K> as Keep>⟧.clean keep → HasCleanDisk (state S.Store conn)) }
@@ -78,16 +78,16 @@ impl<S: Alter, K: PageKey> SqlKeep<S, K> {
             → ⟦<SqlKeep<S, K> as Keep>⟧.sound keep × ((o : List ℕ) → ⟦<SqlKeep<S, K> as Keep>⟧.rows keep o ≡ None)) }
         ensures others { IfOk result (λ keep. ⟦<SqlKeep<S, K> as Keep>⟧.clean keep → any_there (state S.Store conn).now.schema ≡ false
             → KeepsTables (state S.Store conn).now (state S.Store keep.conn).committed) }
-        ensures held { IfOk result (λ keep. ⟦<SqlKeep<S, K> as Keep>⟧.clean keep → all_there 3 (state S.Store conn).now.schema ≡ true
+        ensures held { IfOk result (λ keep. ⟦<SqlKeep<S, K> as Keep>⟧.clean keep → newest_there (state S.Store conn).now.schema ≡ true
             → (IsSoundStore (state S.Store conn).now → ⟦<SqlKeep<S, K> as Keep>⟧.sound keep) × ((o : List ℕ) → ⟦<SqlKeep<S, K> as Keep>⟧.rows keep o ≡ records_of (state S.Store conn).now o)) }
-        ensures stays { IfOk result (λ keep. ⟦<SqlKeep<S, K> as Keep>⟧.clean keep → all_there 3 (state S.Store conn).now.schema ≡ true
+        ensures stays { IfOk result (λ keep. ⟦<SqlKeep<S, K> as Keep>⟧.clean keep → newest_there (state S.Store conn).now.schema ≡ true
             → (state S.Store keep.conn).committed ≡ (state S.Store conn).now) }
         ensures version { IfOk result (λ keep. ⟦<SqlKeep<S, K> as Keep>⟧.clean keep → (n : ℕ) → all_there n (state S.Store conn).now.schema ≡ true → TellsIn n (state S.Store conn).now) }
         ensures tells { IfOk result (λ keep. ⟦<SqlKeep<S, K> as Keep>⟧.clean keep → (n : ℕ) → all_there n (state S.Store conn).now.schema ≡ true → ToldBy n (state S.Store conn).now) }
         ensures climbed { IfOk result (λ keep. ⟦<SqlKeep<S, K> as Keep>⟧.clean keep → (n : ℕ) → HoldsVersion n (state S.Store conn).now
             → ⟦<SqlKeep<S, K> as Keep>⟧.sound keep × ((o : List ℕ) → ⟦<SqlKeep<S, K> as Keep>⟧.rows keep o ≡ version_records n (state S.Store conn).now o)) }
         ensures beside { IfOk result (λ keep. ⟦<SqlKeep<S, K> as Keep>⟧.clean keep → (n : ℕ) → all_there n (state S.Store conn).now.schema ≡ true
-            → (t : Tables) → HoldsTables n (state S.Store conn).now t → KeepsForeign (version_tables n) our_tables (state S.Store conn).now (state S.Store keep.conn).committed) }
+            → (t : Tables) → HoldsIn n (state S.Store conn).now t → KeepsForeign (version_tables n) our_tables (state S.Store conn).now (state S.Store keep.conn).committed) }
         ensures back { IfErr result (λ unopened. HasCleanDisk (state S.Store unopened.conn) → GivesBack (state S.Store conn) (state S.Store unopened.conn)) }
         ensures kept { IfErr result (λ unopened. HasCleanDisk (state S.Store unopened.conn) → unopened.fault ≡ Fault.Schema → KeepsCommit (state S.Store conn) (state S.Store unopened.conn)) }
         ensures other { IfErr result (λ unopened. HasCleanDisk (state S.Store unopened.conn) → unopened.fault ≡ Fault.Schema

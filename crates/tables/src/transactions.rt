@@ -1,7 +1,8 @@
 //! The transactions of a store, each as one function: its change is committed, or nothing is.
-ghost use Rattle.std.specs.Prelude.{◌≡◌, true, false, OnOk, OnErr};
+ghost use Rattle.std.specs.Prelude.{◌≡◌, ◌<◌, true, false, OnOk, OnErr};
 ghost use Rattle.sqlite.specs.Held.{state};
 ghost use Rattle.sqlite.specs.State.{HasCleanDisk, KeepsCommit};
+ghost use Rattle.statements.specs.declared.making.TheConstants.{NEWEST};
 ghost use Rattle.statements.specs.Changes.{org_row_added, org_capped, token_added, token_removed};
 ghost use Rattle.tables.specs.Inner.Edits.{changed_rows, TakesEdit};
 ghost use Rattle.tables.specs.Inner.Making.{IsMade, StepsFrom};
@@ -46,27 +47,16 @@ pub(crate) fn make<S: Alter>(conn: &mut Connection<S>) -> Result<(), Error>
     tx.commit()
 }
 
-/// Takes a database of the first version to the second.
-pub(crate) fn raise<S: Alter>(conn: &mut Connection<S>) -> Result<(), Error>
+/// Takes a database of a version to the next.
+pub(crate) fn raise<S: Alter>(conn: &mut Connection<S>, from: u64) -> Result<(), Error>
     requires idle { conn.old.in_transaction ≡ false }
+    requires older { from < NEWEST }
     ensures idle { conn.new.in_transaction ≡ false }
     ensures so_far { HasCleanDisk (state S.Store conn.new) → HasCleanDisk (state S.Store conn.old) }
-    ensures done { HasCleanDisk (state S.Store conn.new) → StepsFrom 1 (state S.Store conn.old) (state S.Store conn.new) result }
+    ensures done { HasCleanDisk (state S.Store conn.new) → StepsFrom from (state S.Store conn.old) (state S.Store conn.new) result }
 {
     let mut tx = begin(conn);
-    making::raise_schema(&mut tx)?;
-    tx.commit()
-}
-
-/// Takes a database of the second version to the third.
-pub(crate) fn raise_third<S: Alter>(conn: &mut Connection<S>) -> Result<(), Error>
-    requires idle { conn.old.in_transaction ≡ false }
-    ensures idle { conn.new.in_transaction ≡ false }
-    ensures so_far { HasCleanDisk (state S.Store conn.new) → HasCleanDisk (state S.Store conn.old) }
-    ensures done { HasCleanDisk (state S.Store conn.new) → StepsFrom 2 (state S.Store conn.old) (state S.Store conn.new) result }
-{
-    let mut tx = begin(conn);
-    making::raise_third(&mut tx)?;
+    making::raise(&mut tx, from)?;
     tx.commit()
 }
 

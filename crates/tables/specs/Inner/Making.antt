@@ -1,8 +1,10 @@
 -- A database that was made ready with the newest version of the schema, or that was taken to it from the version that it had.
-use Rattle.std.specs.Prelude.{◌≡◌, ◌≤◌, ◌<◌, ◌+◌, ◌==◌, if◌then◌else◌, ℕ, true, false, Option, Some, None, IsTrue, Result, OnOk, OnErr}
+use Rattle.std.specs.Prelude.{◌≡◌, ◌≤◌, ◌<◌, ◌+◌, ◌==◌, if◌then◌else◌, ℕ, Bool, true, false, is_some, List, Option, Some, None, IsTrue, Result, OnOk, OnErr}
+use Rattle.sqlite_schema.specs.declared.schema.Schema.{Schema}
+use Rattle.sqlite_schema.specs.Names.{table_named}
 use Rattle.sqlite.specs.State.{State, KeepsCommit}
 use Rattle.statements.specs.Making.{HasSchema}
-use Rattle.tables.specs.declared.opening.TheConstants.{NEWEST}
+use Rattle.statements.specs.declared.making.TheConstants.{NEWEST}
 use Rattle.tables.specs.declared.opening.Found.{Found}
 use Rattle.tables.specs.declared.opening.Found.TheVariants.{Nothing, Version, Other}
 use Rattle.tables.specs.Opening.{any_there, all_there, TellsIn, ToldBy, IsOther}
@@ -15,6 +17,10 @@ pub record IsMade (old new : State) : Type 0 where
   pub is_open : IsTrue new.is_open
 
 -- ---- what a database has
+
+-- whether a name means a table
+abbrev pub is_there : Schema → List ℕ → Bool
+is_there s name = is_some (table_named s name)
 
 -- what is found where the tables of a version are there, and a version is told or none
 abbrev pub found_at : ℕ → ℕ → Found

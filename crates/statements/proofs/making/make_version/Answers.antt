@@ -1,12 +1,15 @@
-use Rattle.sqlite.specs.Held.{state}
-use Rattle.statements.specs.Making.{GrowsBy}
-use Rattle.statements.specs.Schema.{version_table}
-use Rattle.statements.proofs.Transactions.{alters_by}
-use Rattle.statements.proofs.SchemaTexts.{make_version_text, make_version_does}
+use Rattle.std.proofs.Common.{sym, subst, arith}
+use Rattle.statements.specs.Making.{MakesBy}
+use Rattle.statements.specs.Tables.{added_by}
+use Rattle.statements.specs.Inner.Making.{Grows}
+use Rattle.statements.proofs.SchemaTexts.{first_made, first_are, second_made, second_are, third_made, third_are}
 use Rattle.statements.proofs.making.make_version.Goals as goal
 
-pub returns-clause-made : goal.returns-clause-made
-returns-clause-made g c clean inside =
-    let old = state g.S.Store c.args.tx.now.conn.now in
-    let new = state g.S.Store c.write.new.tx.conn.now in
-    alters_by (GrowsBy version_table) old new make_version_text _ c.write.result (c.write.ensures.runs clean inside) (λ count ran. make_version_does old new _ count ran)
+pub returns-in-1 : goal.returns-in-1
+returns-in-1 g c = subst (λ n. MakesBy g.S.Store (Grows (added_by n)) c.args.tx.now c.make_all.new.tx c.make_all.result) (sym c.in-1.is) (c.make_all.ensures first_made first_are (omega arith))
+
+pub returns-in-2 : goal.returns-in-2
+returns-in-2 g c = subst (λ n. MakesBy g.S.Store (Grows (added_by n)) c.args.tx.now c.make_all-in-2.new.tx c.make_all-in-2.result) (sym c.in-2.is) (c.make_all-in-2.ensures second_made second_are (omega arith))
+
+pub returns-in-3 : goal.returns-in-3
+returns-in-3 g c = subst (λ n. MakesBy g.S.Store (Grows (added_by n)) c.args.tx.now c.make_all-in-3.new.tx c.make_all-in-3.result) (sym c.in-3.is) (c.make_all-in-3.ensures third_made third_are (omega arith))

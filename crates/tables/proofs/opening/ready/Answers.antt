@@ -1,6 +1,6 @@
 use Rattle.std.proofs.Common.{ap, ◌∙◌}
 use Rattle.sqlite.specs.Held.{state}
-use Rattle.tables.specs.declared.opening.TheConstants.{NEWEST}
+use Rattle.statements.specs.declared.making.TheConstants.{NEWEST}
 use Rattle.tables.proofs.There.{one_there}
 use Rattle.tables.proofs.Climbing.{climbed_by, told_of, told_as, kept_beside, gives_back}
 use Rattle.tables.proofs.opening.ready.Goals as goal

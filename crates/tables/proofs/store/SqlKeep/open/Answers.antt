@@ -2,6 +2,7 @@ use Rattle.std.proofs.Common.{refl, sym, ap, subst}
 use Rattle.sqlite.specs.Effect.{Database}
 use Rattle.sqlite.specs.Held.{state}
 use Rattle.tables.specs.Stores.{records_of, IsSoundStore}
+use Rattle.tables.proofs.Databases.{store_is}
 use Rattle.tables.proofs.Stores.{made_store_is_sound, made_store_is_empty}
 use Rattle.tables.proofs.Telling.{sound_is_not_other}
 use Rattle.tables.proofs.store.SqlKeep.open.Goals as goal
@@ -23,7 +24,7 @@ returns-in-Ok-clause-tells g c clean n there = (c.in-Ok.ensures.told clean n the
 pub returns-in-Ok-clause-climbed : goal.returns-in-Ok-clause-climbed
 returns-in-Ok-clause-climbed g c = rw c.of-seen.ensures (λ clean n h.
     let is = c.in-Ok.ensures.climbed clean n h in
-    (record { store = is.0; counts = tt; tied = λ _. refl }, is.1))
+    (record { store = store_is _ is.0; counts = tt; tied = λ _. refl }, is.1))
 
 pub returns-in-Ok-clause-beside : goal.returns-in-Ok-clause-beside
 returns-in-Ok-clause-beside g c clean n there = (c.in-Ok.ensures.beside clean n there).foreign
