@@ -1,6 +1,7 @@
 //! A text put into tables as pages, read, compared and taken away again.
 use crate::keys::FirstByte;
 use crate::ways::{Sql, TablesBy, ask};
+use basis::Number;
 use pages::{PageKey, ShaKey};
 use sqlite::{Connection, Error, MemStore};
 use std::alloc::Global;
@@ -28,12 +29,20 @@ const LEFT: &[&str] = &["SELECT count(*) FROM vpage", "SELECT count(*) FROM page
 
 type Tables = Connection<MemStore>;
 
+fn number() -> Result<Number, Error> {
+    match Number::new(NUMBER) {
+        Some(number) => Ok(number),
+        None => Err(Error::IntegralValueOutOfRange(0)),
+    }
+}
+
 fn put<K: PageKey>(conn: &mut Tables, text: &[u8]) -> Result<(), Error> {
     if !conn.is_autocommit() {
         return Err(Error::QueryReturnedNoRows);
     }
+    let number = number()?;
     let mut tx = conn.transaction();
-    add_text::<K, MemStore>(&mut tx, ORG, WS, NUMBER, text)?;
+    add_text::<K, MemStore>(&mut tx, ORG, WS, number, text)?;
     tx.commit()
 }
 
@@ -41,8 +50,9 @@ fn take_away(conn: &mut Tables, size: usize) -> Result<(), Error> {
     if !conn.is_autocommit() {
         return Err(Error::QueryReturnedNoRows);
     }
+    let number = number()?;
     let mut tx = conn.transaction();
-    remove_text(&mut tx, ORG, WS, NUMBER, size as u64)?;
+    remove_text(&mut tx, ORG, WS, number, size as u64)?;
     tx.commit()
 }
 
@@ -59,12 +69,13 @@ fn add_counts(alloc: Global, conn: &mut Tables, told: &mut String) -> Result<(),
 
 // Whether the text is read as it is, and is the same as itself, and not as another of its size.
 fn is_kept(alloc: Global, conn: &mut Tables, due: &[u8]) -> Result<bool, Error> {
-    let read = texts::text(alloc, conn, ORG, WS, NUMBER, due.len() as u64)?;
+    let number = number()?;
+    let read = texts::text(alloc, conn, ORG, WS, number, due.len() as u64)?;
     let turned = turned(alloc, due)?;
     Ok(
         read.as_slice() == due
-            && same_text(conn, ORG, WS, NUMBER, due)?
-            && !same_text(conn, ORG, WS, NUMBER, turned.as_slice())?,
+            && same_text(conn, ORG, WS, number, due)?
+            && !same_text(conn, ORG, WS, number, turned.as_slice())?,
     )
 }
 
