@@ -259,6 +259,9 @@ def look_at_unread(program):
             later.sendall(PUT)
             later.recv(1)
             in_time("a peer that doesn't read its reply", time.monotonic() - begun, UNREAD_IDLE, CALLS)
+            # (the later peer reads its reply whole, else it isn't written whole either)
+            while later.recv(65536):
+                pass
         service.ends(UNWRITTEN % 1)
 
 
