@@ -259,9 +259,8 @@ def look_at_unread(program):
             later.sendall(PUT)
             later.recv(1)
             in_time("a peer that doesn't read its reply", time.monotonic() - begun, UNREAD_IDLE, CALLS)
-            # (the later peer reads its reply whole, else it isn't written whole either)
-            while later.recv(65536):
-                pass
+            # (a reply that its peer leaves isn't written whole either)
+            received(later)
         service.ends(UNWRITTEN % 1)
 
 
