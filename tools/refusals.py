@@ -721,8 +721,8 @@ def main():
             for run in concurrent.futures.as_completed(runs):
                 kind, name, counts, error = run.result()
                 tell(kind, name, counts, error)
-                # (a story in which nothing was refused shows nothing)
-                failed += error is not None or counts["refused"] == 0
+                # (a story in which no request for memory was refused shows nothing)
+                failed += error is not None or counts["refused"] + counts["right"] == 0
                 total.update(counts)
     for length in LENGTHS:
         failed += total[length] == 0
