@@ -11,3 +11,4 @@ pub mod FrameLemmas
 pub mod AnswerLemmas
 pub mod ExistenceLemmas
 pub mod RetargetLemmas
+pub mod FillLemmas

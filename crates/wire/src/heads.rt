@@ -12,7 +12,7 @@ use std::alloc::Global;
 pub const MAX_HEAD: usize = 16_384;
 
 // How many bytes are asked for at once.
-const CHUNK: usize = 1024;
+const CHUNK: usize = 8192;
 
 /// The bytes received, and how many of them are the head.
 #[derive(Drop)]

@@ -1,5 +1,5 @@
 //! Reading a message: its head, the `100 Continue` where it is awaited, and its body.
-ghost use Rattle.std.specs.Prelude.{◌≡◌, ◌≤◌, ◌↔◌, ◌++◌, ℕ, List, length, take, true, false, Err, IfSome, IsErrOf, IsTrue, OnErr, is_err, vec_len, vec_capacity};
+ghost use Rattle.std.specs.Prelude.{◌≡◌, ◌≤◌, ◌↔◌, ◌++◌, ℕ, List, length, take, true, false, Err, IfSome, IsErrOf, IsTrue, OnErr, is_err, min};
 ghost use Rattle.std.specs.Io.KnownBytes.{Consumes};
 ghost use Rattle.wire.specs.Heads.{head_end_of, Whole};
 ghost use Rattle.wire.specs.Links.{ReportsReceived, ReportsInput, Writes, continue_if};
@@ -16,9 +16,6 @@ use std::alloc::Global;
 
 // The interim reply that gives leave to send the body (RFC 9110, section 15.2.1).
 const CONTINUE: &[u8] = b"HTTP/1.1 100 Continue\r\n\r\n";
-
-// How many bytes of a body are asked for at once.
-const CHUNK: usize = 4096;
 
 /// Reads a message, however its bytes are cut into reads, and writes the `100 Continue` as soon as the
 /// head is whole, where it is awaited. No read is made once the message is whole or refused; bytes
@@ -106,23 +103,25 @@ fn finish<I: Inlet, O: Outlet>(
     if write_continue(frame.awaits_continue, outlet).is_err() {
         return Err(WireFault::Continue);
     }
-    match fill(&mut body, frame.body_len, inlet) {
+    let received = rest.len().min(frame.body_len);
+    match fill(body.as_mut_slice(), received, inlet) {
         Ok(()) => Ok(framed_message(frame, Bytes::new(body))),
         Err(BodyFault::Ended) => Err(WireFault::Ended),
         Err(BodyFault::Failed) => Err(WireFault::Read),
     }
 }
 
-// Room for the whole body, with what was received of it beside the head.
+// The whole body's bytes: what was received of it beside the head, and zeros where the rest is to be read.
 fn begun(alloc: Global, len: usize, rest: &[u8]) -> Option<Vec<u8>>
-    ensures items { IfSome result (λ body. body.items ≡ take len rest.now) }
-    ensures room { IfSome result (λ body. len ≤ vec_capacity body) }
+    ensures begins { IfSome result (λ body. take (min (length rest.now) len) body.items ≡ take len rest.now) }
+    ensures whole { IfSome result (λ body. length body.items ≡ len) }
 {
     let Ok(mut body) = Vec::with_capacity(alloc, len) else {
         return None;
     };
     let received = rest.len().min(len);
     body.extend_from_slice(&rest[..received]).unwrap();
+    body.resize(len, 0).unwrap();
     Some(body)
 }
 
@@ -140,26 +139,25 @@ fn write_continue<O: Outlet>(awaits_continue: bool, outlet: &mut O) -> Result<()
     }
 }
 
-// Reads what the body lacks, into the room that is there.
-fn fill<I: Inlet>(body: &mut Vec<u8>, len: usize, inlet: &mut I) -> Result<(), BodyFault>
+// Reads what the body lacks behind its first bytes, right into its place.
+fn fill<I: Inlet>(body: &mut [u8], begun: usize, inlet: &mut I) -> Result<(), BodyFault>
     requires sound { I.broken inlet.old ≡ false }
-    requires short { vec_len body.old ≤ len }
-    requires room { len ≤ vec_capacity body.old }
+    requires short { begun ≤ length body.old }
     ensures filled { (received : List ℕ) × Consumes (I.left inlet.old) (I.left inlet.new) received
-        × Fills (body.old.items ++ received) len (I.left inlet.new) body.new.items result }
+        × Fills (take begun body.old ++ received) (length body.old) (I.left inlet.new) body.new result }
     ensures cause { (I.broken inlet.new ≡ true) ↔ (result ≡ Err BodyFault.Failed) }
     ensures end { I.ended inlet.old ≡ false → ((I.ended inlet.new ≡ true) ↔ (result ≡ Err BodyFault.Ended)) }
 {
-    let mut chunk = [0; CHUNK];
-    'filling: while body.len() < len {
-        let room = CHUNK.min(len - body.len());
-        let Ok(count) = inlet.read(&mut chunk[..room]) else {
+    let len = body.len();
+    let mut filled = begun;
+    'filling: while filled < len {
+        let Ok(count) = inlet.read(&mut body[filled..]) else {
             return Err(BodyFault::Failed);
         };
         if count == 0 {
             return Err(BodyFault::Ended);
         }
-        body.extend_from_slice(&chunk[..count]).unwrap();
+        filled += count;
     }
     Ok(())
 }

@@ -34,6 +34,11 @@ impl Error for WriteFault {}
 // Room for the longest head of a reply.
 const MAX_REPLY_HEAD: usize = 512;
 
+// A reply of no more bytes is put together on the stack, and written as one piece.
+const MAX_JOINED: usize = 4096;
+
+const MAX_JOINED_BODY: usize = MAX_JOINED - MAX_REPLY_HEAD;
+
 // The one status that has no field Content-Length (RFC 9110, section 8.6).
 const NO_CONTENT: u16 = 204;
 
@@ -54,12 +59,29 @@ pub fn write_reply<O: Outlet>(reply: &Reply, now: Moment, outlet: &mut O) -> Res
     write_both(head.as_slice(), sent(reply), outlet)
 }
 
-// The head, and then the body that is sent.
-fn write_both<O: Outlet>(head: &[u8], body: &[u8], outlet: &mut O) -> Result<(), WriteFault>
-    requires { O.broken outlet.old ≡ false }
+// Writes a head and a body that have room beside one another as one piece.
+fn write_joined<O: Outlet>(head: &[u8], body: &[u8], outlet: &mut O) -> Result<(), WriteFault>
+    requires sound { O.broken outlet.old ≡ false }
+    requires short { length head.now + length body.now ≤ 4096 }
     ensures text { Writes (O.written outlet.old) (O.written outlet.new) (head.now ++ body.now) result }
     ensures cause { O.broken outlet.new ≡ is_err result }
 {
+    let mut joined: ArrayVec<u8, MAX_JOINED> = ArrayVec::new();
+    joined.try_extend_from_slice(head).unwrap();
+    joined.try_extend_from_slice(body).unwrap();
+    write_all(outlet, joined.as_slice())
+}
+
+// The head, and then the body that is sent: as one piece where both are short.
+fn write_both<O: Outlet>(head: &[u8], body: &[u8], outlet: &mut O) -> Result<(), WriteFault>
+    requires sound { O.broken outlet.old ≡ false }
+    requires short { length head.now ≤ 512 }
+    ensures text { Writes (O.written outlet.old) (O.written outlet.new) (head.now ++ body.now) result }
+    ensures cause { O.broken outlet.new ≡ is_err result }
+{
+    if body.len() <= MAX_JOINED_BODY {
+        return write_joined(head, body, outlet);
+    }
     write_all(outlet, head)?;
     write_all(outlet, body)
 }
