@@ -1,4 +1,5 @@
 pub mod AddedLaws
+pub mod InTurn
 pub mod Many
 pub mod NextPiece
 pub mod OnePiece
@@ -11,3 +12,5 @@ pub mod PlaceWrites
 pub mod RemovedLaws
 pub mod TextExamples
 pub mod TextLaws
+pub mod WholeReads
+pub mod WholeTexts

@@ -3,5 +3,6 @@
 
 mod places;
 mod texts;
+mod whole;
 
 pub use texts::{PAGE_BYTES, add_text, remove_text, same_text, text};

@@ -11,8 +11,9 @@ ghost use Rattle.texts.specs.Steps.{WritesAllBy, TellsBefore, QueriesAllBy};
 ghost use Rattle.texts.specs.Inner.Calls.{piece_placed, named_removed, is_piece_of};
 
 use crate::places::{add, find, find_inside, remove};
+use crate::whole::read_whole;
 use basis::{Bytes, Number};
-use pages::{PageId, PageKey, get, put, release, same};
+use pages::{PageId, PageKey, put, release, same};
 use sqlite::{Alter, Connection, Error, Transaction};
 use std::alloc::Global;
 
@@ -140,27 +141,7 @@ pub fn remove_text<S: Alter>(
     Ok(())
 }
 
-/// The bytes of the page at a place of a version's text. It is an error where the page isn't there.
-fn piece<S: Alter>(
-    conn: &mut Connection<S>,
-    org: &str,
-    ws: &str,
-    number: Number,
-    place: u64,
-) -> Result<Bytes, Error>
-    requires place_fits { place < 2 ^ 63 }
-    ensures mode { conn.old.in_transaction ≡ false → conn.new.in_transaction ≡ false }
-    ensures gets { GetsBy (piece_of org.now ws.now number place) (state S.Store conn.old) (state S.Store conn.new) result }
-    ensures so_far { HasCleanDisk (state S.Store conn.new) → HasCleanDisk (state S.Store conn.old) }
-{
-    let found = find(conn, org, ws, number, place)?;
-    match found {
-        Some(id) => get(conn, &id),
-        None => Err(Error::QueryReturnedNoRows),
-    }
-}
-
-/// The text of a version whose text has this size. It is an error where one of its pages isn't there.
+/// The text of a version whose text has this size. It is an error where one of its pages isn't there, and where one stands behind them.
 pub fn text<S: Alter>(
     alloc: Global,
     conn: &mut Connection<S>,
@@ -172,13 +153,7 @@ pub fn text<S: Alter>(
     ensures queries { QueriesAllBy S.Store (text_of org.now ws.now number size) conn.old conn.new result }
     ensures there { HasCleanDisk (state S.Store conn.new) → OnOk result ((t : Tables) → Holds (state S.Store conn.old).now t → AreThere org.now ws.now number (pages_for size) t) }
 {
-    let pages = pages_for(size);
-    let mut text = Vec::with_capacity(alloc, size as usize)?;
-    'places: for place in 0..pages {
-        let piece = piece(conn, org, ws, number, place)?;
-        text.extend_from_slice(piece.as_slice())?;
-    }
-    Ok(Bytes::new(text))
+    read_whole(alloc, conn, org, ws, number, pages_for(size), size as usize)
 }
 
 /// Whether the page at a place of a version's text has these bytes. It is an error where the page isn't there.

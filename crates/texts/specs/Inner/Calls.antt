@@ -1,10 +1,14 @@
 -- What calls on one page of a text change and read.
-use Rattle.std.specs.Prelude.{ℕ, Bool, List, Option, option_map}
+use Rattle.std.specs.Prelude.{◌≡◌, ◌<◌, ℕ, Bool, List, Option, Some, option_map}
+use Rattle.std.specs.List.{AllByRecursion}
 use Rattle.std.specs.Str.{bytes_eq}
+use Rattle.sqlite_value.specs.declared.value.Value.TheVariants.{Blob}
+use Rattle.sqlite_value.specs.Order.{Row, column}
+use Rattle.statements.specs.Rows.{number}
 use Rattle.statements.specs.Tables.{Tables}
 use Rattle.pages.specs.Puts.{twin_for, page_put}
 use Rattle.pages.specs.declared.store.PageId.{PageId}
-use Rattle.texts.specs.Texts.{place_added, place_removed, released_at, piece_of}
+use Rattle.texts.specs.Texts.{place_added, place_removed, released_at, piece_of, joined, AreThere}
 
 -- a piece is put, and the row that names it is there
 abbrev pub piece_placed : (List ℕ → List ℕ) → List ℕ → List ℕ → ℕ → ℕ → List ℕ → Tables → Tables
@@ -17,3 +21,17 @@ named_removed org ws n place id t = released_at id (place_removed org ws n place
 -- whether the page at a place has these bytes, if it is there
 abbrev pub is_piece_of : List ℕ → List ℕ → ℕ → ℕ → List ℕ → Tables → Option Bool
 is_piece_of org ws n place piece t = option_map (λ bytes. bytes_eq bytes piece) (piece_of org ws n place t)
+
+-- ---- rows of a query that shows a place and the bytes of its page
+
+-- some row shows this place, and each that does has these bytes
+pub record ShowsPlace (rows : List Row) (place : ℕ) (bytes : List ℕ) : Type 0 where
+  pub some : AllByRecursion (λ r. ¬ (column r 0 ≡ number place)) rows → ⊥
+  pub each : AllByRecursion (λ r. column r 0 ≡ number place → column r 1 ≡ Blob bytes) rows
+
+-- They show the places from 0 on, so many, and their bytes are the text: it is that of a version of which each page that a place shows is a piece.
+pub record AreInTurn (rows : List Row) (places : ℕ) (text : List ℕ) : Type 0 where
+  pub below : AllByRecursion (λ r. (place : ℕ) × (place < places) × (column r 0 ≡ number place)) rows
+  pub text_is :
+      (org ws : List ℕ) (n : ℕ) (t : Tables) → ((place : ℕ) (bytes : List ℕ) → ShowsPlace rows place bytes → piece_of org ws n place t ≡ Some bytes)
+      → (text ≡ joined org ws n places t) × AreThere org ws n places t

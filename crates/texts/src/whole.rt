@@ -1,0 +1,89 @@
+//! A text is read by one query, whose rows are taken one at a time.
+ghost use Rattle.std.specs.Prelude.{◌≡◌, false, List, IfOk, OnOk};
+ghost use Rattle.sqlite_value.specs.declared.value.Value.TheVariants.{Blob};
+ghost use Rattle.sqlite_value.specs.Order.{Row as SqlRow, column};
+ghost use Rattle.sqlite.specs.Values.{bound};
+ghost use Rattle.sqlite.specs.Held.{state};
+ghost use Rattle.sqlite.specs.State.{HasCleanDisk, Shown};
+ghost use Rattle.statements.specs.Rows.{number};
+ghost use Rattle.statements.specs.Calls.{IsQuery};
+ghost use Rattle.statements.specs.Tables.{Tables, Holds};
+ghost use Rattle.pages.specs.Inner.Calls.{OnlyLooks};
+ghost use Rattle.texts.specs.Texts.{joined, AreThere};
+ghost use Rattle.texts.specs.Steps.{QueriesAllBy};
+ghost use Rattle.texts.specs.Inner.Calls.{AreInTurn};
+
+use basis::{Bytes, Number};
+use sqlite::types::ValueRef;
+use sqlite::{Alter, Connection, Error, Row, params};
+use std::alloc::Global;
+
+/// The bytes that a row has beside this place.
+fn bytes_at(row: &Row, place: u64) -> Result<&[u8], Error>
+    ensures place { OnOk result (column row.now 0 ≡ number place) }
+    ensures bytes { IfOk result (λ bytes. column row.now 1 ≡ Blob bytes.now) }
+{
+    if row.get::<u64>(0)? != place {
+        return Err(Error::QueryReturnedNoRows);
+    }
+    match row.get_ref(1)? {
+        ValueRef::Blob(bytes) => Ok(bytes),
+        _ => Err(Error::QueryReturnedNoRows),
+    }
+}
+
+/// The bytes of all rows of a query, which has one for each place from 0 on, in turn, and so many.
+fn join_rows<S: Alter>(
+    alloc: Global,
+    conn: &mut Connection<S>,
+    sql: &str,
+    params: &[ValueRef<'_>],
+    places: u64,
+    size: usize,
+) -> Result<Bytes, Error>
+    ensures mode { conn.old.in_transaction ≡ false → conn.new.in_transaction ≡ false }
+    ensures rows { IsQuery sql.now → HasCleanDisk (state S.Store conn.new) → IfOk result (λ text. (rows : List SqlRow) × Shown sql.now (bound params.now) (state S.Store conn.old) (state S.Store conn.new) rows × AreInTurn rows places text) }
+    ensures looks { IsQuery sql.now → OnlyLooks (state S.Store conn.old) (state S.Store conn.new) result }
+    ensures so_far { IsQuery sql.now → HasCleanDisk (state S.Store conn.new) → HasCleanDisk (state S.Store conn.old) }
+{
+    let mut text = Vec::with_capacity(alloc, size)?;
+    let mut rows = conn.query(sql, params)?;
+    'rows: for place in 0..places {
+        let Some(row) = rows.next()? else {
+            return Err(Error::QueryReturnedNoRows);
+        };
+        let bytes = bytes_at(row, place)?;
+        text.extend_from_slice(bytes)?;
+    }
+    match rows.next()? {
+        None => Ok(Bytes::new(text)),
+        Some(_) => Err(Error::QueryReturnedNoRows),
+    }
+}
+
+const WHOLE_TEXT: &str =
+    "SELECT place, bytes FROM vpage LEFT JOIN page ON page.pkey = vpage.pkey AND page.twin = vpage.twin WHERE org = ?1 AND ws = ?2 AND number = ?3 ORDER BY place";
+
+/// The bytes of the pages of a version, one behind the other. It is an error where it has another number of them.
+pub(crate) fn read_whole<S: Alter>(
+    alloc: Global,
+    conn: &mut Connection<S>,
+    org: &str,
+    ws: &str,
+    number: Number,
+    places: u64,
+    size: usize,
+) -> Result<Bytes, Error>
+    ensures queries { QueriesAllBy S.Store (joined org.now ws.now number places) conn.old conn.new result }
+    ensures there { HasCleanDisk (state S.Store conn.new) → OnOk result ((t : Tables) → Holds (state S.Store conn.old).now t → AreThere org.now ws.now number places t) }
+{
+    let number = number.get();
+    join_rows(
+        alloc,
+        conn,
+        WHOLE_TEXT,
+        params![org, ws, number],
+        places,
+        size,
+    )
+}
