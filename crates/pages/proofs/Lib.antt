@@ -1,4 +1,5 @@
 pub mod Examples
+pub mod FirstPages
 pub mod FreeTwins
 pub mod Looking
 pub mod PageLaws

@@ -1,7 +1,8 @@
 -- What the queries on the table page read of its rows.
-use Rattle.std.proofs.Common.{◌≡◌, ℕ, true, ◌&&◌, List, [], ◌∷◌, Option, codes, refl}
+use Rattle.std.proofs.Common.{◌≡◌, ℕ, Bool, true, ◌&&◌, List, [], ◌∷◌, Option, codes, refl, sym, ap, ◌∙◌}
 use Rattle.std.specs.Str.{bytes_eq}
 use Rattle.sqlite_value.specs.declared.keys.Collation.TheVariants.{Binary}
+use Rattle.sqlite_value.specs.declared.value.Value.{Value}
 use Rattle.sqlite_value.specs.declared.value.Value.TheVariants.{Blob}
 use Rattle.sqlite_value.specs.Order.{Row}
 use Rattle.sqlite_sql.specs.declared.ops.CompareOp.TheVariants.{Eq}
@@ -10,17 +11,18 @@ use Rattle.sqlite_sql.specs.Ops.{is_true, binary}
 use Rattle.sqlite_typed.proofs.TestLemmas.{then_term, last_term}
 use Rattle.sqlite.specs.State.{State}
 use Rattle.statements.specs.Schema.{page_table}
-use Rattle.statements.specs.Rows.{page_cells, number}
+use Rattle.statements.specs.Rows.{Kept, PageRow, page_cells, number}
 use Rattle.statements.specs.Tables.{Tables, Holds, page_layout}
-use Rattle.statements.specs.Calls.{FirstRow, Pins, IsNumber, IsBody}
+use Rattle.statements.specs.Calls.{FirstRow, Pins, IsNumber, IsBody, IsFlagCell}
 use Rattle.statements.proofs.Held.{IsHeld, pages_held}
 use Rattle.statements.proofs.PointReads.{first_own}
 use Rattle.statements.proofs.ReadBack.{number_read, blob_read}
 use Rattle.statements.proofs.Conditions.{same_blob}
+use Rattle.pages.specs.declared.rows.FirstPage.{FirstPage}
 use Rattle.pages.specs.declared.rows.PageUse.{PageUse}
-use Rattle.pages.specs.Rows.{is_page, is_equal_page, page_bytes, page_uses, page_use, equal_page}
-use Rattle.pages.specs.Inner.Calls.{IsPageUse}
-use Rattle.pages.proofs.PageTexts.{page_bytes_text, page_bytes_means, page_bytes_rest, page_uses_text, page_uses_means, page_uses_rest, equal_page_text, equal_page_means, equal_page_rest}
+use Rattle.pages.specs.Rows.{is_page, is_equal_page, page_bytes, page_uses, page_use, equal_page, is_of_key, compared, first_page}
+use Rattle.pages.specs.Inner.Calls.{IsPageUse, IsFirstPage}
+use Rattle.pages.proofs.PageTexts.{page_bytes_text, page_bytes_means, page_bytes_rest, page_uses_text, page_uses_means, page_uses_rest, equal_page_text, equal_page_means, equal_page_rest, first_page_text, first_page_means, first_page_rest, first_page_names}
 use Rattle.pages.proofs.PageWrites.{blob_number}
 
 two_blobs : (a b c d : List ℕ) → (is_true (binary (Compare Eq Binary) (Blob a) (Blob b)) && (is_true (binary (Compare Eq Binary) (Blob c) (Blob d)) && true)) ≡ (bytes_eq a b && bytes_eq c d)
@@ -28,6 +30,18 @@ two_blobs a b c d = then_term (same_blob a b) (last_term (same_blob c d))
 
 page_use_read : (twin uses : ℕ) (found : PageUse) → IsPageUse (number twin ∷ number uses ∷ []) found → found ≡ record { twin = twin; uses = uses }
 page_use_read twin uses found told = λ i. record { twin = number_read twin found.twin told.twin i; uses = number_read uses found.uses told.uses i }
+
+one_blob : (a b : List ℕ) → (is_true (binary (Compare Eq Binary) (Blob a) (Blob b)) && true) ≡ bytes_eq a b
+one_blob a b = last_term (same_blob a b)
+
+-- a cell that is read as a flag is true where this is read
+flag_read : (v : Value) (flag : Bool) → IsFlagCell v flag → flag ≡ is_true v
+flag_read v flag told = told.2 ∙ sym (ap is_true told.1)
+
+first_page_read : (x : Kept PageRow) (bytes : List ℕ) (first : FirstPage) → IsFirstPage (number x.1.twin ∷ number x.1.uses ∷ binary (Compare Eq Binary) (Blob x.1.bytes) (Blob bytes) ∷ []) first → first ≡ compared bytes x
+first_page_read x bytes first told =
+    let same = flag_read (binary (Compare Eq Binary) (Blob x.1.bytes) (Blob bytes)) first.same told.same ∙ same_blob x.1.bytes bytes in
+    λ i. record { found = record { twin = number_read x.1.twin first.found.twin told.found.twin i; uses = number_read x.1.uses first.found.uses told.found.uses i }; same = same i }
 
 module _ (old new : State) (t : Tables) (h : Holds old.now t) where
   abbrev held : IsHeld page_layout old.now t.pages
@@ -47,3 +61,8 @@ module _ (old new : State) (t : Tables) (h : Holds old.now t) where
   equal_page_shows key bytes row first =
       first_own page_cells page_table old new held.own t.pages held.rows held.keyed equal_page_text (Blob key ∷ Blob bytes ∷ []) row first equal_page_rest (codes "twin" ∷ codes "uses" ∷ [])
       (is_equal_page key bytes) (λ x. two_blobs x.1.key key x.1.bytes bytes) IsPageUse page_use (λ x y told. page_use_read x.1.twin x.1.uses y told) (equal_page_means old.now.schema _ _ held.own.place) (λ l. refl)
+
+  pub first_page_shows : (key bytes : List ℕ) (row : Option Row) → FirstRow first_page_text (Blob key ∷ Blob bytes ∷ []) old new row → Pins IsFirstPage row (first_page key bytes t)
+  first_page_shows key bytes row first =
+      first_own page_cells page_table old new held.own t.pages held.rows held.keyed first_page_text (Blob key ∷ Blob bytes ∷ []) row first first_page_rest first_page_names
+      (is_of_key key) (λ x. one_blob x.1.key key) IsFirstPage (compared bytes) (λ x y told. first_page_read x bytes y told) (first_page_means old.now.schema _ _ held.own.place) (λ l. refl)

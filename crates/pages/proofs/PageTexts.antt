@@ -1,5 +1,5 @@
 -- The statements on the table page: how they are written, and what their texts mean in each schema that has it.
-use Rattle.std.proofs.Common.{◌≡◌, ℕ, pos, false, List, [], ◌∷◌, codes, Some, None, Ok, refl}
+use Rattle.std.proofs.Common.{◌≡◌, ℕ, pos, false, List, [], ◌∷◌, ◌++◌, codes, Some, None, Ok, refl}
 use Rattle.sqlite_value.specs.declared.value.Value.TheVariants.{Null, Int}
 use Rattle.sqlite_value.specs.declared.keys.Collation.TheVariants.{Binary}
 use Rattle.sqlite_sql.specs.Term.{Term, lit, col}
@@ -10,6 +10,7 @@ use Rattle.sqlite_schema.specs.declared.command.Command.TheVariants.{Select, Ins
 use Rattle.sqlite_ast.specs.declared.Statement.{Statement}
 use Rattle.sqlite_ast.specs.declared.Statement.TheVariants as written
 use Rattle.sqlite_ast.specs.declared.Expr.TheVariants.{Parameter}
+use Rattle.sqlite_ast.specs.declared.Shown.TheVariants.{One}
 use Rattle.sqlite_ast.specs.declared.Core.{Core}
 use Rattle.sqlite_ast.specs.declared.Select as ast
 use Rattle.sqlite_resolve.specs.Compile.{first, command, timed, returning}
@@ -25,7 +26,7 @@ use Rattle.statements.proofs.Reading.{read_is}
 use Rattle.statements.proofs.Writes.{plain_program}
 use Rattle.statements.proofs.Answered.{point}
 use Rattle.statements.proofs.Commands.{is_at, update_query, delete_query, point_rest, point_draft, no_page}
-use Rattle.pages.specs.declared.rows.TheConstants.{ADD_PAGE, SET_PAGE_USES, REMOVE_PAGE, PAGE_BYTES, PAGE_USES, EQUAL_PAGE}
+use Rattle.pages.specs.declared.rows.TheConstants.{ADD_PAGE, SET_PAGE_USES, REMOVE_PAGE, PAGE_BYTES, PAGE_USES, EQUAL_PAGE, FIRST_PAGE}
 
 abbrev pub add_page_text : List ℕ
 add_page_text = ADD_PAGE.now
@@ -123,6 +124,28 @@ equal_page_is_query = (equal_page_select, some_parsed (first equal_page_text), e
 abbrev pub equal_page_rest : Query
 equal_page_rest = point_rest (is_at 1 0 ∷ is_at 3 1 ∷ []) (col 1 2 ∷ col 1 4 ∷ []) no_page
 
+abbrev pub first_page_text : List ℕ
+first_page_text = FIRST_PAGE.now
+
+abbrev first_page_core : Core
+first_page_core = st.from_table (st.shown_columns (codes "twin" ∷ codes "uses" ∷ []) ++ One (st.is_given (codes "bytes") 2) None (codes "bytes = ?2") ∷ []) (codes "page") (st.is_given (codes "pkey") 1)
+
+abbrev first_page_select : ast.Select
+first_page_select = st.select first_page_core (st.by_rowid false) None
+
+first_page_reads : first first_page_text ≡ Ok (as_read (some_parsed (first first_page_text)) (written.Select first_page_select))
+unfolding everything
+first_page_reads = refl
+
+pub first_page_is_query : IsQuery first_page_text
+first_page_is_query = (first_page_select, some_parsed (first first_page_text), first_page_reads)
+
+abbrev pub first_page_rest : Query
+first_page_rest = point_rest (is_at 1 0 ∷ []) (col 1 2 ∷ col 1 4 ∷ is_at 3 1 ∷ []) no_page
+
+abbrev pub first_page_names : List (List ℕ)
+first_page_names = codes "twin" ∷ codes "uses" ∷ codes "bytes = ?2" ∷ []
+
 module _ (s : Schema) (at tree : ℕ) (h : StandsAt s (codes "page") page_table at tree) where
   add_page_is : (base : ℕ) → command s [] base add_page ≡ Ok (Insert at (Values add_page_terms 5))
   unfolding everything
@@ -198,3 +221,20 @@ module _ (s : Schema) (at tree : ℕ) (h : StandsAt s (codes "page") page_table 
   pub equal_page_means : Means s (Select (plain_program (point equal_page_rest tree false)) (codes "twin" ∷ codes "uses" ∷ [])) equal_page_text
   unfolding timed returning
   equal_page_means = means s (written.Select equal_page_select) _ refl (λ _. refl) equal_page_is equal_page_text (some_parsed (first equal_page_text)) equal_page_reads
+
+  first_page_named : named s first_page_core (st.by_rowid false) no_page ≡ Ok ((point_draft first_page_rest tree false), first_page_names, (Some Binary ∷ Some Binary ∷ None ∷ []))
+  unfolding everything
+  first_page_named = rw (h.named, h.found, h.found, h.found, h.small) refl
+
+  first_page_fits : program s [] (point_draft first_page_rest tree false) ≡ Ok (plain_program (point first_page_rest tree false))
+  unfolding everything
+  first_page_fits = rw (h.low, h.treed) refl
+
+  first_page_is : (base : ℕ) → command s [] base (written.Select first_page_select) ≡ Ok (Select (plain_program (point first_page_rest tree false)) first_page_names)
+  unfolding everything
+  first_page_is base =
+      read_is s first_page_select first_page_core (st.by_rowid false) no_page ((point_draft first_page_rest tree false), first_page_names, (Some Binary ∷ Some Binary ∷ None ∷ [])) refl refl refl refl refl (λ again. refl) first_page_named (plain_program (point first_page_rest tree false)) first_page_fits base
+
+  pub first_page_means : Means s (Select (plain_program (point first_page_rest tree false)) first_page_names) first_page_text
+  unfolding timed returning
+  first_page_means = means s (written.Select first_page_select) _ refl (λ _. refl) first_page_is first_page_text (some_parsed (first first_page_text)) first_page_reads

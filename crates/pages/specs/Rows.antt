@@ -7,6 +7,7 @@ use Rattle.sqlite_keyed.specs.Lists.{update_where, delete_where}
 use Rattle.statements.specs.Rows.{Kept, PageRow, number}
 use Rattle.statements.specs.Tables.{Tables}
 use Rattle.statements.specs.Changes.{with_next}
+use Rattle.pages.specs.declared.rows.FirstPage.{FirstPage}
 use Rattle.pages.specs.declared.rows.PageUse.{PageUse}
 use Rattle.pages.specs.declared.store.PageId.{PageId}
 
@@ -38,6 +39,18 @@ page_use x = record { twin = x.1.twin; uses = x.1.uses }
 
 abbrev pub equal_page : List ℕ → List ℕ → Tables → Option PageUse
 equal_page key bytes t = option_map page_use (find (is_equal_page key bytes) t.pages)
+
+-- a page of the key
+abbrev pub is_of_key : List ℕ → Kept PageRow → Bool
+is_of_key key x = bytes_eq x.1.key key
+
+-- a page, and whether it has these bytes
+abbrev pub compared : List ℕ → Kept PageRow → FirstPage
+compared bytes x = record { found = page_use x; same = bytes_eq x.1.bytes bytes }
+
+-- the page of the key that was added first
+abbrev pub first_page : List ℕ → List ℕ → Tables → Option FirstPage
+first_page key bytes t = option_map (compared bytes) (find (is_of_key key) t.pages)
 
 -- A row of an answer that names a page: its key, and then its twin number.
 pub record IsPageName (row : Row) (id : PageId) : Type 0 where

@@ -3,9 +3,9 @@ ghost use Rattle.std.specs.Prelude.{◌≡◌, false, ◌<◌, ◌^◌};
 ghost use Rattle.sqlite.specs.Held.{state};
 ghost use Rattle.sqlite.specs.State.{Survives};
 ghost use Rattle.statements.specs.Steps.{ChangesBy, ReadsBy};
-ghost use Rattle.pages.specs.Rows.{page_added, page_used, page_removed, page_bytes, page_uses, equal_page};
+ghost use Rattle.pages.specs.Rows.{page_added, page_used, page_removed, page_bytes, page_uses, equal_page, first_page};
 ghost use Rattle.pages.specs.Pages.{SparesNamed};
-ghost use Rattle.pages.specs.Inner.Calls.{IsPageUse};
+ghost use Rattle.pages.specs.Inner.Calls.{IsPageUse, IsFirstPage};
 
 use basis::Bytes;
 use sqlite::{Alter, Connection, Error, Row, Transaction, params};
@@ -119,6 +119,43 @@ pub(crate) fn uses<'v, S: Alter>(
 {
     let twin = signed(twin);
     let row = first_row_inside(tx, PAGE_USES, params![key, &twin]);
+    read_one(row)
+}
+
+/// The page of a key that comes first among its rows, and whether it has the bytes that were asked for.
+#[derive(Clone, Copy)]
+pub(crate) struct FirstPage {
+    pub found: PageUse,
+    pub same: bool,
+}
+
+impl Read for FirstPage {
+    ghost is_in = { IsFirstPage };
+
+    fn of_row(row: &Row) -> Result<FirstPage, Error> {
+        Ok(FirstPage {
+            found: PageUse {
+                twin: row.get(0)?,
+                uses: row.get(1)?,
+            },
+            same: row.get(2)?,
+        })
+    }
+}
+
+const FIRST_PAGE: &str = "SELECT twin, uses, bytes = ?2 FROM page WHERE pkey = ?1 ORDER BY rowid";
+
+/// The first page of this key, compared with these bytes.
+pub(crate) fn first<S: Alter>(
+    tx: &mut Transaction<'_, S>,
+    key: &[u8],
+    bytes: &[u8],
+) -> Result<Option<FirstPage>, Error>
+    ensures same_reference { tx.new.conn.ghost_name ≡ tx.old.conn.ghost_name }
+    ensures read { ReadsBy (first_page key.now bytes.now) (state S.Store tx.old.conn.now) (state S.Store tx.new.conn.now) result }
+    ensures survives { Survives (state S.Store tx.old.conn.now) (state S.Store tx.new.conn.now) (λ _. ⊥) }
+{
+    let row = first_row_inside(tx, FIRST_PAGE, params![key, bytes]);
     read_one(row)
 }
 

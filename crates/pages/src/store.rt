@@ -9,10 +9,10 @@ ghost use Rattle.statements.specs.Tables.{Tables, Holds};
 ghost use Rattle.pages.specs.Rows.{page_added, page_used, page_bytes, IsPageName};
 ghost use Rattle.pages.specs.Puts.{free_twin, twin_found, twin_for, put_found, page_put, lessened, released_found, page_released, is_bytes_of};
 ghost use Rattle.pages.specs.Pages.{PutsBy, ReleasesBy, SparesNamed, GetsBy};
-ghost use Rattle.pages.specs.Inner.Calls.{OnlyLooks, TellsBy};
+ghost use Rattle.pages.specs.Inner.Calls.{OnlyLooks, TellsBy, put_with, twin_with};
 
 use crate::keys::PageKey;
-use crate::rows::{PageUse, add, bytes, equal, remove, set_uses, uses};
+use crate::rows::{FirstPage, PageUse, add, bytes, equal, first, remove, set_uses, uses};
 use basis::Bytes;
 use sqlite::types::{Type, ValueRef};
 use sqlite::{Alter, Connection, Error, Row, Transaction};
@@ -113,6 +113,17 @@ fn add_new<S: Alter>(tx: &mut Transaction<'_, S>, key: &[u8], page: &[u8]) -> Re
     Ok(twin)
 }
 
+/// The only page of a key, under the number 0.
+fn add_first<S: Alter>(tx: &mut Transaction<'_, S>, key: &[u8], page: &[u8]) -> Result<u64, Error>
+    ensures same_reference { tx.new.conn.ghost_name ≡ tx.old.conn.ghost_name }
+    ensures changed { ChangesBy (page_added key.now 0 page.now) (state S.Store tx.old.conn.now) (state S.Store tx.new.conn.now) result }
+    ensures twin { IfOk result (λ twin. twin ≡ 0) }
+    ensures so_far { HasCleanDisk (state S.Store tx.new.conn.now) → HasCleanDisk (state S.Store tx.old.conn.now) }
+{
+    add(tx, key, 0, page)?;
+    Ok(0)
+}
+
 fn put_beside<S: Alter>(
     tx: &mut Transaction<'_, S>,
     key: &[u8],
@@ -131,7 +142,8 @@ fn put_beside<S: Alter>(
     }
 }
 
-fn put_under<S: Alter>(tx: &mut Transaction<'_, S>, key: &[u8], page: &[u8]) -> Result<u64, Error>
+/// Puts a page of a key that has others.
+fn put_among<S: Alter>(tx: &mut Transaction<'_, S>, key: &[u8], page: &[u8]) -> Result<u64, Error>
     ensures same_reference { tx.new.conn.ghost_name ≡ tx.old.conn.ghost_name }
     ensures changed { ChangesBy (page_put key.now page.now) (state S.Store tx.old.conn.now) (state S.Store tx.new.conn.now) result }
     ensures twin { TellsBy (twin_for key.now page.now) (state S.Store tx.old.conn.now) (state S.Store tx.new.conn.now) result }
@@ -140,6 +152,41 @@ fn put_under<S: Alter>(tx: &mut Transaction<'_, S>, key: &[u8], page: &[u8]) -> 
 {
     let found = equal(tx, key, page)?;
     put_beside(tx, key, found, page)
+}
+
+fn put_with<S: Alter>(
+    tx: &mut Transaction<'_, S>,
+    key: &[u8],
+    first: Option<FirstPage>,
+    page: &[u8],
+) -> Result<u64, Error>
+    ensures same_reference { tx.new.conn.ghost_name ≡ tx.old.conn.ghost_name }
+    ensures changed { ChangesBy (put_with key.now page.now first) (state S.Store tx.old.conn.now) (state S.Store tx.new.conn.now) result }
+    ensures twin { TellsBy (twin_with key.now page.now first) (state S.Store tx.old.conn.now) (state S.Store tx.new.conn.now) result }
+    ensures fits { IfOk result (λ twin. twin < 2 ^ 63) }
+    ensures so_far { HasCleanDisk (state S.Store tx.new.conn.now) → HasCleanDisk (state S.Store tx.old.conn.now) }
+{
+    match first {
+        None => add_first(tx, key, page),
+        Some(first) => {
+            if first.same {
+                use_again(tx, key, first.found)
+            } else {
+                put_among(tx, key, page)
+            }
+        }
+    }
+}
+
+fn put_under<S: Alter>(tx: &mut Transaction<'_, S>, key: &[u8], page: &[u8]) -> Result<u64, Error>
+    ensures same_reference { tx.new.conn.ghost_name ≡ tx.old.conn.ghost_name }
+    ensures changed { ChangesBy (page_put key.now page.now) (state S.Store tx.old.conn.now) (state S.Store tx.new.conn.now) result }
+    ensures twin { TellsBy (twin_for key.now page.now) (state S.Store tx.old.conn.now) (state S.Store tx.new.conn.now) result }
+    ensures fits { IfOk result (λ twin. twin < 2 ^ 63) }
+    ensures so_far { HasCleanDisk (state S.Store tx.new.conn.now) → HasCleanDisk (state S.Store tx.old.conn.now) }
+{
+    let first = first(tx, key, page)?;
+    put_with(tx, key, first, page)
 }
 
 /// Puts a page into use once more, and keeps it if none with its bytes is kept.

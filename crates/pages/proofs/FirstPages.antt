@@ -1,0 +1,62 @@
+-- A page that is put by the first page of its key: where there is none, it is the key's only one; where that has its bytes, it is the one that is used again.
+use Rattle.std.proofs.Common.{◌≡◌, ◌==◌, ℕ, Bool, true, false, ◌&&◌, cond, List, [], ◌∷◌, find, Option, Some, None, option_map, refl, sym, ap, ◌∙◌, arith}
+use Rattle.std.specs.Str.{bytes_eq}
+use Rattle.statements.specs.Rows.{Kept, PageRow}
+use Rattle.statements.specs.Tables.{Tables}
+use Rattle.pages.specs.Rows.{page_added, page_use, page_uses, equal_page, is_of_key, compared, first_page}
+use Rattle.pages.specs.Puts.{twin_limit, free_twin, twin_found, twin_for, put_found, page_put}
+use Rattle.pages.specs.Inner.Calls.{put_with, twin_with}
+use Rattle.pages.proofs.FreeTwins.{free_begin, free_here}
+
+module _ {X : Type 0} (p q : X → Bool) where
+  none_narrower : (xs : List X) → find p xs ≡ None → find (λ x. p x && q x) xs ≡ None
+  none_narrower [] e = refl
+  none_narrower (x ∷ xs) e = go (p x) e (none_narrower xs)
+    where
+      go : (b : Bool) → cond b (Some x) (find p xs) ≡ None → (find p xs ≡ None → find (λ y. p y && q y) xs ≡ None) → cond (b && q x) (Some x) (find (λ y. p y && q y) xs) ≡ None
+      go true e more = absurd (let none : ⊥ = cc in none)
+      go false e more = more e
+
+  -- the first that passes one test, where it passes the other, is the first that passes both
+  first_narrower : (xs : List X) (x : X) → find p xs ≡ Some x → q x ≡ true → find (λ y. p y && q y) xs ≡ Some x
+  first_narrower [] x e is = absurd (let none : ⊥ = cc in none)
+  first_narrower (y ∷ ys) x e is = go (p y) e (first_narrower ys x)
+    where
+      go : (b : Bool) → cond b (Some y) (find p ys) ≡ Some x → (find p ys ≡ Some x → q x ≡ true → find (λ z. p z && q z) ys ≡ Some x) → cond (b && q y) (Some y) (find (λ z. p z && q z) ys) ≡ Some x
+      go true e more = let same : y ≡ x = cc in let passes : q y ≡ true = ap q same ∙ is in rw passes e
+      go false e more = more e is
+
+module _ (key bytes : List ℕ) (t : Tables) where
+  none_equal : find (is_of_key key) t.pages ≡ None → equal_page key bytes t ≡ None
+  none_equal none = ap (option_map page_use) (none_narrower (is_of_key key) (λ x. bytes_eq x.1.bytes bytes) t.pages none)
+
+  none_kept : find (is_of_key key) t.pages ≡ None → page_uses key 0 t ≡ None
+  none_kept none = ap (option_map (λ (x : Kept PageRow). x.1.uses)) (none_narrower (is_of_key key) (λ x. x.1.twin == 0) t.pages none)
+
+  first_free : find (is_of_key key) t.pages ≡ None → free_twin key t ≡ 0
+  first_free none = sym (free_begin key t) ∙ free_here key twin_limit 0 t (omega arith) (none_kept none)
+
+  first_equal : (x : Kept PageRow) → find (is_of_key key) t.pages ≡ Some x → bytes_eq x.1.bytes bytes ≡ true → equal_page key bytes t ≡ Some (page_use x)
+  first_equal x found same = ap (option_map page_use) (first_narrower (is_of_key key) (λ y. bytes_eq y.1.bytes bytes) t.pages x found same)
+
+  pub put_with_is : put_with key bytes (first_page key bytes t) t ≡ page_put key bytes t
+  put_with_is = go (find (is_of_key key) t.pages) refl
+    where
+      go : (o : Option (Kept PageRow)) → find (is_of_key key) t.pages ≡ o → put_with key bytes (option_map (compared bytes) o) t ≡ page_put key bytes t
+      go None none = sym (ap (λ o. put_found key bytes o t) (none_equal none) ∙ ap (λ n. page_added key n bytes t) (first_free none))
+      go (Some x) found = by_bytes (bytes_eq x.1.bytes bytes) refl
+        where
+          by_bytes : (b : Bool) → bytes_eq x.1.bytes bytes ≡ b → cond b (put_found key bytes (Some (page_use x)) t) (page_put key bytes t) ≡ page_put key bytes t
+          by_bytes true same = sym (ap (λ o. put_found key bytes o t) (first_equal x found same))
+          by_bytes false other = refl
+
+  pub twin_with_is : twin_with key bytes (first_page key bytes t) t ≡ twin_for key bytes t
+  twin_with_is = go (find (is_of_key key) t.pages) refl
+    where
+      go : (o : Option (Kept PageRow)) → find (is_of_key key) t.pages ≡ o → twin_with key bytes (option_map (compared bytes) o) t ≡ twin_for key bytes t
+      go None none = sym (ap (λ o. twin_found key o t) (none_equal none) ∙ first_free none)
+      go (Some x) found = by_bytes (bytes_eq x.1.bytes bytes) refl
+        where
+          by_bytes : (b : Bool) → bytes_eq x.1.bytes bytes ≡ b → cond b x.1.twin (twin_for key bytes t) ≡ twin_for key bytes t
+          by_bytes true same = sym (ap (λ o. twin_found key o t) (first_equal x found same))
+          by_bytes false other = refl
