@@ -1,9 +1,10 @@
 -- The first row of an answer, as a function of typed rows.
-use Rattle.std.proofs.Common.{◌≡◌, ℕ, ℤ, Bool, false, List, [], ◌∷◌, map, filter, find, length, slice_get, Option, Some, None, option_map, refl, sym, ap, ◌∙◌, subst, arith, Ordering, Less, Equal, Greater, int_cmp, is_eq, map-id}
+use Rattle.std.proofs.Common.{◌≡◌, ℕ, ℤ, pos, Bool, false, List, [], ◌∷◌, map, filter, find, length, slice_get, Option, Some, None, option_map, refl, sym, ap, ◌∙◌, subst, arith, Ordering, Less, Equal, Greater, int_cmp, nat_cmp, is_eq, map-id}
 use Rattle.std.specs.List.{list_all, AllZip}
 use Rattle.std.specs.Ordering.{ordering_then}
 use Rattle.std.specs.List.Sorted.{IsPermutation}
 use Rattle.std.proofs.lemmas.Int.{ints}
+use Rattle.std.proofs.lemmas.Bool.Decides.{nat_tests}
 use Rattle.std.proofs.lemmas.Option.{slice_get-map}
 use Rattle.std.proofs.lemmas.List.Sorted.{length_permutation}
 use Rattle.sqlite_value.specs.declared.keys.Collation.{Collation}
@@ -73,6 +74,16 @@ in_order_of_both m n a b = λ i. ordering_then (value_cmp-Int m n i) (in_order a
 -- rowids break the ties of numbers
 pub untied_down : (m n a b : ℤ) → int_cmp a b ≡ Less → IsNoTie (ordering_then (int_cmp n m) (int_cmp b a))
 untied_down m n a b h = no_tie_after (int_cmp n m) (let above : int_cmp b a ≡ Greater = grind (arith, ints) in record { apart = ap is_eq above })
+
+pub untied_up : (o : Ordering) (a b : ℤ) → int_cmp a b ≡ Less → IsNoTie (ordering_then o (int_cmp a b))
+untied_up o a b h = no_tie_after o (record { apart = ap is_eq h })
+
+by_natural : (m n : ℕ) → int_cmp (pos m) (pos n) ≡ nat_cmp m n
+by_natural m n = grind (arith, ints, nat_tests)
+
+-- numbers are compared as natural ones are
+pub in_order_of_numbers : (m n : ℕ) (a b : ℤ) → ordering_then (value_cmp (Int (pos m)) (Int (pos n))) (ordering_then (value_cmp (Int a) (Int b)) Equal) ≡ ordering_then (nat_cmp m n) (int_cmp a b)
+in_order_of_numbers m n a b = in_order_of_both (pos m) (pos n) a b ∙ ap (λ (o : Ordering). ordering_then o (int_cmp a b)) (by_natural m n)
 
 module _ {R : Type 0} (cells : R → Row) (db : Trees) (tree : ℕ) (xs : List (Kept R)) (held : db tree ≡ map (stored cells) xs) (keyed : IsKeyedBy id_of xs)
     (rest : Query) (params : Row) (p : Kept R → Bool) (tests : (x : Kept R) → list_all (holds (params ∷ stored cells x ∷ [])) rest.filter ≡ p x) where

@@ -1,9 +1,10 @@
 -- What a query over one of our tables reads of its rows, whatever else stands in the database.
-use Rattle.std.proofs.Common.{◌≡◌, refl, ℕ, zero, suc, take, drop, Bool, false, List, [], ◌∷◌, map, filter, find, length, slice_get, Option, Some, None, option_map, ap, ◌∙◌, subst, Ordering, Less, int_cmp}
+use Rattle.std.proofs.Common.{◌≡◌, ◌<ℤ◌, refl, ℕ, pos, zero, suc, take, drop, Bool, false, List, [], ◌∷◌, map, filter, find, length, slice_get, Option, Some, None, option_map, ap, ◌∙◌, subst, Ordering, Less, Equal, int_cmp, nat_cmp}
 use Rattle.std.specs.List.{list_all}
+use Rattle.std.specs.Ordering.{ordering_then}
 use Rattle.sqlite_value.specs.declared.keys.Collation.TheVariants.{Binary}
-use Rattle.sqlite_value.specs.declared.value.Value.TheVariants.{Null}
-use Rattle.sqlite_value.specs.Order.{Row}
+use Rattle.sqlite_value.specs.declared.value.Value.TheVariants.{Null, Int}
+use Rattle.sqlite_value.specs.Order.{Row, value_cmp}
 use Rattle.sqlite_sql.specs.Aggregate.{count}
 use Rattle.sqlite_sql.specs.Term.{lit, holds, eval_all}
 use Rattle.sqlite_sql.specs.Query.{Query, page, output, output_cmp}
@@ -14,6 +15,7 @@ use Rattle.sqlite_schema.specs.declared.command.Command.TheVariants.{Select}
 use Rattle.sqlite.specs.State.{State}
 use Rattle.sqlite_keyed.specs.Keyed.{IsKeyedBy}
 use Rattle.sqlite_keyed.specs.Lists.{sort_by}
+use Rattle.sqlite_keyed.proofs.ListLemmas.{ascending-filter}
 use Rattle.sqlite_typed.proofs.AnswerLemmas.{IsNoTie}
 use Rattle.statements.specs.Place.{tree_of, IsOwn}
 use Rattle.statements.specs.Rows.{Kept, id_of, stored}
@@ -21,7 +23,8 @@ use Rattle.statements.specs.Calls.{FirstRow, Pins}
 use Rattle.statements.proofs.Meaning.{Means}
 use Rattle.statements.proofs.Writes.{plain_program}
 use Rattle.statements.proofs.Own.{stored_tree}
-use Rattle.statements.proofs.Answered.{answered, point, ranked, ranked_is, tally, first_is, count_answer}
+use Rattle.statements.proofs.Answered.{answered, point, ranked, ranked_is, tally, first_is, count_answer, untied_up, in_order_of_numbers}
+use Rattle.statements.proofs.Sorting.{and_key, sorted_same}
 
 pub first_behind : {X : Type 0} (n : ℕ) (xs : List X) → slice_get (take 1 (drop n xs)) 0 ≡ slice_get xs n
 first_behind zero [] = refl
@@ -66,6 +69,17 @@ module _ {R : Type 0} (cells : R → Row) (table : Table) (old new : State) (own
     ranked_own column descending order untied is n means at =
         let got = answered text params old new (ranked rest here column descending) names means row first in
         pinned Is show val back row (slice_get (sort_by order (filter p xs)) n) (got.2 ∙ ranked_is cells (overlay old.now.trees []) here xs seen keyed rest params p tests column descending order untied is n at got.0 got.1)
+
+    -- the first by a number: of rows of one number that which stands first
+    pub least_own : (column : ℕ) (num : Kept R → ℕ)
+        → ((x y : Kept R) → output_cmp (ranked rest here column false) (output (ranked rest here column false) (params ∷ stored cells x ∷ [])) (output (ranked rest here column false) (params ∷ stored cells y ∷ []))
+        ≡ ordering_then (value_cmp (Int (pos (num x))) (Int (pos (num y)))) (ordering_then (value_cmp (Int (id_of x)) (Int (id_of y))) Equal))
+        → Means s (Select (plain_program (ranked rest here column false)) names) text → ((l : List Row) → slice_get (page (ranked rest here column false) params l) 0 ≡ slice_get l 0)
+        → Pins Is row (option_map val (slice_get (sort_by (λ x y. nat_cmp (num x) (num y)) (filter p xs)) 0))
+    least_own column num is means at =
+        let order = λ (x y : Kept R). nat_cmp (num x) (num y) in
+        subst (λ (l : List (Kept R)). Pins Is row (option_map val (slice_get l 0))) (sorted_same id_of order (filter p xs) (ascending-filter (λ x y. id_of x <ℤ id_of y) p xs keyed))
+        (ranked_own column false (and_key id_of order) (λ x y. untied_up (order x y) (id_of x) (id_of y)) (λ x y. is x y ∙ in_order_of_numbers (num x) (num y) (id_of x) (id_of y)) 0 means at)
 
   pub count_own : Means s (Select (plain_program (tally rest here Binary (lit Null))) names) text
       → ((l : List Row) → page (tally rest here Binary (lit Null)) params l ≡ l) → row ≡ Some (count (length (filter p xs)) ∷ [])

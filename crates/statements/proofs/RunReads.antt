@@ -15,7 +15,7 @@ use Rattle.basis.specs.declared.rows.RunRow.{RunRow as Run}
 use Rattle.statements.specs.Listings.{run_rows_after, RunsRise}
 use Rattle.statements.proofs.Held.{IsHeld, runs_held}
 use Rattle.statements.proofs.Listed.{by_column, numbered_are}
-use Rattle.statements.proofs.PointReads.{first_own, count_own}
+use Rattle.statements.proofs.PointReads.{first_own, least_own, count_own}
 use Rattle.statements.proofs.ReadBack.{number_read, status_read, run_read}
 use Rattle.statements.proofs.Conditions.{two_texts_number, two_texts_above, two_texts_key, two_texts_open, waits}
 use Rattle.statements.proofs.RunTexts.{list_runs_text, list_runs_means, list_runs_rest, first_waiting_text, first_waiting_means, first_waiting_rest, run_status_text, run_status_means, run_status_rest, run_names, find_run_text, find_run_means, find_run_rest, find_keyed_run_text, find_keyed_run_means, find_keyed_run_rest, count_open_runs_text, count_open_runs_means, count_open_runs_rest}
@@ -26,8 +26,9 @@ module _ (old new : State) (t : Tables) (h : Holds old.now t) where
 
   pub first_waiting_shows : (org ws : List ℕ) (row : Option Row) → FirstRow first_waiting_text (Text org ∷ Text ws ∷ []) old new row → Pins IsNumber row (first_waiting_of org ws t)
   first_waiting_shows org ws row first =
-      first_own run_cells run_table old new held.own t.runs held.rows held.keyed first_waiting_text (Text org ∷ Text ws ∷ []) row first first_waiting_rest (codes "number" ∷ [])
-      (is_waiting_of org ws) (λ x. waits x.1.org org x.1.ws ws x.1.it.status x.1.it.plan_only) IsNumber (λ x. x.1.it.number) (λ x y told. number_read x.1.it.number y told) (first_waiting_means old.now.schema _ _ held.own.place) first_taken
+      least_own run_cells run_table old new held.own t.runs held.rows held.keyed first_waiting_text (Text org ∷ Text ws ∷ []) row first first_waiting_rest (codes "number" ∷ [])
+      (is_waiting_of org ws) (λ x. waits x.1.org org x.1.ws ws x.1.it.status x.1.it.plan_only) IsNumber (λ x. x.1.it.number) (λ x y told. number_read x.1.it.number y told)
+      3 (λ x. x.1.it.number) (λ x y. refl) (first_waiting_means old.now.schema _ _ held.own.place) first_taken
 
   pub run_status_shows : (org ws : List ℕ) (run : ℕ) (row : Option Row) → FirstRow run_status_text (Text org ∷ Text ws ∷ number run ∷ []) old new row → Pins IsStatus row (status_at_number org ws run t)
   run_status_shows org ws run row first =

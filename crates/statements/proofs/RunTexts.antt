@@ -22,15 +22,15 @@ use Rattle.statements.proofs.SyntaxTrees as st
 use Rattle.statements.proofs.Meaning.{Means, means, some_parsed, as_read}
 use Rattle.statements.proofs.Reading.{read_is}
 use Rattle.statements.proofs.Writes.{plain_program}
-use Rattle.statements.proofs.Answered.{point, tally}
+use Rattle.statements.proofs.Answered.{point, ranked, tally}
 use Rattle.statements.proofs.Listed.{listing}
-use Rattle.statements.proofs.Commands.{is_at, is_number, is_under, update_query, delete_query, point_rest, point_draft, tally_draft, no_page, one_page, is_above, listing_draft}
+use Rattle.statements.proofs.Commands.{is_at, is_number, is_under, update_query, delete_query, point_rest, point_draft, ranked_draft, tally_draft, no_page, one_page, is_above, listing_draft}
 
 abbrev pub first_waiting_text : List ℕ
 first_waiting_text = FIRST_WAITING.now
 
 abbrev pub first_waiting_select : ast.Select
-first_waiting_select = st.select st.first_waiting_core (st.by_rowid false) (Some (Integer (codes "1")))
+first_waiting_select = st.select st.first_waiting_core (st.by_column_and_rowid (codes "number") false) (Some (Integer (codes "1")))
 
 first_waiting_reads : first first_waiting_text ≡ Ok (as_read (some_parsed (first first_waiting_text)) (written.Select first_waiting_select))
 unfolding everything
@@ -186,20 +186,20 @@ module _ (s : Schema) (at tree : ℕ) (h : StandsAt s (codes "run") run_table at
   unfolding timed returning
   list_runs_means = means s (written.Select list_runs_select) _ refl (λ _. refl) list_runs_is list_runs_text (some_parsed (first list_runs_text)) list_runs_reads
 
-  first_waiting_named : named s st.first_waiting_core (st.by_rowid false) one_page ≡ Ok ((point_draft first_waiting_rest tree false), (codes "number" ∷ []), (Some Binary ∷ []))
+  first_waiting_named : named s st.first_waiting_core (st.by_column_and_rowid (codes "number") false) one_page ≡ Ok ((ranked_draft first_waiting_rest tree 3 false), (codes "number" ∷ []), (Some Binary ∷ []))
   unfolding everything
-  first_waiting_named = rw (h.named, h.found, h.found, h.found, h.small) refl
+  first_waiting_named = rw (h.named, h.found, h.found, h.found, h.found, h.small) refl
 
-  first_waiting_fits : program s [] (point_draft first_waiting_rest tree false) ≡ Ok (plain_program (point first_waiting_rest tree false))
+  first_waiting_fits : program s [] (ranked_draft first_waiting_rest tree 3 false) ≡ Ok (plain_program (ranked first_waiting_rest tree 3 false))
   unfolding everything
   first_waiting_fits = rw (h.low, h.treed) refl
 
-  first_waiting_is : (base : ℕ) → command s [] base (written.Select first_waiting_select) ≡ Ok (Select (plain_program (point first_waiting_rest tree false)) (codes "number" ∷ []))
+  first_waiting_is : (base : ℕ) → command s [] base (written.Select first_waiting_select) ≡ Ok (Select (plain_program (ranked first_waiting_rest tree 3 false)) (codes "number" ∷ []))
   unfolding everything
   first_waiting_is base =
-      read_is s first_waiting_select st.first_waiting_core (st.by_rowid false) one_page ((point_draft first_waiting_rest tree false), (codes "number" ∷ []), (Some Binary ∷ [])) refl refl refl refl refl (λ again. refl) first_waiting_named (plain_program (point first_waiting_rest tree false)) first_waiting_fits base
+      read_is s first_waiting_select st.first_waiting_core (st.by_column_and_rowid (codes "number") false) one_page ((ranked_draft first_waiting_rest tree 3 false), (codes "number" ∷ []), (Some Binary ∷ [])) refl refl refl refl refl (λ again. refl) first_waiting_named (plain_program (ranked first_waiting_rest tree 3 false)) first_waiting_fits base
 
-  pub first_waiting_means : Means s (Select (plain_program (point first_waiting_rest tree false)) (codes "number" ∷ [])) first_waiting_text
+  pub first_waiting_means : Means s (Select (plain_program (ranked first_waiting_rest tree 3 false)) (codes "number" ∷ [])) first_waiting_text
   unfolding timed returning
   first_waiting_means = means s (written.Select first_waiting_select) _ refl (λ _. refl) first_waiting_is first_waiting_text (some_parsed (first first_waiting_text)) first_waiting_reads
 

@@ -1,16 +1,18 @@
 -- Lists in the order of a key, and finite maps of them.
-use Rattle.std.proofs.Common.{◌≡◌, ◌<◌, ◌+◌, ℕ, Bool, true, false, ◌&&◌, cond, List, [], ◌∷◌, ◌++◌, map, filter, length, reverse, take, get_or, refl, sym, ap, ◌∙◌, subst, arith, Ordering, Less, Equal, Greater, is_eq, is_gt, true≢false}
+use Rattle.std.proofs.Common.{◌≡◌, ◌<◌, ◌<ℤ◌, ◌+◌, ℕ, ℤ, Bool, true, false, ◌&&◌, cond, List, [], ◌∷◌, ◌++◌, map, filter, length, reverse, take, get_or, refl, sym, ap, ◌∙◌, subst, arith, Ordering, Less, Equal, Greater, int_cmp, is_eq, is_gt, true≢false}
 use Rattle.std.specs.List.{AllByRecursion, AllZip}
 use Rattle.std.proofs.lemmas.List.{take_more}
 use Rattle.std.proofs.lemmas.Grind.{reverse_onto}
 use Rattle.std.specs.Cmp.{IsTotalOrder}
-use Rattle.std.specs.Ordering.{ordering_reverse}
+use Rattle.std.specs.Ordering.{ordering_reverse, ordering_then}
 use Rattle.std.proofs.lemmas.Cmp.{upto}
 use Rattle.std.specs.FinMap.{from_entries, entries, empty, entries-insert, len-entries, len-empty}
 use Rattle.std.specs.FinMap.Entries.{put, by_order}
 use Rattle.sqlite_trees.specs.Tree.{IsAscending}
+use Rattle.sqlite_keyed.specs.Keyed.{IsKeyedBy}
 use Rattle.sqlite_keyed.specs.Lists.{sort_by, insert_sorted}
 use Rattle.sqlite_keyed.proofs.ListLemmas.{all_weaker, all-filter}
+use Rattle.sqlite_keyed.proofs.KeyedLemmas.{Less-from_lt}
 
 module _ {A : Type 0} (p q : A → Bool) where
   -- two tests, one after the other
@@ -53,10 +55,19 @@ module _ {A : Type 0} (cmp : A → A → Ordering) where
   turned_round (x ∷ xs) up =
       ap (insert_sorted cmp x) (turned_round xs up.1) ∙ goes_last x (reverse xs) (subst (AllByRecursion (λ y. cmp x y ≡ Greater)) (turned_round xs up.1) (all_sorted (λ y. cmp x y ≡ Greater) xs up.0)) ∙ sym (reverse_onto xs x [])
 
-  module _ (total : IsTotalOrder cmp) where
-    abbrev AtMost : A → A → Type 0
-    AtMost a b = is_gt (cmp a b) ≡ false
+  abbrev pub AtMost : A → A → Type 0
+  AtMost a b = is_gt (cmp a b) ≡ false
 
+  in_front : (x : A) (ys : List A) → AllByRecursion (AtMost x) ys → insert_sorted cmp x ys ≡ x ∷ ys
+  in_front x [] low = refl
+  in_front x (y ∷ ys) low = rw low.0 refl
+
+  -- what is in order, where some may be tied, stays as it is
+  pub sorted_as_is : (xs : List A) → IsAscending AtMost xs → sort_by cmp xs ≡ xs
+  sorted_as_is [] up = refl
+  sorted_as_is (x ∷ xs) up = ap (insert_sorted cmp x) (sorted_as_is xs up.1) ∙ in_front x xs up.0
+
+  module _ (total : IsTotalOrder cmp) where
     turned_back : (x y : A) → is_gt (cmp x y) ≡ true → AtMost y x
     turned_back x y up = ap is_gt (total.antisymm y x) ∙ go (cmp x y) up
       where
@@ -76,10 +87,6 @@ module _ {A : Type 0} (cmp : A → A → Ordering) where
     sorted_up : (xs : List A) → IsAscending AtMost (sort_by cmp xs)
     sorted_up [] = tt
     sorted_up (x ∷ xs) = inserted_up x (sort_by cmp xs) (sorted_up xs)
-
-    in_front : (x : A) (ys : List A) → AllByRecursion (AtMost x) ys → insert_sorted cmp x ys ≡ x ∷ ys
-    in_front x [] low = refl
-    in_front x (y ∷ ys) low = rw low.0 refl
 
     -- those that pass a test are sorted as they were among all
     module _ (q : A → Bool) where
@@ -114,6 +121,26 @@ module _ {A : Type 0} (cmp : A → A → Ordering) where
           go : (b : Bool) → q x ≡ b → filter q (sort_by cmp xs) ≡ sort_by cmp (filter q xs) → filter q (insert_sorted cmp x (sort_by cmp xs)) ≡ sort_by cmp (cond b (x ∷ filter q xs) (filter q xs))
           go true e more = in_passed x (sort_by cmp xs) (sorted_up xs) e ∙ ap (insert_sorted cmp x) more
           go false e more = in_failed x (sort_by cmp xs) e ∙ more
+
+-- Where rows stand in the order of their keys, by which the ties of an order are broken, rows that it ties stand as they are.
+module _ {A : Type 0} (key : A → ℤ) (cmp : A → A → Ordering) where
+  abbrev pub and_key : A → A → Ordering
+  and_key x y = ordering_then (cmp x y) (int_cmp (key x) (key y))
+
+  tie_broken : (o c : Ordering) → c ≡ Less → is_gt (ordering_then o c) ≡ is_gt o
+  tie_broken Less c h = refl
+  tie_broken Equal c h = ap is_gt h
+  tie_broken Greater c h = refl
+
+  put_same : (x : A) (ys : List A) → AllByRecursion (λ y. int_cmp (key x) (key y) ≡ Less) ys → insert_sorted and_key x ys ≡ insert_sorted cmp x ys
+  put_same x [] low = refl
+  put_same x (y ∷ ys) low = λ i. cond (tie_broken (cmp x y) (int_cmp (key x) (key y)) low.0 i) (y ∷ put_same x ys low.1 i) (x ∷ y ∷ ys)
+
+  pub sorted_same : (xs : List A) → IsKeyedBy key xs → sort_by and_key xs ≡ sort_by cmp xs
+  sorted_same [] up = refl
+  sorted_same (x ∷ xs) up =
+      ap (insert_sorted and_key x) (sorted_same xs up.1)
+      ∙ put_same x (sort_by cmp xs) (all_sorted cmp (λ y. int_cmp (key x) (key y) ≡ Less) xs (all_weaker (λ y. key x <ℤ key y) (λ y. int_cmp (key x) (key y) ≡ Less) (λ y. Less-from_lt (key x) (key y)) xs up.0))
 
 zip_push : {A B : Type 0} (R : A → B → Type 0) (xs : List A) (ys : List B) (x : A) (y : B) → AllZip R xs ys → R x y → AllZip R (xs ++ x ∷ []) (ys ++ y ∷ [])
 zip_push R [] [] x y all here = (here, tt)

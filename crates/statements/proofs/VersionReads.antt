@@ -15,7 +15,7 @@ use Rattle.statements.specs.Calls.{FirstRow, FirstRows, Pins, IsVersionRow, IsNu
 use Rattle.statements.specs.Listings.{version_rows_after, VersionsRise}
 use Rattle.statements.proofs.Held.{IsHeld, versions_held}
 use Rattle.statements.proofs.Listed.{by_column, numbered_are}
-use Rattle.statements.proofs.PointReads.{first_own, ranked_own, first_behind}
+use Rattle.statements.proofs.PointReads.{first_own, ranked_own, least_own, first_behind}
 use Rattle.statements.proofs.Answered.{in_order_of_both, untied_down}
 use Rattle.sqlite_typed.proofs.AnswerLemmas.{IsNoTie}
 use Rattle.std.specs.Ordering.{ordering_then}
@@ -45,8 +45,9 @@ module _ (old new : State) (t : Tables) (h : Holds old.now t) where
 
   pub oldest_below_shows : (org ws : List ℕ) (n : ℕ) (row : Option Row) → FirstRow oldest_below_text (Text org ∷ Text ws ∷ number n ∷ []) old new row → Pins IsVersionRow row (oldest_below org ws n t)
   oldest_below_shows org ws n row first =
-      first_own version_cells version_table old new held.own t.versions held.rows held.keyed oldest_below_text (Text org ∷ Text ws ∷ number n ∷ []) row first oldest_below_rest (codes "number" ∷ codes "serial" ∷ codes "lineage" ∷ codes "created" ∷ codes "size" ∷ [])
-      (is_version_below org ws n) (λ x. two_texts_below x.1.org org x.1.ws ws x.1.it.number n) IsVersionRow (λ x. x.1.it) (λ x y told. version_read x.1.it y told) (oldest_below_means old.now.schema _ _ held.own.place) first_taken
+      least_own version_cells version_table old new held.own t.versions held.rows held.keyed oldest_below_text (Text org ∷ Text ws ∷ number n ∷ []) row first oldest_below_rest (codes "number" ∷ codes "serial" ∷ codes "lineage" ∷ codes "created" ∷ codes "size" ∷ [])
+      (is_version_below org ws n) (λ x. two_texts_below x.1.org org x.1.ws ws x.1.it.number n) IsVersionRow (λ x. x.1.it) (λ x y told. version_read x.1.it y told)
+      3 (λ x. x.1.it.number) (λ x y. refl) (oldest_below_means old.now.schema _ _ held.own.place) first_taken
 
   pub version_back_shows : (org ws : List ℕ) (place : ℕ) (row : Option Row) → FirstRow version_back_text (Text org ∷ Text ws ∷ number place ∷ []) old new row → Pins IsNumber row (number_back org ws place t)
   version_back_shows org ws place row first =

@@ -46,7 +46,7 @@ abbrev pub oldest_below_text : List ℕ
 oldest_below_text = OLDEST_VERSION_BELOW.now
 
 abbrev pub oldest_below_select : ast.Select
-oldest_below_select = st.select st.oldest_below_core (st.by_rowid false) (Some (Integer (codes "1")))
+oldest_below_select = st.select st.oldest_below_core (st.by_column_and_rowid (codes "number") false) (Some (Integer (codes "1")))
 
 oldest_below_reads : first oldest_below_text ≡ Ok (as_read (some_parsed (first oldest_below_text)) (written.Select oldest_below_select))
 unfolding everything
@@ -164,20 +164,20 @@ module _ (s : Schema) (at tree : ℕ) (h : StandsAt s (codes "version") version_
   unfolding timed returning
   newest_version_means = means s (written.Select newest_version_select) _ refl (λ _. refl) newest_version_is newest_version_text (some_parsed (first newest_version_text)) newest_version_reads
 
-  oldest_below_named : named s st.oldest_below_core (st.by_rowid false) one_page ≡ Ok ((point_draft oldest_below_rest tree false), (codes "number" ∷ codes "serial" ∷ codes "lineage" ∷ codes "created" ∷ codes "size" ∷ []), (Some Binary ∷ Some Binary ∷ Some Binary ∷ Some Binary ∷ Some Binary ∷ []))
+  oldest_below_named : named s st.oldest_below_core (st.by_column_and_rowid (codes "number") false) one_page ≡ Ok ((ranked_draft oldest_below_rest tree 3 false), (codes "number" ∷ codes "serial" ∷ codes "lineage" ∷ codes "created" ∷ codes "size" ∷ []), (Some Binary ∷ Some Binary ∷ Some Binary ∷ Some Binary ∷ Some Binary ∷ []))
   unfolding everything
-  oldest_below_named = rw (h.named, h.found, h.found, h.found, h.small) refl
+  oldest_below_named = rw (h.named, h.found, h.found, h.found, h.found, h.small) refl
 
-  oldest_below_fits : program s [] (point_draft oldest_below_rest tree false) ≡ Ok (plain_program (point oldest_below_rest tree false))
+  oldest_below_fits : program s [] (ranked_draft oldest_below_rest tree 3 false) ≡ Ok (plain_program (ranked oldest_below_rest tree 3 false))
   unfolding everything
   oldest_below_fits = rw (h.low, h.treed) refl
 
-  oldest_below_is : (base : ℕ) → command s [] base (written.Select oldest_below_select) ≡ Ok (Select (plain_program (point oldest_below_rest tree false)) (codes "number" ∷ codes "serial" ∷ codes "lineage" ∷ codes "created" ∷ codes "size" ∷ []))
+  oldest_below_is : (base : ℕ) → command s [] base (written.Select oldest_below_select) ≡ Ok (Select (plain_program (ranked oldest_below_rest tree 3 false)) (codes "number" ∷ codes "serial" ∷ codes "lineage" ∷ codes "created" ∷ codes "size" ∷ []))
   unfolding everything
   oldest_below_is base =
-      read_is s oldest_below_select st.oldest_below_core (st.by_rowid false) one_page ((point_draft oldest_below_rest tree false), (codes "number" ∷ codes "serial" ∷ codes "lineage" ∷ codes "created" ∷ codes "size" ∷ []), (Some Binary ∷ Some Binary ∷ Some Binary ∷ Some Binary ∷ Some Binary ∷ [])) refl refl refl refl refl (λ again. refl) oldest_below_named (plain_program (point oldest_below_rest tree false)) oldest_below_fits base
+      read_is s oldest_below_select st.oldest_below_core (st.by_column_and_rowid (codes "number") false) one_page ((ranked_draft oldest_below_rest tree 3 false), (codes "number" ∷ codes "serial" ∷ codes "lineage" ∷ codes "created" ∷ codes "size" ∷ []), (Some Binary ∷ Some Binary ∷ Some Binary ∷ Some Binary ∷ Some Binary ∷ [])) refl refl refl refl refl (λ again. refl) oldest_below_named (plain_program (ranked oldest_below_rest tree 3 false)) oldest_below_fits base
 
-  pub oldest_below_means : Means s (Select (plain_program (point oldest_below_rest tree false)) (codes "number" ∷ codes "serial" ∷ codes "lineage" ∷ codes "created" ∷ codes "size" ∷ [])) oldest_below_text
+  pub oldest_below_means : Means s (Select (plain_program (ranked oldest_below_rest tree 3 false)) (codes "number" ∷ codes "serial" ∷ codes "lineage" ∷ codes "created" ∷ codes "size" ∷ [])) oldest_below_text
   unfolding timed returning
   oldest_below_means = means s (written.Select oldest_below_select) _ refl (λ _. refl) oldest_below_is oldest_below_text (some_parsed (first oldest_below_text)) oldest_below_reads
 

@@ -1,7 +1,7 @@
 -- What each query reads of the rows.
 use Rattle.std.specs.Prelude.{ℕ, pos, Bool, true, false, not, ◌&&◌, List, length, filter, find, slice_get, min, Option, Some, None, option_map}
 use Rattle.std.specs.declared.cmp.Ordering.{Ordering}
-use Rattle.std.specs.Ordering.{int_cmp, ordering_then}
+use Rattle.std.specs.Ordering.{int_cmp, nat_cmp, ordering_then}
 use Rattle.std.specs.Str.{bytes_eq}
 use Rattle.sqlite_value.specs.declared.keys.Collation.TheVariants.{Binary}
 use Rattle.sqlite_sql.specs.declared.ops.ArithOp.TheVariants.{Sub}
@@ -59,6 +59,13 @@ keep_of org ws t = option_map (λ x. x.1.keep) (find (is_keeping org ws) t.keepi
 abbrev pub workspaces_of : List ℕ → Tables → ℕ
 workspaces_of org t = counted (filter (is_ws_of org) t.wss)
 
+-- the order of versions, and of runs: by their numbers. Rows with one number stand as they are.
+abbrev pub version_cmp : Kept VersionRow → Kept VersionRow → Ordering
+version_cmp x y = nat_cmp x.1.it.number y.1.it.number
+
+abbrev pub run_cmp : Kept RunRow → Kept RunRow → Ordering
+run_cmp x y = nat_cmp x.1.it.number y.1.it.number
+
 -- the order of rows of versions: by their numbers, and where two have one, by their rowids
 abbrev pub by_number : Kept VersionRow → Kept VersionRow → Ordering
 by_number x y = ordering_then (int_cmp (pos x.1.it.number) (pos y.1.it.number)) (int_cmp (id_of x) (id_of y))
@@ -86,9 +93,9 @@ version_before org ws next t = option_map (λ x. x.1.it.number) (find (is_versio
 abbrev pub number_back : List ℕ → List ℕ → ℕ → Tables → Option ℕ
 number_back org ws place t = option_map (λ x. x.1.it.number) (slice_get (sort_by back_by_number (filter (is_version_of org ws) t.versions)) place)
 
--- of the versions with numbers below this one, that which was added first
+-- of the versions with numbers below this one, that with the least
 abbrev pub oldest_below : List ℕ → List ℕ → ℕ → Tables → Option Version
-oldest_below org ws n t = option_map (λ x. x.1.it) (find (is_version_below org ws n) t.versions)
+oldest_below org ws n t = option_map (λ x. x.1.it) (slice_get (sort_by version_cmp (filter (is_version_below org ws n) t.versions)) 0)
 
 -- how many bytes the text of a version has, if it is there
 abbrev pub size_of : List ℕ → List ℕ → ℕ → Tables → Option ℕ
@@ -102,9 +109,9 @@ is_pending_of _ = false
 abbrev pub is_waiting_of : List ℕ → List ℕ → Kept RunRow → Bool
 is_waiting_of org ws x = bytes_eq x.1.org org && (bytes_eq x.1.ws ws && (is_pending_of x.1.it.status && not x.1.it.plan_only))
 
--- the number of the waiting run that was added first
+-- the least number of a waiting run
 abbrev pub first_waiting_of : List ℕ → List ℕ → Tables → Option ℕ
-first_waiting_of org ws t = option_map (λ x. x.1.it.number) (find (is_waiting_of org ws) t.runs)
+first_waiting_of org ws t = option_map (λ x. x.1.it.number) (slice_get (sort_by run_cmp (filter (is_waiting_of org ws) t.runs)) 0)
 
 abbrev pub status_at_number : List ℕ → List ℕ → ℕ → Tables → Option RunStatus
 status_at_number org ws n t = option_map (λ x. x.1.it.status) (find (is_run_row org ws n) t.runs)

@@ -14,9 +14,9 @@ use sqlite::{Alter, Connection, Error, Transaction, params};
 use std::alloc::Global;
 
 const FIRST_WAITING: &str =
-    "SELECT number FROM run WHERE org = ?1 AND ws = ?2 AND status = 0 AND plan_only = 0 ORDER BY rowid LIMIT 1";
+    "SELECT number FROM run WHERE org = ?1 AND ws = ?2 AND status = 0 AND plan_only = 0 ORDER BY number, rowid LIMIT 1";
 
-/// The number of the queued run of a workspace that is pending and was added first.
+/// The least number of a queued run of a workspace that is pending.
 pub fn first_waiting<S: Alter>(
     conn: &mut Connection<S>,
     org: &str,

@@ -97,10 +97,10 @@ pub fn size_inside<S: Alter>(
 }
 
 const OLDEST_VERSION_BELOW: &str =
-    "SELECT number, serial, lineage, created, size FROM version WHERE org = ?1 AND ws = ?2 AND number < ?3 ORDER BY rowid LIMIT 1";
+    "SELECT number, serial, lineage, created, size FROM version WHERE org = ?1 AND ws = ?2 AND number < ?3 ORDER BY number, rowid LIMIT 1";
 
-/// Of the versions of a workspace with numbers below this one, which may be one more than the greatest, that which was
-/// added first, without its text.
+/// Of the versions of a workspace with numbers below this one, which may be one more than the greatest, that with the
+/// least number, without its text.
 pub fn oldest_below<S: Alter>(
     tx: &mut Transaction<'_, S>,
     org: &str,

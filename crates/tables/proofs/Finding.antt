@@ -1,5 +1,5 @@
 -- What the queries find is the part of the record that it stands for.
-use Rattle.std.proofs.Common.{◌≡◌, ℕ, suc, ◌+◌, ◌-◌, ◌≤◌, ◌<◌, nat_lt, Bool, true, false, not, ◌&&◌, ◌==◌, cond, List, [], ◌∷◌, map, filter, find, length, take, reverse, slice_get, min, is_some, Option, Some, None, option_map, IfSome, pos, Ordering, Greater, int_cmp, refl, sym, ap, subst, ap₂, ◌∙◌, arith}
+use Rattle.std.proofs.Common.{◌≡◌, ℕ, suc, ◌+◌, ◌-◌, ◌≤◌, ◌<◌, nat_lt, Bool, true, false, not, ◌&&◌, ◌==◌, cond, List, [], ◌∷◌, map, filter, find, length, take, reverse, slice_get, min, is_some, Option, Some, None, option_map, IfSome, pos, Ordering, Less, Greater, int_cmp, is_gt, refl, sym, ap, subst, ap₂, ◌∙◌, arith}
 use Rattle.std.specs.Str.{bytes_eq}
 use Rattle.std.specs.Option.{unwrap_or, option_or}
 use Rattle.std.specs.List.{AllByRecursion, list_any}
@@ -7,14 +7,15 @@ use Rattle.std.specs.FinMap.{from_entries, entries, get, get-from_entries, len-i
 use Rattle.std.proofs.lemmas.Bool.{eqb-true, eq-eqb, ne_eqb, ltb-true, ltb-false}
 use Rattle.std.proofs.lemmas.List.{take_all, length-map, length-reverse, get_or-reverse}
 use Rattle.std.specs.Ordering.{ordering_then}
+use Rattle.std.specs.Cmp.{nat_cmp_is}
 use Rattle.std.proofs.lemmas.Int.{ints}
 use Rattle.sqlite_trees.specs.Tree.{IsAscending}
 use Rattle.sqlite_keyed.specs.Lists.{sort_by}
-use Rattle.statements.proofs.Sorting.{all_sorted, turned_round}
+use Rattle.statements.proofs.Sorting.{AtMost, filter_both, sorted_as_is, all_sorted, turned_round}
 use Rattle.std.proofs.lemmas.Option.{slice_get-map, slice_get_past, slice_get-get_or}
 use Rattle.machine.proofs.CutLemmas.{last_taken}
 use Rattle.sqlite_keyed.specs.Rules.{AreApart}
-use Rattle.sqlite_keyed.proofs.ListLemmas.{filter_same, all_both, all-filter}
+use Rattle.sqlite_keyed.proofs.ListLemmas.{map-map, filter_same, all_both, all-filter, ascending-filter, ascending_weaker, ascending_from_map, slice_get-filter}
 use Rattle.sqlite_keyed.proofs.SliceLemmas.{find-slice, filter-slice, any_is_found}
 use Rattle.basis.specs.Runs.{is_open}
 use Rattle.basis.specs.declared.runs.RunStatus.{RunStatus}
@@ -42,13 +43,15 @@ use Rattle.statements.specs.declared.rows.Workspace.{Workspace as WorkspaceCells
 use Rattle.statements.specs.Rows.{Kept, id_of, OrgRow, WsRow, VersionRow, RunRow}
 use Rattle.statements.specs.Tables.{Tables}
 use Rattle.statements.specs.Changes.{is_org, is_version_of, is_version, is_run_of, is_run_row, is_ws, is_ws_of}
-use Rattle.statements.specs.Finds.{back_by_number, newest_of, size_of, number_back, first_waiting_of, status_at_number, workspace_of, workspaces_of, cap_of}
+use Rattle.statements.specs.Finds.{run_cmp, back_by_number, newest_of, size_of, number_back, first_waiting_of, status_at_number, workspace_of, workspaces_of, cap_of}
 use Rattle.statements.specs.Finds as finds
 use Rattle.statements.proofs.Found.{found_passes, found_holds}
 use Rattle.tables.specs.Records.{version_at, settings_of_cells, versions_at, runs_at, workspace_at, workspace_by, workspaces_at, organization_at, record_of}
 use Rattle.tables.specs.Sound.{HasText, IsSound}
 use Rattle.texts.specs.Texts.{pages_for, text_of, are_pieces, IsWhole}
 use Rattle.texts.proofs.PieceLaws.{whole_size, same_is}
+use Rattle.tables.proofs.TextLists.{all_passing}
+use Rattle.tables.proofs.Ranks.{rising}
 use Rattle.tables.proofs.TextRows.{AreTexts, sound_texts, version_row_parts}
 use Rattle.tables.proofs.Names.{same_name, apart_name, pair_first, pair_second}
 use Rattle.tables.proofs.Parts.{none_mapped}
@@ -111,14 +114,6 @@ other_size xs ys e = apart_name xs ys (λ same. absurd (let no_one : ⊥ = cc (s
 first_holds : {X : Type 0} (P : X → Type 0) (xs : List X) (x : X) → AllByRecursion P xs → slice_get xs 0 ≡ Some x → P x
 first_holds P [] x all e = absurd (let none : ⊥ = cc in none)
 first_holds P (y ∷ xs) x all e = let same : y ≡ x = cc in subst P same all.0
-
-all_passing : {X : Type 0} (p : X → Bool) (xs : List X) → AllByRecursion (λ x. p x ≡ true) (filter p xs)
-all_passing p [] = tt
-all_passing p (x ∷ xs) = go (p x) refl (all_passing p xs)
-  where
-    go : (b : Bool) → p x ≡ b → AllByRecursion (λ y. p y ≡ true) (filter p xs) → AllByRecursion (λ y. p y ≡ true) (cond b (x ∷ filter p xs) (filter p xs))
-    go true e more = (e, more)
-    go false e more = more
 
 -- no row belongs to one that isn't there
 pub no_orphans : {A B : Type 0} (mine : A → Bool) (parent : A → B → Bool) (ps : List B) → ((x : A) → mine x ≡ true → list_any (parent x) ps ≡ false) → (xs : List A)
@@ -192,12 +187,30 @@ module _ (t : Tables) (org ws : List ℕ) where
       by_row None e = refl
       by_row (Some x) e = ap (λ (m : ℕ). Some (text_of org ws m x.1.it.size t)) (sym (version_row_parts org ws n x (found_passes (is_version org ws n) t.versions x e)).1.1)
 
-  pub first_waiting_found : first_waiting_of org ws t ≡ first_waiting (runs_at t org ws)
-  first_waiting_found =
-      ap (option_map (λ (x : Kept RunRow). x.1.it.number)) (find_same (finds.is_waiting_of org ws) (λ x. is_run_of org ws x && is_waiting x.1.it)
+  abbrev waits : Kept RunRow → Bool
+  waits x = is_waiting x.1.it
+
+  abbrev waiting : List (Kept RunRow)
+  waiting = filter waits (filter (is_run_of org ws) t.runs)
+
+  waiting_rows : filter (finds.is_waiting_of org ws) t.runs ≡ waiting
+  waiting_rows =
+      filter_same (finds.is_waiting_of org ws) (λ x. is_run_of org ws x && waits x)
       (λ x. three (bytes_eq x.1.org org) (bytes_eq x.1.ws ws) (finds.is_pending_of x.1.it.status && not x.1.it.plan_only)
-      ∙ ap (λ (b : Bool). (bytes_eq x.1.org org && bytes_eq x.1.ws ws) && (b && not x.1.it.plan_only)) (pending_same x.1.it.status)) t.runs)
-      ∙ mapped (λ (x : Kept RunRow). x.1.it) (λ (r : Run). r.number) (find (λ x. is_run_of org ws x && is_waiting x.1.it) t.runs)
+      ∙ ap (λ (b : Bool). (bytes_eq x.1.org org && bytes_eq x.1.ws ws) && (b && not x.1.it.plan_only)) (pending_same x.1.it.status)) t.runs
+      ∙ filter_both (is_run_of org ws) waits t.runs
+
+  waiting_up : (next : ℕ) → Rises 0 (map (λ (r : Run). r.number) (runs_at t org ws)) next → IsAscending (AtMost run_cmp) waiting
+  waiting_up next rise =
+      ascending-filter (AtMost run_cmp) waits (filter (is_run_of org ws) t.runs) (ascending_weaker (λ x y. x.1.it.number < y.1.it.number) (AtMost run_cmp) (λ x y low. ap is_gt (sym (nat_cmp_is x.1.it.number y.1.it.number Less low))) (filter (is_run_of org ws) t.runs)
+      (ascending_from_map (λ m n. m < n) (λ (x : Kept RunRow). x.1.it.number) (filter (is_run_of org ws) t.runs) (subst (IsAscending (λ m n. m < n)) (map-map (λ (r : Run). r.number) (λ (x : Kept RunRow). x.1.it) (filter (is_run_of org ws) t.runs)) (rising 0 next (map (λ (r : Run). r.number) (runs_at t org ws)) rise))))
+
+  -- where numbers rise with the rows, the least number of a waiting run is that of the first
+  pub first_waiting_found : (next : ℕ) → Rises 0 (map (λ (r : Run). r.number) (runs_at t org ws)) next → first_waiting_of org ws t ≡ first_waiting (runs_at t org ws)
+  first_waiting_found next rise =
+      ap (λ (l : List (Kept RunRow)). option_map (λ (x : Kept RunRow). x.1.it.number) (slice_get l 0)) (ap (sort_by run_cmp) waiting_rows ∙ sorted_as_is run_cmp waiting (waiting_up next rise) ∙ sym (filter_both (is_run_of org ws) waits t.runs))
+      ∙ ap (option_map (λ (x : Kept RunRow). x.1.it.number)) (slice_get-filter (λ x. is_run_of org ws x && waits x) t.runs)
+      ∙ mapped (λ (x : Kept RunRow). x.1.it) (λ (r : Run). r.number) (find (λ x. is_run_of org ws x && waits x) t.runs)
       ∙ ap (option_map (λ (r : Run). r.number)) (find-slice (is_run_of org ws) (λ (x : Kept RunRow). x.1.it) is_waiting t.runs)
 
   pub status_found : (n : ℕ) → status_at_number org ws n t ≡ option_map (λ (r : Run). r.status) (run_of n (runs_at t org ws))
@@ -395,7 +408,7 @@ module _ (t : Tables) (sound : IsSound t) (org : List ℕ) where
             next_run = w.next_run;
             newest = if_needed (needs act).newest (newest_unit_found t org ws w.next_version lawful.versions.rise (sound_texts t sound) (needs act).text i);
             outgoing = outgoing_found t org ws w.next_version lawful.versions.rise (needs act).outgoing (keep_in (needs act).keep_versions org ws t) i;
-            first_waiting = if_needed (needs act).waiting (first_waiting_found t org ws i);
+            first_waiting = if_needed (needs act).waiting (first_waiting_found t org ws w.next_run lawful.runs.rise i);
             has_version = has_version_found t org ws w.next_version lawful.versions.rise (needs act).version i;
             asked_run = asked_run_found t org ws (needs act).run (needs act).key i;
             open_runs = cond (needs act).open_runs (open_runs_found t org ws lawful.runs.open_runs i) 0;

@@ -1,8 +1,13 @@
--- Lists of which the first that passes goes, together with those that pass a narrower test with it.
-use Rattle.std.proofs.Common.{◌≡◌, ◌≤◌, suc, Bool, true, false, not, cond, List, [], ◌∷◌, ◌++◌, filter, find, length, Some, None, refl, sym, ap, subst, ◌∙◌, arith}
+-- Lists of which the least that passes goes, together with those that pass a narrower test with it.
+use Rattle.std.proofs.Common.{◌≡◌, ◌≤◌, suc, Bool, true, false, not, cond, List, [], ◌∷◌, ◌++◌, filter, find, length, slice_get, Option, Some, None, refl, sym, ap, subst, ◌∙◌, arith, Ordering, Equal, is_gt}
+use Rattle.std.specs.Cmp.{IsTotalOrder}
 use Rattle.std.specs.List.{AllByRecursion}
-use Rattle.sqlite_keyed.specs.Lists.{delete_where}
-use Rattle.sqlite_keyed.proofs.ListLemmas.{filter-filter}
+use Rattle.std.proofs.lemmas.List.Sorted.{length_permutation}
+use Rattle.sqlite_trees.specs.Tree.{IsAscending}
+use Rattle.sqlite_keyed.specs.Lists.{delete_where, sort_by}
+use Rattle.sqlite_keyed.proofs.ListLemmas.{all_weaker, all-filter, all-slice_get, filter-filter, slice_get-filter}
+use Rattle.sqlite_keyed.proofs.SortLemmas.{IsPermutation-sort_by}
+use Rattle.statements.proofs.Sorting.{AtMost, all_sorted, sorted_as_is, filter-sort_by}
 
 module _ {X : Type 0} where
   pub all_deleted : (p : X → Bool) (xs : List X) → AllByRecursion (λ x. p x ≡ false) (delete_where p xs)
@@ -19,14 +24,6 @@ module _ {X : Type 0} where
     where
       go : (b : Bool) → cond b (Some z) (find p zs) ≡ Some x → (find p zs ≡ Some x → find p (zs ++ ys) ≡ Some x) → cond b (Some z) (find p (zs ++ ys)) ≡ Some x
       go true e more = e
-      go false e more = more e
-
-  pub filter_of_none : (p : X → Bool) (xs : List X) → find p xs ≡ None → filter p xs ≡ []
-  filter_of_none p [] e = refl
-  filter_of_none p (x ∷ xs) e = go (p x) e (filter_of_none p xs)
-    where
-      go : (b : Bool) → cond b (Some x) (find p xs) ≡ None → (find p xs ≡ None → filter p xs ≡ []) → cond b (x ∷ filter p xs) (filter p xs) ≡ []
-      go true e more = absurd (let none : ⊥ = cc in none)
       go false e more = more e
 
   -- where none passes, none goes
@@ -49,17 +46,6 @@ module _ {X : Type 0} where
       go false false h more = more
 
   module _ (p q : X → Bool) (within : (x : X) → p x ≡ true → q x ≡ true) where
-    -- the first that passes the wider test is the first that passes the narrower, if it passes it
-    pub found_within : (xs : List X) (x : X) → find q xs ≡ Some x → p x ≡ true → find p xs ≡ Some x
-    found_within [] x e is = absurd (let none : ⊥ = cc in none)
-    found_within (y ∷ ys) x e is = go (p y) (q y) refl (within y) e (λ f. found_within ys x f is)
-      where
-        go : (a b : Bool) → p y ≡ a → (a ≡ true → b ≡ true) → cond b (Some y) (find q ys) ≡ Some x → (find q ys ≡ Some x → find p ys ≡ Some x) → cond a (Some y) (find p ys) ≡ Some x
-        go true true f h e more = e
-        go true false f h e more = absurd (let none : ⊥ = cc (h refl) in none)
-        go false true f h e more = let same : y ≡ x = cc in absurd (let none : ⊥ = cc (sym (subst (λ (z : X). p z ≡ false) same f) ∙ is) in none)
-        go false false f h e more = more e
-
     pub absorbed : (xs : List X) → delete_where q (delete_where p xs) ≡ delete_where q xs
     absorbed xs = filter-filter (λ x. not (q x)) (λ x. not (p x)) (λ x e. go (p x) (q x) (within x) e) xs
       where
@@ -68,9 +54,9 @@ module _ {X : Type 0} where
         go true false h e = absurd (let none : ⊥ = cc (h refl) in none)
         go false b h e = refl
 
-    pub fewer_left : (xs : List X) (x : X) → find q xs ≡ Some x → p x ≡ true → suc (length (filter q (delete_where p xs))) ≤ length (filter q xs)
-    fewer_left [] x e is = absurd (let none : ⊥ = cc in none)
-    fewer_left (y ∷ ys) x e is = go (p y) (q y) refl refl (within y) e (λ f. fewer_left ys x f is)
+    pub fewer_left : (xs : List X) (x : X) → find p xs ≡ Some x → suc (length (filter q (delete_where p xs))) ≤ length (filter q xs)
+    fewer_left [] x e = absurd (let none : ⊥ = cc in none)
+    fewer_left (y ∷ ys) x e = go (p y) (q y) refl (within y) e (λ f. fewer_left ys x f)
       where
         rest : length (filter q (delete_where p ys)) ≤ length (filter q ys)
         rest = no_more ys
@@ -86,9 +72,53 @@ module _ {X : Type 0} where
                 by_tests false true f more = rw f (omega (arith, more))
                 by_tests false false f more = rw f more
 
-        go : (a b : Bool) → p y ≡ a → q y ≡ b → (a ≡ true → b ≡ true) → cond b (Some y) (find q ys) ≡ Some x → (find q ys ≡ Some x → suc (length (filter q (delete_where p ys))) ≤ length (filter q ys))
+        go : (a b : Bool) → q y ≡ b → (a ≡ true → b ≡ true) → cond a (Some y) (find p ys) ≡ Some x → (find p ys ≡ Some x → suc (length (filter q (delete_where p ys))) ≤ length (filter q ys))
             → suc (length (filter q (cond (not a) (y ∷ delete_where p ys) (delete_where p ys)))) ≤ length (cond b (y ∷ filter q ys) (filter q ys))
-        go true true f g h e more = let kept = rest in omega (arith, kept)
-        go true false f g h e more = absurd (let none : ⊥ = cc (h refl) in none)
-        go false true f g h e more = let same : y ≡ x = cc in absurd (let none : ⊥ = cc (sym (subst (λ (z : X). p z ≡ false) same f) ∙ is) in none)
-        go false false f g h e more = rw g (more e)
+        go true true g h e more = let kept = rest in omega (arith, kept)
+        go true false g h e more = absurd (let none : ⊥ = cc (h refl) in none)
+        go false true g h e more = let less = more e in rw g (omega (arith, less))
+        go false false g h e more = rw g (more e)
+
+pub all_passing : {X : Type 0} (p : X → Bool) (xs : List X) → AllByRecursion (λ x. p x ≡ true) (filter p xs)
+all_passing p [] = tt
+all_passing p (x ∷ xs) = go (p x) refl (all_passing p xs)
+  where
+    go : (b : Bool) → p x ≡ b → AllByRecursion (λ y. p y ≡ true) (filter p xs) → AllByRecursion (λ y. p y ≡ true) (cond b (x ∷ filter p xs) (filter p xs))
+    go true e more = (e, more)
+    go false e more = more
+
+-- ---- the least of those that pass a test
+
+module _ {X : Type 0} (cmp : X → X → Ordering) (q : X → Bool) where
+  abbrev pub least : List X → Option X
+  least xs = slice_get (sort_by cmp (filter q xs)) 0
+
+  pub least_holds : (P : X → Type 0) (xs : List X) (x : X) → AllByRecursion P xs → least xs ≡ Some x → P x
+  least_holds P xs x all e = all-slice_get P (sort_by cmp (filter q xs)) 0 x e (all_sorted cmp P (filter q xs) (all-filter P q xs all))
+
+  pub least_passes : (xs : List X) (x : X) → least xs ≡ Some x → q x ≡ true
+  least_passes xs x e = all-slice_get (λ y. q y ≡ true) (sort_by cmp (filter q xs)) 0 x e (all_sorted cmp (λ y. q y ≡ true) (filter q xs) (all_passing q xs))
+
+  module _ (total : IsTotalOrder cmp) where
+    pub none_least : (xs : List X) → least xs ≡ None → length (filter q xs) ≡ 0
+    none_least xs e = length_permutation (sort_by cmp (filter q xs)) (filter q xs) (IsPermutation-sort_by cmp total (filter q xs)) ∙ no_first (sort_by cmp (filter q xs)) e
+      where
+        no_first : (zs : List X) → slice_get zs 0 ≡ None → length zs ≡ 0
+        no_first [] f = refl
+        no_first (z ∷ zs) f = absurd (let none : ⊥ = cc in none)
+
+    -- If it passes a narrower test, and all that do are tied, then it is the first that does.
+    module _ (p : X → Bool) (within : (x : X) → p x ≡ true → q x ≡ true) (tied : (x y : X) → p x ≡ true → p y ≡ true → cmp x y ≡ Equal) where
+      tied_up : (xs : List X) → AllByRecursion (λ x. p x ≡ true) xs → IsAscending (AtMost cmp) xs
+      tied_up [] all = tt
+      tied_up (x ∷ xs) all = (all_weaker (λ y. p y ≡ true) (AtMost cmp x) (λ y e. ap is_gt (tied x y all.0 e)) xs all.1, tied_up xs all.1)
+
+      passed_first : (zs : List X) (x : X) → slice_get zs 0 ≡ Some x → p x ≡ true → slice_get (filter p zs) 0 ≡ Some x
+      passed_first [] x e is = absurd (let none : ⊥ = cc in none)
+      passed_first (z ∷ zs) x e is = let same : z ≡ x = cc in rw (subst (λ y. p y ≡ true) (sym same) is) e
+
+      pub least_within : (xs : List X) (x : X) → least xs ≡ Some x → p x ≡ true → find p xs ≡ Some x
+      least_within xs x e is =
+          sym (slice_get-filter p xs)
+          ∙ ap (λ l. slice_get l 0) (sym (filter-sort_by cmp total p (filter q xs) ∙ ap (sort_by cmp) (filter-filter p q within xs) ∙ sorted_as_is cmp (filter p xs) (tied_up (filter p xs) (all_passing p xs))))
+          ∙ passed_first (sort_by cmp (filter q xs)) x e is

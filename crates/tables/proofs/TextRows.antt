@@ -1,8 +1,9 @@
 -- The texts of versions, as rows of versions come and go: what sound tables say of texts stays, and so does each other text.
-use Rattle.std.proofs.Common.{◌≡◌, ◌≤◌, ◌<◌, ℕ, zero, suc, ◌-◌, nat_lt, Bool, true, false, not, ◌&&◌, ◌==◌, cond, List, [], ◌∷◌, ◌++◌, map, filter, find, length, Option, Some, None, option_map, IsSomeAnd, refl, sym, ap, subst, ◌∙◌, arith}
+use Rattle.std.proofs.Common.{◌≡◌, ◌≤◌, ◌<◌, ℕ, zero, suc, ◌-◌, nat_lt, Bool, true, false, not, ◌&&◌, ◌==◌, cond, List, [], ◌∷◌, ◌++◌, map, filter, find, length, Option, Some, None, option_map, IsSomeAnd, refl, sym, ap, ap₂, subst, ◌∙◌, arith, Equal, nat_cmp}
 use Rattle.std.specs.Option.{unwrap_or}
 use Rattle.std.specs.Str.{bytes_eq}
 use Rattle.std.specs.List.{AllByRecursion, list_any}
+use Rattle.std.specs.Cmp.{IsTotalOrder, tied_itself, nat_cmp_total, on_total}
 use Rattle.std.proofs.lemmas.Bool.{false_from_ne_true, and_from, and_parts, eqb-true, eq-eqb}
 use Rattle.sqlite_keyed.specs.Lists.{delete_where}
 use Rattle.sqlite_keyed.specs.Keyed.{next_key}
@@ -18,8 +19,8 @@ use Rattle.std.specs.FinMap.{from_entries}
 use Rattle.machine.specs.Order.{name_cmp}
 use Rattle.statements.specs.Tables.{Tables}
 use Rattle.statements.specs.Changes.{is_bound, is_ws, is_ws_of, is_run_of, is_version_of, is_version, is_version_below, new_version, version_removed}
-use Rattle.statements.specs.Finds.{bound_in, oldest_below, size_of}
-use Rattle.statements.proofs.Found.{found_passes, found_holds, find_pushed, find_left}
+use Rattle.statements.specs.Finds.{version_cmp, bound_in, oldest_below, size_of}
+use Rattle.statements.proofs.Found.{find_pushed, find_left}
 use Rattle.texts.specs.Texts.{is_place_of, pages_for, text_removed, text_of, IsWhole, HasNoPlaces, HasSoundPlaces}
 use Rattle.texts.proofs.PieceLists.{none_passes, none_found}
 use Rattle.texts.proofs.PlaceLaws.{IsOtherVersion, version_parts, version_from}
@@ -28,7 +29,10 @@ use Rattle.tables.specs.Records.{version_of_cells, no_bounds, token_of_cells, wo
 use Rattle.tables.specs.Sound.{IsPlaced, HasText, IsSound}
 use Rattle.tables.specs.Inner.Edits.{first_gone, so_many_gone, gone_below, row_added, added_rows, FitsTwins}
 use Rattle.tables.proofs.Names.{same_name, name_is, is_pair, pair_is, pair_apart}
-use Rattle.tables.proofs.TextLists.{all_deleted, found_front, filter_of_none, none_goes, filter_fewer, found_within, absorbed, fewer_left}
+use Rattle.tables.proofs.TextLists.{all_deleted, found_front, none_goes, filter_fewer, absorbed, fewer_left, least, none_least, least_holds, least_passes, least_within}
+
+pub versions_total : IsTotalOrder version_cmp
+versions_total = on_total (λ (x : Kept VersionRow). x.1.it.number) nat_cmp_total
 
 -- what sound tables say of texts
 pub record AreTexts (t : Tables) : Type 0 where
@@ -164,7 +168,7 @@ module _ (t u : Tables) (keeps : KeepsWorkspaces t u) where
 
 -- ---- a version that goes
 
-module _ (org ws : List ℕ) (below : ℕ) (t : Tables) (a : AreTexts t) (x : Kept VersionRow) (found : find (is_version_below org ws below) t.versions ≡ Some x) where
+module _ (org ws : List ℕ) (below : ℕ) (t : Tables) (a : AreTexts t) (x : Kept VersionRow) (found : least version_cmp (is_version_below org ws below) t.versions ≡ Some x) where
   abbrev n : ℕ
   n = x.1.it.number
 
@@ -178,7 +182,7 @@ module _ (org ws : List ℕ) (below : ℕ) (t : Tables) (a : AreTexts t) (x : Ke
   left = text_removed org ws n size without
 
   of_row : (x.1.org ≡ org) × ((x.1.ws ≡ ws) × (nat_lt n below ≡ true))
-  of_row = below_parts org ws below x (found_passes (is_version_below org ws below) t.versions x found)
+  of_row = below_parts org ws below x (least_passes version_cmp (is_version_below org ws below) t.versions x found)
 
   is_own : is_version org ws n x ≡ true
   is_own = version_row_from org ws n x of_row.0 of_row.1.0 refl
@@ -189,12 +193,21 @@ module _ (org ws : List ℕ) (below : ℕ) (t : Tables) (a : AreTexts t) (x : Ke
       let p = version_row_parts org ws n y e in
       below_from org ws below y p.0 p.1.0 (subst (λ (m : ℕ). nat_lt m below ≡ true) (sym p.1.1) of_row.1.1)
 
+  own_found : find (is_version org ws n) t.versions ≡ Some x
+  own_found = least_within version_cmp (is_version_below org ws below) versions_total (is_version org ws n) goes_with one_number t.versions x found is_own
+    where
+      one_number : (y z : Kept VersionRow) → is_version org ws n y ≡ true → is_version org ws n z ≡ true → version_cmp y z ≡ Equal
+      one_number y z e f =
+          let p = version_row_parts org ws n y e in
+          let q = version_row_parts org ws n z f in
+          ap₂ nat_cmp p.1.1 q.1.1 ∙ tied_itself nat_cmp_total n
+
   own_size : size_of org ws n t ≡ Some size
-  own_size = ap (option_map (λ (y : Kept VersionRow). y.1.it.size)) (found_within (is_version org ws n) (is_version_below org ws below) goes_with t.versions x found is_own)
+  own_size = ap (option_map (λ (y : Kept VersionRow). y.1.it.size)) own_found
 
   was_whole : IsWhole org ws n size without
   was_whole =
-      let there : IsWhole x.1.org x.1.ws n size t = found_holds (HasText t) (is_version_below org ws below) t.versions x a.texts found in
+      let there : IsWhole x.1.org x.1.ws n size t = least_holds version_cmp (is_version_below org ws below) (HasText t) t.versions x a.texts found in
       carried_whole t without refl refl org ws n size (subst (λ (p : List ℕ). IsWhole p ws n size t) of_row.0 (subst (λ (q : List ℕ). IsWhole x.1.org q n size t) of_row.1.0 there))
 
   were_sound : HasSoundPlaces without
@@ -286,13 +299,13 @@ module _ (org ws : List ℕ) (below : ℕ) (t : Tables) (a : AreTexts t) where
       every (x ∷ xs) = (refl, every xs)
 
   one_more : (many : ℕ) (u : Tables) → GoesTo org ws below many t u → GoesTo org ws below (suc many) t (first_gone org ws (oldest_below org ws below u) u)
-  one_more many u so_far = go (find (is_version_below org ws below) u.versions) refl
+  one_more many u so_far = go (least version_cmp (is_version_below org ws below) u.versions) refl
     where
-      go : (r : Option (Kept VersionRow)) → find (is_version_below org ws below) u.versions ≡ r → GoesTo org ws below (suc many) t (first_gone org ws (option_map (λ (x : Kept VersionRow). x.1.it) r) u)
+      go : (r : Option (Kept VersionRow)) → least version_cmp (is_version_below org ws below) u.versions ≡ r → GoesTo org ws below (suc many) t (first_gone org ws (option_map (λ (x : Kept VersionRow). x.1.it) r) u)
       go None e = record {
         rest = so_far.rest;
         left = so_far.left;
-        fewer = let empty : length (filter (is_version_below org ws below) u.versions) ≡ 0 = ap length (filter_of_none (is_version_below org ws below) u.versions e) in omega (arith, empty);
+        fewer = let empty : length (filter (is_version_below org ws below) u.versions) ≡ 0 = none_least version_cmp (is_version_below org ws below) versions_total u.versions e in omega (arith, empty);
         owned = so_far.owned;
         same = so_far.same;
         texts = so_far.texts;
@@ -306,7 +319,7 @@ module _ (org ws : List ℕ) (below : ℕ) (t : Tables) (a : AreTexts t) where
                 ∙ absorbed (is_version org ws x.1.it.number) (is_version_below org ws below) (goes_with org ws below u so_far.texts x e) u.versions ∙ so_far.left;
             fewer =
                 let less : suc (length (filter (is_version_below org ws below) (delete_where (is_version org ws x.1.it.number) u.versions))) ≤ length (filter (is_version_below org ws below) u.versions) =
-                fewer_left (is_version org ws x.1.it.number) (is_version_below org ws below) (goes_with org ws below u so_far.texts x e) u.versions x e (is_own org ws below u so_far.texts x e) in
+                fewer_left (is_version org ws x.1.it.number) (is_version_below org ws below) (goes_with org ws below u so_far.texts x e) u.versions x (own_found org ws below u so_far.texts x e) in
                 let before = so_far.fewer in
                 subst (λ (vs : List (Kept VersionRow)). length (filter (is_version_below org ws below) vs) ≤ length (filter (is_version_below org ws below) t.versions) - suc many) (sym versions) (omega (arith, less, before));
             owned = λ all. subst (AllByRecursion (HasWs t)) (sym versions) (all-filter (HasWs t) (λ y. not (is_version org ws x.1.it.number y)) u.versions (so_far.owned all));

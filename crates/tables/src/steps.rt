@@ -32,7 +32,7 @@ fn remove_version<S: Alter>(
     texts::remove_text(tx, org, ws, head.number, head.size)
 }
 
-/// Of the versions with numbers below this one, that which was added first goes. It tells whether there was one.
+/// Of the versions with numbers below this one, that with the least goes. It tells whether there was one.
 fn remove_oldest<S: Alter>(
     tx: &mut Transaction<'_, S>,
     org: &str,

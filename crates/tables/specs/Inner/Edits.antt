@@ -26,7 +26,7 @@ abbrev pub first_gone : List ℕ → List ℕ → Option Head → Tables → Tab
 first_gone org ws None t = t
 first_gone org ws (Some head) t = version_gone org ws head t
 
--- of the versions with numbers below this one, that which was added first goes, if there is one
+-- of the versions with numbers below this one, that with the least goes, if there is one
 abbrev pub oldest_gone : List ℕ → List ℕ → ℕ → Tables → Tables
 oldest_gone org ws below t = first_gone org ws (oldest_below org ws below t) t
 
