@@ -15,11 +15,13 @@ use program::outside::Files;
 use serve::Step;
 use sqlite::Connection;
 use sqlite_disk::{Disk, Start};
+use sqlite_pager::Options;
 use sqlite_std_file::FileFrom;
 use sqlite_store::FileStore;
 use std::alloc::Global;
 use std::fs::OpenOptions;
-use std::io::ErrorKind;
+use std::hash::{BuildHasher, RandomState};
+use std::io::{ErrorKind, Read};
 use std::os::unix::fs::{MetadataExt, OpenOptionsExt};
 use std::rt::HostRuntime;
 use std::{fs, io};
@@ -35,8 +37,12 @@ const OWNER_ALONE: u32 = 0o600;
 const OTHERS_READ: u32 = 0o044;
 
 /// Makes the file for its owner alone, where nothing lies at the path; its log gets the file's mode. Where
-/// it isn't made the open behind it would make one that others may read, so the store is down.
+/// it isn't made the open behind it would make one that others may read, so the store is down. So it is where
+/// SQLite's programs take the path for no file's name.
 fn make_private(rt: &HostRuntime, path: &str) -> Result<(), Down> {
+    if path == ":memory:" || path.starts_with("file:") {
+        return Err(Down);
+    }
     let made = OpenOptions::new()
         .write(true)
         .create_new(true)
@@ -68,6 +74,40 @@ fn is_any_readable(rt: &HostRuntime, path: &str) -> io::Result<bool> {
     Ok(is_readable(rt, real.as_str()) || is_readable(rt, log.as_str()))
 }
 
+/// The fewest pages of a file that are kept in memory.
+const FEWEST_PAGES: u64 = 2_000;
+
+/// Of how many bytes of a file all pages are kept in memory.
+const MOST_BYTES: u64 = 134_217_728;
+
+// How many bytes a page of a file has, as the bytes 16 and 17 of its header tell, where 65,536 don't fit. Only before the
+// file is opened: who closes it gives up the locks that its process has on it.
+fn page_bytes(rt: &HostRuntime, path: &str) -> io::Result<u64> {
+    let mut head = [0u8; 18];
+    fs::open(rt, path)?.read_exact(&mut head)?;
+    match u16::from_be_bytes([head[16], head[17]]) {
+        1 => Ok(65_536),
+        bytes => Ok(u64::from(bytes)),
+    }
+}
+
+// How many pages a file has, or as many bytes of it as are kept in memory. What isn't a file isn't read.
+fn page_count(rt: &HostRuntime, path: &str) -> io::Result<u64> {
+    let found = fs::metadata(rt, path)?;
+    if !found.is_file() {
+        return Ok(0);
+    }
+    let bytes = page_bytes(rt, path)?;
+    Ok(found.len().min(MOST_BYTES).checked_div(bytes).unwrap_or(0))
+}
+
+fn options(rt: &HostRuntime, path: &str) -> io::Result<Options> {
+    let mut options = Options::new(RandomState::new(rt)?.hash_one(&0u8));
+    let pages = page_count(rt, path).unwrap_or(0);
+    options.cache_pages = pages.max(FEWEST_PAGES) as usize;
+    Ok(options)
+}
+
 /// Opens the database in a file. One that is made, where the file is empty, has SQLite's sums (cksumvfs): each page
 /// ends with one, and a page whose sum is wrong is refused. A database that is there has sums or none, as it was made.
 fn open_database<S: Start>(
@@ -80,7 +120,13 @@ fn open_database<S: Start>(
     ensures sums { IfOk result (λ conn. HasCleanDisk (file_state conn) → IsBlankAs true (image_at S.Start) → (view conn.store).has_sums ≡ true) }
     ensures idle { IfOk result (λ conn. conn.in_transaction ≡ false) }
 {
-    match Connection::open_from(rt, path, true, start) {
+    let Ok(options) = options(rt, path) else {
+        return Err(Fault::Down);
+    };
+    let Ok(files) = sqlite_std_file::open(rt, path, start) else {
+        return Err(Fault::Down);
+    };
+    match Connection::open_files_with(rt.alloc(), files, options, true) {
         Ok(conn) => Ok(conn),
         Err(_) => Err(Fault::Down),
     }
