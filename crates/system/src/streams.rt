@@ -3,11 +3,42 @@ use program::timeouts::Timeouts;
 use std::io;
 use std::io::{ErrorKind, Read, Write};
 use std::net::{Shutdown, TcpStream};
+use std::rc::Rc;
 use std::rt::HostRuntime;
 use std::time::{Duration, Instant};
 
 /// How often a call that a signal interrupts is taken up again.
 const MOST_INTERRUPTIONS: u32 = 1_000_000;
+
+/// A socket that two sides have in common, or a handle of it for one side alone, where there was no memory for that.
+#[derive(Drop)]
+enum Socket {
+    Shared(Rc<TcpStream>),
+    Own(TcpStream),
+}
+
+impl Socket {
+    fn pair(rt: &HostRuntime, stream: TcpStream) -> io::Result<(Socket, Socket)> {
+        match Rc::new(rt.alloc(), stream) {
+            Ok(shared) => match shared.clone() {
+                Ok(other) => Ok((Socket::Shared(shared), Socket::Shared(other))),
+                Err(_) => Err(io::Error::from(ErrorKind::OutOfMemory)),
+            },
+            Err(failed) => {
+                let stream = failed.value;
+                let other = stream.try_clone()?;
+                Ok((Socket::Own(stream), Socket::Own(other)))
+            }
+        }
+    }
+
+    fn stream(&self) -> &TcpStream {
+        match self {
+            Socket::Shared(stream) => stream.as_ref(),
+            Socket::Own(stream) => stream,
+        }
+    }
+}
 
 /// A side of a connection. Each of its reads and writes waits no longer than it may, and none later than
 /// the end of the connection's time: one that gets nothing through until then fails. One that a signal interrupts
@@ -15,12 +46,24 @@ const MOST_INTERRUPTIONS: u32 = 1_000_000;
 #[derive(Drop)]
 pub struct TimedStream<'a> {
     rt: &'a HostRuntime,
-    stream: TcpStream,
+    socket: Socket,
     idle: Duration,
     end: Instant,
+    /// How long the system lets a call of this side wait, once it was told.
+    told: Option<Duration>,
 }
 
 impl<'a> TimedStream<'a> {
+    fn new(rt: &'a HostRuntime, socket: Socket, idle: Duration, end: Instant) -> TimedStream<'a> {
+        TimedStream {
+            rt,
+            socket,
+            idle,
+            end,
+            told: None,
+        }
+    }
+
     /// The two sides of a connection whose time begins now.
     pub fn sides(
         rt: &'a HostRuntime,
@@ -32,56 +75,60 @@ impl<'a> TimedStream<'a> {
         let Some(end) = Instant::now(rt)?.checked_add(most) else {
             return Err(io::Error::from(ErrorKind::InvalidData));
         };
-        let other = stream.try_clone()?;
-        let reader = TimedStream {
-            rt,
-            stream,
-            idle,
-            end,
-        };
-        let writer = TimedStream {
-            rt,
-            stream: other,
-            idle,
-            end,
-        };
+        let (one, other) = Socket::pair(rt, stream)?;
+        let reader = TimedStream::new(rt, one, idle, end);
+        let writer = TimedStream::new(rt, other, idle, end);
         Ok((reader, writer))
     }
 
-    // When a call that begins now has waited as long as it may: `idle` from now on, and no later than the end.
-    fn deadline(&self) -> io::Result<Instant> {
-        let now = Instant::now(self.rt)?;
-        match now.checked_add(self.idle) {
-            Some(last) if last < self.end => Ok(last),
-            _ => Ok(self.end),
-        }
-    }
-
-    // How long is left until then. A call for which nothing is left fails.
-    fn left(&self, deadline: Instant) -> io::Result<Duration> {
-        let left = deadline.duration_since(Instant::now(self.rt)?);
+    // How long a call that began at a moment may wait from another one on: it waits for `idle` in all, and no later
+    // than the end. One for which nothing is left fails.
+    fn left(&self, begun: Instant, now: Instant) -> io::Result<Duration> {
+        let most = self.idle.min(self.end.duration_since(begun));
+        let left = most.saturating_sub(now.duration_since(begun));
         if left.is_zero() {
             return Err(io::Error::from(ErrorKind::TimedOut));
         }
         Ok(left)
     }
 
+    // Lets reads wait for so long.
+    fn let_read(&mut self, wait: Duration) -> io::Result<()> {
+        if self.told != Some(wait) {
+            self.socket.stream().set_read_timeout(Some(wait))?;
+            self.told = Some(wait);
+        }
+        Ok(())
+    }
+
+    // Lets writes wait for so long.
+    fn let_write(&mut self, wait: Duration) -> io::Result<()> {
+        if self.told != Some(wait) {
+            self.socket.stream().set_write_timeout(Some(wait))?;
+            self.told = Some(wait);
+        }
+        Ok(())
+    }
+
     /// Says that nothing more is written; from now on a read waits no longer than `idle`.
     pub fn end_writing(&mut self, idle: Duration) -> io::Result<()> {
         self.idle = idle;
-        self.stream.shutdown(Shutdown::Write)
+        self.socket.stream().shutdown(Shutdown::Write)
     }
 }
 
 impl Read for TimedStream<'_> {
     fn read(&mut self, buf: &mut [u8]) -> io::Result<usize> {
-        let deadline = self.deadline()?;
+        let begun = Instant::now(self.rt)?;
+        let mut now = begun;
         for _ in 0..MOST_INTERRUPTIONS {
-            self.stream.set_read_timeout(Some(self.left(deadline)?))?;
-            match self.stream.read(buf) {
+            self.let_read(self.left(begun, now)?)?;
+            let mut stream = self.socket.stream();
+            match stream.read(buf) {
                 Err(error) if error.kind() == ErrorKind::Interrupted => {}
                 answer => return answer,
             }
+            now = Instant::now(self.rt)?;
         }
         Err(io::Error::from(ErrorKind::Interrupted))
     }
@@ -89,18 +136,21 @@ impl Read for TimedStream<'_> {
 
 impl Write for TimedStream<'_> {
     fn write(&mut self, buf: &[u8]) -> io::Result<usize> {
-        let deadline = self.deadline()?;
+        let begun = Instant::now(self.rt)?;
+        let mut now = begun;
         for _ in 0..MOST_INTERRUPTIONS {
-            self.stream.set_write_timeout(Some(self.left(deadline)?))?;
-            match self.stream.write(buf) {
+            self.let_write(self.left(begun, now)?)?;
+            let mut stream = self.socket.stream();
+            match stream.write(buf) {
                 Err(error) if error.kind() == ErrorKind::Interrupted => {}
                 answer => return answer,
             }
+            now = Instant::now(self.rt)?;
         }
         Err(io::Error::from(ErrorKind::Interrupted))
     }
 
     fn flush(&mut self) -> io::Result<()> {
-        self.stream.flush()
+        Ok(())
     }
 }
