@@ -16,6 +16,7 @@ pub mod Edits
 pub mod Follows
 pub mod Found
 pub mod Frames
+pub mod Fresh
 pub mod Grown
 pub mod Held
 pub mod KeepingReads

@@ -42,6 +42,12 @@ pub any_wrote : {E : Type 0} (old new : State) (text : List ℕ) (params : Row) 
 any_wrote old new text params (Ok any) wrote = ((wrote.0.0, wrote.0.1), tt)
 any_wrote old new text params (Err e) wrote = (tt, wrote.1)
 
+-- what a write that is done tells of the rows before it
+pub tells_by : {X E : Type 0} (law : Tables → Type 0) (old new : State) (text : List ℕ) (params : Row) (result : Result X E) → Wrote text params old new result
+    → ((count : ℕ) (t : Tables) → Holds old.now t → Executes text params old new (Ok count) → law t) → OnOk result ((t : Tables) → Holds old.now t → law t)
+tells_by law old new text params (Ok x) wrote tells = λ t h. tells wrote.0.0 t h wrote.0.1.0
+tells_by law old new text params (Err e) wrote tells = tt
+
 pub finds_by : {E : Type 0} (has : Tables → Bool) (old new : State) (text : List ℕ) (params : Row) (result : Result Bool E) → WroteAny text params old new result
     → ((count : ℕ) (t : Tables) → Holds old.now t → Executes text params old new (Ok count) → not (count == 0) ≡ has t) → IfOk result (λ found. (t : Tables) → Holds old.now t → found ≡ has t)
 finds_by has old new text params (Ok any) wrote tells = λ t h. wrote.0.2 ∙ tells wrote.0.0 t h wrote.0.1.0

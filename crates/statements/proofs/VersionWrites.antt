@@ -1,13 +1,18 @@
 -- What the writes to the table version do to its rows.
-use Rattle.std.proofs.Common.{ℕ, List, [], ◌∷◌, Ok, refl}
+use Rattle.std.proofs.Common.{◌≡◌, ℕ, false, List, [], ◌∷◌, None, Ok, refl, sym, ◌∙◌}
 use Rattle.sqlite_value.specs.declared.value.Value.TheVariants.{Text}
+use Rattle.sqlite_value.specs.Order.{Row}
+use Rattle.sqlite_value.specs.Keys.{first_key}
 use Rattle.sqlite.specs.State.{State, Executes}
+use Rattle.sqlite_keyed.proofs.ListLemmas.{all_weaker}
 use Rattle.sqlite_keyed.proofs.KeyedLemmas.{IsKeyedBy-delete_where}
 use Rattle.statements.specs.Place.{tree_of}
 use Rattle.statements.specs.Schema.{version_table}
 use Rattle.statements.specs.Rows.{id_of, VersionRow, version_cells, number}
 use Rattle.statements.specs.Tables.{Tables, Holds, version_layout}
 use Rattle.statements.specs.Changes.{is_version, new_version, version_added, version_removed}
+use Rattle.statements.specs.Finds.{size_of}
+use Rattle.statements.proofs.Fresh.{insert_sound, none_alike, none_found}
 use Rattle.statements.proofs.Held.{IsHeld, versions_held}
 use Rattle.statements.proofs.Own.{delete_own, insert_own, keyed_next}
 use Rattle.statements.proofs.Casts.{version_casts}
@@ -25,6 +30,16 @@ module _ (old new : State) (count : ℕ) (t : Tables) (h : Holds old.now t) wher
       let left = insert_own version_cells version_table version_casts old new held.own held.steady t.versions held.rows held.keyed add_version_text (Text org ∷ Text ws ∷ number n ∷ number serial ∷ Text lineage ∷ number created ∷ number size ∷ []) count ran
       add_version_terms 8 (add_version_means old.now.schema _ _ held.own.place) refl refl row refl in
       versions_written old.now new.now left.1 t h _ left.0 (keyed_next t.versions row held.keyed)
+
+  pub add_version_finds : (org ws : List ℕ) (n serial : ℕ) (lineage : List ℕ) (created size : ℕ) → Executes add_version_text (Text org ∷ Text ws ∷ number n ∷ number serial ∷ Text lineage ∷ number created ∷ number size ∷ []) old new (Ok count) → size_of org ws n t ≡ None
+  unfolding first_key
+  add_version_finds org ws n serial lineage created size ran =
+      let row : VersionRow = record { org = org; ws = ws; it = new_version n serial lineage created size } in
+      let given : Row = Text org ∷ Text ws ∷ number n ∷ number serial ∷ Text lineage ∷ number created ∷ number size ∷ [] in
+      let means = add_version_means old.now.schema _ _ held.own.place in
+      let left = insert_own version_cells version_table version_casts old new held.own held.steady t.versions held.rows held.keyed add_version_text given count ran add_version_terms 8 means refl refl row refl in
+      let alike = none_alike version_cells (1 ∷ 2 ∷ 3 ∷ []) version_table old new held.own t.versions held.keyed row left.1 left.0.rows (insert_sound old new add_version_text given _ _ means count ran) refl refl in
+      none_found (is_version org ws n) (λ x. x.1.it.size) t.versions (all_weaker _ (λ x. is_version org ws n x ≡ false) (λ x e. sym (two_texts_number x.1.org org x.1.ws ws x.1.it.number n) ∙ e) t.versions alike)
 
   pub remove_version_does : (org ws : List ℕ) (n : ℕ) → Executes remove_version_text (Text org ∷ Text ws ∷ number n ∷ []) old new (Ok count) → Turns old.now new.now (version_removed org ws n t)
   remove_version_does org ws n ran =

@@ -1,11 +1,13 @@
 -- What the writes to the table ws do to its rows.
-use Rattle.std.proofs.Common.{◌≡◌, ◌≢◌, ℕ, not, ◌==◌, is_some, List, [], ◌∷◌, Ok, refl, sym, ap, ◌∙◌, arith}
+use Rattle.std.proofs.Common.{◌≡◌, ◌≢◌, ℕ, false, not, ◌==◌, is_some, List, [], ◌∷◌, None, Ok, refl, sym, ap, ◌∙◌, arith}
 use Rattle.sqlite_value.specs.declared.value.Value.TheVariants.{Text, Blob}
 use Rattle.sqlite_value.specs.Order.{Row}
+use Rattle.sqlite_value.specs.Keys.{first_key}
 use Rattle.sqlite_sql.specs.Query.{Query}
 use Rattle.sqlite_schema.specs.declared.command.Command.TheVariants.{Update}
 use Rattle.sqlite_schema.specs.declared.command.Source.TheVariants.{Values}
 use Rattle.sqlite.specs.State.{State, Executes}
+use Rattle.sqlite_keyed.proofs.ListLemmas.{all_weaker}
 use Rattle.sqlite_keyed.proofs.KeyedLemmas.{IsKeyedBy-update_where, IsKeyedBy-delete_where}
 use Rattle.basis.specs.declared.rows.RunSettings.{RunSettings}
 use Rattle.basis.specs.declared.rows.Holder.TheVariants.{Nobody, Lock, Run as HeldByRun}
@@ -15,6 +17,7 @@ use Rattle.statements.specs.Rows.{Kept, id_of, WsRow, ws_cells, run_settings_cel
 use Rattle.statements.specs.Tables.{Tables, Holds, ws_layout, our_tables}
 use Rattle.statements.specs.Changes.{is_ws, with_run_settings, held_by, released_from, with_next_version, with_next_run, workspace_made, ws_changed, ws_row_added, ws_row_removed, HasNoKeeping}
 use Rattle.statements.specs.Finds.{workspace_of}
+use Rattle.statements.proofs.Fresh.{insert_sound, none_alike, none_found}
 use Rattle.statements.proofs.Held.{IsHeld, wss_held, keepings_held, trees_apart}
 use Rattle.statements.proofs.Follows.{keeping_follows}
 use Rattle.statements.proofs.Childless.{ws_goes}
@@ -50,6 +53,16 @@ module _ (old new : State) (count : ℕ) (t : Tables) (h : Holds old.now t) wher
       let others = insert_others ws_table old new held.own add_ws_text (Text org ∷ Text name ∷ run_settings_cells runs) count ran (Values add_ws_terms add_ws_width) (add_ws_means old.now.schema _ _ held.own.place) refl refl in
       let stays = other_keeps old.now.schema (tree_of old.now.schema ws_table.name) old.now.trees new.now.trees keeping_table keeping_own others.1 keeping_apart in
       wss_written old.now new.now left.1 t h _ stays left.0 (keyed_next t.wss row held.keyed)
+
+  pub add_ws_finds : (org name : List ℕ) (runs : RunSettings) → Executes add_ws_text (Text org ∷ Text name ∷ run_settings_cells runs) old new (Ok count) → workspace_of org name t ≡ None
+  unfolding first_key
+  add_ws_finds org name runs ran =
+      let row : WsRow = record { org = org; name = name; it = workspace_made runs } in
+      let given : Row = Text org ∷ Text name ∷ run_settings_cells runs in
+      let means = add_ws_means old.now.schema _ _ held.own.place in
+      let left = insert_own ws_cells ws_table ws_casts old new held.own held.steady t.wss held.rows held.keyed add_ws_text given count ran add_ws_terms add_ws_width means refl refl row refl in
+      let alike = none_alike ws_cells (1 ∷ 2 ∷ []) ws_table old new held.own t.wss held.keyed row left.1 left.0.rows (insert_sound old new add_ws_text given _ _ means count ran) refl refl in
+      none_found (is_ws org name) (λ x. x.1.it) t.wss (all_weaker _ (λ x. is_ws org name x ≡ false) (λ x e. sym (two_texts x.1.org org x.1.name name) ∙ e) t.wss alike)
 
   pub set_run_settings_does : (org name : List ℕ) (runs : RunSettings) → Executes set_run_settings_text (Text org ∷ Text name ∷ run_settings_cells runs) old new (Ok count) → Turns old.now new.now (ws_changed (with_run_settings runs) org name t)
   set_run_settings_does org name runs ran =

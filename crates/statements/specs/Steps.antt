@@ -58,6 +58,10 @@ pub record WritesWhere {S X E : Type 0} (g : Ghosts S) (law : Tables → Type 0)
   pub changed : ChangesWhere law change (state g old.conn.now) (state g new.conn.now) result
   pub survives : Survives (state g old.conn.now) (state g new.conn.now) (λ _. ⊥)
 
+-- a write that is done tells this of the rows before it
+abbrev pub TellsOfRows : {X E : Type 0} → (Tables → Type 0) → State → State → Result X E → Type 0
+TellsOfRows law old new result = HasCleanDisk new → IsTrue old.in_transaction → OnOk result ((t : Tables) → Holds old.now t → law t)
+
 -- a read outside a transaction: nothing changes, and the value is that of the rows
 abbrev pub ReadsBy : {X E : Type 0} → (Tables → X) → State → State → Result X E → Type 0
 ReadsBy read old new result =

@@ -1,8 +1,8 @@
 //! Statements on the table version.
-ghost use Rattle.std.specs.Prelude.{◌≡◌, ◌<◌, ◌^◌};
+ghost use Rattle.std.specs.Prelude.{◌≡◌, ◌<◌, ◌^◌, None};
 ghost use Rattle.sqlite.specs.Held.{state};
 ghost use Rattle.sqlite.specs.State.{Survives};
-ghost use Rattle.statements.specs.Steps.{WritesBy, ReadsBy, QueriesBy, QueriesWhere};
+ghost use Rattle.statements.specs.Steps.{WritesBy, TellsOfRows, ReadsBy, QueriesBy, QueriesWhere};
 ghost use Rattle.statements.specs.Changes.{new_version, version_added, version_removed};
 ghost use Rattle.statements.specs.Listings.{version_rows_after, VersionsRise};
 ghost use Rattle.statements.specs.Finds.{newest_of, number_back, oldest_below, size_of};
@@ -80,22 +80,6 @@ pub fn size<S: Alter>(
     read_one(row)
 }
 
-/// The same inside a transaction.
-pub fn size_inside<S: Alter>(
-    tx: &mut Transaction<'_, S>,
-    org: &str,
-    ws: &str,
-    number: Number,
-) -> Result<Option<u64>, Error>
-    ensures same_reference { tx.new.conn.ghost_name ≡ tx.old.conn.ghost_name }
-    ensures reads { ReadsBy (size_of org.now ws.now number) (state S.Store tx.old.conn.now) (state S.Store tx.new.conn.now) result }
-    ensures survives { Survives (state S.Store tx.old.conn.now) (state S.Store tx.new.conn.now) (λ _. ⊥) }
-{
-    let number = number.get();
-    let row = first_row_inside(tx, VERSION_SIZE, params![org, ws, number]);
-    read_one(row)
-}
-
 const OLDEST_VERSION_BELOW: &str =
     "SELECT number, serial, lineage, created, size FROM version WHERE org = ?1 AND ws = ?2 AND number < ?3 ORDER BY number, rowid LIMIT 1";
 
@@ -118,7 +102,7 @@ pub fn oldest_below<S: Alter>(
 const ADD_VERSION: &str =
     "INSERT INTO version (org, ws, number, serial, lineage, created, size) VALUES (?1, ?2, ?3, ?4, ?5, ?6, ?7)";
 
-/// Adds a version whose text has so many bytes.
+/// Adds a version whose text has so many bytes. There was none of its number.
 pub fn add<'v, S: Alter>(
     tx: &mut Transaction<'_, S>,
     org: &'v str,
@@ -131,7 +115,8 @@ pub fn add<'v, S: Alter>(
 ) -> Result<(), Error>
     requires serial_fits { serial < 2 ^ 63 }
     requires size_fits { size < 2 ^ 63 }
-    ensures { WritesBy S.Store (version_added org.now ws.now (new_version number serial lineage.now created size)) tx.old tx.new result }
+    ensures writes { WritesBy S.Store (version_added org.now ws.now (new_version number serial lineage.now created size)) tx.old tx.new result }
+    ensures fresh { TellsOfRows (λ t. size_of org.now ws.now number t ≡ None) (state S.Store tx.old.conn.now) (state S.Store tx.new.conn.now) result }
 {
     let number = number.get();
     let serial = signed(serial);

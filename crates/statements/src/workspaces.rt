@@ -1,8 +1,8 @@
 //! Statements on the table ws. Where a workspace is added or goes, so is how many versions it keeps.
-ghost use Rattle.std.specs.Prelude.{◌≡◌, ◌≢◌, [], IsTrue, IfOk, is_some, string_bytes};
+ghost use Rattle.std.specs.Prelude.{◌≡◌, ◌≢◌, [], None, IsTrue, IfOk, is_some, string_bytes};
 ghost use Rattle.sqlite.specs.Held.{state};
 ghost use Rattle.sqlite.specs.State.{HasCleanDisk};
-ghost use Rattle.statements.specs.Steps.{WritesBy, WritesWhere, QueriesBy, QueriesWhere};
+ghost use Rattle.statements.specs.Steps.{WritesBy, WritesWhere, TellsOfRows, QueriesBy, QueriesWhere};
 ghost use Rattle.statements.specs.Tables.{Tables, Holds};
 ghost use Rattle.statements.specs.Changes.{with_run_settings, held_by, released_from, with_next_version, with_next_run, ws_changed, ws_row_added, ws_row_removed, ws_added, ws_removed, HasNoKeeping};
 ghost use Rattle.statements.specs.Listings.{workspace_rows_after, WorkspacesApart, later_of, end_of};
@@ -199,19 +199,21 @@ pub fn count<S: Alter>(conn: &mut Connection<S>, org: &str) -> Result<u64, Error
 const ADD_WS: &str =
     "INSERT INTO ws (org, name, auto, kind, next_version, next_run) VALUES (?1, ?2, ?3, 0, 1, 1)";
 
-/// Adds the row of a workspace that nobody holds, whose versions and runs begin at 1.
+/// Adds the row of a workspace that nobody holds, whose versions and runs begin at 1. There was none of the name.
 fn add_row<S: Alter>(
     tx: &mut Transaction<'_, S>,
     org: &str,
     name: &str,
     runs: RunSettings,
 ) -> Result<(), Error>
-    ensures { WritesBy S.Store (ws_row_added org.now name.now runs) tx.old tx.new result }
+    ensures writes { WritesBy S.Store (ws_row_added org.now name.now runs) tx.old tx.new result }
+    ensures fresh { TellsOfRows (λ t. workspace_of org.now name.now t ≡ None) (state S.Store tx.old.conn.now) (state S.Store tx.new.conn.now) result }
 {
     write(tx, ADD_WS, params![org, name, runs.auto_apply])
 }
 
-/// Adds a workspace that nobody holds, whose versions and runs begin at 1, and how many versions it keeps.
+/// Adds a workspace that nobody holds, whose versions and runs begin at 1, and how many versions it keeps. There was none
+/// of the name.
 pub fn add<S: Alter>(
     tx: &mut Transaction<'_, S>,
     org: &str,
@@ -219,7 +221,8 @@ pub fn add<S: Alter>(
     runs: RunSettings,
     keep: KeepCount,
 ) -> Result<(), Error>
-    ensures { WritesBy S.Store (ws_added org.now name.now runs keep) tx.old tx.new result }
+    ensures writes { WritesBy S.Store (ws_added org.now name.now runs keep) tx.old tx.new result }
+    ensures fresh { TellsOfRows (λ t. workspace_of org.now name.now t ≡ None) (state S.Store tx.old.conn.now) (state S.Store tx.new.conn.now) result }
 {
     add_row(tx, org, name, runs)?;
     keepings::add(tx, org, name, keep)

@@ -30,9 +30,11 @@ use Rattle.statements.specs.Finds.{workspace_of, keep_of}
 use Rattle.tables.specs.Records.{workspace_of_cells, keep_at, versions_at, runs_at, workspace_by}
 use Rattle.tables.specs.Inner.Edits.{all_gone, removed_rows, made_rows, settings_rows, configured_rows, numbered_rows, if_there, versioned_rows, run_put, run_counted, run_rows, freed_rows, edited_rows, started_rows, changed_rows, TakesVersion, TakesEdit}
 use Rattle.tables.specs.Sound.{IsSound}
+use Rattle.tables.proofs.Absent.{none_kept}
+use Rattle.tables.proofs.Finding.{no_versions, no_runs}
 use Rattle.tables.proofs.TextRows.{Becomes, versions_carried}
 use Rattle.tables.proofs.VersionEdits.{all_go, settings_leave, versions_come}
-use Rattle.tables.proofs.Parts.{row_changed, row_unchanged, row_removed, row_left, row_added, row_added_other, keep_removed, keep_left, keep_added, keep_added_other, keep_set, keep_set_other, runs_begun, runs_begun_other, runs_pushed, runs_pushed_other, runs_acted, runs_acted_other, runs_gone, runs_gone_other}
+use Rattle.tables.proofs.Parts.{row_changed, row_unchanged, row_removed, row_left, row_added, row_added_other, keep_left, keep_added, keep_added_other, keep_set, keep_set_other, runs_begun, runs_begun_other, runs_pushed, runs_pushed_other, runs_acted, runs_acted_other, runs_gone, runs_gone_other}
 use Rattle.tables.proofs.Names.{pair_first, pair_second}
 use Rattle.tables.proofs.Sets.{Puts, puts_then, same_parts}
 
@@ -118,9 +120,6 @@ module _ (org ws : List ℕ) (t : Tables) where
       others = λ a b other. same_parts _ _ _ _ _ _ _ _ (row_left org ws (runs_removed org ws purged_rows) a b other ∙ same_row a b) (keep_left org ws (runs_removed org ws purged_rows) a b other ∙ same_keep a b)
           (versions_carried purged_rows (removed_rows org ws t) refl refl refl a b ∙ gone.others a b other) (runs_gone_other org ws purged_rows a b other ∙ same_runs a b);
     }
-
-    removed_versions : versions_at (removed_rows org ws t) org ws ≡ []
-    removed_versions = versions_carried purged_rows (removed_rows org ws t) refl refl refl org ws ∙ gone.own
 
     purge_puts : Puts org ws (option_map purged (workspace_by t org ws)) t purged_rows
     purge_puts = record {
@@ -279,17 +278,14 @@ module _ (org ws : List ℕ) (t : Tables) where
       others = λ a b other. same_parts _ _ _ _ _ _ _ _ refl refl (versions_carried t (run_acted status action org ws n t) refl refl refl a b) (runs_acted_other org ws t status action n a b other);
     }
 
-made_puts : (org ws : List ℕ) (t : Tables) → IsSound t → (settings : Settings) → Puts org ws (Some (new_workspace settings)) t (made_rows org ws settings t)
-made_puts org ws t sound settings =
-    let u : Tables = removed_rows org ws t in
-    puts_then org ws t u (made_rows org ws settings t) (removed_puts org ws t sound)
-    (added_puts org ws u settings (row_removed org ws (runs_removed org ws (all_gone org ws t))) (keep_removed org ws (runs_removed org ws (all_gone org ws t))) (removed_versions org ws t sound) (runs_gone org ws (all_gone org ws t)))
+made_puts : (org ws : List ℕ) (t : Tables) → IsSound t → (settings : Settings) → workspace_of org ws t ≡ None → Puts org ws (Some (new_workspace settings)) t (made_rows org ws settings t)
+made_puts org ws t sound settings none = added_puts org ws t settings none (none_kept org ws t none sound) (no_versions t sound org ws none) (no_runs t sound org ws none)
 
 module _ (key_of : List ℕ → List ℕ) (org ws : List ℕ) (t : Tables) (sound : IsSound t) where
   -- ---- an edit
 
   pub edited_puts : (edit : Edit) → TakesEdit key_of org ws edit t → Puts org ws (edited edit (workspace_by t org ws)) t (edited_rows key_of org ws edit t)
-  edited_puts (Make settings) takes = made_puts org ws t sound settings
+  edited_puts (Make settings) takes = made_puts org ws t sound settings takes
   edited_puts (Configure settings outgoing) takes = configured_puts org ws t sound settings outgoing
   edited_puts Remove takes = removed_puts org ws t sound
   edited_puts (AddVersion v outgoing) takes = version_puts org ws t sound key_of v takes outgoing

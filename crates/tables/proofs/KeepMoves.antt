@@ -159,18 +159,17 @@ module _ {S : Type 0} (g : Ghosts S) where
     }
 
   -- what the steps tell by which a version comes
-  pub takes_by : {X Y D E : Type 0} (key_of : List ℕ → List ℕ) (org ws : List ℕ) (v : Version) (a b c d : Transaction S) (x : X) (y : Y)
+  pub takes_by : {X D : Type 0} (key_of : List ℕ → List ℕ) (org ws : List ℕ) (v : Version) (a b c : Transaction S) (x : X)
       → StepsBy {E = D} g (numbered_rows org ws v) a b (Ok x) → TellsIn {E = D} (λ t. is_some (workspace_of org ws t) ≡ true) (state g a.conn.now) (state g b.conn.now) (Ok x)
-      → StepsBy {E = E} g (λ t. t) b c (Ok y) → TellsIn {E = E} (λ t. size_of org ws v.number t ≡ None) (state g b.conn.now) (state g c.conn.now) (Ok y)
-      → (HasCleanDisk (state g d.conn.now) → HasCleanDisk (state g c.conn.now)) → (HasCleanDisk (state g d.conn.now) → IsTrue (state g c.conn.now).in_transaction → (t : Tables) → Holds (state g c.conn.now).now t → FitsTwins key_of org ws v t)
-      → HasCleanDisk (state g d.conn.now) → IsTrue (state g a.conn.now).in_transaction → (t : Tables) → Holds (state g a.conn.now).now t → TakesVersion key_of org ws v t
-  takes_by key_of org ws v a b c d x y one found two fresh before fits clean inside t holds =
-      let late = before clean in
-      let mid = two.so_far late in
+      → (HasCleanDisk (state g c.conn.now) → HasCleanDisk (state g b.conn.now))
+      → (HasCleanDisk (state g c.conn.now) → IsTrue (state g b.conn.now).in_transaction → (t : Tables) → Holds (state g b.conn.now).now t → size_of org ws v.number t ≡ None)
+      → (HasCleanDisk (state g c.conn.now) → IsTrue (state g b.conn.now).in_transaction → (t : Tables) → Holds (state g b.conn.now).now t → FitsTwins key_of org ws v t)
+      → HasCleanDisk (state g c.conn.now) → IsTrue (state g a.conn.now).in_transaction → (t : Tables) → Holds (state g a.conn.now).now t → TakesVersion key_of org ws v t
+  takes_by key_of org ws v a b c x one found before fresh fits clean inside t holds =
+      let mid = before clean in
       let first = (one.changed mid inside).0 in
-      let second = (two.changed late first.inside).0 in
       record {
         there = found mid inside t holds;
-        fresh = fresh late first.inside (numbered_rows org ws v t) (first.rows t holds);
-        fits = fits clean second.inside (numbered_rows org ws v t) (second.rows (numbered_rows org ws v t) (first.rows t holds));
+        fresh = fresh clean first.inside (numbered_rows org ws v t) (first.rows t holds);
+        fits = fits clean first.inside (numbered_rows org ws v t) (first.rows t holds);
       }

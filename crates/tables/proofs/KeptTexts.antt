@@ -23,7 +23,7 @@ freed_texts false org ws t texts = texts
 
 module _ (key_of : List ℕ → List ℕ) (org ws : List ℕ) (t : Tables) (sound : IsSound t) where
   edited_texts : (edit : Edit) → TakesEdit key_of org ws edit t → AreTexts (edited_rows key_of org ws edit t)
-  edited_texts (Make settings) takes = texts_carried (all_gone org ws t) (made_rows org ws settings t) refl refl refl (all_go org ws t sound).texts
+  edited_texts (Make settings) takes = texts_carried t (made_rows org ws settings t) refl refl refl (sound_texts t sound)
   edited_texts (Configure settings outgoing) takes = (settings_leave org ws t sound settings outgoing).texts
   edited_texts Remove takes = texts_carried (all_gone org ws t) (removed_rows org ws t) refl refl refl (all_go org ws t sound).texts
   edited_texts (AddVersion version outgoing) takes = (versions_come org ws t sound key_of version takes outgoing).texts

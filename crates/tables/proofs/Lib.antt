@@ -1,3 +1,4 @@
+pub mod Absent
 pub mod Changes
 pub mod Climbing
 pub mod Counting

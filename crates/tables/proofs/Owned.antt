@@ -30,6 +30,7 @@ use Rattle.tables.specs.Sound.{IsSound}
 use Rattle.tables.specs.Inner.Edits.{all_gone, removed_rows, made_rows, settings_rows, configured_rows, numbered_rows, versioned_rows, if_there, run_put, run_counted, freed_rows, edited_rows, started_rows, changed_rows, TakesVersion, TakesEdit}
 use Rattle.tables.specs.Records.{versions_at}
 use Rattle.machine.specs.Changes.{left_above}
+use Rattle.tables.proofs.Absent.{no_row, no_keeping}
 use Rattle.tables.proofs.TextLists.{all_deleted}
 use Rattle.tables.proofs.TextRows.{Becomes, versions_counted}
 use Rattle.tables.proofs.VersionEdits.{all_go, settings_leave, versions_come}
@@ -227,9 +228,8 @@ module _ (org ws : List ℕ) (t : Tables) (sound : IsSound t) where
   owned_removed : AreOwned (removed_rows org ws t)
   owned_removed = owned_taken org ws purged_rows owned_purged (all_go org ws t sound).own
 
-  owned_made : (settings : Settings) → list_any (is_org org) t.orgs ≡ true → AreOwned (made_rows org ws settings t)
-  owned_made settings there =
-      owned_added org ws (removed_rows org ws t) owned_removed settings.runs settings.keep_versions (all_deleted (is_ws org ws) purged_rows.wss) (all_deleted (is_keeping org ws) purged_rows.keepings) (subst (λ orgs. list_any (is_org org) orgs ≡ true) (sym (all_go org ws t sound).rest.orgs) there)
+  owned_made : (settings : Settings) → workspace_of org ws t ≡ None → list_any (is_org org) t.orgs ≡ true → AreOwned (made_rows org ws settings t)
+  owned_made settings none there = owned_added org ws t (sound_are_owned t sound) settings.runs settings.keep_versions (no_row org ws t none) (no_keeping org ws t none sound) there
 
   owned_configured : (settings : Settings) (outgoing : Option ℕ) → AreOwned (configured_rows org ws settings outgoing t)
   owned_configured settings outgoing =
@@ -261,7 +261,7 @@ module _ (org ws : List ℕ) where
   owned_freed false t owned = owned
 
   owned_edited : (key_of : List ℕ → List ℕ) (t : Tables) → IsSound t → list_any (is_org org) t.orgs ≡ true → (edit : Edit) → TakesEdit key_of org ws edit t → AreOwned (edited_rows key_of org ws edit t)
-  owned_edited key_of t sound there (Make settings) takes = owned_made org ws t sound settings there
+  owned_edited key_of t sound there (Make settings) takes = owned_made org ws t sound settings takes there
   owned_edited key_of t sound there (Configure settings outgoing) takes = owned_configured org ws t sound settings outgoing
   owned_edited key_of t sound there Remove takes = owned_removed org ws t sound
   owned_edited key_of t sound there (AddVersion v outgoing) takes = owned_versioned org ws t sound key_of v takes outgoing

@@ -85,9 +85,6 @@ module _ (org ws : List ℕ) where
 
     -- ---- how many versions it keeps
 
-    pub keep_removed : keep_of org ws (ws_removed org ws t) ≡ None
-    keep_removed = ap (option_map (λ (x : Kept KeepingRow). x.1.keep)) (find_deleted (is_keeping org ws) t.keepings)
-
     pub keep_left : (a b : List ℕ) → is_pair org ws a b ≡ false → keep_at (ws_removed org ws t) a b ≡ keep_at t a b
     keep_left a b other = ap kept_in (find_left (is_keeping a b) (is_keeping org ws) (λ x. pair_apart org ws a b x.1.org x.1.ws other) t.keepings)
 

@@ -34,7 +34,7 @@ told_rest : (t u : Tables) → KeepsRest t u → SameTold u t
 told_rest t u rest = (rest.metas, rest.editions)
 
 told_edited : (key_of : List ℕ → List ℕ) (org ws : List ℕ) (t : Tables) → IsSound t → (edit : Edit) → TakesEdit key_of org ws edit t → SameTold (edited_rows key_of org ws edit t) t
-told_edited key_of org ws t sound (Make settings) takes = told_rest t (all_gone org ws t) (all_go org ws t sound).rest
+told_edited key_of org ws t sound (Make settings) takes = (refl, refl)
 told_edited key_of org ws t sound (Configure settings outgoing) takes = told_rest (settings_rows org ws settings t) (configured_rows org ws settings outgoing t) (settings_leave org ws t sound settings outgoing).rest
 told_edited key_of org ws t sound Remove takes = told_rest t (all_gone org ws t) (all_go org ws t sound).rest
 told_edited key_of org ws t sound (AddVersion version outgoing) takes = told_rest (numbered_rows org ws version t) (versioned_rows key_of org ws version outgoing t) (versions_come org ws t sound key_of version takes outgoing).rest

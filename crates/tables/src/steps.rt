@@ -2,7 +2,7 @@
 ghost use Rattle.std.specs.Prelude.{◌≡◌, ◌+◌, cond, option_map, None};
 ghost use Rattle.sqlite.specs.Held.{state};
 ghost use Rattle.statements.specs.Changes.{run_acted};
-ghost use Rattle.statements.specs.Finds.{size_of};
+ghost use Rattle.statements.specs.Finds.{size_of, workspace_of};
 ghost use Rattle.tables.specs.Inner.Edits.{version_gone, oldest_gone, gone_below, all_gone, removed_rows, made_rows, configured_rows, numbered_rows, row_added, added_rows, versioned_rows, run_put, run_counted, run_rows, freed_rows, edited_rows, begun_rows, changed_rows, FitsTwins, TakesVersion, TakesEdit};
 ghost use Rattle.tables.specs.Inner.Steps.{TellsIn, FindsIn, FindsOldest, StepsBy};
 
@@ -87,43 +87,28 @@ fn remove<S: Alter>(tx: &mut Transaction<'_, S>, org: &str, ws: &str) -> Result<
     workspaces::remove(tx, org, ws)
 }
 
-/// Makes a workspace. It has no versions and no runs.
+/// Makes a workspace. There was none of the name, so it has no versions and no runs.
 fn make<S: Alter>(
     tx: &mut Transaction<'_, S>,
     org: &str,
     ws: &str,
     settings: &Settings,
 ) -> Result<(), Error>
-    ensures { StepsBy S.Store (made_rows org.now ws.now settings.now) tx.old tx.new result }
+    ensures steps { StepsBy S.Store (made_rows org.now ws.now settings.now) tx.old tx.new result }
+    ensures fresh { TellsIn (λ t. workspace_of org.now ws.now t ≡ None) (state S.Store tx.old.conn.now) (state S.Store tx.new.conn.now) result }
 {
-    remove(tx, org, ws)?;
     workspaces::add(tx, org, ws, settings.runs, settings.keep_versions)
 }
 
-/// No version has this number yet, or nothing comes.
-fn assert_new<S: Alter>(
-    tx: &mut Transaction<'_, S>,
-    org: &str,
-    ws: &str,
-    number: Number,
-) -> Result<(), Error>
-    ensures steps { StepsBy S.Store (λ t. t) tx.old tx.new result }
-    ensures fresh { TellsIn (λ t. size_of org.now ws.now number t ≡ None) (state S.Store tx.old.conn.now) (state S.Store tx.new.conn.now) result }
-{
-    match versions::size_inside(tx, org, ws, number)? {
-        None => Ok(()),
-        Some(_) => Err(Error::InvalidQuery),
-    }
-}
-
-/// Adds the row of a version behind the others.
+/// Adds the row of a version behind the others. There was none of its number.
 fn add_row<S: Alter>(
     tx: &mut Transaction<'_, S>,
     org: &str,
     ws: &str,
     version: &Version,
 ) -> Result<(), Error>
-    ensures { StepsBy S.Store (row_added org.now ws.now version.now) tx.old tx.new result }
+    ensures steps { StepsBy S.Store (row_added org.now ws.now version.now) tx.old tx.new result }
+    ensures fresh { TellsIn (λ t. size_of org.now ws.now version.now.number t ≡ None) (state S.Store tx.old.conn.now) (state S.Store tx.new.conn.now) result }
 {
     let serial = version.serial;
     if serial > i64::MAX as u64 {
@@ -151,6 +136,7 @@ fn add<K: PageKey, S: Alter>(
     version: &Version,
 ) -> Result<(), Error>
     ensures steps { StepsBy S.Store (added_rows K.key_of org.now ws.now version.now) tx.old tx.new result }
+    ensures fresh { TellsIn (λ t. size_of org.now ws.now version.now.number t ≡ None) (state S.Store tx.old.conn.now) (state S.Store tx.new.conn.now) result }
     ensures fits { TellsIn (FitsTwins K.key_of org.now ws.now version.now) (state S.Store tx.old.conn.now) (state S.Store tx.new.conn.now) result }
 {
     let text = version.text.as_slice();
@@ -218,7 +204,6 @@ fn put<K: PageKey, S: Alter>(
     ensures takes { TellsIn (TakesVersion K.key_of org.now ws.now version.now) (state S.Store tx.old.conn.now) (state S.Store tx.new.conn.now) result }
 {
     count_on(tx, org, ws, version)?;
-    assert_new(tx, org, ws, version.number)?;
     add::<K, S>(tx, org, ws, version)?;
     match outgoing {
         None => Ok(()),

@@ -53,9 +53,9 @@ all_gone org ws t = gone_below org ws (MAX_NUMBER + 1) t
 abbrev pub removed_rows : List ℕ → List ℕ → Tables → Tables
 removed_rows org ws t = ws_removed org ws (runs_removed org ws (all_gone org ws t))
 
--- a new workspace has no versions and no runs: whatever rows of its name there are go first
+-- a new workspace has no versions and no runs
 abbrev pub made_rows : List ℕ → List ℕ → Settings → Tables → Tables
-made_rows org ws settings t = ws_added org ws settings.runs settings.keep_versions (removed_rows org ws t)
+made_rows org ws settings t = ws_added org ws settings.runs settings.keep_versions t
 
 abbrev pub numbered_rows : List ℕ → List ℕ → Version → Tables → Tables
 numbered_rows org ws v t = ws_changed (with_next_version (v.number + 1)) org ws t
@@ -141,7 +141,7 @@ changed_rows key_of org ws change t = started_rows org ws change.start (edited_r
 -- what has to hold of the rows for an edit, where it is done
 abbrev pub TakesEdit : (List ℕ → List ℕ) → List ℕ → List ℕ → Edit → Tables → Type 0
 TakesEdit key_of org ws (AddVersion version outgoing) t = TakesVersion key_of org ws version t
-TakesEdit key_of org ws (Make settings) t = ⊤
+TakesEdit key_of org ws (Make settings) t = workspace_of org ws t ≡ None
 TakesEdit key_of org ws (Configure settings outgoing) t = ⊤
 TakesEdit key_of org ws Remove t = ⊤
 TakesEdit key_of org ws Purge t = ⊤

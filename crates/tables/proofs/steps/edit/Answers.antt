@@ -3,10 +3,10 @@ use Rattle.tables.proofs.KeepMoves.{steps_by}
 use Rattle.tables.proofs.steps.edit.Goals as goal
 
 pub returns-in-Make-clause-steps : goal.returns-in-Make-clause-steps
-returns-in-Make-clause-steps g c = rw c.in-Make.is c.make.ensures
+returns-in-Make-clause-steps g c = rw c.in-Make.is c.make.ensures.steps
 
 pub returns-in-Make-clause-takes : goal.returns-in-Make-clause-takes
-returns-in-Make-clause-takes g c = rw c.in-Make.is (λ clean inside. when_done c.make.result (λ t holds. tt))
+returns-in-Make-clause-takes g c = rw c.in-Make.is c.make.ensures.fresh
 
 pub returns-in-Configure-clause-steps : goal.returns-in-Configure-clause-steps
 returns-in-Configure-clause-steps g c = rw c.in-Configure.is c.configure.ensures

@@ -1,0 +1,31 @@
+-- A workspace that has no row has no row of keeping.
+use Rattle.std.proofs.Common.{◌≡◌, ℕ, true, false, List, is_some, None, sym, ap, subst, ◌∙◌}
+use Rattle.std.specs.List.{AllByRecursion, list_any}
+use Rattle.std.proofs.lemmas.Bool.{false_from_ne_true}
+use Rattle.sqlite_keyed.proofs.ListLemmas.{all_weaker, none_from_any}
+use Rattle.sqlite_keyed.proofs.SliceLemmas.{any_is_found}
+use Rattle.statements.specs.Rows.{Kept, WsRow}
+use Rattle.statements.specs.Tables.{Tables}
+use Rattle.statements.specs.Changes.{is_ws, is_keeping, HasNoKeeping}
+use Rattle.statements.specs.Finds.{workspace_of, keep_of}
+use Rattle.statements.proofs.Fresh.{none_found}
+use Rattle.tables.specs.Sound.{IsSound}
+use Rattle.tables.proofs.Names.{pair_first, pair_second}
+use Rattle.tables.proofs.Parts.{none_mapped}
+
+module _ (org ws : List ℕ) (t : Tables) (none : workspace_of org ws t ≡ None) where
+  none_there : list_any (is_ws org ws) t.wss ≡ false
+  none_there = any_is_found (is_ws org ws) t.wss ∙ ap is_some (none_mapped (λ (x : Kept WsRow). x.1.it) _ none)
+
+  pub no_row : AllByRecursion (λ x. is_ws org ws x ≡ false) t.wss
+  no_row = none_from_any (is_ws org ws) t.wss none_there
+
+  pub no_keeping : IsSound t → HasNoKeeping org ws t
+  no_keeping sound = all_weaker (λ x. list_any (is_ws x.1.org x.1.ws) t.wss ≡ true) (λ x. is_keeping org ws x ≡ false)
+      (λ x owned. false_from_ne_true (is_keeping org ws x) (λ mine.
+      let here : list_any (is_ws org ws) t.wss ≡ true =
+      subst (λ (a : List ℕ). list_any (is_ws a ws) t.wss ≡ true) (pair_first org ws x.1.org x.1.ws mine) (subst (λ (b : List ℕ). list_any (is_ws x.1.org b) t.wss ≡ true) (pair_second org ws x.1.org x.1.ws mine) owned) in
+      let no_one : ⊥ = cc (sym here ∙ none_there) in no_one)) t.keepings sound.keepings_owned
+
+  pub none_kept : IsSound t → keep_of org ws t ≡ None
+  none_kept sound = none_found (is_keeping org ws) (λ x. x.1.keep) t.keepings (no_keeping sound)
