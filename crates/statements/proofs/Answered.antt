@@ -78,7 +78,7 @@ untied_down m n a b h = no_tie_after (int_cmp n m) (let above : int_cmp b a ≡ 
 pub untied_up : (o : Ordering) (a b : ℤ) → int_cmp a b ≡ Less → IsNoTie (ordering_then o (int_cmp a b))
 untied_up o a b h = no_tie_after o (record { apart = ap is_eq h })
 
-by_natural : (m n : ℕ) → int_cmp (pos m) (pos n) ≡ nat_cmp m n
+pub by_natural : (m n : ℕ) → int_cmp (pos m) (pos n) ≡ nat_cmp m n
 by_natural m n = grind (arith, ints, nat_tests)
 
 -- numbers are compared as natural ones are

@@ -29,7 +29,7 @@ same_text a b = at_texts _ Eq a b ∙ is_eq-slice_cmp a b
 pub same_blob : (a b : List ℕ) → is_true (binary (Compare Eq Binary) (Blob a) (Blob b)) ≡ bytes_eq a b
 same_blob a b = at_blobs _ Eq a b ∙ is_eq-slice_cmp a b
 
-same_int : (a b : ℕ) → int_eq (pos a) (pos b) ≡ eqb a b
+pub same_int : (a b : ℕ) → int_eq (pos a) (pos b) ≡ eqb a b
 same_int a b = grind (arith, ints, nat_tests)
 
 pub same_number : (a b : ℕ) → is_true (binary (Compare Eq Binary) (Int (pos a)) (Int (pos b))) ≡ eqb a b

@@ -1,10 +1,10 @@
 -- The rows of one of our tables in an order with no ties, as a function of typed rows.
-use Rattle.std.proofs.Common.{◌≡◌, inl, inr, ℕ, ◌≤◌, ◌<◌, pos, Bool, false, cond, ◌&&◌, List, [], ◌∷◌, ◌++◌, map, flat_map, filter, take, length, None, refl, sym, ap, ◌∙◌, subst, arith, Ordering, Less, Equal, int_cmp, is_eq, IsPermutation}
+use Rattle.std.proofs.Common.{◌≡◌, inl, inr, ℕ, ◌≤◌, ◌==◌, pos, Bool, false, cond, ◌&&◌, List, [], ◌∷◌, ◌++◌, map, flat_map, filter, take, length, None, refl, sym, ap, ◌∙◌, subst, arith, Ordering, Equal, int_cmp, nat_cmp, is_eq, IsPermutation}
 use Rattle.std.specs.Prelude.{nat_lt}
 use Rattle.std.specs.List.{list_all, AllZip}
 use Rattle.std.specs.Ordering.{ordering_then}
 use Rattle.std.proofs.lemmas.List.{take_all, take-append-le, take-map}
-use Rattle.std.proofs.lemmas.Int.{ints}
+use Rattle.std.specs.Cmp.{nat_cmp_total, on_total}
 use Rattle.sqlite_value.specs.declared.keys.Collation.TheVariants.{Binary}
 use Rattle.sqlite_value.specs.declared.keys.Key.{Key}
 use Rattle.sqlite_value.specs.declared.value.Value.TheVariants.{Null, Int}
@@ -21,16 +21,17 @@ use Rattle.sqlite_schema.specs.declared.command.Command.TheVariants.{Select}
 use Rattle.sqlite.specs.State.{State, Shown, Begins}
 use Rattle.sqlite.proofs.Callers.{reads_as, begins_as}
 use Rattle.sqlite_keyed.specs.Lists.{sort_by}
-use Rattle.sqlite_keyed.proofs.ListLemmas.{map-map, flat_map-map, flat_map_same_on, filter_as_flat_map, filter_same, filter-map, ascending-map, ascending_from_map, ascending_weaker, ascending-filter}
+use Rattle.sqlite_keyed.proofs.ListLemmas.{map-map, flat_map-map, flat_map_same_on, filter_as_flat_map, filter_same, filter-map, ascending-map, ascending_weaker, ascending-filter}
 use Rattle.sqlite_keyed.proofs.SortLemmas.{HasNoTies, sorted_is-sort_by, sort_by-map}
 use Rattle.statements.specs.Place.{tree_of, IsOwn}
 use Rattle.statements.specs.Rows.{Kept, stored}
 use Rattle.statements.specs.Calls.{FirstRows}
-use Rattle.statements.specs.Listings.{Rise}
 use Rattle.statements.proofs.Meaning.{Means}
 use Rattle.statements.proofs.Writes.{plain_program}
 use Rattle.statements.proofs.Own.{stored_tree}
-use Rattle.statements.proofs.Sorting.{filter_both, sorted_already}
+use Rattle.statements.proofs.Sorting.{filter_both, filter-sort_by}
+use Rattle.statements.proofs.Conditions.{same_int}
+use Rattle.statements.proofs.Answered.{by_natural}
 
 -- a query for rows of one table in the order of a column, each with what further steps of FROM add to it
 abbrev pub sorted_by : ℕ → List (Term × Key)
@@ -147,15 +148,12 @@ module _ {R : Type 0} (cells : R → Row) (table : Table) (old new : State) (own
     pub all_rows_are : (rows : List Row) → Shown text params old new rows → rows ≡ map sees (sort_by order (filter p xs))
     all_rows_are rows h = all_listed text params old new asked names means rows _ only h
 
--- ---- rows whose numbers rise
+-- ---- rows in the order of their numbers
 
 pub by_column : (m n : ℕ) → ordering_then (value_cmp (Int (pos m)) (Int (pos n))) Equal ≡ int_cmp (pos m) (pos n)
 by_column m n = then-Equal _ ∙ value_cmp-Int (pos m) (pos n)
 
-below : (m n : ℕ) → m < n → int_cmp (pos m) (pos n) ≡ Less
-below m n low = grind (arith, ints)
-
--- a list of rows above a number, which were numbered in the order of the rows
+-- a list of rows above a number, of which no two have one
 module _ {R : Type 0} (cells : R → Row) (table : Table) (old new : State) (own : IsOwn old.now.schema table)
     (xs : List (Kept R)) (held : old.now.trees (tree_of old.now.schema table.name) ≡ map (stored cells) xs) (text : List ℕ) (params : Row)
     (rest : Query) (column : ℕ) (names : List (List ℕ)) {X : Type 0} (Is : Row → X → Type 0) (number_of : X → ℕ) (val : Kept R → X) (mine : Kept R → Bool) (after : ℕ)
@@ -170,22 +168,32 @@ module _ {R : Type 0} (cells : R → Row) (table : Table) (old new : State) (own
   abbrev numbered : Kept R → Kept R → Ordering
   numbered x y = int_cmp (pos (num x)) (pos (num y))
 
-  rising : Rise (map num (filter mine xs)) → IsAscending (λ x y. numbered x y ≡ Less) (filter (λ x. mine x && nat_lt after (num x)) xs)
-  rising up =
-      let all = ascending_from_map (λ m n. m < n) num (filter mine xs) up in
-      let less = ascending_weaker (λ x y. num x < num y) (λ x y. numbered x y ≡ Less) (λ x y low. below (num x) (num y) low) (filter mine xs) all in
-      subst (IsAscending (λ x y. numbered x y ≡ Less)) (sym (filter_both mine (λ x. nat_lt after (num x)) xs)) (ascending-filter (λ x y. numbered x y ≡ Less) (λ x. nat_lt after (num x)) (filter mine xs) less)
+  abbrev by_num : Kept R → Kept R → Ordering
+  by_num x y = nat_cmp (num x) (num y)
+
+  abbrev is_after : Kept R → Bool
+  is_after x = nat_lt after (num x)
+
+  untied : IsAscending (λ x y. (num x == num y) ≡ false) (filter mine xs) → IsAscending (λ x y. is_eq (numbered x y) ≡ false) (filter (λ x. mine x && is_after x) xs)
+  untied apart =
+      subst (IsAscending (λ x y. is_eq (numbered x y) ≡ false)) (sym (filter_both mine is_after xs))
+      (ascending-filter (λ x y. is_eq (numbered x y) ≡ false) is_after (filter mine xs)
+      (ascending_weaker (λ x y. (num x == num y) ≡ false) (λ x y. is_eq (numbered x y) ≡ false) (λ x y e. same_int (num x) (num y) ∙ e) (filter mine xs) apart))
+
+  sorted_after : sort_by numbered (filter (λ x. mine x && is_after x) xs) ≡ filter is_after (sort_by by_num (filter mine xs))
+  sorted_after =
+      (λ i. sort_by (λ x y. by_natural (num x) (num y) i) (filter (λ x. mine x && is_after x) xs)) ∙ ap (sort_by by_num) (filter_both mine is_after xs)
+      ∙ sym (filter-sort_by by_num (on_total num nat_cmp_total) is_after (filter mine xs))
 
   pub numbered_are : ((x y : Kept R) → output_cmp (listing rest place column) (output (listing rest place column) (params ∷ stored cells x ∷ [])) (output (listing rest place column) (params ∷ stored cells y ∷ [])) ≡ numbered x y)
       → Means old.now.schema (Select (plain_program (listing rest place column)) names) text → ((l : List Row) → page (listing rest place column) params l ≡ l)
-      → (most : ℕ) (rows : List Row) (ys : List X) → Rise (map num (filter mine xs)) → FirstRows most text params old new rows → AllZip Is rows ys
-      → ys ≡ take most (filter (λ y. nat_lt after (number_of y)) (map val (filter mine xs)))
-  numbered_are is means whole most rows ys up first read =
-      let p = λ (x : Kept R). mine x && nat_lt after (num x) in
+      → (most : ℕ) (rows : List Row) (ys : List X) → IsAscending (λ x y. (num x == num y) ≡ false) (filter mine xs) → FirstRows most text params old new rows → AllZip Is rows ys
+      → ys ≡ take most (filter (λ y. nat_lt after (number_of y)) (map val (sort_by by_num (filter mine xs))))
+  numbered_are is means whole most rows ys apart first read =
+      let p = λ (x : Kept R). mine x && is_after x in
       let show = λ (x : Kept R). eval_all rest.project (params ∷ stored cells x ∷ []) in
-      let less = rising up in
-      let apart = ascending_weaker (λ x y. numbered x y ≡ Less) (λ x y. is_eq (numbered x y) ≡ false) (λ x y h. ap is_eq h) (filter p xs) less in
-      let sorted = first_rows_are cells table old new own xs held text params rest column names end (λ _. []) (λ terms x. refl) p tests numbered is apart means whole Is val back most rows first in
-      let taken : rows ≡ map show (take most (filter p xs)) = sorted ∙ ap (λ l. take most (map show l)) (sorted_already numbered (filter p xs) less) ∙ take-map show most (filter p xs) in
-      read_as Is show val back (take most (filter p xs)) rows ys taken read ∙ sym (take-map val most (filter p xs))
-      ∙ ap (λ l. take most (map val l)) (filter_both mine (λ x. nat_lt after (num x)) xs) ∙ ap (take most) (sym (filter-map (λ y. nat_lt after (number_of y)) val (filter mine xs)))
+      let listed = filter is_after (sort_by by_num (filter mine xs)) in
+      let sorted = first_rows_are cells table old new own xs held text params rest column names end (λ _. []) (λ terms x. refl) p tests numbered is (untied apart) means whole Is val back most rows first in
+      let taken : rows ≡ map show (take most listed) = sorted ∙ ap (λ l. take most (map show l)) sorted_after ∙ take-map show most listed in
+      read_as Is show val back (take most listed) rows ys taken read ∙ sym (take-map val most listed)
+      ∙ ap (take most) (sym (filter-map (λ y. nat_lt after (number_of y)) val (sort_by by_num (filter mine xs))))

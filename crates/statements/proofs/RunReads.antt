@@ -12,7 +12,7 @@ use Rattle.statements.specs.Changes.{is_run_row, is_run_of}
 use Rattle.statements.specs.Finds.{is_waiting_of, first_waiting_of, status_at_number, is_run_with_key, is_open_run_of, run_at_number, keyed_run_of, open_runs_of}
 use Rattle.statements.specs.Calls.{FirstRow, FirstRows, Pins, IsNumber, IsStatus, IsRunRow}
 use Rattle.basis.specs.declared.rows.RunRow.{RunRow as Run}
-use Rattle.statements.specs.Listings.{run_rows_after, RunsRise}
+use Rattle.statements.specs.Listings.{run_rows_after, RunsApart}
 use Rattle.statements.proofs.Held.{IsHeld, runs_held}
 use Rattle.statements.proofs.Listed.{by_column, numbered_are}
 use Rattle.statements.proofs.PointReads.{first_own, least_own, count_own}
@@ -45,12 +45,12 @@ module _ (old new : State) (t : Tables) (h : Holds old.now t) where
       first_own run_cells run_table old new held.own t.runs held.rows held.keyed find_keyed_run_text (Text org ∷ Text ws ∷ Text key ∷ []) row first find_keyed_run_rest run_names
       (is_run_with_key org ws key) (λ x. two_texts_key x.1.org org x.1.ws ws key x.1.it.key) IsRunRow (λ x. x.1.it) (λ x y told. run_read x.1.it y told) (find_keyed_run_means old.now.schema _ _ held.own.place) (λ l. refl)
 
-  pub list_runs_shows : (org ws : List ℕ) (after most : ℕ) (rows : List Row) (runs : List Run) → RunsRise org ws t → FirstRows most list_runs_text (Text org ∷ Text ws ∷ number after ∷ []) old new rows → AllZip IsRunRow rows runs
+  pub list_runs_shows : (org ws : List ℕ) (after most : ℕ) (rows : List Row) (runs : List Run) → RunsApart org ws t → FirstRows most list_runs_text (Text org ∷ Text ws ∷ number after ∷ []) old new rows → AllZip IsRunRow rows runs
       → runs ≡ run_rows_after org ws after most t
-  list_runs_shows org ws after most rows runs rise first read =
+  list_runs_shows org ws after most rows runs apart first read =
       numbered_are run_cells run_table old new held.own t.runs held.rows list_runs_text (Text org ∷ Text ws ∷ number after ∷ []) list_runs_rest 3 run_names
       IsRunRow (λ r. r.number) (λ x. x.1.it) (is_run_of org ws) after (λ x. two_texts_above x.1.org org x.1.ws ws x.1.it.number after) (λ x y told. run_read x.1.it y told)
-      (λ x y. by_column x.1.it.number y.1.it.number) (list_runs_means old.now.schema _ _ held.own.place) (λ l. refl) most rows runs rise first read
+      (λ x y. by_column x.1.it.number y.1.it.number) (list_runs_means old.now.schema _ _ held.own.place) (λ l. refl) most rows runs apart first read
 
   pub count_open_runs_shows : (org ws : List ℕ) (row : Option Row) → FirstRow count_open_runs_text (Text org ∷ Text ws ∷ []) old new row → row ≡ Some (number (open_runs_of org ws t) ∷ [])
   count_open_runs_shows org ws row first =

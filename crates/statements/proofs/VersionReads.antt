@@ -12,7 +12,7 @@ use Rattle.statements.specs.Tables.{Tables, Holds, version_layout}
 use Rattle.statements.specs.Changes.{is_version, is_version_of, is_version_below}
 use Rattle.statements.specs.Finds.{back_by_number, newest_of, number_back, oldest_below, size_of}
 use Rattle.statements.specs.Calls.{FirstRow, FirstRows, Pins, IsVersionRow, IsNumber}
-use Rattle.statements.specs.Listings.{version_rows_after, VersionsRise}
+use Rattle.statements.specs.Listings.{version_rows_after, VersionsApart}
 use Rattle.statements.proofs.Held.{IsHeld, versions_held}
 use Rattle.statements.proofs.Listed.{by_column, numbered_are}
 use Rattle.statements.proofs.PointReads.{first_own, ranked_own, least_own, first_behind}
@@ -60,9 +60,9 @@ module _ (old new : State) (t : Tables) (h : Holds old.now t) where
       first_own version_cells version_table old new held.own t.versions held.rows held.keyed version_size_text (Text org ∷ Text ws ∷ number n ∷ []) row first version_size_rest (codes "size" ∷ [])
       (is_version org ws n) (λ x. two_texts_number x.1.org org x.1.ws ws x.1.it.number n) IsNumber (λ x. x.1.it.size) (λ x y told. number_read x.1.it.size y told) (version_size_means old.now.schema _ _ held.own.place) (λ l. refl)
 
-  pub list_versions_shows : (org ws : List ℕ) (after most : ℕ) (rows : List Row) (heads : List Version) → VersionsRise org ws t → FirstRows most list_versions_text (Text org ∷ Text ws ∷ number after ∷ []) old new rows
+  pub list_versions_shows : (org ws : List ℕ) (after most : ℕ) (rows : List Row) (heads : List Version) → VersionsApart org ws t → FirstRows most list_versions_text (Text org ∷ Text ws ∷ number after ∷ []) old new rows
       → AllZip IsVersionRow rows heads → heads ≡ version_rows_after org ws after most t
-  list_versions_shows org ws after most rows heads rise first read =
+  list_versions_shows org ws after most rows heads apart first read =
       numbered_are version_cells version_table old new held.own t.versions held.rows list_versions_text (Text org ∷ Text ws ∷ number after ∷ []) list_versions_rest 3 list_versions_names
       IsVersionRow (λ v. v.number) (λ x. x.1.it) (is_version_of org ws) after (λ x. two_texts_above x.1.org org x.1.ws ws x.1.it.number after) (λ x y told. version_read x.1.it y told)
-      (λ x y. by_column x.1.it.number y.1.it.number) (list_versions_means old.now.schema _ _ held.own.place) (λ l. refl) most rows heads rise first read
+      (λ x y. by_column x.1.it.number y.1.it.number) (list_versions_means old.now.schema _ _ held.own.place) (λ l. refl) most rows heads apart first read

@@ -1,10 +1,10 @@
 -- What each list reads of the rows, and the law of the rows under which it does.
-use Rattle.std.specs.Prelude.{◌<◌, ◌+◌, ◌&&◌, ℕ, Bool, List, [], ◌∷◌, map, filter, take, nat_lt, if◌then◌else◌}
+use Rattle.std.specs.Prelude.{◌+◌, ◌==◌, ◌&&◌, ℕ, Bool, List, [], ◌∷◌, map, filter, take, nat_lt, if◌then◌else◌}
 use Rattle.std.specs.declared.cmp.Ordering.{Ordering}
 use Rattle.std.specs.Ordering.{nat_cmp, is_lt}
 use Rattle.std.specs.Cmp.Lexicographic.{slice_cmp}
 use Rattle.std.specs.FinMap.{FinMap, from_entries, entries}
-use Rattle.sqlite_trees.specs.Tree.{IsAscending}
+use Rattle.sqlite_keyed.specs.Lists.{sort_by}
 use Rattle.sqlite_keyed.specs.Rules.{AreApart}
 use Rattle.std.specs.Str.{bytes_eq}
 use Rattle.basis.specs.Names.{admits}
@@ -17,7 +17,7 @@ use Rattle.basis.specs.declared.rows.RunRow.{RunRow as Run}
 use Rattle.statements.specs.declared.rows.Organization.{Organization}
 use Rattle.statements.specs.Rows.{Kept, TokenRow}
 use Rattle.statements.specs.Tables.{Tables}
-use Rattle.statements.specs.Finds.{keep_of, version_before}
+use Rattle.statements.specs.Finds.{keep_of, version_before, version_cmp, run_cmp}
 use Rattle.statements.specs.Changes.{is_org, is_token, is_ws_of, is_ws, is_keeping, is_version_of, is_version, is_run_of}
 
 -- the order of names: that of their bytes
@@ -26,10 +26,6 @@ text_cmp = slice_cmp nat_cmp
 
 abbrev pub is_behind : List ℕ → List ℕ → Bool
 is_behind a name = is_lt (text_cmp a name)
-
--- each number is below all that follow
-abbrev pub Rise : List ℕ → Type 0
-Rise = IsAscending (λ m n. m < n)
 
 -- ---- organizations
 
@@ -94,17 +90,18 @@ pub record WorkspacesApart (t : Tables) : Type 0 where
 
 -- ---- versions
 
--- those of a workspace whose numbers are above this one, no more than so many
+-- those of a workspace whose numbers are above this one, in the order of their numbers and no more than so many
 abbrev pub version_rows_after : List ℕ → List ℕ → ℕ → ℕ → Tables → List Version
-version_rows_after org ws after most t = take most (filter (λ v. nat_lt after v.number) (map (λ x. x.1.it) (filter (is_version_of org ws) t.versions)))
+version_rows_after org ws after most t = take most (filter (λ v. nat_lt after v.number) (map (λ x. x.1.it) (sort_by version_cmp (filter (is_version_of org ws) t.versions))))
 
-abbrev pub VersionsRise : List ℕ → List ℕ → Tables → Type 0
-VersionsRise org ws t = Rise (map (λ x. x.1.it.number) (filter (is_version_of org ws) t.versions))
+-- no two of them have one number
+abbrev pub VersionsApart : List ℕ → List ℕ → Tables → Type 0
+VersionsApart org ws t = AreApart (λ a b. a.1.it.number == b.1.it.number) (filter (is_version_of org ws) t.versions)
 
 -- ---- runs
 
 abbrev pub run_rows_after : List ℕ → List ℕ → ℕ → ℕ → Tables → List Run
-run_rows_after org ws after most t = take most (filter (λ r. nat_lt after r.number) (map (λ x. x.1.it) (filter (is_run_of org ws) t.runs)))
+run_rows_after org ws after most t = take most (filter (λ r. nat_lt after r.number) (map (λ x. x.1.it) (sort_by run_cmp (filter (is_run_of org ws) t.runs))))
 
-abbrev pub RunsRise : List ℕ → List ℕ → Tables → Type 0
-RunsRise org ws t = Rise (map (λ x. x.1.it.number) (filter (is_run_of org ws) t.runs))
+abbrev pub RunsApart : List ℕ → List ℕ → Tables → Type 0
+RunsApart org ws t = AreApart (λ a b. a.1.it.number == b.1.it.number) (filter (is_run_of org ws) t.runs)

@@ -2,7 +2,7 @@
 ghost use Rattle.std.specs.Prelude.{option_map};
 ghost use Rattle.statements.specs.Steps.{WritesBy, QueriesBy, QueriesWhere};
 ghost use Rattle.statements.specs.Changes.{run_changed_to, run_acted, run_added, run_made, runs_removed};
-ghost use Rattle.statements.specs.Listings.{run_rows_after, RunsRise};
+ghost use Rattle.statements.specs.Listings.{run_rows_after, RunsApart};
 ghost use Rattle.statements.specs.Finds.{first_waiting_of, status_at_number, run_at_number, keyed_run_of, open_runs_of};
 
 use crate::calls::{
@@ -74,7 +74,7 @@ pub fn list<S: Alter>(
     after: u32,
     most: usize,
 ) -> Result<Items<RunRow>, Error>
-    ensures { QueriesWhere S.Store (RunsRise org.now ws.now) (run_rows_after org.now ws.now after most) conn.old conn.new result }
+    ensures { QueriesWhere S.Store (RunsApart org.now ws.now) (run_rows_after org.now ws.now after most) conn.old conn.new result }
 {
     let rows = first_rows(alloc, conn, LIST_RUNS, params![org, ws, after], most);
     read_all(alloc, rows)

@@ -4,7 +4,7 @@ ghost use Rattle.sqlite.specs.Held.{state};
 ghost use Rattle.sqlite.specs.State.{Survives};
 ghost use Rattle.statements.specs.Steps.{WritesBy, TellsOfRows, ReadsBy, QueriesBy, QueriesWhere};
 ghost use Rattle.statements.specs.Changes.{new_version, version_added, version_removed};
-ghost use Rattle.statements.specs.Listings.{version_rows_after, VersionsRise};
+ghost use Rattle.statements.specs.Listings.{version_rows_after, VersionsApart};
 ghost use Rattle.statements.specs.Finds.{newest_of, number_back, oldest_below, size_of};
 
 use crate::calls::{
@@ -41,7 +41,7 @@ pub fn list<S: Alter>(
     after: u32,
     most: usize,
 ) -> Result<Items<VersionRow>, Error>
-    ensures { QueriesWhere S.Store (VersionsRise org.now ws.now) (version_rows_after org.now ws.now after most) conn.old conn.new result }
+    ensures { QueriesWhere S.Store (VersionsApart org.now ws.now) (version_rows_after org.now ws.now after most) conn.old conn.new result }
 {
     let rows = first_rows(alloc, conn, LIST_VERSIONS, params![org, ws, after], most);
     read_all(alloc, rows)

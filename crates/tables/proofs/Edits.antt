@@ -14,6 +14,7 @@ use Rattle.statements.proofs.Found.{found_passes, found_holds}
 use Rattle.machine.specs.Settling.{begun, started, started_if}
 use Rattle.machine.specs.Changes.{left_above, edited, changed_by}
 use Rattle.machine.specs.Rules.{purged, locked, released, new_run, with_run, reported}
+use Rattle.machine.specs.Laws.{IsLawfulIfThere}
 use Rattle.machine.specs.Workspaces.{new_workspace}
 use Rattle.machine.specs.declared.acts.Edit.{Edit}
 use Rattle.machine.specs.declared.acts.Edit.TheVariants.{Make, Configure, Remove, AddVersion, Purge, Hold, Release, AddRun, Report}
@@ -23,20 +24,40 @@ use Rattle.basis.specs.declared.rows.RunRow.{RunRow as Run}
 use Rattle.machine.specs.declared.records.Workspace.{Workspace}
 use Rattle.basis.specs.declared.rows.Holder.TheVariants.{Nobody, Lock, Run as HeldByRun}
 use Rattle.statements.specs.declared.rows.Workspace.{Workspace as WorkspaceCells}
-use Rattle.statements.specs.Rows.{Kept, WsRow, KeepingRow, RunRow}
+use Rattle.statements.specs.Rows.{Kept, WsRow, KeepingRow, VersionRow, RunRow}
 use Rattle.statements.specs.Tables.{Tables}
 use Rattle.statements.specs.Changes.{is_ws, is_keeping, is_run_of, with_run_settings, held_by, released_from, with_next_version, with_next_run, ws_changed, ws_added, runs_removed, run_made as new_run_cells, run_acted}
 use Rattle.statements.specs.Finds.{workspace_of, keep_of}
-use Rattle.tables.specs.Records.{workspace_of_cells, keep_at, versions_at, runs_at, workspace_by}
+use Rattle.tables.specs.Records.{version_at, workspace_of_cells, keep_at, workspace_by}
+use Rattle.tables.proofs.Ordered.{versions_in, runs_in, workspace_of_rows, ordered, workspace_ordered, changed_ordered}
 use Rattle.tables.specs.Inner.Edits.{all_gone, removed_rows, made_rows, settings_rows, configured_rows, numbered_rows, if_there, versioned_rows, run_put, run_counted, run_rows, freed_rows, edited_rows, started_rows, changed_rows, TakesVersion, TakesEdit}
 use Rattle.tables.specs.Sound.{IsSound}
 use Rattle.tables.proofs.Absent.{none_kept}
-use Rattle.tables.proofs.Finding.{no_versions, no_runs}
+use Rattle.tables.proofs.Finding.{no_version_rows, no_run_rows}
 use Rattle.tables.proofs.TextRows.{Becomes, versions_carried}
 use Rattle.tables.proofs.VersionEdits.{all_go, settings_leave, versions_come}
 use Rattle.tables.proofs.Parts.{row_changed, row_unchanged, row_removed, row_left, row_added, row_added_other, keep_left, keep_added, keep_added_other, keep_set, keep_set_other, runs_begun, runs_begun_other, runs_pushed, runs_pushed_other, runs_acted, runs_acted_other, runs_gone, runs_gone_other}
-use Rattle.tables.proofs.Names.{pair_first, pair_second}
-use Rattle.tables.proofs.Sets.{Puts, puts_then, same_parts}
+use Rattle.tables.proofs.Names.{is_pair, pair_first, pair_second}
+use Rattle.tables.proofs.Sets.{Puts, same_parts}
+
+-- ---- one workspace, as its rows stand
+
+-- The rows of the workspace of this name stand for that one now, or it has none, and all else is as before.
+record Stands (org ws : List ℕ) (w : Option Workspace) (t u : Tables) : Type 0 where
+  orgs : u.orgs ≡ t.orgs
+  tokens : u.tokens ≡ t.tokens
+  bounds : u.bounds ≡ t.bounds
+  own : workspace_of_rows u org ws ≡ w
+  others : (a b : List ℕ) → is_pair org ws a b ≡ false → workspace_of_rows u a b ≡ workspace_of_rows t a b
+
+stands_then : {v w : Option Workspace} (org ws : List ℕ) (t u z : Tables) → Stands org ws v t u → Stands org ws w u z → Stands org ws w t z
+stands_then org ws t u z first second = record {
+  orgs = second.orgs ∙ first.orgs;
+  tokens = second.tokens ∙ first.tokens;
+  bounds = second.bounds ∙ first.bounds;
+  own = second.own;
+  others = λ a b other. second.others a b other ∙ first.others a b other;
+}
 
 -- ---- the parts of a workspace that is changed
 
@@ -69,19 +90,19 @@ module _ (org ws : List ℕ) (t : Tables) where
 
   -- what the row holds, and nothing else
   row_puts : (g : WorkspaceCells → WorkspaceCells) (f : Workspace → Workspace) → ((c : WorkspaceCells) (k : ℕ) (vs : List Version) (rs : List Run) → workspace_of_cells k (g c) vs rs ≡ f (workspace_of_cells k c vs rs))
-      → Puts org ws (option_map f (workspace_by t org ws)) t (ws_changed g org ws t)
+      → Stands org ws (option_map f (workspace_of_rows t org ws)) t (ws_changed g org ws t)
   row_puts g f same = record {
     orgs = refl;
     tokens = refl;
     bounds = refl;
     own = same_parts _ _ _ _ _ _ _ _ (row_changed org ws g t) refl (versions_carried t (ws_changed g org ws t) refl refl refl org ws) refl
-        ∙ changed_row g f (keep_at t org ws) (versions_at t org ws) (versions_at t org ws) (runs_at t org ws) (runs_at t org ws) (λ c. same c (keep_at t org ws) (versions_at t org ws) (runs_at t org ws)) (workspace_of org ws t);
+        ∙ changed_row g f (keep_at t org ws) (versions_in t org ws) (versions_in t org ws) (runs_in t org ws) (runs_in t org ws) (λ c. same c (keep_at t org ws) (versions_in t org ws) (runs_in t org ws)) (workspace_of org ws t);
     others = λ a b other. same_parts _ _ _ _ _ _ _ _ (row_unchanged org ws g t a b other) refl (versions_carried t (ws_changed g org ws t) refl refl refl a b) refl;
   }
 
   -- a workspace where there is no row of its name
-  added_puts : (settings : Settings) → workspace_of org ws t ≡ None → keep_of org ws t ≡ None → versions_at t org ws ≡ [] → runs_at t org ws ≡ []
-      → Puts org ws (Some (new_workspace settings)) t (ws_added org ws settings.runs settings.keep_versions t)
+  added_puts : (settings : Settings) → workspace_of org ws t ≡ None → keep_of org ws t ≡ None → versions_in t org ws ≡ [] → runs_in t org ws ≡ []
+      → Stands org ws (Some (new_workspace settings)) t (ws_added org ws settings.runs settings.keep_versions t)
   added_puts settings none no_keep no_version no_run =
       let of_runs : RunSettings = settings.runs in
       let keep : ℕ = settings.keep_versions in
@@ -108,10 +129,10 @@ module _ (org ws : List ℕ) (t : Tables) where
     same_keep : (a b : List ℕ) → keep_at purged_rows a b ≡ keep_at t a b
     same_keep a b = ap (λ (ks : List (Kept KeepingRow)). kept_among a b ks) gone.rest.keepings
 
-    same_runs : (a b : List ℕ) → runs_at purged_rows a b ≡ runs_at t a b
+    same_runs : (a b : List ℕ) → runs_in purged_rows a b ≡ runs_in t a b
     same_runs a b = ap (λ (rs : List (Kept RunRow)). map (λ (x : Kept RunRow). x.1.it) (filter (is_run_of a b) rs)) gone.rest.runs
 
-    removed_puts : Puts org ws None t (removed_rows org ws t)
+    removed_puts : Stands org ws None t (removed_rows org ws t)
     removed_puts = record {
       orgs = gone.rest.orgs;
       tokens = gone.rest.tokens;
@@ -121,18 +142,18 @@ module _ (org ws : List ℕ) (t : Tables) where
           (versions_carried purged_rows (removed_rows org ws t) refl refl refl a b ∙ gone.others a b other) (runs_gone_other org ws purged_rows a b other ∙ same_runs a b);
     }
 
-    purge_puts : Puts org ws (option_map purged (workspace_by t org ws)) t purged_rows
+    purge_puts : Stands org ws (option_map purged (workspace_of_rows t org ws)) t purged_rows
     purge_puts = record {
       orgs = gone.rest.orgs;
       tokens = gone.rest.tokens;
       bounds = gone.rest.bounds;
       own = same_parts _ _ _ _ _ _ _ _ (same_row org ws ∙ sym (kept_row (workspace_of org ws t))) (same_keep org ws) gone.own (same_runs org ws)
-          ∙ changed_row (λ c. c) purged (keep_at t org ws) (versions_at t org ws) [] (runs_at t org ws) (runs_at t org ws) (λ c. refl) (workspace_of org ws t);
+          ∙ changed_row (λ c. c) purged (keep_at t org ws) (versions_in t org ws) [] (runs_in t org ws) (runs_in t org ws) (λ c. refl) (workspace_of org ws t);
       others = λ a b other. same_parts _ _ _ _ _ _ _ _ (same_row a b) (same_keep a b) (gone.others a b other) (same_runs a b);
     }
 
-  started_puts : (start : Option ℕ) → Puts org ws (option_map (started_if start) (workspace_by t org ws)) t (started_rows org ws start t)
-  started_puts None = record { orgs = refl; tokens = refl; bounds = refl; own = kept (workspace_by t org ws); others = λ a b other. refl }
+  started_puts : (start : Option ℕ) → Stands org ws (option_map (started_if start) (workspace_of_rows t org ws)) t (started_rows org ws start t)
+  started_puts None = record { orgs = refl; tokens = refl; bounds = refl; own = kept (workspace_of_rows t org ws); others = λ a b other. refl }
     where
       kept : (w : Option Workspace) → w ≡ option_map (started_if None) w
       kept None = refl
@@ -144,7 +165,7 @@ module _ (org ws : List ℕ) (t : Tables) where
         tokens = refl;
         bounds = refl;
         own = same_parts _ _ _ _ _ _ _ _ (row_changed org ws g t) refl (versions_carried t (started_rows org ws (Some n) t) refl refl refl org ws) (runs_begun org ws t n)
-            ∙ changed_row (held_by (HeldByRun n)) (started n) (keep_at t org ws) (versions_at t org ws) (versions_at t org ws) (runs_at t org ws) (map (begun n) (runs_at t org ws)) (λ c. refl) (workspace_of org ws t);
+            ∙ changed_row (held_by (HeldByRun n)) (started n) (keep_at t org ws) (versions_in t org ws) (versions_in t org ws) (runs_in t org ws) (map (begun n) (runs_in t org ws)) (λ c. refl) (workspace_of org ws t);
         others = λ a b other. same_parts _ _ _ _ _ _ _ _ (row_unchanged org ws g t a b other) refl (versions_carried t (started_rows org ws (Some n) t) refl refl refl a b) (runs_begun_other org ws t n a b other);
       }
 
@@ -181,10 +202,10 @@ module _ (org ws : List ℕ) (t : Tables) where
     leave_keep : (a b : List ℕ) → keep_at configured a b ≡ keep_at with_set a b
     leave_keep a b = ap (λ (ks : List (Kept KeepingRow)). kept_among a b ks) leave.rest.keepings
 
-    leave_runs : (a b : List ℕ) → runs_at configured a b ≡ runs_at t a b
+    leave_runs : (a b : List ℕ) → runs_in configured a b ≡ runs_in t a b
     leave_runs a b = ap (λ (rs : List (Kept RunRow)). map (λ (x : Kept RunRow). x.1.it) (filter (is_run_of a b) rs)) leave.rest.runs
 
-    configured_puts : Puts org ws (option_map (with_fewer settings outgoing) (workspace_by t org ws)) t configured
+    configured_puts : Stands org ws (option_map (with_fewer settings outgoing) (workspace_of_rows t org ws)) t configured
     configured_puts = record {
       orgs = leave.rest.orgs;
       tokens = leave.rest.tokens;
@@ -196,20 +217,20 @@ module _ (org ws : List ℕ) (t : Tables) where
     }
       where
         by_row : (r : Option WorkspaceCells) → workspace_of org ws t ≡ r
-            → option_map (λ (c : WorkspaceCells). workspace_of_cells (keep_at with_set org ws) c (left_above outgoing (versions_at t org ws)) (runs_at t org ws)) (option_map (with_run_settings settings.runs) r)
-            ≡ option_map (with_fewer settings outgoing) (option_map (λ (c : WorkspaceCells). workspace_of_cells (keep_at t org ws) c (versions_at t org ws) (runs_at t org ws)) r)
+            → option_map (λ (c : WorkspaceCells). workspace_of_cells (keep_at with_set org ws) c (left_above outgoing (versions_in t org ws)) (runs_in t org ws)) (option_map (with_run_settings settings.runs) r)
+            ≡ option_map (with_fewer settings outgoing) (option_map (λ (c : WorkspaceCells). workspace_of_cells (keep_at t org ws) c (versions_in t org ws) (runs_in t org ws)) r)
         by_row None e = refl
         by_row (Some c) e =
-            ap (λ (k : ℕ). Some (workspace_of_cells k (with_run_settings settings.runs c) (left_above outgoing (versions_at t org ws)) (runs_at t org ws))) (keep_set org ws t settings.keep_versions (keep_there sound c e))
+            ap (λ (k : ℕ). Some (workspace_of_cells k (with_run_settings settings.runs c) (left_above outgoing (versions_in t org ws)) (runs_in t org ws))) (keep_set org ws t settings.keep_versions (keep_there sound c e))
 
   -- ---- a version more, a run more
 
   -- of a workspace that is there what comes is put, and of one that isn't nothing
-  there_puts : (f : Workspace → Workspace) (after : Tables) → Puts org ws (option_map f (workspace_by t org ws)) t after → Puts org ws (option_map f (workspace_by t org ws)) t (if_there (workspace_of org ws t) after t)
+  there_puts : (f : Workspace → Workspace) (after : Tables) → Stands org ws (option_map f (workspace_of_rows t org ws)) t after → Stands org ws (option_map f (workspace_of_rows t org ws)) t (if_there (workspace_of org ws t) after t)
   there_puts f after puts = by_row (workspace_of org ws t) refl
     where
-      by_row : (r : Option WorkspaceCells) → workspace_of org ws t ≡ r → Puts org ws (option_map f (workspace_by t org ws)) t (if_there r after t)
-      by_row None e = record { orgs = refl; tokens = refl; bounds = refl; own = no_row f (keep_at t org ws) (versions_at t org ws) (runs_at t org ws) (workspace_of org ws t) e; others = λ a b other. refl }
+      by_row : (r : Option WorkspaceCells) → workspace_of org ws t ≡ r → Stands org ws (option_map f (workspace_of_rows t org ws)) t (if_there r after t)
+      by_row None e = record { orgs = refl; tokens = refl; bounds = refl; own = no_row f (keep_at t org ws) (versions_in t org ws) (runs_in t org ws) (workspace_of org ws t) e; others = λ a b other. refl }
       by_row (Some w) e = puts
 
   abbrev one_more : Version → Option ℕ → Workspace → Workspace
@@ -231,23 +252,23 @@ module _ (org ws : List ℕ) (t : Tables) where
     come_keep : (a b : List ℕ) → keep_at versioned a b ≡ keep_at t a b
     come_keep a b = ap (λ (ks : List (Kept KeepingRow)). kept_among a b ks) come.rest.keepings
 
-    come_runs : (a b : List ℕ) → runs_at versioned a b ≡ runs_at t a b
+    come_runs : (a b : List ℕ) → runs_in versioned a b ≡ runs_in t a b
     come_runs a b = ap (λ (rs : List (Kept RunRow)). map (λ (x : Kept RunRow). x.1.it) (filter (is_run_of a b) rs)) come.rest.runs
 
-    version_puts : Puts org ws (option_map (one_more v outgoing) (workspace_by t org ws)) t versioned
+    version_puts : Stands org ws (option_map (one_more v outgoing) (workspace_of_rows t org ws)) t versioned
     version_puts = record {
       orgs = come.rest.orgs;
       tokens = come.rest.tokens;
       bounds = come.rest.bounds;
       own = same_parts _ _ _ _ _ _ _ _ (come_row org ws ∙ row_changed org ws (with_next_version (v.number + 1)) t) (come_keep org ws)
           (come.own ∙ ap (λ (vs : List Version). left_above outgoing (vs ++ v ∷ [])) (versions_carried t with_number refl refl refl org ws)) (come_runs org ws)
-          ∙ changed_row (with_next_version (v.number + 1)) (one_more v outgoing) (keep_at t org ws) (versions_at t org ws) (left_above outgoing (versions_at t org ws ++ v ∷ [])) (runs_at t org ws) (runs_at t org ws) (λ c. refl) (workspace_of org ws t);
+          ∙ changed_row (with_next_version (v.number + 1)) (one_more v outgoing) (keep_at t org ws) (versions_in t org ws) (left_above outgoing (versions_in t org ws ++ v ∷ [])) (runs_in t org ws) (runs_in t org ws) (λ c. refl) (workspace_of org ws t);
       others = λ a b other. same_parts _ _ _ _ _ _ _ _ (come_row a b ∙ row_unchanged org ws (with_next_version (v.number + 1)) t a b other) (come_keep a b)
           (come.others a b other ∙ versions_carried t with_number refl refl refl a b) (come_runs a b);
     }
 
   module _ (number : ℕ) (ask : RunAsk) (created : ℕ) where
-    run_puts : Puts org ws (option_map (with_run (new_run number ask created)) (workspace_by t org ws)) t (run_rows org ws number ask created t)
+    run_puts : Stands org ws (option_map (with_run (new_run number ask created)) (workspace_of_rows t org ws)) t (run_rows org ws number ask created t)
     run_puts =
         let new : Run = new_run_cells number ask.plan_only ask.key ask.message created (cond ask.plan_only Planning Pending) in
         there_puts (with_run (new_run number ask created)) (run_put org ws number ask created (run_counted org ws number t)) (record {
@@ -255,18 +276,18 @@ module _ (org ws : List ℕ) (t : Tables) where
           tokens = refl;
           bounds = refl;
           own = same_parts _ _ _ _ _ _ _ _ (row_changed org ws (with_next_run (number + 1)) t) refl (versions_carried t (run_put org ws number ask created (run_counted org ws number t)) refl refl refl org ws) (runs_pushed org ws t new)
-              ∙ changed_row (with_next_run (number + 1)) (with_run (new_run number ask created)) (keep_at t org ws) (versions_at t org ws) (versions_at t org ws) (runs_at t org ws) (runs_at t org ws ++ new ∷ []) (λ c. refl) (workspace_of org ws t);
+              ∙ changed_row (with_next_run (number + 1)) (with_run (new_run number ask created)) (keep_at t org ws) (versions_in t org ws) (versions_in t org ws) (runs_in t org ws) (runs_in t org ws ++ new ∷ []) (λ c. refl) (workspace_of org ws t);
           others = λ a b other. same_parts _ _ _ _ _ _ _ _ (row_unchanged org ws (with_next_run (number + 1)) t a b other) refl (versions_carried t (run_put org ws number ask created (run_counted org ws number t)) refl refl refl a b) (runs_pushed_other org ws t new a b other);
         })
 
   module _ (n : ℕ) (action : RunAction) (status : RunStatus) where
-    report_puts : (frees : Bool) → Puts org ws (option_map (after_report n action status frees) (workspace_by t org ws)) t (freed_rows frees org ws (run_acted status action org ws n t))
+    report_puts : (frees : Bool) → Stands org ws (option_map (after_report n action status frees) (workspace_of_rows t org ws)) t (freed_rows frees org ws (run_acted status action org ws n t))
     report_puts true = record {
       orgs = refl;
       tokens = refl;
       bounds = refl;
       own = same_parts _ _ _ _ _ _ _ _ (row_changed org ws (held_by Nobody) t) refl (versions_carried t (freed_rows true org ws (run_acted status action org ws n t)) refl refl refl org ws) (runs_acted org ws t status action n)
-          ∙ changed_row (held_by Nobody) (after_report n action status true) (keep_at t org ws) (versions_at t org ws) (versions_at t org ws) (runs_at t org ws) (map (reported n action status) (runs_at t org ws)) (λ c. refl) (workspace_of org ws t);
+          ∙ changed_row (held_by Nobody) (after_report n action status true) (keep_at t org ws) (versions_in t org ws) (versions_in t org ws) (runs_in t org ws) (map (reported n action status) (runs_in t org ws)) (λ c. refl) (workspace_of org ws t);
       others = λ a b other. same_parts _ _ _ _ _ _ _ _ (row_unchanged org ws (held_by Nobody) t a b other) refl (versions_carried t (freed_rows true org ws (run_acted status action org ws n t)) refl refl refl a b) (runs_acted_other org ws t status action n a b other);
     }
     report_puts false = record {
@@ -274,17 +295,17 @@ module _ (org ws : List ℕ) (t : Tables) where
       tokens = refl;
       bounds = refl;
       own = same_parts _ _ _ _ _ _ _ _ (sym (kept_row (workspace_of org ws t))) refl (versions_carried t (run_acted status action org ws n t) refl refl refl org ws) (runs_acted org ws t status action n)
-          ∙ changed_row (λ c. c) (after_report n action status false) (keep_at t org ws) (versions_at t org ws) (versions_at t org ws) (runs_at t org ws) (map (reported n action status) (runs_at t org ws)) (λ c. refl) (workspace_of org ws t);
+          ∙ changed_row (λ c. c) (after_report n action status false) (keep_at t org ws) (versions_in t org ws) (versions_in t org ws) (runs_in t org ws) (map (reported n action status) (runs_in t org ws)) (λ c. refl) (workspace_of org ws t);
       others = λ a b other. same_parts _ _ _ _ _ _ _ _ refl refl (versions_carried t (run_acted status action org ws n t) refl refl refl a b) (runs_acted_other org ws t status action n a b other);
     }
 
-made_puts : (org ws : List ℕ) (t : Tables) → IsSound t → (settings : Settings) → workspace_of org ws t ≡ None → Puts org ws (Some (new_workspace settings)) t (made_rows org ws settings t)
-made_puts org ws t sound settings none = added_puts org ws t settings none (none_kept org ws t none sound) (no_versions t sound org ws none) (no_runs t sound org ws none)
+made_puts : (org ws : List ℕ) (t : Tables) → IsSound t → (settings : Settings) → workspace_of org ws t ≡ None → Stands org ws (Some (new_workspace settings)) t (made_rows org ws settings t)
+made_puts org ws t sound settings none = added_puts org ws t settings none (none_kept org ws t none sound) (ap (map (λ (x : Kept VersionRow). version_at t org ws x.1.it)) (no_version_rows t sound org ws none)) (ap (map (λ (x : Kept RunRow). x.1.it)) (no_run_rows t sound org ws none))
 
 module _ (key_of : List ℕ → List ℕ) (org ws : List ℕ) (t : Tables) (sound : IsSound t) where
   -- ---- an edit
 
-  pub edited_puts : (edit : Edit) → TakesEdit key_of org ws edit t → Puts org ws (edited edit (workspace_by t org ws)) t (edited_rows key_of org ws edit t)
+  edited_puts : (edit : Edit) → TakesEdit key_of org ws edit t → Stands org ws (edited edit (workspace_of_rows t org ws)) t (edited_rows key_of org ws edit t)
   edited_puts (Make settings) takes = made_puts org ws t sound settings takes
   edited_puts (Configure settings outgoing) takes = configured_puts org ws t sound settings outgoing
   edited_puts Remove takes = removed_puts org ws t sound
@@ -295,9 +316,36 @@ module _ (key_of : List ℕ → List ℕ) (org ws : List ℕ) (t : Tables) (soun
   edited_puts (AddRun number ask created) takes = run_puts org ws t number ask created
   edited_puts (Report number action status frees) takes = report_puts org ws t number action status frees
 
-  pub changed_puts : (change : Change) → TakesEdit key_of org ws change.edit t → Puts org ws (changed_by change (workspace_by t org ws)) t (changed_rows key_of org ws change t)
-  changed_puts change takes =
+  changed_stands : (change : Change) → TakesEdit key_of org ws change.edit t → Stands org ws (changed_by change (workspace_of_rows t org ws)) t (changed_rows key_of org ws change t)
+  changed_stands change takes =
       let u : Tables = edited_rows key_of org ws change.edit t in
-      let first : Puts org ws (edited change.edit (workspace_by t org ws)) t u = edited_puts change.edit takes in
-      let second : Puts org ws (option_map (started_if change.start) (workspace_by u org ws)) u (changed_rows key_of org ws change t) = started_puts org ws u change.start in
-      subst (λ (w : Option Workspace). Puts org ws (option_map (started_if change.start) w) t (changed_rows key_of org ws change t)) first.own (puts_then org ws t u (changed_rows key_of org ws change t) first second)
+      let first : Stands org ws (edited change.edit (workspace_of_rows t org ws)) t u = edited_puts change.edit takes in
+      let second : Stands org ws (option_map (started_if change.start) (workspace_of_rows u org ws)) u (changed_rows key_of org ws change t) = started_puts org ws u change.start in
+      subst (λ (w : Option Workspace). Stands org ws (option_map (started_if change.start) w) t (changed_rows key_of org ws change t)) first.own (stands_then org ws t u (changed_rows key_of org ws change t) first second)
+
+  -- whatever becomes of the workspace, all others are as before
+  pub changed_leaves : (change : Change) → TakesEdit key_of org ws change.edit t → Puts org ws (workspace_by (changed_rows key_of org ws change t) org ws) t (changed_rows key_of org ws change t)
+  changed_leaves change takes =
+      let u : Tables = changed_rows key_of org ws change t in
+      let stands = changed_stands change takes in
+      record {
+        orgs = stands.orgs;
+        tokens = stands.tokens;
+        bounds = stands.bounds;
+        own = refl;
+        others = λ a b other. workspace_ordered u a b ∙ ap (option_map ordered) (stands.others a b other) ∙ sym (workspace_ordered t a b);
+      }
+
+  -- a workspace that is lawful afterwards is changed as its rows are
+  pub changed_puts : (change : Change) → TakesEdit key_of org ws change.edit t → IsLawfulIfThere (changed_by change (workspace_by t org ws)) → Puts org ws (changed_by change (workspace_by t org ws)) t (changed_rows key_of org ws change t)
+  changed_puts change takes lawful =
+      let leaves = changed_leaves change takes in
+      record {
+        orgs = leaves.orgs;
+        tokens = leaves.tokens;
+        bounds = leaves.bounds;
+        own = workspace_ordered (changed_rows key_of org ws change t) org ws ∙ ap (option_map ordered) (changed_stands change takes).own
+            ∙ changed_ordered change (workspace_of_rows t org ws) (subst (λ (w : Option Workspace). IsLawfulIfThere (changed_by change w)) (workspace_ordered t org ws) lawful)
+            ∙ ap (changed_by change) (sym (workspace_ordered t org ws));
+        others = leaves.others;
+      }

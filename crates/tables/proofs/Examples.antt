@@ -4,7 +4,7 @@ use Rattle.std.specs.Prelude.{◌==◌, codes}
 use Rattle.std.specs.Option.{unwrap_or}
 use Rattle.std.specs.Str.{bytes_eq}
 use Rattle.std.proofs.lemmas.Bool.{and_parts}
-use Rattle.std.specs.List.{list_any}
+use Rattle.std.specs.List.{AllByRecursion, list_any}
 use Rattle.std.specs.FinMap.{from_entries, empty, len-entries}
 use Rattle.basis.specs.declared.roles.Role.TheVariants.{Write}
 use Rattle.basis.specs.declared.runs.RunStatus.{RunStatus}
@@ -23,9 +23,9 @@ use Rattle.machine.specs.declared.records.Token.{Token}
 use Rattle.machine.specs.declared.keeps.AdminAnswer.TheVariants.{Absent}
 use Rattle.machine.specs.declared.records.Workspace.{Workspace}
 use Rattle.machine.specs.declared.records.Organization.{Organization}
-use Rattle.statements.specs.Changes.{org_capped, token_removed}
+use Rattle.statements.specs.Changes.{is_ws, org_capped, token_removed}
 use Rattle.sqlite_schema.specs.declared.schema.Kind.TheVariants.{Blob}
-use Rattle.statements.specs.Rows.{Kept, OrgRow, WsRow, PageRow, VpageRow}
+use Rattle.statements.specs.Rows.{Kept, OrgRow, WsRow, VersionRow, PageRow, VpageRow}
 use Rattle.statements.specs.Schema.{column, version_table}
 use Rattle.statements.specs.Tables.{Tables}
 use Rattle.statements.specs.Making.{raised}
@@ -33,7 +33,7 @@ use Rattle.statements.proofs.NameLists.{same_text}
 use Rattle.tables.proofs.Finding.{entries_counted}
 use Rattle.tables.specs.Records.{record_of, organization_at, workspace_at, workspace_by}
 use Rattle.tables.specs.Opening.{has_versions_in}
-use Rattle.tables.specs.Sound.{HasText, IsSound}
+use Rattle.tables.specs.Sound.{IsPlaced, HasText, IsSound}
 use Rattle.tables.specs.Inner.Edits.{so_many_gone, gone_below, edited_rows, changed_rows}
 use Rattle.tables.specs.Inner.Lists.{versions_listed_in, runs_listed_in, tokens_told_in}
 
@@ -129,6 +129,22 @@ acme_record = refl
 no_record : record_of two (codes "initech") ≡ None
 no_record = refl
 
+-- rows in another order, with rowids of their own, denote the same, and so after a change
+abbrev restored : Tables
+restored = record two {
+  versions =
+      (pos 1, record { org = acme; ws = prod; it = record { number = 2; serial = 2; lineage = codes "a1"; created = 1_700_000_000; size = 12 } })
+      ∷ (pos 2, record { org = acme; ws = prod; it = record { number = 1; serial = 1; lineage = codes "a1"; created = 1_700_000_000; size = 12 } })
+      ∷ (pos 3, record { org = globex; ws = prod; it = record { number = 1; serial = 1; lineage = codes "a1"; created = 1_700_000_000; size = 12 } })
+      ∷ [];
+}
+
+restored_record : record_of restored acme ≡ acme_has of_acme
+restored_record = refl
+
+restored_other : record_of restored globex ≡ globex_has of_globex
+restored_other = refl
+
 -- ---- changes: the organization's own record has it, and that of the other is as before
 
 abbrev keeping_five : Settings
@@ -172,6 +188,10 @@ version_added = refl
 oldest_gone : record_of (edited_rows first_byte acme prod (AddVersion (version 3 s1) (Some 1)) two) acme ≡ acme_has (record of_acme { next_version = 4; versions = version 2 s2 ∷ version 3 s1 ∷ [] })
 unfolding so_many_gone gone_below
 oldest_gone = refl
+
+oldest_of_restored_gone : record_of (edited_rows first_byte acme prod (AddVersion (version 3 s1) (Some 1)) restored) acme ≡ acme_has (record of_acme { next_version = 4; versions = version 2 s2 ∷ version 3 s1 ∷ [] })
+unfolding so_many_gone gone_below
+oldest_of_restored_gone = refl
 
 all_gone : record_of (edited_rows first_byte acme prod (AddVersion (version 3 s1) (Some 3)) two) acme ≡ acme_has (record of_acme { next_version = 4; versions = [] })
 unfolding so_many_gone gone_below
@@ -305,6 +325,9 @@ tokens_of_none = refl
 versions_behind : versions_listed_in 1 acme prod two ≡ record { items = record { created = 1_700_000_000; lineage = codes "a1"; number = 2; serial = 2; size = 12 } ∷ []; more = false }
 versions_behind = refl
 
+versions_restored : versions_listed_in 0 acme prod restored ≡ versions_listed_in 0 acme prod two
+versions_restored = refl
+
 runs_behind : runs_listed_in 1 acme prod two ≡ record { items = []; more = false }
 runs_behind = refl
 
@@ -421,7 +444,139 @@ one_is_sound = record {
   workspaces = one_workspaces;
 }
 
+-- ---- two versions, whose rows stand in the order of their numbers or in another
+
+abbrev first_row : VersionRow
+first_row = record { org = acme; ws = prod; it = record { number = 1; serial = 1; lineage = codes "a1"; created = 1_700_000_000; size = 12 } }
+
+abbrev second_row : VersionRow
+second_row = record { org = acme; ws = prod; it = record { number = 2; serial = 2; lineage = codes "a1"; created = 1_700_000_000; size = 12 } }
+
+abbrev of_rows : List (Kept VersionRow) → Tables
+of_rows rows = record one {
+  wss = (pos 1, record { org = acme; name = prod; it = record { runs = record { auto_apply = false }; holder = Lock x1 text; released = None; next_version = 3; next_run = 2 } }) ∷ [];
+  versions = rows;
+  pages = (pos 1, record { key = codes "{"; twin = 0; bytes = s1; uses = 2 }) ∷ [];
+  vpages = (pos 1, record { org = acme; ws = prod; number = 1; place = 0; key = codes "{"; twin = 0 }) ∷ (pos 2, record { org = acme; ws = prod; number = 2; place = 0; key = codes "{"; twin = 0 }) ∷ [];
+}
+
+abbrev of_both : Workspace
+of_both = record of_acme { versions = version 1 s1 ∷ version 2 s1 ∷ [] }
+
+of_both_is_lawful : IsNamedWorkspace prod of_both
+of_both_is_lawful = record {
+  named = refl;
+  lawful = record {
+    versions = record {
+      keep = (omega arith, omega arith);
+      next = (omega arith, omega arith);
+      rise = (omega arith, omega arith, (omega arith, omega arith, tt));
+      each = (record { serial = omega arith; lineage = omega arith; created = omega arith }, (record { serial = omega arith; lineage = omega arith; created = omega arith }, tt));
+      kept = omega arith;
+    };
+    runs = of_one_is_lawful.lawful.runs;
+    released = tt;
+  };
+}
+
+module _ (rows : List (Kept VersionRow)) where
+  abbrev organization_if : Bool → List ℕ → Option Organization
+  organization_if b org = option_map (organization_at (of_rows rows) org) (option_map (λ (x : Kept OrgRow). x.1.cap) (cond b (Some (pos 1, record { name = acme; cap = 10 })) None))
+
+  abbrev own_if : Bool → List ℕ → List ℕ → Option Workspace
+  own_if b org name = option_map (workspace_at (of_rows rows) org name) (option_map (λ (x : Kept WsRow). x.1.it) (find (λ (x : Kept WsRow). b) (of_rows rows).wss))
+
+  abbrev of_org : Organization
+  of_org = organization_at (of_rows rows) acme 10
+
+  both_counts : (org : List ℕ) (o : Organization) → record_of (of_rows rows) org ≡ Some o → count_of o ≤ MAX_LIMIT
+  both_counts org o is = go (bytes_eq acme org) refl
+    where
+      go : (b : Bool) → bytes_eq acme org ≡ b → count_of o ≤ MAX_LIMIT
+      go true e =
+          let told : Some of_org ≡ Some o = subst (λ (n : List ℕ). record_of (of_rows rows) n ≡ Some o) (sym (same_text acme org e)) is in
+          let counted : count_of of_org ≡ 1 = sym (len-entries of_org.workspaces) ∙ entries_counted acme (λ (x : Kept WsRow). workspace_at (of_rows rows) acme x.1.name x.1.it) (of_rows rows).wss (tt, tt) in
+          subst (λ (x : Organization). count_of x ≤ MAX_LIMIT) (some_same told) (omega (arith, counted))
+      go false e = let none : None ≡ Some o = subst (λ (b : Bool). organization_if b org ≡ Some o) e is in absurd (cc)
+
+  both_workspaces : workspace_by (of_rows rows) acme prod ≡ Some of_both → (org name : List ℕ) (w : Workspace) → workspace_by (of_rows rows) org name ≡ Some w → IsNamedWorkspace name w
+  both_workspaces denoted org name w is = go (bytes_eq acme org && bytes_eq prod name) refl
+    where
+      go : (b : Bool) → (bytes_eq acme org && bytes_eq prod name) ≡ b → IsNamedWorkspace name w
+      go true e =
+          let parts = and_parts (bytes_eq acme org) (bytes_eq prod name) e in
+          let there : workspace_by (of_rows rows) org prod ≡ Some w = subst (λ (n : List ℕ). workspace_by (of_rows rows) org n ≡ Some w) (sym (same_text prod name parts.1)) is in
+          let told : Some of_both ≡ Some w = sym denoted ∙ subst (λ (o : List ℕ). workspace_by (of_rows rows) o prod ≡ Some w) (sym (same_text acme org parts.0)) there in
+          subst (λ (n : List ℕ). IsNamedWorkspace n w) (same_text prod name parts.1) (subst (IsNamedWorkspace prod) (some_same told) of_both_is_lawful)
+      go false e = let none : None ≡ Some w = subst (λ (b : Bool). own_if b org name ≡ Some w) e is in absurd (cc)
+
+  both_uses : (b : Bool) → unwrap_or (option_map (λ (x : Kept PageRow). x.1.uses) (find (λ (x : Kept PageRow). b) (of_rows rows).pages)) 0 ≡ length (filter (λ (x : Kept VpageRow). b) (of_rows rows).vpages)
+  both_uses true = refl
+  both_uses false = refl
+
+  text_of_first : HasText (of_rows rows) (pos 1, first_row)
+  text_of_first zero low = (s1, refl, refl)
+  text_of_first (suc place) low = absurd (omega (arith, low))
+
+  text_of_second : HasText (of_rows rows) (pos 1, second_row)
+  text_of_second zero low = (s1, refl, refl)
+  text_of_second (suc place) low = absurd (omega (arith, low))
+
+  both_are_sound : workspace_by (of_rows rows) acme prod ≡ Some of_both → AllByRecursion (λ (x : Kept VersionRow). list_any (is_ws x.1.org x.1.ws) (of_rows rows).wss ≡ true) rows
+      → AllByRecursion (IsPlaced (of_rows rows)) (of_rows rows).vpages → AllByRecursion (HasText (of_rows rows)) rows → IsSound (of_rows rows)
+  both_are_sound denoted owned placed texts = record {
+    told = (refl, refl);
+    orgs_apart = (tt, tt);
+    tokens_apart = (tt, tt);
+    digests_apart = (tt, tt);
+    wss_apart = (tt, tt);
+    bounds_apart = (tt, tt);
+    tokens_bound = (refl, tt);
+    keepings_apart = (tt, tt);
+    wss_kept = (refl, tt);
+    tokens_owned = (refl, tt);
+    bounds_owned = (refl, tt);
+    wss_owned = (refl, tt);
+    keepings_owned = (refl, tt);
+    versions_owned = owned;
+    runs_owned = (refl, tt);
+    org_rows = one_is_sound.org_rows;
+    token_rows = one_is_sound.token_rows;
+    bound_rows = one_is_sound.bound_rows;
+    counts = both_counts;
+    places = record {
+      pages = record { apart = (tt, tt); differ = (tt, tt); used = (omega arith, tt) };
+      counted = λ key twin. both_uses (bytes_eq (codes "{") key && 0 == twin);
+      apart = ((refl, tt), (tt, tt));
+    };
+    placed = placed;
+    texts = texts;
+    workspaces = both_workspaces denoted;
+  }
+
+abbrev in_order : Tables
+in_order = of_rows ((pos 1, first_row) ∷ (pos 2, second_row) ∷ [])
+
+abbrev in_another : Tables
+in_another = of_rows ((pos 1, second_row) ∷ (pos 2, first_row) ∷ [])
+
+in_order_is_sound : IsSound in_order
+in_order_is_sound = both_are_sound in_order.versions refl (refl, (refl, tt)) (omega arith, (omega arith, tt)) (text_of_first in_order.versions, (text_of_second in_order.versions, tt))
+
+in_another_is_sound : IsSound in_another
+in_another_is_sound = both_are_sound in_another.versions refl (refl, (refl, tt)) (omega arith, (omega arith, tt)) (text_of_second in_another.versions, (text_of_first in_another.versions, tt))
+
+in_another_the_same : record_of in_another acme ≡ record_of in_order acme
+in_another_the_same = refl
+
 -- ---- tables that aren't sound
+
+-- two versions with one number
+abbrev numbered_twice : Tables
+numbered_twice = of_rows ((pos 1, first_row) ∷ (pos 2, first_row) ∷ [])
+
+numbered_twice_is_not : IsSound numbered_twice → ⊥
+numbered_twice_is_not sound = absurd (let rise = (sound.workspaces acme prod (record of_acme { versions = version 1 s1 ∷ version 1 s1 ∷ [] }) refl).lawful.versions.rise in omega (arith, rise.2.0))
 
 -- a version without its workspace
 abbrev orphaned : Tables

@@ -1,5 +1,5 @@
 -- What the queries find is the part of the record that it stands for.
-use Rattle.std.proofs.Common.{◌≡◌, ℕ, suc, ◌+◌, ◌-◌, ◌≤◌, ◌<◌, nat_lt, Bool, true, false, not, ◌&&◌, ◌==◌, cond, List, [], ◌∷◌, map, filter, find, length, take, reverse, slice_get, min, is_some, Option, Some, None, option_map, IfSome, pos, Ordering, Less, Greater, int_cmp, is_gt, refl, sym, ap, subst, ap₂, ◌∙◌, arith}
+use Rattle.std.proofs.Common.{◌≡◌, ℕ, suc, ◌+◌, ◌-◌, ◌≤◌, ◌<◌, nat_lt, Bool, true, false, not, ◌&&◌, ◌==◌, cond, List, [], ◌∷◌, map, filter, find, length, take, reverse, slice_get, min, is_some, Option, Some, None, option_map, IfSome, pos, Ordering, Equal, Greater, int_cmp, nat_cmp, is_gt, refl, sym, ap, subst, ap₂, ◌∙◌, arith}
 use Rattle.std.specs.Str.{bytes_eq}
 use Rattle.std.specs.Option.{unwrap_or, option_or}
 use Rattle.std.specs.List.{AllByRecursion, list_any}
@@ -7,21 +7,21 @@ use Rattle.std.specs.FinMap.{from_entries, entries, get, get-from_entries, len-i
 use Rattle.std.proofs.lemmas.Bool.{eqb-true, eq-eqb, ne_eqb, ltb-true, ltb-false}
 use Rattle.std.proofs.lemmas.List.{take_all, length-map, length-reverse, get_or-reverse}
 use Rattle.std.specs.Ordering.{ordering_then}
-use Rattle.std.specs.Cmp.{nat_cmp_is}
+use Rattle.std.specs.Cmp.{IsTotalOrder, ranked, tied_itself, nat_cmp_total, int_cmp_total, on_total, then_total, back_total as turned_total}
 use Rattle.std.proofs.lemmas.Int.{ints}
 use Rattle.sqlite_trees.specs.Tree.{IsAscending}
 use Rattle.sqlite_keyed.specs.Lists.{sort_by}
-use Rattle.statements.proofs.Sorting.{AtMost, filter_both, sorted_as_is, all_sorted, turned_round}
+use Rattle.statements.proofs.Sorting.{filter_both, filter-sort_by, all_sorted, turned_round}
 use Rattle.std.proofs.lemmas.Option.{slice_get-map, slice_get_past, slice_get-get_or}
 use Rattle.machine.proofs.CutLemmas.{last_taken}
 use Rattle.sqlite_keyed.specs.Rules.{AreApart}
-use Rattle.sqlite_keyed.proofs.ListLemmas.{map-map, filter_same, all_both, all-filter, ascending-filter, ascending_weaker, ascending_from_map, slice_get-filter}
+use Rattle.sqlite_keyed.proofs.ListLemmas.{filter_same, filter_none, all_weaker, all_both, all-filter, slice_get-filter}
 use Rattle.sqlite_keyed.proofs.SliceLemmas.{find-slice, filter-slice, any_is_found}
 use Rattle.basis.specs.Runs.{is_open}
 use Rattle.basis.specs.declared.runs.RunStatus.{RunStatus}
 use Rattle.basis.specs.declared.runs.RunStatus.TheVariants.{Pending, Planning, Planned, Applying, Applied, PlannedAndFinished, Errored, Discarded, Canceled}
 use Rattle.machine.specs.Order.{name_cmp}
-use Rattle.machine.specs.Laws.{Rises, is_pending}
+use Rattle.machine.specs.Laws.{Rises, KeysDiffer, is_pending}
 use Rattle.machine.specs.Settling.{first_waiting, is_waiting}
 use Rattle.machine.specs.Workspaces.{newest, outgoing, is_numbered, run_of, has_key, is_keyed, keyed_run, holder_status, open_runs}
 use Rattle.machine.specs.Records.{count_of, workspace_in as seen_workspace}
@@ -43,7 +43,7 @@ use Rattle.statements.specs.declared.rows.Workspace.{Workspace as WorkspaceCells
 use Rattle.statements.specs.Rows.{Kept, id_of, OrgRow, WsRow, VersionRow, RunRow}
 use Rattle.statements.specs.Tables.{Tables}
 use Rattle.statements.specs.Changes.{is_org, is_version_of, is_version, is_run_of, is_run_row, is_ws, is_ws_of}
-use Rattle.statements.specs.Finds.{run_cmp, back_by_number, newest_of, size_of, number_back, first_waiting_of, status_at_number, workspace_of, workspaces_of, cap_of}
+use Rattle.statements.specs.Finds.{version_cmp, run_cmp, back_by_number, newest_of, size_of, number_back, first_waiting_of, status_at_number, workspace_of, workspaces_of, cap_of}
 use Rattle.statements.specs.Finds as finds
 use Rattle.statements.proofs.Found.{found_passes, found_holds}
 use Rattle.tables.specs.Records.{version_at, settings_of_cells, versions_at, runs_at, workspace_at, workspace_by, workspaces_at, organization_at, record_of}
@@ -51,9 +51,10 @@ use Rattle.tables.specs.Sound.{HasText, IsSound}
 use Rattle.texts.specs.Texts.{pages_for, text_of, are_pieces, IsWhole}
 use Rattle.texts.proofs.PieceLaws.{whole_size, same_is}
 use Rattle.tables.proofs.TextLists.{all_passing}
-use Rattle.tables.proofs.Ranks.{rising}
+use Rattle.tables.proofs.Sorted.{greater_is, sorted_anew, put_in_turn, found_sorted, count_sorted}
+use Rattle.tables.proofs.Ordered.{by_version, by_run, by_version_total, by_run_total, runs_total, versions_in, runs_in, versions_sorted, runs_sorted}
 use Rattle.tables.proofs.TextRows.{AreTexts, sound_texts, version_row_parts}
-use Rattle.tables.proofs.Names.{same_name, apart_name, pair_first, pair_second}
+use Rattle.tables.proofs.Names.{same_name, apart_name, names_apart, pair_first, pair_second}
 use Rattle.tables.proofs.Parts.{none_mapped}
 use Rattle.tables.proofs.Sets.{entry_found, got_workspace, workspace_there, one_of}
 use Rattle.tables.proofs.Lawful.{limit_there}
@@ -172,6 +173,63 @@ key_same : (key : List ℕ) (own : Option (List ℕ)) → finds.is_key_of key ow
 key_same key None = refl
 key_same key (Some own) = refl
 
+-- ---- what is found among what is in order
+
+greater_number : (m n : ℕ) → is_gt (nat_cmp m n) ≡ true → n < m
+greater_number m n e = ranked m n Greater (sym (greater_is (nat_cmp m n) e))
+
+back_total : IsTotalOrder back_by_number
+back_total = turned_total (then_total (on_total (λ (x : Kept VersionRow). pos x.1.it.number) int_cmp_total) (on_total id_of int_cmp_total))
+
+found_mapped : {A B : Type 0} (f : A → B) (q : B → Bool) (xs : List A) → option_map f (find (λ x. q (f x)) xs) ≡ find q (map f xs)
+found_mapped f q [] = refl
+found_mapped f q (x ∷ xs) = go (q (f x)) (found_mapped f q xs)
+  where
+    go : (b : Bool) → option_map f (find (λ y. q (f y)) xs) ≡ find q (map f xs) → option_map f (cond b (Some x) (find (λ y. q (f y)) xs)) ≡ cond b (Some (f x)) (find q (map f xs))
+    go true more = refl
+    go false more = more
+
+one_number : (n k m : ℕ) → (k == n) ≡ true → (m == n) ≡ true → nat_cmp k m ≡ Equal
+one_number n k m e f = ap₂ nat_cmp (eqb-true k n e) (eqb-true m n f) ∙ tied_itself nat_cmp_total n
+
+version_stays : (t : Tables) (org ws : List ℕ) (n : ℕ) → find (numbered n) (versions_at t org ws) ≡ find (numbered n) (versions_in t org ws)
+version_stays t org ws n = ap (find (numbered n)) (versions_sorted t org ws) ∙ found_sorted by_version by_version_total (numbered n) (λ v u. one_number n v.number u.number) (versions_in t org ws)
+
+run_stays : (t : Tables) (org ws : List ℕ) (n : ℕ) → run_of n (runs_at t org ws) ≡ run_of n (runs_in t org ws)
+run_stays t org ws n = ap (run_of n) (runs_sorted t org ws) ∙ found_sorted by_run by_run_total (is_numbered n) (λ r s. one_number n r.number s.number) (runs_in t org ws)
+
+other_keyed : (key : List ℕ) (k : Option (List ℕ)) (rs : List Run) → has_key key k ≡ true → IfSome k (λ own. AllByRecursion (λ (s : Run). IfSome s.key (λ other. bytes_eq own other ≡ false)) rs) → AllByRecursion (λ s. is_keyed key s ≡ false) rs
+other_keyed key None rs e differ = absurd (let none : ⊥ = cc in none)
+other_keyed key (Some own) rs e differ = all_weaker (λ (s : Run). IfSome s.key (λ other. bytes_eq own other ≡ false)) (λ s. is_keyed key s ≡ false) (λ s. apart s.key) rs differ
+  where
+    apart : (k : Option (List ℕ)) → IfSome k (λ other. bytes_eq own other ≡ false) → has_key key k ≡ false
+    apart None h = refl
+    apart (Some other) h = apart_name other key (λ same. names_apart own other h (same_name own key e ∙ sym same))
+
+one_keyed : (key : List ℕ) (rs : List Run) → KeysDiffer rs → length (filter (is_keyed key) rs) ≤ 1
+one_keyed key [] differ = omega arith
+one_keyed key (r ∷ rs) differ = go (is_keyed key r) refl (one_keyed key rs differ.1)
+  where
+    go : (b : Bool) → is_keyed key r ≡ b → length (filter (is_keyed key) rs) ≤ 1 → length (cond b (r ∷ filter (is_keyed key) rs) (filter (is_keyed key) rs)) ≤ 1
+    go false e few = few
+    go true e few = let none : length (filter (is_keyed key) rs) ≡ 0 = ap length (filter_none (is_keyed key) rs (other_keyed key r.key rs e differ.0)) in omega (arith, none)
+
+-- no two runs have one key, so the order of runs doesn't tell which is found
+keyed_stays : (t : Tables) (org ws key : List ℕ) → KeysDiffer (runs_at t org ws) → find (is_keyed key) (runs_at t org ws) ≡ find (is_keyed key) (runs_in t org ws)
+keyed_stays t org ws key differ =
+    ap (find (is_keyed key)) (runs_sorted t org ws)
+    ∙ sym (slice_get-filter (is_keyed key) (sort_by by_run (runs_in t org ws)))
+    ∙ ap (λ l. slice_get l 0) (filter-sort_by by_run by_run_total (is_keyed key) (runs_in t org ws) ∙ as_is (filter (is_keyed key) (runs_in t org ws)) few)
+    ∙ slice_get-filter (is_keyed key) (runs_in t org ws)
+  where
+    few : length (filter (is_keyed key) (runs_in t org ws)) ≤ 1
+    few = subst (λ m. m ≤ 1) (count_sorted by_run by_run_total (is_keyed key) (runs_in t org ws)) (one_keyed key (sort_by by_run (runs_in t org ws)) (subst KeysDiffer (runs_sorted t org ws) differ))
+
+    as_is : (rs : List Run) → length rs ≤ 1 → sort_by by_run rs ≡ rs
+    as_is [] h = refl
+    as_is (r ∷ []) h = refl
+    as_is (r ∷ s ∷ rs) h = absurd (omega (arith, h))
+
 -- ---- what each query finds
 
 module _ (t : Tables) (org ws : List ℕ) where
@@ -180,7 +238,7 @@ module _ (t : Tables) (org ws : List ℕ) where
       by_row (find (is_version org ws n) t.versions) refl
       ∙ ap (λ (o : Option (Kept VersionRow)). option_map (λ (v : Version). v.text) (option_map (λ (x : Kept VersionRow). version_at t org ws x.1.it) o))
       (find_same (is_version org ws n) (λ x. is_version_of org ws x && numbered n (version_at t org ws x.1.it)) (λ x. three (bytes_eq x.1.org org) (bytes_eq x.1.ws ws) (x.1.it.number == n)) t.versions)
-      ∙ ap (option_map (λ (v : Version). v.text)) (find-slice (is_version_of org ws) (λ (x : Kept VersionRow). version_at t org ws x.1.it) (numbered n) t.versions)
+      ∙ ap (option_map (λ (v : Version). v.text)) (find-slice (is_version_of org ws) (λ (x : Kept VersionRow). version_at t org ws x.1.it) (numbered n) t.versions ∙ sym (version_stays t org ws n))
     where
       by_row : (r : Option (Kept VersionRow)) → find (is_version org ws n) t.versions ≡ r
           → option_map (λ (size : ℕ). text_of org ws n size t) (option_map (λ (x : Kept VersionRow). x.1.it.size) r) ≡ option_map (λ (v : Version). v.text) (option_map (λ (x : Kept VersionRow). version_at t org ws x.1.it) r)
@@ -190,52 +248,47 @@ module _ (t : Tables) (org ws : List ℕ) where
   abbrev waits : Kept RunRow → Bool
   waits x = is_waiting x.1.it
 
-  abbrev waiting : List (Kept RunRow)
-  waiting = filter waits (filter (is_run_of org ws) t.runs)
+  abbrev run_rows : List (Kept RunRow)
+  run_rows = sort_by run_cmp (filter (is_run_of org ws) t.runs)
 
-  waiting_rows : filter (finds.is_waiting_of org ws) t.runs ≡ waiting
+  waiting_rows : filter (finds.is_waiting_of org ws) t.runs ≡ filter waits (filter (is_run_of org ws) t.runs)
   waiting_rows =
       filter_same (finds.is_waiting_of org ws) (λ x. is_run_of org ws x && waits x)
       (λ x. three (bytes_eq x.1.org org) (bytes_eq x.1.ws ws) (finds.is_pending_of x.1.it.status && not x.1.it.plan_only)
       ∙ ap (λ (b : Bool). (bytes_eq x.1.org org && bytes_eq x.1.ws ws) && (b && not x.1.it.plan_only)) (pending_same x.1.it.status)) t.runs
       ∙ filter_both (is_run_of org ws) waits t.runs
 
-  waiting_up : (next : ℕ) → Rises 0 (map (λ (r : Run). r.number) (runs_at t org ws)) next → IsAscending (AtMost run_cmp) waiting
-  waiting_up next rise =
-      ascending-filter (AtMost run_cmp) waits (filter (is_run_of org ws) t.runs) (ascending_weaker (λ x y. x.1.it.number < y.1.it.number) (AtMost run_cmp) (λ x y low. ap is_gt (sym (nat_cmp_is x.1.it.number y.1.it.number Less low))) (filter (is_run_of org ws) t.runs)
-      (ascending_from_map (λ m n. m < n) (λ (x : Kept RunRow). x.1.it.number) (filter (is_run_of org ws) t.runs) (subst (IsAscending (λ m n. m < n)) (map-map (λ (r : Run). r.number) (λ (x : Kept RunRow). x.1.it) (filter (is_run_of org ws) t.runs)) (rising 0 next (map (λ (r : Run). r.number) (runs_at t org ws)) rise))))
-
-  -- where numbers rise with the rows, the least number of a waiting run is that of the first
-  pub first_waiting_found : (next : ℕ) → Rises 0 (map (λ (r : Run). r.number) (runs_at t org ws)) next → first_waiting_of org ws t ≡ first_waiting (runs_at t org ws)
-  first_waiting_found next rise =
-      ap (λ (l : List (Kept RunRow)). option_map (λ (x : Kept RunRow). x.1.it.number) (slice_get l 0)) (ap (sort_by run_cmp) waiting_rows ∙ sorted_as_is run_cmp waiting (waiting_up next rise) ∙ sym (filter_both (is_run_of org ws) waits t.runs))
-      ∙ ap (option_map (λ (x : Kept RunRow). x.1.it.number)) (slice_get-filter (λ x. is_run_of org ws x && waits x) t.runs)
-      ∙ mapped (λ (x : Kept RunRow). x.1.it) (λ (r : Run). r.number) (find (λ x. is_run_of org ws x && waits x) t.runs)
-      ∙ ap (option_map (λ (r : Run). r.number)) (find-slice (is_run_of org ws) (λ (x : Kept RunRow). x.1.it) is_waiting t.runs)
+  pub first_waiting_found : first_waiting_of org ws t ≡ first_waiting (runs_at t org ws)
+  first_waiting_found =
+      ap (λ (l : List (Kept RunRow)). option_map (λ (x : Kept RunRow). x.1.it.number) (slice_get l 0)) (ap (sort_by run_cmp) waiting_rows ∙ sym (filter-sort_by run_cmp runs_total waits (filter (is_run_of org ws) t.runs)))
+      ∙ ap (option_map (λ (x : Kept RunRow). x.1.it.number)) (slice_get-filter waits run_rows)
+      ∙ mapped (λ (x : Kept RunRow). x.1.it) (λ (r : Run). r.number) (find waits run_rows)
+      ∙ ap (option_map (λ (r : Run). r.number)) (found_mapped (λ (x : Kept RunRow). x.1.it) is_waiting run_rows)
 
   pub status_found : (n : ℕ) → status_at_number org ws n t ≡ option_map (λ (r : Run). r.status) (run_of n (runs_at t org ws))
   status_found n =
       ap (option_map (λ (x : Kept RunRow). x.1.it.status)) (find_same (is_run_row org ws n) (λ x. is_run_of org ws x && x.1.it.number == n) (λ x. three (bytes_eq x.1.org org) (bytes_eq x.1.ws ws) (x.1.it.number == n)) t.runs)
       ∙ mapped (λ (x : Kept RunRow). x.1.it) (λ (r : Run). r.status) (find (λ x. is_run_of org ws x && x.1.it.number == n) t.runs)
-      ∙ ap (option_map (λ (r : Run). r.status)) (find-slice (is_run_of org ws) (λ (x : Kept RunRow). x.1.it) (λ (r : Run). r.number == n) t.runs)
+      ∙ ap (option_map (λ (r : Run). r.status)) (find-slice (is_run_of org ws) (λ (x : Kept RunRow). x.1.it) (λ (r : Run). r.number == n) t.runs ∙ sym (run_stays t org ws n))
 
   -- the run of a row that passes a test of its own
-  run_found : (p : Kept RunRow → Bool) (q : Run → Bool) → ((x : Kept RunRow) → p x ≡ (is_run_of org ws x && q x.1.it)) → option_map (λ (x : Kept RunRow). x.1.it) (find p t.runs) ≡ find q (runs_at t org ws)
+  run_found : (p : Kept RunRow → Bool) (q : Run → Bool) → ((x : Kept RunRow) → p x ≡ (is_run_of org ws x && q x.1.it)) → option_map (λ (x : Kept RunRow). x.1.it) (find p t.runs) ≡ find q (runs_in t org ws)
   run_found p q same =
       ap (option_map (λ (x : Kept RunRow). x.1.it)) (find_same p (λ x. is_run_of org ws x && q x.1.it) same t.runs)
       ∙ find-slice (is_run_of org ws) (λ (x : Kept RunRow). x.1.it) q t.runs
 
   numbered_found : (n : ℕ) → finds.run_at_number org ws n t ≡ run_of n (runs_at t org ws)
-  numbered_found n = run_found (is_run_row org ws n) (is_numbered n) (λ x. three (bytes_eq x.1.org org) (bytes_eq x.1.ws ws) (x.1.it.number == n))
+  numbered_found n = run_found (is_run_row org ws n) (is_numbered n) (λ x. three (bytes_eq x.1.org org) (bytes_eq x.1.ws ws) (x.1.it.number == n)) ∙ sym (run_stays t org ws n)
 
-  keyed_found : (key : Option (List ℕ)) → keyed_run_in key org ws t ≡ keyed_run key (runs_at t org ws)
-  keyed_found None = refl
-  keyed_found (Some key) = run_found (finds.is_run_with_key org ws key) (is_keyed key) (λ x.
+  keyed_found : KeysDiffer (runs_at t org ws) → (key : Option (List ℕ)) → keyed_run_in key org ws t ≡ keyed_run key (runs_at t org ws)
+  keyed_found differ None = refl
+  keyed_found differ (Some key) = run_found (finds.is_run_with_key org ws key) (is_keyed key) (λ x.
       three (bytes_eq x.1.org org) (bytes_eq x.1.ws ws) (finds.is_key_of key x.1.it.key) ∙ ap (λ (b : Bool). (bytes_eq x.1.org org && bytes_eq x.1.ws ws) && b) (key_same key x.1.it.key))
+      ∙ sym (keyed_stays t org ws key differ)
 
-  pub asked_run_found : (number : Option ℕ) (key : Option (List ℕ)) → asked_run_in number key org ws t ≡ asked_run number key (runs_at t org ws)
-  asked_run_found None key = keyed_found key
-  asked_run_found (Some n) key = numbered_found n
+  pub asked_run_found : KeysDiffer (runs_at t org ws) → (number : Option ℕ) (key : Option (List ℕ)) → asked_run_in number key org ws t ≡ asked_run number key (runs_at t org ws)
+  asked_run_found differ None key = keyed_found differ key
+  asked_run_found differ (Some n) key = numbered_found n
 
   -- the count of open runs is exact, since there are no more than 100
   pub open_runs_found : open_runs (runs_at t org ws) ≤ 100 → finds.open_runs_of org ws t ≡ open_runs (runs_at t org ws)
@@ -243,7 +296,8 @@ module _ (t : Tables) (org ws : List ℕ) where
     where
       same : open_runs (runs_at t org ws) ≡ length (filter (finds.is_open_run_of org ws) t.runs)
       same =
-          ap length (sym (filter-slice (is_run_of org ws) (λ (x : Kept RunRow). x.1.it) (λ (r : Run). is_open r.status) t.runs))
+          ap open_runs (runs_sorted t org ws) ∙ count_sorted by_run by_run_total (λ (r : Run). is_open r.status) (runs_in t org ws)
+          ∙ ap length (sym (filter-slice (is_run_of org ws) (λ (x : Kept RunRow). x.1.it) (λ (r : Run). is_open r.status) t.runs))
           ∙ length-map (filter (λ (x : Kept RunRow). is_run_of org ws x && is_open x.1.it.status) t.runs) (λ (x : Kept RunRow). x.1.it)
           ∙ ap length (sym (filter_same (finds.is_open_run_of org ws) (λ (x : Kept RunRow). is_run_of org ws x && is_open x.1.it.status) (λ x. three (bytes_eq x.1.org org) (bytes_eq x.1.ws ws) (is_open x.1.it.status)) t.runs))
 
@@ -262,7 +316,7 @@ module _ (t : Tables) (org ws : List ℕ) where
         found_as (λ (x : Kept VersionRow). x.1.it.size) (find (is_version org ws n) t.versions)
         ∙ ap is_some (find_same (is_version org ws n) (λ x. is_version_of org ws x && numbered n (version_at t org ws x.1.it)) (λ x. three (bytes_eq x.1.org org) (bytes_eq x.1.ws ws) (x.1.it.number == n)) t.versions)
         ∙ sym (found_as (λ (x : Kept VersionRow). version_at t org ws x.1.it) (find (λ x. is_version_of org ws x && numbered n (version_at t org ws x.1.it)) t.versions))
-        ∙ ap is_some (find-slice (is_version_of org ws) (λ (x : Kept VersionRow). version_at t org ws x.1.it) (numbered n) t.versions)
+        ∙ ap is_some (find-slice (is_version_of org ws) (λ (x : Kept VersionRow). version_at t org ws x.1.it) (numbered n) t.versions ∙ sym (version_stays t org ws n))
         ∙ ap is_some (first_is_last 0 next n (versions_at t org ws) rise)
 
     pub has_version_found : (number : Option ℕ) → has_version_in number org ws t ≡ has_version number (versions_at t org ws)
@@ -278,7 +332,7 @@ module _ (t : Tables) (org ws : List ℕ) where
       whole x there e =
           subst (λ (p : List ℕ). IsWhole p ws x.1.it.number x.1.it.size t) (pair_first org ws x.1.org x.1.ws e) (subst (λ (q : List ℕ). IsWhole x.1.org q x.1.it.number x.1.it.size t) (pair_second org ws x.1.org x.1.ws e) there)
 
-  -- where numbers rise with the rows, the rows from the greatest number down are the rows the other way round
+  -- where numbers rise, the rows from the greatest number down are those in the order of numbers, the other way round
   above : (x y : Kept VersionRow) → x.1.it.number < y.1.it.number → back_by_number x y ≡ Greater
   above x y low = ap (λ (o : Ordering). ordering_then o (int_cmp (id_of y) (id_of x))) (let greater : int_cmp (pos y.1.it.number) (pos x.1.it.number) ≡ Greater = grind (arith, ints) in greater)
 
@@ -292,13 +346,15 @@ module _ (t : Tables) (org ws : List ℕ) where
 
   module _ (next : ℕ) (rise : Rises 0 (numbers (versions_at t org ws)) next) where
     abbrev rows : List (Kept VersionRow)
-    rows = filter (is_version_of org ws) t.versions
+    rows = sort_by version_cmp (filter (is_version_of org ws) t.versions)
 
     abbrev rows_back : List (Kept VersionRow)
-    rows_back = sort_by back_by_number rows
+    rows_back = sort_by back_by_number (filter (is_version_of org ws) t.versions)
 
     turned : rows_back ≡ reverse rows
-    turned = turned_round back_by_number rows (each_above 0 next rows rise)
+    turned =
+        sym (sorted_anew version_cmp back_by_number (λ x z e l. sym (put_in_turn back_by_number back_total z x (above z x (greater_number x.1.it.number z.1.it.number e)) l)) (filter (is_version_of org ws) t.versions))
+        ∙ turned_round back_by_number rows (each_above 0 next rows rise)
 
     -- the greatest number of those that go is found by its place from the newest
     row_behind : (staying : ℕ) → option_map (λ (x : Kept VersionRow). version_at t org ws x.1.it) (slice_get rows_back staying) ≡ newest (take (length (versions_at t org ws) - staying) (versions_at t org ws))
@@ -332,7 +388,7 @@ module _ (t : Tables) (org ws : List ℕ) where
             → option_map (newest_by text org ws t) (option_map (λ (x : Kept VersionRow). x.1.it) r) ≡ option_map (newest_unit text) (option_map (λ (x : Kept VersionRow). version_at t org ws x.1.it) r)
         by_row None e = refl
         by_row (Some x) e =
-            let whole : IsWhole org ws x.1.it.number x.1.it.size t = first_holds (λ y. IsWhole org ws y.1.it.number y.1.it.size t) rows_back x (all_sorted back_by_number (λ y. IsWhole org ws y.1.it.number y.1.it.size t) rows (own_whole a)) e in
+            let whole : IsWhole org ws x.1.it.number x.1.it.size t = first_holds (λ y. IsWhole org ws y.1.it.number y.1.it.size t) rows_back x (all_sorted back_by_number (λ y. IsWhole org ws y.1.it.number y.1.it.size t) (filter (is_version_of org ws) t.versions) (own_whole a)) e in
             ap (λ (same : Bool). Some (record { number = x.1.it.number; serial = x.1.it.serial; lineage = x.1.it.lineage; is_same = same })) (same_text x whole text)
 
     behind_found : (staying : ℕ) → number_back org ws staying t ≡ outgoing staying (versions_at t org ws)
@@ -408,9 +464,9 @@ module _ (t : Tables) (sound : IsSound t) (org : List ℕ) where
             next_run = w.next_run;
             newest = if_needed (needs act).newest (newest_unit_found t org ws w.next_version lawful.versions.rise (sound_texts t sound) (needs act).text i);
             outgoing = outgoing_found t org ws w.next_version lawful.versions.rise (needs act).outgoing (keep_in (needs act).keep_versions org ws t) i;
-            first_waiting = if_needed (needs act).waiting (first_waiting_found t org ws w.next_run lawful.runs.rise i);
+            first_waiting = if_needed (needs act).waiting (first_waiting_found t org ws i);
             has_version = has_version_found t org ws w.next_version lawful.versions.rise (needs act).version i;
-            asked_run = asked_run_found t org ws (needs act).run (needs act).key i;
+            asked_run = asked_run_found t org ws lawful.runs.keys (needs act).run (needs act).key i;
             open_runs = cond (needs act).open_runs (open_runs_found t org ws lawful.runs.open_runs i) 0;
           })
 
@@ -435,13 +491,19 @@ module _ (t : Tables) (sound : IsSound t) (org : List ℕ) where
   none_is : (ws : List ℕ) → workspace_of org ws t ≡ None → list_any (is_ws org ws) t.wss ≡ false
   none_is ws e = any_is_found (is_ws org ws) t.wss ∙ ap is_some (none_mapped (λ (x : Kept WsRow). x.1.it) (find (is_ws org ws) t.wss) e)
 
+  pub no_version_rows : (ws : List ℕ) → workspace_of org ws t ≡ None → filter (is_version_of org ws) t.versions ≡ []
+  no_version_rows ws e = no_orphans (is_version_of org ws) (λ x. is_ws x.1.org x.1.ws) t.wss
+      (λ x f. ap₂ (λ (a b : List ℕ). list_any (is_ws a b) t.wss) (pair_first org ws x.1.org x.1.ws f) (pair_second org ws x.1.org x.1.ws f) ∙ none_is ws e) t.versions sound.versions_owned
+
   pub no_versions : (ws : List ℕ) → workspace_of org ws t ≡ None → versions_at t org ws ≡ []
-  no_versions ws e = ap (map (λ (x : Kept VersionRow). version_at t org ws x.1.it)) (no_orphans (is_version_of org ws) (λ x. is_ws x.1.org x.1.ws) t.wss
-      (λ x f. ap₂ (λ (a b : List ℕ). list_any (is_ws a b) t.wss) (pair_first org ws x.1.org x.1.ws f) (pair_second org ws x.1.org x.1.ws f) ∙ none_is ws e) t.versions sound.versions_owned)
+  no_versions ws e = ap (λ (xs : List (Kept VersionRow)). map (λ (x : Kept VersionRow). version_at t org ws x.1.it) (sort_by version_cmp xs)) (no_version_rows ws e)
+
+  pub no_run_rows : (ws : List ℕ) → workspace_of org ws t ≡ None → filter (is_run_of org ws) t.runs ≡ []
+  no_run_rows ws e = no_orphans (is_run_of org ws) (λ x. is_ws x.1.org x.1.ws) t.wss
+      (λ x f. ap₂ (λ (a b : List ℕ). list_any (is_ws a b) t.wss) (pair_first org ws x.1.org x.1.ws f) (pair_second org ws x.1.org x.1.ws f) ∙ none_is ws e) t.runs sound.runs_owned
 
   pub no_runs : (ws : List ℕ) → workspace_of org ws t ≡ None → runs_at t org ws ≡ []
-  no_runs ws e = ap (map (λ (x : Kept RunRow). x.1.it)) (no_orphans (is_run_of org ws) (λ x. is_ws x.1.org x.1.ws) t.wss
-      (λ x f. ap₂ (λ (a b : List ℕ). list_any (is_ws a b) t.wss) (pair_first org ws x.1.org x.1.ws f) (pair_second org ws x.1.org x.1.ws f) ∙ none_is ws e) t.runs sound.runs_owned)
+  no_runs ws e = ap (λ (xs : List (Kept RunRow)). map (λ (x : Kept RunRow). x.1.it) (sort_by run_cmp xs)) (no_run_rows ws e)
 
   pub seen_in_rows : (ws : List ℕ) → seen_workspace (record_of t org) ws ≡ workspace_by t org ws
   seen_in_rows ws = by_limit (cap_of org t) refl

@@ -37,7 +37,7 @@ use Rattle.basis.specs.declared.rows.WsRow.{WsRow}
 use Rattle.machine.specs.Showing as showing
 use Rattle.machine.specs.Tokens.{AreOrganizations}
 use Rattle.machine.specs.declared.keeps.OrgRow.{OrgRow}
-use Rattle.statements.specs.Listings.{OrgsApart, TokensApart, WorkspacesApart, VersionsRise, RunsRise}
+use Rattle.statements.specs.Listings.{OrgsApart, TokensApart, WorkspacesApart, VersionsApart, RunsApart}
 use Rattle.tables.specs.Inner.Lists.{versions_listed_in, runs_listed_in, workspaces_listed_in, tokens_told_in, organizations_listed_in}
 use Rattle.tables.specs.Inner.Units.{text_in, unit_in}
 use Rattle.tables.specs.Stores.{records_of, IsSoundStore}
@@ -50,7 +50,7 @@ use Rattle.tables.proofs.Operators.{caller_found, org_exists, token_absent, toke
 use Rattle.tables.proofs.Limits.{limit_absent, limit_done, limit_other, limit_keeps}
 use Rattle.tables.proofs.Revoking.{revoke_absent, revoke_done, revoke_other, revoke_keeps}
 use Rattle.tables.proofs.Finding.{unit_found, text_found}
-use Rattle.tables.proofs.Listed.{workspaces_apart, versions_told, runs_told, versions_rise, runs_rise, no_versions_after, no_runs_after, workspaces_told}
+use Rattle.tables.proofs.Listed.{workspaces_apart, versions_told, runs_told, versions_apart, runs_apart, no_versions_after, no_runs_after, workspaces_told}
 use Rattle.tables.proofs.OrgLists.{organizations_told}
 use Rattle.tables.proofs.TokenLists.{tokens_told}
 use Rattle.tables.proofs.Databases.{store_by, records_by}
@@ -90,13 +90,13 @@ module _ {counted : Option Counted} (db : Database) (a : State) (s : IsSoundKeep
 
   -- ---- lists
 
-  pub versions_shown : (org ws : List ℕ) (after : ℕ) (list : Listing VersionRow) → IsTrue a.is_open × ((t : Tables) → Holds a.committed t → VersionsRise org ws t → list ≡ versions_listed_in after org ws t)
+  pub versions_shown : (org ws : List ℕ) (after : ℕ) (list : Listing VersionRow) → IsTrue a.is_open × ((t : Tables) → Holds a.committed t → VersionsApart org ws t → list ≡ versions_listed_in after org ws t)
       → list ≡ showing.versions_after after (workspace_in (records_of db org) ws)
-  versions_shown org ws after list told = told.1 now (held told.0) (versions_rise now org ws s.store.sound) ∙ versions_told now org ws s.store.sound after
+  versions_shown org ws after list told = told.1 now (held told.0) (versions_apart now org ws s.store.sound) ∙ versions_told now org ws s.store.sound after
 
-  pub runs_shown : (org ws : List ℕ) (after : ℕ) (list : Listing RunRow) → IsTrue a.is_open × ((t : Tables) → Holds a.committed t → RunsRise org ws t → list ≡ runs_listed_in after org ws t)
+  pub runs_shown : (org ws : List ℕ) (after : ℕ) (list : Listing RunRow) → IsTrue a.is_open × ((t : Tables) → Holds a.committed t → RunsApart org ws t → list ≡ runs_listed_in after org ws t)
       → list ≡ showing.runs_after after (workspace_in (records_of db org) ws)
-  runs_shown org ws after list told = told.1 now (held told.0) (runs_rise now org ws s.store.sound) ∙ runs_told now org ws s.store.sound after
+  runs_shown org ws after list told = told.1 now (held told.0) (runs_apart now org ws s.store.sound) ∙ runs_told now org ws s.store.sound after
 
   -- no version and no run comes after the greatest number
   pub no_versions_shown : (org ws : List ℕ) (after : ℕ) (list : Listing VersionRow) → 1_000_000_000 < after → list ≡ listing_of [] → list ≡ showing.versions_after after (workspace_in (records_of db org) ws)
@@ -125,8 +125,8 @@ module _ {counted : Option Counted} (db : Database) (a : State) (s : IsSoundKeep
       takes : (t : Tables) → Holds db t → TakesEdit key_of org ws change.edit t
       takes t h = took t (subst (λ (d : Database). Holds d t) (sym (s.tied done.was_open)) h)
 
-      pub applied_own : (o : Organization) → records_of db org ≡ Some o → records_of b.committed org ≡ Some (placed o ws (changed_by change (get o.workspaces ws)))
-      applied_own o there = store_changed_own db b.committed s.store key_of org ws change moves takes o there
+      pub applied_own : (o : Organization) → records_of db org ≡ Some o → IsDue (seen_in o ws) change → records_of b.committed org ≡ Some (placed o ws (changed_by change (get o.workspaces ws)))
+      applied_own o there due = store_changed_own db b.committed s.store key_of org ws change moves takes o there due
 
       pub applied_other : (q : List ℕ) → q ≢ org → records_of b.committed q ≡ records_of db q
       applied_other q apart = store_changed_other db b.committed s.store key_of org ws change moves takes q apart
@@ -134,7 +134,7 @@ module _ {counted : Option Counted} (db : Database) (a : State) (s : IsSoundKeep
       pub applied_keeps : (o : Organization) → IsTrue (is_ws_name ws) → records_of db org ≡ Some o → IsDue (seen_in o ws) change → IsSoundKeep b.committed (changed_count counted org ws change.edit) b
       applied_keeps o named there due = record {
         store = store_changed_keeps db b.committed s.store key_of org ws change moves takes o named there due;
-        counts = changed_is (records_of db) (records_of b.committed) org ws change applied_other o there (applied_own o there) counted s.counts;
+        counts = changed_is (records_of db) (records_of b.committed) org ws change applied_other o there (applied_own o there due) counted s.counts;
         tied = λ _. refl;
       }
 

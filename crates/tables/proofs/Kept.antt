@@ -1,5 +1,5 @@
 -- Sound tables stay sound.
-use Rattle.std.proofs.Common.{◌≡◌, ℕ, ◌≤◌, nat_lt, Bool, true, false, List, [], ◌∷◌, ◌++◌, find, length, is_some, Option, Some, None, IfSome, IsTrue, option_map, refl, sym, ap, subst, ◌∙◌, arith}
+use Rattle.std.proofs.Common.{◌≡◌, ℕ, ◌≤◌, Bool, true, false, List, [], ◌∷◌, ◌++◌, find, length, is_some, Option, Some, None, IfSome, IsTrue, option_map, refl, sym, ap, subst, ◌∙◌, arith}
 use Rattle.std.specs.Str.{bytes_eq}
 use Rattle.std.specs.List.{AllByRecursion, list_any}
 use Rattle.std.specs.FinMap.{get, empty, len-entries, len-empty}
@@ -13,15 +13,12 @@ use Rattle.basis.specs.declared.roles.Bounds.{Bounds}
 use Rattle.machine.specs.Ranges.{IsMoment}
 use Rattle.machine.specs.Order.{name_cmp}
 use Rattle.machine.specs.Laws.{IsLawful, IsLawfulIfThere, IsNamedWorkspace}
-use Rattle.machine.specs.Records.{seen_in, standing, count_of, placed}
+use Rattle.machine.specs.Records.{seen_in, count_of, placed}
 use Rattle.machine.specs.Changes.{changed_by, IsDue}
-use Rattle.machine.specs.Rules.{rules}
 use Rattle.machine.specs.Tokens.{new_organization}
 use Rattle.machine.specs.declared.acts.Change.{Change}
 use Rattle.machine.specs.declared.records.Workspace.{Workspace}
 use Rattle.machine.specs.declared.records.Organization.{Organization}
-use Rattle.machine.proofs.RuleLemmas.{rules_are_lawful}
-use Rattle.machine.proofs.KeepLemmas.{standing_is}
 use Rattle.statements.specs.Rows.{Kept, id_of, OrgRow, TokenRow, BoundRow}
 use Rattle.statements.specs.declared.making.TheConstants.{NEWEST}
 use Rattle.statements.specs.Tables.{Tables, no_rows}
@@ -39,6 +36,7 @@ use Rattle.tables.proofs.Telling.{told_changed}
 use Rattle.tables.proofs.Parts.{none_mapped}
 use Rattle.tables.proofs.Sets.{Puts, workspace_there, one_of, put_own, put_other}
 use Rattle.tables.proofs.Edits.{changed_puts}
+use Rattle.tables.proofs.Changes.{lawful_after}
 use Rattle.tables.proofs.Lawful.{limit_there, limit_is}
 use Rattle.tables.proofs.Counting.{count_within}
 use Rattle.tables.proofs.Owned.{AreOwned, changed_are_owned, any_pushed, last_found, pair_turned}
@@ -77,10 +75,6 @@ one_workspace a b e = cc
 if_there : (P : Workspace → Type 0) (o : Option Workspace) (w : Workspace) → IfSome o P → o ≡ Some w → P w
 if_there P None w h e = absurd (let none : ⊥ = cc in none)
 if_there P (Some v) w h e = subst P (one_workspace v w e) h
-
-there_if : (P : Workspace → Type 0) (o : Option Workspace) → ((w : Workspace) → o ≡ Some w → P w) → IfSome o P
-there_if P None h = tt
-there_if P (Some w) h = h w refl
 
 pub org_there : (t : Tables) (org : List ℕ) (cap : ℕ) → cap_of org t ≡ Some cap → list_any (is_org org) t.orgs ≡ true
 org_there t org cap e = any_is_found (is_org org) t.orgs ∙ sym (some_mapped (find (is_org org) t.orgs)) ∙ ap is_some e
@@ -129,8 +123,11 @@ changed_keeps key_of org ws t sound change takes o named there due = record {
     after : Option Workspace
     after = changed_by change (workspace_by t org ws)
 
+    lawful : IsLawfulIfThere after
+    lawful = lawful_after org ws t sound change o there due
+
     puts : Puts org ws after t u
-    puts = changed_puts key_of org ws t sound change takes
+    puts = changed_puts key_of org ws t sound change takes lawful
 
     order : AreInOrder u.orgs u.tokens u.bounds
     order = subst (λ os. AreInOrder os u.tokens u.bounds) (sym puts.orgs) (subst (λ ts. AreInOrder t.orgs ts u.bounds) (sym puts.tokens) (subst (λ bs. AreInOrder t.orgs t.tokens bs) (sym puts.bounds) (sound_in_order t sound)))
@@ -138,23 +135,13 @@ changed_keeps key_of org ws t sound change takes o named there due = record {
     owned : AreOwned u
     owned = changed_are_owned org ws key_of t sound (org_there t org o.limit (limit_there t org o there)) change takes
 
-    seen : standing (seen_in o ws) ≡ workspace_by t org ws
-    seen = standing_is (nat_lt (count_of o) o.limit) (get o.workspaces ws) ∙ workspace_there t org ws o there
-
-    ruled : after ≡ (rules due.act due.now (seen_in o ws)).left
-    ruled = ap (changed_by change) (sym seen) ∙ due.is
-
-    lawful_after : IsLawfulIfThere after
-    lawful_after = subst IsLawfulIfThere (sym ruled) (rules_are_lawful due.act due.now (seen_in o ws) due.range due.moment
-        (subst IsLawfulIfThere (sym seen) (there_if IsLawful (workspace_by t org ws) (λ w e. (sound.workspaces org ws w e).lawful))))
-
     own : (a b : List ℕ) (w : Workspace) → workspace_by u a b ≡ Some w → is_pair org ws a b ≡ true → after ≡ Some w
     own a b w e same = sym puts.own ∙ subst (λ (x : List ℕ). workspace_by u x ws ≡ Some w) (pair_first org ws a b same) (subst (λ (y : List ℕ). workspace_by u a y ≡ Some w) (pair_second org ws a b same) e)
 
     named_there : (a b : List ℕ) (w : Workspace) → workspace_by u a b ≡ Some w → (c : Bool) → is_pair org ws a b ≡ c → IsNamedWorkspace b w
     named_there a b w e true same = record {
       named = subst (λ (n : List ℕ). IsTrue (is_ws_name n)) (sym (pair_second org ws a b same)) named;
-      lawful = if_there IsLawful after w lawful_after (own a b w e same);
+      lawful = if_there IsLawful after w lawful (own a b w e same);
     }
     named_there a b w e false other = sound.workspaces a b w (sym (puts.others a b other) ∙ e)
 

@@ -30,6 +30,8 @@ pub mod Revoking
 pub mod Sets
 pub mod Stores
 pub mod Telling
+pub mod Sorted
+pub mod Ordered
 pub mod TextLists
 pub mod TextRows
 pub mod There

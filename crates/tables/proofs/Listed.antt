@@ -1,16 +1,18 @@
 -- What the lists of a workspace's versions and runs, and of an organization's workspaces, show of the record.
-use Rattle.std.proofs.Common.{map-id, ◌≡◌, ℕ, ◌+◌, ◌==◌, ◌<◌, ◌≤◌, nat_lt, Bool, true, false, cond, ◌&&◌, List, [], ◌∷◌, map, filter, find, take, Option, Some, None, option_map, IsTrue, refl, sym, ap, subst, ◌∙◌, arith}
+use Rattle.std.proofs.Common.{map-id, ◌≡◌, ℕ, ◌+◌, ◌==◌, ◌<◌, ◌≤◌, nat_lt, Bool, true, false, cond, ◌&&◌, List, [], ◌∷◌, map, filter, find, take, Option, Some, None, option_map, IsTrue, refl, sym, ap, subst, ◌∙◌, arith, Equal, nat_cmp, is_eq}
 use Rattle.std.specs.Str.{bytes_eq}
 use Rattle.std.specs.Option.{unwrap_or}
 use Rattle.std.specs.List.{AllByRecursion}
 use Rattle.std.specs.FinMap.{from_entries, entries, get, entries_sorted, get-entries, get-from_entries}
 use Rattle.std.specs.FinMap.Entries.{find as find_entry}
 use Rattle.std.proofs.lemmas.List.{take-map}
-use Rattle.std.proofs.lemmas.Bool.{ne_eqb}
+use Rattle.std.proofs.lemmas.Bool.{ne_eqb, eqb-true, eq-eqb}
+use Rattle.std.specs.Cmp.{nat_cmp_total, tied_itself, unsigned_tied}
 use Rattle.sqlite_keyed.specs.Rules.{AreApart}
-use Rattle.sqlite_keyed.proofs.ListLemmas.{all_weaker}
+use Rattle.sqlite_keyed.specs.Lists.{sort_by}
+use Rattle.sqlite_keyed.proofs.ListLemmas.{all_weaker, ascending_weaker}
+use Rattle.sqlite_keyed.proofs.SortLemmas.{sort_by-map}
 use Rattle.sqlite_keyed.proofs.SliceLemmas.{find-slice}
-use Rattle.sqlite_trees.specs.Tree.{IsAscending}
 use Rattle.basis.specs.Names.{is_ws_name, admits}
 use Rattle.basis.specs.Listings.{listing_of}
 use Rattle.machine.specs.Laws.{Rises, IsNamedWorkspace}
@@ -27,9 +29,10 @@ use Rattle.statements.specs.declared.rows.Workspace.{Workspace as WorkspaceCells
 use Rattle.statements.specs.Rows.{Kept, WsRow, VersionRow, RunRow}
 use Rattle.statements.specs.Tables.{Tables}
 use Rattle.statements.specs.Changes.{is_ws_of, is_version_of, is_version, is_run_of}
-use Rattle.statements.specs.Finds.{is_version_before, version_before, cap_of, workspace_of}
-use Rattle.statements.specs.Listings.{is_behind, workspaces_by_name, named_row as named_at, WorkspacesApart, VersionsRise, RunsRise}
+use Rattle.statements.specs.Finds.{version_cmp, run_cmp, is_version_before, version_before, cap_of, workspace_of}
+use Rattle.statements.specs.Listings.{is_behind, workspaces_by_name, named_row as named_at, WorkspacesApart, VersionsApart, RunsApart}
 use Rattle.statements.proofs.Conditions.{one_less_is}
+use Rattle.statements.proofs.Sorting.{all_sorted}
 use Rattle.tables.specs.Records.{settings_of_cells, keep_at, version_at, versions_at, runs_at, workspace_at, workspaces_at, organization_at, record_of}
 use Rattle.tables.specs.Sound.{IsSound}
 use Rattle.texts.specs.Texts.{IsWhole}
@@ -38,9 +41,11 @@ use Rattle.tables.proofs.TextRows.{AreTexts, sound_texts}
 use Rattle.tables.specs.Inner.Lists.{versions_listed_in, runs_listed_in, newest_number_in, newest_by, ws_row_in, workspaces_listed_in}
 use Rattle.tables.proofs.Sets.{entry_found}
 use Rattle.tables.proofs.Names.{pair_is}
+use Rattle.tables.proofs.Sorted.{found_sorted, rise_apart}
+use Rattle.tables.proofs.Ordered.{rise_below}
 use Rattle.tables.proofs.Operators.{no_workspaces}
-use Rattle.tables.proofs.Finding.{find_same, three, newest_number_found, own_whole, no_versions, no_runs, seen_in_rows}
-use Rattle.tables.proofs.Ranks.{last_in, rising, newest_told, none_after, first_rows_tell, shown_rows, same_names, no_entries, all_found, entries_shown}
+use Rattle.tables.proofs.Finding.{find_same, three, newest_number_found, own_whole, no_version_rows, no_versions, no_run_rows, no_runs, seen_in_rows}
+use Rattle.tables.proofs.Ranks.{last_in, newest_told, none_after, first_rows_tell, shown_rows, same_names, no_entries, all_found, entries_shown}
 
 -- the list of the first rows is the list of all
 listed_all : {A B : Type 0} (f : A → B) (xs : List A) → listing_of (map f (take 51 xs)) ≡ listing_of (map f xs)
@@ -51,24 +56,25 @@ listed_all f xs = ap listing_of (sym (take-map f 51 xs)) ∙ first_rows_tell (ma
 abbrev version_numbers : List Version → List ℕ
 version_numbers vs = map (λ (v : Version). v.number) vs
 
-abbrev run_numbers : List Run → List ℕ
-run_numbers rs = map (λ (r : Run). r.number) rs
+-- numbers that rise in their order are apart
+numbers_apart : {X : Type 0} (num : X → ℕ) (next : ℕ) (xs : List X) → Rises 0 (map num (sort_by (λ x y. nat_cmp (num x) (num y)) xs)) next → AreApart (λ x y. num x == num y) xs
+numbers_apart {X} num next xs rise =
+    let order = λ (x y : X). nat_cmp (num x) (num y) in
+    ascending_weaker (λ x y. is_eq (order x y) ≡ false) (λ x y. (num x == num y) ≡ false) (λ x y e. sym (unsigned_tied (num x) (num y)) ∙ e) xs
+    (rise_apart order xs (rise_below num next (sort_by order xs) rise))
 
 module _ (t : Tables) (org ws : List ℕ) where
-  mine : List (Kept VersionRow)
-  mine = filter (is_version_of org ws) t.versions
-
-  own_runs : List (Kept RunRow)
-  own_runs = filter (is_run_of org ws) t.runs
+  abbrev rows : List (Kept VersionRow)
+  rows = sort_by version_cmp (filter (is_version_of org ws) t.versions)
 
   versions_rows : AreTexts t → (after : ℕ) → versions_listed_in after org ws t ≡ showing.versions_listed after (versions_at t org ws)
   versions_rows a after =
       first_rows_tell heads
       ∙ ap listing_of (sym (map-id heads) ∙ shown_rows (λ (x : Kept VersionRow). x.1.it) (λ v. v) (λ (x : Kept VersionRow). version_at t org ws x.1.it) showing.version_row (λ v. nat_lt after v.number) (λ (v : Version). nat_lt after v.number)
-      (filter (is_version_of org ws) t.versions) (all_weaker (λ x. IsWhole org ws x.1.it.number x.1.it.size t) _ (λ x whole. (shown x whole, refl)) (filter (is_version_of org ws) t.versions) (own_whole t org ws a)))
+      rows (all_weaker (λ x. IsWhole org ws x.1.it.number x.1.it.size t) _ (λ x whole. (shown x whole, refl)) rows (all_sorted version_cmp (λ x. IsWhole org ws x.1.it.number x.1.it.size t) (filter (is_version_of org ws) t.versions) (own_whole t org ws a))))
     where
       heads : List Head
-      heads = filter (λ v. nat_lt after v.number) (map (λ (x : Kept VersionRow). x.1.it) (filter (is_version_of org ws) t.versions))
+      heads = filter (λ v. nat_lt after v.number) (map (λ (x : Kept VersionRow). x.1.it) rows)
 
       shown : (x : Kept VersionRow) → IsWhole org ws x.1.it.number x.1.it.size t → x.1.it ≡ showing.version_row (version_at t org ws x.1.it)
       shown x whole = ap (λ (size : ℕ). record { created = x.1.it.created; lineage = x.1.it.lineage; number = x.1.it.number; serial = x.1.it.serial; size = size }) (sym (whole_size org ws x.1.it.number t x.1.it.size whole))
@@ -78,11 +84,20 @@ module _ (t : Tables) (org ws : List ℕ) where
 
   -- where numbers rise, the newest version is that of the number before the next one, if there is such a version
   module _ (next : ℕ) (most : next ≤ 1_000_000_001) (rise : Rises 0 (version_numbers (versions_at t org ws)) next) where
-    before_found : version_before org ws next t ≡ find (λ (n : ℕ). n + 1 == next) (map (λ (x : Kept VersionRow). x.1.it.number) (filter (is_version_of org ws) t.versions))
+    before_found : version_before org ws next t ≡ find (λ (n : ℕ). n + 1 == next) (map (λ (x : Kept VersionRow). x.1.it.number) rows)
     before_found =
         ap (option_map (λ (x : Kept VersionRow). x.1.it.number)) (find_same (is_version_before org ws next) (λ x. is_version_of org ws x && (x.1.it.number + 1 == next))
         (λ x. ap (λ (b : Bool). bytes_eq x.1.org org && (bytes_eq x.1.ws ws && b)) (one_less_is x.1.it.number next most) ∙ three (bytes_eq x.1.org org) (bytes_eq x.1.ws ws) (x.1.it.number + 1 == next)) t.versions)
         ∙ find-slice (is_version_of org ws) (λ (x : Kept VersionRow). x.1.it.number) (λ (n : ℕ). n + 1 == next) t.versions
+        ∙ sym (found_sorted nat_cmp nat_cmp_total (λ (n : ℕ). n + 1 == next) one_before (map (λ (x : Kept VersionRow). x.1.it.number) (filter (is_version_of org ws) t.versions)))
+        ∙ ap (find (λ (n : ℕ). n + 1 == next)) (sort_by-map nat_cmp (λ (x : Kept VersionRow). x.1.it.number) (filter (is_version_of org ws) t.versions))
+      where
+        one_before : (m n : ℕ) → (m + 1 == next) ≡ true → (n + 1 == next) ≡ true → nat_cmp m n ≡ Equal
+        one_before m n e f =
+            let before : m + 1 ≡ next = eqb-true (m + 1) next e in
+            let also : n + 1 ≡ next = eqb-true (n + 1) next f in
+            let same : m ≡ n = omega (arith, before, also) in
+            ap (λ k. nat_cmp k n) same ∙ tied_itself nat_cmp_total n
 
     last_shown : (xs : List (Kept VersionRow)) → option_map (λ (v : Version). v.number) (newest (map (λ (x : Kept VersionRow). version_at t org ws x.1.it) xs)) ≡ last_in (map (λ (x : Kept VersionRow). x.1.it.number) xs)
     last_shown [] = refl
@@ -91,9 +106,9 @@ module _ (t : Tables) (org ws : List ℕ) where
 
     pub newest_is_shown : newest_by (version_before org ws next t) next (newest_number_in org ws t) ≡ newest_number_in org ws t
     newest_is_shown =
-        let last = newest_number_found t org ws next rise ∙ last_shown (filter (is_version_of org ws) t.versions) in
-        let rising = subst (λ (ns : List ℕ). Rises 0 ns next) (same_names (λ (x : Kept VersionRow). version_at t org ws x.1.it) (λ (v : Version). v.number) (λ (x : Kept VersionRow). x.1.it.number) (λ x. refl) (filter (is_version_of org ws) t.versions)) rise in
-        (λ i. newest_by (before_found i) next (last i)) ∙ newest_told next (map (λ (x : Kept VersionRow). x.1.it.number) (filter (is_version_of org ws) t.versions)) rising ∙ sym last
+        let last = newest_number_found t org ws next rise ∙ last_shown rows in
+        let rising = subst (λ (ns : List ℕ). Rises 0 ns next) (same_names (λ (x : Kept VersionRow). version_at t org ws x.1.it) (λ (v : Version). v.number) (λ (x : Kept VersionRow). x.1.it.number) (λ x. refl) rows) rise in
+        (λ i. newest_by (before_found i) next (last i)) ∙ newest_told next (map (λ (x : Kept VersionRow). x.1.it.number) rows) rising ∙ sym last
 
   module _ (sound : IsSound t) where
     versions_row : (after : ℕ) (r : Option WorkspaceCells) → workspace_of org ws t ≡ r → showing.versions_listed after (versions_at t org ws) ≡ showing.versions_after after (option_map (workspace_at t org ws) r)
@@ -112,20 +127,26 @@ module _ (t : Tables) (org ws : List ℕ) where
     pub runs_told : (after : ℕ) → runs_listed_in after org ws t ≡ showing.runs_after after (seen_workspace (record_of t org) ws)
     runs_told after = runs_rows after ∙ runs_row after (workspace_of org ws t) refl ∙ ap (showing.runs_after after) (sym (seen_in_rows t sound org ws))
 
-    -- their numbers rise in the order of their rows
-    pub versions_rise : VersionsRise org ws t
-    versions_rise = subst (IsAscending (λ (m n : ℕ). m < n)) (same_names (λ (x : Kept VersionRow). version_at t org ws x.1.it) (λ (v : Version). v.number) (λ (x : Kept VersionRow). x.1.it.number) (λ x. refl) (filter (is_version_of org ws) t.versions)) (by_row (workspace_of org ws t) refl)
+    -- no two have one number
+    pub versions_apart : VersionsApart org ws t
+    versions_apart = by_row (workspace_of org ws t) refl
       where
-        by_row : (r : Option WorkspaceCells) → workspace_of org ws t ≡ r → IsAscending (λ (m n : ℕ). m < n) (version_numbers (versions_at t org ws))
-        by_row None e = subst (λ (vs : List Version). IsAscending (λ (m n : ℕ). m < n) (version_numbers vs)) (sym (no_versions t sound org ws e)) tt
-        by_row (Some w) e = rising 0 w.next_version (version_numbers (versions_at t org ws)) (sound.workspaces org ws (workspace_at t org ws w) (ap (option_map (workspace_at t org ws)) e)).lawful.versions.rise
+        by_row : (r : Option WorkspaceCells) → workspace_of org ws t ≡ r → VersionsApart org ws t
+        by_row None e = subst (λ xs. AreApart (λ (a b : Kept VersionRow). a.1.it.number == b.1.it.number) xs) (sym (no_version_rows t sound org ws e)) tt
+        by_row (Some w) e =
+            numbers_apart (λ (x : Kept VersionRow). x.1.it.number) w.next_version (filter (is_version_of org ws) t.versions)
+            (subst (λ (ns : List ℕ). Rises 0 ns w.next_version) (same_names (λ (x : Kept VersionRow). version_at t org ws x.1.it) (λ (v : Version). v.number) (λ (x : Kept VersionRow). x.1.it.number) (λ x. refl) rows)
+            (sound.workspaces org ws (workspace_at t org ws w) (ap (option_map (workspace_at t org ws)) e)).lawful.versions.rise)
 
-    pub runs_rise : RunsRise org ws t
-    runs_rise = subst (IsAscending (λ (m n : ℕ). m < n)) (same_names (λ (x : Kept RunRow). x.1.it) (λ (r : Run). r.number) (λ (x : Kept RunRow). x.1.it.number) (λ x. refl) (filter (is_run_of org ws) t.runs)) (by_row (workspace_of org ws t) refl)
+    pub runs_apart : RunsApart org ws t
+    runs_apart = by_row (workspace_of org ws t) refl
       where
-        by_row : (r : Option WorkspaceCells) → workspace_of org ws t ≡ r → IsAscending (λ (m n : ℕ). m < n) (run_numbers (runs_at t org ws))
-        by_row None e = subst (λ (rs : List Run). IsAscending (λ (m n : ℕ). m < n) (run_numbers rs)) (sym (no_runs t sound org ws e)) tt
-        by_row (Some w) e = rising 0 w.next_run (run_numbers (runs_at t org ws)) (sound.workspaces org ws (workspace_at t org ws w) (ap (option_map (workspace_at t org ws)) e)).lawful.runs.rise
+        by_row : (r : Option WorkspaceCells) → workspace_of org ws t ≡ r → RunsApart org ws t
+        by_row None e = subst (λ xs. AreApart (λ (a b : Kept RunRow). a.1.it.number == b.1.it.number) xs) (sym (no_run_rows t sound org ws e)) tt
+        by_row (Some w) e =
+            numbers_apart (λ (x : Kept RunRow). x.1.it.number) w.next_run (filter (is_run_of org ws) t.runs)
+            (subst (λ (ns : List ℕ). Rises 0 ns w.next_run) (same_names (λ (x : Kept RunRow). x.1.it) (λ (r : Run). r.number) (λ (x : Kept RunRow). x.1.it.number) (λ x. refl) (sort_by run_cmp (filter (is_run_of org ws) t.runs)))
+            (sound.workspaces org ws (workspace_at t org ws w) (ap (option_map (workspace_at t org ws)) e)).lawful.runs.rise)
 
     -- none comes after the greatest number
     pub no_versions_after : (after : ℕ) → 1_000_000_000 < after → listing_of [] ≡ showing.versions_after after (seen_workspace (record_of t org) ws)
@@ -150,44 +171,44 @@ module _ (t : Tables) (org ws : List ℕ) where
 
 -- ---- workspaces
 
-abbrev row_numbers : List (Kept VersionRow) → List ℕ
-row_numbers = map (λ (x : Kept VersionRow). x.1.it.number)
-
 none_of : (a b : Bool) → (a && (b && false)) ≡ false
 none_of true true = refl
 none_of true false = refl
 none_of false b = refl
 
--- no row behind one has its number, where those of its workspace have greater ones
-numbered_apart : (x : Kept VersionRow) (ys : List (Kept VersionRow)) → AllByRecursion (λ (m : ℕ). x.1.it.number < m) (row_numbers (filter (is_version_of x.1.org x.1.ws) ys))
+-- no row behind one is of its version, where none of its workspace has its number
+numbered_apart : (x : Kept VersionRow) (ys : List (Kept VersionRow)) → AllByRecursion (λ y. (x.1.it.number == y.1.it.number) ≡ false) (filter (is_version_of x.1.org x.1.ws) ys)
     → AllByRecursion (λ y. is_version x.1.org x.1.ws x.1.it.number y ≡ false) ys
 numbered_apart x [] all = tt
 numbered_apart x (y ∷ ys) all = go (is_version_of x.1.org x.1.ws y) refl (numbered_apart x ys) all
   where
-    go : (b : Bool) → is_version_of x.1.org x.1.ws y ≡ b
-        → (AllByRecursion (λ (m : ℕ). x.1.it.number < m) (row_numbers (filter (is_version_of x.1.org x.1.ws) ys)) → AllByRecursion (λ z. is_version x.1.org x.1.ws x.1.it.number z ≡ false) ys)
-        → AllByRecursion (λ (m : ℕ). x.1.it.number < m) (row_numbers (cond b (y ∷ filter (is_version_of x.1.org x.1.ws) ys) (filter (is_version_of x.1.org x.1.ws) ys)))
-        → (is_version x.1.org x.1.ws x.1.it.number y ≡ false) × AllByRecursion (λ z. is_version x.1.org x.1.ws x.1.it.number z ≡ false) ys
-    go true e later above = (
-      ap (λ (c : Bool). bytes_eq y.1.org x.1.org && (bytes_eq y.1.ws x.1.ws && c)) (ne_eqb y.1.it.number x.1.it.number (λ same. omega (arith, above.0, same))) ∙ none_of (bytes_eq y.1.org x.1.org) (bytes_eq y.1.ws x.1.ws),
-      later above.1,
-    )
-    go false e later above = (three (bytes_eq y.1.org x.1.org) (bytes_eq y.1.ws x.1.ws) (y.1.it.number == x.1.it.number) ∙ ap (λ (c : Bool). c && y.1.it.number == x.1.it.number) e, later above)
+    turned : (m n : ℕ) → (m == n) ≡ false → (n == m) ≡ false
+    turned m n e = ne_eqb n m (λ same. let none : ⊥ = cc (sym (eq-eqb m n (sym same)) ∙ e) in none)
 
--- rows of versions are apart where in each workspace their numbers rise
-rises_apart : (xs : List (Kept VersionRow)) → ((org ws : List ℕ) → IsAscending (λ (m n : ℕ). m < n) (row_numbers (filter (is_version_of org ws) xs))) → AreApart (λ a b. is_version a.1.org a.1.ws a.1.it.number b) xs
-rises_apart [] up = tt
-rises_apart (x ∷ xs) up = (numbered_apart x xs own.0, rises_apart xs (λ org ws. later (is_version_of org ws x) (filter (is_version_of org ws) xs) (up org ws)))
+    go : (b : Bool) → is_version_of x.1.org x.1.ws y ≡ b
+        → (AllByRecursion (λ z. (x.1.it.number == z.1.it.number) ≡ false) (filter (is_version_of x.1.org x.1.ws) ys) → AllByRecursion (λ z. is_version x.1.org x.1.ws x.1.it.number z ≡ false) ys)
+        → AllByRecursion (λ z. (x.1.it.number == z.1.it.number) ≡ false) (cond b (y ∷ filter (is_version_of x.1.org x.1.ws) ys) (filter (is_version_of x.1.org x.1.ws) ys))
+        → (is_version x.1.org x.1.ws x.1.it.number y ≡ false) × AllByRecursion (λ z. is_version x.1.org x.1.ws x.1.it.number z ≡ false) ys
+    go true e later apart = (
+      ap (λ (c : Bool). bytes_eq y.1.org x.1.org && (bytes_eq y.1.ws x.1.ws && c)) (turned x.1.it.number y.1.it.number apart.0) ∙ none_of (bytes_eq y.1.org x.1.org) (bytes_eq y.1.ws x.1.ws),
+      later apart.1,
+    )
+    go false e later apart = (three (bytes_eq y.1.org x.1.org) (bytes_eq y.1.ws x.1.ws) (y.1.it.number == x.1.it.number) ∙ ap (λ (c : Bool). c && y.1.it.number == x.1.it.number) e, later apart)
+
+-- rows of versions are apart where in each workspace their numbers are
+rows_apart : (xs : List (Kept VersionRow)) → ((org ws : List ℕ) → AreApart (λ (a b : Kept VersionRow). a.1.it.number == b.1.it.number) (filter (is_version_of org ws) xs)) → AreApart (λ a b. is_version a.1.org a.1.ws a.1.it.number b) xs
+rows_apart [] apart = tt
+rows_apart (x ∷ xs) apart = (numbered_apart x xs own.0, rows_apart xs (λ org ws. later (is_version_of org ws x) (filter (is_version_of org ws) xs) (apart org ws)))
   where
-    later : (b : Bool) (ys : List (Kept VersionRow)) → IsAscending (λ (m n : ℕ). m < n) (row_numbers (cond b (x ∷ ys) ys)) → IsAscending (λ (m n : ℕ). m < n) (row_numbers ys)
+    later : (b : Bool) (ys : List (Kept VersionRow)) → AreApart (λ (a c : Kept VersionRow). a.1.it.number == c.1.it.number) (cond b (x ∷ ys) ys) → AreApart (λ (a c : Kept VersionRow). a.1.it.number == c.1.it.number) ys
     later true ys h = h.1
     later false ys h = h
 
-    own : IsAscending (λ (m n : ℕ). m < n) (row_numbers (x ∷ filter (is_version_of x.1.org x.1.ws) xs))
-    own = subst (λ (b : Bool). IsAscending (λ (m n : ℕ). m < n) (row_numbers (cond b (x ∷ filter (is_version_of x.1.org x.1.ws) xs) (filter (is_version_of x.1.org x.1.ws) xs)))) (pair_is x.1.org x.1.ws) (up x.1.org x.1.ws)
+    own : AreApart (λ (a b : Kept VersionRow). a.1.it.number == b.1.it.number) (x ∷ filter (is_version_of x.1.org x.1.ws) xs)
+    own = subst (λ (b : Bool). AreApart (λ (a c : Kept VersionRow). a.1.it.number == c.1.it.number) (cond b (x ∷ filter (is_version_of x.1.org x.1.ws) xs) (filter (is_version_of x.1.org x.1.ws) xs))) (pair_is x.1.org x.1.ws) (apart x.1.org x.1.ws)
 
 pub workspaces_apart : (t : Tables) → IsSound t → WorkspacesApart t
-workspaces_apart t sound = record { wss = sound.wss_apart; keepings = sound.keepings_apart; versions = rises_apart t.versions (λ org ws. versions_rise t org ws sound) }
+workspaces_apart t sound = record { wss = sound.wss_apart; keepings = sound.keepings_apart; versions = rows_apart t.versions (λ org ws. versions_apart t org ws sound) }
 
 comes_after_all : (name : List ℕ) → IsTrue (is_ws_name name) → is_behind [] name ≡ true
 comes_after_all [] named = absurd (let none : ⊥ = cc in none)

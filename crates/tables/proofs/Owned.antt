@@ -28,7 +28,7 @@ use Rattle.statements.specs.Finds.{workspace_of}
 use Rattle.statements.proofs.Found.{all_updated, apart_pushed}
 use Rattle.tables.specs.Sound.{IsSound}
 use Rattle.tables.specs.Inner.Edits.{all_gone, removed_rows, made_rows, settings_rows, configured_rows, numbered_rows, versioned_rows, if_there, run_put, run_counted, freed_rows, edited_rows, started_rows, changed_rows, TakesVersion, TakesEdit}
-use Rattle.tables.specs.Records.{versions_at}
+use Rattle.tables.proofs.Ordered.{versions_in}
 use Rattle.machine.specs.Changes.{left_above}
 use Rattle.tables.proofs.Absent.{no_row, no_keeping}
 use Rattle.tables.proofs.TextLists.{all_deleted}
@@ -172,7 +172,7 @@ module _ (org ws : List ℕ) (t : Tables) (owned : AreOwned t) where
   }
 
   -- the row and the runs of a workspace go that has no version
-  owned_taken : versions_at t org ws ≡ [] → AreOwned (ws_removed org ws (runs_removed org ws t))
+  owned_taken : versions_in t org ws ≡ [] → AreOwned (ws_removed org ws (runs_removed org ws t))
   owned_taken none = record {
     wss_apart = apart_delete (λ a b. is_ws a.1.org a.1.name b) (is_ws org ws) t.wss owned.wss_apart;
     keepings_apart = apart_delete (λ a b. is_keeping a.1.org a.1.ws b) (is_keeping org ws) t.keepings owned.keepings_apart;

@@ -19,7 +19,8 @@ use Rattle.statements.specs.Changes.{is_ws, is_keeping, ws_changed, ws_added, ws
 use Rattle.statements.specs.Finds.{workspace_of, keep_of}
 use Rattle.statements.proofs.Found.{find_changed, find_unchanged, find_deleted, find_left, find_pushed, find_pushed_other, filter_deleted}
 use Rattle.basis.specs.declared.numbers.TheConstants.{FIRST_KEPT}
-use Rattle.tables.specs.Records.{keep_at, runs_at}
+use Rattle.tables.specs.Records.{keep_at}
+use Rattle.tables.proofs.Ordered.{runs_in}
 use Rattle.tables.proofs.Names.{is_pair, pair_is, pair_apart}
 
 map_map : {A B C D : Type 0} (f : A → B) (g : B → C) (h : A → D) (k : D → C) → ((a : A) → g (f a) ≡ k (h a)) → (o : Option A) → option_map g (option_map f o) ≡ option_map k (option_map h o)
@@ -110,35 +111,35 @@ module _ (org ws : List ℕ) where
 
     -- ---- its runs
 
-    pub runs_begun : (n : ℕ) → runs_at (run_changed_to Planning org ws n t) org ws ≡ map (begun n) (runs_at t org ws)
+    pub runs_begun : (n : ℕ) → runs_in (run_changed_to Planning org ws n t) org ws ≡ map (begun n) (runs_in t org ws)
     runs_begun n =
         ap (λ xs. map (λ (x : Kept RunRow). x.1.it) (filter (is_run_of org ws) xs)) (map_same (λ (x : Kept RunRow). cond (is_run_row org ws n x) (planned x) x) (λ (x : Kept RunRow). cond (is_run_of org ws x && x.1.it.number == n) (planned x) x) (λ x. ap (λ (b : Bool). cond b (planned x) x) (three (bytes_eq x.1.org org) (bytes_eq x.1.ws ws) (x.1.it.number == n))) t.runs)
         ∙ slice-update_mine (is_run_of org ws) (λ (x : Kept RunRow). x.1.it) (λ (r : Run). r.number == n) planned (λ (r : Run). record r { status = Planning }) (λ x. refl) (λ x. refl) t.runs
-        ∙ map_same (λ (r : Run). cond (r.number == n) (record r { status = Planning }) r) (begun n) (λ r. status_of_begun (r.number == n) r) (runs_at t org ws)
+        ∙ map_same (λ (r : Run). cond (r.number == n) (record r { status = Planning }) r) (begun n) (λ r. status_of_begun (r.number == n) r) (runs_in t org ws)
 
-    pub runs_begun_other : (n : ℕ) (a b : List ℕ) → is_pair org ws a b ≡ false → runs_at (run_changed_to Planning org ws n t) a b ≡ runs_at t a b
+    pub runs_begun_other : (n : ℕ) (a b : List ℕ) → is_pair org ws a b ≡ false → runs_in (run_changed_to Planning org ws n t) a b ≡ runs_in t a b
     runs_begun_other n a b other =
         slice-update_other (is_run_of a b) (λ x. x.1.it) (is_run_row org ws n) (λ x e. pair_apart org ws a b x.1.org x.1.ws other (first_two (bytes_eq x.1.org org) (bytes_eq x.1.ws ws) (x.1.it.number == n) e)) planned (λ x. refl) t.runs
 
-    pub runs_pushed : (r : Run) → runs_at (run_added org ws r t) org ws ≡ runs_at t org ws ++ r ∷ []
+    pub runs_pushed : (r : Run) → runs_in (run_added org ws r t) org ws ≡ runs_in t org ws ++ r ∷ []
     runs_pushed r = slice-push_mine (is_run_of org ws) (λ x. x.1.it) t.runs (next_key id_of t.runs, record { org = org; ws = ws; it = r }) (pair_is org ws)
 
-    pub runs_pushed_other : (r : Run) (a b : List ℕ) → is_pair org ws a b ≡ false → runs_at (run_added org ws r t) a b ≡ runs_at t a b
+    pub runs_pushed_other : (r : Run) (a b : List ℕ) → is_pair org ws a b ≡ false → runs_in (run_added org ws r t) a b ≡ runs_in t a b
     runs_pushed_other r a b other = slice-push_other (is_run_of a b) (λ x. x.1.it) t.runs (next_key id_of t.runs, record { org = org; ws = ws; it = r }) (pair_apart org ws a b org ws other (pair_is org ws))
 
     module _ (status : RunStatus) (action : RunAction) (n : ℕ) where
-      pub runs_acted : runs_at (run_acted status action org ws n t) org ws ≡ map (reported n action status) (runs_at t org ws)
+      pub runs_acted : runs_in (run_acted status action org ws n t) org ws ≡ map (reported n action status) (runs_in t org ws)
       runs_acted =
           ap (λ xs. map (λ (x : Kept RunRow). x.1.it) (filter (is_run_of org ws) xs)) (map_same (λ (x : Kept RunRow). cond (is_run_row org ws n x) (acted status action x) x) (λ (x : Kept RunRow). cond (is_run_of org ws x && x.1.it.number == n) (acted status action x) x) (λ x. ap (λ (b : Bool). cond b (acted status action x) x) (three (bytes_eq x.1.org org) (bytes_eq x.1.ws ws) (x.1.it.number == n))) t.runs)
           ∙ slice-update_mine (is_run_of org ws) (λ (x : Kept RunRow). x.1.it) (λ (r : Run). r.number == n) (acted status action) (λ (r : Run). record r { status = status; action = Some action }) (λ x. refl) (λ x. refl) t.runs
-          ∙ map_same (λ (r : Run). cond (r.number == n) (record r { status = status; action = Some action }) r) (reported n action status) (λ r. status_of_acted action status (r.number == n) r) (runs_at t org ws)
+          ∙ map_same (λ (r : Run). cond (r.number == n) (record r { status = status; action = Some action }) r) (reported n action status) (λ r. status_of_acted action status (r.number == n) r) (runs_in t org ws)
 
-      pub runs_acted_other : (a b : List ℕ) → is_pair org ws a b ≡ false → runs_at (run_acted status action org ws n t) a b ≡ runs_at t a b
+      pub runs_acted_other : (a b : List ℕ) → is_pair org ws a b ≡ false → runs_in (run_acted status action org ws n t) a b ≡ runs_in t a b
       runs_acted_other a b other =
           slice-update_other (is_run_of a b) (λ x. x.1.it) (is_run_row org ws n) (λ x e. pair_apart org ws a b x.1.org x.1.ws other (first_two (bytes_eq x.1.org org) (bytes_eq x.1.ws ws) (x.1.it.number == n) e)) (acted status action) (λ x. refl) t.runs
 
-    pub runs_gone : runs_at (runs_removed org ws t) org ws ≡ []
+    pub runs_gone : runs_in (runs_removed org ws t) org ws ≡ []
     runs_gone = ap (map (λ (x : Kept RunRow). x.1.it)) (filter_deleted (is_run_of org ws) t.runs)
 
-    pub runs_gone_other : (a b : List ℕ) → is_pair org ws a b ≡ false → runs_at (runs_removed org ws t) a b ≡ runs_at t a b
+    pub runs_gone_other : (a b : List ℕ) → is_pair org ws a b ≡ false → runs_in (runs_removed org ws t) a b ≡ runs_in t a b
     runs_gone_other a b other = slice-delete_other (is_run_of a b) (λ x. x.1.it) (is_run_of org ws) (λ x e. pair_apart org ws a b x.1.org x.1.ws other e) t.runs

@@ -86,15 +86,6 @@ other_org org ws a b apart = ap (λ (x : Bool). x && bytes_eq b ws) (apart_name 
 pub other_ws : (org ws q : List ℕ) → bytes_eq q ws ≡ false → is_pair org ws org q ≡ false
 other_ws org ws q e = ap (λ (x : Bool). x && bytes_eq q ws) (name_is org) ∙ e
 
-pub puts_then : {v w : Option Workspace} (org ws : List ℕ) (t u z : Tables) → Puts org ws v t u → Puts org ws w u z → Puts org ws w t z
-puts_then org ws t u z first second = record {
-  orgs = second.orgs ∙ first.orgs;
-  tokens = second.tokens ∙ first.tokens;
-  bounds = second.bounds ∙ first.bounds;
-  own = second.own;
-  others = λ a b other. second.others a b other ∙ first.others a b other;
-}
-
 module _ (org ws : List ℕ) (w : Option Workspace) (t u : Tables) (puts : Puts org ws w t u) where
   same_orgs : (q : List ℕ) → cap_of q u ≡ cap_of q t
   same_orgs q = ap (λ orgs. option_map (λ (x : Kept OrgRow). x.1.cap) (find (is_org q) orgs)) puts.orgs

@@ -3,9 +3,9 @@ use Rattle.std.proofs.Common.{◌≡◌, ◌≤◌, ◌<◌, ℕ, zero, suc, ◌
 use Rattle.std.specs.Option.{unwrap_or}
 use Rattle.std.specs.Str.{bytes_eq}
 use Rattle.std.specs.List.{AllByRecursion, list_any}
-use Rattle.std.specs.Cmp.{IsTotalOrder, tied_itself, nat_cmp_total, on_total}
+use Rattle.std.specs.Cmp.{tied_itself, nat_cmp_total}
 use Rattle.std.proofs.lemmas.Bool.{false_from_ne_true, and_from, and_parts, eqb-true, eq-eqb}
-use Rattle.sqlite_keyed.specs.Lists.{delete_where}
+use Rattle.sqlite_keyed.specs.Lists.{delete_where, sort_by}
 use Rattle.sqlite_keyed.specs.Keyed.{next_key}
 use Rattle.sqlite_keyed.proofs.ListLemmas.{all_weaker, all_both, all-filter, all-append, filter_same}
 use Rattle.sqlite_keyed.proofs.SliceLemmas.{slice-push_mine, slice-push_other, slice-delete_mine, slice-delete_other}
@@ -19,7 +19,7 @@ use Rattle.std.specs.FinMap.{from_entries}
 use Rattle.machine.specs.Order.{name_cmp}
 use Rattle.statements.specs.Tables.{Tables}
 use Rattle.statements.specs.Changes.{is_bound, is_ws, is_ws_of, is_run_of, is_version_of, is_version, is_version_below, new_version, version_removed}
-use Rattle.statements.specs.Finds.{version_cmp, bound_in, oldest_below, size_of}
+use Rattle.statements.specs.Finds.{version_cmp, run_cmp, bound_in, oldest_below, size_of}
 use Rattle.statements.proofs.Found.{find_pushed, find_left}
 use Rattle.texts.specs.Texts.{is_place_of, pages_for, text_removed, text_of, IsWhole, HasNoPlaces, HasSoundPlaces}
 use Rattle.texts.proofs.PieceLists.{none_passes, none_found}
@@ -28,11 +28,9 @@ use Rattle.texts.proofs.TextLaws.{text_added_keeps, text_added_whole, text_added
 use Rattle.tables.specs.Records.{version_of_cells, no_bounds, token_of_cells, workspace_of_cells, keep_at, version_at, versions_at, workspace_by, is_token_of, tokens_at, workspaces_at, organization_at}
 use Rattle.tables.specs.Sound.{IsPlaced, HasText, IsSound}
 use Rattle.tables.specs.Inner.Edits.{first_gone, so_many_gone, gone_below, row_added, added_rows, FitsTwins}
+use Rattle.tables.proofs.Ordered.{versions_total, versions_in}
 use Rattle.tables.proofs.Names.{same_name, name_is, is_pair, pair_is, pair_apart}
 use Rattle.tables.proofs.TextLists.{all_deleted, found_front, none_goes, filter_fewer, absorbed, fewer_left, least, none_least, least_holds, least_passes, least_within}
-
-pub versions_total : IsTotalOrder version_cmp
-versions_total = on_total (λ (x : Kept VersionRow). x.1.it.number) nat_cmp_total
 
 -- what sound tables say of texts
 pub record AreTexts (t : Tables) : Type 0 where
@@ -125,8 +123,11 @@ shown_same t u o w (x ∷ xs) all = go (is_version_of o w x) refl (shown_same t 
 
 -- tables with the same rows of versions, pages and places
 module _ (t u : Tables) (versions : u.versions ≡ t.versions) (pages : u.pages ≡ t.pages) (vpages : u.vpages ≡ t.vpages) where
-  pub versions_carried : (o w : List ℕ) → versions_at u o w ≡ versions_at t o w
+  pub versions_carried : (o w : List ℕ) → versions_in u o w ≡ versions_in t o w
   versions_carried o w = λ i. map (λ (x : Kept VersionRow). version_of_cells (carried_text t u pages vpages o w x.1.it.number x.1.it.size i) x.1.it) (filter (is_version_of o w) (versions i))
+
+  pub in_order_carried : (o w : List ℕ) → versions_at u o w ≡ versions_at t o w
+  in_order_carried o w = λ i. map (λ (x : Kept VersionRow). version_of_cells (carried_text t u pages vpages o w x.1.it.number x.1.it.size i) x.1.it) (sort_by version_cmp (filter (is_version_of o w) (versions i)))
 
   size_carried : (o w : List ℕ) (n : ℕ) → size_of o w n u ≡ size_of o w n t
   size_carried o w n = ap (λ (vs : List (Kept VersionRow)). option_map (λ (y : Kept VersionRow). y.1.it.size) (find (is_version o w n) vs)) versions
@@ -156,11 +157,11 @@ pub record KeepsWorkspaces (t u : Tables) : Type 0 where
 
 module _ (t u : Tables) (keeps : KeepsWorkspaces t u) where
   pub workspace_carried : (o w : List ℕ) → workspace_by u o w ≡ workspace_by t o w
-  workspace_carried o w = λ i. option_map (λ (c : WorkspaceCells). workspace_of_cells (keeps.kept o w i) c (versions_carried t u keeps.versions keeps.pages keeps.vpages o w i) (map (λ (x : Kept RunRow). x.1.it) (filter (is_run_of o w) (keeps.runs i))))
+  workspace_carried o w = λ i. option_map (λ (c : WorkspaceCells). workspace_of_cells (keeps.kept o w i) c (in_order_carried t u keeps.versions keeps.pages keeps.vpages o w i) (map (λ (x : Kept RunRow). x.1.it) (sort_by run_cmp (filter (is_run_of o w) (keeps.runs i)))))
       (option_map (λ (x : Kept WsRow). x.1.it) (find (is_ws o w) (keeps.wss i)))
 
   pub workspaces_carried : (o : List ℕ) → workspaces_at u o ≡ workspaces_at t o
-  workspaces_carried o = λ i. from_entries {R = name_cmp} (map (λ (x : Kept WsRow). (x.1.name, workspace_of_cells (keeps.kept o x.1.name i) x.1.it (versions_carried t u keeps.versions keeps.pages keeps.vpages o x.1.name i) (map (λ (y : Kept RunRow). y.1.it) (filter (is_run_of o x.1.name) (keeps.runs i)))))
+  workspaces_carried o = λ i. from_entries {R = name_cmp} (map (λ (x : Kept WsRow). (x.1.name, workspace_of_cells (keeps.kept o x.1.name i) x.1.it (in_order_carried t u keeps.versions keeps.pages keeps.vpages o x.1.name i) (map (λ (y : Kept RunRow). y.1.it) (sort_by run_cmp (filter (is_run_of o x.1.name) (keeps.runs i))))))
       (filter (is_ws_of o) (keeps.wss i)))
 
   pub organization_carried : u.tokens ≡ t.tokens → u.bounds ≡ t.bounds → (o : List ℕ) (cap : Option ℕ) → option_map (organization_at u o) cap ≡ option_map (organization_at t o) cap
@@ -340,16 +341,16 @@ and_three false q r = refl
 -- What becomes of the versions of one workspace; those of all others stay, and so do the other tables.
 pub record Becomes (f : List Version → List Version) (org ws : List ℕ) (t u : Tables) : Type 0 where
   pub rest : KeepsRest t u
-  pub own : versions_at u org ws ≡ f (versions_at t org ws)
-  pub others : (o w : List ℕ) → is_pair org ws o w ≡ false → versions_at u o w ≡ versions_at t o w
+  pub own : versions_in u org ws ≡ f (versions_in t org ws)
+  pub others : (o w : List ℕ) → is_pair org ws o w ≡ false → versions_in u o w ≡ versions_in t o w
   pub texts : AreTexts u
   pub owned : AllByRecursion (HasWs t) t.versions → AllByRecursion (HasWs t) u.versions
 
 -- as many rows as versions
-pub versions_counted : (t : Tables) (org ws : List ℕ) → length (filter (is_version_of org ws) t.versions) ≡ length (versions_at t org ws)
+pub versions_counted : (t : Tables) (org ws : List ℕ) → length (filter (is_version_of org ws) t.versions) ≡ length (versions_in t org ws)
 versions_counted t org ws = sym (length-map (filter (is_version_of org ws) t.versions) (λ (x : Kept VersionRow). version_at t org ws x.1.it))
 
-module _ (org ws : List ℕ) (below : ℕ) (t : Tables) (a : AreTexts t) (few : length (versions_at t org ws) ≤ 1_001) where
+module _ (org ws : List ℕ) (below : ℕ) (t : Tables) (a : AreTexts t) (few : length (versions_in t org ws) ≤ 1_001) where
   abbrev gone : Tables
   gone = gone_below org ws below t
 
@@ -370,7 +371,7 @@ module _ (org ws : List ℕ) (below : ℕ) (t : Tables) (a : AreTexts t) (few : 
       let none : length (filter (is_version_below org ws below) gone.versions) ≤ 0 = omega (arith, fewer, most) in
       sym (none_goes (is_version_below org ws below) gone.versions none) ∙ all_go.left
 
-  denoted : (o w : List ℕ) → versions_at gone o w ≡ map (λ (x : Kept VersionRow). version_at t o w x.1.it) (filter (is_version_of o w) (delete_where (is_version_below org ws below) t.versions))
+  denoted : (o w : List ℕ) → versions_in gone o w ≡ map (λ (x : Kept VersionRow). version_at t o w x.1.it) (filter (is_version_of o w) (delete_where (is_version_below org ws below) t.versions))
   denoted o w = shown_same t gone o w gone.versions all_go.same ∙ ap (λ (vs : List (Kept VersionRow)). map (λ (x : Kept VersionRow). version_at t o w x.1.it) (filter (is_version_of o w) vs)) versions_left
 
   -- the versions of a workspace with numbers below one go
@@ -467,7 +468,7 @@ module _ (key_of : List ℕ → List ℕ) (org ws : List ℕ) (v : Version) (t :
   denoted_new : version_at come org ws new.1.it ≡ v
   denoted_new = ap (λ (text : List ℕ). version_of_cells text new.1.it) (text_added_text key_of org ws v.number v.text mid mid_sound no_places fits)
 
-  denoted_all : (o w : List ℕ) → versions_at come o w ≡ map (λ (x : Kept VersionRow). version_at come o w x.1.it) (filter (is_version_of o w) (t.versions ++ new ∷ []))
+  denoted_all : (o w : List ℕ) → versions_in come o w ≡ map (λ (x : Kept VersionRow). version_at come o w x.1.it) (filter (is_version_of o w) (t.versions ++ new ∷ []))
   denoted_all o w = ap (λ (vs : List (Kept VersionRow)). map (λ (x : Kept VersionRow). version_at come o w x.1.it) (filter (is_version_of o w) vs)) come_versions
 
   -- a version comes behind the others of its workspace

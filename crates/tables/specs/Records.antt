@@ -3,6 +3,7 @@ use Rattle.std.specs.Prelude.{ℕ, Bool, List, [], map, filter, Option, None, op
 use Rattle.std.specs.Option.{unwrap_or}
 use Rattle.std.specs.Str.{bytes_eq}
 use Rattle.std.specs.FinMap.{FinMap, from_entries}
+use Rattle.sqlite_keyed.specs.Lists.{sort_by}
 use Rattle.basis.specs.declared.numbers.TheConstants.{FIRST_KEPT}
 use Rattle.basis.specs.declared.roles.Role.{Role}
 use Rattle.basis.specs.declared.roles.Bounds.{Bounds}
@@ -20,7 +21,7 @@ use Rattle.statements.specs.declared.rows.Workspace.{Workspace as WorkspaceCells
 use Rattle.statements.specs.Rows.{Kept, TokenRow}
 use Rattle.statements.specs.Tables.{Tables}
 use Rattle.statements.specs.Changes.{is_ws_of, is_version_of, is_run_of}
-use Rattle.statements.specs.Finds.{cap_of, named_role_of, bound_of, keep_of, workspace_of}
+use Rattle.statements.specs.Finds.{version_cmp, run_cmp, cap_of, named_role_of, bound_of, keep_of, workspace_of}
 use Rattle.texts.specs.Texts.{text_of}
 
 -- ---- what cells denote
@@ -61,12 +62,13 @@ workspace_of_cells keep w versions runs = record {
 abbrev pub version_at : Tables → List ℕ → List ℕ → VersionCells → Version
 version_at t org ws v = version_of_cells (text_of org ws v.number v.size t) v
 
--- the versions of a workspace, in the order in which their rows were added
+-- the versions of a workspace, in the order of their numbers, in whatever order their rows stand
 abbrev pub versions_at : Tables → List ℕ → List ℕ → List Version
-versions_at t org ws = map (λ x. version_at t org ws x.1.it) (filter (is_version_of org ws) t.versions)
+versions_at t org ws = map (λ x. version_at t org ws x.1.it) (sort_by version_cmp (filter (is_version_of org ws) t.versions))
 
+-- its runs, in the order of their numbers
 abbrev pub runs_at : Tables → List ℕ → List ℕ → List Run
-runs_at t org ws = map (λ x. x.1.it) (filter (is_run_of org ws) t.runs)
+runs_at t org ws = map (λ x. x.1.it) (sort_by run_cmp (filter (is_run_of org ws) t.runs))
 
 -- How many versions a workspace keeps. One without a row of that, as all are in the versions before the third, keeps what one keeps at first.
 abbrev pub keep_at : Tables → List ℕ → List ℕ → ℕ

@@ -78,7 +78,7 @@ pub record IsSoundIn (n : ℕ) (t : Tables) : Type 0 where
   pub places : HasSoundPlaces t
   pub placed : AllByRecursion (IsPlaced t) t.vpages
   pub texts : AllByRecursion (HasText t) t.versions
-  -- each workspace that the rows denote is lawful: what it keeps is in range, and of its versions and runs the numbers rise in the order of their rows
+  -- each workspace that the rows denote is lawful: what it keeps is in range, and no two of its versions or runs have one number
   pub workspaces : (org name : List ℕ) (w : Workspace) → workspace_by t org name ≡ Some w → IsNamedWorkspace name w
 
 -- when tables of the newest version are sound

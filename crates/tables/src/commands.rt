@@ -6,7 +6,7 @@ ghost use Rattle.machine.specs.Needs.{needed_of};
 ghost use Rattle.tables.specs.Records.{caller_by, IsBound};
 ghost use Rattle.tables.specs.Inner.Units.{text_in, unit_in};
 ghost use Rattle.statements.specs.Tables.{Tables, Holds};
-ghost use Rattle.statements.specs.Listings.{OrgsApart, TokensApart, WorkspacesApart, VersionsRise, RunsRise};
+ghost use Rattle.statements.specs.Listings.{OrgsApart, TokensApart, WorkspacesApart, VersionsApart, RunsApart};
 ghost use Rattle.tables.specs.Inner.Looks.{LooksBy, Sees};
 ghost use Rattle.tables.specs.Inner.Lists.{LooksWhere, versions_listed_in, runs_listed_in, workspaces_listed_in, tokens_told_in, organizations_listed_in};
 ghost use Rattle.tables.specs.Inner.Steps.{ManagesBy, org_managed, limit_managed, token_managed, revocation_managed, is_taken};
@@ -206,7 +206,7 @@ pub(crate) fn versions<S: Alter>(
     requires idle { conn.old.in_transaction ≡ false }
     ensures idle { conn.new.in_transaction ≡ false }
     ensures so_far { HasCleanDisk (state S.Store conn.new) → HasCleanDisk (state S.Store conn.old) }
-    ensures looks { LooksWhere (VersionsRise org.now ws.now) (versions_listed_in after org.now ws.now) (state S.Store conn.old) (state S.Store conn.new) result }
+    ensures looks { LooksWhere (VersionsApart org.now ws.now) (versions_listed_in after org.now ws.now) (state S.Store conn.old) (state S.Store conn.new) result }
 {
     assert_settled(conn);
     listings::list_of_versions(conn, alloc, org, ws, after)
@@ -223,7 +223,7 @@ pub(crate) fn runs<S: Alter>(
     requires idle { conn.old.in_transaction ≡ false }
     ensures idle { conn.new.in_transaction ≡ false }
     ensures so_far { HasCleanDisk (state S.Store conn.new) → HasCleanDisk (state S.Store conn.old) }
-    ensures looks { LooksWhere (RunsRise org.now ws.now) (runs_listed_in after org.now ws.now) (state S.Store conn.old) (state S.Store conn.new) result }
+    ensures looks { LooksWhere (RunsApart org.now ws.now) (runs_listed_in after org.now ws.now) (state S.Store conn.old) (state S.Store conn.new) result }
 {
     assert_settled(conn);
     listings::list_of_runs(conn, alloc, org, ws, after)

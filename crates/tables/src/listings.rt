@@ -4,7 +4,7 @@ ghost use Rattle.sqlite.specs.Held.{state};
 ghost use Rattle.sqlite.specs.State.{HasCleanDisk};
 ghost use Rattle.basis.specs.Listings.{listing_of};
 ghost use Rattle.machine.specs.Showing.{holder_id};
-ghost use Rattle.statements.specs.Listings.{OrgsApart, TokensApart, WorkspacesApart, VersionsRise, RunsRise};
+ghost use Rattle.statements.specs.Listings.{OrgsApart, TokensApart, WorkspacesApart, VersionsApart, RunsApart};
 ghost use Rattle.tables.specs.Inner.Looks.{Sees};
 ghost use Rattle.tables.specs.Inner.Lists.{SeesLawful, versions_listed_in, runs_listed_in, newest_number_in, newest_by, newest_shown_in, ws_row_in, workspaces_listed_in, token_row_in, tokens_listed_in, tokens_told_in, org_row_in, organizations_listed_in};
 
@@ -39,7 +39,7 @@ pub(crate) fn list_of_versions<S: Alter>(
     ws: &str,
     after: u32,
 ) -> Result<Listing<VersionRow>, Error>
-    ensures looks { SeesLawful (VersionsRise org.now ws.now) (versions_listed_in after org.now ws.now) (state S.Store conn.old) (state S.Store conn.new) result }
+    ensures looks { SeesLawful (VersionsApart org.now ws.now) (versions_listed_in after org.now ws.now) (state S.Store conn.old) (state S.Store conn.new) result }
     ensures is_open { HasCleanDisk (state S.Store conn.new) → OnOk result (IsTrue (state S.Store conn.new).is_open) }
 {
     let rows = versions::list(alloc, conn, org, ws, after, ASKED_ROWS)?;
@@ -54,7 +54,7 @@ pub(crate) fn list_of_runs<S: Alter>(
     ws: &str,
     after: u32,
 ) -> Result<Listing<RunRow>, Error>
-    ensures looks { SeesLawful (RunsRise org.now ws.now) (runs_listed_in after org.now ws.now) (state S.Store conn.old) (state S.Store conn.new) result }
+    ensures looks { SeesLawful (RunsApart org.now ws.now) (runs_listed_in after org.now ws.now) (state S.Store conn.old) (state S.Store conn.new) result }
     ensures is_open { HasCleanDisk (state S.Store conn.new) → OnOk result (IsTrue (state S.Store conn.new).is_open) }
 {
     let rows = runs::list(alloc, conn, org, ws, after, ASKED_ROWS)?;

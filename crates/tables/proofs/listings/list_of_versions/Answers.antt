@@ -2,7 +2,7 @@ use Rattle.std.proofs.Common.{Ok}
 use Rattle.sqlite.specs.Held.{state}
 use Rattle.sqlite.specs.declared.error.Error.{Error}
 use Rattle.basis.specs.Listings.{listing_of}
-use Rattle.statements.specs.Listings.{VersionsRise, version_rows_after}
+use Rattle.statements.specs.Listings.{VersionsApart, version_rows_after}
 use Rattle.tables.specs.Inner.Lists.{asked_rows}
 use Rattle.tables.proofs.KeepFound.{seen_shown}
 use Rattle.tables.proofs.KeepMoves.{clean_before}
@@ -19,5 +19,5 @@ returns-clause-looks g c =
       so_far = λ clean. clean_before a b _ c.list.ensures.survives clean;
       sees = λ clean.
           let found = c.in_ok-rows.ensures.read clean in
-          seen_shown {E = Error} (VersionsRise org ws) (version_rows_after org ws c.args.after asked_rows) listing_of c.in_ok-rows.rows a b (Ok c.of.result) found.0 found.1.0 c.of.ensures clean;
+          seen_shown {E = Error} (VersionsApart org ws) (version_rows_after org ws c.args.after asked_rows) listing_of c.in_ok-rows.rows a b (Ok c.of.result) found.0 found.1.0 c.of.ensures clean;
     }
