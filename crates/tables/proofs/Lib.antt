@@ -31,6 +31,7 @@ pub mod Sets
 pub mod Stores
 pub mod Telling
 pub mod Sorted
+pub mod AnyOrder
 pub mod Ordered
 pub mod TextLists
 pub mod TextRows

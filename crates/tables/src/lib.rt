@@ -3,6 +3,7 @@
 
 mod commands;
 mod counts;
+pub mod laws;
 mod listings;
 mod looks;
 mod opening;
