@@ -10,8 +10,7 @@ use Rattle.basis.specs.declared.runs.RunStatus.{RunStatus}
 use Rattle.basis.specs.declared.runs.RunStatus.TheVariants.{Pending, Planning, Planned, Applying, Applied, PlannedAndFinished, Errored, Discarded, Canceled}
 use Rattle.basis.specs.declared.runs.RunAction.{RunAction}
 use Rattle.basis.specs.declared.runs.RunAction.TheVariants.{ReportPlanned, ReportUnchanged, Fail, Confirm, ReportApplied, Discard, Cancel}
-use Rattle.statements.specs.Rows.{number, role_code, status_code, action_code}
-use Rattle.statements.specs.Decode.{role_at, status_at, action_at}
+use Rattle.statements.specs.Rows.{number, role_code, status_code, action_code, role_at, status_at, action_at}
 
 pub moment_fits : (n : ℕ) → n ≤ MAX_MOMENT → SFits w64 (pos n)
 moment_fits n most = record { sfits = omega (arith, most) }

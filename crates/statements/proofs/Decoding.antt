@@ -9,10 +9,9 @@ use Rattle.basis.specs.declared.rows.RunSettings.{RunSettings}
 use Rattle.basis.specs.declared.runs.RunAction.{RunAction}
 use Rattle.basis.specs.declared.rows.Holder.{Holder}
 use Rattle.basis.specs.declared.rows.Holder.TheVariants.{Nobody, Lock, Run as HeldByRun}
-use Rattle.statements.specs.Rows.{Kept, TokenRow, WsRow, RunRow, BoundRow, stored, token_cells, ws_cells, run_cells, bound_cells, run_settings_cells, number, action_code, kind_cell, lock_id_cell, lock_text_cell, run_cell}
+use Rattle.statements.specs.Rows.{Kept, TokenRow, WsRow, RunRow, BoundRow, stored, token_cells, ws_cells, run_cells, bound_cells, run_settings_cells, number, action_code, kind_cell, lock_id_cell, lock_text_cell, run_cell, kept_by, token_at, ws_at, run_at, bound_at, run_settings_at, holder_at, action_at}
 use Rattle.statements.specs.declared.making.TheConstants.{NEWEST}
 use Rattle.statements.specs.Tables.{Layout, Tables, Holds, HoldsIn, count_in, rows_in, up_to, rows_of, tables_of, tables_at}
-use Rattle.statements.specs.Decode.{kept_by, token_at, ws_at, run_at, bound_at, run_settings_at, holder_at, action_at}
 use Rattle.statements.proofs.Held.{IsHeld, Ours, metas, orgs, tokens, wss, versions, runs, pages, vpages, bounds, editions, keepings, held_in, holds_all}
 use Rattle.statements.proofs.Codes.{role_back, status_back, action_back}
 

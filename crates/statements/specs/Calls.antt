@@ -21,8 +21,7 @@ use Rattle.statements.specs.declared.rows.Organization.{Organization}
 use Rattle.basis.specs.declared.rows.RunRow.{RunRow as Run}
 use Rattle.statements.specs.declared.rows.NamedRole.{NamedRole}
 use Rattle.basis.specs.declared.roles.Bounds.{Bounds}
-use Rattle.statements.specs.Rows.{number, role_code, status_code, action_code}
-use Rattle.statements.specs.Decode.{run_settings_at}
+use Rattle.statements.specs.Rows.{number, role_code, status_code, action_code, run_settings_at}
 use Rattle.sqlite.specs.State.{State, IsUnchanged, IsRolledBack, KeepsCommit, ExecutesInside, QueriesRow, Shown, Begins}
 
 -- a text that was run in a transaction

@@ -1,6 +1,5 @@
 pub mod Calls
 pub mod Changes
-pub mod Decode
 pub mod Finds
 pub mod Inner
 pub mod Listings

@@ -9,8 +9,7 @@ use Rattle.sqlite_keyed.specs.Keyed.{IsKeyedBy}
 use Rattle.sqlite.specs.Effect.{Database}
 use Rattle.statements.specs.Place.{tree_of, AreOwn}
 use Rattle.statements.specs.Schema.{meta_table, org_table, token_table, ws_table, version_table, run_table, page_table, vpage_table, bound_table, edition_table, keeping_table}
-use Rattle.statements.specs.Rows.{Kept, OrgRow, TokenRow, WsRow, VersionRow, RunRow, PageRow, VpageRow, BoundRow, KeepingRow, stored, meta_cells, org_cells, token_cells, ws_cells, version_cells, run_cells, page_cells, vpage_cells, bound_cells, edition_cells, keeping_cells}
-use Rattle.statements.specs.Decode.{kept_by, meta_at, org_at, token_at, ws_at, version_at, run_at, page_at, vpage_at, bound_at, edition_at, keeping_at}
+use Rattle.statements.specs.Rows.{Kept, OrgRow, TokenRow, WsRow, VersionRow, RunRow, PageRow, VpageRow, BoundRow, KeepingRow, stored, meta_cells, org_cells, token_cells, ws_cells, version_cells, run_cells, page_cells, vpage_cells, bound_cells, edition_cells, keeping_cells, kept_by, meta_at, org_at, token_at, ws_at, version_at, run_at, page_at, vpage_at, bound_at, edition_at, keeping_at}
 
 -- A table of ours: its definition, the cells that keep a row, and the row that cells keep.
 pub record Layout (R : Type 0) : Type 0 where

@@ -6,7 +6,7 @@ ghost use Rattle.statements.specs.Steps.{WritesBy, WritesWhere, TellsOfRows, Que
 ghost use Rattle.statements.specs.Tables.{Tables, Holds};
 ghost use Rattle.statements.specs.Changes.{with_run_settings, held_by, released_from, with_next_version, with_next_run, ws_changed, ws_row_added, ws_row_removed, ws_added, ws_removed, HasNoKeeping};
 ghost use Rattle.statements.specs.Listings.{workspace_rows_after, WorkspacesApart, later_of, end_of};
-ghost use Rattle.statements.specs.Decode.{run_settings_at};
+ghost use Rattle.statements.specs.Rows.{run_settings_at};
 ghost use Rattle.statements.specs.Calls.{AreHolderCells, IsWorkspaceWith, IsWorkspace, IsNamedRow};
 ghost use Rattle.sqlite_value.specs.Order.{column};
 ghost use Rattle.statements.specs.Finds.{workspace_of, workspaces_of};
