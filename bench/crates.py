@@ -1,5 +1,5 @@
 #!/usr/bin/env python3
-"""Draws docs/crates.svg from crates.txt: which crate stands on which.
+"""Draws docs/crates.svg from crates.txt: which crate uses which.
 
     python3 bench/crates.py
 
