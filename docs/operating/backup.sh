@@ -1,0 +1,17 @@
+#!/bin/sh
+# Copies a database and its log into a new folder while the service that has them is paused.
+#     backup.sh PID DATABASE FOLDER
+set -eu
+pid=$1 db=$2 to=$3
+umask 077
+mkdir "$to"
+trap 'kill -CONT "$pid"' EXIT
+trap 'exit 1' HUP INT TERM
+kill -STOP "$pid"
+tries=0
+until [ "$(sed 's/.*) \(.\).*/\1/' "/proc/$pid/stat")" = T ]; do   # a call of the system that is under way comes to its end first
+    tries=$((tries + 1))
+    [ "$tries" -lt 500 ] || { echo "process $pid doesn't stop" >&2; exit 1; }
+    sleep 0.02
+done
+cp -p "$db" "$db-wal" "$to/"
