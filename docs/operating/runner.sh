@@ -17,6 +17,7 @@ await() { while s=$(ask "/$n" | status) && [ "$s" = "$1" ]; do sleep 2; done; } 
 end() { echo "run-$n: $s" >&2; exit "$1"; }
 
 n=$(ask "" -d "{\"key\":\"$key\",\"plan_only\":$plan_only}" | sed -n 's/.*"number":\([0-9]*\).*/\1/p')
+[ "$n" ] || exit 1
 undo=discard
 trap '[ -z "$undo" ] || echo "run-$n: $(report "$undo")" >&2' EXIT
 trap 'exit 1' HUP INT TERM
