@@ -4,11 +4,12 @@
 Build the program, and run it from the top of the repository:
 
     (cd crates/custody && rt run -- --help)
-    python3 bench/estate.py [--exchanges N] [--workspaces N] [--seed N] [--folder FOLDER]
+    python3 bench/estate.py [--exchanges N] [--workspaces N] [--shifting PERCENT] [--seed N] [--folder FOLDER]
 
 Who works on what is drawn with a fixed seed: few workspaces are changed often, most now and then. An apply is GET, LOCK,
 GET, POST of a state in which a few resources differ, UNLOCK; a plan is LOCK, GET, UNLOCK; besides, runs are made and end,
-pages of workspaces and of versions are looked at. Ten times in a run a line shows what was exchanged so far, how much the
+pages of workspaces and of versions are looked at. Of so many applies in a hundred (50) a value gets longer or shorter, so
+all that follows is shifted, and its pages are new; in the others values of the same length differ. Ten times in a run a line shows what was exchanged so far, how much the
 program has to keep (the distinct pages of the versions that are kept, as this script counts them), the size of the file
 and of its log, the memory of the process, and medians in milliseconds. In the end the service is stopped, and SQLite's
 own library finds in the file exactly the versions and pages that are to be kept: else the script ends with status 1.
@@ -34,17 +35,29 @@ from pages import PAGE_BYTES
 KEPT = 100
 LEAST, MOST = 20_000, 2_000_000
 LINES = 10
+# how many bytes of a value a change overwrites
+DIGITS = 4
 
 
 class Workspace:
     """A workspace as its team sees it: its state, and which pages its versions have."""
 
-    def __init__(self, name, size, chance):
-        self.name, self.chance, self.serial, self.number = name, chance, 0, 0
+    def __init__(self, name, size, chance, shifting):
+        self.name, self.chance, self.shifting, self.serial, self.number = name, chance, shifting, 0, 0
         state = exchanges.state_of(1_000_000, size).replace(exchanges.LINEAGE.encode(), f"{chance.getrandbits(128):032x}".encode())
         self.text = bytearray(state)
         self.places = [found.start() for found in re.finditer(b'"one-', state)]
+        self.longer = [0] * len(self.places)
         self.versions = collections.deque()
+
+    def shift(self):
+        """A value gets longer by up to 200 bytes, or as short again as it was."""
+        which = self.chance.randrange(len(self.places))
+        at, more = self.places[which] + 1 + DIGITS, self.longer[which]
+        fewer = 0 if more else self.chance.randrange(1, 201)
+        self.text[at:at + more] = b"y" * fewer
+        self.longer[which] = fewer
+        self.places[which + 1:] = [place + fewer - more for place in self.places[which + 1:]]
 
     def changed(self):
         """The next state: the serial, and the values of one to three resources, differ."""
@@ -53,7 +66,9 @@ class Workspace:
         self.text[at:at + 7] = b"%d" % (1_000_000 + self.serial)
         for _ in range(self.chance.randrange(1, 4)):
             place = self.chance.choice(self.places) + 1
-            self.text[place:place + 4] = b"%04x" % self.chance.getrandbits(16)
+            self.text[place:place + DIGITS] = b"%04x" % self.chance.getrandbits(16)
+        if self.chance.randrange(100) < self.shifting:
+            self.shift()
         return bytes(self.text)
 
     def keep(self, text):
@@ -171,6 +186,7 @@ def main():
     parser = argparse.ArgumentParser()
     parser.add_argument("--exchanges", type=int, default=20_000)
     parser.add_argument("--workspaces", type=int, default=500)
+    parser.add_argument("--shifting", type=int, default=50)
     parser.add_argument("--seed", type=int, default=1)
     parser.add_argument("--folder")
     words = parser.parse_args()
@@ -182,7 +198,7 @@ def main():
         exchanges.admin(path, "org-add", "--limit", "100000", "acme")
         exchanges.admin(path, "token-add", "acme", "root", "admin", fed=exchanges.SECRET.encode())
         sizes = [round(LEAST * (MOST / LEAST) ** chance.random()) for _ in range(words.workspaces)]
-        workspaces = [Workspace(f"team-{place:03}", size, chance) for place, size in enumerate(sizes)]
+        workspaces = [Workspace(f"team-{place:03}", size, chance, words.shifting) for place, size in enumerate(sizes)]
         server = exchanges.Server(exchanges.SERVERS["program"], path)
         load, began = Load(server, workspaces, chance), time.perf_counter()
         for ws in workspaces:
