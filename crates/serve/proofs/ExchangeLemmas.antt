@@ -1,27 +1,25 @@
 -- One exchange: the reply to what was read, and what is written in all.
-use Rattle.std.proofs.Common.{◌≡◌, ◌≢◌, ℕ, ◌<◌, Bool, true, false, List, [], ◌++◌, length, Option, Some, None, IfSome, Result, Ok, Err, refl, sym, ap, subst, ◌∙◌, append_assoc}
+use Rattle.std.proofs.Common.{◌≡◌, ◌≢◌, ℕ, Bool, true, false, List, [], ◌++◌, Option, Some, None, Result, Ok, Err, IfSome, IfErr, refl, sym, ap, subst, ◌∙◌}
 use Rattle.std.specs.Io.KnownBytes.{Appends, Consumes}
 use Rattle.std.specs.Str.{bytes_eq}
 use Rattle.std.proofs.lemmas.Slice.Eq.{bytes_eq-Decides}
-use Rattle.basis.specs.declared.refusals.Refusal.{Refusal}
-use Rattle.docs.specs.Bodies.{error_text}
 use Rattle.machine.specs.declared.records.Organization.{Organization}
 use Rattle.route.specs.Asks.{Asking, asked_of, asks}
 use Rattle.route.specs.Asks as route
 use Rattle.wire.specs.declared.messages.Message.{Message}
 use Rattle.wire.specs.declared.messages.WireFault.{WireFault}
 use Rattle.wire.specs.declared.messages.WireFault.TheVariants.{Refused, Down, Ended, Read, Continue}
-use Rattle.wire.specs.Messages.{Reading, Reads, refused, whole}
-use Rattle.wire.specs.Links.{ReportsReceived, continue_if, WritesPrefix, Writes}
-use Rattle.wire.specs.Replies.{Answer, IsReplyText, refused_answer, unavailable_answer}
+use Rattle.wire.specs.Messages.{refused, whole}
+use Rattle.wire.specs.Links.{ReportsReceived, ReportsInput, continue_if, Writes}
+use Rattle.wire.specs.Replies.{Answer, IsReplyText, unavailable_answer}
+use Rattle.wire.proofs.LinkLemmas.{Appends-none, Appends-then, Consumes-none}
 use Rattle.serve.specs.Asks.{Ask, Owner, organization, unattributed, operator, silent, requests, commands}
 use Rattle.serve.specs.Asks as ask
-use Rattle.serve.specs.Steps.{replies}
+use Rattle.serve.specs.Steps.{Said, replies}
 use Rattle.serve.specs.Inner.Prepared.{IsPrepared}
-use Rattle.serve.specs.Inner.Replying.{IsTextOf, RepliesTo, read_so_far, ended_of}
-use Rattle.serve.specs.Service.{same_owner, asked_by, Carries, Stays, said_to, is_head, after_ask}
-use Rattle.serve.specs.Exchanges.{IsShapedBy, IsAnswered, Exchanges, ChangesAtMostOne}
-use Rattle.serve.specs.declared.exchanges.Due.{Due}
+use Rattle.serve.specs.Inner.Replying.{without_body, PreparesFor, due_reply, Settles}
+use Rattle.serve.specs.Service.{same_owner, asked_by, Asks, Carries, Stays, said_to, IsSaidText, is_head, after_ask}
+use Rattle.serve.specs.Exchanges.{IsServed, IsAnswered, Exchanges, ChangesAtMostOne}
 use Rattle.serve.specs.declared.exchanges.LinkFault.{LinkFault}
 use Rattle.serve.specs.declared.exchanges.LinkFault.TheVariants.{Ended as LinkEnded, Read as LinkRead, Continue as LinkContinue, Write as LinkWrite}
 use Rattle.serve.specs.declared.prepared.Prepared.{Prepared}
@@ -62,115 +60,121 @@ carried_one (commands at command) old new carries = by_owner (ask.commanded_of c
     by_owner unattributed is = ([], (λ other apart. is other))
     by_owner operator is = ([], (λ other apart. is other))
 
-pub answered_one : (now : ℕ) (message : Message) (old new : List ℕ → Option Organization) (reply : Answer)
-    → ((awaited : Bool) → Carries (asked_by now awaited message (asked_of message)) old new × (said_to old (asked_by now awaited message (asked_of message)) ≡ replies awaited now reply))
-    → ChangesAtMostOne old new
-answered_one now message old new reply h = carried_one (asked_by now false message (asked_of message)) old new (h false).0
-
 pub stayed_one : (old new : List ℕ → Option Organization) → Stays old new → ChangesAtMostOne old new
 stayed_one old new stays = ([], (λ other apart. stays other))
 
--- the reply to a message that is served
-pub served_reply : (now : ℕ) (message : Message) (old new : List ℕ → Option Organization) (reply : Answer)
-    → ((awaited : Bool) → Carries (asked_by now awaited message (asked_of message)) old new × (said_to old (asked_by now awaited message (asked_of message)) ≡ replies awaited now reply))
-    → RepliesTo now (Ok message) old new reply false
-served_reply now message old new reply h received left before after told = (
+answered_one : (now : ℕ) (received : List ℕ) (old new : List ℕ → Option Organization) (awaited : Bool) (text : List ℕ) (is_down : Bool) → IsAnswered now received old new awaited text is_down → ChangesAtMostOne old new
+answered_one now received old new awaited text false served = carried_one served.ask old new served.carries
+answered_one now received old new awaited text true unavailable = stayed_one old new unavailable.1.stays
+
+-- what was read of what received is answered by this text
+abbrev AnswersRead : ℕ → Result Message WireFault → (List ℕ → Option Organization) → (List ℕ → Option Organization) → Bool → List ℕ → Type 0
+AnswersRead now read old new is_down text = (received : List ℕ) (left before after : Option (List ℕ)) → ReportsReceived received left before after read
+    → (awaited : Bool) × Appends before after (continue_if awaited) × IsAnswered now received old new awaited text is_down
+
+-- memory or the store was refused, inside the reading or past it
+pub refused_read : (now : ℕ) (read : Result Message WireFault) (old new : List ℕ → Option Organization) (text : List ℕ)
+    → (read ≡ Err Ended → ⊥) → (read ≡ Err Read → ⊥) → (read ≡ Err Continue → ⊥)
+    → Stays old new → IsReplyText (unavailable_answer (without_body read)) now text → AnswersRead now read old new true text
+refused_read now (Ok message) old new text ended failed continued stays is_text received left before after told = (
   told.0,
   told.2,
-  (λ text is_text. record {
-    ask = asked_by now told.0 message (asked_of message);
-    asks = record { reading = whole message told.0; reads = told.1; is = refl };
-    carries = (h told.0).0;
-    answer = reply;
-    said = (h told.0).1;
-    is = is_text;
-  }),
+  (Some (whole message told.0), record { stays = stays; reads = told.1; without_body = is_head message; shaped = (refl, refl); is = is_text }),
 )
+refused_read now (Err (Refused refusal head)) old new text ended failed continued stays is_text received left before after told =
+    (false, told.1, (Some (refused refusal head), record { stays = stays; reads = told.0; without_body = head; shaped = (refl, refl); is = is_text }))
+refused_read now (Err Down) old new text ended failed continued stays is_text received left before after told =
+    (false, told, (None, record { stays = stays; reads = tt; without_body = false; shaped = (refl, refl); is = is_text }))
+refused_read now (Err Ended) old new text ended failed continued stays is_text received left before after told = absurd (ended refl)
+refused_read now (Err Read) old new text ended failed continued stays is_text received left before after told = absurd (failed refl)
+refused_read now (Err Continue) old new text ended failed continued stays is_text received left before after told = absurd (continued refl)
 
-pub refused_message : (refusal : Refusal) (is_head : Bool) (fault : WireFault) (reply : Answer)
-    → fault ≡ Refused refusal is_head → reply ≡ refused_answer refusal (error_text refusal) is_head
-    → (now : ℕ) (rows : List ℕ → Option Organization) → RepliesTo now (Err fault) rows rows reply false
-refused_message refusal is_head fault reply is made now rows =
-    subst (λ (f : WireFault). RepliesTo now (Err f) rows rows reply false) (sym is) (λ received left before after told. (
+-- a good result is no fault
+pub no_fault : {T E : Type 0} (result : Result T E) (x : T) (fault : E) → result ≡ Ok x → result ≡ Err fault → ⊥
+no_fault result x fault is other = let none : ⊥ = cc in none
+
+stays_both : (old mid new : List ℕ → Option Organization) → Stays old mid → Stays mid new → Stays old new
+stays_both old mid new first second = λ org. second org ∙ first org
+
+-- what was read is prepared, and its change is made, or isn't
+pub answered_read : (now : ℕ) (read : Result Message WireFault) (old mid new : List ℕ → Option Organization) (p : Prepared) (is_down : Bool) (text : List ℕ)
+    → Stays old mid → PreparesFor now old read p → Settles is_down p mid new
+    → IsReplyText (due_reply is_down (without_body read) p.reply) now text → AnswersRead now read old new is_down text
+answered_read now (Ok message) old mid new p false text stays prepared settled is_text received left before after told =
+    let h = message_answered old mid new now told.0 message p stays (prepared told.0) settled in (
+      told.0,
+      told.2,
+      record {
+        ask = asked_by now told.0 message (asked_of message);
+        asks = record { reading = whole message told.0; reads = told.1; is = refl };
+        carries = h.0;
+        answer = p.reply;
+        said = h.1;
+        is = is_text;
+      },
+    )
+answered_read now (Ok message) old mid new p true text stays prepared settled is_text received left before after told =
+    refused_read now (Ok message) old new text (λ e. let none : ⊥ = cc in none) (λ e. let none : ⊥ = cc in none) (λ e. let none : ⊥ = cc in none) (stays_both old mid new stays settled) is_text received left before after told
+answered_read now (Err (Refused refusal head)) old mid new p false text stays prepared settled is_text received left before after told =
+    let a : Ask = ask.refused now false refusal head in (
       false,
       told.1,
-      (λ text is_text. record {
-        ask = ask.refused now false refusal is_head;
-        asks = record { reading = refused refusal is_head; reads = told.0; is = refl };
-        carries = λ org. refl;
-        answer = reply;
-        said = ap (replies false now) (sym made);
+      record {
+        ask = a;
+        asks = record { reading = refused refusal head; reads = told.0; is = refl };
+        carries = carries_after old mid new a stays (settled a prepared);
+        answer = p.reply;
+        said = ap (replies false now) (sym prepared.0);
         is = is_text;
-      }),
-    ))
+      },
+    )
+answered_read now (Err (Refused refusal head)) old mid new p true text stays prepared settled is_text received left before after told =
+    refused_read now (Err (Refused refusal head)) old new text (λ e. let none : ⊥ = cc in none) (λ e. let none : ⊥ = cc in none) (λ e. let none : ⊥ = cc in none) (stays_both old mid new stays settled) is_text received left before after told
+answered_read now (Err Down) old mid new p is_down text stays prepared settled is_text received left before after told = absurd prepared
+answered_read now (Err Ended) old mid new p is_down text stays prepared settled is_text received left before after told = absurd prepared
+answered_read now (Err Read) old mid new p is_down text stays prepared settled is_text received left before after told = absurd prepared
+answered_read now (Err Continue) old mid new p is_down text stays prepared settled is_text received left before after told = absurd prepared
 
--- the 503 that is due
-abbrev IsDown : Due → Bool → Type 0
-IsDown due without_body = (due.reply ≡ unavailable_answer without_body) × (due.is_down ≡ true)
+-- what is prepared is of something that is asked
+pub asks_something : (now : ℕ) (read : Result Message WireFault) (old mid : List ℕ → Option Organization) (p : Prepared) → Stays old mid → PreparesFor now old read p → (a : Ask) × IsPrepared mid a p
+asks_something now (Ok message) old mid p stays prepared =
+    let a : Ask = asked_by now false message (asked_of message) in (a, prepared_after old mid a p stays (prepared false))
+asks_something now (Err (Refused refusal head)) old mid p stays prepared = (ask.refused now false refusal head, prepared)
+asks_something now (Err Down) old mid p stays prepared = absurd prepared
+asks_something now (Err Ended) old mid p stays prepared = absurd prepared
+asks_something now (Err Read) old mid p stays prepared = absurd prepared
+asks_something now (Err Continue) old mid p stays prepared = absurd prepared
 
--- its text, of whatever was read
-down_text : (now : ℕ) (received : List ℕ) (old new : List ℕ → Option Organization) (awaited without_body : Bool) (due : Due) (reading : Option Reading)
-    → IsDown due without_body → Stays old new → IfSome reading (Reads received) → IsShapedBy reading awaited without_body
-    → (text : List ℕ) → IsReplyText due.reply now text → IsTextOf due.is_down now received old new reading awaited text
-down_text now received old new awaited without_body due reading down stays reads shaped text is_text =
-    subst (λ (b : Bool). IsTextOf b now received old new reading awaited text) (sym down.1)
-    (record { stays = stays; reads = reads; without_body = without_body; shaped = shaped; is = subst (λ (a : Answer). IsReplyText a now text) down.0 is_text })
-
--- memory or the store was refused past the reading of a message
-pub unavailable_message : (now : ℕ) (message : Message) (without_body : Bool) (old new : List ℕ → Option Organization) (due : Due)
-    → without_body ≡ is_head message → Stays old new → IsDown due without_body → RepliesTo now (Ok message) old new due.reply due.is_down
-unavailable_message now message without_body old new due head stays down received left before after told =
-    (told.0, told.2, down_text now received old new told.0 without_body due (Some (whole message told.0)) down stays told.1 (refl, head))
-
-pub unavailable_refusal : (refusal : Refusal) (is_head : Bool) (fault : WireFault) (due : Due)
-    → fault ≡ Refused refusal is_head → IsDown due is_head
-    → (now : ℕ) (rows : List ℕ → Option Organization) → RepliesTo now (Err fault) rows rows due.reply due.is_down
-unavailable_refusal refusal is_head fault due is down now rows =
-    subst (λ (f : WireFault). RepliesTo now (Err f) rows rows due.reply due.is_down) (sym is)
-    (λ received left before after told. (false, told.1, down_text now received rows rows false is_head due (Some (refused refusal is_head)) down (λ org. refl) told.0 (refl, refl)))
-
-pub unavailable_reading : (fault : WireFault) (due : Due) → fault ≡ Down → IsDown due false
-    → (now : ℕ) (rows : List ℕ → Option Organization) → RepliesTo now (Err fault) rows rows due.reply due.is_down
-unavailable_reading fault due is down now rows =
-    subst (λ (f : WireFault). RepliesTo now (Err f) rows rows due.reply due.is_down) (sym is)
-    (λ received left before after told. (false, told, down_text now received rows rows false false due None down (λ org. refl) tt (refl, refl)))
-
--- two pieces written one after the other
-appends_both : (a b c : Option (List ℕ)) (x y : List ℕ) → Appends a b x → Appends b c y → Appends a c (x ++ y)
-appends_both None b c x y h k = tt
-appends_both (Some a) None c x y h k = absurd h
-appends_both (Some a) (Some b) None x y h k = absurd k
-appends_both (Some a) (Some b) (Some c) x y h k = k ∙ ap (λ (l : List ℕ). l ++ y) h ∙ append_assoc a x y
+-- the text of an answer, as of an equal one
+pub text_of : {T E : Type 0} (given wanted : Answer) (now : ℕ) (old new : Option (List ℕ)) (result : Result T E) → given ≡ wanted
+    → (text : List ℕ) × IsReplyText given now text × Writes old new text result → (text : List ℕ) × IsReplyText wanted now text × Writes old new text result
+text_of given wanted now old new result is h = (h.0, subst (λ (a : Answer). IsReplyText a now h.0) is h.1, h.2)
 
 -- by what received: what was read, the reply to it, and what was written of it
 abbrev Received : Option (List ℕ) → Option (List ℕ) → (List ℕ → Type 0) → Type 0
 Received old new P = (received : List ℕ) × Consumes old new received × P received
 
--- whatever was read
-answered_by : (is_down : Bool) (now : ℕ) (received : List ℕ) (old new : List ℕ → Option Organization) (reading : Option Reading) (awaited : Bool) (text : List ℕ)
-    → IsTextOf is_down now received old new reading awaited text → IsAnswered now received old new awaited text is_down
-answered_by false now received old new reading awaited text served = served
-answered_by true now received old new reading awaited text unavailable = (reading, unavailable)
+-- the reply is written, or a part of it
+pub replied : {T : Type 0} (unread left : Option (List ℕ)) (now : ℕ) (read : Result Message WireFault) (old new : List ℕ → Option Organization) (is_down : Bool) (a b c : Option (List ℕ)) (text : List ℕ) (result : Result T LinkFault)
+    → Received unread left (λ received. ReportsReceived received left a b read) → AnswersRead now read old new is_down text
+    → Writes b c text result → IfErr result (λ fault. fault ≡ LinkWrite)
+    → Received unread left (λ received. Exchanges now received left old new a c is_down result)
+replied unread left now read old new is_down a b c text (Ok done) told answers writes fault =
+    let r = answers told.0 left a b told.2 in
+    (told.0, told.1, (r.0, text, r.2, Appends-then a b c (continue_if r.0) text r.1 writes))
+replied {T = T} unread left now read old new is_down a b c text (Err e) told answers writes fault =
+    let r = answers told.0 left a b told.2 in
+    let is = subst (λ (x : List ℕ). IsAnswered now told.0 old new r.0 x is_down) writes.3 r.2 in
+    subst (λ (f : LinkFault). Received unread left (λ received. Exchanges now received left old new a c is_down {T = T} (Err f))) (sym fault)
+    (told.0, told.1, (r.0, writes.0, writes.1, writes.2, is, Appends-then a b c (continue_if r.0) writes.0 r.1 writes.4))
 
--- the whole reply is written
-pub all_written : (unread left : Option (List ℕ)) (now : ℕ) (read : Result Message WireFault) (old new : List ℕ → Option Organization) (reply : Answer) (is_down : Bool) (a b c : Option (List ℕ))
-    → Received unread left (λ received. ReportsReceived received left a b read) → RepliesTo now read old new reply is_down
-    → (text : List ℕ) × IsReplyText reply now text × Appends b c text
-    → Received unread left (λ received. (awaited : Bool) × (text : List ℕ) × IsAnswered now received old new awaited text is_down × Appends a c (continue_if awaited ++ text))
-all_written unread left now read old new reply is_down a b c told answered h =
-    let r = answered told.0 left a b told.2 in
-    (told.0, told.1, (r.0, h.0, answered_by is_down now told.0 old new (read_so_far read r.0) r.0 h.0 (r.2 h.0 h.1), appends_both a b c (continue_if r.0) h.0 r.1 h.2))
-
--- a part of it
-pub part_written : (unread left : Option (List ℕ)) (now : ℕ) (read : Result Message WireFault) (old new : List ℕ → Option Organization) (reply : Answer) (is_down : Bool) (a b c : Option (List ℕ))
-    → Received unread left (λ received. ReportsReceived received left a b read) → RepliesTo now read old new reply is_down
-    → (text : List ℕ) × IsReplyText reply now text × WritesPrefix b c text
-    → Received unread left (λ received. (awaited : Bool) × (part : List ℕ) × (rest : List ℕ) × (0 < length rest) × IsAnswered now received old new awaited (part ++ rest) is_down × Appends a c (continue_if awaited ++ part))
-part_written unread left now read old new reply is_down a b c told answered h =
-    let r = answered told.0 left a b told.2 in
-    let stops = h.2 in
-    let answer = answered_by is_down now told.0 old new (read_so_far read r.0) r.0 (stops.0 ++ stops.1) (r.2 (stops.0 ++ stops.1) (subst (IsReplyText reply now) stops.3 h.1)) in
-    (told.0, told.1, (r.0, stops.0, stops.1, stops.2, answer, appends_both a b c (continue_if r.0) stops.0 r.1 stops.4))
+-- nothing is read, and the refusal is written
+pub refused_unread : {T : Type 0} (left : Option (List ℕ)) (now : ℕ) (rows : List ℕ → Option Organization) (a c : Option (List ℕ)) (text : List ℕ) (result : Result T LinkFault)
+    → IsReplyText (unavailable_answer false) now text → Writes a c text result → IfErr result (λ fault. fault ≡ LinkWrite)
+    → Received left left (λ received. Exchanges now received left rows rows a c true result)
+refused_unread left now rows a c text result is_text =
+    replied left left now (Err Down) rows rows true a a c text result ([], Consumes-none left, Appends-none a)
+    (refused_read now (Err Down) rows rows text (λ e. let none : ⊥ = cc in none) (λ e. let none : ⊥ = cc in none) (λ e. let none : ⊥ = cc in none) (λ org. refl) is_text)
 
 -- no reply: what received is unfinished, or `100 Continue` wasn't taken
 pub no_reply : (unread left : Option (List ℕ)) (now : ℕ) (read : Result Message WireFault) (old new : List ℕ → Option Organization) (a b : Option (List ℕ)) (fault : LinkFault)
@@ -188,19 +192,36 @@ no_reply unread left now read old new a b LinkContinue told write ended failed c
     (told.0, told.1, (refl, r.0, r.1))
 no_reply unread left now read old new a b LinkWrite told write ended failed continued = absurd (write refl)
 
--- where nothing was read
-unread_down : (now : ℕ) (rows : List ℕ → Option Organization) (reply : Answer) (text : List ℕ) → reply ≡ unavailable_answer false → IsReplyText reply now text → IsAnswered now [] rows rows false text true
-unread_down now rows reply text made is_text = answered_by true now [] rows rows None false text (down_text now [] rows rows false false (record { reply = reply; is_down = true }) None (made, refl) (λ org. refl) tt (refl, refl) text is_text)
+-- at most one record changes where a reply was due
+pub replied_one : {T : Type 0} (unread left : Option (List ℕ)) (now : ℕ) (old new : List ℕ → Option Organization) (a c : Option (List ℕ)) (is_down : Bool) (result : Result T LinkFault)
+    → Received unread left (λ received. Exchanges now received left old new a c is_down result) → IfErr result (λ fault. fault ≡ LinkWrite) → ChangesAtMostOne old new
+replied_one unread left now old new a c is_down (Ok done) h fault = answered_one now h.0 old new h.2.0 h.2.1 is_down h.2.2
+replied_one {T = T} unread left now old new a c is_down (Err e) h fault =
+    let x = subst (λ (f : LinkFault). Exchanges now h.0 left old new a c is_down {T = T} (Err f)) fault h.2 in answered_one now h.0 old new x.0 (x.1 ++ x.2) is_down x.4
 
--- no memory at all: nothing is read, and the refusal is written
-pub refused_whole : {T E : Type 0} (now : ℕ) (left : Option (List ℕ)) (rows : List ℕ → Option Organization) (reply : Answer) (a b : Option (List ℕ)) (written : Result T E) → reply ≡ unavailable_answer false
-    → (text : List ℕ) × IsReplyText reply now text × Writes a b text written → Exchanges now [] left rows rows a b true (ended_of written)
-refused_whole now left rows reply a b (Ok done) is h = (false, h.0, unread_down now rows reply h.0 is h.1, h.2)
-refused_whole now left rows reply a b (Err fault) is h =
-    let stops = h.2 in
-    (false, stops.0, stops.1, stops.2, unread_down now rows reply (stops.0 ++ stops.1) is (subst (IsReplyText reply now) stops.3 h.1), stops.4)
+-- what was read of a whole input, as of what received
+of_input : (at : ℕ) (rows : List ℕ → Option Organization) (read : Result Message WireFault) (p : Prepared) (bytes : List ℕ) (a b : Option (List ℕ)) → PreparesFor at rows read p → ReportsInput bytes a b read → ReportsReceived bytes None a b read
+of_input at rows (Ok message) p bytes a b prepared told = told
+of_input at rows (Err (Refused refusal head)) p bytes a b prepared told = told
+of_input at rows (Err Down) p bytes a b prepared told = absurd prepared
+of_input at rows (Err Ended) p bytes a b prepared told = absurd prepared
+of_input at rows (Err Read) p bytes a b prepared told = absurd prepared
+of_input at rows (Err Continue) p bytes a b prepared told = absurd prepared
 
--- nothing received
-pub consumes_nothing : (left : Option (List ℕ)) → Consumes left left []
-consumes_nothing None = tt
-consumes_nothing (Some bytes) = refl
+-- what was read of a whole input, where nothing was written before
+pub input_read : (left a b : Option (List ℕ)) (bytes : List ℕ) (read : Result Message WireFault) → left ≡ Some bytes → a ≡ Some [] → IfSome left (λ input. ReportsInput input a b read) → ReportsInput bytes (Some []) b read
+input_read left a b bytes read is none told =
+    subst (λ (before : Option (List ℕ)). ReportsInput bytes before b read) none (subst (λ (l : Option (List ℕ)). IfSome l (λ input. ReportsInput input a b read)) is told)
+
+pub bytes_of : (a b : List ℕ) → Some a ≡ Some b → a ≡ b
+bytes_of a b e = cc
+
+-- the text of the reply to a whole input, behind what was written before it
+pub input_answered : (at : ℕ) (read : Result Message WireFault) (old mid new : List ℕ → Option Organization) (p : Prepared) (bytes : List ℕ) (b : Option (List ℕ)) (text all : List ℕ)
+    → Stays old mid → PreparesFor at old read p → Settles false p mid new → IsReplyText p.reply at text
+    → ReportsInput bytes (Some []) b read → Appends b (Some all) text
+    → (a : Ask) × Asks at bytes a × Carries a old new × IsSaidText (said_to old a) all
+input_answered at read old mid new p bytes b text all stays prepared settled is_text told appends =
+    let r = answered_read at read old mid new p false text stays prepared settled is_text bytes None (Some []) b (of_input at old read p bytes (Some []) b prepared told) in
+    let served : IsServed at bytes old new r.0 text = r.2 in
+    (served.ask, served.asks, served.carries, subst (λ (s : Said). IsSaidText s all) (sym served.said) (text, served.is, Appends-then (Some []) b (Some all) (continue_if r.0) text r.1 appends))

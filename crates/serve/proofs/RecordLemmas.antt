@@ -1,5 +1,5 @@
 -- Records that stay as they are, and answers that are foreseen.
-use Rattle.std.proofs.Common.{◌≡◌, ◌≢◌, ℕ, Bool, ◌&&◌, cond, List, is_some, Option, Some, None, Result, Ok, Err, IsSome, IfOk, OnOk, nat_lt, refl, sym, ap, subst, ◌∙◌}
+use Rattle.std.proofs.Common.{◌≡◌, ◌≢◌, ℕ, Bool, false, ◌&&◌, cond, List, is_some, Option, Some, None, Result, Ok, Err, IsSome, IfOk, OnOk, nat_lt, refl, sym, ap, subst, ◌∙◌}
 use Rattle.std.specs.Prelude.{option_map}
 use Rattle.std.specs.Ordering.{is_eq}
 use Rattle.std.specs.declared.cmp.Ordering.{Ordering}
@@ -27,9 +27,10 @@ use Rattle.machine.specs.declared.records.Workspace.{Workspace}
 use Rattle.machine.specs.declared.records.Organization.{Organization}
 use Rattle.machine.proofs.MapLemmas.{names_total, names_same, remove_absent}
 use Rattle.machine.proofs.KeepLemmas.{standing_is}
-use Rattle.wire.specs.Replies.{Answer as Reply}
+use Rattle.docs.specs.Bodies.{error_text}
+use Rattle.wire.specs.Replies.{Answer as Reply, refused_answer}
 use Rattle.serve.specs.Steps.{Answered, answer_to, seen_at, ruled_in, refusing}
-use Rattle.serve.specs.Inner.Prepared.{Foresees}
+use Rattle.serve.specs.Inner.Prepared.{Foresees, ChangesTo}
 use Rattle.serve.specs.Checks.{named_by, is_told_of, is_there}
 use Rattle.serve.specs.Inner.Units.{holder_in, if_named, is_present}
 use Rattle.basis.specs.declared.rows.Look.{Look as AnyLook}
@@ -123,9 +124,10 @@ rule_foreseen (Some o) seen org ws act now unit decision p same lawful units mee
 -- a refusal is foreseen where it is what is wanted
 pub refused_after : {E : Type 0} (refusal : Refusal) (r : Option Organization) (org : List ℕ) (want : Answered) (res : Result Prepared E)
     → (refusal ≢ Unavailable → want ≡ refusing refusal r) → OnOk res (refusal ≢ Unavailable)
-    → IfOk res (λ p. (r : Option Organization) (org : List ℕ) → Foresees r org (refusing refusal r) p)
+    → IfOk res (λ p. (p.reply ≡ refused_answer refusal (error_text refusal) false) × (p.pending ≡ None))
     → IfOk res (Foresees r org want)
-refused_after refusal r org want (Ok p) is known h = subst (λ (w : Answered). Foresees r org w p) (sym (is known)) (h r org)
+refused_after refusal r org want (Ok p) is known h =
+    subst (λ (w : Answered). Foresees r org w p) (sym (is known)) (record { answer = h.0; change = subst (ChangesTo r org r) (sym h.1) refl })
 refused_after refusal r org want (Err fault) is known h = tt
 
 -- whether what is told of is there, by what was seen of it

@@ -1,15 +1,11 @@
 -- One step taken: what it asks is carried out, and this is the text of what is said.
-use Rattle.std.proofs.Common.{◌≡◌, ℕ, Bool, false, List, [], ◌++◌, Option, Result, IfOk, refl, sym, ap, subst, ◌∙◌}
-use Rattle.basis.specs.declared.refusals.Refusal.{Refusal}
-use Rattle.docs.specs.Bodies.{error_text}
+use Rattle.std.proofs.Common.{◌≡◌, ℕ, Bool, List, Option, Result, IfOk, refl, sym, ap, subst, ◌∙◌}
 use Rattle.machine.specs.declared.records.Organization.{Organization}
 use Rattle.route.specs.Asks.{Asking, asked_of, asks}
 use Rattle.route.specs.Asks as route
 use Rattle.wire.specs.declared.messages.Message.{Message}
-use Rattle.wire.specs.Messages.{Reads, unfinished, whole, Reading}
+use Rattle.wire.specs.Messages.{unfinished, whole, Reading}
 use Rattle.wire.specs.Messages as wire
-use Rattle.wire.specs.Links.{continue_if}
-use Rattle.wire.specs.Replies.{Answer, IsReplyText, refused_answer}
 use Rattle.serve.specs.declared.prepared.Prepared.{Prepared}
 use Rattle.serve.specs.Asks.{Ask, silent, requests, commands, organization}
 use Rattle.serve.specs.Asks as ask
@@ -27,20 +23,6 @@ use Rattle.machine.specs.declared.keeps.AdminAnswer.{AdminAnswer}
 use Rattle.serve.proofs.RecordLemmas.{if_ok}
 use Rattle.machine.specs.Ranges.{IsMoment}
 
--- what is said of what is prepared
-pub said_is : (rows : List ℕ → Option Organization) (at : ℕ) (awaited : Bool) (message : Message) (asking : Asking) (p : Prepared) (text : List ℕ)
-    → IsPrepared rows (asked_by at awaited message asking) p → IsReplyText p.reply at text → IsSaidText (said_to rows (asked_by at awaited message asking)) (continue_if awaited ++ text)
-said_is rows at awaited message (route.refused refusal) p text h is = (text, subst (λ (a : Answer). IsReplyText a at text) h.0 is, refl)
-said_is rows at awaited message (asks asked) p text h is = (text, subst (λ (a : Answer). IsReplyText a at text) h.answer is, refl)
-
-said_bytes : (rows : List ℕ → Option Organization) (at : ℕ) (awaited : Bool) (message : Message) (p : Prepared) (interim bytes : List ℕ)
-    → IsPrepared rows (asked_by at awaited message (asked_of message)) p → interim ≡ continue_if awaited
-    → (text : List ℕ) × IsReplyText p.reply at text × (bytes ≡ interim ++ text)
-    → IsSaidText (said_to rows (asked_by at awaited message (asked_of message))) bytes
-said_bytes rows at awaited message p interim bytes prepared e h =
-    subst (λ (b : List ℕ). IsSaidText (said_to rows (asked_by at awaited message (asked_of message))) b) (sym (h.2 ∙ ap (λ (f : List ℕ). f ++ h.0) e))
-    (said_is rows at awaited message (asked_of message) p h.0 prepared h.1)
-
 -- what is prepared stays so over rows that stay
 pub prepared_after : (old new : List ℕ → Option Organization) (a : Ask) (p : Prepared) → Stays old new → IsPrepared old a p → IsPrepared new a p
 prepared_after old new silent p stays h = h
@@ -51,29 +33,6 @@ prepared_after old new (commands at command) p stays h = h
 
 pub carries_after : (old mid new : List ℕ → Option Organization) (a : Ask) → Stays old mid → Carries a mid new → Carries a old new
 carries_after old mid new a stays carries = λ org. carries org ∙ ap (after_ask (is_own (organization org) a) a) (stays org)
-
--- a message is prepared, its text is made, and its change follows
-pub message_taken : (old mid new : List ℕ → Option Organization) (at : ℕ) (awaited : Bool) (message : Message) (p : Prepared) (interim bytes : List ℕ)
-    → Stays old mid → IsPrepared old (asked_by at awaited message (asked_of message)) p
-    → ((a : Ask) → IsPrepared mid a p → Carries a mid new)
-    → interim ≡ continue_if awaited → (text : List ℕ) × IsReplyText p.reply at text × (bytes ≡ interim ++ text)
-    → Carries (asked_by at awaited message (asked_of message)) old new × IsSaidText (said_to old (asked_by at awaited message (asked_of message))) bytes
-message_taken old mid new at awaited message p interim bytes stays prepared carried e h =
-    let a : Ask = asked_by at awaited message (asked_of message) in
-    (carries_after old mid new a stays (carried a (prepared_after old mid a p stays prepared)), said_bytes old at awaited message p interim bytes prepared e h)
-
--- a refused head
-pub refused_taken : {E : Type 0} (rows : List ℕ → Option Organization) (at : ℕ) (bytes : List ℕ) (refusal : Refusal) (is_head : Bool) (reply : Answer) (interim : List ℕ) (res : Result (List ℕ) E)
-    → Reads bytes (wire.refused refusal is_head) → reply ≡ refused_answer refusal (error_text refusal) is_head → interim ≡ []
-    → IfOk res (λ b. (text : List ℕ) × IsReplyText reply at text × (b ≡ interim ++ text))
-    → IfOk res (λ text. (a : Ask) × Asks at bytes a × Carries a rows rows × IsSaidText (said_to rows a) text)
-refused_taken rows at bytes refusal is_head reply interim res reads is none h =
-    if_ok res (λ b made. (
-      ask.refused at false refusal is_head,
-      record { reading = wire.refused refusal is_head; reads = reads; is = refl },
-      (λ org. refl),
-      (made.0, subst (λ (a : Answer). IsReplyText a at made.0) is made.1, made.2 ∙ ap (λ (f : List ℕ). f ++ made.0) none),
-    )) h
 
 -- an operator's command
 pub command_taken : {E : Type 0} (s : Step) (at : ℕ) (command : Admin) (old new : List ℕ → Option Organization) (res : Result (List ℕ) E) → s ≡ Command at command

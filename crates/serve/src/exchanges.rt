@@ -1,21 +1,21 @@
 //! One exchange: a request is read, answered and carried out, and its reply is written.
-ghost use Rattle.std.specs.Prelude.{◌≡◌, ◌↔◌, ℕ, List, Bool, Option, Err, ◌≢◌, ◌⊎◌, true, false, IfOk, IfErr, OnErr, IsErrOf};
-ghost use Rattle.machine.specs.declared.records.Organization.{Organization};
-ghost use Rattle.route.specs.Asks.{asked_of};
-ghost use Rattle.wire.specs.declared.messages.WireFault.TheVariants.{Ended, Read, Continue};
-ghost use Rattle.wire.specs.Replies.{unavailable_answer};
-ghost use Rattle.serve.specs.Steps.{replies};
-ghost use Rattle.serve.specs.Service.{asked_by, Carries, Stays, said_to};
+ghost use Rattle.std.specs.Prelude.{◌≡◌, ◌↔◌, ℕ, List, ◌⊎◌, true, false, IfErr, is_err, IsErrOf};
 ghost use Rattle.std.specs.Io.KnownBytes.{Consumes};
+ghost use Rattle.wire.specs.Links.{Writes};
+ghost use Rattle.wire.specs.Replies.{IsReplyText, unavailable_answer};
+ghost use Rattle.serve.specs.Asks.{Ask};
+ghost use Rattle.serve.specs.Service.{Stays};
 ghost use Rattle.serve.specs.Exchanges.{Exchanges, ChangesAtMostOne};
-ghost use Rattle.serve.specs.Inner.Replying.{RepliesTo};
+ghost use Rattle.serve.specs.Inner.Prepared.{IsPrepared};
+ghost use Rattle.serve.specs.Inner.Replying.{due_reply, Settles};
 
-use crate::messages::{commit, is_head, prepare, refused_reply};
+use crate::messages::{commit, prepare, without_body};
+use crate::prepared::Prepared;
 use basis::{Down, Moment};
 use machine::Keep;
 use route::Routes;
 use std::alloc::Global;
-use wire::{Inlet, Message, Outlet, Reply, WireFault, read_message, write_reply};
+use wire::{Inlet, Outlet, Reply, read_message, write_reply};
 
 /// Why an exchange ended without a whole reply. After the first three no rows changed.
 #[derive(Clone, Copy, PartialEq, Eq)]
@@ -30,96 +30,62 @@ pub enum LinkFault {
     Write,
 }
 
-/// The reply that is due, and whether it is the 503 of memory or a store that refused.
-#[derive(Drop)]
-pub struct Due {
-    pub reply: Reply,
-    pub is_down: bool,
-}
-
-fn unavailable(is_head: bool) -> Due
-    ensures reply { result.reply ≡ unavailable_answer is_head }
-    ensures down { result.is_down ≡ true }
+fn write_due<O: Outlet>(reply: &Reply, now: Moment, outlet: &mut O) -> Result<(), LinkFault>
+    requires { O.broken outlet.old ≡ false }
+    ensures text { (text : List ℕ) × IsReplyText reply.now now text × Writes (O.written outlet.old) (O.written outlet.new) text result }
+    ensures fault { IfErr result (λ fault. fault ≡ LinkFault.Write) }
+    ensures cause { O.broken outlet.new ≡ is_err result }
 {
-    Due {
-        reply: Reply::unavailable(is_head),
-        is_down: true,
+    match write_reply(reply, now, outlet) {
+        Ok(()) => Ok(()),
+        Err(_) => Err(LinkFault::Write),
     }
 }
 
-/// A message is answered in full, and then its change is made.
-fn answer<K: Keep>(
-    alloc: Global,
-    keep: &mut K,
-    routes: &Routes,
+/// The 503 of memory or a store that refused is written.
+pub fn refuse_exchange<O: Outlet>(
+    is_head: bool,
     now: Moment,
-    message: Message,
-) -> Result<Reply, Down>
-    ensures so_far { K.clean keep.new → K.clean keep.old }
-    ensures kept { K.clean keep.new → K.sound keep.old → K.sound keep.new }
-    ensures ok { K.clean keep.new → K.sound keep.old → IfOk result (λ reply. (awaited : Bool)
-        → Carries (asked_by now awaited message (asked_of message)) (K.rows keep.old) (K.rows keep.new)
-        × (said_to (K.rows keep.old) (asked_by now awaited message (asked_of message)) ≡ replies awaited now reply)) }
-    ensures err { K.clean keep.new → OnErr result (Stays (K.rows keep.old) (K.rows keep.new)) }
+    outlet: &mut O,
+) -> Result<(), LinkFault>
+    requires { O.broken outlet.old ≡ false }
+    ensures text { (text : List ℕ) × IsReplyText (unavailable_answer is_head) now text × Writes (O.written outlet.old) (O.written outlet.new) text result }
+    ensures fault { IfErr result (λ fault. fault ≡ LinkFault.Write) }
+    ensures cause { O.broken outlet.new ≡ is_err result }
 {
-    let prepared = prepare(alloc, keep, routes, now, message)?;
-    commit(alloc, keep, &prepared)?;
-    Ok(prepared.reply)
+    let reply = Reply::unavailable(is_head);
+    write_due(&reply, now, outlet)
 }
 
-/// The reply where no message was read, or why there is none.
-fn fault_reply(alloc: Global, fault: WireFault) -> Result<Due, LinkFault>
-    ensures ok { IfOk result (λ due. (now : ℕ) (rows : List ℕ → Option Organization) → RepliesTo now (Err fault) rows rows due.reply due.is_down) }
-    ensures ended { IsErrOf result LinkFault.Ended ↔ (fault ≡ Ended) }
-    ensures read { IsErrOf result LinkFault.Read ↔ (fault ≡ Read) }
-    ensures continues { IsErrOf result LinkFault.Continue ↔ (fault ≡ Continue) }
-    ensures never_write { IfErr result (λ fault. fault ≢ LinkFault.Write) }
-{
-    match fault {
-        WireFault::Refused(refusal, is_head) => match refused_reply(alloc, refusal, is_head) {
-            Ok(reply) => Ok(Due {
-                reply,
-                is_down: false,
-            }),
-            Err(Down) => Ok(unavailable(is_head)),
-        },
-        WireFault::Down => Ok(unavailable(false)),
-        WireFault::Ended => Err(LinkFault::Ended),
-        WireFault::Read => Err(LinkFault::Read),
-        WireFault::Continue => Err(LinkFault::Continue),
-    }
-}
-
-/// The reply to what was read, or why there is none.
-fn reply_to<K: Keep>(
+/// The change that was prepared is made, and then its reply is written; where it isn't made (`down`), the
+/// 503 is.
+fn settle<K: Keep, O: Outlet>(
     alloc: Global,
     keep: &mut K,
-    routes: &Routes,
+    prepared: &Prepared,
+    is_head: bool,
     now: Moment,
-    read: Result<Message, WireFault>,
-) -> Result<Due, LinkFault>
+    outlet: &mut O,
+    down: &mut bool,
+) -> Result<(), LinkFault>
+    requires { O.broken outlet.old ≡ false }
     ensures so_far { K.clean keep.new → K.clean keep.old }
-    ensures kept { K.clean keep.new → K.sound keep.old → K.sound keep.new }
-    ensures ok { K.clean keep.new → K.sound keep.old → IfOk result (λ due. RepliesTo now read (K.rows keep.old) (K.rows keep.new) due.reply due.is_down) }
-    ensures err { K.clean keep.new → OnErr result (Stays (K.rows keep.old) (K.rows keep.new)) }
-    ensures others { K.clean keep.new → K.sound keep.old → ChangesAtMostOne (K.rows keep.old) (K.rows keep.new) }
-    ensures ended { IsErrOf result LinkFault.Ended ↔ (read ≡ Err Ended) }
-    ensures read { IsErrOf result LinkFault.Read ↔ (read ≡ Err Read) }
-    ensures continues { IsErrOf result LinkFault.Continue ↔ (read ≡ Err Continue) }
-    ensures never_write { IfErr result (λ fault. fault ≢ LinkFault.Write) }
+    ensures kept { K.clean keep.new → K.sound keep.old → (ask : Ask) → IsPrepared (K.rows keep.old) ask prepared.now → K.sound keep.new }
+    ensures settled { K.clean keep.new → K.sound keep.old → Settles down.new prepared.now (K.rows keep.old) (K.rows keep.new) }
+    ensures text { (text : List ℕ) × IsReplyText (due_reply down.new is_head prepared.now.reply) now text
+        × Writes (O.written outlet.old) (O.written outlet.new) text result }
+    ensures fault { IfErr result (λ fault. fault ≡ LinkFault.Write) }
+    ensures cause { O.broken outlet.new ≡ is_err result }
 {
-    match read {
-        Ok(message) => {
-            let is_head = is_head(&message);
-            match answer(alloc, keep, routes, now, message) {
-                Ok(reply) => Ok(Due {
-                    reply,
-                    is_down: false,
-                }),
-                Err(Down) => Ok(unavailable(is_head)),
-            }
+    match commit(alloc, keep, prepared) {
+        Ok(()) => {
+            *down = false;
+            write_due(&prepared.reply, now, outlet)
         }
-        Err(fault) => fault_reply(alloc, fault),
+        Err(Down) => {
+            *down = true;
+            refuse_exchange(is_head, now, outlet)
+        }
     }
 }
 
@@ -149,13 +115,12 @@ pub fn exchange<K: Keep, I: Inlet, O: Outlet>(
 {
     *is_down = false;
     let read = read_message(alloc, inlet, outlet);
-    match reply_to(alloc, keep, routes, now, read) {
-        Ok(due) => {
-            *is_down = due.is_down;
-            match write_reply(&due.reply, now, outlet) {
-                Ok(()) => Ok(()),
-                Err(_) => Err(LinkFault::Write),
-            }
+    let head_only = without_body(&read);
+    match prepare(alloc, keep, routes, now, read) {
+        Ok(Some(prepared)) => settle(alloc, keep, &prepared, head_only, now, outlet, is_down),
+        Ok(None) => {
+            *is_down = true;
+            refuse_exchange(head_only, now, outlet)
         }
         Err(fault) => Err(fault),
     }

@@ -1,38 +1,41 @@
-//! Messages from bytes, what they are answered, and what then changes.
-ghost use Rattle.std.specs.Prelude.{◌≡◌, ◌++◌, ℕ, List, Bool, Some, None, IfOk, OnOk, OnErr};
-ghost use Rattle.docs.specs.Bodies.{error_text};
-ghost use Rattle.wire.specs.Replies.{IsReplyText, refused_answer};
-ghost use Rattle.wire.specs.Links.{continue_if};
+//! What was read is answered in full, and then its change is made.
+ghost use Rattle.std.specs.Prelude.{◌≡◌, ◌↔◌, Bool, Err, ◌≢◌, IfOk, IfErr, IfSome, IsErrOf, OnOk, OnErr};
+ghost use Rattle.wire.specs.declared.messages.WireFault.TheVariants.{Ended, Read, Continue};
 ghost use Rattle.route.specs.Asks.{asked_of};
 ghost use Rattle.serve.specs.Asks.{Ask};
 ghost use Rattle.machine.specs.Keeping.{Looks};
-ghost use Rattle.serve.specs.Inner.Prepared.{IsPrepared, IsReceived};
+ghost use Rattle.serve.specs.Inner.Prepared.{IsPrepared};
+ghost use Rattle.serve.specs.Inner.Replying.{PreparesFor, without_body};
 ghost use Rattle.serve.specs.Service.{is_head, asked_by, Asks, Carries, Stays, said_to, IsSaidText};
 
-use crate::prepared::{Prepared, Received};
-use crate::requests::request;
-use basis::{Bytes, Down, Moment, Refusal};
-use docs::write_error;
+use crate::exchanges::LinkFault;
+use crate::prepared::Prepared;
+use crate::requests::{refuse, request};
+use basis::{Bytes, Down, Moment};
 use machine::Keep;
 use route::{Routes, asked};
 use std::alloc::Global;
-use wire::{FromRead, Message, Reply, ToWrite, WireFault, read_message, write_reply};
+use wire::{FromRead, Message, ToWrite, WireFault, read_message, write_reply};
 
-pub fn is_head(message: &Message) -> bool
+fn is_head(message: &Message) -> bool
     ensures { result ≡ is_head message.now }
 {
     message.method.as_str() == "HEAD"
 }
 
-pub fn refused_reply(alloc: Global, refusal: Refusal, is_head: bool) -> Result<Reply, Down>
-    ensures { IfOk result (λ reply. reply ≡ refused_answer refusal (error_text refusal) is_head) }
+/// Whether the body of the reply to what was read is left out.
+pub fn without_body(read: &Result<Message, WireFault>) -> bool
+    ensures { result ≡ without_body read.now }
 {
-    let body = write_error(alloc, refusal)?;
-    Ok(Reply::refused(refusal, Bytes::new(body), is_head))
+    match read {
+        Ok(message) => is_head(message),
+        Err(WireFault::Refused(_, is_head)) => *is_head,
+        Err(WireFault::Ended | WireFault::Read | WireFault::Continue | WireFault::Down) => false,
+    }
 }
 
-/// What a message is answered, and the change that is to follow. Nothing changes yet.
-pub fn prepare<K: Keep>(
+/// What a message is answered, and the change that is to follow.
+fn answer<K: Keep>(
     alloc: Global,
     keep: &mut K,
     routes: &Routes,
@@ -49,12 +52,35 @@ pub fn prepare<K: Keep>(
     let body = message.body;
     match found {
         Ok(asked) => request(alloc, keep, at, &asked, &content_md5, body),
-        Err(Refusal::Unavailable) => Err(Down),
-        Err(refusal) => Ok(Prepared {
-            reply: refused_reply(alloc, refusal, is_head)?,
-            pending: None,
-        }),
+        Err(refusal) => refuse(alloc, refusal, is_head),
     }
+}
+
+/// What is answered to what was read, and the change that is to follow: none where memory or the store
+/// refused, or why nothing is answered. Nothing changes yet.
+pub fn prepare<K: Keep>(
+    alloc: Global,
+    keep: &mut K,
+    routes: &Routes,
+    at: Moment,
+    read: Result<Message, WireFault>,
+) -> Result<Option<Prepared>, LinkFault>
+    ensures looks { Looks K.rows K.clean K.sound keep.old keep.new }
+    ensures ok { K.clean keep.new → K.sound keep.old → IfOk result (λ prepared. IfSome prepared (PreparesFor at (K.rows keep.old) read)) }
+    ensures ended { IsErrOf result LinkFault.Ended ↔ (read ≡ Err Ended) }
+    ensures read { IsErrOf result LinkFault.Read ↔ (read ≡ Err Read) }
+    ensures continues { IsErrOf result LinkFault.Continue ↔ (read ≡ Err Continue) }
+    ensures never_write { IfErr result (λ fault. fault ≢ LinkFault.Write) }
+{
+    let prepared = match read {
+        Ok(message) => answer(alloc, keep, routes, at, message),
+        Err(WireFault::Refused(refusal, is_head)) => refuse(alloc, refusal, is_head),
+        Err(WireFault::Down) => Err(Down),
+        Err(WireFault::Ended) => return Err(LinkFault::Ended),
+        Err(WireFault::Read) => return Err(LinkFault::Read),
+        Err(WireFault::Continue) => return Err(LinkFault::Continue),
+    };
+    Ok(prepared.ok())
 }
 
 /// Makes the change that was prepared.
@@ -71,57 +97,8 @@ pub fn commit<K: Keep>(alloc: Global, keep: &mut K, prepared: &Prepared) -> Resu
     }
 }
 
-/// The text of a reply, after what stands in interim of it.
-pub fn reply_bytes(reply: &Reply, at: Moment, interim: Vec<u8>) -> Result<Bytes, Down>
-    ensures { IfOk result (λ bytes. (text : List ℕ) × IsReplyText reply.now at text × (bytes ≡ interim.items ++ text)) }
-{
-    let mut outlet = ToWrite::new(interim);
-    if write_reply(reply, at, &mut outlet).is_err() {
-        return Err(Down);
-    }
-    Ok(Bytes::new(outlet.into_inner()))
-}
-
-/// What the bytes of a connection are.
-pub fn read_bytes(alloc: Global, bytes: &[u8]) -> Result<Received, Down>
-    ensures { IfOk result (IsReceived bytes.now) }
-{
-    let mut inlet = FromRead::new(bytes);
-    let mut outlet = ToWrite::new(Vec::new(alloc));
-    match read_message(alloc, &mut inlet, &mut outlet) {
-        Ok(message) => Ok(Received::Whole {
-            message,
-            interim: outlet.into_inner(),
-        }),
-        Err(WireFault::Refused(refusal, is_head)) => Ok(Received::Refused(refusal, is_head)),
-        Err(WireFault::Ended) => Ok(Received::Unfinished),
-        Err(WireFault::Read | WireFault::Continue | WireFault::Down) => Err(Down),
-    }
-}
-
-/// A message is answered in full, and then its change is made.
-fn take_message<K: Keep>(
-    alloc: Global,
-    keep: &mut K,
-    routes: &Routes,
-    at: Moment,
-    message: Message,
-    interim: Vec<u8>,
-) -> Result<Bytes, Down>
-    ensures so_far { K.clean keep.new → K.clean keep.old }
-    ensures kept { K.clean keep.new → K.sound keep.old → K.sound keep.new }
-    ensures ok { K.clean keep.new → K.sound keep.old → IfOk result (λ text. (awaited : Bool) → interim.items ≡ continue_if awaited
-        → Carries (asked_by at awaited message (asked_of message)) (K.rows keep.old) (K.rows keep.new)
-        × IsSaidText (said_to (K.rows keep.old) (asked_by at awaited message (asked_of message))) text) }
-    ensures err { K.clean keep.new → OnErr result (Stays (K.rows keep.old) (K.rows keep.new)) }
-{
-    let prepared = prepare(alloc, keep, routes, at, message)?;
-    let text = reply_bytes(&prepared.reply, at, interim)?;
-    commit(alloc, keep, &prepared)?;
-    Ok(text)
-}
-
-/// What the bytes of a connection are answered, and what they change.
+/// What the bytes of a connection are answered, and what they change: the text is made in full before
+/// the change is.
 pub fn take_request<K: Keep>(
     alloc: Global,
     keep: &mut K,
@@ -135,14 +112,17 @@ pub fn take_request<K: Keep>(
         × Carries ask (K.rows keep.old) (K.rows keep.new) × IsSaidText (said_to (K.rows keep.old) ask) text) }
     ensures err { K.clean keep.new → OnErr result (Stays (K.rows keep.old) (K.rows keep.new)) }
 {
-    match read_bytes(alloc, bytes)? {
-        Received::Whole { message, interim } => take_message(
-            alloc, keep, routes, at, message, interim,
-        ),
-        Received::Refused(refusal, is_head) => {
-            let reply = refused_reply(alloc, refusal, is_head)?;
-            reply_bytes(&reply, at, Vec::new(alloc))
-        }
-        Received::Unfinished => Ok(Bytes::new(Vec::new(alloc))),
-    }
+    let mut inlet = FromRead::new(bytes);
+    let mut outlet = ToWrite::new(Vec::new(alloc));
+    let read = read_message(alloc, &mut inlet, &mut outlet);
+    let prepared = match prepare(alloc, keep, routes, at, read) {
+        Ok(Some(prepared)) => prepared,
+        Err(LinkFault::Ended) => return Ok(Bytes::new(Vec::new(alloc))),
+        _ => return Err(Down),
+    };
+    let Ok(()) = write_reply(&prepared.reply, at, &mut outlet) else {
+        return Err(Down);
+    };
+    commit(alloc, keep, &prepared)?;
+    Ok(Bytes::new(outlet.into_inner()))
 }

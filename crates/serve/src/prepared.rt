@@ -1,9 +1,9 @@
 //! What is asked of a workspace, and an answer that is made in full before anything changes.
 
-use basis::{OrgName, Prefix, Refusal, WsName};
+use basis::{OrgName, Prefix, WsName};
 use machine::{Act, Change};
 use route::WsAct;
-use wire::{Message, Reply};
+use wire::Reply;
 
 /// An act on a workspace by its name.
 #[derive(Drop)]
@@ -54,12 +54,4 @@ pub struct Pending {
 pub struct Prepared {
     pub reply: Reply,
     pub pending: Option<Pending>,
-}
-
-/// What came on a connection: a message, with `100 Continue` where it was written, or why there is none.
-#[derive(Drop)]
-pub enum Received {
-    Whole { message: Message, interim: Vec<u8> },
-    Refused(Refusal, bool),
-    Unfinished,
 }

@@ -1,5 +1,5 @@
 //! A request of an organization: the checks in their order, and the answer of the rules.
-ghost use Rattle.std.specs.Prelude.{◌≡◌, ◌≢◌, ℕ, List, [], Option, Some, None, Ok, IsSome, IfOk, OnOk, option_map, option_copied};
+ghost use Rattle.std.specs.Prelude.{◌≡◌, ◌≢◌, ℕ, [], Option, Some, None, Ok, IsSome, IfOk, OnOk, option_map, option_copied};
 ghost use Rattle.machine.specs.Keeping.{Looks};
 ghost use Rattle.machine.specs.Ranges.{IsInRange};
 ghost use Rattle.machine.specs.Records.{workspace_in, seen_in};
@@ -9,7 +9,9 @@ ghost use Rattle.machine.specs.declared.acts.Answer.TheVariants.{Workspace as Sh
 ghost use Rattle.serve.specs.declared.prepared.Task.TheVariants.{ListAll, Carry};
 ghost use Rattle.machine.specs.declared.acts.Decision.TheVariants.{Accepted};
 ghost use Rattle.machine.specs.declared.records.Organization.{Organization};
-ghost use Rattle.serve.specs.Steps.{refusing, holder_text, answer_to, ruled_in, carried, request_step};
+ghost use Rattle.docs.specs.Bodies.{error_text};
+ghost use Rattle.wire.specs.Replies.{refused_answer};
+ghost use Rattle.serve.specs.Steps.{holder_text, answer_to, ruled_in, carried, request_step};
 ghost use Rattle.serve.specs.Inner.Judging.{Stands};
 ghost use Rattle.serve.specs.Inner.Prepared.{Foresees, IsTaskInRange};
 ghost use Rattle.serve.specs.Inner.Units.{holder_in};
@@ -42,7 +44,7 @@ pub fn request<K: Keep>(
 {
     match checked(alloc, keep, at, asked, content_md5, body) {
         Ok(task) => perform(alloc, keep, at, &asked.caller, task),
-        Err(refusal) => refuse_unless_down(alloc, refusal),
+        Err(refusal) => refuse(alloc, refusal, false),
     }
 }
 
@@ -85,26 +87,20 @@ fn checked<K: Keep>(
     }
 }
 
-/// A refusal: its word, and nothing changes.
-fn refuse(alloc: Global, refusal: Refusal) -> Result<Prepared, Down>
-    ensures { IfOk result (λ p. (r : Option Organization) (org : List ℕ) → Foresees r org (refusing refusal r) p) }
-{
-    let body = write_error(alloc, refusal)?;
-    Ok(Prepared {
-        reply: Reply::refused(refusal, Bytes::new(body), false),
-        pending: None,
-    })
-}
-
-/// A refusal, but for want of memory.
-fn refuse_unless_down(alloc: Global, refusal: Refusal) -> Result<Prepared, Down>
+/// A refusal: its word, and nothing changes. That of want of memory is left to the caller.
+pub fn refuse(alloc: Global, refusal: Refusal, is_head: bool) -> Result<Prepared, Down>
     ensures known { OnOk result (refusal ≢ Refusal.Unavailable) }
-    ensures ok { IfOk result (λ p. (r : Option Organization) (org : List ℕ) → Foresees r org (refusing refusal r) p) }
+    ensures ok { IfOk result (λ p. (p.reply ≡ refused_answer refusal (error_text refusal) is_head) × (p.pending ≡ None)) }
 {
     match refusal {
-        Refusal::Unavailable => Err(Down),
-        _ => refuse(alloc, refusal),
+        Refusal::Unavailable => return Err(Down),
+        _ => {}
     }
+    let body = write_error(alloc, refusal)?;
+    Ok(Prepared {
+        reply: Reply::refused(refusal, Bytes::new(body), is_head),
+        pending: None,
+    })
 }
 
 /// The body that tells who holds.

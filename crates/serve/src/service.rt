@@ -1,9 +1,7 @@
 //! The service over a keep: what it keeps between steps, and steps in turn.
-ghost use Rattle.std.specs.Prelude.{◌≡◌, ◌≤◌, ◌<◌, ℕ, List, [], Option, Some, None, IfOk, IfErr, IsErrOf, is_err, true, false, ◌↔◌, ◌⊎◌, OnOk, OnErr, length, take};
-ghost use Rattle.machine.specs.declared.records.Organization.{Organization};
+ghost use Rattle.std.specs.Prelude.{◌≡◌, ◌≤◌, ◌<◌, ℕ, List, Option, Some, None, IfOk, IsErrOf, true, false, ◌↔◌, ◌⊎◌, OnOk, OnErr, length, take};
 ghost use Rattle.std.specs.Io.KnownBytes.{Consumes};
 ghost use Rattle.serve.specs.Exchanges.{Exchanges, ChangesAtMostOne};
-ghost use Rattle.serve.specs.Inner.Replying.{ended_of};
 ghost use Rattle.serve.specs.Inner.Taking.{IsTaken, RunsTo};
 ghost use Rattle.serve.specs.Asks.{Ask, commands, unattributed, operator};
 ghost use Rattle.serve.specs.Service.{IsSaidText, Stays, Carries, said_to, AreAsked, IsAdminAnswer, ListsAll, IsListedBy, org_lines, token_list_text};
@@ -17,7 +15,7 @@ ghost use Rattle.serve.specs.Book.{LocksKeepOthersOut, RunsKeepOthersOut, NoIdWh
 ghost use Rattle.serve.specs.Runs.{IsOwnMachine, IsOwnRecord, AreOwnReplies, ListsAreTold};
 
 use crate::commands::{admin_word, command, org_lines, token_list_text};
-use crate::exchanges::{LinkFault, exchange};
+use crate::exchanges::{LinkFault, exchange, refuse_exchange};
 use crate::messages::take_request;
 use crate::steps::{Admin, Step};
 use basis::numbers::MAX_MOMENT;
@@ -25,7 +23,7 @@ use basis::{Bytes, Down, Moment, OrgName};
 use machine::{AdminAnswer, Keep};
 use route::Routes;
 use std::alloc::Global;
-use wire::{Inlet, Outlet, Reply, WriteFault, write_reply};
+use wire::{Inlet, Outlet};
 
 // The most bytes of the word that answers an operator's command.
 const MAX_ADMIN_WORD: usize = 15;
@@ -159,28 +157,6 @@ fn take_routes(alloc: Global, routes: &mut Option<Routes>) -> Result<Routes, Dow
     }
 }
 
-fn ended(written: Result<(), WriteFault>) -> Result<(), LinkFault>
-    ensures { result ≡ ended_of written }
-{
-    match written {
-        Ok(()) => Ok(()),
-        Err(_) => Err(LinkFault::Write),
-    }
-}
-
-// No memory for the router: nothing is read.
-fn refuse_exchange<O: Outlet>(now: Moment, outlet: &mut O) -> Result<(), LinkFault>
-    requires { O.broken outlet.old ≡ false }
-    ensures told { (left : Option (List ℕ)) (rows : List ℕ → Option Organization)
-        → Exchanges now [] left rows rows (O.written outlet.old) (O.written outlet.new) true result }
-    ensures fault { IfErr result (λ fault. fault ≡ LinkFault.Write) }
-    ensures written { O.broken outlet.new ≡ is_err result }
-{
-    let reply = Reply::unavailable(false);
-    let written = write_reply(&reply, now, outlet);
-    ended(written)
-}
-
 impl<K: Keep> Service<K> {
     pub fn new(keep: K) -> Service<K>
         ensures keep { result.keep ≡ keep }
@@ -269,7 +245,7 @@ impl<K: Keep> Service<K> {
             }
             Err(_) => {
                 self.was_down = true;
-                refuse_exchange(now, outlet)
+                refuse_exchange(false, now, outlet)
             }
         }
     }

@@ -1,5 +1,5 @@
 -- Contracts between functions: an answer that is made in full before anything changes, and the change that is to follow.
-use Rattle.std.specs.Prelude.{◌≡◌, ℕ, Bool, if◌then◌else◌, List, Option, Some, None, Result, Ok, Err, ⊤}
+use Rattle.std.specs.Prelude.{◌≡◌, ℕ, if◌then◌else◌, List, Option, Some, None, Result, Ok, Err, ⊤}
 use Rattle.std.specs.FinMap.{get}
 use Rattle.basis.specs.Checks.{and_then}
 use Rattle.basis.specs.Roles.{counts_at}
@@ -15,15 +15,10 @@ use Rattle.machine.specs.declared.records.Organization.{Organization}
 use Rattle.route.specs.declared.acts.Asked.{Asked}
 use Rattle.docs.specs.Bodies.{error_text}
 use Rattle.wire.specs.Replies.{refused_answer}
-use Rattle.wire.specs.Messages.{Reads, unfinished, whole}
-use Rattle.wire.specs.Messages as wire
-use Rattle.wire.specs.Links.{continue_if}
 use Rattle.serve.specs.Asks.{Ask, silent, requests, commands}
 use Rattle.serve.specs.Asks as ask
 use Rattle.serve.specs.Checks.{known_caller}
 use Rattle.serve.specs.Steps.{Answered, request_step}
-use Rattle.serve.specs.declared.prepared.Received.{Received}
-use Rattle.serve.specs.declared.prepared.Received.TheVariants.{Whole, Refused, Unfinished}
 use Rattle.serve.specs.declared.prepared.Pending.{Pending}
 use Rattle.serve.specs.declared.prepared.Prepared.{Prepared}
 
@@ -53,12 +48,6 @@ IsPrepared rows silent p = ⊥
 IsPrepared rows (ask.refused at awaited refusal is_head) p = (p.reply ≡ refused_answer refusal (error_text refusal) is_head) × (p.pending ≡ None)
 IsPrepared rows (requests at awaited asked content_md5 body) p = Foresees (rows asked.caller) asked.caller (request_step (rows asked.caller) at asked content_md5 body) p
 IsPrepared rows (commands at command) p = ⊥
-
--- what came on a connection: a message and `100 Continue` that was written, or why there is none
-abbrev pub IsReceived : List ℕ → Received → Type 0
-IsReceived bytes (Whole message interim) = (awaited : Bool) × Reads bytes (whole message awaited) × (interim.items ≡ continue_if awaited)
-IsReceived bytes (Refused refusal is_head) = Reads bytes (wire.refused refusal is_head)
-IsReceived bytes Unfinished = Reads bytes unfinished
 
 -- the documents of an act that is to be done are in their ranges
 abbrev pub IsTaskInRange : Task → Type 0

@@ -1,38 +1,41 @@
--- Contracts between functions: the reply to what was read, before it is written.
-use Rattle.std.specs.Prelude.{ℕ, Bool, true, false, List, Option, Some, None, Result, Ok, Err}
-use Rattle.std.specs.Io.KnownBytes.{Appends}
+-- Contracts between functions: the reply to what was read, before its change is made and after it.
+use Rattle.std.specs.Prelude.{ℕ, Bool, true, false, List, Option, Result, Ok, Err}
 use Rattle.machine.specs.declared.records.Organization.{Organization}
+use Rattle.route.specs.Asks.{asked_of}
 use Rattle.wire.specs.declared.messages.Message.{Message}
 use Rattle.wire.specs.declared.messages.WireFault.{WireFault}
 use Rattle.wire.specs.declared.messages.WireFault.TheVariants.{Ended, Read, Continue, Refused, Down}
-use Rattle.wire.specs.Messages.{Reading, unfinished, refused, whole}
-use Rattle.wire.specs.Links.{ReportsReceived, continue_if}
-use Rattle.wire.specs.Replies.{Answer, IsReplyText}
-use Rattle.serve.specs.Exchanges.{IsServed, IsUnavailable}
-use Rattle.serve.specs.declared.exchanges.LinkFault.{LinkFault}
-use Rattle.serve.specs.declared.exchanges.LinkFault.TheVariants.{Write}
+use Rattle.wire.specs.Replies.{Answer, unavailable_answer}
+use Rattle.serve.specs.Asks.{Ask}
+use Rattle.serve.specs.Asks as ask
+use Rattle.serve.specs.Service.{is_head, asked_by, Carries, Stays}
+use Rattle.serve.specs.Inner.Prepared.{IsPrepared}
+use Rattle.serve.specs.declared.prepared.Prepared.{Prepared}
 
--- what was read where a reply is due, or none where memory was refused inside the reading
-abbrev pub read_so_far : Result Message WireFault → Bool → Option Reading
-read_so_far (Ok message) awaited = Some (whole message awaited)
-read_so_far (Err (Refused refusal head)) awaited = Some (refused refusal head)
-read_so_far (Err Down) awaited = None
-read_so_far (Err Ended) awaited = Some unfinished
-read_so_far (Err Read) awaited = Some unfinished
-read_so_far (Err Continue) awaited = Some unfinished
+-- whether the body of the reply to what was read is left out
+abbrev pub without_body : Result Message WireFault → Bool
+without_body (Ok message) = is_head message
+without_body (Err (Refused refusal head)) = head
+without_body (Err Down) = false
+without_body (Err Ended) = false
+without_body (Err Read) = false
+without_body (Err Continue) = false
 
--- the text of the reply to what is served (`false`), or of that of memory or a store that refused (`true`)
-abbrev pub IsTextOf : Bool → ℕ → List ℕ → (List ℕ → Option Organization) → (List ℕ → Option Organization) → Option Reading → Bool → List ℕ → Type 0
-IsTextOf false now received old new reading awaited text = IsServed now received old new awaited text
-IsTextOf true now received old new reading awaited text = IsUnavailable now received old new reading awaited text
+-- what is prepared is the reply to what was read, and the change that is to follow
+abbrev pub PreparesFor : ℕ → (List ℕ → Option Organization) → Result Message WireFault → Prepared → Type 0
+PreparesFor at rows (Ok message) p = (awaited : Bool) → IsPrepared rows (asked_by at awaited message (asked_of message)) p
+PreparesFor at rows (Err (Refused refusal head)) p = IsPrepared rows (ask.refused at false refusal head) p
+PreparesFor at rows (Err Down) p = ⊥
+PreparesFor at rows (Err Ended) p = ⊥
+PreparesFor at rows (Err Read) p = ⊥
+PreparesFor at rows (Err Continue) p = ⊥
 
--- the reply to what was read, and whether it is that of memory or a store that refused
-abbrev pub RepliesTo : ℕ → Result Message WireFault → (List ℕ → Option Organization) → (List ℕ → Option Organization) → Answer → Bool → Type 0
-RepliesTo now read old new reply is_down = (received : List ℕ) (left before after : Option (List ℕ)) → ReportsReceived received left before after read
-    → (awaited : Bool) × Appends before after (continue_if awaited)
-    × ((text : List ℕ) → IsReplyText reply now text → IsTextOf is_down now received old new (read_so_far read awaited) awaited text)
+-- the reply that is due: what was prepared (`false`), or that of memory or a store that refused (`true`)
+abbrev pub due_reply : Bool → Bool → Answer → Answer
+due_reply false head reply = reply
+due_reply true head reply = unavailable_answer head
 
--- a reply that was written, or not whole
-abbrev pub ended_of : {T E : Type 0} → Result T E → Result T LinkFault
-ended_of (Ok done) = Ok done
-ended_of (Err fault) = Err Write
+-- the change that was prepared is made (`false`), or none is (`true`)
+abbrev pub Settles : Bool → Prepared → (List ℕ → Option Organization) → (List ℕ → Option Organization) → Type 0
+Settles false p old new = (a : Ask) → IsPrepared old a p → Carries a old new
+Settles true p old new = Stays old new

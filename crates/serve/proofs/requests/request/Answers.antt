@@ -22,5 +22,5 @@ pub returns-in-Err-clause-ok : goal.returns-in-Err-clause-ok
 returns-in-Err-clause-ok g c = λ clean sound.
     let org = c.args.asked.now.caller in
     let r = g.K.Keep.rows c.args.keep.now org in
-    refused_after c.in-Err.refusal r org _ c.refuse_unless_down.result
-    (λ apart. ap (carried org c.args.at r) (c.in-Err.ensures.ok clean sound apart)) c.refuse_unless_down.ensures.known c.refuse_unless_down.ensures.ok
+    refused_after c.in-Err.refusal r org _ c.refuse.result
+    (λ apart. ap (carried org c.args.at r) (c.in-Err.ensures.ok clean sound apart)) c.refuse.ensures.known c.refuse.ensures.ok
