@@ -17,14 +17,11 @@ use Rattle.route.specs.declared.acts.Asked.{Asked}
 use Rattle.route.specs.declared.acts.AskedAct.{AskedAct}
 use Rattle.route.specs.declared.acts.AskedAct.TheVariants.{ListWorkspaces, OfWorkspace}
 use Rattle.route.specs.declared.acts.WsAct.{WsAct}
-use Rattle.serve.specs.Checks.{task_of, require, while_it_counts, known_caller, may_do, admitted, in_reach, is_found, found_if, found, place, digest_checked, act_of, order, checked}
+use Rattle.serve.specs.Checks.{task_of, require, while_it_counts, known_caller, may_do, admitted, in_reach, is_found, found, digest_checked, act_of, order, checked}
 use Rattle.serve.specs.Inner.Prepared.{caller_known}
-use Rattle.serve.specs.declared.prepared.Place.{Place}
 use Rattle.serve.specs.declared.prepared.Order.{Order}
 use Rattle.serve.specs.declared.prepared.Task.{Task}
 use Rattle.serve.specs.declared.prepared.Task.TheVariants.{ListAll, Carry}
-use Rattle.serve.specs.declared.prepared.Found.{Found}
-use Rattle.serve.specs.declared.prepared.Found.TheVariants.{Workspaces, At}
 
 module _ {A B : Type 0} where
   pub after_ok : (x : Result A Refusal) (f : A → Result B Refusal) (a : A) (y : Result B Refusal) → x ≡ Ok a → f a ≡ y → and_then x f ≡ y
@@ -39,11 +36,11 @@ module _ {A B : Type 0} where
   passed (Err refusal) f b e = absurd (let none : ⊥ = cc in none)
 
 -- what follows each check
-abbrev pub after_names : Asked → Option (List ℕ) → List ℕ → Found → Result Task Refusal
-after_names asked content_md5 body f = and_then (digest_checked content_md5 body) (λ _. task_of f asked.lock_id body)
+abbrev pub after_names : List ℕ → Asked → Option (List ℕ) → List ℕ → Result Task Refusal
+after_names prefix asked content_md5 body = and_then (digest_checked content_md5 body) (λ _. task_of prefix asked.act asked.lock_id body)
 
 abbrev pub after_reach : Option Organization → List ℕ → Asked → Option (List ℕ) → List ℕ → Result Task Refusal
-after_reach r prefix asked content_md5 body = and_then (found r prefix asked.act) (after_names asked content_md5 body)
+after_reach r prefix asked content_md5 body = and_then (found r asked.act) (λ _. after_names prefix asked content_md5 body)
 
 abbrev pub after_prefix : Option Organization → List ℕ → Asked → Option (List ℕ) → List ℕ → Result Task Refusal
 after_prefix r prefix asked content_md5 body = and_then (in_reach asked) (λ _. after_reach r prefix asked content_md5 body)
@@ -142,72 +139,51 @@ pub record Passes (r : Option Organization) (asked : Asked) (body : List ℕ) (o
   pub is_there : is_found r o.ws what ≡ true
   pub spelt : act_of what asked.lock_id body ≡ Ok o.act
 
-place_is : (b : Bool) (p q : Place) → found_if b p ≡ Ok (At q) → (b ≡ true) × (p ≡ q)
-place_is true p q e = (refl, let same : p ≡ q = cc in same)
-place_is false p q e = absurd (let none : ⊥ = cc in none)
-
-found_place : (r : Option Organization) (prefix : List ℕ) (act : AskedAct) (p : Place) → found r prefix act ≡ Ok (At p) → (act ≡ OfWorkspace p.ws p.act) × (is_found r p.ws p.act ≡ true)
-found_place r prefix (ListWorkspaces after) p e = absurd (let none : ⊥ = cc in none)
-found_place r prefix (OfWorkspace ws act) p e =
-    let h : (is_found r ws act ≡ true) × (place ws act ≡ p) = place_is (is_found r ws act) (place ws act) p e in
-    (ap (λ (q : Place). OfWorkspace q.ws q.act) h.1, subst (λ (q : Place). is_found r q.ws q.act ≡ true) h.1 h.0)
-
 order_is : (ws : List ℕ) (x : Result Act Refusal) (o : Order) → and_then x (λ act. Ok (Carry (order ws act))) ≡ Ok (Carry o) → (ws ≡ o.ws) × (x ≡ Ok o.act)
 order_is ws (Ok act) o e = let same : order ws act ≡ o = cc in (ap (λ (p : Order). p.ws) same, ap (λ (p : Order). read_act p.act) same)
 order_is ws (Err refusal) o e = absurd (let none : ⊥ = cc in none)
 
+-- what passed the checks is what was to be done, and is there
+all_passed : (r : Option Organization) (now : ℕ) (asked : Asked) (content_md5 : Option (List ℕ)) (body : List ℕ) (task : Task) → checked r now asked content_md5 body ≡ Ok task
+    → IsSome r × (u : Unit {0}) × (found r asked.act ≡ Ok u) × (prefix : List ℕ) × (task_of prefix asked.act asked.lock_id body ≡ Ok task)
+all_passed r now asked content_md5 body task e =
+    let known = passed (known_caller r now asked) (after_caller r asked content_md5 body) task e in
+    let prefix : List ℕ = known.0.caller.prefix in
+    let may = passed (may_do known.0 asked) (λ _. after_role r known.0 asked content_md5 body) task known.2 in
+    let within = passed (admitted known.0 asked) (λ _. after_prefix r prefix asked content_md5 body) task may.2 in
+    let reached = passed (in_reach asked) (λ _. after_reach r prefix asked content_md5 body) task within.2 in
+    let named = passed (found r asked.act) (λ _. after_names prefix asked content_md5 body) task reached.2 in
+    let fit = passed (digest_checked content_md5 body) (λ _. task_of prefix asked.act asked.lock_id body) task named.2 in
+    (caller_there r now (sha256 asked.secret) known.0 known.1, named.0, named.1, prefix, fit.2)
+
+found_holds : (b : Bool) (u : Unit {0}) → require NotFound b ≡ Ok u → b ≡ true
+found_holds true u e = refl
+found_holds false u e = absurd (let none : ⊥ = cc in none)
+
 pub order_passes : (r : Option Organization) (now : ℕ) (asked : Asked) (content_md5 : Option (List ℕ)) (body : List ℕ) (o : Order) → checked r now asked content_md5 body ≡ Ok (Carry o) → Passes r asked body o
-order_passes r now asked content_md5 body o e =
-    let known = passed (known_caller r now asked) (after_caller r asked content_md5 body) (Carry o) e in
-    let may = passed (may_do known.0 asked) (λ _. after_role r known.0 asked content_md5 body) (Carry o) known.2 in
-    let within = passed (admitted known.0 asked) (λ _. after_prefix r known.0.caller.prefix asked content_md5 body) (Carry o) may.2 in
-    let reached = passed (in_reach asked) (λ _. after_reach r known.0.caller.prefix asked content_md5 body) (Carry o) within.2 in
-    let named = passed (found r known.0.caller.prefix asked.act) (after_names asked content_md5 body) (Carry o) reached.2 in
-    let fit = passed (digest_checked content_md5 body) (λ _. task_of named.0 asked.lock_id body) (Carry o) named.2 in
-    by_found (caller_there r now (sha256 asked.secret) known.0 known.1) known.0.caller.prefix named.0 named.1 fit.2
+order_passes r now asked content_md5 body o e = let h = all_passed r now asked content_md5 body (Carry o) e in by_act asked.act refl h.0 h.1 h.2 h.3 h.4
   where
-    by_found : IsSome r → (prefix : List ℕ) (f : Found) → found r prefix asked.act ≡ Ok f → task_of f asked.lock_id body ≡ Ok (Carry o) → Passes r asked body o
-    by_found some prefix (Workspaces after mine) is made = absurd (let none : ⊥ = cc in none)
-    by_found some prefix (At p) is made =
-        let done : (p.ws ≡ o.ws) × (act_of p.act asked.lock_id body ≡ Ok o.act) = order_is p.ws (act_of p.act asked.lock_id body) o made in
-        let at : (asked.act ≡ OfWorkspace p.ws p.act) × (is_found r p.ws p.act ≡ true) = found_place r prefix asked.act p is in
+    by_act : (act : AskedAct) → asked.act ≡ act → IsSome r → (u : Unit {0}) → found r act ≡ Ok u → (prefix : List ℕ) → task_of prefix act asked.lock_id body ≡ Ok (Carry o) → Passes r asked body o
+    by_act (ListWorkspaces after) is some u there prefix made = absurd (let none : ⊥ = cc in none)
+    by_act (OfWorkspace ws what) is some u there prefix made =
+        let done : (ws ≡ o.ws) × (act_of what asked.lock_id body ≡ Ok o.act) = order_is ws (act_of what asked.lock_id body) o made in
         record {
           there = some;
-          what = p.act;
-          asks = at.0 ∙ ap (λ (ws : List ℕ). OfWorkspace ws p.act) done.0;
-          is_there = subst (λ (ws : List ℕ). is_found r ws p.act ≡ true) done.0 at.1;
+          what = what;
+          asks = is ∙ ap (λ (name : List ℕ). OfWorkspace name what) done.0;
+          is_there = subst (λ (name : List ℕ). is_found r name what ≡ true) done.0 (found_holds (is_found r ws what) u there);
           spelt = done.1;
         }
 
 -- where the list of the workspaces passes the checks, it is asked
-place_no_list : (b : Bool) (p : Place) (after : Option (List ℕ)) (prefix : List ℕ) → found_if b p ≡ Ok (Workspaces after prefix) → ⊥
-place_no_list true p after prefix e = let none : ⊥ = cc in none
-place_no_list false p after prefix e = let none : ⊥ = cc in none
-
-list_found : (r : Option Organization) (mine : List ℕ) (act : AskedAct) (after : Option (List ℕ)) (prefix : List ℕ) → found r mine act ≡ Ok (Workspaces after prefix) → act ≡ ListWorkspaces after
-list_found r mine (ListWorkspaces other) after prefix e = let same : other ≡ after = cc in ap ListWorkspaces same
-list_found r mine (OfWorkspace ws act) after prefix e = absurd (place_no_list (is_found r ws act) (place ws act) after prefix e)
-
 no_order : (ws : List ℕ) (x : Result Act Refusal) (after : Option (List ℕ)) (prefix : List ℕ) → and_then x (λ act. Ok (Carry (order ws act))) ≡ Ok (ListAll after prefix) → ⊥
 no_order ws (Ok act) after prefix e = let none : ⊥ = cc in none
 no_order ws (Err refusal) after prefix e = let none : ⊥ = cc in none
 
 pub list_passes : (r : Option Organization) (now : ℕ) (asked : Asked) (content_md5 : Option (List ℕ)) (body : List ℕ) (after : Option (List ℕ)) (prefix : List ℕ) → checked r now asked content_md5 body ≡ Ok (ListAll after prefix)
     → asked.act ≡ ListWorkspaces after
-list_passes r now asked content_md5 body after prefix e =
-    let known = passed (known_caller r now asked) (after_caller r asked content_md5 body) (ListAll after prefix) e in
-    let may = passed (may_do known.0 asked) (λ _. after_role r known.0 asked content_md5 body) (ListAll after prefix) known.2 in
-    let within = passed (admitted known.0 asked) (λ _. after_prefix r known.0.caller.prefix asked content_md5 body) (ListAll after prefix) may.2 in
-    let reached = passed (in_reach asked) (λ _. after_reach r known.0.caller.prefix asked content_md5 body) (ListAll after prefix) within.2 in
-    let named = passed (found r known.0.caller.prefix asked.act) (after_names asked content_md5 body) (ListAll after prefix) reached.2 in
-    let fit = passed (digest_checked content_md5 body) (λ _. task_of named.0 asked.lock_id body) (ListAll after prefix) named.2 in
-    by_found known.0.caller.prefix named.0 named.1 fit.2
+list_passes r now asked content_md5 body after prefix e = let h = all_passed r now asked content_md5 body (ListAll after prefix) e in by_act asked.act refl h.3 h.4
   where
-    by_found : (mine : List ℕ) (f : Found) → found r mine asked.act ≡ Ok f → task_of f asked.lock_id body ≡ Ok (ListAll after prefix) → asked.act ≡ ListWorkspaces after
-    by_found mine (Workspaces other its) is made =
-        let same : other ≡ after = cc in
-        list_found r mine asked.act after its (is ∙ ap (λ (a : Option (List ℕ)). all_found a) same)
-      where
-        all_found : Option (List ℕ) → Result Found Refusal
-        all_found a = Ok (Workspaces a its)
-    by_found mine (At p) is made = absurd (no_order p.ws (act_of p.act asked.lock_id body) after prefix made)
+    by_act : (act : AskedAct) → asked.act ≡ act → (mine : List ℕ) → task_of mine act asked.lock_id body ≡ Ok (ListAll after prefix) → asked.act ≡ ListWorkspaces after
+    by_act (ListWorkspaces other) is mine made = let same : other ≡ after = cc in is ∙ ap ListWorkspaces same
+    by_act (OfWorkspace ws what) is mine made = absurd (no_order ws (act_of what asked.lock_id body) after prefix made)

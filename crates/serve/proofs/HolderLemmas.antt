@@ -20,14 +20,11 @@ use Rattle.route.specs.Policy.{allowed_by, least_role, need_of, is_admitted}
 use Rattle.route.specs.declared.acts.Asked.{Asked}
 use Rattle.route.specs.declared.acts.AskedAct.{AskedAct}
 use Rattle.route.specs.declared.acts.AskedAct.TheVariants.{ListWorkspaces, OfWorkspace}
-use Rattle.serve.specs.Checks.{task_of, require, while_it_counts, known_caller, may_do, admitted, is_in_reach, in_reach, is_found, found_if, found, place, fits, digest_checked, act_of, checked}
+use Rattle.serve.specs.Checks.{task_of, require, while_it_counts, known_caller, may_do, admitted, is_in_reach, in_reach, is_found, found, fits, digest_checked, act_of, checked}
 use Rattle.serve.specs.Steps.{answer_to, holder_text, seen_at, carried}
 use Rattle.serve.specs.Custody.{NamesIn, LockedTellsTheHolder}
 use Rattle.serve.specs.declared.prepared.Task.{Task}
 use Rattle.serve.specs.declared.prepared.Task.TheVariants.{ListAll, Carry}
-use Rattle.serve.specs.declared.prepared.Found.{Found}
-use Rattle.serve.specs.declared.prepared.Found.TheVariants.{Workspaces, At}
-use Rattle.serve.specs.declared.prepared.Place.{Place}
 use Rattle.serve.proofs.ActLemmas.{act_other}
 use Rattle.serve.proofs.CheckLemmas.{Passes, order_passes, after_names, after_reach, after_prefix, after_role, after_caller}
 use Rattle.serve.proofs.RecordLemmas.{standing_at}
@@ -58,20 +55,16 @@ role_other : (b : Bool) (role : Role) → IsOther (allowed_by (cond b None (Some
 role_other true role e = let none : ⊥ = cc in none
 role_other false role e = need_other role e
 
-place_other : (b : Bool) (p : Place) → IsOther (found_if b p)
-place_other true p e = let none : ⊥ = cc in none
-place_other false p e = let none : ⊥ = cc in none
-
-found_other : (r : Option Organization) (prefix : List ℕ) (act : AskedAct) → IsOther (found r prefix act)
-found_other r prefix (ListWorkspaces after) e = let none : ⊥ = cc in none
-found_other r prefix (OfWorkspace ws act) e = place_other (is_found r ws act) (place ws act) e
+found_other : (r : Option Organization) (act : AskedAct) → IsOther (found r act)
+found_other r (ListWorkspaces after) e = let none : ⊥ = cc in none
+found_other r (OfWorkspace ws act) e = required NotFound (is_found r ws act) (λ is. let none : ⊥ = cc in none) e
 
 ok_other : {A : Type 0} (a : A) → IsOther (Ok a)
 ok_other a e = let none : ⊥ = cc in none
 
-task_other : (f : Found) (id : Option (List ℕ)) (body : List ℕ) → IsOther (task_of f id body)
-task_other (Workspaces after prefix) id body e = let none : ⊥ = cc in none
-task_other (At p) id body e = other_then (act_of p.act id body) _ (act_other p.act id body) (λ act. ok_other _) e
+task_other : (prefix : List ℕ) (asked : AskedAct) (id : Option (List ℕ)) (body : List ℕ) → IsOther (task_of prefix asked id body)
+task_other prefix (ListWorkspaces after) id body e = let none : ⊥ = cc in none
+task_other prefix (OfWorkspace ws what) id body e = other_then (act_of what id body) _ (act_other what id body) (λ act. ok_other _) e
 
 checked_other : (r : Option Organization) (now : ℕ) (asked : Asked) (content_md5 : Option (List ℕ)) (body : List ℕ) → IsOther (checked r now asked content_md5 body)
 checked_other r now asked content_md5 body =
@@ -79,9 +72,9 @@ checked_other r now asked content_md5 body =
     other_then (may_do token asked) (λ _. after_role r token asked content_md5 body) (role_other (includes token.caller.role (least_role asked.act)) (least_role asked.act)) (λ _.
     other_then (admitted token asked) (λ _. after_prefix r token.caller.prefix asked content_md5 body) (required NotFound (is_admitted token.caller.prefix asked.act) (λ is. let none : ⊥ = cc in none)) (λ _.
     other_then (in_reach asked) (λ _. after_reach r token.caller.prefix asked content_md5 body) (required NotFound (is_in_reach asked) (λ is. let none : ⊥ = cc in none)) (λ _.
-    other_then (found r token.caller.prefix asked.act) (after_names asked content_md5 body) (found_other r token.caller.prefix asked.act) (λ f.
-    other_then (digest_checked content_md5 body) (λ _. task_of f asked.lock_id body) (required BadDigest (fits content_md5 body) (λ is. let none : ⊥ = cc in none)) (λ _.
-    task_other f asked.lock_id body))))))
+    other_then (found r asked.act) (λ _. after_names token.caller.prefix asked content_md5 body) (found_other r asked.act) (λ _.
+    other_then (digest_checked content_md5 body) (λ _. task_of token.caller.prefix asked.act asked.lock_id body) (required BadDigest (fits content_md5 body) (λ is. let none : ⊥ = cc in none)) (λ _.
+    task_other token.caller.prefix asked.act asked.lock_id body))))))
 
 -- the outcome that is answered 423 tells of a holder
 held_by : (org ws : List ℕ) (o : Outcome) → (answer_to org ws o).refusal ≡ Some Locked → (o ≡ refused Locked → ⊥) → (h : Holder) × (o ≡ held h)

@@ -1,5 +1,5 @@
 -- What isn't there is refused by the rules as it is by the checks.
-use Rattle.std.proofs.Common.{◌≡◌, ℕ, Bool, true, false, List, Option, Some, None, Result, Ok, Err, IsSome, refl, sym, ap, ◌∙◌}
+use Rattle.std.proofs.Common.{◌≡◌, ℕ, Bool, true, false, List, Option, Some, None, Result, Ok, Err, IsSome, refl, sym, ap, subst, ◌∙◌}
 use Rattle.std.specs.FinMap.{get}
 use Rattle.basis.specs.Checks.{and_then}
 use Rattle.basis.specs.declared.refusals.Refusal.{Refusal}
@@ -11,11 +11,12 @@ use Rattle.machine.specs.declared.records.Organization.{Organization}
 use Rattle.route.specs.declared.acts.AskedAct.{AskedAct}
 use Rattle.route.specs.declared.acts.AskedAct.TheVariants.{ListWorkspaces, OfWorkspace}
 use Rattle.route.specs.declared.acts.WsAct.{WsAct}
-use Rattle.serve.specs.Checks.{is_found, found_if, found, place, digest_checked, act_of, order, task_of}
+use Rattle.serve.specs.Checks.{require, is_found, found, digest_checked, act_of, order, task_of}
 use Rattle.serve.specs.Steps.{answer_to, ruled_in, refusing, carried}
-use Rattle.serve.specs.Inner.Judging.{named, judged_task, missed}
+use Rattle.serve.specs.Inner.Judging.{judged_task, missed}
+use Rattle.serve.specs.Inner.Prepared.{IsTaskInRange}
 use Rattle.serve.specs.declared.prepared.Task.{Task}
-use Rattle.serve.specs.declared.prepared.Task.TheVariants.{Carry}
+use Rattle.serve.specs.declared.prepared.Task.TheVariants.{ListAll, Carry}
 use Rattle.serve.proofs.ActLemmas.{act_is}
 use Rattle.serve.proofs.CheckLemmas.{after_ok, after_err, passed}
 use Rattle.serve.proofs.RecordLemmas.{placed_as_it_was}
@@ -29,11 +30,21 @@ missing_is_refused org ws o what id body act now e gone =
 
 -- what follows the checks of the caller: what is asked of is there, then the digest, then the document
 abbrev pub after_callers : Option Organization → List ℕ → AskedAct → Option (List ℕ) → Option (List ℕ) → List ℕ → Result Task Refusal
-after_callers r prefix asked content_md5 id body = and_then (found r prefix asked) (λ f. and_then (digest_checked content_md5 body) (λ _. task_of f id body))
+after_callers r prefix asked content_md5 id body = and_then (found r asked) (λ _. judged_task prefix asked content_md5 id body)
 
 task_made : (ws : List ℕ) (x : Result Act Refusal) (task : Task) → and_then x (λ act. Ok (Carry (order ws act))) ≡ Ok task → (act : Act) × (x ≡ Ok act) × (Carry (order ws act) ≡ task)
 task_made ws (Ok act) task e = (act, refl, let same : Carry (order ws act) ≡ task = cc in same)
 task_made ws (Err refusal) task e = absurd (let none : ⊥ = cc in none)
+
+task_in_range : (prefix : List ℕ) (asked : AskedAct) (id : Option (List ℕ)) (body : List ℕ) (task : Task) → task_of prefix asked id body ≡ Ok task → IsTaskInRange task
+task_in_range prefix (ListWorkspaces after) id body task e = let same : ListAll after prefix ≡ task = cc in subst IsTaskInRange same tt
+task_in_range prefix (OfWorkspace ws what) id body task e =
+    let t : (act : Act) × (act_of what id body ≡ Ok act) × (Carry (order ws act) ≡ task) = task_made ws (act_of what id body) task e in
+    subst IsTaskInRange t.2 (act_is what id body t.0 t.1).range
+
+-- the documents of what was judged good are in their ranges
+pub judged_in_range : (prefix : List ℕ) (asked : AskedAct) (content_md5 id : Option (List ℕ)) (body : List ℕ) (task : Task) → judged_task prefix asked content_md5 id body ≡ Ok task → IsTaskInRange task
+judged_in_range prefix asked content_md5 id body task e = task_in_range prefix asked id body task (passed (digest_checked content_md5 body) (λ _. task_of prefix asked id body) task e).2
 
 -- what was judged_task good is answered as what passed the checks
 pub judged_stands : (org : List ℕ) (r : Option Organization) (prefix : List ℕ) (asked : AskedAct) (content_md5 id : Option (List ℕ)) (body : List ℕ) (task : Task) → IsSome r → judged_task prefix asked content_md5 id body ≡ Ok task
@@ -45,13 +56,13 @@ judged_stands org r prefix (OfWorkspace ws what) content_md5 id body task some e
     made = judged_task prefix (OfWorkspace ws what) content_md5 id body
 
     by_found : (b : Bool) → is_found r ws what ≡ b → carried org now r (Ok task) ≡ carried org now r (after_callers r prefix (OfWorkspace ws what) content_md5 id body)
-    by_found true is = sym (ap (carried org now r) (after_ok (found r prefix (OfWorkspace ws what)) (λ f. and_then (digest_checked content_md5 body) (λ _. task_of f id body)) _ (Ok task) (ap (λ (b : Bool). found_if b (place ws what)) is) e))
+    by_found true is = sym (ap (carried org now r) (after_ok (found r (OfWorkspace ws what)) (λ _. made) tt (Ok task) (ap (require NotFound) is) e))
     by_found false is =
-        let fit = passed (digest_checked content_md5 body) (λ _. task_of (named prefix (OfWorkspace ws what)) id body) task e in
+        let fit = passed (digest_checked content_md5 body) (λ _. task_of prefix (OfWorkspace ws what) id body) task e in
         let t : (act : Act) × (act_of what id body ≡ Ok act) × (Carry (order ws act) ≡ task) = task_made ws (act_of what id body) task fit.2 in
         sym (ap (λ (x : Task). carried org now r (Ok x)) t.2)
         ∙ there r some is t.0 t.1
-        ∙ sym (ap (carried org now r) (after_err (found r prefix (OfWorkspace ws what)) (λ f. and_then (digest_checked content_md5 body) (λ _. task_of f id body)) NotFound (ap (λ (b : Bool). found_if b (place ws what)) is)))
+        ∙ sym (ap (carried org now r) (after_err (found r (OfWorkspace ws what)) (λ _. made) NotFound (ap (require NotFound) is)))
       where
         there : (s : Option Organization) → IsSome s → is_found s ws what ≡ false → (act : Act) → act_of what id body ≡ Ok act → carried org now s (Ok (Carry (order ws act))) ≡ refusing NotFound s
         there None none gone act spelt_it = absurd (let no_one : ⊥ = cc in no_one)
@@ -63,6 +74,6 @@ pub missed_stands : (r : Option Organization) (prefix : List ℕ) (asked : Asked
 missed_stands r prefix (ListWorkspaces after) content_md5 id body refusal e = e
 missed_stands r prefix (OfWorkspace ws what) content_md5 id body refusal e = by_found (is_found r ws what)
   where
-    by_found : (b : Bool) → and_then (found_if b (place ws what)) (λ f. and_then (digest_checked content_md5 body) (λ _. task_of f id body)) ≡ Err (Rattle.std.proofs.Common.cond b refusal NotFound)
+    by_found : (b : Bool) → and_then (require NotFound b) (λ _. judged_task prefix (OfWorkspace ws what) content_md5 id body) ≡ Err (Rattle.std.proofs.Common.cond b refusal NotFound)
     by_found true = e
     by_found false = refl

@@ -33,7 +33,7 @@ use Rattle.serve.specs.declared.prepared.Task.{Task}
 use Rattle.serve.specs.declared.prepared.Task.TheVariants.{ListAll, Carry}
 use Rattle.serve.specs.Asks.{silent, requests, commands}
 use Rattle.serve.specs.Asks as ask
-use Rattle.serve.specs.Checks.{known_caller, may_do, admitted, is_in_reach, in_reach, require, makes, is_there, found_if, found, place, checked}
+use Rattle.serve.specs.Checks.{known_caller, may_do, admitted, is_in_reach, in_reach, require, makes, is_there, found, checked}
 use Rattle.serve.specs.Steps.{replies, tells, answer_to, seen_at, ruled_in, carried, request_step, command_step, command_said}
 use Rattle.serve.specs.Laws.{RefusedStepsChangeNothing, OutOfReachIsNotFound, renamed, NeedsWorkspace, OutOfReachIsAsAbsent, OutsideThePrefixIsNotFound, OutsideThePrefixIsAsAbsent}
 use Rattle.serve.proofs.CheckLemmas.{after_ok, after_err, after_names, after_reach, after_prefix, after_role, after_caller}
@@ -162,8 +162,8 @@ absent_after_role r token asked content_md5 body org ws (OfWorkspace old act) ne
     other = record asked { org = org; act = OfWorkspace ws act }
 
     reached : (b : Bool) → and_then (require NotFound b) (λ _. after_reach r token.caller.prefix other content_md5 body) ≡ Err NotFound
-    reached true = after_err (found r token.caller.prefix (OfWorkspace ws act)) (after_names other content_md5 body) NotFound
-        (ap (λ (b : Bool). found_if b (place ws act)) (lacking (makes act) r ws act none needs))
+    reached true = after_err (found r (OfWorkspace ws act)) (λ _. after_names token.caller.prefix other content_md5 body) NotFound
+        (ap (require NotFound) (lacking (makes act) r ws act none needs))
     reached false = refl
 
     by_prefix : (b : Bool) → and_then (require NotFound b) (λ _. after_prefix r token.caller.prefix other content_md5 body) ≡ Err NotFound

@@ -26,10 +26,7 @@ use Rattle.route.specs.declared.acts.AskedAct.{AskedAct}
 use Rattle.route.specs.declared.acts.AskedAct.TheVariants.{ListWorkspaces, OfWorkspace}
 use Rattle.route.specs.declared.acts.WsAct.{WsAct}
 use Rattle.route.specs.declared.acts.WsAct.TheVariants.{Look, Put, Delete, UpdateState, PurgeState, Lock, Unlock, ForceUnlock, MakeRun, ReportRun}
-use Rattle.serve.specs.declared.prepared.Place.{Place}
 use Rattle.serve.specs.declared.prepared.Order.{Order}
-use Rattle.serve.specs.declared.prepared.Found.{Found}
-use Rattle.serve.specs.declared.prepared.Found.TheVariants.{Workspaces, At}
 use Rattle.serve.specs.declared.prepared.Task.{Task}
 use Rattle.serve.specs.declared.prepared.Task.TheVariants.{ListAll, Carry}
 
@@ -79,26 +76,22 @@ makes ForceUnlock = false
 makes MakeRun = false
 makes (ReportRun number action) = false
 
--- an act on the workspace of a name
-abbrev pub place : List ℕ → WsAct → Place
-place ws act = record { ws = ws; act = act }
-
 -- what is told of is there: the workspace, and the version or the run that is named
 abbrev pub is_told_of : AnyLook → Option Workspace → Bool
 is_told_of what None = false
 is_told_of what (Some w) = has_named (needs_of_look what) w
 
--- what an act asks of, as what would be told of it: what it names besides the workspace is a version or a run
+-- what an act asks of, as what would be told of it: the workspace, or a version or a run that it names
 abbrev pub named_by : WsAct → AnyLook
 named_by (Look what) = what
-named_by Put = look.Versions 0
-named_by Delete = look.Versions 0
-named_by UpdateState = look.Versions 0
-named_by PurgeState = look.Versions 0
-named_by Lock = look.Versions 0
-named_by Unlock = look.Versions 0
-named_by ForceUnlock = look.Versions 0
-named_by MakeRun = look.Versions 0
+named_by Put = look.Workspace
+named_by Delete = look.Workspace
+named_by UpdateState = look.Workspace
+named_by PurgeState = look.Workspace
+named_by Lock = look.Workspace
+named_by Unlock = look.Workspace
+named_by ForceUnlock = look.Workspace
+named_by MakeRun = look.Workspace
 named_by (ReportRun number action) = look.Run number
 
 -- what an act asks of is there
@@ -109,14 +102,10 @@ is_there act w = is_told_of (named_by act) w
 abbrev pub is_found : Option Organization → List ℕ → WsAct → Bool
 is_found r ws act = makes act || is_there act (workspace_in r ws)
 
-abbrev pub found_if : Bool → Place → Result Found Refusal
-found_if true p = Ok (At p)
-found_if false p = Err NotFound
-
--- the list of the workspaces is of those that the caller's prefix admits
-abbrev pub found : Option Organization → List ℕ → AskedAct → Result Found Refusal
-found r prefix (ListWorkspaces after) = Ok (Workspaces after prefix)
-found r prefix (OfWorkspace ws act) = found_if (is_found r ws act) (place ws act)
+-- the list of the workspaces is always there
+abbrev pub found : Option Organization → AskedAct → Result (Unit {0}) Refusal
+found r (ListWorkspaces after) = Ok tt
+found r (OfWorkspace ws act) = require NotFound (is_found r ws act)
 
 -- Content-MD5, where it is sent, is the MD5 of the body (RFC 1864)
 abbrev pub fits : Option (List ℕ) → List ℕ → Bool
@@ -147,10 +136,10 @@ act_of (ReportRun number action) id body = Ok (ReportRunAct number action)
 abbrev pub order : List ℕ → Act → Order
 order ws act = record { ws = ws; act = act }
 
--- what is to be done: a list has no document, and its body isn't looked at
-abbrev pub task_of : Found → Option (List ℕ) → List ℕ → Result Task Refusal
-task_of (Workspaces after prefix) id body = Ok (ListAll after prefix)
-task_of (At p) id body = and_then (act_of p.act id body) (λ act. Ok (Carry (order p.ws act)))
+-- what is to be done: a list is of the workspaces that the caller's prefix admits; it has no document, and its body isn't looked at
+abbrev pub task_of : List ℕ → AskedAct → Option (List ℕ) → List ℕ → Result Task Refusal
+task_of prefix (ListWorkspaces after) id body = Ok (ListAll after prefix)
+task_of prefix (OfWorkspace ws what) id body = and_then (act_of what id body) (λ act. Ok (Carry (order ws act)))
 
 -- the checks in their order: the caller, the role, the caller's workspaces, the organization, the names, the digest, the document
 abbrev pub checked : Option Organization → ℕ → Asked → Option (List ℕ) → List ℕ → Result Task Refusal
@@ -159,6 +148,6 @@ checked r now asked content_md5 body =
     and_then (may_do token asked) (λ _.
     and_then (admitted token asked) (λ _.
     and_then (in_reach asked) (λ _.
-    and_then (found r token.caller.prefix asked.act) (λ f.
+    and_then (found r asked.act) (λ _.
     and_then (digest_checked content_md5 body) (λ _.
-    task_of f asked.lock_id body))))))
+    task_of token.caller.prefix asked.act asked.lock_id body))))))

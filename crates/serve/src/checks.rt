@@ -1,5 +1,5 @@
 //! The checks of a request from the token on, each by itself.
-ghost use Rattle.std.specs.Prelude.{◌≡◌, ◌≢◌, cond, IsSome, Some, IfOk, Ok};
+ghost use Rattle.std.specs.Prelude.{◌≡◌, ◌≢◌, [], cond, IsSome, Some, IfOk, Ok};
 ghost use Rattle.basis.specs.Inner.Checks.{Follows};
 ghost use Rattle.basis.specs.declared.refusals.Refusal.TheVariants.{BadBody, BadLock, BadState, NotFound, Unavailable};
 ghost use Rattle.docs.specs.Documents.{settings_of, state_head, lock_id_of, run_ask};
@@ -9,15 +9,14 @@ ghost use Rattle.machine.specs.Records.{workspace_in};
 ghost use Rattle.machine.specs.Units.{unit_of};
 ghost use Rattle.machine.specs.declared.acts.Act.TheVariants.{Look as LookAct, PutWorkspace, UpdateState, PurgeState, Lock, Unlock, MakeRun};
 ghost use Rattle.machine.specs.declared.records.Organization.{Organization};
-ghost use Rattle.serve.specs.Checks.{require, in_reach, makes, named_by, is_there, is_found, place, fits, digest_checked, spelt, act_of, task_of};
+ghost use Rattle.serve.specs.Checks.{require, in_reach, makes, named_by, is_there, is_found, fits, digest_checked, spelt, act_of, task_of};
 ghost use Rattle.serve.specs.Inner.Prepared.{counted, caller_known};
-ghost use Rattle.serve.specs.declared.prepared.Found.TheVariants.{At};
+ghost use Rattle.route.specs.declared.acts.AskedAct.TheVariants.{OfWorkspace};
 ghost use Rattle.serve.specs.declared.prepared.Task.TheVariants.{ListAll};
-ghost use Rattle.serve.specs.Inner.Judging.{named, judged_task, missed};
-ghost use Rattle.serve.specs.Inner.Prepared.{IsTaskInRange};
+ghost use Rattle.serve.specs.Inner.Judging.{judged_task, missed};
 ghost use Rattle.serve.specs.Inner.Units.{if_named, sees_named, is_present};
 
-use crate::prepared::{Order, Place, Task};
+use crate::prepared::{Order, Task};
 use basis::{Bytes, Caller, Down, LockId, Look, Moment, Number, OrgName, Prefix, Refusal, WsName};
 use docs::{DocFault, digest_fits, read_lock, read_run, read_settings, read_state};
 use machine::{Act, Keep, Needs, Unit, WorkspaceUnit};
@@ -86,10 +85,9 @@ fn named_by(act: WsAct) -> Look
     match act {
         WsAct::Look(look) => look,
         WsAct::ReportRun(number, _) => Look::Run(number),
-        WsAct::Put | WsAct::Delete => Look::Versions(0),
-        WsAct::UpdateState | WsAct::PurgeState => Look::Versions(0),
-        WsAct::Lock | WsAct::Unlock | WsAct::ForceUnlock => Look::Versions(0),
-        WsAct::MakeRun => Look::Versions(0),
+        WsAct::Put | WsAct::Delete | WsAct::MakeRun => Look::Workspace,
+        WsAct::UpdateState | WsAct::PurgeState => Look::Workspace,
+        WsAct::Lock | WsAct::Unlock | WsAct::ForceUnlock => Look::Workspace,
     }
 }
 
@@ -313,33 +311,8 @@ fn act_of(alloc: Global, act: WsAct, lock_id: &Option<LockId>, body: Bytes) -> R
     }
 }
 
-fn order_of(
-    alloc: Global,
-    place: Place,
-    lock_id: &Option<LockId>,
-    body: Bytes,
-) -> Result<Task, Refusal>
-    ensures ok { Follows result (task_of (At place) lock_id.now body) }
-    ensures range { IfOk result IsTaskInRange }
-{
-    match act_of(alloc, place.act, lock_id, body) {
-        Ok(act) => Ok(Task::Carry(Order { ws: place.ws, act })),
-        Err(refusal) => Err(refusal),
-    }
-}
-
-fn place_of(ws: &WsName, act: WsAct) -> Result<Place, Refusal>
-    ensures { Follows result (Ok (place ws.now act)) }
-{
-    match ws.clone() {
-        Ok(ws) => Ok(Place { ws, act }),
-        Err(_) => Err(Refusal::Unavailable),
-    }
-}
-
 fn list_after(after: &Option<WsName>, prefix: &Prefix) -> Result<Task, Refusal>
-    ensures ok { Follows result (Ok (ListAll after.now prefix.now)) }
-    ensures range { IfOk result IsTaskInRange }
+    ensures { Follows result (Ok (ListAll after.now prefix.now)) }
 {
     let Ok(prefix) = prefix.clone() else {
         return Err(Refusal::Unavailable);
@@ -357,28 +330,14 @@ fn order_at(
     lock_id: &Option<LockId>,
     body: Bytes,
 ) -> Result<Task, Refusal>
-    ensures ok { Follows result (task_of (At (place ws.now act)) lock_id.now body) }
-    ensures range { IfOk result IsTaskInRange }
+    ensures { Follows result (task_of [] (OfWorkspace ws.now act) lock_id.now body) }
 {
-    match place_of(ws, act) {
-        Ok(place) => order_of(alloc, place, lock_id, body),
+    match act_of(alloc, act, lock_id, body) {
+        Ok(act) => match ws.clone() {
+            Ok(ws) => Ok(Task::Carry(Order { ws, act })),
+            Err(_) => Err(Refusal::Unavailable),
+        },
         Err(refusal) => Err(refusal),
-    }
-}
-
-fn spelt(
-    alloc: Global,
-    prefix: &Prefix,
-    asked: &AskedAct,
-    lock_id: &Option<LockId>,
-    body: Bytes,
-) -> Result<Task, Refusal>
-    ensures ok { Follows result (task_of (named prefix.now asked.now) lock_id.now body) }
-    ensures range { IfOk result IsTaskInRange }
-{
-    match asked {
-        AskedAct::ListWorkspaces { after } => list_after(after, prefix),
-        AskedAct::OfWorkspace(ws, act) => order_at(alloc, ws, *act, lock_id, body),
     }
 }
 
@@ -392,11 +351,13 @@ pub fn judged(
     lock_id: &Option<LockId>,
     body: Bytes,
 ) -> Result<Task, Refusal>
-    ensures ok { Follows result (judged_task prefix.now asked.now content_md5.now lock_id.now body) }
-    ensures range { IfOk result IsTaskInRange }
+    ensures { Follows result (judged_task prefix.now asked.now content_md5.now lock_id.now body) }
 {
     if let Err(refusal) = digest_checked(content_md5, &body) {
         return Err(refusal);
     }
-    spelt(alloc, prefix, asked, lock_id, body)
+    match asked {
+        AskedAct::ListWorkspaces { after } => list_after(after, prefix),
+        AskedAct::OfWorkspace(ws, act) => order_at(alloc, ws, *act, lock_id, body),
+    }
 }

@@ -2,26 +2,7 @@
 
 use basis::{OrgName, Prefix, WsName};
 use machine::{Act, Change};
-use route::WsAct;
 use wire::Reply;
-
-/// An act on a workspace by its name.
-#[derive(Drop)]
-pub struct Place {
-    pub ws: WsName,
-    pub act: WsAct,
-}
-
-/// What was found of what is asked: the organization's workspaces after a name, of those that a prefix
-/// admits, or the place of an act.
-#[derive(Drop)]
-pub enum Found {
-    Workspaces {
-        after: Option<WsName>,
-        prefix: Prefix,
-    },
-    At(Place),
-}
 
 /// An act on a workspace by its name, its documents read.
 #[derive(Drop)]

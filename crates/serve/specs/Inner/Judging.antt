@@ -7,20 +7,13 @@ use Rattle.machine.specs.declared.records.Organization.{Organization}
 use Rattle.route.specs.declared.acts.Asked.{Asked}
 use Rattle.route.specs.declared.acts.AskedAct.{AskedAct}
 use Rattle.route.specs.declared.acts.AskedAct.TheVariants.{ListWorkspaces, OfWorkspace}
-use Rattle.serve.specs.Checks.{is_found, place, digest_checked, task_of, checked}
+use Rattle.serve.specs.Checks.{is_found, digest_checked, task_of, checked}
 use Rattle.serve.specs.Steps.{carried}
-use Rattle.serve.specs.declared.prepared.Found.{Found}
-use Rattle.serve.specs.declared.prepared.Found.TheVariants.{Workspaces, At}
 use Rattle.serve.specs.declared.prepared.Task.{Task}
-
--- what is asked of, as if it were there
-abbrev pub named : List ℕ → AskedAct → Found
-named prefix (ListWorkspaces after) = Workspaces after prefix
-named prefix (OfWorkspace ws act) = At (place ws act)
 
 -- the digest and the document
 abbrev pub judged_task : List ℕ → AskedAct → Option (List ℕ) → Option (List ℕ) → List ℕ → Result Task Refusal
-judged_task prefix asked content_md5 id body = and_then (digest_checked content_md5 body) (λ _. task_of (named prefix asked) id body)
+judged_task prefix asked content_md5 id body = and_then (digest_checked content_md5 body) (λ _. task_of prefix asked id body)
 
 -- what isn't there is told before a refused digest or document
 abbrev pub missed : Option Organization → AskedAct → Refusal → Refusal
