@@ -2,10 +2,10 @@
 use Rattle.std.proofs.Common.{◌≡◌, ◌<◌, ◌≤◌, ℕ, zero, suc, ◌+◌, ◌-◌, nat_lt, true, cond, List, is_some, Option, Some, None, inl, inr, refl, ap, ◌∙◌, subst, arith}
 use Rattle.std.proofs.lemmas.Bool.{cases_Bool, ltb-true, ltb-false}
 use Rattle.sqlite.specs.State.{State, HasCleanDisk}
+use Rattle.statements.specs.Steps.{LeavesAsIs}
 use Rattle.statements.specs.Tables.{Tables, Holds}
 use Rattle.pages.specs.Rows.{page_uses}
 use Rattle.pages.specs.Puts.{twin_limit, free_from, free_twin}
-use Rattle.pages.specs.Pages.{LeavesAsIs}
 
 one_less : (m n : ℕ) → n < m → m - n ≡ suc (m - (n + 1))
 one_less m n low = omega (arith, low)

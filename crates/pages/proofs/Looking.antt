@@ -1,15 +1,13 @@
--- What queries and a write behind them leave together, inside one transaction.
-use Rattle.std.proofs.Common.{◌≡◌, ◌≤◌, ◌⊎◌, inl, inr, IsTrue, Result, Ok, Err, IfOk, OnOk, OnErr, refl, sym, ◌∙◌, subst, arith}
+-- What queries and writes leave together, one after another, inside one transaction.
+use Rattle.std.proofs.Common.{◌≡◌, ◌⊎◌, inl, inr, IsTrue, Result, Ok, Err, IfOk, OnOk, OnErr, refl, sym, ◌∙◌, subst}
+use Rattle.sqlite_trees.specs.declared.store.Store.{Ghosts}
 use Rattle.sqlite.specs.Effect.{Database}
-use Rattle.sqlite_trees.specs.Tree.{Trees}
-use Rattle.sqlite_trees.specs.View.{doubt}
+use Rattle.sqlite.specs.Held.{state}
 use Rattle.sqlite.specs.State.{State, HasCleanDisk, Survives, IsUnchanged, IsRolledBack, KeepsCommit}
-use Rattle.statements.specs.Steps.{LeavesForeign, Moves}
+use Rattle.sqlite.specs.declared.transaction.Transaction.{Transaction}
+use Rattle.statements.specs.Steps.{AnyRows, LeavesForeign, LeavesAsIs, Moves, Writes, Steps}
 use Rattle.statements.specs.Tables.{Tables, Holds}
-use Rattle.pages.specs.Pages.{LeavesAsIs}
-
-pub clean_before : (a b : State) (C : Trees → Type 0) → Survives a b C → HasCleanDisk b → HasCleanDisk a
-clean_before a b C s clean = let low : doubt a.is_clean ≤ doubt b.is_clean = s.clean in omega (arith, low, clean)
+use Rattle.statements.proofs.Transactions.{clean_before, moves_more}
 
 pub as_it_is : (s : State) → LeavesAsIs s s
 as_it_is s = record { was_open = λ is. is; is_open = λ is. is; now = refl; committed = refl; mode = refl }
@@ -33,23 +31,82 @@ failed_behind a b c look (inl same) = record { was_open = λ _. look.was_open sa
 failed_behind a b c look (inr back) = record { was_open = λ is. look.was_open (back.was_open is); committed = λ is. (back.undone is).1 ∙ look.committed }
 
 -- a write behind queries, and what it means by what they told
-pub moved_behind : (f g : Tables → Tables) (a b c : State) → LeavesAsIs a b → ((t : Tables) → Holds a.now t → f t ≡ g t) → Moves f b c → Moves g a c
-moved_behind f g a b c look is moved = record {
-  rows = λ t holds. subst (Holds c.now) (is t holds) (moved.rows t (still_holds a b look t holds));
-  others = λ t holds. subst (λ (d : Database). LeavesForeign d c.now) look.now (moved.others t (still_holds a b look t holds));
+pub moved_behind : (f h : Tables → Tables) (a b c : State) → LeavesAsIs a b → ((t : Tables) → Holds a.now t → f t ≡ h t) → Moves AnyRows f b c → Moves AnyRows h a c
+moved_behind f h a b c look is moved = record {
+  rows = λ t holds any. subst (Holds c.now) (is t holds) (moved.rows t (still_holds a b look t holds) tt);
+  others = λ t holds any. subst (λ (d : Database). LeavesForeign d c.now) look.now (moved.others t (still_holds a b look t holds) tt);
   was_open = look.was_open moved.was_open;
   is_open = moved.is_open;
   committed = moved.committed ∙ look.committed;
   inside = moved.inside;
 }
 
-pub done_behind : {X E : Type 0} (f g : Tables → Tables) (a b c : State) (result : Result X E) → LeavesAsIs a b → ((t : Tables) → Holds a.now t → f t ≡ g t)
-    → OnOk result (Moves f b c) × OnErr result (KeepsCommit b c) → OnOk result (Moves g a c) × OnErr result (KeepsCommit a c)
-done_behind f g a b c (Ok x) look is done = (moved_behind f g a b c look is done.0, tt)
-done_behind f g a b c (Err e) look is done = (tt, record { was_open = λ open_is. look.was_open (done.1.was_open open_is); committed = λ open_is. done.1.committed open_is ∙ look.committed })
+done_behind : {X E : Type 0} (f h : Tables → Tables) (a b c : State) (result : Result X E) → LeavesAsIs a b → ((t : Tables) → Holds a.now t → f t ≡ h t)
+    → OnOk result (Moves AnyRows f b c) × OnErr result (KeepsCommit b c) → OnOk result (Moves AnyRows h a c) × OnErr result (KeepsCommit a c)
+done_behind f h a b c (Ok x) look is done = (moved_behind f h a b c look is done.0, tt)
+done_behind f h a b c (Err e) look is done = (tt, record { was_open = λ open_is. look.was_open (done.1.was_open open_is); committed = λ open_is. done.1.committed open_is ∙ look.committed })
 
 -- a value that was told behind queries
 pub told_behind : {X E : Type 0} (f g : Tables → X) (a b : State) (result : Result X E) → LeavesAsIs a b → ((t : Tables) → Holds a.now t → f t ≡ g t)
     → IfOk result (λ x. (t : Tables) → Holds b.now t → x ≡ f t) → IfOk result (λ x. (t : Tables) → Holds a.now t → x ≡ g t)
 told_behind f g a b (Ok x) look is told = λ t holds. told t (still_holds a b look t holds) ∙ is t holds
 told_behind f g a b (Err e) look is told = tt
+
+-- ---- as one clause
+
+module _ {S : Type 0} (g : Ghosts S) where
+  -- a statement that writes is a step
+  pub steps_by : {X E : Type 0} (f : Tables → Tables) (a b : Transaction S) (result : Result X E) → Writes g AnyRows f a b result → Steps g f a b result
+  steps_by f a b result one = record { same_reference = one.same_reference; changed = one.changed; so_far = clean_before (state g a.conn.now) (state g b.conn.now) _ one.survives }
+
+  -- a step, and then the last one
+  pub steps_then : {X Y E F : Type 0} (f h : Tables → Tables) (a b c : Transaction S) (x : X) (result : Result Y F) → Steps {E = E} g f a b (Ok x) → Steps g h b c result → Steps g (λ t. h (f t)) a c result
+  steps_then f h a b c x result one last = record {
+    same_reference = last.same_reference ∙ one.same_reference;
+    changed = λ clean inside.
+        let first = (one.changed (last.so_far clean) inside).0 in
+        moves_more AnyRows AnyRows f h (state g a.conn.now) (state g b.conn.now) (state g c.conn.now) result (λ t any. tt) first (last.changed clean first.inside);
+    so_far = λ clean. one.so_far (last.so_far clean);
+  }
+
+  -- the same step by another name, where rows that are there say so
+  pub steps_are : {X E : Type 0} (f h : Tables → Tables) (a b : Transaction S) (result : Result X E) → (HasCleanDisk (state g b.conn.now) → (t : Tables) → Holds (state g a.conn.now).now t → f t ≡ h t) → Steps g f a b result → Steps g h a b result
+  steps_are f h a b result is one = record {
+    same_reference = one.same_reference;
+    changed = λ clean inside. done_behind f h (state g a.conn.now) (state g a.conn.now) (state g b.conn.now) result (as_it_is (state g a.conn.now)) (is clean) (one.changed clean inside);
+    so_far = one.so_far;
+  }
+
+  -- a query, and then a step that it says the meaning of
+  module _ (a b : Transaction S) (same_reference : b.conn.ghost_name ≡ a.conn.ghost_name) (survives : Survives (state g a.conn.now) (state g b.conn.now) (λ _. ⊥)) where
+    pub step_behind : {Y F : Type 0} (f h : Tables → Tables) (c : Transaction S) (result : Result Y F)
+        → (HasCleanDisk (state g b.conn.now) → ((t : Tables) → Holds (state g a.conn.now).now t → f t ≡ h t) × IsUnchanged (state g a.conn.now) (state g b.conn.now)) → Steps g f b c result → Steps g h a c result
+    step_behind f h c result told last = record {
+      same_reference = last.same_reference ∙ same_reference;
+      changed = λ clean inside.
+          let seen = told (last.so_far clean) in
+          let look = one_look (state g a.conn.now) (state g b.conn.now) seen.1 in
+          done_behind f h (state g a.conn.now) (state g b.conn.now) (state g c.conn.now) result look seen.0 (last.changed clean (still_inside (state g a.conn.now) (state g b.conn.now) look inside));
+      so_far = λ clean. clean_before (state g a.conn.now) (state g b.conn.now) _ survives (last.so_far clean);
+    }
+
+    -- a query, behind which there is nothing to do
+    pub step_none : {Y F : Type 0} (h : Tables → Tables) (y : Y)
+        → (HasCleanDisk (state g b.conn.now) → ((t : Tables) → Holds (state g a.conn.now).now t → t ≡ h t) × IsUnchanged (state g a.conn.now) (state g b.conn.now)) → Steps {E = F} g h a b (Ok y)
+    step_none h y told = record {
+      same_reference = same_reference;
+      changed = λ clean inside.
+          let seen = told clean in
+          let look = one_look (state g a.conn.now) (state g b.conn.now) seen.1 in (
+            moved_behind (λ t. t) h (state g a.conn.now) (state g b.conn.now) (state g b.conn.now) look seen.0 (record {
+              rows = λ t holds any. holds;
+              others = λ t holds any. record { schema = refl; rows = λ other own passive apart. refl };
+              was_open = seen.1.0.is_open;
+              is_open = seen.1.0.is_open;
+              committed = refl;
+              inside = still_inside (state g a.conn.now) (state g b.conn.now) look inside;
+            }),
+            tt,
+          );
+      so_far = clean_before (state g a.conn.now) (state g b.conn.now) _ survives;
+    }

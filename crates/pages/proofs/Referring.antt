@@ -25,8 +25,9 @@ use Rattle.statements.proofs.Held.{IsHeld, pages_held, vpages_held}
 use Rattle.statements.proofs.Follows.{named_first}
 use Rattle.statements.proofs.Writes.{plain_program}
 use Rattle.statements.specs.Calls.{Wrote}
+use Rattle.statements.specs.Steps.{LeavesAsIs}
 use Rattle.pages.specs.Rows.{is_page}
-use Rattle.pages.specs.Pages.{LeavesAsIs, Page, pages_in, NamedAreThere}
+use Rattle.pages.specs.Pages.{Page, pages_in, NamedAreThere}
 use Rattle.pages.proofs.Looking.{still_holds}
 use Rattle.pages.proofs.PageTexts.{set_page_uses_text, set_page_uses_query, set_page_uses_means, remove_page_text, remove_page_query, remove_page_means}
 use Rattle.pages.proofs.PageWrites.{blob_number}

@@ -56,14 +56,6 @@ pub record ReleasesPage (key : List ℕ) (twin : ℕ) (old new : PageMap) : Type
 
 -- ---- what calls promise, of all rows that a database may hold before and after them
 
--- what queries leave, be it any number of them
-pub record LeavesAsIs (old new : State) : Type 0 where
-  pub was_open : IsTrue new.is_open → IsTrue old.is_open
-  pub is_open : IsTrue old.is_open → IsTrue new.is_open
-  pub now : new.now ≡ old.now
-  pub committed : new.committed ≡ old.committed
-  pub mode : new.in_transaction ≡ old.in_transaction
-
 -- a page is put, in a transaction
 abbrev pub PutsBy : {E : Type 0} → (List ℕ → List ℕ) → List ℕ → State → State → Result PageId E → Type 0
 PutsBy key_of page old new result =

@@ -1,8 +1,8 @@
 //! Statements on the table page.
-ghost use Rattle.std.specs.Prelude.{◌≡◌, false, ◌<◌, ◌^◌};
+ghost use Rattle.std.specs.Prelude.{◌≡◌, ◌<◌, ◌^◌};
 ghost use Rattle.sqlite.specs.Held.{state};
 ghost use Rattle.sqlite.specs.State.{Survives};
-ghost use Rattle.statements.specs.Steps.{ChangesBy, ReadsBy};
+ghost use Rattle.statements.specs.Steps.{AnyRows, Equals, Writes, Reads, Queries};
 ghost use Rattle.pages.specs.Rows.{page_added, page_used, page_removed, page_bytes, page_uses, equal_page, first_page};
 ghost use Rattle.pages.specs.Pages.{SparesNamed};
 ghost use Rattle.pages.specs.Inner.Calls.{IsPageUse, IsFirstPage};
@@ -39,9 +39,7 @@ pub(crate) fn add<'v, S: Alter>(
     bytes: &'v [u8],
 ) -> Result<(), Error>
     requires twin_fits { twin < 2 ^ 63 }
-    ensures same_reference { tx.new.conn.ghost_name ≡ tx.old.conn.ghost_name }
-    ensures changed { ChangesBy (page_added key.now twin bytes.now) (state S.Store tx.old.conn.now) (state S.Store tx.new.conn.now) result }
-    ensures survives { Survives (state S.Store tx.old.conn.now) (state S.Store tx.new.conn.now) (λ _. ⊥) }
+    ensures { Writes S.Store AnyRows (page_added key.now twin bytes.now) tx.old tx.new result }
 {
     let twin = signed(twin);
     write(tx, ADD_PAGE, params![key, &twin, bytes])
@@ -58,10 +56,8 @@ pub(crate) fn set_uses<'v, S: Alter>(
 ) -> Result<(), Error>
     requires twin_fits { twin < 2 ^ 63 }
     requires uses_fit { uses < 2 ^ 63 }
-    ensures same_reference { tx.new.conn.ghost_name ≡ tx.old.conn.ghost_name }
-    ensures changed { ChangesBy (page_used key.now twin uses) (state S.Store tx.old.conn.now) (state S.Store tx.new.conn.now) result }
+    ensures writes { Writes S.Store AnyRows (page_used key.now twin uses) tx.old tx.new result }
     ensures spares { SparesNamed (state S.Store tx.old.conn.now) (state S.Store tx.new.conn.now) result }
-    ensures survives { Survives (state S.Store tx.old.conn.now) (state S.Store tx.new.conn.now) (λ _. ⊥) }
 {
     let twin = signed(twin);
     let uses = signed(uses);
@@ -77,10 +73,8 @@ pub(crate) fn remove<'v, S: Alter>(
     twin: u64,
 ) -> Result<(), Error>
     requires twin_fits { twin < 2 ^ 63 }
-    ensures same_reference { tx.new.conn.ghost_name ≡ tx.old.conn.ghost_name }
-    ensures changed { ChangesBy (page_removed key.now twin) (state S.Store tx.old.conn.now) (state S.Store tx.new.conn.now) result }
+    ensures writes { Writes S.Store AnyRows (page_removed key.now twin) tx.old tx.new result }
     ensures spares { SparesNamed (state S.Store tx.old.conn.now) (state S.Store tx.new.conn.now) result }
-    ensures survives { Survives (state S.Store tx.old.conn.now) (state S.Store tx.new.conn.now) (λ _. ⊥) }
 {
     let twin = signed(twin);
     write(tx, REMOVE_PAGE, params![key, &twin])
@@ -95,9 +89,7 @@ pub(crate) fn bytes<'v, S: Alter>(
     twin: u64,
 ) -> Result<Option<Bytes>, Error>
     requires twin_fits { twin < 2 ^ 63 }
-    ensures mode { conn.old.in_transaction ≡ false → conn.new.in_transaction ≡ false }
-    ensures read { ReadsBy (page_bytes key.now twin) (state S.Store conn.old) (state S.Store conn.new) result }
-    ensures survives { Survives (state S.Store conn.old) (state S.Store conn.new) (λ _. ⊥) }
+    ensures { Queries S.Store (Equals (page_bytes key.now twin)) conn.old conn.new result }
 {
     let twin = signed(twin);
     let row = first_row(conn, PAGE_BYTES, params![key, &twin]);
@@ -114,7 +106,7 @@ pub(crate) fn uses<'v, S: Alter>(
 ) -> Result<Option<u64>, Error>
     requires twin_fits { twin < 2 ^ 63 }
     ensures same_reference { tx.new.conn.ghost_name ≡ tx.old.conn.ghost_name }
-    ensures read { ReadsBy (page_uses key.now twin) (state S.Store tx.old.conn.now) (state S.Store tx.new.conn.now) result }
+    ensures read { Reads (Equals (page_uses key.now twin)) (state S.Store tx.old.conn.now) (state S.Store tx.new.conn.now) result }
     ensures survives { Survives (state S.Store tx.old.conn.now) (state S.Store tx.new.conn.now) (λ _. ⊥) }
 {
     let twin = signed(twin);
@@ -152,7 +144,7 @@ pub(crate) fn first<S: Alter>(
     bytes: &[u8],
 ) -> Result<Option<FirstPage>, Error>
     ensures same_reference { tx.new.conn.ghost_name ≡ tx.old.conn.ghost_name }
-    ensures read { ReadsBy (first_page key.now bytes.now) (state S.Store tx.old.conn.now) (state S.Store tx.new.conn.now) result }
+    ensures read { Reads (Equals (first_page key.now bytes.now)) (state S.Store tx.old.conn.now) (state S.Store tx.new.conn.now) result }
     ensures survives { Survives (state S.Store tx.old.conn.now) (state S.Store tx.new.conn.now) (λ _. ⊥) }
 {
     let row = first_row_inside(tx, FIRST_PAGE, params![key, bytes]);
@@ -169,7 +161,7 @@ pub(crate) fn equal<S: Alter>(
     bytes: &[u8],
 ) -> Result<Option<PageUse>, Error>
     ensures same_reference { tx.new.conn.ghost_name ≡ tx.old.conn.ghost_name }
-    ensures read { ReadsBy (equal_page key.now bytes.now) (state S.Store tx.old.conn.now) (state S.Store tx.new.conn.now) result }
+    ensures read { Reads (Equals (equal_page key.now bytes.now)) (state S.Store tx.old.conn.now) (state S.Store tx.new.conn.now) result }
     ensures survives { Survives (state S.Store tx.old.conn.now) (state S.Store tx.new.conn.now) (λ _. ⊥) }
 {
     let row = first_row_inside(tx, EQUAL_PAGE, params![key, bytes]);

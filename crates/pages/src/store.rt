@@ -4,7 +4,7 @@ ghost use Rattle.sqlite_value.specs.declared.value.Value.TheVariants.{Blob};
 ghost use Rattle.sqlite_value.specs.Order.{column};
 ghost use Rattle.sqlite.specs.Held.{state};
 ghost use Rattle.sqlite.specs.State.{HasCleanDisk};
-ghost use Rattle.statements.specs.Steps.{ChangesBy};
+ghost use Rattle.statements.specs.Steps.{Steps};
 ghost use Rattle.statements.specs.Tables.{Tables, Holds};
 ghost use Rattle.pages.specs.Rows.{page_added, page_used, page_bytes, IsPageName};
 ghost use Rattle.pages.specs.Puts.{free_twin, twin_found, twin_for, put_found, page_put, lessened, released_found, page_released, is_bytes_of};
@@ -84,11 +84,9 @@ fn use_again<S: Alter>(
     key: &[u8],
     found: PageUse,
 ) -> Result<u64, Error>
-    ensures same_reference { tx.new.conn.ghost_name ≡ tx.old.conn.ghost_name }
-    ensures changed { ChangesBy (page_used key.now found.twin (found.uses + 1)) (state S.Store tx.old.conn.now) (state S.Store tx.new.conn.now) result }
+    ensures steps { Steps S.Store (page_used key.now found.twin (found.uses + 1)) tx.old tx.new result }
     ensures twin { IfOk result (λ twin. twin ≡ found.twin) }
     ensures fits { IfOk result (λ twin. twin < 2 ^ 63) }
-    ensures so_far { HasCleanDisk (state S.Store tx.new.conn.now) → HasCleanDisk (state S.Store tx.old.conn.now) }
 {
     if found.twin > MOST {
         return Err(Error::IntegralValueOutOfRange(TWIN_COLUMN));
@@ -102,11 +100,9 @@ fn use_again<S: Alter>(
 
 /// A page under the least number that is free.
 fn add_new<S: Alter>(tx: &mut Transaction<'_, S>, key: &[u8], page: &[u8]) -> Result<u64, Error>
-    ensures same_reference { tx.new.conn.ghost_name ≡ tx.old.conn.ghost_name }
-    ensures changed { ChangesBy (λ t. page_added key.now (free_twin key.now t) page.now t) (state S.Store tx.old.conn.now) (state S.Store tx.new.conn.now) result }
+    ensures steps { Steps S.Store (λ t. page_added key.now (free_twin key.now t) page.now t) tx.old tx.new result }
     ensures twin { TellsBy (free_twin key.now) (state S.Store tx.old.conn.now) (state S.Store tx.new.conn.now) result }
     ensures fits { IfOk result (λ twin. twin < 2 ^ 63) }
-    ensures so_far { HasCleanDisk (state S.Store tx.new.conn.now) → HasCleanDisk (state S.Store tx.old.conn.now) }
 {
     let twin = free(tx, key)?;
     add(tx, key, twin, page)?;
@@ -115,10 +111,8 @@ fn add_new<S: Alter>(tx: &mut Transaction<'_, S>, key: &[u8], page: &[u8]) -> Re
 
 /// The only page of a key, under the number 0.
 fn add_first<S: Alter>(tx: &mut Transaction<'_, S>, key: &[u8], page: &[u8]) -> Result<u64, Error>
-    ensures same_reference { tx.new.conn.ghost_name ≡ tx.old.conn.ghost_name }
-    ensures changed { ChangesBy (page_added key.now 0 page.now) (state S.Store tx.old.conn.now) (state S.Store tx.new.conn.now) result }
+    ensures steps { Steps S.Store (page_added key.now 0 page.now) tx.old tx.new result }
     ensures twin { IfOk result (λ twin. twin ≡ 0) }
-    ensures so_far { HasCleanDisk (state S.Store tx.new.conn.now) → HasCleanDisk (state S.Store tx.old.conn.now) }
 {
     add(tx, key, 0, page)?;
     Ok(0)
@@ -130,11 +124,9 @@ fn put_beside<S: Alter>(
     found: Option<PageUse>,
     page: &[u8],
 ) -> Result<u64, Error>
-    ensures same_reference { tx.new.conn.ghost_name ≡ tx.old.conn.ghost_name }
-    ensures changed { ChangesBy (put_found key.now page.now found) (state S.Store tx.old.conn.now) (state S.Store tx.new.conn.now) result }
+    ensures steps { Steps S.Store (put_found key.now page.now found) tx.old tx.new result }
     ensures twin { TellsBy (twin_found key.now found) (state S.Store tx.old.conn.now) (state S.Store tx.new.conn.now) result }
     ensures fits { IfOk result (λ twin. twin < 2 ^ 63) }
-    ensures so_far { HasCleanDisk (state S.Store tx.new.conn.now) → HasCleanDisk (state S.Store tx.old.conn.now) }
 {
     match found {
         Some(found) => use_again(tx, key, found),
@@ -144,11 +136,9 @@ fn put_beside<S: Alter>(
 
 /// Puts a page of a key that has others.
 fn put_among<S: Alter>(tx: &mut Transaction<'_, S>, key: &[u8], page: &[u8]) -> Result<u64, Error>
-    ensures same_reference { tx.new.conn.ghost_name ≡ tx.old.conn.ghost_name }
-    ensures changed { ChangesBy (page_put key.now page.now) (state S.Store tx.old.conn.now) (state S.Store tx.new.conn.now) result }
+    ensures steps { Steps S.Store (page_put key.now page.now) tx.old tx.new result }
     ensures twin { TellsBy (twin_for key.now page.now) (state S.Store tx.old.conn.now) (state S.Store tx.new.conn.now) result }
     ensures fits { IfOk result (λ twin. twin < 2 ^ 63) }
-    ensures so_far { HasCleanDisk (state S.Store tx.new.conn.now) → HasCleanDisk (state S.Store tx.old.conn.now) }
 {
     let found = equal(tx, key, page)?;
     put_beside(tx, key, found, page)
@@ -160,11 +150,9 @@ fn put_with<S: Alter>(
     first: Option<FirstPage>,
     page: &[u8],
 ) -> Result<u64, Error>
-    ensures same_reference { tx.new.conn.ghost_name ≡ tx.old.conn.ghost_name }
-    ensures changed { ChangesBy (put_with key.now page.now first) (state S.Store tx.old.conn.now) (state S.Store tx.new.conn.now) result }
+    ensures steps { Steps S.Store (put_with key.now page.now first) tx.old tx.new result }
     ensures twin { TellsBy (twin_with key.now page.now first) (state S.Store tx.old.conn.now) (state S.Store tx.new.conn.now) result }
     ensures fits { IfOk result (λ twin. twin < 2 ^ 63) }
-    ensures so_far { HasCleanDisk (state S.Store tx.new.conn.now) → HasCleanDisk (state S.Store tx.old.conn.now) }
 {
     match first {
         None => add_first(tx, key, page),
@@ -179,11 +167,9 @@ fn put_with<S: Alter>(
 }
 
 fn put_under<S: Alter>(tx: &mut Transaction<'_, S>, key: &[u8], page: &[u8]) -> Result<u64, Error>
-    ensures same_reference { tx.new.conn.ghost_name ≡ tx.old.conn.ghost_name }
-    ensures changed { ChangesBy (page_put key.now page.now) (state S.Store tx.old.conn.now) (state S.Store tx.new.conn.now) result }
+    ensures steps { Steps S.Store (page_put key.now page.now) tx.old tx.new result }
     ensures twin { TellsBy (twin_for key.now page.now) (state S.Store tx.old.conn.now) (state S.Store tx.new.conn.now) result }
     ensures fits { IfOk result (λ twin. twin < 2 ^ 63) }
-    ensures so_far { HasCleanDisk (state S.Store tx.new.conn.now) → HasCleanDisk (state S.Store tx.old.conn.now) }
 {
     let first = first(tx, key, page)?;
     put_with(tx, key, first, page)
@@ -192,12 +178,10 @@ fn put_under<S: Alter>(tx: &mut Transaction<'_, S>, key: &[u8], page: &[u8]) -> 
 /// Puts a page into use once more, and keeps it if none with its bytes is kept.
 /// Where its uses or its twin number would pass 9,223,372,036,854,775,807, it is an error.
 pub fn put<K: PageKey, S: Alter>(tx: &mut Transaction<'_, S>, page: &[u8]) -> Result<PageId, Error>
-    ensures same_reference { tx.new.conn.ghost_name ≡ tx.old.conn.ghost_name }
-    ensures changed { ChangesBy (page_put (K.key_of page.now) page.now) (state S.Store tx.old.conn.now) (state S.Store tx.new.conn.now) result }
+    ensures steps { Steps S.Store (page_put (K.key_of page.now) page.now) tx.old tx.new result }
     ensures twin { IfOk result (λ id. (id.key ≡ K.key_of page.now) × (id.twin < 2 ^ 63)) }
     ensures tells { HasCleanDisk (state S.Store tx.new.conn.now) → IfOk result (λ id. (t : Tables) → Holds (state S.Store tx.old.conn.now).now t → id.twin ≡ twin_for (K.key_of page.now) page.now t) }
     ensures puts { PutsBy K.key_of page.now (state S.Store tx.old.conn.now) (state S.Store tx.new.conn.now) result }
-    ensures so_far { HasCleanDisk (state S.Store tx.new.conn.now) → HasCleanDisk (state S.Store tx.old.conn.now) }
 {
     let key = K::key(page);
     let twin = put_under(tx, key.as_slice(), page)?;
@@ -237,10 +221,8 @@ fn lessen<S: Alter>(
     uses: u64,
 ) -> Result<(), Error>
     requires twin_fits { twin < 2 ^ 63 }
-    ensures same_reference { tx.new.conn.ghost_name ≡ tx.old.conn.ghost_name }
-    ensures changed { ChangesBy (lessened key.now twin uses) (state S.Store tx.old.conn.now) (state S.Store tx.new.conn.now) result }
+    ensures steps { Steps S.Store (lessened key.now twin uses) tx.old tx.new result }
     ensures spares { SparesNamed (state S.Store tx.old.conn.now) (state S.Store tx.new.conn.now) result }
-    ensures so_far { HasCleanDisk (state S.Store tx.new.conn.now) → HasCleanDisk (state S.Store tx.old.conn.now) }
 {
     if uses > MOST {
         return Err(Error::IntegralValueOutOfRange(USES_COLUMN));
@@ -259,11 +241,9 @@ fn release_found<S: Alter>(
     uses: Option<u64>,
 ) -> Result<(), Error>
     requires twin_fits { twin < 2 ^ 63 }
-    ensures same_reference { tx.new.conn.ghost_name ≡ tx.old.conn.ghost_name }
-    ensures changed { ChangesBy (released_found key.now twin uses) (state S.Store tx.old.conn.now) (state S.Store tx.new.conn.now) result }
+    ensures steps { Steps S.Store (released_found key.now twin uses) tx.old tx.new result }
     ensures found { OnOk result (IsSome uses) }
     ensures spares { SparesNamed (state S.Store tx.old.conn.now) (state S.Store tx.new.conn.now) result }
-    ensures so_far { HasCleanDisk (state S.Store tx.new.conn.now) → HasCleanDisk (state S.Store tx.old.conn.now) }
 {
     match uses {
         Some(uses) => lessen(tx, key, twin, uses),
@@ -274,11 +254,9 @@ fn release_found<S: Alter>(
 /// Takes one use of a page, and the page with the last. It is an error where the page isn't there,
 /// and where the last use would go of a page that a row of vpage names.
 pub fn release<S: Alter>(tx: &mut Transaction<'_, S>, id: &PageId) -> Result<(), Error>
-    ensures same_reference { tx.new.conn.ghost_name ≡ tx.old.conn.ghost_name }
-    ensures changed { ChangesBy (page_released id.now.key id.now.twin) (state S.Store tx.old.conn.now) (state S.Store tx.new.conn.now) result }
+    ensures steps { Steps S.Store (page_released id.now.key id.now.twin) tx.old tx.new result }
     ensures releases { ReleasesBy id.now.key id.now.twin (state S.Store tx.old.conn.now) (state S.Store tx.new.conn.now) result }
     ensures spares { SparesNamed (state S.Store tx.old.conn.now) (state S.Store tx.new.conn.now) result }
-    ensures so_far { HasCleanDisk (state S.Store tx.new.conn.now) → HasCleanDisk (state S.Store tx.old.conn.now) }
 {
     let twin = id.twin;
     if twin > MOST {

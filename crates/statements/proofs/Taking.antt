@@ -15,9 +15,7 @@ use Rattle.sqlite.proofs.Callers.{given_begin, unchanged_then}
 use Rattle.sqlite.proofs.StateLemmas.{survives_then}
 use Rattle.statements.specs.Calls.{IsQuery, FirstRows}
 use Rattle.statements.proofs.Calm.{silent, survives_query}
-
-clean_before : (a b : State) (P : Rattle.sqlite_trees.specs.Tree.Trees → Type 0) → Survives a b P → HasCleanDisk b → HasCleanDisk a
-clean_before a b P s clean = omega (arith, s.clean)
+use Rattle.statements.proofs.Transactions.{clean_before}
 
 fails_from : (a b c : State) → IsUnchanged a b → IsUnchanged b c ⊎ IsRolledBack b c → IsUnchanged a c ⊎ IsRolledBack a c
 fails_from a b c same (inl kept) = inl (unchanged_then a b c same kept)

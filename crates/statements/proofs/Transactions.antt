@@ -1,28 +1,27 @@
 -- From what a text does to what a function of it promises.
-use Rattle.std.proofs.Common.{◌≡◌, ◌⊎◌, inl, ℕ, Bool, not, ◌==◌, List, [], ◌∷◌, Option, Some, None, Result, Ok, Err, IfOk, OnOk, OnErr, refl, ap, subst, ◌∙◌}
+use Rattle.std.proofs.Common.{◌≡◌, ◌⊎◌, inl, ◌≤◌, ℕ, Bool, not, ◌==◌, List, [], ◌∷◌, Option, Some, None, Result, Ok, Err, IfOk, OnOk, OnErr, refl, ap, subst, ◌∙◌, arith}
 use Rattle.std.specs.List.{AllZip}
 use Rattle.sqlite_value.specs.Order.{Row}
-use Rattle.sqlite.specs.State.{State, Executes, KeepsCommit, IsUnchanged, IsRolledBack}
+use Rattle.sqlite_trees.specs.Tree.{Trees}
+use Rattle.sqlite_trees.specs.View.{doubt}
+use Rattle.sqlite_trees.specs.declared.store.Store.{Ghosts}
+use Rattle.sqlite.specs.Held.{state}
+use Rattle.sqlite.specs.State.{State, HasCleanDisk, Executes, KeepsCommit, IsUnchanged, IsRolledBack, Survives}
+use Rattle.sqlite.specs.declared.transaction.Transaction.{Transaction}
 use Rattle.sqlite.specs.declared.error.Error.{Error}
 use Rattle.statements.specs.Calls.{Wrote, WroteAny, FirstRow, IsCalm, IsRead, AreRead, IsCount, IsNumber, Pins}
 use Rattle.statements.specs.Rows.{number}
 use Rattle.sqlite.specs.Effect.{Database}
 use Rattle.statements.specs.Making.{Alters}
-use Rattle.statements.specs.Steps.{Moves, MovesWhere}
+use Rattle.statements.specs.Steps.{AnyRows, Moves, Writes}
 use Rattle.sqlite.proofs.InsideLemmas.{keeps_then}
+use Rattle.sqlite.proofs.StateLemmas.{survives_then}
 use Rattle.statements.specs.Tables.{Tables, Holds, our_tables}
 use Rattle.statements.proofs.Frames.{Turns, left_then}
 
-pub moves_by : {X E : Type 0} (change : Tables → Tables) (old new : State) (text : List ℕ) (params : Row) (result : Result X E) → Wrote text params old new result
-    → ((count : ℕ) (t : Tables) → Holds old.now t → Executes text params old new (Ok count) → Turns old.now new.now (change t)) → OnOk result (Moves change old new) × OnErr result (KeepsCommit old new)
-moves_by change old new text params (Ok x) wrote does =
-    let ran = wrote.0.1 in
-    (record { rows = λ t h. (does wrote.0.0 t h ran.0).0; others = λ t h. (does wrote.0.0 t h ran.0).1; was_open = ran.1.was_open; is_open = ran.1.is_open; committed = ran.1.committed_is; inside = ran.1.mode }, tt)
-moves_by change old new text params (Err e) wrote does = (tt, wrote.1)
-
 -- a write of rows that obey a law
 pub moves_where : {X E : Type 0} (law : Tables → Type 0) (change : Tables → Tables) (old new : State) (text : List ℕ) (params : Row) (result : Result X E) → Wrote text params old new result
-    → ((count : ℕ) (t : Tables) → Holds old.now t → law t → Executes text params old new (Ok count) → Turns old.now new.now (change t)) → OnOk result (MovesWhere law change old new) × OnErr result (KeepsCommit old new)
+    → ((count : ℕ) (t : Tables) → Holds old.now t → law t → Executes text params old new (Ok count) → Turns old.now new.now (change t)) → OnOk result (Moves law change old new) × OnErr result (KeepsCommit old new)
 moves_where law change old new text params (Ok x) wrote does =
     let ran = wrote.0.1 in (
       record {
@@ -36,6 +35,11 @@ moves_where law change old new text params (Ok x) wrote does =
       tt,
     )
 moves_where law change old new text params (Err e) wrote does = (tt, wrote.1)
+
+-- and of any rows
+pub moves_by : {X E : Type 0} (change : Tables → Tables) (old new : State) (text : List ℕ) (params : Row) (result : Result X E) → Wrote text params old new result
+    → ((count : ℕ) (t : Tables) → Holds old.now t → Executes text params old new (Ok count) → Turns old.now new.now (change t)) → OnOk result (Moves AnyRows change old new) × OnErr result (KeepsCommit old new)
+moves_by change old new text params result wrote does = moves_where AnyRows change old new text params result wrote (λ count t h any. does count t h)
 
 -- a write that tells whether there were rows to write
 pub any_wrote : {E : Type 0} (old new : State) (text : List ℕ) (params : Row) (result : Result Bool E) → WroteAny text params old new result → Wrote text params old new result
@@ -119,29 +123,38 @@ counts_by read old new text params (Ok r) (Ok n) first calm is shows = (λ t h. 
 
 -- ---- one after another
 
-pub moves_then : (f g : Tables → Tables) (a b c : State) → Moves f a b → Moves g b c → Moves (λ t. g (f t)) a c
-moves_then f g a b c one two =
-    record { rows = λ t h. two.rows (f t) (one.rows t h); others = λ t h. left_then our_tables a.now b.now c.now (one.others t h) (two.others (f t) (one.rows t h)); was_open = one.was_open; is_open = two.is_open; committed = two.committed ∙ one.committed; inside = two.inside }
+-- what was clean behind a call was clean before it
+pub clean_before : (a b : State) (C : Trees → Type 0) → Survives a b C → HasCleanDisk b → HasCleanDisk a
+clean_before a b C s clean = let low : doubt a.is_clean ≤ doubt b.is_clean = s.clean in omega (arith, low, clean)
 
--- one more write, which may fail
-pub moves_more : {X E : Type 0} (f g : Tables → Tables) (a b c : State) (result : Result X E) → Moves f a b → OnOk result (Moves g b c) × OnErr result (KeepsCommit b c)
-    → OnOk result (Moves (λ t. g (f t)) a c) × OnErr result (KeepsCommit a c)
-moves_more f g a b c (Ok x) one two = (moves_then f g a b c one two.0, tt)
-moves_more f g a b c (Err e) one two = (tt, keeps_then a b c (record { was_open = λ _. one.was_open; committed = λ _. one.committed }) two.1)
+-- a write behind one that sees to its law
+pub moves_then : (law next : Tables → Type 0) (f g : Tables → Tables) (a b c : State) → ((t : Tables) → law t → next (f t)) → Moves law f a b → Moves next g b c → Moves law (λ t. g (f t)) a c
+moves_then law next f g a b c keeps one two = record {
+  rows = λ t h lawful. two.rows (f t) (one.rows t h lawful) (keeps t lawful);
+  others = λ t h lawful. left_then our_tables a.now b.now c.now (one.others t h lawful) (two.others (f t) (one.rows t h lawful) (keeps t lawful));
+  was_open = one.was_open;
+  is_open = two.is_open;
+  committed = two.committed ∙ one.committed;
+  inside = two.inside;
+}
 
--- and one of rows that obey a law which the first sees to
-pub moves_where_more : {X E : Type 0} (law : Tables → Type 0) (f g : Tables → Tables) (a b c : State) (result : Result X E) → ((t : Tables) → law (f t)) → Moves f a b
-    → OnOk result (MovesWhere law g b c) × OnErr result (KeepsCommit b c) → OnOk result (Moves (λ t. g (f t)) a c) × OnErr result (KeepsCommit a c)
-moves_where_more law f g a b c (Ok x) lawful one two =
-    let next = two.0 in (
-      record {
-        rows = λ t h. next.rows (f t) (one.rows t h) (lawful t);
-        others = λ t h. left_then our_tables a.now b.now c.now (one.others t h) (next.others (f t) (one.rows t h) (lawful t));
-        was_open = one.was_open;
-        is_open = next.is_open;
-        committed = next.committed ∙ one.committed;
-        inside = next.inside;
-      },
-      tt,
-    )
-moves_where_more law f g a b c (Err e) lawful one two = (tt, keeps_then a b c (record { was_open = λ _. one.was_open; committed = λ _. one.committed }) two.1)
+-- one that may fail
+pub moves_more : {X E : Type 0} (law next : Tables → Type 0) (f g : Tables → Tables) (a b c : State) (result : Result X E) → ((t : Tables) → law t → next (f t)) → Moves law f a b
+    → OnOk result (Moves next g b c) × OnErr result (KeepsCommit b c) → OnOk result (Moves law (λ t. g (f t)) a c) × OnErr result (KeepsCommit a c)
+moves_more law next f g a b c (Ok x) keeps one two = (moves_then law next f g a b c keeps one two.0, tt)
+moves_more law next f g a b c (Err e) keeps one two = (tt, keeps_then a b c (record { was_open = λ _. one.was_open; committed = λ _. one.committed }) two.1)
+
+-- the whole of it
+pub writes_then : {S X Y E F : Type 0} (g : Ghosts S) (law next : Tables → Type 0) (f h : Tables → Tables) (a b c : Transaction S) (x : X) (result : Result Y F) → ((t : Tables) → law t → next (f t))
+    → Writes {E = E} g law f a b (Ok x) → Writes g next h b c result → Writes g law (λ t. h (f t)) a c result
+writes_then g law next f h a b c x result keeps one two =
+    let s0 = state g a.conn.now in
+    let s1 = state g b.conn.now in
+    let s2 = state g c.conn.now in
+    record {
+      same_reference = two.same_reference ∙ one.same_reference;
+      changed = λ clean inside.
+          let first = (one.changed (clean_before s1 s2 _ two.survives clean) inside).0 in
+          moves_more law next f h s0 s1 s2 result keeps first (two.changed clean first.inside);
+      survives = survives_then s0 s1 s2 (λ _. ⊥) (λ _. ⊥) (λ _. ⊥) (λ _ db none. none) (λ _ db none. none) one.survives two.survives;
+    }

@@ -1,5 +1,5 @@
 -- What a statement does: it changes the rows of our tables by a function, or reads a value of them.
-use Rattle.std.specs.Prelude.{◌≡◌, ◌≢◌, ◌⊎◌, false, List, IsTrue, Result, IfOk, OnOk, OnErr}
+use Rattle.std.specs.Prelude.{◌≡◌, ◌≢◌, ◌⊎◌, ⊤, false, List, IsTrue, Result, IfOk, OnOk, OnErr}
 use Rattle.std.specs.List.{AllByRecursion}
 use Rattle.sqlite_trees.specs.declared.store.Store.{Ghosts}
 use Rattle.sqlite.specs.Held.{Held, state}
@@ -9,6 +9,22 @@ use Rattle.sqlite_schema.specs.declared.schema.Table.{Table}
 use Rattle.sqlite.specs.Effect.{Database}
 use Rattle.statements.specs.Place.{tree_of, IsOwn, RefersPassively}
 use Rattle.statements.specs.Tables.{Tables, Holds, our_tables}
+
+-- ---- what is said of rows
+
+-- nothing, of any rows
+abbrev pub AnyRows : Tables → Type 0
+AnyRows t = ⊤
+
+-- a value is that of the rows
+abbrev pub Equals : {X : Type 0} → (Tables → X) → X → Tables → Type 0
+Equals value x t = x ≡ value t
+
+-- it is that of rows that obey a law
+abbrev pub EqualsWhere : {X : Type 0} → (Tables → Type 0) → (Tables → X) → X → Tables → Type 0
+EqualsWhere law value x t = law t → x ≡ value t
+
+-- ---- a write
 
 -- The schema stays, and so do the rows of each table that is none of these, and to which no write elsewhere is passed on.
 pub record LeavesBeside (tables : List Table) (old new : Database) : Type 0 where
@@ -21,21 +37,8 @@ pub record LeavesBeside (tables : List Table) (old new : Database) : Type 0 wher
 abbrev pub LeavesForeign : Database → Database → Type 0
 LeavesForeign = LeavesBeside our_tables
 
--- The rows change by the function, inside the transaction, which goes on; what is not ours is left.
-pub record Moves (change : Tables → Tables) (old new : State) : Type 0 where
-  pub rows : (t : Tables) → Holds old.now t → Holds new.now (change t)
-  pub others : (t : Tables) → Holds old.now t → LeavesForeign old.now new.now
-  pub was_open : IsTrue old.is_open
-  pub is_open : IsTrue new.is_open
-  pub committed : new.committed ≡ old.committed
-  pub inside : IsTrue new.in_transaction
-
--- a write: after a failure nothing is committed
-abbrev pub ChangesBy : {X E : Type 0} → (Tables → Tables) → State → State → Result X E → Type 0
-ChangesBy change old new result = HasCleanDisk new → IsTrue old.in_transaction → OnOk result (Moves change old new) × OnErr result (KeepsCommit old new)
-
--- such a change of rows that obey a law
-pub record MovesWhere (law : Tables → Type 0) (change : Tables → Tables) (old new : State) : Type 0 where
+-- Rows that obey the law change by the function, inside the transaction, which goes on; what is not ours is left.
+pub record Moves (law : Tables → Type 0) (change : Tables → Tables) (old new : State) : Type 0 where
   pub rows : (t : Tables) → Holds old.now t → law t → Holds new.now (change t)
   pub others : (t : Tables) → Holds old.now t → law t → LeavesForeign old.now new.now
   pub was_open : IsTrue old.is_open
@@ -43,43 +46,51 @@ pub record MovesWhere (law : Tables → Type 0) (change : Tables → Tables) (ol
   pub committed : new.committed ≡ old.committed
   pub inside : IsTrue new.in_transaction
 
-abbrev pub ChangesWhere : {X E : Type 0} → (Tables → Type 0) → (Tables → Tables) → State → State → Result X E → Type 0
-ChangesWhere law change old new result = HasCleanDisk new → IsTrue old.in_transaction → OnOk result (MovesWhere law change old new) × OnErr result (KeepsCommit old new)
+-- after a failure nothing is committed
+abbrev pub Changes : {X E : Type 0} → (Tables → Type 0) → (Tables → Tables) → State → State → Result X E → Type 0
+Changes law change old new result = HasCleanDisk new → IsTrue old.in_transaction → OnOk result (Moves law change old new) × OnErr result (KeepsCommit old new)
 
--- What a write promises: the transaction stays that of the same connection, the rows change by the function, and what the disk has promised stays.
-pub record WritesBy {S X E : Type 0} (g : Ghosts S) (change : Tables → Tables) (old new : Transaction S) (result : Result X E) : Type 0 where
+-- What a write promises: the transaction stays that of the same connection, rows that obey the law change by the function, and what the disk has promised stays.
+pub record Writes {S X E : Type 0} (g : Ghosts S) (law : Tables → Type 0) (change : Tables → Tables) (old new : Transaction S) (result : Result X E) : Type 0 where
   pub same_reference : new.conn.ghost_name ≡ old.conn.ghost_name
-  pub changed : ChangesBy change (state g old.conn.now) (state g new.conn.now) result
+  pub changed : Changes law change (state g old.conn.now) (state g new.conn.now) result
   pub survives : Survives (state g old.conn.now) (state g new.conn.now) (λ _. ⊥)
 
--- such a write of rows that obey a law
-pub record WritesWhere {S X E : Type 0} (g : Ghosts S) (law : Tables → Type 0) (change : Tables → Tables) (old new : Transaction S) (result : Result X E) : Type 0 where
+-- What any number of statements in a transaction promise: the same of any rows, but of the disk that it was clean so far.
+pub record Steps {S X E : Type 0} (g : Ghosts S) (change : Tables → Tables) (old new : Transaction S) (result : Result X E) : Type 0 where
   pub same_reference : new.conn.ghost_name ≡ old.conn.ghost_name
-  pub changed : ChangesWhere law change (state g old.conn.now) (state g new.conn.now) result
-  pub survives : Survives (state g old.conn.now) (state g new.conn.now) (λ _. ⊥)
+  pub changed : Changes AnyRows change (state g old.conn.now) (state g new.conn.now) result
+  pub so_far : HasCleanDisk (state g new.conn.now) → HasCleanDisk (state g old.conn.now)
 
--- a write that is done tells this of the rows before it
-abbrev pub TellsOfRows : {X E : Type 0} → (Tables → Type 0) → State → State → Result X E → Type 0
-TellsOfRows law old new result = HasCleanDisk new → IsTrue old.in_transaction → OnOk result ((t : Tables) → Holds old.now t → law t)
+-- where they are done, the result tells this of the rows before them
+abbrev pub Tells : {X E : Type 0} → (X → Tables → Type 0) → State → State → Result X E → Type 0
+Tells says old new result = HasCleanDisk new → IsTrue old.in_transaction → IfOk result (λ x. (t : Tables) → Holds old.now t → says x t)
 
--- a read outside a transaction: nothing changes, and the value is that of the rows
-abbrev pub ReadsBy : {X E : Type 0} → (Tables → X) → State → State → Result X E → Type 0
-ReadsBy read old new result =
-    HasCleanDisk new → IfOk result (λ x. (t : Tables) → Holds old.now t → x ≡ read t) × (OnOk result (IsUnchanged old new) × OnErr result (IsUnchanged old new ⊎ IsRolledBack old new))
+-- ---- a read
 
--- such a read of rows that obey a law
-abbrev pub ReadsWhere : {X E : Type 0} → (Tables → Type 0) → (Tables → X) → State → State → Result X E → Type 0
-ReadsWhere law read old new result =
-    HasCleanDisk new → IfOk result (λ x. (t : Tables) → Holds old.now t → law t → x ≡ read t) × (OnOk result (IsUnchanged old new) × OnErr result (IsUnchanged old new ⊎ IsRolledBack old new))
+-- the result tells this of the rows, and nothing changes
+abbrev pub Reads : {X E : Type 0} → (X → Tables → Type 0) → State → State → Result X E → Type 0
+Reads says old new result =
+    HasCleanDisk new → IfOk result (λ x. (t : Tables) → Holds old.now t → says x t) × (OnOk result (IsUnchanged old new) × OnErr result (IsUnchanged old new ⊎ IsRolledBack old new))
 
--- What a read promises: no transaction begins, the value is that of the rows, and what the disk has promised stays.
-pub record QueriesBy {S X E : Type 0} (g : Ghosts S) (value : Tables → X) (old new : Held S) (result : Result X E) : Type 0 where
+-- What a read promises: no transaction begins, the result tells this of the rows, nothing changes, and what the disk has promised stays.
+pub record Queries {S X E : Type 0} (g : Ghosts S) (says : X → Tables → Type 0) (old new : Held S) (result : Result X E) : Type 0 where
   pub mode : old.in_transaction ≡ false → new.in_transaction ≡ false
-  pub read : ReadsBy value (state g old) (state g new) result
+  pub read : Reads says (state g old) (state g new) result
   pub survives : Survives (state g old) (state g new) (λ _. ⊥)
 
--- such a read of rows that obey a law
-pub record QueriesWhere {S X E : Type 0} (g : Ghosts S) (law : Tables → Type 0) (value : Tables → X) (old new : Held S) (result : Result X E) : Type 0 where
+-- what any number of reads leave
+pub record LeavesAsIs (old new : State) : Type 0 where
+  pub was_open : IsTrue new.is_open → IsTrue old.is_open
+  pub is_open : IsTrue old.is_open → IsTrue new.is_open
+  pub now : new.now ≡ old.now
+  pub committed : new.committed ≡ old.committed
+  pub mode : new.in_transaction ≡ old.in_transaction
+
+-- What any number of reads promise: no transaction begins, the result tells this of the rows, nothing changes, and the disk was clean so far; after a failure nothing is committed.
+pub record Sees {S X E : Type 0} (g : Ghosts S) (says : X → Tables → Type 0) (old new : Held S) (result : Result X E) : Type 0 where
   pub mode : old.in_transaction ≡ false → new.in_transaction ≡ false
-  pub read : ReadsWhere law value (state g old) (state g new) result
-  pub survives : Survives (state g old) (state g new) (λ _. ⊥)
+  pub sees :
+      HasCleanDisk (state g new)
+      → IfOk result (λ x. (t : Tables) → Holds (state g old).now t → says x t) × (OnOk result (LeavesAsIs (state g old) (state g new)) × OnErr result (KeepsCommit (state g old) (state g new)))
+  pub so_far : HasCleanDisk (state g new) → HasCleanDisk (state g old)

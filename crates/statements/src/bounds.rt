@@ -1,5 +1,5 @@
 //! Statements on the table bound: how far each token reaches.
-ghost use Rattle.statements.specs.Steps.{WritesBy, QueriesBy};
+ghost use Rattle.statements.specs.Steps.{AnyRows, Equals, Writes, Queries};
 ghost use Rattle.statements.specs.Making.{MakesBy};
 ghost use Rattle.statements.specs.Inner.Making.{Moved};
 ghost use Rattle.statements.specs.Changes.{bound_row_added, bound_row_removed, bounds_filled};
@@ -18,7 +18,7 @@ pub fn find<S: Alter>(
     org: &str,
     name: &str,
 ) -> Result<Option<Bounds>, Error>
-    ensures { QueriesBy S.Store (bound_of org.now name.now) conn.old conn.new result }
+    ensures { Queries S.Store (Equals (bound_of org.now name.now)) conn.old conn.new result }
 {
     let row = first_row(conn, FIND_BOUND, params![org, name]);
     read_one(row)
@@ -33,7 +33,7 @@ pub fn add<'v, S: Alter>(
     name: &'v str,
     bounds: &'v Bounds,
 ) -> Result<(), Error>
-    ensures { WritesBy S.Store (bound_row_added org.now name.now bounds.now.until bounds.now.prefix) tx.old tx.new result }
+    ensures { Writes S.Store AnyRows (bound_row_added org.now name.now bounds.now.until bounds.now.prefix) tx.old tx.new result }
 {
     let until = optional_seconds(bounds.until);
     let prefix = bounds.prefix.as_str();
@@ -44,7 +44,7 @@ const REMOVE_BOUND: &str = "DELETE FROM bound WHERE org = ?1 AND name = ?2";
 
 /// Removes how far a token reaches.
 pub fn remove<S: Alter>(tx: &mut Transaction<'_, S>, org: &str, name: &str) -> Result<(), Error>
-    ensures { WritesBy S.Store (bound_row_removed org.now name.now) tx.old tx.new result }
+    ensures { Writes S.Store AnyRows (bound_row_removed org.now name.now) tx.old tx.new result }
 {
     write(tx, REMOVE_BOUND, params![org, name])
 }

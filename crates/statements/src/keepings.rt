@@ -1,5 +1,5 @@
 //! Statements on the table keeping: how many versions each workspace keeps.
-ghost use Rattle.statements.specs.Steps.{WritesBy, QueriesBy};
+ghost use Rattle.statements.specs.Steps.{AnyRows, Equals, Writes, Queries};
 ghost use Rattle.statements.specs.Changes.{keeping_row_added, keeping_changed, keeping_row_removed, keepings_filled};
 ghost use Rattle.statements.specs.Finds.{keep_of};
 ghost use Rattle.statements.specs.Making.{MakesBy};
@@ -17,7 +17,7 @@ pub fn find<S: Alter>(
     org: &str,
     ws: &str,
 ) -> Result<Option<KeepCount>, Error>
-    ensures { QueriesBy S.Store (keep_of org.now ws.now) conn.old conn.new result }
+    ensures { Queries S.Store (Equals (keep_of org.now ws.now)) conn.old conn.new result }
 {
     let row = first_row(conn, FIND_KEEPING, params![org, ws]);
     read_one(row)
@@ -32,7 +32,7 @@ pub fn add<S: Alter>(
     ws: &str,
     keep: KeepCount,
 ) -> Result<(), Error>
-    ensures { WritesBy S.Store (keeping_row_added org.now ws.now keep) tx.old tx.new result }
+    ensures { Writes S.Store AnyRows (keeping_row_added org.now ws.now keep) tx.old tx.new result }
 {
     let keep = keep.get();
     write(tx, ADD_KEEPING, params![org, ws, keep])
@@ -47,7 +47,7 @@ pub fn set<S: Alter>(
     ws: &str,
     keep: KeepCount,
 ) -> Result<(), Error>
-    ensures { WritesBy S.Store (keeping_changed keep org.now ws.now) tx.old tx.new result }
+    ensures { Writes S.Store AnyRows (keeping_changed keep org.now ws.now) tx.old tx.new result }
 {
     let keep = keep.get();
     write(tx, SET_KEEPING, params![org, ws, keep])
@@ -57,7 +57,7 @@ const REMOVE_KEEPING: &str = "DELETE FROM keeping WHERE org = ?1 AND ws = ?2";
 
 /// Removes how many versions a workspace keeps.
 pub fn remove<S: Alter>(tx: &mut Transaction<'_, S>, org: &str, ws: &str) -> Result<(), Error>
-    ensures { WritesBy S.Store (keeping_row_removed org.now ws.now) tx.old tx.new result }
+    ensures { Writes S.Store AnyRows (keeping_row_removed org.now ws.now) tx.old tx.new result }
 {
     write(tx, REMOVE_KEEPING, params![org, ws])
 }

@@ -5,7 +5,7 @@ ghost use Rattle.std.specs.List.{AllZip};
 ghost use Rattle.sqlite_schema.specs.declared.schema.Table.{Table};
 ghost use Rattle.sqlite.specs.Held.{state};
 ghost use Rattle.sqlite.specs.State.{HasCleanDisk};
-ghost use Rattle.statements.specs.Steps.{QueriesBy};
+ghost use Rattle.statements.specs.Steps.{Equals, Queries};
 ghost use Rattle.statements.specs.Tables.{count_in, added_by, our_tables};
 ghost use Rattle.statements.specs.Making.{MakesBy, HasSchema, Raises, HasMeta, HasEdition, told_version, version_in, edition_in};
 ghost use Rattle.statements.specs.Inner.Making.{Grows, IsMaker, texts_in, all_of, Moved, Told, edition_moved, version_cleared};
@@ -206,7 +206,7 @@ const VERSION: &str = "SELECT version FROM meta WHERE one = 1 ORDER BY rowid";
 
 /// The version that meta tells, if it tells one: schema 1 does.
 pub fn version<S: Alter>(conn: &mut Connection<S>) -> Result<Option<u64>, Error>
-    ensures reads { QueriesBy S.Store version_in conn.old conn.new result }
+    ensures reads { Queries S.Store (Equals version_in) conn.old conn.new result }
     ensures told { HasCleanDisk (state S.Store conn.new) → IfOk result (λ version. (table : Table) (metas : List (Kept ℕ)) → HasMeta (state S.Store conn.old).now table metas → version ≡ told_version metas) }
 {
     let row = first_row(conn, VERSION, &[]);
@@ -217,7 +217,7 @@ const EDITION: &str = "SELECT version FROM edition WHERE one = 1 ORDER BY rowid"
 
 /// The version that edition tells, if it tells one: each schema from 2 on does.
 pub fn edition<S: Alter>(conn: &mut Connection<S>) -> Result<Option<u64>, Error>
-    ensures reads { QueriesBy S.Store edition_in conn.old conn.new result }
+    ensures reads { Queries S.Store (Equals edition_in) conn.old conn.new result }
     ensures told { HasCleanDisk (state S.Store conn.new) → IfOk result (λ version. (table : Table) (editions : List (Kept ℕ)) → HasEdition (state S.Store conn.old).now table editions → version ≡ told_version editions) }
 {
     let row = first_row(conn, EDITION, &[]);

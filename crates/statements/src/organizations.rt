@@ -1,5 +1,5 @@
 //! Statements on the table org.
-ghost use Rattle.statements.specs.Steps.{WritesBy, QueriesBy, QueriesWhere};
+ghost use Rattle.statements.specs.Steps.{AnyRows, Equals, EqualsWhere, Writes, Queries};
 ghost use Rattle.statements.specs.Changes.{org_row_added, org_capped};
 ghost use Rattle.statements.specs.Listings.{organizations_in, OrgsApart};
 ghost use Rattle.statements.specs.Finds.{cap_of};
@@ -14,7 +14,7 @@ const ORG_CAP: &str = "SELECT cap FROM org WHERE name = ?1 ORDER BY rowid";
 
 /// How many workspaces an organization may have, if there is one of the name.
 pub fn cap<S: Alter>(conn: &mut Connection<S>, name: &str) -> Result<Option<Limit>, Error>
-    ensures { QueriesBy S.Store (cap_of name.now) conn.old conn.new result }
+    ensures { Queries S.Store (Equals (cap_of name.now)) conn.old conn.new result }
 {
     let row = first_row(conn, ORG_CAP, params![name]);
     read_one(row)
@@ -24,7 +24,7 @@ const LIST_ORGS: &str = "SELECT name, cap FROM org ORDER BY name";
 
 /// All organizations, in the order of their names.
 pub fn list<S: Alter>(alloc: Global, conn: &mut Connection<S>) -> Result<Items<Organization>, Error>
-    ensures { QueriesWhere S.Store OrgsApart organizations_in conn.old conn.new result }
+    ensures { Queries S.Store (EqualsWhere OrgsApart organizations_in) conn.old conn.new result }
 {
     let rows = all_rows(conn, LIST_ORGS, &[]);
     read_all(alloc, rows)
@@ -34,7 +34,7 @@ const ADD_ORG: &str = "INSERT INTO org (name, cap) VALUES (?1, ?2)";
 
 /// Adds an organization, and how many workspaces it may have.
 pub fn add<S: Alter>(tx: &mut Transaction<'_, S>, name: &str, cap: Limit) -> Result<(), Error>
-    ensures { WritesBy S.Store (org_row_added name.now cap) tx.old tx.new result }
+    ensures { Writes S.Store AnyRows (org_row_added name.now cap) tx.old tx.new result }
 {
     let cap = cap.get();
     write(tx, ADD_ORG, params![name, cap])
@@ -44,7 +44,7 @@ const SET_CAP: &str = "UPDATE org SET cap = ?2 WHERE name = ?1";
 
 /// Sets how many workspaces an organization may have.
 pub fn set_cap<S: Alter>(tx: &mut Transaction<'_, S>, name: &str, cap: Limit) -> Result<(), Error>
-    ensures { WritesBy S.Store (org_capped name.now cap) tx.old tx.new result }
+    ensures { Writes S.Store AnyRows (org_capped name.now cap) tx.old tx.new result }
 {
     let cap = cap.get();
     write(tx, SET_CAP, params![name, cap])

@@ -1,6 +1,6 @@
 //! Statements on the table run.
 ghost use Rattle.std.specs.Prelude.{option_map};
-ghost use Rattle.statements.specs.Steps.{WritesBy, QueriesBy, QueriesWhere};
+ghost use Rattle.statements.specs.Steps.{AnyRows, Equals, EqualsWhere, Writes, Queries};
 ghost use Rattle.statements.specs.Changes.{run_changed_to, run_acted, run_added, run_made, runs_removed};
 ghost use Rattle.statements.specs.Listings.{run_rows_after, RunsApart};
 ghost use Rattle.statements.specs.Finds.{first_waiting_of, status_at_number, run_at_number, keyed_run_of, open_runs_of};
@@ -22,7 +22,7 @@ pub fn first_waiting<S: Alter>(
     org: &str,
     ws: &str,
 ) -> Result<Option<Number>, Error>
-    ensures { QueriesBy S.Store (first_waiting_of org.now ws.now) conn.old conn.new result }
+    ensures { Queries S.Store (Equals (first_waiting_of org.now ws.now)) conn.old conn.new result }
 {
     let row = first_row(conn, FIRST_WAITING, params![org, ws]);
     read_one(row)
@@ -38,7 +38,7 @@ pub fn status<S: Alter>(
     ws: &str,
     run: Number,
 ) -> Result<Option<RunStatus>, Error>
-    ensures { QueriesBy S.Store (status_at_number org.now ws.now run) conn.old conn.new result }
+    ensures { Queries S.Store (Equals (status_at_number org.now ws.now run)) conn.old conn.new result }
 {
     let run = run.get();
     let row = first_row(conn, RUN_STATUS, params![org, ws, run]);
@@ -55,7 +55,7 @@ pub fn find<S: Alter>(
     ws: &str,
     number: Number,
 ) -> Result<Option<RunRow>, Error>
-    ensures { QueriesBy S.Store (run_at_number org.now ws.now number) conn.old conn.new result }
+    ensures { Queries S.Store (Equals (run_at_number org.now ws.now number)) conn.old conn.new result }
 {
     let number = number.get();
     let row = first_row(conn, FIND_RUN, params![org, ws, number]);
@@ -74,7 +74,7 @@ pub fn list<S: Alter>(
     after: u32,
     most: usize,
 ) -> Result<Items<RunRow>, Error>
-    ensures { QueriesWhere S.Store (RunsApart org.now ws.now) (run_rows_after org.now ws.now after most) conn.old conn.new result }
+    ensures { Queries S.Store (EqualsWhere (RunsApart org.now ws.now) (run_rows_after org.now ws.now after most)) conn.old conn.new result }
 {
     let rows = first_rows(alloc, conn, LIST_RUNS, params![org, ws, after], most);
     read_all(alloc, rows)
@@ -90,7 +90,7 @@ pub fn find_by_key<S: Alter>(
     ws: &str,
     key: &str,
 ) -> Result<Option<RunRow>, Error>
-    ensures { QueriesBy S.Store (keyed_run_of org.now ws.now key.now) conn.old conn.new result }
+    ensures { Queries S.Store (Equals (keyed_run_of org.now ws.now key.now)) conn.old conn.new result }
 {
     let row = first_row(conn, FIND_KEYED_RUN, params![org, ws, key]);
     read_one(row)
@@ -100,7 +100,7 @@ const COUNT_OPEN_RUNS: &str = "SELECT count(*) FROM run WHERE org = ?1 AND ws = 
 
 /// How many runs of a workspace are open.
 pub fn count_open<S: Alter>(conn: &mut Connection<S>, org: &str, ws: &str) -> Result<u64, Error>
-    ensures { QueriesBy S.Store (open_runs_of org.now ws.now) conn.old conn.new result }
+    ensures { Queries S.Store (Equals (open_runs_of org.now ws.now)) conn.old conn.new result }
 {
     let row = first_row(conn, COUNT_OPEN_RUNS, params![org, ws]);
     count_of(row)
@@ -117,7 +117,7 @@ pub fn set_status<S: Alter>(
     run: Number,
     status: RunStatus,
 ) -> Result<(), Error>
-    ensures { WritesBy S.Store (run_changed_to status org.now ws.now run) tx.old tx.new result }
+    ensures { Writes S.Store AnyRows (run_changed_to status org.now ws.now run) tx.old tx.new result }
 {
     let run = run.get();
     let status = status_number(status);
@@ -136,7 +136,7 @@ pub fn record_action<S: Alter>(
     status: RunStatus,
     action: RunAction,
 ) -> Result<(), Error>
-    ensures { WritesBy S.Store (run_acted status action org.now ws.now run) tx.old tx.new result }
+    ensures { Writes S.Store AnyRows (run_acted status action org.now ws.now run) tx.old tx.new result }
 {
     let run = run.get();
     let status = status_number(status);
@@ -159,7 +159,7 @@ pub fn add<'v, S: Alter>(
     created: Moment,
     status: RunStatus,
 ) -> Result<(), Error>
-    ensures { WritesBy S.Store (run_added org.now ws.now (run_made number plan_only (option_map (λ s. s.now) key.entry) message.now created status)) tx.old tx.new result }
+    ensures { Writes S.Store AnyRows (run_added org.now ws.now (run_made number plan_only (option_map (λ s. s.now) key.entry) message.now created status)) tx.old tx.new result }
 {
     let number = number.get();
     let created = seconds(created);
@@ -175,7 +175,7 @@ const REMOVE_RUNS: &str = "DELETE FROM run WHERE org = ?1 AND ws = ?2";
 
 /// Removes the runs of a workspace.
 pub fn remove_all<S: Alter>(tx: &mut Transaction<'_, S>, org: &str, ws: &str) -> Result<(), Error>
-    ensures { WritesBy S.Store (runs_removed org.now ws.now) tx.old tx.new result }
+    ensures { Writes S.Store AnyRows (runs_removed org.now ws.now) tx.old tx.new result }
 {
     write(tx, REMOVE_RUNS, params![org, ws])
 }

@@ -1,5 +1,5 @@
 //! Statements on the table token. Where a token is added or goes, so is how far it reaches.
-ghost use Rattle.statements.specs.Steps.{WritesBy, WritesWhere, QueriesBy, QueriesWhere};
+ghost use Rattle.statements.specs.Steps.{AnyRows, Equals, EqualsWhere, Writes, Queries};
 ghost use Rattle.statements.specs.Changes.{token_row_added, token_row_removed, token_added, token_removed, HasNoBound};
 ghost use Rattle.statements.specs.Listings.{token_rows_of, TokensApart};
 ghost use Rattle.statements.specs.Finds.{named_role_of, role_of_digest, role_of_name};
@@ -19,7 +19,7 @@ pub fn role_of_digest<S: Alter>(
     org: &str,
     digest: &[u8],
 ) -> Result<Option<Role>, Error>
-    ensures { QueriesBy S.Store (role_of_digest org.now digest.now) conn.old conn.new result }
+    ensures { Queries S.Store (Equals (role_of_digest org.now digest.now)) conn.old conn.new result }
 {
     let row = first_row(conn, TOKEN_ROLE, params![org, digest]);
     read_one(row)
@@ -33,7 +33,7 @@ pub fn role_of_name<S: Alter>(
     org: &str,
     name: &str,
 ) -> Result<Option<Role>, Error>
-    ensures { QueriesBy S.Store (role_of_name org.now name.now) conn.old conn.new result }
+    ensures { Queries S.Store (Equals (role_of_name org.now name.now)) conn.old conn.new result }
 {
     let row = first_row(conn, NAMED_TOKEN_ROLE, params![org, name]);
     read_one(row)
@@ -48,7 +48,7 @@ pub fn find_by_digest<S: Alter>(
     org: &str,
     digest: &[u8],
 ) -> Result<Option<NamedRole>, Error>
-    ensures { QueriesBy S.Store (named_role_of org.now digest.now) conn.old conn.new result }
+    ensures { Queries S.Store (Equals (named_role_of org.now digest.now)) conn.old conn.new result }
 {
     let row = first_row(conn, FIND_TOKEN, params![org, digest]);
     read_one(row)
@@ -62,7 +62,7 @@ pub fn list<S: Alter>(
     conn: &mut Connection<S>,
     org: &str,
 ) -> Result<Items<NamedRole>, Error>
-    ensures { QueriesWhere S.Store TokensApart (token_rows_of org.now) conn.old conn.new result }
+    ensures { Queries S.Store (EqualsWhere TokensApart (token_rows_of org.now)) conn.old conn.new result }
 {
     let rows = all_rows(conn, LIST_TOKENS, params![org]);
     read_all(alloc, rows)
@@ -78,7 +78,7 @@ fn add_row<'v, S: Alter>(
     digest: &'v [u8],
     role: Role,
 ) -> Result<(), Error>
-    ensures { WritesBy S.Store (token_row_added org.now name.now digest.now role) tx.old tx.new result }
+    ensures { Writes S.Store AnyRows (token_row_added org.now name.now digest.now role) tx.old tx.new result }
 {
     let role = role_number(role);
     write(tx, ADD_TOKEN, params![org, name, digest, role])
@@ -93,7 +93,7 @@ pub fn add<'v, S: Alter>(
     role: Role,
     bounds: &'v Bounds,
 ) -> Result<(), Error>
-    ensures { WritesBy S.Store (token_added org.now name.now digest.now role bounds.now.until bounds.now.prefix) tx.old tx.new result }
+    ensures { Writes S.Store AnyRows (token_added org.now name.now digest.now role bounds.now.until bounds.now.prefix) tx.old tx.new result }
 {
     add_row(tx, org, name, digest, role)?;
     bounds::add(tx, org, name, bounds)
@@ -103,14 +103,14 @@ const REMOVE_TOKEN: &str = "DELETE FROM token WHERE org = ?1 AND name = ?2";
 
 /// Removes the row of a token: what is told of it holds where how far it reaches has no row.
 fn remove_row<S: Alter>(tx: &mut Transaction<'_, S>, org: &str, name: &str) -> Result<(), Error>
-    ensures { WritesWhere S.Store (HasNoBound org.now name.now) (token_row_removed org.now name.now) tx.old tx.new result }
+    ensures { Writes S.Store (HasNoBound org.now name.now) (token_row_removed org.now name.now) tx.old tx.new result }
 {
     write(tx, REMOVE_TOKEN, params![org, name])
 }
 
 /// Removes how far a token reaches, and then the token.
 pub fn remove<S: Alter>(tx: &mut Transaction<'_, S>, org: &str, name: &str) -> Result<(), Error>
-    ensures { WritesBy S.Store (token_removed org.now name.now) tx.old tx.new result }
+    ensures { Writes S.Store AnyRows (token_removed org.now name.now) tx.old tx.new result }
 {
     bounds::remove(tx, org, name)?;
     remove_row(tx, org, name)

@@ -2,7 +2,7 @@
 ghost use Rattle.std.specs.Prelude.{◌≡◌, ◌<◌, ◌^◌, None};
 ghost use Rattle.sqlite.specs.Held.{state};
 ghost use Rattle.sqlite.specs.State.{Survives};
-ghost use Rattle.statements.specs.Steps.{WritesBy, TellsOfRows, ReadsBy, QueriesBy, QueriesWhere};
+ghost use Rattle.statements.specs.Steps.{AnyRows, Equals, EqualsWhere, Writes, Tells, Reads, Queries};
 ghost use Rattle.statements.specs.Changes.{new_version, version_added, version_removed};
 ghost use Rattle.statements.specs.Listings.{version_rows_after, VersionsApart};
 ghost use Rattle.statements.specs.Finds.{newest_of, number_back, oldest_below, size_of};
@@ -23,7 +23,7 @@ pub fn newest<S: Alter>(
     org: &str,
     ws: &str,
 ) -> Result<Option<VersionRow>, Error>
-    ensures { QueriesBy S.Store (newest_of org.now ws.now) conn.old conn.new result }
+    ensures { Queries S.Store (Equals (newest_of org.now ws.now)) conn.old conn.new result }
 {
     let row = first_row(conn, NEWEST_VERSION, params![org, ws]);
     read_one(row)
@@ -41,7 +41,7 @@ pub fn list<S: Alter>(
     after: u32,
     most: usize,
 ) -> Result<Items<VersionRow>, Error>
-    ensures { QueriesWhere S.Store (VersionsApart org.now ws.now) (version_rows_after org.now ws.now after most) conn.old conn.new result }
+    ensures { Queries S.Store (EqualsWhere (VersionsApart org.now ws.now) (version_rows_after org.now ws.now after most)) conn.old conn.new result }
 {
     let rows = first_rows(alloc, conn, LIST_VERSIONS, params![org, ws, after], most);
     read_all(alloc, rows)
@@ -57,7 +57,7 @@ pub fn number_back<S: Alter>(
     ws: &str,
     place: u32,
 ) -> Result<Option<Number>, Error>
-    ensures { QueriesBy S.Store (number_back org.now ws.now place) conn.old conn.new result }
+    ensures { Queries S.Store (Equals (number_back org.now ws.now place)) conn.old conn.new result }
 {
     let row = first_row(conn, VERSION_BACK, params![org, ws, place]);
     read_one(row)
@@ -73,7 +73,7 @@ pub fn size<S: Alter>(
     ws: &str,
     number: Number,
 ) -> Result<Option<u64>, Error>
-    ensures { QueriesBy S.Store (size_of org.now ws.now number) conn.old conn.new result }
+    ensures { Queries S.Store (Equals (size_of org.now ws.now number)) conn.old conn.new result }
 {
     let number = number.get();
     let row = first_row(conn, VERSION_SIZE, params![org, ws, number]);
@@ -92,7 +92,7 @@ pub fn oldest_below<S: Alter>(
     number: u32,
 ) -> Result<Option<VersionRow>, Error>
     ensures same_reference { tx.new.conn.ghost_name ≡ tx.old.conn.ghost_name }
-    ensures reads { ReadsBy (oldest_below org.now ws.now number) (state S.Store tx.old.conn.now) (state S.Store tx.new.conn.now) result }
+    ensures reads { Reads (Equals (oldest_below org.now ws.now number)) (state S.Store tx.old.conn.now) (state S.Store tx.new.conn.now) result }
     ensures survives { Survives (state S.Store tx.old.conn.now) (state S.Store tx.new.conn.now) (λ _. ⊥) }
 {
     let row = first_row_inside(tx, OLDEST_VERSION_BELOW, params![org, ws, number]);
@@ -115,8 +115,8 @@ pub fn add<'v, S: Alter>(
 ) -> Result<(), Error>
     requires serial_fits { serial < 2 ^ 63 }
     requires size_fits { size < 2 ^ 63 }
-    ensures writes { WritesBy S.Store (version_added org.now ws.now (new_version number serial lineage.now created size)) tx.old tx.new result }
-    ensures fresh { TellsOfRows (λ t. size_of org.now ws.now number t ≡ None) (state S.Store tx.old.conn.now) (state S.Store tx.new.conn.now) result }
+    ensures writes { Writes S.Store AnyRows (version_added org.now ws.now (new_version number serial lineage.now created size)) tx.old tx.new result }
+    ensures fresh { Tells (λ _ t. size_of org.now ws.now number t ≡ None) (state S.Store tx.old.conn.now) (state S.Store tx.new.conn.now) result }
 {
     let number = number.get();
     let serial = signed(serial);
@@ -138,7 +138,7 @@ pub fn remove<S: Alter>(
     ws: &str,
     number: Number,
 ) -> Result<(), Error>
-    ensures { WritesBy S.Store (version_removed org.now ws.now number) tx.old tx.new result }
+    ensures { Writes S.Store AnyRows (version_removed org.now ws.now number) tx.old tx.new result }
 {
     let number = number.get();
     write(tx, REMOVE_VERSION, params![org, ws, number])

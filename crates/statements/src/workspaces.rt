@@ -1,9 +1,7 @@
 //! Statements on the table ws. Where a workspace is added or goes, so is how many versions it keeps.
-ghost use Rattle.std.specs.Prelude.{◌≡◌, ◌≢◌, [], None, IsTrue, IfOk, is_some, string_bytes};
+ghost use Rattle.std.specs.Prelude.{◌≡◌, ◌≢◌, [], None, IfOk, is_some, string_bytes};
 ghost use Rattle.sqlite.specs.Held.{state};
-ghost use Rattle.sqlite.specs.State.{HasCleanDisk};
-ghost use Rattle.statements.specs.Steps.{WritesBy, WritesWhere, TellsOfRows, QueriesBy, QueriesWhere};
-ghost use Rattle.statements.specs.Tables.{Tables, Holds};
+ghost use Rattle.statements.specs.Steps.{AnyRows, Equals, EqualsWhere, Writes, Tells, Queries};
 ghost use Rattle.statements.specs.Changes.{with_run_settings, held_by, released_from, with_next_version, with_next_run, ws_changed, ws_row_added, ws_row_removed, ws_added, ws_removed, HasNoKeeping};
 ghost use Rattle.statements.specs.Listings.{workspace_rows_after, WorkspacesApart, later_of, end_of};
 ghost use Rattle.statements.specs.Rows.{run_settings_at};
@@ -88,7 +86,7 @@ pub fn find<S: Alter>(
     org: &str,
     name: &str,
 ) -> Result<Option<Workspace>, Error>
-    ensures { QueriesBy S.Store (workspace_of org.now name.now) conn.old conn.new result }
+    ensures { Queries S.Store (Equals (workspace_of org.now name.now)) conn.old conn.new result }
 {
     let row = first_row(conn, FIND_WS, params![org, name]);
     read_one(row)
@@ -104,7 +102,7 @@ fn list_all<S: Alter>(
     after: &str,
     most: usize,
 ) -> Result<Items<NamedWorkspace>, Error>
-    ensures { QueriesWhere S.Store WorkspacesApart (workspace_rows_after org.now after.now [] most) conn.old conn.new result }
+    ensures { Queries S.Store (EqualsWhere WorkspacesApart (workspace_rows_after org.now after.now [] most)) conn.old conn.new result }
 {
     let rows = first_rows(alloc, conn, LIST_WS, params![org, after], most);
     read_all(alloc, rows)
@@ -146,7 +144,7 @@ fn list_within<'v, S: Alter>(
     most: usize,
 ) -> Result<Items<NamedWorkspace>, Error>
     requires some { prefix.now ≢ [] }
-    ensures { QueriesWhere S.Store WorkspacesApart (workspace_rows_after org.now after.now prefix.now most) conn.old conn.new result }
+    ensures { Queries S.Store (EqualsWhere WorkspacesApart (workspace_rows_after org.now after.now prefix.now most)) conn.old conn.new result }
 {
     let end = match end_of(alloc, prefix) {
         Ok(end) => end,
@@ -178,7 +176,7 @@ pub fn list<'v, S: Alter>(
     prefix: &'v Prefix,
     most: usize,
 ) -> Result<Items<NamedWorkspace>, Error>
-    ensures { QueriesWhere S.Store WorkspacesApart (workspace_rows_after org.now after.now prefix.now most) conn.old conn.new result }
+    ensures { Queries S.Store (EqualsWhere WorkspacesApart (workspace_rows_after org.now after.now prefix.now most)) conn.old conn.new result }
 {
     if prefix.as_str().is_empty() {
         return list_all(alloc, conn, org, after, most);
@@ -190,7 +188,7 @@ const COUNT_WS: &str = "SELECT count(*) FROM ws WHERE org = ?1";
 
 /// How many workspaces an organization has.
 pub fn count<S: Alter>(conn: &mut Connection<S>, org: &str) -> Result<u64, Error>
-    ensures { QueriesBy S.Store (workspaces_of org.now) conn.old conn.new result }
+    ensures { Queries S.Store (Equals (workspaces_of org.now)) conn.old conn.new result }
 {
     let row = first_row(conn, COUNT_WS, params![org]);
     count_of(row)
@@ -206,8 +204,8 @@ fn add_row<S: Alter>(
     name: &str,
     runs: RunSettings,
 ) -> Result<(), Error>
-    ensures writes { WritesBy S.Store (ws_row_added org.now name.now runs) tx.old tx.new result }
-    ensures fresh { TellsOfRows (λ t. workspace_of org.now name.now t ≡ None) (state S.Store tx.old.conn.now) (state S.Store tx.new.conn.now) result }
+    ensures writes { Writes S.Store AnyRows (ws_row_added org.now name.now runs) tx.old tx.new result }
+    ensures fresh { Tells (λ _ t. workspace_of org.now name.now t ≡ None) (state S.Store tx.old.conn.now) (state S.Store tx.new.conn.now) result }
 {
     write(tx, ADD_WS, params![org, name, runs.auto_apply])
 }
@@ -221,8 +219,8 @@ pub fn add<S: Alter>(
     runs: RunSettings,
     keep: KeepCount,
 ) -> Result<(), Error>
-    ensures writes { WritesBy S.Store (ws_added org.now name.now runs keep) tx.old tx.new result }
-    ensures fresh { TellsOfRows (λ t. workspace_of org.now name.now t ≡ None) (state S.Store tx.old.conn.now) (state S.Store tx.new.conn.now) result }
+    ensures writes { Writes S.Store AnyRows (ws_added org.now name.now runs keep) tx.old tx.new result }
+    ensures fresh { Tells (λ _ t. workspace_of org.now name.now t ≡ None) (state S.Store tx.old.conn.now) (state S.Store tx.new.conn.now) result }
 {
     add_row(tx, org, name, runs)?;
     keepings::add(tx, org, name, keep)
@@ -237,7 +235,7 @@ pub fn set_run_settings<S: Alter>(
     name: &str,
     runs: RunSettings,
 ) -> Result<(), Error>
-    ensures { WritesBy S.Store (ws_changed (with_run_settings runs) org.now name.now) tx.old tx.new result }
+    ensures { Writes S.Store AnyRows (ws_changed (with_run_settings runs) org.now name.now) tx.old tx.new result }
 {
     write(tx, SET_RUN_SETTINGS, params![org, name, runs.auto_apply])
 }
@@ -253,7 +251,7 @@ pub fn hold_by_lock<S: Alter>(
     id: &LockId,
     text: &[u8],
 ) -> Result<(), Error>
-    ensures { WritesBy S.Store (ws_changed (held_by (Lock id.now text.now)) org.now name.now) tx.old tx.new result }
+    ensures { Writes S.Store AnyRows (ws_changed (held_by (Lock id.now text.now)) org.now name.now) tx.old tx.new result }
 {
     let id = id.as_str();
     write(tx, HOLD_BY_LOCK, params![org, name, id, text])
@@ -269,7 +267,7 @@ pub fn hold_by_run<S: Alter>(
     name: &str,
     run: Number,
 ) -> Result<(), Error>
-    ensures { WritesBy S.Store (ws_changed (held_by (HeldByRun run)) org.now name.now) tx.old tx.new result }
+    ensures { Writes S.Store AnyRows (ws_changed (held_by (HeldByRun run)) org.now name.now) tx.old tx.new result }
 {
     let run = run.get();
     write(tx, HOLD_BY_RUN, params![org, name, run])
@@ -285,7 +283,7 @@ pub fn release_lock<S: Alter>(
     name: &str,
     id: &LockId,
 ) -> Result<(), Error>
-    ensures { WritesBy S.Store (ws_changed (released_from id.now) org.now name.now) tx.old tx.new result }
+    ensures { Writes S.Store AnyRows (ws_changed (released_from id.now) org.now name.now) tx.old tx.new result }
 {
     let id = id.as_str();
     write(tx, RELEASE_LOCK, params![org, name, id])
@@ -300,7 +298,7 @@ pub fn release_run<S: Alter>(
     org: &str,
     name: &str,
 ) -> Result<(), Error>
-    ensures { WritesBy S.Store (ws_changed (held_by Nobody) org.now name.now) tx.old tx.new result }
+    ensures { Writes S.Store AnyRows (ws_changed (held_by Nobody) org.now name.now) tx.old tx.new result }
 {
     write(tx, RELEASE_RUN, params![org, name])
 }
@@ -314,8 +312,8 @@ pub fn set_next_version<S: Alter>(
     name: &str,
     next: u32,
 ) -> Result<bool, Error>
-    ensures writes { WritesBy S.Store (ws_changed (with_next_version next) org.now name.now) tx.old tx.new result }
-    ensures found { HasCleanDisk (state S.Store tx.new.conn.now) → IsTrue (state S.Store tx.old.conn.now).in_transaction → IfOk result (λ found. (t : Tables) → Holds (state S.Store tx.old.conn.now).now t → found ≡ is_some (workspace_of org.now name.now t)) }
+    ensures writes { Writes S.Store AnyRows (ws_changed (with_next_version next) org.now name.now) tx.old tx.new result }
+    ensures found { Tells (Equals (λ t. is_some (workspace_of org.now name.now t))) (state S.Store tx.old.conn.now) (state S.Store tx.new.conn.now) result }
 {
     update(tx, SET_NEXT_VERSION, params![org, name, next])
 }
@@ -329,8 +327,8 @@ pub fn set_next_run<S: Alter>(
     name: &str,
     next: u32,
 ) -> Result<bool, Error>
-    ensures writes { WritesBy S.Store (ws_changed (with_next_run next) org.now name.now) tx.old tx.new result }
-    ensures found { HasCleanDisk (state S.Store tx.new.conn.now) → IsTrue (state S.Store tx.old.conn.now).in_transaction → IfOk result (λ found. (t : Tables) → Holds (state S.Store tx.old.conn.now).now t → found ≡ is_some (workspace_of org.now name.now t)) }
+    ensures writes { Writes S.Store AnyRows (ws_changed (with_next_run next) org.now name.now) tx.old tx.new result }
+    ensures found { Tells (Equals (λ t. is_some (workspace_of org.now name.now t))) (state S.Store tx.old.conn.now) (state S.Store tx.new.conn.now) result }
 {
     update(tx, SET_NEXT_RUN, params![org, name, next])
 }
@@ -339,14 +337,14 @@ const REMOVE_WS: &str = "DELETE FROM ws WHERE org = ?1 AND name = ?2";
 
 /// Removes the row of a workspace: what is told of it holds where how many versions it keeps has no row.
 fn remove_row<S: Alter>(tx: &mut Transaction<'_, S>, org: &str, name: &str) -> Result<(), Error>
-    ensures { WritesWhere S.Store (HasNoKeeping org.now name.now) (ws_row_removed org.now name.now) tx.old tx.new result }
+    ensures { Writes S.Store (HasNoKeeping org.now name.now) (ws_row_removed org.now name.now) tx.old tx.new result }
 {
     write(tx, REMOVE_WS, params![org, name])
 }
 
 /// Removes how many versions a workspace keeps, and then the workspace. Its versions and runs have rows of their own.
 pub fn remove<S: Alter>(tx: &mut Transaction<'_, S>, org: &str, name: &str) -> Result<(), Error>
-    ensures { WritesBy S.Store (ws_removed org.now name.now) tx.old tx.new result }
+    ensures { Writes S.Store AnyRows (ws_removed org.now name.now) tx.old tx.new result }
 {
     keepings::remove(tx, org, name)?;
     remove_row(tx, org, name)

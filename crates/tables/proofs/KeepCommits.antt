@@ -6,7 +6,7 @@ use Rattle.sqlite.specs.Held.{Held, state}
 use Rattle.sqlite.specs.Steps.{FailsToCommit}
 use Rattle.sqlite.specs.State.{State, Shows, KeepsCounts, KeepsCommit}
 use Rattle.sqlite.specs.declared.error.Error.{Error}
-use Rattle.statements.specs.Steps.{Moves}
+use Rattle.statements.specs.Steps.{AnyRows, Moves}
 use Rattle.statements.specs.Making.{Alters, HasSchema}
 use Rattle.statements.specs.Tables.{Tables, Holds}
 use Rattle.tables.specs.Inner.Steps.{IsSettled, Commits}
@@ -27,25 +27,26 @@ pub inside_by : {S : Type 0} (h k : Held S) → k ≡ record h { in_transaction 
 inside_by h k begun = subst (λ x. IsTrue x.in_transaction) (sym begun) refl
 
 module _ {S : Type 0} (g : Ghosts S) (h k l m : Held S) (settled : IsSettled (state g h)) (begun : k ≡ record h { in_transaction = true }) where
-  pub commits_by : {X : Type 0} (f : Tables → Tables) (result : Result X Error) → Moves f (state g k) (state g l) → OnOk result (Ends (state g l) (state g m)) → IfErr result (FailsToCommit (state g l) (state g m))
-      → OnOk result (Commits f (state g h) (state g m)) × OnErr result (KeepsCommit (state g h) (state g m))
+  pub commits_by : {X : Type 0} (f : Tables → Tables) (result : Result X Error) → Moves AnyRows f (state g k) (state g l) → OnOk result (Ends (state g l) (state g m)) → IfErr result (FailsToCommit (state g l) (state g m))
+      → OnOk result (Commits f AnyRows (state g h) (state g m)) × OnErr result (KeepsCommit (state g h) (state g m))
   commits_by f (Ok x) moved ends fails =
-      let from : Moves f (state g (record h { in_transaction = true })) (state g l) = subst (λ x. Moves f (state g x) (state g l)) begun moved in (
+      let from : Moves AnyRows f (state g (record h { in_transaction = true })) (state g l) = subst (λ x. Moves AnyRows f (state g x) (state g l)) begun moved in (
         record {
-          rows = λ t held. subst (λ (d : Database). Holds d (f t)) (sym ends.1.committed_is) (from.rows t (subst (λ (d : Database). Holds d t) (sym (settled from.was_open)) held));
+          rows = λ t held. subst (λ (d : Database). Holds d (f t)) (sym ends.1.committed_is) (from.rows t (subst (λ (d : Database). Holds d t) (sym (settled from.was_open)) held) tt);
+          tells = λ t held. tt;
           was_open = from.was_open;
           is_open = ends.1.is_open;
         },
         tt,
       )
   commits_by f (Err e) moved ends fails =
-      let from : Moves f (state g (record h { in_transaction = true })) (state g l) = subst (λ x. Moves f (state g x) (state g l)) begun moved in
+      let from : Moves AnyRows f (state g (record h { in_transaction = true })) (state g l) = subst (λ x. Moves AnyRows f (state g x) (state g l)) begun moved in
       (tt, failed (state g h) (state g l) (state g m) e (λ _. from.was_open) (λ _. from.committed) fails)
 
   -- what was told of the rows in the transaction, is told of those that were committed before it
-  pub told_committed : (f : Tables → Tables) (law : Tables → Type 0) → Moves f (state g k) (state g l) → ((t : Tables) → Holds (state g k).now t → law t) → (t : Tables) → Holds (state g h).committed t → law t
+  pub told_committed : (f : Tables → Tables) (law : Tables → Type 0) → Moves AnyRows f (state g k) (state g l) → ((t : Tables) → Holds (state g k).now t → law t) → (t : Tables) → Holds (state g h).committed t → law t
   told_committed f law moved told t held =
-      let from : Moves f (state g (record h { in_transaction = true })) (state g l) = subst (λ x. Moves f (state g x) (state g l)) begun moved in
+      let from : Moves AnyRows f (state g (record h { in_transaction = true })) (state g l) = subst (λ x. Moves AnyRows f (state g x) (state g l)) begun moved in
       let seen : (u : Tables) → Holds (state g (record h { in_transaction = true })).now u → law u = subst (λ x. (u : Tables) → Holds (state g x).now u → law u) begun told in
       seen t (subst (λ (d : Database). Holds d t) (sym (settled from.was_open)) held)
 
@@ -69,3 +70,9 @@ module _ {S : Type 0} (g : Ghosts S) (h k l m : Held S) (settled : IsSettled (st
   climbs_by n Change becomes (Err e) raised ends fails =
       let from : Alters Change (state g (record h { in_transaction = true })) (state g l) = subst (λ x. Alters Change (state g x) (state g l)) begun raised in
       (tt, failed (state g h) (state g l) (state g m) e (λ _. from.was_open) (λ _. from.committed) fails)
+
+-- what is told of the rows before a change that is committed
+pub commits_told : {X E : Type 0} (f : Tables → Tables) (told : Tables → Type 0) (a b : State) (result : Result X E) → ((t : Tables) → Holds a.committed t → told t)
+    → OnOk result (Commits f AnyRows a b) × OnErr result (KeepsCommit a b) → OnOk result (Commits f told a b) × OnErr result (KeepsCommit a b)
+commits_told f told a b (Ok x) tells done = (record { rows = done.0.rows; tells = tells; was_open = done.0.was_open; is_open = done.0.is_open }, tt)
+commits_told f told a b (Err e) tells done = (tt, done.1)

@@ -1,7 +1,7 @@
 -- From what was looked at and one transaction to a command.
-use Rattle.std.proofs.Common.{◌≡◌, ℕ, Bool, true, false, cond, List, is_some, is_none, Option, Some, None, IsTrue, sym, ap, ◌∙◌, subst}
+use Rattle.std.proofs.Common.{◌≡◌, ℕ, Bool, true, false, cond, List, is_some, is_none, Option, Some, None, IsTrue, sym, ap, subst}
 use Rattle.sqlite.specs.Effect.{Database}
-use Rattle.sqlite.specs.State.{State, IsUnchanged}
+use Rattle.sqlite.specs.State.{State}
 use Rattle.basis.specs.declared.roles.Role.{Role}
 use Rattle.basis.specs.declared.roles.Bounds.{Bounds}
 use Rattle.machine.specs.Effects.{Effect, effect}
@@ -9,45 +9,34 @@ use Rattle.machine.specs.declared.keeps.AdminAnswer.{AdminAnswer}
 use Rattle.machine.specs.declared.keeps.AdminAnswer.TheVariants.{Done, Exists, Absent}
 use Rattle.statements.specs.Changes.{org_row_added, org_capped, token_added, token_removed}
 use Rattle.statements.specs.Finds.{cap_of, role_of_name}
+use Rattle.statements.specs.Steps.{AnyRows, LeavesAsIs}
 use Rattle.statements.specs.Tables.{Tables, Holds}
-use Rattle.tables.specs.Inner.Looks.{StaysSeen}
-use Rattle.tables.specs.Inner.Steps.{IsSettled, Commits, Manages, org_managed_by, org_managed, limit_managed_by, limit_managed, is_taken, token_managed_by, token_managed, revocation_managed_by, revocation_managed}
+use Rattle.tables.specs.Inner.Steps.{IsSettled, Commits, org_managed_by, org_managed, limit_managed_by, limit_managed, is_taken, token_managed_by, token_managed, revocation_managed_by, revocation_managed}
 
 module _ (command : Tables → Effect AdminAnswer Tables) (a b d : State) (settled : IsSettled a) where
   -- nothing was changed
-  pub manages_none : (answer : AdminAnswer) → IsTrue a.is_open → IsTrue b.is_open → StaysSeen a b → ((t : Tables) → Holds a.now t → command t ≡ effect answer t) → Manages command a b answer
+  pub manages_none : (answer : AdminAnswer) → IsTrue a.is_open → IsTrue b.is_open → LeavesAsIs a b → ((t : Tables) → Holds a.now t → command t ≡ effect answer t) → Commits (λ t. (command t).left) (λ t. answer ≡ (command t).answer) a b
   manages_none answer was is stays means = record {
-    answer_is = λ t held. sym (ap (λ (m : Effect AdminAnswer Tables). m.answer) (means t (subst (λ (db : Database). Holds db t) (sym (settled was)) held)));
+    tells = λ t held. sym (ap (λ (m : Effect AdminAnswer Tables). m.answer) (means t (subst (λ (db : Database). Holds db t) (sym (settled was)) held)));
     rows = λ t held.
         subst (Holds b.committed) (sym (ap (λ (m : Effect AdminAnswer Tables). m.left) (means t (subst (λ (db : Database). Holds db t) (sym (settled was)) held))))
-        (subst (λ (db : Database). Holds db t) (sym (stays.committed is)) held);
+        (subst (λ (db : Database). Holds db t) (sym stays.committed) held);
     was_open = was;
     is_open = is;
   }
 
   -- the change was made
-  pub manages_one : (f : Tables → Tables) (answer : AdminAnswer) → StaysSeen a b → Commits f b d → ((t : Tables) → Holds a.now t → command t ≡ effect answer (f t)) → Manages command a d answer
+  pub manages_one : (f : Tables → Tables) (answer : AdminAnswer) → LeavesAsIs a b → Commits f AnyRows b d → ((t : Tables) → Holds a.now t → command t ≡ effect answer (f t)) → Commits (λ t. (command t).left) (λ t. answer ≡ (command t).answer) a d
   manages_one f answer stays done means =
       let was = stays.was_open done.was_open in
       record {
-        answer_is = λ t held. sym (ap (λ (m : Effect AdminAnswer Tables). m.answer) (means t (subst (λ (db : Database). Holds db t) (sym (settled was)) held)));
+        tells = λ t held. sym (ap (λ (m : Effect AdminAnswer Tables). m.answer) (means t (subst (λ (db : Database). Holds db t) (sym (settled was)) held)));
         rows = λ t held.
             subst (Holds d.committed) (sym (ap (λ (m : Effect AdminAnswer Tables). m.left) (means t (subst (λ (db : Database). Holds db t) (sym (settled was)) held))))
-            (done.rows t (subst (λ (db : Database). Holds db t) (sym (stays.committed done.was_open)) held));
+            (done.rows t (subst (λ (db : Database). Holds db t) (sym stays.committed) held));
         was_open = was;
         is_open = done.is_open;
       }
-
-pub unchanged_stays : (a b : State) → IsUnchanged a b → StaysSeen a b
-unchanged_stays a b u = record { was_open = λ _. u.0.was_open; is_open = λ _. u.0.is_open; now = λ _. u.0.now_is; committed = λ _. u.0.committed_is }
-
-pub stays_then : (a b d : State) → StaysSeen a b → StaysSeen b d → StaysSeen a d
-stays_then a b d p q = record {
-  was_open = λ is. p.was_open (q.was_open is);
-  is_open = λ is. q.is_open (p.is_open is);
-  now = λ is. q.now is ∙ p.now (q.was_open is);
-  committed = λ is. q.committed is ∙ p.committed (q.was_open is);
-}
 
 -- ---- an organization
 

@@ -45,7 +45,7 @@ use Rattle.tables.specs.Opening.{IsSoundKeep}
 use Rattle.tables.specs.declared.counts.Counted.{Counted}
 use Rattle.tables.specs.Inner.Counting.{known_of, looked, changed_count}
 use Rattle.tables.proofs.Remembering.{known_is, kept_is, changed_is}
-use Rattle.tables.specs.Inner.Steps.{Commits, Manages, org_managed_by, org_managed, limit_managed_by, limit_managed, token_managed_by, token_managed, revocation_managed_by, revocation_managed}
+use Rattle.tables.specs.Inner.Steps.{Commits, org_managed_by, org_managed, limit_managed_by, limit_managed, token_managed_by, token_managed, revocation_managed_by, revocation_managed}
 use Rattle.tables.proofs.Operators.{caller_found, org_exists, token_absent, token_named, token_known}
 use Rattle.tables.proofs.Limits.{limit_absent, limit_done, limit_other, limit_keeps}
 use Rattle.tables.proofs.Revoking.{revoke_absent, revoke_done, revoke_other, revoke_keeps}
@@ -118,12 +118,12 @@ module _ {counted : Option Counted} (db : Database) (a : State) (s : IsSoundKeep
   module _ (b : State) where
     -- ---- a change of a workspace
 
-    module _ (key_of : List ℕ → List ℕ) (org ws : List ℕ) (change : Change) (done : Commits (changed_rows key_of org ws change) a b) (took : (t : Tables) → Holds a.committed t → TakesEdit key_of org ws change.edit t) where
+    module _ (key_of : List ℕ → List ℕ) (org ws : List ℕ) (change : Change) (done : Commits (changed_rows key_of org ws change) (TakesEdit key_of org ws change.edit) a b) where
       moves : (t : Tables) → Holds db t → Holds b.committed (changed_rows key_of org ws change t)
       moves t h = done.rows t (subst (λ (d : Database). Holds d t) (sym (s.tied done.was_open)) h)
 
       takes : (t : Tables) → Holds db t → TakesEdit key_of org ws change.edit t
-      takes t h = took t (subst (λ (d : Database). Holds d t) (sym (s.tied done.was_open)) h)
+      takes t h = done.tells t (subst (λ (d : Database). Holds d t) (sym (s.tied done.was_open)) h)
 
       pub applied_own : (o : Organization) → records_of db org ≡ Some o → IsDue (seen_in o ws) change → records_of b.committed org ≡ Some (placed o ws (changed_by change (get o.workspaces ws)))
       applied_own o there due = store_changed_own db b.committed s.store key_of org ws change moves takes o there due
@@ -144,9 +144,9 @@ module _ {counted : Option Counted} (db : Database) (a : State) (s : IsSoundKeep
 
     -- ---- an organization
 
-    module _ (org : List ℕ) (limit : ℕ) (answer : AdminAnswer) (m : Manages (org_managed org limit) a b answer) where
+    module _ (org : List ℕ) (limit : ℕ) (answer : AdminAnswer) (m : Commits (λ t. (org_managed org limit t).left) (λ t. answer ≡ (org_managed org limit t).answer) a b) where
       org_answer : (c : Option ℕ) → cap_of org now ≡ c → answer ≡ (org_managed_by c org limit now).answer
-      org_answer c e = subst (λ (x : Option ℕ). answer ≡ (org_managed_by x org limit now).answer) e (m.answer_is now (held m.was_open))
+      org_answer c e = subst (λ (x : Option ℕ). answer ≡ (org_managed_by x org limit now).answer) e (m.tells now (held m.was_open))
 
       org_left : (c : Option ℕ) → cap_of org now ≡ c → Holds b.committed (org_managed_by c org limit now).left
       org_left c e = subst (λ (x : Option ℕ). Holds b.committed (org_managed_by x org limit now).left) e (m.rows now (held m.was_open))
@@ -177,10 +177,10 @@ module _ {counted : Option Counted} (db : Database) (a : State) (s : IsSoundKeep
     answered_as : (org : List ℕ) (x y : AdminAnswer) (r : Option Organization) (after : Effect AdminAnswer (Option Organization)) → x ≡ y → effect y r ≡ after → records_of b.committed org ≡ r → effect x (records_of b.committed org) ≡ after
     answered_as org x y r after e f g = (λ i. effect (e i) (g i)) ∙ f
 
-    module _ (org : List ℕ) (limit : ℕ) (answer : AdminAnswer) (m : Manages (limit_managed org limit) a b answer) where
+    module _ (org : List ℕ) (limit : ℕ) (answer : AdminAnswer) (m : Commits (λ t. (limit_managed org limit t).left) (λ t. answer ≡ (limit_managed org limit t).answer) a b) where
       limit_by : (c : Option ℕ) → cap_of org now ≡ c → (answer ≡ (limit_managed_by c org limit now).answer) × Holds b.committed (limit_managed_by c org limit now).left
       limit_by c e =
-          subst (λ (x : Option ℕ). (answer ≡ (limit_managed_by x org limit now).answer) × Holds b.committed (limit_managed_by x org limit now).left) e (m.answer_is now (held m.was_open), m.rows now (held m.was_open))
+          subst (λ (x : Option ℕ). (answer ≡ (limit_managed_by x org limit now).answer) × Holds b.committed (limit_managed_by x org limit now).left) e (m.tells now (held m.was_open), m.rows now (held m.was_open))
 
       pub limit_told : effect answer (records_of b.committed org) ≡ tokens.org_limited limit (records_of db org)
       limit_told = go (cap_of org now) refl
@@ -209,10 +209,10 @@ module _ {counted : Option Counted} (db : Database) (a : State) (s : IsSoundKeep
 
     -- ---- a token that goes
 
-    module _ (org name : List ℕ) (answer : AdminAnswer) (m : Manages (revocation_managed org name) a b answer) where
+    module _ (org name : List ℕ) (answer : AdminAnswer) (m : Commits (λ t. (revocation_managed org name t).left) (λ t. answer ≡ (revocation_managed org name t).answer) a b) where
       revoke_by : (r : Option Role) → role_of_name org name now ≡ r → (answer ≡ (revocation_managed_by r org name now).answer) × Holds b.committed (revocation_managed_by r org name now).left
       revoke_by r e =
-          subst (λ (x : Option Role). (answer ≡ (revocation_managed_by x org name now).answer) × Holds b.committed (revocation_managed_by x org name now).left) e (m.answer_is now (held m.was_open), m.rows now (held m.was_open))
+          subst (λ (x : Option Role). (answer ≡ (revocation_managed_by x org name now).answer) × Holds b.committed (revocation_managed_by x org name now).left) e (m.tells now (held m.was_open), m.rows now (held m.was_open))
 
       pub revoke_told : effect answer (records_of b.committed org) ≡ tokens.token_revoked name (records_of db org)
       revoke_told = go (role_of_name org name now) refl
@@ -241,13 +241,13 @@ module _ {counted : Option Counted} (db : Database) (a : State) (s : IsSoundKeep
 
     -- ---- a token
 
-    module _ (org name digest : List ℕ) (role : Role) (bounds : Bounds) (answer : AdminAnswer) (m : Manages (token_managed org name digest role bounds) a b answer) where
+    module _ (org name digest : List ℕ) (role : Role) (bounds : Bounds) (answer : AdminAnswer) (m : Commits (λ t. (token_managed org name digest role bounds t).left) (λ t. answer ≡ (token_managed org name digest role bounds t).answer) a b) where
       abbrev by : Option ℕ → Option Role → Option Role → Effect AdminAnswer Tables
       by c n d = token_managed_by c (is_some n || is_some d) org name digest role bounds now
 
       told_by : (c : Option ℕ) (n d : Option Role) → cap_of org now ≡ c → role_of_name org name now ≡ n → role_of_digest org digest now ≡ d → (answer ≡ (by c n d).answer) × Holds b.committed (by c n d).left
       told_by c n d e f h =
-          subst (λ (x : Effect AdminAnswer Tables). (answer ≡ x.answer) × Holds b.committed x.left) (λ i. by (e i) (f i) (h i)) (m.answer_is now (held m.was_open), m.rows now (held m.was_open))
+          subst (λ (x : Effect AdminAnswer Tables). (answer ≡ x.answer) × Holds b.committed x.left) (λ i. by (e i) (f i) (h i)) (m.tells now (held m.was_open), m.rows now (held m.was_open))
 
       told_as : (x y : AdminAnswer) (r : Option Organization) → x ≡ y → effect y r ≡ tokens.token_added name (token_of digest role bounds) (records_of db org) → records_of b.committed org ≡ r
           → effect x (records_of b.committed org) ≡ tokens.token_added name (token_of digest role bounds) (records_of db org)

@@ -5,11 +5,11 @@ ghost use Rattle.sqlite.specs.State.{HasCleanDisk};
 ghost use Rattle.machine.specs.Needs.{needed_of};
 ghost use Rattle.tables.specs.Records.{caller_by, IsBound};
 ghost use Rattle.tables.specs.Inner.Units.{text_in, unit_in};
+ghost use Rattle.statements.specs.Steps.{Equals, EqualsWhere, Sees};
 ghost use Rattle.statements.specs.Tables.{Tables, Holds};
 ghost use Rattle.statements.specs.Listings.{OrgsApart, TokensApart, WorkspacesApart, VersionsApart, RunsApart};
-ghost use Rattle.tables.specs.Inner.Looks.{LooksBy, Sees};
-ghost use Rattle.tables.specs.Inner.Lists.{LooksWhere, versions_listed_in, runs_listed_in, workspaces_listed_in, tokens_told_in, organizations_listed_in};
-ghost use Rattle.tables.specs.Inner.Steps.{ManagesBy, org_managed, limit_managed, token_managed, revocation_managed, is_taken};
+ghost use Rattle.tables.specs.Inner.Lists.{versions_listed_in, runs_listed_in, workspaces_listed_in, tokens_told_in, organizations_listed_in};
+ghost use Rattle.tables.specs.Inner.Steps.{LooksAt, ManagesBy, org_managed, limit_managed, token_managed, revocation_managed, is_taken};
 
 use crate::transactions::assert_settled;
 use crate::{listings, looks, transactions};
@@ -74,7 +74,7 @@ fn is_taken<S: Alter>(
     name: &str,
     digest: &[u8],
 ) -> Result<bool, Error>
-    ensures looks { Sees (is_taken org.now name.now digest.now) (state S.Store conn.old) (state S.Store conn.new) result }
+    ensures looks { Sees S.Store (Equals (is_taken org.now name.now digest.now)) conn.old conn.new result }
     ensures is_open { HasCleanDisk (state S.Store conn.new) → OnOk result (IsTrue (state S.Store conn.new).is_open) }
 {
     let named = tokens::role_of_name(conn, org, name)?;
@@ -137,7 +137,7 @@ pub(crate) fn caller<S: Alter>(
     requires idle { conn.old.in_transaction ≡ false }
     ensures idle { conn.new.in_transaction ≡ false }
     ensures so_far { HasCleanDisk (state S.Store conn.new) → HasCleanDisk (state S.Store conn.old) }
-    ensures looks { LooksBy (caller_by org.now digest.now) (state S.Store conn.old) (state S.Store conn.new) result }
+    ensures looks { LooksAt (Equals (caller_by org.now digest.now)) (state S.Store conn.old) (state S.Store conn.new) result }
     ensures bound { HasCleanDisk (state S.Store conn.new) → OnOk result ((t : Tables) → Holds (state S.Store conn.old).now t → IsBound org.now digest.now t) }
 {
     assert_settled(conn);
@@ -155,7 +155,7 @@ pub(crate) fn unit<S: Alter>(
     requires idle { conn.old.in_transaction ≡ false }
     ensures idle { conn.new.in_transaction ≡ false }
     ensures so_far { HasCleanDisk (state S.Store conn.new) → HasCleanDisk (state S.Store conn.old) }
-    ensures looks { LooksBy (unit_in (needed_of needs.now) known org.now ws.now) (state S.Store conn.old) (state S.Store conn.new) result }
+    ensures looks { LooksAt (Equals (unit_in (needed_of needs.now) known org.now ws.now)) (state S.Store conn.old) (state S.Store conn.new) result }
 {
     assert_settled(conn);
     looks::unit(conn, org, ws, needs, known)
@@ -172,7 +172,7 @@ pub(crate) fn text<S: Alter>(
     requires idle { conn.old.in_transaction ≡ false }
     ensures idle { conn.new.in_transaction ≡ false }
     ensures so_far { HasCleanDisk (state S.Store conn.new) → HasCleanDisk (state S.Store conn.old) }
-    ensures looks { LooksBy (text_in org.now ws.now number) (state S.Store conn.old) (state S.Store conn.new) result }
+    ensures looks { LooksAt (Equals (text_in org.now ws.now number)) (state S.Store conn.old) (state S.Store conn.new) result }
 {
     assert_settled(conn);
     looks::text(conn, alloc, org, ws, number)
@@ -189,7 +189,7 @@ pub(crate) fn workspaces<S: Alter>(
     requires idle { conn.old.in_transaction ≡ false }
     ensures idle { conn.new.in_transaction ≡ false }
     ensures so_far { HasCleanDisk (state S.Store conn.new) → HasCleanDisk (state S.Store conn.old) }
-    ensures looks { LooksWhere WorkspacesApart (workspaces_listed_in after.now prefix.now org.now) (state S.Store conn.old) (state S.Store conn.new) result }
+    ensures looks { LooksAt (EqualsWhere WorkspacesApart (workspaces_listed_in after.now prefix.now org.now)) (state S.Store conn.old) (state S.Store conn.new) result }
 {
     assert_settled(conn);
     listings::list_of_workspaces(conn, alloc, org, after, prefix)
@@ -206,7 +206,7 @@ pub(crate) fn versions<S: Alter>(
     requires idle { conn.old.in_transaction ≡ false }
     ensures idle { conn.new.in_transaction ≡ false }
     ensures so_far { HasCleanDisk (state S.Store conn.new) → HasCleanDisk (state S.Store conn.old) }
-    ensures looks { LooksWhere (VersionsApart org.now ws.now) (versions_listed_in after org.now ws.now) (state S.Store conn.old) (state S.Store conn.new) result }
+    ensures looks { LooksAt (EqualsWhere (VersionsApart org.now ws.now) (versions_listed_in after org.now ws.now)) (state S.Store conn.old) (state S.Store conn.new) result }
 {
     assert_settled(conn);
     listings::list_of_versions(conn, alloc, org, ws, after)
@@ -223,7 +223,7 @@ pub(crate) fn runs<S: Alter>(
     requires idle { conn.old.in_transaction ≡ false }
     ensures idle { conn.new.in_transaction ≡ false }
     ensures so_far { HasCleanDisk (state S.Store conn.new) → HasCleanDisk (state S.Store conn.old) }
-    ensures looks { LooksWhere (RunsApart org.now ws.now) (runs_listed_in after org.now ws.now) (state S.Store conn.old) (state S.Store conn.new) result }
+    ensures looks { LooksAt (EqualsWhere (RunsApart org.now ws.now) (runs_listed_in after org.now ws.now)) (state S.Store conn.old) (state S.Store conn.new) result }
 {
     assert_settled(conn);
     listings::list_of_runs(conn, alloc, org, ws, after)
@@ -237,7 +237,7 @@ pub(crate) fn org_list<S: Alter>(
     requires idle { conn.old.in_transaction ≡ false }
     ensures idle { conn.new.in_transaction ≡ false }
     ensures so_far { HasCleanDisk (state S.Store conn.new) → HasCleanDisk (state S.Store conn.old) }
-    ensures looks { LooksWhere OrgsApart organizations_listed_in (state S.Store conn.old) (state S.Store conn.new) result }
+    ensures looks { LooksAt (EqualsWhere OrgsApart organizations_listed_in) (state S.Store conn.old) (state S.Store conn.new) result }
 {
     assert_settled(conn);
     listings::list_of_organizations(conn, alloc)
@@ -252,7 +252,7 @@ pub(crate) fn token_list<S: Alter>(
     requires idle { conn.old.in_transaction ≡ false }
     ensures idle { conn.new.in_transaction ≡ false }
     ensures so_far { HasCleanDisk (state S.Store conn.new) → HasCleanDisk (state S.Store conn.old) }
-    ensures looks { LooksWhere TokensApart (tokens_told_in org.now) (state S.Store conn.old) (state S.Store conn.new) result }
+    ensures looks { LooksAt (EqualsWhere TokensApart (tokens_told_in org.now)) (state S.Store conn.old) (state S.Store conn.new) result }
 {
     assert_settled(conn);
     listings::tokens_told(conn, alloc, org)

@@ -4,9 +4,9 @@ ghost use Rattle.sqlite.specs.Held.{state};
 ghost use Rattle.sqlite.specs.State.{HasCleanDisk};
 ghost use Rattle.basis.specs.Listings.{listing_of};
 ghost use Rattle.machine.specs.Showing.{holder_id};
+ghost use Rattle.statements.specs.Steps.{Equals, EqualsWhere, Sees};
 ghost use Rattle.statements.specs.Listings.{OrgsApart, TokensApart, WorkspacesApart, VersionsApart, RunsApart};
-ghost use Rattle.tables.specs.Inner.Looks.{Sees};
-ghost use Rattle.tables.specs.Inner.Lists.{SeesLawful, versions_listed_in, runs_listed_in, newest_number_in, newest_by, newest_shown_in, ws_row_in, workspaces_listed_in, token_row_in, tokens_listed_in, tokens_told_in, org_row_in, organizations_listed_in};
+ghost use Rattle.tables.specs.Inner.Lists.{versions_listed_in, runs_listed_in, newest_number_in, newest_by, newest_shown_in, ws_row_in, workspaces_listed_in, token_row_in, tokens_listed_in, tokens_told_in, org_row_in, organizations_listed_in};
 
 use crate::looks::{caller_as, kept};
 use basis::{
@@ -39,7 +39,7 @@ pub(crate) fn list_of_versions<S: Alter>(
     ws: &str,
     after: u32,
 ) -> Result<Listing<VersionRow>, Error>
-    ensures looks { SeesLawful (VersionsApart org.now ws.now) (versions_listed_in after org.now ws.now) (state S.Store conn.old) (state S.Store conn.new) result }
+    ensures looks { Sees S.Store (EqualsWhere (VersionsApart org.now ws.now) (versions_listed_in after org.now ws.now)) conn.old conn.new result }
     ensures is_open { HasCleanDisk (state S.Store conn.new) → OnOk result (IsTrue (state S.Store conn.new).is_open) }
 {
     let rows = versions::list(alloc, conn, org, ws, after, ASKED_ROWS)?;
@@ -54,7 +54,7 @@ pub(crate) fn list_of_runs<S: Alter>(
     ws: &str,
     after: u32,
 ) -> Result<Listing<RunRow>, Error>
-    ensures looks { SeesLawful (RunsApart org.now ws.now) (runs_listed_in after org.now ws.now) (state S.Store conn.old) (state S.Store conn.new) result }
+    ensures looks { Sees S.Store (EqualsWhere (RunsApart org.now ws.now) (runs_listed_in after org.now ws.now)) conn.old conn.new result }
     ensures is_open { HasCleanDisk (state S.Store conn.new) → OnOk result (IsTrue (state S.Store conn.new).is_open) }
 {
     let rows = runs::list(alloc, conn, org, ws, after, ASKED_ROWS)?;
@@ -67,7 +67,7 @@ fn newest_number<S: Alter>(
     org: &str,
     ws: &str,
 ) -> Result<Option<Number>, Error>
-    ensures looks { Sees (newest_number_in org.now ws.now) (state S.Store conn.old) (state S.Store conn.new) result }
+    ensures looks { Sees S.Store (Equals (newest_number_in org.now ws.now)) conn.old conn.new result }
     ensures is_open { HasCleanDisk (state S.Store conn.new) → OnOk result (IsTrue (state S.Store conn.new).is_open) }
 {
     match versions::newest(conn, org, ws)? {
@@ -84,7 +84,7 @@ fn newest_looked_for<S: Alter>(
     ws: &str,
     next_version: u64,
 ) -> Result<Option<Number>, Error>
-    ensures { Sees (λ t. newest_by None next_version (newest_number_in org.now ws.now t)) (state S.Store conn.old) (state S.Store conn.new) result }
+    ensures { Sees S.Store (Equals (λ t. newest_by None next_version (newest_number_in org.now ws.now t))) conn.old conn.new result }
 {
     if next_version == 1 {
         return Ok(None);
@@ -98,7 +98,7 @@ fn newest_shown<S: Alter>(
     org: &str,
     workspace: &NamedWorkspace,
 ) -> Result<Option<Number>, Error>
-    ensures { Sees (newest_shown_in org.now workspace.now) (state S.Store conn.old) (state S.Store conn.new) result }
+    ensures { Sees S.Store (Equals (newest_shown_in org.now workspace.now)) conn.old conn.new result }
 {
     match workspace.last {
         Some(last) => Ok(Some(last)),
@@ -133,7 +133,7 @@ fn ws_row<S: Alter>(
     org: &str,
     workspace: &NamedWorkspace,
 ) -> Result<WsRow, Error>
-    ensures { Sees (λ t. ws_row_in org.now t workspace.now) (state S.Store conn.old) (state S.Store conn.new) result }
+    ensures { Sees S.Store (Equals (λ t. ws_row_in org.now t workspace.now)) conn.old conn.new result }
 {
     let version = newest_shown(conn, org, workspace)?;
     let holder = holder_id(&workspace.it.holder)?;
@@ -155,7 +155,7 @@ fn list_workspaces<S: Alter>(
     org: &str,
     workspaces: &[NamedWorkspace],
 ) -> Result<Listing<WsRow>, Error>
-    ensures looks { Sees (λ t. listing_of (map (ws_row_in org.now t) workspaces.now)) (state S.Store conn.old) (state S.Store conn.new) result }
+    ensures looks { Sees S.Store (Equals (λ t. listing_of (map (ws_row_in org.now t) workspaces.now))) conn.old conn.new result }
     ensures stays_open { HasCleanDisk (state S.Store conn.new) → OnOk result (IsTrue (state S.Store conn.old).is_open → IsTrue (state S.Store conn.new).is_open) }
 {
     let mut list = Listing::new(alloc);
@@ -174,7 +174,7 @@ pub(crate) fn list_of_workspaces<S: Alter>(
     after: &str,
     prefix: &Prefix,
 ) -> Result<Listing<WsRow>, Error>
-    ensures looks { SeesLawful WorkspacesApart (workspaces_listed_in after.now prefix.now org.now) (state S.Store conn.old) (state S.Store conn.new) result }
+    ensures looks { Sees S.Store (EqualsWhere WorkspacesApart (workspaces_listed_in after.now prefix.now org.now)) conn.old conn.new result }
     ensures is_open { HasCleanDisk (state S.Store conn.new) → OnOk result (IsTrue (state S.Store conn.new).is_open) }
 {
     let rows = workspaces::list(alloc, conn, org, after, prefix, ASKED_ROWS)?;
@@ -186,7 +186,7 @@ fn org_row<S: Alter>(
     conn: &mut Connection<S>,
     organization: &OrganizationCells,
 ) -> Result<OrgRow, Error>
-    ensures looks { Sees (λ t. org_row_in t organization.now) (state S.Store conn.old) (state S.Store conn.new) result }
+    ensures looks { Sees S.Store (Equals (λ t. org_row_in t organization.now)) conn.old conn.new result }
     ensures is_open { HasCleanDisk (state S.Store conn.new) → OnOk result (IsTrue (state S.Store conn.new).is_open) }
 {
     let count = workspaces::count(conn, organization.name.as_str())?;
@@ -213,7 +213,7 @@ fn list_organizations<S: Alter>(
     alloc: Global,
     organizations: &[OrganizationCells],
 ) -> Result<Items<OrgRow>, Error>
-    ensures looks { Sees (λ t. map (org_row_in t) organizations.now) (state S.Store conn.old) (state S.Store conn.new) result }
+    ensures looks { Sees S.Store (Equals (λ t. map (org_row_in t) organizations.now)) conn.old conn.new result }
     ensures stays_open { HasCleanDisk (state S.Store conn.new) → OnOk result (IsTrue (state S.Store conn.old).is_open → IsTrue (state S.Store conn.new).is_open) }
 {
     let mut rows = Items::new(Vec::new(alloc));
@@ -229,7 +229,7 @@ pub(crate) fn list_of_organizations<S: Alter>(
     conn: &mut Connection<S>,
     alloc: Global,
 ) -> Result<Items<OrgRow>, Error>
-    ensures looks { SeesLawful OrgsApart organizations_listed_in (state S.Store conn.old) (state S.Store conn.new) result }
+    ensures looks { Sees S.Store (EqualsWhere OrgsApart organizations_listed_in) conn.old conn.new result }
     ensures is_open { HasCleanDisk (state S.Store conn.new) → OnOk result (IsTrue (state S.Store conn.new).is_open) }
 {
     let rows = organizations::list(alloc, conn)?;
@@ -242,7 +242,7 @@ fn token_row<S: Alter>(
     org: &str,
     token: &NamedRole,
 ) -> Result<TokenRow, Error>
-    ensures looks { Sees (λ t. token_row_in org.now t token.now) (state S.Store conn.old) (state S.Store conn.new) result }
+    ensures looks { Sees S.Store (Equals (λ t. token_row_in org.now t token.now)) conn.old conn.new result }
     ensures is_open { HasCleanDisk (state S.Store conn.new) → OnOk result (IsTrue (state S.Store conn.new).is_open) }
 {
     let caller = caller_as(conn, org, token)?;
@@ -256,7 +256,7 @@ fn list_tokens<S: Alter>(
     org: &str,
     tokens: &[NamedRole],
 ) -> Result<Items<TokenRow>, Error>
-    ensures looks { Sees (λ t. map (token_row_in org.now t) tokens.now) (state S.Store conn.old) (state S.Store conn.new) result }
+    ensures looks { Sees S.Store (Equals (λ t. map (token_row_in org.now t) tokens.now)) conn.old conn.new result }
     ensures stays_open { HasCleanDisk (state S.Store conn.new) → OnOk result (IsTrue (state S.Store conn.old).is_open → IsTrue (state S.Store conn.new).is_open) }
 {
     let mut rows = Items::new(Vec::new(alloc));
@@ -273,7 +273,7 @@ fn list_of_tokens<S: Alter>(
     alloc: Global,
     org: &str,
 ) -> Result<Items<TokenRow>, Error>
-    ensures looks { SeesLawful TokensApart (tokens_listed_in org.now) (state S.Store conn.old) (state S.Store conn.new) result }
+    ensures looks { Sees S.Store (EqualsWhere TokensApart (tokens_listed_in org.now)) conn.old conn.new result }
     ensures is_open { HasCleanDisk (state S.Store conn.new) → OnOk result (IsTrue (state S.Store conn.new).is_open) }
 {
     let rows = tokens::list(alloc, conn, org)?;
@@ -286,7 +286,7 @@ pub(crate) fn tokens_told<S: Alter>(
     alloc: Global,
     org: &str,
 ) -> Result<AdminAnswer, Error>
-    ensures looks { SeesLawful TokensApart (tokens_told_in org.now) (state S.Store conn.old) (state S.Store conn.new) result }
+    ensures looks { Sees S.Store (EqualsWhere TokensApart (tokens_told_in org.now)) conn.old conn.new result }
     ensures is_open { HasCleanDisk (state S.Store conn.new) → OnOk result (IsTrue (state S.Store conn.new).is_open) }
 {
     let cap = organizations::cap(conn, org)?;

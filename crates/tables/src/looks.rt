@@ -4,12 +4,13 @@ ghost use Rattle.basis.specs.declared.numbers.TheConstants.{FIRST_KEPT};
 ghost use Rattle.sqlite.specs.Held.{state};
 ghost use Rattle.sqlite.specs.State.{HasCleanDisk};
 ghost use Rattle.statements.specs.Finds.{size_of, number_back, cap_of, workspaces_of, first_waiting_of, open_runs_of, bound_of};
+ghost use Rattle.statements.specs.Steps.{Equals, Sees};
 ghost use Rattle.statements.specs.Tables.{Tables, Holds};
 ghost use Rattle.machine.specs.Needs.{needed_of};
 ghost use Rattle.machine.specs.Units.{if_needed};
 ghost use Rattle.tables.specs.Records.{caller_with, bounds_at, caller_by, IsBound, keep_at};
 ghost use Rattle.tables.specs.Inner.Units.{holder_status_in, text_in, has_text, newest_by, newest_in, keep_in, outgoing_in, has_version_in, keyed_run_in, asked_run_in, unit_in};
-ghost use Rattle.tables.specs.Inner.Looks.{Sees, absent_in, runs_in, around_in, unit_from, present_in};
+ghost use Rattle.tables.specs.Inner.Looks.{absent_in, runs_in, around_in, unit_from, present_in};
 
 use basis::{
     Bounds, Bytes, Caller, Holder, KeepCount, Limit, Number, Role, RunRow, RunStatus, Settings,
@@ -47,7 +48,7 @@ pub(crate) fn text<S: Alter>(
     ws: &str,
     number: Number,
 ) -> Result<Option<Bytes>, Error>
-    ensures looks { Sees (text_in org.now ws.now number) (state S.Store conn.old) (state S.Store conn.new) result }
+    ensures looks { Sees S.Store (Equals (text_in org.now ws.now number)) conn.old conn.new result }
     ensures is_open { HasCleanDisk (state S.Store conn.new) → OnOk result (IsTrue (state S.Store conn.new).is_open) }
 {
     match versions::size(conn, org, ws, number)? {
@@ -63,7 +64,7 @@ fn holder_status<S: Alter>(
     ws: &str,
     holder: &Holder,
 ) -> Result<Option<RunStatus>, Error>
-    ensures looks { Sees (holder_status_in org.now ws.now holder.now) (state S.Store conn.old) (state S.Store conn.new) result }
+    ensures looks { Sees S.Store (Equals (holder_status_in org.now ws.now holder.now)) conn.old conn.new result }
 {
     match holder {
         Holder::Nobody => Ok(None),
@@ -80,7 +81,7 @@ fn holder_status_if<S: Alter>(
     needed: bool,
     holder: &Holder,
 ) -> Result<Option<RunStatus>, Error>
-    ensures looks { Sees (λ t. if_needed needed (holder_status_in org.now ws.now holder.now t)) (state S.Store conn.old) (state S.Store conn.new) result }
+    ensures looks { Sees S.Store (Equals (λ t. if_needed needed (holder_status_in org.now ws.now holder.now t))) conn.old conn.new result }
 {
     if needed {
         holder_status(conn, org, ws, holder)
@@ -97,7 +98,7 @@ fn has_text<S: Alter>(
     text: Option<&Bytes>,
     head: &VersionRow,
 ) -> Result<bool, Error>
-    ensures looks { Sees (has_text (option_copied text.entry) org.now ws.now head.now) (state S.Store conn.old) (state S.Store conn.new) result }
+    ensures looks { Sees S.Store (Equals (has_text (option_copied text.entry) org.now ws.now head.now)) conn.old conn.new result }
 {
     let Some(text) = text else {
         return Ok(false);
@@ -117,7 +118,7 @@ fn newest_as<S: Alter>(
     text: Option<&Bytes>,
     head: VersionRow,
 ) -> Result<Newest, Error>
-    ensures looks { Sees (λ t. newest_by (option_copied text.entry) org.now ws.now t head) (state S.Store conn.old) (state S.Store conn.new) result }
+    ensures looks { Sees S.Store (Equals (λ t. newest_by (option_copied text.entry) org.now ws.now t head)) conn.old conn.new result }
 {
     let is_same = has_text(conn, org, ws, text, &head)?;
     Ok(Newest {
@@ -135,7 +136,7 @@ fn newest<S: Alter>(
     ws: &str,
     text: Option<&Bytes>,
 ) -> Result<Option<Newest>, Error>
-    ensures looks { Sees (newest_in (option_copied text.entry) org.now ws.now) (state S.Store conn.old) (state S.Store conn.new) result }
+    ensures looks { Sees S.Store (Equals (newest_in (option_copied text.entry) org.now ws.now)) conn.old conn.new result }
 {
     match versions::newest(conn, org, ws)? {
         None => Ok(None),
@@ -151,7 +152,7 @@ fn newest_if<S: Alter>(
     needed: bool,
     text: Option<&Bytes>,
 ) -> Result<Option<Newest>, Error>
-    ensures looks { Sees (λ t. if_needed needed (newest_in (option_copied text.entry) org.now ws.now t)) (state S.Store conn.old) (state S.Store conn.new) result }
+    ensures looks { Sees S.Store (Equals (λ t. if_needed needed (newest_in (option_copied text.entry) org.now ws.now t))) conn.old conn.new result }
 {
     if needed {
         newest(conn, org, ws, text)
@@ -176,7 +177,7 @@ pub(crate) fn keep<S: Alter>(
     org: &str,
     ws: &str,
 ) -> Result<KeepCount, Error>
-    ensures looks { Sees (λ t. keep_at t org.now ws.now) (state S.Store conn.old) (state S.Store conn.new) result }
+    ensures looks { Sees S.Store (Equals (λ t. keep_at t org.now ws.now)) conn.old conn.new result }
     ensures is_open { HasCleanDisk (state S.Store conn.new) → OnOk result (IsTrue (state S.Store conn.new).is_open) }
 {
     let found = keepings::find(conn, org, ws)?;
@@ -190,7 +191,7 @@ fn keep_if<S: Alter>(
     ws: &str,
     needed: bool,
 ) -> Result<KeepCount, Error>
-    ensures looks { Sees (keep_in needed org.now ws.now) (state S.Store conn.old) (state S.Store conn.new) result }
+    ensures looks { Sees S.Store (Equals (keep_in needed org.now ws.now)) conn.old conn.new result }
 {
     if needed {
         keep(conn, org, ws)
@@ -206,7 +207,7 @@ fn number_behind<S: Alter>(
     ws: &str,
     staying: u32,
 ) -> Result<Option<Number>, Error>
-    ensures looks { Sees (number_back org.now ws.now staying) (state S.Store conn.old) (state S.Store conn.new) result }
+    ensures looks { Sees S.Store (Equals (number_back org.now ws.now staying)) conn.old conn.new result }
 {
     versions::number_back(conn, org, ws, staying)
 }
@@ -219,7 +220,7 @@ fn outgoing<S: Alter>(
     staying: Staying,
     keep: KeepCount,
 ) -> Result<Option<Number>, Error>
-    ensures looks { Sees (outgoing_in staying keep org.now ws.now) (state S.Store conn.old) (state S.Store conn.new) result }
+    ensures looks { Sees S.Store (Equals (outgoing_in staying keep org.now ws.now)) conn.old conn.new result }
 {
     match staying {
         Staying::StayAll => Ok(None),
@@ -230,7 +231,7 @@ fn outgoing<S: Alter>(
 
 /// How far a token reaches. It is an error where the token has no row of bound.
 fn bounds_of<S: Alter>(conn: &mut Connection<S>, org: &str, name: &str) -> Result<Bounds, Error>
-    ensures looks { Sees (λ t. bounds_at t org.now name.now) (state S.Store conn.old) (state S.Store conn.new) result }
+    ensures looks { Sees S.Store (Equals (λ t. bounds_at t org.now name.now)) conn.old conn.new result }
     ensures is_open { HasCleanDisk (state S.Store conn.new) → OnOk result (IsTrue (state S.Store conn.new).is_open) }
     ensures there { HasCleanDisk (state S.Store conn.new) → OnOk result ((t : Tables) → Holds (state S.Store conn.old).now t → IsSome (bound_of org.now name.now t)) }
 {
@@ -256,7 +257,7 @@ pub(crate) fn caller_as<S: Alter>(
     org: &str,
     token: &NamedRole,
 ) -> Result<Caller, Error>
-    ensures looks { Sees (λ t. caller_with token.now.role (bounds_at t org.now token.now.name)) (state S.Store conn.old) (state S.Store conn.new) result }
+    ensures looks { Sees S.Store (Equals (λ t. caller_with token.now.role (bounds_at t org.now token.now.name))) conn.old conn.new result }
     ensures is_open { HasCleanDisk (state S.Store conn.new) → OnOk result (IsTrue (state S.Store conn.new).is_open) }
     ensures there { HasCleanDisk (state S.Store conn.new) → OnOk result ((t : Tables) → Holds (state S.Store conn.old).now t → IsSome (bound_of org.now token.now.name t)) }
 {
@@ -270,7 +271,7 @@ pub(crate) fn caller<S: Alter>(
     org: &str,
     digest: &[u8],
 ) -> Result<Option<Caller>, Error>
-    ensures looks { Sees (caller_by org.now digest.now) (state S.Store conn.old) (state S.Store conn.new) result }
+    ensures looks { Sees S.Store (Equals (caller_by org.now digest.now)) conn.old conn.new result }
     ensures is_open { HasCleanDisk (state S.Store conn.new) → OnOk result (IsTrue (state S.Store conn.new).is_open) }
     ensures bound { HasCleanDisk (state S.Store conn.new) → OnOk result ((t : Tables) → Holds (state S.Store conn.old).now t → IsBound org.now digest.now t) }
 {
@@ -287,7 +288,7 @@ fn keyed_run<S: Alter>(
     ws: &str,
     key: Option<&Text>,
 ) -> Result<Option<RunRow>, Error>
-    ensures looks { Sees (keyed_run_in (option_copied key.entry) org.now ws.now) (state S.Store conn.old) (state S.Store conn.new) result }
+    ensures looks { Sees S.Store (Equals (keyed_run_in (option_copied key.entry) org.now ws.now)) conn.old conn.new result }
 {
     match key {
         None => Ok(None),
@@ -303,7 +304,7 @@ fn asked_run<S: Alter>(
     number: Option<Number>,
     key: Option<&Text>,
 ) -> Result<Option<RunRow>, Error>
-    ensures looks { Sees (asked_run_in number (option_copied key.entry) org.now ws.now) (state S.Store conn.old) (state S.Store conn.new) result }
+    ensures looks { Sees S.Store (Equals (asked_run_in number (option_copied key.entry) org.now ws.now)) conn.old conn.new result }
 {
     match number {
         None => keyed_run(conn, org, ws, key),
@@ -318,7 +319,7 @@ fn is_kept<S: Alter>(
     ws: &str,
     number: Number,
 ) -> Result<bool, Error>
-    ensures looks { Sees (λ t. is_some (size_of org.now ws.now number t)) (state S.Store conn.old) (state S.Store conn.new) result }
+    ensures looks { Sees S.Store (Equals (λ t. is_some (size_of org.now ws.now number t))) conn.old conn.new result }
 {
     let size = versions::size(conn, org, ws, number)?;
     Ok(size.is_some())
@@ -331,7 +332,7 @@ fn has_version<S: Alter>(
     ws: &str,
     number: Option<Number>,
 ) -> Result<bool, Error>
-    ensures looks { Sees (has_version_in number org.now ws.now) (state S.Store conn.old) (state S.Store conn.new) result }
+    ensures looks { Sees S.Store (Equals (has_version_in number org.now ws.now)) conn.old conn.new result }
 {
     match number {
         None => Ok(false),
@@ -341,7 +342,7 @@ fn has_version<S: Alter>(
 
 /// How many workspaces an organization has. Where that is known they aren't counted.
 fn count<S: Alter>(conn: &mut Connection<S>, org: &str, known: Option<u64>) -> Result<u64, Error>
-    ensures looks { Sees (λ t. unwrap_or known (workspaces_of org.now t)) (state S.Store conn.old) (state S.Store conn.new) result }
+    ensures looks { Sees S.Store (Equals (λ t. unwrap_or known (workspaces_of org.now t))) conn.old conn.new result }
 {
     match known {
         None => workspaces::count(conn, org),
@@ -357,7 +358,7 @@ fn count_if<S: Alter>(
     makes: bool,
     known: Option<u64>,
 ) -> Result<u64, Error>
-    ensures looks { Sees (λ t. cond makes (unwrap_or known (workspaces_of org.now t)) 0) (state S.Store conn.old) (state S.Store conn.new) result }
+    ensures looks { Sees S.Store (Equals (λ t. cond makes (unwrap_or known (workspaces_of org.now t)) 0)) conn.old conn.new result }
 {
     if makes {
         count(conn, org, known)
@@ -378,7 +379,7 @@ fn allowed(cap: Option<Limit>) -> Limit
 
 /// How many workspaces an organization may have.
 fn limit<S: Alter>(conn: &mut Connection<S>, org: &str) -> Result<Limit, Error>
-    ensures looks { Sees (λ t. unwrap_or (cap_of org.now t) 0) (state S.Store conn.old) (state S.Store conn.new) result }
+    ensures looks { Sees S.Store (Equals (λ t. unwrap_or (cap_of org.now t) 0)) conn.old conn.new result }
 {
     let cap = organizations::cap(conn, org)?;
     Ok(allowed(cap))
@@ -387,7 +388,7 @@ fn limit<S: Alter>(conn: &mut Connection<S>, org: &str) -> Result<Limit, Error>
 /// How many workspaces an organization may have, where the act makes one: for any other act it isn't
 /// asked.
 fn limit_if<S: Alter>(conn: &mut Connection<S>, org: &str, makes: bool) -> Result<Limit, Error>
-    ensures looks { Sees (λ t. cond makes (unwrap_or (cap_of org.now t) 0) 0) (state S.Store conn.old) (state S.Store conn.new) result }
+    ensures looks { Sees S.Store (Equals (λ t. cond makes (unwrap_or (cap_of org.now t) 0) 0)) conn.old conn.new result }
 {
     if makes {
         limit(conn, org)
@@ -403,7 +404,7 @@ fn absent<S: Alter>(
     needs: &Needs<'_>,
     known: Option<u64>,
 ) -> Result<Unit, Error>
-    ensures looks { Sees (absent_in (needed_of needs.now) known org.now) (state S.Store conn.old) (state S.Store conn.new) result }
+    ensures looks { Sees S.Store (Equals (absent_in (needed_of needs.now) known org.now)) conn.old conn.new result }
 {
     let count = count_if(conn, org, needs.makes, known)?;
     let limit = limit_if(conn, org, needs.makes)?;
@@ -419,7 +420,7 @@ fn first_waiting<S: Alter>(
     org: &str,
     ws: &str,
 ) -> Result<Option<Number>, Error>
-    ensures looks { Sees (first_waiting_of org.now ws.now) (state S.Store conn.old) (state S.Store conn.new) result }
+    ensures looks { Sees S.Store (Equals (first_waiting_of org.now ws.now)) conn.old conn.new result }
 {
     runs::first_waiting(conn, org, ws)
 }
@@ -431,7 +432,7 @@ fn first_waiting_if<S: Alter>(
     ws: &str,
     needed: bool,
 ) -> Result<Option<Number>, Error>
-    ensures looks { Sees (λ t. if_needed needed (first_waiting_of org.now ws.now t)) (state S.Store conn.old) (state S.Store conn.new) result }
+    ensures looks { Sees S.Store (Equals (λ t. if_needed needed (first_waiting_of org.now ws.now t))) conn.old conn.new result }
 {
     if needed {
         first_waiting(conn, org, ws)
@@ -447,7 +448,7 @@ fn open_runs_if<S: Alter>(
     ws: &str,
     needed: bool,
 ) -> Result<u64, Error>
-    ensures looks { Sees (λ t. cond needed (open_runs_of org.now ws.now t) 0) (state S.Store conn.old) (state S.Store conn.new) result }
+    ensures looks { Sees S.Store (Equals (λ t. cond needed (open_runs_of org.now ws.now t) 0)) conn.old conn.new result }
 {
     if needed {
         runs::count_open(conn, org, ws)
@@ -464,7 +465,7 @@ fn runs_around<S: Alter>(
     needs: &Needs<'_>,
     holder: &Holder,
 ) -> Result<RunsAround, Error>
-    ensures looks { Sees (runs_in (needed_of needs.now) org.now ws.now holder.now) (state S.Store conn.old) (state S.Store conn.new) result }
+    ensures looks { Sees S.Store (Equals (runs_in (needed_of needs.now) org.now ws.now holder.now)) conn.old conn.new result }
 {
     let holder_status = holder_status_if(conn, org, ws, needs.holder_status, holder)?;
     let first_waiting = first_waiting_if(conn, org, ws, needs.waiting)?;
@@ -487,7 +488,7 @@ fn around<S: Alter>(
     keep: KeepCount,
     holder: &Holder,
 ) -> Result<Surroundings, Error>
-    ensures looks { Sees (around_in (needed_of needs.now) org.now ws.now keep holder.now) (state S.Store conn.old) (state S.Store conn.new) result }
+    ensures looks { Sees S.Store (Equals (around_in (needed_of needs.now) org.now ws.now keep holder.now)) conn.old conn.new result }
 {
     let newest = newest_if(conn, org, ws, needs.newest, needs.text)?;
     let outgoing = outgoing(conn, org, ws, needs.outgoing, keep)?;
@@ -531,7 +532,7 @@ fn present<S: Alter>(
     needs: &Needs<'_>,
     workspace: WorkspaceCells,
 ) -> Result<Unit, Error>
-    ensures looks { Sees (present_in (needed_of needs.now) org.now ws.now workspace) (state S.Store conn.old) (state S.Store conn.new) result }
+    ensures looks { Sees S.Store (Equals (present_in (needed_of needs.now) org.now ws.now workspace)) conn.old conn.new result }
 {
     let keep = keep_if(conn, org, ws, needs.keep_versions)?;
     let around = around(conn, org, ws, needs, keep, &workspace.holder)?;
@@ -546,7 +547,7 @@ pub(crate) fn unit<S: Alter>(
     needs: &Needs<'_>,
     known: Option<u64>,
 ) -> Result<Unit, Error>
-    ensures looks { Sees (unit_in (needed_of needs.now) known org.now ws.now) (state S.Store conn.old) (state S.Store conn.new) result }
+    ensures looks { Sees S.Store (Equals (unit_in (needed_of needs.now) known org.now ws.now)) conn.old conn.new result }
     ensures is_open { HasCleanDisk (state S.Store conn.new) → OnOk result (IsTrue (state S.Store conn.new).is_open) }
 {
     match workspaces::find(conn, org, ws)? {

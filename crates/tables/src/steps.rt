@@ -1,10 +1,10 @@
 //! What a change of a workspace does to the tables, inside one transaction.
-ghost use Rattle.std.specs.Prelude.{◌≡◌, ◌+◌, cond, option_map, None};
+ghost use Rattle.std.specs.Prelude.{◌≡◌, ◌+◌, true, false, cond, is_some, option_map, None};
 ghost use Rattle.sqlite.specs.Held.{state};
 ghost use Rattle.statements.specs.Changes.{run_acted};
-ghost use Rattle.statements.specs.Finds.{size_of, workspace_of};
+ghost use Rattle.statements.specs.Finds.{size_of, workspace_of, oldest_below};
+ghost use Rattle.statements.specs.Steps.{Steps, Tells};
 ghost use Rattle.tables.specs.Inner.Edits.{version_gone, oldest_gone, gone_below, all_gone, removed_rows, made_rows, configured_rows, numbered_rows, row_added, added_rows, versioned_rows, run_put, run_counted, run_rows, freed_rows, edited_rows, begun_rows, changed_rows, FitsTwins, TakesVersion, TakesEdit};
-ghost use Rattle.tables.specs.Inner.Steps.{TellsIn, FindsIn, FindsOldest, StepsBy};
 
 use basis::numbers::{MAX_KEPT, MAX_NUMBER};
 use basis::{Moment, Number, RunAction, RunAsk, RunStatus, Settings, Text, VersionRow};
@@ -26,7 +26,7 @@ fn remove_version<S: Alter>(
     ws: &str,
     head: &VersionRow,
 ) -> Result<(), Error>
-    ensures { StepsBy S.Store (version_gone org.now ws.now head.now) tx.old tx.new result }
+    ensures { Steps S.Store (version_gone org.now ws.now head.now) tx.old tx.new result }
 {
     versions::remove(tx, org, ws, head.number)?;
     texts::remove_text(tx, org, ws, head.number, head.size)
@@ -39,8 +39,8 @@ fn remove_oldest<S: Alter>(
     ws: &str,
     below: u32,
 ) -> Result<bool, Error>
-    ensures steps { StepsBy S.Store (oldest_gone org.now ws.now below) tx.old tx.new result }
-    ensures found { FindsOldest org.now ws.now below (state S.Store tx.old.conn.now) (state S.Store tx.new.conn.now) result }
+    ensures steps { Steps S.Store (oldest_gone org.now ws.now below) tx.old tx.new result }
+    ensures found { Tells (λ found t. found ≡ false → oldest_below org.now ws.now below t ≡ None) (state S.Store tx.old.conn.now) (state S.Store tx.new.conn.now) result }
 {
     match versions::oldest_below(tx, org, ws, below)? {
         None => Ok(false),
@@ -58,7 +58,7 @@ fn remove_below<S: Alter>(
     ws: &str,
     below: u32,
 ) -> Result<(), Error>
-    ensures { StepsBy S.Store (gone_below org.now ws.now below) tx.old tx.new result }
+    ensures { Steps S.Store (gone_below org.now ws.now below) tx.old tx.new result }
 {
     if !remove_oldest(tx, org, ws, below)? {
         return Ok(());
@@ -73,14 +73,14 @@ fn remove_below<S: Alter>(
 
 /// The versions of a workspace go, with their texts.
 fn purge<S: Alter>(tx: &mut Transaction<'_, S>, org: &str, ws: &str) -> Result<(), Error>
-    ensures { StepsBy S.Store (all_gone org.now ws.now) tx.old tx.new result }
+    ensures { Steps S.Store (all_gone org.now ws.now) tx.old tx.new result }
 {
     remove_below(tx, org, ws, BEYOND)
 }
 
 /// Removes a workspace with its versions and runs.
 fn remove<S: Alter>(tx: &mut Transaction<'_, S>, org: &str, ws: &str) -> Result<(), Error>
-    ensures { StepsBy S.Store (removed_rows org.now ws.now) tx.old tx.new result }
+    ensures { Steps S.Store (removed_rows org.now ws.now) tx.old tx.new result }
 {
     purge(tx, org, ws)?;
     runs::remove_all(tx, org, ws)?;
@@ -94,8 +94,8 @@ fn make<S: Alter>(
     ws: &str,
     settings: &Settings,
 ) -> Result<(), Error>
-    ensures steps { StepsBy S.Store (made_rows org.now ws.now settings.now) tx.old tx.new result }
-    ensures fresh { TellsIn (λ t. workspace_of org.now ws.now t ≡ None) (state S.Store tx.old.conn.now) (state S.Store tx.new.conn.now) result }
+    ensures steps { Steps S.Store (made_rows org.now ws.now settings.now) tx.old tx.new result }
+    ensures fresh { Tells (λ _ t. workspace_of org.now ws.now t ≡ None) (state S.Store tx.old.conn.now) (state S.Store tx.new.conn.now) result }
 {
     workspaces::add(tx, org, ws, settings.runs, settings.keep_versions)
 }
@@ -107,8 +107,8 @@ fn add_row<S: Alter>(
     ws: &str,
     version: &Version,
 ) -> Result<(), Error>
-    ensures steps { StepsBy S.Store (row_added org.now ws.now version.now) tx.old tx.new result }
-    ensures fresh { TellsIn (λ t. size_of org.now ws.now version.now.number t ≡ None) (state S.Store tx.old.conn.now) (state S.Store tx.new.conn.now) result }
+    ensures steps { Steps S.Store (row_added org.now ws.now version.now) tx.old tx.new result }
+    ensures fresh { Tells (λ _ t. size_of org.now ws.now version.now.number t ≡ None) (state S.Store tx.old.conn.now) (state S.Store tx.new.conn.now) result }
 {
     let serial = version.serial;
     if serial > i64::MAX as u64 {
@@ -135,9 +135,9 @@ fn add<K: PageKey, S: Alter>(
     ws: &str,
     version: &Version,
 ) -> Result<(), Error>
-    ensures steps { StepsBy S.Store (added_rows K.key_of org.now ws.now version.now) tx.old tx.new result }
-    ensures fresh { TellsIn (λ t. size_of org.now ws.now version.now.number t ≡ None) (state S.Store tx.old.conn.now) (state S.Store tx.new.conn.now) result }
-    ensures fits { TellsIn (FitsTwins K.key_of org.now ws.now version.now) (state S.Store tx.old.conn.now) (state S.Store tx.new.conn.now) result }
+    ensures steps { Steps S.Store (added_rows K.key_of org.now ws.now version.now) tx.old tx.new result }
+    ensures fresh { Tells (λ _ t. size_of org.now ws.now version.now.number t ≡ None) (state S.Store tx.old.conn.now) (state S.Store tx.new.conn.now) result }
+    ensures fits { Tells (λ _. FitsTwins K.key_of org.now ws.now version.now) (state S.Store tx.old.conn.now) (state S.Store tx.new.conn.now) result }
 {
     let text = version.text.as_slice();
     add_row(tx, org, ws, version)?;
@@ -151,8 +151,8 @@ fn count_on<S: Alter>(
     ws: &str,
     version: &Version,
 ) -> Result<(), Error>
-    ensures steps { StepsBy S.Store (numbered_rows org.now ws.now version.now) tx.old tx.new result }
-    ensures found { FindsIn org.now ws.now (state S.Store tx.old.conn.now) (state S.Store tx.new.conn.now) result }
+    ensures steps { Steps S.Store (numbered_rows org.now ws.now version.now) tx.old tx.new result }
+    ensures found { Tells (λ _ t. is_some (workspace_of org.now ws.now t) ≡ true) (state S.Store tx.old.conn.now) (state S.Store tx.new.conn.now) result }
 {
     let number = version.number.get();
     if !workspaces::set_next_version(tx, org, ws, number + 1)? {
@@ -168,7 +168,7 @@ fn forget<S: Alter>(
     ws: &str,
     last: Number,
 ) -> Result<(), Error>
-    ensures { StepsBy S.Store (gone_below org.now ws.now (last + 1)) tx.old tx.new result }
+    ensures { Steps S.Store (gone_below org.now ws.now (last + 1)) tx.old tx.new result }
 {
     let last = last.get();
     remove_below(tx, org, ws, last + 1)
@@ -182,7 +182,7 @@ fn configure<S: Alter>(
     settings: &Settings,
     outgoing: Option<Number>,
 ) -> Result<(), Error>
-    ensures { StepsBy S.Store (configured_rows org.now ws.now settings.now outgoing) tx.old tx.new result }
+    ensures { Steps S.Store (configured_rows org.now ws.now settings.now outgoing) tx.old tx.new result }
 {
     workspaces::set_run_settings(tx, org, ws, settings.runs)?;
     keepings::set(tx, org, ws, settings.keep_versions)?;
@@ -200,8 +200,8 @@ fn put<K: PageKey, S: Alter>(
     version: &Version,
     outgoing: Option<Number>,
 ) -> Result<(), Error>
-    ensures steps { StepsBy S.Store (versioned_rows K.key_of org.now ws.now version.now outgoing) tx.old tx.new result }
-    ensures takes { TellsIn (TakesVersion K.key_of org.now ws.now version.now) (state S.Store tx.old.conn.now) (state S.Store tx.new.conn.now) result }
+    ensures steps { Steps S.Store (versioned_rows K.key_of org.now ws.now version.now outgoing) tx.old tx.new result }
+    ensures takes { Tells (λ _. TakesVersion K.key_of org.now ws.now version.now) (state S.Store tx.old.conn.now) (state S.Store tx.new.conn.now) result }
 {
     count_on(tx, org, ws, version)?;
     add::<K, S>(tx, org, ws, version)?;
@@ -240,7 +240,7 @@ fn put_run<S: Alter>(
     ask: &RunAsk,
     created: Moment,
 ) -> Result<(), Error>
-    ensures { StepsBy S.Store (run_put org.now ws.now number ask.now created) tx.old tx.new result }
+    ensures { Steps S.Store (run_put org.now ws.now number ask.now created) tx.old tx.new result }
 {
     let key = optional_str(&ask.key);
     let message = ask.message.as_str();
@@ -265,8 +265,8 @@ fn count_run<S: Alter>(
     ws: &str,
     number: Number,
 ) -> Result<(), Error>
-    ensures steps { StepsBy S.Store (run_counted org.now ws.now number) tx.old tx.new result }
-    ensures found { FindsIn org.now ws.now (state S.Store tx.old.conn.now) (state S.Store tx.new.conn.now) result }
+    ensures steps { Steps S.Store (run_counted org.now ws.now number) tx.old tx.new result }
+    ensures found { Tells (λ _ t. is_some (workspace_of org.now ws.now t) ≡ true) (state S.Store tx.old.conn.now) (state S.Store tx.new.conn.now) result }
 {
     let number = number.get();
     if !workspaces::set_next_run(tx, org, ws, number + 1)? {
@@ -284,7 +284,7 @@ fn add_run<S: Alter>(
     ask: &RunAsk,
     created: Moment,
 ) -> Result<(), Error>
-    ensures { StepsBy S.Store (run_rows org.now ws.now number ask.now created) tx.old tx.new result }
+    ensures { Steps S.Store (run_rows org.now ws.now number ask.now created) tx.old tx.new result }
 {
     count_run(tx, org, ws, number)?;
     put_run(tx, org, ws, number, ask, created)
@@ -300,7 +300,7 @@ fn report<S: Alter>(
     status: RunStatus,
     frees: bool,
 ) -> Result<(), Error>
-    ensures { StepsBy S.Store (λ t. freed_rows frees org.now ws.now (run_acted status action org.now ws.now number t)) tx.old tx.new result }
+    ensures { Steps S.Store (λ t. freed_rows frees org.now ws.now (run_acted status action org.now ws.now number t)) tx.old tx.new result }
 {
     runs::record_action(tx, org, ws, number, status, action)?;
     if frees {
@@ -317,8 +317,8 @@ fn edit<K: PageKey, S: Alter>(
     ws: &str,
     edit: &Edit,
 ) -> Result<(), Error>
-    ensures steps { StepsBy S.Store (edited_rows K.key_of org.now ws.now edit.now) tx.old tx.new result }
-    ensures takes { TellsIn (TakesEdit K.key_of org.now ws.now edit.now) (state S.Store tx.old.conn.now) (state S.Store tx.new.conn.now) result }
+    ensures steps { Steps S.Store (edited_rows K.key_of org.now ws.now edit.now) tx.old tx.new result }
+    ensures takes { Tells (λ _. TakesEdit K.key_of org.now ws.now edit.now) (state S.Store tx.old.conn.now) (state S.Store tx.new.conn.now) result }
 {
     match edit {
         Edit::Make(settings) => make(tx, org, ws, settings),
@@ -349,7 +349,7 @@ fn start<S: Alter>(
     ws: &str,
     number: Number,
 ) -> Result<(), Error>
-    ensures { StepsBy S.Store (begun_rows org.now ws.now number) tx.old tx.new result }
+    ensures { Steps S.Store (begun_rows org.now ws.now number) tx.old tx.new result }
 {
     workspaces::hold_by_run(tx, org, ws, number)?;
     runs::set_status(tx, org, ws, number, RunStatus::Planning)
@@ -362,8 +362,8 @@ pub(crate) fn change<K: PageKey, S: Alter>(
     ws: &str,
     change: &Change,
 ) -> Result<(), Error>
-    ensures steps { StepsBy S.Store (changed_rows K.key_of org.now ws.now change.now) tx.old tx.new result }
-    ensures takes { TellsIn (TakesEdit K.key_of org.now ws.now change.now.edit) (state S.Store tx.old.conn.now) (state S.Store tx.new.conn.now) result }
+    ensures steps { Steps S.Store (changed_rows K.key_of org.now ws.now change.now) tx.old tx.new result }
+    ensures takes { Tells (λ _. TakesEdit K.key_of org.now ws.now change.now.edit) (state S.Store tx.old.conn.now) (state S.Store tx.new.conn.now) result }
 {
     edit::<K, S>(tx, org, ws, &change.edit)?;
     match change.start {

@@ -4,9 +4,10 @@ ghost use Rattle.sqlite.specs.Held.{state};
 ghost use Rattle.sqlite.specs.State.{HasCleanDisk, KeepsCommit};
 ghost use Rattle.statements.specs.declared.making.TheConstants.{NEWEST};
 ghost use Rattle.statements.specs.Changes.{org_row_added, org_capped, token_added, token_removed};
+ghost use Rattle.statements.specs.Steps.{AnyRows};
 ghost use Rattle.tables.specs.Inner.Edits.{changed_rows, TakesEdit};
 ghost use Rattle.tables.specs.Inner.Making.{IsMade, StepsFrom};
-ghost use Rattle.tables.specs.Inner.Steps.{IsSettled, TransactsBy, TellsCommitted};
+ghost use Rattle.tables.specs.Inner.Steps.{IsSettled, Transacts};
 
 use crate::steps;
 use basis::{Bounds, Limit, Role};
@@ -70,8 +71,7 @@ pub(crate) fn change<K: PageKey, S: Alter>(
     requires idle { conn.old.in_transaction ≡ false }
     ensures idle { conn.new.in_transaction ≡ false }
     ensures so_far { HasCleanDisk (state S.Store conn.new) → HasCleanDisk (state S.Store conn.old) }
-    ensures done { TransactsBy (changed_rows K.key_of org.now ws.now change.now) (state S.Store conn.old) (state S.Store conn.new) result }
-    ensures takes { TellsCommitted (TakesEdit K.key_of org.now ws.now change.now.edit) (state S.Store conn.old) (state S.Store conn.new) result }
+    ensures done { Transacts (changed_rows K.key_of org.now ws.now change.now) (λ _. TakesEdit K.key_of org.now ws.now change.now.edit) (state S.Store conn.old) (state S.Store conn.new) result }
 {
     let mut tx = begin(conn);
     steps::change::<K, S>(&mut tx, org, ws, change)?;
@@ -87,7 +87,7 @@ pub(crate) fn add_organization<S: Alter>(
     requires idle { conn.old.in_transaction ≡ false }
     ensures idle { conn.new.in_transaction ≡ false }
     ensures so_far { HasCleanDisk (state S.Store conn.new) → HasCleanDisk (state S.Store conn.old) }
-    ensures done { TransactsBy (org_row_added org.now limit) (state S.Store conn.old) (state S.Store conn.new) result }
+    ensures done { Transacts (org_row_added org.now limit) (λ _. AnyRows) (state S.Store conn.old) (state S.Store conn.new) result }
 {
     let mut tx = begin(conn);
     organizations::add(&mut tx, org, limit)?;
@@ -103,7 +103,7 @@ pub(crate) fn set_limit<S: Alter>(
     requires idle { conn.old.in_transaction ≡ false }
     ensures idle { conn.new.in_transaction ≡ false }
     ensures so_far { HasCleanDisk (state S.Store conn.new) → HasCleanDisk (state S.Store conn.old) }
-    ensures done { TransactsBy (org_capped org.now limit) (state S.Store conn.old) (state S.Store conn.new) result }
+    ensures done { Transacts (org_capped org.now limit) (λ _. AnyRows) (state S.Store conn.old) (state S.Store conn.new) result }
 {
     let mut tx = begin(conn);
     organizations::set_cap(&mut tx, org, limit)?;
@@ -122,7 +122,7 @@ pub(crate) fn add_token<S: Alter>(
     requires idle { conn.old.in_transaction ≡ false }
     ensures idle { conn.new.in_transaction ≡ false }
     ensures so_far { HasCleanDisk (state S.Store conn.new) → HasCleanDisk (state S.Store conn.old) }
-    ensures done { TransactsBy (token_added org.now name.now digest.now role bounds.now.until bounds.now.prefix) (state S.Store conn.old) (state S.Store conn.new) result }
+    ensures done { Transacts (token_added org.now name.now digest.now role bounds.now.until bounds.now.prefix) (λ _. AnyRows) (state S.Store conn.old) (state S.Store conn.new) result }
 {
     let mut tx = begin(conn);
     tokens::add(&mut tx, org, name, digest, role, bounds)?;
@@ -138,7 +138,7 @@ pub(crate) fn remove_token<S: Alter>(
     requires idle { conn.old.in_transaction ≡ false }
     ensures idle { conn.new.in_transaction ≡ false }
     ensures so_far { HasCleanDisk (state S.Store conn.new) → HasCleanDisk (state S.Store conn.old) }
-    ensures done { TransactsBy (token_removed org.now name.now) (state S.Store conn.old) (state S.Store conn.new) result }
+    ensures done { Transacts (token_removed org.now name.now) (λ _. AnyRows) (state S.Store conn.old) (state S.Store conn.new) result }
 {
     let mut tx = begin(conn);
     tokens::remove(&mut tx, org, name)?;

@@ -14,8 +14,9 @@ use Rattle.statements.specs.Calls.{IsQuery, FirstRows}
 use Rattle.statements.proofs.ReadBack.{number_read}
 use Rattle.statements.proofs.Taking.{Takes, takes_none, takes_all, takes_more, calm_failed}
 use Rattle.sqlite.proofs.InsideLemmas.{unchanged_keeps}
-use Rattle.pages.specs.Pages.{LeavesAsIs}
-use Rattle.pages.proofs.Looking.{clean_before, one_look, looks_then}
+use Rattle.statements.specs.Steps.{LeavesAsIs}
+use Rattle.statements.proofs.Transactions.{clean_before}
+use Rattle.pages.proofs.Looking.{one_look, looks_then}
 use Rattle.texts.proofs.Many.{nothing_more}
 use Rattle.texts.specs.Inner.Calls.{ShowsPlace, AreInTurn}
 use Rattle.texts.proofs.NextPiece.{none_there, there_more, joined_more}

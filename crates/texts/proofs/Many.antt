@@ -1,72 +1,41 @@
 -- Writes, and reads, one after another: what they leave and tell, be it none.
-use Rattle.std.proofs.Common.{◌≡◌, IsTrue, Option, Some, Result, Ok, Err, OnOk, OnErr, ◌∙◌}
+use Rattle.std.proofs.Common.{◌≡◌, IsTrue, Option, Some, Result, Ok, Err, OnOk, ◌∙◌}
 use Rattle.sqlite_trees.specs.declared.store.Store.{Ghosts}
-use Rattle.sqlite.specs.Held.{state}
-use Rattle.sqlite.specs.declared.transaction.Transaction.{Transaction}
+use Rattle.sqlite.specs.Held.{Held, state}
 use Rattle.sqlite.specs.State.{State, HasCleanDisk, IsUnchanged, KeepsCommit}
-use Rattle.statements.specs.Steps.{Moves, ChangesBy, WritesBy}
+use Rattle.statements.specs.Steps.{AnyRows, LeavesAsIs, Moves, Queries, Sees}
 use Rattle.statements.specs.Tables.{Tables, Holds}
-use Rattle.statements.proofs.Transactions as one_by_one
-use Rattle.pages.specs.Pages.{LeavesAsIs}
-use Rattle.pages.proofs.Looking.{clean_before, as_it_is, one_look, looks_then, still_holds, moved_behind}
-use Rattle.texts.specs.Steps.{WritesAllBy}
+use Rattle.statements.proofs.Transactions.{clean_before, moves_then}
+use Rattle.pages.proofs.Looking.{as_it_is, one_look, looks_then, still_holds, failed_behind, moved_behind}
 
 -- whatever holds, holds where a call was done
 pub when_done : {X E : Type 0} {P : Type 0} (result : Result X E) → P → OnOk result P
 when_done (Ok x) is = is
 when_done (Err e) is = tt
 
--- a write, and then the last one, which may fail, or writes that may be none
-pub moves_then : {X E : Type 0} (f g : Tables → Tables) (a b c : State) (result : Result X E) → Moves f a b → OnOk result (Moves g b c) × OnErr result (KeepsCommit b c)
-    → OnOk result (Moves (λ t. g (f t)) a c) × OnErr result (KeepsCommit a c)
-moves_then f g a b c (Ok x) one last = (one_by_one.moves_then f g a b c one last.0, tt)
-moves_then f g a b c (Err e) one last = (tt, record { was_open = λ _. one.was_open; committed = λ is. last.1.committed is ∙ one.committed })
-
-pub changes_then : {X E : Type 0} (f g : Tables → Tables) (a b c : State) (result : Result X E) → (HasCleanDisk b → IsTrue a.in_transaction → Moves f a b) → (IsTrue b.is_open → ChangesBy g b c result)
-    → (HasCleanDisk c → HasCleanDisk b) → ChangesBy (λ t. g (f t)) a c result
-changes_then f g a b c result one last before clean inside =
-    let first = one (before clean) inside in
-    moves_then f g a b c result first (last first.is_open clean first.inside)
-
 -- the same write by another name, where rows that are there say so
-pub moves_as : (f g : Tables → Tables) (a b : State) → ((t : Tables) → Holds a.now t → f t ≡ g t) → Moves f a b → Moves g a b
+pub moves_as : (f g : Tables → Tables) (a b : State) → ((t : Tables) → Holds a.now t → f t ≡ g t) → Moves AnyRows f a b → Moves AnyRows g a b
 moves_as f g a b is moved = moved_behind f g a a b (as_it_is a) is moved
-
--- ---- as one clause
-
-module _ {S : Type 0} (g : Ghosts S) where
-  -- one write is a case of many
-  pub writes_all : {X E : Type 0} (f : Tables → Tables) (a b : Transaction S) (result : Result X E) → WritesBy g f a b result → WritesAllBy g f a b result
-  writes_all f a b result one =
-      record { same_reference = one.same_reference; changed = λ _. one.changed; so_far = clean_before (state g a.conn.now) (state g b.conn.now) _ one.survives }
-
-  -- writes, and then others
-  pub writes_then : {X Y E F : Type 0} (f h : Tables → Tables) (a b c : Transaction S) (x : X) (result : Result Y F) → WritesAllBy {E = E} g f a b (Ok x) → WritesAllBy g h b c result → WritesAllBy g (λ t. h (f t)) a c result
-  writes_then f h a b c x result one last = record {
-    same_reference = last.same_reference ∙ one.same_reference;
-    changed = λ open_is. changes_then f h (state g a.conn.now) (state g b.conn.now) (state g c.conn.now) result (λ clean inside. (one.changed open_is clean inside).0) last.changed last.so_far;
-    so_far = λ clean. one.so_far (last.so_far clean);
-  }
 
 -- ---- writes so far
 
 -- What was done so far, on a connection that was open, and what it tells of the rows before it.
 pub record WritesSoFar (change : Tables → Tables) (law : Tables → Type 0) (old new : State) : Type 0 where
   pub so_far : HasCleanDisk new → HasCleanDisk old
-  pub moves : HasCleanDisk new → IsTrue old.is_open → IsTrue old.in_transaction → Moves change old new
+  pub moves : HasCleanDisk new → IsTrue old.is_open → IsTrue old.in_transaction → Moves AnyRows change old new
   pub told : HasCleanDisk new → IsTrue old.is_open → IsTrue old.in_transaction → (t : Tables) → Holds old.now t → law t
 
 -- one more
 pub writes_more : (f g h : Tables → Tables) (law next told : Tables → Type 0) (a b c : State) → ((t : Tables) → g (f t) ≡ h t) → ((t : Tables) → law t → next (f t) → told t)
-    → WritesSoFar f law a b → (HasCleanDisk c → HasCleanDisk b) → (HasCleanDisk c → IsTrue b.in_transaction → Moves g b c × ((t : Tables) → Holds b.now t → next t)) → WritesSoFar h told a c
+    → WritesSoFar f law a b → (HasCleanDisk c → HasCleanDisk b) → (HasCleanDisk c → IsTrue b.in_transaction → Moves AnyRows g b c × ((t : Tables) → Holds b.now t → next t)) → WritesSoFar h told a c
 writes_more f g h law next told a b c is tells some before last = record {
   so_far = λ clean. some.so_far (before clean);
   moves = λ clean open_is inside.
       let one = some.moves (before clean) open_is inside in
-      moves_as (λ t. g (f t)) h a c (λ t holds. is t) (one_by_one.moves_then f g a b c one (last clean one.inside).0);
+      moves_as (λ t. g (f t)) h a c (λ t holds. is t) (moves_then AnyRows AnyRows f g a b c (λ t any. any) one (last clean one.inside).0);
   told = λ clean open_is inside t holds.
       let one = some.moves (before clean) open_is inside in
-      tells t (some.told (before clean) open_is inside t holds) ((last clean one.inside).1 (f t) (one.rows t holds));
+      tells t (some.told (before clean) open_is inside t holds) ((last clean one.inside).1 (f t) (one.rows t holds tt));
 }
 
 -- ---- reads so far
@@ -96,3 +65,44 @@ reads_failed a b c look kept = record { was_open = λ is. look.was_open (kept.wa
 -- what failed behind reads was no read
 pub nothing_more : (a b : State) → LeavesAsIs a b → KeepsCommit a b
 nothing_more a b look = record { was_open = look.was_open; committed = λ _. look.committed }
+
+-- ---- reads as one clause
+
+module _ {S : Type 0} (g : Ghosts S) where
+  -- one query is a case of many
+  pub sees_by : {X E : Type 0} (says : X → Tables → Type 0) (a b : Held S) (result : Result X E) → Queries g says a b result → Sees g says a b result
+  sees_by says a b (Ok x) one = record {
+    mode = one.mode;
+    sees = λ clean. let read = one.read clean in (read.0, (one_look (state g a) (state g b) read.1.0, tt));
+    so_far = clean_before (state g a) (state g b) _ one.survives;
+  }
+  sees_by says a b (Err e) one = record {
+    mode = one.mode;
+    sees = λ clean. (tt, (tt, failed_behind (state g a) (state g a) (state g b) (as_it_is (state g a)) (one.read clean).1.1));
+    so_far = clean_before (state g a) (state g b) _ one.survives;
+  }
+
+  -- reads, and then others: what they tell together
+  pub sees_then : {X Y E F : Type 0} (P : X → Tables → Type 0) (Q R : Y → Tables → Type 0) (a b c : Held S) (x : X) (result : Result Y F) → ((y : Y) (t : Tables) → P x t → Q y t → R y t)
+      → Sees {E = E} g P a b (Ok x) → Sees g Q b c result → Sees g R a c result
+  sees_then P Q R a b c x (Ok y) means one last = record {
+    mode = λ idle. last.mode (one.mode idle);
+    sees = λ clean.
+        let first = one.sees (last.so_far clean) in
+        let second = last.sees clean in
+        (λ t holds. means y t (first.0 t holds) (second.0 t (still_holds (state g a) (state g b) first.1.0 t holds)), (looks_then (state g a) (state g b) (state g c) first.1.0 second.1.0, tt));
+    so_far = λ clean. one.so_far (last.so_far clean);
+  }
+  sees_then P Q R a b c x (Err e) means one last = record {
+    mode = λ idle. last.mode (one.mode idle);
+    sees = λ clean. (tt, (tt, reads_failed (state g a) (state g b) (state g c) (one.sees (last.so_far clean)).1.0 (last.sees clean).1.1));
+    so_far = λ clean. one.so_far (last.so_far clean);
+  }
+
+  -- what was read, as it is shown
+  pub sees_as : {X Z E F : Type 0} (P : X → Tables → Type 0) (R : Z → Tables → Type 0) (a b : Held S) (x : X) (z : Z) → ((t : Tables) → P x t → R z t) → Sees {E = E} g P a b (Ok x) → Sees {E = F} g R a b (Ok z)
+  sees_as P R a b x z means one = record {
+    mode = one.mode;
+    sees = λ clean. let seen = one.sees clean in (λ t holds. means t (seen.0 t holds), (seen.1.0, tt));
+    so_far = one.so_far;
+  }

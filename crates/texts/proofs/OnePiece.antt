@@ -3,7 +3,7 @@ use Rattle.std.proofs.Common.{◌≡◌, ◌<◌, ℕ, true, List, is_some, Opti
 use Rattle.std.specs.Prelude.{find}
 use Rattle.sqlite.specs.State.{State, IsUnchanged, KeepsCommit}
 use Rattle.sqlite.proofs.Callers.{unchanged_then}
-use Rattle.statements.specs.Steps.{Moves}
+use Rattle.statements.specs.Steps.{AnyRows, Moves}
 use Rattle.statements.specs.Tables.{Tables, Holds}
 use Rattle.pages.specs.Rows.{is_page, page_bytes}
 use Rattle.pages.specs.Pages.{pages_in, HasSoundPages, ReleasesPage}
@@ -27,12 +27,12 @@ pub told_fits : (key_of : List ℕ → List ℕ) (piece : List ℕ) (twin : ℕ)
 told_fits key_of piece twin t twin_is low = subst (λ m. m < twin_limit) twin_is low
 
 -- a page of which a use was taken, behind the row that goes
-pub released_was_there : {X E : Type 0} (org ws : List ℕ) (n place : ℕ) (key : List ℕ) (twin : ℕ) (g : Tables → Tables) (a b c : State) (result : Result X E) → Moves (place_removed org ws n place) a b
-    → OnOk result (Moves g b c) → OnOk result ((t u : Tables) → Holds b.now t → Holds c.now u → ReleasesPage key twin (pages_in t) (pages_in u) × (HasSoundPages t → HasSoundPages u))
+pub released_was_there : {X E : Type 0} (org ws : List ℕ) (n place : ℕ) (key : List ℕ) (twin : ℕ) (g : Tables → Tables) (a b c : State) (result : Result X E) → Moves AnyRows (place_removed org ws n place) a b
+    → OnOk result (Moves AnyRows g b c) → OnOk result ((t u : Tables) → Holds b.now t → Holds c.now u → ReleasesPage key twin (pages_in t) (pages_in u) × (HasSoundPages t → HasSoundPages u))
     → OnOk result ((t : Tables) → Holds a.now t → IsSome (page_bytes key twin t))
 released_was_there org ws n place key twin g a b c (Ok x) removed moved releases = λ t holds.
-    let left = removed.rows t holds in
-    let released = releases (place_removed org ws n place t) (g (place_removed org ws n place t)) left (moved.rows (place_removed org ws n place t) left) in
+    let left = removed.rows t holds tt in
+    let released = releases (place_removed org ws n place t) (g (place_removed org ws n place t)) left (moved.rows (place_removed org ws n place t) left tt) in
     some_of _ (λ x. x.1.bytes) (find (is_page key twin) t.pages) released.0.page.0 released.0.page.1
 released_was_there org ws n place key twin g a b c (Err e) removed moved releases = tt
 

@@ -26,7 +26,7 @@ use Rattle.statements.proofs.Own.{stored_tree}
 use Rattle.statements.proofs.ReadBack.{number_read, blob_read}
 use Rattle.statements.proofs.Conditions.{two_texts_number}
 use Rattle.pages.specs.Rows.{is_page}
-use Rattle.pages.specs.Pages.{LeavesAsIs}
+use Rattle.statements.specs.Steps.{LeavesAsIs}
 use Rattle.pages.proofs.PageWrites.{blob_number}
 use Rattle.texts.specs.Texts.{is_place_of, is_place, page_name, bytes_named, piece_of, joined, AreThere}
 use Rattle.texts.specs.Inner.Calls.{ShowsPlace, AreInTurn}

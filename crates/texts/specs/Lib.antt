@@ -1,3 +1,2 @@
 pub mod Inner
-pub mod Steps
 pub mod Texts

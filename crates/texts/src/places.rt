@@ -2,7 +2,7 @@
 ghost use Rattle.std.specs.Prelude.{◌≡◌, ◌<◌, ◌^◌};
 ghost use Rattle.sqlite.specs.Held.{state};
 ghost use Rattle.sqlite.specs.State.{Survives};
-ghost use Rattle.statements.specs.Steps.{WritesBy, QueriesBy, ReadsBy};
+ghost use Rattle.statements.specs.Steps.{AnyRows, Equals, Writes, Reads, Queries};
 ghost use Rattle.texts.specs.Texts.{place_added, place_removed, page_at};
 
 use basis::Number;
@@ -25,7 +25,7 @@ pub(crate) fn add<'v, S: Alter>(
 ) -> Result<(), Error>
     requires place_fits { place < 2 ^ 63 }
     requires twin_fits { twin < 2 ^ 63 }
-    ensures { WritesBy S.Store (place_added org.now ws.now number place key.now twin) tx.old tx.new result }
+    ensures { Writes S.Store AnyRows (place_added org.now ws.now number place key.now twin) tx.old tx.new result }
 {
     let number = number.get();
     let place = signed(place);
@@ -45,7 +45,7 @@ pub(crate) fn remove<S: Alter>(
     place: u64,
 ) -> Result<(), Error>
     requires place_fits { place < 2 ^ 63 }
-    ensures { WritesBy S.Store (place_removed org.now ws.now number place) tx.old tx.new result }
+    ensures { Writes S.Store AnyRows (place_removed org.now ws.now number place) tx.old tx.new result }
 {
     let number = number.get();
     let place = signed(place);
@@ -64,7 +64,7 @@ pub(crate) fn find<S: Alter>(
     place: u64,
 ) -> Result<Option<PageId>, Error>
     requires place_fits { place < 2 ^ 63 }
-    ensures { QueriesBy S.Store (page_at org.now ws.now number place) conn.old conn.new result }
+    ensures { Queries S.Store (Equals (page_at org.now ws.now number place)) conn.old conn.new result }
 {
     let number = number.get();
     let place = signed(place);
@@ -82,7 +82,7 @@ pub(crate) fn find_inside<S: Alter>(
 ) -> Result<Option<PageId>, Error>
     requires place_fits { place < 2 ^ 63 }
     ensures same_reference { tx.new.conn.ghost_name ≡ tx.old.conn.ghost_name }
-    ensures read { ReadsBy (page_at org.now ws.now number place) (state S.Store tx.old.conn.now) (state S.Store tx.new.conn.now) result }
+    ensures read { Reads (Equals (page_at org.now ws.now number place)) (state S.Store tx.old.conn.now) (state S.Store tx.new.conn.now) result }
     ensures survives { Survives (state S.Store tx.old.conn.now) (state S.Store tx.new.conn.now) (λ _. ⊥) }
 {
     let number = number.get();

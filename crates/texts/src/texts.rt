@@ -2,12 +2,11 @@
 ghost use Rattle.std.specs.Prelude.{◌≡◌, ◌<◌, ◌≤◌, ◌*◌, ◌^◌, length, false, IsTrue, IsSome, IfOk, OnOk};
 ghost use Rattle.sqlite.specs.Held.{state};
 ghost use Rattle.sqlite.specs.State.{HasCleanDisk};
-ghost use Rattle.statements.specs.Steps.{ChangesBy};
+ghost use Rattle.statements.specs.Steps.{Equals, Steps, Tells, Sees};
 ghost use Rattle.statements.specs.Tables.{Tables, Holds};
 ghost use Rattle.pages.specs.Pages.{GetsBy};
 ghost use Rattle.pages.specs.Puts.{twin_limit, twin_for};
 ghost use Rattle.texts.specs.Texts.{pages_for, piece_at, text_added, TwinsFit, bytes_named, piece_of, piece_removed, text_removed, WereThere, AreThere, text_of, are_pieces};
-ghost use Rattle.texts.specs.Steps.{WritesAllBy, TellsBefore, QueriesAllBy};
 ghost use Rattle.texts.specs.Inner.Calls.{piece_placed, named_removed, is_piece_of};
 
 use crate::places::{add, find, find_inside, remove};
@@ -54,10 +53,8 @@ fn add_piece<K: PageKey, S: Alter>(
     piece: &[u8],
 ) -> Result<(), Error>
     requires place_fits { place < 2 ^ 63 }
-    ensures same_reference { tx.new.conn.ghost_name ≡ tx.old.conn.ghost_name }
-    ensures changed { ChangesBy (piece_placed K.key_of org.now ws.now number place piece.now) (state S.Store tx.old.conn.now) (state S.Store tx.new.conn.now) result }
+    ensures steps { Steps S.Store (piece_placed K.key_of org.now ws.now number place piece.now) tx.old tx.new result }
     ensures fits { HasCleanDisk (state S.Store tx.new.conn.now) → OnOk result ((t : Tables) → Holds (state S.Store tx.old.conn.now).now t → twin_for (K.key_of piece.now) piece.now t < twin_limit) }
-    ensures so_far { HasCleanDisk (state S.Store tx.new.conn.now) → HasCleanDisk (state S.Store tx.old.conn.now) }
 {
     let id = put::<K, S>(tx, piece)?;
     add(tx, org, ws, number, place, id.key.as_slice(), id.twin)
@@ -72,8 +69,10 @@ pub fn add_text<K: PageKey, S: Alter>(
     number: Number,
     text: &[u8],
 ) -> Result<(), Error>
-    ensures writes { WritesAllBy S.Store (text_added K.key_of org.now ws.now number text.now) tx.old tx.new result }
-    ensures fits { TellsBefore (TwinsFit K.key_of org.now ws.now number text.now (pages_for (length text.now))) (state S.Store tx.old.conn.now) (state S.Store tx.new.conn.now) result }
+    ensures same_reference { tx.new.conn.ghost_name ≡ tx.old.conn.ghost_name }
+    ensures steps { IsTrue (state S.Store tx.old.conn.now).is_open → Steps S.Store (text_added K.key_of org.now ws.now number text.now) tx.old tx.new result }
+    ensures fits { IsTrue (state S.Store tx.old.conn.now).is_open → Tells (λ _. TwinsFit K.key_of org.now ws.now number text.now (pages_for (length text.now))) (state S.Store tx.old.conn.now) (state S.Store tx.new.conn.now) result }
+    ensures so_far { HasCleanDisk (state S.Store tx.new.conn.now) → HasCleanDisk (state S.Store tx.old.conn.now) }
 {
     let pages = pages_for(text.len() as u64);
     'places: for place in 0..pages {
@@ -91,10 +90,8 @@ fn remove_named<S: Alter>(
     id: Option<PageId>,
 ) -> Result<(), Error>
     requires place_fits { place < 2 ^ 63 }
-    ensures same_reference { tx.new.conn.ghost_name ≡ tx.old.conn.ghost_name }
-    ensures changed { ChangesBy (named_removed org.now ws.now number place id) (state S.Store tx.old.conn.now) (state S.Store tx.new.conn.now) result }
-    ensures there { HasCleanDisk (state S.Store tx.new.conn.now) → IsTrue (state S.Store tx.old.conn.now).in_transaction → OnOk result ((t : Tables) → Holds (state S.Store tx.old.conn.now).now t → IsSome (bytes_named id t)) }
-    ensures so_far { HasCleanDisk (state S.Store tx.new.conn.now) → HasCleanDisk (state S.Store tx.old.conn.now) }
+    ensures steps { Steps S.Store (named_removed org.now ws.now number place id) tx.old tx.new result }
+    ensures there { Tells (λ _ t. IsSome (bytes_named id t)) (state S.Store tx.old.conn.now) (state S.Store tx.new.conn.now) result }
 {
     match id {
         Some(id) => {
@@ -114,10 +111,8 @@ fn remove_piece<S: Alter>(
     place: u64,
 ) -> Result<(), Error>
     requires place_fits { place < 2 ^ 63 }
-    ensures same_reference { tx.new.conn.ghost_name ≡ tx.old.conn.ghost_name }
-    ensures changed { ChangesBy (piece_removed org.now ws.now number place) (state S.Store tx.old.conn.now) (state S.Store tx.new.conn.now) result }
-    ensures there { HasCleanDisk (state S.Store tx.new.conn.now) → IsTrue (state S.Store tx.old.conn.now).in_transaction → OnOk result ((t : Tables) → Holds (state S.Store tx.old.conn.now).now t → IsSome (piece_of org.now ws.now number place t)) }
-    ensures so_far { HasCleanDisk (state S.Store tx.new.conn.now) → HasCleanDisk (state S.Store tx.old.conn.now) }
+    ensures steps { Steps S.Store (piece_removed org.now ws.now number place) tx.old tx.new result }
+    ensures there { Tells (λ _ t. IsSome (piece_of org.now ws.now number place t)) (state S.Store tx.old.conn.now) (state S.Store tx.new.conn.now) result }
 {
     let found = find_inside(tx, org, ws, number, place)?;
     remove_named(tx, org, ws, number, place, found)
@@ -131,8 +126,10 @@ pub fn remove_text<S: Alter>(
     number: Number,
     size: u64,
 ) -> Result<(), Error>
-    ensures writes { WritesAllBy S.Store (text_removed org.now ws.now number size) tx.old tx.new result }
-    ensures there { TellsBefore (WereThere org.now ws.now number (pages_for size)) (state S.Store tx.old.conn.now) (state S.Store tx.new.conn.now) result }
+    ensures same_reference { tx.new.conn.ghost_name ≡ tx.old.conn.ghost_name }
+    ensures steps { IsTrue (state S.Store tx.old.conn.now).is_open → Steps S.Store (text_removed org.now ws.now number size) tx.old tx.new result }
+    ensures there { IsTrue (state S.Store tx.old.conn.now).is_open → Tells (λ _. WereThere org.now ws.now number (pages_for size)) (state S.Store tx.old.conn.now) (state S.Store tx.new.conn.now) result }
+    ensures so_far { HasCleanDisk (state S.Store tx.new.conn.now) → HasCleanDisk (state S.Store tx.old.conn.now) }
 {
     let pages = pages_for(size);
     'places: for place in 0..pages {
@@ -150,7 +147,7 @@ pub fn text<S: Alter>(
     number: Number,
     size: u64,
 ) -> Result<Bytes, Error>
-    ensures queries { QueriesAllBy S.Store (text_of org.now ws.now number size) conn.old conn.new result }
+    ensures queries { Sees S.Store (Equals (text_of org.now ws.now number size)) conn.old conn.new result }
     ensures there { HasCleanDisk (state S.Store conn.new) → OnOk result ((t : Tables) → Holds (state S.Store conn.old).now t → AreThere org.now ws.now number (pages_for size) t) }
 {
     read_whole(alloc, conn, org, ws, number, pages_for(size), size as usize)
@@ -187,7 +184,7 @@ pub fn same_text<S: Alter>(
     number: Number,
     text: &[u8],
 ) -> Result<bool, Error>
-    ensures queries { QueriesAllBy S.Store (are_pieces org.now ws.now number text.now (pages_for (length text.now))) conn.old conn.new result }
+    ensures queries { Sees S.Store (Equals (are_pieces org.now ws.now number text.now (pages_for (length text.now)))) conn.old conn.new result }
     ensures there { HasCleanDisk (state S.Store conn.new) → IfOk result (λ same. IsTrue same → (t : Tables) → Holds (state S.Store conn.old).now t → AreThere org.now ws.now number (pages_for (length text.now)) t) }
 {
     let pages = pages_for(text.len() as u64);

@@ -7,10 +7,10 @@ ghost use Rattle.sqlite.specs.Held.{state};
 ghost use Rattle.sqlite.specs.State.{HasCleanDisk, Shown};
 ghost use Rattle.statements.specs.Rows.{number};
 ghost use Rattle.statements.specs.Calls.{IsQuery};
+ghost use Rattle.statements.specs.Steps.{Equals, Sees};
 ghost use Rattle.statements.specs.Tables.{Tables, Holds};
 ghost use Rattle.pages.specs.Inner.Calls.{OnlyLooks};
 ghost use Rattle.texts.specs.Texts.{joined, AreThere};
-ghost use Rattle.texts.specs.Steps.{QueriesAllBy};
 ghost use Rattle.texts.specs.Inner.Calls.{AreInTurn};
 
 use basis::{Bytes, Number};
@@ -74,7 +74,7 @@ pub(crate) fn read_whole<S: Alter>(
     places: u64,
     size: usize,
 ) -> Result<Bytes, Error>
-    ensures queries { QueriesAllBy S.Store (joined org.now ws.now number places) conn.old conn.new result }
+    ensures queries { Sees S.Store (Equals (joined org.now ws.now number places)) conn.old conn.new result }
     ensures there { HasCleanDisk (state S.Store conn.new) → OnOk result ((t : Tables) → Holds (state S.Store conn.old).now t → AreThere org.now ws.now number places t) }
 {
     let number = number.get();

@@ -4,10 +4,10 @@ use Rattle.sqlite_value.specs.Order.{Row, column}
 use Rattle.sqlite.specs.State.{State, HasCleanDisk, KeepsCommit}
 use Rattle.statements.specs.Rows.{number}
 use Rattle.statements.specs.Calls.{IsFlagCell}
+use Rattle.statements.specs.Steps.{LeavesAsIs}
 use Rattle.statements.specs.Tables.{Tables, Holds}
 use Rattle.pages.specs.declared.rows.FirstPage.{FirstPage}
 use Rattle.pages.specs.declared.rows.PageUse.{PageUse}
-use Rattle.pages.specs.Pages.{LeavesAsIs}
 use Rattle.pages.specs.Puts.{twin_for, page_put}
 use Rattle.pages.specs.Rows.{page_added, page_used}
 

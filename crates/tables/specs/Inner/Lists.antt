@@ -1,7 +1,6 @@
 -- What lists read of the rows.
-use Rattle.std.specs.Prelude.{◌≡◌, ◌==◌, cond, ℕ, false, List, map, Option, Some, None, option_map, IsTrue, Result, IfOk, OnOk, OnErr}
+use Rattle.std.specs.Prelude.{◌==◌, cond, ℕ, List, map, Option, Some, None, option_map}
 use Rattle.std.specs.Option.{unwrap_or}
-use Rattle.sqlite.specs.State.{State, HasCleanDisk, KeepsCommit}
 use Rattle.basis.specs.Listings.{listing_of}
 use Rattle.basis.specs.declared.numbers.TheConstants.{FIRST_KEPT}
 use Rattle.basis.specs.declared.rows.Listing.{Listing}
@@ -18,25 +17,8 @@ use Rattle.statements.specs.declared.rows.NamedWorkspace.{NamedWorkspace}
 use Rattle.statements.specs.declared.rows.Organization.{Organization as OrganizationCells}
 use Rattle.statements.specs.Finds.{cap_of, newest_of, workspaces_of}
 use Rattle.statements.specs.Listings.{organizations_in, token_rows_of, workspace_rows_after, version_rows_after, run_rows_after}
-use Rattle.statements.specs.Tables.{Tables, Holds}
-use Rattle.tables.specs.Inner.Looks.{StaysSeen}
+use Rattle.statements.specs.Tables.{Tables}
 use Rattle.tables.specs.Records.{settings_of_cells, caller_with, bounds_at}
-
--- no row changes, and the value is that of rows that obey a law; after a failure nothing is committed
-abbrev pub SeesWhere : {X E : Type 0} → (Tables → Type 0) → (Tables → X) → State → State → Result X E → Type 0
-SeesWhere law read old new result =
-    HasCleanDisk new → IfOk result (λ x. IsTrue new.is_open → (t : Tables) → Holds old.now t → law t → x ≡ read t) × (OnOk result (StaysSeen old new) × OnErr result (KeepsCommit old new))
-
--- such a look by queries: no transaction begins, and the disk was clean so far
-pub record SeesLawful {X E : Type 0} (law : Tables → Type 0) (read : Tables → X) (old new : State) (result : Result X E) : Type 0 where
-  pub mode : old.in_transaction ≡ false → new.in_transaction ≡ false
-  pub so_far : HasCleanDisk new → HasCleanDisk old
-  pub sees : SeesWhere law read old new result
-
--- such a look at the committed rows
-abbrev pub LooksWhere : {X E : Type 0} → (Tables → Type 0) → (Tables → X) → State → State → Result X E → Type 0
-LooksWhere law read old new result =
-    HasCleanDisk new → IfOk result (λ x. IsTrue old.is_open × ((t : Tables) → Holds old.committed t → law t → x ≡ read t)) × KeepsCommit old new
 
 -- one row more than a listing has is asked for: it tells whether more follow
 abbrev pub asked_rows : ℕ

@@ -1,6 +1,5 @@
--- What looks at a store leave and give.
-use Rattle.std.specs.Prelude.{◌≡◌, ℕ, false, cond, List, Option, IsTrue, Result, IfOk, OnOk, OnErr}
-use Rattle.sqlite.specs.State.{State, HasCleanDisk, KeepsCommit}
+-- What looks at a store give.
+use Rattle.std.specs.Prelude.{ℕ, cond, List, Option}
 use Rattle.std.specs.Option.{unwrap_or}
 use Rattle.machine.specs.Needs.{Needed}
 use Rattle.machine.specs.Units.{if_needed}
@@ -10,33 +9,11 @@ use Rattle.machine.specs.declared.acts.WorkspaceUnit.{WorkspaceUnit}
 use Rattle.basis.specs.declared.rows.Holder.{Holder}
 use Rattle.statements.specs.declared.rows.Workspace.{Workspace as WorkspaceCells}
 use Rattle.statements.specs.Finds.{cap_of, workspaces_of, first_waiting_of, open_runs_of}
-use Rattle.statements.specs.Tables.{Tables, Holds}
+use Rattle.statements.specs.Tables.{Tables}
 use Rattle.tables.specs.Records.{settings_of_cells}
 use Rattle.tables.specs.Inner.Units.{holder_status_in, newest_in, keep_in, outgoing_in, has_version_in, asked_run_in}
 use Rattle.tables.specs.declared.looks.RunsAround.{RunsAround}
 use Rattle.tables.specs.declared.looks.Surroundings.{Surroundings}
-
--- no row changes, as long as the store isn't shut
-pub record StaysSeen (old new : State) : Type 0 where
-  pub was_open : IsTrue new.is_open → IsTrue old.is_open
-  pub is_open : IsTrue old.is_open → IsTrue new.is_open
-  pub now : IsTrue new.is_open → new.now ≡ old.now
-  pub committed : IsTrue new.is_open → new.committed ≡ old.committed
-
--- no row changes, and the value is that of the rows; after a failure nothing is committed
-abbrev pub SeesBy : {X E : Type 0} → (Tables → X) → State → State → Result X E → Type 0
-SeesBy read old new result =
-    HasCleanDisk new → IfOk result (λ x. IsTrue new.is_open → (t : Tables) → Holds old.now t → x ≡ read t) × (OnOk result (StaysSeen old new) × OnErr result (KeepsCommit old new))
-
--- a look at the tables by queries: no transaction begins, the disk was clean so far, no row changes, and the value is that of the rows
-pub record Sees {X E : Type 0} (read : Tables → X) (old new : State) (result : Result X E) : Type 0 where
-  pub mode : old.in_transaction ≡ false → new.in_transaction ≡ false
-  pub so_far : HasCleanDisk new → HasCleanDisk old
-  pub sees : SeesBy read old new result
-
--- a look: nothing is committed, and the value is that of the committed rows
-abbrev pub LooksBy : {X E : Type 0} → (Tables → X) → State → State → Result X E → Type 0
-LooksBy read old new result = HasCleanDisk new → IfOk result (λ x. IsTrue old.is_open × ((t : Tables) → Holds old.committed t → x ≡ read t)) × KeepsCommit old new
 
 -- how many workspaces an organization has and how many it may have, where the act makes one: if the first is known, they aren't counted
 abbrev pub absent_in : Needed → Option ℕ → List ℕ → Tables → Unit

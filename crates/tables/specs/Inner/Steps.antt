@@ -1,54 +1,33 @@
 -- What calls of a store do to the committed rows.
-use Rattle.std.specs.Prelude.{◌≡◌, ℕ, Bool, true, false, cond, ◌||◌, List, is_some, Option, Some, None, IsTrue, Result, IfOk, OnOk, OnErr}
-use Rattle.sqlite_trees.specs.declared.store.Store.{Ghosts}
-use Rattle.sqlite.specs.Held.{state}
+use Rattle.std.specs.Prelude.{◌≡◌, ℕ, Bool, cond, ◌||◌, List, is_some, Option, Some, None, IsTrue, Result, IfOk, OnErr}
 use Rattle.sqlite.specs.State.{State, HasCleanDisk, KeepsCommit}
-use Rattle.sqlite.specs.declared.transaction.Transaction.{Transaction}
 use Rattle.basis.specs.declared.roles.Role.{Role}
 use Rattle.basis.specs.declared.roles.Bounds.{Bounds}
 use Rattle.machine.specs.Effects.{Effect, effect}
 use Rattle.machine.specs.declared.keeps.AdminAnswer.{AdminAnswer}
 use Rattle.machine.specs.declared.keeps.AdminAnswer.TheVariants.{Done, Exists, Absent}
 use Rattle.statements.specs.Changes.{org_row_added, org_capped, token_added, token_removed}
-use Rattle.statements.specs.Finds.{cap_of, workspace_of, oldest_below, role_of_name, role_of_digest}
-use Rattle.statements.specs.Steps.{ChangesBy}
+use Rattle.statements.specs.Finds.{cap_of, role_of_name, role_of_digest}
 use Rattle.statements.specs.Tables.{Tables, Holds}
 
 -- between transactions nothing waits to be committed
 abbrev pub IsSettled : State → Type 0
 IsSettled s = IsTrue s.is_open → s.now ≡ s.committed
 
--- The change is committed.
-pub record Commits (change : Tables → Tables) (old new : State) : Type 0 where
+-- The change is committed, and this is told of the rows that were committed before it.
+pub record Commits (change : Tables → Tables) (told : Tables → Type 0) (old new : State) : Type 0 where
   pub rows : (t : Tables) → Holds old.committed t → Holds new.committed (change t)
+  pub tells : (t : Tables) → Holds old.committed t → told t
   pub was_open : IsTrue old.is_open
   pub is_open : IsTrue new.is_open
 
--- a step that is done tells this of the rows before it
-abbrev pub TellsIn : {X E : Type 0} → (Tables → Type 0) → State → State → Result X E → Type 0
-TellsIn law old new result = HasCleanDisk new → IsTrue old.in_transaction → OnOk result ((t : Tables) → Holds old.now t → law t)
-
--- a step that is done found a workspace
-abbrev pub FindsIn : {X E : Type 0} → List ℕ → List ℕ → State → State → Result X E → Type 0
-FindsIn org ws old new result = TellsIn (λ t. is_some (workspace_of org ws t) ≡ true) old new result
-
--- a step that is done and tells that there was none found none
-abbrev pub FindsOldest : {E : Type 0} → List ℕ → List ℕ → ℕ → State → State → Result Bool E → Type 0
-FindsOldest org ws below old new result = HasCleanDisk new → IsTrue old.in_transaction → IfOk result (λ found. found ≡ false → (t : Tables) → Holds old.now t → oldest_below org ws below t ≡ None)
-
--- A step of a transaction: the transaction stays that of the same connection, the rows change by the function, and the disk was clean so far.
-pub record StepsBy {S X E : Type 0} (g : Ghosts S) (change : Tables → Tables) (old new : Transaction S) (result : Result X E) : Type 0 where
-  pub same_reference : new.conn.ghost_name ≡ old.conn.ghost_name
-  pub changed : ChangesBy change (state g old.conn.now) (state g new.conn.now) result
-  pub so_far : HasCleanDisk (state g new.conn.now) → HasCleanDisk (state g old.conn.now)
-
 -- one transaction: its change is committed, or nothing is
-abbrev pub TransactsBy : {X E : Type 0} → (Tables → Tables) → State → State → Result X E → Type 0
-TransactsBy change old new result = HasCleanDisk new → OnOk result (Commits change old new) × OnErr result (KeepsCommit old new)
+abbrev pub Transacts : {X E : Type 0} → (Tables → Tables) → (X → Tables → Type 0) → State → State → Result X E → Type 0
+Transacts change says old new result = HasCleanDisk new → IfOk result (λ x. Commits change (says x) old new) × OnErr result (KeepsCommit old new)
 
--- a transaction that is done tells this of the rows that were committed before it
-abbrev pub TellsCommitted : {X E : Type 0} → (Tables → Type 0) → State → State → Result X E → Type 0
-TellsCommitted law old new result = HasCleanDisk new → OnOk result ((t : Tables) → Holds old.committed t → law t)
+-- looks at the committed rows, of which the result tells this: nothing is committed
+abbrev pub LooksAt : {X E : Type 0} → (X → Tables → Type 0) → State → State → Result X E → Type 0
+LooksAt says old new result = HasCleanDisk new → IfOk result (λ x. IsTrue old.is_open × ((t : Tables) → Holds old.committed t → says x t)) × KeepsCommit old new
 
 -- ---- an operator's commands: the answer, and the rows after it
 
@@ -87,11 +66,5 @@ abbrev pub revocation_managed : List ℕ → List ℕ → Tables → Effect Admi
 revocation_managed org name t = revocation_managed_by (role_of_name org name t) org name t
 
 -- the answer is that of the rows, and the rows after it are committed
-pub record Manages (command : Tables → Effect AdminAnswer Tables) (old new : State) (answer : AdminAnswer) : Type 0 where
-  pub answer_is : (t : Tables) → Holds old.committed t → answer ≡ (command t).answer
-  pub rows : (t : Tables) → Holds old.committed t → Holds new.committed (command t).left
-  pub was_open : IsTrue old.is_open
-  pub is_open : IsTrue new.is_open
-
 abbrev pub ManagesBy : {E : Type 0} → (Tables → Effect AdminAnswer Tables) → State → State → Result AdminAnswer E → Type 0
-ManagesBy command old new result = HasCleanDisk new → IfOk result (Manages command old new) × OnErr result (KeepsCommit old new)
+ManagesBy command old new result = Transacts (λ t. (command t).left) (λ answer t. answer ≡ (command t).answer) old new result

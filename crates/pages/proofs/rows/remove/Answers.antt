@@ -8,13 +8,17 @@ use Rattle.pages.proofs.PageWrites.{remove_page_does}
 use Rattle.pages.proofs.Referring.{spared_by, removed_is_sound}
 use Rattle.pages.proofs.rows.remove.Goals as goal
 
-pub returns-clause-changed : goal.returns-clause-changed
-returns-clause-changed g c clean inside =
-    let old = state g.S.Store c.args.tx.now.conn.now in
-    let new = state g.S.Store c.write.new.tx.conn.now in
-    moves_by (page_removed c.args.key.now c.args.twin) old new remove_page_text _ c.write.result
-    (rw (c.params-to_sql.ensures, c.params-to_sql-2.ensures, c.signed-twin.ensures, to_z-of_z w64 (pos c.args.twin) (record { sfits = c.requires.twin_fits })) at (c.write.ensures.runs clean inside))
-    (λ count t holds ran. remove_page_does old new count t holds c.args.key.now c.args.twin ran)
+pub returns-clause-writes : goal.returns-clause-writes
+returns-clause-writes g c = record {
+  same_reference = c.write.ensures.same_reference;
+  changed = λ clean inside.
+      let old = state g.S.Store c.args.tx.now.conn.now in
+      let new = state g.S.Store c.write.new.tx.conn.now in
+      moves_by (page_removed c.args.key.now c.args.twin) old new remove_page_text _ c.write.result
+      (rw (c.params-to_sql.ensures, c.params-to_sql-2.ensures, c.signed-twin.ensures, to_z-of_z w64 (pos c.args.twin) (record { sfits = c.requires.twin_fits })) at (c.write.ensures.runs clean inside))
+      (λ count t holds ran. remove_page_does old new count t holds c.args.key.now c.args.twin ran);
+  survives = c.write.ensures.survives;
+}
 
 pub returns-clause-spares : goal.returns-clause-spares
 returns-clause-spares g c clean inside =

@@ -1,21 +1,26 @@
-use Rattle.std.proofs.Common.{ap, arith}
+use Rattle.std.proofs.Common.{ap}
 use Rattle.sqlite.specs.Held.{state}
-use Rattle.sqlite.specs.State.{HasCleanDisk}
 use Rattle.pages.specs.Rows.{page_added}
 use Rattle.pages.specs.Puts.{free_twin}
+use Rattle.statements.proofs.Transactions.{clean_before}
 use Rattle.pages.proofs.Looking.{still_inside, moved_behind}
 use Rattle.pages.proofs.store.add_new.Goals as goal
 
-pub returns-clause-changed : goal.returns-clause-changed
-returns-clause-changed g c clean inside =
+pub returns-clause-steps : goal.returns-clause-steps
+returns-clause-steps g c =
     let key = c.args.key.now in
     let s0 = state g.S.Store c.args.tx.now.conn.now in
     let s1 = state g.S.Store c.free.new.tx.conn.now in
     let s2 = state g.S.Store c.add.new.tx.conn.now in
-    let clean1 : HasCleanDisk s1 = omega (arith, c.add.ensures.survives.clean) in
-    let look = (c.in_ok-twin.ensures.looks clean1).0 in
-    let told = c.in_ok-twin.ensures.twin clean1 in (
-      moved_behind (page_added key c.in_ok-twin.twin c.args.page.now) (λ t. page_added key (free_twin key t) c.args.page.now t) s0 s1 s2 look
-          (λ t holds. ap (λ n. page_added key n c.args.page.now t) (told t holds)) (c.in_ok-add.ensures.changed clean (still_inside s0 s1 look inside)).0,
-      tt,
-    )
+    let before = clean_before s1 s2 _ c.add.ensures.survives in
+    record {
+      same_reference = search;
+      changed = λ clean inside.
+          let look = (c.in_ok-twin.ensures.looks (before clean)).0 in
+          let told = c.in_ok-twin.ensures.twin (before clean) in (
+            moved_behind (page_added key c.in_ok-twin.twin c.args.page.now) (λ t. page_added key (free_twin key t) c.args.page.now t) s0 s1 s2 look
+                (λ t holds. ap (λ n. page_added key n c.args.page.now t) (told t holds)) (c.in_ok-add.ensures.changed clean (still_inside s0 s1 look inside)).0,
+            tt,
+          );
+      so_far = λ clean. c.free.ensures.so_far (before clean);
+    }

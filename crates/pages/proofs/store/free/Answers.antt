@@ -3,7 +3,8 @@ use Rattle.sqlite.specs.Held.{state}
 use Rattle.pages.specs.Rows.{page_uses}
 use Rattle.pages.specs.Puts.{twin_limit}
 use Rattle.pages.proofs.FreeTwins.{free_on, free_here, free_begin}
-use Rattle.pages.proofs.Looking.{clean_before, as_it_is, one_look, looks_then, still_holds}
+use Rattle.statements.proofs.Transactions.{clean_before}
+use Rattle.pages.proofs.Looking.{as_it_is, one_look, looks_then, still_holds}
 use Rattle.pages.proofs.store.free.Goals as goal
 
 pub twins-init : goal.twins-init

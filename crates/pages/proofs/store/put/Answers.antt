@@ -11,4 +11,4 @@ returns-clause-puts g c clean inside t u before after sound =
     let s1 = state g.S.Store c.put_under.new.tx.conn.now in
     let is : c.as_slice.result.now ≡ g.K.PageKey.key_of page = c.as_slice.ensures ∙ c.key-key.ensures in
     subst (λ key. PutsPage key page c.in_ok-twin.twin (pages_in t) (pages_in u) × HasSoundPages u) is
-    (puts_by c.as_slice.result.now page c.in_ok-twin.twin s0 s1 (c.in_ok-twin.ensures.changed clean inside).0 c.in_ok-twin.ensures.fits (c.in_ok-twin.ensures.twin clean) t u before after sound)
+    (puts_by c.as_slice.result.now page c.in_ok-twin.twin s0 s1 (c.in_ok-twin.ensures.steps.changed clean inside).0 c.in_ok-twin.ensures.fits (c.in_ok-twin.ensures.twin clean) t u before after sound)

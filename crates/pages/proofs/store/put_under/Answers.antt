@@ -3,20 +3,15 @@ use Rattle.sqlite.specs.Held.{state}
 use Rattle.pages.specs.Puts.{twin_for, page_put}
 use Rattle.pages.specs.Inner.Calls.{put_with, twin_with}
 use Rattle.pages.proofs.FirstPages.{put_with_is, twin_with_is}
-use Rattle.pages.proofs.Looking.{one_look, still_inside, done_behind, told_behind}
+use Rattle.pages.proofs.Looking.{one_look, step_behind, told_behind}
 use Rattle.pages.proofs.store.put_under.Goals as goal
 
-pub returns-clause-changed : goal.returns-clause-changed
-returns-clause-changed g c clean inside =
+pub returns-clause-steps : goal.returns-clause-steps
+returns-clause-steps g c =
     let key = c.args.key.now in
     let page = c.args.page.now in
-    let s0 = state g.S.Store c.args.tx.now.conn.now in
-    let s1 = state g.S.Store c.first.new.tx.conn.now in
-    let s2 = state g.S.Store c.put_with.new.tx.conn.now in
-    let read = c.in_ok-first.ensures.read (c.put_with.ensures.so_far clean) in
-    let look = one_look s0 s1 read.1.0 in
-    done_behind (put_with key page c.in_ok-first.first) (page_put key page) s0 s1 s2 c.put_with.result look (λ t holds. ap (λ o. put_with key page o t) (read.0 t holds) ∙ put_with_is key page t)
-    (c.put_with.ensures.changed clean (still_inside s0 s1 look inside))
+    step_behind g.S.Store c.args.tx.now c.first.new.tx c.first.ensures.same_reference c.first.ensures.survives (put_with key page c.in_ok-first.first) (page_put key page) c.put_with.new.tx c.put_with.result
+    (λ clean. let read = c.in_ok-first.ensures.read clean in (λ t holds. ap (λ o. put_with key page o t) (read.0 t holds) ∙ put_with_is key page t, read.1.0)) c.put_with.ensures.steps
 
 pub returns-clause-twin : goal.returns-clause-twin
 returns-clause-twin g c clean =
@@ -24,5 +19,5 @@ returns-clause-twin g c clean =
     let page = c.args.page.now in
     let s0 = state g.S.Store c.args.tx.now.conn.now in
     let s1 = state g.S.Store c.first.new.tx.conn.now in
-    let read = c.in_ok-first.ensures.read (c.put_with.ensures.so_far clean) in
+    let read = c.in_ok-first.ensures.read (c.put_with.ensures.steps.so_far clean) in
     told_behind (twin_with key page c.in_ok-first.first) (twin_for key page) s0 s1 c.put_with.result (one_look s0 s1 read.1.0) (λ t holds. ap (λ o. twin_with key page o t) (read.0 t holds) ∙ twin_with_is key page t) (c.put_with.ensures.twin clean)

@@ -3,7 +3,8 @@ use Rattle.sqlite.specs.Held.{state}
 use Rattle.machine.specs.declared.keeps.AdminAnswer.TheVariants.{Done, Exists}
 use Rattle.statements.specs.Changes.{org_row_added}
 use Rattle.tables.specs.Inner.Steps.{org_managed}
-use Rattle.tables.proofs.KeepManaged.{manages_none, manages_one, unchanged_stays, org_there, org_missing}
+use Rattle.pages.proofs.Looking.{one_look}
+use Rattle.tables.proofs.KeepManaged.{manages_none, manages_one, org_there, org_missing}
 use Rattle.tables.proofs.commands.org_add.Goals as goal
 
 pub returns-then-is_some-clause-done : goal.returns-then-is_some-clause-done
@@ -13,7 +14,7 @@ returns-then-is_some-clause-done g c clean =
     let b = state g.S.Store c.cap.new.conn in
     let cap = c.in_ok-cap.ensures.read clean in
     let found : is_some c.in_ok-cap.cap ≡ true = search rules in (
-      manages_none (org_managed org c.args.limit) a b b c.assert_settled.ensures Exists cap.1.0.0.was_open cap.1.0.0.is_open (unchanged_stays a b cap.1.0) (λ t held. org_there org c.args.limit t c.in_ok-cap.cap found (cap.0 t held)),
+      manages_none (org_managed org c.args.limit) a b b c.assert_settled.ensures Exists cap.1.0.0.was_open cap.1.0.0.is_open (one_look a b cap.1.0) (λ t held. org_there org c.args.limit t c.in_ok-cap.cap found (cap.0 t held)),
       tt,
     )
 
@@ -28,7 +29,7 @@ returns-clause-done g c clean =
     let settled = c.assert_settled.ensures in
     let cap = c.in_ok-cap.ensures.read (c.add_organization.ensures.so_far clean) in
     let found : is_some c.in_ok-cap.cap ≡ false = search rules in (
-      manages_one (org_managed org limit) a b d settled (org_row_added org limit) Done (unchanged_stays a b cap.1.0) (c.in_ok-add_organization.ensures.done clean).0
+      manages_one (org_managed org limit) a b d settled (org_row_added org limit) Done (one_look a b cap.1.0) (c.in_ok-add_organization.ensures.done clean).0
           (λ t held. org_missing org limit t c.in_ok-cap.cap found (cap.0 t held)),
       tt,
     )

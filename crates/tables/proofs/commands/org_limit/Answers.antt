@@ -3,7 +3,8 @@ use Rattle.sqlite.specs.Held.{state}
 use Rattle.machine.specs.declared.keeps.AdminAnswer.TheVariants.{Done, Absent}
 use Rattle.statements.specs.Changes.{org_capped}
 use Rattle.tables.specs.Inner.Steps.{limit_managed}
-use Rattle.tables.proofs.KeepManaged.{manages_none, manages_one, unchanged_stays, limit_nowhere, limit_there}
+use Rattle.pages.proofs.Looking.{one_look}
+use Rattle.tables.proofs.KeepManaged.{manages_none, manages_one, limit_nowhere, limit_there}
 use Rattle.tables.proofs.commands.org_limit.Goals as goal
 
 pub returns-then-is_none-clause-done : goal.returns-then-is_none-clause-done
@@ -13,7 +14,7 @@ returns-then-is_none-clause-done g c clean =
     let b = state g.S.Store c.cap.new.conn in
     let cap = c.in_ok-cap.ensures.read clean in
     let nothing : is_none c.in_ok-cap.cap ≡ true = search rules in (
-      manages_none (limit_managed org c.args.limit) a b b c.assert_settled.ensures Absent cap.1.0.0.was_open cap.1.0.0.is_open (unchanged_stays a b cap.1.0) (λ t held. limit_nowhere org c.args.limit t c.in_ok-cap.cap nothing (cap.0 t held)),
+      manages_none (limit_managed org c.args.limit) a b b c.assert_settled.ensures Absent cap.1.0.0.was_open cap.1.0.0.is_open (one_look a b cap.1.0) (λ t held. limit_nowhere org c.args.limit t c.in_ok-cap.cap nothing (cap.0 t held)),
       tt,
     )
 
@@ -28,7 +29,7 @@ returns-clause-done g c clean =
     let settled = c.assert_settled.ensures in
     let cap = c.in_ok-cap.ensures.read (c.set_limit.ensures.so_far clean) in
     let found : is_none c.in_ok-cap.cap ≡ false = search rules in (
-      manages_one (limit_managed org limit) a b d settled (org_capped org limit) Done (unchanged_stays a b cap.1.0) (c.in_ok-set_limit.ensures.done clean).0
+      manages_one (limit_managed org limit) a b d settled (org_capped org limit) Done (one_look a b cap.1.0) (c.in_ok-set_limit.ensures.done clean).0
           (λ t held. limit_there org limit t c.in_ok-cap.cap found (cap.0 t held)),
       tt,
     )

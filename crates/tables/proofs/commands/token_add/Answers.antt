@@ -6,7 +6,8 @@ use Rattle.machine.specs.declared.keeps.AdminAnswer.TheVariants.{Done, Exists, A
 use Rattle.statements.specs.Changes.{token_added}
 use Rattle.statements.specs.Tables.{Holds}
 use Rattle.tables.specs.Inner.Steps.{token_managed}
-use Rattle.tables.proofs.KeepManaged.{manages_none, manages_one, unchanged_stays, stays_then, token_nowhere, token_there}
+use Rattle.pages.proofs.Looking.{one_look, looks_then}
+use Rattle.tables.proofs.KeepManaged.{manages_none, manages_one, token_nowhere, token_there}
 use Rattle.tables.proofs.commands.token_add.Goals as goal
 
 pub returns-then-is_none-clause-done : goal.returns-then-is_none-clause-done
@@ -20,7 +21,7 @@ returns-then-is_none-clause-done g c clean =
     let b = state g.S.Store c.cap.new.conn in
     let cap = c.in_ok-cap.ensures.read clean in
     let nothing : is_none c.in_ok-cap.cap ≡ true = search rules in (
-      manages_none (token_managed org name digest role bounds) a b b c.assert_settled.ensures Absent cap.1.0.0.was_open cap.1.0.0.is_open (unchanged_stays a b cap.1.0)
+      manages_none (token_managed org name digest role bounds) a b b c.assert_settled.ensures Absent cap.1.0.0.was_open cap.1.0.0.is_open (one_look a b cap.1.0)
           (λ t held. token_nowhere org name digest role bounds t c.in_ok-cap.cap nothing (cap.0 t held)),
       tt,
     )
@@ -41,9 +42,9 @@ returns-then-branch-clause-done g c clean =
     let taken = c.in_ok-is_taken.ensures.looks.sees clean in
     let is_open = c.in_ok-is_taken.ensures.is_open clean in
     let there : is_none c.in_ok-cap.cap ≡ false = search rules in (
-      manages_none (token_managed org name digest role bounds) a d d settled Exists cap.1.0.0.was_open is_open (stays_then a b d (unchanged_stays a b cap.1.0) taken.1.0)
+      manages_none (token_managed org name digest role bounds) a d d settled Exists cap.1.0.0.was_open is_open (looks_then a b d (one_look a b cap.1.0) taken.1.0)
           (λ t held. subst (λ x. token_managed org name digest role bounds t ≡ cond x (effect Exists t) (effect Done (token_added org name digest role bounds.until bounds.prefix t))) c.if-branch.true
-          (token_there org name digest role bounds t c.in_ok-cap.cap c.in_ok-is_taken.field-0 there (cap.0 t held) (taken.0 is_open t (subst (λ (db : Database). Holds db t) (sym cap.1.0.0.now_is) held)))),
+          (token_there org name digest role bounds t c.in_ok-cap.cap c.in_ok-is_taken.field-0 there (cap.0 t held) (taken.0 t (subst (λ (db : Database). Holds db t) (sym cap.1.0.0.now_is) held)))),
       tt,
     )
 
@@ -65,8 +66,8 @@ returns-clause-done g c clean =
     let taken = c.in_ok-is_taken.ensures.looks.sees clean2 in
     let is_open = c.in_ok-is_taken.ensures.is_open clean2 in
     let there : is_none c.in_ok-cap.cap ≡ false = search rules in (
-      manages_one (token_managed org name digest role bounds) a d e settled (token_added org name digest role bounds.until bounds.prefix) Done (stays_then a b d (unchanged_stays a b cap.1.0) taken.1.0) (c.in_ok-add_token.ensures.done clean).0
+      manages_one (token_managed org name digest role bounds) a d e settled (token_added org name digest role bounds.until bounds.prefix) Done (looks_then a b d (one_look a b cap.1.0) taken.1.0) (c.in_ok-add_token.ensures.done clean).0
           (λ t held. subst (λ x. token_managed org name digest role bounds t ≡ cond x (effect Exists t) (effect Done (token_added org name digest role bounds.until bounds.prefix t))) c.if-branch.false
-          (token_there org name digest role bounds t c.in_ok-cap.cap c.in_ok-is_taken.field-0 there (cap.0 t held) (taken.0 is_open t (subst (λ (db : Database). Holds db t) (sym cap.1.0.0.now_is) held)))),
+          (token_there org name digest role bounds t c.in_ok-cap.cap c.in_ok-is_taken.field-0 there (cap.0 t held) (taken.0 t (subst (λ (db : Database). Holds db t) (sym cap.1.0.0.now_is) held)))),
       tt,
     )

@@ -3,7 +3,8 @@ use Rattle.sqlite.specs.Held.{state}
 use Rattle.machine.specs.declared.keeps.AdminAnswer.TheVariants.{Done, Absent}
 use Rattle.statements.specs.Changes.{token_removed}
 use Rattle.tables.specs.Inner.Steps.{revocation_managed}
-use Rattle.tables.proofs.KeepManaged.{manages_none, manages_one, unchanged_stays, revocation_nowhere, revocation_there}
+use Rattle.pages.proofs.Looking.{one_look}
+use Rattle.tables.proofs.KeepManaged.{manages_none, manages_one, revocation_nowhere, revocation_there}
 use Rattle.tables.proofs.commands.token_revoke.Goals as goal
 
 pub returns-then-is_none-clause-done : goal.returns-then-is_none-clause-done
@@ -14,7 +15,7 @@ returns-then-is_none-clause-done g c clean =
     let b = state g.S.Store c.role_of_name.new.conn in
     let role = c.in_ok-role.ensures.read clean in
     let nothing : is_none c.in_ok-role.role ≡ true = search rules in (
-      manages_none (revocation_managed org name) a b b c.assert_settled.ensures Absent role.1.0.0.was_open role.1.0.0.is_open (unchanged_stays a b role.1.0)
+      manages_none (revocation_managed org name) a b b c.assert_settled.ensures Absent role.1.0.0.was_open role.1.0.0.is_open (one_look a b role.1.0)
           (λ t held. revocation_nowhere org name t c.in_ok-role.role nothing (role.0 t held)),
       tt,
     )
@@ -30,7 +31,7 @@ returns-clause-done g c clean =
     let settled = c.assert_settled.ensures in
     let role = c.in_ok-role.ensures.read (c.remove_token.ensures.so_far clean) in
     let found : is_none c.in_ok-role.role ≡ false = search rules in (
-      manages_one (revocation_managed org name) a b d settled (token_removed org name) Done (unchanged_stays a b role.1.0) (c.in_ok-remove_token.ensures.done clean).0
+      manages_one (revocation_managed org name) a b d settled (token_removed org name) Done (one_look a b role.1.0) (c.in_ok-remove_token.ensures.done clean).0
           (λ t held. revocation_there org name t c.in_ok-role.role found (role.0 t held)),
       tt,
     )

@@ -1,23 +1,15 @@
-use Rattle.std.proofs.Common.{Ok}
-use Rattle.sqlite.specs.Held.{state}
-use Rattle.sqlite.specs.declared.error.Error.{Error}
+use Rattle.std.proofs.Common.{ap, ◌∙◌}
 use Rattle.basis.specs.Listings.{listing_of}
 use Rattle.statements.specs.Listings.{VersionsApart, version_rows_after}
 use Rattle.tables.specs.Inner.Lists.{asked_rows}
-use Rattle.tables.proofs.KeepFound.{seen_shown}
-use Rattle.tables.proofs.KeepMoves.{clean_before}
+use Rattle.statements.specs.Steps.{EqualsWhere}
+use Rattle.texts.proofs.Many.{sees_by, sees_as}
 use Rattle.tables.proofs.listings.list_of_versions.Goals as goal
 
 pub returns-clause-looks : goal.returns-clause-looks
 returns-clause-looks g c =
-    let a = state g.S.Store c.args.conn.now in
-    let b = state g.S.Store c.list.new.conn in
     let org = c.args.org.now in
     let ws = c.args.ws.now in
-    record {
-      mode = c.list.ensures.mode;
-      so_far = λ clean. clean_before a b _ c.list.ensures.survives clean;
-      sees = λ clean.
-          let found = c.in_ok-rows.ensures.read clean in
-          seen_shown {E = Error} (VersionsApart org ws) (version_rows_after org ws c.args.after asked_rows) listing_of c.in_ok-rows.rows a b (Ok c.of.result) found.0 found.1.0 c.of.ensures clean;
-    }
+    let q = version_rows_after org ws c.args.after asked_rows in
+    sees_as g.S.Store (EqualsWhere (VersionsApart org ws) q) (EqualsWhere (VersionsApart org ws) (λ t. listing_of (q t))) c.args.conn.now c.list.new.conn c.in_ok-rows.rows c.of.result
+    (λ t told apart. c.of.ensures ∙ ap listing_of (told apart)) (sees_by g.S.Store _ _ _ _ c.in_ok-rows.ensures)

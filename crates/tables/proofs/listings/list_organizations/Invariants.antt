@@ -1,10 +1,9 @@
-use Rattle.std.proofs.Common.{◌≡◌, false, take, map}
-use Rattle.sqlite.specs.Held.{state}
+use Rattle.std.proofs.Common.{take, map, Ok}
+use Rattle.sqlite.specs.declared.error.Error.{Error}
+use Rattle.statements.specs.Steps.{Equals, Sees}
 use Rattle.tables.specs.Inner.Lists.{org_row_in}
-use Rattle.tables.proofs.KeepListed.{SeesSoFar}
 use Rattle.tables.proofs.listings.list_organizations.Given as goal
 
 -- the rows so far, and the connection as it was
 abbrev pub invariant-loop-organization : goal.invariant-loop-organization
-invariant-loop-organization g l =
-    (l.fn.conn.in_transaction ≡ false → l.conn.in_transaction ≡ false) × SeesSoFar (λ t. map (org_row_in t) (take l.organization-index l.organizations)) (state g.S.Store l.fn.conn) (state g.S.Store l.conn) l.rows
+invariant-loop-organization g l = Sees {E = Error} g.S.Store (Equals (λ t. map (org_row_in t) (take l.organization-index l.organizations))) l.fn.conn l.conn (Ok l.rows)

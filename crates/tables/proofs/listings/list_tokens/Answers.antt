@@ -1,14 +1,11 @@
 use Rattle.std.proofs.Common.{[], ◌∷◌, ◌++◌, arith, ap, ◌∙◌}
-use Rattle.sqlite.specs.Held.{state}
 use Rattle.sqlite.specs.declared.error.Error.{Error}
 use Rattle.tables.specs.Inner.Lists.{token_row_in}
 use Rattle.tables.proofs.KeepListed.{seen_more}
 use Rattle.tables.proofs.listings.list_tokens.Goals as goal
 
 pub loop-token-preserved : goal.loop-token-preserved
-loop-token-preserved g c = (
-  λ idle. c.token_row.ensures.looks.mode (c.loop-token.invariant.0 idle),
-  seen_more Error (λ rows. rows) (token_row_in c.args.org.now) c.args.tokens.now c.loop-token.token-index c.token-item.result (state g.S.Store c.args.conn.now) (state g.S.Store c.loop-token.conn) (state g.S.Store c.token_row.new.conn)
-      c.loop-token.rows c.push.new.items c.in_ok-row.row (omega arith) c.token-item.is c.loop-token.invariant.1 c.in_ok-row.ensures.looks
-      (λ rows is. c.in_ok-push.ensures ∙ ap (λ xs. xs ++ c.in_ok-row.row ∷ []) is),
-)
+loop-token-preserved g c =
+    seen_more g.S.Store Error Error (λ rows. rows) (token_row_in c.args.org.now) c.args.tokens.now c.loop-token.token-index c.token-item.result c.args.conn.now c.loop-token.conn c.token_row.new.conn
+    c.loop-token.rows c.push.new.items c.in_ok-row.row (omega arith) c.token-item.is c.loop-token.invariant c.in_ok-row.ensures.looks
+    (λ rows is. c.in_ok-push.ensures ∙ ap (λ xs. xs ++ c.in_ok-row.row ∷ []) is)

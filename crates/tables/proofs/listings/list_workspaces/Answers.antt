@@ -1,5 +1,4 @@
 use Rattle.std.proofs.Common.{arith}
-use Rattle.sqlite.specs.Held.{state}
 use Rattle.sqlite.specs.declared.error.Error.{Error}
 use Rattle.basis.specs.Listings.{listing_of}
 use Rattle.tables.specs.Inner.Lists.{ws_row_in}
@@ -7,9 +6,7 @@ use Rattle.tables.proofs.KeepListed.{seen_more}
 use Rattle.tables.proofs.listings.list_workspaces.Goals as goal
 
 pub loop-workspace-preserved : goal.loop-workspace-preserved
-loop-workspace-preserved g c = (
-  λ idle. c.ws_row.ensures.mode (c.loop-workspace.invariant.0 idle),
-  seen_more Error listing_of (ws_row_in c.args.org.now) c.args.workspaces.now c.loop-workspace.workspace-index c.workspace-item.result (state g.S.Store c.args.conn.now) (state g.S.Store c.loop-workspace.conn) (state g.S.Store c.ws_row.new.conn)
-      c.loop-workspace.list c.offer.new.list c.in_ok-row.row (omega arith) c.workspace-item.is c.loop-workspace.invariant.1 c.in_ok-row.ensures
-      c.in_ok-offer.ensures,
-)
+loop-workspace-preserved g c =
+    seen_more g.S.Store Error Error listing_of (ws_row_in c.args.org.now) c.args.workspaces.now c.loop-workspace.workspace-index c.workspace-item.result c.args.conn.now c.loop-workspace.conn c.ws_row.new.conn
+    c.loop-workspace.list c.offer.new.list c.in_ok-row.row (omega arith) c.workspace-item.is c.loop-workspace.invariant c.in_ok-row.ensures
+    c.in_ok-offer.ensures

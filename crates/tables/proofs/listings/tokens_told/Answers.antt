@@ -1,21 +1,24 @@
-use Rattle.std.proofs.Common.{rules, ◌≡◌, false, is_none}
-use Rattle.sqlite.specs.Held.{state}
-use Rattle.sqlite.specs.declared.error.Error.{Error}
-use Rattle.tables.proofs.KeepMoves.{clean_before}
-use Rattle.tables.proofs.KeepFound.{tokens_seen}
+use Rattle.std.proofs.Common.{rules, ◌≡◌, ℕ, List, Option, Some, None, false, is_none, ap, ◌∙◌}
+use Rattle.machine.specs.declared.keeps.AdminAnswer.TheVariants.{Tokens}
+use Rattle.machine.specs.declared.keeps.TokenRow.{TokenRow}
+use Rattle.statements.specs.Finds.{cap_of}
+use Rattle.statements.specs.Listings.{TokensApart}
+use Rattle.statements.specs.Steps.{Equals, EqualsWhere}
+use Rattle.statements.specs.Tables.{Tables}
+use Rattle.texts.proofs.Many.{sees_by, sees_as}
+use Rattle.tables.specs.Inner.Lists.{tokens_listed_in, tokens_told_by, tokens_told_in}
+use Rattle.tables.proofs.KeepFound.{seen_both}
 use Rattle.tables.proofs.listings.tokens_told.Goals as goal
+
+-- the tokens of an organization that is there
+told_there : (org : List ℕ) (t : Tables) (cap : Option ℕ) (rows : List TokenRow) → is_none cap ≡ false → cap ≡ cap_of org t → rows ≡ tokens_listed_in org t → Tokens rows ≡ tokens_told_in org t
+told_there org t None rows there found listed = absurd (cc)
+told_there org t (Some cap) rows there found listed = ap Tokens listed ∙ ap (λ (c : Option ℕ). tokens_told_by c org t) found
 
 pub returns-clause-looks : goal.returns-clause-looks
 returns-clause-looks g c =
-    let a = state g.S.Store c.args.conn.now in
-    let b = state g.S.Store c.cap.new.conn in
-    let d = state g.S.Store c.list_of_tokens.new.conn in
-    let looks = c.in_ok-rows.ensures.looks in
-    record {
-      mode = λ idle. looks.mode (c.cap.ensures.mode idle);
-      so_far = λ clean. clean_before a b _ c.cap.ensures.survives (looks.so_far clean);
-      sees = λ clean.
-          let found = c.in_ok-cap.ensures.read (looks.so_far clean) in
-          let there : is_none c.in_ok-cap.cap ≡ false = search rules in
-          tokens_seen Error Error c.args.org.now a b d c.in_ok-cap.cap c.in_ok-rows.rows there found.0 found.1.0 looks.sees clean;
-    }
+    let org = c.args.org.now in
+    let there : is_none c.in_ok-cap.cap ≡ false = search rules in
+    sees_as g.S.Store (λ rows t. Equals (cap_of org) c.in_ok-cap.cap t × EqualsWhere TokensApart (tokens_listed_in org) rows t) (EqualsWhere TokensApart (tokens_told_in org)) c.args.conn.now c.list_of_tokens.new.conn
+    c.in_ok-rows.rows (Tokens c.in_ok-rows.rows) (λ t told apart. told_there org t c.in_ok-cap.cap c.in_ok-rows.rows there told.0 (told.1 apart))
+    (seen_both g.S.Store (Equals (cap_of org)) (EqualsWhere TokensApart (tokens_listed_in org)) c.args.conn.now c.cap.new.conn c.list_of_tokens.new.conn c.in_ok-cap.cap c.in_ok-rows.rows (sees_by g.S.Store _ _ _ _ c.in_ok-cap.ensures) c.in_ok-rows.ensures.looks)

@@ -1,16 +1,12 @@
-use Rattle.std.proofs.Common.{ℕ, Option}
+use Rattle.std.proofs.Common.{ℕ, Option, ap, ◌∙◌}
 use Rattle.std.specs.Option.{unwrap_or}
 use Rattle.statements.specs.Finds.{cap_of}
-use Rattle.sqlite.specs.Held.{state}
-use Rattle.sqlite.specs.declared.error.Error.{Error}
-use Rattle.tables.proofs.KeepFound.{seen_query, seen_then}
+use Rattle.statements.specs.Steps.{Equals}
+use Rattle.texts.proofs.Many.{sees_by, sees_as}
 use Rattle.tables.proofs.looks.limit.Goals as goal
 
 pub returns : goal.returns
-returns g c =
-    let a = state g.S.Store c.args.conn.now in
-    let b = state g.S.Store c.cap.new.conn in
-    let found = c.in_ok-cap.cap in
-    record {
-      looks = seen_then Error (cap_of c.args.org.now) (λ (cap : Option ℕ). unwrap_or cap 0) found a b _ (seen_query Error (cap_of c.args.org.now) a b found c.cap.ensures.mode c.cap.ensures.survives c.in_ok-cap.ensures.read) c.allowed.ensures;
-    }
+returns g c = record {
+  looks = sees_as g.S.Store (Equals (cap_of c.args.org.now)) (Equals (λ t. unwrap_or (cap_of c.args.org.now t) 0)) c.args.conn.now c.cap.new.conn c.in_ok-cap.cap c.allowed.result
+      (λ t found. c.allowed.ensures ∙ ap (λ (cap : Option ℕ). unwrap_or cap 0) found) (sees_by g.S.Store _ _ _ _ c.in_ok-cap.ensures);
+}

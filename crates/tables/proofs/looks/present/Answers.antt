@@ -1,5 +1,4 @@
 use Rattle.std.proofs.Common.{ℕ}
-use Rattle.sqlite.specs.Held.{state}
 use Rattle.sqlite.specs.declared.error.Error.{Error}
 use Rattle.machine.specs.Needs.{needed_of}
 use Rattle.machine.specs.declared.acts.Unit.{Unit}
@@ -21,6 +20,6 @@ returns g c =
     let ws = c.args.ws.now in
     let need = needed_of c.args.needs.now in
     rw c.unit_by.ensures (record {
-      looks = seen_by_first Error Error Error (keep_in need.keep_versions org ws) (λ keep. around_in need org ws keep c.args.workspace.holder) (make c.args.workspace) c.in_ok-keep.keep c.in_ok-around.around
-          (state g.S.Store c.args.conn.now) (state g.S.Store c.keep_if.new.conn) (state g.S.Store c.around.new.conn) c.in_ok-keep.ensures.looks c.in_ok-around.ensures.looks;
+      looks = seen_by_first g.S.Store Error Error Error (keep_in need.keep_versions org ws) (λ keep. around_in need org ws keep c.args.workspace.holder) (make c.args.workspace) c.in_ok-keep.keep c.in_ok-around.around
+          c.args.conn.now c.keep_if.new.conn c.around.new.conn c.in_ok-keep.ensures.looks c.in_ok-around.ensures.looks;
     })

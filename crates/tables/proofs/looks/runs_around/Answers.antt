@@ -1,5 +1,4 @@
 use Rattle.std.proofs.Common.{ℕ, Option, cond}
-use Rattle.sqlite.specs.Held.{state}
 use Rattle.sqlite.specs.declared.error.Error.{Error}
 use Rattle.basis.specs.declared.runs.RunStatus.{RunStatus}
 use Rattle.machine.specs.Needs.{needed_of}
@@ -21,8 +20,8 @@ returns g c =
     let ws = c.args.ws.now in
     let need = needed_of c.args.needs.now in
     record {
-      looks = seen_four Error Error Error Error Error (λ t. if_needed need.holder_status (holder_status_in org ws c.args.holder.now t)) (λ t. if_needed need.waiting (first_waiting_of org ws t)) (asked_run_in need.run need.key org ws)
+      looks = seen_four g.S.Store Error Error Error Error Error (λ t. if_needed need.holder_status (holder_status_in org ws c.args.holder.now t)) (λ t. if_needed need.waiting (first_waiting_of org ws t)) (asked_run_in need.run need.key org ws)
           (λ t. cond need.open_runs (open_runs_of org ws t) 0) make c.in_ok-holder_status.holder_status c.in_ok-first_waiting.first_waiting c.in_ok-asked_run.asked_run c.in_ok-open_runs.open_runs
-          (state g.S.Store c.args.conn.now) (state g.S.Store c.holder_status_if.new.conn) (state g.S.Store c.first_waiting_if.new.conn) (state g.S.Store c.asked_run.new.conn) (state g.S.Store c.open_runs_if.new.conn)
+          c.args.conn.now c.holder_status_if.new.conn c.first_waiting_if.new.conn c.asked_run.new.conn c.open_runs_if.new.conn
           c.in_ok-holder_status.ensures.looks c.in_ok-first_waiting.ensures.looks c.in_ok-asked_run.ensures.looks c.in_ok-open_runs.ensures.looks;
     }

@@ -1,31 +1,24 @@
-use Rattle.sqlite.specs.Held.{state}
-use Rattle.tables.proofs.KeepMoves.{clean_before}
+use Rattle.std.proofs.Common.{sym, ap, ◌∙◌}
 use Rattle.machine.specs.Needs.{needed_of}
-use Rattle.tables.proofs.KeepFound.{unit_by_row, unit_without_row}
+use Rattle.statements.specs.Finds.{workspace_of}
+use Rattle.statements.specs.Steps.{Equals}
+use Rattle.texts.proofs.Many.{sees_by, sees_then}
+use Rattle.tables.specs.Inner.Looks.{absent_in, present_in}
+use Rattle.tables.specs.Inner.Units.{unit_at, unit_in}
 use Rattle.tables.proofs.looks.unit.Goals as goal
 
 pub returns-in-Some-clause-looks : goal.returns-in-Some-clause-looks
 returns-in-Some-clause-looks g c =
-    let a = state g.S.Store c.args.conn.now in
-    let b = state g.S.Store c.find.new.conn in
-    let d = state g.S.Store c.present.new.conn in
-    record {
-      mode = λ idle. c.present.ensures.looks.mode (c.find.ensures.mode idle);
-      so_far = λ clean. clean_before a b _ c.find.ensures.survives (c.present.ensures.looks.so_far clean);
-      sees = λ clean.
-          let found = c.in_ok-find.ensures.read (c.present.ensures.looks.so_far clean) in
-          unit_by_row (needed_of c.args.needs.now) c.args.known c.args.org.now c.args.ws.now c.in-Some.workspace a b d c.in_ok-find.field-0 c.present.result c.in-Some.is found.0 found.1.0 c.present.ensures.looks.sees clean;
-    }
+    let need = needed_of c.args.needs.now in
+    let org = c.args.org.now in
+    let ws = c.args.ws.now in
+    sees_then g.S.Store (Equals (workspace_of org ws)) (Equals (present_in need org ws c.in-Some.workspace)) (Equals (unit_in need c.args.known org ws)) c.args.conn.now c.find.new.conn c.present.new.conn
+    c.in_ok-find.field-0 c.present.result (λ unit t found seen. seen ∙ ap (unit_at need c.args.known org ws t) (sym c.in-Some.is ∙ found)) (sees_by g.S.Store _ _ _ _ c.in_ok-find.ensures) c.present.ensures.looks
 
 pub returns-in-None-clause-looks : goal.returns-in-None-clause-looks
 returns-in-None-clause-looks g c =
-    let a = state g.S.Store c.args.conn.now in
-    let b = state g.S.Store c.find.new.conn in
-    let d = state g.S.Store c.absent.new.conn in
-    record {
-      mode = λ idle. c.absent.ensures.looks.mode (c.find.ensures.mode idle);
-      so_far = λ clean. clean_before a b _ c.find.ensures.survives (c.absent.ensures.looks.so_far clean);
-      sees = λ clean.
-          let found = c.in_ok-find.ensures.read (c.absent.ensures.looks.so_far clean) in
-          unit_without_row (needed_of c.args.needs.now) c.args.known c.args.org.now c.args.ws.now a b d c.in_ok-find.field-0 c.absent.result c.in-None.is found.0 found.1.0 c.absent.ensures.looks.sees clean;
-    }
+    let need = needed_of c.args.needs.now in
+    let org = c.args.org.now in
+    let ws = c.args.ws.now in
+    sees_then g.S.Store (Equals (workspace_of org ws)) (Equals (absent_in need c.args.known org)) (Equals (unit_in need c.args.known org ws)) c.args.conn.now c.find.new.conn c.absent.new.conn
+    c.in_ok-find.field-0 c.absent.result (λ unit t found seen. seen ∙ ap (unit_at need c.args.known org ws t) (sym c.in-None.is ∙ found)) (sees_by g.S.Store _ _ _ _ c.in_ok-find.ensures) c.absent.ensures.looks

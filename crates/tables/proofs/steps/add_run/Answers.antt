@@ -1,4 +1,5 @@
-use Rattle.tables.proofs.KeepMoves.{steps_then, steps_there}
+use Rattle.pages.proofs.Looking.{steps_then}
+use Rattle.tables.proofs.KeepMoves.{steps_there}
 use Rattle.tables.proofs.steps.add_run.Goals as goal
 
 pub returns : goal.returns

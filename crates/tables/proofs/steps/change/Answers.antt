@@ -1,5 +1,5 @@
 use Rattle.texts.proofs.Many.{when_done}
-use Rattle.tables.proofs.KeepMoves.{steps_then}
+use Rattle.pages.proofs.Looking.{steps_then}
 use Rattle.tables.proofs.steps.change.Goals as goal
 
 pub returns-in-None-clause-steps : goal.returns-in-None-clause-steps

@@ -1,5 +1,5 @@
 use Rattle.texts.proofs.Many.{when_done}
-use Rattle.tables.proofs.KeepMoves.{steps_by}
+use Rattle.pages.proofs.Looking.{steps_by}
 use Rattle.tables.proofs.steps.edit.Goals as goal
 
 pub returns-in-Make-clause-steps : goal.returns-in-Make-clause-steps

@@ -1,5 +1,6 @@
 use Rattle.texts.proofs.Many.{when_done}
-use Rattle.tables.proofs.KeepMoves.{steps_then, takes_by}
+use Rattle.pages.proofs.Looking.{steps_then}
+use Rattle.tables.proofs.KeepMoves.{takes_by}
 use Rattle.tables.proofs.steps.put.Goals as goal
 
 pub returns-in-None-clause-steps : goal.returns-in-None-clause-steps

@@ -1,4 +1,4 @@
-use Rattle.tables.proofs.KeepMoves.{steps_by}
+use Rattle.pages.proofs.Looking.{steps_by}
 use Rattle.tables.proofs.steps.put_run.Goals as goal
 
 pub returns : goal.returns

@@ -1,7 +1,8 @@
 use Rattle.std.proofs.Common.{true, Option, refl, sym, ap, ◌∙◌}
 use Rattle.basis.specs.declared.rows.VersionRow.{VersionRow as Head}
 use Rattle.tables.specs.Inner.Edits.{first_gone, version_gone, oldest_gone}
-use Rattle.tables.proofs.KeepMoves.{step_behind, step_none, step_as}
+use Rattle.pages.proofs.Looking.{step_behind, step_none}
+use Rattle.tables.proofs.KeepMoves.{step_as}
 use Rattle.tables.proofs.steps.remove_oldest.Goals as goal
 
 pub returns-in-None-clause-steps : goal.returns-in-None-clause-steps

@@ -2,9 +2,8 @@ use Rattle.std.proofs.Common.{rules}
 use Rattle.sqlite.specs.Held.{state}
 use Rattle.sqlite.specs.State.{HasCleanDisk}
 use Rattle.tables.specs.Inner.Edits.{changed_rows, TakesEdit}
-use Rattle.tables.proofs.KeepMoves.{clean_before}
-use Rattle.tables.proofs.KeepCommits.{inside_by, commits_by, told_committed}
-use Rattle.texts.proofs.Many.{when_done}
+use Rattle.statements.proofs.Transactions.{clean_before}
+use Rattle.tables.proofs.KeepCommits.{inside_by, commits_by, told_committed, commits_told}
 use Rattle.tables.proofs.transactions.change.Goals as goal
 
 pub returns-clause-done : goal.returns-clause-done
@@ -16,19 +15,10 @@ returns-clause-done g c clean =
     let late : HasCleanDisk (state g.S.Store m) = search rules in
     let before = clean_before (state g.S.Store l) (state g.S.Store m) _ c.commit.ensures.survives late in
     let settled = c.begin-tx.ensures.settled in
-    let moved = (c.in_ok-change.ensures.steps.changed before (inside_by c.args.conn.now c.begin-tx.result.conn.now c.begin-tx.ensures.begun)).0 in
-    let all = commits_by g.S.Store h k l m settled c.begin-tx.ensures.begun (changed_rows g.K.PageKey.key_of c.args.org.now c.args.ws.now c.args.change.now) c.commit.result moved (c.commit.ensures.ok late) (c.commit.ensures.err late) in
-    search (rules, all)
-
-pub returns-clause-takes : goal.returns-clause-takes
-returns-clause-takes g c clean =
-    let h = c.args.conn.now in
-    let k = c.begin-tx.result.conn.now in
-    let l = c.change.new.tx.conn.now in
-    let m = c.commit.new.self.0 in
-    let late : HasCleanDisk (state g.S.Store m) = search rules in
-    let before = clean_before (state g.S.Store l) (state g.S.Store m) _ c.commit.ensures.survives late in
     let within = inside_by c.args.conn.now c.begin-tx.result.conn.now c.begin-tx.ensures.begun in
     let moved = (c.in_ok-change.ensures.steps.changed before within).0 in
     let told = c.in_ok-change.ensures.takes before within in
-    when_done c.commit.result (told_committed g.S.Store h k l m c.begin-tx.ensures.settled c.begin-tx.ensures.begun (changed_rows g.K.PageKey.key_of c.args.org.now c.args.ws.now c.args.change.now) (TakesEdit g.K.PageKey.key_of c.args.org.now c.args.ws.now c.args.change.now.edit) moved told)
+    let rows = changed_rows g.K.PageKey.key_of c.args.org.now c.args.ws.now c.args.change.now in
+    let takes = TakesEdit g.K.PageKey.key_of c.args.org.now c.args.ws.now c.args.change.now.edit in
+    let all = commits_by g.S.Store h k l m settled c.begin-tx.ensures.begun rows c.commit.result moved (c.commit.ensures.ok late) (c.commit.ensures.err late) in
+    commits_told rows takes (state g.S.Store h) _ c.commit.result (told_committed g.S.Store h k l m settled c.begin-tx.ensures.begun rows takes moved told) (search (rules, all))

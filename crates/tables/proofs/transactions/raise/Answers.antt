@@ -4,7 +4,7 @@ use Rattle.sqlite.specs.Held.{state}
 use Rattle.sqlite.specs.State.{HasCleanDisk}
 use Rattle.statements.specs.Making.{Raises}
 use Rattle.tables.specs.Versions.{Becomes, KeepsBeside}
-use Rattle.tables.proofs.KeepMoves.{clean_before}
+use Rattle.statements.proofs.Transactions.{clean_before}
 use Rattle.tables.proofs.KeepCommits.{inside_by, climbs_by}
 use Rattle.tables.proofs.Raising.{becomes_next}
 use Rattle.tables.proofs.transactions.raise.Goals as goal

@@ -21,7 +21,7 @@ returns-then-not-branch-clause-queries g c =
     let before = c.in_ok-same_piece.ensures.so_far in
     record {
       mode = λ is. c.in_ok-same_piece.ensures.mode (c.places.invariant.0 is);
-      read = λ clean.
+      sees = λ clean.
           let look = some.looks (before clean) in
           let got = c.in_ok-same_piece.ensures.gets clean in (
             λ t holds.

@@ -1,8 +1,8 @@
 use Rattle.std.proofs.Common.{subst, ℕ}
 use Rattle.texts.specs.Texts.{joined}
-use Rattle.texts.specs.Steps.{QueriesAllBy}
+use Rattle.statements.specs.Steps.{Equals, Sees}
 use Rattle.texts.proofs.texts.text.Goals as goal
 
 pub returns-clause-queries : goal.returns-clause-queries
 returns-clause-queries g c =
-    subst (λ (m : ℕ). QueriesAllBy g.S.Store (joined c.args.org.now c.args.ws.now c.args.number m) c.args.conn.now c.read_whole.new.conn c.read_whole.result) c.pages_for.ensures c.read_whole.ensures.queries
+    subst (λ (m : ℕ). Sees g.S.Store (Equals (joined c.args.org.now c.args.ws.now c.args.number m)) c.args.conn.now c.read_whole.new.conn c.read_whole.result) c.pages_for.ensures c.read_whole.ensures.queries

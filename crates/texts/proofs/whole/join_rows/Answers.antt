@@ -4,8 +4,9 @@ use Rattle.sqlite.specs.Held.{state}
 use Rattle.sqlite.specs.State.{HasCleanDisk, Survives, Shown, KeepsCommit, CommitsShowing}
 use Rattle.sqlite.proofs.InsideLemmas.{unchanged_keeps}
 use Rattle.statements.proofs.Calm.{failed_calm}
-use Rattle.pages.specs.Pages.{LeavesAsIs}
-use Rattle.pages.proofs.Looking.{clean_before, as_it_is}
+use Rattle.statements.specs.Steps.{LeavesAsIs}
+use Rattle.statements.proofs.Transactions.{clean_before}
+use Rattle.pages.proofs.Looking.{as_it_is}
 use Rattle.texts.specs.Inner.Calls.{AreInTurn}
 use Rattle.texts.proofs.Many.{nothing_more}
 use Rattle.texts.proofs.InTurn.{begin_in_turn, more_in_turn, all_in_turn, so_far_on, looks_on, kept_on, kept_failed}
