@@ -30,10 +30,18 @@ module _ (org ws : List ℕ) (below : ℕ) (t : Tables) where
       ap (λ (l : ℕ). so_many_gone l org ws below t) (let next : m ≡ suc (k + many) = omega (arith, e) in next)
       ∙ ap (oldest_gone org ws below) before ∙ stays (so_many_gone many org ws below t) none
 
-  pub ended : (many : ℕ) → many ≤ most_gone → oldest_below org ws below (so_many_gone many org ws below t) ≡ None → oldest_gone org ws below (so_many_gone many org ws below t) ≡ gone_below org ws below t
+  -- where none is left behind one more that went, these are all
+  pub ended : (many : ℕ) → many + 1 ≤ most_gone → oldest_below org ws below (oldest_gone org ws below (so_many_gone many org ws below t)) ≡ None
+      → oldest_gone org ws below (so_many_gone many org ws below t) ≡ gone_below org ws below t
   unfolding gone_below
-  ended many few none = stays (so_many_gone many org ws below t) none ∙ sym (none_more (most_gone - many) many most_gone (omega (arith, few)) none)
+  ended many few none =
+      let more = gone_more many in
+      more ∙ sym (none_more (most_gone - (many + 1)) (many + 1) most_gone (omega (arith, few)) (ap (oldest_below org ws below) (sym more) ∙ none))
 
-  pub none_gone : oldest_below org ws below t ≡ None → oldest_gone org ws below t ≡ gone_below org ws below t
+  pub none_gone : oldest_below org ws below (oldest_gone org ws below t) ≡ None → oldest_gone org ws below t ≡ gone_below org ws below t
   unfolding so_many_gone
   none_gone none = ended 0 (omega arith) none
+
+  -- where there is none, none is left
+  pub none_stays : oldest_below org ws below t ≡ None → oldest_below org ws below (oldest_gone org ws below t) ≡ None
+  none_stays none = ap (oldest_below org ws below) (stays t none) ∙ none

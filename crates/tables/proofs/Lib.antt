@@ -41,3 +41,4 @@ pub mod TokenRows
 pub mod VersionEdits
 pub mod KeptTexts
 pub mod GoneSteps
+pub mod LastGone

@@ -79,12 +79,12 @@ version_row_parts org ws n y e =
     let b = and_parts (bytes_eq y.1.ws ws) (y.1.it.number == n) a.1 in
     (same_name y.1.org org a.0, (same_name y.1.ws ws b.0, eqb-true y.1.it.number n b.1))
 
-version_row_from : (org ws : List ℕ) (n : ℕ) (y : Kept VersionRow) → y.1.org ≡ org → y.1.ws ≡ ws → y.1.it.number ≡ n → is_version org ws n y ≡ true
+pub version_row_from : (org ws : List ℕ) (n : ℕ) (y : Kept VersionRow) → y.1.org ≡ org → y.1.ws ≡ ws → y.1.it.number ≡ n → is_version org ws n y ≡ true
 version_row_from org ws n y e f g =
     and_from (bytes_eq y.1.org org) (bytes_eq y.1.ws ws && y.1.it.number == n) (subst (λ (x : List ℕ). bytes_eq y.1.org x ≡ true) e (name_is y.1.org))
     (and_from (bytes_eq y.1.ws ws) (y.1.it.number == n) (subst (λ (x : List ℕ). bytes_eq y.1.ws x ≡ true) f (name_is y.1.ws)) (eq-eqb y.1.it.number n g))
 
-below_parts : (org ws : List ℕ) (below : ℕ) (y : Kept VersionRow) → is_version_below org ws below y ≡ true → (y.1.org ≡ org) × ((y.1.ws ≡ ws) × (nat_lt y.1.it.number below ≡ true))
+pub below_parts : (org ws : List ℕ) (below : ℕ) (y : Kept VersionRow) → is_version_below org ws below y ≡ true → (y.1.org ≡ org) × ((y.1.ws ≡ ws) × (nat_lt y.1.it.number below ≡ true))
 below_parts org ws below y e =
     let a = and_parts (bytes_eq y.1.org org) (bytes_eq y.1.ws ws && nat_lt y.1.it.number below) e in
     let b = and_parts (bytes_eq y.1.ws ws) (nat_lt y.1.it.number below) a.1 in

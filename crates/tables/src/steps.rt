@@ -32,7 +32,8 @@ fn remove_version<S: Alter>(
     texts::remove_text(tx, org, ws, head.number, head.size)
 }
 
-/// Of the versions with numbers below this one, that with the least goes. It tells whether there was one.
+/// Of the versions with numbers below this one, that with the least goes. It tells whether more may be left: none is
+/// where there was none, nor behind the last number below this one.
 fn remove_oldest<S: Alter>(
     tx: &mut Transaction<'_, S>,
     org: &str,
@@ -40,13 +41,14 @@ fn remove_oldest<S: Alter>(
     below: u32,
 ) -> Result<bool, Error>
     ensures steps { Steps S.Store (oldest_gone org.now ws.now below) tx.old tx.new result }
-    ensures found { Tells (λ found t. found ≡ false → oldest_below org.now ws.now below t ≡ None) (state S.Store tx.old.conn.now) (state S.Store tx.new.conn.now) result }
+    ensures left { Tells (λ more t. more ≡ false → oldest_below org.now ws.now below (oldest_gone org.now ws.now below t) ≡ None) (state S.Store tx.old.conn.now) (state S.Store tx.new.conn.now) result }
 {
     match versions::oldest_below(tx, org, ws, below)? {
         None => Ok(false),
         Some(head) => {
             remove_version(tx, org, ws, &head)?;
-            Ok(true)
+            let number = head.number.get();
+            Ok(number + 1 < below)
         }
     }
 }
