@@ -1,32 +1,22 @@
 #!/usr/bin/env python3
-"""Looks at the files of the program `custody`: who may read them, who has them, and what damage to them does.
+"""Looks at the files of the program `custody`: who may read them, who has them, and what another program does to them.
 
     python3 tools/files.py CUSTODY    the program as `rt ci` or `rt run` leaves it
 
-A new file has the sums of SQLite's cksumvfs: of bits that are flipped one at a time in a closed file each one is refused at
-the open, or nothing of what it holds is lost by it. A file behind a link is told of by its own mode and by that of its log.
-One program at a time has a file. A file that sqlite3 wrote to, and whose sums it spoiled so, comes back by a dump. It prints
-a line for each thing that holds, and ends with status 1 at the first that doesn't.
+A file behind a link is told of by its own mode and by that of its log. One program at a time has a file. A file that sqlite3
+wrote to, and whose sums (those of SQLite's cksumvfs, which a new file has) it spoiled so, comes back by a dump. What damage
+does is looked at by flips.py. It prints a line for each thing that holds, and ends with status 1 at the first that doesn't.
 """
 
 import os
-import random
 import shutil
 import sqlite3
 import subprocess
 
-from program import PATIENCE, Wrong, exchanged, free_port, look_at, reply, request, said
+from program import PATIENCE, exchanged, free_port, look_at, reply, request, said
 
 READABLE = b"custody: others than its owner may read the file or its log: chmod 600 ends that\n"
 SECRET = b"adminadminadmin1\n"
-
-# Bits that are flipped, one at a time, by a fixed seed.
-FLIPS = 200
-SEED = 45
-
-# How many bytes at the end of a page SQLite leaves to the sum, and where the header says so.
-SUM_BYTES = 8
-RESERVED_AT = 20
 
 TEXTS = [b'{"serial":%d,"x":"%s"}' % (serial, b"%d " % serial * 9000) for serial in (1, 2)]
 
@@ -98,10 +88,6 @@ def look_at_owners(program):
     program.is_due("and leaves it to the next", ["org-list", "--db", "one.db"], 0, b"acme 1 200\n")
 
 
-def has_sums(path):
-    return open(path, "rb").read(100)[RESERVED_AT] == SUM_BYTES
-
-
 def is_right(program, path):
     """Whether a service over the file gives the newest text and the one before it."""
     service = Service(program, path, 2)
@@ -112,29 +98,6 @@ def is_right(program, path):
     finally:
         service.kill()
     return (newest, first) == (reply(b"200 OK", TEXTS[1]), reply(b"200 OK", TEXTS[0]))
-
-
-def look_at_flips(program):
-    """Each bit that is flipped in a closed file is found at the open."""
-    filled(program, "whole.db")
-    whole = open(program.folder + "/whole.db", "rb").read()
-    said("a new file has sums", has_sums(program.folder + "/whole.db"), True)
-    said("the file as it was left", is_right(program, "whole.db"), True)
-    whole = open(program.folder + "/whole.db", "rb").read()
-    places = random.Random(SEED).sample(range(len(whole) * 8), FLIPS)
-    for place in places:
-        flipped = bytearray(whole)
-        flipped[place // 8] ^= 1 << place % 8
-        with open(program.folder + "/flipped.db", "wb") as file:
-            file.write(flipped)
-        os.chmod(program.folder + "/flipped.db", 0o600)
-        came = program.run(["org-list", "--db", "flipped.db"])
-        if came[0] != 3 or came[1] not in (b"refused down\n", b"refused schema\n") or came[2]:
-            raise Wrong("bit %d flipped: %s" % (place, came))
-        os.remove(program.folder + "/flipped.db")
-        if os.path.exists(program.folder + "/flipped.db-wal"):
-            os.remove(program.folder + "/flipped.db-wal")
-    print("right: %d bits flipped one at a time in a file of %d bytes, each is refused at the open" % (FLIPS, len(whole)))
 
 
 def dumps_of(path):
@@ -174,4 +137,4 @@ def look_at_spoiled(program):
 
 
 if __name__ == "__main__":
-    look_at(__doc__, look_at_modes, look_at_owners, look_at_flips, look_at_spoiled)
+    look_at(__doc__, look_at_modes, look_at_owners, look_at_spoiled)

@@ -1,0 +1,315 @@
+#!/usr/bin/env python3
+"""Damages files of the program `custody`, and looks at what `serve` answers from them.
+
+    python3 tools/flips.py CUSTODY    the program as `rt ci` or `rt run` leaves it
+
+One file has what a service keeps: two organizations, tokens, versions of one page and of several, a lock and runs. It has the
+sums of SQLite's cksumvfs, as each new file; a second has the same rows and no sums. Each is closed, and damaged by a fixed
+seed: bits are flipped one at a time, pages are zeroed, swapped or set back to an older form, and the end is cut off. Then the
+log is damaged that lies beside the file of a killed service. Each time `serve` is asked for all that the file has.
+
+Allowed is a file that is refused, a 503, and the right answer. A wrong answer fails where a bit of a file with sums was
+flipped, where the end of a file was cut off, and where what a damaged log gives isn't a state that was once acknowledged. To
+pages of zeros, swapped or older ones, whose sums are right, it is counted and printed, and so is each of a file without sums.
+It prints a line for each thing that holds or is counted, and ends with status 1 at the first that doesn't hold.
+"""
+
+import os
+import random
+import shutil
+import sqlite3
+import subprocess
+
+from program import PATIENCE, Wrong, exchanged, free_port, look_at, reply, said
+
+SEED = 49
+FLIPS, PAGES, CUTS = 300, 60, 30
+
+# The bytes of a page, how many of them at its end are the sum, and where the header says so.
+PAGE = 4096
+SUM_BYTES = 8
+RESERVED_AT = 20
+
+# How a request fails where the store refuses.
+DOWN = reply(b"503 Service Unavailable", b'{"error":"down"}')
+
+SECRETS = {"acme": b"adminadminadmin1", "beta": b"betabetabetabet1"}
+ORGS = sorted(SECRETS)
+
+
+def asking(org, method, path, body=b""):
+    head = [b"%s /v1/%s%s HTTP/1.1" % (method, org.encode(), path), b"Host: c", b"Authorization: Bearer %s.%s" % (org.encode(), SECRETS[org])]
+    if body:
+        head.append(b"Content-Length: %d" % len(body))
+    return b"\r\n".join(head) + b"\r\n\r\n" + body
+
+
+def state(serial, size):
+    return b'{"serial":%d,"lineage":"l1","x":"%s"}' % (serial, (b"%d," % serial * size)[:size])
+
+
+# What makes the older file, and what makes the newer one of it: each request with its organization.
+OLDER = [(org, b"PUT", b"/workspaces/%s" % ws, b"") for org in ORGS for ws in (b"app", b"net")]
+OLDER += [(org, b"POST", b"/state/net", state(serial, size)) for org in ORGS for serial, size in ((1, 60), (2, 40_000))]
+NEWER = [
+    ("acme", b"PUT", b"/workspaces/net", b'{"auto_apply":true,"keep_versions":7}'),
+    ("acme", b"POST", b"/state/net", state(3, 70_000)),
+    ("acme", b"POST", b"/state/app", state(1, 9_000)),
+    ("beta", b"POST", b"/state/net", state(3, 41_000)),
+    ("acme", b"LOCK", b"/state/app", b'{"ID":"lock-of-app","Who":"somebody"}'),
+    ("acme", b"POST", b"/runs/net", b'{"key":"k1","message":"first"}'),
+    ("acme", b"POST", b"/runs/net/1/actions/planned", b""),
+    ("beta", b"POST", b"/runs/app", b'{"plan_only":true,"message":"a look"}'),
+    ("beta", b"POST", b"/runs/app", b'{"key":"k2"}'),
+]
+
+# What is acknowledged one after the other by a service that is killed then.
+LOGGED = [("beta", b"POST", b"/state/net", state(serial, 100 * serial)) for serial in range(4, 24)]
+
+# All that is asked of a file.
+QUESTIONS = [(org, b"GET", b"/workspaces", b"") for org in ORGS]
+QUESTIONS += [(org, b"GET", b"/%s/%s" % (kind, ws), b"") for org in ORGS for ws in (b"app", b"net") for kind in (b"workspaces", b"state", b"versions", b"runs")]
+QUESTIONS += [(org, b"GET", b"/versions/net/%d" % number, b"") for org in ORGS for number in (1, 2)]
+
+
+class Service:
+    """A service over a file, which answers so many connections, unless it refuses the file."""
+
+    def __init__(self, program, path, count):
+        self.port = free_port()
+        words = ["serve", "--db", path, "--port", str(self.port), "--count", str(count)]
+        self.process = program.start(words, subprocess.DEVNULL)
+        self.is_refused = not self.process.stdout.readline().startswith(b"listening ")
+
+    def asked(self, question):
+        """The answer, or none where the service has ended."""
+        try:
+            return exchanged(self.port, asking(*question))
+        except ConnectionError:
+            return None
+
+    def ends(self, statuses):
+        status = self.process.wait(PATIENCE)
+        if status not in statuses:
+            raise Wrong("a service ended by status %s" % status)
+
+    def kill(self):
+        self.process.kill()
+        self.process.communicate()
+
+
+def answers(program, path, questions=QUESTIONS):
+    """What a service over a file answers to each question, none where it refuses or has ended."""
+    service = Service(program, path, len(questions))
+    try:
+        if service.is_refused:
+            service.ends([3])
+            return [None] * len(questions)
+        came = [service.asked(question) for question in questions]
+        service.ends([0, 3])
+    finally:
+        service.kill()
+    return came
+
+
+def taken(program, path, asked):
+    """Requests that are all acknowledged; the service is killed behind the last one or ends."""
+    service = Service(program, path, len(asked))
+    try:
+        for question in asked:
+            came = service.asked(question)
+            if came is None or not came.startswith(b"HTTP/1.1 200 "):
+                raise Wrong("%s: %s" % (question[:3], came))
+        service.ends([0])
+    finally:
+        service.kill()
+
+
+def read(program, name):
+    with open(program.folder + "/" + name, "rb") as file:
+        return file.read()
+
+
+def write(program, name, content):
+    with open(program.folder + "/" + name, "wb") as file:
+        file.write(content)
+    os.chmod(program.folder + "/" + name, 0o600)
+
+
+def forget(program, name):
+    for end in ("", "-wal"):
+        if os.path.exists(program.folder + "/" + name + end):
+            os.remove(program.folder + "/" + name + end)
+
+
+# ----------------------------------------------------------------------------------------------------
+# Files that are closed
+# ----------------------------------------------------------------------------------------------------
+
+
+def made(program, name):
+    """An older and a newer file with sums, both closed."""
+    for org in ORGS:
+        said("an organization", program.run(["org-add", "--db", name, org])[:2], (0, b"ok\n"))
+        words = ["token-add", "--db", name, "--prefix", "", org, "root", "admin"]
+        said("a token", program.run(words, SECRETS[org] + b"\n")[:2], (0, b"ok\n"))
+    taken(program, name, OLDER)
+    older = read(program, name)
+    taken(program, name, NEWER)
+    return older, read(program, name)
+
+
+def without_sums(program, name, content):
+    """The same rows in a file that sqlite3 made, which has no sums."""
+    write(program, "from.db", content)
+    reader = sqlite3.connect("file:%s/from.db?mode=ro&immutable=1" % program.folder, uri=True)
+    forget(program, name)
+    fresh = sqlite3.connect(program.folder + "/" + name, isolation_level=None)
+    fresh.executescript("PRAGMA page_size = %d;\n" % PAGE + "\n".join(reader.iterdump()))
+    fresh.close()
+    reader.close()
+    os.chmod(program.folder + "/" + name, 0o600)
+    return read(program, name)
+
+
+def flipped(content, chance):
+    place = chance.randrange(len(content) * 8)
+    damaged = bytearray(content)
+    damaged[place // 8] ^= 1 << place % 8
+    return "bit %d flipped" % place, bytes(damaged)
+
+
+def page_of(content, number):
+    return content[number * PAGE : (number + 1) * PAGE]
+
+
+def with_page(content, number, page):
+    return content[: number * PAGE] + page + content[(number + 1) * PAGE :]
+
+
+def zeroed(content, older, chance):
+    number = chance.randrange(len(content) // PAGE)
+    return "page %d of zeros" % (number + 1), with_page(content, number, bytes(PAGE))
+
+
+def swapped(content, older, chance):
+    one, other = chance.sample(range(len(content) // PAGE), 2)
+    first = with_page(content, one, page_of(content, other))
+    return "pages %d and %d swapped" % (one + 1, other + 1), with_page(first, other, page_of(content, one))
+
+
+def set_back(content, older, chance):
+    changed = [number for number in range(len(older) // PAGE) if page_of(older, number) != page_of(content, number)]
+    number = chance.choice(changed)
+    return "page %d set back" % (number + 1), with_page(content, number, page_of(older, number))
+
+
+def repaged(content, older, chance):
+    return chance.choice([zeroed, swapped, set_back])(content, older, chance)
+
+
+def cut(content, chance):
+    length = chance.randrange(1, len(content))
+    return "cut to %d bytes" % length, content[:length]
+
+
+class Counts:
+    """How damaged files were answered."""
+
+    def __init__(self, what):
+        self.what, self.refused, self.right, self.wrong = what, 0, 0, []
+
+    def take(self, damage, came, due):
+        if all(answer is None for answer in came):
+            self.refused += 1
+        elif all(answer in (None, DOWN, right) for answer, right in zip(came, due)):
+            self.right += 1
+        else:
+            self.wrong.append(damage)
+
+    def tell(self, allows_wrong):
+        if self.wrong and not allows_wrong:
+            raise Wrong("%s, answered wrongly: %s" % (self.what, ", ".join(self.wrong)))
+        kind = "counted" if allows_wrong else "right"
+        print("%s: %s: %d refused, %d answered rightly or by 503, %d wrongly" % (kind, self.what, self.refused, self.right, len(self.wrong)))
+
+
+def damage_all(program, what, content, older, due, has_sums):
+    chance = random.Random(SEED)
+    kinds = [
+        ("%d bits flipped one at a time" % FLIPS, FLIPS, lambda: flipped(content, chance), not has_sums),
+        ("%d pages zeroed, swapped or set back" % PAGES, PAGES, lambda: repaged(content, older, chance), True),
+        ("cut off %d times" % CUTS, CUTS, lambda: cut(content, chance), False),
+    ]
+    for kind, count, damaged, allows_wrong in kinds:
+        counts = Counts("%s of %d bytes, %s" % (what, len(content), kind))
+        for _ in range(count):
+            damage, bytes_left = damaged()
+            write(program, "damaged.db", bytes_left)
+            counts.take(damage, answers(program, "damaged.db"), due)
+            forget(program, "damaged.db")
+        counts.tell(allows_wrong)
+
+
+def look_at_files(program):
+    older, newer = made(program, "whole.db")
+    said("a new file has sums", newer[RESERVED_AT], SUM_BYTES)
+    due = answers(program, "whole.db")
+    if None in due or not all(answer.startswith(b"HTTP/1.1 20") for answer in due):
+        raise Wrong("the file as it was left: %s" % due)
+    damage_all(program, "a file with sums", newer, older, due, True)
+    plain_older, plain = without_sums(program, "older.db", older), without_sums(program, "plain.db", newer)
+    said("one that sqlite3 made has none", plain[RESERVED_AT], 0)
+    said("the same rows", answers(program, "plain.db"), due)
+    damage_all(program, "a file without sums", plain, plain_older, due, False)
+
+
+# ----------------------------------------------------------------------------------------------------
+# The log beside the file of a killed service
+# ----------------------------------------------------------------------------------------------------
+
+
+def logged(program, name):
+    """A file and its log, as a kill leaves them, and all that was acknowledged, one answer after the other."""
+    question = [("beta", b"GET", b"/state/net", b"")]
+    made(program, name)
+    seen = answers(program, name, question)
+    service = Service(program, name, 1 + 2 * len(LOGGED))
+    try:
+        for asked in LOGGED:
+            came = service.asked(asked)
+            if came is None or not came.startswith(b"HTTP/1.1 200 "):
+                raise Wrong("%s: %s" % (asked[:3], came))
+            seen.append(service.asked(question[0]))
+    finally:
+        service.kill()
+    return read(program, name), read(program, name + "-wal"), seen
+
+
+def look_at_logs(program):
+    content, log, seen = logged(program, "killed.db")
+    write(program, "left.db", content)
+    write(program, "left.db-wal", log)
+    question = [("beta", b"GET", b"/state/net", b"")]
+    said("what a killed service acknowledged last", answers(program, "left.db", question), seen[-1:])
+    forget(program, "left.db")
+    chance = random.Random(SEED)
+    counts, older = {"refused": 0, "the newest": 0, "an older one": 0}, []
+    damages = [flipped(log, chance) for _ in range(FLIPS // 3)] + [cut(log, chance) for _ in range(CUTS)]
+    for damage, bytes_left in damages:
+        write(program, "left.db", content)
+        write(program, "left.db-wal", bytes_left)
+        (came,) = answers(program, "left.db", question)
+        forget(program, "left.db")
+        if came is None or came == DOWN:
+            counts["refused"] += 1
+        elif came not in seen:
+            raise Wrong("a log with %s gives what was never acknowledged: %s" % (damage, came[:200]))
+        else:
+            counts["the newest" if came == seen[-1] else "an older one"] += 1
+    told = ", ".join("%d %s" % (count, what) for what, count in counts.items())
+    print("right: a log of %d bytes beside the file of a killed service, %d bits flipped and cut off %d times: each gives a state that was once acknowledged, or none: %s" % (len(log), FLIPS // 3, CUTS, told))
+
+
+if __name__ == "__main__":
+    look_at(__doc__, look_at_files, look_at_logs)
