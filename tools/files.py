@@ -3,7 +3,7 @@
 
     python3 tools/files.py CUSTODY    the program as `rt ci` or `rt run` leaves it
 
-A file behind a link is told of by its own mode and by that of its log. One program at a time has a file. A file that sqlite3
+A file behind a link is told of by its own mode and by that of its log. A file that isn't opened is told why. One program at a time has a file. A file that sqlite3
 wrote to, and whose sums (those of SQLite's cksumvfs, which a new file has) it spoiled so, comes back by a dump. What damage
 does is looked at by flips.py. It prints a line for each thing that holds, and ends with status 1 at the first that doesn't.
 """
@@ -13,9 +13,17 @@ import shutil
 import sqlite3
 import subprocess
 
-from program import PATIENCE, exchanged, free_port, look_at, reply, request, said
+from program import NEW_FILE, PATIENCE, exchanged, free_port, look_at, reply, request, said
 
 READABLE = b"custody: others than its owner may read the file or its log: chmod 600 ends that\n"
+IN_USE = b"custody: another program has the file open\n"
+NOT_PERMITTED = b"custody: the file or its folder may not be read and written\n"
+NO_FILE = b"custody: the path leads to no file, or to one with more than one hard link\n"
+NO_FOLDER = b"custody: the folder of the file isn't there\n"
+JOURNAL = b"custody: a rollback journal lies beside the file: open it with sqlite3 first\n"
+CORRUPT = b"custody: the file is damaged: a page's sum or form is wrong\n"
+UNSOUND = b"custody: the file is damaged or no database: its rows break its schema\n"
+NO_ROOM = b"custody: there is no room on the disk\n"
 SECRET = b"adminadminadmin1\n"
 
 TEXTS = [b'{"serial":%d,"x":"%s"}' % (serial, b"%d " % serial * 9000) for serial in (1, 2)]
@@ -40,7 +48,7 @@ class Service:
 
 def filled(program, path):
     """A file with an organization, a workspace and two versions of two pages; closed."""
-    said("an organization", program.run(["org-add", "--db", path, "acme"]), (0, b"ok\n", b""))
+    said("an organization", program.run(["org-add", "--db", path, "acme"]), (0, b"ok\n", NEW_FILE))
     said("a token", program.run(["token-add", "--db", path, "acme", "root", "admin"], SECRET), (0, b"ok\n", b""))
     service = Service(program, path, 1 + len(TEXTS))
     exchanged(service.port, request(b"PUT /v1/acme/workspaces/net HTTP/1.1"))
@@ -54,7 +62,7 @@ def look_at_modes(program):
     os.mkdir(program.folder + "/there")
     os.symlink("there/real.db", program.folder + "/link.db")
     path, real = "link.db", program.folder + "/there/real.db"
-    program.is_due("a link to nothing is no file", ["org-list", "--db", path], 3, b"refused down\n")
+    program.is_due("a link to nothing is no file", ["org-list", "--db", path], 3, b"refused down\n", NO_FILE)
     filled(program, "there/real.db")
     lists = ["org-list", "--db", path]
     program.is_due("a file behind a link opens", lists, 0, b"acme 1 200\n")
@@ -77,8 +85,8 @@ def look_at_owners(program):
     try:
         before = open(program.folder + "/one.db", "rb").read()
         for words in (["org-list", "--db", "one.db"], ["org-add", "--db", "one.db", "beta"]):
-            program.is_due("a second program is refused the file", words, 3, b"refused down\n")
-        program.is_due("a second service, too", ["serve", "--db", "one.db", "--port", str(free_port()), "--count", "1"], 3, b"refused down\n")
+            program.is_due("a second program is refused the file", words, 3, b"refused down\n", IN_USE)
+        program.is_due("a second service, too", ["serve", "--db", "one.db", "--port", str(free_port()), "--count", "1"], 3, b"refused down\n", IN_USE)
         said("the file", open(program.folder + "/one.db", "rb").read() == before, True)
         for _ in range(2):
             said("the first goes on", exchanged(service.port, request(b"GET /v1/acme/state/net HTTP/1.1")), reply(b"200 OK", TEXTS[-1]))
@@ -98,6 +106,43 @@ def is_right(program, path):
     finally:
         service.kill()
     return (newest, first) == (reply(b"200 OK", TEXTS[1]), reply(b"200 OK", TEXTS[0]))
+
+
+def look_at_reasons(program):
+    """A file that isn't opened is told why, and stays as it is."""
+    filled(program, "good.db")
+    folder, lists = program.folder, ["org-list", "--db", "bad.db"]
+    good = open(folder + "/good.db", "rb").read()
+
+    def refused(what, why, path="bad.db"):
+        program.is_due("told: %s" % what, ["org-list", "--db", path], 3, b"refused down\n", why)
+
+    refused("a folder that isn't there", NO_FOLDER, "nowhere/bad.db")
+    refused("a folder in the place of a file", NO_FILE, ".")
+    refused("a path that is no file's name", NO_FILE, ":memory:")
+    shutil.copyfile(folder + "/good.db", folder + "/bad.db")
+    os.chmod(folder + "/bad.db", 0o600)
+    os.link(folder + "/bad.db", folder + "/other.db")
+    refused("two hard links", NO_FILE)
+    os.remove(folder + "/other.db")
+    with open(folder + "/bad.db-journal", "wb") as journal:
+        journal.write(b"\xd9\xd5\x05\xf9\x20\xa1\x63\xd7")
+    refused("a rollback journal", JOURNAL)
+    os.remove(folder + "/bad.db-journal")
+    program.is_due("without them it opens", lists, 0, b"acme 1 200\n")
+    for what, damaged, why in [
+        ("a page with a wrong sum", good[:5000] + bytes([good[5000] ^ 1]) + good[5001:], CORRUPT),
+        ("no database", b"no database", UNSOUND),
+    ]:
+        with open(folder + "/bad.db", "wb") as file:
+            file.write(damaged)
+        refused(what, why)
+        said("the file", open(folder + "/bad.db", "rb").read() == damaged, True)
+    os.remove(folder + "/bad.db")
+    # (who may read everything isn't refused)
+    if os.getuid():
+        os.mkdir(folder + "/closed", 0o500)
+        refused("a folder that may not be written", NOT_PERMITTED, "closed/bad.db")
 
 
 def dumps_of(path):
@@ -125,7 +170,7 @@ def look_at_spoiled(program):
     writer.execute("UPDATE org SET cap = 7")
     writer.commit()
     writer.close()
-    program.is_due("a file that sqlite3 wrote to is refused", ["org-list", "--db", "spoiled.db"], 3, b"refused down\n")
+    program.is_due("a file that sqlite3 wrote to is refused", ["org-list", "--db", "spoiled.db"], 3, b"refused down\n", CORRUPT)
     for name, dump in dumps_of(path):
         fresh = sqlite3.connect(program.folder + "/" + name, isolation_level=None)
         fresh.executescript(dump)
@@ -137,4 +182,4 @@ def look_at_spoiled(program):
 
 
 if __name__ == "__main__":
-    look_at(__doc__, look_at_modes, look_at_owners, look_at_spoiled)
+    look_at(__doc__, look_at_modes, look_at_owners, look_at_reasons, look_at_spoiled)

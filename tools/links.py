@@ -319,7 +319,7 @@ LOOKS = {
 
 def fill(program):
     """A file with an organization, a token, and a workspace with a state."""
-    said("an organization", program.run(["org-add", "--db", "t.db", "acme"]), (0, b"ok\n", b""))
+    said("an organization", program.run(["org-add", "--db", "t.db", "acme"])[:2], (0, b"ok\n"))
     added = program.run(["token-add", "--db", "t.db", "acme", "root", "admin"], b"adminadminadmin1\n")
     said("a token", added, (0, b"ok\n", b""))
     with Service(program, 2) as service:

@@ -23,6 +23,9 @@ FULL = "/dev/full"
 
 SECRET_FORM = b"custody: the secret isn't one line of 16 to 64 ASCII letters or digits\n"
 LEFT_EARLY = b"custody: connection %d: the peer closed before its request was whole\n"
+NEW_FILE = b"custody: there was no file at the path: a new one was made\n"
+UNREAD = b"custody: the input can't be read, or memory was refused\n"
+PORT_TAKEN = b"custody: the port is taken\n"
 MADE = b'{"auto_apply":false,"holder":null,"keep_versions":100,"name":"net","version":null}'
 STATE = b'{"version":4,"serial":1,"lineage":"a1","x":"HTTP/1.1 503 is here"}'
 
@@ -66,7 +69,7 @@ def look_at_words(program):
     add = ["org-add", "--db", "t.db", "acme"]
     token = ["token-add", "--db", "t.db", "acme", "root", "admin"]
     secret = b"adminadminadmin1\n"
-    program.is_due("an organization is added", add, 0, b"ok\n")
+    program.is_due("an organization is added, in a new file", add, 0, b"ok\n", NEW_FILE)
     program.is_due("and is there already", add, 1, b"refused exists\n")
     program.is_due("one that isn't there is told", ["token-list", "--db", "t.db", "beta"], 1, b"refused absent\n")
     program.is_due("a token's secret is the standard input", token, 0, b"ok\n", given=secret)
@@ -113,8 +116,8 @@ def look_at_streams(program):
     process = program.start(["replay"], folder)
     os.close(folder)
     output, errors = process.communicate(timeout=PATIENCE)
-    said("an input that can't be read", (process.returncode, output, errors), (3, b"refused down\n", b""))
-    print("right: an input that can't be read is status 3")
+    said("an input that can't be read", (process.returncode, output, errors), (3, b"refused down\n", UNREAD))
+    print("right: an input that can't be read is status 3, and told")
 
 
 # ----------------------------------------------------------------------------------------------------
@@ -183,7 +186,7 @@ def look_at_service(program):
         other.bind(("127.0.0.1", 0))
         other.listen()
         words = ["serve", "--db", "t.db", "--port", str(other.getsockname()[1]), "--count", "1"]
-        program.is_due("a port that is taken", words, 3, b"refused down\n")
+        program.is_due("a port that is taken", words, 3, b"refused down\n", PORT_TAKEN)
 
 
 def look_at(doc, *looks):

@@ -49,6 +49,13 @@ LENGTHS = [len(DOWN), len(DOWN_HEAD), len(CONTINUE + DOWN)]
 TOLD_DOWN = b"custody: connection %d: memory or the store was refused, answered 503\n"
 LOG_STAYS = b"custody: the log could not be copied into the file: keep the file and its log together\n"
 REFUSED = (3, b"refused down\n")
+# What the error stream is told where a file is made; where memory is refused the line may be missing. And why `refused down`.
+NEW_FILE = b"custody: there was no file at the path: a new one was made\n"
+CAUSES = [
+    b"custody: memory was refused\n",
+    b"custody: memory or the store refused, and nothing changed\n",
+    b"custody: the input can't be read, or memory was refused\n",
+]
 
 # The stories whose frames are replayed too; the first one from its first frame on.
 REPLAYED = [
@@ -421,7 +428,7 @@ def refuse_service(custody, library, story, folder):
     commands = [(parts, step) for parts, step in before if isinstance(step[1], str)]
     for parts, (_, sent, _) in commands:
         words, secret = words_of(sent)
-        subprocess.run([custody] + words, input=secret, stdout=subprocess.DEVNULL, check=True, cwd=folder)
+        subprocess.run([custody] + words, input=secret, stdout=subprocess.DEVNULL, stderr=subprocess.DEVNULL, check=True, cwd=folder)
         due.take(parts[0])
     words = [custody, "serve", "--db", "t.db", "--port", "8090", "--count", "1000000", "--idle", "3600", "--most", "3600"]
     with Program(library, "accept", words, folder) as program:
@@ -480,7 +487,7 @@ def refuse_frames(custody, library, steps, folder, counts, first):
     due = stories.printed(steps)
 
     def judge(status, out, errors):
-        if errors or (status, out) not in [(0, due), REFUSED]:
+        if (status, out) not in [(0, due), REFUSED] or errors not in (CAUSES if status else [b""]):
             raise Wrong("status %d, %s, %s" % (status, out[:400], errors))
         return status == 0
 
@@ -515,9 +522,11 @@ class Command:
             file = File(room)
             file.put_back(found)
             done = subprocess.run(self.words, input=self.given, capture_output=True, cwd=room)
+            made = NEW_FILE if found[0] is None else b""
             if (done.returncode, done.stdout) != (self.status, self.printed) or file.rows() != self.rows[True]:
                 raise Wrong("with memory: status %d, %s, rows %s" % (done.returncode, done.stdout, file.rows()))
-        if not all(why in done.stderr for why in self.whys) or done.stderr and not self.whys:
+        told = done.stderr.removeprefix(made)
+        if not all(why in told for why in self.whys) or told and not self.whys:
             raise Wrong("with memory the error stream has %s" % done.stderr)
         return done.stderr
 
@@ -527,7 +536,8 @@ class Command:
             raise Wrong("status %d, %s, %s" % (status, out, errors))
         if self.file.rows() != self.rows[is_right]:
             raise Wrong("after %s the rows are %s" % (out, self.file.rows()))
-        if errors not in [self.errors if is_right else b"", LOG_STAYS]:
+        told = errors.removeprefix(NEW_FILE).removesuffix(LOG_STAYS)
+        if told not in ([self.errors.removeprefix(NEW_FILE)] if is_right else CAUSES):
             raise Wrong("after %s the error stream has %s" % (out, errors))
         if not is_right:
             self.look_again()

@@ -2,7 +2,8 @@
 #![tactic(auto)]
 
 use program::endings::{Ending, unread};
-use program::replies::say;
+use program::reasons::Cause;
+use program::replies::{refuse, say};
 use std::io::BufWriter;
 use std::process::ExitCode;
 use std::{env, io};
@@ -13,17 +14,24 @@ fn read_arguments(rt: &HostRuntime) -> io::Result<Vec<String>> {
     Ok(words)
 }
 
+fn refuse_memory(rt: &HostRuntime) -> u8 {
+    refuse(&mut rt.stdout(), &mut rt.stderr(), Cause::NoMemory).status()
+}
+
 fn run_buffered(rt: &HostRuntime, words: &[String]) -> u8 {
     match BufWriter::new(rt.alloc(), rt.stdout()) {
         Ok(mut output) => run_here(rt, words, &mut rt.stdin(), &mut output, &mut rt.stderr()),
-        Err(_) => say(&mut rt.stdout(), Ending::Down).status(),
+        Err(_) => refuse_memory(rt),
     }
 }
 
 fn run(rt: &HostRuntime) -> u8 {
     match read_arguments(rt) {
         Ok(words) => run_buffered(rt, words.as_slice()),
-        Err(error) => say(&mut rt.stdout(), unread(error.kind())).status(),
+        Err(error) => match unread(error.kind()) {
+            Ending::Down => refuse_memory(rt),
+            ending => say(&mut rt.stdout(), ending).status(),
+        },
     }
 }
 

@@ -1,10 +1,13 @@
 //! A database in memory, in the place of one in a file.
-ghost use Rattle.std.specs.Prelude.{◌≡◌, Some};
+ghost use Rattle.std.specs.Prelude.{◌≡◌, ◌≢◌, Some, not, is_some};
 ghost use Rattle.fakes.specs.Files.{IsKeptStore};
+ghost use Rattle.program.specs.declared.reasons.Cause.TheVariants as cause;
+ghost use Rattle.program.specs.declared.reasons.OpenFault.TheVariants as fault;
 
 use basis::{Bytes, Down};
-use machine::{Fault, Keep, PlainKeep};
+use machine::{Keep, PlainKeep};
 use program::outside::Files;
+use program::reasons::{Cause, OpenFault};
 use program::replays::replay_over;
 use serve::Step;
 use std::alloc::Global;
@@ -40,18 +43,26 @@ impl Files<PlainKeep> for MemoryFile<'_> {
 
     ghost copied = { λ files path store. (path ≡ files.path.now) × (files.store ≡ Some store) };
 
-    ghost is_other = { λ _ _. ⊥ };
+    // None but another path is refused.
+    ghost refuses = { λ files path why. (path ≢ files.path.now) × (why ≡ fault.Down cause.NoFile) };
+
+    // Of other paths nothing is said.
+    ghost lacks = { λ files path answer. path ≡ files.path.now → is_some files.store ≡ not answer };
 
     // Nor is it whether others may read what lies there.
     ghost reads = { λ files path answer. path ≡ files.path.now → answer ≡ files.is_readable };
+
+    fn is_absent(&self, _path: &str) -> bool {
+        self.store.is_none()
+    }
 
     fn others_may_read(&self, _path: &str) -> bool {
         self.is_readable
     }
 
-    fn open(&mut self, path: &str) -> Result<PlainKeep, Fault> {
+    fn open(&mut self, path: &str) -> Result<PlainKeep, OpenFault> {
         if path != self.path {
-            return Err(Fault::Down);
+            return Err(OpenFault::Down(Cause::NoFile));
         }
         match self.store.take() {
             Some(store) => Ok(store),

@@ -4,6 +4,7 @@ ghost use Rattle.fakes.specs.Peers.{AcceptsNext, IsBound};
 
 use basis::{Bytes, Down};
 use program::outside::Connections;
+use program::reasons::Cause;
 use program::timeouts::Timeouts;
 use std::alloc::Global;
 use std::io;
@@ -75,7 +76,7 @@ impl<'a> Connections for MemoryPeers<'a> {
 
     ghost ends = { λ old _ writer new. (new.is_lost ≡ true) ⊎ IfSome (⟦<ToWrite<Sipped> as Outlet>⟧.written writer) (λ bytes. new.got.items ≡ old.got.items ++ bytes ∷ []) };
 
-    fn bind(&mut self, address: Ipv4Addr, port: u16) -> Result<u16, Down> {
+    fn bind(&mut self, address: Ipv4Addr, port: u16) -> Result<u16, Cause> {
         self.bound = Some((address, port));
         Ok(port)
     }

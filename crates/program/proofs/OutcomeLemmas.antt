@@ -12,7 +12,8 @@ use Rattle.std.specs.Io.KnownBytes.{Appends}
 use Rattle.program.specs.declared.endings.Ending.{Ending}
 use Rattle.program.specs.declared.endings.Ending.TheVariants.{Done, Exists, Absent, Usage, BadFrame, Schema, Down, Unprinted}
 use Rattle.program.specs.Endings.{ending_line}
-use Rattle.program.specs.Outcomes.{Stream, stream, Gets, Says, IsSaid, ReplaysFrames, ServesAt, TellsAnswer, IsOperated}
+use Rattle.program.specs.declared.reasons.Cause.TheVariants as cause
+use Rattle.program.specs.Outcomes.{Stream, stream, Gets, Says, IsSaid, ReplaysFrames, Refuses, ServesAt, TellsAnswer, IsOperated}
 use Rattle.program.specs.Replies.{AnswersFrames, printed, bad_frame_text, answer_line}
 use Rattle.program.specs.Serving.{Listens, listening_line}
 
@@ -55,9 +56,9 @@ served Down result old mid new listens down other = go listens (down refl)
     go (inl same) (inl h) = subst (λ (e : Ending). ServesAt e (stream old new)) (sym h.0) (inl (subst (λ (o : Option (List ℕ)). Appends o new (answer_line (ending_line Down))) same h.1))
     go (inr told) (inl h) = subst (λ (e : Ending). ServesAt e (stream old new)) (sym h.0) (inr (told.0, Appends-then old mid new (listening_line told.0) (answer_line (ending_line Down)) told.1 h.1))
 
--- an answer is told as it is, and where there is none `refused down`
-pub operated : (at : ℕ) (command : Admin) (old new : List ℕ → Option Organization) (e : Ending) (output : Stream) (res : Result AdminAnswer BasisDown)
+-- an answer is told as it is, and where there is none `refused down`, with its cause
+pub operated : (at : ℕ) (command : Admin) (old new : List ℕ → Option Organization) (e : Ending) (output errors : Stream) (res : Result AdminAnswer BasisDown)
     → IfOk res (λ answer. CarriesOut (commands at command) old new × IsAdminAnswer old command answer) → OnErr res (Stays old new)
-    → IfOk res (λ answer. TellsAnswer command answer e output) → OnErr res (IsSaid Down e output.old output.new) → IsOperated command old new e output
-operated at command old new e output (Ok answer) done stays tells down = inl (answer, at, done.0, done.1, tells)
-operated at command old new e output (Err d) done stays tells down = inr (stays, down)
+    → IfOk res (λ answer. TellsAnswer command answer e output × (errors.new ≡ errors.old)) → OnErr res (Refuses cause.Store e output errors) → IsOperated command old new e output errors
+operated at command old new e output errors (Ok answer) done stays tells down = inl (answer, at, done.0, done.1, tells.0, tells.1)
+operated at command old new e output errors (Err d) done stays tells down = inr (stays, down)

@@ -3,6 +3,10 @@ use Rattle.std.specs.Prelude.{◌≡◌, ◌++◌, ℕ, List, [], ◌∷◌, Boo
 use Rattle.std.specs.Io.KnownBytes.{Appends}
 use Rattle.serve.specs.declared.exchanges.LinkFault.{LinkFault}
 use Rattle.serve.specs.declared.exchanges.LinkFault.TheVariants.{Ended, Read, Continue, Write}
+use Rattle.program.specs.declared.reasons.Cause.{Cause}
+use Rattle.program.specs.declared.reasons.Cause.TheVariants.{InUse, NotPermitted, NoFile, NoFolder, Journal, Corrupt, Unsound, NoRoom, NoMemory, Disk, Store, Input, PortTaken, PortNotPermitted, Port, Accept, Clock}
+use Rattle.program.specs.declared.reasons.OtherSchema.{OtherSchema}
+use Rattle.program.specs.declared.reasons.OtherSchema.TheVariants.{Version, Untold}
 
 -- the stream got the text, or a front of it
 abbrev pub GetsFront : Option (List ℕ) → Option (List ℕ) → List ℕ → Type 0
@@ -45,3 +49,40 @@ readers_line = codes "custody: others than its owner may read the file or its lo
 -- what is told where a secret doesn't read
 abbrev pub secret_line : List ℕ
 secret_line = codes "custody: the secret isn't one line of 16 to 64 ASCII letters or digits\n"
+
+-- what is told where no file lay at a path, and one was made
+abbrev pub new_line : List ℕ
+new_line = codes "custody: there was no file at the path: a new one was made\n"
+
+-- why `refused down`: one line for each cause
+abbrev pub cause_line : Cause → List ℕ
+cause_line InUse = codes "custody: another program has the file open\n"
+cause_line NotPermitted = codes "custody: the file or its folder may not be read and written\n"
+cause_line NoFile = codes "custody: the path leads to no file, or to one with more than one hard link\n"
+cause_line NoFolder = codes "custody: the folder of the file isn't there\n"
+cause_line Journal = codes "custody: a rollback journal lies beside the file: open it with sqlite3 first\n"
+cause_line Corrupt = codes "custody: the file is damaged: a page's sum or form is wrong\n"
+cause_line Unsound = codes "custody: the file is damaged or no database: its rows break its schema\n"
+cause_line NoRoom = codes "custody: there is no room on the disk\n"
+cause_line NoMemory = codes "custody: memory was refused\n"
+cause_line Disk = codes "custody: the disk or the system refused\n"
+cause_line Store = codes "custody: memory or the store refused, and nothing changed\n"
+cause_line Input = codes "custody: the input can't be read, or memory was refused\n"
+cause_line PortTaken = codes "custody: the port is taken\n"
+cause_line PortNotPermitted = codes "custody: the port isn't permitted\n"
+cause_line Port = codes "custody: the port can't be listened at\n"
+cause_line Accept = codes "custody: a connection could not be accepted\n"
+cause_line Clock = codes "custody: the clock can't be read, or is out of range\n"
+
+-- how the line on a version ends
+abbrev pub version_end : List ℕ
+version_end = codes " of the schema: it isn't known here, or its tables are others\n"
+
+-- the line on a file that tells this version, which isn't known, or has other tables
+abbrev pub version_line : ℕ → List ℕ
+version_line version = codes "custody: the file tells version " ++ (decimal version ++ version_end)
+
+-- why `refused schema`
+abbrev pub other_line : OtherSchema → List ℕ
+other_line (Version version) = version_line version
+other_line Untold = codes "custody: tables in the file have names of this schema, and none tells its version\n"

@@ -16,7 +16,11 @@ use Rattle.serve.specs.Service.{Carries as CarriesOut, IsAdminAnswer, Stays, org
 use Rattle.program.specs.declared.endings.Ending.{Ending}
 use Rattle.program.specs.declared.endings.Ending.TheVariants as ending
 use Rattle.program.specs.Endings.{ending_line}
-use Rattle.program.specs.Errors.{GetsFront, log_line, readers_line, secret_line}
+use Rattle.program.specs.Errors.{GetsFront, log_line, readers_line, secret_line, new_line, cause_line, other_line}
+use Rattle.program.specs.declared.reasons.Cause.{Cause}
+use Rattle.program.specs.declared.reasons.Cause.TheVariants as cause
+use Rattle.program.specs.declared.reasons.OtherSchema.{OtherSchema}
+use Rattle.program.specs.declared.reasons.OpenFault.TheVariants as fault
 use Rattle.program.specs.Frames.{AreFrames}
 use Rattle.program.specs.declared.outside.Files as files
 use Rattle.command_line.specs.Orders.{Asked, carries, adds_token, serves, replays}
@@ -119,12 +123,20 @@ TellsAnswer (TokenAdd org name role secret bounds) answer e output = TellsWord a
 TellsAnswer (TokenList org) answer e output = TellsTokens answer e output
 TellsAnswer (TokenRevoke org name) answer e output = TellsWord answer e output
 
+-- the error stream is told the cause of `refused down`
+abbrev pub TellsCause : Cause → Stream → Type 0
+TellsCause why errors = GetsFront errors.old errors.new (cause_line why)
+
+-- `refused down` is printed, and the error stream is told the cause
+abbrev pub Refuses : Cause → Ending → Stream → Stream → Type 0
+Refuses why e output errors = IsSaid ending.Down e output.old output.new × TellsCause why errors
+
 -- an operator's command was carried out, each record as the machine leaves it, and its answer by the records before was
--- told; or memory or the store refused, and no record changed
-abbrev pub IsOperated : Admin → (List ℕ → Option Organization) → (List ℕ → Option Organization) → Ending → Stream → Type 0
-IsOperated command old new e output =
-    ((answer : AdminAnswer) × (at : ℕ) × CarriesOut (commands at command) old new × IsAdminAnswer old command answer × TellsAnswer command answer e output)
-    ⊎ (Stays old new × IsSaid ending.Down e output.old output.new)
+-- told; or memory or the store refused, which is told, and no record changed
+abbrev pub IsOperated : Admin → (List ℕ → Option Organization) → (List ℕ → Option Organization) → Ending → Stream → Stream → Type 0
+IsOperated command old new e output errors =
+    ((answer : AdminAnswer) × (at : ℕ) × CarriesOut (commands at command) old new × IsAdminAnswer old command answer × TellsAnswer command answer e output × (errors.new ≡ errors.old))
+    ⊎ (Stays old new × Refuses cause.Store e output errors)
 
 -- `refused usage` on the standard output, and why on the error stream
 abbrev pub RefusesUsage : Ending → Stream → Stream → Type 0
@@ -167,7 +179,7 @@ ReplaysToBad bytes output errors =
 abbrev pub ReplaysFrames : Option (List ℕ) → Ending → Stream → Stream → Type 0
 ReplaysFrames input ending.Done output errors = IfSome input (λ bytes. Replays bytes false output.old output.new)
 ReplaysFrames input ending.BadFrame output errors = IfSome input (λ bytes. ReplaysToBad bytes output errors)
-ReplaysFrames input ending.Down output errors = Says ending.Down output
+ReplaysFrames input ending.Down output errors = Says ending.Down output × TellsCause cause.Input errors
 ReplaysFrames input ending.Unprinted output errors = ⊤
 ReplaysFrames input e output errors = ⊥
 
@@ -183,7 +195,7 @@ Does replays input e output errors = ReplaysFrames input e output errors
 abbrev pub RefusesWords : List (List ℕ) → Ending → Stream → Stream → Type 0
 RefusesWords words ending.Done output errors = AskForHelp words × (output.new ≡ output.old) × GetsSome errors
 RefusesWords words ending.Usage output errors = (AreNoCommand words ⊎ (asked_in words ≡ None)) × RefusesUsage ending.Usage output errors
-RefusesWords words ending.Down output errors = Says ending.Down output
+RefusesWords words ending.Down output errors = Says ending.Down output × TellsCause cause.NoMemory errors
 RefusesWords words ending.Unprinted output errors = ⊤
 RefusesWords words e output errors = ⊥
 
@@ -201,15 +213,26 @@ abbrev pub TellsOfReaders : Bool → Stream → Type 0
 TellsOfReaders true errors = GetsFront errors.old errors.new readers_line
 TellsOfReaders false errors = errors.new ≡ errors.old
 
+-- the error stream is told that a file is made, where none lay at its path, and else nothing
+abbrev pub TellsOfNew : Bool → Stream → Type 0
+TellsOfNew true errors = GetsFront errors.old errors.new new_line
+TellsOfNew false errors = errors.new ≡ errors.old
+
+-- both are told, in this order
+abbrev pub TellsOfFile : Bool → Bool → Stream → Type 0
+TellsOfFile is_new others_may_read errors = (mid : Option (List ℕ)) × TellsOfNew is_new (stream errors.old mid) × TellsOfReaders others_may_read (stream mid errors.new)
+
 -- the log of a file is copied into it, or the error stream is told that it stays beside it
 abbrev pub TellsOfLog : Type 0 → Stream → Type 0
 TellsOfLog IsCopied errors = (IsCopied × (errors.new ≡ errors.old)) ⊎ GetsFront errors.old errors.new log_line
 
 module _ {K F : Type 0} (k : keep.Ghosts K) (f : files.Ghosts F K) where
-  -- what lies at a path isn't opened, and at each path all stays: memory or the store refuses, or it is of another schema
+  -- what lies at a path isn't opened, and at each path all stays: memory or the store refuses, or it is of another schema;
+  -- and the error stream is told why
   abbrev pub RefusesToOpen : List ℕ → F → F → Ending → Stream → Stream → Type 0
   RefusesToOpen path old new e output errors =
-      AllStay f.holds old new × (errors.new ≡ errors.old) × (IsSaid ending.Down e output.old output.new ⊎ (f.is_other old path × IsSaid ending.Schema e output.old output.new))
+      AllStay f.holds old new × (((why : Cause) × f.refuses old path (fault.Down why) × Refuses why e output errors)
+      ⊎ ((other : OtherSchema) × f.refuses old path (fault.Schema other) × IsSaid ending.Schema e output.old output.new × GetsFront errors.old errors.new (other_line other)))
 
   -- an operator's command was carried out on what lay at a path; what that left lies there now, and nothing else changed
   pub record Operates (path : List ℕ) (command : Admin) (old new : F) (e : Ending) (output errors : Stream) : Type 0 where
@@ -220,12 +243,16 @@ module _ {K F : Type 0} (k : keep.Ghosts K) (f : files.Ghosts F K) where
     pub others : OthersStay f.holds path old new
     pub so_far : k.clean after → k.clean before
     pub kept : k.clean after → k.sound before → k.sound after
-    pub model : k.clean after → k.sound before → IsOperated command (k.rows before) (k.rows after) e output
+    pub is_new : Bool
+    pub sought : f.lacks old path is_new
     pub others_may_read : Bool
     pub looked : f.reads old path others_may_read
     pub noted : Option (List ℕ)
-    pub readers : TellsOfReaders others_may_read (stream errors.old noted)
-    pub log : TellsOfLog (f.copied new path after) (stream noted errors.new)
+    pub tells : TellsOfFile is_new others_may_read (stream errors.old noted)
+    pub told : Option (List ℕ)
+    pub model : k.clean after → k.sound before → IsOperated command (k.rows before) (k.rows after) e output (stream noted told)
+    pub why : (told ≡ noted) ⊎ TellsCause cause.Store (stream noted told)
+    pub log : TellsOfLog (f.copied new path after) (stream told errors.new)
 
   abbrev pub OperatesAt : List ℕ → Admin → F → F → Ending → Stream → Stream → Type 0
   OperatesAt path command old new e output errors = Operates path command old new e output errors ⊎ RefusesToOpen path old new e output errors
@@ -235,7 +262,7 @@ module _ {K F : Type 0} (k : keep.Ghosts K) (f : files.Ghosts F K) where
   AddsTokenAt path adding input old new e output errors =
       ((secret : List ℕ) × IsSecretOf input secret × OperatesAt path (adding secret) old new e output errors)
       ⊎ (AllStay f.holds old new × ((HasNoSecret input × RefusesUsage e output errors × GetsFront errors.old errors.new secret_line)
-      ⊎ (RefusesDown e output × (errors.new ≡ errors.old))))
+      ⊎ (RefusesDown e output × TellsCause cause.Input errors)))
 
 -- what the program stands on besides its streams
 pub record Outside (F N C : Type 0) : Type 0 where
@@ -269,10 +296,12 @@ module _ {K F N C R W : Type 0} (k : keep.Ghosts K) (f : files.Ghosts F K) (n : 
     pub serves : k.clean after → k.sound before → Serves count (k.rows before) (k.rows after)
     pub served : Ending
     pub told : Option (List ℕ)
+    pub is_new : Bool
+    pub sought : f.lacks old.files path is_new
     pub others_may_read : Bool
     pub looked : f.reads old.files path others_may_read
     pub noted : Option (List ℕ)
-    pub readers : TellsOfReaders others_may_read (stream errors.old noted)
+    pub tells : TellsOfFile is_new others_may_read (stream errors.old noted)
     pub lines : Option (List ℕ)
     pub answers : AnswersAtPort k n c i o port timeouts count (state old.network old.clock before noted) (state new.network new.clock after lines) served output.old told
     pub says : SaysServed served e told output.new

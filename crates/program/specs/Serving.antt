@@ -11,7 +11,9 @@ use Rattle.serve.specs.Asks.{Ask}
 use Rattle.serve.specs.Exchanges.{Exchanges}
 use Rattle.serve.specs.Service.{AreAsked}
 use Rattle.serve.specs.Runs.{IsOwnRecord}
-use Rattle.program.specs.Errors.{GetsConnectionLines}
+use Rattle.program.specs.Errors.{GetsConnectionLines, GetsFront, cause_line}
+use Rattle.program.specs.declared.reasons.Cause.{Cause}
+use Rattle.program.specs.declared.reasons.Cause.TheVariants as cause
 use Rattle.program.specs.declared.endings.Ending.{Ending}
 use Rattle.program.specs.declared.endings.Ending.TheVariants as ending
 use Rattle.program.specs.declared.outside.Connections as connections
@@ -53,12 +55,12 @@ pub record State (N C K : Type 0) : Type 0 where
 abbrev pub state : {N C K : Type 0} → N → C → K → Option (List ℕ) → State N C K
 state network clock store errors = record { network = network; clock = clock; store = store; errors = errors }
 
--- no connection is accepted with these timeouts, or the clock tells no moment for it: the network and the clock before
--- and after
-abbrev pub AcceptsNone : {N C R W : Type 0} → connections.Ghosts N R W → clock.Ghosts C → Timeouts → N → N → C → C → Type 0
-AcceptsNone {N} {C} {R} {W} n c timeouts network network' clock clock' =
-    ((refused : Down) × n.accepts network timeouts (Err refused) network' × (clock' ≡ clock))
-    ⊎ ((reader : R) × (writer : W) × n.accepts network timeouts (Ok (reader, writer)) network' × c.tells clock None clock')
+-- no connection is accepted with these timeouts, or the clock tells no moment for it, and this is the cause: the network
+-- and the clock before and after
+abbrev pub AcceptsNone : {N C R W : Type 0} → connections.Ghosts N R W → clock.Ghosts C → Timeouts → N → N → C → C → Cause → Type 0
+AcceptsNone {N} {C} {R} {W} n c timeouts network network' clock clock' why =
+    ((refused : Down) × n.accepts network timeouts (Err refused) network' × (clock' ≡ clock) × (why ≡ cause.Accept))
+    ⊎ ((reader : R) × (writer : W) × n.accepts network timeouts (Ok (reader, writer)) network' × c.tells clock None clock' × (why ≡ cause.Clock))
 
 module _ {K N R W : Type 0} (k : keep.Ghosts K) (n : connections.Ghosts N R W) (i : inlet.Ghosts R) (o : outlet.Ghosts W) where
   -- the connection of this number, with these two sides, is answered by one exchange at this moment, told of on the error
@@ -91,23 +93,24 @@ module _ {K N C R W : Type 0} (k : keep.Ghosts K) (n : connections.Ghosts N R W)
   AnswersAll timeouts place [] old new = new ≡ old
   AnswersAll timeouts place (at ∷ moments) old new = (mid : State N C K) × Answers timeouts place at old mid × AnswersAll timeouts (suc place) moments mid new
 
-  -- so many connections are answered; or fewer, since no further one is accepted; or none, where the line wasn't printed
+  -- so many connections are answered; or fewer, since no further one is accepted, and the error stream is told the cause; or
+  -- none, where the line wasn't printed
   abbrev pub AnswersCount : Timeouts → ℕ → State N C K → State N C K → Ending → Type 0
   AnswersCount timeouts count old new ending.Done = (moments : List ℕ) × (length moments ≡ count) × AnswersAll timeouts 1 moments old new
   AnswersCount timeouts count old new ending.Down =
       (moments : List ℕ) × (last : State N C K) × (length moments < count) × AnswersAll timeouts 1 moments old last
-      × AcceptsNone n c timeouts last.network new.network last.clock new.clock × (new.store ≡ last.store) × (new.errors ≡ last.errors)
+      × (why : Cause) × AcceptsNone n c timeouts last.network new.network last.clock new.clock why × (new.store ≡ last.store) × GetsFront last.errors new.errors (cause_line why)
   AnswersCount timeouts count old new ending.Unprinted = new ≡ old
   AnswersCount timeouts count old new other = ⊥
 
   -- the loopback address is bound at a port, and nothing else is; the port that it gave is told, and so many connections
-  -- are answered; or it can't be bound
+  -- are answered; or it can't be bound, and the error stream is told the cause
   abbrev pub AnswersAtPort : ℕ → Timeouts → ℕ → State N C K → State N C K → Ending → Option (List ℕ) → Option (List ℕ) → Type 0
   AnswersAtPort port timeouts count old new e before after =
       ((bound : N) × (given : ℕ) × n.binds old.network loopback port (Ok given) bound
       × AnswersCount timeouts count (state bound old.clock old.store old.errors) new e × ListensAt given e before after)
-      ⊎ ((refused : Down) × n.binds old.network loopback port (Err refused) new.network
-      × (new.clock ≡ old.clock) × (new.store ≡ old.store) × (new.errors ≡ old.errors) × (e ≡ ending.Down) × (after ≡ before))
+      ⊎ ((why : Cause) × n.binds old.network loopback port (Err why) new.network
+      × (new.clock ≡ old.clock) × (new.store ≡ old.store) × GetsFront old.errors new.errors (cause_line why) × (e ≡ ending.Down) × (after ≡ before))
 
 -- every step is a request
 abbrev pub AreRequests : List Step → Type 0

@@ -1,8 +1,10 @@
 //! Texts of the error stream.
-ghost use Rattle.std.specs.Prelude.{◌++◌, ◌∷◌, [], codes, decimal};
+ghost use Rattle.std.specs.Prelude.{◌++◌, ◌∷◌, [], OnOk, codes, decimal};
+ghost use Rattle.std.specs.Io.KnownBytes.{Appends};
 ghost use Rattle.wire.specs.Links.{Writes};
-ghost use Rattle.program.specs.Errors.{connection_line};
+ghost use Rattle.program.specs.Errors.{GetsFront, connection_line, cause_line, other_line, version_line, version_end};
 
+use crate::reasons::{Cause, OtherSchema};
 use itoa::Buffer;
 use std::io;
 use std::io::{ErrorKind, Write};
@@ -59,4 +61,72 @@ pub fn write_line<E: Write>(errors: &mut E, place: u32, text: &str) -> io::Resul
         Ok(()) => write_placed(errors, place, text),
         Err(error) => Err(error),
     }
+}
+
+/// Writes a text, as far as the stream takes it, and sends it on.
+pub fn note<E: Write>(errors: &mut E, text: &str) -> io::Result<()>
+    ensures whole { OnOk result (Appends (E.contents errors.old) (E.contents errors.new) text.now) }
+    ensures front { GetsFront (E.contents errors.old) (E.contents errors.new) text.now }
+{
+    match write_text(errors, text.as_bytes()) {
+        Ok(()) => errors.flush(),
+        Err(error) => Err(error),
+    }
+}
+
+/// Says why memory, the store, the input or the network was refused, as far as the stream takes it.
+pub fn tell_cause<E: Write>(errors: &mut E, cause: Cause)
+    ensures { GetsFront (E.contents errors.old) (E.contents errors.new) (cause_line cause) }
+{
+    let _ = note(errors, cause.line());
+}
+
+/// What is said of tables that have names of ours, where none tells a version.
+const UNTOLD: &str =
+    "custody: tables in the file have names of this schema, and none tells its version\n";
+
+fn write_version<E: Write>(errors: &mut E, version: u64) -> io::Result<()>
+    ensures { Writes (E.contents errors.old) (E.contents errors.new) (decimal version ++ version_end) result }
+{
+    let mut buffer = Buffer::new();
+    let digits = buffer.format(version);
+    match write_text(errors, digits.as_bytes()) {
+        Ok(()) => write_text(
+            errors,
+            b" of the schema: it isn't known here, or its tables are others\n",
+        ),
+        Err(error) => Err(error),
+    }
+}
+
+fn note_version<E: Write>(errors: &mut E, version: u64) -> io::Result<()>
+    ensures { Writes (E.contents errors.old) (E.contents errors.new) (version_line version) result }
+{
+    match write_text(errors, b"custody: the file tells version ") {
+        Ok(()) => write_version(errors, version),
+        Err(error) => Err(error),
+    }
+}
+
+fn tell_version<E: Write>(errors: &mut E, version: u64)
+    ensures { GetsFront (E.contents errors.old) (E.contents errors.new) (version_line version) }
+{
+    let _ = note_version(errors, version);
+    let _ = errors.flush();
+}
+
+/// Says what a file of another schema has, as far as the stream takes it.
+pub fn tell_other<E: Write>(errors: &mut E, other: OtherSchema)
+    ensures { GetsFront (E.contents errors.old) (E.contents errors.new) (other_line other) }
+{
+    match other {
+        OtherSchema::Version(version) => tell_version(errors, version),
+        OtherSchema::Untold => tell_untold(errors),
+    }
+}
+
+fn tell_untold<E: Write>(errors: &mut E)
+    ensures { GetsFront (E.contents errors.old) (E.contents errors.new) (other_line OtherSchema.Untold) }
+{
+    let _ = note(errors, UNTOLD);
 }

@@ -8,6 +8,7 @@ pub mod frames;
 pub mod headings;
 pub mod lines;
 pub mod outside;
+pub mod reasons;
 pub mod replays;
 pub mod replies;
 pub mod running;

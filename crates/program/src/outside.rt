@@ -1,14 +1,16 @@
 //! What the program stands on besides its streams: files of databases, connections and a clock.
-ghost use Rattle.std.specs.Prelude.{◌≡◌, ℕ, Bool, List, Option, Result, false, IfOk, OnOk, OnErr, IsErrOf};
+ghost use Rattle.std.specs.Prelude.{◌≡◌, ℕ, Bool, List, Option, Result, false, IfOk, IfErr, OnOk, OnErr};
 ghost use Rattle.std.specs.Net.Addr.{ipv4_octets};
 ghost use Rattle.basis.specs.declared.memory.Down.{Down as AnyDown};
 ghost use Rattle.command_line.specs.declared.timeouts.Timeouts.{Timeouts as AnyTimeouts};
+ghost use Rattle.program.specs.declared.reasons.Cause.{Cause as AnyCause};
+ghost use Rattle.program.specs.declared.reasons.OpenFault.{OpenFault as AnyFault};
 ghost use Rattle.program.specs.Paths.{AllStay, OthersStay};
 ghost use Rattle.program.specs.Replies.{AreReplies};
 
+use crate::reasons::{Cause, OpenFault};
 use basis::{Bytes, Down, Moment};
 use command_line::timeouts::Timeouts;
-use machine::Fault;
 use serve::Step;
 use std::alloc::Global;
 use std::net::Ipv4Addr;
@@ -22,11 +24,18 @@ pub trait Files<K> {
     // And all of it lies in the file alone, the log copied into it.
     ghost copied: { Self → List ℕ → K → Type 0 };
 
-    // A database of another schema lies at a path.
-    ghost is_other: { Self → List ℕ → Type 0 };
+    // What refuses to open what lies at a path, and why: so it is told what of another schema lies there.
+    ghost refuses: { Self → List ℕ → AnyFault → Type 0 };
+
+    // What finds out whether nothing lies at a path.
+    ghost lacks: { Self → List ℕ → Bool → Type 0 };
 
     // What finds out whether others than its owner may read what lies at a path.
     ghost reads: { Self → List ℕ → Bool → Type 0 };
+
+    /// Whether nothing lies at a path.
+    fn is_absent(&self, path: &str) -> bool
+        ensures { lacks self.now path.now result };
 
     /// Whether others than its owner may read what lies at a path.
     fn others_may_read(&self, path: &str) -> bool
@@ -34,11 +43,11 @@ pub trait Files<K> {
 
     /// Opens the store of a path. A database that isn't there is made, with no organization; one of
     /// another schema stays as it is.
-    fn open(&mut self, path: &str) -> Result<K, Fault>
+    fn open(&mut self, path: &str) -> Result<K, OpenFault>
         ensures opened { IfOk result (λ store. holds self.old path.now store) }
         ensures others { OthersStay holds path.now self.old self.new }
         ensures refused { OnErr result (AllStay holds self.old self.new) }
-        ensures schema { IsErrOf result Fault.Schema → is_other self.old path.now };
+        ensures why { IfErr result (refuses self.old path.now) };
 
     /// Closes a store: what it has lies at the path then. After an error its log stays beside the file.
     fn close(&mut self, path: &str, store: K) -> Result<(), Down>
@@ -58,7 +67,7 @@ pub trait Connections {
     type Writer: Outlet + Drop;
 
     // What binds the octets of an address, and a port: the network before, the result, the network after.
-    ghost binds: { Self → List ℕ → ℕ → Result ℕ AnyDown → Self → Type 0 };
+    ghost binds: { Self → List ℕ → ℕ → Result ℕ AnyCause → Self → Type 0 };
 
     // What accepts a connection that is waited for no longer than these timeouts: the network before, its two sides or
     // none, the network after.
@@ -67,8 +76,8 @@ pub trait Connections {
     // What ends a connection, its two sides as they are left.
     ghost ends: { Self → Self.Reader → Self.Writer → Self → Type 0 };
 
-    /// Listens at an address and a port, and gives the port that is listened at.
-    fn bind(&mut self, address: Ipv4Addr, port: u16) -> Result<u16, Down>
+    /// Listens at an address and a port, and gives the port that is listened at; or says why it can't.
+    fn bind(&mut self, address: Ipv4Addr, port: u16) -> Result<u16, Cause>
         ensures { binds self.old (ipv4_octets address) port result self.new };
 
     /// The next connection. Neither side of it has failed; a read or a write that the timeouts end

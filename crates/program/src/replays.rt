@@ -9,7 +9,8 @@ ghost use Rattle.program.specs.declared.endings.Ending.{Ending};
 use crate::endings::Ending;
 use crate::frames::read_frames;
 use crate::outside::Files;
-use crate::replies::{print_bad_frame, print_replies, say};
+use crate::reasons::Cause;
+use crate::replies::{print_bad_frame, print_replies, refuse};
 use basis::{Bytes, Down};
 use machine::Keep;
 use serve::{Service, Step};
@@ -100,7 +101,7 @@ pub fn replay_frames<K: Keep, F: Files<K>, I: Read, O: Write, E: Write>(
     ensures { ReplaysFrames (I.remaining input.old) result (record { old = O.contents output.old; new = O.contents output.new }) (record { old = E.contents errors.old; new = E.contents errors.new }) }
 {
     let Ok(replay) = answer_input::<K, F, I>(alloc, files, input) else {
-        return say(output, Ending::Down);
+        return refuse(output, errors, Cause::Input);
     };
     match print_all(output, replay.replies.as_slice()) {
         Ok(()) => end_at(errors, replay.bad_frame),

@@ -1,11 +1,14 @@
 //! What the program prints.
 ghost use Rattle.std.specs.Prelude.{OnOk};
 ghost use Rattle.std.specs.Io.KnownBytes.{Appends};
+ghost use Rattle.program.specs.Errors.{GetsFront, cause_line};
 ghost use Rattle.program.specs.Replies.{reply_frame, printed, bad_frame_text, answer_line};
 ghost use Rattle.program.specs.Outcomes.{IsSaid};
 ghost use Rattle.serve.specs.Service.{org_lines, token_lines};
 
 use crate::endings::Ending;
+use crate::errors::tell_cause;
+use crate::reasons::Cause;
 use basis::Bytes;
 use machine::{OrgRow, TokenRow};
 use serve::{write_org_lines, write_token_lines};
@@ -54,6 +57,15 @@ pub fn say<O: Write>(output: &mut O, ending: Ending) -> Ending
         Ok(()) => ending,
         Err(_) => Ending::Unprinted,
     }
+}
+
+/// Says why on the error stream, and `refused down` on standard output.
+pub fn refuse<O: Write, E: Write>(output: &mut O, errors: &mut E, cause: Cause) -> Ending
+    ensures said { IsSaid Ending.Down result (O.contents output.old) (O.contents output.new) }
+    ensures why { GetsFront (E.contents errors.old) (E.contents errors.new) (cause_line cause) }
+{
+    tell_cause(errors, cause);
+    say(output, Ending::Down)
 }
 
 /// Prints the list of all organizations: a line `ORG WORKSPACES LIMIT` each.

@@ -1,10 +1,9 @@
 //! The program's commands, from its words to its exit status.
 ghost use Rattle.std.specs.Prelude.{◌≡◌, ◌≢◌, ◌<◌, ◌⊎◌, ℕ, List, length, Option, IfOk, IsErrOf, OnOk, OnErr};
-ghost use Rattle.std.specs.Io.KnownBytes.{Appends};
 ghost use Rattle.program.specs.Endings.{status_of};
-ghost use Rattle.program.specs.Errors.{GetsFront};
+ghost use Rattle.program.specs.Errors.{GetsFront, other_line};
 ghost use Rattle.command_line.specs.Orders.{said_by, with_secret};
-ghost use Rattle.program.specs.Outcomes.{stream, IsSaid, AnswersLine, AnswersList, AnswersTokens, TellsWord, TellsList, TellsTokens, TellsAnswer, IsOperated, AnswersCommand, HasSecret, HasNoSecret, IsSecretOf, AddsToken, ServesAt, Does, RefusesWords, OperatesAt, AddsTokenAt, ServesFrom, RefusesToOpen, outside, IsAlone, SaysServed, TellsOfLog, TellsOfReaders, Leaves, Runs};
+ghost use Rattle.program.specs.Outcomes.{stream, IsSaid, AnswersLine, AnswersList, AnswersTokens, TellsWord, TellsList, TellsTokens, TellsAnswer, IsOperated, AnswersCommand, HasSecret, HasNoSecret, IsSecretOf, AddsToken, ServesAt, Does, RefusesWords, OperatesAt, AddsTokenAt, ServesFrom, RefusesToOpen, outside, IsAlone, SaysServed, Refuses, TellsCause, TellsOfLog, TellsOfNew, TellsOfReaders, TellsOfFile, Leaves, Runs};
 ghost use Rattle.program.specs.Inner.Outcomes.{IsSaidWhy};
 ghost use Rattle.program.specs.Paths.{OthersStay};
 ghost use Rattle.program.specs.Serving.{Listens, Serves, state, AnswersAtPort};
@@ -12,19 +11,19 @@ ghost use Rattle.command_line.specs.Words.{words_bytes, IsWhy, AskForHelp, AreNo
 ghost use Rattle.program.specs.declared.endings.Ending.{Ending};
 
 use crate::endings::Ending;
-use crate::errors::write_text;
+use crate::errors::{note, tell_cause, tell_other};
 use crate::outside::{Clock, Connections, Files};
+use crate::reasons::{Cause, OpenFault, OtherSchema};
 use crate::replays::{read_all, replay_frames};
-use crate::replies::{print_organizations, print_tokens, say};
+use crate::replies::{print_organizations, print_tokens, refuse, say};
 use crate::secrets::read_secret;
 use crate::serving::serve_loop;
 use basis::{Down, Moment, Secret, Unfit};
 use command_line::timeouts::Timeouts;
 use command_line::{NewToken, Order, Unasked, read_words};
-use machine::{AdminAnswer, Fault, Keep};
+use machine::{AdminAnswer, Keep};
 use serve::{Admin, Service};
 use std::alloc::Global;
-use std::io;
 use std::io::{Read, Write};
 use std::net::Ipv4Addr;
 
@@ -44,15 +43,8 @@ const LOG_STAYS: &str =
 const OTHERS_READ: &str =
     "custody: others than its owner may read the file or its log: chmod 600 ends that\n";
 
-fn note<E: Write>(errors: &mut E, text: &str) -> io::Result<()>
-    ensures whole { OnOk result (Appends (E.contents errors.old) (E.contents errors.new) text.now) }
-    ensures front { GetsFront (E.contents errors.old) (E.contents errors.new) text.now }
-{
-    match write_text(errors, text.as_bytes()) {
-        Ok(()) => errors.flush(),
-        Err(error) => Err(error),
-    }
-}
+/// What is said where no file lay at a path.
+const NEW_FILE: &str = "custody: there was no file at the path: a new one was made\n";
 
 /// Says why on the error stream, and the ending on standard output.
 fn say_why<O: Write, E: Write>(output: &mut O, errors: &mut E, ending: Ending, why: &str) -> Ending
@@ -138,18 +130,35 @@ fn say_down<O: Write>(output: &mut O, command: &Admin) -> Ending
     }
 }
 
-fn say_answered<O: Write>(
+/// Says why a command wasn't carried out, and `refused down`.
+fn refuse_command<O: Write, E: Write>(
     output: &mut O,
+    errors: &mut E,
+    command: &Admin,
+    cause: Cause,
+) -> Ending
+    ensures line { AnswersCommand command.now result (stream (O.contents output.old) (O.contents output.new)) }
+    ensures down { IsSaid Ending.Down result (O.contents output.old) (O.contents output.new) }
+    ensures why { TellsCause cause (stream (E.contents errors.old) (E.contents errors.new)) }
+{
+    tell_cause(errors, cause);
+    say_down(output, command)
+}
+
+fn say_answered<O: Write, E: Write>(
+    output: &mut O,
+    errors: &mut E,
     command: &Admin,
     answered: &Result<AdminAnswer, Down>,
 ) -> Ending
     ensures line { AnswersCommand command.now result (stream (O.contents output.old) (O.contents output.new)) }
-    ensures tells { IfOk answered.now (λ answer. TellsAnswer command.now answer result (stream (O.contents output.old) (O.contents output.new))) }
-    ensures down { OnErr answered.now (IsSaid Ending.Down result (O.contents output.old) (O.contents output.new)) }
+    ensures tells { IfOk answered.now (λ answer. TellsAnswer command.now answer result (stream (O.contents output.old) (O.contents output.new)) × (E.contents errors.new ≡ E.contents errors.old)) }
+    ensures down { OnErr answered.now (Refuses Cause.Store result (stream (O.contents output.old) (O.contents output.new)) (stream (E.contents errors.old) (E.contents errors.new))) }
+    ensures why { (E.contents errors.new ≡ E.contents errors.old) ⊎ TellsCause Cause.Store (stream (E.contents errors.old) (E.contents errors.new)) }
 {
     match answered {
         Ok(answer) => say_answer(output, command, answer),
-        Err(_) => say_down(output, command),
+        Err(_) => refuse_command(output, errors, command, Cause::Store),
     }
 }
 
@@ -167,23 +176,40 @@ fn say_schema<O: Write>(output: &mut O, command: &Admin) -> Ending
     }
 }
 
+/// Says what a file of another schema has, and `refused schema`.
+fn refuse_schema<O: Write, E: Write>(
+    output: &mut O,
+    errors: &mut E,
+    command: &Admin,
+    other: OtherSchema,
+) -> Ending
+    ensures line { AnswersCommand command.now result (stream (O.contents output.old) (O.contents output.new)) }
+    ensures schema { IsSaid Ending.Schema result (O.contents output.old) (O.contents output.new) }
+    ensures why { GetsFront (E.contents errors.old) (E.contents errors.new) (other_line other) }
+{
+    tell_other(errors, other);
+    say_schema(output, command)
+}
+
 /// Carries out an operator's command over a store, prints its answer, and gives the store back. It looks
 /// at no clock: no answer to an operator's command depends on the moment.
-fn operate<K: Keep, O: Write>(
+fn operate<K: Keep, O: Write, E: Write>(
     alloc: Global,
     keep: K,
     command: &Admin,
     output: &mut O,
+    errors: &mut E,
 ) -> (Ending, K)
     ensures so_far { K.clean result.1 → K.clean keep }
     ensures kept { K.clean result.1 → K.sound keep → K.sound result.1 }
     ensures line { AnswersCommand command.now result.0 (stream (O.contents output.old) (O.contents output.new)) }
-    ensures model { K.clean result.1 → K.sound keep → IsOperated command.now (K.rows keep) (K.rows result.1) result.0 (stream (O.contents output.old) (O.contents output.new)) }
+    ensures model { K.clean result.1 → K.sound keep → IsOperated command.now (K.rows keep) (K.rows result.1) result.0 (stream (O.contents output.old) (O.contents output.new)) (stream (E.contents errors.old) (E.contents errors.new)) }
+    ensures why { (E.contents errors.new ≡ E.contents errors.old) ⊎ TellsCause Cause.Store (stream (E.contents errors.old) (E.contents errors.new)) }
 {
     let mut service = Service::new(keep);
     let answered = service.admin(alloc, Moment::new(0).unwrap(), command);
     let keep = service.into_keep();
-    let ending = say_answered(output, command, &answered);
+    let ending = say_answered(output, errors, command, &answered);
     (ending, keep)
 }
 
@@ -193,6 +219,21 @@ fn tell_of_readers<E: Write>(errors: &mut E, others_may_read: bool)
     if others_may_read {
         let _ = note(errors, OTHERS_READ);
     }
+}
+
+fn tell_of_new<E: Write>(errors: &mut E, is_new: bool)
+    ensures { TellsOfNew is_new (stream (E.contents errors.old) (E.contents errors.new)) }
+{
+    if is_new {
+        let _ = note(errors, NEW_FILE);
+    }
+}
+
+fn tell_of_file<E: Write>(errors: &mut E, is_new: bool, others_may_read: bool)
+    ensures { TellsOfFile is_new others_may_read (stream (E.contents errors.old) (E.contents errors.new)) }
+{
+    tell_of_new(errors, is_new);
+    tell_of_readers(errors, others_may_read);
 }
 
 fn close_after<K: Keep, F: Files<K>, E: Write>(files: &mut F, db: &str, store: K, errors: &mut E)
@@ -216,14 +257,15 @@ fn carry_out<K: Keep, F: Files<K>, O: Write, E: Write>(
     ensures line { AnswersCommand command.now result (stream (O.contents output.old) (O.contents output.new)) }
     ensures operates { OperatesAt K.Keep F.Files db.now command.now files.old files.new result (stream (O.contents output.old) (O.contents output.new)) (stream (E.contents errors.old) (E.contents errors.new)) }
 {
+    let is_new = files.is_absent(db);
     let others_may_read = files.others_may_read(db);
     let store = match files.open(db) {
         Ok(store) => store,
-        Err(Fault::Schema) => return say_schema(output, command),
-        Err(Fault::Down) => return say_down(output, command),
+        Err(OpenFault::Schema(other)) => return refuse_schema(output, errors, command, other),
+        Err(OpenFault::Down(cause)) => return refuse_command(output, errors, command, cause),
     };
-    tell_of_readers(errors, others_may_read);
-    let (ending, store) = operate(alloc, store, command, output);
+    tell_of_file(errors, is_new, others_may_read);
+    let (ending, store) = operate(alloc, store, command, output, errors);
     close_after(files, db, store, errors);
     ending
 }
@@ -271,7 +313,7 @@ fn read_and_add<K: Keep, F: Files<K>, I: Read, O: Write, E: Write>(
     match input_secret(alloc, input) {
         Ok(secret) => add_token(alloc, files, db, token, secret, output, errors),
         Err(Unfit::Syntax) => say_why(output, errors, Ending::Usage, SECRET_FORM),
-        Err(Unfit::Down) => say(output, Ending::Down),
+        Err(Unfit::Down) => refuse(output, errors, Cause::Input),
     }
 }
 
@@ -296,7 +338,10 @@ fn serve_at<K: Keep, N: Connections, C: Clock, O: Write, E: Write>(
         Ok(given) => serve_loop(
             alloc, network, given, service, count, timeouts, clock, output, errors,
         ),
-        Err(_) => Ending::Down,
+        Err(cause) => {
+            tell_cause(errors, cause);
+            Ending::Down
+        }
     }
 }
 
@@ -309,6 +354,14 @@ fn say_served<O: Write>(output: &mut O, ending: Ending) -> Ending
         Ending::Down => say(output, Ending::Down),
         _ => ending,
     }
+}
+
+fn refuse_other<O: Write, E: Write>(output: &mut O, errors: &mut E, other: OtherSchema) -> Ending
+    ensures schema { IsSaid Ending.Schema result (O.contents output.old) (O.contents output.new) }
+    ensures why { GetsFront (E.contents errors.old) (E.contents errors.new) (other_line other) }
+{
+    tell_other(errors, other);
+    say(output, Ending::Schema)
 }
 
 fn serve<K: Keep, F: Files<K>, N: Connections, C: Clock, O: Write, E: Write>(
@@ -327,13 +380,14 @@ fn serve<K: Keep, F: Files<K>, N: Connections, C: Clock, O: Write, E: Write>(
     ensures serves { ServesFrom K.Keep F.Files N.Connections C.Clock N.Reader.Inlet N.Writer.Outlet db.now port timeouts.now count (outside files.old network.old clock.old) (outside files.new network.new clock.new) result (stream (O.contents output.old) (O.contents output.new)) (stream (E.contents errors.old) (E.contents errors.new))
         ⊎ (RefusesToOpen K.Keep F.Files db.now files.old files.new result (stream (O.contents output.old) (O.contents output.new)) (stream (E.contents errors.old) (E.contents errors.new)) × IsAlone (outside files.old network.old clock.old) (outside files.new network.new clock.new)) }
 {
+    let is_new = files.is_absent(db);
     let others_may_read = files.others_may_read(db);
     let keep = match files.open(db) {
         Ok(keep) => keep,
-        Err(Fault::Schema) => return say(output, Ending::Schema),
-        Err(Fault::Down) => return say(output, Ending::Down),
+        Err(OpenFault::Schema(other)) => return refuse_other(output, errors, other),
+        Err(OpenFault::Down(cause)) => return refuse(output, errors, cause),
     };
-    tell_of_readers(errors, others_may_read);
+    tell_of_file(errors, is_new, others_may_read);
     let mut service = Service::new(keep);
     let ending = serve_at(
         alloc,
@@ -403,7 +457,7 @@ fn refuse_words<O: Write, E: Write>(output: &mut O, errors: &mut E, why: Unasked
         Unasked::Help(help) => tell_help(errors, help.as_str()),
         Unasked::Words(text) => refuse_error(output, errors, text.as_str()),
         Unasked::Value => say_why(output, errors, Ending::Usage, FORMS),
-        Unasked::Down => say(output, Ending::Down),
+        Unasked::Down => refuse(output, errors, Cause::NoMemory),
     }
 }
 

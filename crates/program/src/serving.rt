@@ -1,6 +1,6 @@
 //! The loop of `serve`: connections one after the other, each one exchange.
 
-ghost use Rattle.std.specs.Prelude.{◌≡◌, ◌++◌, ℕ, List, Ok, Some, IfOk, OnOk, OnErr, false};
+ghost use Rattle.std.specs.Prelude.{◌≡◌, ◌++◌, ℕ, List, Ok, Some, IfOk, IfErr, OnOk, false};
 ghost use Rattle.std.specs.Io.KnownBytes.{Appends, Consumes};
 ghost use Rattle.serve.specs.Exchanges.{Exchanges};
 ghost use Rattle.wire.specs.Links.{Writes};
@@ -9,10 +9,11 @@ ghost use Rattle.program.specs.Serving.{listening_line, ListensAt, Serves, state
 ghost use Rattle.program.specs.Inner.Serving.{TakesOne};
 
 use crate::endings::Ending;
-use crate::errors::write_line;
+use crate::errors::{tell_cause, write_line};
 use crate::outside::{Clock, Connections};
+use crate::reasons::Cause;
+use basis::Moment;
 use basis::numbers::MAX_MOMENT;
-use basis::{Down, Moment};
 use command_line::timeouts::Timeouts;
 use machine::Keep;
 use serve::{LinkFault, Service};
@@ -127,18 +128,18 @@ fn accept<N: Connections, C: Clock>(
     network: &mut N,
     timeouts: &Timeouts,
     clock: &mut C,
-) -> Result<(N::Reader, N::Writer, Moment), Down>
+) -> Result<(N::Reader, N::Writer, Moment), Cause>
     ensures sound { IfOk result (λ found. (N.Reader.broken found.0 ≡ false) × (N.Writer.broken found.1 ≡ false)) }
     ensures accepted { IfOk result (λ found. N.accepts network.old timeouts.now (Ok (found.0, found.1)) network.new × C.tells clock.old (Some found.2) clock.new) }
-    ensures refused { OnErr result (AcceptsNone N.Connections C.Clock timeouts.now network.old network.new clock.old clock.new) }
+    ensures refused { IfErr result (AcceptsNone N.Connections C.Clock timeouts.now network.old network.new clock.old clock.new) }
 {
     let (reader, writer) = match network.accept(timeouts) {
         Ok(sides) => sides,
-        Err(refused) => return Err(refused),
+        Err(_) => return Err(Cause::Accept),
     };
     match clock.now() {
         Some(now) => Ok((reader, writer, now)),
-        None => Err(Down),
+        None => Err(Cause::Clock),
     }
 }
 
@@ -151,16 +152,16 @@ fn serve_next<K: Keep, N: Connections, C: Clock, E: Write>(
     clock: &mut C,
     place: u32,
     errors: &mut E,
-) -> Result<(), Down>
+) -> Result<(), Cause>
     ensures so_far { K.clean service.new.keep → K.clean service.old.keep }
     ensures kept { K.clean service.new.keep → K.sound service.old.keep → K.sound service.new.keep }
     ensures takes { K.clean service.new.keep → K.sound service.old.keep → TakesOne (K.rows service.old.keep) (K.rows service.new.keep) }
     ensures answers { OnOk result ((at : ℕ) × Answers K.Keep N.Connections C.Clock N.Reader.Inlet N.Writer.Outlet timeouts.now place at (state network.old clock.old service.old.keep (E.contents errors.old)) (state network.new clock.new service.new.keep (E.contents errors.new))) }
-    ensures refused { OnErr result (AcceptsNone N.Connections C.Clock timeouts.now network.old network.new clock.old clock.new × (service.new.keep ≡ service.old.keep) × (E.contents errors.new ≡ E.contents errors.old)) }
+    ensures refused { IfErr result (λ cause. AcceptsNone N.Connections C.Clock timeouts.now network.old network.new clock.old clock.new cause × (service.new.keep ≡ service.old.keep) × (E.contents errors.new ≡ E.contents errors.old)) }
 {
     let (reader, writer, now) = match accept(network, timeouts, clock) {
         Ok(found) => found,
-        Err(refused) => return Err(refused),
+        Err(cause) => return Err(cause),
     };
     serve_one(alloc, service, now, network, reader, writer, place, errors);
     Ok(())
@@ -170,7 +171,7 @@ fn serve_next<K: Keep, N: Connections, C: Clock, E: Write>(
 /// one exchange. The network listens at that port already. A connection that ends in a fault of its link
 /// counts, and a line of the error stream tells the fault; so does one that the timeouts end. One that is
 /// answered by the 503, since memory or the store refused, is told of so, too. An accept that fails, or a
-/// clock out of range, ends it.
+/// clock out of range, ends it, and a line says which.
 pub fn serve_loop<K: Keep, N: Connections, C: Clock, O: Write, E: Write>(
     alloc: Global,
     network: &mut N,
@@ -194,7 +195,10 @@ pub fn serve_loop<K: Keep, N: Connections, C: Clock, O: Write, E: Write>(
     'connections: for place in 0..count {
         match serve_next(alloc, network, timeouts, service, clock, place + 1, errors) {
             Ok(()) => {}
-            Err(_) => return Ending::Down,
+            Err(cause) => {
+                tell_cause(errors, cause);
+                return Ending::Down;
+            }
         }
     }
     Ending::Done

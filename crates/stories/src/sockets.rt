@@ -6,6 +6,7 @@ use fakes::StandingClock;
 use machine::PlainKeep;
 use program::endings::Ending;
 use program::outside::Connections;
+use program::reasons::Cause;
 use program::serving::serve_loop;
 use program::timeouts::{IDLE_SECONDS, MAX_SECONDS, MOST_SECONDS, Seconds, Timeouts};
 use serve::Service;
@@ -173,7 +174,7 @@ impl<'a> Connections for Slow<'a> {
 
     ghost ends = { λ _ _ _ _. ⊤ };
 
-    fn bind(&mut self, address: Ipv4Addr, port: u16) -> Result<u16, Down> {
+    fn bind(&mut self, address: Ipv4Addr, port: u16) -> Result<u16, Cause> {
         self.network.bind(address, port)
     }
 
@@ -273,7 +274,10 @@ const SILENT_AND_DEAF: &[u8] =
     b"custody: connection 1: a read failed\ncustody: connection 2: the reply could not be written whole\n";
 
 fn bound(network: &mut TcpSockets<'_>) -> Result<u16, Down> {
-    network.bind(Ipv4Addr::LOCALHOST, 0)
+    match network.bind(Ipv4Addr::LOCALHOST, 0) {
+        Ok(port) => Ok(port),
+        Err(_) => Err(Down),
+    }
 }
 
 /// A peer over loopback gets its reply.

@@ -10,6 +10,9 @@ use telling::modes::{Counts, Modes};
 /// The exit status where a stream fails.
 const BROKEN: u8 = 3;
 
+/// What the error stream gets where the standard input can't be read.
+const UNREAD: &[u8] = b"custody: the input can't be read, or memory was refused\n";
+
 /// Words, and what is due on the streams.
 #[derive(Drop)]
 pub struct Told<'s> {
@@ -91,7 +94,7 @@ fn fail_read(
     )?;
     let is_due = left.status == BROKEN
         && left.output.as_slice() == b"refused down\n".as_slice()
-        && left.errors.is_empty();
+        && left.errors.as_slice() == UNREAD;
     check(
         told,
         is_due,

@@ -12,11 +12,12 @@ use basis::{Bytes, Down};
 use machine::{Fault, Keep};
 use pages::ShaKey;
 use program::outside::Files;
+use program::reasons::{Cause, OpenFault, OtherSchema};
 use serve::Step;
-use sqlite::Connection;
+use sqlite::{Alter, Connection, Error, ErrorCode, Row};
 use sqlite_disk::{Disk, Start};
 use sqlite_pager::Options;
-use sqlite_std_file::FileFrom;
+use sqlite_std_file::{FileFrom, OpenError};
 use sqlite_store::FileStore;
 use std::alloc::Global;
 use std::fs::OpenOptions;
@@ -25,7 +26,7 @@ use std::io::{ErrorKind, Read};
 use std::os::unix::fs::{MetadataExt, OpenOptionsExt};
 use std::rt::HostRuntime;
 use std::{fs, io};
-use tables::SqlKeep;
+use tables::{SqlKeep, Unopened};
 
 /// The store in a file, its pages named by SHA-256, which `start` stands for as it is opened.
 pub type FileKeep<S> = SqlKeep<FileStore<FileFrom<S>>, ShaKey>;
@@ -36,12 +37,45 @@ const OWNER_ALONE: u32 = 0o600;
 /// By which of these bits of a file's mode others than its owner may read it.
 const OTHERS_READ: u32 = 0o044;
 
+/// Why the system refused a file.
+fn system_cause(kind: ErrorKind) -> Cause {
+    match kind {
+        ErrorKind::PermissionDenied | ErrorKind::ReadOnlyFilesystem => Cause::NotPermitted,
+        ErrorKind::Unsupported | ErrorKind::IsADirectory => Cause::NoFile,
+        ErrorKind::NotFound | ErrorKind::NotADirectory => Cause::NoFolder,
+        ErrorKind::StorageFull | ErrorKind::QuotaExceeded => Cause::NoRoom,
+        ErrorKind::OutOfMemory => Cause::NoMemory,
+        _ => Cause::Disk,
+    }
+}
+
+/// Why a file and its log weren't had.
+fn pair_cause(error: OpenError) -> Cause {
+    match error {
+        OpenError::Io(error) => system_cause(error.kind()),
+        OpenError::OutOfMemory => Cause::NoMemory,
+        OpenError::Busy => Cause::InUse,
+        OpenError::HotJournal => Cause::Journal,
+    }
+}
+
+/// Why a database in files wasn't opened.
+fn database_cause(error: Error) -> Cause {
+    match error {
+        Error::SqliteFailure(ErrorCode::OutOfMemory) => Cause::NoMemory,
+        Error::SqliteFailure(ErrorCode::DiskFull) => Cause::NoRoom,
+        Error::SqliteFailure(ErrorCode::DatabaseCorrupt) => Cause::Corrupt,
+        Error::SqliteFailure(ErrorCode::NotADatabase) => Cause::Unsound,
+        _ => Cause::Disk,
+    }
+}
+
 /// Makes the file for its owner alone, where nothing lies at the path; its log gets the file's mode. Where
 /// it isn't made the open behind it would make one that others may read, so the store is down. So it is where
 /// SQLite's programs take the path for no file's name.
-fn make_private(rt: &HostRuntime, path: &str) -> Result<(), Down> {
+fn make_private(rt: &HostRuntime, path: &str) -> Result<(), Cause> {
     if path == ":memory:" || path.starts_with("file:") {
-        return Err(Down);
+        return Err(Cause::NoFile);
     }
     let made = OpenOptions::new()
         .write(true)
@@ -55,7 +89,7 @@ fn make_private(rt: &HostRuntime, path: &str) -> Result<(), Down> {
         }
         Err(error) => match error.kind() {
             ErrorKind::AlreadyExists => Ok(()),
-            _ => Err(Down),
+            kind => Err(system_cause(kind)),
         },
     }
 }
@@ -114,39 +148,72 @@ fn open_database<S: Start>(
     rt: &HostRuntime,
     path: &str,
     start: S,
-) -> Result<Connection<FileStore<FileFrom<S>>>, Fault>
+) -> Result<Connection<FileStore<FileFrom<S>>>, Cause>
     ensures opened { IfOk result (λ conn. HasCleanDisk (file_state conn) → IsOpened conn) }
     ensures found { IfOk result (λ conn. HasCleanDisk (file_state conn) → FindsIn (image_at S.Start) (file_state conn)) }
     ensures sums { IfOk result (λ conn. HasCleanDisk (file_state conn) → IsBlankAs true (image_at S.Start) → (view conn.store).has_sums ≡ true) }
     ensures idle { IfOk result (λ conn. conn.in_transaction ≡ false) }
 {
-    let Ok(options) = options(rt, path) else {
-        return Err(Fault::Down);
+    let options = match options(rt, path) {
+        Ok(options) => options,
+        Err(error) => return Err(system_cause(error.kind())),
     };
-    let Ok(files) = sqlite_std_file::open(rt, path, start) else {
-        return Err(Fault::Down);
+    let files = match sqlite_std_file::open(rt, path, start) {
+        Ok(files) => files,
+        Err(error) => return Err(pair_cause(error)),
     };
     match Connection::open_files_with(rt.alloc(), files, options, true) {
         Ok(conn) => Ok(conn),
-        Err(_) => Err(Fault::Down),
+        Err((error, _)) => Err(database_cause(error)),
+    }
+}
+
+/// The version that a row tells.
+fn version_in(row: &Row) -> OtherSchema {
+    match row.get::<i64>(0) {
+        Ok(version) => OtherSchema::Version(version.unsigned_abs()),
+        Err(_) => OtherSchema::Untold,
+    }
+}
+
+/// What a database of another schema has: the version that its first row of edition tells, or of meta, where no table has
+/// that name.
+fn other_in<S: Alter>(conn: &mut Connection<S>) -> OtherSchema {
+    match conn.query_row("SELECT version FROM edition", &[]) {
+        Ok(row) => version_in(&row),
+        Err(Error::SqlInputError(_)) => match conn.query_row("SELECT version FROM meta", &[]) {
+            Ok(row) => version_in(&row),
+            Err(_) => OtherSchema::Untold,
+        },
+        Err(_) => OtherSchema::Untold,
+    }
+}
+
+/// Why a database isn't one of ours.
+fn unopened_fault<S: Alter + Drop>(unopened: Unopened<S>) -> OpenFault {
+    let mut unopened = unopened;
+    match unopened.fault {
+        Fault::Schema => OpenFault::Schema(other_in(&mut unopened.conn)),
+        Fault::Down => OpenFault::Down(Cause::Store),
     }
 }
 
 /// Opens the store in a file. A file that isn't there is made, for its owner alone and with no
 /// organization; one of another schema stays as it is. Nothing ties what is found to the path, but to what `start` stands for.
-pub fn open_file<S: Start>(rt: &HostRuntime, path: &str, start: S) -> Result<FileKeep<S>, Fault>
+pub fn open_file<S: Start>(rt: &HostRuntime, path: &str, start: S) -> Result<FileKeep<S>, OpenFault>
     ensures { IfOk result (λ keep. ⟦<FileKeep<S> as Keep>⟧.clean keep → OpensOn (image_at S.Start) (⟦<FileKeep<S> as Keep>⟧.rows keep) (⟦<FileKeep<S> as Keep>⟧.sound keep)) }
 {
-    if make_private(rt, path).is_err() {
-        return Err(Fault::Down);
+    match make_private(rt, path) {
+        Ok(()) => {}
+        Err(cause) => return Err(OpenFault::Down(cause)),
     }
     let conn = match open_database(rt, path, start) {
         Ok(conn) => conn,
-        Err(fault) => return Err(fault),
+        Err(cause) => return Err(OpenFault::Down(cause)),
     };
     match SqlKeep::open(conn) {
         Ok(keep) => Ok(keep),
-        Err(unopened) => Err(unopened.fault),
+        Err(unopened) => Err(unopened_fault(unopened)),
     }
 }
 
@@ -188,20 +255,31 @@ impl<S: Start> Files<FileKeep<S>> for DiskFiles<'_, S> {
     ghost copied = { λ _ _ store. (closed : _) × IsClosedOn ⟦<FileFrom<S> as Disk>⟧ closed (⟦<FileKeep<S> as Keep>⟧.rows store) (⟦<FileKeep<S> as Keep>⟧.sound store) };
 
     // Which fault comes when isn't told.
-    ghost is_other = { λ _ _. ⊤ };
+    ghost refuses = { λ _ _ _. ⊤ };
+
+    // Nothing ties a path to what lies there.
+    ghost lacks = { λ _ _ _. ⊤ };
 
     // Nothing ties a path to the modes that are looked at.
     ghost reads = { λ _ _ _. ⊤ };
+
+    // What can't be looked at counts as there: the open behind it tells why.
+    fn is_absent(&self, path: &str) -> bool {
+        match fs::exists(self.rt, path) {
+            Ok(is_there) => !is_there,
+            Err(_) => false,
+        }
+    }
 
     // What can't be looked at counts as read by nobody else: the open behind it tells why.
     fn others_may_read(&self, path: &str) -> bool {
         is_any_readable(self.rt, path).unwrap_or(false)
     }
 
-    fn open(&mut self, path: &str) -> Result<FileKeep<S>, Fault> {
+    fn open(&mut self, path: &str) -> Result<FileKeep<S>, OpenFault> {
         match self.start.take() {
             Some(start) => open_file(self.rt, path, start),
-            None => Err(Fault::Down),
+            None => Err(OpenFault::Down(Cause::InUse)),
         }
     }
 

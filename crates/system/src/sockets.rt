@@ -4,9 +4,10 @@ ghost use Rattle.std.specs.Prelude.{⊤};
 use crate::streams::TimedStream;
 use basis::Down;
 use program::outside::Connections;
+use program::reasons::Cause;
 use program::timeouts::Timeouts;
 use std::io;
-use std::io::Read;
+use std::io::{ErrorKind, Read};
 use std::net::{Ipv4Addr, TcpListener};
 use std::rt::HostRuntime;
 use std::time::Duration;
@@ -29,6 +30,16 @@ impl<'a> TcpSockets<'a> {
     /// Sockets that don't listen yet.
     pub fn new(rt: &'a HostRuntime) -> TcpSockets<'a> {
         TcpSockets { rt, listener: None }
+    }
+}
+
+// Why the system refused a port.
+fn port_cause(kind: ErrorKind) -> Cause {
+    match kind {
+        ErrorKind::AddrInUse => Cause::PortTaken,
+        ErrorKind::PermissionDenied => Cause::PortNotPermitted,
+        ErrorKind::OutOfMemory => Cause::NoMemory,
+        _ => Cause::Port,
     }
 }
 
@@ -57,12 +68,13 @@ impl<'a> Connections for TcpSockets<'a> {
 
     ghost ends = { λ _ _ _ _. ⊤ };
 
-    fn bind(&mut self, address: Ipv4Addr, port: u16) -> Result<u16, Down> {
-        let Ok(listener) = TcpListener::bind(self.rt, (address, port)) else {
-            return Err(Down);
+    fn bind(&mut self, address: Ipv4Addr, port: u16) -> Result<u16, Cause> {
+        let listener = match TcpListener::bind(self.rt, (address, port)) {
+            Ok(listener) => listener,
+            Err(error) => return Err(port_cause(error.kind())),
         };
         let Ok(addr) = listener.local_addr() else {
-            return Err(Down);
+            return Err(Cause::Port);
         };
         self.listener = Some(listener);
         Ok(addr.port())

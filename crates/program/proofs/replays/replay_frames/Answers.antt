@@ -7,8 +7,8 @@ use Rattle.program.proofs.replays.replay_frames.Goals as goal
 
 pub returns-in_default : goal.returns-in_default
 returns-in_default g c =
-    said (λ (e : Ending). ReplaysFrames (g.I.Read.remaining c.args.input.now) e (stream (g.O.Write.contents c.args.output.now) (g.O.Write.contents c.say.new.output)) (stream (g.E.Write.contents c.args.errors.now) (g.E.Write.contents c.args.errors.now)))
-    Down c.say.result _ _ (λ h. h) tt c.say.ensures
+    said (λ (e : Ending). ReplaysFrames (g.I.Read.remaining c.args.input.now) e (stream (g.O.Write.contents c.args.output.now) (g.O.Write.contents c.refuse.new.output)) (stream (g.E.Write.contents c.args.errors.now) (g.E.Write.contents c.refuse.new.errors)))
+    Down c.refuse.result _ _ (λ h. (h, c.refuse.ensures.why)) tt c.refuse.ensures.said
 
 pub returns-in-Ok-print_all : goal.returns-in-Ok-print_all
 returns-in-Ok-print_all g c =

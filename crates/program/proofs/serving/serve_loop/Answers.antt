@@ -1,4 +1,5 @@
-use Rattle.std.proofs.Common.{ℕ, ◌<◌, ◌+◌, arith, refl, sym, subst, ◌++◌, ◌∷◌, []}
+use Rattle.std.proofs.Common.{ℕ, List, Option, ◌<◌, ◌+◌, arith, refl, sym, subst, ◌++◌, ◌∷◌, []}
+use Rattle.program.specs.Errors.{GetsFront, cause_line}
 use Rattle.program.specs.Serving.{state}
 use Rattle.program.proofs.ServingLemmas.{serves_none, serves_more, serves_of, answers_more, one_more}
 use Rattle.program.proofs.serving.serve_loop.Goals as goal
@@ -42,7 +43,8 @@ returns-in-Err-clause-answers g c =
       state c.connections.network c.connections.clock c.connections.service.keep (g.E.Write.contents c.connections.errors),
       subst (λ (n : ℕ). n < c.args.count) (sym so_far.1) c.connections-test.true,
       so_far.2,
+      c.in-Err.cause,
       none.0,
       none.1,
-      none.2,
+      subst (λ (before : Option (List ℕ)). GetsFront before (g.E.Write.contents c.tell_cause.new.errors) (cause_line c.in-Err.cause)) none.2 c.tell_cause.ensures,
     )

@@ -34,4 +34,4 @@ opens_on s image rows IsSound finds opens live missing there climbed fresh = rec
 pub returns-in-Ok-open : goal.returns-in-Ok-open
 returns-in-Ok-open g c clean =
     let disk = c.in-Ok-open.ensures.so_far clean in
-    opens_on _ _ _ _ (c.in-Ok.ensures.found disk) (c.in-Ok.ensures.opened disk).0 (c.in-Ok.ensures.opened disk).1 (λ e first second. (c.in-Ok-open.ensures.missing e first second).1) (c.in-Ok-open.ensures.held clean) (c.in-Ok-open.ensures.climbed clean) (c.in-Ok-open.ensures.fresh clean)
+    opens_on _ _ _ _ (c.in-Ok-open_database.ensures.found disk) (c.in-Ok-open_database.ensures.opened disk).0 (c.in-Ok-open_database.ensures.opened disk).1 (λ e first second. (c.in-Ok-open.ensures.missing e first second).1) (c.in-Ok-open.ensures.held clean) (c.in-Ok-open.ensures.climbed clean) (c.in-Ok-open.ensures.fresh clean)
