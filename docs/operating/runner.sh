@@ -1,42 +1,41 @@
 #!/bin/sh
 # A runner, whole: one run of one workspace, from the queue to its end; each step is reported to custody.
 #     CUSTODY=https://state.example.com/v1/acme TOKEN=acme.SECRET runner.sh WORKSPACE KEY [plan_only]
-# It starts in the folder of the configuration. KEY, up to 64 letters or digits, is the pipeline's number: no other run has it.
+# It starts in the folder of the configuration. KEY, up to 64 letters, digits or '-', is the pipeline's number: no other run has it.
 set -eu
-ws=$1 key=$2 plan_only=false
-[ "${3-}" != plan_only ] || plan_only=true
+ws=$1 key=$2
+case "${3-}" in '') plan_only=false ;; plan_only) plan_only=true ;; *) echo "not plan_only: $3" >&2; exit 2 ;; esac
+[ ! -e errored.tfstate ] || { echo "errored.tfstate has to be pushed first" >&2; exit 1; }
 
-ask() { # PATH [MORE OF CURL'S WORDS]: the reply; the token goes by standard input, so that no list of processes has it
-    path=$1; shift
-    printf 'header = "Authorization: Bearer %s"\n' "$TOKEN" |
-        curl -sS -f --retry 6 --retry-connrefused -K - "$@" "$CUSTODY/runs/$ws$path"
+ask() { # PATH [MORE OF CURL'S WORDS]: the run's number n, its status s; the token goes by standard input, so no list of processes has it
+    path=$1 s=; shift
+    eval "$(printf 'header = "Authorization: Bearer %s"\n' "$TOKEN" |
+        curl -sS -f --retry 6 --retry-connrefused -K - "$@" "$CUSTODY/runs/$ws$path" |
+        sed -n 's/.*"number":\([0-9]*\).*"status":"\([a-z_]*\)".*/n=\1 s=\2/p')"
 }
-status() { sed -n 's/.*"status":"\([a-z_]*\)".*/\1/p'; }
-report() { ask "/$n/actions/$1" -X POST | status; }
-await() { while s=$(ask "/$n" | status) && [ "$s" = "$1" ]; do sleep 2; done; } # while the run has the status $1
-end() { echo "run-$n: $s" >&2; exit "$1"; }
+await() { # A B: while the status is A. Where another than B follows, the run is over, or another runner's
+    while [ "$s" = "$1" ]; do sleep 2; ask "/$n"; done
+    [ "$s" = "$2" ] || { [ -z "$s" ] || last=; exit 1; }
+}
+finish() { # with errored.tfstate the run goes on holding, until that is pushed (docs/RUNNERS.md)
+    [ -z "$last" ] || [ -e errored.tfstate ] || ask "/$n/actions/$last" -X POST
+    echo "run-$n: ${s:-no answer}" >&2
+    case "$s" in applied | planned_and_finished) exit 0 ;; *) exit 1 ;; esac
+}
 
-n=$(ask "" -d "{\"key\":\"$key\",\"plan_only\":$plan_only}" | sed -n 's/.*"number":\([0-9]*\).*/\1/p')
-[ "$n" ] || exit 1
-undo=discard
-trap '[ -z "$undo" ] || echo "run-$n: $(report "$undo")" >&2' EXIT
+ask "" -d "{\"key\":\"$key\",\"plan_only\":$plan_only}"; [ "$s" ] || exit 1
+last=discard                                          # what is reported at the end
+trap finish EXIT
 trap 'exit 1' HUP INT TERM
-await pending; [ "$s" = planning ] || { undo=; end 1; }
-undo=fail
+await pending planning; last=fail
 
 export TF_HTTP_ADDRESS="$CUSTODY/state/$ws?ID=run-$n&access_token=$TOKEN" TF_HTTP_RETRY_MAX=6
 unset TF_HTTP_LOCK_ADDRESS TF_HTTP_UNLOCK_ADDRESS     # the run holds the workspace, so a LOCK would be answered 423
 terraform init -input=false
 code=0; terraform plan -input=false -detailed-exitcode -out="run-$n.plan" || code=$?
-[ "$code" != 1 ] || exit 1
-[ "$code" = 2 ] || { s=$(report unchanged); undo=; end 0; }
-s=$(report planned); undo=discard                     # under auto_apply it is applying now
-[ "$s" != planned_and_finished ] || { undo=; end 0; } # a plan-only run
-[ "$s" != planned ] || { echo "run-$n waits for confirm or discard" >&2; await planned; }
-[ "$s" = applying ] || end 1
-undo=fail
-terraform apply -input=false "run-$n.plan" || {
-    [ ! -e errored.tfstate ] || undo=                 # the run goes on holding until that is pushed (docs/RUNNERS.md)
-    exit 1
-}
-s=$(report applied); undo=; end 0
+case "$code" in 0) last=unchanged; exit ;; 2) ;; *) exit 1 ;; esac
+ask "/$n/actions/planned" -X POST                     # applying under auto_apply, over where it is plan-only
+[ "$s" != planned ] || { last=discard; echo "run-$n waits for confirm or discard" >&2; }
+await planned applying; last=fail
+terraform apply -input=false "run-$n.plan"
+last=applied
