@@ -12,8 +12,9 @@ ask() { # PATH [MORE OF CURL'S WORDS]
 }
 serial() { sed -n 's/^  "serial": \([0-9]*\),$/\1/p' "$1"; }   # as Terraform prints it: the outermost member
 
+trap 'rm -r "$work"' EXIT
 ask "state/$ws" -X LOCK -d "{\"ID\":\"$id\",\"Who\":\"rollback\",\"Created\":\"$(date -u +%FT%TZ)\"}"
-trap 'ask "state/$ws" -X UNLOCK -d "{\"ID\":\"$id\"}"; rm -r "$work"' EXIT
+trap 'rm -r "$work"; ask "state/$ws" -X UNLOCK -d "{\"ID\":\"$id\"}"' EXIT
 trap 'exit 1' HUP INT TERM
 ask "state/$ws" > "$work/newest"
 ask "versions/$ws/$n" > "$work/old"
