@@ -1,5 +1,5 @@
 #!/bin/sh
-# A runner, whole: one run of one workspace, from the queue to its end; each step is reported to custody.
+# One run of one workspace, from the queue to its end; each step is reported to custody.
 #     CUSTODY=https://state.example.com/v1/acme TOKEN=acme.SECRET runner.sh WORKSPACE KEY [plan_only]
 # It starts in the folder of the configuration. KEY, up to 64 letters, digits or '-', is the pipeline's number: no other run has it.
 set -eu
