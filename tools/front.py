@@ -4,7 +4,8 @@
     python3 tools/front.py CERT KEY [PORT [TO]]    answers https at PORT (8443) of 127.0.0.1, asks TO (8090)
 
 Each request is read whole, a chunked body too, and sent on over a connection of its own with its Content-Length, as
-nginx does by itself. The reply goes back as it comes, and the connection ends. Where nobody answers at TO it is 502.
+nginx does by itself. The reply goes back as it comes, and the connection ends. Where nobody answers at TO it is 502. A body
+of more than 16 MiB is answered 413.
 """
 
 import socket
@@ -17,8 +18,16 @@ LIMIT = 16_777_216
 LEFT_OUT = {"connection", "content-length", "expect", "transfer-encoding"}
 
 
+# What is still read of a request that is refused, so that its sender reads the reply.
+DRAINED = 4 * LIMIT
+
+
 class Bad(Exception):
-    pass
+    status = b"400 Bad Request"
+
+
+class TooLarge(Bad):
+    status = b"413 Content Too Large"
 
 
 def read_line(stream):
@@ -37,8 +46,10 @@ def read_chunks(stream):
                 pass
             return body
         body += stream.read(size)
-        if read_line(stream) or len(body) > LIMIT:
+        if read_line(stream):
             raise Bad
+        if len(body) > LIMIT:
+            raise TooLarge
 
 
 def read_request(stream, link):
@@ -58,7 +69,7 @@ def read_request(stream, link):
     else:
         length = int(given.get("content-length", 0))
         if length > LIMIT:
-            raise Bad
+            raise TooLarge
         body = stream.read(length)
     kept = [(name, value) for name, value in fields if name.lower() not in LEFT_OUT]
     kept += [("Content-Length", str(len(body))), ("Connection", "close")]
@@ -78,8 +89,18 @@ class Peer(socketserver.BaseRequestHandler):
             if request:
                 self.send_on(request, link)
             link.unwrap()
-        except (Bad, ValueError):
-            link.sendall(b"HTTP/1.1 400 Bad Request\r\nContent-Length: 0\r\nConnection: close\r\n\r\n")
+        except (Bad, ValueError) as fault:
+            self.refuse(link, getattr(fault, "status", Bad.status))
+        except OSError:
+            pass
+
+    def refuse(self, link, status):
+        try:
+            link.sendall(b"HTTP/1.1 " + status + b"\r\nContent-Length: 0\r\nConnection: close\r\n\r\n")
+            left = DRAINED
+            link.settimeout(5)
+            while left > 0 and (piece := link.recv(65536)):
+                left -= len(piece)
         except OSError:
             pass
 
