@@ -3,9 +3,10 @@
 
     python3 tools/files.py CUSTODY    the program as `rt ci` or `rt run` leaves it
 
-A file behind a link is told of by its own mode and by that of its log. A file that isn't opened is told why. One program at a time has a file. A file that sqlite3
-wrote to, and whose sums (those of SQLite's cksumvfs, which a new file has) it spoiled so, comes back by a dump. What damage
-does is looked at by flips.py. It prints a line for each thing that holds, and ends with status 1 at the first that doesn't.
+A file behind a link is told of by its own mode and by that of its log. A file that isn't opened is told why. One program at a
+time has a file. A file that sqlite3 wrote to, and whose sums (those of SQLite's cksumvfs, which a new file has) it spoiled so,
+comes back by a dump. What damage does is looked at by flips.py. It prints a line for each thing that holds, and ends with
+status 1 at the first that doesn't.
 """
 
 import os
@@ -23,7 +24,9 @@ NO_FOLDER = b"custody: the folder of the file isn't there\n"
 JOURNAL = b"custody: a rollback journal lies beside the file: open it with sqlite3 first\n"
 CORRUPT = b"custody: the file is damaged: a page's sum or form is wrong\n"
 UNSOUND = b"custody: the file is damaged or no database: its rows break its schema\n"
-NO_ROOM = b"custody: there is no room on the disk\n"
+DISK = b"custody: the disk or the system refused\n"
+# Runs the words behind it with files of at most 8 blocks of 512 bytes, whose writes fail beyond that and don't end the program.
+SMALL_FILES = ["sh", "-c", "trap '' XFSZ; ulimit -f 8; exec \"$@\"", "sh"]
 SECRET = b"adminadminadmin1\n"
 
 TEXTS = [b'{"serial":%d,"x":"%s"}' % (serial, b"%d " % serial * 9000) for serial in (1, 2)]
@@ -139,6 +142,10 @@ def look_at_reasons(program):
         refused(what, why)
         said("the file", open(folder + "/bad.db", "rb").read() == damaged, True)
     os.remove(folder + "/bad.db")
+    words = SMALL_FILES + [program.path, "org-add", "--db", "small.db", "acme"]
+    ran = subprocess.run(words, stdin=subprocess.DEVNULL, capture_output=True, timeout=PATIENCE, cwd=folder)
+    said("a file that may not grow", (ran.returncode, ran.stdout, ran.stderr), (3, b"refused down\n", DISK))
+    print("right: told: a file that may not grow")
     # (who may read everything isn't refused)
     if os.getuid():
         os.mkdir(folder + "/closed", 0o500)
