@@ -5,8 +5,8 @@
 
 A file behind a link is told of by its own mode and by that of its log. A file that isn't opened is told why. One program at a
 time has a file. A file that sqlite3 wrote to, and whose sums (those of SQLite's cksumvfs, which a new file has) it spoiled so,
-comes back by a dump. What damage does is looked at by flips.py. It prints a line for each thing that holds, and ends with
-status 1 at the first that doesn't.
+comes back by a dump. A fault of the disk that shuts the store ends the service (unsynced.c makes one). What damage does is
+looked at by flips.py. It prints a line for each thing that holds, and ends with status 1 at the first that doesn't.
 """
 
 import os
@@ -14,7 +14,7 @@ import shutil
 import sqlite3
 import subprocess
 
-from program import NEW_FILE, PATIENCE, exchanged, free_port, look_at, reply, request, said
+from program import NEW_FILE, PATIENCE, compiled, exchanged, free_port, look_at, reply, request, said
 
 READABLE = b"custody: others than its owner may read the file or its log: chmod 600 ends that\n"
 IN_USE = b"custody: another program has the file open\n"
@@ -25,6 +25,10 @@ JOURNAL = b"custody: a rollback journal lies beside the file: open it with sqlit
 CORRUPT = b"custody: the file is damaged: a page's sum or form is wrong\n"
 UNSOUND = b"custody: the file is damaged or no database: its rows break its schema\n"
 DISK = b"custody: the disk or the system refused\n"
+SHUT = b"custody: a fault of the disk has shut the store: see to the disk\n"
+ANSWERED_503 = b"custody: connection %d: memory or the store was refused, answered 503\n"
+LOG_STAYS = b"custody: the log could not be copied into the file: keep the file and its log together\n"
+DOWN = b'{"error":"down"}'
 # Runs the words behind it with files of at most 8 blocks of 512 bytes, whose writes fail beyond that and don't end the program.
 SMALL_FILES = ["sh", "-c", "trap '' XFSZ; ulimit -f 8; exec \"$@\"", "sh"]
 SECRET = b"adminadminadmin1\n"
@@ -35,14 +39,14 @@ TEXTS = [b'{"serial":%d,"x":"%s"}' % (serial, b"%d " % serial * 9000) for serial
 class Service:
     """A service over a file, ended by its count or killed."""
 
-    def __init__(self, program, path, count):
+    def __init__(self, program, path, count, env=None):
         self.port = free_port()
-        self.process = program.start(["serve", "--db", path, "--port", str(self.port), "--count", str(count)], subprocess.DEVNULL)
+        self.process = program.start(["serve", "--db", path, "--port", str(self.port), "--count", str(count)], subprocess.DEVNULL, env=env)
         said("the line of a service", self.process.stdout.readline(), b"listening 127.0.0.1:%d\n" % self.port)
 
-    def ends(self):
-        output, errors = self.process.communicate(timeout=PATIENCE)
-        said("a service behind its count", (self.process.returncode, output, errors), (0, b"", b""))
+    def ends(self, status=0, output=b"", errors=b""):
+        ended = self.process.communicate(timeout=PATIENCE)
+        said("how a service ends", (self.process.returncode, *ended), (status, output, errors))
 
     def kill(self):
         self.process.kill()
@@ -188,5 +192,24 @@ def look_at_spoiled(program):
     print("right: a file that sqlite3 spoiled comes back by its dump")
 
 
+def look_at_shut(program):
+    """A fault of the disk that shuts the store ends the service, once that is answered and told; what was acknowledged stands there."""
+    filled(program, "shut.db")
+    fails = program.folder + "/fails"
+    service = Service(program, "shut.db", 4, dict(os.environ, LD_PRELOAD=compiled("unsynced", program.folder), FAILS=fails))
+    try:
+        get, post = request(b"GET /v1/acme/state/net HTTP/1.1"), request(b"POST /v1/acme/state/net HTTP/1.1", b'{"serial":3}')
+        said("before the fault", exchanged(service.port, get), reply(b"200 OK", TEXTS[-1]))
+        open(fails, "wb").close()
+        said("the change that isn't synced", exchanged(service.port, post), reply(b"503 Service Unavailable", DOWN))
+        service.ends(3, b"refused down\n", ANSWERED_503 % 2 + SHUT + LOG_STAYS)
+    finally:
+        service.kill()
+    print("right: a store that the disk has shut ends the service, which accepts no further connection")
+    os.remove(fails)
+    said("what was acknowledged before it", is_right(program, "shut.db"), True)
+    print("right: what was acknowledged before it is there at the next start")
+
+
 if __name__ == "__main__":
-    look_at(__doc__, look_at_modes, look_at_owners, look_at_reasons, look_at_spoiled)
+    look_at(__doc__, look_at_modes, look_at_owners, look_at_reasons, look_at_spoiled, look_at_shut)

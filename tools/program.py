@@ -11,6 +11,7 @@ first that doesn't.
 
 import os
 import re
+import shutil
 import socket
 import sqlite3
 import subprocess
@@ -20,6 +21,7 @@ import tempfile
 # Seconds after which a program or a peer that says nothing is held for hanging.
 PATIENCE = 60
 FULL = "/dev/full"
+HERE = os.path.dirname(os.path.abspath(__file__))
 
 SECRET_FORM = b"custody: the secret isn't one line of 16 to 64 ASCII letters or digits\n"
 LEFT_EARLY = b"custody: connection %d: the peer closed before its request was whole\n"
@@ -39,15 +41,25 @@ def said(what, came, due):
         raise Wrong("%s: expected %s, came %s" % (what, due, came))
 
 
+def compiled(source, folder):
+    """A library of C that a program is started with, compiled into a folder."""
+    compiler = next(filter(None, map(shutil.which, ["cc", "gcc", "clang"])), None)
+    if not compiler:
+        sys.exit("no C compiler: one of cc, gcc and clang makes the library " + source)
+    library = "%s/%s.so" % (folder, source)
+    subprocess.run([compiler, "-O1", "-shared", "-fPIC", "-o", library, "%s/%s.c" % (HERE, source), "-ldl"], check=True)
+    return library
+
+
 class Program:
     """The program, in a folder of its own."""
 
     def __init__(self, path, folder):
         self.path, self.folder = os.path.abspath(path), folder
 
-    def start(self, words, given=None, output=subprocess.PIPE, errors=subprocess.PIPE):
+    def start(self, words, given=None, output=subprocess.PIPE, errors=subprocess.PIPE, env=None):
         # (as a shell starts it: a write to a closed pipe is a signal, unless the program has it otherwise)
-        return subprocess.Popen([self.path] + words, stdin=given, stdout=output, stderr=errors, cwd=self.folder, restore_signals=True)
+        return subprocess.Popen([self.path] + words, stdin=given, stdout=output, stderr=errors, cwd=self.folder, restore_signals=True, env=env)
 
     def run(self, words, given=b"", **streams):
         """The status, and what came on both streams; nothing of one that wasn't caught."""

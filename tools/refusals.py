@@ -26,6 +26,7 @@ import sys
 import tempfile
 
 import stories
+from program import compiled
 
 HERE = os.path.dirname(os.path.abspath(__file__))
 TEXT = HERE + "/refusals.txt"
@@ -53,7 +54,7 @@ REFUSED = (3, b"refused down\n")
 NEW_FILE = b"custody: there was no file at the path: a new one was made\n"
 CAUSES = [
     b"custody: memory was refused\n",
-    b"custody: memory or the store refused, and nothing changed\n",
+    b"custody: memory or the store refused, and no record changed\n",
     b"custody: the input can't be read, or memory was refused\n",
 ]
 
@@ -699,15 +700,6 @@ def run_job(library, room, number, job):
         return kind, story.name, Counts(), error
 
 
-def library_in(room):
-    compiler = next(filter(None, map(shutil.which, ["cc", "gcc", "clang"])), None)
-    if not compiler:
-        sys.exit("no C compiler: one of cc, gcc and clang makes the library that refuses memory")
-    library = room + "/refuse.so"
-    subprocess.run([compiler, "-O1", "-shared", "-fPIC", "-o", library, HERE + "/refuse.c", "-ldl"], check=True)
-    return library
-
-
 def tell(kind, name, counts, error):
     runs = "%d runs refused, %d right" % (counts["refused"], counts["right"] + counts["unrefused"])
     print("memory refused, %s, %s: %s" % (kind, name, error or runs), flush=True)
@@ -722,7 +714,7 @@ def main():
     program = os.path.abspath(sys.argv[2]) if len(sys.argv) > 2 else None
     total, failed = Counts(), 0
     with tempfile.TemporaryDirectory(prefix="refusals-") as room:
-        library = library_in(room)
+        library = compiled("refuse", room)
         told = read_stories()
         jobs = jobs_of(told, custody, program)
         failed += not set(REPLAYED + [LEFT]) <= set(told)

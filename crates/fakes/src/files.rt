@@ -1,5 +1,5 @@
 //! A database in memory, in the place of one in a file.
-ghost use Rattle.std.specs.Prelude.{◌≡◌, ◌≢◌, Some, not, is_some};
+ghost use Rattle.std.specs.Prelude.{◌≡◌, ◌≢◌, Some, Ok, false, not, is_some};
 ghost use Rattle.fakes.specs.Files.{IsKeptStore};
 ghost use Rattle.program.specs.declared.reasons.Cause.TheVariants as cause;
 ghost use Rattle.program.specs.declared.reasons.OpenFault.TheVariants as fault;
@@ -52,6 +52,9 @@ impl Files<PlainKeep> for MemoryFile<'_> {
     // Nor is it whether others may read what lies there.
     ghost reads = { λ files path answer. path ≡ files.path.now → answer ≡ files.is_readable };
 
+    // A store in memory is never shut.
+    ghost shuts = { λ store said after. (said ≡ Ok false) × (after ≡ store) };
+
     fn is_absent(&self, _path: &str) -> bool {
         self.store.is_none()
     }
@@ -68,6 +71,10 @@ impl Files<PlainKeep> for MemoryFile<'_> {
             Some(store) => Ok(store),
             None => Ok(PlainKeep::new(self.alloc)),
         }
+    }
+
+    fn is_shut(&self, _store: &mut PlainKeep) -> Result<bool, Down> {
+        Ok(false)
     }
 
     fn close(&mut self, path: &str, store: PlainKeep) -> Result<(), Down> {

@@ -18,7 +18,7 @@ module _ {K F N C R W : Type 0} (k : keep.Ghosts K) (f : files.Ghosts F K) (n : 
       → from ≡ opened → closed ≡ to → f.holds old path opened → OthersStay f.holds path old mid
       → (k.clean to → k.clean from) → (k.clean to → k.sound from → k.sound to)
       → (k.clean to → k.sound from → Serves count (k.rows from) (k.rows to))
-      → AnswersAtPort k n c i o port timeouts count (state network time from noted) (state network' time' to lines) served out told
+      → AnswersAtPort k f n c i o port timeouts count (state network time from noted) (state network' time' to lines) served out told
       → f.holds new path closed → OthersStay f.holds path mid new → SaysServed served e told last
       → f.lacks old path is_new → f.reads old path others_may_read → TellsOfFile is_new others_may_read (stream before noted)
       → TellsOfLog (f.copied new path closed) (stream lines after)

@@ -20,9 +20,10 @@ use Rattle.wire.specs.declared.devices.Inlet as inlet
 use Rattle.wire.specs.declared.devices.Outlet as outlet
 use Rattle.program.specs.declared.endings.Ending.TheVariants as ending
 use Rattle.program.specs.declared.outside.Connections as connections
+use Rattle.program.specs.declared.outside.Files as files
 use Rattle.program.specs.declared.outside.Clock as clock
 use Rattle.command_line.specs.declared.timeouts.Timeouts.{Timeouts}
-use Rattle.program.specs.Serving.{AreRequests, Serves, State, Answers, AnswersAll}
+use Rattle.program.specs.Serving.{AreRequests, Serves, State, AsksAfter, AnswersNext, AnswersAll}
 use Rattle.program.specs.Inner.Serving.{TakesOne, ServesTo}
 
 answered : (now : ℕ) (received : List ℕ) (old new : List ℕ → Option Organization) (awaited : Bool) (text : List ℕ) → IsMoment now → (is_down : Bool) → IsAnswered now received old new awaited text is_down → TakesOne old new
@@ -98,13 +99,27 @@ serves_of count most old new le so_far = record {
   rows = so_far.run.rows;
 }
 
+-- what is so after the question whether a store is shut
+module _ {K F : Type 0} (k : keep.Ghosts K) (f : files.Ghosts F K) where
+  pub asked_so_far : (is_down : Bool) (old : K) (is_shut : Bool) (new : K) → AsksAfter k f is_down old is_shut new → k.clean new → k.clean old
+  asked_so_far true old is_shut new asks clean = asks.2.so_far clean
+  asked_so_far false old is_shut new asks clean = subst (λ (store : K). k.clean store) asks.1 clean
+
+  pub asked_kept : (is_down : Bool) (old : K) (is_shut : Bool) (new : K) → AsksAfter k f is_down old is_shut new → k.clean new → k.sound old → k.sound new
+  asked_kept true old is_shut new asks clean sound = asks.2.kept clean sound
+  asked_kept false old is_shut new asks clean sound = subst (λ (store : K). k.sound store) (sym asks.1) sound
+
+  pub asked_rows : (is_down : Bool) (old : K) (is_shut : Bool) (new : K) → AsksAfter k f is_down old is_shut new → k.clean new → k.rows new ≡ k.rows old
+  asked_rows true old is_shut new asks clean = λ i org. asks.2.same clean org i
+  asked_rows false old is_shut new asks clean = ap k.rows asks.1
+
 -- one connection more behind those that were answered
-module _ {K N C R W : Type 0} (k : keep.Ghosts K) (n : connections.Ghosts N R W) (c : clock.Ghosts C) (i : inlet.Ghosts R) (o : outlet.Ghosts W) where
+module _ {K F N C R W : Type 0} (k : keep.Ghosts K) (f : files.Ghosts F K) (n : connections.Ghosts N R W) (c : clock.Ghosts C) (i : inlet.Ghosts R) (o : outlet.Ghosts W) where
   pub answers_more : (timeouts : Timeouts) (from place : ℕ) (moments : List ℕ) (at : ℕ) (old mid new : State N C K)
-      → place ≡ from + length moments → AnswersAll k n c i o timeouts from moments old mid → Answers k n c i o timeouts place at mid new → AnswersAll k n c i o timeouts from (moments ++ at ∷ []) old new
+      → place ≡ from + length moments → AnswersAll k f n c i o timeouts from moments old mid → AnswersNext k f n c i o timeouts place at false mid new → AnswersAll k f n c i o timeouts from (moments ++ at ∷ []) old new
   answers_more timeouts from place [] at old mid new is so_far one =
       let first : place ≡ from = omega arith in
-      (new, subst (λ (s : State N C K). Answers k n c i o timeouts from at s new) so_far (subst (λ (p : ℕ). Answers k n c i o timeouts p at mid new) first one), refl)
+      (new, subst (λ (s : State N C K). AnswersNext k f n c i o timeouts from at false s new) so_far (subst (λ (p : ℕ). AnswersNext k f n c i o timeouts p at false mid new) first one), refl)
   answers_more timeouts from place (m ∷ moments) at old mid new is so_far one =
       let further : place ≡ suc from + length moments = omega arith in
       (so_far.0, so_far.1, answers_more timeouts (suc from) place moments at so_far.0 mid new further so_far.2 one)

@@ -303,7 +303,7 @@ module _ {K F N C R W : Type 0} (k : keep.Ghosts K) (f : files.Ghosts F K) (n : 
     pub noted : Option (List ℕ)
     pub tells : TellsOfFile is_new others_may_read (stream errors.old noted)
     pub lines : Option (List ℕ)
-    pub answers : AnswersAtPort k n c i o port timeouts count (state old.network old.clock before noted) (state new.network new.clock after lines) served output.old told
+    pub answers : AnswersAtPort k f n c i o port timeouts count (state old.network old.clock before noted) (state new.network new.clock after lines) served output.old told
     pub says : SaysServed served e told output.new
     pub log : TellsOfLog (f.copied new.files path after) (stream lines errors.new)
 

@@ -1,9 +1,10 @@
 -- The loop of `serve`: what it prints, the connections that it answers, and the records that it leaves.
-use Rattle.std.specs.Prelude.{◌≡◌, ◌<◌, ◌≤◌, ℕ, suc, List, [], ◌∷◌, ◌++◌, ◌⊎◌, ⊤, Bool, Option, Some, None, Result, Ok, Err, codes, decimal, length}
+use Rattle.std.specs.Prelude.{◌≡◌, ◌<◌, ◌≤◌, ℕ, suc, List, [], ◌∷◌, ◌++◌, ◌⊎◌, ⊤, Bool, true, false, Option, Some, None, Result, Ok, Err, codes, decimal, length}
 use Rattle.std.specs.Io.KnownBytes.{Appends, Consumes}
 use Rattle.basis.specs.declared.memory.Down.{Down}
 use Rattle.machine.specs.declared.keeps.Keep as keep
 use Rattle.machine.specs.declared.records.Organization.{Organization}
+use Rattle.machine.specs.Keeping.{Looks}
 use Rattle.serve.specs.declared.exchanges.LinkFault.{LinkFault}
 use Rattle.serve.specs.declared.steps.Step.{Step}
 use Rattle.serve.specs.declared.steps.Step.TheVariants.{Request, Command}
@@ -17,6 +18,7 @@ use Rattle.program.specs.declared.reasons.Cause.TheVariants as cause
 use Rattle.program.specs.declared.endings.Ending.{Ending}
 use Rattle.program.specs.declared.endings.Ending.TheVariants as ending
 use Rattle.program.specs.declared.outside.Connections as connections
+use Rattle.program.specs.declared.outside.Files as files
 use Rattle.program.specs.declared.outside.Clock as clock
 use Rattle.command_line.specs.declared.timeouts.Timeouts.{Timeouts}
 use Rattle.wire.specs.declared.devices.Inlet as inlet
@@ -63,12 +65,12 @@ AcceptsNone {N} {C} {R} {W} n c timeouts network network' clock clock' why =
     ⊎ ((reader : R) × (writer : W) × n.accepts network timeouts (Ok (reader, writer)) network' × c.tells clock None clock' × (why ≡ cause.Clock))
 
 module _ {K N R W : Type 0} (k : keep.Ghosts K) (n : connections.Ghosts N R W) (i : inlet.Ghosts R) (o : outlet.Ghosts W) where
-  -- the connection of this number, with these two sides, is answered by one exchange at this moment, told of on the error
-  -- stream and ended: the network, the store and what the error stream has, before and after
-  pub record AnswersOne (place at : ℕ) (reader : R) (writer : W) (network network' : N) (store store' : K) (errors errors' : Option (List ℕ)) : Type 0 where
+  -- the connection of this number, with these two sides, is answered by one exchange at this moment, by the 503 of memory or
+  -- a store that refused or not, told of on the error stream and ended: the network, the store and what the error stream has,
+  -- before and after
+  pub record AnswersOne (place at : ℕ) (is_down : Bool) (reader : R) (writer : W) (network network' : N) (store store' : K) (errors errors' : Option (List ℕ)) : Type 0 where
     pub read : R
     pub written : W
-    pub is_down : Bool
     pub result : Result (Unit {0}) LinkFault
     pub so_far : k.clean store' → k.clean store
     pub kept : k.clean store' → k.sound store → k.sound store'
@@ -77,21 +79,49 @@ module _ {K N R W : Type 0} (k : keep.Ghosts K) (n : connections.Ghosts N R W) (
     pub lines : GetsConnectionLines place is_down result errors errors'
     pub ends : n.ends network read written network'
 
+-- what the files said of a store, where they weren't refused memory
+abbrev pub says_shut : Result Bool Down → Bool
+says_shut (Ok is_shut) = is_shut
+says_shut (Err down) = false
+
+module _ {K F : Type 0} (k : keep.Ghosts K) (f : files.Ghosts F K) where
+  -- after the 503 the files are asked whether a fault of the disk has shut the store, and say so or not; after another reply
+  -- they aren't asked
+  abbrev pub AsksAfter : Bool → K → Bool → K → Type 0
+  AsksAfter true old is_shut new = (said : Result Bool Down) × f.shuts old said new × Looks k.rows k.clean k.sound old new × (is_shut ≡ says_shut said)
+  AsksAfter false old is_shut new = (is_shut ≡ false) × (new ≡ old)
+
 module _ {K N C R W : Type 0} (k : keep.Ghosts K) (n : connections.Ghosts N R W) (c : clock.Ghosts C) (i : inlet.Ghosts R) (o : outlet.Ghosts W) where
   -- a connection is accepted with these timeouts, the clock tells this moment, and the connection is answered as that of
   -- this number
-  pub record Answers (timeouts : Timeouts) (place at : ℕ) (old new : State N C K) : Type 0 where
+  pub record Answers (timeouts : Timeouts) (place at : ℕ) (is_down : Bool) (old new : State N C K) : Type 0 where
     pub reader : R
     pub writer : W
     pub network : N
     pub accepts : n.accepts old.network timeouts (Ok (reader, writer)) network
     pub tells : c.tells old.clock (Some at) new.clock
-    pub answers : AnswersOne k n i o place at reader writer network new.network old.store new.store old.errors new.errors
+    pub answers : AnswersOne k n i o place at is_down reader writer network new.network old.store new.store old.errors new.errors
 
-  -- connections are answered in turn, one at each of these moments, each with these timeouts, by numbers from this one on
+module _ {K F N C R W : Type 0} (k : keep.Ghosts K) (f : files.Ghosts F K) (n : connections.Ghosts N R W) (c : clock.Ghosts C) (i : inlet.Ghosts R) (o : outlet.Ghosts W) where
+  -- a connection is answered so, and then it is known whether a fault of the disk has shut the store
+  pub record AnswersNext (timeouts : Timeouts) (place at : ℕ) (is_shut : Bool) (old new : State N C K) : Type 0 where
+    pub is_down : Bool
+    pub store : K
+    pub answers : Answers k n c i o timeouts place at is_down old (state new.network new.clock store new.errors)
+    pub asks : AsksAfter k f is_down store is_shut new.store
+
+  -- connections are answered in turn, one at each of these moments, each with these timeouts, by numbers from this one on; and
+  -- after none of them was the store shut
   abbrev pub AnswersAll : Timeouts → ℕ → List ℕ → State N C K → State N C K → Type 0
   AnswersAll timeouts place [] old new = new ≡ old
-  AnswersAll timeouts place (at ∷ moments) old new = (mid : State N C K) × Answers timeouts place at old mid × AnswersAll timeouts (suc place) moments mid new
+  AnswersAll timeouts place (at ∷ moments) old new = (mid : State N C K) × AnswersNext timeouts place at false old mid × AnswersAll timeouts (suc place) moments mid new
+
+  -- no further connection is accepted, and this is why: an accept or the clock failed; or one more was answered, that of this
+  -- number, and a fault of the disk has shut the store
+  abbrev pub EndsEarly : Timeouts → ℕ → State N C K → State N C K → Cause → Type 0
+  EndsEarly timeouts place last new why =
+      (AcceptsNone n c timeouts last.network new.network last.clock new.clock why × (new.store ≡ last.store) × (new.errors ≡ last.errors))
+      ⊎ ((at : ℕ) × AnswersNext timeouts place at true last new × (why ≡ cause.Shut))
 
   -- so many connections are answered; or fewer, since no further one is accepted, and the error stream is told the cause; or
   -- none, where the line wasn't printed
@@ -99,7 +129,7 @@ module _ {K N C R W : Type 0} (k : keep.Ghosts K) (n : connections.Ghosts N R W)
   AnswersCount timeouts count old new ending.Done = (moments : List ℕ) × (length moments ≡ count) × AnswersAll timeouts 1 moments old new
   AnswersCount timeouts count old new ending.Down =
       (moments : List ℕ) × (last : State N C K) × (length moments < count) × AnswersAll timeouts 1 moments old last
-      × (why : Cause) × AcceptsNone n c timeouts last.network new.network last.clock new.clock why × (new.store ≡ last.store) × GetsFront last.errors new.errors (cause_line why)
+      × (why : Cause) × (errors : Option (List ℕ)) × EndsEarly timeouts (suc (length moments)) last (state new.network new.clock new.store errors) why × GetsFront errors new.errors (cause_line why)
   AnswersCount timeouts count old new ending.Unprinted = new ≡ old
   AnswersCount timeouts count old new other = ⊥
 

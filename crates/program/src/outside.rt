@@ -5,19 +5,21 @@ ghost use Rattle.basis.specs.declared.memory.Down.{Down as AnyDown};
 ghost use Rattle.command_line.specs.declared.timeouts.Timeouts.{Timeouts as AnyTimeouts};
 ghost use Rattle.program.specs.declared.reasons.Cause.{Cause as AnyCause};
 ghost use Rattle.program.specs.declared.reasons.OpenFault.{OpenFault as AnyFault};
+ghost use Rattle.machine.specs.Keeping.{Looks};
 ghost use Rattle.program.specs.Paths.{AllStay, OthersStay};
 ghost use Rattle.program.specs.Replies.{AreReplies};
 
 use crate::reasons::{Cause, OpenFault};
 use basis::{Bytes, Down, Moment};
 use command_line::timeouts::Timeouts;
+use machine::Keep;
 use serve::Step;
 use std::alloc::Global;
 use std::net::Ipv4Addr;
 use wire::{Inlet, Outlet};
 
 /// Where databases lie, each by its path; a database that was opened is a `K`.
-pub trait Files<K> {
+pub trait Files<K: Keep> {
     // What a store has is what lies at a path: in its file, and in the log beside it.
     ghost holds: { Self → List ℕ → K → Type 0 };
 
@@ -32,6 +34,9 @@ pub trait Files<K> {
 
     // What finds out whether others than its owner may read what lies at a path.
     ghost reads: { Self → List ℕ → Bool → Type 0 };
+
+    // What finds out whether a fault of the disk has shut a store: the store before and after.
+    ghost shuts: { K → Result Bool AnyDown → K → Type 0 };
 
     /// Whether nothing lies at a path.
     fn is_absent(&self, path: &str) -> bool
@@ -48,6 +53,11 @@ pub trait Files<K> {
         ensures others { OthersStay holds path.now self.old self.new }
         ensures refused { OnErr result (AllStay holds self.old self.new) }
         ensures why { IfErr result (refuses self.old path.now) };
+
+    /// Whether a fault of the disk has shut a store, so that it refuses each call; an error where memory was refused.
+    fn is_shut(&self, store: &mut K) -> Result<bool, Down>
+        ensures told { shuts store.old result store.new }
+        ensures looks { Looks K.rows K.clean K.sound store.old store.new };
 
     /// Closes a store: what it has lies at the path then. After an error its log stays beside the file.
     fn close(&mut self, path: &str, store: K) -> Result<(), Down>

@@ -25,6 +25,8 @@ pub enum Cause {
     Disk,
     /// Memory or the store refused, and it isn't told which.
     Store,
+    /// A fault of the disk has shut the store.
+    Shut,
     /// Standard input can't be read, or memory was refused behind it.
     Input,
     PortTaken,
@@ -59,7 +61,8 @@ impl Cause {
             Cause::NoRoom => "custody: there is no room on the disk\n",
             Cause::NoMemory => "custody: memory was refused\n",
             Cause::Disk => "custody: the disk or the system refused\n",
-            Cause::Store => "custody: memory or the store refused, and nothing changed\n",
+            Cause::Store => "custody: memory or the store refused, and no record changed\n",
+            Cause::Shut => "custody: a fault of the disk has shut the store: see to the disk\n",
             Cause::Input => "custody: the input can't be read, or memory was refused\n",
             Cause::PortTaken => "custody: the port is taken\n",
             Cause::PortNotPermitted => "custody: the port isn't permitted\n",

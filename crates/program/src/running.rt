@@ -317,8 +317,9 @@ fn read_and_add<K: Keep, F: Files<K>, I: Read, O: Write, E: Write>(
     }
 }
 
-fn serve_at<K: Keep, N: Connections, C: Clock, O: Write, E: Write>(
+fn serve_at<K: Keep, F: Files<K>, N: Connections, C: Clock, O: Write, E: Write>(
     alloc: Global,
+    files: &F,
     network: &mut N,
     clock: &mut C,
     service: &mut Service<K>,
@@ -332,11 +333,11 @@ fn serve_at<K: Keep, N: Connections, C: Clock, O: Write, E: Write>(
     ensures kept { K.clean service.new.keep → K.sound service.old.keep → K.sound service.new.keep }
     ensures serves { K.clean service.new.keep → K.sound service.old.keep → Serves count (K.rows service.old.keep) (K.rows service.new.keep) }
     ensures listens { Listens result (O.contents output.old) (O.contents output.new) }
-    ensures answers { AnswersAtPort K.Keep N.Connections C.Clock N.Reader.Inlet N.Writer.Outlet port timeouts.now count (state network.old clock.old service.old.keep (E.contents errors.old)) (state network.new clock.new service.new.keep (E.contents errors.new)) result (O.contents output.old) (O.contents output.new) }
+    ensures answers { AnswersAtPort K.Keep F.Files N.Connections C.Clock N.Reader.Inlet N.Writer.Outlet port timeouts.now count (state network.old clock.old service.old.keep (E.contents errors.old)) (state network.new clock.new service.new.keep (E.contents errors.new)) result (O.contents output.old) (O.contents output.new) }
 {
     match network.bind(Ipv4Addr::LOCALHOST, port) {
         Ok(given) => serve_loop(
-            alloc, network, given, service, count, timeouts, clock, output, errors,
+            alloc, files, network, given, service, count, timeouts, clock, output, errors,
         ),
         Err(cause) => {
             tell_cause(errors, cause);
@@ -391,6 +392,7 @@ fn serve<K: Keep, F: Files<K>, N: Connections, C: Clock, O: Write, E: Write>(
     let mut service = Service::new(keep);
     let ending = serve_at(
         alloc,
+        files,
         network,
         clock,
         &mut service,

@@ -5,12 +5,12 @@ ghost use Rattle.std.specs.Io.KnownBytes.{Appends, Consumes};
 ghost use Rattle.serve.specs.Exchanges.{Exchanges};
 ghost use Rattle.wire.specs.Links.{Writes};
 ghost use Rattle.program.specs.Errors.{GetsConnectionLines, fault_text, down_line, fault_line};
-ghost use Rattle.program.specs.Serving.{listening_line, ListensAt, Serves, state, AcceptsNone, AnswersOne, Answers, AnswersCount};
+ghost use Rattle.program.specs.Serving.{listening_line, ListensAt, Serves, state, AcceptsNone, AnswersOne, Answers, AsksAfter, AnswersNext, EndsEarly, AnswersCount};
 ghost use Rattle.program.specs.Inner.Serving.{TakesOne};
 
 use crate::endings::Ending;
 use crate::errors::{tell_cause, write_line};
-use crate::outside::{Clock, Connections};
+use crate::outside::{Clock, Connections, Files};
 use crate::reasons::Cause;
 use basis::Moment;
 use basis::numbers::MAX_MOMENT;
@@ -108,7 +108,7 @@ fn serve_one<K: Keep, N: Connections, E: Write>(
     ensures so_far { K.clean service.new.keep → K.clean service.old.keep }
     ensures kept { K.clean service.new.keep → K.sound service.old.keep → K.sound service.new.keep }
     ensures takes { K.clean service.new.keep → K.sound service.old.keep → TakesOne (K.rows service.old.keep) (K.rows service.new.keep) }
-    ensures answers { AnswersOne K.Keep N.Connections N.Reader.Inlet N.Writer.Outlet place now reader writer network.old network.new service.old.keep service.new.keep (E.contents errors.old) (E.contents errors.new) }
+    ensures answers { AnswersOne K.Keep N.Connections N.Reader.Inlet N.Writer.Outlet place now service.new.was_down reader writer network.old network.new service.old.keep service.new.keep (E.contents errors.old) (E.contents errors.new) }
 {
     let mut inlet = reader;
     let mut outlet = writer;
@@ -144,7 +144,7 @@ fn accept<N: Connections, C: Clock>(
 }
 
 // The next connection is accepted, answered and ended.
-fn serve_next<K: Keep, N: Connections, C: Clock, E: Write>(
+fn answer_next<K: Keep, N: Connections, C: Clock, E: Write>(
     alloc: Global,
     network: &mut N,
     timeouts: &Timeouts,
@@ -156,7 +156,7 @@ fn serve_next<K: Keep, N: Connections, C: Clock, E: Write>(
     ensures so_far { K.clean service.new.keep → K.clean service.old.keep }
     ensures kept { K.clean service.new.keep → K.sound service.old.keep → K.sound service.new.keep }
     ensures takes { K.clean service.new.keep → K.sound service.old.keep → TakesOne (K.rows service.old.keep) (K.rows service.new.keep) }
-    ensures answers { OnOk result ((at : ℕ) × Answers K.Keep N.Connections C.Clock N.Reader.Inlet N.Writer.Outlet timeouts.now place at (state network.old clock.old service.old.keep (E.contents errors.old)) (state network.new clock.new service.new.keep (E.contents errors.new))) }
+    ensures answers { OnOk result ((at : ℕ) × Answers K.Keep N.Connections C.Clock N.Reader.Inlet N.Writer.Outlet timeouts.now place at service.new.was_down (state network.old clock.old service.old.keep (E.contents errors.old)) (state network.new clock.new service.new.keep (E.contents errors.new))) }
     ensures refused { IfErr result (λ cause. AcceptsNone N.Connections C.Clock timeouts.now network.old network.new clock.old clock.new cause × (service.new.keep ≡ service.old.keep) × (E.contents errors.new ≡ E.contents errors.old)) }
 {
     let (reader, writer, now) = match accept(network, timeouts, clock) {
@@ -167,13 +167,55 @@ fn serve_next<K: Keep, N: Connections, C: Clock, E: Write>(
     Ok(())
 }
 
+// After the 503 the files are asked whether a fault of the disk has shut the store.
+fn ask_after<K: Keep, F: Files<K>>(files: &F, service: &mut Service<K>) -> bool
+    ensures { AsksAfter K.Keep F.Files service.old.was_down service.old.keep result service.new.keep }
+{
+    if !service.was_down() {
+        return false;
+    }
+    match files.is_shut(&mut service.keep) {
+        Ok(is_shut) => is_shut,
+        Err(_) => false,
+    }
+}
+
+// The next connection is answered; or no further one is to be accepted, and this is why.
+fn serve_next<K: Keep, F: Files<K>, N: Connections, C: Clock, E: Write>(
+    alloc: Global,
+    files: &F,
+    network: &mut N,
+    timeouts: &Timeouts,
+    service: &mut Service<K>,
+    clock: &mut C,
+    place: u32,
+    errors: &mut E,
+) -> Result<(), Cause>
+    ensures so_far { K.clean service.new.keep → K.clean service.old.keep }
+    ensures kept { K.clean service.new.keep → K.sound service.old.keep → K.sound service.new.keep }
+    ensures takes { K.clean service.new.keep → K.sound service.old.keep → TakesOne (K.rows service.old.keep) (K.rows service.new.keep) }
+    ensures answers { OnOk result ((at : ℕ) × AnswersNext K.Keep F.Files N.Connections C.Clock N.Reader.Inlet N.Writer.Outlet timeouts.now place at false (state network.old clock.old service.old.keep (E.contents errors.old)) (state network.new clock.new service.new.keep (E.contents errors.new))) }
+    ensures refused { IfErr result (EndsEarly K.Keep F.Files N.Connections C.Clock N.Reader.Inlet N.Writer.Outlet timeouts.now place (state network.old clock.old service.old.keep (E.contents errors.old)) (state network.new clock.new service.new.keep (E.contents errors.new))) }
+{
+    match answer_next(alloc, network, timeouts, service, clock, place, errors) {
+        Ok(()) => {}
+        Err(cause) => return Err(cause),
+    }
+    if ask_after(files, service) {
+        Err(Cause::Shut)
+    } else {
+        Ok(())
+    }
+}
+
 /// Says at which port it listens, and then answers so many connections, one after the other, each with
 /// one exchange. The network listens at that port already. A connection that ends in a fault of its link
 /// counts, and a line of the error stream tells the fault; so does one that the timeouts end. One that is
-/// answered by the 503, since memory or the store refused, is told of so, too. An accept that fails, or a
-/// clock out of range, ends it, and a line says which.
-pub fn serve_loop<K: Keep, N: Connections, C: Clock, O: Write, E: Write>(
+/// answered by the 503, since memory or the store refused, is told of so, too. An accept that fails, a
+/// clock out of range, or a fault of the disk that has shut the store ends it, and a line says which.
+pub fn serve_loop<K: Keep, F: Files<K>, N: Connections, C: Clock, O: Write, E: Write>(
     alloc: Global,
+    files: &F,
     network: &mut N,
     port: u16,
     service: &mut Service<K>,
@@ -186,14 +228,23 @@ pub fn serve_loop<K: Keep, N: Connections, C: Clock, O: Write, E: Write>(
     ensures so_far { K.clean service.new.keep → K.clean service.old.keep }
     ensures kept { K.clean service.new.keep → K.sound service.old.keep → K.sound service.new.keep }
     ensures serves { K.clean service.new.keep → K.sound service.old.keep → Serves count (K.rows service.old.keep) (K.rows service.new.keep) }
-    ensures answers { AnswersCount K.Keep N.Connections C.Clock N.Reader.Inlet N.Writer.Outlet timeouts.now count (state network.old clock.old service.old.keep (E.contents errors.old)) (state network.new clock.new service.new.keep (E.contents errors.new)) result }
+    ensures answers { AnswersCount K.Keep F.Files N.Connections C.Clock N.Reader.Inlet N.Writer.Outlet timeouts.now count (state network.old clock.old service.old.keep (E.contents errors.old)) (state network.new clock.new service.new.keep (E.contents errors.new)) result }
     ensures listens { ListensAt port result (O.contents output.old) (O.contents output.new) }
 {
     if print_listening(output, port).is_err() {
         return Ending::Unprinted;
     }
     'connections: for place in 0..count {
-        match serve_next(alloc, network, timeouts, service, clock, place + 1, errors) {
+        match serve_next(
+            alloc,
+            files,
+            network,
+            timeouts,
+            service,
+            clock,
+            place + 1,
+            errors,
+        ) {
             Ok(()) => {}
             Err(cause) => {
                 tell_cause(errors, cause);

@@ -139,7 +139,8 @@ fn run<K: Keep>(
 
 /// The service over a keep: one exchange, operator's commands, and steps in turn.
 pub struct Service<K: Keep> {
-    keep: K,
+    /// The keep, for whoever asks it more between exchanges.
+    pub keep: K,
     // The router, once a first message has needed it.
     routes: Option<Routes>,
     taken: u64,

@@ -2,7 +2,7 @@
 ghost use Rattle.std.specs.Prelude.{⊤, None};
 
 use basis::{Down, Moment};
-use fakes::StandingClock;
+use fakes::{MemoryFile, StandingClock};
 use machine::PlainKeep;
 use program::endings::Ending;
 use program::outside::Connections;
@@ -248,6 +248,7 @@ impl Bout<'_> {
         let mut errors = Vec::new(alloc);
         let ending = serve_loop(
             alloc,
+            &MemoryFile::new(alloc, ""),
             network,
             8090,
             service,

@@ -1,5 +1,5 @@
 //! Databases in files.
-ghost use Rattle.std.specs.Prelude.{◌≡◌, true, false, ⊤, is_some, IfOk};
+ghost use Rattle.std.specs.Prelude.{◌≡◌, true, false, not, ⊤, is_some, IfOk};
 ghost use Rattle.sqlite_store.specs.FileStore.{view};
 ghost use Rattle.sqlite_wal.specs.Files.{image_at};
 ghost use Rattle.sqlite.specs.Files.{file_state, IsOpened, IsBlankAs};
@@ -263,6 +263,9 @@ impl<S: Start> Files<FileKeep<S>> for DiskFiles<'_, S> {
     // Nothing ties a path to the modes that are looked at.
     ghost reads = { λ _ _ _. ⊤ };
 
+    // A store is shut where its connection is, while its disk kept what it promised.
+    ghost shuts = { λ store said after. ⟦<FileKeep<S> as Keep>⟧.clean after → IfOk said (λ is_shut. (file_state store.conn).is_open ≡ not is_shut) };
+
     // What can't be looked at counts as there: the open behind it tells why.
     fn is_absent(&self, path: &str) -> bool {
         match fs::exists(self.rt, path) {
@@ -281,6 +284,10 @@ impl<S: Start> Files<FileKeep<S>> for DiskFiles<'_, S> {
             Some(start) => open_file(self.rt, path, start),
             None => Err(OpenFault::Down(Cause::InUse)),
         }
+    }
+
+    fn is_shut(&self, store: &mut FileKeep<S>) -> Result<bool, Down> {
+        store.is_shut()
     }
 
     fn close(&mut self, _path: &str, store: FileKeep<S>) -> Result<(), Down> {

@@ -27,6 +27,7 @@ pub mod Raising
 pub mod Ranks
 pub mod Remembering
 pub mod Revoking
+pub mod Shut
 pub mod Sets
 pub mod Stores
 pub mod Telling

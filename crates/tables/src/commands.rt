@@ -1,7 +1,7 @@
 //! The calls of a store, over its connection: each with what it has to look at first.
-ghost use Rattle.std.specs.Prelude.{◌≡◌, false, ◌||◌, is_some, IsTrue, OnOk};
+ghost use Rattle.std.specs.Prelude.{◌≡◌, false, not, ◌||◌, is_some, IsTrue, IfOk, OnOk};
 ghost use Rattle.sqlite.specs.Held.{state};
-ghost use Rattle.sqlite.specs.State.{HasCleanDisk};
+ghost use Rattle.sqlite.specs.State.{HasCleanDisk, KeepsCommit};
 ghost use Rattle.machine.specs.Needs.{needed_of};
 ghost use Rattle.tables.specs.Records.{caller_by, IsBound};
 ghost use Rattle.tables.specs.Inner.Units.{text_in, unit_in};
@@ -17,9 +17,24 @@ use basis::{
     Bounds, Bytes, Caller, Items, Limit, Listing, Number, Prefix, Role, RunRow, VersionRow, WsRow,
 };
 use machine::{AdminAnswer, Needs, OrgRow, Unit};
-use sqlite::{Alter, Connection, Error};
+use sqlite::{Alter, Connection, Error, ErrorCode};
 use statements::{organizations, tokens};
 use std::alloc::Global;
+
+/// Whether a fault of the disk has shut the connection. It compiles a statement, and runs none.
+pub(crate) fn is_shut<S: Alter>(conn: &mut Connection<S>) -> Result<bool, Error>
+    requires idle { conn.old.in_transaction ≡ false }
+    ensures idle { conn.new.in_transaction ≡ false }
+    ensures so_far { HasCleanDisk (state S.Store conn.new) → HasCleanDisk (state S.Store conn.old) }
+    ensures told { HasCleanDisk (state S.Store conn.new) → IfOk result (λ is_shut. (state S.Store conn.old).is_open ≡ not is_shut) }
+    ensures kept { HasCleanDisk (state S.Store conn.new) → KeepsCommit (state S.Store conn.old) (state S.Store conn.new) }
+{
+    match conn.prepare("SELECT 1") {
+        Ok(_) => Ok(false),
+        Err(Error::SqliteFailure(ErrorCode::Closed)) => Ok(true),
+        Err(error) => Err(error),
+    }
+}
 
 /// Adds an organization.
 pub(crate) fn org_add<S: Alter>(

@@ -1,5 +1,5 @@
 //! The store of all organizations over one connection to a database.
-ghost use Rattle.std.specs.Prelude.{◌≡◌, true, false, ℕ, List, [], Option, Some, None, option_copied, IsTrue, IfSome, IfOk, IfErr};
+ghost use Rattle.std.specs.Prelude.{◌≡◌, true, false, not, ℕ, List, [], Option, Some, None, option_copied, IsTrue, IfSome, IfOk, IfErr};
 ghost use Rattle.std.specs.Option.{unwrap_or};
 ghost use Rattle.sqlite.specs.Held.{state};
 ghost use Rattle.sqlite.specs.State.{HasCleanDisk, KeepsCommit};
@@ -8,6 +8,7 @@ ghost use Rattle.statements.specs.Making.{KeepsTables, KeepsForeign};
 ghost use Rattle.statements.specs.Tables.{Tables, HoldsIn, version_tables, our_tables};
 ghost use Rattle.tables.specs.Opening.{IsSoundKeep, any_there, all_there, newest_there, tells_edition, is_meta, is_edition, has_versions, TellsIn, ToldBy, IsOther, GivesBack};
 ghost use Rattle.basis.specs.Names.{is_prefix};
+ghost use Rattle.machine.specs.Keeping.{Looks};
 ghost use Rattle.machine.specs.Ranges.{IsMoment};
 ghost use Rattle.tables.specs.Versions.{HoldsVersion, version_records};
 
@@ -114,6 +115,17 @@ impl<S: Alter, K: PageKey> SqlKeep<S, K> {
                 })
             }
             Err(fault) => Err(Unopened { fault, conn }),
+        }
+    }
+
+    /// Whether a fault of the disk has shut the store, so that it refuses each call; an error where memory was refused.
+    pub fn is_shut(&mut self) -> Result<bool, Down>
+        ensures told { HasCleanDisk (state S.Store self.new.conn) → IfOk result (λ is_shut. (state S.Store self.old.conn).is_open ≡ not is_shut) }
+        ensures looks { Looks ⟦<SqlKeep<S, K> as Keep>⟧.rows ⟦<SqlKeep<S, K> as Keep>⟧.clean ⟦<SqlKeep<S, K> as Keep>⟧.sound self.old self.new }
+    {
+        match commands::is_shut(&mut self.conn) {
+            Ok(is_shut) => Ok(is_shut),
+            Err(_) => Err(Down),
         }
     }
 

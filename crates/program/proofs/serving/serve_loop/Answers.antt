@@ -1,6 +1,5 @@
-use Rattle.std.proofs.Common.{ℕ, List, Option, ◌<◌, ◌+◌, arith, refl, sym, subst, ◌++◌, ◌∷◌, []}
-use Rattle.program.specs.Errors.{GetsFront, cause_line}
-use Rattle.program.specs.Serving.{state}
+use Rattle.std.proofs.Common.{◌≡◌, ℕ, suc, length, ◌<◌, ◌+◌, arith, refl, sym, subst, ◌++◌, ◌∷◌, []}
+use Rattle.program.specs.Serving.{state, EndsEarly}
 use Rattle.program.proofs.ServingLemmas.{serves_none, serves_more, serves_of, answers_more, one_more}
 use Rattle.program.proofs.serving.serve_loop.Goals as goal
 
@@ -28,23 +27,33 @@ connections-preserved g c =
       answers = (
         so_far.0 ++ one.0 ∷ [],
         one_more so_far.0 one.0 c.connections.place so_far.1,
-        answers_more g.K.Keep g.N.Connections g.C.Clock g.N.Reader.Inlet g.N.Writer.Outlet c.args.timeouts.now 1 (c.connections.place + 1) so_far.0 one.0
+        answers_more g.K.Keep g.F.Files g.N.Connections g.C.Clock g.N.Reader.Inlet g.N.Writer.Outlet c.args.timeouts.now 1 (c.connections.place + 1) so_far.0 one.0
             (state c.args.network.now c.args.clock.now c.args.service.now.keep (g.E.Write.contents c.args.errors.now))
             (state c.connections.network c.connections.clock c.connections.service.keep (g.E.Write.contents c.connections.errors))
             (state c.serve_next.new.network c.serve_next.new.clock c.serve_next.new.service.keep (g.E.Write.contents c.serve_next.new.errors)) (let is = so_far.1 in omega arith) so_far.2 one.1,
       );
     }
 
+pub returns-in-Err-clause-serves : goal.returns-in-Err-clause-serves
+returns-in-Err-clause-serves g c clean sound =
+    let so_far = c.connections.invariant in
+    let before = c.in-Err.ensures.so_far clean in
+    serves_of (c.connections.place + 1) c.args.count _ _ (let within = c.connections-test.true in omega arith)
+    (serves_more c.connections.place (g.K.Keep.rows c.args.service.now.keep) (g.K.Keep.rows c.connections.service.keep) (g.K.Keep.rows c.serve_next.new.service.keep)
+    (so_far.serves before sound) (c.in-Err.ensures.takes clean (so_far.kept before sound)))
+
 pub returns-in-Err-clause-answers : goal.returns-in-Err-clause-answers
 returns-in-Err-clause-answers g c =
     let so_far = c.connections.invariant.answers in
-    let none = c.in-Err.ensures.refused in (
+    let last = state c.connections.network c.connections.clock c.connections.service.keep (g.E.Write.contents c.connections.errors) in
+    let new = state c.serve_next.new.network c.serve_next.new.clock c.serve_next.new.service.keep (g.E.Write.contents c.serve_next.new.errors) in
+    let next : c.connections.place + 1 ≡ suc (length so_far.0) = let is = so_far.1 in omega arith in (
       so_far.0,
-      state c.connections.network c.connections.clock c.connections.service.keep (g.E.Write.contents c.connections.errors),
+      last,
       subst (λ (n : ℕ). n < c.args.count) (sym so_far.1) c.connections-test.true,
       so_far.2,
       c.in-Err.cause,
-      none.0,
-      none.1,
-      subst (λ (before : Option (List ℕ)). GetsFront before (g.E.Write.contents c.tell_cause.new.errors) (cause_line c.in-Err.cause)) none.2 c.tell_cause.ensures,
+      g.E.Write.contents c.serve_next.new.errors,
+      subst (λ (n : ℕ). EndsEarly g.K.Keep g.F.Files g.N.Connections g.C.Clock g.N.Reader.Inlet g.N.Writer.Outlet c.args.timeouts.now n last new c.in-Err.cause) next c.in-Err.ensures.refused,
+      c.tell_cause.ensures,
     )

@@ -1,0 +1,35 @@
+-- What a statement that isn't compiled tells of its connection.
+use Rattle.std.proofs.Common.{◌≡◌, ◌∙◌, sym, inl, inr, ℕ, false, List}
+use Rattle.sqlite_value.specs.Order.{Row}
+use Rattle.sqlite_trees.specs.declared.error.StoreError.{StoreError}
+use Rattle.sqlite_trees.specs.declared.error.StoreError.TheVariants.{OutOfMemory, Io, Corrupt, Full, Broken, Unstorable}
+use Rattle.sqlite.specs.declared.error.Error.{Error}
+use Rattle.sqlite.specs.declared.error.Error.TheVariants.{SqliteFailure}
+use Rattle.sqlite.specs.declared.error.ErrorCode.TheVariants.{Closed}
+use Rattle.sqlite.specs.State.{State, IsUnchanged, IsNotRun, KeepsCommit, HasCause, store_error}
+
+pub unchanged_keeps : (old new : State) → IsUnchanged old new → KeepsCommit old new
+unchanged_keeps old new same = record { was_open = λ _. same.0.was_open; committed = λ _. same.0.committed_is }
+
+pub not_run_keeps : (old new : State) (text : List ℕ) (params : Row) (e : Error) → IsNotRun old new text params e → KeepsCommit old new
+unfolding IsNotRun
+not_run_keeps old new text params e (inl refused) = unchanged_keeps old new refused.1
+not_run_keeps old new text params e (inr failed) = record { was_open = failed.3.was_open; committed = λ is_open. (failed.3.undone is_open).1 }
+
+-- what is closed was shut before
+broken : (old new : State) (cause : StoreError) → SqliteFailure Closed ≡ store_error cause → HasCause old new ⊥ cause → old.is_open ≡ false
+broken old new OutOfMemory is h = cc
+broken old new Io is h = cc
+broken old new Corrupt is h = cc
+broken old new Full is h = cc
+broken old new Broken is h = h
+broken old new Unstorable is h = absurd h
+
+pub closed_shut : (old new : State) (text : List ℕ) (params : Row) (e : Error) → e ≡ SqliteFailure Closed → IsNotRun old new text params e → old.is_open ≡ false
+unfolding IsNotRun
+closed_shut old new text params e is (inl (inl fault, same)) = let told = fault.2 in cc
+closed_shut old new text params e is (inl (inr bad, same)) = elim bad.2 [
+  | inl many ↦ let told = many.1 in cc
+  | inr other ↦ elim other [ inl count ↦ let told = count.1 in cc | inr clock ↦ let told = clock.1 in cc ]
+]
+closed_shut old new text params e is (inr failed) = broken old new failed.0 (sym is ∙ failed.1) failed.2
