@@ -1,0 +1,64 @@
+#!/usr/bin/env python3
+"""Checks a crate over the libraries that a gate has left in another clone, so that none of the crates below is built anew.
+
+    python3 tools/over.py GATE CRATE [options of `rattle check`]
+
+GATE is the top of a clone in which `rt ci` has proved the crates below CRATE, from the same text; CRATE is the crate's name
+here. It is what `rt check` does but for that, and is for working alone: only `rt ci` decides. What it has checked is kept
+in GATE/crates/CRATE/out/over, and taken by the next call. Examples, from the top of the repository:
+
+    python3 tools/over.py ../gate program --only program::serving --allow-holes
+    python3 tools/over.py ../gate tables --only 'tables::store::SqlKeep::close' --allow-holes
+"""
+import os
+import subprocess
+import sys
+
+TOP = os.path.dirname(os.path.dirname(os.path.abspath(__file__)))
+
+
+def crates():
+    """What each crate of crates.txt stands on, in its order."""
+    found = {}
+    with open(f"{TOP}/crates.txt", encoding="utf-8") as file:
+        for line in file:
+            name, colon, below = line.partition("#")[0].partition(":")
+            if colon:
+                found[name.split()[0]] = below.split()
+    return found
+
+
+def below(of, name):
+    """Our crates below this one, lowest first."""
+    found = []
+    for one in of[name]:
+        if one in of:
+            found += [it for it in [*below(of, one), one] if it not in found]
+    return found
+
+
+def main():
+    if len(sys.argv) < 3 or sys.argv[1] in ("-h", "--help"):
+        sys.exit(__doc__)
+    gate, name, more, of = os.path.abspath(sys.argv[1]), sys.argv[2], sys.argv[3:], crates()
+    if name not in of:
+        sys.exit(f"{name} is no crate of crates.txt")
+    kit = os.path.dirname(subprocess.run(["rt", "doc"], capture_output=True, text=True, check=True).stdout.strip())
+    folder, ours = f"{TOP}/crates/{name}", below(of, name)
+    for one in ours:
+        if not os.path.isdir(f"{gate}/crates/{one}/out/rlib/{one}.rlib"):
+            sys.exit(f"{gate} has no library of {one}: let rt ci prove it there")
+    root = "src/lib.rt" if os.path.exists(f"{folder}/src/lib.rt") else "src/main.rt"
+    kept = f"{gate}/crates/{name}/out/over"
+    os.makedirs(kept, exist_ok=True)
+    words = [f"{kit}/bin/rattle", "check", "--crate-name", name, root, "--extern", f"std={kit}/rlibs/std.rlib"]
+    for one in of[name]:
+        words += ["--extern", f"{one}={gate}/crates/{one}/out/rlib/{one}.rlib" if one in of else f"{one}={kit}/rlibs/{one}.rlib"]
+    words += ["-L", f"dependency={kit}/rlibs"]
+    for one in ours:
+        words += ["-L", f"dependency={gate}/crates/{one}/out/rlib"]
+    words += ["--antt-project", f"{kit}/rattle/logic/antt-project.json", "--logic-built", f"{kit}/logic_built", "--links", f"{name}="]
+    sys.exit(subprocess.run([*words, "--jobs", "1", "--incremental", kept, *more], cwd=folder).returncode)
+
+
+main()
