@@ -5,8 +5,9 @@
 
 A file behind a link is told of by its own mode and by that of its log. A file that isn't opened is told why. One program at a
 time has a file. A file that sqlite3 wrote to, and whose sums (those of SQLite's cksumvfs, which a new file has) it spoiled so,
-comes back by a dump. A fault of the disk that shuts the store ends the service (unsynced.c makes one). What damage does is
-looked at by flips.py. It prints a line for each thing that holds, and ends with status 1 at the first that doesn't.
+comes back by a dump. A write without room shuts no store; a fault of the disk that does ends the service (unsynced.c makes
+one). What damage does is looked at by flips.py. It prints a line for each thing that holds, and ends with status 1 at the
+first that doesn't.
 """
 
 import os
@@ -14,7 +15,7 @@ import shutil
 import sqlite3
 import subprocess
 
-from program import NEW_FILE, PATIENCE, compiled, exchanged, free_port, look_at, reply, request, said
+from program import ANSWERED_503, DOWN, LOG_STAYS, NEW_FILE, PATIENCE, compiled, exchanged, free_port, look_at, reply, request, said
 
 READABLE = b"custody: others than its owner may read the file or its log: chmod 600 ends that\n"
 IN_USE = b"custody: another program has the file open\n"
@@ -26,9 +27,6 @@ CORRUPT = b"custody: the file is damaged: a page's sum or form is wrong\n"
 UNSOUND = b"custody: the file is damaged or no database: its rows break its schema\n"
 DISK = b"custody: the disk or the system refused\n"
 SHUT = b"custody: a fault of the disk has shut the store: see to the disk\n"
-ANSWERED_503 = b"custody: connection %d: memory or the store was refused, answered 503\n"
-LOG_STAYS = b"custody: the log could not be copied into the file: keep the file and its log together\n"
-DOWN = b'{"error":"down"}'
 # Runs the words behind it with files of at most 8 blocks of 512 bytes, whose writes fail beyond that and don't end the program.
 SMALL_FILES = ["sh", "-c", "trap '' XFSZ; ulimit -f 8; exec \"$@\"", "sh"]
 SECRET = b"adminadminadmin1\n"
@@ -39,9 +37,10 @@ TEXTS = [b'{"serial":%d,"x":"%s"}' % (serial, b"%d " % serial * 9000) for serial
 class Service:
     """A service over a file, ended by its count or killed."""
 
-    def __init__(self, program, path, count, env=None):
+    def __init__(self, program, path, count, under=(), env=None):
         self.port = free_port()
-        self.process = program.start(["serve", "--db", path, "--port", str(self.port), "--count", str(count)], subprocess.DEVNULL, env=env)
+        words = ["serve", "--db", path, "--port", str(self.port), "--count", str(count)]
+        self.process = program.start(words, subprocess.DEVNULL, under=under, env=env)
         said("the line of a service", self.process.stdout.readline(), b"listening 127.0.0.1:%d\n" % self.port)
 
     def ends(self, status=0, output=b"", errors=b""):
@@ -146,9 +145,8 @@ def look_at_reasons(program):
         refused(what, why)
         said("the file", open(folder + "/bad.db", "rb").read() == damaged, True)
     os.remove(folder + "/bad.db")
-    words = SMALL_FILES + [program.path, "org-add", "--db", "small.db", "acme"]
-    ran = subprocess.run(words, stdin=subprocess.DEVNULL, capture_output=True, timeout=PATIENCE, cwd=folder)
-    said("a file that may not grow", (ran.returncode, ran.stdout, ran.stderr), (3, b"refused down\n", DISK))
+    ran = program.run(["org-add", "--db", "small.db", "acme"], under=SMALL_FILES)
+    said("a file that may not grow", ran, (3, b"refused down\n", DISK))
     print("right: told: a file that may not grow")
     # (who may read everything isn't refused)
     if os.getuid():
@@ -192,16 +190,32 @@ def look_at_spoiled(program):
     print("right: a file that sqlite3 spoiled comes back by its dump")
 
 
+def look_at_full(program):
+    """A write for which there is no room shuts no store: it is answered 503 and told, and the service goes on."""
+    filled(program, "full.db")
+    service = Service(program, "full.db", 3, under=SMALL_FILES)
+    try:
+        get, post = request(b"GET /v1/acme/state/net HTTP/1.1"), request(b"POST /v1/acme/state/net HTTP/1.1", b'{"serial":3}')
+        said("the change for which there is no room", exchanged(service.port, post), DOWN)
+        said("a read after it", exchanged(service.port, get), reply(b"200 OK", TEXTS[-1]))
+        said("the change again", exchanged(service.port, post), DOWN)
+        service.ends(0, b"", ANSWERED_503 % 1 + ANSWERED_503 % 3)
+    finally:
+        service.kill()
+    said("what was acknowledged before it", is_right(program, "full.db"), True)
+    print("right: a store for which there is no room goes on")
+
+
 def look_at_shut(program):
     """A fault of the disk that shuts the store ends the service, once that is answered and told; what was acknowledged stands there."""
     filled(program, "shut.db")
     fails = program.folder + "/fails"
-    service = Service(program, "shut.db", 4, dict(os.environ, LD_PRELOAD=compiled("unsynced", program.folder), FAILS=fails))
+    service = Service(program, "shut.db", 4, env=dict(os.environ, LD_PRELOAD=compiled("unsynced", program.folder), FAILS=fails))
     try:
         get, post = request(b"GET /v1/acme/state/net HTTP/1.1"), request(b"POST /v1/acme/state/net HTTP/1.1", b'{"serial":3}')
         said("before the fault", exchanged(service.port, get), reply(b"200 OK", TEXTS[-1]))
         open(fails, "wb").close()
-        said("the change that isn't synced", exchanged(service.port, post), reply(b"503 Service Unavailable", DOWN))
+        said("the change that isn't synced", exchanged(service.port, post), DOWN)
         service.ends(3, b"refused down\n", ANSWERED_503 % 2 + SHUT + LOG_STAYS)
     finally:
         service.kill()
@@ -212,4 +226,4 @@ def look_at_shut(program):
 
 
 if __name__ == "__main__":
-    look_at(__doc__, look_at_modes, look_at_owners, look_at_reasons, look_at_spoiled, look_at_shut)
+    look_at(__doc__, look_at_modes, look_at_owners, look_at_reasons, look_at_spoiled, look_at_full, look_at_shut)

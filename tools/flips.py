@@ -20,7 +20,7 @@ import shutil
 import sqlite3
 import subprocess
 
-from program import PATIENCE, Wrong, exchanged, free_port, look_at, reply, said
+from program import DOWN, PATIENCE, Wrong, exchanged, free_port, look_at, reply, said
 
 SEED = 49
 FLIPS, PAGES, CUTS = 300, 60, 30
@@ -29,9 +29,6 @@ FLIPS, PAGES, CUTS = 300, 60, 30
 PAGE = 4096
 SUM_BYTES = 8
 RESERVED_AT = 20
-
-# How a request fails where the store refuses.
-DOWN = reply(b"503 Service Unavailable", b'{"error":"down"}')
 
 SECRETS = {"acme": b"adminadminadmin1", "beta": b"betabetabetabet1"}
 ORGS = sorted(SECRETS)

@@ -3,9 +3,9 @@
 
     python3 tools/over.py GATE CRATE [options of `rattle check`]
 
-GATE is the top of a clone in which `rt ci` has proved the crates below CRATE, from the same text; CRATE is the crate's name
-here. It is what `rt check` does but for that, and is for working alone: only `rt ci` decides. What it has checked is kept
-in GATE/crates/CRATE/out/over, and taken by the next call. Examples, from the top of the repository:
+GATE is the top of a clone in which `rt ci` has proved the crates below CRATE, whose text has to be the same; CRATE is the
+crate's name here. It is what `rt check` does but for that, and is for working alone: only `rt ci` decides. What it has
+checked is kept in GATE/crates/CRATE/out/over, and taken by the next call. Examples, from the top of the repository:
 
     python3 tools/over.py ../gate program --only program::serving --allow-holes
     python3 tools/over.py ../gate tables --only 'tables::store::SqlKeep::close' --allow-holes
@@ -37,6 +37,17 @@ def below(of, name):
     return found
 
 
+def texts(folder):
+    """The files of a crate that are proved, with their bytes."""
+    found = {}
+    for part in ("src", "specs", "proofs"):
+        for here, _, names in os.walk(f"{folder}/{part}"):
+            for name in names:
+                with open(f"{here}/{name}", "rb") as file:
+                    found[os.path.relpath(f"{here}/{name}", folder)] = file.read()
+    return found
+
+
 def main():
     if len(sys.argv) < 3 or sys.argv[1] in ("-h", "--help"):
         sys.exit(__doc__)
@@ -48,6 +59,8 @@ def main():
     for one in ours:
         if not os.path.isdir(f"{gate}/crates/{one}/out/rlib/{one}.rlib"):
             sys.exit(f"{gate} has no library of {one}: let rt ci prove it there")
+        if texts(f"{gate}/crates/{one}") != texts(f"{TOP}/crates/{one}"):
+            sys.exit(f"{one} is another one in {gate}: its library is of no use here")
     root = "src/lib.rt" if os.path.exists(f"{folder}/src/lib.rt") else "src/main.rt"
     kept = f"{gate}/crates/{name}/out/over"
     os.makedirs(kept, exist_ok=True)

@@ -26,6 +26,8 @@ HERE = os.path.dirname(os.path.abspath(__file__))
 SECRET_FORM = b"custody: the secret isn't one line of 16 to 64 ASCII letters or digits\n"
 LEFT_EARLY = b"custody: connection %d: the peer closed before its request was whole\n"
 NEW_FILE = b"custody: there was no file at the path: a new one was made\n"
+ANSWERED_503 = b"custody: connection %d: memory or the store was refused, answered 503\n"
+LOG_STAYS = b"custody: the log could not be copied into the file: keep the file and its log together\n"
 UNREAD = b"custody: the input can't be read, or memory was refused\n"
 PORT_TAKEN = b"custody: the port is taken\n"
 MADE = b'{"auto_apply":false,"holder":null,"keep_versions":100,"name":"net","version":null}'
@@ -57,9 +59,9 @@ class Program:
     def __init__(self, path, folder):
         self.path, self.folder = os.path.abspath(path), folder
 
-    def start(self, words, given=None, output=subprocess.PIPE, errors=subprocess.PIPE, env=None):
-        # (as a shell starts it: a write to a closed pipe is a signal, unless the program has it otherwise)
-        return subprocess.Popen([self.path] + words, stdin=given, stdout=output, stderr=errors, cwd=self.folder, restore_signals=True, env=env)
+    def start(self, words, given=None, output=subprocess.PIPE, errors=subprocess.PIPE, under=(), env=None):
+        # (as a shell starts it: a write to a closed pipe is a signal, unless the program has it otherwise; `under` runs it)
+        return subprocess.Popen([*under, self.path, *words], stdin=given, stdout=output, stderr=errors, cwd=self.folder, restore_signals=True, env=env)
 
     def run(self, words, given=b"", **streams):
         """The status, and what came on both streams; nothing of one that wasn't caught."""
@@ -154,6 +156,10 @@ def reply(status, body):
         b"HTTP/1.1 %s\r\nDate: DATE\r\nConnection: close\r\nCache-Control: private, no-store\r\n%sContent-Length: %d\r\n\r\n%s"
         % (status, kind, len(body), body)
     )
+
+
+# How a request fails where memory or the store refuses.
+DOWN = reply(b"503 Service Unavailable", b'{"error":"down"}')
 
 
 def exchanged(port, sent):

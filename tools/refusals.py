@@ -26,7 +26,7 @@ import sys
 import tempfile
 
 import stories
-from program import compiled
+from program import ANSWERED_503, LOG_STAYS, NEW_FILE, compiled
 
 HERE = os.path.dirname(os.path.abspath(__file__))
 TEXT = HERE + "/refusals.txt"
@@ -47,11 +47,8 @@ DOWN_HEAD = (
 )
 DOWN = DOWN_HEAD + b'{"error":"down"}'
 LENGTHS = [len(DOWN), len(DOWN_HEAD), len(CONTINUE + DOWN)]
-TOLD_DOWN = b"custody: connection %d: memory or the store was refused, answered 503\n"
-LOG_STAYS = b"custody: the log could not be copied into the file: keep the file and its log together\n"
 REFUSED = (3, b"refused down\n")
-# What the error stream is told where a file is made; where memory is refused the line may be missing. And why `refused down`.
-NEW_FILE = b"custody: there was no file at the path: a new one was made\n"
+# Why `refused down`. Where memory is refused the line that a file was made may be missing.
 CAUSES = [
     b"custody: memory was refused\n",
     b"custody: memory or the store refused, and no record changed\n",
@@ -362,7 +359,7 @@ class Service:
             raise Wrong("it was answered %s" % came[:400])
         if found != (rows if is_right else before):
             raise Wrong("after %s the rows are %s" % (came[:40], found))
-        if errors != (b"" if is_right else TOLD_DOWN % self.place):
+        if errors != (b"" if is_right else ANSWERED_503 % self.place):
             raise Wrong("after %s the error stream has %s" % (came[:40], errors))
         if not is_right:
             self.counts[len(came)] += 1
