@@ -3,6 +3,7 @@ ghost use Rattle.std.specs.Prelude.{◌≡◌, option_copied};
 ghost use Rattle.machine.specs.Needs.{needs, needs_of_look, nothing, staying_for, needed_of};
 
 use crate::records::Version;
+use crate::texts::StateText;
 use basis::{
     Bytes, Holder, HolderId, KeepCount, Limit, LockId, Look, Moment, Number, Refusal, RunAction,
     RunAsk, RunRow, RunStatus, Settings, SettingsAsk, StateHead, Text,
@@ -20,7 +21,7 @@ pub enum Act {
     /// Terraform's `POST` of a state, with the ID of the lock that the caller says it holds.
     UpdateState {
         head: StateHead,
-        text: Bytes,
+        text: StateText,
         lock_id: Option<LockId>,
     },
     /// `DELETE` of a state: every version goes.
@@ -67,7 +68,7 @@ pub struct Needs<'a> {
     /// Whether the newest version is needed.
     pub newest: bool,
     /// The text that the newest version's text is compared with.
-    pub text: Option<&'a Bytes>,
+    pub text: Option<&'a [u8]>,
     /// Whether it is needed which versions go, and by which that stay.
     pub outgoing: Staying,
     /// The number of the version that is asked of.
@@ -167,7 +168,7 @@ impl Act {
                 keep_versions: true,
                 holder_status: true,
                 newest: true,
-                text: Some(text),
+                text: Some(text.as_slice()),
                 outgoing: Staying::MakeRoom,
                 ..nothing()
             },

@@ -24,6 +24,7 @@ ghost use Rattle.machine.specs.declared.acts.Decision.TheVariants.{Accepted, Ref
 use crate::acts::{Act, Answer, Change, Decision, Edit, Newest, Shown, Unit, WorkspaceUnit};
 use crate::records::{Version, is_waiting};
 use crate::run_steps::next_status;
+use crate::texts::StateText;
 use basis::numbers::MAX_KEPT;
 use basis::{
     Bytes, Down, Holder, HolderId, KeepCount, LockId, Look, Moment, Number, Refusal, RunAction,
@@ -146,7 +147,7 @@ fn number_of_newest(newest: &Option<Newest>) -> Option<Number>
 fn decide_version(
     unit: &WorkspaceUnit,
     head: &StateHead,
-    text: &Bytes,
+    text: &StateText,
     now: Moment,
 ) -> Result<Decision, Down>
     ensures { IfOk result (λ decision. decision ≡ decided_version unit.now head.now text.now now) }
@@ -168,7 +169,7 @@ fn decide_version(
 fn decide_after(
     unit: &WorkspaceUnit,
     head: &StateHead,
-    text: &Bytes,
+    text: &StateText,
     now: Moment,
 ) -> Result<Decision, Down>
     ensures { IfOk result (λ decision. decision ≡ decided_after unit.now.newest unit.now head.now text.now now) }
@@ -192,7 +193,7 @@ fn decide_after(
 fn decide_update(
     unit: &WorkspaceUnit,
     head: &StateHead,
-    text: &Bytes,
+    text: &StateText,
     id: &Option<LockId>,
     now: Moment,
 ) -> Result<Decision, Down>

@@ -68,6 +68,10 @@ pub trait Keep {
     /// Whether what is promised of the store holds so far.
     ghost clean: { Self → Type 0 };
 
+    /// Whether the store finds out where what it reads isn't what was written, so that it then stays clean, or a digest
+    /// has collided. Each call keeps it, whatever the disk does. A store in memory always is.
+    ghost shielded: { Self → Type 0 };
+
     /// Whether what the store holds obeys its laws. Each call keeps it.
     ghost sound: { Self → Type 0 };
 
@@ -82,12 +86,12 @@ pub trait Keep {
         org: &OrgName,
         digest: &[u8; 32],
     ) -> Result<Option<Caller>, Down>
-        ensures looks { Looks rows clean sound self.old self.new }
+        ensures looks { Looks rows clean sound shielded self.old self.new }
         ensures ok { clean self.new → sound self.old → IfOk result (λ caller. caller ≡ option_map (λ token. token.caller) (caller_of (rows self.old org.now) digest.now)) };
 
     /// What a decision on the act needs of the workspace. The organization is there.
     fn unit(&mut self, alloc: Global, org: &OrgName, ws: &WsName, act: &Act) -> Result<Unit, Down>
-        ensures looks { Looks rows clean sound self.old self.new }
+        ensures looks { Looks rows clean sound shielded self.old self.new }
         ensures ok { clean self.new → sound self.old → IfOk result (λ unit. (o : AnyOrganization) → rows self.old org.now ≡ Some o
             → unit ≡ unit_of o ws.now act.now) };
 
@@ -99,7 +103,7 @@ pub trait Keep {
         ws: &WsName,
         n: Number,
     ) -> Result<Option<Bytes>, Down>
-        ensures looks { Looks rows clean sound self.old self.new }
+        ensures looks { Looks rows clean sound shielded self.old self.new }
         ensures ok { clean self.new → sound self.old → IfOk result (λ text. text ≡ version_text n (workspace_in (rows self.old org.now) ws.now)) };
 
     /// The organization's workspaces that a prefix admits, after a name, in the order of the names' bytes.
@@ -110,7 +114,7 @@ pub trait Keep {
         after: Option<&WsName>,
         prefix: &Prefix,
     ) -> Result<Listing<WsRow>, Down>
-        ensures looks { Looks rows clean sound self.old self.new }
+        ensures looks { Looks rows clean sound shielded self.old self.new }
         ensures ok { clean self.new → sound self.old → IfOk result (λ list. list ≡ workspaces_after (option_copied after.entry) prefix.now (rows self.old org.now)) };
 
     /// The versions kept of a workspace whose numbers are greater than this one.
@@ -121,7 +125,7 @@ pub trait Keep {
         ws: &WsName,
         after: u64,
     ) -> Result<Listing<VersionRow>, Down>
-        ensures looks { Looks rows clean sound self.old self.new }
+        ensures looks { Looks rows clean sound shielded self.old self.new }
         ensures ok { clean self.new → sound self.old → IfOk result (λ list. list ≡ versions_after after (workspace_in (rows self.old org.now) ws.now)) };
 
     /// The runs of a workspace whose numbers are greater than this one.
@@ -132,7 +136,7 @@ pub trait Keep {
         ws: &WsName,
         after: u64,
     ) -> Result<Listing<RunRow>, Down>
-        ensures looks { Looks rows clean sound self.old self.new }
+        ensures looks { Looks rows clean sound shielded self.old self.new }
         ensures ok { clean self.new → sound self.old → IfOk result (λ list. list ≡ runs_after after (workspace_in (rows self.old org.now) ws.now)) };
 
     /// Changes a workspace, in one transaction. The organization is there, and the change is due.
@@ -144,6 +148,7 @@ pub trait Keep {
         change: &Change,
     ) -> Result<(), Down>
         ensures so_far { clean self.new → clean self.old }
+        ensures shield { shielded self.old → shielded self.new }
         ensures kept { clean self.new → sound self.old → (o : AnyOrganization) → rows self.old org.now ≡ Some o
             → IsDue (seen_in o ws.now) change.now → sound self.new }
         ensures own { clean self.new → sound self.old → OnOk result ((o : AnyOrganization) → rows self.old org.now ≡ Some o
@@ -155,6 +160,7 @@ pub trait Keep {
     /// Adds an organization, with no token and no workspace.
     fn org_add(&mut self, alloc: Global, org: &OrgName, limit: Limit) -> Result<AdminAnswer, Down>
         ensures so_far { clean self.new → clean self.old }
+        ensures shield { shielded self.old → shielded self.new }
         ensures kept { clean self.new → sound self.old → sound self.new }
         ensures own { clean self.new → sound self.old → IfOk result (λ answer. effect answer (rows self.new org.now) ≡ org_added limit (rows self.old org.now)) }
         ensures others { clean self.new → sound self.old → (o : List ℕ) → o ≢ org.now → rows self.new o ≡ rows self.old o }
@@ -163,6 +169,7 @@ pub trait Keep {
     /// Sets how many workspaces an organization may have. Those that it has stay, also where they are more.
     fn org_limit(&mut self, alloc: Global, org: &OrgName, limit: Limit) -> Result<AdminAnswer, Down>
         ensures so_far { clean self.new → clean self.old }
+        ensures shield { shielded self.old → shielded self.new }
         ensures kept { clean self.new → sound self.old → sound self.new }
         ensures own { clean self.new → sound self.old → IfOk result (λ answer. effect answer (rows self.new org.now) ≡ org_limited limit (rows self.old org.now)) }
         ensures others { clean self.new → sound self.old → (o : List ℕ) → o ≢ org.now → rows self.new o ≡ rows self.old o }
@@ -170,7 +177,7 @@ pub trait Keep {
 
     /// All organizations, in the order of their names' bytes.
     fn org_list(&mut self, alloc: Global) -> Result<AdminAnswer, Down>
-        ensures looks { Looks rows clean sound self.old self.new }
+        ensures looks { Looks rows clean sound shielded self.old self.new }
         ensures ok { clean self.new → sound self.old → IfOk result (ListsOrganizations (rows self.old)) };
 
     /// Adds a token to an organization, with its end and the prefix of its workspaces.
@@ -184,6 +191,7 @@ pub trait Keep {
         bounds: &Bounds,
     ) -> Result<AdminAnswer, Down>
         ensures so_far { clean self.new → clean self.old }
+        ensures shield { shielded self.old → shielded self.new }
         ensures kept { clean self.new → sound self.old → sound self.new }
         ensures own { clean self.new → sound self.old → IfOk result (λ answer. effect answer (rows self.new org.now) ≡ token_added name.now (token_of digest.now role bounds.now) (rows self.old org.now)) }
         ensures others { clean self.new → sound self.old → (o : List ℕ) → o ≢ org.now → rows self.new o ≡ rows self.old o }
@@ -197,6 +205,7 @@ pub trait Keep {
         name: &OrgName,
     ) -> Result<AdminAnswer, Down>
         ensures so_far { clean self.new → clean self.old }
+        ensures shield { shielded self.old → shielded self.new }
         ensures kept { clean self.new → sound self.old → sound self.new }
         ensures own { clean self.new → sound self.old → IfOk result (λ answer. effect answer (rows self.new org.now) ≡ token_revoked name.now (rows self.old org.now)) }
         ensures others { clean self.new → sound self.old → (o : List ℕ) → o ≢ org.now → rows self.new o ≡ rows self.old o }
@@ -204,6 +213,6 @@ pub trait Keep {
 
     /// The tokens of an organization, in the order of their names' bytes.
     fn token_list(&mut self, alloc: Global, org: &OrgName) -> Result<AdminAnswer, Down>
-        ensures looks { Looks rows clean sound self.old self.new }
+        ensures looks { Looks rows clean sound shielded self.old self.new }
         ensures ok { clean self.new → sound self.old → IfOk result (λ answer. answer ≡ tokens_told (rows self.old org.now)) };
 }

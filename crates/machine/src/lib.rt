@@ -10,6 +10,7 @@ pub mod maps;
 pub mod plain;
 pub mod records;
 pub mod run_steps;
+pub mod texts;
 
 pub use acts::{
     Act, Answer, Change, Decision, Edit, Needs, Newest, Shown, Staying, Unit, WorkspaceUnit,
@@ -30,3 +31,4 @@ pub use maps::NameMap;
 pub use plain::PlainKeep;
 pub use records::{Organization, Token, Version, Workspace};
 pub use run_steps::next_status;
+pub use texts::StateText;

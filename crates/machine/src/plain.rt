@@ -24,6 +24,7 @@ use crate::decisions::{holder_id, new_run};
 use crate::keeps::{AdminAnswer, Keep, OrgRow, TokenRow};
 use crate::maps::{Entry, NameMap};
 use crate::records::{Organization, Token, Version, Workspace, is_waiting};
+use crate::texts::StateText;
 use basis::numbers::MAX_LIMIT;
 use basis::{
     Bounds, Bytes, Caller, Down, Holder, Items, KeepCount, Limit, Listing, LockId, Moment, Number,
@@ -60,6 +61,8 @@ impl Keep for PlainKeep {
     ghost rows = { λ keep o. map.get keep.organizations o };
 
     ghost clean = { λ _. ⊤ };
+
+    ghost shielded = { λ _. ⊤ };
 
     ghost sound = { λ keep. AreLawful (λ o. map.get keep.organizations o) };
 
@@ -485,7 +488,7 @@ impl Workspace {
         ensures { IfOk result (λ text. text ≡ version_text n (Some self.now)) }
     {
         match version_of(n, self.versions.as_slice()) {
-            Some(version) => Ok(Some(version.text.clone()?)),
+            Some(version) => Ok(Some(version.text.copied()?)),
             None => Ok(None),
         }
     }
@@ -646,16 +649,16 @@ fn recorded_status(is_it: bool, status: RunStatus, before: RunStatus) -> RunStat
     if is_it { status } else { before }
 }
 
-fn is_text(asked: Option<&Bytes>, text: &Bytes) -> bool
+fn is_text(asked: Option<&[u8]>, text: &StateText) -> bool
     ensures { result ≡ is_text (option_copied asked.entry) text.now }
 {
     match asked {
-        Some(asked) => text.as_slice() == asked.as_slice(),
+        Some(asked) => text.as_slice() == asked,
         None => false,
     }
 }
 
-fn newest_unit(text: Option<&Bytes>, version: &Version) -> Result<Newest, Down>
+fn newest_unit(text: Option<&[u8]>, version: &Version) -> Result<Newest, Down>
     ensures { IfOk result (λ unit. unit ≡ newest_unit (option_copied text.entry) version.now) }
 {
     Ok(Newest {
@@ -666,7 +669,7 @@ fn newest_unit(text: Option<&Bytes>, version: &Version) -> Result<Newest, Down>
     })
 }
 
-fn newest_of(text: Option<&Bytes>, versions: &[Version]) -> Result<Option<Newest>, Down>
+fn newest_of(text: Option<&[u8]>, versions: &[Version]) -> Result<Option<Newest>, Down>
     ensures { IfOk result (λ unit. unit ≡ option_map (newest_unit (option_copied text.entry)) (newest versions.now)) }
 {
     match versions.last() {
@@ -677,7 +680,7 @@ fn newest_of(text: Option<&Bytes>, versions: &[Version]) -> Result<Option<Newest
 
 fn newest_if(
     needed: bool,
-    text: Option<&Bytes>,
+    text: Option<&[u8]>,
     versions: &[Version],
 ) -> Result<Option<Newest>, Down>
     ensures { IfOk result (λ unit. unit ≡ if_needed needed (option_map (newest_unit (option_copied text.entry)) (newest versions.now))) }

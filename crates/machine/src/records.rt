@@ -3,8 +3,9 @@ ghost use Rattle.std.specs.Prelude.{◌≡◌};
 ghost use Rattle.machine.specs.Settling.{is_waiting};
 
 use crate::maps::NameMap;
+use crate::texts::StateText;
 use basis::{
-    Bytes, Caller, Holder, Items, Limit, LockId, Moment, Number, RunRow, RunStatus, Settings, Text,
+    Caller, Holder, Items, Limit, LockId, Moment, Number, RunRow, RunStatus, Settings, Text,
 };
 
 /// A version of a workspace's state. Its text is kept byte for byte as it was sent.
@@ -14,7 +15,7 @@ pub struct Version {
     pub serial: u64,
     pub lineage: Text,
     pub created: Moment,
-    pub text: Bytes,
+    pub text: StateText,
 }
 
 /// Whether it is a queued run that is pending.

@@ -57,7 +57,7 @@ told_behind f g a b (Err e) look is told = tt
 module _ {S : Type 0} (g : Ghosts S) where
   -- a statement that writes is a step
   pub steps_by : {X E : Type 0} (f : Tables → Tables) (a b : Transaction S) (result : Result X E) → Writes g AnyRows f a b result → Steps g f a b result
-  steps_by f a b result one = record { same_reference = one.same_reference; changed = one.changed; so_far = clean_before (state g a.conn.now) (state g b.conn.now) _ one.survives }
+  steps_by f a b result one = record { same_reference = one.same_reference; changed = one.changed; so_far = clean_before (state g a.conn.now) (state g b.conn.now) _ one.survives; shield = one.survives.shield }
 
   -- a step, and then the last one
   pub steps_then : {X Y E F : Type 0} (f h : Tables → Tables) (a b c : Transaction S) (x : X) (result : Result Y F) → Steps {E = E} g f a b (Ok x) → Steps g h b c result → Steps g (λ t. h (f t)) a c result
@@ -67,6 +67,7 @@ module _ {S : Type 0} (g : Ghosts S) where
         let first = (one.changed (last.so_far clean) inside).0 in
         moves_more AnyRows AnyRows f h (state g a.conn.now) (state g b.conn.now) (state g c.conn.now) result (λ t any. tt) first (last.changed clean first.inside);
     so_far = λ clean. one.so_far (last.so_far clean);
+    shield = λ s. last.shield (one.shield s);
   }
 
   -- the same step by another name, where rows that are there say so
@@ -75,6 +76,19 @@ module _ {S : Type 0} (g : Ghosts S) where
     same_reference = one.same_reference;
     changed = λ clean inside. done_behind f h (state g a.conn.now) (state g a.conn.now) (state g b.conn.now) result (as_it_is (state g a.conn.now)) (is clean) (one.changed clean inside);
     so_far = one.so_far;
+    shield = one.shield;
+  }
+
+  -- a step behind looks
+  pub step_after : {Y F : Type 0} (f : Tables → Tables) (a b c : Transaction S) (result : Result Y F) → b.conn.ghost_name ≡ a.conn.ghost_name → (HasCleanDisk (state g b.conn.now) → LeavesAsIs (state g a.conn.now) (state g b.conn.now))
+      → (HasCleanDisk (state g b.conn.now) → HasCleanDisk (state g a.conn.now)) → ((state g a.conn.now).IsShielded → (state g b.conn.now).IsShielded) → Steps g f b c result → Steps g f a c result
+  step_after f a b c result same_reference looks so_far shield last = record {
+    same_reference = last.same_reference ∙ same_reference;
+    changed = λ clean inside.
+        let look = looks (last.so_far clean) in
+        done_behind f f (state g a.conn.now) (state g b.conn.now) (state g c.conn.now) result look (λ t holds. refl) (last.changed clean (still_inside (state g a.conn.now) (state g b.conn.now) look inside));
+    so_far = λ clean. so_far (last.so_far clean);
+    shield = λ s. last.shield (shield s);
   }
 
   -- a query, and then a step that it says the meaning of
@@ -88,6 +102,7 @@ module _ {S : Type 0} (g : Ghosts S) where
           let look = one_look (state g a.conn.now) (state g b.conn.now) seen.1 in
           done_behind f h (state g a.conn.now) (state g b.conn.now) (state g c.conn.now) result look seen.0 (last.changed clean (still_inside (state g a.conn.now) (state g b.conn.now) look inside));
       so_far = λ clean. clean_before (state g a.conn.now) (state g b.conn.now) _ survives (last.so_far clean);
+      shield = λ s. last.shield (survives.shield s);
     }
 
     -- a query, behind which there is nothing to do
@@ -109,4 +124,5 @@ module _ {S : Type 0} (g : Ghosts S) where
             tt,
           );
       so_far = clean_before (state g a.conn.now) (state g b.conn.now) _ survives;
+      shield = survives.shield;
     }

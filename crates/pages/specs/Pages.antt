@@ -1,11 +1,16 @@
 -- The pages that are kept: a map from key and twin number to bytes and uses, and what calls do to it.
-use Rattle.std.specs.Prelude.{◌≡◌, ◌≢◌, ◌<◌, ◌≤◌, ◌⊎◌, ℕ, ◌+◌, ◌-◌, ⊤, nat_lt, cond, List, find, IsTrue, IsSome, Option, Some, None, option_map, Result, IfOk, OnOk, OnErr}
+use Rattle.std.specs.Prelude.{◌≡◌, ◌≢◌, ◌<◌, ◌≤◌, ◌⊎◌, ℕ, ◌+◌, ◌-◌, ◌^◌, ⊤, nat_lt, cond, List, find, IsTrue, IsSome, Option, Some, None, option_map, Result, IfOk, OnOk, OnErr}
 use Rattle.std.specs.List.{AllByRecursion}
 use Rattle.sqlite_keyed.specs.Rules.{AreApart}
+use Rattle.sqlite_trees.specs.declared.store.Store.{Ghosts}
+use Rattle.sqlite.specs.Held.{state}
 use Rattle.sqlite.specs.State.{State, HasCleanDisk, IsUnchanged, KeepsCommit}
+use Rattle.sqlite.specs.declared.transaction.Transaction.{Transaction}
+use Rattle.statements.specs.Steps.{Steps}
 use Rattle.statements.specs.Tables.{Tables, Holds}
 use Rattle.pages.specs.declared.store.PageId.{PageId}
-use Rattle.pages.specs.Rows.{is_page, is_equal_page}
+use Rattle.pages.specs.Puts.{twin_for, page_put}
+use Rattle.pages.specs.Rows.{is_page, is_equal_page, equal_page}
 
 -- a page's bytes, and how often it is in use
 pub record Page : Type 0 where
@@ -56,11 +61,22 @@ pub record ReleasesPage (key : List ℕ) (twin : ℕ) (old new : PageMap) : Type
 
 -- ---- what calls promise, of all rows that a database may hold before and after them
 
--- a page is put, in a transaction
-abbrev pub PutsBy : {E : Type 0} → (List ℕ → List ℕ) → List ℕ → State → State → Result PageId E → Type 0
-PutsBy key_of page old new result =
+-- a key under which a page may be put: its own, or one of a page that has its bytes
+abbrev pub IsKeyFor : (List ℕ → List ℕ) → List ℕ → List ℕ → Tables → Type 0
+IsKeyFor key_of page key t = (key ≡ key_of page) ⊎ IsSome (equal_page key page t)
+
+-- a page is put under a key, in a transaction
+abbrev pub PutsBy : {E : Type 0} → List ℕ → List ℕ → State → State → Result PageId E → Type 0
+PutsBy key page old new result =
     HasCleanDisk new → IsTrue old.in_transaction
-    → IfOk result (λ id. (t u : Tables) → Holds old.now t → Holds new.now u → HasSoundPages t → PutsPage (key_of page) page id.twin (pages_in t) (pages_in u) × HasSoundPages u)
+    → IfOk result (λ id. (t u : Tables) → Holds old.now t → Holds new.now u → HasSoundPages t → PutsPage key page id.twin (pages_in t) (pages_in u) × HasSoundPages u)
+
+-- What putting a page under a key promises: it is named by the key, and by the twin number that it has in the rows.
+pub record PutsUnder {S E : Type 0} (g : Ghosts S) (key page : List ℕ) (old new : Transaction S) (result : Result PageId E) : Type 0 where
+  pub steps : Steps g (page_put key page) old new result
+  pub named : IfOk result (λ id. (id.key ≡ key) × (id.twin < 2 ^ 63))
+  pub tells : HasCleanDisk (state g new.conn.now) → IfOk result (λ id. (t : Tables) → Holds (state g old.conn.now).now t → id.twin ≡ twin_for key page t)
+  pub puts : PutsBy key page (state g old.conn.now) (state g new.conn.now) result
 
 -- a page is released, in a transaction
 abbrev pub ReleasesBy : {E : Type 0} → List ℕ → ℕ → State → State → Result ⊤ E → Type 0

@@ -1,5 +1,5 @@
 //! Pages are put, read, compared and released.
-ghost use Rattle.std.specs.Prelude.{◌≡◌, ◌+◌, false, ◌<◌, ◌^◌, IsSome, IfOk, OnOk};
+ghost use Rattle.std.specs.Prelude.{◌≡◌, ◌+◌, false, ◌<◌, ◌^◌, ℕ, List, IsSome, IfOk, OnOk};
 ghost use Rattle.sqlite_value.specs.declared.value.Value.TheVariants.{Blob};
 ghost use Rattle.sqlite_value.specs.Order.{column};
 ghost use Rattle.sqlite.specs.Held.{state};
@@ -8,8 +8,8 @@ ghost use Rattle.statements.specs.Steps.{Steps};
 ghost use Rattle.statements.specs.Tables.{Tables, Holds};
 ghost use Rattle.pages.specs.Rows.{page_added, page_used, page_bytes, IsPageName};
 ghost use Rattle.pages.specs.Puts.{free_twin, twin_found, twin_for, put_found, page_put, lessened, released_found, page_released, is_bytes_of};
-ghost use Rattle.pages.specs.Pages.{PutsBy, ReleasesBy, SparesNamed, GetsBy};
-ghost use Rattle.pages.specs.Inner.Calls.{OnlyLooks, TellsBy, put_with, twin_with};
+ghost use Rattle.pages.specs.Pages.{IsKeyFor, PutsUnder, ReleasesBy, SparesNamed, GetsBy};
+ghost use Rattle.pages.specs.Inner.Calls.{OnlyLooks, TellsBy, put_with, twin_with, is_alike};
 
 use crate::keys::PageKey;
 use crate::rows::{FirstPage, PageUse, add, bytes, equal, first, remove, set_uses, uses};
@@ -67,6 +67,7 @@ fn free<S: Alter>(tx: &mut Transaction<'_, S>, key: &[u8]) -> Result<u64, Error>
     ensures twin { TellsBy (free_twin key.now) (state S.Store tx.old.conn.now) (state S.Store tx.new.conn.now) result }
     ensures fits { IfOk result (λ twin. twin < 2 ^ 63) }
     ensures so_far { HasCleanDisk (state S.Store tx.new.conn.now) → HasCleanDisk (state S.Store tx.old.conn.now) }
+    ensures shield { (state S.Store tx.old.conn.now).IsShielded → (state S.Store tx.new.conn.now).IsShielded }
 {
     'twins: for twin in 0..TWINS {
         let found = uses(tx, key, twin)?;
@@ -175,15 +176,52 @@ fn put_under<S: Alter>(tx: &mut Transaction<'_, S>, key: &[u8], page: &[u8]) -> 
     put_with(tx, key, first, page)
 }
 
-/// Puts a page into use once more, and keeps it if none with its bytes is kept.
-/// Where its uses or its twin number would pass 9,223,372,036,854,775,807, it is an error.
-pub fn put<K: PageKey, S: Alter>(tx: &mut Transaction<'_, S>, page: &[u8]) -> Result<PageId, Error>
-    ensures steps { Steps S.Store (page_put (K.key_of page.now) page.now) tx.old tx.new result }
-    ensures twin { IfOk result (λ id. (id.key ≡ K.key_of page.now) × (id.twin < 2 ^ 63)) }
-    ensures tells { HasCleanDisk (state S.Store tx.new.conn.now) → IfOk result (λ id. (t : Tables) → Holds (state S.Store tx.old.conn.now).now t → id.twin ≡ twin_for (K.key_of page.now) page.now t) }
-    ensures puts { PutsBy K.key_of page.now (state S.Store tx.old.conn.now) (state S.Store tx.new.conn.now) result }
+fn is_alike(first: &Option<FirstPage>) -> bool
+    ensures { result ≡ is_alike first.now }
 {
-    let key = K::key(page);
+    match first {
+        None => false,
+        Some(first) => first.same,
+    }
+}
+
+/// The key of a page: the known one, if the first page of that has these bytes, since comparing costs less than a key.
+fn key_for<K: PageKey, S: Alter>(
+    tx: &mut Transaction<'_, S>,
+    known: Option<&[u8; 32]>,
+    page: &[u8],
+) -> Result<[u8; 32], Error>
+    ensures same_reference { tx.new.conn.ghost_name ≡ tx.old.conn.ghost_name }
+    ensures looks { OnlyLooks (state S.Store tx.old.conn.now) (state S.Store tx.new.conn.now) result }
+    ensures keyed { HasCleanDisk (state S.Store tx.new.conn.now) → IfOk result (λ key. (t : Tables) → Holds (state S.Store tx.old.conn.now).now t → IsKeyFor K.key_of page.now key t) }
+    ensures so_far { HasCleanDisk (state S.Store tx.new.conn.now) → HasCleanDisk (state S.Store tx.old.conn.now) }
+    ensures shield { (state S.Store tx.old.conn.now).IsShielded → (state S.Store tx.new.conn.now).IsShielded }
+{
+    match known {
+        None => Ok(K::key(page)),
+        Some(known) => {
+            let first = first(tx, known.as_slice(), page)?;
+            if is_alike(&first) {
+                Ok(*known)
+            } else {
+                Ok(K::key(page))
+            }
+        }
+    }
+}
+
+/// Puts a page into use once more, and keeps it if none with its bytes is kept.
+/// It is put under the known key, if the first page of that has its bytes, or under its own.
+/// Where its uses or its twin number would pass 9,223,372,036,854,775,807, it is an error.
+pub fn put<K: PageKey, S: Alter>(
+    tx: &mut Transaction<'_, S>,
+    known: Option<&[u8; 32]>,
+    page: &[u8],
+) -> Result<PageId, Error>
+    ensures puts { (key : List ℕ) × PutsUnder S.Store key page.now tx.old tx.new result }
+    ensures keyed { HasCleanDisk (state S.Store tx.new.conn.now) → IfOk result (λ id. (t : Tables) → Holds (state S.Store tx.old.conn.now).now t → IsKeyFor K.key_of page.now id.key t) }
+{
+    let key = key_for::<K, S>(tx, known, page)?;
     let twin = put_under(tx, key.as_slice(), page)?;
     Ok(PageId { key, twin })
 }
@@ -193,6 +231,7 @@ pub fn get<S: Alter>(conn: &mut Connection<S>, id: &PageId) -> Result<Bytes, Err
     ensures mode { conn.old.in_transaction ≡ false → conn.new.in_transaction ≡ false }
     ensures gets { GetsBy (page_bytes id.now.key id.now.twin) (state S.Store conn.old) (state S.Store conn.new) result }
     ensures so_far { HasCleanDisk (state S.Store conn.new) → HasCleanDisk (state S.Store conn.old) }
+    ensures shield { (state S.Store conn.old).IsShielded → (state S.Store conn.new).IsShielded }
 {
     if id.twin > MOST {
         return Err(Error::IntegralValueOutOfRange(TWIN_COLUMN));
@@ -208,6 +247,7 @@ pub fn same<S: Alter>(conn: &mut Connection<S>, id: &PageId, page: &[u8]) -> Res
     ensures mode { conn.old.in_transaction ≡ false → conn.new.in_transaction ≡ false }
     ensures gets { GetsBy (is_bytes_of id.now.key id.now.twin page.now) (state S.Store conn.old) (state S.Store conn.new) result }
     ensures so_far { HasCleanDisk (state S.Store conn.new) → HasCleanDisk (state S.Store conn.old) }
+    ensures shield { (state S.Store conn.old).IsShielded → (state S.Store conn.new).IsShielded }
 {
     let bytes = get(conn, id)?;
     Ok(bytes.as_slice() == page)

@@ -105,6 +105,10 @@ module _ {K F : Type 0} (k : keep.Ghosts K) (f : files.Ghosts F K) where
   asked_so_far true old is_shut new asks clean = asks.2.so_far clean
   asked_so_far false old is_shut new asks clean = subst (λ (store : K). k.clean store) asks.1 clean
 
+  pub asked_shield : (is_down : Bool) (old : K) (is_shut : Bool) (new : K) → AsksAfter k f is_down old is_shut new → k.shielded old → k.shielded new
+  asked_shield true old is_shut new asks is = asks.2.shield is
+  asked_shield false old is_shut new asks is = subst (λ (store : K). k.shielded store) (sym asks.1) is
+
   pub asked_kept : (is_down : Bool) (old : K) (is_shut : Bool) (new : K) → AsksAfter k f is_down old is_shut new → k.clean new → k.sound old → k.sound new
   asked_kept true old is_shut new asks clean sound = asks.2.kept clean sound
   asked_kept false old is_shut new asks clean sound = subst (λ (store : K). k.sound store) (sym asks.1) sound

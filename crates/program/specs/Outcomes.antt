@@ -242,6 +242,7 @@ module _ {K F : Type 0} (k : keep.Ghosts K) (f : files.Ghosts F K) where
     pub left : f.holds new path after
     pub others : OthersStay f.holds path old new
     pub so_far : k.clean after → k.clean before
+    pub shield : k.shielded before → k.shielded after
     pub kept : k.clean after → k.sound before → k.sound after
     pub is_new : Bool
     pub sought : f.lacks old path is_new
@@ -292,6 +293,7 @@ module _ {K F N C R W : Type 0} (k : keep.Ghosts K) (f : files.Ghosts F K) (n : 
     pub left : f.holds new.files path after
     pub others : OthersStay f.holds path old.files new.files
     pub so_far : k.clean after → k.clean before
+    pub shield : k.shielded before → k.shielded after
     pub kept : k.clean after → k.sound before → k.sound after
     pub serves : k.clean after → k.sound before → Serves count (k.rows before) (k.rows after)
     pub served : Ending

@@ -73,6 +73,7 @@ module _ {K N R W : Type 0} (k : keep.Ghosts K) (n : connections.Ghosts N R W) (
     pub written : W
     pub result : Result (Unit {0}) LinkFault
     pub so_far : k.clean store' → k.clean store
+    pub shield : k.shielded store → k.shielded store'
     pub kept : k.clean store' → k.sound store → k.sound store'
     pub exchanges : k.clean store' → k.sound store → (received : List ℕ) × Consumes (i.left reader) (i.left read) received
         × Exchanges at received (i.left read) (k.rows store) (k.rows store') (o.written writer) (o.written written) is_down result
@@ -88,7 +89,7 @@ module _ {K F : Type 0} (k : keep.Ghosts K) (f : files.Ghosts F K) where
   -- after the 503 the files are asked whether a fault of the disk has shut the store, and say so or not; after another reply
   -- they aren't asked
   abbrev pub AsksAfter : Bool → K → Bool → K → Type 0
-  AsksAfter true old is_shut new = (said : Result Bool Down) × f.shuts old said new × Looks k.rows k.clean k.sound old new × (is_shut ≡ says_shut said)
+  AsksAfter true old is_shut new = (said : Result Bool Down) × f.shuts old said new × Looks k.rows k.clean k.sound k.shielded old new × (is_shut ≡ says_shut said)
   AsksAfter false old is_shut new = (is_shut ≡ false) × (new ≡ old)
 
 module _ {K N C R W : Type 0} (k : keep.Ghosts K) (n : connections.Ghosts N R W) (c : clock.Ghosts C) (i : inlet.Ghosts R) (o : outlet.Ghosts W) where

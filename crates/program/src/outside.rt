@@ -57,7 +57,7 @@ pub trait Files<K: Keep> {
     /// Whether a fault of the disk has shut a store, so that it refuses each call; an error where memory was refused.
     fn is_shut(&self, store: &mut K) -> Result<bool, Down>
         ensures told { shuts store.old result store.new }
-        ensures looks { Looks K.rows K.clean K.sound store.old store.new };
+        ensures looks { Looks K.rows K.clean K.sound K.shielded store.old store.new };
 
     /// Closes a store: what it has lies at the path then. After an error its log stays beside the file.
     fn close(&mut self, path: &str, store: K) -> Result<(), Down>

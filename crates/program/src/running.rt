@@ -201,6 +201,7 @@ fn operate<K: Keep, O: Write, E: Write>(
     errors: &mut E,
 ) -> (Ending, K)
     ensures so_far { K.clean result.1 → K.clean keep }
+    ensures shield { K.shielded keep → K.shielded result.1 }
     ensures kept { K.clean result.1 → K.sound keep → K.sound result.1 }
     ensures line { AnswersCommand command.now result.0 (stream (O.contents output.old) (O.contents output.new)) }
     ensures model { K.clean result.1 → K.sound keep → IsOperated command.now (K.rows keep) (K.rows result.1) result.0 (stream (O.contents output.old) (O.contents output.new)) (stream (E.contents errors.old) (E.contents errors.new)) }
@@ -330,6 +331,7 @@ fn serve_at<K: Keep, F: Files<K>, N: Connections, C: Clock, O: Write, E: Write>(
     errors: &mut E,
 ) -> Ending
     ensures so_far { K.clean service.new.keep → K.clean service.old.keep }
+    ensures shield { K.shielded service.old.keep → K.shielded service.new.keep }
     ensures kept { K.clean service.new.keep → K.sound service.old.keep → K.sound service.new.keep }
     ensures serves { K.clean service.new.keep → K.sound service.old.keep → Serves count (K.rows service.old.keep) (K.rows service.new.keep) }
     ensures listens { Listens result (O.contents output.old) (O.contents output.new) }

@@ -84,6 +84,7 @@ fn exchange_one<K: Keep, I: Inlet, O: Outlet>(
     requires reads { I.broken inlet.old ≡ false }
     requires writes { O.broken outlet.old ≡ false }
     ensures so_far { K.clean service.new.keep → K.clean service.old.keep }
+    ensures shield { K.shielded service.old.keep → K.shielded service.new.keep }
     ensures kept { K.clean service.new.keep → K.sound service.old.keep → K.sound service.new.keep }
     ensures takes { K.clean service.new.keep → K.sound service.old.keep → TakesOne (K.rows service.old.keep) (K.rows service.new.keep) }
     ensures told { K.clean service.new.keep → K.sound service.old.keep → (received : List ℕ) × Consumes (I.left inlet.old) (I.left inlet.new) received
@@ -106,6 +107,7 @@ fn serve_one<K: Keep, N: Connections, E: Write>(
     requires reads { N.Reader.broken reader ≡ false }
     requires writes { N.Writer.broken writer ≡ false }
     ensures so_far { K.clean service.new.keep → K.clean service.old.keep }
+    ensures shield { K.shielded service.old.keep → K.shielded service.new.keep }
     ensures kept { K.clean service.new.keep → K.sound service.old.keep → K.sound service.new.keep }
     ensures takes { K.clean service.new.keep → K.sound service.old.keep → TakesOne (K.rows service.old.keep) (K.rows service.new.keep) }
     ensures answers { AnswersOne K.Keep N.Connections N.Reader.Inlet N.Writer.Outlet place now service.new.was_down reader writer network.old network.new service.old.keep service.new.keep (E.contents errors.old) (E.contents errors.new) }
@@ -154,6 +156,7 @@ fn answer_next<K: Keep, N: Connections, C: Clock, E: Write>(
     errors: &mut E,
 ) -> Result<(), Cause>
     ensures so_far { K.clean service.new.keep → K.clean service.old.keep }
+    ensures shield { K.shielded service.old.keep → K.shielded service.new.keep }
     ensures kept { K.clean service.new.keep → K.sound service.old.keep → K.sound service.new.keep }
     ensures takes { K.clean service.new.keep → K.sound service.old.keep → TakesOne (K.rows service.old.keep) (K.rows service.new.keep) }
     ensures answers { OnOk result ((at : ℕ) × Answers K.Keep N.Connections C.Clock N.Reader.Inlet N.Writer.Outlet timeouts.now place at service.new.was_down (state network.old clock.old service.old.keep (E.contents errors.old)) (state network.new clock.new service.new.keep (E.contents errors.new))) }
@@ -192,6 +195,7 @@ fn serve_next<K: Keep, F: Files<K>, N: Connections, C: Clock, E: Write>(
     errors: &mut E,
 ) -> Result<(), Cause>
     ensures so_far { K.clean service.new.keep → K.clean service.old.keep }
+    ensures shield { K.shielded service.old.keep → K.shielded service.new.keep }
     ensures kept { K.clean service.new.keep → K.sound service.old.keep → K.sound service.new.keep }
     ensures takes { K.clean service.new.keep → K.sound service.old.keep → TakesOne (K.rows service.old.keep) (K.rows service.new.keep) }
     ensures answers { OnOk result ((at : ℕ) × AnswersNext K.Keep F.Files N.Connections C.Clock N.Reader.Inlet N.Writer.Outlet timeouts.now place at false (state network.old clock.old service.old.keep (E.contents errors.old)) (state network.new clock.new service.new.keep (E.contents errors.new))) }
@@ -226,6 +230,7 @@ pub fn serve_loop<K: Keep, F: Files<K>, N: Connections, C: Clock, O: Write, E: W
     errors: &mut E,
 ) -> Ending
     ensures so_far { K.clean service.new.keep → K.clean service.old.keep }
+    ensures shield { K.shielded service.old.keep → K.shielded service.new.keep }
     ensures kept { K.clean service.new.keep → K.sound service.old.keep → K.sound service.new.keep }
     ensures serves { K.clean service.new.keep → K.sound service.old.keep → Serves count (K.rows service.old.keep) (K.rows service.new.keep) }
     ensures answers { AnswersCount K.Keep F.Files N.Connections C.Clock N.Reader.Inlet N.Writer.Outlet timeouts.now count (state network.old clock.old service.old.keep (E.contents errors.old)) (state network.new clock.new service.new.keep (E.contents errors.new)) result }

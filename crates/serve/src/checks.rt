@@ -17,9 +17,11 @@ ghost use Rattle.serve.specs.Inner.Judging.{judged_task, missed};
 ghost use Rattle.serve.specs.Inner.Units.{if_named, sees_named, is_present};
 
 use crate::prepared::{Order, Task};
-use basis::{Bytes, Caller, Down, LockId, Look, Moment, Number, OrgName, Prefix, Refusal, WsName};
+use basis::{
+    Bytes, Caller, Down, LockId, Look, Moment, Number, OrgName, Prefix, Refusal, StateHead, WsName,
+};
 use docs::{DocFault, digest_fits, read_lock, read_run, read_settings, read_state};
-use machine::{Act, Keep, Needs, Unit, WorkspaceUnit};
+use machine::{Act, Keep, Needs, StateText, Unit, WorkspaceUnit};
 use route::{Asked, AskedAct, WsAct, secret_digest};
 use std::alloc::Global;
 
@@ -41,7 +43,7 @@ pub fn known_caller<K: Keep>(
     at: Moment,
     asked: &Asked,
 ) -> Result<Caller, Refusal>
-    ensures looks { Looks K.rows K.clean K.sound keep.old keep.new }
+    ensures looks { Looks K.rows K.clean K.sound K.shielded keep.old keep.new }
     ensures ok { K.clean keep.new → K.sound keep.old → Follows result (caller_known (K.rows keep.old asked.now.caller) at asked.now) }
 {
     let secret = secret_digest(&asked.secret);
@@ -136,7 +138,7 @@ fn look<K: Keep>(
     ws: &WsName,
     act: WsAct,
 ) -> Result<Unit, Down>
-    ensures looks { Looks K.rows K.clean K.sound keep.old keep.new }
+    ensures looks { Looks K.rows K.clean K.sound K.shielded keep.old keep.new }
     ensures ok { K.clean keep.new → K.sound keep.old → IfOk result (λ unit. (o : Organization) → K.rows keep.old org.now ≡ Some o
         → unit ≡ unit_of o ws.now (LookAct (named_by act))) }
 {
@@ -152,7 +154,7 @@ fn is_there<K: Keep>(
     ws: &WsName,
     act: WsAct,
 ) -> Result<bool, Down>
-    ensures looks { Looks K.rows K.clean K.sound keep.old keep.new }
+    ensures looks { Looks K.rows K.clean K.sound K.shielded keep.old keep.new }
     ensures ok { K.clean keep.new → K.sound keep.old → IsSome (K.rows keep.old org.now)
         → IfOk result (λ there. there ≡ is_there act (workspace_in (K.rows keep.old org.now) ws.now)) }
 {
@@ -168,7 +170,7 @@ fn is_found<K: Keep>(
     ws: &WsName,
     act: WsAct,
 ) -> Result<bool, Down>
-    ensures looks { Looks K.rows K.clean K.sound keep.old keep.new }
+    ensures looks { Looks K.rows K.clean K.sound K.shielded keep.old keep.new }
     ensures ok { K.clean keep.new → K.sound keep.old → IsSome (K.rows keep.old org.now)
         → IfOk result (λ found. found ≡ is_found (K.rows keep.old org.now) ws.now act) }
 {
@@ -192,7 +194,7 @@ pub fn missed<K: Keep>(
     asked: &AskedAct,
     refusal: Refusal,
 ) -> Refusal
-    ensures looks { Looks K.rows K.clean K.sound keep.old keep.new }
+    ensures looks { Looks K.rows K.clean K.sound K.shielded keep.old keep.new }
     ensures known { result ≢ Unavailable → refusal ≢ Unavailable }
     ensures ok { K.clean keep.new → K.sound keep.old → IsSome (K.rows keep.old org.now)
         → result ≢ Unavailable → result ≡ missed (K.rows keep.old org.now) asked.now refusal }
@@ -237,18 +239,33 @@ fn read_put(alloc: Global, body: &Bytes) -> Result<Act, Refusal>
     }
 }
 
+// The update that has this state, whose head is read. Its text isn't copied.
+fn update_of(
+    alloc: Global,
+    head: StateHead,
+    lock_id: &Option<LockId>,
+    body: Bytes,
+) -> Result<Act, Refusal>
+    ensures { Follows result (Ok (UpdateState head body lock_id.now)) }
+{
+    let Ok(lock_id) = lock_id.clone() else {
+        return Err(Refusal::Unavailable);
+    };
+    match StateText::new(alloc, body) {
+        Ok(text) => Ok(Act::UpdateState {
+            head,
+            text,
+            lock_id,
+        }),
+        Err(_) => Err(Refusal::Unavailable),
+    }
+}
+
 fn read_update(alloc: Global, lock_id: &Option<LockId>, body: Bytes) -> Result<Act, Refusal>
     ensures { Follows result (spelt BadState (λ head. UpdateState head body lock_id.now) (state_head body)) }
 {
     match read_state(alloc, body.as_slice()) {
-        Ok(head) => match lock_id.clone() {
-            Ok(lock_id) => Ok(Act::UpdateState {
-                head,
-                text: body,
-                lock_id,
-            }),
-            Err(_) => Err(Refusal::Unavailable),
-        },
+        Ok(head) => update_of(alloc, head, lock_id, body),
         Err(DocFault::Bad) => Err(Refusal::BadState),
         Err(DocFault::Down) => Err(Refusal::Unavailable),
     }

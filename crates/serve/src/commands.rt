@@ -70,6 +70,7 @@ pub fn admin_word(answer: &AdminAnswer) -> &'static [u8]
 /// Carries out an operator's command.
 pub fn command<K: Keep>(alloc: Global, keep: &mut K, command: &Admin) -> Result<AdminAnswer, Down>
     ensures so_far { K.clean keep.new → K.clean keep.old }
+    ensures shield { K.shielded keep.old → K.shielded keep.new }
     ensures kept { K.clean keep.new → K.sound keep.old → K.sound keep.new }
     ensures ok { K.clean keep.new → K.sound keep.old → IfOk result (λ answer. (at : ℕ) → Carries (commands at command.now) (K.rows keep.old) (K.rows keep.new)
         × IsAdminAnswer (K.rows keep.old) command.now answer) }

@@ -70,6 +70,7 @@ fn settle<K: Keep, O: Outlet>(
 ) -> Result<(), LinkFault>
     requires { O.broken outlet.old ≡ false }
     ensures so_far { K.clean keep.new → K.clean keep.old }
+    ensures shield { K.shielded keep.old → K.shielded keep.new }
     ensures kept { K.clean keep.new → K.sound keep.old → (ask : Ask) → IsPrepared (K.rows keep.old) ask prepared.now → K.sound keep.new }
     ensures settled { K.clean keep.new → K.sound keep.old → Settles down.new prepared.now (K.rows keep.old) (K.rows keep.new) }
     ensures text { (text : List ℕ) × IsReplyText (due_reply down.new is_head prepared.now.reply) now text
@@ -103,6 +104,7 @@ pub fn exchange<K: Keep, I: Inlet, O: Outlet>(
     requires reads { I.broken inlet.old ≡ false }
     requires writes { O.broken outlet.old ≡ false }
     ensures so_far { K.clean keep.new → K.clean keep.old }
+    ensures shield { K.shielded keep.old → K.shielded keep.new }
     ensures kept { K.clean keep.new → K.sound keep.old → K.sound keep.new }
     ensures told { K.clean keep.new → K.sound keep.old → (received : List ℕ) × Consumes (I.left inlet.old) (I.left inlet.new) received
         × Exchanges now received (I.left inlet.new) (K.rows keep.old) (K.rows keep.new) (O.written outlet.old) (O.written outlet.new) is_down.new result }

@@ -42,7 +42,7 @@ fn answer<K: Keep>(
     at: Moment,
     message: Message,
 ) -> Result<Prepared, Down>
-    ensures looks { Looks K.rows K.clean K.sound keep.old keep.new }
+    ensures looks { Looks K.rows K.clean K.sound K.shielded keep.old keep.new }
     ensures ok { K.clean keep.new → K.sound keep.old → IfOk result (λ p. (awaited : Bool)
         → IsPrepared (K.rows keep.old) (asked_by at awaited message (asked_of message)) p) }
 {
@@ -65,7 +65,7 @@ pub fn prepare<K: Keep>(
     at: Moment,
     read: Result<Message, WireFault>,
 ) -> Result<Option<Prepared>, LinkFault>
-    ensures looks { Looks K.rows K.clean K.sound keep.old keep.new }
+    ensures looks { Looks K.rows K.clean K.sound K.shielded keep.old keep.new }
     ensures ok { K.clean keep.new → K.sound keep.old → IfOk result (λ prepared. IfSome prepared (PreparesFor at (K.rows keep.old) read)) }
     ensures ended { IsErrOf result LinkFault.Ended ↔ (read ≡ Err Ended) }
     ensures read { IsErrOf result LinkFault.Read ↔ (read ≡ Err Read) }
@@ -86,6 +86,7 @@ pub fn prepare<K: Keep>(
 /// Makes the change that was prepared.
 pub fn commit<K: Keep>(alloc: Global, keep: &mut K, prepared: &Prepared) -> Result<(), Down>
     ensures so_far { K.clean keep.new → K.clean keep.old }
+    ensures shield { K.shielded keep.old → K.shielded keep.new }
     ensures kept { K.clean keep.new → K.sound keep.old → (ask : Ask) → IsPrepared (K.rows keep.old) ask prepared.now → K.sound keep.new }
     ensures ok { K.clean keep.new → K.sound keep.old → OnOk result ((ask : Ask) → IsPrepared (K.rows keep.old) ask prepared.now
         → Carries ask (K.rows keep.old) (K.rows keep.new)) }
@@ -107,6 +108,7 @@ pub fn take_request<K: Keep>(
     bytes: &[u8],
 ) -> Result<Bytes, Down>
     ensures so_far { K.clean keep.new → K.clean keep.old }
+    ensures shield { K.shielded keep.old → K.shielded keep.new }
     ensures kept { K.clean keep.new → K.sound keep.old → K.sound keep.new }
     ensures ok { K.clean keep.new → K.sound keep.old → IfOk result (λ text. (ask : Ask) × Asks at bytes.now ask
         × Carries ask (K.rows keep.old) (K.rows keep.new) × IsSaidText (said_to (K.rows keep.old) ask) text) }

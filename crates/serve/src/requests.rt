@@ -38,7 +38,7 @@ pub fn request<K: Keep>(
     content_md5: &Option<Bytes>,
     body: Bytes,
 ) -> Result<Prepared, Down>
-    ensures looks { Looks K.rows K.clean K.sound keep.old keep.new }
+    ensures looks { Looks K.rows K.clean K.sound K.shielded keep.old keep.new }
     ensures ok { K.clean keep.new → K.sound keep.old → IfOk result (Foresees (K.rows keep.old asked.now.caller) asked.now.caller
         (request_step (K.rows keep.old asked.now.caller) at asked.now content_md5.now body)) }
 {
@@ -59,7 +59,7 @@ fn checked<K: Keep>(
     content_md5: &Option<Bytes>,
     body: Bytes,
 ) -> Result<Task, Refusal>
-    ensures looks { Looks K.rows K.clean K.sound keep.old keep.new }
+    ensures looks { Looks K.rows K.clean K.sound K.shielded keep.old keep.new }
     ensures ok { K.clean keep.new → K.sound keep.old → Stands result (K.rows keep.old asked.now.caller) at asked.now content_md5.now body }
     ensures range { IfOk result IsTaskInRange }
     ensures there { K.clean keep.new → K.sound keep.old → OnOk result (IsSome (K.rows keep.old asked.now.caller)) }
@@ -160,7 +160,7 @@ fn accepted_reply<K: Keep>(
     ws: &WsName,
     answer: Answer,
 ) -> Result<Reply, Down>
-    ensures looks { Looks K.rows K.clean K.sound keep.old keep.new }
+    ensures looks { Looks K.rows K.clean K.sound K.shielded keep.old keep.new }
     ensures ok { K.clean keep.new → K.sound keep.old → IfOk result (λ reply. reply
         ≡ answer_to org.now ws.now (answered answer (workspace_in (K.rows keep.old org.now) ws.now))) }
 {
@@ -185,7 +185,7 @@ fn list_versions<K: Keep>(
     ws: &WsName,
     after: u64,
 ) -> Result<Reply, Down>
-    ensures looks { Looks K.rows K.clean K.sound keep.old keep.new }
+    ensures looks { Looks K.rows K.clean K.sound K.shielded keep.old keep.new }
     ensures ok { K.clean keep.new → K.sound keep.old → IfOk result (λ reply. reply
         ≡ answer_to org.now ws.now (answered (ListedVersions after) (workspace_in (K.rows keep.old org.now) ws.now))) }
 {
@@ -200,7 +200,7 @@ fn list_runs<K: Keep>(
     ws: &WsName,
     after: u64,
 ) -> Result<Reply, Down>
-    ensures looks { Looks K.rows K.clean K.sound keep.old keep.new }
+    ensures looks { Looks K.rows K.clean K.sound K.shielded keep.old keep.new }
     ensures ok { K.clean keep.new → K.sound keep.old → IfOk result (λ reply. reply
         ≡ answer_to org.now ws.now (answered (ListedRuns after) (workspace_in (K.rows keep.old org.now) ws.now))) }
 {
@@ -225,7 +225,7 @@ fn list_workspaces<K: Keep>(
     after: &Option<WsName>,
     prefix: &Prefix,
 ) -> Result<Prepared, Down>
-    ensures looks { Looks K.rows K.clean K.sound keep.old keep.new }
+    ensures looks { Looks K.rows K.clean K.sound K.shielded keep.old keep.new }
     ensures ok { K.clean keep.new → K.sound keep.old → IfOk result (λ p. (at : ℕ)
         → Foresees (K.rows keep.old org.now) org.now (carried org.now at (K.rows keep.old org.now) (Ok (ListAll after.now prefix.now))) p) }
 {
@@ -245,7 +245,7 @@ fn perform<K: Keep>(
     org: &OrgName,
     task: Task,
 ) -> Result<Prepared, Down>
-    ensures looks { Looks K.rows K.clean K.sound keep.old keep.new }
+    ensures looks { Looks K.rows K.clean K.sound K.shielded keep.old keep.new }
     ensures ok { K.clean keep.new → K.sound keep.old → IfOk result (λ p. IsSome (K.rows keep.old org.now) → IsTaskInRange task
         → Foresees (K.rows keep.old org.now) org.now (carried org.now at (K.rows keep.old org.now) (Ok task)) p) }
 {
@@ -277,7 +277,7 @@ fn accept<K: Keep>(
     answer: Answer,
     change: Option<Change>,
 ) -> Result<Prepared, Down>
-    ensures looks { Looks K.rows K.clean K.sound keep.old keep.new }
+    ensures looks { Looks K.rows K.clean K.sound K.shielded keep.old keep.new }
     ensures ok { K.clean keep.new → K.sound keep.old → IfOk result (λ p. IsSome (K.rows keep.old org.now)
         → ((o : Organization) → K.rows keep.old org.now ≡ Some o → ChangeIsDue (seen_in o ws.now) (Accepted answer change))
         → Foresees (K.rows keep.old org.now) org.now
@@ -298,7 +298,7 @@ fn answer_decision<K: Keep>(
     unit: &Unit,
     decision: Decision,
 ) -> Result<Prepared, Down>
-    ensures looks { Looks K.rows K.clean K.sound keep.old keep.new }
+    ensures looks { Looks K.rows K.clean K.sound K.shielded keep.old keep.new }
     ensures ok { K.clean keep.new → K.sound keep.old → IfOk result (λ p. IsSome (K.rows keep.old org.now)
         → holder_in unit.now ≡ holder_of (workspace_in (K.rows keep.old org.now) ws.now)
         → ((o : Organization) → K.rows keep.old org.now ≡ Some o → ChangeIsDue (seen_in o ws.now) decision)
@@ -326,7 +326,7 @@ fn rule<K: Keep>(
     org: &OrgName,
     order: &Order,
 ) -> Result<Prepared, Down>
-    ensures looks { Looks K.rows K.clean K.sound keep.old keep.new }
+    ensures looks { Looks K.rows K.clean K.sound K.shielded keep.old keep.new }
     ensures ok { K.clean keep.new → K.sound keep.old → IfOk result (λ p. IsSome (K.rows keep.old org.now) → IsInRange order.now.act
         → Foresees (K.rows keep.old org.now) org.now (carried org.now at (K.rows keep.old org.now) (Ok (Carry order.now))) p) }
 {

@@ -1,5 +1,5 @@
--- The numbers by which SQL keeps a role, a status or an action: each means one. Moments fit into an integer of SQL. Texts and numbers that may be absent.
-use Rattle.std.proofs.Common.{◌≡◌, ◌≤◌, ℕ, pos, SFits, w64, arith, refl, sym, ap, ◌∙◌, List, Option, Some, None, option_map, Bor}
+-- The numbers by which SQL keeps a role, a status or an action: each means one. Moments and limits fit into an integer of SQL. Texts and numbers that may be absent.
+use Rattle.std.proofs.Common.{◌≡◌, ◌≤◌, inl, inr, ℕ, ℤ, pos, SFits, w64, arith, refl, sym, ap, ◌∙◌, subst, List, Option, Some, None, option_map, Bor}
 use Rattle.sqlite_value.specs.declared.value.Value.TheVariants.{Text, Int}
 use Rattle.sqlite.specs.Values.{or_null, bound_value}
 use Rattle.sqlite_typed.specs.Columns.{or_null as typed_null}
@@ -10,10 +10,15 @@ use Rattle.basis.specs.declared.runs.RunStatus.{RunStatus}
 use Rattle.basis.specs.declared.runs.RunStatus.TheVariants.{Pending, Planning, Planned, Applying, Applied, PlannedAndFinished, Errored, Discarded, Canceled}
 use Rattle.basis.specs.declared.runs.RunAction.{RunAction}
 use Rattle.basis.specs.declared.runs.RunAction.TheVariants.{ReportPlanned, ReportUnchanged, Fail, Confirm, ReportApplied, Discard, Cancel}
+use Rattle.statements.specs.Calls.{LimitsTo}
 use Rattle.statements.specs.Rows.{number, role_code, status_code, action_code, role_at, status_at, action_at}
 
 pub moment_fits : (n : ℕ) → n ≤ MAX_MOMENT → SFits w64 (pos n)
 moment_fits n most = record { sfits = omega (arith, most) }
+
+pub limit_fits : (most : ℕ) (n : ℤ) → LimitsTo most n → SFits w64 n
+limit_fits most n (inl h) = subst (SFits w64) (sym h.1) (record { sfits = omega (arith, h.0) })
+limit_fits most n (inr h) = subst (SFits w64) (sym h.1) (record { sfits = omega arith })
 
 -- a text that may be absent, as SQL takes it
 pub optional_text : (o : Option (Bor (List ℕ))) → or_null (λ s. Text s.now) o ≡ typed_null Text (option_map (λ s. s.now) o)

@@ -57,6 +57,10 @@ no_page = (lit (Int (negsuc 0)), lit (Int (pos 0)))
 abbrev pub one_page : Term × Term
 one_page = (lit (Int (pos 1)), lit (Int (pos 0)))
 
+-- as many rows as a parameter says
+abbrev pub page_to : ℕ → Term × Term
+page_to parameter = (col 0 parameter, lit (Int (pos 0)))
+
 -- one row, behind as many as a parameter says
 abbrev pub one_page_at : ℕ → Term × Term
 one_page_at parameter = (lit (Int (pos 1)), col 0 parameter)

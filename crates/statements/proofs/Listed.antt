@@ -1,9 +1,9 @@
 -- The rows of one of our tables in an order with no ties, as a function of typed rows.
-use Rattle.std.proofs.Common.{◌≡◌, inl, inr, ℕ, ◌≤◌, ◌==◌, pos, Bool, false, cond, ◌&&◌, List, [], ◌∷◌, ◌++◌, map, flat_map, filter, take, length, None, refl, sym, ap, ◌∙◌, subst, arith, Ordering, Equal, int_cmp, nat_cmp, is_eq, IsPermutation}
+use Rattle.std.proofs.Common.{◌≡◌, inl, inr, ℕ, ◌≤◌, ◌==◌, ℤ, pos, Bool, false, cond, ◌&&◌, List, [], ◌∷◌, ◌++◌, map, flat_map, filter, take, length, None, refl, sym, ap, ◌∙◌, subst, arith, Ordering, Equal, int_cmp, nat_cmp, is_eq, IsPermutation}
 use Rattle.std.specs.Prelude.{nat_lt}
 use Rattle.std.specs.List.{list_all, AllZip}
 use Rattle.std.specs.Ordering.{ordering_then}
-use Rattle.std.proofs.lemmas.List.{take_all, take-append-le, take-map}
+use Rattle.std.proofs.lemmas.List.{take_all, take-take, take-append-le, take-map}
 use Rattle.std.specs.Cmp.{nat_cmp_total, on_total}
 use Rattle.sqlite_value.specs.declared.keys.Collation.TheVariants.{Binary}
 use Rattle.sqlite_value.specs.declared.keys.Key.{Key}
@@ -12,7 +12,7 @@ use Rattle.sqlite_value.specs.Order.{Row, value_cmp}
 use Rattle.sqlite_value.proofs.OrderLemmas.{value_cmp-Int, then-Equal}
 use Rattle.sqlite_trees.specs.Tree.{Trees, IsAscending}
 use Rattle.sqlite_sql.specs.Term.{Term, Env, col, holds, eval_all}
-use Rattle.sqlite_sql.specs.Query.{Query, Join, Output, inner, end, matches, output, output_cmp, page, IsAnswer}
+use Rattle.sqlite_sql.specs.Query.{Query, Join, Output, inner, end, matches, output, output_cmp, as_count, limited, page, IsAnswer}
 use Rattle.sqlite_sql.specs.Program.{overlay}
 use Rattle.sqlite_sql.proofs.QueryLemmas.{output_cmp_total}
 use Rattle.sqlite_schema.specs.declared.schema.Schema.{Schema}
@@ -25,7 +25,7 @@ use Rattle.sqlite_keyed.proofs.ListLemmas.{map-map, flat_map-map, flat_map_same_
 use Rattle.sqlite_keyed.proofs.SortLemmas.{HasNoTies, sorted_is-sort_by, sort_by-map}
 use Rattle.statements.specs.Place.{tree_of, IsOwn}
 use Rattle.statements.specs.Rows.{Kept, stored}
-use Rattle.statements.specs.Calls.{FirstRows}
+use Rattle.statements.specs.Calls.{FirstRows, LimitsTo}
 use Rattle.statements.proofs.Meaning.{Means}
 use Rattle.statements.proofs.Writes.{plain_program}
 use Rattle.statements.proofs.Own.{stored_tree}
@@ -83,8 +83,8 @@ module _ {R : Type 0} (cells : R → Row) (db : Trees) (tree : ℕ) (xs : List (
         sorted_is-sort_by (output_cmp q) (output_cmp_total q) _ a.ordered untied (arranged rows a) a.sorted
         ∙ sort_by-map (output_cmp q) out (filter p xs) ∙ (λ i. map out (sort_by (λ x y. is x y i) (filter p xs)))
 
-    pub listed_is : ((l : List Row) → page q params l ≡ l) → (rows : List Row) → IsAnswer q db params rows → rows ≡ map show (sort_by order (filter p xs))
-    listed_is whole rows a = a.shown ∙ whole _ ∙ ap (map (λ (o : Output). o.1)) (in_order rows a) ∙ map-map (λ (o : Output). o.1) out _
+    pub listed_is : (rows : List Row) → IsAnswer q db params rows → rows ≡ page q params (map show (sort_by order (filter p xs)))
+    listed_is rows a = a.shown ∙ ap (page q params) (ap (map (λ (o : Output). o.1)) (in_order rows a) ∙ map-map (λ (o : Output). o.1) out _)
 
 module _ {X : Type 0} where
   pub front_is : (n : ℕ) (xs ys all : List X) → all ≡ xs ++ ys → length xs ≡ n → xs ≡ take n all
@@ -92,6 +92,11 @@ module _ {X : Type 0} where
 
   pub whole_is : (n : ℕ) (xs all : List X) → all ≡ xs → length xs ≤ n → xs ≡ take n all
   whole_is n xs all is long = sym (ap (take n) is ∙ take_all n xs long)
+
+-- of the rows that LIMIT lets through, the first ones are those of all
+pub limit_enough : {X : Type 0} (most : ℕ) (n : ℤ) → LimitsTo most n → (l : List X) → take most (limited (as_count (Int n)) l) ≡ take most l
+limit_enough most n (inl h) l = ap (λ z. take most (limited (as_count (Int z)) l)) h.1 ∙ take-take most most l (omega arith)
+limit_enough most n (inr h) l = ap (λ z. take most (limited (as_count (Int z)) l)) h.1
 
 -- rows that are read as values are read as these
 pub read_as : {A X : Type 0} (Is : Row → X → Type 0) (show : A → Row) (val : A → X) → ((x : A) (y : X) → Is (show x) y → y ≡ val x) → (zs : List A) (rows : List Row) (xs : List X)
@@ -137,16 +142,16 @@ module _ {R : Type 0} (cells : R → Row) (table : Table) (old new : State) (own
   asked = joined_listing rest here more column
 
   module _ (order : Kept R → Kept R → Ordering) (is : (x y : Kept R) → output_cmp asked (output asked (params ∷ stored cells x ∷ extra x)) (output asked (params ∷ stored cells y ∷ extra y)) ≡ order x y)
-      (apart : IsAscending (λ x y. is_eq (order x y) ≡ false) (filter p xs)) (means : Means s (Select (plain_program asked) names) text) (whole : (l : List Row) → page asked params l ≡ l)
+      (apart : IsAscending (λ x y. is_eq (order x y) ≡ false) (filter p xs)) (means : Means s (Select (plain_program asked) names) text)
       {X : Type 0} (Is : Row → X → Type 0) (val : Kept R → X) (back : (x : Kept R) (y : X) → Is (sees x) y → y ≡ val x) where
-    only : (l : List Row) → IsAnswer asked (overlay old.now.trees []) params l → l ≡ map sees (sort_by order (filter p xs))
-    only = listed_is cells (overlay old.now.trees []) here xs (stored_tree old.now.trees here own.place.low ∙ held) rest column params more extra ends p tests order is apart whole
+    only : (l : List Row) → IsAnswer asked (overlay old.now.trees []) params l → l ≡ page asked params (map sees (sort_by order (filter p xs)))
+    only = listed_is cells (overlay old.now.trees []) here xs (stored_tree old.now.trees here own.place.low ∙ held) rest column params more extra ends p tests order is apart
 
-    pub first_rows_are : (most : ℕ) (rows : List Row) → FirstRows most text params old new rows → rows ≡ take most (map sees (sort_by order (filter p xs)))
-    first_rows_are most rows h = first_listed text params old new asked names means most rows _ only h
+    pub first_rows_are : (most : ℕ) → ((l : List Row) → take most (page asked params l) ≡ take most l) → (rows : List Row) → FirstRows most text params old new rows → rows ≡ take most (map sees (sort_by order (filter p xs)))
+    first_rows_are most enough rows h = first_listed text params old new asked names means most rows _ only h ∙ enough _
 
-    pub all_rows_are : (rows : List Row) → Shown text params old new rows → rows ≡ map sees (sort_by order (filter p xs))
-    all_rows_are rows h = all_listed text params old new asked names means rows _ only h
+    pub all_rows_are : ((l : List Row) → page asked params l ≡ l) → (rows : List Row) → Shown text params old new rows → rows ≡ map sees (sort_by order (filter p xs))
+    all_rows_are whole rows h = all_listed text params old new asked names means rows _ only h ∙ whole _
 
 -- ---- rows in the order of their numbers
 
@@ -193,7 +198,7 @@ module _ {R : Type 0} (cells : R → Row) (table : Table) (old new : State) (own
       let p = λ (x : Kept R). mine x && is_after x in
       let show = λ (x : Kept R). eval_all rest.project (params ∷ stored cells x ∷ []) in
       let listed = filter is_after (sort_by by_num (filter mine xs)) in
-      let sorted = first_rows_are cells table old new own xs held text params rest column names end (λ _. []) (λ terms x. refl) p tests numbered is (untied apart) means whole Is val back most rows first in
+      let sorted = first_rows_are cells table old new own xs held text params rest column names end (λ _. []) (λ terms x. refl) p tests numbered is (untied apart) means Is val back most (λ l. ap (take most) (whole l)) rows first in
       let taken : rows ≡ map show (take most listed) = sorted ∙ ap (λ l. take most (map show l)) sorted_after ∙ take-map show most listed in
       read_as Is show val back (take most listed) rows ys taken read ∙ sym (take-map val most listed)
       ∙ ap (take most) (sym (filter-map (λ y. nat_lt after (number_of y)) val (sort_by by_num (filter mine xs))))

@@ -103,16 +103,16 @@ module _ {R : Type 0} (cells : R → Row) (table : Table) (old new : State) (own
   asked = joined_listing rest place more column
 
   module _ (is : (x y : Kept R) → output_cmp asked (output asked (params ∷ stored cells x ∷ extra x)) (output asked (params ∷ stored cells y ∷ extra y)) ≡ by_name x y)
-      (means : Means old.now.schema (Select (plain_program asked) names) text) (whole : (l : List Row) → page asked params l ≡ l) where
-    pub names_within : (mine : Kept R → Bool) (later : List ℕ → Bool) → ((x : Kept R) → list_all (holds (params ∷ stored cells x ∷ extra x)) rest.filter ≡ (mine x && later (name_of x)))
-        → IsAscending (λ x y. is_eq (by_name x y) ≡ false) (filter mine xs) → (most : ℕ) (rows : List Row) (ys : List X) → FirstRows most text params old new rows → AllZip Is rows ys
+      (means : Means old.now.schema (Select (plain_program asked) names) text) where
+    pub names_within : (most : ℕ) → ((l : List Row) → take most (page asked params l) ≡ take most l) → (mine : Kept R → Bool) (later : List ℕ → Bool) → ((x : Kept R) → list_all (holds (params ∷ stored cells x ∷ extra x)) rest.filter ≡ (mine x && later (name_of x)))
+        → IsAscending (λ x y. is_eq (by_name x y) ≡ false) (filter mine xs) → (rows : List Row) (ys : List X) → FirstRows most text params old new rows → AllZip Is rows ys
         → ys ≡ take most (map shape (filter (λ e. later e.0) (entries (from_entries {R = text_cmp} (map entry (filter mine xs))))))
-    names_within mine later tests apart most rows ys first read =
+    names_within most enough mine later tests apart rows ys first read =
         let passes = λ (x : Kept R). later (name_of x) in
         let p = λ (x : Kept R). mine x && passes x in
         let both = filter_both mine passes xs in
         let untied = subst (IsAscending (λ x y. is_eq (by_name x y) ≡ false)) (sym both) (ascending-filter (λ x y. is_eq (by_name x y) ≡ false) passes (filter mine xs) apart) in
-        let listed = first_rows_are cells table old new own xs held text params rest column names more extra ends p tests by_name is untied means whole Is (λ x. shape (entry x)) back most rows first in
+        let listed = first_rows_are cells table old new own xs held text params rest column names more extra ends p tests by_name is untied means Is (λ x. shape (entry x)) back most enough rows first in
         let sorted : sort_by by_name (filter p xs) ≡ filter passes (sort_by by_name (filter mine xs)) =
         ap (sort_by by_name) both ∙ sym (filter-sort_by by_name (on_total name_of nat_list_cmp_total) passes (filter mine xs)) in
         let all = sort_by by_name (filter mine xs) in
@@ -122,16 +122,16 @@ module _ {R : Type 0} (cells : R → Row) (table : Table) (old new : State) (own
         ∙ ap (filter (λ e. later e.0)) (sym (entries_sorted_by text_cmp nat_list_cmp_total name_of value_of (filter mine xs) apart))) in
         read_as Is show (λ x. shape (entry x)) back (take most (filter passes all)) rows ys taken read ∙ sym (take-map (λ x. shape (entry x)) most (filter passes all)) ∙ ap (take most) shaped
 
-    pub own_names : (mine : Kept R → Bool) → ((x : Kept R) → list_all (holds (params ∷ stored cells x ∷ extra x)) rest.filter ≡ mine x) → IsAscending (λ x y. is_eq (by_name x y) ≡ false) (filter mine xs)
+    pub own_names : ((l : List Row) → page asked params l ≡ l) → (mine : Kept R → Bool) → ((x : Kept R) → list_all (holds (params ∷ stored cells x ∷ extra x)) rest.filter ≡ mine x) → IsAscending (λ x y. is_eq (by_name x y) ≡ false) (filter mine xs)
         → (rows : List Row) (ys : List X) → Shown text params old new rows → AllZip Is rows ys → ys ≡ map shape (entries (from_entries {R = text_cmp} (map entry (filter mine xs))))
-    own_names mine tests apart rows ys shown read =
-        let sorted = all_rows_are cells table old new own xs held text params rest column names more extra ends mine tests by_name is apart means whole Is (λ x. shape (entry x)) back rows shown in
+    own_names whole mine tests apart rows ys shown read =
+        let sorted = all_rows_are cells table old new own xs held text params rest column names more extra ends mine tests by_name is apart means Is (λ x. shape (entry x)) back whole rows shown in
         read_as Is show (λ x. shape (entry x)) back (sort_by by_name (filter mine xs)) rows ys sorted read
         ∙ sym (map-map shape entry (sort_by by_name (filter mine xs))) ∙ ap (map shape) (sym (entries_sorted_by text_cmp nat_list_cmp_total name_of value_of (filter mine xs) apart))
 
-    pub all_names : ((x : Kept R) → list_all (holds (params ∷ stored cells x ∷ extra x)) rest.filter ≡ true) → IsAscending (λ x y. is_eq (by_name x y) ≡ false) xs
+    pub all_names : ((l : List Row) → page asked params l ≡ l) → ((x : Kept R) → list_all (holds (params ∷ stored cells x ∷ extra x)) rest.filter ≡ true) → IsAscending (λ x y. is_eq (by_name x y) ≡ false) xs
         → (rows : List Row) (ys : List X) → Shown text params old new rows → AllZip Is rows ys → ys ≡ map shape (entries (from_entries {R = text_cmp} (map entry xs)))
-    all_names tests apart rows ys shown read =
+    all_names whole tests apart rows ys shown read =
         let any = λ (x : Kept R). true in
         let each : filter any xs ≡ xs = filter_all any xs (all_of (λ x. any x ≡ true) (λ x. refl) xs) in
-        own_names any tests (subst (IsAscending (λ x y. is_eq (by_name x y) ≡ false)) (sym each) apart) rows ys shown read ∙ ap (λ l. map shape (entries (from_entries {R = text_cmp} (map entry l)))) each
+        own_names whole any tests (subst (IsAscending (λ x y. is_eq (by_name x y) ≡ false)) (sym each) apart) rows ys shown read ∙ ap (λ l. map shape (entries (from_entries {R = text_cmp} (map entry l)))) each

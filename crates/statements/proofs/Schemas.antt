@@ -97,6 +97,7 @@ module _ {S : Type 0} (g : Ghosts S) where
         let first = (one.made before inside).0 in
         alters_more F G H (state g a.conn.now) (state g b.conn.now) (state g c.conn.now) result (f (state g a.conn.now).now (state g b.conn.now).now (state g c.conn.now).now) first (two.made clean first.inside);
     clean = omega (arith, one.clean, two.clean);
+    shield = λ s. two.shield (one.shield s);
   }
 
   -- What was made so far: where it is nothing, the connection is as it was.
@@ -105,9 +106,10 @@ module _ {S : Type 0} (g : Ghosts S) where
     pub start : n ≡ 0 → (new.conn.now ≡ old.conn.now) × (tables ≡ [])
     pub made : 1 ≤ n → HasCleanDisk (state g new.conn.now) → IsTrue (state g old.conn.now).in_transaction → Alters (Grows tables) (state g old.conn.now) (state g new.conn.now)
     pub clean : doubt (state g old.conn.now).is_clean ≤ doubt (state g new.conn.now).is_clean
+    pub shield : (state g old.conn.now).IsShielded → (state g new.conn.now).IsShielded
 
   pub made_all : {X E : Type 0} (n : ℕ) (tables : List Table) (a b : Transaction S) (x : X) → 1 ≤ n → MadeSoFar n tables a b → MakesBy {E = E} g (Grows tables) a b (Ok x)
-  made_all n tables a b x some h = record { same_reference = h.same_reference; made = λ clean inside. (h.made some clean inside, tt); clean = h.clean }
+  made_all n tables a b x some h = record { same_reference = h.same_reference; made = λ clean inside. (h.made some clean inside, tt); clean = h.clean; shield = h.shield }
 
   -- such a call, told of the connection before the first
   from_start : {X E : Type 0} (ts us : List Table) (a b c : Transaction S) (result : Result X E) → (b.conn.now ≡ a.conn.now) × (ts ≡ []) → MakesBy g (Grows us) b c result
@@ -125,6 +127,7 @@ module _ {S : Type 0} (g : Ghosts S) where
     start = λ none. absurd (omega (arith, none));
     made = λ _ clean inside. (by_count n ts us a b c (Ok x) h one clean inside).0;
     clean = omega (arith, h.clean, one.clean);
+    shield = λ s. one.shield (h.shield s);
   }
 
   pub made_failed : {X Y E F : Type 0} (n : ℕ) (ts us vs : List Table) (a b c : Transaction S) (e : E) (result : Result Y F) → IsErr result → MadeSoFar n ts a b → MakesBy {X = X} g (Grows us) b c (Err e) → MakesBy g (Grows vs) a c result
@@ -133,6 +136,7 @@ module _ {S : Type 0} (g : Ghosts S) where
     same_reference = one.same_reference ∙ h.same_reference;
     made = λ clean inside. (tt, (by_count n ts us a b c (Err e) h one clean inside).1);
     clean = omega (arith, h.clean, one.clean);
+    shield = λ s. one.shield (h.shield s);
   }
 
 -- the next text, and what it makes

@@ -29,7 +29,7 @@ use Rattle.statements.specs.Place.{StandsAt}
 use Rattle.statements.specs.Schema.{ws_table, keeping_table, version_table}
 use Rattle.statements.proofs.SyntaxTrees as st
 use Rattle.statements.proofs.Listed.{sorted_by}
-use Rattle.statements.proofs.Commands.{is_from, is_below, is_at, is_above, point_rest, no_page, joined_draft}
+use Rattle.statements.proofs.Commands.{is_from, is_below, is_at, is_above, point_rest, page_to, joined_draft}
 use Rattle.statements.proofs.WsTexts.{ws_columns, ws_orders, run_settings_columns, run_settings_orders}
 
 -- a row that a later step of FROM finds is one of the workspace in ws
@@ -45,10 +45,10 @@ abbrev pub with_both : ℕ → ℕ → Join
 with_both keepings versions = left keepings (of_workspace 2) (left versions (of_version_before 3) end)
 
 abbrev pub list_ws_rest : Query
-list_ws_rest = point_rest (is_at 1 0 ∷ is_above 2 1 ∷ []) (ws_columns ++ col 1 2 ∷ col 2 3 ∷ col 3 3 ∷ run_settings_columns) no_page
+list_ws_rest = point_rest (is_at 1 0 ∷ is_above 2 1 ∷ []) (ws_columns ++ col 1 2 ∷ col 2 3 ∷ col 3 3 ∷ run_settings_columns) (page_to 2)
 
 abbrev pub list_ws_within_rest : Query
-list_ws_within_rest = point_rest (is_at 1 0 ∷ is_above 2 1 ∷ is_from 2 2 ∷ is_below 2 3 ∷ []) (ws_columns ++ col 1 2 ∷ col 2 3 ∷ col 3 3 ∷ run_settings_columns) no_page
+list_ws_within_rest = point_rest (is_at 1 0 ∷ is_above 2 1 ∷ is_from 2 2 ∷ is_below 2 3 ∷ []) (ws_columns ++ col 1 2 ∷ col 2 3 ∷ col 3 3 ∷ run_settings_columns) (page_to 4)
 
 abbrev pub list_ws_names : List (List ℕ)
 list_ws_names = st.ws_names ++ codes "name" ∷ codes "keep" ∷ codes "number" ∷ st.run_settings_names
@@ -124,12 +124,12 @@ module _ (s : Schema) (at tree : ℕ) (h : StandsAt s (codes "ws") ws_table at t
   unfolding tests
   no_tests cx so_far = refl
 
-  pub list_ws_named : named s st.list_ws_core (st.by_column (codes "name")) no_page ≡ Ok ((joined_draft list_ws_rest tree (with_both keepings versions) 2), list_ws_names, (ws_orders ++ Some Binary ∷ Some Binary ∷ Some Binary ∷ run_settings_orders))
+  pub list_ws_named : named s st.list_ws_core (st.by_column (codes "name")) (page_to 2) ≡ Ok ((joined_draft list_ws_rest tree (with_both keepings versions) 2), list_ws_names, (ws_orders ++ Some Binary ∷ Some Binary ∷ Some Binary ∷ run_settings_orders))
   unfolding composed
   list_ws_named = rw (h.named, k.named, v.named, columns_are, h.found, no_tests list_ws_inside (read_so_far 99_989 by_bytes))
       (rw (k.found, joins_keeping _, v.found, joins_version _, those_after) (rw (no_tests (inside s (list_ws_level list_ws_shown) false) (read_so_far 99_962 nothing), by_name) refl))
 
-  pub list_ws_within_named : named s st.list_ws_within_core (st.by_column (codes "name")) no_page ≡ Ok ((joined_draft list_ws_within_rest tree (with_both keepings versions) 2), list_ws_names, (ws_orders ++ Some Binary ∷ Some Binary ∷ Some Binary ∷ run_settings_orders))
+  pub list_ws_within_named : named s st.list_ws_within_core (st.by_column (codes "name")) (page_to 4) ≡ Ok ((joined_draft list_ws_within_rest tree (with_both keepings versions) 2), list_ws_names, (ws_orders ++ Some Binary ∷ Some Binary ∷ Some Binary ∷ run_settings_orders))
   unfolding composed
   list_ws_within_named = rw (h.named, k.named, v.named, columns_are, h.found, no_tests list_ws_inside (read_so_far 99_989 by_bytes))
       (rw (k.found, joins_keeping _, v.found, joins_version _, those_within) (rw (no_tests (inside s (list_ws_level list_ws_shown) false) (read_so_far 99_954 nothing), by_name_within) refl))

@@ -1,10 +1,11 @@
 -- What the texts of the list of workspaces mean, in each schema that has the tables ws, keeping and version.
-use Rattle.std.proofs.Common.{◌≡◌, ℕ, List, [], ◌∷◌, ◌++◌, codes, Some, None, Ok, refl}
+use Rattle.std.proofs.Common.{◌≡◌, ℕ, List, [], ◌∷◌, ◌++◌, codes, Some, Ok, refl}
 use Rattle.sqlite_value.specs.declared.keys.Collation.TheVariants.{Binary}
 use Rattle.sqlite_schema.specs.declared.schema.Schema.{Schema}
 use Rattle.sqlite_schema.specs.declared.command.Command.TheVariants.{Select}
 use Rattle.sqlite_ast.specs.declared.Statement.TheVariants as written
 use Rattle.sqlite_ast.specs.declared.Select as ast
+use Rattle.sqlite_ast.specs.declared.Expr.TheVariants.{Parameter}
 use Rattle.sqlite_resolve.specs.Compile.{first, command, timed, returning}
 use Rattle.sqlite_resolve.specs.Program.{program}
 use Rattle.sqlite_tied.specs.Compute.{everything}
@@ -19,13 +20,13 @@ use Rattle.statements.proofs.Meaning.{Means, means, some_parsed, as_read}
 use Rattle.statements.proofs.Reading.{read_is}
 use Rattle.statements.proofs.Writes.{plain_program}
 use Rattle.statements.proofs.Listed.{joined_listing}
-use Rattle.statements.proofs.Commands.{no_page, joined_draft}
+use Rattle.statements.proofs.Commands.{page_to, joined_draft}
 
 abbrev pub list_ws_text : List ℕ
 list_ws_text = LIST_WS.now
 
 abbrev pub list_ws_select : ast.Select
-list_ws_select = st.select st.list_ws_core (st.by_column (codes "name")) None
+list_ws_select = st.select st.list_ws_core (st.by_column (codes "name")) (Some (Parameter 3))
 
 list_ws_reads : first list_ws_text ≡ Ok (as_read (some_parsed (first list_ws_text)) (written.Select list_ws_select))
 unfolding everything
@@ -38,7 +39,7 @@ abbrev pub list_ws_within_text : List ℕ
 list_ws_within_text = LIST_WS_WITHIN.now
 
 abbrev pub list_ws_within_select : ast.Select
-list_ws_within_select = st.select st.list_ws_within_core (st.by_column (codes "name")) None
+list_ws_within_select = st.select st.list_ws_within_core (st.by_column (codes "name")) (Some (Parameter 5))
 
 list_ws_within_reads : first list_ws_within_text ≡ Ok (as_read (some_parsed (first list_ws_within_text)) (written.Select list_ws_within_select))
 unfolding everything
@@ -56,7 +57,7 @@ module _ (s : Schema) (at tree : ℕ) (h : StandsAt s (codes "ws") ws_table at t
   list_ws_is : (base : ℕ) → command s [] base (written.Select list_ws_select) ≡ Ok (Select (plain_program (joined_listing list_ws_rest tree (with_both keepings versions) 2)) list_ws_names)
   unfolding everything
   list_ws_is base =
-      read_is s list_ws_select st.list_ws_core (st.by_column (codes "name")) no_page ((joined_draft list_ws_rest tree (with_both keepings versions) 2), list_ws_names, (ws_orders ++ Some Binary ∷ Some Binary ∷ Some Binary ∷ run_settings_orders)) refl refl refl refl refl (λ again. refl) (list_ws_named s at tree h keep_at keepings k version_at versions v) (plain_program (joined_listing list_ws_rest tree (with_both keepings versions) 2)) list_ws_fits base
+      read_is s list_ws_select st.list_ws_core (st.by_column (codes "name")) (page_to 2) ((joined_draft list_ws_rest tree (with_both keepings versions) 2), list_ws_names, (ws_orders ++ Some Binary ∷ Some Binary ∷ Some Binary ∷ run_settings_orders)) refl refl refl refl refl (λ again. refl) (list_ws_named s at tree h keep_at keepings k version_at versions v) (plain_program (joined_listing list_ws_rest tree (with_both keepings versions) 2)) list_ws_fits base
 
   pub list_ws_means : Means s (Select (plain_program (joined_listing list_ws_rest tree (with_both keepings versions) 2)) list_ws_names) list_ws_text
   unfolding timed returning
@@ -69,7 +70,7 @@ module _ (s : Schema) (at tree : ℕ) (h : StandsAt s (codes "ws") ws_table at t
   list_ws_within_is : (base : ℕ) → command s [] base (written.Select list_ws_within_select) ≡ Ok (Select (plain_program (joined_listing list_ws_within_rest tree (with_both keepings versions) 2)) list_ws_names)
   unfolding everything
   list_ws_within_is base =
-      read_is s list_ws_within_select st.list_ws_within_core (st.by_column (codes "name")) no_page ((joined_draft list_ws_within_rest tree (with_both keepings versions) 2), list_ws_names, (ws_orders ++ Some Binary ∷ Some Binary ∷ Some Binary ∷ run_settings_orders)) refl refl refl refl refl (λ again. refl) (list_ws_within_named s at tree h keep_at keepings k version_at versions v) (plain_program (joined_listing list_ws_within_rest tree (with_both keepings versions) 2)) list_ws_within_fits base
+      read_is s list_ws_within_select st.list_ws_within_core (st.by_column (codes "name")) (page_to 4) ((joined_draft list_ws_within_rest tree (with_both keepings versions) 2), list_ws_names, (ws_orders ++ Some Binary ∷ Some Binary ∷ Some Binary ∷ run_settings_orders)) refl refl refl refl refl (λ again. refl) (list_ws_within_named s at tree h keep_at keepings k version_at versions v) (plain_program (joined_listing list_ws_within_rest tree (with_both keepings versions) 2)) list_ws_within_fits base
 
   pub list_ws_within_means : Means s (Select (plain_program (joined_listing list_ws_within_rest tree (with_both keepings versions) 2)) list_ws_names) list_ws_within_text
   unfolding timed returning

@@ -1,7 +1,7 @@
 -- What the queries on the table ws read of its rows.
 use Rattle.std.specs.List.{AllZip}
-use Rattle.std.proofs.Common.{◌≡◌, ◌≢◌, ◌∙◌, sym, ap, Bool, true, false, ◌&&◌, ℕ, List, [], ◌∷◌, find, Option, Some, None, option_map, codes, refl, ◌==◌, eq-eqb}
-use Rattle.sqlite_value.specs.declared.value.Value.TheVariants.{Text}
+use Rattle.std.proofs.Common.{◌≡◌, ◌≢◌, ◌∙◌, sym, ap, Bool, true, false, ◌&&◌, ℕ, ℤ, List, [], ◌∷◌, find, Option, Some, None, option_map, codes, refl, ◌==◌, eq-eqb}
+use Rattle.sqlite_value.specs.declared.value.Value.TheVariants.{Text, Int}
 use Rattle.sqlite_value.specs.Order.{Row, column}
 use Rattle.sqlite_sql.specs.Query.{Join, left, end}
 use Rattle.sqlite_sql.specs.Term.{Env}
@@ -15,12 +15,12 @@ use Rattle.statements.specs.Rows.{Kept, WsRow, VersionRow, KeepingRow, stored, w
 use Rattle.statements.specs.Tables.{Tables, Holds, ws_layout, version_layout, keeping_layout}
 use Rattle.statements.specs.Changes.{is_ws, is_ws_of, is_keeping, is_version}
 use Rattle.statements.specs.Finds.{workspace_of, workspaces_of, keep_of, is_one_less, is_version_before, version_before}
-use Rattle.statements.specs.Calls.{FirstRow, FirstRows, Pins, IsWorkspace, IsNamedRow}
+use Rattle.statements.specs.Calls.{FirstRow, FirstRows, LimitsTo, Pins, IsWorkspace, IsNamedRow}
 use Rattle.statements.specs.declared.rows.NamedWorkspace.{NamedWorkspace}
 use Rattle.statements.specs.Listings.{named_row, is_behind, workspace_rows_after, later_of, end_of, WorkspacesApart}
 use Rattle.statements.proofs.Held.{IsHeld, wss_held, versions_held, keepings_held}
 use Rattle.statements.proofs.NameLists.{by_text, same_text as alike, wss_apart, names_within}
-use Rattle.statements.proofs.Listed.{Ends}
+use Rattle.statements.proofs.Listed.{Ends, limit_enough}
 use Rattle.statements.proofs.Lefts.{row_or, left_is}
 use Rattle.statements.proofs.Own.{stored_tree}
 use Rattle.statements.proofs.Prefixes.{within, all_admitted}
@@ -133,20 +133,20 @@ module _ (old new : State) (t : Tables) (h : Holds old.now t) where
       (stored_tree old.now.trees (tree_of old.now.schema version_table.name) made.own.place.low ∙ made.rows) (of_version_before 3) ((Text org ∷ more) ∷ stored ws_cells x ∷ kept_row org x ∷ [])
       (λ y. two_texts_one_less y.1.org org y.1.ws x.1.name y.1.it.number x.1.it.next_version) (ascending_weaker _ _ (λ a b. one_version org x.1.name x.1.it.next_version a b) t.versions apart.versions) terms end
 
-  pub list_ws_shows : (org after : List ℕ) (most : ℕ) (rows : List Row) (wss : List NamedWorkspace) → WorkspacesApart t → FirstRows most list_ws_text (Text org ∷ Text after ∷ []) old new rows → AllZip IsNamedRow rows wss
+  pub list_ws_shows : (org after : List ℕ) (most : ℕ) (limit : ℤ) → LimitsTo most limit → (rows : List Row) (wss : List NamedWorkspace) → WorkspacesApart t → FirstRows most list_ws_text (Text org ∷ Text after ∷ Int limit ∷ []) old new rows → AllZip IsNamedRow rows wss
       → wss ≡ workspace_rows_after org after [] most t
-  list_ws_shows org after most rows wss apart first read =
-      names_within ws_cells ws_table old new held.own t.wss held.rows list_ws_text (Text org ∷ Text after ∷ []) list_ws_rest 2 list_ws_names joined (both_rows org) (both_found org (Text after ∷ []) apart)
+  list_ws_shows org after most limit limits rows wss apart first read =
+      names_within ws_cells ws_table old new held.own t.wss held.rows list_ws_text (Text org ∷ Text after ∷ Int limit ∷ []) list_ws_rest 2 list_ws_names joined (both_rows org) (both_found org (Text after ∷ Int limit ∷ []) apart)
       IsNamedRow (λ x. x.1.name) (λ x. x.1.it) (named_row org t) (λ x y told. named_workspace_read x.1.name x.1.it _ _ (keep_of org x.1.name t) (version_before org x.1.name x.1.it.next_version t) (kept_cell org x) (before_cell org x) y told)
-      (λ x y. by_text x.1.name y.1.name) (list_ws_means old.now.schema _ _ held.own.place _ _ kept.own.place _ _ made.own.place) (λ l. refl) (is_ws_of org) (λ n. is_behind after n && admits [] n)
-      (λ x. text_after x.1.org org x.1.name after ∙ ap (λ b. bytes_eq x.1.org org && b) (all_admitted (is_behind after x.1.name) x.1.name)) (wss_apart org t.wss apart.wss) most rows wss first read
+      (λ x y. by_text x.1.name y.1.name) (list_ws_means old.now.schema _ _ held.own.place _ _ kept.own.place _ _ made.own.place) most (λ l. limit_enough most limit limits l) (is_ws_of org) (λ n. is_behind after n && admits [] n)
+      (λ x. text_after x.1.org org x.1.name after ∙ ap (λ b. bytes_eq x.1.org org && b) (all_admitted (is_behind after x.1.name) x.1.name)) (wss_apart org t.wss apart.wss) rows wss first read
 
-  pub list_ws_within_shows : (org after prefix : List ℕ) → prefix ≢ [] → (most : ℕ) (rows : List Row) (wss : List NamedWorkspace) → WorkspacesApart t
-      → FirstRows most list_ws_within_text (Text org ∷ Text after ∷ Text (later_of after prefix) ∷ Text (end_of prefix) ∷ []) old new rows → AllZip IsNamedRow rows wss
+  pub list_ws_within_shows : (org after prefix : List ℕ) → prefix ≢ [] → (most : ℕ) (limit : ℤ) → LimitsTo most limit → (rows : List Row) (wss : List NamedWorkspace) → WorkspacesApart t
+      → FirstRows most list_ws_within_text (Text org ∷ Text after ∷ Text (later_of after prefix) ∷ Text (end_of prefix) ∷ Int limit ∷ []) old new rows → AllZip IsNamedRow rows wss
       → wss ≡ workspace_rows_after org after prefix most t
-  list_ws_within_shows org after prefix some most rows wss apart first read =
-      names_within ws_cells ws_table old new held.own t.wss held.rows list_ws_within_text (Text org ∷ Text after ∷ Text (later_of after prefix) ∷ Text (end_of prefix) ∷ []) list_ws_within_rest 2 list_ws_names joined (both_rows org) (both_found org (Text after ∷ Text (later_of after prefix) ∷ Text (end_of prefix) ∷ []) apart)
+  list_ws_within_shows org after prefix some most limit limits rows wss apart first read =
+      names_within ws_cells ws_table old new held.own t.wss held.rows list_ws_within_text (Text org ∷ Text after ∷ Text (later_of after prefix) ∷ Text (end_of prefix) ∷ Int limit ∷ []) list_ws_within_rest 2 list_ws_names joined (both_rows org) (both_found org (Text after ∷ Text (later_of after prefix) ∷ Text (end_of prefix) ∷ Int limit ∷ []) apart)
       IsNamedRow (λ x. x.1.name) (λ x. x.1.it) (named_row org t) (λ x y told. named_workspace_read x.1.name x.1.it _ _ (keep_of org x.1.name t) (version_before org x.1.name x.1.it.next_version t) (kept_cell org x) (before_cell org x) y told)
-      (λ x y. by_text x.1.name y.1.name) (list_ws_within_means old.now.schema _ _ held.own.place _ _ kept.own.place _ _ made.own.place) (λ l. refl) (is_ws_of org) (λ n. is_behind after n && admits prefix n)
+      (λ x y. by_text x.1.name y.1.name) (list_ws_within_means old.now.schema _ _ held.own.place _ _ kept.own.place _ _ made.own.place) most (λ l. limit_enough most limit limits l) (is_ws_of org) (λ n. is_behind after n && admits prefix n)
       (λ x. then_term (same_text x.1.org org) (then_term (at_texts _ Gt x.1.name after) (then_term (at_texts _ Ge x.1.name (later_of after prefix)) (last_term (at_texts _ Lt x.1.name (end_of prefix)))))
-      ∙ ap (λ b. bytes_eq x.1.org org && b) (within after prefix x.1.name some)) (wss_apart org t.wss apart.wss) most rows wss first read
+      ∙ ap (λ b. bytes_eq x.1.org org && b) (within after prefix x.1.name some)) (wss_apart org t.wss apart.wss) rows wss first read

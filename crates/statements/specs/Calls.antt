@@ -1,5 +1,5 @@
 -- What a text that is run does; what a query gives: the first row of its answer, or none, and the value that this row is read as.
-use Rattle.std.specs.Prelude.{◌≡◌, ◌⊎◌, ◌≤◌, ◌==◌, length, ⊤, ℕ, ℤ, pos, Bool, not, List, [], Option, Some, None, Result, Ok, Err, IfOk, OnOk, OnErr}
+use Rattle.std.specs.Prelude.{◌≡◌, ◌⊎◌, ◌<◌, ◌≤◌, ◌==◌, ◌^◌, length, ⊤, ℕ, ℤ, pos, negsuc, Bool, not, List, [], Option, Some, None, Result, Ok, Err, IfOk, OnOk, OnErr}
 use Rattle.std.specs.List.{AllZip}
 use Rattle.std.specs.Ordering.{int_eq}
 use Rattle.sqlite_ast.specs.declared.Select.{Select}
@@ -43,6 +43,10 @@ FirstRow text params old new (Some row) = QueriesRow text params old new (Ok row
 -- The rows begin an answer, and are as many as were wanted; or they are all of it, and no more than that.
 abbrev pub FirstRows : ℕ → List ℕ → Row → State → State → List Row → Type 0
 FirstRows most text params old new rows = (Begins text params old rows × (length rows ≡ most)) ⊎ (Shown text params old new rows × (length rows ≤ most))
+
+-- by this number LIMIT lets so many rows through; where SQL has no number for so many it is -1, which lets all through
+abbrev pub LimitsTo : ℕ → ℤ → Type 0
+LimitsTo most n = ((most < 2 ^ 63) × (n ≡ pos most)) ⊎ ((2 ^ 63 ≤ most) × (n ≡ negsuc 0))
 
 -- A query leaves what it reads as it was; where it fails, a transaction may be rolled back.
 abbrev pub IsCalm : {X E : Type 0} → State → State → Result X E → Type 0

@@ -51,11 +51,12 @@ pub record Alters (Change : Database → Database → Type 0) (old new : State) 
 abbrev pub AltersBy : {X E : Type 0} → (Database → Database → Type 0) → State → State → Result X E → Type 0
 AltersBy Change old new result = HasCleanDisk new → IsTrue old.in_transaction → OnOk result (Alters Change old new) × OnErr result (KeepsCommit old new)
 
--- What making tables promises: the transaction stays that of the same connection, the schema changes so, and no fault is forgotten.
+-- What making tables promises: the transaction stays that of the same connection, the schema changes so, no fault is forgotten, and a shield stays.
 pub record MakesBy {S X E : Type 0} (g : Ghosts S) (Change : Database → Database → Type 0) (old new : Transaction S) (result : Result X E) : Type 0 where
   pub same_reference : new.conn.ghost_name ≡ old.conn.ghost_name
   pub made : AltersBy Change (state g old.conn.now) (state g new.conn.now) result
   pub clean : doubt (state g old.conn.now).is_clean ≤ doubt (state g new.conn.now).is_clean
+  pub shield : (state g old.conn.now).IsShielded → (state g new.conn.now).IsShielded
 
 -- The database has the newest schema, with no row but the one that says so, and each table that was there is kept.
 pub record HasSchema (old new : Database) : Type 0 where

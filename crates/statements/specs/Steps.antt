@@ -56,11 +56,12 @@ pub record Writes {S X E : Type 0} (g : Ghosts S) (law : Tables → Type 0) (cha
   pub changed : Changes law change (state g old.conn.now) (state g new.conn.now) result
   pub survives : Survives (state g old.conn.now) (state g new.conn.now) (λ _. ⊥)
 
--- What any number of statements in a transaction promise: the same of any rows, but of the disk that it was clean so far.
+-- What any number of statements in a transaction promise: the same of any rows, but of the disk that it was clean so far, and that a shield stays.
 pub record Steps {S X E : Type 0} (g : Ghosts S) (change : Tables → Tables) (old new : Transaction S) (result : Result X E) : Type 0 where
   pub same_reference : new.conn.ghost_name ≡ old.conn.ghost_name
   pub changed : Changes AnyRows change (state g old.conn.now) (state g new.conn.now) result
   pub so_far : HasCleanDisk (state g new.conn.now) → HasCleanDisk (state g old.conn.now)
+  pub shield : (state g old.conn.now).IsShielded → (state g new.conn.now).IsShielded
 
 -- where they are done, the result tells this of the rows before them
 abbrev pub Tells : {X E : Type 0} → (X → Tables → Type 0) → State → State → Result X E → Type 0
@@ -87,10 +88,11 @@ pub record LeavesAsIs (old new : State) : Type 0 where
   pub committed : new.committed ≡ old.committed
   pub mode : new.in_transaction ≡ old.in_transaction
 
--- What any number of reads promise: no transaction begins, the result tells this of the rows, nothing changes, and the disk was clean so far; after a failure nothing is committed.
+-- What any number of reads promise: no transaction begins, the result tells this of the rows, nothing changes, the disk was clean so far, and a shield stays; after a failure nothing is committed.
 pub record Sees {S X E : Type 0} (g : Ghosts S) (says : X → Tables → Type 0) (old new : Held S) (result : Result X E) : Type 0 where
   pub mode : old.in_transaction ≡ false → new.in_transaction ≡ false
   pub sees :
       HasCleanDisk (state g new)
       → IfOk result (λ x. (t : Tables) → Holds (state g old).now t → says x t) × (OnOk result (LeavesAsIs (state g old) (state g new)) × OnErr result (KeepsCommit (state g old) (state g new)))
   pub so_far : HasCleanDisk (state g new) → HasCleanDisk (state g old)
+  pub shield : (state g old).IsShielded → (state g new).IsShielded

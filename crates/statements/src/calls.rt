@@ -7,7 +7,7 @@ ghost use Rattle.sqlite.specs.Held.{state};
 ghost use Rattle.sqlite.specs.State.{HasCleanDisk, Survives, Shown};
 ghost use Rattle.basis.specs.declared.numbers.TheConstants.{MAX_MOMENT};
 ghost use Rattle.statements.specs.Rows.{number, role_code, status_code, action_code, flag, flag_at};
-ghost use Rattle.statements.specs.Calls.{Wrote, WroteAny, IsQuery, FirstRow, FirstRows, IsCalm, IsRead, AreRead, IsOrganization, IsVersionRow, IsTextOrNull, IsRunRow, IsNamedRole, IsNumberOrNull, IsBound, IsBody, IsNumber, IsRole, IsStatusCell, IsActionOrNull, IsStatus, IsCount};
+ghost use Rattle.statements.specs.Calls.{Wrote, WroteAny, IsQuery, FirstRow, FirstRows, LimitsTo, IsCalm, IsRead, AreRead, IsOrganization, IsVersionRow, IsTextOrNull, IsRunRow, IsNamedRole, IsNumberOrNull, IsBound, IsBody, IsNumber, IsRole, IsStatusCell, IsActionOrNull, IsStatus, IsCount};
 
 use crate::rows::{NamedRole, Organization};
 use basis::{
@@ -129,6 +129,18 @@ pub fn signed(n: u64) -> i64
     ensures { result ≡ pos n }
 {
     n as i64
+}
+
+/// How many rows a query gives at most, as LIMIT has it. SQL has no number from 2^63 on: for such it is -1, which is no limit.
+pub(crate) fn limit(most: usize) -> i64
+    ensures { LimitsTo most result }
+{
+    let most = most as u64;
+    if most <= i64::MAX as u64 {
+        signed(most)
+    } else {
+        -1
+    }
 }
 
 /// The seconds of a moment since 1970 (UTC), as SQL has them.

@@ -11,8 +11,8 @@ ghost use Rattle.statements.specs.Finds.{workspace_of, workspaces_of};
 ghost use Rattle.basis.specs.declared.rows.Holder.TheVariants.{Nobody, Lock, Run as HeldByRun};
 
 use crate::calls::{
-    Read, count_of, first_row, first_rows, flag_in, lock_id_of, name_of, number_of, optional_keep,
-    optional_lock_id, optional_number, read_all, read_one, update, write,
+    Read, count_of, first_row, first_rows, flag_in, limit, lock_id_of, name_of, number_of,
+    optional_keep, optional_lock_id, optional_number, read_all, read_one, update, write,
 };
 use crate::keepings;
 use crate::rows::{NamedWorkspace, Workspace};
@@ -93,7 +93,7 @@ pub fn find<S: Alter>(
 }
 
 const LIST_WS: &str =
-    "SELECT kind, lock_id, lock_text, run, released, next_version, next_run, name, keep, number, auto FROM ws LEFT JOIN keeping ON keeping.org = ?1 AND keeping.ws = name LEFT JOIN version ON version.org = ?1 AND version.ws = name AND number = next_version - 1 WHERE ws.org = ?1 AND name > ?2 ORDER BY name";
+    "SELECT kind, lock_id, lock_text, run, released, next_version, next_run, name, keep, number, auto FROM ws LEFT JOIN keeping ON keeping.org = ?1 AND keeping.ws = name LEFT JOIN version ON version.org = ?1 AND version.ws = name AND number = next_version - 1 WHERE ws.org = ?1 AND name > ?2 ORDER BY name LIMIT ?3";
 
 fn list_all<S: Alter>(
     alloc: Global,
@@ -104,13 +104,14 @@ fn list_all<S: Alter>(
 ) -> Result<Items<NamedWorkspace>, Error>
     ensures { Queries S.Store (EqualsWhere WorkspacesApart (workspace_rows_after org.now after.now [] most)) conn.old conn.new result }
 {
-    let rows = first_rows(alloc, conn, LIST_WS, params![org, after], most);
+    let limit = limit(most);
+    let rows = first_rows(alloc, conn, LIST_WS, params![org, after, limit], most);
     read_all(alloc, rows)
 }
 
 // Of the two lower bounds the last is where the scan begins.
 const LIST_WS_WITHIN: &str =
-    "SELECT kind, lock_id, lock_text, run, released, next_version, next_run, name, keep, number, auto FROM ws LEFT JOIN keeping ON keeping.org = ?1 AND keeping.ws = name LEFT JOIN version ON version.org = ?1 AND version.ws = name AND number = next_version - 1 WHERE ws.org = ?1 AND name > ?2 AND name >= ?3 AND name < ?4 ORDER BY name";
+    "SELECT kind, lock_id, lock_text, run, released, next_version, next_run, name, keep, number, auto FROM ws LEFT JOIN keeping ON keeping.org = ?1 AND keeping.ws = name LEFT JOIN version ON version.org = ?1 AND version.ws = name AND number = next_version - 1 WHERE ws.org = ?1 AND name > ?2 AND name >= ?3 AND name < ?4 ORDER BY name LIMIT ?5";
 
 /// Where a scan for names that begin with a prefix and come after a name begins: at the greater of the two.
 fn beginning<'v>(after: &'v str, prefix: &'v str) -> &'v str
@@ -155,11 +156,12 @@ fn list_within<'v, S: Alter>(
         }
     };
     let from = beginning(after, prefix.as_str());
+    let limit = limit(most);
     let rows = first_rows(
         alloc,
         conn,
         LIST_WS_WITHIN,
-        params![org, after, from, end.as_str()],
+        params![org, after, from, end.as_str(), limit],
         most,
     );
     read_all(alloc, rows)

@@ -5,7 +5,9 @@ ghost use Rattle.sqlite_wal.specs.Files.{image_at};
 ghost use Rattle.sqlite.specs.Files.{file_state, IsOpened, IsBlankAs};
 ghost use Rattle.sqlite.specs.Start.{FindsIn};
 ghost use Rattle.sqlite.specs.State.{HasCleanDisk};
+ghost use Rattle.sqlite_disk.specs.Modelled.{calls_of, start_of};
 ghost use Rattle.system.specs.Files.{OpensOn, IsClosedOn};
+ghost use Rattle.system.specs.Shields.{AreCleanOrCollided};
 
 use crate::replays::replayed;
 use basis::{Bytes, Down};
@@ -15,9 +17,9 @@ use program::outside::Files;
 use program::reasons::{Cause, OpenFault, OtherSchema};
 use serve::Step;
 use sqlite::{Alter, Connection, Error, ErrorCode, Row};
-use sqlite_disk::{Disk, Start};
+use sqlite_disk::{Calls, Disk, Start};
 use sqlite_pager::Options;
-use sqlite_std_file::{FileFrom, OpenError};
+use sqlite_std_file::{FileFrom, Host, OpenError};
 use sqlite_store::FileStore;
 use std::alloc::Global;
 use std::fs::OpenOptions;
@@ -151,6 +153,7 @@ fn open_database<S: Start>(
 ) -> Result<Connection<FileStore<FileFrom<S>>>, Cause>
     ensures opened { IfOk result (λ conn. HasCleanDisk (file_state conn) → IsOpened conn) }
     ensures found { IfOk result (λ conn. HasCleanDisk (file_state conn) → FindsIn (image_at S.Start) (file_state conn)) }
+    ensures guarded { IfOk result (λ conn. HasCleanDisk (file_state conn) → (file_state conn).IsShielded) }
     ensures sums { IfOk result (λ conn. HasCleanDisk (file_state conn) → IsBlankAs true (image_at S.Start) → (view conn.store).has_sums ≡ true) }
     ensures idle { IfOk result (λ conn. conn.in_transaction ≡ false) }
 {
@@ -200,8 +203,10 @@ fn unopened_fault<S: Alter + Drop>(unopened: Unopened<S>) -> OpenFault {
 
 /// Opens the store in a file. A file that isn't there is made, for its owner alone and with no
 /// organization; one of another schema stays as it is. Nothing ties what is found to the path, but to what `start` stands for.
+/// Where the disk answered the open's own reads as it should, the store is shielded from then on.
 pub fn open_file<S: Start>(rt: &HostRuntime, path: &str, start: S) -> Result<FileKeep<S>, OpenFault>
-    ensures { IfOk result (λ keep. ⟦<FileKeep<S> as Keep>⟧.clean keep → OpensOn (image_at S.Start) (⟦<FileKeep<S> as Keep>⟧.rows keep) (⟦<FileKeep<S> as Keep>⟧.sound keep)) }
+    ensures opens { IfOk result (λ keep. ⟦<FileKeep<S> as Keep>⟧.clean keep → OpensOn (image_at S.Start) (⟦<FileKeep<S> as Keep>⟧.rows keep) (⟦<FileKeep<S> as Keep>⟧.sound keep)) }
+    ensures guarded { IfOk result (λ keep. ⟦<FileKeep<S> as Keep>⟧.clean keep → ⟦<FileKeep<S> as Keep>⟧.shielded keep) }
 {
     match make_private(rt, path) {
         Ok(()) => {}
@@ -218,9 +223,10 @@ pub fn open_file<S: Start>(rt: &HostRuntime, path: &str, start: S) -> Result<Fil
 }
 
 /// Closes the store, its log copied into the file, and gives the two files back. After an error all that
-/// was committed stands in the file and its log together.
+/// was committed stands in the file and its log together. The files of a shielded store are clean, or a digest has collided.
 pub fn close_file<S: Start>(keep: FileKeep<S>) -> Result<sqlite_disk::Files<FileFrom<S>>, Down>
-    ensures { IfOk result (λ files. IsClosedOn ⟦<FileFrom<S> as Disk>⟧ files (⟦<FileKeep<S> as Keep>⟧.rows keep) (⟦<FileKeep<S> as Keep>⟧.sound keep)) }
+    ensures closes { IfOk result (λ files. IsClosedOn ⟦<FileFrom<S> as Disk>⟧ files (⟦<FileKeep<S> as Keep>⟧.rows keep) (⟦<FileKeep<S> as Keep>⟧.sound keep)) }
+    ensures ends { IfOk result (λ files. ⟦<FileKeep<S> as Keep>⟧.shielded keep → AreCleanOrCollided ⟦<FileFrom<S> as Disk>⟧ (start_of S.Start) (λ file. ⟦<Host as Calls>⟧.history (calls_of file)) files) }
 {
     match keep.close().close_files() {
         Ok(files) => Ok(files),
@@ -250,7 +256,7 @@ impl<'a, S: Start> DiskFiles<'a, S> {
 impl<S: Start> Files<FileKeep<S>> for DiskFiles<'_, S> {
     // Nothing ties what is found to the path: until a file is opened, whatever path it has, it is that of `start`. Of
     // what lies at paths afterwards nothing is said here.
-    ghost holds = { λ files _ store. is_some files.start ≡ true → ⟦<FileKeep<S> as Keep>⟧.clean store → OpensOn (image_at S.Start) (⟦<FileKeep<S> as Keep>⟧.rows store) (⟦<FileKeep<S> as Keep>⟧.sound store) };
+    ghost holds = { λ files _ store. is_some files.start ≡ true → ⟦<FileKeep<S> as Keep>⟧.clean store → OpensOn (image_at S.Start) (⟦<FileKeep<S> as Keep>⟧.rows store) (⟦<FileKeep<S> as Keep>⟧.sound store) × ⟦<FileKeep<S> as Keep>⟧.shielded store };
 
     ghost copied = { λ _ _ store. (closed : _) × IsClosedOn ⟦<FileFrom<S> as Disk>⟧ closed (⟦<FileKeep<S> as Keep>⟧.rows store) (⟦<FileKeep<S> as Keep>⟧.sound store) };
 

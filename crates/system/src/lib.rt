@@ -3,6 +3,7 @@
 
 mod clock;
 mod files;
+mod laws;
 mod replays;
 mod running;
 mod sockets;
@@ -10,6 +11,7 @@ mod streams;
 
 pub use clock::SystemClock;
 pub use files::{DiskFiles, FileKeep, close_file, open_file};
+pub use laws::shielded_stores_are_clean_or_digests_collide;
 pub use running::run_here;
 pub use sockets::{LINGER_READS, LINGER_SECONDS, TcpSockets};
 pub use streams::TimedStream;

@@ -33,13 +33,13 @@ module _ (org ws : List ℕ) (t : Tables) (sound : IsSound t) (change : Change) 
   lawful_after = subst IsLawfulIfThere (sym ruled) (rules_are_lawful due.act due.now (seen_in o ws) due.range due.moment
       (subst IsLawfulIfThere (sym seen) (there_if IsLawful (workspace_by t org ws) (λ w e. (sound.workspaces org ws w e).lawful))))
 
-module _ (key_of : List ℕ → List ℕ) (org ws : List ℕ) (t : Tables) (sound : IsSound t) (change : Change) (takes : TakesEdit key_of org ws change.edit t) where
+module _ (keys : ℕ → List ℕ) (org ws : List ℕ) (t : Tables) (sound : IsSound t) (change : Change) (takes : TakesEdit keys org ws change.edit t) where
   -- the record of the organization has the changed workspace in its place
-  pub changed_own : (o : Organization) → record_of t org ≡ Some o → IsDue (seen_in o ws) change → record_of (changed_rows key_of org ws change t) org ≡ Some (placed o ws (changed_by change (get o.workspaces ws)))
+  pub changed_own : (o : Organization) → record_of t org ≡ Some o → IsDue (seen_in o ws) change → record_of (changed_rows keys org ws change t) org ≡ Some (placed o ws (changed_by change (get o.workspaces ws)))
   changed_own o e due =
-      subst (λ (w : Option Workspace). record_of (changed_rows key_of org ws change t) org ≡ Some (placed o ws (changed_by change w))) (sym (workspace_there t org ws o e))
-      (put_own org ws (changed_by change (workspace_by t org ws)) t (changed_rows key_of org ws change t) (changed_puts key_of org ws t sound change takes (lawful_after org ws t sound change o e due)) o e)
+      subst (λ (w : Option Workspace). record_of (changed_rows keys org ws change t) org ≡ Some (placed o ws (changed_by change w))) (sym (workspace_there t org ws o e))
+      (put_own org ws (changed_by change (workspace_by t org ws)) t (changed_rows keys org ws change t) (changed_puts keys org ws t sound change takes (lawful_after org ws t sound change o e due)) o e)
 
   -- the records of all others are as before
-  pub changed_other : (other : List ℕ) → other ≢ org → record_of (changed_rows key_of org ws change t) other ≡ record_of t other
-  changed_other other apart = put_other org ws (workspace_by (changed_rows key_of org ws change t) org ws) t (changed_rows key_of org ws change t) (changed_leaves key_of org ws t sound change takes) other apart
+  pub changed_other : (other : List ℕ) → other ≢ org → record_of (changed_rows keys org ws change t) other ≡ record_of t other
+  changed_other other apart = put_other org ws (workspace_by (changed_rows keys org ws change t) org ws) t (changed_rows keys org ws change t) (changed_leaves keys org ws t sound change takes) other apart

@@ -26,6 +26,7 @@ use Rattle.tables.proofs.There.{version_is_there, known_there, one_there}
 -- the steps so far
 pub record ClimbsSoFar (from at : ℕ) (old new : State) : Type 0 where
   pub so_far : HasCleanDisk new → HasCleanDisk old
+  pub shield : old.IsShielded → new.IsShielded
   pub climbs : HasCleanDisk new → Climbs from at old new
   pub is_open : HasCleanDisk new → IsTrue old.is_open → IsTrue new.is_open
 

@@ -236,15 +236,15 @@ module _ (org ws : List ℕ) (t : Tables) where
   abbrev one_more : Version → Option ℕ → Workspace → Workspace
   one_more v outgoing w = record w { next_version = v.number + 1; versions = left_above outgoing (w.versions ++ v ∷ []) }
 
-  module _ (sound : IsSound t) (key_of : List ℕ → List ℕ) (v : Version) (takes : TakesVersion key_of org ws v t) (outgoing : Option ℕ) where
+  module _ (sound : IsSound t) (keys : ℕ → List ℕ) (v : Version) (takes : TakesVersion keys org ws v t) (outgoing : Option ℕ) where
     abbrev with_number : Tables
     with_number = numbered_rows org ws v t
 
     abbrev versioned : Tables
-    versioned = versioned_rows key_of org ws v outgoing t
+    versioned = versioned_rows keys org ws v outgoing t
 
     come : Becomes (λ vs. left_above outgoing (vs ++ v ∷ [])) org ws with_number versioned
-    come = versions_come org ws t sound key_of v takes outgoing
+    come = versions_come org ws t sound keys v takes outgoing
 
     come_row : (a b : List ℕ) → workspace_of a b versioned ≡ workspace_of a b with_number
     come_row a b = ap (λ (wss : List (Kept WsRow)). option_map (λ (x : Kept WsRow). x.1.it) (find (is_ws a b) wss)) come.rest.wss
@@ -302,31 +302,31 @@ module _ (org ws : List ℕ) (t : Tables) where
 made_puts : (org ws : List ℕ) (t : Tables) → IsSound t → (settings : Settings) → workspace_of org ws t ≡ None → Stands org ws (Some (new_workspace settings)) t (made_rows org ws settings t)
 made_puts org ws t sound settings none = added_puts org ws t settings none (none_kept org ws t none sound) (ap (map (λ (x : Kept VersionRow). version_at t org ws x.1.it)) (no_version_rows t sound org ws none)) (ap (map (λ (x : Kept RunRow). x.1.it)) (no_run_rows t sound org ws none))
 
-module _ (key_of : List ℕ → List ℕ) (org ws : List ℕ) (t : Tables) (sound : IsSound t) where
+module _ (keys : ℕ → List ℕ) (org ws : List ℕ) (t : Tables) (sound : IsSound t) where
   -- ---- an edit
 
-  edited_puts : (edit : Edit) → TakesEdit key_of org ws edit t → Stands org ws (edited edit (workspace_of_rows t org ws)) t (edited_rows key_of org ws edit t)
+  edited_puts : (edit : Edit) → TakesEdit keys org ws edit t → Stands org ws (edited edit (workspace_of_rows t org ws)) t (edited_rows keys org ws edit t)
   edited_puts (Make settings) takes = made_puts org ws t sound settings takes
   edited_puts (Configure settings outgoing) takes = configured_puts org ws t sound settings outgoing
   edited_puts Remove takes = removed_puts org ws t sound
-  edited_puts (AddVersion v outgoing) takes = version_puts org ws t sound key_of v takes outgoing
+  edited_puts (AddVersion v outgoing) takes = version_puts org ws t sound keys v takes outgoing
   edited_puts Purge takes = purge_puts org ws t sound
   edited_puts (Hold id text) takes = row_puts org ws t (held_by (Lock id text)) (locked id text) (λ c k vs rs. refl)
   edited_puts (Release id) takes = row_puts org ws t (released_from id) (released id) (λ c k vs rs. refl)
   edited_puts (AddRun number ask created) takes = run_puts org ws t number ask created
   edited_puts (Report number action status frees) takes = report_puts org ws t number action status frees
 
-  changed_stands : (change : Change) → TakesEdit key_of org ws change.edit t → Stands org ws (changed_by change (workspace_of_rows t org ws)) t (changed_rows key_of org ws change t)
+  changed_stands : (change : Change) → TakesEdit keys org ws change.edit t → Stands org ws (changed_by change (workspace_of_rows t org ws)) t (changed_rows keys org ws change t)
   changed_stands change takes =
-      let u : Tables = edited_rows key_of org ws change.edit t in
+      let u : Tables = edited_rows keys org ws change.edit t in
       let first : Stands org ws (edited change.edit (workspace_of_rows t org ws)) t u = edited_puts change.edit takes in
-      let second : Stands org ws (option_map (started_if change.start) (workspace_of_rows u org ws)) u (changed_rows key_of org ws change t) = started_puts org ws u change.start in
-      subst (λ (w : Option Workspace). Stands org ws (option_map (started_if change.start) w) t (changed_rows key_of org ws change t)) first.own (stands_then org ws t u (changed_rows key_of org ws change t) first second)
+      let second : Stands org ws (option_map (started_if change.start) (workspace_of_rows u org ws)) u (changed_rows keys org ws change t) = started_puts org ws u change.start in
+      subst (λ (w : Option Workspace). Stands org ws (option_map (started_if change.start) w) t (changed_rows keys org ws change t)) first.own (stands_then org ws t u (changed_rows keys org ws change t) first second)
 
   -- whatever becomes of the workspace, all others are as before
-  pub changed_leaves : (change : Change) → TakesEdit key_of org ws change.edit t → Puts org ws (workspace_by (changed_rows key_of org ws change t) org ws) t (changed_rows key_of org ws change t)
+  pub changed_leaves : (change : Change) → TakesEdit keys org ws change.edit t → Puts org ws (workspace_by (changed_rows keys org ws change t) org ws) t (changed_rows keys org ws change t)
   changed_leaves change takes =
-      let u : Tables = changed_rows key_of org ws change t in
+      let u : Tables = changed_rows keys org ws change t in
       let stands = changed_stands change takes in
       record {
         orgs = stands.orgs;
@@ -337,14 +337,14 @@ module _ (key_of : List ℕ → List ℕ) (org ws : List ℕ) (t : Tables) (soun
       }
 
   -- a workspace that is lawful afterwards is changed as its rows are
-  pub changed_puts : (change : Change) → TakesEdit key_of org ws change.edit t → IsLawfulIfThere (changed_by change (workspace_by t org ws)) → Puts org ws (changed_by change (workspace_by t org ws)) t (changed_rows key_of org ws change t)
+  pub changed_puts : (change : Change) → TakesEdit keys org ws change.edit t → IsLawfulIfThere (changed_by change (workspace_by t org ws)) → Puts org ws (changed_by change (workspace_by t org ws)) t (changed_rows keys org ws change t)
   changed_puts change takes lawful =
       let leaves = changed_leaves change takes in
       record {
         orgs = leaves.orgs;
         tokens = leaves.tokens;
         bounds = leaves.bounds;
-        own = workspace_ordered (changed_rows key_of org ws change t) org ws ∙ ap (option_map ordered) (changed_stands change takes).own
+        own = workspace_ordered (changed_rows keys org ws change t) org ws ∙ ap (option_map ordered) (changed_stands change takes).own
             ∙ changed_ordered change (workspace_of_rows t org ws) (subst (λ (w : Option Workspace). IsLawfulIfThere (changed_by change w)) (workspace_ordered t org ws) lawful)
             ∙ ap (changed_by change) (sym (workspace_ordered t org ws));
         others = leaves.others;

@@ -94,9 +94,9 @@ two = record {
   keepings = (pos 1, record { org = globex; ws = prod; keep = 1 }) ∷ (pos 2, record { org = acme; ws = prod; keep = 2 }) ∷ [];
 }
 
--- the key that keeps a byte
-abbrev first_byte : List ℕ → List ℕ
-first_byte page = take 1 page
+-- the keys that keep a byte: each text begins with this one
+abbrev first_byte : ℕ → List ℕ
+first_byte place = codes "{"
 
 abbrev globex_has : Workspace → Option Organization
 globex_has w = Some (record { limit = 1; tokens = empty; workspaces = from_entries ((prod, w) ∷ []) })

@@ -1,5 +1,5 @@
 -- Steps inside one transaction, one after the other.
-use Rattle.std.proofs.Common.{◌≡◌, ℕ, true, List, is_some, IsTrue, Option, Some, None, Result, Ok, Err, OnOk, OnErr, ◌∙◌}
+use Rattle.std.proofs.Common.{◌≡◌, ℕ, true, List, [], is_some, IsTrue, Option, Some, None, Result, Ok, Err, OnOk, OnErr, ◌∙◌}
 use Rattle.sqlite_trees.specs.declared.store.Store.{Ghosts}
 use Rattle.sqlite.specs.Held.{state}
 use Rattle.sqlite.specs.State.{State, HasCleanDisk, KeepsCommit}
@@ -13,6 +13,10 @@ use Rattle.statements.proofs.Transactions.{moves_more}
 use Rattle.pages.proofs.Looking.{steps_then}
 use Rattle.texts.proofs.Many.{moves_as}
 use Rattle.tables.specs.Inner.Edits.{if_there, numbered_rows, FitsTwins, TakesVersion}
+
+-- where no page is put
+abbrev pub no_keys : ℕ → List ℕ
+no_keys place = []
 
 -- what was done of a workspace that was found is what comes of one that is there
 module _ (org ws : List ℕ) (f : Tables → Tables) (a b : State) (there : (t : Tables) → Holds a.now t → is_some (workspace_of org ws t) ≡ true) where
@@ -45,17 +49,20 @@ module _ {S : Type 0} (g : Ghosts S) where
     same_reference = all.same_reference;
     changed = λ clean inside. moves_there org ws f (state g a.conn.now) (state g c.conn.now) (found (so_far clean) inside) result (all.changed clean inside);
     so_far = all.so_far;
+    shield = all.shield;
   }
 
   -- a step, and then writes that may be none, which are steps on a connection that is open
   pub steps_then_all : {X Y E F : Type 0} (f h : Tables → Tables) (a b c : Transaction S) (x : X) (result : Result Y F) → Steps {E = E} g f a b (Ok x) → c.conn.ghost_name ≡ b.conn.ghost_name
-      → (IsTrue (state g b.conn.now).is_open → Steps g h b c result) → (HasCleanDisk (state g c.conn.now) → HasCleanDisk (state g b.conn.now)) → Steps g (λ t. h (f t)) a c result
-  steps_then_all f h a b c x result one same last so_far = record {
+      → (IsTrue (state g b.conn.now).is_open → Steps g h b c result) → (HasCleanDisk (state g c.conn.now) → HasCleanDisk (state g b.conn.now)) → ((state g b.conn.now).IsShielded → (state g c.conn.now).IsShielded)
+      → Steps g (λ t. h (f t)) a c result
+  steps_then_all f h a b c x result one same last so_far after = record {
     same_reference = same ∙ one.same_reference;
     changed = λ clean inside.
         let first = (one.changed (so_far clean) inside).0 in
         moves_more AnyRows AnyRows f h (state g a.conn.now) (state g b.conn.now) (state g c.conn.now) result (λ t any. tt) first ((last first.is_open).changed clean first.inside);
     so_far = λ clean. one.so_far (so_far clean);
+    shield = λ s. after (one.shield s);
   }
 
   -- what writes tell behind a step, they tell of the rows before it
@@ -73,6 +80,7 @@ module _ {S : Type 0} (g : Ghosts S) where
       same_reference = last.same_reference;
       changed = λ clean inside. (moves_as h k (state g b.conn.now) (state g c.conn.now) (is clean inside) (last.changed clean inside).0, tt);
       so_far = last.so_far;
+      shield = last.shield;
     }
 
     pub steps_as : {X Z D F : Type 0} (f : Tables → Tables) (a : Transaction S) (x : X) (z : Z) → Steps {E = D} g f a b (Ok x) → (law : Tables → Type 0)
@@ -85,16 +93,17 @@ module _ {S : Type 0} (g : Ghosts S) where
               let first = (one.changed (last.so_far clean) inside).0 in
               (moves_as (λ t. h (f t)) k (state g a.conn.now) (state g c.conn.now) (λ t holds. is t (told clean first.inside (f t) (first.rows t holds tt))) (both.changed clean inside).0, tt);
           so_far = both.so_far;
+          shield = both.shield;
         }
 
   -- what the steps tell by which a version comes
-  pub takes_by : {X D : Type 0} (key_of : List ℕ → List ℕ) (org ws : List ℕ) (v : Version) (a b c : Transaction S) (x : X)
+  pub takes_by : {X D : Type 0} (keys : ℕ → List ℕ) (org ws : List ℕ) (v : Version) (a b c : Transaction S) (x : X)
       → Steps {E = D} g (numbered_rows org ws v) a b (Ok x) → Tells {E = D} (λ _ t. is_some (workspace_of org ws t) ≡ true) (state g a.conn.now) (state g b.conn.now) (Ok x)
       → (HasCleanDisk (state g c.conn.now) → HasCleanDisk (state g b.conn.now))
       → (HasCleanDisk (state g c.conn.now) → IsTrue (state g b.conn.now).in_transaction → (t : Tables) → Holds (state g b.conn.now).now t → size_of org ws v.number t ≡ None)
-      → (HasCleanDisk (state g c.conn.now) → IsTrue (state g b.conn.now).in_transaction → (t : Tables) → Holds (state g b.conn.now).now t → FitsTwins key_of org ws v t)
-      → HasCleanDisk (state g c.conn.now) → IsTrue (state g a.conn.now).in_transaction → (t : Tables) → Holds (state g a.conn.now).now t → TakesVersion key_of org ws v t
-  takes_by key_of org ws v a b c x one found before fresh fits clean inside t holds =
+      → (HasCleanDisk (state g c.conn.now) → IsTrue (state g b.conn.now).in_transaction → (t : Tables) → Holds (state g b.conn.now).now t → FitsTwins keys org ws v t)
+      → HasCleanDisk (state g c.conn.now) → IsTrue (state g a.conn.now).in_transaction → (t : Tables) → Holds (state g a.conn.now).now t → TakesVersion keys org ws v t
+  takes_by keys org ws v a b c x one found before fresh fits clean inside t holds =
       let mid = before clean in
       let first = (one.changed mid inside).0 in
       record {

@@ -118,22 +118,22 @@ module _ {counted : Option Counted} (db : Database) (a : State) (s : IsSoundKeep
   module _ (b : State) where
     -- ---- a change of a workspace
 
-    module _ (key_of : List ℕ → List ℕ) (org ws : List ℕ) (change : Change) (done : Commits (changed_rows key_of org ws change) (TakesEdit key_of org ws change.edit) a b) where
-      moves : (t : Tables) → Holds db t → Holds b.committed (changed_rows key_of org ws change t)
+    module _ (keys : ℕ → List ℕ) (org ws : List ℕ) (change : Change) (done : Commits (changed_rows keys org ws change) (TakesEdit keys org ws change.edit) a b) where
+      moves : (t : Tables) → Holds db t → Holds b.committed (changed_rows keys org ws change t)
       moves t h = done.rows t (subst (λ (d : Database). Holds d t) (sym (s.tied done.was_open)) h)
 
-      takes : (t : Tables) → Holds db t → TakesEdit key_of org ws change.edit t
+      takes : (t : Tables) → Holds db t → TakesEdit keys org ws change.edit t
       takes t h = done.tells t (subst (λ (d : Database). Holds d t) (sym (s.tied done.was_open)) h)
 
       pub applied_own : (o : Organization) → records_of db org ≡ Some o → IsDue (seen_in o ws) change → records_of b.committed org ≡ Some (placed o ws (changed_by change (get o.workspaces ws)))
-      applied_own o there due = store_changed_own db b.committed s.store key_of org ws change moves takes o there due
+      applied_own o there due = store_changed_own db b.committed s.store keys org ws change moves takes o there due
 
       pub applied_other : (q : List ℕ) → q ≢ org → records_of b.committed q ≡ records_of db q
-      applied_other q apart = store_changed_other db b.committed s.store key_of org ws change moves takes q apart
+      applied_other q apart = store_changed_other db b.committed s.store keys org ws change moves takes q apart
 
       pub applied_keeps : (o : Organization) → IsTrue (is_ws_name ws) → records_of db org ≡ Some o → IsDue (seen_in o ws) change → IsSoundKeep b.committed (changed_count counted org ws change.edit) b
       applied_keeps o named there due = record {
-        store = store_changed_keeps db b.committed s.store key_of org ws change moves takes o named there due;
+        store = store_changed_keeps db b.committed s.store keys org ws change moves takes o named there due;
         counts = changed_is (records_of db) (records_of b.committed) org ws change applied_other o there (applied_own o there due) counted s.counts;
         tied = λ _. refl;
       }

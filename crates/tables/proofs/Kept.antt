@@ -86,10 +86,10 @@ org_there t org cap e = any_is_found (is_org org) t.orgs ∙ sym (some_mapped (f
 -- ---- a change of a workspace
 
 -- a due change of a workspace of sound tables leaves them sound
-pub changed_keeps : (key_of : List ℕ → List ℕ) (org ws : List ℕ) (t : Tables) → IsSound t → (change : Change) → TakesEdit key_of org ws change.edit t → (o : Organization) → IsTrue (is_ws_name ws) → record_of t org ≡ Some o
-    → IsDue (seen_in o ws) change → IsSound (changed_rows key_of org ws change t)
-changed_keeps key_of org ws t sound change takes o named there due = record {
-  told = told_changed key_of org ws t sound change takes;
+pub changed_keeps : (keys : ℕ → List ℕ) (org ws : List ℕ) (t : Tables) → IsSound t → (change : Change) → TakesEdit keys org ws change.edit t → (o : Organization) → IsTrue (is_ws_name ws) → record_of t org ≡ Some o
+    → IsDue (seen_in o ws) change → IsSound (changed_rows keys org ws change t)
+changed_keeps keys org ws t sound change takes o named there due = record {
+  told = told_changed keys org ws t sound change takes;
   orgs_apart = order.orgs_apart;
   tokens_apart = order.tokens_apart;
   digests_apart = order.digests_apart;
@@ -115,10 +115,10 @@ changed_keeps key_of org ws t sound change takes o named there due = record {
 }
   where
     u : Tables
-    u = changed_rows key_of org ws change t
+    u = changed_rows keys org ws change t
 
     texts : AreTexts u
-    texts = changed_texts key_of org ws t sound change takes
+    texts = changed_texts keys org ws t sound change takes
 
     after : Option Workspace
     after = changed_by change (workspace_by t org ws)
@@ -127,13 +127,13 @@ changed_keeps key_of org ws t sound change takes o named there due = record {
     lawful = lawful_after org ws t sound change o there due
 
     puts : Puts org ws after t u
-    puts = changed_puts key_of org ws t sound change takes lawful
+    puts = changed_puts keys org ws t sound change takes lawful
 
     order : AreInOrder u.orgs u.tokens u.bounds
     order = subst (λ os. AreInOrder os u.tokens u.bounds) (sym puts.orgs) (subst (λ ts. AreInOrder t.orgs ts u.bounds) (sym puts.tokens) (subst (λ bs. AreInOrder t.orgs t.tokens bs) (sym puts.bounds) (sound_in_order t sound)))
 
     owned : AreOwned u
-    owned = changed_are_owned org ws key_of t sound (org_there t org o.limit (limit_there t org o there)) change takes
+    owned = changed_are_owned org ws keys t sound (org_there t org o.limit (limit_there t org o there)) change takes
 
     own : (a b : List ℕ) (w : Workspace) → workspace_by u a b ≡ Some w → is_pair org ws a b ≡ true → after ≡ Some w
     own a b w e same = sym puts.own ∙ subst (λ (x : List ℕ). workspace_by u x ws ≡ Some w) (pair_first org ws a b same) (subst (λ (y : List ℕ). workspace_by u a y ≡ Some w) (pair_second org ws a b same) e)

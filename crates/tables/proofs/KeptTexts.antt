@@ -21,12 +21,12 @@ freed_texts : (frees : Bool) (org ws : List ℕ) (t : Tables) → AreTexts t →
 freed_texts true org ws t texts = texts_carried t (freed_rows true org ws t) refl refl refl texts
 freed_texts false org ws t texts = texts
 
-module _ (key_of : List ℕ → List ℕ) (org ws : List ℕ) (t : Tables) (sound : IsSound t) where
-  edited_texts : (edit : Edit) → TakesEdit key_of org ws edit t → AreTexts (edited_rows key_of org ws edit t)
+module _ (keys : ℕ → List ℕ) (org ws : List ℕ) (t : Tables) (sound : IsSound t) where
+  edited_texts : (edit : Edit) → TakesEdit keys org ws edit t → AreTexts (edited_rows keys org ws edit t)
   edited_texts (Make settings) takes = texts_carried t (made_rows org ws settings t) refl refl refl (sound_texts t sound)
   edited_texts (Configure settings outgoing) takes = (settings_leave org ws t sound settings outgoing).texts
   edited_texts Remove takes = texts_carried (all_gone org ws t) (removed_rows org ws t) refl refl refl (all_go org ws t sound).texts
-  edited_texts (AddVersion version outgoing) takes = (versions_come org ws t sound key_of version takes outgoing).texts
+  edited_texts (AddVersion version outgoing) takes = (versions_come org ws t sound keys version takes outgoing).texts
   edited_texts Purge takes = (all_go org ws t sound).texts
   edited_texts (Hold id text) takes = texts_carried t (ws_changed (held_by (Lock id text)) org ws t) refl refl refl (sound_texts t sound)
   edited_texts (Release id) takes = texts_carried t (ws_changed (released_from id) org ws t) refl refl refl (sound_texts t sound)
@@ -40,5 +40,5 @@ module _ (key_of : List ℕ → List ℕ) (org ws : List ℕ) (t : Tables) (soun
   started_texts None u texts = texts
   started_texts (Some n) u texts = texts_carried u (started_rows org ws (Some n) u) refl refl refl texts
 
-  pub changed_texts : (change : Change) → TakesEdit key_of org ws change.edit t → AreTexts (changed_rows key_of org ws change t)
-  changed_texts change takes = started_texts change.start (edited_rows key_of org ws change.edit t) (edited_texts change.edit takes)
+  pub changed_texts : (change : Change) → TakesEdit keys org ws change.edit t → AreTexts (changed_rows keys org ws change t)
+  changed_texts change takes = started_texts change.start (edited_rows keys org ws change.edit t) (edited_texts change.edit takes)

@@ -236,10 +236,10 @@ module _ (org ws : List ℕ) (t : Tables) (sound : IsSound t) where
       owned_becomes org ws (settings_rows org ws settings t) (owned_kept org ws (ws_changed (with_run_settings settings.runs) org ws t) (owned_row org ws t (sound_are_owned t sound) (with_run_settings settings.runs)) settings.keep_versions)
       (left_above outgoing) org ws (configured_rows org ws settings outgoing t) (settings_leave org ws t sound settings outgoing)
 
-  owned_versioned : (key_of : List ℕ → List ℕ) (v : Version) (takes : TakesVersion key_of org ws v t) (outgoing : Option ℕ) → AreOwned (versioned_rows key_of org ws v outgoing t)
-  owned_versioned key_of v takes outgoing =
-      owned_becomes org ws (numbered_rows org ws v t) (owned_row org ws t (sound_are_owned t sound) (with_next_version (v.number + 1))) (λ vs. left_above outgoing (vs ++ v ∷ [])) org ws (versioned_rows key_of org ws v outgoing t)
-      (versions_come org ws t sound key_of v takes outgoing)
+  owned_versioned : (keys : ℕ → List ℕ) (v : Version) (takes : TakesVersion keys org ws v t) (outgoing : Option ℕ) → AreOwned (versioned_rows keys org ws v outgoing t)
+  owned_versioned keys v takes outgoing =
+      owned_becomes org ws (numbered_rows org ws v t) (owned_row org ws t (sound_are_owned t sound) (with_next_version (v.number + 1))) (λ vs. left_above outgoing (vs ++ v ∷ [])) org ws (versioned_rows keys org ws v outgoing t)
+      (versions_come org ws t sound keys v takes outgoing)
 
 module _ (org ws : List ℕ) where
   pub row_there : (t : Tables) (w : WorkspaceCells) → workspace_of org ws t ≡ Some w → list_any (is_ws org ws) t.wss ≡ true
@@ -260,20 +260,20 @@ module _ (org ws : List ℕ) where
   owned_freed true t owned = owned_row org ws t owned (held_by Nobody)
   owned_freed false t owned = owned
 
-  owned_edited : (key_of : List ℕ → List ℕ) (t : Tables) → IsSound t → list_any (is_org org) t.orgs ≡ true → (edit : Edit) → TakesEdit key_of org ws edit t → AreOwned (edited_rows key_of org ws edit t)
-  owned_edited key_of t sound there (Make settings) takes = owned_made org ws t sound settings takes there
-  owned_edited key_of t sound there (Configure settings outgoing) takes = owned_configured org ws t sound settings outgoing
-  owned_edited key_of t sound there Remove takes = owned_removed org ws t sound
-  owned_edited key_of t sound there (AddVersion v outgoing) takes = owned_versioned org ws t sound key_of v takes outgoing
-  owned_edited key_of t sound there Purge takes = owned_purged org ws t sound
-  owned_edited key_of t sound there (Hold id text) takes = owned_row org ws t (sound_are_owned t sound) (held_by (Lock id text))
-  owned_edited key_of t sound there (Release id) takes = owned_row org ws t (sound_are_owned t sound) (released_from id)
-  owned_edited key_of t sound there (AddRun number ask created) takes = owned_run_rows number ask created t (sound_are_owned t sound) (workspace_of org ws t) refl
-  owned_edited key_of t sound there (Report number action status frees) takes = owned_freed frees (run_acted status action org ws number t) (owned_acted org ws t (sound_are_owned t sound) status action number)
+  owned_edited : (keys : ℕ → List ℕ) (t : Tables) → IsSound t → list_any (is_org org) t.orgs ≡ true → (edit : Edit) → TakesEdit keys org ws edit t → AreOwned (edited_rows keys org ws edit t)
+  owned_edited keys t sound there (Make settings) takes = owned_made org ws t sound settings takes there
+  owned_edited keys t sound there (Configure settings outgoing) takes = owned_configured org ws t sound settings outgoing
+  owned_edited keys t sound there Remove takes = owned_removed org ws t sound
+  owned_edited keys t sound there (AddVersion v outgoing) takes = owned_versioned org ws t sound keys v takes outgoing
+  owned_edited keys t sound there Purge takes = owned_purged org ws t sound
+  owned_edited keys t sound there (Hold id text) takes = owned_row org ws t (sound_are_owned t sound) (held_by (Lock id text))
+  owned_edited keys t sound there (Release id) takes = owned_row org ws t (sound_are_owned t sound) (released_from id)
+  owned_edited keys t sound there (AddRun number ask created) takes = owned_run_rows number ask created t (sound_are_owned t sound) (workspace_of org ws t) refl
+  owned_edited keys t sound there (Report number action status frees) takes = owned_freed frees (run_acted status action org ws number t) (owned_acted org ws t (sound_are_owned t sound) status action number)
 
   owned_started : (t : Tables) → AreOwned t → (start : Option ℕ) → AreOwned (started_rows org ws start t)
   owned_started t owned None = owned
   owned_started t owned (Some n) = owned_begun org ws (ws_changed (held_by (HeldByRun n)) org ws t) (owned_row org ws t owned (held_by (HeldByRun n))) n
 
-  pub changed_are_owned : (key_of : List ℕ → List ℕ) (t : Tables) → IsSound t → list_any (is_org org) t.orgs ≡ true → (change : Change) → TakesEdit key_of org ws change.edit t → AreOwned (changed_rows key_of org ws change t)
-  changed_are_owned key_of t sound there change takes = owned_started (edited_rows key_of org ws change.edit t) (owned_edited key_of t sound there change.edit takes) change.start
+  pub changed_are_owned : (keys : ℕ → List ℕ) (t : Tables) → IsSound t → list_any (is_org org) t.orgs ≡ true → (change : Change) → TakesEdit keys org ws change.edit t → AreOwned (changed_rows keys org ws change t)
+  changed_are_owned keys t sound there change takes = owned_started (edited_rows keys org ws change.edit t) (owned_edited keys t sound there change.edit takes) change.start

@@ -46,15 +46,15 @@ module _ (old new : Database) (s : IsSoundStore old) where
 
   -- ---- a change of a workspace
 
-  module _ (key_of : List ℕ → List ℕ) (org ws : List ℕ) (change : Change) (moves : (t : Tables) → Holds old t → Holds new (changed_rows key_of org ws change t)) (takes : (t : Tables) → Holds old t → TakesEdit key_of org ws change.edit t) where
+  module _ (keys : ℕ → List ℕ) (org ws : List ℕ) (change : Change) (moves : (t : Tables) → Holds old t → Holds new (changed_rows keys org ws change t)) (takes : (t : Tables) → Holds old t → TakesEdit keys org ws change.edit t) where
     pub store_changed_own : (o : Organization) → records_of old org ≡ Some o → IsDue (seen_in o ws) change → records_of new org ≡ Some (placed o ws (changed_by change (get o.workspaces ws)))
-    store_changed_own o there due = records_by new _ (moves rows_before s.holds) org ∙ changed_own key_of org ws rows_before s.sound change (takes rows_before s.holds) o there due
+    store_changed_own o there due = records_by new _ (moves rows_before s.holds) org ∙ changed_own keys org ws rows_before s.sound change (takes rows_before s.holds) o there due
 
     pub store_changed_other : (q : List ℕ) → q ≢ org → records_of new q ≡ records_of old q
-    store_changed_other q apart = records_by new _ (moves rows_before s.holds) q ∙ changed_other key_of org ws rows_before s.sound change (takes rows_before s.holds) q apart
+    store_changed_other q apart = records_by new _ (moves rows_before s.holds) q ∙ changed_other keys org ws rows_before s.sound change (takes rows_before s.holds) q apart
 
     pub store_changed_keeps : (o : Organization) → IsTrue (is_ws_name ws) → records_of old org ≡ Some o → IsDue (seen_in o ws) change → IsSoundStore new
-    store_changed_keeps o named there due = store_by new _ (moves rows_before s.holds) (changed_keeps key_of org ws rows_before s.sound change (takes rows_before s.holds) o named there due)
+    store_changed_keeps o named there due = store_by new _ (moves rows_before s.holds) (changed_keeps keys org ws rows_before s.sound change (takes rows_before s.holds) o named there due)
 
   -- ---- an organization more
 

@@ -33,26 +33,26 @@ told_freed false org ws t = (refl, refl)
 told_rest : (t u : Tables) → KeepsRest t u → SameTold u t
 told_rest t u rest = (rest.metas, rest.editions)
 
-told_edited : (key_of : List ℕ → List ℕ) (org ws : List ℕ) (t : Tables) → IsSound t → (edit : Edit) → TakesEdit key_of org ws edit t → SameTold (edited_rows key_of org ws edit t) t
-told_edited key_of org ws t sound (Make settings) takes = (refl, refl)
-told_edited key_of org ws t sound (Configure settings outgoing) takes = told_rest (settings_rows org ws settings t) (configured_rows org ws settings outgoing t) (settings_leave org ws t sound settings outgoing).rest
-told_edited key_of org ws t sound Remove takes = told_rest t (all_gone org ws t) (all_go org ws t sound).rest
-told_edited key_of org ws t sound (AddVersion version outgoing) takes = told_rest (numbered_rows org ws version t) (versioned_rows key_of org ws version outgoing t) (versions_come org ws t sound key_of version takes outgoing).rest
-told_edited key_of org ws t sound Purge takes = told_rest t (all_gone org ws t) (all_go org ws t sound).rest
-told_edited key_of org ws t sound (Hold id text) takes = (refl, refl)
-told_edited key_of org ws t sound (Release id) takes = (refl, refl)
-told_edited key_of org ws t sound (AddRun number ask created) takes = told_there (workspace_of org ws t) (run_put org ws number ask created (run_counted org ws number t)) t (refl, refl)
-told_edited key_of org ws t sound (Report number action status frees) takes = told_freed frees org ws (run_acted status action org ws number t)
+told_edited : (keys : ℕ → List ℕ) (org ws : List ℕ) (t : Tables) → IsSound t → (edit : Edit) → TakesEdit keys org ws edit t → SameTold (edited_rows keys org ws edit t) t
+told_edited keys org ws t sound (Make settings) takes = (refl, refl)
+told_edited keys org ws t sound (Configure settings outgoing) takes = told_rest (settings_rows org ws settings t) (configured_rows org ws settings outgoing t) (settings_leave org ws t sound settings outgoing).rest
+told_edited keys org ws t sound Remove takes = told_rest t (all_gone org ws t) (all_go org ws t sound).rest
+told_edited keys org ws t sound (AddVersion version outgoing) takes = told_rest (numbered_rows org ws version t) (versioned_rows keys org ws version outgoing t) (versions_come org ws t sound keys version takes outgoing).rest
+told_edited keys org ws t sound Purge takes = told_rest t (all_gone org ws t) (all_go org ws t sound).rest
+told_edited keys org ws t sound (Hold id text) takes = (refl, refl)
+told_edited keys org ws t sound (Release id) takes = (refl, refl)
+told_edited keys org ws t sound (AddRun number ask created) takes = told_there (workspace_of org ws t) (run_put org ws number ask created (run_counted org ws number t)) t (refl, refl)
+told_edited keys org ws t sound (Report number action status frees) takes = told_freed frees org ws (run_acted status action org ws number t)
 
 told_started : (org ws : List ℕ) (start : Option ℕ) (t : Tables) → SameTold (started_rows org ws start t) t
 told_started org ws None t = (refl, refl)
 told_started org ws (Some n) t = (refl, refl)
 
 -- a change of a workspace leaves what tells the version as it is
-pub told_changed : (key_of : List ℕ → List ℕ) (org ws : List ℕ) (t : Tables) → IsSound t → (change : Change) → TakesEdit key_of org ws change.edit t → TellsVersion NEWEST (changed_rows key_of org ws change t)
-told_changed key_of org ws t sound change takes =
-    let started = told_started org ws change.start (edited_rows key_of org ws change.edit t) in
-    let edited = told_edited key_of org ws t sound change.edit takes in
+pub told_changed : (keys : ℕ → List ℕ) (org ws : List ℕ) (t : Tables) → IsSound t → (change : Change) → TakesEdit keys org ws change.edit t → TellsVersion NEWEST (changed_rows keys org ws change t)
+told_changed keys org ws t sound change takes =
+    let started = told_started org ws change.start (edited_rows keys org ws change.edit t) in
+    let edited = told_edited keys org ws t sound change.edit takes in
     (started.1 ∙ edited.1 ∙ sound.told.0, started.0 ∙ edited.0 ∙ sound.told.1)
 
 -- the version that rows tell is the one in row 1 of meta, or of edition

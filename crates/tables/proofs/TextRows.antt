@@ -390,7 +390,7 @@ module _ (org ws : List ℕ) (below : ℕ) (t : Tables) (a : AreTexts t) (few : 
 
 -- ---- a version that comes
 
-module _ (key_of : List ℕ → List ℕ) (org ws : List ℕ) (v : Version) (t : Tables) (a : AreTexts t) (fresh : size_of org ws v.number t ≡ None) (fits : FitsTwins key_of org ws v t) where
+module _ (keys : ℕ → List ℕ) (org ws : List ℕ) (v : Version) (t : Tables) (a : AreTexts t) (fresh : size_of org ws v.number t ≡ None) (fits : FitsTwins keys org ws v t) where
   abbrev new : Kept VersionRow
   new = (next_key id_of t.versions, record { org = org; ws = ws; it = new_version v.number v.serial v.lineage v.created (length v.text) })
 
@@ -398,7 +398,7 @@ module _ (key_of : List ℕ → List ℕ) (org ws : List ℕ) (v : Version) (t :
   mid = row_added org ws v t
 
   abbrev come : Tables
-  come = added_rows key_of org ws v t
+  come = added_rows keys org ws v t
 
   not_there : find (is_version org ws v.number) t.versions ≡ None
   not_there = none_mapped (λ (x : Kept VersionRow). x.1.it.size) (find (is_version org ws v.number) t.versions) fresh
@@ -420,7 +420,7 @@ module _ (key_of : List ℕ → List ℕ) (org ws : List ℕ) (v : Version) (t :
   mid_sound = carried_sound t mid refl refl a.places
 
   come_versions : come.versions ≡ t.versions ++ new ∷ []
-  come_versions = text_added_versions key_of org ws v.number v.text mid
+  come_versions = text_added_versions keys org ws v.number v.text mid
 
   sizes : (o w : List ℕ) (m s : ℕ) → size_of o w m t ≡ Some s → size_of o w m come ≡ Some s
   sizes o w m s e = by_row (find (is_version o w m) t.versions) refl e
@@ -438,17 +438,17 @@ module _ (key_of : List ℕ → List ℕ) (org ws : List ℕ) (v : Version) (t :
 
   come_same : AllByRecursion (SameText t come) t.versions
   come_same = all_weaker (λ y. is_version org ws v.number y ≡ false) (SameText t come)
-      (λ y e. text_added_others_text key_of org ws v.number v.text mid mid_sound no_places fits y.1.org y.1.ws y.1.it.number (other_row org ws v.number y e) y.1.it.size
+      (λ y e. text_added_others_text keys org ws v.number v.text mid mid_sound no_places fits y.1.org y.1.ws y.1.it.number (other_row org ws v.number y e) y.1.it.size
       ∙ carried_text t mid refl refl y.1.org y.1.ws y.1.it.number y.1.it.size) t.versions (none_passes (is_version org ws v.number) t.versions not_there)
 
   come_texts : AreTexts come
   come_texts = record {
-    places = text_added_keeps key_of org ws v.number v.text mid mid_sound no_places fits;
-    placed = text_added_places key_of org ws v.number v.text mid (IsPlaced come) (all_weaker (IsPlaced t) (IsPlaced come) still_placed t.vpages a.placed) newly_placed;
+    places = text_added_keeps keys org ws v.number v.text mid mid_sound no_places fits;
+    placed = text_added_places keys org ws v.number v.text mid (IsPlaced come) (all_weaker (IsPlaced t) (IsPlaced come) still_placed t.vpages a.placed) newly_placed;
     texts = subst (AllByRecursion (HasText come)) (sym come_versions)
         (all-append (HasText come) t.versions (new ∷ [])
         (all_both (HasText t) (λ y. is_version org ws v.number y ≡ false) (HasText come) still_whole t.versions a.texts (none_passes (is_version org ws v.number) t.versions not_there))
-        (text_added_whole key_of org ws v.number v.text mid mid_sound no_places fits, tt));
+        (text_added_whole keys org ws v.number v.text mid mid_sound no_places fits, tt));
   }
     where
       still_placed : (z : Kept VpageRow) → IsPlaced t z → IsPlaced come z
@@ -463,10 +463,10 @@ module _ (key_of : List ℕ → List ℕ) (org ws : List ℕ) (v : Version) (t :
 
       still_whole : (y : Kept VersionRow) → HasText t y → is_version org ws v.number y ≡ false → HasText come y
       still_whole y whole e =
-          text_added_others_whole key_of org ws v.number v.text mid mid_sound no_places fits y.1.org y.1.ws y.1.it.number (other_row org ws v.number y e) y.1.it.size (carried_whole t mid refl refl y.1.org y.1.ws y.1.it.number y.1.it.size whole)
+          text_added_others_whole keys org ws v.number v.text mid mid_sound no_places fits y.1.org y.1.ws y.1.it.number (other_row org ws v.number y e) y.1.it.size (carried_whole t mid refl refl y.1.org y.1.ws y.1.it.number y.1.it.size whole)
 
   denoted_new : version_at come org ws new.1.it ≡ v
-  denoted_new = ap (λ (text : List ℕ). version_of_cells text new.1.it) (text_added_text key_of org ws v.number v.text mid mid_sound no_places fits)
+  denoted_new = ap (λ (text : List ℕ). version_of_cells text new.1.it) (text_added_text keys org ws v.number v.text mid mid_sound no_places fits)
 
   denoted_all : (o w : List ℕ) → versions_in come o w ≡ map (λ (x : Kept VersionRow). version_at come o w x.1.it) (filter (is_version_of o w) (t.versions ++ new ∷ []))
   denoted_all o w = ap (λ (vs : List (Kept VersionRow)). map (λ (x : Kept VersionRow). version_at come o w x.1.it) (filter (is_version_of o w) vs)) come_versions
@@ -475,14 +475,14 @@ module _ (key_of : List ℕ → List ℕ) (org ws : List ℕ) (v : Version) (t :
   pub comes : list_any (is_ws org ws) t.wss ≡ true → Becomes (λ vs. vs ++ v ∷ []) org ws t come
   comes there = record {
     rest = record {
-      metas = text_added_metas key_of org ws v.number v.text mid;
-      orgs = text_added_orgs key_of org ws v.number v.text mid;
-      tokens = text_added_tokens key_of org ws v.number v.text mid;
-      bounds = text_added_bounds key_of org ws v.number v.text mid;
-      editions = text_added_editions key_of org ws v.number v.text mid;
-      keepings = text_added_keepings key_of org ws v.number v.text mid;
-      wss = text_added_wss key_of org ws v.number v.text mid;
-      runs = text_added_runs key_of org ws v.number v.text mid;
+      metas = text_added_metas keys org ws v.number v.text mid;
+      orgs = text_added_orgs keys org ws v.number v.text mid;
+      tokens = text_added_tokens keys org ws v.number v.text mid;
+      bounds = text_added_bounds keys org ws v.number v.text mid;
+      editions = text_added_editions keys org ws v.number v.text mid;
+      keepings = text_added_keepings keys org ws v.number v.text mid;
+      wss = text_added_wss keys org ws v.number v.text mid;
+      runs = text_added_runs keys org ws v.number v.text mid;
     };
     own = denoted_all org ws
         ∙ slice-push_mine (is_version_of org ws) (λ (x : Kept VersionRow). version_at come org ws x.1.it) t.versions new (pair_is org ws)

@@ -103,12 +103,12 @@ module _ (org ws : List ℕ) (t : Tables) (sound : IsSound t) where
         (go_below org ws (last + 1) set set_texts set_few)
 
   -- a version comes, and those up to a number go
-  module _ (key_of : List ℕ → List ℕ) (v : Version) (takes : TakesVersion key_of org ws v t) where
+  module _ (keys : ℕ → List ℕ) (v : Version) (takes : TakesVersion keys org ws v t) where
     abbrev numbered : Tables
     numbered = numbered_rows org ws v t
 
     abbrev added : Tables
-    added = added_rows key_of org ws v numbered
+    added = added_rows keys org ws v numbered
 
     pub ws_there : list_any (is_ws org ws) t.wss ≡ true
     ws_there = any_is_found (is_ws org ws) t.wss ∙ sym (some_mapped (find (is_ws org ws) t.wss)) ∙ takes.there
@@ -118,7 +118,7 @@ module _ (org ws : List ℕ) (t : Tables) (sound : IsSound t) where
         some_mapped (Some x) = refl
 
     come : Becomes (λ vs. vs ++ v ∷ []) org ws numbered added
-    come = comes key_of org ws v numbered (texts_carried t numbered refl refl refl (sound_texts t sound)) takes.fresh takes.fits
+    come = comes keys org ws v numbered (texts_carried t numbered refl refl refl (sound_texts t sound)) takes.fresh takes.fits
         (any_updated (is_ws org ws) (is_ws org ws) (λ x. (x.0, record x.1 { it = with_next_version (v.number + 1) x.1.it })) (λ x. refl) t.wss ∙ ws_there)
 
     still_few : length (versions_in added org ws) ≤ 1_001
@@ -129,7 +129,7 @@ module _ (org ws : List ℕ) (t : Tables) (sound : IsSound t) where
         let same : length (versions_in numbered org ws) ≡ length (versions_in t org ws) = ap length (versions_carried t numbered refl refl refl org ws) in
         omega (arith, few, one, more, same)
 
-    pub versions_come : (outgoing : Option ℕ) → Becomes (λ vs. left_above outgoing (vs ++ v ∷ [])) org ws numbered (versioned_rows key_of org ws v outgoing t)
+    pub versions_come : (outgoing : Option ℕ) → Becomes (λ vs. left_above outgoing (vs ++ v ∷ [])) org ws numbered (versioned_rows keys org ws v outgoing t)
     versions_come None = come
     versions_come (Some last) =
         becomes_then (λ vs. vs ++ v ∷ []) (λ vs. filter (λ (u : Version). nat_lt last u.number) vs) org ws numbered added (left_rows (Some last) org ws added) come

@@ -95,7 +95,7 @@ fn has_text<S: Alter>(
     conn: &mut Connection<S>,
     org: &str,
     ws: &str,
-    text: Option<&Bytes>,
+    text: Option<&[u8]>,
     head: &VersionRow,
 ) -> Result<bool, Error>
     ensures looks { Sees S.Store (Equals (has_text (option_copied text.entry) org.now ws.now head.now)) conn.old conn.new result }
@@ -103,8 +103,8 @@ fn has_text<S: Alter>(
     let Some(text) = text else {
         return Ok(false);
     };
-    if head.size == text.as_slice().len() as u64 {
-        texts::same_text(conn, org, ws, head.number, text.as_slice())
+    if head.size == text.len() as u64 {
+        texts::same_text(conn, org, ws, head.number, text)
     } else {
         Ok(false)
     }
@@ -115,7 +115,7 @@ fn newest_as<S: Alter>(
     conn: &mut Connection<S>,
     org: &str,
     ws: &str,
-    text: Option<&Bytes>,
+    text: Option<&[u8]>,
     head: VersionRow,
 ) -> Result<Newest, Error>
     ensures looks { Sees S.Store (Equals (λ t. newest_by (option_copied text.entry) org.now ws.now t head)) conn.old conn.new result }
@@ -134,7 +134,7 @@ fn newest<S: Alter>(
     conn: &mut Connection<S>,
     org: &str,
     ws: &str,
-    text: Option<&Bytes>,
+    text: Option<&[u8]>,
 ) -> Result<Option<Newest>, Error>
     ensures looks { Sees S.Store (Equals (newest_in (option_copied text.entry) org.now ws.now)) conn.old conn.new result }
 {
@@ -150,7 +150,7 @@ fn newest_if<S: Alter>(
     org: &str,
     ws: &str,
     needed: bool,
-    text: Option<&Bytes>,
+    text: Option<&[u8]>,
 ) -> Result<Option<Newest>, Error>
     ensures looks { Sees S.Store (Equals (λ t. if_needed needed (newest_in (option_copied text.entry) org.now ws.now t))) conn.old conn.new result }
 {

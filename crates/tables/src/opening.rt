@@ -262,6 +262,7 @@ fn find_first<S: Alter>(conn: &mut Connection<S>) -> Result<Found, Error>
     requires there { all_there 1 (state S.Store conn.old).now.schema ≡ true }
     ensures idle { conn.new.in_transaction ≡ false }
     ensures so_far { HasCleanDisk (state S.Store conn.new) → HasCleanDisk (state S.Store conn.old) }
+    ensures shield { (state S.Store conn.old).IsShielded → (state S.Store conn.new).IsShielded }
     ensures found { HasCleanDisk (state S.Store conn.new) → IfOk result (λ found. TellsFound found (state S.Store conn.old) (state S.Store conn.new)) }
     ensures err { HasCleanDisk (state S.Store conn.new) → OnErr result (KeepsCommit (state S.Store conn.old) (state S.Store conn.new)) }
 {
@@ -279,6 +280,7 @@ fn find_later<S: Alter>(conn: &mut Connection<S>, version: u64) -> Result<Found,
     requires later { 2 ≤ version }
     ensures idle { conn.new.in_transaction ≡ false }
     ensures so_far { HasCleanDisk (state S.Store conn.new) → HasCleanDisk (state S.Store conn.old) }
+    ensures shield { (state S.Store conn.old).IsShielded → (state S.Store conn.new).IsShielded }
     ensures found { HasCleanDisk (state S.Store conn.new) → IfOk result (λ found. TellsFound found (state S.Store conn.old) (state S.Store conn.new)) }
     ensures err { HasCleanDisk (state S.Store conn.new) → OnErr result (KeepsCommit (state S.Store conn.old) (state S.Store conn.new)) }
 {
@@ -294,6 +296,7 @@ fn find_version<S: Alter>(conn: &mut Connection<S>) -> Result<Found, Error>
     requires idle { conn.old.in_transaction ≡ false }
     ensures idle { conn.new.in_transaction ≡ false }
     ensures so_far { HasCleanDisk (state S.Store conn.new) → HasCleanDisk (state S.Store conn.old) }
+    ensures shield { (state S.Store conn.old).IsShielded → (state S.Store conn.new).IsShielded }
     ensures found { HasCleanDisk (state S.Store conn.new) → IfOk result (λ found. TellsFound found (state S.Store conn.old) (state S.Store conn.new)) }
     ensures err { HasCleanDisk (state S.Store conn.new) → OnErr result (KeepsCommit (state S.Store conn.old) (state S.Store conn.new)) }
     ensures edition { tells_edition (state S.Store conn.old).now.schema ≡ true → is_edition (state S.Store conn.old).now.schema ≡ false → IfOk result (λ found. found ≡ Found.Other) × IfErr result (λ _. ⊥) }
@@ -321,6 +324,7 @@ fn find<S: Alter>(conn: &mut Connection<S>) -> Result<Found, Error>
     requires idle { conn.old.in_transaction ≡ false }
     ensures idle { conn.new.in_transaction ≡ false }
     ensures so_far { HasCleanDisk (state S.Store conn.new) → HasCleanDisk (state S.Store conn.old) }
+    ensures shield { (state S.Store conn.old).IsShielded → (state S.Store conn.new).IsShielded }
     ensures found { HasCleanDisk (state S.Store conn.new) → IfOk result (λ found. FindsOurs found (state S.Store conn.old) (state S.Store conn.new)) }
     ensures err { HasCleanDisk (state S.Store conn.new) → OnErr result (KeepsCommit (state S.Store conn.old) (state S.Store conn.new)) }
     ensures nothing { HasCleanDisk (state S.Store conn.new) → IfOk result (λ found. found ≡ Found.Nothing → conn.new ≡ conn.old) }
@@ -348,6 +352,7 @@ fn climb<S: Alter>(conn: &mut Connection<S>, from: u64) -> Result<(), Error>
     requires idle { conn.old.in_transaction ≡ false }
     ensures idle { conn.new.in_transaction ≡ false }
     ensures so_far { HasCleanDisk (state S.Store conn.new) → HasCleanDisk (state S.Store conn.old) }
+    ensures shield { (state S.Store conn.old).IsShielded → (state S.Store conn.new).IsShielded }
     ensures climbed { HasCleanDisk (state S.Store conn.new) → OnOk result (IsClimbed from (state S.Store conn.old) (state S.Store conn.new)) × OnErr result (IsOnWay from (state S.Store conn.old) (state S.Store conn.new)) }
     ensures newest { from ≡ NEWEST → (conn.new ≡ conn.old) × IfErr result (λ _. ⊥) }
 {
@@ -362,6 +367,7 @@ pub(crate) fn ready<S: Alter>(conn: &mut Connection<S>) -> Result<(), Fault>
     requires idle { conn.old.in_transaction ≡ false }
     ensures idle { conn.new.in_transaction ≡ false }
     ensures so_far { HasCleanDisk (state S.Store conn.new) → HasCleanDisk (state S.Store conn.old) }
+    ensures shield { (state S.Store conn.old).IsShielded → (state S.Store conn.new).IsShielded }
     ensures made { HasCleanDisk (state S.Store conn.new) → OnOk result (any_there (state S.Store conn.old).now.schema ≡ false → IsMade (state S.Store conn.old) (state S.Store conn.new)) }
     ensures told { HasCleanDisk (state S.Store conn.new) → OnOk result ((n : ℕ) → all_there n (state S.Store conn.old).now.schema ≡ true
         → TellsIn n (state S.Store conn.old).now × ToldBy n (state S.Store conn.old).now) }

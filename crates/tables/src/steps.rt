@@ -5,6 +5,7 @@ ghost use Rattle.statements.specs.Changes.{run_acted};
 ghost use Rattle.statements.specs.Finds.{size_of, workspace_of, oldest_below};
 ghost use Rattle.statements.specs.Steps.{Steps, Tells};
 ghost use Rattle.tables.specs.Inner.Edits.{version_gone, oldest_gone, gone_below, all_gone, removed_rows, made_rows, configured_rows, numbered_rows, row_added, added_rows, versioned_rows, run_put, run_counted, run_rows, freed_rows, edited_rows, begun_rows, changed_rows, FitsTwins, TakesVersion, TakesEdit};
+ghost use Rattle.tables.specs.Inner.Steps.{KeyedSteps};
 
 use basis::numbers::{MAX_KEPT, MAX_NUMBER};
 use basis::{Moment, Number, RunAction, RunAsk, RunStatus, Settings, Text, VersionRow};
@@ -130,6 +131,11 @@ fn add_row<S: Alter>(
     )
 }
 
+/// The number before this one, if there is one.
+fn number_before(number: Number) -> Option<Number> {
+    Number::new(number.get() as u64 - 1)
+}
+
 /// Adds a version behind the others, with its text.
 fn add<K: PageKey, S: Alter>(
     tx: &mut Transaction<'_, S>,
@@ -137,13 +143,13 @@ fn add<K: PageKey, S: Alter>(
     ws: &str,
     version: &Version,
 ) -> Result<(), Error>
-    ensures steps { Steps S.Store (added_rows K.key_of org.now ws.now version.now) tx.old tx.new result }
+    ensures adds { KeyedSteps S.Store (λ keys. added_rows keys org.now ws.now version.now) (λ keys. FitsTwins keys org.now ws.now version.now) tx.old tx.new result }
     ensures fresh { Tells (λ _ t. size_of org.now ws.now version.now.number t ≡ None) (state S.Store tx.old.conn.now) (state S.Store tx.new.conn.now) result }
-    ensures fits { Tells (λ _. FitsTwins K.key_of org.now ws.now version.now) (state S.Store tx.old.conn.now) (state S.Store tx.new.conn.now) result }
 {
     let text = version.text.as_slice();
+    let before = number_before(version.number);
     add_row(tx, org, ws, version)?;
-    texts::add_text::<K, S>(tx, org, ws, version.number, text)
+    texts::add_text::<K, S>(tx, org, ws, version.number, before, text)
 }
 
 /// The next version has the number behind this one's. There is a workspace for it, or nothing comes.
@@ -202,8 +208,7 @@ fn put<K: PageKey, S: Alter>(
     version: &Version,
     outgoing: Option<Number>,
 ) -> Result<(), Error>
-    ensures steps { Steps S.Store (versioned_rows K.key_of org.now ws.now version.now outgoing) tx.old tx.new result }
-    ensures takes { Tells (λ _. TakesVersion K.key_of org.now ws.now version.now) (state S.Store tx.old.conn.now) (state S.Store tx.new.conn.now) result }
+    ensures { KeyedSteps S.Store (λ keys. versioned_rows keys org.now ws.now version.now outgoing) (λ keys. TakesVersion keys org.now ws.now version.now) tx.old tx.new result }
 {
     count_on(tx, org, ws, version)?;
     add::<K, S>(tx, org, ws, version)?;
@@ -319,8 +324,7 @@ fn edit<K: PageKey, S: Alter>(
     ws: &str,
     edit: &Edit,
 ) -> Result<(), Error>
-    ensures steps { Steps S.Store (edited_rows K.key_of org.now ws.now edit.now) tx.old tx.new result }
-    ensures takes { Tells (λ _. TakesEdit K.key_of org.now ws.now edit.now) (state S.Store tx.old.conn.now) (state S.Store tx.new.conn.now) result }
+    ensures { KeyedSteps S.Store (λ keys. edited_rows keys org.now ws.now edit.now) (λ keys. TakesEdit keys org.now ws.now edit.now) tx.old tx.new result }
 {
     match edit {
         Edit::Make(settings) => make(tx, org, ws, settings),
@@ -364,8 +368,7 @@ pub(crate) fn change<K: PageKey, S: Alter>(
     ws: &str,
     change: &Change,
 ) -> Result<(), Error>
-    ensures steps { Steps S.Store (changed_rows K.key_of org.now ws.now change.now) tx.old tx.new result }
-    ensures takes { Tells (λ _. TakesEdit K.key_of org.now ws.now change.now.edit) (state S.Store tx.old.conn.now) (state S.Store tx.new.conn.now) result }
+    ensures { KeyedSteps S.Store (λ keys. changed_rows keys org.now ws.now change.now) (λ keys. TakesEdit keys org.now ws.now change.now.edit) tx.old tx.new result }
 {
     edit::<K, S>(tx, org, ws, &change.edit)?;
     match change.start {

@@ -72,9 +72,12 @@ impl<S: Alter, K: PageKey> SqlKeep<S, K> {
     /// earlier version is taken to the newest, a step at a time, each in one transaction.
     /// One in which some of the names mean other tables is given back as it was, and so is one that
     /// a fault kept from being opened, unless it was on the way to the newest version: it may then be of one between.
+    /// A shield stays in either case.
     pub fn open(mut conn: Connection<S>) -> Result<SqlKeep<S, K>, Unopened<S>>
         requires idle { conn.in_transaction ≡ false }
         ensures so_far { IfOk result (λ keep. ⟦<SqlKeep<S, K> as Keep>⟧.clean keep → HasCleanDisk (state S.Store conn)) }
+        ensures shield { IfOk result (λ keep. (state S.Store conn).IsShielded → ⟦<SqlKeep<S, K> as Keep>⟧.shielded keep) }
+        ensures left_shielded { IfErr result (λ unopened. (state S.Store conn).IsShielded → (state S.Store unopened.conn).IsShielded) }
         ensures fresh { IfOk result (λ keep. ⟦<SqlKeep<S, K> as Keep>⟧.clean keep → any_there (state S.Store conn).now.schema ≡ false
             → ⟦<SqlKeep<S, K> as Keep>⟧.sound keep × ((o : List ℕ) → ⟦<SqlKeep<S, K> as Keep>⟧.rows keep o ≡ None)) }
         ensures others { IfOk result (λ keep. ⟦<SqlKeep<S, K> as Keep>⟧.clean keep → any_there (state S.Store conn).now.schema ≡ false
@@ -121,7 +124,7 @@ impl<S: Alter, K: PageKey> SqlKeep<S, K> {
     /// Whether a fault of the disk has shut the store, so that it refuses each call; an error where memory was refused.
     pub fn is_shut(&mut self) -> Result<bool, Down>
         ensures told { HasCleanDisk (state S.Store self.new.conn) → IfOk result (λ is_shut. (state S.Store self.old.conn).is_open ≡ not is_shut) }
-        ensures looks { Looks ⟦<SqlKeep<S, K> as Keep>⟧.rows ⟦<SqlKeep<S, K> as Keep>⟧.clean ⟦<SqlKeep<S, K> as Keep>⟧.sound self.old self.new }
+        ensures looks { Looks ⟦<SqlKeep<S, K> as Keep>⟧.rows ⟦<SqlKeep<S, K> as Keep>⟧.clean ⟦<SqlKeep<S, K> as Keep>⟧.sound ⟦<SqlKeep<S, K> as Keep>⟧.shielded self.old self.new }
     {
         match commands::is_shut(&mut self.conn) {
             Ok(is_shut) => Ok(is_shut),
@@ -171,6 +174,8 @@ impl<S: Alter, K: PageKey> Keep for SqlKeep<S, K> {
     ghost rows = { λ keep. records_of (state S.Store keep.seen.value).committed };
 
     ghost clean = { λ keep. HasCleanDisk (state S.Store keep.conn) };
+
+    ghost shielded = { λ keep. (state S.Store keep.conn).IsShielded };
 
     ghost sound = { λ keep. IsSoundKeep (state S.Store keep.seen.value).committed keep.counted (state S.Store keep.conn) };
 

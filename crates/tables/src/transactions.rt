@@ -1,5 +1,5 @@
 //! The transactions of a store, each as one function: its change is committed, or nothing is.
-ghost use Rattle.std.specs.Prelude.{◌≡◌, ◌<◌, true, false, OnOk, OnErr};
+ghost use Rattle.std.specs.Prelude.{◌≡◌, ◌<◌, ℕ, true, false, List, OnOk, OnErr};
 ghost use Rattle.sqlite.specs.Held.{state};
 ghost use Rattle.sqlite.specs.State.{HasCleanDisk, KeepsCommit};
 ghost use Rattle.statements.specs.declared.making.TheConstants.{NEWEST};
@@ -41,6 +41,7 @@ pub(crate) fn make<S: Alter>(conn: &mut Connection<S>) -> Result<(), Error>
     requires idle { conn.old.in_transaction ≡ false }
     ensures idle { conn.new.in_transaction ≡ false }
     ensures so_far { HasCleanDisk (state S.Store conn.new) → HasCleanDisk (state S.Store conn.old) }
+    ensures shield { (state S.Store conn.old).IsShielded → (state S.Store conn.new).IsShielded }
     ensures made { HasCleanDisk (state S.Store conn.new) → OnOk result (IsMade (state S.Store conn.old) (state S.Store conn.new)) × OnErr result (KeepsCommit (state S.Store conn.old) (state S.Store conn.new)) }
 {
     let mut tx = begin(conn);
@@ -54,6 +55,7 @@ pub(crate) fn raise<S: Alter>(conn: &mut Connection<S>, from: u64) -> Result<(),
     requires older { from < NEWEST }
     ensures idle { conn.new.in_transaction ≡ false }
     ensures so_far { HasCleanDisk (state S.Store conn.new) → HasCleanDisk (state S.Store conn.old) }
+    ensures shield { (state S.Store conn.old).IsShielded → (state S.Store conn.new).IsShielded }
     ensures done { HasCleanDisk (state S.Store conn.new) → StepsFrom from (state S.Store conn.old) (state S.Store conn.new) result }
 {
     let mut tx = begin(conn);
@@ -71,7 +73,8 @@ pub(crate) fn change<K: PageKey, S: Alter>(
     requires idle { conn.old.in_transaction ≡ false }
     ensures idle { conn.new.in_transaction ≡ false }
     ensures so_far { HasCleanDisk (state S.Store conn.new) → HasCleanDisk (state S.Store conn.old) }
-    ensures done { Transacts (changed_rows K.key_of org.now ws.now change.now) (λ _. TakesEdit K.key_of org.now ws.now change.now.edit) (state S.Store conn.old) (state S.Store conn.new) result }
+    ensures shield { (state S.Store conn.old).IsShielded → (state S.Store conn.new).IsShielded }
+    ensures done { (keys : ℕ → List ℕ) × Transacts (changed_rows keys org.now ws.now change.now) (λ _. TakesEdit keys org.now ws.now change.now.edit) (state S.Store conn.old) (state S.Store conn.new) result }
 {
     let mut tx = begin(conn);
     steps::change::<K, S>(&mut tx, org, ws, change)?;
@@ -87,6 +90,7 @@ pub(crate) fn add_organization<S: Alter>(
     requires idle { conn.old.in_transaction ≡ false }
     ensures idle { conn.new.in_transaction ≡ false }
     ensures so_far { HasCleanDisk (state S.Store conn.new) → HasCleanDisk (state S.Store conn.old) }
+    ensures shield { (state S.Store conn.old).IsShielded → (state S.Store conn.new).IsShielded }
     ensures done { Transacts (org_row_added org.now limit) (λ _. AnyRows) (state S.Store conn.old) (state S.Store conn.new) result }
 {
     let mut tx = begin(conn);
@@ -103,6 +107,7 @@ pub(crate) fn set_limit<S: Alter>(
     requires idle { conn.old.in_transaction ≡ false }
     ensures idle { conn.new.in_transaction ≡ false }
     ensures so_far { HasCleanDisk (state S.Store conn.new) → HasCleanDisk (state S.Store conn.old) }
+    ensures shield { (state S.Store conn.old).IsShielded → (state S.Store conn.new).IsShielded }
     ensures done { Transacts (org_capped org.now limit) (λ _. AnyRows) (state S.Store conn.old) (state S.Store conn.new) result }
 {
     let mut tx = begin(conn);
@@ -122,6 +127,7 @@ pub(crate) fn add_token<S: Alter>(
     requires idle { conn.old.in_transaction ≡ false }
     ensures idle { conn.new.in_transaction ≡ false }
     ensures so_far { HasCleanDisk (state S.Store conn.new) → HasCleanDisk (state S.Store conn.old) }
+    ensures shield { (state S.Store conn.old).IsShielded → (state S.Store conn.new).IsShielded }
     ensures done { Transacts (token_added org.now name.now digest.now role bounds.now.until bounds.now.prefix) (λ _. AnyRows) (state S.Store conn.old) (state S.Store conn.new) result }
 {
     let mut tx = begin(conn);
@@ -138,6 +144,7 @@ pub(crate) fn remove_token<S: Alter>(
     requires idle { conn.old.in_transaction ≡ false }
     ensures idle { conn.new.in_transaction ≡ false }
     ensures so_far { HasCleanDisk (state S.Store conn.new) → HasCleanDisk (state S.Store conn.old) }
+    ensures shield { (state S.Store conn.old).IsShielded → (state S.Store conn.new).IsShielded }
     ensures done { Transacts (token_removed org.now name.now) (λ _. AnyRows) (state S.Store conn.old) (state S.Store conn.new) result }
 {
     let mut tx = begin(conn);

@@ -3,7 +3,7 @@ use basis::{
     Bytes, Down, KeepCount, LockId, Look, Number, RunAction, RunAsk, RunSettings, SettingsAsk,
     StateHead, Text,
 };
-use machine::Act;
+use machine::{Act, StateText};
 use route::WsAct;
 use std::alloc::{AllocError, Global};
 
@@ -230,7 +230,7 @@ fn push_update(
     let lineage = Text::copy_of(alloc, "a1")?;
     acts.push(Act::UpdateState {
         head: StateHead { serial: 1, lineage },
-        text: Bytes::new(text),
+        text: StateText::new(alloc, Bytes::new(text))?,
         lock_id,
     })?;
     Ok(())

@@ -17,6 +17,8 @@ impl<K: Keep> Keep for Refusing<K> {
 
     ghost clean = { λ s. K.clean s.keep };
 
+    ghost shielded = { λ s. K.shielded s.keep };
+
     ghost sound = { λ s. K.sound s.keep };
 
     fn records_are_lawful(&self) {

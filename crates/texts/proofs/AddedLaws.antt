@@ -80,18 +80,18 @@ module _ (key bytes : List ℕ) (t : Tables) (sound : HasSoundPages t) (fits : t
 
 -- ---- a piece that is put
 
-module _ (key_of : List ℕ → List ℕ) (org ws : List ℕ) (n : ℕ) (text : List ℕ) (place : ℕ) (t : Tables) where
+module _ (keys : ℕ → List ℕ) (org ws : List ℕ) (n : ℕ) (text : List ℕ) (place : ℕ) (t : Tables) where
   abbrev page : List ℕ
   page = piece_at text place
 
   abbrev own_key : List ℕ
-  own_key = key_of page
+  own_key = keys place
 
   abbrev own_twin : ℕ
   own_twin = twin_for own_key page t
 
   abbrev v : Tables
-  v = piece_added key_of org ws n text place t
+  v = piece_added keys org ws n text place t
 
   abbrev new_row : Kept VpageRow
   new_row = (next_key id_of t.vpages, record { org = org; ws = ws; number = n; place = place; key = own_key; twin = own_twin })
@@ -158,47 +158,47 @@ no_place org ws n place xs none =
     narrower : (x : Kept VpageRow) → is_place_of org ws n x ≡ false → is_place org ws n place x ≡ false
     narrower x e = false_from_ne_true (is_place org ws n place x) (λ f. let a = place_parts org ws n x place f in true≢false (sym (version_from org ws n x a.0 a.1.0 a.1.1.0) ∙ e))
 
-module _ (key_of : List ℕ → List ℕ) (org ws : List ℕ) (n : ℕ) (text : List ℕ) (t : Tables) where
+module _ (keys : ℕ → List ℕ) (org ws : List ℕ) (n : ℕ) (text : List ℕ) (t : Tables) where
   abbrev after : ℕ → Tables
-  after place = pieces_added key_of org ws n text place t
+  after place = pieces_added keys org ws n text place t
 
   pub pieces_find : (p : Kept VpageRow → Bool) (place : ℕ) → ((q : ℕ) → q < place → (x : Kept VpageRow) → is_place org ws n q x ≡ true → p x ≡ false) → find p (after place).vpages ≡ find p t.vpages
   pieces_find p zero other = refl
-  pieces_find p (suc place) other = added_find key_of org ws n text place (after place) p (other place (omega arith)) ∙ pieces_find p place (λ q below. other q (omega (arith, below)))
+  pieces_find p (suc place) other = added_find keys org ws n text place (after place) p (other place (omega arith)) ∙ pieces_find p place (λ q below. other q (omega (arith, below)))
 
   pub pieces_all : (P : Kept VpageRow → Type 0) (place : ℕ) → ((x : Kept VpageRow) → x.1.org ≡ org → x.1.ws ≡ ws → x.1.number ≡ n → x.1.place < place → P x) → AllByRecursion P t.vpages → AllByRecursion P (after place).vpages
   pieces_all P zero new all = all
   pieces_all P (suc place) new all =
-      added_all key_of org ws n text place (after place) P (λ x e f g h. new x e f g (omega (arith, h))) (pieces_all P place (λ x e f g below. new x e f g (omega (arith, below))) all)
+      added_all keys org ws n text place (after place) P (λ x e f g h. new x e f g (omega (arith, h))) (pieces_all P place (λ x e f g below. new x e f g (omega (arith, below))) all)
 
   pub pieces_rest : (place : ℕ) → after place ≡ record t { pages = (after place).pages; vpages = (after place).vpages }
   pieces_rest zero = refl
   pieces_rest (suc place) =
-      added_rest key_of org ws n text place (after place) ∙ ap (λ (u : Tables). record u { pages = (after (suc place)).pages; vpages = (after (suc place)).vpages }) (pieces_rest place)
+      added_rest keys org ws n text place (after place) ∙ ap (λ (u : Tables). record u { pages = (after (suc place)).pages; vpages = (after (suc place)).vpages }) (pieces_rest place)
 
   module _ (sound : HasSoundPlaces t) (none : HasNoPlaces org ws n t) where
     free_place : (place : ℕ) → find (is_place org ws n place) (after place).vpages ≡ None
     free_place place = pieces_find (is_place org ws n place) place (λ q below. other_place org ws n q place (λ e. absurd (omega (arith, e, below)))) ∙ no_place org ws n place t.vpages none
 
-    pub pieces_sound : (place : ℕ) → TwinsFit key_of org ws n text place t → HasSoundPlaces (after place)
+    pub pieces_sound : (place : ℕ) → TwinsFit keys org ws n text place t → HasSoundPlaces (after place)
     pieces_sound zero fit = sound
-    pieces_sound (suc place) fit = added_sound key_of org ws n text place (after place) (pieces_sound place fit.0) fit.1 (free_place place)
+    pieces_sound (suc place) fit = added_sound keys org ws n text place (after place) (pieces_sound place fit.0) fit.1 (free_place place)
 
-    pub pieces_stay : (o w : List ℕ) (m q place : ℕ) → TwinsFit key_of org ws n text place t → ((r : ℕ) → r < place → IsOtherPlace o w m q org ws n r) → piece_of o w m q (after place) ≡ piece_of o w m q t
+    pub pieces_stay : (o w : List ℕ) (m q place : ℕ) → TwinsFit keys org ws n text place t → ((r : ℕ) → r < place → IsOtherPlace o w m q org ws n r) → piece_of o w m q (after place) ≡ piece_of o w m q t
     pieces_stay o w m q zero fit other = refl
     pieces_stay o w m q (suc place) fit other =
-        added_stays key_of org ws n text place (after place) (pieces_sound place fit.0) fit.1 o w m q (other place (omega arith))
+        added_stays keys org ws n text place (after place) (pieces_sound place fit.0) fit.1 o w m q (other place (omega arith))
         ∙ pieces_stay o w m q place fit.0 (λ r below. other r (omega (arith, below)))
 
-    pub pieces_own : (place : ℕ) → TwinsFit key_of org ws n text place t → (q : ℕ) → q < place → piece_of org ws n q (after place) ≡ Some (piece_at text q)
+    pub pieces_own : (place : ℕ) → TwinsFit keys org ws n text place t → (q : ℕ) → q < place → piece_of org ws n q (after place) ≡ Some (piece_at text q)
     pieces_own zero fit q below = absurd (omega (arith, below))
     pieces_own (suc place) fit q below = go (nat_lt q place) refl (pieces_own place fit.0 q)
       where
         last : q ≡ place → piece_of org ws n q (after (suc place)) ≡ Some (piece_at text q)
-        last same = rw same (added_own key_of org ws n text place (after place) (pieces_sound place fit.0) fit.1 (free_place place))
+        last same = rw same (added_own keys org ws n text place (after place) (pieces_sound place fit.0) fit.1 (free_place place))
 
         go : (b : Bool) → nat_lt q place ≡ b → (q < place → piece_of org ws n q (after place) ≡ Some (piece_at text q)) → piece_of org ws n q (after (suc place)) ≡ Some (piece_at text q)
         go true e before =
             let under : q < place = ltb-true q place e in
-            added_stays key_of org ws n text place (after place) (pieces_sound place fit.0) fit.1 org ws n q (other_place org ws n place q (λ e. absurd (omega (arith, e, under)))) ∙ before under
+            added_stays keys org ws n text place (after place) (pieces_sound place fit.0) fit.1 org ws n q (other_place org ws n place q (λ e. absurd (omega (arith, e, under)))) ∙ before under
         go false e before = let over : place ≤ q = ltb-false q place e in last (omega (arith, over, below))

@@ -1,5 +1,5 @@
 -- Writes, and reads, one after another: what they leave and tell, be it none.
-use Rattle.std.proofs.Common.{◌≡◌, IsTrue, Option, Some, Result, Ok, Err, OnOk, ◌∙◌}
+use Rattle.std.proofs.Common.{◌≡◌, IsTrue, Option, Some, Result, Ok, Err, OnOk, refl, ◌∙◌}
 use Rattle.sqlite_trees.specs.declared.store.Store.{Ghosts}
 use Rattle.sqlite.specs.Held.{Held, state}
 use Rattle.sqlite.specs.State.{State, HasCleanDisk, IsUnchanged, KeepsCommit}
@@ -22,14 +22,32 @@ moves_as f g a b is moved = moved_behind f g a a b (as_it_is a) is moved
 -- What was done so far, on a connection that was open, and what it tells of the rows before it.
 pub record WritesSoFar (change : Tables → Tables) (law : Tables → Type 0) (old new : State) : Type 0 where
   pub so_far : HasCleanDisk new → HasCleanDisk old
+  pub shield : old.IsShielded → new.IsShielded
   pub moves : HasCleanDisk new → IsTrue old.is_open → IsTrue old.in_transaction → Moves AnyRows change old new
   pub told : HasCleanDisk new → IsTrue old.is_open → IsTrue old.in_transaction → (t : Tables) → Holds old.now t → law t
 
+-- none yet
+pub writes_none : (f : Tables → Tables) (law : Tables → Type 0) (a : State) → ((t : Tables) → t ≡ f t) → ((t : Tables) → law t) → WritesSoFar f law a a
+writes_none f law a is tells = record {
+  so_far = λ clean. clean;
+  shield = λ s. s;
+  moves = λ clean open_is inside. moves_as (λ t. t) f a a (λ t holds. is t) (record {
+    rows = λ t holds any. holds;
+    others = λ t holds any. record { schema = refl; rows = λ other own passive apart. refl };
+    was_open = open_is;
+    is_open = open_is;
+    committed = refl;
+    inside = inside;
+  });
+  told = λ clean open_is inside t holds. tells t;
+}
+
 -- one more
 pub writes_more : (f g h : Tables → Tables) (law next told : Tables → Type 0) (a b c : State) → ((t : Tables) → g (f t) ≡ h t) → ((t : Tables) → law t → next (f t) → told t)
-    → WritesSoFar f law a b → (HasCleanDisk c → HasCleanDisk b) → (HasCleanDisk c → IsTrue b.in_transaction → Moves AnyRows g b c × ((t : Tables) → Holds b.now t → next t)) → WritesSoFar h told a c
-writes_more f g h law next told a b c is tells some before last = record {
+    → WritesSoFar f law a b → (HasCleanDisk c → HasCleanDisk b) → (b.IsShielded → c.IsShielded) → (HasCleanDisk c → IsTrue b.in_transaction → Moves AnyRows g b c × ((t : Tables) → Holds b.now t → next t)) → WritesSoFar h told a c
+writes_more f g h law next told a b c is tells some before after last = record {
   so_far = λ clean. some.so_far (before clean);
+  shield = λ s. after (some.shield s);
   moves = λ clean open_is inside.
       let one = some.moves (before clean) open_is inside in
       moves_as (λ t. g (f t)) h a c (λ t holds. is t) (moves_then AnyRows AnyRows f g a b c (λ t any. any) one (last clean one.inside).0);
@@ -43,16 +61,18 @@ writes_more f g h law next told a b c is tells some before last = record {
 -- What was read so far, and what it tells of the rows.
 pub record ReadsSoFar {X : Type 0} (value : Tables → X) (law : Tables → Type 0) (old new : State) (x : X) : Type 0 where
   pub so_far : HasCleanDisk new → HasCleanDisk old
+  pub shield : old.IsShielded → new.IsShielded
   pub looks : HasCleanDisk new → LeavesAsIs old new
   pub read : HasCleanDisk new → (t : Tables) → Holds old.now t → x ≡ value t
   pub told : HasCleanDisk new → (t : Tables) → Holds old.now t → law t
 
 -- one more
 pub reads_more : {X Y : Type 0} (value next : Tables → X) (law told : Tables → Type 0) (one : Tables → Option Y) (a b c : State) (x z : X) (y : Y) → ((t : Tables) → x ≡ value t → one t ≡ Some y → z ≡ next t)
-    → ((t : Tables) → law t → one t ≡ Some y → told t) → ReadsSoFar value law a b x → (HasCleanDisk c → HasCleanDisk b) → (HasCleanDisk c → ((t : Tables) → Holds b.now t → one t ≡ Some y) × IsUnchanged b c)
+    → ((t : Tables) → law t → one t ≡ Some y → told t) → ReadsSoFar value law a b x → (HasCleanDisk c → HasCleanDisk b) → (b.IsShielded → c.IsShielded) → (HasCleanDisk c → ((t : Tables) → Holds b.now t → one t ≡ Some y) × IsUnchanged b c)
     → ReadsSoFar next told a c z
-reads_more value next law told one a b c x z y is tells some before last = record {
+reads_more value next law told one a b c x z y is tells some before after last = record {
   so_far = λ clean. some.so_far (before clean);
+  shield = λ s. after (some.shield s);
   looks = λ clean. looks_then a b c (some.looks (before clean)) (one_look b c (last clean).1);
   read = λ clean t holds. is t (some.read (before clean) t holds) ((last clean).0 t (still_holds a b (some.looks (before clean)) t holds));
   told = λ clean t holds. tells t (some.told (before clean) t holds) ((last clean).0 t (still_holds a b (some.looks (before clean)) t holds));
@@ -75,11 +95,13 @@ module _ {S : Type 0} (g : Ghosts S) where
     mode = one.mode;
     sees = λ clean. let read = one.read clean in (read.0, (one_look (state g a) (state g b) read.1.0, tt));
     so_far = clean_before (state g a) (state g b) _ one.survives;
+    shield = one.survives.shield;
   }
   sees_by says a b (Err e) one = record {
     mode = one.mode;
     sees = λ clean. (tt, (tt, failed_behind (state g a) (state g a) (state g b) (as_it_is (state g a)) (one.read clean).1.1));
     so_far = clean_before (state g a) (state g b) _ one.survives;
+    shield = one.survives.shield;
   }
 
   -- reads, and then others: what they tell together
@@ -92,11 +114,13 @@ module _ {S : Type 0} (g : Ghosts S) where
         let second = last.sees clean in
         (λ t holds. means y t (first.0 t holds) (second.0 t (still_holds (state g a) (state g b) first.1.0 t holds)), (looks_then (state g a) (state g b) (state g c) first.1.0 second.1.0, tt));
     so_far = λ clean. one.so_far (last.so_far clean);
+    shield = λ s. last.shield (one.shield s);
   }
   sees_then P Q R a b c x (Err e) means one last = record {
     mode = λ idle. last.mode (one.mode idle);
     sees = λ clean. (tt, (tt, reads_failed (state g a) (state g b) (state g c) (one.sees (last.so_far clean)).1.0 (last.sees clean).1.1));
     so_far = λ clean. one.so_far (last.so_far clean);
+    shield = λ s. last.shield (one.shield s);
   }
 
   -- what was read, as it is shown
@@ -105,4 +129,5 @@ module _ {S : Type 0} (g : Ghosts S) where
     mode = one.mode;
     sees = λ clean. let seen = one.sees clean in (λ t holds. means t (seen.0 t holds), (seen.1.0, tt));
     so_far = one.so_far;
+    shield = one.shield;
   }

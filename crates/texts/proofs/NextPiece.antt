@@ -1,10 +1,11 @@
 -- A text's pieces one by one: from the first so many to one more.
-use Rattle.std.proofs.Common.{◌≡◌, ◌<◌, ◌≤◌, ℕ, zero, suc, ◌+◌, nat_lt, Bool, true, false, ◌&&◌, List, [], ◌++◌, is_some, Option, Some, None, IsSome, option_map, unwrap_or, inl, inr, refl, sym, ap, ap₂, ◌∙◌, subst, arith}
-use Rattle.std.proofs.lemmas.Bool.{cases_Bool, ltb-true, ltb-false}
+use Rattle.std.proofs.Common.{◌≡◌, ◌<◌, ◌≤◌, ℕ, zero, suc, ◌+◌, nat_lt, Bool, true, false, cond, ◌&&◌, List, [], ◌++◌, is_some, Option, Some, None, IsSome, option_map, unwrap_or, inl, inr, refl, sym, ap, ap₂, ◌∙◌, subst, arith}
+use Rattle.std.proofs.lemmas.Bool.{cases_Bool, ltb-true, ltb-false, lt-ltb, le-ltb}
 use Rattle.std.specs.Str.{bytes_eq}
 use Rattle.statements.specs.Tables.{Tables}
+use Rattle.pages.specs.Pages.{IsKeyFor}
 use Rattle.pages.specs.Puts.{twin_limit, twin_for}
-use Rattle.texts.specs.Texts.{piece_at, pieces_added, TwinsFit, pieces_removed, piece_removed, piece_of, AreThere, WereThere, joined, are_pieces}
+use Rattle.texts.specs.Texts.{piece_at, pieces_added, TwinsFit, KeysFit, pieces_removed, piece_removed, piece_of, AreThere, WereThere, joined, are_pieces}
 use Rattle.texts.specs.Inner.Calls.{piece_placed, is_piece_of}
 
 one_more : (n : ℕ) → suc n ≡ n + 1
@@ -17,16 +18,62 @@ each_more P n below at m low = elim (cases_Bool (nat_lt m n)) [
   | inr not_less ↦ let from : n ≤ m = ltb-false m n not_less in let same : n ≡ m = omega (arith, from, low) in subst P same at
 ]
 
+-- keys for the first places, so many, and then this one
+abbrev pub keys_to : (ℕ → List ℕ) → ℕ → List ℕ → ℕ → List ℕ
+keys_to keys place key q = cond (nat_lt q place) (keys q) key
+
+module _ (keys : ℕ → List ℕ) (place : ℕ) (key : List ℕ) where
+  key_at : keys_to keys place key place ≡ key
+  key_at = ap (λ (b : Bool). cond b (keys place) key) (le-ltb place place (omega arith))
+
+  keys_below : (q : ℕ) → q < place → keys_to keys place key q ≡ keys q
+  keys_below q low = ap (λ (b : Bool). cond b (keys q) key) (lt-ltb q place low)
+
+fits_as : {j k : List ℕ} {t u : Tables} → j ≡ k → t ≡ u → (piece : List ℕ) → twin_for j piece t < twin_limit → twin_for k piece u < twin_limit
+fits_as key_is is piece low = subst (λ m. m < twin_limit) (ap₂ (λ a b. twin_for a piece b) key_is is) low
+
+keyed_as : (key_of : List ℕ → List ℕ) {j k : List ℕ} {t u : Tables} → j ≡ k → t ≡ u → (piece : List ℕ) → IsKeyFor key_of piece j t → IsKeyFor key_of piece k u
+keyed_as key_of {j} {k} {t} {u} key_is is piece one = subst (λ v. IsKeyFor key_of piece k v) is (subst (λ a. IsKeyFor key_of piece a t) key_is one)
+
 module _ (org ws : List ℕ) (n : ℕ) (t : Tables) where
   -- ---- putting
 
-  module _ (key_of : List ℕ → List ℕ) (text : List ℕ) (place : ℕ) where
-    pub added_more : piece_placed key_of org ws n place (piece_at text place) (pieces_added key_of org ws n text place t) ≡ pieces_added key_of org ws n text (place + 1) t
-    added_more = ap (λ m. pieces_added key_of org ws n text m t) (one_more place)
+  module _ (more keys : ℕ → List ℕ) (text : List ℕ) where
+    -- keys of other places mean nothing
+    same_added : (place : ℕ) → ((q : ℕ) → q < place → more q ≡ keys q) → pieces_added more org ws n text place t ≡ pieces_added keys org ws n text place t
+    same_added zero agree = refl
+    same_added (suc place) agree =
+        ap₂ (λ key u. piece_placed key org ws n place (piece_at text place) u) (agree place (omega arith)) (same_added place (λ q below. agree q (omega (arith, below))))
 
-    pub fit_more : TwinsFit key_of org ws n text place t → twin_for (key_of (piece_at text place)) (piece_at text place) (pieces_added key_of org ws n text place t) < twin_limit
-        → TwinsFit key_of org ws n text (place + 1) t
-    fit_more fit one = subst (λ m. TwinsFit key_of org ws n text m t) (one_more place) (fit, one)
+    same_fit : (place : ℕ) → ((q : ℕ) → q < place → more q ≡ keys q) → TwinsFit keys org ws n text place t → TwinsFit more org ws n text place t
+    same_fit zero agree fit = tt
+    same_fit (suc place) agree fit =
+        let below : (q : ℕ) → q < place → more q ≡ keys q = λ q low. agree q (omega (arith, low)) in
+        (same_fit place below fit.0, fits_as (sym (agree place (omega arith))) (sym (same_added place below)) (piece_at text place) fit.1)
+
+    same_keyed : (key_of : List ℕ → List ℕ) (place : ℕ) → ((q : ℕ) → q < place → more q ≡ keys q) → KeysFit key_of keys org ws n text place t → KeysFit key_of more org ws n text place t
+    same_keyed key_of zero agree fit = tt
+    same_keyed key_of (suc place) agree fit =
+        let below : (q : ℕ) → q < place → more q ≡ keys q = λ q low. agree q (omega (arith, low)) in
+        (same_keyed key_of place below fit.0, keyed_as key_of (sym (agree place (omega arith))) (sym (same_added place below)) (piece_at text place) fit.1)
+
+  module _ (keys : ℕ → List ℕ) (key text : List ℕ) (place : ℕ) where
+    pub added_more : piece_placed key org ws n place (piece_at text place) (pieces_added keys org ws n text place t) ≡ pieces_added (keys_to keys place key) org ws n text (place + 1) t
+    added_more =
+        ap₂ (λ k u. piece_placed k org ws n place (piece_at text place) u) (sym (key_at keys place key)) (sym (same_added (keys_to keys place key) keys text place (keys_below keys place key)))
+        ∙ ap (λ m. pieces_added (keys_to keys place key) org ws n text m t) (one_more place)
+
+    pub fit_more : TwinsFit keys org ws n text place t → twin_for key (piece_at text place) (pieces_added keys org ws n text place t) < twin_limit → TwinsFit (keys_to keys place key) org ws n text (place + 1) t
+    fit_more fit one = subst (λ m. TwinsFit (keys_to keys place key) org ws n text m t) (one_more place) (
+      same_fit (keys_to keys place key) keys text place (keys_below keys place key) fit,
+      fits_as (sym (key_at keys place key)) (sym (same_added (keys_to keys place key) keys text place (keys_below keys place key))) (piece_at text place) one,
+    )
+
+    pub keyed_more : (key_of : List ℕ → List ℕ) → KeysFit key_of keys org ws n text place t → IsKeyFor key_of (piece_at text place) key (pieces_added keys org ws n text place t) → KeysFit key_of (keys_to keys place key) org ws n text (place + 1) t
+    keyed_more key_of fit one = subst (λ m. KeysFit key_of (keys_to keys place key) org ws n text m t) (one_more place) (
+      same_keyed (keys_to keys place key) keys text key_of place (keys_below keys place key) fit,
+      keyed_as key_of (sym (key_at keys place key)) (sym (same_added (keys_to keys place key) keys text place (keys_below keys place key))) (piece_at text place) one,
+    )
 
   -- ---- taking away
 

@@ -18,13 +18,13 @@ some_of f g None b is = absurd (let none : ⊥ = cc in none)
 some_of f g (Some a) b is = refl
 
 -- the row of a page that was put names it by the key and the twin number that it was told
-pub placed_as_told : (key_of : List ℕ → List ℕ) (org ws : List ℕ) (n place : ℕ) (piece key : List ℕ) (twin : ℕ) (t : Tables) → key ≡ key_of piece → twin ≡ twin_for (key_of piece) piece t
-    → place_added org ws n place key twin (page_put (key_of piece) piece t) ≡ piece_placed key_of org ws n place piece t
-placed_as_told key_of org ws n place piece key twin t key_is twin_is i = place_added org ws n place (key_is i) (twin_is i) (page_put (key_of piece) piece t)
+pub placed_as_told : (own org ws : List ℕ) (n place : ℕ) (piece key : List ℕ) (twin : ℕ) (t : Tables) → key ≡ own → twin ≡ twin_for own piece t
+    → place_added org ws n place key twin (page_put own piece t) ≡ piece_placed own org ws n place piece t
+placed_as_told own org ws n place piece key twin t key_is twin_is i = place_added org ws n place (key_is i) (twin_is i) (page_put own piece t)
 
 -- and the twin number that it was told is one that SQL has
-pub told_fits : (key_of : List ℕ → List ℕ) (piece : List ℕ) (twin : ℕ) (t : Tables) → twin ≡ twin_for (key_of piece) piece t → twin < twin_limit → twin_for (key_of piece) piece t < twin_limit
-told_fits key_of piece twin t twin_is low = subst (λ m. m < twin_limit) twin_is low
+pub told_fits : (own piece : List ℕ) (twin : ℕ) (t : Tables) → twin ≡ twin_for own piece t → twin < twin_limit → twin_for own piece t < twin_limit
+told_fits own piece twin t twin_is low = subst (λ m. m < twin_limit) twin_is low
 
 -- a page of which a use was taken, behind the row that goes
 pub released_was_there : {X E : Type 0} (org ws : List ℕ) (n place : ℕ) (key : List ℕ) (twin : ℕ) (g : Tables → Tables) (a b c : State) (result : Result X E) → Moves AnyRows (place_removed org ws n place) a b

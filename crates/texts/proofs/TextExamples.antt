@@ -1,5 +1,5 @@
 -- Worked texts, computed by the definitions themselves. The key keeps a page's first byte.
-use Rattle.std.proofs.Common.{◌≡◌, ℕ, true, false, List, [], ◌∷◌, map, take, None, refl}
+use Rattle.std.proofs.Common.{◌≡◌, ℕ, true, false, List, [], ◌∷◌, map, None, refl}
 use Rattle.std.specs.Prelude.{codes}
 use Rattle.statements.specs.Tables.{Tables, no_rows}
 use Rattle.pages.specs.Rows.{page_added, page_used, equal_page}
@@ -50,7 +50,7 @@ first_text = place_added org ws 1 0 (codes "a") 0 (page_added (codes "a") 0 (cod
 
 -- an equal text of the next version is the same page
 abbrev equal_text : Tables
-equal_text = text_added (take 1) org ws 2 (codes "abc") first_text
+equal_text = text_added (λ place. codes "a") org ws 2 (codes "abc") first_text
 
 equal_pages : kept equal_text ≡ (codes "a", 0, 2) ∷ []
 equal_pages = refl

@@ -29,71 +29,71 @@ module _ (org ws : List ℕ) (n : ℕ) (xs : List (Kept VpageRow)) where
 
 -- ---- a text that is put
 
-module _ (key_of : List ℕ → List ℕ) (org ws : List ℕ) (n : ℕ) (text : List ℕ) (t : Tables) where
+module _ (keys : ℕ → List ℕ) (org ws : List ℕ) (n : ℕ) (text : List ℕ) (t : Tables) where
   -- places stay sound
-  pub text_added_keeps : HasSoundPlaces t → HasNoPlaces org ws n t → TwinsFit key_of org ws n text (pages_for (length text)) t → HasSoundPlaces (text_added key_of org ws n text t)
-  text_added_keeps sound none fit = pieces_sound key_of org ws n text t sound none (pages_for (length text)) fit
+  pub text_added_keeps : HasSoundPlaces t → HasNoPlaces org ws n t → TwinsFit keys org ws n text (pages_for (length text)) t → HasSoundPlaces (text_added keys org ws n text t)
+  text_added_keeps sound none fit = pieces_sound keys org ws n text t sound none (pages_for (length text)) fit
 
-  own_pieces : HasSoundPlaces t → HasNoPlaces org ws n t → TwinsFit key_of org ws n text (pages_for (length text)) t → (q : ℕ) → q < pages_for (length text) → piece_of org ws n q (text_added key_of org ws n text t) ≡ Some (piece_at text q)
-  own_pieces sound none fit = pieces_own key_of org ws n text t sound none (pages_for (length text)) fit
+  own_pieces : HasSoundPlaces t → HasNoPlaces org ws n t → TwinsFit keys org ws n text (pages_for (length text)) t → (q : ℕ) → q < pages_for (length text) → piece_of org ws n q (text_added keys org ws n text t) ≡ Some (piece_at text q)
+  own_pieces sound none fit = pieces_own keys org ws n text t sound none (pages_for (length text)) fit
 
   -- the text is there, each page of it
-  pub text_added_whole : HasSoundPlaces t → HasNoPlaces org ws n t → TwinsFit key_of org ws n text (pages_for (length text)) t → IsWhole org ws n (length text) (text_added key_of org ws n text t)
-  text_added_whole sound none fit = pieces_whole org ws n (text_added key_of org ws n text t) text (own_pieces sound none fit)
+  pub text_added_whole : HasSoundPlaces t → HasNoPlaces org ws n t → TwinsFit keys org ws n text (pages_for (length text)) t → IsWhole org ws n (length text) (text_added keys org ws n text t)
+  text_added_whole sound none fit = pieces_whole org ws n (text_added keys org ws n text t) text (own_pieces sound none fit)
 
   -- what is read is what was put
-  pub text_added_text : HasSoundPlaces t → HasNoPlaces org ws n t → TwinsFit key_of org ws n text (pages_for (length text)) t → text_of org ws n (length text) (text_added key_of org ws n text t) ≡ text
-  text_added_text sound none fit = text_pieces org ws n (text_added key_of org ws n text t) text (own_pieces sound none fit)
+  pub text_added_text : HasSoundPlaces t → HasNoPlaces org ws n t → TwinsFit keys org ws n text (pages_for (length text)) t → text_of org ws n (length text) (text_added keys org ws n text t) ≡ text
+  text_added_text sound none fit = text_pieces org ws n (text_added keys org ws n text t) text (own_pieces sound none fit)
 
   -- every other version has its text
-  module _ (sound : HasSoundPlaces t) (none : HasNoPlaces org ws n t) (fit : TwinsFit key_of org ws n text (pages_for (length text)) t) (o w : List ℕ) (m : ℕ) (other : IsOtherVersion o w m org ws n) where
-    pub text_added_others_pieces : (q : ℕ) → piece_of o w m q (text_added key_of org ws n text t) ≡ piece_of o w m q t
-    text_added_others_pieces q = pieces_stay key_of org ws n text t sound none o w m q (pages_for (length text)) fit (λ r below. other_version o w m org ws n other q r)
+  module _ (sound : HasSoundPlaces t) (none : HasNoPlaces org ws n t) (fit : TwinsFit keys org ws n text (pages_for (length text)) t) (o w : List ℕ) (m : ℕ) (other : IsOtherVersion o w m org ws n) where
+    pub text_added_others_pieces : (q : ℕ) → piece_of o w m q (text_added keys org ws n text t) ≡ piece_of o w m q t
+    text_added_others_pieces q = pieces_stay keys org ws n text t sound none o w m q (pages_for (length text)) fit (λ r below. other_version o w m org ws n other q r)
 
-    pub text_added_others_whole : (size : ℕ) → IsWhole o w m size t → IsWhole o w m size (text_added key_of org ws n text t)
-    text_added_others_whole = whole_stays o w m t (text_added key_of org ws n text t) text_added_others_pieces
+    pub text_added_others_whole : (size : ℕ) → IsWhole o w m size t → IsWhole o w m size (text_added keys org ws n text t)
+    text_added_others_whole = whole_stays o w m t (text_added keys org ws n text t) text_added_others_pieces
 
-    pub text_added_others_text : (size : ℕ) → text_of o w m size (text_added key_of org ws n text t) ≡ text_of o w m size t
-    text_added_others_text = text_stays o w m t (text_added key_of org ws n text t) text_added_others_pieces
+    pub text_added_others_text : (size : ℕ) → text_of o w m size (text_added keys org ws n text t) ≡ text_of o w m size t
+    text_added_others_text = text_stays o w m t (text_added keys org ws n text t) text_added_others_pieces
 
   -- a version without a row is without one afterwards, if it is another one
-  pub text_added_others_none : (o w : List ℕ) (m : ℕ) → IsOtherVersion o w m org ws n → HasNoPlaces o w m t → HasNoPlaces o w m (text_added key_of org ws n text t)
-  text_added_others_none o w m other none = pieces_find key_of org ws n text t (is_place_of o w m) (pages_for (length text)) (λ q below. other_rows o w m org ws n other q) ∙ none
+  pub text_added_others_none : (o w : List ℕ) (m : ℕ) → IsOtherVersion o w m org ws n → HasNoPlaces o w m t → HasNoPlaces o w m (text_added keys org ws n text t)
+  text_added_others_none o w m other none = pieces_find keys org ws n text t (is_place_of o w m) (pages_for (length text)) (λ q below. other_rows o w m org ws n other q) ∙ none
 
   -- a law on rows is kept that the version's new rows have
   pub text_added_places : (P : Kept VpageRow → Type 0) → AllByRecursion P t.vpages
-      → ((x : Kept VpageRow) → x.1.org ≡ org → x.1.ws ≡ ws → x.1.number ≡ n → x.1.place < pages_for (length text) → P x) → AllByRecursion P (text_added key_of org ws n text t).vpages
-  text_added_places P all new = pieces_all key_of org ws n text t P (pages_for (length text)) new all
+      → ((x : Kept VpageRow) → x.1.org ≡ org → x.1.ws ≡ ws → x.1.number ≡ n → x.1.place < pages_for (length text) → P x) → AllByRecursion P (text_added keys org ws n text t).vpages
+  text_added_places P all new = pieces_all keys org ws n text t P (pages_for (length text)) new all
 
   -- the other tables stay
-  pub text_added_rest : text_added key_of org ws n text t ≡ record t { pages = (text_added key_of org ws n text t).pages; vpages = (text_added key_of org ws n text t).vpages }
-  text_added_rest = pieces_rest key_of org ws n text t (pages_for (length text))
+  pub text_added_rest : text_added keys org ws n text t ≡ record t { pages = (text_added keys org ws n text t).pages; vpages = (text_added keys org ws n text t).vpages }
+  text_added_rest = pieces_rest keys org ws n text t (pages_for (length text))
 
-  pub text_added_metas : (text_added key_of org ws n text t).metas ≡ t.metas
+  pub text_added_metas : (text_added keys org ws n text t).metas ≡ t.metas
   text_added_metas = ap (λ (u : Tables). u.metas) text_added_rest
 
-  pub text_added_orgs : (text_added key_of org ws n text t).orgs ≡ t.orgs
+  pub text_added_orgs : (text_added keys org ws n text t).orgs ≡ t.orgs
   text_added_orgs = ap (λ (u : Tables). u.orgs) text_added_rest
 
-  pub text_added_tokens : (text_added key_of org ws n text t).tokens ≡ t.tokens
+  pub text_added_tokens : (text_added keys org ws n text t).tokens ≡ t.tokens
   text_added_tokens = ap (λ (u : Tables). u.tokens) text_added_rest
 
-  pub text_added_wss : (text_added key_of org ws n text t).wss ≡ t.wss
+  pub text_added_wss : (text_added keys org ws n text t).wss ≡ t.wss
   text_added_wss = ap (λ (u : Tables). u.wss) text_added_rest
 
-  pub text_added_versions : (text_added key_of org ws n text t).versions ≡ t.versions
+  pub text_added_versions : (text_added keys org ws n text t).versions ≡ t.versions
   text_added_versions = ap (λ (u : Tables). u.versions) text_added_rest
 
-  pub text_added_runs : (text_added key_of org ws n text t).runs ≡ t.runs
+  pub text_added_runs : (text_added keys org ws n text t).runs ≡ t.runs
   text_added_runs = ap (λ (u : Tables). u.runs) text_added_rest
 
-  pub text_added_bounds : (text_added key_of org ws n text t).bounds ≡ t.bounds
+  pub text_added_bounds : (text_added keys org ws n text t).bounds ≡ t.bounds
   text_added_bounds = ap (λ (u : Tables). u.bounds) text_added_rest
 
-  pub text_added_editions : (text_added key_of org ws n text t).editions ≡ t.editions
+  pub text_added_editions : (text_added keys org ws n text t).editions ≡ t.editions
   text_added_editions = ap (λ (u : Tables). u.editions) text_added_rest
 
-  pub text_added_keepings : (text_added key_of org ws n text t).keepings ≡ t.keepings
+  pub text_added_keepings : (text_added keys org ws n text t).keepings ≡ t.keepings
   text_added_keepings = ap (λ (u : Tables). u.keepings) text_added_rest
 
 -- ---- a text that is taken away

@@ -1,14 +1,18 @@
 -- The texts of versions, in pages: the rows of vpage that name the pages of a text in turn, and what putting and taking a text does to the rows.
-use Rattle.std.specs.Prelude.{◌≡◌, ◌<◌, ℕ, zero, suc, ◌+◌, ◌-◌, ◌*◌, ◌/◌, min, ⊤, Bool, true, ◌&&◌, ◌==◌, List, [], ◌++◌, length, filter, find, take, drop, Option, Some, None, IsSome, option_map, unwrap_or}
+use Rattle.std.specs.Prelude.{◌≡◌, ◌<◌, ℕ, zero, suc, ◌+◌, ◌-◌, ◌*◌, ◌/◌, min, ⊤, Bool, true, ◌&&◌, ◌==◌, List, [], ◌++◌, length, filter, find, take, drop, Option, Some, None, IsSome, option_map, unwrap_or, Result}
 use Rattle.std.specs.Str.{bytes_eq}
 use Rattle.sqlite_keyed.specs.Rules.{AreApart}
 use Rattle.sqlite_keyed.specs.Lists.{delete_where}
+use Rattle.sqlite_trees.specs.declared.store.Store.{Ghosts}
+use Rattle.sqlite.specs.Held.{state}
+use Rattle.sqlite.specs.declared.transaction.Transaction.{Transaction}
 use Rattle.statements.specs.Rows.{Kept, VpageRow}
+use Rattle.statements.specs.Steps.{Steps, Tells}
 use Rattle.statements.specs.Tables.{Tables}
 use Rattle.statements.specs.Changes.{with_next}
 use Rattle.pages.specs.Rows.{page_bytes, page_uses}
 use Rattle.pages.specs.Puts.{twin_limit, twin_for, page_put, page_released}
-use Rattle.pages.specs.Pages.{HasSoundPages}
+use Rattle.pages.specs.Pages.{HasSoundPages, IsKeyFor}
 use Rattle.pages.specs.declared.store.PageId.{PageId}
 use Rattle.texts.specs.declared.texts.TheConstants.{PAGE_BYTES}
 
@@ -53,25 +57,34 @@ piece_at text place = take PAGE_BYTES (drop (place * PAGE_BYTES) text)
 abbrev pub piece_size : ℕ → ℕ → ℕ
 piece_size size place = min PAGE_BYTES (size - place * PAGE_BYTES)
 
--- ---- putting a text
+-- ---- putting a text: the piece at each place is put under a key
 
-abbrev pub piece_added : (List ℕ → List ℕ) → List ℕ → List ℕ → ℕ → List ℕ → ℕ → Tables → Tables
-piece_added key_of org ws n text place t =
-    place_added org ws n place (key_of (piece_at text place)) (twin_for (key_of (piece_at text place)) (piece_at text place) t) (page_put (key_of (piece_at text place)) (piece_at text place) t)
+abbrev pub piece_added : (ℕ → List ℕ) → List ℕ → List ℕ → ℕ → List ℕ → ℕ → Tables → Tables
+piece_added keys org ws n text place t = place_added org ws n place (keys place) (twin_for (keys place) (piece_at text place) t) (page_put (keys place) (piece_at text place) t)
 
 -- the first pieces of a text, so many, are put, and the rows that name them are there
-abbrev pub pieces_added : (List ℕ → List ℕ) → List ℕ → List ℕ → ℕ → List ℕ → ℕ → Tables → Tables
-pieces_added key_of org ws n text zero t = t
-pieces_added key_of org ws n text (suc place) t = piece_added key_of org ws n text place (pieces_added key_of org ws n text place t)
+abbrev pub pieces_added : (ℕ → List ℕ) → List ℕ → List ℕ → ℕ → List ℕ → ℕ → Tables → Tables
+pieces_added keys org ws n text zero t = t
+pieces_added keys org ws n text (suc place) t = piece_added keys org ws n text place (pieces_added keys org ws n text place t)
 
-abbrev pub text_added : (List ℕ → List ℕ) → List ℕ → List ℕ → ℕ → List ℕ → Tables → Tables
-text_added key_of org ws n text t = pieces_added key_of org ws n text (pages_for (length text)) t
+abbrev pub text_added : (ℕ → List ℕ) → List ℕ → List ℕ → ℕ → List ℕ → Tables → Tables
+text_added keys org ws n text t = pieces_added keys org ws n text (pages_for (length text)) t
 
 -- of the first pieces, so many, each was put under a twin number that SQL has
-abbrev pub TwinsFit : (List ℕ → List ℕ) → List ℕ → List ℕ → ℕ → List ℕ → ℕ → Tables → Type 0
-TwinsFit key_of org ws n text zero t = ⊤
-TwinsFit key_of org ws n text (suc place) t =
-    TwinsFit key_of org ws n text place t × (twin_for (key_of (piece_at text place)) (piece_at text place) (pieces_added key_of org ws n text place t) < twin_limit)
+abbrev pub TwinsFit : (ℕ → List ℕ) → List ℕ → List ℕ → ℕ → List ℕ → ℕ → Tables → Type 0
+TwinsFit keys org ws n text zero t = ⊤
+TwinsFit keys org ws n text (suc place) t = TwinsFit keys org ws n text place t × (twin_for (keys place) (piece_at text place) (pieces_added keys org ws n text place t) < twin_limit)
+
+-- of the first pieces, so many, each was put under its own key, or under one of a page that had its bytes
+abbrev pub KeysFit : (List ℕ → List ℕ) → (ℕ → List ℕ) → List ℕ → List ℕ → ℕ → List ℕ → ℕ → Tables → Type 0
+KeysFit key_of keys org ws n text zero t = ⊤
+KeysFit key_of keys org ws n text (suc place) t = KeysFit key_of keys org ws n text place t × IsKeyFor key_of (piece_at text place) (keys place) (pieces_added keys org ws n text place t)
+
+-- What adding a text under these keys promises: each piece is put, under a key that it may have, and a twin number that SQL has.
+pub record AddsText {S E : Type 0} (g : Ghosts S) (key_of : List ℕ → List ℕ) (keys : ℕ → List ℕ) (org ws : List ℕ) (n : ℕ) (text : List ℕ) (old new : Transaction S) (result : Result ⊤ E) : Type 0 where
+  pub steps : Steps g (text_added keys org ws n text) old new result
+  pub fits : Tells (λ _. TwinsFit keys org ws n text (pages_for (length text))) (state g old.conn.now) (state g new.conn.now) result
+  pub keyed : Tells (λ _. KeysFit key_of keys org ws n text (pages_for (length text))) (state g old.conn.now) (state g new.conn.now) result
 
 -- ---- taking a text away
 

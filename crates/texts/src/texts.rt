@@ -1,13 +1,13 @@
 //! A version's text is put, taken away, read and compared, page by page.
-ghost use Rattle.std.specs.Prelude.{◌≡◌, ◌<◌, ◌≤◌, ◌*◌, ◌^◌, length, false, IsTrue, IsSome, IfOk, OnOk};
+ghost use Rattle.std.specs.Prelude.{◌≡◌, ◌<◌, ◌≤◌, ◌*◌, ◌^◌, ℕ, List, length, false, IsTrue, IsSome, IfOk, OnOk};
 ghost use Rattle.sqlite.specs.Held.{state};
 ghost use Rattle.sqlite.specs.State.{HasCleanDisk};
 ghost use Rattle.statements.specs.Steps.{Equals, Steps, Tells, Sees};
 ghost use Rattle.statements.specs.Tables.{Tables, Holds};
 ghost use Rattle.pages.specs.Pages.{GetsBy};
-ghost use Rattle.pages.specs.Puts.{twin_limit, twin_for};
-ghost use Rattle.texts.specs.Texts.{pages_for, piece_at, text_added, TwinsFit, bytes_named, piece_of, piece_removed, text_removed, WereThere, AreThere, text_of, are_pieces};
-ghost use Rattle.texts.specs.Inner.Calls.{piece_placed, named_removed, is_piece_of};
+ghost use Rattle.pages.specs.Inner.Calls.{OnlyLooks};
+ghost use Rattle.texts.specs.Texts.{pages_for, piece_at, AddsText, bytes_named, piece_of, piece_removed, text_removed, WereThere, AreThere, text_of, are_pieces};
+ghost use Rattle.texts.specs.Inner.Calls.{AddsPiece, named_removed, is_piece_of};
 
 use crate::places::{add, find, find_inside, remove};
 use crate::whole::read_whole;
@@ -43,40 +43,76 @@ fn piece_at(text: &[u8], place: u64) -> &[u8]
     piece
 }
 
+/// The page at a place of a version that is looked at, if one is. None is looked for at the first place: it holds the serial.
+fn look_at<S: Alter>(
+    tx: &mut Transaction<'_, S>,
+    org: &str,
+    ws: &str,
+    before: &Option<Number>,
+    place: u64,
+) -> Result<Option<PageId>, Error>
+    requires place_fits { place < 2 ^ 63 }
+    ensures same_reference { tx.new.conn.ghost_name ≡ tx.old.conn.ghost_name }
+    ensures looks { OnlyLooks (state S.Store tx.old.conn.now) (state S.Store tx.new.conn.now) result }
+    ensures so_far { HasCleanDisk (state S.Store tx.new.conn.now) → HasCleanDisk (state S.Store tx.old.conn.now) }
+    ensures shield { (state S.Store tx.old.conn.now).IsShielded → (state S.Store tx.new.conn.now).IsShielded }
+{
+    match before {
+        None => Ok(None),
+        Some(before) => {
+            if place == 0 {
+                Ok(None)
+            } else {
+                find_inside(tx, org, ws, *before, place)
+            }
+        }
+    }
+}
+
+fn key_in(found: &Option<PageId>) -> Option<&[u8; 32]> {
+    match found {
+        None => None,
+        Some(id) => Some(&id.key),
+    }
+}
+
 /// Puts a piece of a version's text, at a place that has none. Nothing else adds a row to the table vpage.
+/// It needs no key of its own where it is the piece at the same place of the version before.
 fn add_piece<K: PageKey, S: Alter>(
     tx: &mut Transaction<'_, S>,
     org: &str,
     ws: &str,
     number: Number,
+    before: &Option<Number>,
     place: u64,
     piece: &[u8],
 ) -> Result<(), Error>
     requires place_fits { place < 2 ^ 63 }
-    ensures steps { Steps S.Store (piece_placed K.key_of org.now ws.now number place piece.now) tx.old tx.new result }
-    ensures fits { HasCleanDisk (state S.Store tx.new.conn.now) → OnOk result ((t : Tables) → Holds (state S.Store tx.old.conn.now).now t → twin_for (K.key_of piece.now) piece.now t < twin_limit) }
+    ensures { (key : List ℕ) × AddsPiece S.Store K.key_of key org.now ws.now number place piece.now tx.old tx.new result }
 {
-    let id = put::<K, S>(tx, piece)?;
+    let found = look_at(tx, org, ws, before, place)?;
+    let id = put::<K, S>(tx, key_in(&found), piece)?;
     add(tx, org, ws, number, place, id.key.as_slice(), id.twin)
 }
 
-/// Puts a version's text. The version has none yet.
+/// Puts a version's text. The version has none yet. Pages that are those of the version before need no key of their own.
 /// Where the uses or the twin number of a page would pass 9,223,372,036,854,775,807, it is an error.
 pub fn add_text<K: PageKey, S: Alter>(
     tx: &mut Transaction<'_, S>,
     org: &str,
     ws: &str,
     number: Number,
+    before: Option<Number>,
     text: &[u8],
 ) -> Result<(), Error>
     ensures same_reference { tx.new.conn.ghost_name ≡ tx.old.conn.ghost_name }
-    ensures steps { IsTrue (state S.Store tx.old.conn.now).is_open → Steps S.Store (text_added K.key_of org.now ws.now number text.now) tx.old tx.new result }
-    ensures fits { IsTrue (state S.Store tx.old.conn.now).is_open → Tells (λ _. TwinsFit K.key_of org.now ws.now number text.now (pages_for (length text.now))) (state S.Store tx.old.conn.now) (state S.Store tx.new.conn.now) result }
+    ensures adds { (keys : ℕ → List ℕ) × (IsTrue (state S.Store tx.old.conn.now).is_open → AddsText S.Store K.key_of keys org.now ws.now number text.now tx.old tx.new result) }
     ensures so_far { HasCleanDisk (state S.Store tx.new.conn.now) → HasCleanDisk (state S.Store tx.old.conn.now) }
+    ensures shield { (state S.Store tx.old.conn.now).IsShielded → (state S.Store tx.new.conn.now).IsShielded }
 {
     let pages = pages_for(text.len() as u64);
     'places: for place in 0..pages {
-        add_piece::<K, S>(tx, org, ws, number, place, piece_at(text, place))?;
+        add_piece::<K, S>(tx, org, ws, number, &before, place, piece_at(text, place))?;
     }
     Ok(())
 }
@@ -130,6 +166,7 @@ pub fn remove_text<S: Alter>(
     ensures steps { IsTrue (state S.Store tx.old.conn.now).is_open → Steps S.Store (text_removed org.now ws.now number size) tx.old tx.new result }
     ensures there { IsTrue (state S.Store tx.old.conn.now).is_open → Tells (λ _. WereThere org.now ws.now number (pages_for size)) (state S.Store tx.old.conn.now) (state S.Store tx.new.conn.now) result }
     ensures so_far { HasCleanDisk (state S.Store tx.new.conn.now) → HasCleanDisk (state S.Store tx.old.conn.now) }
+    ensures shield { (state S.Store tx.old.conn.now).IsShielded → (state S.Store tx.new.conn.now).IsShielded }
 {
     let pages = pages_for(size);
     'places: for place in 0..pages {
@@ -166,6 +203,7 @@ fn same_piece<S: Alter>(
     ensures mode { conn.old.in_transaction ≡ false → conn.new.in_transaction ≡ false }
     ensures gets { GetsBy (is_piece_of org.now ws.now number place piece.now) (state S.Store conn.old) (state S.Store conn.new) result }
     ensures so_far { HasCleanDisk (state S.Store conn.new) → HasCleanDisk (state S.Store conn.old) }
+    ensures shield { (state S.Store conn.old).IsShielded → (state S.Store conn.new).IsShielded }
 {
     let found = find(conn, org, ws, number, place)?;
     match found {

@@ -45,6 +45,7 @@ fn join_rows<S: Alter>(
     ensures rows { IsQuery sql.now → HasCleanDisk (state S.Store conn.new) → IfOk result (λ text. (rows : List SqlRow) × Shown sql.now (bound params.now) (state S.Store conn.old) (state S.Store conn.new) rows × AreInTurn rows places text) }
     ensures looks { IsQuery sql.now → OnlyLooks (state S.Store conn.old) (state S.Store conn.new) result }
     ensures so_far { IsQuery sql.now → HasCleanDisk (state S.Store conn.new) → HasCleanDisk (state S.Store conn.old) }
+    ensures shield { IsQuery sql.now → (state S.Store conn.old).IsShielded → (state S.Store conn.new).IsShielded }
 {
     let mut text = Vec::with_capacity(alloc, size)?;
     let mut rows = conn.query(sql, params)?;

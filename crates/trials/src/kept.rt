@@ -42,7 +42,7 @@ fn put<K: PageKey>(conn: &mut Tables, text: &[u8]) -> Result<(), Error> {
     }
     let number = number()?;
     let mut tx = conn.transaction();
-    add_text::<K, MemStore>(&mut tx, ORG, WS, number, text)?;
+    add_text::<K, MemStore>(&mut tx, ORG, WS, number, None, text)?;
     tx.commit()
 }
 

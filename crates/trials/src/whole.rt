@@ -4,7 +4,7 @@ use basis::{
     Bytes, Holder, Items, KeepCount, Limit, LockId, Moment, Number, OrgName, RunAction, RunRow,
     RunSettings, RunStatus, Settings, Text,
 };
-use machine::{Act, Needs, Newest, Staying, Unit, Version, Workspace, WorkspaceUnit};
+use machine::{Act, Needs, Newest, StateText, Staying, Unit, Version, Workspace, WorkspaceUnit};
 use pages::PageKey;
 use sqlite::{Alter, Connection, Error, Row, params};
 use std::alloc::{AllocError, Global};
@@ -183,7 +183,7 @@ fn version_in(alloc: Global, row: &Row, pages: &[Row]) -> Result<Version, Error>
         serial: row.get(1)?,
         lineage,
         created: moment_in(row, 3)?,
-        text: Bytes::new(text),
+        text: StateText::new(alloc, Bytes::new(text))?,
     })
 }
 
@@ -288,14 +288,14 @@ fn newest_of(versions: &[Version]) -> Option<&Version> {
     newest
 }
 
-fn has_text(version: &Version, text: Option<&Bytes>) -> bool {
+fn has_text(version: &Version, text: Option<&[u8]>) -> bool {
     match text {
-        Some(text) => version.text.as_slice() == text.as_slice(),
+        Some(text) => version.text.as_slice() == text,
         None => false,
     }
 }
 
-fn newest_unit(versions: &[Version], text: Option<&Bytes>) -> Result<Option<Newest>, AllocError> {
+fn newest_unit(versions: &[Version], text: Option<&[u8]>) -> Result<Option<Newest>, AllocError> {
     let Some(newest) = newest_of(versions) else {
         return Ok(None);
     };

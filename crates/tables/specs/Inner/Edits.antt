@@ -64,8 +64,8 @@ abbrev pub row_added : List ℕ → List ℕ → Version → Tables → Tables
 row_added org ws v t = version_added org ws (new_version v.number v.serial v.lineage v.created (length v.text)) t
 
 -- a version comes behind the others, with its text
-abbrev pub added_rows : (List ℕ → List ℕ) → List ℕ → List ℕ → Version → Tables → Tables
-added_rows key_of org ws v t = text_added key_of org ws v.number v.text (row_added org ws v t)
+abbrev pub added_rows : (ℕ → List ℕ) → List ℕ → List ℕ → Version → Tables → Tables
+added_rows keys org ws v t = text_added keys org ws v.number v.text (row_added org ws v t)
 
 -- those up to a number go
 abbrev pub left_rows : Option ℕ → List ℕ → List ℕ → Tables → Tables
@@ -81,18 +81,18 @@ abbrev pub configured_rows : List ℕ → List ℕ → Settings → Option ℕ �
 configured_rows org ws settings outgoing t = left_rows outgoing org ws (settings_rows org ws settings t)
 
 -- a version comes, and those up to a number go
-abbrev pub versioned_rows : (List ℕ → List ℕ) → List ℕ → List ℕ → Version → Option ℕ → Tables → Tables
-versioned_rows key_of org ws v outgoing t = left_rows outgoing org ws (added_rows key_of org ws v (numbered_rows org ws v t))
+abbrev pub versioned_rows : (ℕ → List ℕ) → List ℕ → List ℕ → Version → Option ℕ → Tables → Tables
+versioned_rows keys org ws v outgoing t = left_rows outgoing org ws (added_rows keys org ws v (numbered_rows org ws v t))
 
 -- each page of the text of a new version gets a twin number that SQL has
-abbrev pub FitsTwins : (List ℕ → List ℕ) → List ℕ → List ℕ → Version → Tables → Type 0
-FitsTwins key_of org ws v t = TwinsFit key_of org ws v.number v.text (pages_for (length v.text)) (row_added org ws v t)
+abbrev pub FitsTwins : (ℕ → List ℕ) → List ℕ → List ℕ → Version → Tables → Type 0
+FitsTwins keys org ws v t = TwinsFit keys org ws v.number v.text (pages_for (length v.text)) (row_added org ws v t)
 
 -- A version can come: its workspace is there, none has its number, and each page of its text has a twin number that SQL has.
-pub record TakesVersion (key_of : List ℕ → List ℕ) (org ws : List ℕ) (v : Version) (t : Tables) : Type 0 where
+pub record TakesVersion (keys : ℕ → List ℕ) (org ws : List ℕ) (v : Version) (t : Tables) : Type 0 where
   pub there : is_some (workspace_of org ws t) ≡ true
   pub fresh : size_of org ws v.number t ≡ None
-  pub fits : FitsTwins key_of org ws v (numbered_rows org ws v t)
+  pub fits : FitsTwins keys org ws v (numbered_rows org ws v t)
 
 -- what comes of a workspace that is there: of one that isn't nothing does
 abbrev pub if_there : Option WorkspaceCells → Tables → Tables → Tables
@@ -114,16 +114,16 @@ abbrev pub freed_rows : Bool → List ℕ → List ℕ → Tables → Tables
 freed_rows frees org ws t = cond frees (ws_changed (held_by Nobody) org ws t) t
 
 -- after an edit
-abbrev pub edited_rows : (List ℕ → List ℕ) → List ℕ → List ℕ → Edit → Tables → Tables
-edited_rows key_of org ws (Make settings) t = made_rows org ws settings t
-edited_rows key_of org ws (Configure settings outgoing) t = configured_rows org ws settings outgoing t
-edited_rows key_of org ws Remove t = removed_rows org ws t
-edited_rows key_of org ws (AddVersion version outgoing) t = versioned_rows key_of org ws version outgoing t
-edited_rows key_of org ws Purge t = all_gone org ws t
-edited_rows key_of org ws (Hold id text) t = ws_changed (held_by (Lock id text)) org ws t
-edited_rows key_of org ws (Release id) t = ws_changed (released_from id) org ws t
-edited_rows key_of org ws (AddRun number ask created) t = run_rows org ws number ask created t
-edited_rows key_of org ws (Report number action status frees) t = freed_rows frees org ws (run_acted status action org ws number t)
+abbrev pub edited_rows : (ℕ → List ℕ) → List ℕ → List ℕ → Edit → Tables → Tables
+edited_rows keys org ws (Make settings) t = made_rows org ws settings t
+edited_rows keys org ws (Configure settings outgoing) t = configured_rows org ws settings outgoing t
+edited_rows keys org ws Remove t = removed_rows org ws t
+edited_rows keys org ws (AddVersion version outgoing) t = versioned_rows keys org ws version outgoing t
+edited_rows keys org ws Purge t = all_gone org ws t
+edited_rows keys org ws (Hold id text) t = ws_changed (held_by (Lock id text)) org ws t
+edited_rows keys org ws (Release id) t = ws_changed (released_from id) org ws t
+edited_rows keys org ws (AddRun number ask created) t = run_rows org ws number ask created t
+edited_rows keys org ws (Report number action status frees) t = freed_rows frees org ws (run_acted status action org ws number t)
 
 -- the run holds, and is planning
 abbrev pub begun_rows : List ℕ → List ℕ → ℕ → Tables → Tables
@@ -135,17 +135,17 @@ started_rows org ws None t = t
 started_rows org ws (Some n) t = begun_rows org ws n t
 
 -- after a change
-abbrev pub changed_rows : (List ℕ → List ℕ) → List ℕ → List ℕ → Change → Tables → Tables
-changed_rows key_of org ws change t = started_rows org ws change.start (edited_rows key_of org ws change.edit t)
+abbrev pub changed_rows : (ℕ → List ℕ) → List ℕ → List ℕ → Change → Tables → Tables
+changed_rows keys org ws change t = started_rows org ws change.start (edited_rows keys org ws change.edit t)
 
 -- what has to hold of the rows for an edit, where it is done
-abbrev pub TakesEdit : (List ℕ → List ℕ) → List ℕ → List ℕ → Edit → Tables → Type 0
-TakesEdit key_of org ws (AddVersion version outgoing) t = TakesVersion key_of org ws version t
-TakesEdit key_of org ws (Make settings) t = workspace_of org ws t ≡ None
-TakesEdit key_of org ws (Configure settings outgoing) t = ⊤
-TakesEdit key_of org ws Remove t = ⊤
-TakesEdit key_of org ws Purge t = ⊤
-TakesEdit key_of org ws (Hold id text) t = ⊤
-TakesEdit key_of org ws (Release id) t = ⊤
-TakesEdit key_of org ws (AddRun number ask created) t = ⊤
-TakesEdit key_of org ws (Report number action status frees) t = ⊤
+abbrev pub TakesEdit : (ℕ → List ℕ) → List ℕ → List ℕ → Edit → Tables → Type 0
+TakesEdit keys org ws (AddVersion version outgoing) t = TakesVersion keys org ws version t
+TakesEdit keys org ws (Make settings) t = workspace_of org ws t ≡ None
+TakesEdit keys org ws (Configure settings outgoing) t = ⊤
+TakesEdit keys org ws Remove t = ⊤
+TakesEdit keys org ws Purge t = ⊤
+TakesEdit keys org ws (Hold id text) t = ⊤
+TakesEdit keys org ws (Release id) t = ⊤
+TakesEdit keys org ws (AddRun number ask created) t = ⊤
+TakesEdit keys org ws (Report number action status frees) t = ⊤

@@ -1,6 +1,9 @@
 -- What calls of a store do to the committed rows.
 use Rattle.std.specs.Prelude.{◌≡◌, ℕ, Bool, cond, ◌||◌, List, is_some, Option, Some, None, IsTrue, Result, IfOk, OnErr}
+use Rattle.sqlite_trees.specs.declared.store.Store.{Ghosts}
+use Rattle.sqlite.specs.Held.{state}
 use Rattle.sqlite.specs.State.{State, HasCleanDisk, KeepsCommit}
+use Rattle.sqlite.specs.declared.transaction.Transaction.{Transaction}
 use Rattle.basis.specs.declared.roles.Role.{Role}
 use Rattle.basis.specs.declared.roles.Bounds.{Bounds}
 use Rattle.machine.specs.Effects.{Effect, effect}
@@ -8,6 +11,7 @@ use Rattle.machine.specs.declared.keeps.AdminAnswer.{AdminAnswer}
 use Rattle.machine.specs.declared.keeps.AdminAnswer.TheVariants.{Done, Exists, Absent}
 use Rattle.statements.specs.Changes.{org_row_added, org_capped, token_added, token_removed}
 use Rattle.statements.specs.Finds.{cap_of, role_of_name, role_of_digest}
+use Rattle.statements.specs.Steps.{Steps, Tells}
 use Rattle.statements.specs.Tables.{Tables, Holds}
 
 -- between transactions nothing waits to be committed
@@ -20,6 +24,15 @@ pub record Commits (change : Tables → Tables) (told : Tables → Type 0) (old 
   pub tells : (t : Tables) → Holds old.committed t → told t
   pub was_open : IsTrue old.is_open
   pub is_open : IsTrue new.is_open
+
+-- What steps promise, and what they tell of the rows before them.
+pub record TellingSteps {S X E : Type 0} (g : Ghosts S) (change : Tables → Tables) (law : Tables → Type 0) (old new : Transaction S) (result : Result X E) : Type 0 where
+  pub steps : Steps g change old new result
+  pub tells : Tells (λ _. law) (state g old.conn.now) (state g new.conn.now) result
+
+-- the same, by some keys for the pages of a text: one for each place
+abbrev pub KeyedSteps : {S X E : Type 0} → Ghosts S → ((ℕ → List ℕ) → Tables → Tables) → ((ℕ → List ℕ) → Tables → Type 0) → Transaction S → Transaction S → Result X E → Type 0
+KeyedSteps g change law old new result = (keys : ℕ → List ℕ) × TellingSteps g (change keys) (law keys) old new result
 
 -- one transaction: its change is committed, or nothing is
 abbrev pub Transacts : {X E : Type 0} → (Tables → Tables) → (X → Tables → Type 0) → State → State → Result X E → Type 0

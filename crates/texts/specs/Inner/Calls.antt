@@ -1,18 +1,30 @@
 -- What calls on one page of a text change and read.
-use Rattle.std.specs.Prelude.{◌≡◌, ◌<◌, ℕ, Bool, List, Option, Some, option_map}
+use Rattle.std.specs.Prelude.{◌≡◌, ◌<◌, ℕ, ⊤, Bool, List, Option, Some, option_map, Result, OnOk}
 use Rattle.std.specs.List.{AllByRecursion}
 use Rattle.std.specs.Str.{bytes_eq}
 use Rattle.sqlite_value.specs.declared.value.Value.TheVariants.{Blob}
 use Rattle.sqlite_value.specs.Order.{Row, column}
+use Rattle.sqlite_trees.specs.declared.store.Store.{Ghosts}
+use Rattle.sqlite.specs.Held.{state}
+use Rattle.sqlite.specs.State.{HasCleanDisk}
+use Rattle.sqlite.specs.declared.transaction.Transaction.{Transaction}
 use Rattle.statements.specs.Rows.{number}
-use Rattle.statements.specs.Tables.{Tables}
-use Rattle.pages.specs.Puts.{twin_for, page_put}
+use Rattle.statements.specs.Steps.{Steps}
+use Rattle.statements.specs.Tables.{Tables, Holds}
+use Rattle.pages.specs.Pages.{IsKeyFor}
+use Rattle.pages.specs.Puts.{twin_limit, twin_for, page_put}
 use Rattle.pages.specs.declared.store.PageId.{PageId}
 use Rattle.texts.specs.Texts.{place_added, place_removed, released_at, piece_of, joined, AreThere}
 
--- a piece is put, and the row that names it is there
-abbrev pub piece_placed : (List ℕ → List ℕ) → List ℕ → List ℕ → ℕ → ℕ → List ℕ → Tables → Tables
-piece_placed key_of org ws n place piece t = place_added org ws n place (key_of piece) (twin_for (key_of piece) piece t) (page_put (key_of piece) piece t)
+-- a piece is put under a key, and the row that names it is there
+abbrev pub piece_placed : List ℕ → List ℕ → List ℕ → ℕ → ℕ → List ℕ → Tables → Tables
+piece_placed key org ws n place piece t = place_added org ws n place key (twin_for key piece t) (page_put key piece t)
+
+-- What adding a piece under a key promises: it is placed, under a key that it may have, and a twin number that SQL has.
+pub record AddsPiece {S E : Type 0} (g : Ghosts S) (key_of : List ℕ → List ℕ) (key org ws : List ℕ) (n place : ℕ) (piece : List ℕ) (old new : Transaction S) (result : Result ⊤ E) : Type 0 where
+  pub steps : Steps g (piece_placed key org ws n place piece) old new result
+  pub fits : HasCleanDisk (state g new.conn.now) → OnOk result ((t : Tables) → Holds (state g old.conn.now).now t → twin_for key piece t < twin_limit)
+  pub keyed : HasCleanDisk (state g new.conn.now) → OnOk result ((t : Tables) → Holds (state g old.conn.now).now t → IsKeyFor key_of piece key t)
 
 -- the row at the place goes, and then a use of this page
 abbrev pub named_removed : List ℕ → List ℕ → ℕ → ℕ → Option PageId → Tables → Tables

@@ -23,4 +23,5 @@ returns-clause-steps g c =
             tt,
           );
       so_far = λ clean. c.free.ensures.so_far (before clean);
+      shield = λ s. c.add.ensures.survives.shield (c.free.ensures.shield s);
     }

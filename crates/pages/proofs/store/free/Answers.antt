@@ -8,7 +8,7 @@ use Rattle.pages.proofs.Looking.{as_it_is, one_look, looks_then, still_holds}
 use Rattle.pages.proofs.store.free.Goals as goal
 
 pub twins-init : goal.twins-init
-twins-init g c = (refl, record { so_far = λ clean. clean; looks = λ _. as_it_is (state g.S.Store c.args.tx.now.conn.now); left = λ _ t _. free_begin c.args.key.now t })
+twins-init g c = (refl, record { so_far = λ clean. clean; shield = λ s. s; looks = λ _. as_it_is (state g.S.Store c.args.tx.now.conn.now); left = λ _ t _. free_begin c.args.key.now t })
 
 pub returns-in-None-clause-twin : goal.returns-in-None-clause-twin
 returns-in-None-clause-twin g c clean t holds =
@@ -33,6 +33,7 @@ twins-preserved g c =
       c.in_ok-found.ensures.same_reference ∙ c.twins.invariant.0,
       record {
         so_far = λ clean. so_far.so_far (before clean);
+        shield = λ s. c.uses.ensures.survives.shield (so_far.shield s);
         looks = λ clean. looks_then s0 s1 s2 (so_far.looks (before clean)) (one_look s1 s2 (c.in_ok-found.ensures.read clean).1.0);
         left = λ clean t holds.
             let there : page_uses key c.twins.twin t ≡ Some c.in-Some.field-0 = sym ((c.in_ok-found.ensures.read clean).0 t (still_holds s0 s1 (so_far.looks (before clean)) t holds)) ∙ c.in-Some.is in

@@ -14,6 +14,6 @@ returns-clause-serves g c = inl (serves_from g.K.Keep g.F.Files g.N.Connections 
     (g.O.Write.contents c.args.output.now) (g.O.Write.contents c.serve_at-ending.new.output) (g.O.Write.contents c.say_served.new.output)
     (g.E.Write.contents c.args.errors.now) (g.E.Write.contents c.tell_of_file.new.errors) (g.E.Write.contents c.serve_at-ending.new.errors) (g.E.Write.contents c.close_after.new.errors) c.is_absent-is_new.result c.others_may_read-others_may_read.result
     c.new-service.ensures.keep c.into_keep-keep.ensures c.in-Ok.ensures.opened c.in-Ok.ensures.others
-    c.serve_at-ending.ensures.so_far c.serve_at-ending.ensures.kept c.serve_at-ending.ensures.serves c.serve_at-ending.ensures.answers
+    c.serve_at-ending.ensures.so_far c.serve_at-ending.ensures.shield c.serve_at-ending.ensures.kept c.serve_at-ending.ensures.serves c.serve_at-ending.ensures.answers
     c.close_after.ensures.closed c.close_after.ensures.others c.say_served.ensures.says
     c.is_absent-is_new.ensures c.others_may_read-others_may_read.ensures c.tell_of_file.ensures c.close_after.ensures.log)

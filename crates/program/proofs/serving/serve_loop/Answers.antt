@@ -9,6 +9,7 @@ returns-then-is_err-clause-serves g c clean sound = serves_of 0 c.args.count _ _
 pub connections-init : goal.connections-init
 connections-init g c = record {
   so_far = λ clean. clean;
+  shield = λ is. is;
   kept = λ clean sound. sound;
   serves = λ clean sound. serves_none (g.K.Keep.rows c.args.service.now.keep);
   answers = ([], refl, refl);
@@ -20,6 +21,7 @@ connections-preserved g c =
     let one = c.in-Ok.ensures.answers in
     record {
       so_far = λ clean. c.connections.invariant.so_far (c.in-Ok.ensures.so_far clean);
+      shield = λ is. c.in-Ok.ensures.shield (c.connections.invariant.shield is);
       kept = λ clean sound. c.in-Ok.ensures.kept clean (c.connections.invariant.kept (c.in-Ok.ensures.so_far clean) sound);
       serves = λ clean sound. serves_more c.connections.place (g.K.Keep.rows c.args.service.now.keep) (g.K.Keep.rows c.connections.service.keep) (g.K.Keep.rows c.serve_next.new.service.keep)
           (c.connections.invariant.serves (c.in-Ok.ensures.so_far clean) sound)

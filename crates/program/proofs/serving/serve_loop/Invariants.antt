@@ -7,6 +7,7 @@ use Rattle.program.proofs.serving.serve_loop.Given as goal
 abbrev pub invariant-connections : goal.invariant-connections
 invariant-connections g l = record {
   so_far : g.K.Keep.clean l.service.keep → g.K.Keep.clean l.fn.service.keep;
+  shield : g.K.Keep.shielded l.fn.service.keep → g.K.Keep.shielded l.service.keep;
   kept : g.K.Keep.clean l.service.keep → g.K.Keep.sound l.fn.service.keep → g.K.Keep.sound l.service.keep;
   serves : g.K.Keep.clean l.service.keep → g.K.Keep.sound l.fn.service.keep → ServesTo l.place (g.K.Keep.rows l.fn.service.keep) (g.K.Keep.rows l.service.keep);
   answers : (moments : List ℕ) × (length moments ≡ l.place)

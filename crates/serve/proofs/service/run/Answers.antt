@@ -12,6 +12,7 @@ steps-init g c = record {
   len = search rules;
   room = search rules;
   so_far = λ clean. clean;
+  shield = λ is. is;
   kept = λ clean sound. sound;
   ran = λ clean sound. subst (λ (ts : List (List ℕ)). RunsTo [] (g.K.Keep.rows c.args.keep.now) (g.K.Keep.rows c.args.keep.now) ts) (sym c.in-Ok.ensures.items) (runs_none (g.K.Keep.rows c.args.keep.now));
 }
@@ -24,6 +25,7 @@ steps-preserved g c =
       len = search rules;
       room = search rules;
       so_far = λ clean. c.steps.invariant.so_far (c.take_step.ensures.so_far clean);
+      shield = λ is. c.take_step.ensures.shield (c.steps.invariant.shield is);
       kept = λ clean sound. c.take_step.ensures.kept clean (c.steps.invariant.kept (c.take_step.ensures.so_far clean) sound);
       ran = λ clean sound. step_more c.args.steps.now c.steps.step-index c.step-item.result (g.K.Keep.rows c.args.keep.now) (g.K.Keep.rows c.steps.keep) (g.K.Keep.rows c.take_step.new.keep)
           c.steps.replies.items c.push.new.self.items c.in_ok-reply.reply c.steps-test.true c.step-item.is (sym c.steps.replies.ok.0 ∙ c.steps.invariant.len) pushed

@@ -9,6 +9,7 @@ invariant-steps g l = record {
   len : vec_len l.replies ≡ l.step-index;
   room : length l.steps ≤ vec_capacity l.replies;
   so_far : g.K.Keep.clean l.keep → g.K.Keep.clean l.fn.keep;
+  shield : g.K.Keep.shielded l.fn.keep → g.K.Keep.shielded l.keep;
   kept : g.K.Keep.clean l.keep → g.K.Keep.sound l.fn.keep → g.K.Keep.sound l.keep;
   ran : g.K.Keep.clean l.keep → g.K.Keep.sound l.fn.keep → RunsTo (take l.step-index l.steps) (g.K.Keep.rows l.fn.keep) (g.K.Keep.rows l.keep) l.replies.items;
 }

@@ -16,4 +16,5 @@ returns g c = record {
       (c.write.ensures.runs clean inside)
       (λ count ran. fill_keepings_does old new count ran);
   clean = c.write.ensures.survives.clean;
+  shield = c.write.ensures.survives.shield;
 }

@@ -14,4 +14,5 @@ returns g c = record {
       (c.write.ensures.runs clean inside)
       (λ count ran. clear_version_does old new count ran);
   clean = c.write.ensures.survives.clean;
+  shield = c.write.ensures.survives.shield;
 }

@@ -12,4 +12,5 @@ returns g c made is = record {
       let new = state g.S.Store c.write.new.tx.conn.now in
       alters_by (Grows made) old new c.args.text.now _ c.write.result (c.write.ensures.runs clean inside) (λ count ran. maker_does c.args.text.now made is old new _ count ran);
   clean = c.write.ensures.survives.clean;
+  shield = c.write.ensures.survives.shield;
 }

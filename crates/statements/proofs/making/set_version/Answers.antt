@@ -16,4 +16,5 @@ returns g c = record {
       (rw (c.params-to_sql.ensures, c.signed-version.ensures, to_z-of_z w64 (pos c.args.version) (record { sfits = c.requires.fits })) at (c.write.ensures.runs clean inside))
       (λ count ran. set_version_does c.args.version c.requires.there old new count ran);
   clean = c.write.ensures.survives.clean;
+  shield = c.write.ensures.survives.shield;
 }

@@ -31,7 +31,10 @@ opens_on s image rows IsSound finds opens live missing there climbed fresh = rec
   fresh = λ e. ((fresh e).1, (fresh e).0);
 }
 
-pub returns-in-Ok-open : goal.returns-in-Ok-open
-returns-in-Ok-open g c clean =
+pub returns-in-Ok-open-clause-opens : goal.returns-in-Ok-open-clause-opens
+returns-in-Ok-open-clause-opens g c clean =
     let disk = c.in-Ok-open.ensures.so_far clean in
     opens_on _ _ _ _ (c.in-Ok-open_database.ensures.found disk) (c.in-Ok-open_database.ensures.opened disk).0 (c.in-Ok-open_database.ensures.opened disk).1 (λ e first second. (c.in-Ok-open.ensures.missing e first second).1) (c.in-Ok-open.ensures.held clean) (c.in-Ok-open.ensures.climbed clean) (c.in-Ok-open.ensures.fresh clean)
+
+pub returns-in-Ok-open-clause-guarded : goal.returns-in-Ok-open-clause-guarded
+returns-in-Ok-open-clause-guarded g c clean = c.in-Ok-open.ensures.shield (c.in-Ok-open_database.ensures.guarded (c.in-Ok-open.ensures.so_far clean))

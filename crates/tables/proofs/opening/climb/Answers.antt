@@ -13,6 +13,7 @@ loop-at-preserved g c =
       c.raise.ensures.idle,
       record {
         so_far = λ clean. so_far.so_far (before clean);
+        shield = λ s. c.raise.ensures.shield (so_far.shield s);
         climbs = λ clean. climbs_then c.args.from at (at + 1) (state g.S.Store c.args.conn.now) (state g.S.Store c.loop-at.conn) (state g.S.Store c.raise.new.conn) (so_far.climbs (before clean)) (c.in_ok-raise.ensures.done clean).0.0;
         is_open = λ clean was. (c.in_ok-raise.ensures.done clean).0.1;
       },

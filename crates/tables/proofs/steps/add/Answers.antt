@@ -1,16 +1,29 @@
 use Rattle.texts.proofs.Many.{when_done}
-use Rattle.std.proofs.Common.{length}
+use Rattle.std.proofs.Common.{rules, ℕ, List, IsTrue, length, subst}
+use Rattle.sqlite.specs.Held.{state}
 use Rattle.tables.specs.Inner.Edits.{row_added}
-use Rattle.texts.specs.Texts.{pages_for, TwinsFit}
-use Rattle.tables.proofs.KeepMoves.{steps_then_all, told_then}
+use Rattle.texts.specs.Texts.{pages_for, text_added, TwinsFit, AddsText}
+use Rattle.tables.proofs.KeepMoves.{no_keys, steps_then_all, told_then}
 use Rattle.tables.proofs.steps.add.Goals as goal
 
-pub returns-clause-steps : goal.returns-clause-steps
-returns-clause-steps g c = steps_then_all g.S.Store _ _ _ _ _ _ _ c.in_ok-add_row.ensures.steps c.add_text.ensures.same_reference (rw c.as_slice-text.ensures at c.add_text.ensures.steps) c.add_text.ensures.so_far
-
-pub returns-clause-fits : goal.returns-clause-fits
-returns-clause-fits g c = told_then g.S.Store (row_added c.args.org.now c.args.ws.now c.args.version.now)
-    (λ t. TwinsFit g.K.PageKey.key_of c.args.org.now c.args.ws.now c.args.version.now.number c.args.version.now.text (pages_for (length c.args.version.now.text)) t) c.args.tx.now c.add_row.new.tx c.add_text.new.tx _ c.add_text.result c.in_ok-add_row.ensures.steps c.add_text.ensures.so_far (rw c.as_slice-text.ensures at c.add_text.ensures.fits)
+pub returns-clause-adds : goal.returns-clause-adds
+returns-clause-adds g c =
+    let org = c.args.org.now in
+    let ws = c.args.ws.now in
+    let v = c.args.version.now in
+    let keys = c.add_text.ensures.adds.0 in
+    let adds = subst (λ (text : List ℕ). IsTrue (state g.S.Store c.add_row.new.tx.conn.now).is_open → AddsText g.S.Store g.K.PageKey.key_of keys org ws v.number text c.add_row.new.tx c.add_text.new.tx c.add_text.result) c.as_slice-text.ensures c.add_text.ensures.adds.1 in (
+      keys,
+      record {
+        steps = steps_then_all g.S.Store (row_added org ws v) (text_added keys org ws v.number v.text) c.args.tx.now c.add_row.new.tx c.add_text.new.tx _ c.add_text.result
+            c.in_ok-add_row.ensures.steps c.add_text.ensures.same_reference (λ is. (adds is).steps) c.add_text.ensures.so_far c.add_text.ensures.shield;
+        tells = told_then g.S.Store (row_added org ws v) (TwinsFit keys org ws v.number v.text (pages_for (length v.text))) c.args.tx.now c.add_row.new.tx c.add_text.new.tx _ c.add_text.result
+            c.in_ok-add_row.ensures.steps c.add_text.ensures.so_far (λ is. (adds is).fits);
+      },
+    )
 
 pub returns-clause-fresh : goal.returns-clause-fresh
 returns-clause-fresh g c clean inside = when_done c.add_text.result (c.in_ok-add_row.ensures.fresh (c.add_text.ensures.so_far clean) inside)
+
+pub returns-in_err-add_row-clause-adds : goal.returns-in_err-add_row-clause-adds
+returns-in_err-add_row-clause-adds g c = (no_keys, search rules)

@@ -7,18 +7,23 @@ use Rattle.tables.proofs.KeepCommits.{inside_by, commits_by, told_committed, com
 use Rattle.tables.proofs.transactions.change.Goals as goal
 
 pub returns-clause-done : goal.returns-clause-done
-returns-clause-done g c clean =
-    let h = c.args.conn.now in
-    let k = c.begin-tx.result.conn.now in
-    let l = c.change.new.tx.conn.now in
-    let m = c.commit.new.self.0 in
-    let late : HasCleanDisk (state g.S.Store m) = search rules in
-    let before = clean_before (state g.S.Store l) (state g.S.Store m) _ c.commit.ensures.survives late in
-    let settled = c.begin-tx.ensures.settled in
-    let within = inside_by c.args.conn.now c.begin-tx.result.conn.now c.begin-tx.ensures.begun in
-    let moved = (c.in_ok-change.ensures.steps.changed before within).0 in
-    let told = c.in_ok-change.ensures.takes before within in
-    let rows = changed_rows g.K.PageKey.key_of c.args.org.now c.args.ws.now c.args.change.now in
-    let takes = TakesEdit g.K.PageKey.key_of c.args.org.now c.args.ws.now c.args.change.now.edit in
-    let all = commits_by g.S.Store h k l m settled c.begin-tx.ensures.begun rows c.commit.result moved (c.commit.ensures.ok late) (c.commit.ensures.err late) in
-    commits_told rows takes (state g.S.Store h) _ c.commit.result (told_committed g.S.Store h k l m settled c.begin-tx.ensures.begun rows takes moved told) (search (rules, all))
+returns-clause-done g c = (
+  c.in_ok-change.ensures.0,
+  λ clean.
+      let h = c.args.conn.now in
+      let k = c.begin-tx.result.conn.now in
+      let l = c.change.new.tx.conn.now in
+      let m = c.commit.new.self.0 in
+      let keys = c.in_ok-change.ensures.0 in
+      let changed = c.in_ok-change.ensures.1 in
+      let late : HasCleanDisk (state g.S.Store m) = search rules in
+      let before = clean_before (state g.S.Store l) (state g.S.Store m) _ c.commit.ensures.survives late in
+      let settled = c.begin-tx.ensures.settled in
+      let within = inside_by c.args.conn.now c.begin-tx.result.conn.now c.begin-tx.ensures.begun in
+      let moved = (changed.steps.changed before within).0 in
+      let told = changed.tells before within in
+      let rows = changed_rows keys c.args.org.now c.args.ws.now c.args.change.now in
+      let takes = TakesEdit keys c.args.org.now c.args.ws.now c.args.change.now.edit in
+      let all = commits_by g.S.Store h k l m settled c.begin-tx.ensures.begun rows c.commit.result moved (c.commit.ensures.ok late) (c.commit.ensures.err late) in
+      commits_told rows takes (state g.S.Store h) _ c.commit.result (told_committed g.S.Store h k l m settled c.begin-tx.ensures.begun rows takes moved told) (search (rules, all)),
+)

@@ -1,30 +1,39 @@
-use Rattle.std.proofs.Common.{◌∙◌}
+use Rattle.std.proofs.Common.{ℕ, List, ◌∙◌, subst}
 use Rattle.sqlite.specs.Held.{state}
 use Rattle.statements.proofs.Transactions.{clean_before}
+use Rattle.pages.specs.Pages.{IsKeyFor}
 use Rattle.pages.specs.Puts.{page_put}
-use Rattle.pages.proofs.Looking.{steps_by, steps_then, steps_are}
+use Rattle.pages.proofs.Looking.{still_holds, step_after, steps_by, steps_then, steps_are}
 use Rattle.texts.specs.Texts.{place_added}
 use Rattle.texts.specs.Inner.Calls.{piece_placed}
 use Rattle.texts.proofs.Many.{when_done}
 use Rattle.texts.proofs.OnePiece.{placed_as_told, told_fits}
 use Rattle.texts.proofs.texts.add_piece.Goals as goal
 
-pub returns-clause-steps : goal.returns-clause-steps
-returns-clause-steps g c =
-    let key_of = g.K.PageKey.key_of in
+pub returns : goal.returns
+returns g c =
     let org = c.args.org.now in
     let ws = c.args.ws.now in
     let n = c.args.number in
     let place = c.args.place in
     let piece = c.args.piece.now in
+    let own = c.in_ok-id.ensures.puts.0 in
+    let put = c.in_ok-id.ensures.puts.1 in
     let key = c.as_slice.result.now in
     let twin = c.in_ok-id.id.twin in
-    let before = clean_before (state g.S.Store c.put.new.tx.conn.now) (state g.S.Store c.add.new.tx.conn.now) _ c.add.ensures.survives in
-    steps_are g.S.Store (λ t. place_added org ws n place key twin (page_put (key_of piece) piece t)) (piece_placed key_of org ws n place piece) c.args.tx.now c.add.new.tx c.add.result
-    (λ clean t holds. placed_as_told key_of org ws n place piece key twin t (c.as_slice.ensures ∙ c.in_ok-id.ensures.twin.0) (c.in_ok-id.ensures.tells (before clean) t holds))
-    (steps_then g.S.Store (page_put (key_of piece) piece) (place_added org ws n place key twin) c.args.tx.now c.put.new.tx c.add.new.tx _ c.add.result c.in_ok-id.ensures.steps (steps_by g.S.Store _ _ _ _ c.add.ensures))
-
-pub returns-clause-fits : goal.returns-clause-fits
-returns-clause-fits g c clean =
-    let before = clean_before (state g.S.Store c.put.new.tx.conn.now) (state g.S.Store c.add.new.tx.conn.now) _ c.add.ensures.survives in
-    when_done c.add.result (λ t holds. told_fits g.K.PageKey.key_of c.args.piece.now c.in_ok-id.id.twin t (c.in_ok-id.ensures.tells (before clean) t holds) c.in_ok-id.ensures.twin.1)
+    let look = c.in_ok-found.ensures in
+    let s0 = state g.S.Store c.args.tx.now.conn.now in
+    let s1 = state g.S.Store c.look_at.new.tx.conn.now in
+    let before = clean_before (state g.S.Store c.put.new.tx.conn.now) (state g.S.Store c.add.new.tx.conn.now) _ c.add.ensures.survives in (
+      own,
+      record {
+        steps = step_after g.S.Store (piece_placed own org ws n place piece) c.args.tx.now c.look_at.new.tx c.add.new.tx c.add.result look.same_reference (λ clean. (look.looks clean).0) look.so_far look.shield
+            (steps_are g.S.Store (λ t. place_added org ws n place key twin (page_put own piece t)) (piece_placed own org ws n place piece) c.look_at.new.tx c.add.new.tx c.add.result
+            (λ clean t holds. placed_as_told own org ws n place piece key twin t (c.as_slice.ensures ∙ put.named.0) (put.tells (before clean) t holds))
+            (steps_then g.S.Store (page_put own piece) (place_added org ws n place key twin) c.look_at.new.tx c.put.new.tx c.add.new.tx c.in_ok-id.id c.add.result put.steps (steps_by g.S.Store (place_added org ws n place key twin) c.put.new.tx c.add.new.tx c.add.result c.add.ensures)));
+        fits = λ clean. when_done c.add.result (λ t holds.
+            told_fits own piece twin t (put.tells (before clean) t (still_holds s0 s1 (look.looks (put.steps.so_far (before clean))).0 t holds)) put.named.1);
+        keyed = λ clean. when_done c.add.result (λ t holds.
+            subst (λ (k : List ℕ). IsKeyFor g.K.PageKey.key_of piece k t) put.named.0 (c.in_ok-id.ensures.keyed (before clean) t (still_holds s0 s1 (look.looks (put.steps.so_far (before clean))).0 t holds)));
+      },
+    )

@@ -1,40 +1,74 @@
-use Rattle.std.proofs.Common.{◌≡◌, ◌<◌, ◌+◌, ap, ◌∙◌, subst, arith}
+use Rattle.std.proofs.Common.{◌≡◌, ◌<◌, ◌+◌, ℕ, List, [], length, refl, ap, ◌∙◌, subst, arith}
 use Rattle.sqlite.specs.Held.{state}
 use Rattle.statements.specs.Steps.{AnyRows, Moves}
+use Rattle.pages.specs.Pages.{IsKeyFor}
 use Rattle.pages.specs.Puts.{twin_limit, twin_for}
-use Rattle.texts.specs.Texts.{pieces_added, TwinsFit}
+use Rattle.texts.specs.Texts.{pages_for, pieces_added, TwinsFit, KeysFit}
 use Rattle.texts.specs.Inner.Calls.{piece_placed}
-use Rattle.texts.proofs.Many.{writes_more}
-use Rattle.texts.proofs.NextPiece.{added_more, fit_more}
+use Rattle.texts.proofs.Many.{writes_none, writes_more}
+use Rattle.texts.proofs.NextPiece.{keys_to, added_more, fit_more, keyed_more}
 use Rattle.texts.proofs.texts.add_text.Goals as goal
+
+pub places-init : goal.places-init
+places-init g c =
+    let s0 = state g.S.Store c.args.tx.now.conn.now in
+    let none : ℕ → List ℕ = λ place. [] in
+    let org = c.args.org.now in
+    let ws = c.args.ws.now in
+    let n = c.args.number in
+    let text = c.args.text.now in
+    (refl, (none, writes_none (pieces_added none org ws n text 0) (λ t. TwinsFit none org ws n text 0 t × KeysFit g.K.PageKey.key_of none org ws n text 0 t) s0 (λ t. refl) (λ t. (tt, tt))))
 
 pub places-preserved : goal.places-preserved
 places-preserved g c =
-    let key_of = g.K.PageKey.key_of in
     let org = c.args.org.now in
     let ws = c.args.ws.now in
     let n = c.args.number in
     let text = c.args.text.now in
     let place = c.places.place in
     let piece = c.piece_at.result.now in
+    let keys = c.places.invariant.1.0 in
+    let key = c.in_ok-add_piece.ensures.0 in
+    let key_of = g.K.PageKey.key_of in
+    let one = c.in_ok-add_piece.ensures.1 in
     let s0 = state g.S.Store c.args.tx.now.conn.now in
     let s1 = state g.S.Store c.places.tx.conn.now in
     let s2 = state g.S.Store c.add_piece.new.tx.conn.now in (
-      c.in_ok-add_piece.ensures.steps.same_reference ∙ c.places.invariant.0,
-      writes_more (pieces_added key_of org ws n text place) (piece_placed key_of org ws n place piece) (pieces_added key_of org ws n text (place + 1)) (TwinsFit key_of org ws n text place) (λ t. twin_for (key_of piece) piece t < twin_limit)
-          (TwinsFit key_of org ws n text (place + 1)) s0 s1 s2 (λ t. ap (λ p. piece_placed key_of org ws n place p (pieces_added key_of org ws n text place t)) c.piece_at.ensures ∙ added_more org ws n t key_of text place)
-          (λ t fit one. fit_more org ws n t key_of text place fit (subst (λ p. twin_for (key_of p) p (pieces_added key_of org ws n text place t) < twin_limit) c.piece_at.ensures one)) c.places.invariant.1 c.in_ok-add_piece.ensures.steps.so_far
-          (λ clean inside. ((c.in_ok-add_piece.ensures.steps.changed clean inside).0, c.in_ok-add_piece.ensures.fits clean)),
+      one.steps.same_reference ∙ c.places.invariant.0,
+      (
+        keys_to keys place key,
+        writes_more (pieces_added keys org ws n text place) (piece_placed key org ws n place piece) (pieces_added (keys_to keys place key) org ws n text (place + 1))
+            (λ t. TwinsFit keys org ws n text place t × KeysFit key_of keys org ws n text place t) (λ t. (twin_for key piece t < twin_limit) × IsKeyFor key_of piece key t)
+            (λ t. TwinsFit (keys_to keys place key) org ws n text (place + 1) t × KeysFit key_of (keys_to keys place key) org ws n text (place + 1) t) s0 s1 s2 (λ t. ap (λ p. piece_placed key org ws n place p (pieces_added keys org ws n text place t)) c.piece_at.ensures ∙ added_more org ws n t keys key text place)
+            (λ t fit low. (
+              fit_more org ws n t keys key text place fit.0 (subst (λ p. twin_for key p (pieces_added keys org ws n text place t) < twin_limit) c.piece_at.ensures low.0),
+              keyed_more org ws n t keys key text place key_of fit.1 (subst (λ p. IsKeyFor key_of p key (pieces_added keys org ws n text place t)) c.piece_at.ensures low.1),
+            )) c.places.invariant.1.1 one.steps.so_far one.steps.shield
+            (λ clean inside. ((one.steps.changed clean inside).0, λ t holds. (one.fits clean t holds, one.keyed clean t holds))),
+      ),
     )
 
-pub returns-clause-steps : goal.returns-clause-steps
-returns-clause-steps g c open_is =
+pub returns-clause-adds : goal.returns-clause-adds
+returns-clause-adds g c =
+    let org = c.args.org.now in
+    let ws = c.args.ws.now in
+    let n = c.args.number in
+    let text = c.args.text.now in
+    let keys = c.places.invariant.1.0 in
+    let some = c.places.invariant.1.1 in
     let s0 = state g.S.Store c.args.tx.now.conn.now in
     let s1 = state g.S.Store c.places.tx.conn.now in
-    let end : c.places.place ≡ c.pages_for-pages.result = omega (arith, c.places.auto.place-end, c.places-test.false) in
-    record {
-      same_reference = c.places.invariant.0;
-      changed = λ clean inside.
-          (subst (λ m. Moves AnyRows (pieces_added g.K.PageKey.key_of c.args.org.now c.args.ws.now c.args.number c.args.text.now m) s0 s1) (end ∙ c.pages_for-pages.ensures) (c.places.invariant.1.moves clean open_is inside), tt);
-      so_far = c.places.invariant.1.so_far;
-    }
+    let last : c.places.place ≡ c.pages_for-pages.result = omega (arith, c.places.auto.place-end, c.places-test.false) in
+    let end : c.places.place ≡ pages_for (length text) = last ∙ c.pages_for-pages.ensures in (
+      keys,
+      λ open_is. record {
+        steps = record {
+          same_reference = c.places.invariant.0;
+          changed = λ clean inside. (subst (λ m. Moves AnyRows (pieces_added keys org ws n text m) s0 s1) end (some.moves clean open_is inside), tt);
+          so_far = some.so_far;
+          shield = some.shield;
+        };
+        fits = λ clean inside t holds. subst (λ m. TwinsFit keys org ws n text m t) end (some.told clean open_is inside t holds).0;
+        keyed = λ clean inside t holds. subst (λ m. KeysFit g.K.PageKey.key_of keys org ws n text m t) end (some.told clean open_is inside t holds).1;
+      },
+    )

@@ -17,7 +17,7 @@ places-preserved g c =
     let s2 = state g.S.Store c.remove_piece.new.tx.conn.now in (
       c.in_ok-remove_piece.ensures.steps.same_reference ∙ c.places.invariant.0,
       writes_more (pieces_removed org ws n place) (piece_removed org ws n place) (pieces_removed org ws n (place + 1)) (WereThere org ws n place) (λ t. IsSome (piece_of org ws n place t)) (WereThere org ws n (place + 1)) s0 s1 s2
-          (λ t. removed_more org ws n t place) (λ t there one. were_there_more org ws n t place there one) c.places.invariant.1 c.in_ok-remove_piece.ensures.steps.so_far
+          (λ t. removed_more org ws n t place) (λ t there one. were_there_more org ws n t place there one) c.places.invariant.1 c.in_ok-remove_piece.ensures.steps.so_far c.in_ok-remove_piece.ensures.steps.shield
           (λ clean inside. ((c.in_ok-remove_piece.ensures.steps.changed clean inside).0, c.in_ok-remove_piece.ensures.there clean inside)),
     )
 
@@ -30,4 +30,5 @@ returns-clause-steps g c open_is =
       same_reference = c.places.invariant.0;
       changed = λ clean inside. (subst (λ m. Moves AnyRows (pieces_removed c.args.org.now c.args.ws.now c.args.number m) s0 s1) (end ∙ c.pages_for-pages.ensures) (c.places.invariant.1.moves clean open_is inside), tt);
       so_far = c.places.invariant.1.so_far;
+      shield = c.places.invariant.1.shield;
     }

@@ -30,6 +30,7 @@ returns-then-not-branch-clause-queries g c =
             (looks_then s0 s1 s2 look (one_look s1 s2 got.1.0), tt),
           );
       so_far = λ clean. some.so_far (before clean);
+      shield = λ s. c.in_ok-same_piece.ensures.shield (some.shield s);
     }
 
 -- one more piece that agrees
@@ -45,6 +46,6 @@ places-preserved g c =
     let s2 = state g.S.Store c.same_piece.new.conn in (
       λ is. c.in_ok-same_piece.ensures.mode (c.places.invariant.0 is),
       reads_more (are_pieces org ws n text place) (are_pieces org ws n text (place + 1)) (AreThere org ws n place) (AreThere org ws n (place + 1)) (is_piece_of org ws n place (piece_at text place)) s0 s1 s2 true true true
-          (λ t is one. same_more org ws n t text place is one) (λ t there one. same_there org ws n t text place there one) c.places.invariant.1 c.in_ok-same_piece.ensures.so_far
+          (λ t is one. same_more org ws n t text place is one) (λ t there one. same_there org ws n t text place there one) c.places.invariant.1 c.in_ok-same_piece.ensures.so_far c.in_ok-same_piece.ensures.shield
           (λ clean. let got = c.in_ok-same_piece.ensures.gets clean in (λ t holds. ap (λ p. is_piece_of org ws n place p t) (sym c.piece_at.ensures) ∙ got.0 t holds ∙ ap Some c.if-not-branch.false, got.1.0)),
     )

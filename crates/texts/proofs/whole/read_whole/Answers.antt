@@ -12,6 +12,7 @@ returns-clause-queries g c =
       sees = λ clean. (whole_read old new c.args.org.now c.args.ws.now c.args.number c.args.places c.join_rows.result
           (rw (c.params-to_sql.ensures, c.params-to_sql-2.ensures, c.params-to_sql-3.ensures, c.get-number.ensures.value) at (c.join_rows.ensures.rows whole_is_query clean)) (c.join_rows.ensures.looks whole_is_query clean)).0;
       so_far = c.join_rows.ensures.so_far whole_is_query;
+      shield = c.join_rows.ensures.shield whole_is_query;
     }
 
 pub returns-clause-there : goal.returns-clause-there

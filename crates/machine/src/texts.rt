@@ -1,0 +1,44 @@
+//! The text of a state, which whoever has it shares.
+ghost use Rattle.std.specs.Prelude.{◌≡◌, ℕ, List, IfOk};
+
+use basis::{Bytes, Down};
+use std::alloc::{AllocError, Global};
+use std::marker::Model;
+use std::rc::Rc;
+
+/// The text of a state, seen as its bytes. A clone shares them: from the buffer that a request was read into to the pages
+/// of its version no byte is copied.
+#[derive(Clone, Drop)]
+pub struct StateText {
+    bytes: Rc<Bytes>,
+}
+
+impl Model for StateText {
+    ghost Value = { List ℕ };
+
+    ghost view = { λ text. text.bytes.value };
+}
+
+impl StateText {
+    pub fn new(alloc: Global, bytes: Bytes) -> Result<StateText, AllocError>
+        ensures { IfOk result (λ text. text ≡ bytes) }
+    {
+        match Rc::new(alloc, bytes) {
+            Ok(bytes) => Ok(StateText { bytes }),
+            Err(_) => Err(AllocError),
+        }
+    }
+
+    pub fn as_slice(&self) -> &[u8]
+        ensures { result.now ≡ self.now }
+    {
+        self.bytes.as_ref().as_slice()
+    }
+
+    /// The bytes of its own, copied.
+    pub fn copied(&self) -> Result<Bytes, Down>
+        ensures { IfOk result (λ bytes. bytes ≡ self.now) }
+    {
+        Ok(self.bytes.as_ref().clone()?)
+    }
+}
