@@ -6,11 +6,13 @@
 One file has what a service keeps: two organizations, tokens, versions of one page and of several, a lock and runs. It has the
 sums of SQLite's cksumvfs, as each new file; a second has the same rows and no sums. Each is closed, and damaged by a fixed
 seed: bits are flipped one at a time, pages are zeroed, swapped or set back to an older form, and the end is cut off. Then the
-log is damaged that lies beside the file of a killed service. Each time `serve` is asked for all that the file has.
+log is damaged that lies beside the file of a killed service. Each time `serve` is asked for all that the file has. At last
+pages are swapped beneath a service that has the file open, one so large that it doesn't keep all pages in memory.
 
 Allowed is a file that is refused, a 503, and the right answer. A wrong answer fails where a bit of a file with sums was
 flipped, where the end of a file was cut off, and where what a damaged log gives isn't a state that was once acknowledged. To
 pages of zeros, swapped or older ones, whose sums are right, it is counted and printed, and so is each of a file without sums.
+Beneath a running service a wrong answer fails: each page that it reads has to be the one that it read at the open, or wrote.
 It prints a line for each thing that holds or is counted, and ends with status 1 at the first that doesn't hold.
 """
 
@@ -308,5 +310,46 @@ def look_at_logs(program):
     print("right: a log of %d bytes beside the file of a killed service, %d bits flipped and cut off %d times: each gives a state that was once acknowledged, or none: %s" % (len(log), FLIPS // 3, CUTS, told))
 
 
+# ----------------------------------------------------------------------------------------------------
+# A file that a running service has open
+# ----------------------------------------------------------------------------------------------------
+
+# So many workspaces, each with a state of so many bytes, have more pages than a service keeps in memory (128 MB).
+WORKSPACES, STATE_BYTES = 45, 4_000_000
+
+
+def swap_beneath(path, due):
+    """Each second of these texts has a page of its midst swapped with the next one's, in a file that somebody has open."""
+    with open(path, "r+b") as file:
+        content = file.read()
+        at = [content.find(text[len(text) // 2 :][:200]) // PAGE for text in due]
+        for one, other in zip(at[0::2], at[1::2]):
+            for number, from_number in ((one, other), (other, one)):
+                file.seek(number * PAGE)
+                file.write(page_of(content, from_number))
+
+
+def look_at_open_files(program):
+    chance, name = random.Random(SEED), "large.db"
+    made(program, name)
+    due = [b'{"serial":1,"lineage":"l1","x":"%s"}' % chance.randbytes(STATE_BYTES // 2).hex().encode() for _ in range(WORKSPACES)]
+    places = [b"/%%s/large-%d" % number for number in range(WORKSPACES)]
+    taken(program, name, [("acme", b"PUT", place % b"workspaces", b"") for place in places])
+    taken(program, name, [("acme", b"POST", place % b"state", text) for place, text in zip(places, due)])
+    questions = [("acme", b"GET", place % b"state", b"") for place in places]
+    service = Service(program, name, WORKSPACES)
+    try:
+        swap_beneath(program.folder + "/" + name, due)
+        came = [service.asked(question) for question in questions]
+        service.ends([0, 3])
+    finally:
+        service.kill()
+    right = sum(answer is not None and answer == reply(b"200 OK", text) for answer, text in zip(came, due))
+    refused = sum(answer in (None, DOWN) for answer in came)
+    if right + refused < WORKSPACES or not refused:
+        raise Wrong("pages swapped beneath a service: of %d states %d were answered rightly and %d by 503" % (WORKSPACES, right, refused))
+    print("right: pages of %d states swapped beneath a service: %d answered rightly, from memory, %d by 503, none wrongly" % (WORKSPACES, right, refused))
+
+
 if __name__ == "__main__":
-    look_at(__doc__, look_at_files, look_at_logs)
+    look_at(__doc__, look_at_files, look_at_logs, look_at_open_files)
