@@ -4,7 +4,8 @@
     python3 bench/picture.py
 
 Above, each line of 'Beside a server in C': the program's time over the other's, with a line at 1 and at 2. Below, what
-'What grows with what' tells of the first three columns: microseconds by the number of workspaces, both by tens.
+'What grows with what' tells of the first three columns: microseconds by the number of workspaces, both by tens. At last
+the table of versions kept: milliseconds of a GET and of a POST.
 """
 import math
 import re
@@ -68,16 +69,39 @@ def lines(rows, top):
     return drawn, top + height + 50
 
 
+def versions(rows, top):
+    """A line for GET and one for POST, over versions kept by tens."""
+    counts, height = [int(row[0].replace(",", "")) for row in rows], 160
+    times = {name: [float(row[at]) for row in rows] for at, name in ((1, "GET"), (2, "POST"))}
+    high = math.ceil(max(map(max, times.values())) * 10) / 10
+    at_x = lambda count: LEFT + math.log10(count) / math.log10(counts[-1]) * WIDTH
+    at_y = lambda time: top + 14 + height * (1 - time / high)
+    drawn = [words(20, top, "Milliseconds of the processor by the versions that a workspace keeps", 'class="head"')]
+    for mark in range(0, round(high * 10) + 1, 2):
+        y = at_y(mark / 10)
+        drawn.append(f'<line x1="{LEFT}" y1="{y:.0f}" x2="{LEFT + WIDTH}" y2="{y:.0f}" class="grid"/>')
+        drawn.append(words(LEFT - 8, y + 4, f"{mark / 10:.1f}", 'text-anchor="end"'))
+    for count in counts:
+        drawn.append(words(at_x(count), top + height + 32, f"{count:,}", 'text-anchor="middle"'))
+    for place, (name, spent) in enumerate(times.items()):
+        points = " ".join(f"{at_x(count):.0f},{at_y(time):.0f}" for count, time in zip(counts, spent))
+        drawn.append(f'<polyline points="{points}" fill="none" stroke="{COLORS[place]}" stroke-width="2"/>')
+        drawn.append(f'<rect x="20" y="{top + 20 + 18 * place}" width="12" height="12" fill="{COLORS[place]}"/>')
+        drawn.append(words(38, top + 30 + 18 * place, name))
+    return drawn, top + height + 50
+
+
 def main():
     with open(PAGE, encoding="utf-8") as it:
         text = it.read()
     above, top = bars(table_of(text, "Beside a server in C"), 30)
-    below, end = lines(table_of(text, "What grows with what"), top)
+    below, top = lines(table_of(text, "What grows with what"), top)
+    last, end = versions(table_of(text, "What grows with versions"), top)
     style = "text{font:13px sans-serif;fill:#222}.head{font-weight:bold}.grid{stroke:#ddd}.limit{stroke:#c0392b;stroke-dasharray:4 3}"
     with open(PICTURE, "w", encoding="utf-8") as it:
         it.write(f'<svg xmlns="http://www.w3.org/2000/svg" width="820" height="{end}" viewBox="0 0 820 {end}">\n<style>{style}</style>\n')
         it.write('<rect width="100%" height="100%" fill="#fff"/>\n')
-        it.write("\n".join([*above, *below]) + "\n</svg>\n")
+        it.write("\n".join([*above, *below, *last]) + "\n</svg>\n")
 
 
 main()

@@ -18,7 +18,7 @@ from sums import put_sums
 
 KEPT = (1, 100, 1000)
 SIZE = 1000
-TURNS = 300
+TURNS = 1000
 TICKS = os.sysconf("SC_CLK_TCK")
 
 
