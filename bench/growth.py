@@ -7,12 +7,12 @@ Runs exchanges.py and versions.py in --folder, and opening.py in --files, which 
 the program as `rt ci` leaves it, and prints their numbers as rows of markdown. Nothing else should run meanwhile.
 """
 import argparse
-import os
 import re
 import subprocess
 import sys
 
-HERE = os.path.dirname(os.path.abspath(__file__))
+from building import TOP
+
 # Sections of what exchanges.py prints, and the columns of the page that they are.
 COLUMNS = {
     "10 workspaces in the organization": "10 workspaces",
@@ -25,7 +25,7 @@ RUNS = "3,000 runs that ended, without keys"
 
 
 def said(script, *words):
-    ran = subprocess.run([sys.executable, f"{HERE}/{script}", *words], capture_output=True, text=True)
+    ran = subprocess.run([sys.executable, f"{TOP}/bench/{script}", *words], capture_output=True, text=True)
     if ran.returncode:
         sys.exit(f"{script} failed: {ran.stdout}{ran.stderr}")
     return ran.stdout
