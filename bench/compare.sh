@@ -5,11 +5,12 @@
 # file, which is built first (cc, libsqlite3-dev, libssl-dev), and `baseline` the one in Python:
 #     bash bench/compare.sh crates/custody/out/custody anchor
 #     bash bench/compare.sh anchor "anchor --body-column" --many
-# A program named custody... is set up by org-add and token-add; any other by `setup`.
+#     bash bench/compare.sh "crates/custody/out/custody --log" crates/custody/out/custody --only small,locks
+# A program named custody... is set up by org-add and token-add, which don't get the flags; any other by `setup`.
 # PERF_DIR names the folder under which the databases stand (else that of mktemp).
 set -eu
 here=$(cd "$(dirname "$0")" && pwd)
-[ $# -ge 2 ] || { sed -n 2,10p "$0"; exit 2; }
+[ $# -ge 2 ] || { sed -n 2,11p "$0"; exit 2; }
 a_cmd=$1 b_cmd=$2
 shift 2
 
@@ -44,16 +45,17 @@ meant() {
 a_cmd=$(meant "$a_cmd") b_cmd=$(meant "$b_cmd")
 
 setup() {
-    local command=$1 db=$2 name
-    name=$(basename "${command%% *}")
+    local command=$1 db=$2 plain name
+    plain=${command%% *}
+    name=$(basename "$plain")
     case $name in
     custody*)
-        (run org-add "$command" --db "$db" --limit 100000 acme) || {
-            (run org-add "$command" --db "$db" acme) && (run org-limit "$command" --db "$db" acme 100000) || echo "compare.sh: $name keeps its own limit of workspaces"
+        (run org-add "$plain" --db "$db" --limit 100000 acme) || {
+            (run org-add "$plain" --db "$db" acme) && (run org-limit "$plain" --db "$db" acme 100000) || echo "compare.sh: $name keeps its own limit of workspaces"
         }
-        echo adminadminadmin1 | (run token-add "$command" --db "$db" acme root admin)
-        echo writewritewrite1 | (run token-add "$command" --db "$db" acme ci write)
-        echo readreadreadread | (run token-add "$command" --db "$db" acme eye read) ;;
+        echo adminadminadmin1 | (run token-add "$plain" --db "$db" acme root admin)
+        echo writewritewrite1 | (run token-add "$plain" --db "$db" acme ci write)
+        echo readreadreadread | (run token-add "$plain" --db "$db" acme eye read) ;;
     *) (run setup "$command" --db "$db") ;;
     esac
 }

@@ -37,15 +37,19 @@ TEXTS = [b'{"serial":%d,"x":"%s"}' % (serial, b"%d " % serial * 9000) for serial
 class Service:
     """A service over a file, ended by its count or killed."""
 
-    def __init__(self, program, path, count, under=(), env=None):
+    def __init__(self, program, path, count, *further, under=(), env=None):
         self.port = free_port()
-        words = ["serve", "--db", path, "--port", str(self.port), "--count", str(count)]
+        words = ["serve", "--db", path, "--port", str(self.port), "--count", str(count), *further]
         self.process = program.start(words, subprocess.DEVNULL, under=under, env=env)
         said("the line of a service", self.process.stdout.readline(), b"listening 127.0.0.1:%d\n" % self.port)
 
+    def left(self):
+        """Its status, and what came on both streams behind its first line, once it has ended."""
+        output, errors = self.process.communicate(timeout=PATIENCE)
+        return self.process.returncode, output, errors
+
     def ends(self, status=0, output=b"", errors=b""):
-        ended = self.process.communicate(timeout=PATIENCE)
-        said("how a service ends", (self.process.returncode, *ended), (status, output, errors))
+        said("how a service ends", self.left(), (status, output, errors))
 
     def kill(self):
         self.process.kill()

@@ -7,6 +7,9 @@ Each round starts `custody serve` over one file, sends requests (LOCK, states, U
 moment between 0 and 150 ms later. The next round looks at the state, the holder and the runs: they have to be those
 after the last reply of 200, or those after the request that was under way. The file is read by SQLite's own library
 once in ten rounds, with its log, and at the end.
+
+The service has `--log`. Its lines have to be those of the acknowledged requests in turn, where the last may be missing; and
+where they tell that the request under way was done, the next round has to find it done.
 """
 
 import http.client
@@ -24,6 +27,8 @@ import threading
 import time
 
 ORG, WS = "acme", "net"
+# The act of a request, as its line has it.
+ACTS = {"LOCK": "lock", "UNLOCK": "unlock", "/state": "update state", "/runs": "make run", "/actions": "unchanged"}
 ROOT, WRITER = "adminadminadmin1", "writewritewrite1"
 
 
@@ -48,7 +53,13 @@ def free_port():
         return it.getsockname()[1]
 
 
+# How many connections the service has had.
+made = 0
+
+
 def ask(port, method, path, body=b"", secret=WRITER, field=None):
+    global made
+    made += 1
     link = http.client.HTTPConnection("127.0.0.1", port, timeout=20)
     try:
         head = {"Authorization": f"Bearer {ORG}.{secret}", **(field or {})}
@@ -59,9 +70,24 @@ def ask(port, method, path, body=b"", secret=WRITER, field=None):
         link.close()
 
 
-def started(program, path, port, count):
-    words = [program, "serve", "--db", path, "--port", str(port), "--count", str(count)]
-    service = subprocess.Popen(words, stdout=subprocess.DEVNULL, stderr=subprocess.DEVNULL)
+def act_of(method, target):
+    part = "/actions" if "/actions/" in target else target[: target.index("/", 1)]
+    return ACTS.get(method) or ACTS[part]
+
+
+def told(path, first):
+    """The acts, and the statuses of their replies, that the lines of a service tell behind so many connections."""
+    with open(path, "rb") as lines:
+        rows = [json.loads(line) for line in lines.read().split(b"\n")[1:-1]]
+    return [(row["act"], row["status"]) for row in rows if row["connection"] > first]
+
+
+def started(program, path, port, count, log):
+    global made
+    made = 1
+    words = [program, "serve", "--db", path, "--port", str(port), "--count", str(count), "--log"]
+    with open(log, "wb") as lines:
+        service = subprocess.Popen(words, stdout=lines, stderr=subprocess.DEVNULL)
     for _ in range(4000):
         try:
             socket.create_connection(("127.0.0.1", port), timeout=1).close()
@@ -131,7 +157,7 @@ def main():
     rounds = int(sys.argv[2]) if len(sys.argv) > 2 else 200
     seed = int(sys.argv[3]) if len(sys.argv) > 3 else 1
     chance = random.Random(seed)
-    acknowledged = under_way = applied = 0
+    acknowledged = under_way = applied = untold = 0
     with tempfile.TemporaryDirectory() as folder:
         path = folder + "/custody.db"
         subprocess.run([program, "org-add", "--db", path, ORG], check=True, stdout=subprocess.DEVNULL)
@@ -139,7 +165,8 @@ def main():
             words = [program, "token-add", "--db", path, ORG, name, role]
             subprocess.run(words, input=secret.encode() + b"\n", check=True, stdout=subprocess.DEVNULL)
         port = free_port()
-        service = started(program, path, port, 1_000_000)
+        log = folder + "/log"
+        service = started(program, path, port, 1_000_000, log)
         if ask(port, "PUT", f"/workspaces/{WS}", secret=ROOT)[0] != 200:
             sys.exit("no workspace was made")
         before, maybe = Model(), None
@@ -147,8 +174,9 @@ def main():
             end = time.monotonic() + chance.random() * 0.15
             killer = threading.Timer(max(end - time.monotonic(), 0), lambda: service.send_signal(signal.SIGKILL))
             killer.start()
-            maybe = None
+            maybe, first, due = None, made, []
             for method, target, body, after in requests(before, chance):
+                due.append((act_of(method, target), 200))
                 try:
                     status, text = ask(port, method, target, body)
                 except (OSError, http.client.HTTPException):
@@ -161,11 +189,19 @@ def main():
                 before = after
             killer.join()
             service.wait()
+            lines = told(log, first)
+            # (the last of these was under way)
+            if lines not in (due, due[:-1], due[:-2]):
+                sys.exit(f"round {at}: the log has {lines[-3:]} at its end, where {due[-3:]} were asked")
+            untold += len(lines) < len(due) - 1
+            done = lines == due
             if at % 10 == 0:
                 sound(path, folder)
             port = free_port()
-            service = started(program, path, port, 1_000_000)
+            service = started(program, path, port, 1_000_000, log)
             seen, runs = looked_at(port)
+            if done and maybe and seen != maybe.seen():
+                sys.exit(f"round {at}: the log tells a change that wasn't made")
             if maybe and seen == maybe.seen():
                 applied += seen != before.seen()
                 before = maybe
@@ -185,7 +221,7 @@ def main():
         sound(path, folder)
     if acknowledged == 0:
         sys.exit(f"{rounds} kills, and no request was acknowledged: nothing is shown")
-    print(f"{rounds} kills, {acknowledged} requests acknowledged and kept, {under_way} under way when the service was killed, {applied} of them applied")
+    print(f"{rounds} kills, {acknowledged} requests acknowledged and kept, {under_way} under way when the service was killed, {applied} of them applied; the last acknowledged has no line in {untold} rounds")
 
 
 if __name__ == "__main__":

@@ -9,6 +9,9 @@ tools/refusals.txt has what is done meanwhile: requests of a service over a file
 before it left; frames over a database in memory; commands on a file. Each run has to end in the right reply, with the
 rows of the tables that are due, or in a 503 (`refused down`), with the rows as before; and what was refused is sent
 again and has its right reply. Rows are read by SQLite's own library.
+
+With `--log` a service prints the line of either reply, by the rules of logged.py. Where memory for the line is refused it
+prints nothing of it, says so, and ends with status 3; that has to be met behind both replies of each request.
 """
 
 import collections
@@ -25,7 +28,9 @@ import subprocess
 import sys
 import tempfile
 
+import logged
 import stories
+from logs import UNLOGGED
 from program import ANSWERED_503, LOG_STAYS, NEW_FILE, compiled
 
 HERE = os.path.dirname(os.path.abspath(__file__))
@@ -54,6 +59,9 @@ CAUSES = [
     b"custody: memory or the store refused, and no record changed\n",
     b"custody: the input can't be read, or memory was refused\n",
 ]
+
+# The stories whose requests are sent to a service with `--log` too.
+LOGGED = ["a stock client locks, updates and unlocks", "a run begins to hold where a lock is released"]
 
 # The stories whose frames are replayed too; the first one from its first frame on.
 REPLAYED = [
@@ -328,9 +336,27 @@ def exchanged(port, sent):
             came += piece
 
 
-def downs(sent, due):
-    """The 503 of a request: for HEAD without its body, where the head was read; behind the line, where one was due."""
-    return [DOWN] + [DOWN_HEAD] * sent.startswith(b"HEAD ") + [CONTINUE + DOWN] * due.startswith(CONTINUE)
+class Asked:
+    """A request and its reply, the rows before it and after it, and its exchange in the log of a service that has one."""
+
+    def __init__(self, sent, due, before, rows, told=None):
+        self.sent, self.due, self.rows, self.told = sent, due, {False: before, True: rows}, told
+        # Behind which replies the log lacked the line, the right one or the 503.
+        self.untold = set()
+
+    def downs(self):
+        """Its 503: for HEAD without its body, where the head was read; behind the line, where one was due."""
+        return [DOWN] + [DOWN_HEAD] * self.sent.startswith(b"HEAD ") + [CONTINUE + DOWN] * self.due.startswith(CONTINUE)
+
+    def widths(self):
+        return WIDTHS if len(self.sent) < LONG and len(self.due) < LONG else [1]
+
+    def line(self, place, is_right=True):
+        """Its line in the log; that of a 503 tells the moment, and nothing of what was asked."""
+        if not self.told:
+            return b""
+        row = self.told.row
+        return logged.line_of(place, "ok", row if is_right else logged.row_of(row["at"], status=503, refusal="down"))
 
 
 class Service:
@@ -344,62 +370,84 @@ class Service:
             raise Wrong("the service said %s" % out)
         self.port = int(out.split(b":")[1])
 
-    def run(self, sent, due, first, last, rows, before):
-        """One request of a copy; whether something was refused, and whether the reply was the right one."""
+    def run(self, asked, first, last):
+        """One request of a copy; whether something was refused, and whether all of it was right."""
         was = self.file.bytes()
         self.program.ask("try %d %d" % (first, last))
-        came = exchanged(self.port, sent)
-        word, status, asked, met = self.program.counted()
-        found = before if self.file.bytes() == was else self.file.rows()
-        out, errors = self.program.said()
-        if word != "accepts" or out:
-            raise Wrong("the service ended with status %d, and said %s" % (status, out))
-        is_right = came == due
-        if not is_right and came not in downs(sent, due):
+        came = exchanged(self.port, asked.sent)
+        word, status, _, met = self.program.counted()
+        found = asked.rows[False] if self.file.bytes() == was else self.file.rows()
+        is_right = came == asked.due
+        if not is_right and came not in asked.downs():
             raise Wrong("it was answered %s" % came[:400])
-        if found != (rows if is_right else before):
+        if found != asked.rows[is_right]:
             raise Wrong("after %s the rows are %s" % (came[:40], found))
-        if errors != (b"" if is_right else ANSWERED_503 % self.place):
-            raise Wrong("after %s the error stream has %s" % (came[:40], errors))
+        is_told = self.is_told(asked, is_right, word, status)
         if not is_right:
             self.counts[len(came)] += 1
-        if not is_right and first == last:
-            self.send_again(sent, due, rows)
+        if is_told:
+            self.end(asked, not is_right and first == last)
+        self.file.put_back(was)
+        return met, is_right and is_told
+
+    def is_told(self, asked, is_right, word, status):
+        """Whether a copy said what is due of a reply, and goes on; it may end where the log lacks the line alone."""
+        out, errors = self.program.said()
+        reason = b"" if is_right else ANSWERED_503 % self.place
+        if (word, out, errors) == ("accepts", asked.line(self.place, is_right), reason):
+            return True
+        if asked.told and (word, (status, out), errors) == ("ended", REFUSED, reason + UNLOGGED):
+            asked.untold.add(is_right)
+            self.counts["untold"] += 1
+            return False
+        raise Wrong("behind its reply, right: %s, it %s with %d, and said %s and %s" % (is_right, word, status, out, errors))
+
+    def end(self, asked, is_sent_again):
+        if is_sent_again:
+            self.send_again(asked)
         self.program.ask("end")
         word, status, _, _ = self.program.counted()
         if word != "ended" or status:
             raise Wrong("a copy %s with %d" % (word, status))
-        self.file.put_back(was)
-        return met, is_right
 
-    def send_again(self, sent, due, rows):
+    def send_again(self, asked):
         self.program.ask("go")
-        came = exchanged(self.port, sent)
+        came = exchanged(self.port, asked.sent)
         word, status, _, _ = self.program.counted()
-        if word != "accepts" or came != due:
+        if word != "accepts" or came != asked.due:
             raise Wrong("sent again it %s and was answered %s" % (word, came[:400]))
-        if self.file.rows() != rows:
-            raise Wrong("sent again it left other rows")
+        self.look(asked, self.place + 1, "sent again")
 
-    def go(self, sent, due, rows):
+    def go(self, asked):
         """The service itself takes a request."""
         self.program.ask("go")
-        came = exchanged(self.port, sent)
+        came = exchanged(self.port, asked.sent)
         self.program.await_ready()
-        self.place += 1
-        if came != due or self.file.rows() != rows or any(self.program.said()):
+        if came != asked.due:
             raise Wrong("with memory it was answered %s" % came[:400])
+        self.look(asked, self.place, "with memory")
+        self.place += 1
 
-    def refuse_each(self, sent, due, rows, before):
-        for width in WIDTHS if len(sent) < LONG and len(due) < LONG else [1]:
+    def look(self, asked, place, how):
+        """What a right reply leaves in the file and on both streams."""
+        if self.file.rows() != asked.rows[True]:
+            raise Wrong("%s it left other rows" % how)
+        said = self.program.said()
+        if said != [asked.line(place), b""]:
+            raise Wrong("%s it said %s" % (how, said))
+
+    def refuse_each(self, asked):
+        for width in asked.widths():
             for first in range(1, MOST):
                 try:
-                    met, is_right = self.run(sent, due, first, first + width - 1, rows, before)
+                    met, is_right = self.run(asked, first, first + width - 1)
                     self.counts.of(met, is_right)
                     if is_over(met, is_right):
                         break
                 except Wrong as wrong:
                     raise Wrong("request %d for memory refused, %d in a row: %s" % (first, width, wrong))
+        if asked.told and asked.untold != {True, False}:
+            raise Wrong("the line was left out behind these replies alone, right or not: %s" % asked.untold)
 
 
 def asked_in(story):
@@ -419,7 +467,15 @@ def words_of(sent):
     return [words[0], "--db", "t.db"] + bounds + words[1:], secret.encode()
 
 
-def refuse_service(custody, library, story, folder):
+def asked_next(parts, step, due, rules):
+    """The next request, with what is due of it; its exchange by the rules of the log, where there are any."""
+    at, sent, reply = step
+    before = due.rows()
+    due.take(parts[0])
+    return Asked(sent, reply, before, due.rows(), rules and rules.exchange(at, sent))
+
+
+def refuse_service(custody, library, story, folder, *options, rules=None):
     """Each request of a story in turn, over what the steps before it left."""
     counts, due, file = Counts(), Due(), File(folder)
     before = steps_before(story)
@@ -428,21 +484,26 @@ def refuse_service(custody, library, story, folder):
         words, secret = words_of(sent)
         subprocess.run([custody] + words, input=secret, stdout=subprocess.DEVNULL, stderr=subprocess.DEVNULL, check=True, cwd=folder)
         due.take(parts[0])
-    words = [custody, "serve", "--db", "t.db", "--port", "8090", "--count", "1000000", "--idle", "3600", "--most", "3600"]
+        if rules:
+            rules.operate(sent)
+    words = [custody, "serve", "--db", "t.db", "--port", "8090", "--count", "1000000", "--idle", "3600", "--most", "3600", *options]
     with Program(library, "accept", words, folder) as program:
         service = Service(program, file, counts)
-        for parts, (_, sent, reply) in before[len(commands) :]:
-            due.take(parts[0])
-            service.go(sent, reply, due.rows())
-        for place, (parts, (_, sent, reply)) in enumerate(asked_in(story)):
-            old = due.rows()
-            due.take(parts[0])
+        for parts, step in before[len(commands) :]:
+            service.go(asked_next(parts, step, due, rules))
+        for place, (parts, step) in enumerate(asked_in(story)):
+            asked = asked_next(parts, step, due, rules)
             try:
-                service.refuse_each(sent, reply, due.rows(), old)
-                service.go(sent, reply, due.rows())
+                service.refuse_each(asked)
+                service.go(asked)
             except Wrong as wrong:
                 raise Wrong("step %d, %s: %s" % (place + 1, parts[0].line, wrong))
     return counts
+
+
+def refuse_logged(custody, library, story, folder):
+    """The same of a service with its log."""
+    return refuse_service(custody, library, story, folder, "--log", rules=logged.Custody())
 
 
 # ----------------------------------------------------------------------------------------------------
@@ -682,6 +743,8 @@ def jobs_of(told, custody, program):
         else:
             if story.name in REPLAYED:
                 jobs.append(("frames replayed", refuse_replay, custody, story))
+            if story.name in LOGGED:
+                jobs.append(("requests of a service with its log", refuse_logged, custody, story))
             if not any(story is later.after for later in told.values()):
                 jobs.append(("requests of a service", refuse_service, custody, story))
     return jobs
@@ -714,7 +777,7 @@ def main():
         library = compiled("refuse", room)
         told = read_stories()
         jobs = jobs_of(told, custody, program)
-        failed += not set(REPLAYED + [LEFT]) <= set(told)
+        failed += not set(LOGGED + REPLAYED + [LEFT]) <= set(told)
         with concurrent.futures.ThreadPoolExecutor(len(os.sched_getaffinity(0))) as pool:
             runs = [pool.submit(run_job, library, room, number, job) for number, job in enumerate(jobs)]
             for run in concurrent.futures.as_completed(runs):
@@ -726,6 +789,7 @@ def main():
     for length in LENGTHS:
         failed += total[length] == 0
         print("memory refused: %d replies of the status 503 of %d bytes" % (total[length], length))
+    print("memory refused: %d replies of which there is no line, and the service ended" % total["untold"])
     print("memory refused, in all: %d runs refused, %d right" % (total["refused"], total["right"] + total["unrefused"]))
     if failed:
         sys.exit("memory refused: %d FAILED" % failed)

@@ -1,5 +1,5 @@
 -- Worked words of the program, computed by the definitions themselves.
-use Rattle.std.proofs.Common.{◌≡◌, [], ◌∷◌, Some, None, refl}
+use Rattle.std.proofs.Common.{◌≡◌, [], ◌∷◌, Some, None, true, false, refl}
 use Rattle.std.specs.Prelude.{codes}
 use Rattle.std.specs.Str.{chars, is_utf8}
 use lib.Utf8.{encode}
@@ -51,18 +51,30 @@ tokens_asked : asked_in (codes "token-list" ∷ codes "--db" ∷ codes "t.db" �
 unfolding clap_on_literals chars is_utf8 encode
 tokens_asked = refl
 
-serving_asked : asked_in (codes "serve" ∷ codes "--db" ∷ codes "t.db" ∷ codes "--port" ∷ codes "8090" ∷ codes "--count" ∷ codes "3" ∷ []) ≡ Some (serves (codes "t.db") 8090 3 (record { idle = 10; most = 120 }))
+serving_asked : asked_in (codes "serve" ∷ codes "--db" ∷ codes "t.db" ∷ codes "--port" ∷ codes "8090" ∷ codes "--count" ∷ codes "3" ∷ []) ≡ Some (serves (codes "t.db") 8090 3 (record { idle = 10; most = 120 }) false)
 unfolding clap_on_literals chars is_utf8 encode
 serving_asked = refl
 
 timeouts_given : asked_in (codes "serve" ∷ codes "--db" ∷ codes "t.db" ∷ codes "--most" ∷ codes "3600" ∷ codes "--idle=1" ∷ codes "--port" ∷ codes "8090" ∷ codes "--count" ∷ codes "3" ∷ [])
-    ≡ Some (serves (codes "t.db") 8090 3 (record { idle = 1; most = 3_600 }))
+    ≡ Some (serves (codes "t.db") 8090 3 (record { idle = 1; most = 3_600 }) false)
 unfolding clap_on_literals chars is_utf8 encode
 timeouts_given = refl
 
 no_such_seconds : asked_in (codes "serve" ∷ codes "--db" ∷ codes "t.db" ∷ codes "--port" ∷ codes "8090" ∷ codes "--count" ∷ codes "3" ∷ codes "--idle" ∷ codes "3601" ∷ []) ≡ None
 unfolding clap_on_literals chars is_utf8 encode
 no_such_seconds = refl
+
+log_asked : asked_in (codes "serve" ∷ codes "--log" ∷ codes "--db" ∷ codes "t.db" ∷ codes "--port" ∷ codes "8090" ∷ codes "--count" ∷ codes "3" ∷ []) ≡ Some (serves (codes "t.db") 8090 3 (record { idle = 10; most = 120 }) true)
+unfolding clap_on_literals chars is_utf8 encode
+log_asked = refl
+
+no_value_of_log : asked_in (codes "serve" ∷ codes "--db" ∷ codes "t.db" ∷ codes "--port" ∷ codes "8090" ∷ codes "--count" ∷ codes "3" ∷ codes "--log=true" ∷ []) ≡ None
+unfolding clap_on_literals chars is_utf8 encode
+no_value_of_log = refl
+
+log_asked_twice : asked_in (codes "serve" ∷ codes "--db" ∷ codes "t.db" ∷ codes "--log" ∷ codes "--port" ∷ codes "8090" ∷ codes "--count" ∷ codes "3" ∷ codes "--log" ∷ []) ≡ None
+unfolding clap_on_literals chars is_utf8 encode
+log_asked_twice = refl
 
 frames_asked : asked_in (codes "replay" ∷ []) ≡ Some replays
 unfolding clap_on_literals chars is_utf8 encode

@@ -1,5 +1,5 @@
 -- What the words of the program ask for, once `clap` has parted them.
-use Rattle.std.specs.Prelude.{ℕ, List, Option, Some, None, ◌&&◌, cond, option_map, option_and_then, bytes_eq, codes}
+use Rattle.std.specs.Prelude.{ℕ, List, Bool, false, Option, Some, None, ◌&&◌, cond, option_map, option_and_then, bytes_eq, codes}
 use Rattle.std.specs.Borrow.{Bor}
 use Rattle.basis.specs.Names.{is_org_name}
 use Rattle.basis.specs.Numbers.{whole_of, within}
@@ -23,12 +23,12 @@ pub data Asked : Type 0 where
   carries : List ℕ → Operator.Admin → Asked
   -- a token of this organization, name and role, with these bounds, its secret aside
   adds_token : List ℕ → List ℕ → List ℕ → Role → Bounds → Asked
-  -- to serve at a port, so many connections, each waited for no longer than these timeouts
-  serves : List ℕ → ℕ → ℕ → Timeouts → Asked
+  -- to serve at a port, so many connections, each waited for no longer than these timeouts; whether a line is printed for each exchange
+  serves : List ℕ → ℕ → ℕ → Timeouts → Bool → Asked
   -- to answer frames
   replays : Asked
 
--- the values among the words, by the names of their arguments
+-- the values among the words, by the names of their arguments, and whether `--log` is there
 pub record Given : Type 0 where
   pub db : Option (List ℕ)
   pub org : Option (List ℕ)
@@ -41,6 +41,7 @@ pub record Given : Type 0 where
   pub count : Option (List ℕ)
   pub idle : Option (List ℕ)
   pub most : Option (List ℕ)
+  pub logs : Bool
 
 -- a port: 1 to 65,535
 abbrev pub port_of : List ℕ → Option ℕ
@@ -93,7 +94,7 @@ timeouts_asked given =
 
 abbrev pub serving_asked : List ℕ → Given → Option Asked
 serving_asked db given =
-    option_and_then (λ port. option_and_then (λ count. option_map (λ timeouts. serves db port count timeouts) (timeouts_asked given)) (option_and_then connections_of given.count)) (option_and_then port_of given.port)
+    option_and_then (λ port. option_and_then (λ count. option_map (λ timeouts. serves db port count timeouts given.logs) (timeouts_asked given)) (option_and_then connections_of given.count)) (option_and_then port_of given.port)
 
 -- a command on a file
 abbrev pub file_asked : List ℕ → List ℕ → Given → Option Asked
@@ -106,6 +107,11 @@ file_asked command db given =
 abbrev pub asked_with : List ℕ → Given → Option Asked
 asked_with command given =
     cond (bytes_eq command (codes "replay")) (Some replays) (option_and_then (λ db. file_asked command db given) given.db)
+
+-- whether a flag is there: `clap` gives it the value `true` where it is, and `false` where it isn't
+abbrev pub flag_of : Option (List ℕ) → Bool
+flag_of (Some word) = bytes_eq word (codes "true")
+flag_of None = false
 
 -- the values of a command's arguments
 abbrev pub given_in : List Row → Given
@@ -121,6 +127,7 @@ given_in rows = record {
   count = first_of (codes "count") rows;
   idle = first_of (codes "idle") rows;
   most = first_of (codes "most") rows;
+  logs = flag_of (first_of (codes "log") rows);
 }
 
 -- the same, of what a parse found
@@ -137,6 +144,7 @@ given_found found = record {
   count = first_value found (codes "count");
   idle = first_value found (codes "idle");
   most = first_value found (codes "most");
+  logs = flag_of (first_value found (codes "log"));
 }
 
 abbrev pub text_in : Option (Bor (List ℕ)) → Option (List ℕ)
@@ -155,13 +163,14 @@ given_of values = record {
   count = text_in values.count;
   idle = text_in values.idle;
   most = text_in values.most;
+  logs = values.logs;
 }
 
 -- what an order says
 abbrev pub said_by : Order → Asked
 said_by (Carry db command) = carries db.now command
 said_by (AddToken db token) = adds_token db.now token.org token.name token.role token.bounds
-said_by (Serve db port count timeouts) = serves db.now port count timeouts
+said_by (Serve db port count timeouts logs) = serves db.now port count timeouts logs
 said_by Replay = replays
 
 -- the command that adds a token with a secret

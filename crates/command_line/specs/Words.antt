@@ -2,6 +2,7 @@
 use Rattle.std.specs.Prelude.{ℕ, List, [], Bool, true, false, Option, Some, None, String, cond, map, option_and_then, string_bytes, codes, length, ◌≡◌, ◌<◌, ⊤}
 use Rattle.std.specs.declared.alloc.Global.{Global}
 use Rattle.clap.specs.Walk.{is_empty}
+use Rattle.clap.specs.declared.builder.action.ArgAction.TheVariants.{SetTrue}
 use Rattle.clap.specs.declared.builder.arg.Arg.{Arg}
 use Rattle.clap.specs.declared.builder.command.Command.{Command}
 use Rattle.clap.specs.declared.builder.command.Command.TheViews.{out-Command as fields_of}
@@ -23,6 +24,10 @@ option_rule id required = record (new_rule id) { long = Some id; value_names = 1
 -- a value by its place
 abbrev pub value_rule : Text → Rule
 value_rule id = record (new_rule id) { value_names = 1; required = true }
+
+-- `--ID`, which has no value and may be left out
+abbrev pub flag_rule : Text → Rule
+flag_rule id = record (new_rule id) { long = Some id; action = Some SetTrue }
 
 -- `--db PATH`
 abbrev pub database : Rule
@@ -63,9 +68,9 @@ token_revoke = with_rule (with_rule (with_rule (new_app (codes "token-revoke")) 
 abbrev pub with_timeouts : App → App
 with_timeouts app = with_rule (with_rule app (option_rule (codes "idle") false)) (option_rule (codes "most") false)
 
--- `serve --db PATH --port P --count N [--idle SECONDS] [--most SECONDS]`
+-- `serve --db PATH --port P --count N [--idle SECONDS] [--most SECONDS] [--log]`
 abbrev pub serve : App
-serve = with_timeouts (with_rule (with_rule (with_rule (new_app (codes "serve")) database) (option_rule (codes "port") true)) (option_rule (codes "count") true))
+serve = with_rule (with_timeouts (with_rule (with_rule (with_rule (new_app (codes "serve")) database) (option_rule (codes "port") true)) (option_rule (codes "count") true))) (flag_rule (codes "log"))
 
 -- `replay`
 abbrev pub replay : App

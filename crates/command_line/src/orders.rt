@@ -2,7 +2,7 @@
 ghost use Rattle.std.specs.Prelude.{◌≡◌, ◌≤◌, Option, Some, None, IfOk, IsErrOf, option_map, option_and_then, IfSome};
 ghost use Rattle.basis.specs.Numbers.{whole_of, within};
 ghost use Rattle.clap.specs.Words.{found_of};
-ghost use Rattle.command_line.specs.Orders.{limit_or_first, command_on, command_in, token_in, token_asked, seconds_or, timeouts_asked, serving_asked, file_asked, asked_with, given_found, given_of, text_in, said_by, with_secret, port_of, connections_of, carries};
+ghost use Rattle.command_line.specs.Orders.{limit_or_first, command_on, command_in, token_in, token_asked, seconds_or, timeouts_asked, serving_asked, file_asked, asked_with, flag_of, given_found, given_of, text_in, said_by, with_secret, port_of, connections_of, carries};
 ghost use Rattle.command_line.specs.Bounds.{bounds_given};
 ghost use Rattle.command_line.specs.Commands.{limit_of, limit_command, revoke_command};
 
@@ -90,17 +90,20 @@ pub enum Order<'a> {
         token: NewToken,
     },
     /// To answer so many connections from a file, at a port of the loopback address.
+    /// Where `logs` is true, a line is printed for each exchange.
     Serve {
         db: &'a str,
         port: u16,
         count: u32,
         timeouts: Timeouts,
+        logs: bool,
     },
     /// To answer frames over a database in memory.
     Replay,
 }
 
 /// The values that stand among the words, by the names of their arguments; none where there is none.
+/// `logs` is whether `--log` is there.
 #[derive(Drop)]
 pub struct Values<'a> {
     db: Option<&'a str>,
@@ -114,6 +117,7 @@ pub struct Values<'a> {
     count: Option<&'a str>,
     idle: Option<&'a str>,
     most: Option<&'a str>,
+    logs: bool,
 }
 
 impl<'a> Values<'a> {
@@ -132,7 +136,18 @@ impl<'a> Values<'a> {
             count: matches.get_str("count"),
             idle: matches.get_str("idle"),
             most: matches.get_str("most"),
+            logs: flag_of(matches.get_str("log")),
         }
+    }
+}
+
+// Whether a flag is there: `clap` gives it the value `true` where it is, and `false` where it isn't.
+fn flag_of(value: Option<&str>) -> bool
+    ensures { result ≡ flag_of (text_in value.entry) }
+{
+    match value {
+        Some(word) => word == "true",
+        None => false,
     }
 }
 
@@ -256,6 +271,7 @@ fn serving<'a>(db: &'a str, values: &Values<'a>) -> Option<Order<'a>>
         port,
         count,
         timeouts,
+        logs: values.logs,
     })
 }
 

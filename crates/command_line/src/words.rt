@@ -3,12 +3,12 @@
 ghost use Rattle.std.specs.Prelude.{◌≡◌, ◌<◌, ◌⊎◌, IfOk, IfErr, IsErrOf, None, Some, codes, length, string_bytes, ℕ, List};
 ghost use Rattle.clap.specs.Words.{app_of, subcommand_of, subcommand_rows_of, HasKind, FailsBy, IsAmong, App, Rule, new_app, with_rule, with_subcommand};
 ghost use Rattle.command_line.specs.Orders.{said_by};
-ghost use Rattle.command_line.specs.Words.{words_bytes, database, organization, option_rule, value_rule, org_add, org_limit, org_list, token_add, token_list, token_revoke, serve, replay, bare, custody, faults, asked_by_command, asked_in, with_organizations, with_tokens, with_running, with_bounds, with_timeouts, IsWhy, IsArg, IsCommand};
+ghost use Rattle.command_line.specs.Words.{words_bytes, database, organization, option_rule, value_rule, flag_rule, org_add, org_limit, org_list, token_add, token_list, token_revoke, serve, replay, bare, custody, faults, asked_by_command, asked_in, with_organizations, with_tokens, with_running, with_bounds, with_timeouts, IsWhy, IsArg, IsCommand};
 
 use crate::orders::{Order, Values};
 use basis::{Down, Unfit};
 use clap::error::ErrorKind;
-use clap::{Arg, ArgMatches, Command, Error};
+use clap::{Arg, ArgAction, ArgMatches, Command, Error};
 use std::alloc::{AllocError, Global};
 
 /// Why the words ask for nothing that is carried out.
@@ -39,6 +39,15 @@ fn value<'a>(alloc: Global, id: &'a str, value: &'a str, help: &'a str) -> Arg<'
     Arg::new(alloc, id)
         .value_name(value)
         .required(true)
+        .help(help)
+}
+
+fn flag<'a>(alloc: Global, id: &'a str, help: &'a str) -> Arg<'a>
+    ensures { IsArg result (flag_rule id.entry.now) }
+{
+    Arg::new(alloc, id)
+        .long(id)
+        .action(ArgAction::SetTrue)
         .help(help)
 }
 
@@ -160,11 +169,13 @@ fn serve<'a>(alloc: Global) -> Result<Command<'a>, AllocError>
     let about = "Answers Terraform and runners on the loopback address";
     let port_help = "The TCP port of 127.0.0.1: 1 to 65535";
     let count_help = "How many connections are answered, one after the other: 1 to 1000000";
+    let log_help = "Prints a line of JSON for each exchange on standard output";
     let bare = command(alloc, "serve", about);
     let on_file = with_arg(bare, database(alloc))?;
     let at_port = with_arg(on_file, option(alloc, "port", true, "P", port_help))?;
     let counted = with_arg(at_port, option(alloc, "count", true, "N", count_help))?;
-    with_timeouts(alloc, counted)
+    let timed = with_timeouts(alloc, counted)?;
+    with_arg(timed, flag(alloc, "log", log_help))
 }
 
 fn with_timeouts<'a>(alloc: Global, bare: Command<'a>) -> Result<Command<'a>, AllocError>

@@ -2,4 +2,5 @@ pub mod Bodies
 pub mod Digests
 pub mod Documents
 pub mod Inner
+pub mod Logs
 pub mod Readings

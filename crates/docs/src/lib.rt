@@ -1,7 +1,8 @@
-//! The documents of custody: what requests bring, as values, and what replies show, as bytes.
+//! The documents of custody: what requests bring, as values, and what replies and the log show, as bytes.
 //!
 //! A reader takes any bytes. It answers `Ok` exactly with the value of its definition, and `Bad` only
-//! where there is none. A body is compact JSON, with its keys in the order of their bytes.
+//! where there is none. A body is compact JSON, with its keys in the order of their bytes, and so is a
+//! line of the log.
 #![tactic(auto)]
 
 pub mod bodies;
@@ -10,9 +11,11 @@ pub mod documents;
 pub mod faults;
 mod heads;
 pub mod listings;
+pub mod logs;
 
 pub use bodies::{write_error, write_run, write_run_holder, write_ws};
 pub use digests::digest_fits;
 pub use documents::{read_lock, read_run, read_settings, read_state};
 pub use faults::DocFault;
 pub use listings::{write_run_list, write_version_list, write_ws_list};
+pub use logs::{LogAct, LogRow, write_log_line};

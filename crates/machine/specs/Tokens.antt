@@ -1,5 +1,5 @@
 -- Callers, and the operator's commands on one organization.
-use Rattle.std.specs.Prelude.{◌≡◌, ℕ, Bool, true, cond, List, [], ◌∷◌, map, Option, Some, None, IsSomeAnd, is_some, ◌||◌, ⊤}
+use Rattle.std.specs.Prelude.{◌≡◌, ℕ, Bool, true, cond, List, [], ◌∷◌, map, Option, Some, None, option_map, IsSomeAnd, is_some, ◌||◌, ⊤}
 use Rattle.std.specs.List.{AllByRecursion, list_any}
 use Rattle.std.specs.Ordering.{is_lt}
 use Rattle.std.specs.Str.{bytes_eq}
@@ -25,6 +25,25 @@ token_with digest (e ∷ es) = cond (bytes_eq e.1.digest digest) (Some e.1) (tok
 abbrev pub caller_of : Option Organization → List ℕ → Option Token
 caller_of None digest = None
 caller_of (Some o) digest = token_with digest (entries o.tokens)
+
+-- a token as an operator's list shows it: its name and who asks by it, and no digest
+abbrev pub token_row : List ℕ → Token → TokenRow
+token_row name token = record { name = name; caller = token.caller }
+
+-- the first entry with a digest, as an operator's list shows it
+abbrev pub row_with : List ℕ → List (List ℕ × Token) → Option TokenRow
+row_with digest [] = None
+row_with digest (e ∷ es) = cond (bytes_eq e.1.digest digest) (Some (token_row e.0 e.1)) (row_with digest es)
+
+-- who asks by an organization's token with a digest, and the token's name, if there is one
+abbrev pub asker_of : Option Organization → List ℕ → Option TokenRow
+asker_of None digest = None
+asker_of (Some o) digest = row_with digest (entries o.tokens)
+
+-- who asks by a digest is who asks by the token with it, whatever its name
+abbrev pub AskersAskByTheirTokens : Type 0
+AskersAskByTheirTokens = (r : Option Organization) (digest : List ℕ)
+    → option_map (λ row. row.caller) (asker_of r digest) ≡ option_map (λ token. token.caller) (caller_of r digest)
 
 -- whether an organization has a token with a digest
 abbrev pub has_digest : List ℕ → Organization → Bool
@@ -71,10 +90,7 @@ abbrev pub token_revoked : List ℕ → Option Organization → Managed
 token_revoked name None = effect Absent None
 token_revoked name (Some o) = cond (is_some (get o.tokens name)) (effect Done (Some (without_token o name))) (effect Absent (Some o))
 
--- the list of an organization's tokens, in the order of their names' bytes: who asks by each, and no digest
-abbrev pub token_row : List ℕ → Token → TokenRow
-token_row name token = record { name = name; caller = token.caller }
-
+-- the list of an organization's tokens, in the order of their names' bytes
 abbrev pub tokens_listed : List (List ℕ × Token) → List TokenRow
 tokens_listed es = map (λ (e : List ℕ × Token). token_row e.0 e.1) es
 

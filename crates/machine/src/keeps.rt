@@ -1,11 +1,11 @@
 //! What keeps organizations: the interface of a store, and what an operator is answered.
-ghost use Rattle.std.specs.Prelude.{◌≡◌, ◌≢◌, ℕ, List, Option, Some, IfOk, OnOk, OnErr, option_map, option_copied};
+ghost use Rattle.std.specs.Prelude.{◌≡◌, ◌≢◌, ℕ, List, Option, Some, IfOk, OnOk, OnErr, option_copied};
 ghost use Rattle.std.specs.FinMap.{get};
 ghost use Rattle.machine.specs.Effects.{effect};
 ghost use Rattle.machine.specs.Laws.{AreLawful};
 ghost use Rattle.machine.specs.Keeping.{Looks};
 ghost use Rattle.machine.specs.Showing.{workspaces_after, versions_after, runs_after};
-ghost use Rattle.machine.specs.Tokens.{caller_of, org_added, org_limited, token_added, token_revoked, token_of, tokens_told, ListsOrganizations};
+ghost use Rattle.machine.specs.Tokens.{asker_of, org_added, org_limited, token_added, token_revoked, token_of, tokens_told, ListsOrganizations};
 ghost use Rattle.machine.specs.Records.{workspace_in, seen_in, placed};
 ghost use Rattle.machine.specs.Changes.{changed_by, IsDue};
 ghost use Rattle.machine.specs.Units.{unit_of, version_text};
@@ -36,7 +36,7 @@ pub struct OrgRow {
     pub limit: Limit,
 }
 
-/// A token as an operator's list shows it: never its digest.
+/// A token by its name, and who asks by it: never its digest.
 #[derive(Drop)]
 pub struct TokenRow {
     pub name: Text,
@@ -79,15 +79,15 @@ pub trait Keep {
     fn records_are_lawful(&self)
         ensures { clean self.now → sound self.now → AreLawful (rows self.now) };
 
-    /// Who asks by the organization's token with this digest, be it that the token has ended.
+    /// Who asks by the organization's token with this digest, and the token's name, be it that the token has ended.
     fn caller(
         &mut self,
         alloc: Global,
         org: &OrgName,
         digest: &[u8; 32],
-    ) -> Result<Option<Caller>, Down>
+    ) -> Result<Option<TokenRow>, Down>
         ensures looks { Looks rows clean sound shielded self.old self.new }
-        ensures ok { clean self.new → sound self.old → IfOk result (λ caller. caller ≡ option_map (λ token. token.caller) (caller_of (rows self.old org.now) digest.now)) };
+        ensures ok { clean self.new → sound self.old → IfOk result (λ row. row ≡ asker_of (rows self.old org.now) digest.now) };
 
     /// What a decision on the act needs of the workspace. The organization is there.
     fn unit(&mut self, alloc: Global, org: &OrgName, ws: &WsName, act: &Act) -> Result<Unit, Down>

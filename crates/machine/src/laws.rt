@@ -1,6 +1,7 @@
 //! Laws of the rules, each the contract of a call that does nothing.
 ghost use Rattle.machine.specs.Sameness.{SameThingsAreEqualRecords};
 ghost use Rattle.machine.specs.Settling.{SettlesOnce};
+ghost use Rattle.machine.specs.Tokens.{AskersAskByTheirTokens};
 ghost use Rattle.machine.specs.Paging.{WorkspacePagesFollow, VersionPagesFollow, RunPagesFollow, WorkspacesAreShown, VersionsAreShown, RunsAreShown};
 ghost use Rattle.machine.specs.Queue.{OneRunIsActive, PlanOnlyRunsStayOut, RunsStartInOrder, RunsStay, ActionsComeAgain, KeyedCreationsComeAgain, HundredRunsAreLetIn, NoMoreRunsAreLetIn};
 ghost use Rattle.machine.specs.Versions.{NewestVersionsFollow, KeptVersionsFollow, AcceptedTextsStand, FollowingTextsAreAccepted, PutsLeaveWhatTheyAsk, PutsMakeWhatTheyAsk};
@@ -157,4 +158,9 @@ pub fn pages_follow()
 /// so two stores that hold the same have equal records.
 pub fn same_things_are_equal_records()
     ensures { SameThingsAreEqualRecords }
+{}
+
+/// Who asks by a digest, as it is given with the token's name, is who asks by the organization's token with that digest.
+pub fn askers_ask_by_their_tokens()
+    ensures { AskersAskByTheirTokens }
 {}

@@ -18,7 +18,7 @@ pub use acts::{
 pub use decisions::{MAX_OPEN_RUNS, decide};
 pub use keeps::{AdminAnswer, Fault, Keep, OrgRow, TokenRow};
 pub use laws::{
-    accepted_acts_come_again, accepted_texts_stand, actions_come_again,
+    accepted_acts_come_again, accepted_texts_stand, actions_come_again, askers_ask_by_their_tokens,
     held_versions_change_by_the_id, holds_until_released, hundred_runs_are_let_in,
     keyed_creations_come_again, locked_workspaces_stay, nothing_is_read_of_a_purge, numbers_rise,
     one_run_is_active, pages_follow, plan_only_runs_stay_out, puts_leave_what_they_ask,

@@ -7,7 +7,7 @@ ghost use Rattle.machine.specs.Laws.{AreLawful};
 ghost use Rattle.machine.specs.Records.{with_workspace, placed};
 ghost use Rattle.basis.specs.Names.{is_prefix};
 ghost use Rattle.machine.specs.Showing.{comes_after, is_listed, shown_of, row_of, version_row, workspaces_listed, versions_listed, runs_listed};
-ghost use Rattle.machine.specs.Tokens.{token_with, has_digest, new_organization, org_added, org_limited, token_added, token_revoked, token_of, token_row, tokens_listed, tokens_told};
+ghost use Rattle.machine.specs.Tokens.{token_with, row_with, asker_of, has_digest, new_organization, org_added, org_limited, token_added, token_revoked, token_of, token_row, tokens_listed, tokens_told};
 ghost use Rattle.machine.specs.Changes.{left_above, edited, changed_by};
 ghost use Rattle.machine.specs.Ranges.{IsMoment};
 ghost use Rattle.machine.specs.Rules.{reported};
@@ -73,9 +73,9 @@ impl Keep for PlainKeep {
         _alloc: Global,
         org: &OrgName,
         digest: &[u8; 32],
-    ) -> Result<Option<Caller>, Down> {
+    ) -> Result<Option<TokenRow>, Down> {
         match self.organizations.get(org.as_str()) {
-            Some(organization) => organization.caller_with(digest),
+            Some(organization) => organization.asker(digest),
             None => Ok(None),
         }
     }
@@ -293,13 +293,10 @@ impl Organization {
         }
     }
 
-    fn caller_with(&self, digest: &[u8; 32]) -> Result<Option<Caller>, Down>
-        ensures { IfOk result (λ caller. caller ≡ option_map (λ token. token.caller) (token_with digest.now (map.entries self.now.tokens))) }
+    fn asker(&self, digest: &[u8; 32]) -> Result<Option<TokenRow>, Down>
+        ensures { IfOk result (λ row. row ≡ asker_of (Some self.now) digest.now) }
     {
-        match token_with(digest, self.tokens.entries()) {
-            Some(token) => Ok(Some(token.caller.clone()?)),
-            None => Ok(None),
-        }
+        row_with(digest, self.tokens.entries())
     }
 
     fn token_list(&self, alloc: Global) -> Result<AdminAnswer, Down>
@@ -386,6 +383,18 @@ fn token_with<'a>(digest: &[u8; 32], entries: &'a [Entry<Token>]) -> Option<&'a 
         }
     }
     None
+}
+
+fn row_with(digest: &[u8; 32], entries: &[Entry<Token>]) -> Result<Option<TokenRow>, Down>
+    ensures { IfOk result (λ row. row ≡ row_with digest.now (map_list (λ e. (e.name, e.value)) entries.now)) }
+{
+    for entry in entries {
+        if entry.value.digest == *digest {
+            let row = token_row(&entry.name, &entry.value)?;
+            return Ok(Some(row));
+        }
+    }
+    Ok(None)
 }
 
 impl NameMap<Workspace> {
@@ -948,7 +957,7 @@ fn list_tokens(alloc: Global, entries: &[Entry<Token>]) -> Result<Items<TokenRow
     Ok(rows)
 }
 
-// A token as a list shows it.
+// A token by its name, and who asks by it.
 fn token_row(name: &Text, token: &Token) -> Result<TokenRow, Down>
     ensures { IfOk result (λ row. row ≡ token_row name.now token.now) }
 {

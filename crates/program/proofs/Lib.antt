@@ -6,3 +6,4 @@ mod ServingLemmas
 mod OutcomeLemmas
 mod OutsideLemmas
 mod ErrorLemmas
+mod LogLemmas

@@ -1,5 +1,5 @@
 -- What stands on the streams, by how the program ends.
-use Rattle.std.proofs.Common.{◌≡◌, ◌⊎◌, ◌≢◌, ℕ, List, Option, Some, None, IfSome, IfOk, Result, Ok, Err, refl, sym, subst, inl, inr}
+use Rattle.std.proofs.Common.{◌≡◌, ◌⊎◌, ◌≢◌, ℕ, Bool, List, Option, Some, None, IfSome, IfOk, Result, Ok, Err, refl, sym, subst, inl, inr}
 use Rattle.std.specs.Prelude.{OnErr}
 use Rattle.basis.specs.declared.memory.Down.{Down as BasisDown}
 use Rattle.machine.specs.declared.keeps.AdminAnswer.{AdminAnswer}
@@ -13,6 +13,7 @@ use Rattle.program.specs.declared.endings.Ending.{Ending}
 use Rattle.program.specs.declared.endings.Ending.TheVariants.{Done, Exists, Absent, Usage, BadFrame, Schema, Down, Unprinted}
 use Rattle.program.specs.Endings.{ending_line}
 use Rattle.program.specs.declared.reasons.Cause.TheVariants as cause
+use Rattle.program.specs.Logs.{with_log}
 use Rattle.program.specs.Outcomes.{Stream, stream, Gets, Says, IsSaid, ReplaysFrames, Refuses, ServesAt, TellsAnswer, IsOperated}
 use Rattle.program.specs.Replies.{AnswersFrames, printed, bad_frame_text, answer_line}
 use Rattle.program.specs.Serving.{Listens, listening_line}
@@ -39,22 +40,24 @@ replayed input replies (Some frame) result output errors answers out done (inl h
     to_bad (Some bytes) a = (a.0, replies, a.1, a.2, out, subst (λ (n : ℕ). Gets errors (bad_frame_text n)) a.3 h.1)
 
 -- what was told before, and then the last line
-pub served : (ending result : Ending) (old mid new : Option (List ℕ)) → Listens ending old mid → (ending ≡ Down → IsSaid Down result mid new) → (ending ≢ Down → (result ≡ ending) × (new ≡ mid)) → ServesAt result (stream old new)
-served Done result old mid new listens down other =
+pub served : (logs : Bool) (ending result : Ending) (old mid new : Option (List ℕ)) → Listens logs ending old mid → (ending ≡ Down → IsSaid Down result mid new) → (ending ≢ Down → (result ≡ ending) × (new ≡ mid)) → ServesAt logs result (stream old new)
+served logs Done result old mid new listens down other =
     let same = other (λ e. cc) in
-    subst (λ (e : Ending). ServesAt e (stream old new)) (sym same.0) (listens.0, subst (λ (o : Option (List ℕ)). Appends old o (listening_line listens.0)) (sym same.1) listens.1)
-served Exists result old mid new listens down other = absurd listens
-served Absent result old mid new listens down other = absurd listens
-served Usage result old mid new listens down other = absurd listens
-served BadFrame result old mid new listens down other = absurd listens
-served Schema result old mid new listens down other = absurd listens
-served Unprinted result old mid new listens down other = subst (λ (e : Ending). ServesAt e (stream old new)) (sym (other (λ e. cc)).0) tt
-served Down result old mid new listens down other = go listens (down refl)
+    subst (λ (e : Ending). ServesAt logs e (stream old new)) (sym same.0)
+    (listens.0, listens.1, subst (λ (o : Option (List ℕ)). Appends old o (with_log logs (listening_line listens.0) listens.1)) (sym same.1) listens.2)
+served logs Exists result old mid new listens down other = absurd listens
+served logs Absent result old mid new listens down other = absurd listens
+served logs Usage result old mid new listens down other = absurd listens
+served logs BadFrame result old mid new listens down other = absurd listens
+served logs Schema result old mid new listens down other = absurd listens
+served logs Unprinted result old mid new listens down other = subst (λ (e : Ending). ServesAt logs e (stream old new)) (sym (other (λ e. cc)).0) tt
+served logs Down result old mid new listens down other = go listens (down refl)
   where
-    go : Listens Down old mid → IsSaid Down result mid new → ServesAt result (stream old new)
-    go heard (inr h) = subst (λ (e : Ending). ServesAt e (stream old new)) (sym h) tt
-    go (inl same) (inl h) = subst (λ (e : Ending). ServesAt e (stream old new)) (sym h.0) (inl (subst (λ (o : Option (List ℕ)). Appends o new (answer_line (ending_line Down))) same h.1))
-    go (inr told) (inl h) = subst (λ (e : Ending). ServesAt e (stream old new)) (sym h.0) (inr (told.0, Appends-then old mid new (listening_line told.0) (answer_line (ending_line Down)) told.1 h.1))
+    go : Listens logs Down old mid → IsSaid Down result mid new → ServesAt logs result (stream old new)
+    go heard (inr h) = subst (λ (e : Ending). ServesAt logs e (stream old new)) (sym h) tt
+    go (inl same) (inl h) = subst (λ (e : Ending). ServesAt logs e (stream old new)) (sym h.0) (inl (subst (λ (o : Option (List ℕ)). Appends o new (answer_line (ending_line Down))) same h.1))
+    go (inr told) (inl h) = subst (λ (e : Ending). ServesAt logs e (stream old new)) (sym h.0)
+        (inr (told.0, told.1, Appends-then old mid new (with_log logs (listening_line told.0) told.1) (answer_line (ending_line Down)) told.2 h.1))
 
 -- an answer is told as it is, and where there is none `refused down`, with its cause
 pub operated : (at : ℕ) (command : Admin) (old new : List ℕ → Option Organization) (e : Ending) (output errors : Stream) (res : Result AdminAnswer BasisDown)

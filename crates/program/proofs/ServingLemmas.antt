@@ -1,6 +1,7 @@
 -- Connections one after the other.
 use Rattle.std.proofs.Common.{◌≡◌, ◌∙◌, ◌≤◌, ◌+◌, ◌++◌, ◌∷◌, [], List, ℕ, Option, Result, Ok, Err, Bool, true, false, suc, length, refl, sym, subst, arith, inl, inr, ap}
 use Rattle.std.specs.Prelude.{◌⊎◌, IsErrOf}
+use Rattle.docs.specs.declared.logs.LogRow.{LogRow}
 use Rattle.machine.specs.declared.records.Organization.{Organization}
 use Rattle.wire.specs.Links.{continue_if}
 use Rattle.serve.specs.declared.exchanges.LinkFault.{LinkFault}
@@ -18,7 +19,6 @@ use Rattle.serve.specs.Asks.{Ask}
 use Rattle.machine.specs.declared.keeps.Keep as keep
 use Rattle.wire.specs.declared.devices.Inlet as inlet
 use Rattle.wire.specs.declared.devices.Outlet as outlet
-use Rattle.program.specs.declared.endings.Ending.TheVariants as ending
 use Rattle.program.specs.declared.outside.Connections as connections
 use Rattle.program.specs.declared.outside.Files as files
 use Rattle.program.specs.declared.outside.Clock as clock
@@ -26,8 +26,8 @@ use Rattle.command_line.specs.declared.timeouts.Timeouts.{Timeouts}
 use Rattle.program.specs.Serving.{AreRequests, Serves, State, AsksAfter, AnswersNext, AnswersAll}
 use Rattle.program.specs.Inner.Serving.{TakesOne, ServesTo}
 
-answered : (now : ℕ) (received : List ℕ) (old new : List ℕ → Option Organization) (awaited : Bool) (text : List ℕ) → IsMoment now → (is_down : Bool) → IsAnswered now received old new awaited text is_down → TakesOne old new
-answered now received old new awaited text moment false served = inl (
+answered : (now : ℕ) (received : List ℕ) (old new : List ℕ → Option Organization) (awaited : Bool) (text : List ℕ) (row : Option LogRow) → IsMoment now → (is_down : Bool) → IsAnswered now received old new awaited text row is_down → TakesOne old new
+answered now received old new awaited text row moment false served = inl (
   now,
   received,
   continue_if awaited ++ text,
@@ -40,17 +40,17 @@ answered now received old new awaited text moment false served = inl (
     listed = subst (λ (a : Ask). IsListed old a (continue_if awaited ++ text)) (sym served.asks.is) (reading_listed now served.asks.reading old (continue_if awaited ++ text));
   },
 )
-answered now received old new awaited text moment true down = inr down.1.stays
+answered now received old new awaited text row moment true down = inr down.1.stays
 
 -- one exchange takes at most one request
-pub taken_of : {T : Type 0} (now : ℕ) (received : List ℕ) (left : Option (List ℕ)) (old new : List ℕ → Option Organization) (before after : Option (List ℕ)) (is_down : Bool) (res : Result T LinkFault)
-    → IsMoment now → Exchanges now received left old new before after is_down res
+pub taken_of : {T : Type 0} (now : ℕ) (received : List ℕ) (left : Option (List ℕ)) (old new : List ℕ → Option Organization) (before after : Option (List ℕ)) (is_down : Bool) (row : Option LogRow) (res : Result T LinkFault)
+    → IsMoment now → Exchanges now received left old new before after is_down row res
     → (IsErrOf res Ended ⊎ (IsErrOf res Read ⊎ IsErrOf res Continue) → Stays old new) → TakesOne old new
-taken_of now received left old new before after is_down (Ok done) moment told stays = answered now received old new told.0 told.1 moment is_down told.2
-taken_of now received left old new before after is_down (Err Ended) moment told stays = inr (stays (inl refl))
-taken_of now received left old new before after is_down (Err Read) moment told stays = inr (stays (inr (inl refl)))
-taken_of now received left old new before after is_down (Err Continue) moment told stays = inr (stays (inr (inr refl)))
-taken_of now received left old new before after is_down (Err Write) moment told stays = answered now received old new told.0 (told.1 ++ told.2) moment is_down told.4
+taken_of now received left old new before after is_down row (Ok done) moment told stays = answered now received old new told.0 told.1 row moment is_down told.2
+taken_of now received left old new before after is_down row (Err Ended) moment told stays = inr (stays (inl refl))
+taken_of now received left old new before after is_down row (Err Read) moment told stays = inr (stays (inr (inl refl)))
+taken_of now received left old new before after is_down row (Err Continue) moment told stays = inr (stays (inr (inr refl)))
+taken_of now received left old new before after is_down row (Err Write) moment told stays = answered now received old new told.0 (told.1 ++ told.2) row moment is_down told.4
 
 requests-push : (steps : List Step) (at : ℕ) (bytes : List ℕ) → AreRequests steps → AreRequests (steps ++ Request at bytes ∷ [])
 requests-push [] at bytes h = tt
@@ -119,14 +119,14 @@ module _ {K F : Type 0} (k : keep.Ghosts K) (f : files.Ghosts F K) where
 
 -- one connection more behind those that were answered
 module _ {K F N C R W : Type 0} (k : keep.Ghosts K) (f : files.Ghosts F K) (n : connections.Ghosts N R W) (c : clock.Ghosts C) (i : inlet.Ghosts R) (o : outlet.Ghosts W) where
-  pub answers_more : (timeouts : Timeouts) (from place : ℕ) (moments : List ℕ) (at : ℕ) (old mid new : State N C K)
-      → place ≡ from + length moments → AnswersAll k f n c i o timeouts from moments old mid → AnswersNext k f n c i o timeouts place at false mid new → AnswersAll k f n c i o timeouts from (moments ++ at ∷ []) old new
-  answers_more timeouts from place [] at old mid new is so_far one =
+  pub answers_more : (timeouts : Timeouts) (logs : Bool) (from place : ℕ) (moments : List ℕ) (at : ℕ) (old mid new : State N C K)
+      → place ≡ from + length moments → AnswersAll k f n c i o timeouts logs from moments old mid → AnswersNext k f n c i o timeouts logs place at false true mid new → AnswersAll k f n c i o timeouts logs from (moments ++ at ∷ []) old new
+  answers_more timeouts logs from place [] at old mid new is so_far one =
       let first : place ≡ from = omega arith in
-      (new, subst (λ (s : State N C K). AnswersNext k f n c i o timeouts from at false s new) so_far (subst (λ (p : ℕ). AnswersNext k f n c i o timeouts p at false mid new) first one), refl)
-  answers_more timeouts from place (m ∷ moments) at old mid new is so_far one =
+      (new, subst (λ (s : State N C K). AnswersNext k f n c i o timeouts logs from at false true s new) so_far (subst (λ (p : ℕ). AnswersNext k f n c i o timeouts logs p at false true mid new) first one), refl)
+  answers_more timeouts logs from place (m ∷ moments) at old mid new is so_far one =
       let further : place ≡ suc from + length moments = omega arith in
-      (so_far.0, so_far.1, answers_more timeouts (suc from) place moments at so_far.0 mid new further so_far.2 one)
+      (so_far.0, so_far.1, answers_more timeouts logs (suc from) place moments at so_far.0 mid new further so_far.2 one)
 
 pub one_more : (moments : List ℕ) (at count : ℕ) → length moments ≡ count → length (moments ++ at ∷ []) ≡ count + 1
 one_more moments at count is = length-push moments at ∙ ap (λ n. n + 1) is

@@ -5,6 +5,7 @@ pub mod Frames
 pub mod Headings
 pub mod Inner
 pub mod Lines
+pub mod Logs
 pub mod Outcomes
 pub mod Paths
 pub mod Replies

@@ -22,6 +22,7 @@ use Rattle.program.specs.declared.reasons.Cause.TheVariants as cause
 use Rattle.program.specs.declared.reasons.OtherSchema.{OtherSchema}
 use Rattle.program.specs.declared.reasons.OpenFault.TheVariants as fault
 use Rattle.program.specs.Frames.{AreFrames}
+use Rattle.program.specs.Logs.{with_log}
 use Rattle.program.specs.declared.outside.Files as files
 use Rattle.command_line.specs.Orders.{Asked, carries, adds_token, serves, replays}
 use Rattle.program.specs.Paths.{AllStay, OthersStay}
@@ -162,13 +163,14 @@ abbrev pub AddsToken : Option (List ℕ) → Ending → Stream → Stream → Ty
 AddsToken input e output errors =
     (HasSecret input × AnswersLine e output) ⊎ ((HasNoSecret input × RefusesUsage e output errors) ⊎ RefusesDown e output)
 
--- connections are served, at the port that is told
-abbrev pub ServesAt : Ending → Stream → Type 0
-ServesAt ending.Done output = (port : ℕ) × Gets output (listening_line port)
-ServesAt ending.Schema output = Says ending.Schema output
-ServesAt ending.Down output = Says ending.Down output ⊎ ((port : ℕ) × Gets output (listening_line port ++ answer_line (ending_line ending.Down)))
-ServesAt ending.Unprinted output = ⊤
-ServesAt e output = ⊥
+-- connections are served, at the port that is told, and the log stands behind it where it is asked for (`true`)
+abbrev pub ServesAt : Bool → Ending → Stream → Type 0
+ServesAt logs ending.Done output = (port : ℕ) × (log : List ℕ) × Gets output (with_log logs (listening_line port) log)
+ServesAt logs ending.Schema output = Says ending.Schema output
+ServesAt logs ending.Down output =
+    Says ending.Down output ⊎ ((port : ℕ) × (log : List ℕ) × Gets output (with_log logs (listening_line port) log ++ answer_line (ending_line ending.Down)))
+ServesAt logs ending.Unprinted output = ⊤
+ServesAt logs e output = ⊥
 
 -- the replies to the frames before a bad one, and on the error stream which one is bad, counted from 1
 abbrev pub ReplaysToBad : List ℕ → Stream → Stream → Type 0
@@ -187,7 +189,7 @@ ReplaysFrames input e output errors = ⊥
 abbrev pub Does : Asked → Option (List ℕ) → Ending → Stream → Stream → Type 0
 Does (carries db command) input e output errors = AnswersCommand command e output
 Does (adds_token db org name role bounds) input e output errors = AddsToken input e output errors
-Does (serves db port count timeouts) input e output errors = ServesAt e output
+Does (serves db port count timeouts logs) input e output errors = ServesAt logs e output
 Does replays input e output errors = ReplaysFrames input e output errors
 
 -- words that ask for nothing that is carried out: for help, whose text goes to the error stream; or for
@@ -284,9 +286,9 @@ SaysServed served e old new =
     ((served ≡ ending.Down) × IsSaid ending.Down e old new) ⊎ ((served ≢ ending.Down) × (e ≡ served) × (new ≡ old))
 
 module _ {K F N C R W : Type 0} (k : keep.Ghosts K) (f : files.Ghosts F K) (n : connections.Ghosts N R W) (c : clock.Ghosts C) (i : inlet.Ghosts R) (o : outlet.Ghosts W) where
-  -- connections are answered from what lay at a path, each with these timeouts; what they left lies there now, and
-  -- nothing else changed
-  pub record ServesFrom (path : List ℕ) (port : ℕ) (timeouts : Timeouts) (count : ℕ) (old new : Outside F N C) (e : Ending) (output errors : Stream) : Type 0 where
+  -- connections are answered from what lay at a path, each with these timeouts, with the log or without it; what they left
+  -- lies there now, and nothing else changed
+  pub record ServesFrom (path : List ℕ) (port : ℕ) (timeouts : Timeouts) (logs : Bool) (count : ℕ) (old new : Outside F N C) (e : Ending) (output errors : Stream) : Type 0 where
     pub before : K
     pub after : K
     pub found : f.holds old.files path before
@@ -305,7 +307,7 @@ module _ {K F N C R W : Type 0} (k : keep.Ghosts K) (f : files.Ghosts F K) (n : 
     pub noted : Option (List ℕ)
     pub tells : TellsOfFile is_new others_may_read (stream errors.old noted)
     pub lines : Option (List ℕ)
-    pub answers : AnswersAtPort k f n c i o port timeouts count (state old.network old.clock before noted) (state new.network new.clock after lines) served output.old told
+    pub answers : AnswersAtPort k f n c i o port timeouts logs count (state old.network old.clock before noted output.old) (state new.network new.clock after lines told) served
     pub says : SaysServed served e told output.new
     pub log : TellsOfLog (f.copied new.files path after) (stream lines errors.new)
 
@@ -314,8 +316,8 @@ module _ {K F N C R W : Type 0} (k : keep.Ghosts K) (f : files.Ghosts F K) (n : 
   Leaves (carries db command) input old new e output errors = OperatesAt k f db command old.files new.files e output errors × IsAlone old new
   Leaves (adds_token db org name role bounds) input old new e output errors =
       AddsTokenAt k f db (λ secret. TokenAdd org name role secret bounds) input old.files new.files e output errors × IsAlone old new
-  Leaves (serves db port count timeouts) input old new e output errors =
-      ServesFrom db port timeouts count old new e output errors ⊎ (RefusesToOpen k f db old.files new.files e output errors × IsAlone old new)
+  Leaves (serves db port count timeouts logs) input old new e output errors =
+      ServesFrom db port timeouts logs count old new e output errors ⊎ (RefusesToOpen k f db old.files new.files e output errors × IsAlone old new)
   Leaves replays input old new e output errors = new ≡ old
 
   -- the program by its words: how it ends, what is printed, and what the program stands on before and after

@@ -63,15 +63,23 @@ pub fn write_line<E: Write>(errors: &mut E, place: u32, text: &str) -> io::Resul
     }
 }
 
+/// Writes bytes, as far as the stream takes them, and sends them on.
+pub fn send<E: Write>(errors: &mut E, text: &[u8]) -> io::Result<()>
+    ensures whole { OnOk result (Appends (E.contents errors.old) (E.contents errors.new) text.now) }
+    ensures front { GetsFront (E.contents errors.old) (E.contents errors.new) text.now }
+{
+    match write_text(errors, text) {
+        Ok(()) => errors.flush(),
+        Err(error) => Err(error),
+    }
+}
+
 /// Writes a text, as far as the stream takes it, and sends it on.
 pub fn note<E: Write>(errors: &mut E, text: &str) -> io::Result<()>
     ensures whole { OnOk result (Appends (E.contents errors.old) (E.contents errors.new) text.now) }
     ensures front { GetsFront (E.contents errors.old) (E.contents errors.new) text.now }
 {
-    match write_text(errors, text.as_bytes()) {
-        Ok(()) => errors.flush(),
-        Err(error) => Err(error),
-    }
+    send(errors, text.as_bytes())
 }
 
 /// Says why memory, the store, the input or the network was refused, as far as the stream takes it.

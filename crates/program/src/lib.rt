@@ -7,6 +7,7 @@ mod errors;
 pub mod frames;
 pub mod headings;
 pub mod lines;
+mod logs;
 pub mod outside;
 pub mod reasons;
 pub mod replays;

@@ -37,6 +37,8 @@ pub enum Cause {
     Accept,
     /// The clock can't be read, or is out of range.
     Clock,
+    /// A line of the log was not taken whole.
+    Log,
 }
 
 impl Cause {
@@ -69,6 +71,9 @@ impl Cause {
             Cause::Port => "custody: the port can't be listened at\n",
             Cause::Accept => "custody: a connection could not be accepted\n",
             Cause::Clock => "custody: the clock can't be read, or is out of range\n",
+            Cause::Log => {
+                "custody: the exchange log could not be written, so nothing more is answered\n"
+            }
         }
     }
 }

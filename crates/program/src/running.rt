@@ -327,6 +327,7 @@ fn serve_at<K: Keep, F: Files<K>, N: Connections, C: Clock, O: Write, E: Write>(
     port: u16,
     count: u32,
     timeouts: &Timeouts,
+    logs: bool,
     output: &mut O,
     errors: &mut E,
 ) -> Ending
@@ -334,12 +335,12 @@ fn serve_at<K: Keep, F: Files<K>, N: Connections, C: Clock, O: Write, E: Write>(
     ensures shield { K.shielded service.old.keep → K.shielded service.new.keep }
     ensures kept { K.clean service.new.keep → K.sound service.old.keep → K.sound service.new.keep }
     ensures serves { K.clean service.new.keep → K.sound service.old.keep → Serves count (K.rows service.old.keep) (K.rows service.new.keep) }
-    ensures listens { Listens result (O.contents output.old) (O.contents output.new) }
-    ensures answers { AnswersAtPort K.Keep F.Files N.Connections C.Clock N.Reader.Inlet N.Writer.Outlet port timeouts.now count (state network.old clock.old service.old.keep (E.contents errors.old)) (state network.new clock.new service.new.keep (E.contents errors.new)) result (O.contents output.old) (O.contents output.new) }
+    ensures listens { Listens logs result (O.contents output.old) (O.contents output.new) }
+    ensures answers { AnswersAtPort K.Keep F.Files N.Connections C.Clock N.Reader.Inlet N.Writer.Outlet port timeouts.now logs count (state network.old clock.old service.old.keep (E.contents errors.old) (O.contents output.old)) (state network.new clock.new service.new.keep (E.contents errors.new) (O.contents output.new)) result }
 {
     match network.bind(Ipv4Addr::LOCALHOST, port) {
         Ok(given) => serve_loop(
-            alloc, files, network, given, service, count, timeouts, clock, output, errors,
+            alloc, files, network, given, service, count, timeouts, logs, clock, output, errors,
         ),
         Err(cause) => {
             tell_cause(errors, cause);
@@ -376,11 +377,12 @@ fn serve<K: Keep, F: Files<K>, N: Connections, C: Clock, O: Write, E: Write>(
     port: u16,
     count: u32,
     timeouts: &Timeouts,
+    logs: bool,
     output: &mut O,
     errors: &mut E,
 ) -> Ending
-    ensures line { ServesAt result (stream (O.contents output.old) (O.contents output.new)) }
-    ensures serves { ServesFrom K.Keep F.Files N.Connections C.Clock N.Reader.Inlet N.Writer.Outlet db.now port timeouts.now count (outside files.old network.old clock.old) (outside files.new network.new clock.new) result (stream (O.contents output.old) (O.contents output.new)) (stream (E.contents errors.old) (E.contents errors.new))
+    ensures line { ServesAt logs result (stream (O.contents output.old) (O.contents output.new)) }
+    ensures serves { ServesFrom K.Keep F.Files N.Connections C.Clock N.Reader.Inlet N.Writer.Outlet db.now port timeouts.now logs count (outside files.old network.old clock.old) (outside files.new network.new clock.new) result (stream (O.contents output.old) (O.contents output.new)) (stream (E.contents errors.old) (E.contents errors.new))
         ⊎ (RefusesToOpen K.Keep F.Files db.now files.old files.new result (stream (O.contents output.old) (O.contents output.new)) (stream (E.contents errors.old) (E.contents errors.new)) × IsAlone (outside files.old network.old clock.old) (outside files.new network.new clock.new)) }
 {
     let is_new = files.is_absent(db);
@@ -401,6 +403,7 @@ fn serve<K: Keep, F: Files<K>, N: Connections, C: Clock, O: Write, E: Write>(
         port,
         count,
         timeouts,
+        logs,
         output,
         errors,
     );
@@ -432,8 +435,9 @@ fn run_order<K: Keep, F: Files<K>, N: Connections, C: Clock, I: Read, O: Write, 
             port,
             count,
             timeouts,
+            logs,
         } => serve(
-            alloc, files, network, clock, db, port, count, &timeouts, output, errors,
+            alloc, files, network, clock, db, port, count, &timeouts, logs, output, errors,
         ),
         Order::Replay => { replay_frames::<K, F, I, O, E>(alloc, files, input, output, errors) }
     }

@@ -1,15 +1,16 @@
 //! The loop of `serve`: connections one after the other, each one exchange.
 
-ghost use Rattle.std.specs.Prelude.{◌≡◌, ◌++◌, ℕ, List, Ok, Some, IfOk, IfErr, OnOk, false};
+ghost use Rattle.std.specs.Prelude.{◌≡◌, ◌++◌, ℕ, List, Ok, Some, IfOk, IfErr, IfSome, OnOk, true, false};
 ghost use Rattle.std.specs.Io.KnownBytes.{Appends, Consumes};
-ghost use Rattle.serve.specs.Exchanges.{Exchanges};
+ghost use Rattle.serve.specs.Exchanges.{Exchanges, ChangesAsTold};
 ghost use Rattle.wire.specs.Links.{Writes};
 ghost use Rattle.program.specs.Errors.{GetsConnectionLines, fault_text, down_line, fault_line};
-ghost use Rattle.program.specs.Serving.{listening_line, ListensAt, Serves, state, AcceptsNone, AnswersOne, Answers, AsksAfter, AnswersNext, EndsEarly, AnswersCount};
+ghost use Rattle.program.specs.Serving.{listening_line, ListensAt, Serves, state, AcceptsNone, AnswersOne, Answers, AsksAfter, AnswersNext, EndsEarly, AnswersCount, LogTellsChanges};
 ghost use Rattle.program.specs.Inner.Serving.{TakesOne};
 
 use crate::endings::Ending;
 use crate::errors::{tell_cause, write_line};
+use crate::logs::log_row;
 use crate::outside::{Clock, Connections, Files};
 use crate::reasons::Cause;
 use basis::Moment;
@@ -88,13 +89,15 @@ fn exchange_one<K: Keep, I: Inlet, O: Outlet>(
     ensures kept { K.clean service.new.keep → K.sound service.old.keep → K.sound service.new.keep }
     ensures takes { K.clean service.new.keep → K.sound service.old.keep → TakesOne (K.rows service.old.keep) (K.rows service.new.keep) }
     ensures told { K.clean service.new.keep → K.sound service.old.keep → (received : List ℕ) × Consumes (I.left inlet.old) (I.left inlet.new) received
-        × Exchanges now received (I.left inlet.new) (K.rows service.old.keep) (K.rows service.new.keep) (O.written outlet.old) (O.written outlet.new) service.new.was_down result }
+        × Exchanges now received (I.left inlet.new) (K.rows service.old.keep) (K.rows service.new.keep) (O.written outlet.old) (O.written outlet.new) service.new.was_down service.new.row result }
+    ensures changes { K.clean service.new.keep → K.sound service.old.keep → IfSome service.new.row (λ row. ChangesAsTold row (K.rows service.old.keep) (K.rows service.new.keep)) }
 {
     prove!(now.seconds() <= MAX_MOMENT);
     service.exchange(alloc, now, inlet, outlet)
 }
 
-fn serve_one<K: Keep, N: Connections, E: Write>(
+// A connection is answered, told of and ended; the result is whether the log's line was taken.
+fn serve_one<K: Keep, N: Connections, O: Write, E: Write>(
     alloc: Global,
     service: &mut Service<K>,
     now: Moment,
@@ -102,21 +105,25 @@ fn serve_one<K: Keep, N: Connections, E: Write>(
     reader: N::Reader,
     writer: N::Writer,
     place: u32,
+    logs: bool,
+    output: &mut O,
     errors: &mut E,
-)
+) -> bool
     requires reads { N.Reader.broken reader ≡ false }
     requires writes { N.Writer.broken writer ≡ false }
     ensures so_far { K.clean service.new.keep → K.clean service.old.keep }
     ensures shield { K.shielded service.old.keep → K.shielded service.new.keep }
     ensures kept { K.clean service.new.keep → K.sound service.old.keep → K.sound service.new.keep }
     ensures takes { K.clean service.new.keep → K.sound service.old.keep → TakesOne (K.rows service.old.keep) (K.rows service.new.keep) }
-    ensures answers { AnswersOne K.Keep N.Connections N.Reader.Inlet N.Writer.Outlet place now service.new.was_down reader writer network.old network.new service.old.keep service.new.keep (E.contents errors.old) (E.contents errors.new) }
+    ensures answers { AnswersOne K.Keep N.Connections N.Reader.Inlet N.Writer.Outlet logs place now service.new.was_down result reader writer network.old network.new service.old.keep service.new.keep (E.contents errors.old) (E.contents errors.new) (O.contents output.old) (O.contents output.new) }
 {
     let mut inlet = reader;
     let mut outlet = writer;
     let ended = exchange_one(alloc, service, now, &mut inlet, &mut outlet);
     let _ = tell(errors, place, ended, service.was_down());
+    let is_told = log_row(alloc, output, logs, place, ended, service.row());
     network.finish(inlet, outlet);
+    is_told
 }
 
 fn print_listening<O: Write>(output: &mut O, port: u16) -> io::Result<()>
@@ -145,29 +152,32 @@ fn accept<N: Connections, C: Clock>(
     }
 }
 
-// The next connection is accepted, answered and ended.
-fn answer_next<K: Keep, N: Connections, C: Clock, E: Write>(
+// The next connection is accepted, answered and ended; the result is whether the log's line was taken.
+fn answer_next<K: Keep, N: Connections, C: Clock, O: Write, E: Write>(
     alloc: Global,
     network: &mut N,
     timeouts: &Timeouts,
     service: &mut Service<K>,
     clock: &mut C,
     place: u32,
+    logs: bool,
+    output: &mut O,
     errors: &mut E,
-) -> Result<(), Cause>
+) -> Result<bool, Cause>
     ensures so_far { K.clean service.new.keep → K.clean service.old.keep }
     ensures shield { K.shielded service.old.keep → K.shielded service.new.keep }
     ensures kept { K.clean service.new.keep → K.sound service.old.keep → K.sound service.new.keep }
     ensures takes { K.clean service.new.keep → K.sound service.old.keep → TakesOne (K.rows service.old.keep) (K.rows service.new.keep) }
-    ensures answers { OnOk result ((at : ℕ) × Answers K.Keep N.Connections C.Clock N.Reader.Inlet N.Writer.Outlet timeouts.now place at service.new.was_down (state network.old clock.old service.old.keep (E.contents errors.old)) (state network.new clock.new service.new.keep (E.contents errors.new))) }
-    ensures refused { IfErr result (λ cause. AcceptsNone N.Connections C.Clock timeouts.now network.old network.new clock.old clock.new cause × (service.new.keep ≡ service.old.keep) × (E.contents errors.new ≡ E.contents errors.old)) }
+    ensures answers { IfOk result (λ is_told. (at : ℕ) × Answers K.Keep N.Connections C.Clock N.Reader.Inlet N.Writer.Outlet timeouts.now logs place at service.new.was_down is_told (state network.old clock.old service.old.keep (E.contents errors.old) (O.contents output.old)) (state network.new clock.new service.new.keep (E.contents errors.new) (O.contents output.new))) }
+    ensures refused { IfErr result (λ cause. AcceptsNone N.Connections C.Clock timeouts.now network.old network.new clock.old clock.new cause × (service.new.keep ≡ service.old.keep) × (E.contents errors.new ≡ E.contents errors.old) × (O.contents output.new ≡ O.contents output.old)) }
 {
     let (reader, writer, now) = match accept(network, timeouts, clock) {
         Ok(found) => found,
         Err(cause) => return Err(cause),
     };
-    serve_one(alloc, service, now, network, reader, writer, place, errors);
-    Ok(())
+    Ok(serve_one(
+        alloc, service, now, network, reader, writer, place, logs, output, errors,
+    ))
 }
 
 // After the 503 the files are asked whether a fault of the disk has shut the store.
@@ -184,7 +194,7 @@ fn ask_after<K: Keep, F: Files<K>>(files: &F, service: &mut Service<K>) -> bool
 }
 
 // The next connection is answered; or no further one is to be accepted, and this is why.
-fn serve_next<K: Keep, F: Files<K>, N: Connections, C: Clock, E: Write>(
+fn serve_next<K: Keep, F: Files<K>, N: Connections, C: Clock, O: Write, E: Write>(
     alloc: Global,
     files: &F,
     network: &mut N,
@@ -192,23 +202,29 @@ fn serve_next<K: Keep, F: Files<K>, N: Connections, C: Clock, E: Write>(
     service: &mut Service<K>,
     clock: &mut C,
     place: u32,
+    logs: bool,
+    output: &mut O,
     errors: &mut E,
 ) -> Result<(), Cause>
     ensures so_far { K.clean service.new.keep → K.clean service.old.keep }
     ensures shield { K.shielded service.old.keep → K.shielded service.new.keep }
     ensures kept { K.clean service.new.keep → K.sound service.old.keep → K.sound service.new.keep }
     ensures takes { K.clean service.new.keep → K.sound service.old.keep → TakesOne (K.rows service.old.keep) (K.rows service.new.keep) }
-    ensures answers { OnOk result ((at : ℕ) × AnswersNext K.Keep F.Files N.Connections C.Clock N.Reader.Inlet N.Writer.Outlet timeouts.now place at false (state network.old clock.old service.old.keep (E.contents errors.old)) (state network.new clock.new service.new.keep (E.contents errors.new))) }
-    ensures refused { IfErr result (EndsEarly K.Keep F.Files N.Connections C.Clock N.Reader.Inlet N.Writer.Outlet timeouts.now place (state network.old clock.old service.old.keep (E.contents errors.old)) (state network.new clock.new service.new.keep (E.contents errors.new))) }
+    ensures answers { OnOk result ((at : ℕ) × AnswersNext K.Keep F.Files N.Connections C.Clock N.Reader.Inlet N.Writer.Outlet timeouts.now logs place at false true (state network.old clock.old service.old.keep (E.contents errors.old) (O.contents output.old)) (state network.new clock.new service.new.keep (E.contents errors.new) (O.contents output.new))) }
+    ensures refused { IfErr result (EndsEarly K.Keep F.Files N.Connections C.Clock N.Reader.Inlet N.Writer.Outlet timeouts.now logs place (state network.old clock.old service.old.keep (E.contents errors.old) (O.contents output.old)) (state network.new clock.new service.new.keep (E.contents errors.new) (O.contents output.new))) }
 {
-    match answer_next(alloc, network, timeouts, service, clock, place, errors) {
-        Ok(()) => {}
+    let is_told = match answer_next(
+        alloc, network, timeouts, service, clock, place, logs, output, errors,
+    ) {
+        Ok(is_told) => is_told,
         Err(cause) => return Err(cause),
-    }
+    };
     if ask_after(files, service) {
         Err(Cause::Shut)
-    } else {
+    } else if is_told {
         Ok(())
+    } else {
+        Err(Cause::Log)
     }
 }
 
@@ -216,7 +232,8 @@ fn serve_next<K: Keep, F: Files<K>, N: Connections, C: Clock, E: Write>(
 /// one exchange. The network listens at that port already. A connection that ends in a fault of its link
 /// counts, and a line of the error stream tells the fault; so does one that the timeouts end. One that is
 /// answered by the 503, since memory or the store refused, is told of so, too. An accept that fails, a
-/// clock out of range, or a fault of the disk that has shut the store ends it, and a line says which.
+/// clock out of range, or a fault of the disk that has shut the store ends it, and a line says which. Where
+/// `logs` is true, standard output gets a line for each exchange; one that isn't taken whole ends it, too.
 pub fn serve_loop<K: Keep, F: Files<K>, N: Connections, C: Clock, O: Write, E: Write>(
     alloc: Global,
     files: &F,
@@ -225,6 +242,7 @@ pub fn serve_loop<K: Keep, F: Files<K>, N: Connections, C: Clock, O: Write, E: W
     service: &mut Service<K>,
     count: u32,
     timeouts: &Timeouts,
+    logs: bool,
     clock: &mut C,
     output: &mut O,
     errors: &mut E,
@@ -233,8 +251,8 @@ pub fn serve_loop<K: Keep, F: Files<K>, N: Connections, C: Clock, O: Write, E: W
     ensures shield { K.shielded service.old.keep → K.shielded service.new.keep }
     ensures kept { K.clean service.new.keep → K.sound service.old.keep → K.sound service.new.keep }
     ensures serves { K.clean service.new.keep → K.sound service.old.keep → Serves count (K.rows service.old.keep) (K.rows service.new.keep) }
-    ensures answers { AnswersCount K.Keep F.Files N.Connections C.Clock N.Reader.Inlet N.Writer.Outlet timeouts.now count (state network.old clock.old service.old.keep (E.contents errors.old)) (state network.new clock.new service.new.keep (E.contents errors.new)) result }
-    ensures listens { ListensAt port result (O.contents output.old) (O.contents output.new) }
+    ensures answers { AnswersCount K.Keep F.Files N.Connections C.Clock N.Reader.Inlet N.Writer.Outlet port timeouts.now logs count (state network.old clock.old service.old.keep (E.contents errors.old) (O.contents output.old)) (state network.new clock.new service.new.keep (E.contents errors.new) (O.contents output.new)) result }
+    ensures listens { ListensAt port logs result (O.contents output.old) (O.contents output.new) }
 {
     if print_listening(output, port).is_err() {
         return Ending::Unprinted;
@@ -248,6 +266,8 @@ pub fn serve_loop<K: Keep, F: Files<K>, N: Connections, C: Clock, O: Write, E: W
             service,
             clock,
             place + 1,
+            logs,
+            output,
             errors,
         ) {
             Ok(()) => {}
@@ -259,3 +279,9 @@ pub fn serve_loop<K: Keep, F: Files<K>, N: Connections, C: Clock, O: Write, E: W
     }
     Ending::Done
 }
+
+/// The log has a line for each connection that was answered, in turn, and between two lines no record
+/// changes but that of the organization that the later line names.
+pub fn log_tells_changes<K: Keep, F: Files<K>, N: Connections, C: Clock>()
+    ensures { LogTellsChanges K.Keep F.Files N.Connections C.Clock N.Reader.Inlet N.Writer.Outlet }
+{}

@@ -52,17 +52,17 @@ abbrev pub after_caller : Option Organization → Asked → Option (List ℕ) �
 after_caller r asked content_md5 body token = and_then (may_do token asked) (λ _. after_role r token asked content_md5 body)
 
 -- the policy is the role, and then the prefix
-policy_is : {A : Type 0} (refused : Option Refusal) (b : Bool) (x : Result A Refusal)
+pub policy_is : {A : Type 0} (refused : Option Refusal) (b : Bool) (x : Result A Refusal)
     → and_then (allowed_by refused) (λ _. and_then (require NotFound b) (λ _. x)) ≡ and_then (allowed_by (or_else_refused refused (if b then None else Some NotFound))) (λ _. x)
 policy_is None true x = refl
 policy_is None false x = refl
 policy_is (Some refusal) b x = refl
 
-token_of_caller : (x : Result Token Refusal) (caller : Caller) → and_then x (λ token. Ok token.caller) ≡ Ok caller → (token : Token) × (x ≡ Ok token) × (token.caller ≡ caller)
+pub token_of_caller : (x : Result Token Refusal) (caller : Caller) → and_then x (λ token. Ok token.caller) ≡ Ok caller → (token : Token) × (x ≡ Ok token) × (token.caller ≡ caller)
 token_of_caller (Ok token) caller e = (token, refl, let same : token.caller ≡ caller = cc in same)
 token_of_caller (Err refusal) caller e = absurd (let none : ⊥ = cc in none)
 
-no_token : (x : Result Token Refusal) (refusal : Refusal) → and_then x (λ token. Ok token.caller) ≡ Err refusal → x ≡ Err refusal
+pub no_token : (x : Result Token Refusal) (refusal : Refusal) → and_then x (λ token. Ok token.caller) ≡ Err refusal → x ≡ Err refusal
 no_token (Ok token) refusal e = absurd (let none : ⊥ = cc in none)
 no_token (Err other) refusal e = let same : other ≡ refusal = cc in ap Err same
 

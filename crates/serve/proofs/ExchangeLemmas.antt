@@ -1,5 +1,5 @@
 -- One exchange: the reply to what was read, and what is written in all.
-use Rattle.std.proofs.Common.{◌≡◌, ◌≢◌, ℕ, Bool, true, false, List, [], ◌++◌, Option, Some, None, Result, Ok, Err, IfSome, IfErr, refl, sym, ap, subst, ◌∙◌}
+use Rattle.std.proofs.Common.{◌≡◌, ◌≢◌, ℕ, Bool, true, false, List, [], ◌++◌, Option, Some, None, Result, Ok, Err, IsSome, IfSome, IfErr, refl, sym, ap, subst, ◌∙◌}
 use Rattle.std.specs.Io.KnownBytes.{Appends, Consumes}
 use Rattle.std.specs.Str.{bytes_eq}
 use Rattle.std.proofs.lemmas.Slice.Eq.{bytes_eq-Decides}
@@ -13,16 +13,20 @@ use Rattle.wire.specs.Messages.{refused, whole}
 use Rattle.wire.specs.Links.{ReportsReceived, ReportsInput, continue_if, Writes}
 use Rattle.wire.specs.Replies.{Answer, IsReplyText, unavailable_answer}
 use Rattle.wire.proofs.LinkLemmas.{Appends-none, Appends-then, Consumes-none}
-use Rattle.serve.specs.Asks.{Ask, Owner, organization, unattributed, operator, silent, requests, commands}
+use Rattle.docs.specs.declared.logs.LogRow.{LogRow}
+use Rattle.serve.specs.Logs.{silent_row, unavailable_row, request_row, row_of_ask}
+use Rattle.serve.specs.Asks.{Ask, Owner, owner_of, organization, unattributed, operator, silent, requests, commands}
 use Rattle.serve.specs.Asks as ask
-use Rattle.serve.specs.Steps.{Said, replies}
+use Rattle.serve.specs.Steps.{Said, replies, request_step, step}
 use Rattle.serve.specs.Inner.Prepared.{IsPrepared}
-use Rattle.serve.specs.Inner.Replying.{without_body, PreparesFor, due_reply, Settles}
-use Rattle.serve.specs.Service.{same_owner, asked_by, Asks, Carries, Stays, said_to, IsSaidText, is_head, after_ask}
-use Rattle.serve.specs.Exchanges.{IsServed, IsAnswered, Exchanges, ChangesAtMostOne}
+use Rattle.serve.specs.Inner.Replying.{without_body, PreparesFor, LogsFor, due_reply, due_row, Settles}
+use Rattle.serve.specs.Service.{same_owner, record_for, asked_by, Asks, Carries, Stays, said_to, IsSaidText, is_head, after_ask}
+use Rattle.serve.specs.Exchanges.{IsServed, IsAnswered, Exchanges, ChangesAtMostOne, ChangesAsTold}
 use Rattle.serve.specs.declared.exchanges.LinkFault.{LinkFault}
 use Rattle.serve.specs.declared.exchanges.LinkFault.TheVariants.{Ended as LinkEnded, Read as LinkRead, Continue as LinkContinue, Write as LinkWrite}
 use Rattle.serve.specs.declared.prepared.Prepared.{Prepared}
+use Rattle.basis.specs.declared.refusals.Refusal.{Refusal}
+use Rattle.serve.proofs.LawLemmas.{refusals_change_nothing}
 use Rattle.serve.proofs.TakenLemmas.{prepared_after, carries_after}
 
 -- what is prepared is what is said
@@ -63,28 +67,63 @@ carried_one (commands at command) old new carries = by_owner (ask.commanded_of c
 pub stayed_one : (old new : List ℕ → Option Organization) → Stays old new → ChangesAtMostOne old new
 stayed_one old new stays = ([], (λ other apart. stays other))
 
-answered_one : (now : ℕ) (received : List ℕ) (old new : List ℕ → Option Organization) (awaited : Bool) (text : List ℕ) (is_down : Bool) → IsAnswered now received old new awaited text is_down → ChangesAtMostOne old new
-answered_one now received old new awaited text false served = carried_one served.ask old new served.carries
-answered_one now received old new awaited text true unavailable = stayed_one old new unavailable.1.stays
+answered_one : (now : ℕ) (received : List ℕ) (old new : List ℕ → Option Organization) (awaited : Bool) (text : List ℕ) (row : Option LogRow) (is_down : Bool) → IsAnswered now received old new awaited text row is_down → ChangesAtMostOne old new
+answered_one now received old new awaited text row false served = carried_one served.ask old new served.carries
+answered_one now received old new awaited text row true unavailable = stayed_one old new unavailable.1.stays
+
+one_row : (a b : LogRow) → Some a ≡ Some b → a ≡ b
+one_row a b e = cc
+
+-- what is asked changes what its row tells
+asked_told : (a : Ask) (row : LogRow) (old new : List ℕ → Option Organization) → Some row ≡ row_of_ask (record_for old (owner_of a)) a → Carries a old new → ChangesAsTold row old new
+asked_told silent row old new is carries = absurd (let none : ⊥ = cc in none)
+asked_told (ask.refused at awaited refusal is_head) row old new is carries = record { others = λ org apart. carries org; refused = λ some org. carries org }
+asked_told (requests at awaited asked content_md5 body) row old new is carries =
+    let same : row ≡ request_row (old asked.caller) at asked content_md5 body = one_row row (request_row (old asked.caller) at asked content_md5 body) is in
+    subst (λ (x : LogRow). ChangesAsTold x old new) (sym same) (record {
+      others = λ org apart. carries org ∙ other_stays org (bytes_eq org asked.caller) refl apart;
+      refused = λ some org. carries org ∙ refused_stays (request_step (old asked.caller) at asked content_md5 body).answer.refusal refl some org (bytes_eq org asked.caller) refl;
+    })
+  where
+    other_stays : (org : List ℕ) (b : Bool) → bytes_eq org asked.caller ≡ b → Some asked.caller ≢ Some org → after_ask b (requests at awaited asked content_md5 body) (old org) ≡ old org
+    other_stays org true e apart = absurd (apart (ap Some (sym ((bytes_eq-Decides org asked.caller).0 e))))
+    other_stays org false e apart = refl
+
+    refused_stays : (o : Option Refusal) → (request_step (old asked.caller) at asked content_md5 body).answer.refusal ≡ o → IsSome o
+        → (org : List ℕ) (b : Bool) → bytes_eq org asked.caller ≡ b → after_ask b (requests at awaited asked content_md5 body) (old org) ≡ old org
+    refused_stays None e some org b is = absurd (let none : ⊥ = cc in none)
+    refused_stays (Some refusal) e some org true is =
+        ap (λ (r : Option Organization). (step r (requests at awaited asked content_md5 body)).left) (ap old ((bytes_eq-Decides org asked.caller).0 is))
+        ∙ (refusals_change_nothing (old asked.caller) (requests at awaited asked content_md5 body)).0 awaited at _ refusal refl e
+        ∙ ap old (sym ((bytes_eq-Decides org asked.caller).0 is))
+    refused_stays (Some refusal) e some org false is = refl
+asked_told (commands at command) row old new is carries = absurd (let none : ⊥ = cc in none)
+
+answered_told : (now : ℕ) (received : List ℕ) (old new : List ℕ → Option Organization) (awaited : Bool) (text : List ℕ) (row : LogRow) (is_down : Bool) → IsAnswered now received old new awaited text (Some row) is_down → ChangesAsTold row old new
+answered_told now received old new awaited text row false served = asked_told served.ask row old new served.logged served.carries
+answered_told now received old new awaited text row true unavailable = record { others = λ org apart. unavailable.1.stays org; refused = λ some. unavailable.1.stays }
+
+pub stayed_told : (row : LogRow) (old new : List ℕ → Option Organization) → Stays old new → ChangesAsTold row old new
+stayed_told row old new stays = record { others = λ org apart. stays org; refused = λ some. stays }
 
 -- what was read of what received is answered by this text
-abbrev AnswersRead : ℕ → Result Message WireFault → (List ℕ → Option Organization) → (List ℕ → Option Organization) → Bool → List ℕ → Type 0
-AnswersRead now read old new is_down text = (received : List ℕ) (left before after : Option (List ℕ)) → ReportsReceived received left before after read
-    → (awaited : Bool) × Appends before after (continue_if awaited) × IsAnswered now received old new awaited text is_down
+abbrev pub AnswersRead : ℕ → Result Message WireFault → (List ℕ → Option Organization) → (List ℕ → Option Organization) → Bool → List ℕ → Option LogRow → Type 0
+AnswersRead now read old new is_down text row = (received : List ℕ) (left before after : Option (List ℕ)) → ReportsReceived received left before after read
+    → (awaited : Bool) × Appends before after (continue_if awaited) × IsAnswered now received old new awaited text row is_down
 
 -- memory or the store was refused, inside the reading or past it
 pub refused_read : (now : ℕ) (read : Result Message WireFault) (old new : List ℕ → Option Organization) (text : List ℕ)
     → (read ≡ Err Ended → ⊥) → (read ≡ Err Read → ⊥) → (read ≡ Err Continue → ⊥)
-    → Stays old new → IsReplyText (unavailable_answer (without_body read)) now text → AnswersRead now read old new true text
+    → Stays old new → IsReplyText (unavailable_answer (without_body read)) now text → AnswersRead now read old new true text (Some (unavailable_row now))
 refused_read now (Ok message) old new text ended failed continued stays is_text received left before after told = (
   told.0,
   told.2,
-  (Some (whole message told.0), record { stays = stays; reads = told.1; without_body = is_head message; shaped = (refl, refl); is = is_text }),
+  (Some (whole message told.0), record { stays = stays; reads = told.1; without_body = is_head message; shaped = (refl, refl); is = is_text; logged = refl }),
 )
 refused_read now (Err (Refused refusal head)) old new text ended failed continued stays is_text received left before after told =
-    (false, told.1, (Some (refused refusal head), record { stays = stays; reads = told.0; without_body = head; shaped = (refl, refl); is = is_text }))
+    (false, told.1, (Some (refused refusal head), record { stays = stays; reads = told.0; without_body = head; shaped = (refl, refl); is = is_text; logged = refl }))
 refused_read now (Err Down) old new text ended failed continued stays is_text received left before after told =
-    (false, told, (None, record { stays = stays; reads = tt; without_body = false; shaped = (refl, refl); is = is_text }))
+    (false, told, (None, record { stays = stays; reads = tt; without_body = false; shaped = (refl, refl); is = is_text; logged = refl }))
 refused_read now (Err Ended) old new text ended failed continued stays is_text received left before after told = absurd (ended refl)
 refused_read now (Err Read) old new text ended failed continued stays is_text received left before after told = absurd (failed refl)
 refused_read now (Err Continue) old new text ended failed continued stays is_text received left before after told = absurd (continued refl)
@@ -97,10 +136,10 @@ stays_both : (old mid new : List ℕ → Option Organization) → Stays old mid 
 stays_both old mid new first second = λ org. second org ∙ first org
 
 -- what was read is prepared, and its change is made, or isn't
-pub answered_read : (now : ℕ) (read : Result Message WireFault) (old mid new : List ℕ → Option Organization) (p : Prepared) (is_down : Bool) (text : List ℕ)
-    → Stays old mid → PreparesFor now old read p → Settles is_down p mid new
-    → IsReplyText (due_reply is_down (without_body read) p.reply) now text → AnswersRead now read old new is_down text
-answered_read now (Ok message) old mid new p false text stays prepared settled is_text received left before after told =
+pub answered_read : (now : ℕ) (read : Result Message WireFault) (old mid new : List ℕ → Option Organization) (p : Prepared) (row : LogRow) (is_down : Bool) (text : List ℕ)
+    → Stays old mid → PreparesFor now old read p → LogsFor now old read row → Settles is_down p mid new
+    → IsReplyText (due_reply is_down (without_body read) p.reply) now text → AnswersRead now read old new is_down text (Some (due_row is_down now row))
+answered_read now (Ok message) old mid new p row false text stays prepared logs settled is_text received left before after told =
     let h = message_answered old mid new now told.0 message p stays (prepared told.0) settled in (
       told.0,
       told.2,
@@ -111,11 +150,12 @@ answered_read now (Ok message) old mid new p false text stays prepared settled i
         answer = p.reply;
         said = h.1;
         is = is_text;
+        logged = sym (logs told.0);
       },
     )
-answered_read now (Ok message) old mid new p true text stays prepared settled is_text received left before after told =
+answered_read now (Ok message) old mid new p row true text stays prepared logs settled is_text received left before after told =
     refused_read now (Ok message) old new text (λ e. let none : ⊥ = cc in none) (λ e. let none : ⊥ = cc in none) (λ e. let none : ⊥ = cc in none) (stays_both old mid new stays settled) is_text received left before after told
-answered_read now (Err (Refused refusal head)) old mid new p false text stays prepared settled is_text received left before after told =
+answered_read now (Err (Refused refusal head)) old mid new p row false text stays prepared logs settled is_text received left before after told =
     let a : Ask = ask.refused now false refusal head in (
       false,
       told.1,
@@ -126,14 +166,15 @@ answered_read now (Err (Refused refusal head)) old mid new p false text stays pr
         answer = p.reply;
         said = ap (replies false now) (sym prepared.0);
         is = is_text;
+        logged = sym logs;
       },
     )
-answered_read now (Err (Refused refusal head)) old mid new p true text stays prepared settled is_text received left before after told =
+answered_read now (Err (Refused refusal head)) old mid new p row true text stays prepared logs settled is_text received left before after told =
     refused_read now (Err (Refused refusal head)) old new text (λ e. let none : ⊥ = cc in none) (λ e. let none : ⊥ = cc in none) (λ e. let none : ⊥ = cc in none) (stays_both old mid new stays settled) is_text received left before after told
-answered_read now (Err Down) old mid new p is_down text stays prepared settled is_text received left before after told = absurd prepared
-answered_read now (Err Ended) old mid new p is_down text stays prepared settled is_text received left before after told = absurd prepared
-answered_read now (Err Read) old mid new p is_down text stays prepared settled is_text received left before after told = absurd prepared
-answered_read now (Err Continue) old mid new p is_down text stays prepared settled is_text received left before after told = absurd prepared
+answered_read now (Err Down) old mid new p row is_down text stays prepared logs settled is_text received left before after told = absurd prepared
+answered_read now (Err Ended) old mid new p row is_down text stays prepared logs settled is_text received left before after told = absurd prepared
+answered_read now (Err Read) old mid new p row is_down text stays prepared logs settled is_text received left before after told = absurd prepared
+answered_read now (Err Continue) old mid new p row is_down text stays prepared logs settled is_text received left before after told = absurd prepared
 
 -- what is prepared is of something that is asked
 pub asks_something : (now : ℕ) (read : Result Message WireFault) (old mid : List ℕ → Option Organization) (p : Prepared) → Stays old mid → PreparesFor now old read p → (a : Ask) × IsPrepared mid a p
@@ -155,49 +196,58 @@ abbrev Received : Option (List ℕ) → Option (List ℕ) → (List ℕ → Type
 Received old new P = (received : List ℕ) × Consumes old new received × P received
 
 -- the reply is written, or a part of it
-pub replied : {T : Type 0} (unread left : Option (List ℕ)) (now : ℕ) (read : Result Message WireFault) (old new : List ℕ → Option Organization) (is_down : Bool) (a b c : Option (List ℕ)) (text : List ℕ) (result : Result T LinkFault)
-    → Received unread left (λ received. ReportsReceived received left a b read) → AnswersRead now read old new is_down text
+pub replied : {T : Type 0} (unread left : Option (List ℕ)) (now : ℕ) (read : Result Message WireFault) (old new : List ℕ → Option Organization) (is_down : Bool) (row : Option LogRow) (a b c : Option (List ℕ)) (text : List ℕ) (result : Result T LinkFault)
+    → Received unread left (λ received. ReportsReceived received left a b read) → AnswersRead now read old new is_down text row
     → Writes b c text result → IfErr result (λ fault. fault ≡ LinkWrite)
-    → Received unread left (λ received. Exchanges now received left old new a c is_down result)
-replied unread left now read old new is_down a b c text (Ok done) told answers writes fault =
+    → Received unread left (λ received. Exchanges now received left old new a c is_down row result)
+replied unread left now read old new is_down row a b c text (Ok done) told answers writes fault =
     let r = answers told.0 left a b told.2 in
     (told.0, told.1, (r.0, text, r.2, Appends-then a b c (continue_if r.0) text r.1 writes))
-replied {T = T} unread left now read old new is_down a b c text (Err e) told answers writes fault =
+replied {T = T} unread left now read old new is_down row a b c text (Err e) told answers writes fault =
     let r = answers told.0 left a b told.2 in
-    let is = subst (λ (x : List ℕ). IsAnswered now told.0 old new r.0 x is_down) writes.3 r.2 in
-    subst (λ (f : LinkFault). Received unread left (λ received. Exchanges now received left old new a c is_down {T = T} (Err f))) (sym fault)
+    let is = subst (λ (x : List ℕ). IsAnswered now told.0 old new r.0 x row is_down) writes.3 r.2 in
+    subst (λ (f : LinkFault). Received unread left (λ received. Exchanges now received left old new a c is_down row {T = T} (Err f))) (sym fault)
     (told.0, told.1, (r.0, writes.0, writes.1, writes.2, is, Appends-then a b c (continue_if r.0) writes.0 r.1 writes.4))
 
 -- nothing is read, and the refusal is written
-pub refused_unread : {T : Type 0} (left : Option (List ℕ)) (now : ℕ) (rows : List ℕ → Option Organization) (a c : Option (List ℕ)) (text : List ℕ) (result : Result T LinkFault)
-    → IsReplyText (unavailable_answer false) now text → Writes a c text result → IfErr result (λ fault. fault ≡ LinkWrite)
-    → Received left left (λ received. Exchanges now received left rows rows a c true result)
-refused_unread left now rows a c text result is_text =
-    replied left left now (Err Down) rows rows true a a c text result ([], Consumes-none left, Appends-none a)
-    (refused_read now (Err Down) rows rows text (λ e. let none : ⊥ = cc in none) (λ e. let none : ⊥ = cc in none) (λ e. let none : ⊥ = cc in none) (λ org. refl) is_text)
+pub refused_unread : {T : Type 0} (left : Option (List ℕ)) (now : ℕ) (rows : List ℕ → Option Organization) (row : LogRow) (a c : Option (List ℕ)) (text : List ℕ) (result : Result T LinkFault)
+    → row ≡ unavailable_row now → IsReplyText (unavailable_answer false) now text → Writes a c text result → IfErr result (λ fault. fault ≡ LinkWrite)
+    → Received left left (λ received. Exchanges now received left rows rows a c true (Some row) result)
+refused_unread left now rows row a c text result is is_text =
+    replied left left now (Err Down) rows rows true (Some row) a a c text result ([], Consumes-none left, Appends-none a)
+    (subst (λ (x : LogRow). AnswersRead now (Err Down) rows rows true text (Some x)) (sym is)
+    (refused_read now (Err Down) rows rows text (λ e. let none : ⊥ = cc in none) (λ e. let none : ⊥ = cc in none) (λ e. let none : ⊥ = cc in none) (λ org. refl) is_text))
 
 -- no reply: what received is unfinished, or `100 Continue` wasn't taken
-pub no_reply : (unread left : Option (List ℕ)) (now : ℕ) (read : Result Message WireFault) (old new : List ℕ → Option Organization) (a b : Option (List ℕ)) (fault : LinkFault)
+pub no_reply : (unread left : Option (List ℕ)) (now : ℕ) (read : Result Message WireFault) (old new : List ℕ → Option Organization) (row : LogRow) (a b : Option (List ℕ)) (fault : LinkFault)
+    → row ≡ silent_row now
     → Received unread left (λ received. ReportsReceived received left a b read) → fault ≢ LinkWrite
     → (fault ≡ LinkEnded → read ≡ Err Ended) → (fault ≡ LinkRead → read ≡ Err Read) → (fault ≡ LinkContinue → read ≡ Err Continue)
-    → Received unread left (λ received. Exchanges now received left old new a b false {T = Unit {0}} (Err fault))
-no_reply unread left now read old new a b LinkEnded told write ended failed continued =
+    → Received unread left (λ received. Exchanges now received left old new a b false (Some row) {T = Unit {0}} (Err fault))
+no_reply unread left now read old new row a b LinkEnded no_row told write ended failed continued =
     let r = subst (λ (r : Result Message WireFault). ReportsReceived told.0 left a b r) (ended refl) told.2 in
-    (told.0, told.1, (refl, r.0, r.1, r.2))
-no_reply unread left now read old new a b LinkRead told write ended failed continued =
+    (told.0, told.1, (refl, ap Some no_row, r.0, r.1, r.2))
+no_reply unread left now read old new row a b LinkRead no_row told write ended failed continued =
     let r = subst (λ (r : Result Message WireFault). ReportsReceived told.0 left a b r) (failed refl) told.2 in
-    (told.0, told.1, (refl, r.0, r.1))
-no_reply unread left now read old new a b LinkContinue told write ended failed continued =
+    (told.0, told.1, (refl, ap Some no_row, r.0, r.1))
+no_reply unread left now read old new row a b LinkContinue no_row told write ended failed continued =
     let r = subst (λ (r : Result Message WireFault). ReportsReceived told.0 left a b r) (continued refl) told.2 in
-    (told.0, told.1, (refl, r.0, r.1))
-no_reply unread left now read old new a b LinkWrite told write ended failed continued = absurd (write refl)
+    (told.0, told.1, (refl, ap Some no_row, r.0, r.1))
+no_reply unread left now read old new row a b LinkWrite no_row told write ended failed continued = absurd (write refl)
 
 -- at most one record changes where a reply was due
-pub replied_one : {T : Type 0} (unread left : Option (List ℕ)) (now : ℕ) (old new : List ℕ → Option Organization) (a c : Option (List ℕ)) (is_down : Bool) (result : Result T LinkFault)
-    → Received unread left (λ received. Exchanges now received left old new a c is_down result) → IfErr result (λ fault. fault ≡ LinkWrite) → ChangesAtMostOne old new
-replied_one unread left now old new a c is_down (Ok done) h fault = answered_one now h.0 old new h.2.0 h.2.1 is_down h.2.2
-replied_one {T = T} unread left now old new a c is_down (Err e) h fault =
-    let x = subst (λ (f : LinkFault). Exchanges now h.0 left old new a c is_down {T = T} (Err f)) fault h.2 in answered_one now h.0 old new x.0 (x.1 ++ x.2) is_down x.4
+pub replied_one : {T : Type 0} (unread left : Option (List ℕ)) (now : ℕ) (old new : List ℕ → Option Organization) (a c : Option (List ℕ)) (is_down : Bool) (row : Option LogRow) (result : Result T LinkFault)
+    → Received unread left (λ received. Exchanges now received left old new a c is_down row result) → IfErr result (λ fault. fault ≡ LinkWrite) → ChangesAtMostOne old new
+replied_one unread left now old new a c is_down row (Ok done) h fault = answered_one now h.0 old new h.2.0 h.2.1 row is_down h.2.2
+replied_one {T = T} unread left now old new a c is_down row (Err e) h fault =
+    let x = subst (λ (f : LinkFault). Exchanges now h.0 left old new a c is_down row {T = T} (Err f)) fault h.2 in answered_one now h.0 old new x.0 (x.1 ++ x.2) row is_down x.4
+
+-- what changed is what the row tells, where a reply was due
+pub replied_told : {T : Type 0} (unread left : Option (List ℕ)) (now : ℕ) (old new : List ℕ → Option Organization) (a c : Option (List ℕ)) (is_down : Bool) (row : LogRow) (result : Result T LinkFault)
+    → Received unread left (λ received. Exchanges now received left old new a c is_down (Some row) result) → IfErr result (λ fault. fault ≡ LinkWrite) → ChangesAsTold row old new
+replied_told unread left now old new a c is_down row (Ok done) h fault = answered_told now h.0 old new h.2.0 h.2.1 row is_down h.2.2
+replied_told {T = T} unread left now old new a c is_down row (Err e) h fault =
+    let x = subst (λ (f : LinkFault). Exchanges now h.0 left old new a c is_down (Some row) {T = T} (Err f)) fault h.2 in answered_told now h.0 old new x.0 (x.1 ++ x.2) row is_down x.4
 
 -- what was read of a whole input, as of what received
 of_input : (at : ℕ) (rows : List ℕ → Option Organization) (read : Result Message WireFault) (p : Prepared) (bytes : List ℕ) (a b : Option (List ℕ)) → PreparesFor at rows read p → ReportsInput bytes a b read → ReportsReceived bytes None a b read
@@ -217,11 +267,11 @@ pub bytes_of : (a b : List ℕ) → Some a ≡ Some b → a ≡ b
 bytes_of a b e = cc
 
 -- the text of the reply to a whole input, behind what was written before it
-pub input_answered : (at : ℕ) (read : Result Message WireFault) (old mid new : List ℕ → Option Organization) (p : Prepared) (bytes : List ℕ) (b : Option (List ℕ)) (text all : List ℕ)
-    → Stays old mid → PreparesFor at old read p → Settles false p mid new → IsReplyText p.reply at text
+pub input_answered : (at : ℕ) (read : Result Message WireFault) (old mid new : List ℕ → Option Organization) (p : Prepared) (row : LogRow) (bytes : List ℕ) (b : Option (List ℕ)) (text all : List ℕ)
+    → Stays old mid → PreparesFor at old read p → LogsFor at old read row → Settles false p mid new → IsReplyText p.reply at text
     → ReportsInput bytes (Some []) b read → Appends b (Some all) text
     → (a : Ask) × Asks at bytes a × Carries a old new × IsSaidText (said_to old a) all
-input_answered at read old mid new p bytes b text all stays prepared settled is_text told appends =
-    let r = answered_read at read old mid new p false text stays prepared settled is_text bytes None (Some []) b (of_input at old read p bytes (Some []) b prepared told) in
-    let served : IsServed at bytes old new r.0 text = r.2 in
+input_answered at read old mid new p row bytes b text all stays prepared logs settled is_text told appends =
+    let r = answered_read at read old mid new p row false text stays prepared logs settled is_text bytes None (Some []) b (of_input at old read p bytes (Some []) b prepared told) in
+    let served : IsServed at bytes old new r.0 text (Some row) = r.2 in
     (served.ask, served.asks, served.carries, subst (λ (s : Said). IsSaidText s all) (sym served.said) (text, served.is, Appends-then (Some []) b (Some all) (continue_if r.0) text r.1 appends))

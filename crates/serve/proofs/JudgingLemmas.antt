@@ -32,7 +32,7 @@ missing_is_refused org ws o what id body act now e gone =
 abbrev pub after_callers : Option Organization → List ℕ → AskedAct → Option (List ℕ) → Option (List ℕ) → List ℕ → Result Task Refusal
 after_callers r prefix asked content_md5 id body = and_then (found r asked) (λ _. judged_task prefix asked content_md5 id body)
 
-task_made : (ws : List ℕ) (x : Result Act Refusal) (task : Task) → and_then x (λ act. Ok (Carry (order ws act))) ≡ Ok task → (act : Act) × (x ≡ Ok act) × (Carry (order ws act) ≡ task)
+pub task_made : (ws : List ℕ) (x : Result Act Refusal) (task : Task) → and_then x (λ act. Ok (Carry (order ws act))) ≡ Ok task → (act : Act) × (x ≡ Ok act) × (Carry (order ws act) ≡ task)
 task_made ws (Ok act) task e = (act, refl, let same : Carry (order ws act) ≡ task = cc in same)
 task_made ws (Err refusal) task e = absurd (let none : ⊥ = cc in none)
 

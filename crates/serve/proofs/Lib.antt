@@ -13,3 +13,5 @@ pub mod BookExamples
 pub mod AbsentLemmas
 pub mod AbsentExamples
 pub mod TokenExamples
+pub mod LogLemmas
+pub mod TellingLemmas

@@ -121,14 +121,14 @@ rule_foreseen (Some o) seen org ws act now unit decision p same lawful units mee
     one_of : (a b : Organization) → Some a ≡ Some b → a ≡ b
     one_of a b e = cc
 
--- a refusal is foreseen where it is what is wanted
-pub refused_after : {E : Type 0} (refusal : Refusal) (r : Option Organization) (org : List ℕ) (want : Answered) (res : Result Prepared E)
+-- a refusal is foreseen where it is what is wanted, with what else is given beside it
+pub refused_then : {E X : Type 0} (refusal : Refusal) (r : Option Organization) (org : List ℕ) (want : Answered) (res : Result (Prepared × X) E)
     → (refusal ≢ Unavailable → want ≡ refusing refusal r) → OnOk res (refusal ≢ Unavailable)
-    → IfOk res (λ p. (p.reply ≡ refused_answer refusal (error_text refusal) false) × (p.pending ≡ None))
-    → IfOk res (Foresees r org want)
-refused_after refusal r org want (Ok p) is known h =
-    subst (λ (w : Answered). Foresees r org w p) (sym (is known)) (record { answer = h.0; change = subst (ChangesTo r org r) (sym h.1) refl })
-refused_after refusal r org want (Err fault) is known h = tt
+    → IfOk res (λ p. (p.0.reply ≡ refused_answer refusal (error_text refusal) false) × (p.0.pending ≡ None))
+    → IfOk res (λ p. Foresees r org want p.0)
+refused_then refusal r org want (Ok p) is known h =
+    subst (λ (w : Answered). Foresees r org w p.0) (sym (is known)) (record { answer = h.0; change = subst (ChangesTo r org r) (sym h.1) refl })
+refused_then refusal r org want (Err fault) is known h = tt
 
 -- whether what is told of is there, by what was seen of it
 seen_named : (version run : Option ℕ) (key : Option (List ℕ)) (w : Workspace)

@@ -1,24 +1,27 @@
 -- One exchange: what is written for the bytes that were received, and the records afterwards.
-use Rattle.std.specs.Prelude.{◌≡◌, ◌≢◌, ℕ, ◌<◌, ◌++◌, Bool, true, false, List, length, Option, Some, None, IfSome, Result, Ok, Err}
+use Rattle.std.specs.Prelude.{◌≡◌, ◌≢◌, ℕ, ◌<◌, ◌++◌, Bool, true, false, List, length, Option, Some, None, IfSome, IsSome, Result, Ok, Err}
 use Rattle.std.specs.Io.KnownBytes.{Appends, IsAtEnd}
 use Rattle.machine.specs.declared.records.Organization.{Organization}
 use Rattle.wire.specs.Messages.{Reading, Reads, unfinished, refused, whole, AwaitsContinue}
 use Rattle.wire.specs.Links.{continue_if, continue_text, WritesPrefix, WritesContinue}
 use Rattle.wire.specs.Replies.{Answer, IsReplyText, unavailable_answer}
-use Rattle.serve.specs.Asks.{Ask}
+use Rattle.docs.specs.declared.logs.LogRow.{LogRow}
+use Rattle.serve.specs.Asks.{Ask, owner_of}
+use Rattle.serve.specs.Logs.{silent_row, unavailable_row, row_of_ask}
 use Rattle.serve.specs.Steps.{replies}
-use Rattle.serve.specs.Service.{Asks, Carries, Stays, said_to, is_head}
+use Rattle.serve.specs.Service.{Asks, Carries, Stays, record_for, said_to, is_head}
 use Rattle.serve.specs.declared.exchanges.LinkFault.{LinkFault}
 use Rattle.serve.specs.declared.exchanges.LinkFault.TheVariants.{Ended, Read, Continue, Write}
 
 -- what the bytes ask is carried out, and this is the reply's text, after `100 Continue` where it is awaited
-pub record IsServed (now : ℕ) (received : List ℕ) (old new : List ℕ → Option Organization) (awaited : Bool) (text : List ℕ) : Type 0 where
+pub record IsServed (now : ℕ) (received : List ℕ) (old new : List ℕ → Option Organization) (awaited : Bool) (text : List ℕ) (row : Option LogRow) : Type 0 where
   pub ask : Ask
   pub asks : Asks now received ask
   pub carries : Carries ask old new
   pub answer : Answer
   pub said : said_to old ask ≡ replies awaited now answer
   pub is : IsReplyText answer now text
+  pub logged : row ≡ row_of_ask (record_for old (owner_of ask)) ask
 
 -- whether `100 Continue` goes before a reply that says so where memory or the store refused, and whether its body is left out, by what
 -- was read: neither where memory was refused inside the reading; past it the line goes before it where it is awaited, and the
@@ -30,30 +33,36 @@ IsShapedBy (Some (refused refusal head)) awaited without_body = (awaited ≡ fal
 IsShapedBy (Some (whole message due)) awaited without_body = (awaited ≡ due) × (without_body ≡ is_head message)
 
 -- memory or the store refused, inside the reading (none) or past it: nothing changes, and the reply's text says so
-pub record IsUnavailable (now : ℕ) (received : List ℕ) (old new : List ℕ → Option Organization) (reading : Option Reading) (awaited : Bool) (text : List ℕ) : Type 0 where
+pub record IsUnavailable (now : ℕ) (received : List ℕ) (old new : List ℕ → Option Organization) (reading : Option Reading) (awaited : Bool) (text : List ℕ) (row : Option LogRow) : Type 0 where
   pub stays : Stays old new
   pub reads : IfSome reading (Reads received)
   pub without_body : Bool
   pub shaped : IsShapedBy reading awaited without_body
   pub is : IsReplyText (unavailable_answer without_body) now text
+  pub logged : row ≡ Some (unavailable_row now)
 
 -- what was received is answered: it is served (`false`), or memory or the store refused (`true`)
-abbrev pub IsAnswered : ℕ → List ℕ → (List ℕ → Option Organization) → (List ℕ → Option Organization) → Bool → List ℕ → Bool → Type 0
-IsAnswered now received old new awaited text false = IsServed now received old new awaited text
-IsAnswered now received old new awaited text true = (reading : Option Reading) × IsUnavailable now received old new reading awaited text
+abbrev pub IsAnswered : ℕ → List ℕ → (List ℕ → Option Organization) → (List ℕ → Option Organization) → Bool → List ℕ → Option LogRow → Bool → Type 0
+IsAnswered now received old new awaited text row false = IsServed now received old new awaited text row
+IsAnswered now received old new awaited text row true = (reading : Option Reading) × IsUnavailable now received old new reading awaited text row
 
 -- what an exchange answers, by the bytes that were received from the reader, and those that it has left: the records before and after,
 -- what was written before and after, and whether the reply is that of memory or a store that refused, which no exchange without a
--- reply has. After `Write` `100 Continue` is whole where it is awaited, and the reply's text isn't
-abbrev pub Exchanges : ℕ → List ℕ → Option (List ℕ) → (List ℕ → Option Organization) → (List ℕ → Option Organization) → Option (List ℕ) → Option (List ℕ) → Bool → {T : Type 0} → Result T LinkFault → Type 0
-Exchanges now received left old new before after is_down (Ok done) =
-    (awaited : Bool) × (text : List ℕ) × IsAnswered now received old new awaited text is_down × Appends before after (continue_if awaited ++ text)
-Exchanges now received left old new before after is_down (Err Ended) = (is_down ≡ false) × Reads received unfinished × IsAtEnd left × WritesContinue received before after
-Exchanges now received left old new before after is_down (Err Read) = (is_down ≡ false) × Reads received unfinished × WritesContinue received before after
-Exchanges now received left old new before after is_down (Err Continue) = (is_down ≡ false) × AwaitsContinue received × WritesPrefix before after continue_text
-Exchanges now received left old new before after is_down (Err Write) =
-    (awaited : Bool) × (part : List ℕ) × (rest : List ℕ) × (0 < length rest) × IsAnswered now received old new awaited (part ++ rest) is_down × Appends before after (continue_if awaited ++ part)
+-- reply has; and the row of the log. After `Write` `100 Continue` is whole where it is awaited, and the reply's text isn't
+abbrev pub Exchanges : ℕ → List ℕ → Option (List ℕ) → (List ℕ → Option Organization) → (List ℕ → Option Organization) → Option (List ℕ) → Option (List ℕ) → Bool → Option LogRow → {T : Type 0} → Result T LinkFault → Type 0
+Exchanges now received left old new before after is_down row (Ok done) =
+    (awaited : Bool) × (text : List ℕ) × IsAnswered now received old new awaited text row is_down × Appends before after (continue_if awaited ++ text)
+Exchanges now received left old new before after is_down row (Err Ended) = (is_down ≡ false) × (row ≡ Some (silent_row now)) × Reads received unfinished × IsAtEnd left × WritesContinue received before after
+Exchanges now received left old new before after is_down row (Err Read) = (is_down ≡ false) × (row ≡ Some (silent_row now)) × Reads received unfinished × WritesContinue received before after
+Exchanges now received left old new before after is_down row (Err Continue) = (is_down ≡ false) × (row ≡ Some (silent_row now)) × AwaitsContinue received × WritesPrefix before after continue_text
+Exchanges now received left old new before after is_down row (Err Write) =
+    (awaited : Bool) × (part : List ℕ) × (rest : List ℕ) × (0 < length rest) × IsAnswered now received old new awaited (part ++ rest) row is_down × Appends before after (continue_if awaited ++ part)
 
 -- at most the record of one organization changes
 abbrev pub ChangesAtMostOne : (List ℕ → Option Organization) → (List ℕ → Option Organization) → Type 0
 ChangesAtMostOne old new = (org : List ℕ) × ((other : List ℕ) → other ≢ org → new other ≡ old other)
+
+-- what changed is what the row of the log tells: the record of its organization alone, and none where it has a refusal
+pub record ChangesAsTold (row : LogRow) (old new : List ℕ → Option Organization) : Type 0 where
+  pub others : (org : List ℕ) → row.organization ≢ Some org → new org ≡ old org
+  pub refused : IsSome row.refusal → Stays old new

@@ -4,3 +4,4 @@ pub mod Prepared
 pub mod Units
 pub mod Taking
 pub mod Replying
+pub mod Tracing

@@ -1,5 +1,9 @@
 -- Laws of steps and runs.
-use Rattle.std.specs.Prelude.{◌≡◌, ◌≢◌, ℕ, Bool, false, List, [], ◌∷◌, Option, Some, None, Ok}
+use Rattle.std.specs.Prelude.{◌≡◌, ◌≢◌, ℕ, Bool, false, List, [], ◌∷◌, map, Option, Some, None, Ok}
+use Rattle.std.specs.FinMap.{FinMap, entries}
+use Rattle.sha2.specs.Sha256.{sha256}
+use Rattle.machine.specs.Order.{name_cmp}
+use Rattle.machine.specs.Tokens.{asker_of}
 use Rattle.basis.specs.declared.refusals.Refusal.{Refusal}
 use Rattle.basis.specs.declared.refusals.Refusal.TheVariants.{NotFound}
 use Rattle.machine.specs.Records.{workspace_in}
@@ -16,6 +20,7 @@ use Rattle.serve.specs.Asks.{Ask, organization}
 use Rattle.route.specs.Policy.{is_admitted}
 use Rattle.serve.specs.Checks.{makes, is_in_reach, known_caller, may_do}
 use Rattle.serve.specs.Steps.{replies, tells, refusing, request_step, step}
+use Rattle.serve.specs.Logs.{request_row}
 use Rattle.serve.specs.Service.{AreAsked, with_own, is_own, own_asks, replies_at}
 use Rattle.serve.specs.Runs.{IsOwnMachine}
 
@@ -83,3 +88,16 @@ abbrev pub OutsideThePrefixIsAsAbsent : Type 0
 OutsideThePrefixIsAsAbsent = (r : Option Organization) (now : ℕ) (asked : Asked) (content_md5 : Option (List ℕ)) (body org ws : List ℕ) (token : Token)
     → known_caller r now asked ≡ Ok token → is_admitted token.caller.prefix asked.act ≡ false → NeedsWorkspace asked.act → workspace_in r ws ≡ None
     → request_step r now asked content_md5 body ≡ request_step r now (record asked { org = org; act = renamed asked.act ws }) content_md5 body
+
+-- what a token is called decides nothing: records that differ in the names of their tokens alone answer each request alike
+abbrev pub values_of : FinMap name_cmp Token → List Token
+values_of tokens = map (λ (e : List ℕ × Token). e.1) (entries tokens)
+
+abbrev pub NamesDecideNothing : Type 0
+NamesDecideNothing = (o : Organization) (tokens : FinMap name_cmp Token) (now : ℕ) (asked : Asked) (content_md5 : Option (List ℕ)) (body : List ℕ) → values_of tokens ≡ values_of o.tokens
+    → (request_step (Some (record o { tokens = tokens })) now asked content_md5 body).answer ≡ (request_step (Some o) now asked content_md5 body).answer
+
+-- no secret is told: requests that differ in their secrets alone have equal rows of the log where the tokens with them have one name and one caller
+abbrev pub SecretsAreNotTold : Type 0
+SecretsAreNotTold = (r : Option Organization) (at : ℕ) (asked : Asked) (secret : List ℕ) (content_md5 : Option (List ℕ)) (body : List ℕ) → asker_of r (sha256 secret) ≡ asker_of r (sha256 asked.secret)
+    → request_row r at (record asked { secret = secret }) content_md5 body ≡ request_row r at asked content_md5 body

@@ -1,6 +1,7 @@
 pub mod Asks
 pub mod Checks
 pub mod Steps
+pub mod Logs
 pub mod Service
 pub mod Runs
 pub mod Exchanges

@@ -10,7 +10,7 @@ ghost use Rattle.machine.specs.Units.{unit_of};
 ghost use Rattle.machine.specs.declared.acts.Act.TheVariants.{Look as LookAct, PutWorkspace, UpdateState, PurgeState, Lock, Unlock, MakeRun};
 ghost use Rattle.machine.specs.declared.records.Organization.{Organization};
 ghost use Rattle.serve.specs.Checks.{require, in_reach, makes, named_by, is_there, is_found, fits, digest_checked, spelt, act_of, task_of};
-ghost use Rattle.serve.specs.Inner.Prepared.{counted, caller_known};
+ghost use Rattle.serve.specs.Inner.Prepared.{counted, row_known};
 ghost use Rattle.route.specs.declared.acts.AskedAct.TheVariants.{OfWorkspace};
 ghost use Rattle.serve.specs.declared.prepared.Task.TheVariants.{ListAll};
 ghost use Rattle.serve.specs.Inner.Judging.{judged_task, missed};
@@ -18,37 +18,37 @@ ghost use Rattle.serve.specs.Inner.Units.{if_named, sees_named, is_present};
 
 use crate::prepared::{Order, Task};
 use basis::{
-    Bytes, Caller, Down, LockId, Look, Moment, Number, OrgName, Prefix, Refusal, StateHead, WsName,
+    Bytes, Down, LockId, Look, Moment, Number, OrgName, Prefix, Refusal, StateHead, WsName,
 };
 use docs::{DocFault, digest_fits, read_lock, read_run, read_settings, read_state};
-use machine::{Act, Keep, Needs, StateText, Unit, WorkspaceUnit};
+use machine::{Act, Keep, Needs, StateText, TokenRow, Unit, WorkspaceUnit};
 use route::{Asked, AskedAct, WsAct, secret_digest};
 use std::alloc::Global;
 
-// A caller whose token counts at this moment. One that has ended is as if it weren't there.
-fn counted(caller: Caller, at: Moment) -> Result<Caller, Refusal>
-    ensures { result ≡ counted at caller }
+// A token that counts at this moment. One that has ended is as if it weren't there.
+fn counted(row: TokenRow, at: Moment) -> Result<TokenRow, Refusal>
+    ensures { result ≡ counted at row }
 {
-    if caller.counts_at(at) {
-        Ok(caller)
+    if row.caller.counts_at(at) {
+        Ok(row)
     } else {
         Err(Refusal::BadToken)
     }
 }
 
-/// Who asks by the token, which counts at this moment.
+/// The token that asks, and who asks by it: it counts at this moment.
 pub fn known_caller<K: Keep>(
     alloc: Global,
     keep: &mut K,
     at: Moment,
     asked: &Asked,
-) -> Result<Caller, Refusal>
+) -> Result<TokenRow, Refusal>
     ensures looks { Looks K.rows K.clean K.sound K.shielded keep.old keep.new }
-    ensures ok { K.clean keep.new → K.sound keep.old → Follows result (caller_known (K.rows keep.old asked.now.caller) at asked.now) }
+    ensures ok { K.clean keep.new → K.sound keep.old → Follows result (row_known (K.rows keep.old asked.now.caller) at asked.now) }
 {
     let secret = secret_digest(&asked.secret);
     match keep.caller(alloc, &asked.caller, &secret) {
-        Ok(Some(caller)) => counted(caller, at),
+        Ok(Some(row)) => counted(row, at),
         Ok(None) => Err(Refusal::BadToken),
         Err(Down) => Err(Refusal::Unavailable),
     }

@@ -1,17 +1,19 @@
 //! One exchange: a request is read, answered and carried out, and its reply is written.
-ghost use Rattle.std.specs.Prelude.{◌≡◌, ◌↔◌, ℕ, List, ◌⊎◌, true, false, IfErr, is_err, IsErrOf};
+ghost use Rattle.std.specs.Prelude.{◌≡◌, ◌↔◌, ℕ, List, ◌⊎◌, true, false, IfSome, IfErr, is_err, IsErrOf};
 ghost use Rattle.std.specs.Io.KnownBytes.{Consumes};
 ghost use Rattle.wire.specs.Links.{Writes};
 ghost use Rattle.wire.specs.Replies.{IsReplyText, unavailable_answer};
 ghost use Rattle.serve.specs.Asks.{Ask};
 ghost use Rattle.serve.specs.Service.{Stays};
-ghost use Rattle.serve.specs.Exchanges.{Exchanges, ChangesAtMostOne};
+ghost use Rattle.serve.specs.Exchanges.{Exchanges, ChangesAtMostOne, ChangesAsTold};
 ghost use Rattle.serve.specs.Inner.Prepared.{IsPrepared};
-ghost use Rattle.serve.specs.Inner.Replying.{due_reply, Settles};
+ghost use Rattle.serve.specs.Inner.Replying.{due_reply, due_row, Settles};
 
+use crate::logs::{silent_row, unavailable_row};
 use crate::messages::{commit, prepare, without_body};
-use crate::prepared::Prepared;
+use crate::prepared::{Prepared, Ready};
 use basis::{Down, Moment};
+use docs::LogRow;
 use machine::Keep;
 use route::Routes;
 use std::alloc::Global;
@@ -90,8 +92,19 @@ fn settle<K: Keep, O: Outlet>(
     }
 }
 
+// What was prepared has its row once its change is made; where it isn't (`is_down`), the 503 has its own.
+fn row_after(ready: Ready, now: Moment, is_down: bool) -> LogRow
+    ensures { result ≡ due_row is_down now ready.row }
+{
+    if is_down {
+        unavailable_row(now)
+    } else {
+        ready.row
+    }
+}
+
 /// One exchange over a keep; `is_down` tells then whether it was answered by the 503 of memory or a store
-/// that refused.
+/// that refused, and `row` what the log tells of it.
 pub fn exchange<K: Keep, I: Inlet, O: Outlet>(
     alloc: Global,
     keep: &mut K,
@@ -100,6 +113,7 @@ pub fn exchange<K: Keep, I: Inlet, O: Outlet>(
     inlet: &mut I,
     outlet: &mut O,
     is_down: &mut bool,
+    row: &mut Option<LogRow>,
 ) -> Result<(), LinkFault>
     requires reads { I.broken inlet.old ≡ false }
     requires writes { O.broken outlet.old ≡ false }
@@ -107,10 +121,11 @@ pub fn exchange<K: Keep, I: Inlet, O: Outlet>(
     ensures shield { K.shielded keep.old → K.shielded keep.new }
     ensures kept { K.clean keep.new → K.sound keep.old → K.sound keep.new }
     ensures told { K.clean keep.new → K.sound keep.old → (received : List ℕ) × Consumes (I.left inlet.old) (I.left inlet.new) received
-        × Exchanges now received (I.left inlet.new) (K.rows keep.old) (K.rows keep.new) (O.written outlet.old) (O.written outlet.new) is_down.new result }
+        × Exchanges now received (I.left inlet.new) (K.rows keep.old) (K.rows keep.new) (O.written outlet.old) (O.written outlet.new) is_down.new row.new result }
     ensures stays { K.clean keep.new → (IsErrOf result LinkFault.Ended ⊎ (IsErrOf result LinkFault.Read ⊎ IsErrOf result LinkFault.Continue))
         → Stays (K.rows keep.old) (K.rows keep.new) }
     ensures others { K.clean keep.new → K.sound keep.old → ChangesAtMostOne (K.rows keep.old) (K.rows keep.new) }
+    ensures changes { K.clean keep.new → K.sound keep.old → IfSome row.new (λ told. ChangesAsTold told (K.rows keep.old) (K.rows keep.new)) }
     ensures read { (I.broken inlet.new ≡ true) ↔ IsErrOf result LinkFault.Read }
     ensures end { I.ended inlet.old ≡ false → ((I.ended inlet.new ≡ true) ↔ IsErrOf result LinkFault.Ended) }
     ensures written { (O.broken outlet.new ≡ true) ↔ (IsErrOf result LinkFault.Continue ⊎ IsErrOf result LinkFault.Write) }
@@ -119,11 +134,20 @@ pub fn exchange<K: Keep, I: Inlet, O: Outlet>(
     let read = read_message(alloc, inlet, outlet);
     let head_only = without_body(&read);
     match prepare(alloc, keep, routes, now, read) {
-        Ok(Some(prepared)) => settle(alloc, keep, &prepared, head_only, now, outlet, is_down),
+        Ok(Some(ready)) => {
+            let prepared = &ready.prepared;
+            let result = settle(alloc, keep, prepared, head_only, now, outlet, is_down);
+            *row = Some(row_after(ready, now, *is_down));
+            result
+        }
         Ok(None) => {
             *is_down = true;
+            *row = Some(unavailable_row(now));
             refuse_exchange(head_only, now, outlet)
         }
-        Err(fault) => Err(fault),
+        Err(fault) => {
+            *row = Some(silent_row(now));
+            Err(fault)
+        }
     }
 }

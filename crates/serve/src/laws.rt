@@ -1,5 +1,5 @@
 //! Laws of steps and runs, each the contract of a call that does nothing.
-ghost use Rattle.serve.specs.Laws.{OneAsking, TwoWorlds, SameStepsAskTheSame, RefusedStepsChangeNothing, OutOfReachIsNotFound, OutOfReachIsAsAbsent, OutsideThePrefixIsNotFound, OutsideThePrefixIsAsAbsent};
+ghost use Rattle.serve.specs.Laws.{OneAsking, TwoWorlds, SameStepsAskTheSame, RefusedStepsChangeNothing, OutOfReachIsNotFound, OutOfReachIsAsAbsent, OutsideThePrefixIsNotFound, OutsideThePrefixIsAsAbsent, NamesDecideNothing, SecretsAreNotTold};
 ghost use Rattle.serve.specs.Custody.{StepsChangeWhatTheyName, LocksAreKept, StepsAreRepeatable, RepeatsLeaveTheWorkspace, LockedTellsTheHolder, SameBytesAskAgain, RequestsChangeTheirWorkspaceAlone};
 ghost use Rattle.serve.specs.Book.{BooksAreOfTheRun, PeriodsAreTheStepsBetween};
 
@@ -97,4 +97,15 @@ pub fn books_are_of_the_run()
 /// The periods of a book, one after the other, are the steps before which what they are of is so.
 pub fn periods_are_the_steps_between()
     ensures { PeriodsAreTheStepsBetween }
+{}
+
+/// What a token is called decides nothing: it is for the log alone.
+pub fn names_decide_nothing()
+    ensures { NamesDecideNothing }
+{}
+
+/// No secret is told: the log's row of a request follows from what else is asked, and from the token's
+/// name and caller.
+pub fn secrets_are_not_told()
+    ensures { SecretsAreNotTold }
 {}

@@ -1,19 +1,23 @@
 //! What was read is answered in full, and then its change is made.
-ghost use Rattle.std.specs.Prelude.{◌≡◌, ◌↔◌, Bool, Err, ◌≢◌, IfOk, IfErr, IfSome, IsErrOf, OnOk, OnErr};
+ghost use Rattle.std.specs.Prelude.{◌≡◌, ◌↔◌, Bool, None, Err, ◌≢◌, IfOk, IfErr, IfSome, IsErrOf, OnOk, OnErr};
 ghost use Rattle.wire.specs.declared.messages.WireFault.TheVariants.{Ended, Read, Continue};
 ghost use Rattle.route.specs.Asks.{asked_of};
 ghost use Rattle.serve.specs.Asks.{Ask};
 ghost use Rattle.machine.specs.Keeping.{Looks};
 ghost use Rattle.serve.specs.Inner.Prepared.{IsPrepared};
-ghost use Rattle.serve.specs.Inner.Replying.{PreparesFor, without_body};
+ghost use Rattle.docs.specs.Bodies.{error_text};
+ghost use Rattle.wire.specs.Replies.{refused_answer};
+ghost use Rattle.serve.specs.Logs.{silent_row, with_answer, row_of_request};
+ghost use Rattle.serve.specs.Inner.Replying.{PreparesFor, IsLogged, LogsFor, without_body};
 ghost use Rattle.serve.specs.Service.{is_head, asked_by, Asks, Carries, Stays, said_to, IsSaidText};
 
 use crate::exchanges::LinkFault;
-use crate::prepared::Prepared;
+use crate::logs::{Facts, refused_row, request_row};
+use crate::prepared::{Prepared, Ready};
 use crate::requests::{refuse, request};
-use basis::{Bytes, Down, Moment};
+use basis::{Bytes, Down, Moment, Refusal};
 use machine::Keep;
-use route::{Routes, asked};
+use route::{Asked, Routes, asked};
 use std::alloc::Global;
 use wire::{FromRead, Message, ToWrite, WireFault, read_message, write_reply};
 
@@ -34,6 +38,29 @@ pub fn without_body(read: &Result<Message, WireFault>) -> bool
     }
 }
 
+// What a request is answered, with its row of the log.
+fn ready(at: Moment, asked: Asked, prepared: Prepared, facts: Facts) -> Ready
+    ensures { result ≡ record { prepared = prepared; row = row_of_request at asked prepared.reply facts.token facts.id facts.trace } }
+{
+    let row = request_row(at, asked, &prepared.reply, facts);
+    Ready { prepared, row }
+}
+
+// A refusal of what asks nothing of any organization, with its row of the log.
+fn refused(alloc: Global, at: Moment, refusal: Refusal, is_head: bool) -> Result<Ready, Down>
+    ensures known { OnOk result (refusal ≢ Refusal.Unavailable) }
+    ensures ok { IfOk result (λ r. (r.prepared.reply ≡ refused_answer refusal (error_text refusal) is_head) × (r.prepared.pending ≡ None)) }
+    ensures row { IfOk result (λ r. r.row ≡ with_answer (refused_answer refusal (error_text refusal) is_head) (silent_row at)) }
+{
+    match refuse(alloc, refusal, is_head) {
+        Ok(prepared) => {
+            let row = refused_row(at, &prepared.reply);
+            Ok(Ready { prepared, row })
+        }
+        Err(down) => Err(down),
+    }
+}
+
 /// What a message is answered, and the change that is to follow.
 fn answer<K: Keep>(
     alloc: Global,
@@ -41,18 +68,23 @@ fn answer<K: Keep>(
     routes: &Routes,
     at: Moment,
     message: Message,
-) -> Result<Prepared, Down>
+) -> Result<Ready, Down>
     ensures looks { Looks K.rows K.clean K.sound K.shielded keep.old keep.new }
-    ensures ok { K.clean keep.new → K.sound keep.old → IfOk result (λ p. (awaited : Bool)
-        → IsPrepared (K.rows keep.old) (asked_by at awaited message (asked_of message)) p) }
+    ensures ok { K.clean keep.new → K.sound keep.old → IfOk result (λ r. (awaited : Bool)
+        → IsPrepared (K.rows keep.old) (asked_by at awaited message (asked_of message)) r.prepared) }
+    ensures logs { K.clean keep.new → K.sound keep.old → IfOk result (λ r. (awaited : Bool)
+        → IsLogged (K.rows keep.old) (asked_by at awaited message (asked_of message)) r.row) }
 {
     let found = asked(alloc, routes, &message);
     let is_head = is_head(&message);
     let content_md5 = message.content_md5;
     let body = message.body;
     match found {
-        Ok(asked) => request(alloc, keep, at, &asked, &content_md5, body),
-        Err(refusal) => refuse(alloc, refusal, is_head),
+        Ok(asked) => match request(alloc, keep, at, &asked, &content_md5, body) {
+            Ok((prepared, facts)) => Ok(ready(at, asked, prepared, facts)),
+            Err(down) => Err(down),
+        },
+        Err(refusal) => refused(alloc, at, refusal, is_head),
     }
 }
 
@@ -64,23 +96,24 @@ pub fn prepare<K: Keep>(
     routes: &Routes,
     at: Moment,
     read: Result<Message, WireFault>,
-) -> Result<Option<Prepared>, LinkFault>
+) -> Result<Option<Ready>, LinkFault>
     ensures looks { Looks K.rows K.clean K.sound K.shielded keep.old keep.new }
-    ensures ok { K.clean keep.new → K.sound keep.old → IfOk result (λ prepared. IfSome prepared (PreparesFor at (K.rows keep.old) read)) }
+    ensures ok { K.clean keep.new → K.sound keep.old → IfOk result (λ ready. IfSome ready (λ r. PreparesFor at (K.rows keep.old) read r.prepared)) }
+    ensures logs { K.clean keep.new → K.sound keep.old → IfOk result (λ ready. IfSome ready (λ r. LogsFor at (K.rows keep.old) read r.row)) }
     ensures ended { IsErrOf result LinkFault.Ended ↔ (read ≡ Err Ended) }
     ensures read { IsErrOf result LinkFault.Read ↔ (read ≡ Err Read) }
     ensures continues { IsErrOf result LinkFault.Continue ↔ (read ≡ Err Continue) }
     ensures never_write { IfErr result (λ fault. fault ≢ LinkFault.Write) }
 {
-    let prepared = match read {
+    let ready = match read {
         Ok(message) => answer(alloc, keep, routes, at, message),
-        Err(WireFault::Refused(refusal, is_head)) => refuse(alloc, refusal, is_head),
+        Err(WireFault::Refused(refusal, is_head)) => refused(alloc, at, refusal, is_head),
         Err(WireFault::Down) => Err(Down),
         Err(WireFault::Ended) => return Err(LinkFault::Ended),
         Err(WireFault::Read) => return Err(LinkFault::Read),
         Err(WireFault::Continue) => return Err(LinkFault::Continue),
     };
-    Ok(prepared.ok())
+    Ok(ready.ok())
 }
 
 /// Makes the change that was prepared.
@@ -117,14 +150,14 @@ pub fn take_request<K: Keep>(
     let mut inlet = FromRead::new(bytes);
     let mut outlet = ToWrite::new(Vec::new(alloc));
     let read = read_message(alloc, &mut inlet, &mut outlet);
-    let prepared = match prepare(alloc, keep, routes, at, read) {
-        Ok(Some(prepared)) => prepared,
+    let ready = match prepare(alloc, keep, routes, at, read) {
+        Ok(Some(ready)) => ready,
         Err(LinkFault::Ended) => return Ok(Bytes::new(Vec::new(alloc))),
         _ => return Err(Down),
     };
-    let Ok(()) = write_reply(&prepared.reply, at, &mut outlet) else {
+    let Ok(()) = write_reply(&ready.prepared.reply, at, &mut outlet) else {
         return Err(Down);
     };
-    commit(alloc, keep, &prepared)?;
+    commit(alloc, keep, &ready.prepared)?;
     Ok(Bytes::new(outlet.into_inner()))
 }

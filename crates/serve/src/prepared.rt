@@ -1,6 +1,7 @@
 //! What is asked of a workspace, and an answer that is made in full before anything changes.
 
 use basis::{OrgName, Prefix, WsName};
+use docs::LogRow;
 use machine::{Act, Change};
 use wire::Reply;
 
@@ -35,4 +36,11 @@ pub struct Pending {
 pub struct Prepared {
     pub reply: Reply,
     pub pending: Option<Pending>,
+}
+
+/// The same, and what the log tells once it is done.
+#[derive(Drop)]
+pub struct Ready {
+    pub prepared: Prepared,
+    pub row: LogRow,
 }

@@ -1,5 +1,5 @@
 //! A request of an organization: the checks in their order, and the answer of the rules.
-ghost use Rattle.std.specs.Prelude.{◌≡◌, ◌≢◌, ℕ, [], Option, Some, None, Ok, IsSome, IfOk, OnOk, option_map, option_copied};
+ghost use Rattle.std.specs.Prelude.{◌≡◌, ◌≢◌, ℕ, [], false, Option, Some, None, Ok, Err, IsSome, IfOk, OnOk, option_map, option_copied};
 ghost use Rattle.machine.specs.Keeping.{Looks};
 ghost use Rattle.machine.specs.Ranges.{IsInRange};
 ghost use Rattle.machine.specs.Records.{workspace_in, seen_in};
@@ -12,19 +12,23 @@ ghost use Rattle.machine.specs.declared.records.Organization.{Organization};
 ghost use Rattle.docs.specs.Bodies.{error_text};
 ghost use Rattle.wire.specs.Replies.{refused_answer};
 ghost use Rattle.serve.specs.Steps.{holder_text, answer_to, ruled_in, carried, request_step};
+ghost use Rattle.serve.specs.Checks.{checked};
+ghost use Rattle.serve.specs.Logs.{id_of_task, id_spelt, task_read, no_trace, traced, token_named};
 ghost use Rattle.serve.specs.Inner.Judging.{Stands};
+ghost use Rattle.serve.specs.Inner.Tracing.{facts_of};
 ghost use Rattle.serve.specs.Inner.Prepared.{Foresees, IsTaskInRange};
 ghost use Rattle.serve.specs.Inner.Units.{holder_in};
 
 use crate::checks::{in_reach, judged, known_caller, missed};
+use crate::logs::{Facts, Trace, spelt_id, trace_by};
 use crate::prepared::{Order, Pending, Prepared, Task};
 use basis::numbers::MAX_MOMENT;
-use basis::{Bytes, Down, Holder, Moment, OrgName, Prefix, Refusal, RunRow, WsName, WsRow};
+use basis::{Bytes, Down, Holder, Moment, OrgName, Prefix, Refusal, RunRow, Text, WsName, WsRow};
 use docs::{
     write_error, write_run, write_run_holder, write_run_list, write_version_list, write_ws,
     write_ws_list,
 };
-use machine::{Answer, Change, Decision, Keep, Shown, Unit, decide};
+use machine::{Answer, Change, Decision, Keep, Shown, TokenRow, Unit, decide};
 use route::{Asked, allowed};
 use std::alloc::Global;
 use wire::Reply;
@@ -37,14 +41,63 @@ pub fn request<K: Keep>(
     asked: &Asked,
     content_md5: &Option<Bytes>,
     body: Bytes,
-) -> Result<Prepared, Down>
+) -> Result<(Prepared, Facts), Down>
     ensures looks { Looks K.rows K.clean K.sound K.shielded keep.old keep.new }
-    ensures ok { K.clean keep.new → K.sound keep.old → IfOk result (Foresees (K.rows keep.old asked.now.caller) asked.now.caller
-        (request_step (K.rows keep.old asked.now.caller) at asked.now content_md5.now body)) }
+    ensures ok { K.clean keep.new → K.sound keep.old → IfOk result (λ p. Foresees (K.rows keep.old asked.now.caller) asked.now.caller
+        (request_step (K.rows keep.old asked.now.caller) at asked.now content_md5.now body) p.0) }
+    ensures facts { K.clean keep.new → K.sound keep.old → IfOk result (λ p. p.1 ≡ facts_of (K.rows keep.old asked.now.caller) at asked.now content_md5.now body) }
 {
-    match checked(alloc, keep, at, asked, content_md5, body) {
-        Ok(task) => perform(alloc, keep, at, &asked.caller, task),
-        Err(refusal) => refuse(alloc, refusal, false),
+    let mut token = None;
+    match checked(alloc, keep, at, asked, content_md5, body, &mut token) {
+        Ok(task) => carry(alloc, keep, at, &asked.caller, task, token),
+        Err(refusal) => refuse_request(alloc, refusal, token),
+    }
+}
+
+// What passed the checks is done, by a token of this name.
+fn carry<K: Keep>(
+    alloc: Global,
+    keep: &mut K,
+    at: Moment,
+    org: &OrgName,
+    task: Task,
+    token: Option<Text>,
+) -> Result<(Prepared, Facts), Down>
+    ensures looks { Looks K.rows K.clean K.sound K.shielded keep.old keep.new }
+    ensures ok { K.clean keep.new → K.sound keep.old → IfOk result (λ p. IsSome (K.rows keep.old org.now) → IsTaskInRange task
+        → Foresees (K.rows keep.old org.now) org.now (carried org.now at (K.rows keep.old org.now) (Ok task)) p.0) }
+    ensures facts { K.clean keep.new → K.sound keep.old → IfOk result (λ p. IsSome (K.rows keep.old org.now)
+        → p.1 ≡ record { token = token; id = id_of_task task; trace = traced at (K.rows keep.old org.now) (Ok task) }) }
+{
+    let Ok(id) = spelt_id(&task) else {
+        return Err(Down);
+    };
+    match perform(alloc, keep, at, org, task) {
+        Ok((prepared, trace)) => Ok((prepared, Facts { token, id, trace })),
+        Err(down) => Err(down),
+    }
+}
+
+// What the checks refuse, by a token of this name, if it counts.
+fn refuse_request(
+    alloc: Global,
+    why: Refusal,
+    token: Option<Text>,
+) -> Result<(Prepared, Facts), Down>
+    ensures known { OnOk result (why ≢ Refusal.Unavailable) }
+    ensures ok { IfOk result (λ p. (p.0.reply ≡ refused_answer why (error_text why) false) × (p.0.pending ≡ None)) }
+    ensures facts { IfOk result (λ p. p.1 ≡ record { token = token; id = None; trace = no_trace }) }
+{
+    match refuse(alloc, why, false) {
+        Ok(prepared) => Ok((
+            prepared,
+            Facts {
+                token,
+                id: None,
+                trace: Trace::none(),
+            },
+        )),
+        Err(down) => Err(down),
     }
 }
 
@@ -58,16 +111,24 @@ fn checked<K: Keep>(
     asked: &Asked,
     content_md5: &Option<Bytes>,
     body: Bytes,
+    token: &mut Option<Text>,
 ) -> Result<Task, Refusal>
     ensures looks { Looks K.rows K.clean K.sound K.shielded keep.old keep.new }
     ensures ok { K.clean keep.new → K.sound keep.old → Stands result (K.rows keep.old asked.now.caller) at asked.now content_md5.now body }
     ensures range { IfOk result IsTaskInRange }
     ensures there { K.clean keep.new → K.sound keep.old → OnOk result (IsSome (K.rows keep.old asked.now.caller)) }
+    ensures traces { K.clean keep.new → K.sound keep.old → IfOk result (λ task. traced at (K.rows keep.old asked.now.caller) (Ok task)
+        ≡ traced at (K.rows keep.old asked.now.caller) (checked (K.rows keep.old asked.now.caller) at asked.now content_md5.now body)) }
+    ensures spells { K.clean keep.new → K.sound keep.old → result ≢ Err Refusal.Unavailable
+        → id_spelt result ≡ id_spelt (task_read (K.rows keep.old asked.now.caller) at asked.now content_md5.now body) }
+    ensures names { K.clean keep.new → K.sound keep.old → result ≢ Err Refusal.Unavailable → token.new ≡ token_named (K.rows keep.old asked.now.caller) at asked.now }
 {
-    let caller = match known_caller(alloc, keep, at, asked) {
-        Ok(caller) => caller,
+    *token = None;
+    let TokenRow { name, caller } = match known_caller(alloc, keep, at, asked) {
+        Ok(row) => row,
         Err(refusal) => return Err(refusal),
     };
+    *token = Some(name);
     if let Err(refusal) = allowed(asked, &caller) {
         return Err(refusal);
     }
@@ -224,17 +285,19 @@ fn list_workspaces<K: Keep>(
     org: &OrgName,
     after: &Option<WsName>,
     prefix: &Prefix,
-) -> Result<Prepared, Down>
+) -> Result<(Prepared, Trace), Down>
     ensures looks { Looks K.rows K.clean K.sound K.shielded keep.old keep.new }
     ensures ok { K.clean keep.new → K.sound keep.old → IfOk result (λ p. (at : ℕ)
-        → Foresees (K.rows keep.old org.now) org.now (carried org.now at (K.rows keep.old org.now) (Ok (ListAll after.now prefix.now))) p) }
+        → Foresees (K.rows keep.old org.now) org.now (carried org.now at (K.rows keep.old org.now) (Ok (ListAll after.now prefix.now))) p.0) }
+    ensures traces { IfOk result (λ p. p.1 ≡ no_trace) }
 {
     let list = keep.workspaces(alloc, org, name_in(after), prefix)?;
     let body = Bytes::new(write_ws_list(alloc, &list)?);
-    Ok(Prepared {
+    let prepared = Prepared {
         reply: Reply::document(body),
         pending: None,
-    })
+    };
+    Ok((prepared, Trace::none()))
 }
 
 /// What the checks have left to do: a list, or the rules on an act.
@@ -244,10 +307,11 @@ fn perform<K: Keep>(
     at: Moment,
     org: &OrgName,
     task: Task,
-) -> Result<Prepared, Down>
+) -> Result<(Prepared, Trace), Down>
     ensures looks { Looks K.rows K.clean K.sound K.shielded keep.old keep.new }
     ensures ok { K.clean keep.new → K.sound keep.old → IfOk result (λ p. IsSome (K.rows keep.old org.now) → IsTaskInRange task
-        → Foresees (K.rows keep.old org.now) org.now (carried org.now at (K.rows keep.old org.now) (Ok task)) p) }
+        → Foresees (K.rows keep.old org.now) org.now (carried org.now at (K.rows keep.old org.now) (Ok task)) p.0) }
+    ensures traces { K.clean keep.new → K.sound keep.old → IfOk result (λ p. IsSome (K.rows keep.old org.now) → p.1 ≡ traced at (K.rows keep.old org.now) (Ok task)) }
 {
     match task {
         Task::ListAll { after, prefix } => list_workspaces(alloc, keep, org, &after, &prefix),
@@ -325,14 +389,19 @@ fn rule<K: Keep>(
     at: Moment,
     org: &OrgName,
     order: &Order,
-) -> Result<Prepared, Down>
+) -> Result<(Prepared, Trace), Down>
     ensures looks { Looks K.rows K.clean K.sound K.shielded keep.old keep.new }
     ensures ok { K.clean keep.new → K.sound keep.old → IfOk result (λ p. IsSome (K.rows keep.old org.now) → IsInRange order.now.act
-        → Foresees (K.rows keep.old org.now) org.now (carried org.now at (K.rows keep.old org.now) (Ok (Carry order.now))) p) }
+        → Foresees (K.rows keep.old org.now) org.now (carried org.now at (K.rows keep.old org.now) (Ok (Carry order.now))) p.0) }
+    ensures traces { K.clean keep.new → K.sound keep.old → IfOk result (λ p. IsSome (K.rows keep.old org.now) → p.1 ≡ traced at (K.rows keep.old org.now) (Ok (Carry order.now))) }
 {
     keep.records_are_lawful();
     prove!(at.seconds() <= MAX_MOMENT);
     let unit = keep.unit(alloc, org, &order.ws, &order.act)?;
     let decision = decide(&unit, &order.act, at)?;
-    answer_decision(alloc, keep, org, &order.ws, &unit, decision)
+    let trace = trace_by(&unit, &decision);
+    match answer_decision(alloc, keep, org, &order.ws, &unit, decision) {
+        Ok(prepared) => Ok((prepared, trace)),
+        Err(down) => Err(down),
+    }
 }

@@ -1,7 +1,7 @@
 //! The service over a keep: what it keeps between steps, and steps in turn.
-ghost use Rattle.std.specs.Prelude.{◌≡◌, ◌≤◌, ◌<◌, ℕ, List, Option, Some, None, IfOk, IsErrOf, true, false, ◌↔◌, ◌⊎◌, OnOk, OnErr, length, take};
+ghost use Rattle.std.specs.Prelude.{◌≡◌, ◌≤◌, ◌<◌, ℕ, List, Option, Some, None, IfOk, IsErrOf, true, false, IfSome, ◌↔◌, ◌⊎◌, OnOk, OnErr, length, take};
 ghost use Rattle.std.specs.Io.KnownBytes.{Consumes};
-ghost use Rattle.serve.specs.Exchanges.{Exchanges, ChangesAtMostOne};
+ghost use Rattle.serve.specs.Exchanges.{Exchanges, ChangesAtMostOne, ChangesAsTold};
 ghost use Rattle.serve.specs.Inner.Taking.{IsTaken, RunsTo};
 ghost use Rattle.serve.specs.Asks.{Ask, commands, unattributed, operator};
 ghost use Rattle.serve.specs.Service.{IsSaidText, Stays, Carries, said_to, AreAsked, IsAdminAnswer, ListsAll, IsListedBy, org_lines, token_list_text};
@@ -16,10 +16,12 @@ ghost use Rattle.serve.specs.Runs.{IsOwnMachine, IsOwnRecord, AreOwnReplies, Lis
 
 use crate::commands::{admin_word, command, org_lines, token_list_text};
 use crate::exchanges::{LinkFault, exchange, refuse_exchange};
+use crate::logs::unavailable_row;
 use crate::messages::take_request;
 use crate::steps::{Admin, Step};
 use basis::numbers::MAX_MOMENT;
 use basis::{Bytes, Down, Moment, OrgName};
+use docs::LogRow;
 use machine::{AdminAnswer, Keep};
 use route::Routes;
 use std::alloc::Global;
@@ -150,6 +152,8 @@ pub struct Service<K: Keep> {
     taken: u64,
     // Whether the last exchange was answered by the 503 of memory or a store that refused.
     was_down: bool,
+    // What the log tells of the last exchange.
+    row: Option<LogRow>,
 }
 
 fn take_routes(alloc: Global, routes: &mut Option<Routes>) -> Result<Routes, Down> {
@@ -167,12 +171,14 @@ impl<K: Keep> Service<K> {
         ensures keep { result.keep ≡ keep }
         ensures taken { result.taken ≡ 0 }
         ensures down { result.was_down ≡ false }
+        ensures row { result.row ≡ None }
     {
         Service {
             keep,
             routes: None,
             taken: 0,
             was_down: false,
+            row: None,
         }
     }
 
@@ -185,8 +191,10 @@ impl<K: Keep> Service<K> {
             routes,
             taken,
             was_down,
+            row,
         } = self;
         drop(routes);
+        drop(row);
         let _ = taken;
         let _ = was_down;
         keep
@@ -207,6 +215,13 @@ impl<K: Keep> Service<K> {
         self.was_down
     }
 
+    /// What the log tells of the last call of `exchange`; none before any.
+    pub fn row(&self) -> &Option<LogRow>
+        ensures { result.now ≡ self.now.row }
+    {
+        &self.row
+    }
+
     /// One exchange: a request is read, answered and carried out, and its reply is written. The
     /// reader and the writer have not failed before; a failed read is never tried again.
     pub fn exchange<I: Inlet, O: Outlet>(
@@ -222,12 +237,13 @@ impl<K: Keep> Service<K> {
         ensures shield { K.shielded self.old.keep → K.shielded self.new.keep }
         ensures kept { K.clean self.new.keep → K.sound self.old.keep → K.sound self.new.keep }
         ensures told { K.clean self.new.keep → K.sound self.old.keep → (received : List ℕ) × Consumes (I.left inlet.old) (I.left inlet.new) received
-            × Exchanges now received (I.left inlet.new) (K.rows self.old.keep) (K.rows self.new.keep) (O.written outlet.old) (O.written outlet.new) self.new.was_down result }
+            × Exchanges now received (I.left inlet.new) (K.rows self.old.keep) (K.rows self.new.keep) (O.written outlet.old) (O.written outlet.new) self.new.was_down self.new.row result }
 
         // What needs no bytes: where no whole message received no record changes, and never more than one does.
         ensures stays { K.clean self.new.keep → (IsErrOf result LinkFault.Ended ⊎ (IsErrOf result LinkFault.Read ⊎ IsErrOf result LinkFault.Continue))
             → Stays (K.rows self.old.keep) (K.rows self.new.keep) }
         ensures others { K.clean self.new.keep → K.sound self.old.keep → ChangesAtMostOne (K.rows self.old.keep) (K.rows self.new.keep) }
+        ensures changes { K.clean self.new.keep → K.sound self.old.keep → IfSome self.new.row (λ row. ChangesAsTold row (K.rows self.old.keep) (K.rows self.new.keep)) }
         ensures read { (I.broken inlet.new ≡ true) ↔ IsErrOf result LinkFault.Read }
 
         // Where a read has told the input's end, it ended inside the message: an unfinished message is never answered.
@@ -245,12 +261,14 @@ impl<K: Keep> Service<K> {
                     inlet,
                     outlet,
                     &mut self.was_down,
+                    &mut self.row,
                 );
                 self.routes = Some(routes);
                 result
             }
             Err(_) => {
                 self.was_down = true;
+                self.row = Some(unavailable_row(now));
                 refuse_exchange(false, now, outlet)
             }
         }
@@ -266,6 +284,7 @@ impl<K: Keep> Service<K> {
         ensures err { K.clean self.new.keep → OnErr result (Stays (K.rows self.old.keep) (K.rows self.new.keep)) }
         ensures taken { self.new.taken ≡ self.old.taken }
         ensures down { self.new.was_down ≡ self.old.was_down }
+        ensures row { self.new.row ≡ self.old.row }
     {
         command(alloc, &mut self.keep, asked)
     }
@@ -279,6 +298,7 @@ impl<K: Keep> Service<K> {
         ensures all { OnOk result (self.new.taken ≡ length steps.now) }
         ensures left { OnErr result (self.new.taken < length steps.now) }
         ensures down { self.new.was_down ≡ self.old.was_down }
+        ensures row { self.new.row ≡ self.old.row }
         ensures ran { K.clean self.new.keep → K.sound self.old.keep → (replies : List (List ℕ)) × RunsTo (take self.new.taken steps.now) (K.rows self.old.keep) (K.rows self.new.keep) replies
             × IfOk result (λ given. given.items ≡ replies) }
     {
@@ -344,6 +364,7 @@ impl<K: Keep> Service<K> {
         // After `Down` a step is left that wasn't taken.
         ensures taken_fewer { OnErr result (self.new.taken < length steps.now) }
         ensures down { self.new.was_down ≡ self.old.was_down }
+        ensures row { self.new.row ≡ self.old.row }
 
         // Custody, over the book of each workspace (`Book`): its steps with the workspace before and after each, in the own machine's run over the steps taken.
         // In the period of a lock, a step that makes a version, or is an accepted purge, or after which a version kept before it is gone, carried its ID.

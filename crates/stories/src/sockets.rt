@@ -254,6 +254,7 @@ impl Bout<'_> {
             service,
             count,
             timeouts,
+            false,
             &mut clock,
             &mut output,
             &mut errors,

@@ -1,33 +1,32 @@
 -- From the rows of a connection to the records of its store.
-use Rattle.std.proofs.Common.{◌≡◌, ◌≢◌, ℕ, ◌<◌, ◌≤◌, ◌||◌, List, [], length, is_some, Option, Some, None, IfSome, option_map, IsTrue, refl, sym, ap, ◌∙◌, subst}
+use Rattle.std.proofs.Common.{◌≡◌, ◌≢◌, ℕ, ◌<◌, ◌≤◌, ◌||◌, List, [], length, is_some, Option, Some, None, IfSome, IsTrue, refl, sym, ap, ◌∙◌, subst}
 use Rattle.sqlite.specs.Effect.{Database}
 use Rattle.sqlite.specs.State.{State, KeepsCommit}
 use Rattle.basis.specs.Names.{is_org_name, is_ws_name, is_prefix}
 use Rattle.basis.specs.declared.roles.Role.{Role}
 use Rattle.basis.specs.declared.roles.Bounds.{Bounds}
 use Rattle.machine.specs.Ranges.{IsMoment}
-use Rattle.basis.specs.declared.roles.Caller.{Caller}
 use Rattle.machine.specs.Effects.{Effect, effect}
 use Rattle.machine.specs.Records.{workspace_in, placed, seen_in}
 use Rattle.machine.specs.Changes.{changed_by, IsDue}
 use Rattle.machine.specs.Units.{unit_of, version_text}
 use Rattle.machine.specs.Needs.{Needed, needs}
 use Rattle.machine.specs.Tokens as tokens
-use Rattle.machine.specs.Tokens.{caller_of, token_of}
+use Rattle.machine.specs.Tokens.{asker_of, token_of}
 use Rattle.std.specs.FinMap.{get}
 use Rattle.machine.specs.declared.acts.Act.{Act}
 use Rattle.machine.specs.declared.acts.Unit.{Unit}
 use Rattle.machine.specs.declared.acts.Change.{Change}
-use Rattle.machine.specs.declared.records.Token.{Token}
 use Rattle.machine.specs.declared.records.Organization.{Organization}
 use Rattle.machine.specs.declared.keeps.AdminAnswer.{AdminAnswer}
+use Rattle.machine.specs.declared.keeps.TokenRow.{TokenRow}
 use Rattle.machine.specs.declared.keeps.AdminAnswer.TheVariants.{Done, Exists, Absent}
 use Rattle.statements.specs.Changes.{org_row_added, org_capped, token_added, token_removed}
 use Rattle.statements.specs.Finds.{cap_of, role_of_name, role_of_digest}
 use Rattle.statements.specs.Tables.{Tables, Holds, tables_of}
 use Rattle.statements.proofs.Decoding.{tables-held}
 use Rattle.tables.specs.Inner.Edits.{changed_rows, TakesEdit}
-use Rattle.tables.specs.Records.{caller_by, record_of}
+use Rattle.tables.specs.Records.{record_of}
 use Rattle.std.specs.Option.{unwrap_or}
 use Rattle.basis.specs.Listings.{listing_of}
 use Rattle.basis.specs.declared.rows.Listing.{Listing}
@@ -38,7 +37,7 @@ use Rattle.machine.specs.Showing as showing
 use Rattle.machine.specs.Tokens.{AreOrganizations}
 use Rattle.machine.specs.declared.keeps.OrgRow.{OrgRow}
 use Rattle.statements.specs.Listings.{OrgsApart, TokensApart, WorkspacesApart, VersionsApart, RunsApart}
-use Rattle.tables.specs.Inner.Lists.{versions_listed_in, runs_listed_in, workspaces_listed_in, tokens_told_in, organizations_listed_in}
+use Rattle.tables.specs.Inner.Lists.{versions_listed_in, runs_listed_in, workspaces_listed_in, asker_in, tokens_told_in, organizations_listed_in}
 use Rattle.tables.specs.Inner.Units.{text_in, unit_in}
 use Rattle.tables.specs.Stores.{records_of, IsSoundStore}
 use Rattle.tables.specs.Opening.{IsSoundKeep}
@@ -46,7 +45,7 @@ use Rattle.tables.specs.declared.counts.Counted.{Counted}
 use Rattle.tables.specs.Inner.Counting.{known_of, looked, changed_count}
 use Rattle.tables.proofs.Remembering.{known_is, kept_is, changed_is}
 use Rattle.tables.specs.Inner.Steps.{Commits, org_managed_by, org_managed, limit_managed_by, limit_managed, token_managed_by, token_managed, revocation_managed_by, revocation_managed}
-use Rattle.tables.proofs.Operators.{caller_found, org_exists, token_absent, token_named, token_known}
+use Rattle.tables.proofs.Operators.{asker_found, org_exists, token_absent, token_named, token_known}
 use Rattle.tables.proofs.Limits.{limit_absent, limit_done, limit_other, limit_keeps}
 use Rattle.tables.proofs.Revoking.{revoke_absent, revoke_done, revoke_other, revoke_keeps}
 use Rattle.tables.proofs.Finding.{unit_found, text_found}
@@ -66,9 +65,9 @@ module _ {counted : Option Counted} (db : Database) (a : State) (s : IsSoundKeep
 
   -- ---- looks
 
-  pub caller_told : (org digest : List ℕ) (caller : Option Caller) → IsTrue a.is_open × ((t : Tables) → Holds a.committed t → caller ≡ caller_by org digest t)
-      → caller ≡ option_map (λ (token : Token). token.caller) (caller_of (records_of db org) digest)
-  caller_told org digest caller told = told.1 now (held told.0) ∙ caller_found now s.store.sound org digest
+  pub asker_told : (org digest : List ℕ) (asker : Option TokenRow) → IsTrue a.is_open × ((t : Tables) → Holds a.committed t → asker ≡ asker_in org digest t)
+      → asker ≡ asker_of (records_of db org) digest
+  asker_told org digest asker told = told.1 now (held told.0) ∙ asker_found now s.store.sound org digest
 
   pub unit_told : (org ws : List ℕ) (act : Act) (need : Needed) → need ≡ needs act → (unit : Unit) → IsTrue a.is_open × ((t : Tables) → Holds a.committed t → unit ≡ unit_in need (known_of counted org) org ws t)
       → (o : Organization) → records_of db org ≡ Some o → unit ≡ unit_of o ws act

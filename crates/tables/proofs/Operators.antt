@@ -16,19 +16,20 @@ use Rattle.basis.specs.declared.roles.Role.{Role}
 use Rattle.basis.specs.declared.roles.Bounds.{Bounds}
 use Rattle.machine.specs.Order.{name_cmp}
 use Rattle.machine.specs.Effects.{effect}
-use Rattle.machine.specs.Tokens.{token_with, caller_of, new_organization, org_added, token_of, with_token, token_added}
+use Rattle.machine.specs.Tokens.{token_with, token_row, row_with, asker_of, new_organization, org_added, token_of, with_token, token_added}
 use Rattle.machine.specs.declared.keeps.AdminAnswer.TheVariants.{Done, Exists, Absent}
+use Rattle.machine.specs.declared.keeps.TokenRow.{TokenRow as AnyRow}
 use Rattle.machine.specs.declared.records.Token.{Token}
 use Rattle.machine.specs.declared.records.Organization.{Organization}
 use Rattle.machine.proofs.MapLemmas.{names_total, names_same, get_own, get_other}
-use Rattle.statements.specs.declared.rows.NamedRole.{NamedRole}
 use Rattle.statements.specs.Rows.{Kept, id_of, OrgRow, TokenRow, BoundRow, WsRow}
 use Rattle.statements.specs.Tables.{Tables}
 use Rattle.statements.specs.Changes.{is_org, is_token, is_digest_of, is_bound, is_ws_of}
 use Rattle.statements.specs.Changes as rows
 use Rattle.statements.specs.Finds.{cap_of, role_of_digest, role_of_name, named_role, bound_in}
 use Rattle.statements.proofs.Found.{found_passes, find_pushed, find_pushed_other, found_holds}
-use Rattle.tables.specs.Records.{no_bounds, caller_with, bounds_at, caller_by, token_of_cells, token_at, is_token_of, tokens_at, workspace_at, organization_at, record_of}
+use Rattle.tables.specs.Records.{no_bounds, bounds_at, token_of_cells, token_at, is_token_of, tokens_at, workspace_at, organization_at, record_of}
+use Rattle.tables.specs.Inner.Lists.{token_row_in, asker_in}
 use Rattle.tables.specs.Sound.{IsSound}
 use Rattle.tables.proofs.TextRows.{KeepsWorkspaces, workspaces_carried, organization_carried}
 use Rattle.tables.proofs.Names.{same_name, name_is, apart_name, names_apart, is_pair, pair_first, pair_second, pair_is}
@@ -37,11 +38,31 @@ use Rattle.tables.proofs.Sets.{entry_found, got_token, other_ws}
 use Rattle.tables.proofs.TokenRows.{ChangesToken, other_token, other_tokens}
 use Rattle.tables.proofs.Finding.{none_found, no_orphans, none_there}
 
--- ---- the first token with a digest, of a map
+-- ---- the first entry with a digest, of a map
 
 module _ (digest : List ℕ) where
-  abbrev with_it : List (List ℕ × Token) → Option Token
-  with_it es = token_with digest es
+  abbrev with_it : List (List ℕ × Token) → Option (List ℕ × Token)
+  with_it [] = None
+  with_it (e ∷ es) = cond (bytes_eq e.1.digest digest) (Some e) (with_it es)
+
+  -- its token, and its row
+  its_token : (es : List (List ℕ × Token)) → token_with digest es ≡ option_map (λ (e : List ℕ × Token). e.1) (with_it es)
+  its_token [] = refl
+  its_token (e ∷ es) = go (bytes_eq e.1.digest digest) (its_token es)
+    where
+      go : (b : Bool) → token_with digest es ≡ option_map (λ (x : List ℕ × Token). x.1) (with_it es)
+          → cond b (Some e.1) (token_with digest es) ≡ option_map (λ (x : List ℕ × Token). x.1) (cond b (Some e) (with_it es))
+      go true more = refl
+      go false more = more
+
+  its_row : (es : List (List ℕ × Token)) → row_with digest es ≡ option_map (λ (e : List ℕ × Token). token_row e.0 e.1) (with_it es)
+  its_row [] = refl
+  its_row (e ∷ es) = go (bytes_eq e.1.digest digest) (its_row es)
+    where
+      go : (b : Bool) → row_with digest es ≡ option_map (λ (x : List ℕ × Token). token_row x.0 x.1) (with_it es)
+          → cond b (Some (token_row e.0 e.1)) (row_with digest es) ≡ option_map (λ (x : List ℕ × Token). token_row x.0 x.1) (cond b (Some e) (with_it es))
+      go true more = refl
+      go false more = more
 
   put_away : (k : List ℕ) (v : Token) → bytes_eq v.digest digest ≡ false → (es : List (List ℕ × Token)) → find_entry name_cmp k es ≡ None → with_it (put name_cmp k v es) ≡ with_it es
   put_away k v apart [] none = rw apart refl
@@ -51,26 +72,29 @@ module _ (digest : List ℕ) where
           → with_it (by_order o ((k, v) ∷ e ∷ es) ((e.0, v) ∷ es) (e ∷ put name_cmp k v es)) ≡ with_it (e ∷ es)
       go Less none more = rw apart refl
       go Equal none more = absurd (let no_one : ⊥ = cc in no_one)
-      go Greater none more = ap (cond (bytes_eq e.1.digest digest) (Some e.1)) (more none)
+      go Greater none more = ap (cond (bytes_eq e.1.digest digest) (Some e)) (more none)
 
-  put_there : (k : List ℕ) (v : Token) → bytes_eq v.digest digest ≡ true → (es : List (List ℕ × Token)) → find_entry name_cmp k es ≡ None → with_it es ≡ None → with_it (put name_cmp k v es) ≡ Some v
+  put_there : (k : List ℕ) (v : Token) → bytes_eq v.digest digest ≡ true → (es : List (List ℕ × Token)) → find_entry name_cmp k es ≡ None → with_it es ≡ None → with_it (put name_cmp k v es) ≡ Some (k, v)
   put_there k v is [] none other = rw is refl
   put_there k v is (e ∷ es) none other = go (name_cmp k e.0) (bytes_eq e.1.digest digest) refl none other (λ rest last. put_there k v is es rest last)
     where
-      go : (o : Ordering) (b : Bool) → bytes_eq e.1.digest digest ≡ b → cond (is_eq o) (Some e.1) (find_entry name_cmp k es) ≡ None → cond b (Some e.1) (with_it es) ≡ None
-          → (find_entry name_cmp k es ≡ None → with_it es ≡ None → with_it (put name_cmp k v es) ≡ Some v)
-          → with_it (by_order o ((k, v) ∷ e ∷ es) ((e.0, v) ∷ es) (e ∷ put name_cmp k v es)) ≡ Some v
+      go : (o : Ordering) (b : Bool) → bytes_eq e.1.digest digest ≡ b → cond (is_eq o) (Some e.1) (find_entry name_cmp k es) ≡ None → cond b (Some e) (with_it es) ≡ None
+          → (find_entry name_cmp k es ≡ None → with_it es ≡ None → with_it (put name_cmp k v es) ≡ Some (k, v))
+          → with_it (by_order o ((k, v) ∷ e ∷ es) ((e.0, v) ∷ es) (e ∷ put name_cmp k v es)) ≡ Some (k, v)
       go o true d none other more = absurd (let no_one : ⊥ = cc in no_one)
       go Less false d none other more = rw is refl
       go Equal false d none other more = absurd (let no_one : ⊥ = cc in no_one)
       go Greater false d none other more = rw d (more none other)
 
   module _ (t : Tables) (org : List ℕ) where
+    abbrev entry_at : Kept TokenRow → List ℕ × Token
+    entry_at x = (x.1.name, token_at t x.1)
+
     abbrev made : List (Kept TokenRow) → FinMap name_cmp Token
-    made xs = from_entries (map (λ (x : Kept TokenRow). (x.1.name, token_at t x.1)) (filter (is_token_of org) xs))
+    made xs = from_entries (map entry_at (filter (is_token_of org) xs))
 
     digest_found : (xs : List (Kept TokenRow)) → AreApart (λ a b. is_token a.1.org a.1.name b) xs → AreApart (λ a b. is_digest_of a.1.org a.1.it.digest b) xs
-        → with_it (entries (made xs)) ≡ option_map (λ (x : Kept TokenRow). token_at t x.1) (find (is_digest_of org digest) xs)
+        → with_it (entries (made xs)) ≡ option_map entry_at (find (is_digest_of org digest) xs)
     digest_found [] names digests = ap with_it no_entries
       where
         no_length : (es : List (List ℕ × Token)) → 0 ≡ length es → es ≡ []
@@ -82,25 +106,25 @@ module _ (digest : List ℕ) where
     digest_found (x ∷ xs) names digests = go (is_token_of org x) (bytes_eq x.1.it.digest digest) refl refl (digest_found xs names.1 digests.1)
       where
         go : (a b : Bool) → is_token_of org x ≡ a → bytes_eq x.1.it.digest digest ≡ b
-            → with_it (entries (made xs)) ≡ option_map (λ (y : Kept TokenRow). token_at t y.1) (find (is_digest_of org digest) xs)
-            → with_it (entries (from_entries {R = name_cmp} (map (λ (y : Kept TokenRow). (y.1.name, token_at t y.1)) (cond a (x ∷ filter (is_token_of org) xs) (filter (is_token_of org) xs)))))
-            ≡ option_map (λ (y : Kept TokenRow). token_at t y.1) (cond (a && b) (Some x) (find (is_digest_of org digest) xs))
+            → with_it (entries (made xs)) ≡ option_map entry_at (find (is_digest_of org digest) xs)
+            → with_it (entries (from_entries {R = name_cmp} (map entry_at (cond a (x ∷ filter (is_token_of org) xs) (filter (is_token_of org) xs)))))
+            ≡ option_map entry_at (cond (a && b) (Some x) (find (is_digest_of org digest) xs))
         go false b d e more = more
         go true b d e more = inside b e
           where
             name_free : find_entry name_cmp x.1.name (entries (made xs)) ≡ None
             name_free =
                 sym (get-entries (made xs) x.1.name)
-                ∙ get-from_entries names_total (map (λ (y : Kept TokenRow). (y.1.name, token_at t y.1)) (filter (is_token_of org) xs)) x.1.name
+                ∙ get-from_entries names_total (map entry_at (filter (is_token_of org) xs)) x.1.name
                 ∙ entry_found (is_token_of org) (λ (y : Kept TokenRow). y.1.name) (λ (y : Kept TokenRow). token_at t y.1) x.1.name xs
                 ∙ ap (option_map (λ (y : Kept TokenRow). token_at t y.1)) (none_found (is_token org x.1.name) xs (subst (λ (n : List ℕ). AllByRecursion (λ y. is_token n x.1.name y ≡ false) xs) (same_name x.1.org org d) names.0))
 
-            inside : (c : Bool) → bytes_eq x.1.it.digest digest ≡ c → with_it (entries (insert (made xs) x.1.name (token_at t x.1))) ≡ option_map (λ (y : Kept TokenRow). token_at t y.1) (cond c (Some x) (find (is_digest_of org digest) xs))
+            inside : (c : Bool) → bytes_eq x.1.it.digest digest ≡ c → with_it (entries (insert (made xs) x.1.name (token_at t x.1))) ≡ option_map entry_at (cond c (Some x) (find (is_digest_of org digest) xs))
             inside true f =
                 let alone : find (is_digest_of org digest) xs ≡ None =
                 none_found (is_digest_of org digest) xs (subst (λ (n : List ℕ). AllByRecursion (λ y. is_digest_of org n y ≡ false) xs) (same_name x.1.it.digest digest f) (subst (λ (n : List ℕ). AllByRecursion (λ y. is_digest_of n x.1.it.digest y ≡ false) xs) (same_name x.1.org org d) digests.0)) in
                 ap with_it (entries-insert names_total (made xs) x.1.name (token_at t x.1))
-                ∙ put_there x.1.name (token_at t x.1) f (entries (made xs)) name_free (more ∙ ap (option_map (λ (y : Kept TokenRow). token_at t y.1)) alone)
+                ∙ put_there x.1.name (token_at t x.1) f (entries (made xs)) name_free (more ∙ ap (option_map entry_at) alone)
             inside false f =
                 ap with_it (entries-insert names_total (made xs) x.1.name (token_at t x.1))
                 ∙ put_away x.1.name (token_at t x.1) f (entries (made xs)) name_free ∙ more
@@ -116,10 +140,13 @@ module _ (t : Tables) (sound : IsSound t) (org : List ℕ) where
   no_workspaces e = no_orphans (is_ws_of org) (λ x. is_org x.1.org) t.orgs
       (λ x f. ap (λ (n : List ℕ). list_any (is_org n) t.orgs) (same_name x.1.org org f) ∙ none_there t sound org e) t.wss sound.wss_owned
 
-  pub caller_is : (digest : List ℕ) → option_map (λ (x : Kept TokenRow). token_at t x.1) (find (is_digest_of org digest) t.tokens) ≡ caller_of (record_of t org) digest
-  caller_is digest = by_limit (cap_of org t) refl
+  abbrev asker_at : Kept TokenRow → AnyRow
+  asker_at x = token_row x.1.name (token_at t x.1)
+
+  asker_is : (digest : List ℕ) → option_map asker_at (find (is_digest_of org digest) t.tokens) ≡ asker_of (record_of t org) digest
+  asker_is digest = by_limit (cap_of org t) refl
     where
-      none_found_there : (o : Option (Kept TokenRow)) → find (is_digest_of org digest) t.tokens ≡ o → cap_of org t ≡ None → option_map (λ (x : Kept TokenRow). token_at t x.1) o ≡ None
+      none_found_there : (o : Option (Kept TokenRow)) → find (is_digest_of org digest) t.tokens ≡ o → cap_of org t ≡ None → option_map asker_at o ≡ None
       none_found_there None f e = refl
       none_found_there (Some x) f e =
           let own : x.1.org ≡ org = pair_first org digest x.1.org x.1.it.digest (found_passes (is_digest_of org digest) t.tokens x f) in
@@ -127,18 +154,24 @@ module _ (t : Tables) (sound : IsSound t) (org : List ℕ) where
           let there : list_any (is_org org) t.orgs ≡ true = subst (λ (n : List ℕ). list_any (is_org n) t.orgs ≡ true) own owned in
           absurd (let no_one : ⊥ = cc (sym there ∙ none_there t sound org e) in no_one)
 
-      by_limit : (cap : Option ℕ) → cap_of org t ≡ cap → option_map (λ (x : Kept TokenRow). token_at t x.1) (find (is_digest_of org digest) t.tokens) ≡ caller_of (option_map (organization_at t org) cap) digest
+      by_entry : (o : Option (Kept TokenRow)) → option_map asker_at o ≡ option_map (λ (e : List ℕ × Token). token_row e.0 e.1) (option_map (entry_at digest t org) o)
+      by_entry None = refl
+      by_entry (Some x) = refl
+
+      by_limit : (cap : Option ℕ) → cap_of org t ≡ cap → option_map asker_at (find (is_digest_of org digest) t.tokens) ≡ asker_of (option_map (organization_at t org) cap) digest
       by_limit None e = none_found_there (find (is_digest_of org digest) t.tokens) refl e
-      by_limit (Some cap) e = sym (digest_found digest t org t.tokens sound.tokens_apart sound.digests_apart)
+      by_limit (Some cap) e =
+          by_entry (find (is_digest_of org digest) t.tokens)
+          ∙ ap (option_map (λ (e : List ℕ × Token). token_row e.0 e.1)) (sym (digest_found digest t org t.tokens sound.tokens_apart sound.digests_apart))
+          ∙ sym (its_row digest (entries (tokens_at t org)))
 
   -- who asks is told by the row with the digest, and by that of how far it reaches
-  pub caller_found : (digest : List ℕ) → caller_by org digest t ≡ option_map (λ (token : Token). token.caller) (caller_of (record_of t org) digest)
-  caller_found digest = mapped (find (is_digest_of org digest) t.tokens) refl ∙ ap (option_map (λ (token : Token). token.caller)) (caller_is digest)
+  pub asker_found : (digest : List ℕ) → asker_in org digest t ≡ asker_of (record_of t org) digest
+  asker_found digest = mapped (find (is_digest_of org digest) t.tokens) refl ∙ asker_is digest
     where
-      mapped : (o : Option (Kept TokenRow)) → find (is_digest_of org digest) t.tokens ≡ o
-          → option_map (λ (n : NamedRole). caller_with n.role (bounds_at t org n.name)) (option_map named_role o) ≡ option_map (λ (token : Token). token.caller) (option_map (λ (x : Kept TokenRow). token_at t x.1) o)
+      mapped : (o : Option (Kept TokenRow)) → find (is_digest_of org digest) t.tokens ≡ o → option_map (token_row_in org t) (option_map named_role o) ≡ option_map asker_at o
       mapped None e = refl
-      mapped (Some x) e = ap (λ (a : List ℕ). Some (caller_with x.1.it.role (bounds_at t a x.1.name))) (sym (pair_first org digest x.1.org x.1.it.digest (found_passes (is_digest_of org digest) t.tokens x e)))
+      mapped (Some x) e = ap (λ (a : List ℕ). Some (token_row_in a t (named_role x))) (sym (pair_first org digest x.1.org x.1.it.digest (found_passes (is_digest_of org digest) t.tokens x e)))
 
 -- ---- an organization more
 
@@ -231,8 +264,10 @@ module _ (t : Tables) (sound : IsSound t) (org name digest : List ℕ) (role : R
 
     digest_is : is_some (token_with digest (entries (tokens_at t org))) ≡ is_some (role_of_digest org digest t)
     digest_is =
-        ap is_some (digest_found digest t org t.tokens sound.tokens_apart sound.digests_apart)
-        ∙ found_same (λ (x : Kept TokenRow). token_at t x.1) (find (is_digest_of org digest) t.tokens) ∙ sym (found_same (λ (x : Kept TokenRow). x.1.it.role) (find (is_digest_of org digest) t.tokens))
+        ap is_some (its_token digest (entries (tokens_at t org)))
+        ∙ found_same (λ (e : List ℕ × Token). e.1) (with_it digest (entries (tokens_at t org)))
+        ∙ ap is_some (digest_found digest t org t.tokens sound.tokens_apart sound.digests_apart)
+        ∙ found_same (entry_at digest t org) (find (is_digest_of org digest) t.tokens) ∙ sym (found_same (λ (x : Kept TokenRow). x.1.it.role) (find (is_digest_of org digest) t.tokens))
 
     by_tests : (a b : Bool) → is_some (role_of_name org name t) ≡ a → is_some (role_of_digest org digest t) ≡ b
         → token_added name new_token (record_of t org) ≡ cond (a || b) (effect Exists (Some before)) (effect Done (Some (with_token before name new_token)))

@@ -106,10 +106,6 @@ organization_at t org cap = record { limit = cap; tokens = tokens_at t org; work
 abbrev pub record_of : Tables → List ℕ → Option Organization
 record_of t org = option_map (organization_at t org) (cap_of org t)
 
--- who asks by the organization's token with a digest, if it has a row
-abbrev pub caller_by : List ℕ → List ℕ → Tables → Option Caller
-caller_by org digest t = option_map (λ x. caller_with x.role (bounds_at t org x.name)) (named_role_of org digest t)
-
 -- the organization's token with this digest, if it has one, has its row of bound
 abbrev pub IsBound : List ℕ → List ℕ → Tables → Type 0
 IsBound org digest t = IfSome (named_role_of org digest t) (λ x. IsSome (bound_of org x.name t))

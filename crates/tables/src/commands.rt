@@ -3,20 +3,20 @@ ghost use Rattle.std.specs.Prelude.{◌≡◌, false, not, ◌||◌, is_some, Is
 ghost use Rattle.sqlite.specs.Held.{state};
 ghost use Rattle.sqlite.specs.State.{HasCleanDisk, KeepsCommit};
 ghost use Rattle.machine.specs.Needs.{needed_of};
-ghost use Rattle.tables.specs.Records.{caller_by, IsBound};
+ghost use Rattle.tables.specs.Records.{IsBound};
 ghost use Rattle.tables.specs.Inner.Units.{text_in, unit_in};
 ghost use Rattle.statements.specs.Steps.{Equals, EqualsWhere, Sees};
 ghost use Rattle.statements.specs.Tables.{Tables, Holds};
 ghost use Rattle.statements.specs.Listings.{OrgsApart, TokensApart, WorkspacesApart, VersionsApart, RunsApart};
-ghost use Rattle.tables.specs.Inner.Lists.{versions_listed_in, runs_listed_in, workspaces_listed_in, tokens_told_in, organizations_listed_in};
+ghost use Rattle.tables.specs.Inner.Lists.{versions_listed_in, runs_listed_in, workspaces_listed_in, asker_in, tokens_told_in, organizations_listed_in};
 ghost use Rattle.tables.specs.Inner.Steps.{LooksAt, ManagesBy, org_managed, limit_managed, token_managed, revocation_managed, is_taken};
 
 use crate::transactions::assert_settled;
 use crate::{listings, looks, transactions};
 use basis::{
-    Bounds, Bytes, Caller, Items, Limit, Listing, Number, Prefix, Role, RunRow, VersionRow, WsRow,
+    Bounds, Bytes, Items, Limit, Listing, Number, Prefix, Role, RunRow, VersionRow, WsRow,
 };
-use machine::{AdminAnswer, Needs, OrgRow, Unit};
+use machine::{AdminAnswer, Needs, OrgRow, TokenRow, Unit};
 use sqlite::{Alter, Connection, Error, ErrorCode};
 use statements::{organizations, tokens};
 use std::alloc::Global;
@@ -148,17 +148,18 @@ pub(crate) fn token_revoke<S: Alter>(
     Ok(AdminAnswer::Done)
 }
 
-/// Who asks by the organization's token with this digest. A token without its row of bound isn't let in: it is an error.
+/// Who asks by the organization's token with this digest, and the token's name. A token without its row of bound isn't
+/// let in: it is an error.
 pub(crate) fn caller<S: Alter>(
     conn: &mut Connection<S>,
     org: &str,
     digest: &[u8],
-) -> Result<Option<Caller>, Error>
+) -> Result<Option<TokenRow>, Error>
     requires idle { conn.old.in_transaction ≡ false }
     ensures idle { conn.new.in_transaction ≡ false }
     ensures so_far { HasCleanDisk (state S.Store conn.new) → HasCleanDisk (state S.Store conn.old) }
     ensures shield { (state S.Store conn.old).IsShielded → (state S.Store conn.new).IsShielded }
-    ensures looks { LooksAt (Equals (caller_by org.now digest.now)) (state S.Store conn.old) (state S.Store conn.new) result }
+    ensures looks { LooksAt (Equals (asker_in org.now digest.now)) (state S.Store conn.old) (state S.Store conn.new) result }
     ensures bound { HasCleanDisk (state S.Store conn.new) → OnOk result ((t : Tables) → Holds (state S.Store conn.old).now t → IsBound org.now digest.now t) }
 {
     assert_settled(conn);

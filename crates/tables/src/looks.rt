@@ -8,7 +8,8 @@ ghost use Rattle.statements.specs.Steps.{Equals, Sees};
 ghost use Rattle.statements.specs.Tables.{Tables, Holds};
 ghost use Rattle.machine.specs.Needs.{needed_of};
 ghost use Rattle.machine.specs.Units.{if_needed};
-ghost use Rattle.tables.specs.Records.{caller_with, bounds_at, caller_by, IsBound, keep_at};
+ghost use Rattle.tables.specs.Records.{caller_with, bounds_at, IsBound, keep_at};
+ghost use Rattle.tables.specs.Inner.Lists.{token_row_in, asker_in};
 ghost use Rattle.tables.specs.Inner.Units.{holder_status_in, text_in, has_text, newest_by, newest_in, keep_in, outgoing_in, has_version_in, keyed_run_in, asked_run_in, unit_in};
 ghost use Rattle.tables.specs.Inner.Looks.{absent_in, runs_in, around_in, unit_from, present_in};
 
@@ -16,7 +17,7 @@ use basis::{
     Bounds, Bytes, Caller, Holder, KeepCount, Limit, Number, Role, RunRow, RunStatus, Settings,
     Text, VersionRow,
 };
-use machine::{Needs, Newest, Staying, Unit, WorkspaceUnit};
+use machine::{Needs, Newest, Staying, TokenRow, Unit, WorkspaceUnit};
 use sqlite::{Alter, Connection, Error};
 use statements::rows::{NamedRole, Workspace as WorkspaceCells};
 use statements::{bounds, keepings, organizations, runs, tokens, versions, workspaces};
@@ -265,19 +266,35 @@ pub(crate) fn caller_as<S: Alter>(
     Ok(caller_with(token.role, bounds))
 }
 
-/// Who asks by the organization's token with this digest. It is an error where the token has no row of bound.
+/// Who asks by a token of this name and role, and the name.
+fn asker_as<S: Alter>(
+    conn: &mut Connection<S>,
+    org: &str,
+    token: NamedRole,
+) -> Result<TokenRow, Error>
+    ensures looks { Sees S.Store (Equals (λ t. token_row_in org.now t token)) conn.old conn.new result }
+    ensures is_open { HasCleanDisk (state S.Store conn.new) → OnOk result (IsTrue (state S.Store conn.new).is_open) }
+    ensures there { HasCleanDisk (state S.Store conn.new) → OnOk result ((t : Tables) → Holds (state S.Store conn.old).now t → IsSome (bound_of org.now token.name t)) }
+{
+    let caller = caller_as(conn, org, &token)?;
+    let name = token.name;
+    Ok(TokenRow { name, caller })
+}
+
+/// Who asks by the organization's token with this digest, and the token's name. It is an error where the token has no
+/// row of bound.
 pub(crate) fn caller<S: Alter>(
     conn: &mut Connection<S>,
     org: &str,
     digest: &[u8],
-) -> Result<Option<Caller>, Error>
-    ensures looks { Sees S.Store (Equals (caller_by org.now digest.now)) conn.old conn.new result }
+) -> Result<Option<TokenRow>, Error>
+    ensures looks { Sees S.Store (Equals (asker_in org.now digest.now)) conn.old conn.new result }
     ensures is_open { HasCleanDisk (state S.Store conn.new) → OnOk result (IsTrue (state S.Store conn.new).is_open) }
     ensures bound { HasCleanDisk (state S.Store conn.new) → OnOk result ((t : Tables) → Holds (state S.Store conn.old).now t → IsBound org.now digest.now t) }
 {
     match tokens::find_by_digest(conn, org, digest)? {
         None => Ok(None),
-        Some(token) => Ok(Some(caller_as(conn, org, &token)?)),
+        Some(token) => Ok(Some(asker_as(conn, org, token)?)),
     }
 }
 

@@ -17,10 +17,10 @@ use crate::opening::ready;
 use crate::{commands, counts, transactions};
 use basis::numbers::{MAX_LIMIT, MAX_MOMENT, MAX_NUMBER};
 use basis::{
-    Bounds, Bytes, Caller, Down, Limit, Listing, Number, OrgName, Prefix, Role, RunRow, VersionRow,
-    WsName, WsRow,
+    Bounds, Bytes, Down, Limit, Listing, Number, OrgName, Prefix, Role, RunRow, VersionRow, WsName,
+    WsRow,
 };
-use machine::{Act, AdminAnswer, Change, Fault, Keep, Unit};
+use machine::{Act, AdminAnswer, Change, Fault, Keep, TokenRow, Unit};
 use pages::PageKey;
 use sqlite::{Alter, Connection, MemStore};
 use std::alloc::Global;
@@ -186,9 +186,9 @@ impl<S: Alter, K: PageKey> Keep for SqlKeep<S, K> {
         _alloc: Global,
         org: &OrgName,
         digest: &[u8; 32],
-    ) -> Result<Option<Caller>, Down> {
+    ) -> Result<Option<TokenRow>, Down> {
         match commands::caller(&mut self.conn, org.as_str(), digest.as_slice()) {
-            Ok(caller) => Ok(caller),
+            Ok(asker) => Ok(asker),
             Err(_) => Err(Down),
         }
     }

@@ -1,9 +1,9 @@
 //! A store that refuses each change.
 use basis::{
-    Bounds, Bytes, Caller, Down, Limit, Listing, Number, OrgName, Prefix, Role, RunRow, VersionRow,
-    WsName, WsRow,
+    Bounds, Bytes, Down, Limit, Listing, Number, OrgName, Prefix, Role, RunRow, VersionRow, WsName,
+    WsRow,
 };
-use machine::{Act, AdminAnswer, Change, Keep, Unit};
+use machine::{Act, AdminAnswer, Change, Keep, TokenRow, Unit};
 use std::alloc::Global;
 
 /// Another store, of which records are read, and nothing is changed or listed.
@@ -30,7 +30,7 @@ impl<K: Keep> Keep for Refusing<K> {
         alloc: Global,
         org: &OrgName,
         digest: &[u8; 32],
-    ) -> Result<Option<Caller>, Down> {
+    ) -> Result<Option<TokenRow>, Down> {
         self.keep.caller(alloc, org, digest)
     }
 

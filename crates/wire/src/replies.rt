@@ -83,13 +83,15 @@ impl Reply {
         }
     }
 
-    pub(crate) fn status(&self) -> u16
+    /// The status code.
+    pub fn status(&self) -> u16
         ensures { result ≡ self.now.status }
     {
         self.status
     }
 
-    pub(crate) fn refusal(&self) -> Option<Refusal>
+    /// The refusal, if it is one.
+    pub fn refusal(&self) -> Option<Refusal>
         ensures { result ≡ self.now.refusal }
     {
         self.refusal

@@ -6,11 +6,14 @@ use Rattle.basis.specs.Roles.{counts_at}
 use Rattle.basis.specs.declared.refusals.Refusal.{Refusal}
 use Rattle.basis.specs.declared.refusals.Refusal.TheVariants.{BadToken}
 use Rattle.basis.specs.declared.roles.Caller.{Caller}
+use Rattle.sha2.specs.Sha256.{sha256}
 use Rattle.machine.specs.Ranges.{IsInRange}
 use Rattle.machine.specs.Records.{seen_in, placed}
 use Rattle.serve.specs.declared.prepared.Task.{Task}
 use Rattle.serve.specs.declared.prepared.Task.TheVariants.{ListAll, Carry}
 use Rattle.machine.specs.Changes.{changed_by, IsDue}
+use Rattle.machine.specs.Tokens.{asker_of}
+use Rattle.machine.specs.declared.keeps.TokenRow.{TokenRow}
 use Rattle.machine.specs.declared.records.Organization.{Organization}
 use Rattle.route.specs.declared.acts.Asked.{Asked}
 use Rattle.docs.specs.Bodies.{error_text}
@@ -22,9 +25,17 @@ use Rattle.serve.specs.Steps.{Answered, request_step}
 use Rattle.serve.specs.declared.prepared.Pending.{Pending}
 use Rattle.serve.specs.declared.prepared.Prepared.{Prepared}
 
--- a caller whose token counts at a moment
-abbrev pub counted : ℕ → Caller → Result Caller Refusal
-counted now caller = if counts_at now caller then Ok caller else Err BadToken
+-- a token that counts at a moment
+abbrev pub counted : ℕ → TokenRow → Result TokenRow Refusal
+counted now row = if counts_at now row.caller then Ok row else Err BadToken
+
+abbrev pub found_counted : ℕ → Option TokenRow → Result TokenRow Refusal
+found_counted now None = Err BadToken
+found_counted now (Some row) = counted now row
+
+-- the token that asks
+abbrev pub row_known : Option Organization → ℕ → Asked → Result TokenRow Refusal
+row_known r now asked = found_counted now (asker_of r (sha256 asked.secret))
 
 -- who asks by the token
 abbrev pub caller_known : Option Organization → ℕ → Asked → Result Caller Refusal

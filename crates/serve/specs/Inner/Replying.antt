@@ -1,14 +1,16 @@
 -- Contracts between functions: the reply to what was read, before its change is made and after it.
-use Rattle.std.specs.Prelude.{ℕ, Bool, true, false, List, Option, Result, Ok, Err}
+use Rattle.std.specs.Prelude.{◌≡◌, ℕ, Bool, true, false, List, Option, Some, Result, Ok, Err}
 use Rattle.machine.specs.declared.records.Organization.{Organization}
 use Rattle.route.specs.Asks.{asked_of}
 use Rattle.wire.specs.declared.messages.Message.{Message}
 use Rattle.wire.specs.declared.messages.WireFault.{WireFault}
 use Rattle.wire.specs.declared.messages.WireFault.TheVariants.{Ended, Read, Continue, Refused, Down}
 use Rattle.wire.specs.Replies.{Answer, unavailable_answer}
-use Rattle.serve.specs.Asks.{Ask}
+use Rattle.docs.specs.declared.logs.LogRow.{LogRow}
+use Rattle.serve.specs.Asks.{Ask, owner_of}
 use Rattle.serve.specs.Asks as ask
-use Rattle.serve.specs.Service.{is_head, asked_by, Carries, Stays}
+use Rattle.serve.specs.Logs.{row_of_ask, unavailable_row}
+use Rattle.serve.specs.Service.{is_head, asked_by, record_for, Carries, Stays}
 use Rattle.serve.specs.Inner.Prepared.{IsPrepared}
 use Rattle.serve.specs.declared.prepared.Prepared.{Prepared}
 
@@ -29,6 +31,23 @@ PreparesFor at rows (Err Down) p = ⊥
 PreparesFor at rows (Err Ended) p = ⊥
 PreparesFor at rows (Err Read) p = ⊥
 PreparesFor at rows (Err Continue) p = ⊥
+
+-- the row of the log for what is asked, by the records as they stand
+abbrev pub IsLogged : (List ℕ → Option Organization) → Ask → LogRow → Type 0
+IsLogged rows a row = row_of_ask (record_for rows (owner_of a)) a ≡ Some row
+
+abbrev pub LogsFor : ℕ → (List ℕ → Option Organization) → Result Message WireFault → LogRow → Type 0
+LogsFor at rows (Ok message) row = (awaited : Bool) → IsLogged rows (asked_by at awaited message (asked_of message)) row
+LogsFor at rows (Err (Refused refusal head)) row = IsLogged rows (ask.refused at false refusal head) row
+LogsFor at rows (Err Down) row = ⊥
+LogsFor at rows (Err Ended) row = ⊥
+LogsFor at rows (Err Read) row = ⊥
+LogsFor at rows (Err Continue) row = ⊥
+
+-- the row that is due: of what was prepared (`false`), or of memory or a store that refused (`true`)
+abbrev pub due_row : Bool → ℕ → LogRow → LogRow
+due_row false now row = row
+due_row true now row = unavailable_row now
 
 -- the reply that is due: what was prepared (`false`), or that of memory or a store that refused (`true`)
 abbrev pub due_reply : Bool → Bool → Answer → Answer

@@ -15,7 +15,7 @@ use Rattle.machine.specs.declared.keeps.TokenRow.{TokenRow}
 use Rattle.statements.specs.declared.rows.NamedRole.{NamedRole}
 use Rattle.statements.specs.declared.rows.NamedWorkspace.{NamedWorkspace}
 use Rattle.statements.specs.declared.rows.Organization.{Organization as OrganizationCells}
-use Rattle.statements.specs.Finds.{cap_of, newest_of, workspaces_of}
+use Rattle.statements.specs.Finds.{cap_of, named_role_of, newest_of, workspaces_of}
 use Rattle.statements.specs.Listings.{organizations_in, token_rows_of, workspace_rows_after, version_rows_after, run_rows_after}
 use Rattle.statements.specs.Tables.{Tables}
 use Rattle.tables.specs.Records.{settings_of_cells, caller_with, bounds_at}
@@ -57,6 +57,10 @@ workspaces_listed_in after prefix org t = listing_of (map (ws_row_in org t) (wor
 
 abbrev pub token_row_in : List ℕ → Tables → NamedRole → TokenRow
 token_row_in org t token = record { name = token.name; caller = caller_with token.role (bounds_at t org token.name) }
+
+-- who asks by the organization's token with a digest, and the token's name, if it has a row
+abbrev pub asker_in : List ℕ → List ℕ → Tables → Option TokenRow
+asker_in org digest t = option_map (token_row_in org t) (named_role_of org digest t)
 
 abbrev pub tokens_listed_in : List ℕ → Tables → List TokenRow
 tokens_listed_in org t = map (token_row_in org t) (token_rows_of org t)

@@ -5,4 +5,5 @@ returns c =
     let first = c.in_ok-on_file.ensures _ _ c.command-bare.ensures c.database.ensures in
     let second = c.in_ok-at_port.ensures _ _ first c.option.ensures in
     let third = c.in_ok-counted.ensures _ _ second c.option-2.ensures in
-    c.with_timeouts.ensures _ third
+    let fourth = c.in_ok-timed.ensures _ third in
+    c.with_arg-4.ensures _ _ fourth c.flag.ensures

@@ -4,11 +4,11 @@ use Rattle.program.proofs.OutsideLemmas.{serves_from}
 use Rattle.program.proofs.running.serve.Goals as goal
 
 pub returns-clause-line : goal.returns-clause-line
-returns-clause-line g c = served c.serve_at-ending.result c.say_served.result (g.O.Write.contents c.args.output.now) (g.O.Write.contents c.serve_at-ending.new.output) (g.O.Write.contents c.say_served.new.output) c.serve_at-ending.ensures.listens c.say_served.ensures.down c.say_served.ensures.other
+returns-clause-line g c = served c.args.logs c.serve_at-ending.result c.say_served.result (g.O.Write.contents c.args.output.now) (g.O.Write.contents c.serve_at-ending.new.output) (g.O.Write.contents c.say_served.new.output) c.serve_at-ending.ensures.listens c.say_served.ensures.down c.say_served.ensures.other
 
 pub returns-clause-serves : goal.returns-clause-serves
 returns-clause-serves g c = inl (serves_from g.K.Keep g.F.Files g.N.Connections g.C.Clock g.N.Reader.Inlet g.N.Writer.Outlet
-    c.args.db.now c.args.port c.args.timeouts.now c.args.count c.args.files.now c.open.new.self c.close_after.new.files
+    c.args.db.now c.args.port c.args.timeouts.now c.args.logs c.args.count c.args.files.now c.open.new.self c.close_after.new.files
     c.args.network.now c.serve_at-ending.new.network c.args.clock.now c.serve_at-ending.new.clock
     c.in-Ok.keep c.new-service.result.keep c.serve_at-ending.new.service.keep c.into_keep-keep.result c.serve_at-ending.result c.say_served.result
     (g.O.Write.contents c.args.output.now) (g.O.Write.contents c.serve_at-ending.new.output) (g.O.Write.contents c.say_served.new.output)

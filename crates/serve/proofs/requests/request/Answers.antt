@@ -1,26 +1,53 @@
-use Rattle.std.proofs.Common.{Ok, IsSome, Option, subst, sym, ◌≡◌, ap}
+use Rattle.std.proofs.Common.{Ok, Err, IsSome, Option, subst, sym, ◌≡◌, ap, ◌∙◌}
+use Rattle.basis.specs.declared.refusals.Refusal.TheVariants.{Unavailable}
 use Rattle.machine.specs.declared.records.Organization.{Organization}
+use Rattle.serve.specs.Logs.{id_spelt, traced}
 use Rattle.serve.specs.Steps.{carried}
 use Rattle.serve.specs.Inner.Prepared.{Foresees}
-use Rattle.serve.proofs.RecordLemmas.{if_ok, refused_after}
+use Rattle.serve.proofs.RecordLemmas.{if_ok, refused_then}
+use Rattle.serve.proofs.LogLemmas.{ok_apart, err_apart, facts_same, with_known}
 use Rattle.serve.proofs.requests.request.Goals as goal
 
 pub returns-in-Ok-clause-ok : goal.returns-in-Ok-clause-ok
 returns-in-Ok-clause-ok g c = λ clean sound.
     let org = c.args.asked.now.caller in
     let r = g.K.Keep.rows c.args.keep.now org in
-    let before : g.K.Keep.clean c.checked.new.keep = c.perform.ensures.looks.so_far clean in
+    let before : g.K.Keep.clean c.checked.new.keep = c.carry.ensures.looks.so_far clean in
     let same : g.K.Keep.rows c.checked.new.keep org ≡ r = c.checked.ensures.looks.same before org in
     let some : IsSome (g.K.Keep.rows c.checked.new.keep org) = subst IsSome (sym same) (c.in-Ok.ensures.there before sound) in
-    if_ok c.perform.result
+    if_ok c.carry.result
     (λ p foreseen.
-    subst (λ answered. Foresees r org answered p) (c.in-Ok.ensures.ok before sound)
-    (subst (λ (x : Option Organization). Foresees x org (carried org c.args.at x (Ok c.in-Ok.task)) p) same (foreseen some c.in-Ok.ensures.range)))
-    (c.perform.ensures.ok clean (c.checked.ensures.looks.kept before sound))
+    subst (λ answered. Foresees r org answered p.0) (c.in-Ok.ensures.ok before sound)
+    (subst (λ (x : Option Organization). Foresees x org (carried org c.args.at x (Ok c.in-Ok.task)) p.0) same (foreseen some c.in-Ok.ensures.range)))
+    (c.carry.ensures.ok clean (c.checked.ensures.looks.kept before sound))
 
 pub returns-in-Err-clause-ok : goal.returns-in-Err-clause-ok
 returns-in-Err-clause-ok g c = λ clean sound.
     let org = c.args.asked.now.caller in
     let r = g.K.Keep.rows c.args.keep.now org in
-    refused_after c.in-Err.refusal r org _ c.refuse.result
-    (λ apart. ap (carried org c.args.at r) (c.in-Err.ensures.ok clean sound apart)) c.refuse.ensures.known c.refuse.ensures.ok
+    refused_then c.in-Err.refusal r org _ c.refuse_request.result
+    (λ apart. ap (carried org c.args.at r) (c.in-Err.ensures.ok clean sound apart)) c.refuse_request.ensures.known c.refuse_request.ensures.ok
+
+pub returns-in-Ok-clause-facts : goal.returns-in-Ok-clause-facts
+returns-in-Ok-clause-facts g c = λ clean sound.
+    let org = c.args.asked.now.caller in
+    let r = g.K.Keep.rows c.args.keep.now org in
+    let before : g.K.Keep.clean c.checked.new.keep = c.carry.ensures.looks.so_far clean in
+    let same : g.K.Keep.rows c.checked.new.keep org ≡ r = c.checked.ensures.looks.same before org in
+    let some : IsSome (g.K.Keep.rows c.checked.new.keep org) = subst IsSome (sym same) (c.in-Ok.ensures.there before sound) in
+    let good : c.checked.result ≡ Err Unavailable → ⊥ = λ e. ok_apart c.in-Ok.task c.checked.result c.in-Ok.is e in
+    if_ok c.carry.result
+    (λ p is. is some ∙ facts_same _ _ _ _ _ _ (c.checked.ensures.names before sound good) (sym (ap id_spelt c.in-Ok.is) ∙ c.checked.ensures.spells before sound good)
+    (ap (λ (x : Option Organization). traced c.args.at x (Ok c.in-Ok.task)) same ∙ c.in-Ok.ensures.traces before sound))
+    (c.carry.ensures.facts clean (c.checked.ensures.looks.kept before sound))
+
+pub returns-in-Err-clause-facts : goal.returns-in-Err-clause-facts
+returns-in-Err-clause-facts g c = λ clean sound.
+    let org = c.args.asked.now.caller in
+    let r = g.K.Keep.rows c.args.keep.now org in
+    with_known _ c.refuse_request.result (λ apart.
+    let bad : c.checked.result ≡ Err Unavailable → ⊥ = λ e. err_apart c.in-Err.refusal c.checked.result c.in-Err.is apart e in
+    if_ok c.refuse_request.result
+    (λ p is. is ∙ facts_same _ _ _ _ _ _ (c.checked.ensures.names clean sound bad) (sym (ap id_spelt c.in-Err.is) ∙ c.checked.ensures.spells clean sound bad)
+    (sym (ap (traced c.args.at r) (c.in-Err.ensures.ok clean sound apart))))
+    c.refuse_request.ensures.facts) c.refuse_request.ensures.known

@@ -1,12 +1,15 @@
 use Rattle.std.proofs.Common.{refl}
-use Rattle.serve.proofs.ExchangeLemmas.{refused_unread, stayed_one}
+use Rattle.serve.proofs.ExchangeLemmas.{refused_unread, stayed_one, stayed_told}
 use Rattle.serve.proofs.service.Service.exchange.Goals as goal
 
 pub returns-in-Err-clause-told : goal.returns-in-Err-clause-told
 returns-in-Err-clause-told g c = λ clean sound.
     let t = c.refuse_exchange.ensures.text in
-    refused_unread (g.I.Inlet.left c.args.inlet.now) c.args.now (g.K.Keep.rows c.args.self.now.keep) (g.O.Outlet.written c.args.outlet.now) (g.O.Outlet.written c.refuse_exchange.new.outlet)
-    t.0 c.refuse_exchange.result t.1 t.2 c.refuse_exchange.ensures.fault
+    refused_unread (g.I.Inlet.left c.args.inlet.now) c.args.now (g.K.Keep.rows c.args.self.now.keep) c.unavailable_row.result (g.O.Outlet.written c.args.outlet.now) (g.O.Outlet.written c.refuse_exchange.new.outlet)
+    t.0 c.refuse_exchange.result c.unavailable_row.ensures t.1 t.2 c.refuse_exchange.ensures.fault
 
 pub returns-in-Err-clause-others : goal.returns-in-Err-clause-others
 returns-in-Err-clause-others g c = λ clean sound. stayed_one (g.K.Keep.rows c.args.self.now.keep) (g.K.Keep.rows c.args.self.now.keep) (λ org. refl)
+
+pub returns-in-Err-clause-changes : goal.returns-in-Err-clause-changes
+returns-in-Err-clause-changes g c = λ clean sound. stayed_told c.unavailable_row.result (g.K.Keep.rows c.args.self.now.keep) (g.K.Keep.rows c.args.self.now.keep) (λ org. refl)

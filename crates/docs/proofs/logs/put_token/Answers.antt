@@ -1,0 +1,13 @@
+use Rattle.std.proofs.Common.{◌∙◌}
+use Rattle.std.specs.Prelude.{codes}
+use Rattle.std.proofs.lemmas.Result.{on_ok_weaker}
+use Rattle.docs.proofs.Lists.{number_plain, text_plain}
+use Rattle.docs.proofs.Lines.{puts_as}
+use Rattle.docs.proofs.logs.put_token.Goals as goal
+
+pub returns : goal.returns
+returns c =
+    on_ok_weaker c.put_value-3.result (λ put rest.
+    puts_as _ _ (codes ",\"workspace\":") _ _ c.in_ok-workspace.ensures (text_plain c.args.row.now.workspace) put _
+    ∙ puts_as _ _ (codes ",\"version\":") _ _ c.number_value.ensures (number_plain c.args.row.now.version) c.in_ok-put_value-2.ensures _
+    ∙ puts_as _ _ (codes ",\"token\":") _ _ c.in_ok-token.ensures (text_plain c.args.row.now.token) c.in_ok-put_value.ensures _) c.put_value-3.ensures

@@ -1,0 +1,151 @@
+-- What standard output gets of the log, and what its lines tell of the records.
+use Rattle.std.proofs.Common.{◌≡◌, ◌++◌, ◌∷◌, [], List, ℕ, suc, Option, Some, IfSome, Result, Ok, Err, Bool, true, false, length, refl, sym, subst, ap, inl, inr}
+use Rattle.std.specs.Io.KnownBytes.{Appends}
+use Rattle.docs.specs.Logs.{log_line}
+use Rattle.docs.specs.declared.logs.LogRow.{LogRow}
+use Rattle.machine.specs.declared.keeps.AdminAnswer.{AdminAnswer}
+use Rattle.machine.specs.declared.keeps.Keep as keep
+use Rattle.machine.specs.declared.records.Organization.{Organization}
+use Rattle.wire.specs.Replies.{Answer}
+use Rattle.wire.specs.declared.devices.Inlet as inlet
+use Rattle.wire.specs.declared.devices.Outlet as outlet
+use Rattle.wire.proofs.LinkLemmas.{Appends-none, Appends-then}
+use Rattle.serve.specs.Asks.{Ask, silent, refused, requests, commands, owner_of}
+use Rattle.serve.specs.Exchanges.{Exchanges, IsAnswered, ChangesAsTold}
+use Rattle.serve.specs.Logs.{silent_row, with_answer, request_row, row_of_ask, unavailable_row}
+use Rattle.serve.specs.Service.{record_for}
+use Rattle.serve.specs.Steps.{replies, refusing, command_said, step}
+use Rattle.serve.specs.declared.exchanges.LinkFault.{LinkFault}
+use Rattle.serve.specs.declared.exchanges.LinkFault.TheVariants.{Ended, Read, Continue, Write}
+use Rattle.serve.specs.declared.steps.Admin.{Admin}
+use Rattle.serve.specs.declared.steps.Admin.TheVariants.{OrgAdd, OrgLimit, OrgList, TokenAdd, TokenList, TokenRevoke}
+use Rattle.command_line.specs.declared.timeouts.Timeouts.{Timeouts}
+use Rattle.program.specs.declared.outside.Clock as clock
+use Rattle.program.specs.declared.outside.Connections as connections
+use Rattle.program.specs.declared.outside.Files as files
+use Rattle.program.specs.declared.reasons.Cause.{Cause}
+use Rattle.program.specs.Logs.{end_word, row_text, with_log, Logs, Line, log_text, ChangeByLines}
+use Rattle.program.specs.Serving.{State, AnswersOne, AnswersNext, AnswersAll, EndsEarly}
+use Rattle.program.proofs.ServingLemmas.{asked_so_far, asked_kept, asked_rows}
+
+-- a log where it is asked for, and else nothing
+abbrev pub Grows : Bool → Option (List ℕ) → Option (List ℕ) → Type 0
+Grows true old new = (log : List ℕ) × Appends old new log
+Grows false old new = new ≡ old
+
+grows_none : (logs : Bool) (old new : Option (List ℕ)) → new ≡ old → Grows logs old new
+grows_none true old new same = ([], subst (λ (o : Option (List ℕ)). Appends old o []) (sym same) (Appends-none old))
+grows_none false old new same = same
+
+pub grows_then : (logs : Bool) (a b c : Option (List ℕ)) → Grows logs a b → Grows logs b c → Grows logs a c
+grows_then true a b c first more = (first.0 ++ more.0, Appends-then a b c first.0 more.0 first.1 more.1)
+grows_then false a b c first more = subst (λ (o : Option (List ℕ)). o ≡ a) (sym more) first
+
+grows_one : (logs is_told : Bool) (text : List ℕ) (old new : Option (List ℕ)) → Logs logs is_told text old new → Grows logs old new
+grows_one true true text old new h = (text, h)
+grows_one true false text old new h = (h.0, h.3)
+grows_one false is_told text old new h = h.0
+
+-- the log stands behind the line
+pub heard_log : (logs : Bool) (line : List ℕ) (old heard new : Option (List ℕ)) → Appends old heard line → Grows logs heard new → (log : List ℕ) × Appends old new (with_log logs line log)
+heard_log true line old heard new first log = (log.0, Appends-then old heard new line log.0 first log.1)
+heard_log false line old heard new first same = ([], subst (λ (o : Option (List ℕ)). Appends old o line) (sym same) first)
+
+-- an operator's command has no reply
+unsaid : (command : Admin) (word : AdminAnswer) (awaited : Bool) (at : ℕ) (answer : Answer) → command_said command word ≡ replies awaited at answer → ⊥
+unsaid (OrgAdd org limit) word awaited at answer e = let none : ⊥ = cc in none
+unsaid (OrgLimit org limit) word awaited at answer e = let none : ⊥ = cc in none
+unsaid OrgList word awaited at answer e = let none : ⊥ = cc in none
+unsaid (TokenAdd org name role secret bounds) word awaited at answer e = let none : ⊥ = cc in none
+unsaid (TokenList org) word awaited at answer e = let none : ⊥ = cc in none
+unsaid (TokenRevoke org name) word awaited at answer e = let none : ⊥ = cc in none
+
+-- of each exchange something is told
+served_row : (r : Option Organization) (ask : Ask) (awaited : Bool) (at : ℕ) (answer : Answer) (row : Option LogRow)
+    → (step r ask).answer ≡ replies awaited at answer → row ≡ row_of_ask r ask → (told : LogRow) × (row ≡ Some told)
+served_row r silent awaited at answer row said is = absurd (let none : ⊥ = cc in none)
+served_row r (refused when due refusal is_head) awaited at answer row said is = (with_answer (refusing refusal r).answer (silent_row when), is)
+served_row r (requests when due asked content_md5 body) awaited at answer row said is = (request_row r when asked content_md5 body, is)
+served_row r (commands when command) awaited at answer row said is = absurd (unsaid command _ awaited at answer said)
+
+answered_row : (now : ℕ) (received : List ℕ) (old new : List ℕ → Option Organization) (awaited : Bool) (text : List ℕ) (row : Option LogRow) (is_down : Bool)
+    → IsAnswered now received old new awaited text row is_down → (told : LogRow) × (row ≡ Some told)
+answered_row now received old new awaited text row false served = served_row (record_for old (owner_of served.ask)) served.ask awaited now served.answer row served.said served.logged
+answered_row now received old new awaited text row true down = (unavailable_row now, down.1.logged)
+
+exchange_row : {T : Type 0} (now : ℕ) (received : List ℕ) (left : Option (List ℕ)) (old new : List ℕ → Option Organization) (before after : Option (List ℕ)) (is_down : Bool) (row : Option LogRow) (res : Result T LinkFault)
+    → Exchanges now received left old new before after is_down row res → (told : LogRow) × (row ≡ Some told)
+exchange_row now received left old new before after is_down row (Ok done) told = answered_row now received old new told.0 told.1 row is_down told.2
+exchange_row now received left old new before after is_down row (Err Ended) told = (silent_row now, told.1)
+exchange_row now received left old new before after is_down row (Err Read) told = (silent_row now, told.1)
+exchange_row now received left old new before after is_down row (Err Continue) told = (silent_row now, told.1)
+exchange_row now received left old new before after is_down row (Err Write) told = answered_row now received old new told.0 (told.1 ++ told.2) row is_down told.4
+
+module _ {K N R W : Type 0} (k : keep.Ghosts K) (n : connections.Ghosts N R W) (i : inlet.Ghosts R) (o : outlet.Ghosts W) where
+  line_of : (place at : ℕ) (is_down : Bool) (reader : R) (writer : W) (network network' : N) (store store' : K) (errors errors' output output' : Option (List ℕ))
+      → AnswersOne k n i o true place at is_down true reader writer network network' store store' errors errors' output output' → k.clean store' → k.sound store
+      → (line : Line) × Appends output output' (log_line place (end_word line.ended) line.row) × ChangesAsTold line.row (k.rows store) (k.rows store')
+  line_of place at is_down reader writer network network' store store' errors errors' output output' one clean sound =
+      let exchanged = one.exchanges clean sound in
+      let told = exchange_row at exchanged.0 (i.left one.read) (k.rows store) (k.rows store') (o.written writer) (o.written one.written) is_down one.row one.result exchanged.2 in (
+        record { ended = one.result; row = told.0 },
+        subst (λ (row : Option LogRow). Appends output output' (row_text place one.result row)) told.1 one.logged,
+        subst (λ (row : Option LogRow). IfSome row (λ r. ChangesAsTold r (k.rows store) (k.rows store'))) told.1 (one.changes clean sound),
+      )
+
+module _ {K F N C R W : Type 0} (k : keep.Ghosts K) (f : files.Ghosts F K) (n : connections.Ghosts N R W) (c : clock.Ghosts C) (i : inlet.Ghosts R) (o : outlet.Ghosts W) where
+  pub grows_all : (timeouts : Timeouts) (logs : Bool) (place : ℕ) (moments : List ℕ) (old new : State N C K) → AnswersAll k f n c i o timeouts logs place moments old new → Grows logs old.output new.output
+  grows_all timeouts logs place [] old new same = grows_none logs old.output new.output (ap (λ (s : State N C K). s.output) same)
+  grows_all timeouts logs place (at ∷ moments) old new all =
+      let one = all.1.answers.answers in
+      grows_then logs old.output all.0.output new.output (grows_one logs true (row_text place one.result one.row) old.output all.0.output one.logged) (grows_all timeouts logs (suc place) moments all.0 new all.2)
+
+  pub grows_early : (timeouts : Timeouts) (logs : Bool) (place : ℕ) (last new : State N C K) (why : Cause) → EndsEarly k f n c i o timeouts logs place last new why → Grows logs last.output new.output
+  grows_early timeouts logs place last new why (inl none) = grows_none logs last.output new.output none.3
+  grows_early timeouts logs place last new why (inr (inl shut)) =
+      let one = shut.2.answers.answers in
+      grows_one logs shut.1 (row_text place one.result one.row) last.output new.output one.logged
+  grows_early timeouts logs place last new why (inr (inr untold)) =
+      let one = untold.1.answers.answers in
+      grows_one logs false (row_text place one.result one.row) last.output new.output one.logged
+
+  clean_next : (timeouts : Timeouts) (logs : Bool) (place at : ℕ) (is_shut is_told : Bool) (old new : State N C K) → AnswersNext k f n c i o timeouts logs place at is_shut is_told old new → k.clean new.store → k.clean old.store
+  clean_next timeouts logs place at is_shut is_told old new one clean = one.answers.answers.so_far (asked_so_far k f one.is_down one.store is_shut new.store one.asks clean)
+
+  clean_all : (timeouts : Timeouts) (logs : Bool) (place : ℕ) (moments : List ℕ) (old new : State N C K) → AnswersAll k f n c i o timeouts logs place moments old new → k.clean new.store → k.clean old.store
+  clean_all timeouts logs place [] old new same clean = subst (λ (s : State N C K). k.clean s.store) same clean
+  clean_all timeouts logs place (at ∷ moments) old new all clean =
+      clean_next timeouts logs place at false true old all.0 all.1 (clean_all timeouts logs (suc place) moments all.0 new all.2 clean)
+
+  sound_next : (timeouts : Timeouts) (logs : Bool) (place at : ℕ) (is_shut is_told : Bool) (old new : State N C K) → AnswersNext k f n c i o timeouts logs place at is_shut is_told old new → k.clean new.store → k.sound old.store → k.sound new.store
+  sound_next timeouts logs place at is_shut is_told old new one clean sound =
+      asked_kept k f one.is_down one.store is_shut new.store one.asks clean (one.answers.answers.kept (asked_so_far k f one.is_down one.store is_shut new.store one.asks clean) sound)
+
+  line_next : (timeouts : Timeouts) (place at : ℕ) (old new : State N C K) → AnswersNext k f n c i o timeouts true place at false true old new → k.clean new.store → k.sound old.store
+      → (line : Line) × Appends old.output new.output (log_line place (end_word line.ended) line.row) × ChangesAsTold line.row (k.rows old.store) (k.rows new.store)
+  line_next timeouts place at old new one clean sound =
+      let answers = one.answers in
+      let line = line_of k n i o place at one.is_down answers.reader answers.writer answers.network new.network old.store one.store old.errors new.errors old.output new.output answers.answers
+      (asked_so_far k f one.is_down one.store false new.store one.asks clean) sound in (
+        line.0,
+        line.1,
+        subst (λ (rows : List ℕ → Option Organization). ChangesAsTold line.0.row (k.rows old.store) rows) (sym (asked_rows k f one.is_down one.store false new.store one.asks clean)) line.2,
+      )
+
+  pub tells_changes : (timeouts : Timeouts) (place : ℕ) (moments : List ℕ) (old new : State N C K) → AnswersAll k f n c i o timeouts true place moments old new → k.clean new.store → k.sound old.store
+      → (lines : List Line) × (length lines ≡ length moments) × Appends old.output new.output (log_text place lines) × ChangeByLines lines (k.rows old.store) (k.rows new.store)
+  tells_changes timeouts place [] old new same clean sound = (
+    [],
+    refl,
+    subst (λ (s : State N C K). Appends old.output s.output []) (sym same) (Appends-none old.output),
+    λ org. ap (λ (s : State N C K). k.rows s.store org) same,
+  )
+  tells_changes timeouts place (at ∷ moments) old new all clean sound =
+      let before = clean_all timeouts true (suc place) moments all.0 new all.2 clean in
+      let line = line_next timeouts place at old all.0 all.1 before sound in
+      let more = tells_changes timeouts (suc place) moments all.0 new all.2 clean (sound_next timeouts true place at false true old all.0 all.1 before sound) in (
+        line.0 ∷ more.0,
+        ap suc more.1,
+        Appends-then old.output all.0.output new.output (log_line place (end_word line.0.ended) line.0.row) (log_text (suc place) more.0) line.1 more.2,
+        (k.rows all.0.store, line.2, more.3),
+      )

@@ -1,0 +1,20 @@
+use Rattle.std.proofs.Common.{rules}
+use Rattle.program.proofs.serving.serve_one.Goals as goal
+
+pub returns-clause-answers : goal.returns-clause-answers
+returns-clause-answers g c =
+    let exchanged = c.exchange_one-ended in
+    record {
+      read = exchanged.new.inlet;
+      written = exchanged.new.outlet;
+      result = exchanged.result;
+      row = exchanged.new.service.row;
+      so_far = exchanged.ensures.so_far;
+      shield = exchanged.ensures.shield;
+      kept = exchanged.ensures.kept;
+      exchanges = exchanged.ensures.told;
+      changes = exchanged.ensures.changes;
+      lines = search rules;
+      logged = search rules;
+      ends = c.finish.ensures;
+    }

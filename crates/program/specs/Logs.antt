@@ -1,0 +1,51 @@
+-- The log on standard output, where `--log` asks for it: a line for each exchange, and how it ended.
+use Rattle.std.specs.Prelude.{◌≡◌, ◌++◌, ℕ, suc, List, [], ◌∷◌, Bool, true, false, Option, Some, None, Result, Ok, Err, codes}
+use Rattle.std.specs.Io.KnownBytes.{Appends}
+use Rattle.docs.specs.Logs.{log_line}
+use Rattle.docs.specs.declared.logs.LogRow.{LogRow}
+use Rattle.machine.specs.declared.records.Organization.{Organization}
+use Rattle.serve.specs.declared.exchanges.LinkFault.{LinkFault}
+use Rattle.serve.specs.declared.exchanges.LinkFault.TheVariants.{Ended, Read, Continue, Write}
+use Rattle.serve.specs.Exchanges.{ChangesAsTold}
+use Rattle.serve.specs.Service.{Stays}
+use Rattle.program.specs.Errors.{GetsFront}
+
+-- how an exchange ended, in a word
+abbrev pub end_word : {T : Type 0} → Result T LinkFault → List ℕ
+end_word (Ok done) = codes "ok"
+end_word (Err Ended) = codes "ended"
+end_word (Err Read) = codes "read"
+end_word (Err Continue) = codes "continue"
+end_word (Err Write) = codes "write"
+
+-- the line on the connection of this number, whose exchange ended so; where nothing is told of the exchange there is none
+abbrev pub row_text : {T : Type 0} → ℕ → Result T LinkFault → Option LogRow → List ℕ
+row_text place result None = []
+row_text place result (Some row) = log_line place (end_word result) row
+
+-- standard output gets the text where the log is asked for: the whole of it where it is told that it was taken, and else a front
+-- of it; and where no log is asked for it gets nothing, and there is nothing that wasn't taken
+abbrev pub Logs : Bool → Bool → List ℕ → Option (List ℕ) → Option (List ℕ) → Type 0
+Logs true true text old new = Appends old new text
+Logs true false text old new = GetsFront old new text
+Logs false is_told text old new = (new ≡ old) × (is_told ≡ true)
+
+-- a line, and the log behind it where that is asked for
+abbrev pub with_log : Bool → List ℕ → List ℕ → List ℕ
+with_log true line log = line ++ log
+with_log false line log = line
+
+-- what a line tells: how an exchange ended, and the rest
+pub record Line : Type 0 where
+  pub ended : Result (Unit {0}) LinkFault
+  pub row : LogRow
+
+-- the lines on connections by numbers from this one on
+abbrev pub log_text : ℕ → List Line → List ℕ
+log_text place [] = []
+log_text place (line ∷ lines) = log_line place (end_word line.ended) line.row ++ log_text (suc place) lines
+
+-- up to each line no record changed but that of the organization that it names, and none where it tells a refusal
+abbrev pub ChangeByLines : List Line → (List ℕ → Option Organization) → (List ℕ → Option Organization) → Type 0
+ChangeByLines [] old new = Stays old new
+ChangeByLines (line ∷ lines) old new = (mid : List ℕ → Option Organization) × ChangesAsTold line.row old mid × ChangeByLines lines mid new

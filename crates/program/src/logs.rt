@@ -1,0 +1,91 @@
+//! The log: a line on standard output for each exchange, where it is asked for.
+ghost use Rattle.std.specs.Prelude.{◌≡◌, OnOk};
+ghost use Rattle.std.specs.Io.KnownBytes.{Appends};
+ghost use Rattle.docs.specs.Logs.{log_line};
+ghost use Rattle.program.specs.Errors.{GetsFront};
+ghost use Rattle.program.specs.Logs.{end_word, row_text, Logs};
+
+use crate::errors::send;
+use basis::Down;
+use docs::{LogRow, write_log_line};
+use serve::LinkFault;
+use std::alloc::Global;
+use std::io::Write;
+
+/// The word of how an exchange ended.
+fn end_word(ended: Result<(), LinkFault>) -> &'static str
+    ensures { result.now ≡ end_word ended }
+{
+    match ended {
+        Ok(()) => "ok",
+        Err(LinkFault::Ended) => "ended",
+        Err(LinkFault::Read) => "read",
+        Err(LinkFault::Continue) => "continue",
+        Err(LinkFault::Write) => "write",
+    }
+}
+
+fn send_line<O: Write>(output: &mut O, line: &[u8]) -> Result<(), Down>
+    ensures whole { OnOk result (Appends (O.contents output.old) (O.contents output.new) line.now) }
+    ensures front { GetsFront (O.contents output.old) (O.contents output.new) line.now }
+{
+    match send(output, line) {
+        Ok(()) => Ok(()),
+        Err(_) => Err(Down),
+    }
+}
+
+fn write_line<O: Write>(
+    alloc: Global,
+    output: &mut O,
+    place: u32,
+    end: &str,
+    row: &LogRow,
+) -> Result<(), Down>
+    ensures whole { OnOk result (Appends (O.contents output.old) (O.contents output.new) (log_line place end.now row.now)) }
+    ensures front { GetsFront (O.contents output.old) (O.contents output.new) (log_line place end.now row.now) }
+{
+    match write_log_line(alloc, place, end, row) {
+        Ok(line) => send_line(output, line.as_slice()),
+        Err(_) => Err(Down),
+    }
+}
+
+/// Writes the line of an exchange, where something is told of it, and sends it on. After an error memory
+/// was refused, or the stream took not all.
+fn write_row<O: Write>(
+    alloc: Global,
+    output: &mut O,
+    place: u32,
+    ended: Result<(), LinkFault>,
+    row: &Option<LogRow>,
+) -> Result<(), Down>
+    ensures whole { OnOk result (Appends (O.contents output.old) (O.contents output.new) (row_text place ended row.now)) }
+    ensures front { GetsFront (O.contents output.old) (O.contents output.new) (row_text place ended row.now) }
+{
+    match row {
+        Some(row) => write_line(alloc, output, place, end_word(ended), row),
+        None => Ok(()),
+    }
+}
+
+/// Writes the line of an exchange where the log is asked for (`logs`), and tells whether it was taken; true
+/// where no log is asked for.
+pub fn log_row<O: Write>(
+    alloc: Global,
+    output: &mut O,
+    logs: bool,
+    place: u32,
+    ended: Result<(), LinkFault>,
+    row: &Option<LogRow>,
+) -> bool
+    ensures { Logs logs result (row_text place ended row.now) (O.contents output.old) (O.contents output.new) }
+{
+    if !logs {
+        return true;
+    }
+    match write_row(alloc, output, place, ended, row) {
+        Ok(()) => true,
+        Err(_) => false,
+    }
+}

@@ -1,0 +1,294 @@
+-- What the log tells: of a decision, of what isn't there, and of the token that asks.
+use Rattle.std.proofs.Common.{◌≡◌, ℕ, Bool, true, false, cond, List, Option, Some, None, Result, Ok, Err, IsSome, IfOk, OnOk, refl, sym, ap, ◌∙◌, eq-eqb}
+use Rattle.std.specs.Prelude.{if◌then◌else◌, option_map, ◌==◌}
+use Rattle.std.specs.Option.{option_map_or}
+use Rattle.std.specs.FinMap.{get}
+use Rattle.basis.specs.Checks.{or_refused, and_then}
+use Rattle.basis.specs.Roles.{counts_at}
+use Rattle.basis.specs.declared.refusals.Refusal.{Refusal}
+use Rattle.basis.specs.declared.refusals.Refusal.TheVariants.{Locked, BadToken, NotFound, Unavailable}
+use Rattle.basis.specs.declared.roles.Caller.{Caller}
+use Rattle.basis.specs.declared.rows.Holder.{Holder}
+use Rattle.basis.specs.declared.rows.Holder.TheVariants.{Nobody, Lock as HeldLock, Run as HeldRun}
+use Rattle.sha2.specs.Sha256.{sha256}
+use Rattle.machine.specs.Effects.{effect}
+use Rattle.machine.specs.Changes.{edited}
+use Rattle.machine.specs.Laws.{IsLawfulOrganization}
+use Rattle.machine.specs.Meaning.{meaning, answered, holder_of, Meets}
+use Rattle.machine.specs.Records.{workspace_in, seen_in}
+use Rattle.machine.specs.Rules.{Outcome, refused, no_state, state, refused_by, rules}
+use Rattle.machine.specs.Settling.{started_if}
+use Rattle.machine.specs.Tokens.{caller_of, asker_of}
+use Rattle.machine.specs.Units.{unit_of, unit_by, version_text}
+use Rattle.machine.specs.declared.acts.Act.{Act}
+use Rattle.machine.specs.declared.acts.Answer.{Answer}
+use Rattle.machine.specs.declared.acts.Answer.TheVariants as answer
+use Rattle.machine.specs.declared.acts.Decision.{Decision}
+use Rattle.machine.specs.declared.acts.Decision.TheVariants.{Refused, Accepted}
+use Rattle.machine.specs.declared.acts.Edit.{Edit}
+use Rattle.machine.specs.declared.acts.Edit.TheVariants as edit
+use Rattle.machine.specs.declared.acts.Unit.{Unit as AnyUnit}
+use Rattle.machine.specs.declared.keeps.TokenRow.{TokenRow}
+use Rattle.machine.specs.declared.records.Token.{Token}
+use Rattle.machine.specs.declared.records.Workspace.{Workspace}
+use Rattle.machine.specs.declared.records.Organization.{Organization}
+use Rattle.machine.proofs.TokenLemmas.{asker_calls}
+use Rattle.route.specs.Policy.{role_refused, is_admitted, caller_refused, allowed_by}
+use Rattle.route.specs.declared.acts.Asked.{Asked}
+use Rattle.route.specs.declared.acts.AskedAct.{AskedAct}
+use Rattle.route.specs.declared.acts.AskedAct.TheVariants.{ListWorkspaces, OfWorkspace}
+use Rattle.route.specs.declared.acts.WsAct.{WsAct}
+use Rattle.serve.specs.Checks.{require, while_it_counts, known_caller, may_do, admitted, in_reach, is_found, found, digest_checked, act_of, order, task_of}
+use Rattle.serve.specs.Inner.Judging.{judged_task}
+use Rattle.serve.specs.Inner.Prepared.{found_counted, row_known, caller_known}
+use Rattle.serve.specs.Inner.Tracing.{told_by, edit_number, start_of, unless_held, trace_by}
+use Rattle.serve.specs.Logs.{run_told, number_given, version_made, run_holding, run_started, trace_of, no_trace, traced, name_counted, token_named, id_spelt, task_read}
+use Rattle.serve.specs.Steps.{seen_at}
+use Rattle.serve.specs.declared.logs.Facts.{Facts}
+use Rattle.serve.specs.declared.logs.Trace.{Trace}
+use Rattle.serve.specs.declared.prepared.Task.{Task}
+use Rattle.serve.specs.declared.prepared.Task.TheVariants.{Carry}
+use Rattle.serve.proofs.ActLemmas.{act_is}
+use Rattle.serve.proofs.CheckLemmas.{after_ok, after_err, passed, policy_is, token_of_caller, no_token}
+use Rattle.serve.proofs.JudgingLemmas.{after_callers, task_made}
+use Rattle.serve.proofs.RecordLemmas.{standing_at}
+
+-- what stays as it was has no trace
+given_same : (n : ℕ) → number_given n n ≡ None
+given_same n = rw (eq-eqb n n refl) refl
+
+holding_same : (h : Holder) → run_holding h h ≡ None
+holding_same Nobody = refl
+holding_same (HeldLock id text) = refl
+holding_same (HeldRun n) = rw (eq-eqb n n refl) refl
+
+made_same : (w : Option Workspace) → version_made w w ≡ None
+made_same None = refl
+made_same (Some w) = given_same w.next_version
+
+started_same : (w : Option Workspace) → run_started w w ≡ None
+started_same None = refl
+started_same (Some w) = holding_same w.holder
+
+abbrev trace : Option ℕ → Option ℕ → Option ℕ → Trace
+trace told version run = record { told = told; version = version; run = run }
+
+traces : (a b c d e f : Option ℕ) → a ≡ b → c ≡ d → e ≡ f → trace a c e ≡ trace b d f
+traces a b c d e f x y z = ap (λ (q : Option ℕ). trace q c e) x ∙ (ap (λ (q : Option ℕ). trace b q e) y ∙ ap (trace b d) z)
+
+stays_traced : (w : Option Workspace) (o : Outcome) → trace_of w (effect o w) ≡ trace (run_told o) None None
+stays_traced w o = traces (run_told o) (run_told o) (version_made w w) None (run_started w w) None refl (made_same w) (started_same w)
+
+refused_told : (refusal : Refusal) (h : Holder) → run_told (refused_by refusal h) ≡ None
+refused_told Locked h = refl
+refused_told _ h = refl
+
+-- what an answer shows
+state_told : (o : Option (List ℕ)) → run_told (option_map_or state o no_state) ≡ None
+state_told None = refl
+state_told (Some text) = refl
+
+told_is : (a : Answer) (w : Option Workspace) → told_by a ≡ run_told (answered a w)
+told_is answer.Done w = refl
+told_is answer.NoState w = refl
+told_is (answer.State n) w = sym (state_told (version_text n w))
+told_is (answer.Workspace shown) w = refl
+told_is (answer.Run r) w = refl
+told_is (answer.Versions after) w = refl
+told_is (answer.Runs after) w = refl
+
+-- a workspace that is made anew has no version
+abbrev ifs : Bool → Option ℕ
+ifs b = if b then None else None
+
+none_given : (b : Bool) → ifs b ≡ None
+none_given true = refl
+none_given false = refl
+
+first_given : (next : ℕ) → number_given next 1 ≡ None
+first_given next = none_given (1 == next)
+
+-- what a change makes
+changed_made : (w : Workspace) (e : Edit) (start : Option ℕ) → edit_number w.next_version e ≡ version_made (Some w) (option_map (started_if start) (edited e (Some w)))
+changed_made w (edit.Make settings) None = sym (first_given w.next_version)
+changed_made w (edit.Make settings) (Some n) = sym (first_given w.next_version)
+changed_made w (edit.Configure settings outgoing) None = sym (given_same w.next_version)
+changed_made w (edit.Configure settings outgoing) (Some n) = sym (given_same w.next_version)
+changed_made w edit.Remove start = refl
+changed_made w (edit.AddVersion version outgoing) None = refl
+changed_made w (edit.AddVersion version outgoing) (Some n) = refl
+changed_made w edit.Purge None = sym (given_same w.next_version)
+changed_made w edit.Purge (Some n) = sym (given_same w.next_version)
+changed_made w (edit.Hold id text) None = sym (given_same w.next_version)
+changed_made w (edit.Hold id text) (Some n) = sym (given_same w.next_version)
+changed_made w (edit.Release id) None = sym (given_same w.next_version)
+changed_made w (edit.Release id) (Some n) = sym (given_same w.next_version)
+changed_made w (edit.AddRun number ask created) None = sym (given_same w.next_version)
+changed_made w (edit.AddRun number ask created) (Some n) = sym (given_same w.next_version)
+changed_made w (edit.Report number action status frees) None = sym (given_same w.next_version)
+changed_made w (edit.Report number action status frees) (Some n) = sym (given_same w.next_version)
+
+freed_held : (frees : Bool) (h : Holder) → run_holding h (cond frees Nobody h) ≡ None
+freed_held true h = refl
+freed_held false h = holding_same h
+
+changed_started : (w : Workspace) (e : Edit) (start : Option ℕ) → unless_held w.holder (start_of e start) ≡ run_started (Some w) (option_map (started_if start) (edited e (Some w)))
+changed_started w (edit.Make settings) None = refl
+changed_started w (edit.Make settings) (Some n) = refl
+changed_started w (edit.Configure settings outgoing) None = sym (holding_same w.holder)
+changed_started w (edit.Configure settings outgoing) (Some n) = refl
+changed_started w edit.Remove start = refl
+changed_started w (edit.AddVersion version outgoing) None = sym (holding_same w.holder)
+changed_started w (edit.AddVersion version outgoing) (Some n) = refl
+changed_started w edit.Purge None = sym (holding_same w.holder)
+changed_started w edit.Purge (Some n) = refl
+changed_started w (edit.Hold id text) None = refl
+changed_started w (edit.Hold id text) (Some n) = refl
+changed_started w (edit.Release id) None = refl
+changed_started w (edit.Release id) (Some n) = refl
+changed_started w (edit.AddRun number ask created) None = sym (holding_same w.holder)
+changed_started w (edit.AddRun number ask created) (Some n) = refl
+changed_started w (edit.Report number action status frees) None = sym (freed_held frees w.holder)
+changed_started w (edit.Report number action status frees) (Some n) = refl
+
+-- a decision, by what was seen of the workspace, has the trace of what it means there
+trace_is : (o : Organization) (act : Act) (w : Option Workspace) (decision : Decision) → trace_by (unit_by o act w) decision ≡ trace_of w (meaning decision w)
+trace_is o act w (Refused refusal) = sym (stays_traced w (refused_by refusal (holder_of w)) ∙ ap (λ (q : Option ℕ). trace q None None) (refused_told refusal (holder_of w)))
+trace_is o act w (Accepted a None) = ap (λ (q : Option ℕ). trace q None None) (told_is a w) ∙ sym (stays_traced w (answered a w))
+trace_is o act None (Accepted a (Some change)) = ap (λ (q : Option ℕ). trace q None None) (told_is a None)
+trace_is o act (Some w) (Accepted a (Some change)) = traces _ _ _ _ _ _ (told_is a (Some w)) (changed_made w change.edit change.start) (changed_started w change.edit change.start)
+
+-- the same of the rules, by way of a decision
+pub rule_traced : (r : Option Organization) (ws : List ℕ) (act : Act) (now : ℕ) (unit : AnyUnit) (decision : Decision)
+    → ((o : Organization) → r ≡ Some o → IsLawfulOrganization o) → ((o : Organization) → r ≡ Some o → unit ≡ unit_of o ws act)
+    → ((o : Organization) (name : List ℕ) → IsLawfulOrganization o → unit ≡ unit_of o name act → Meets (seen_in o name) act now decision)
+    → IsSome r → trace_by unit decision ≡ trace_of (workspace_in r ws) (rules act now (seen_at r ws))
+rule_traced None ws act now unit decision lawful units meets some = absurd (let none : ⊥ = cc in none)
+rule_traced (Some o) ws act now unit decision lawful units meets some =
+    let w : Option Workspace = get o.workspaces ws in
+    let m : Meets (seen_in o ws) act now decision = meets o ws (lawful o refl) (units o refl) in
+    ap (λ (u : AnyUnit). trace_by u decision) (units o refl)
+    ∙ (trace_is o act w decision ∙ ap (trace_of w) (ap (meaning decision) (sym (standing_at (Some o) ws)) ∙ m.model))
+
+-- what isn't there has no trace
+missing_traced : (ws : List ℕ) (o : Organization) (what : WsAct) (id : Option (List ℕ)) (body : List ℕ) (act : Act) (now : ℕ) → act_of what id body ≡ Ok act → is_found (Some o) ws what ≡ false
+    → traced now (Some o) (Ok (Carry (order ws act))) ≡ no_trace
+missing_traced ws o what id body act now e gone =
+    ap (trace_of (get o.workspaces ws)) ((act_is what id body act e).misses now _ (get o.workspaces ws) gone) ∙ stays_traced (get o.workspaces ws) (refused NotFound)
+
+-- what was judged good has the trace of what passed the checks
+pub judged_traced : (r : Option Organization) (prefix : List ℕ) (asked : AskedAct) (content_md5 id : Option (List ℕ)) (body : List ℕ) (task : Task) → IsSome r → judged_task prefix asked content_md5 id body ≡ Ok task
+    → (now : ℕ) → traced now r (Ok task) ≡ traced now r (after_callers r prefix asked content_md5 id body)
+judged_traced r prefix (ListWorkspaces after) content_md5 id body task some e now = sym (ap (traced now r) e)
+judged_traced r prefix (OfWorkspace ws what) content_md5 id body task some e now = by_found (is_found r ws what) refl
+  where
+    made : Result Task Refusal
+    made = judged_task prefix (OfWorkspace ws what) content_md5 id body
+
+    by_found : (b : Bool) → is_found r ws what ≡ b → traced now r (Ok task) ≡ traced now r (after_callers r prefix (OfWorkspace ws what) content_md5 id body)
+    by_found true is = sym (ap (traced now r) (after_ok (found r (OfWorkspace ws what)) (λ _. made) tt (Ok task) (ap (require NotFound) is) e))
+    by_found false is =
+        let fit = passed (digest_checked content_md5 body) (λ _. task_of prefix (OfWorkspace ws what) id body) task e in
+        let t : (act : Act) × (act_of what id body ≡ Ok act) × (Carry (order ws act) ≡ task) = task_made ws (act_of what id body) task fit.2 in
+        sym (ap (λ (x : Task). traced now r (Ok x)) t.2)
+        ∙ there r some is t.0 t.1
+        ∙ sym (ap (traced now r) (after_err (found r (OfWorkspace ws what)) (λ _. made) NotFound (ap (require NotFound) is)))
+      where
+        there : (s : Option Organization) → IsSome s → is_found s ws what ≡ false → (act : Act) → act_of what id body ≡ Ok act → traced now s (Ok (Carry (order ws act))) ≡ no_trace
+        there None none gone act spelt_it = absurd (let no_one : ⊥ = cc in no_one)
+        there (Some o) some gone act spelt_it = missing_traced ws o what id body act now spelt_it gone
+
+-- who asks by the token that asks
+abbrev pub caller_by : Result TokenRow Refusal → Result Caller Refusal
+caller_by x = and_then x (λ row. Ok row.caller)
+
+asks_by : (now : ℕ) (x : Option TokenRow) (y : Option Token) → option_map (λ (row : TokenRow). row.caller) x ≡ option_map (λ (token : Token). token.caller) y
+    → caller_by (found_counted now x) ≡ and_then (or_refused BadToken (while_it_counts now y)) (λ token. Ok token.caller)
+asks_by now None None e = refl
+asks_by now None (Some token) e = absurd (let none : ⊥ = cc in none)
+asks_by now (Some row) None e = absurd (let none : ⊥ = cc in none)
+asks_by now (Some row) (Some token) e = let same : row.caller ≡ token.caller = cc in by_count row.caller token.caller same (counts_at now row.caller) (counts_at now token.caller) (ap (counts_at now) same)
+  where
+    by_count : (a c : Caller) → a ≡ c → (b d : Bool) → b ≡ d
+        → caller_by (if b then Ok (record row { caller = a }) else Err BadToken) ≡ and_then (or_refused BadToken (if d then Some (record token { caller = c }) else None)) (λ token. Ok token.caller)
+    by_count a c same true true e = ap Ok same
+    by_count a c same true false e = absurd (let none : ⊥ = cc in none)
+    by_count a c same false true e = absurd (let none : ⊥ = cc in none)
+    by_count a c same false false e = refl
+
+pub callers_are : (r : Option Organization) (now : ℕ) (asked : Asked) → caller_by (row_known r now asked) ≡ caller_known r now asked
+callers_are r now asked = asks_by now (asker_of r (sha256 asked.secret)) (caller_of r (sha256 asked.secret)) (asker_calls r (sha256 asked.secret))
+
+pub row_calls : (r : Option Organization) (now : ℕ) (asked : Asked) (row : TokenRow) → row_known r now asked ≡ Ok row → caller_known r now asked ≡ Ok row.caller
+row_calls r now asked row e = sym (callers_are r now asked) ∙ ap caller_by e
+
+pub no_row_calls : (r : Option Organization) (now : ℕ) (asked : Asked) (refusal : Refusal) → row_known r now asked ≡ Err refusal → caller_known r now asked ≡ Err refusal
+no_row_calls r now asked refusal e = sym (callers_are r now asked) ∙ ap caller_by e
+
+-- the name of the token that asks
+name_known : (now : ℕ) (x : Option TokenRow) (row : TokenRow) → found_counted now x ≡ Ok row → name_counted now x ≡ Some row.name
+name_known now None row e = absurd (let none : ⊥ = cc in none)
+name_known now (Some found) row e = by_count (counts_at now found.caller) e
+  where
+    by_count : (b : Bool) → (if b then Ok found else Err BadToken) ≡ Ok row → (if b then Some found.name else None) ≡ Some row.name
+    by_count true e = let same : found ≡ row = cc in ap (λ (q : TokenRow). Some q.name) same
+    by_count false e = absurd (let none : ⊥ = cc in none)
+
+pub row_names : (r : Option Organization) (now : ℕ) (asked : Asked) (row : TokenRow) → row_known r now asked ≡ Ok row → token_named r now asked ≡ Some row.name
+row_names r now asked row e = name_known now (asker_of r (sha256 asked.secret)) row e
+
+-- the document, as it is read past the checks of the caller
+module _ (r : Option Organization) (now : ℕ) (asked : Asked) (content_md5 : Option (List ℕ)) (body : List ℕ) where
+  abbrev after_prefix_read : List ℕ → Result Task Refusal
+  after_prefix_read prefix = and_then (in_reach asked) (λ _. judged_task prefix asked.act content_md5 asked.lock_id body)
+
+  abbrev after_caller_read : Token → Result Task Refusal
+  after_caller_read token = and_then (may_do token asked) (λ _. and_then (admitted token asked) (λ _. after_prefix_read token.caller.prefix))
+
+  by_policy : (token : Token) (caller : Caller) → token.caller ≡ caller → after_caller_read token ≡ and_then (allowed_by (caller_refused caller asked.act)) (λ _. after_prefix_read caller.prefix)
+  by_policy token caller e =
+      policy_is (role_refused token.caller.role asked.act) (is_admitted token.caller.prefix asked.act) (after_prefix_read token.caller.prefix)
+      ∙ ap (λ (x : Caller). and_then (allowed_by (caller_refused x asked.act)) (λ _. after_prefix_read x.prefix)) e
+
+  pub unknown_unread : (refusal : Refusal) → row_known r now asked ≡ Err refusal → None ≡ id_spelt (task_read r now asked content_md5 body)
+  unknown_unread refusal e = sym (ap id_spelt (after_err (known_caller r now asked) after_caller_read refusal (no_token (known_caller r now asked) refusal (no_row_calls r now asked refusal e))))
+
+  pub refused_unread : (caller : Caller) (refusal : Refusal) → caller_known r now asked ≡ Ok caller → allowed_by (caller_refused caller asked.act) ≡ Err refusal → None ≡ id_spelt (task_read r now asked content_md5 body)
+  refused_unread caller refusal e h =
+      let t : (token : Token) × (known_caller r now asked ≡ Ok token) × (token.caller ≡ caller) = token_of_caller (known_caller r now asked) caller e in
+      sym (ap id_spelt (after_ok (known_caller r now asked) after_caller_read t.0 (Err refusal) t.1
+      (by_policy t.0 caller t.2 ∙ after_err (allowed_by (caller_refused caller asked.act)) (λ _. after_prefix_read caller.prefix) refusal h)))
+
+  past_role_read : (caller : Caller) (x : Result Task Refusal) → caller_known r now asked ≡ Ok caller → allowed_by (caller_refused caller asked.act) ≡ Ok tt → after_prefix_read caller.prefix ≡ x
+      → task_read r now asked content_md5 body ≡ x
+  past_role_read caller x e h rest =
+      let t : (token : Token) × (known_caller r now asked ≡ Ok token) × (token.caller ≡ caller) = token_of_caller (known_caller r now asked) caller e in
+      after_ok (known_caller r now asked) after_caller_read t.0 x t.1
+      (by_policy t.0 caller t.2 ∙ after_ok (allowed_by (caller_refused caller asked.act)) (λ _. after_prefix_read caller.prefix) tt x h rest)
+
+  pub out_of_reach_unread : (caller : Caller) (refusal : Refusal) → caller_known r now asked ≡ Ok caller → allowed_by (caller_refused caller asked.act) ≡ Ok tt → in_reach asked ≡ Err refusal → None ≡ id_spelt (task_read r now asked content_md5 body)
+  out_of_reach_unread caller refusal e h out =
+      sym (ap id_spelt (past_role_read caller (Err refusal) e h (after_err (in_reach asked) (λ _. judged_task caller.prefix asked.act content_md5 asked.lock_id body) refusal out)))
+
+  pub judged_read : (caller : Caller) (x : Result Task Refusal) → caller_known r now asked ≡ Ok caller → allowed_by (caller_refused caller asked.act) ≡ Ok tt → in_reach asked ≡ Ok tt
+      → judged_task caller.prefix asked.act content_md5 asked.lock_id body ≡ x → id_spelt x ≡ id_spelt (task_read r now asked content_md5 body)
+  judged_read caller x e h reached is =
+      sym (ap id_spelt (past_role_read caller x e h (after_ok (in_reach asked) (λ _. judged_task caller.prefix asked.act content_md5 asked.lock_id body) tt x reached is)))
+
+-- what isn't for want of memory
+pub ok_apart : (task : Task) (x : Result Task Refusal) → x ≡ Ok task → x ≡ Err Unavailable → ⊥
+ok_apart task x is e = let none : ⊥ = cc in none
+
+pub err_apart : (refusal : Refusal) (x : Result Task Refusal) → x ≡ Err refusal → (refusal ≡ Unavailable → ⊥) → x ≡ Err Unavailable → ⊥
+err_apart refusal x is apart e = apart (let same : refusal ≡ Unavailable = cc in same)
+
+-- what is so where a refusal is told
+pub with_known : {T E A : Type 0} (P : T → Type 0) (res : Result T E) → (A → IfOk res P) → OnOk res A → IfOk res P
+with_known P (Ok x) f known = f known
+with_known P (Err e) f known = tt
+
+abbrev pub facts : Option (List ℕ) → Option (List ℕ) → Trace → Facts
+facts token id trace = record { token = token; id = id; trace = trace }
+
+pub facts_same : (a b c d : Option (List ℕ)) (s t : Trace) → a ≡ b → c ≡ d → s ≡ t → facts a c s ≡ facts b d t
+facts_same a b c d s t x y z = ap (λ (q : Option (List ℕ)). facts q c s) x ∙ (ap (λ (q : Option (List ℕ)). facts b q s) y ∙ ap (facts b d) z)

@@ -1,0 +1,77 @@
+-- Contracts between functions: what the log tells of a decision, by what is seen of its workspace before it.
+use Rattle.std.specs.Prelude.{ℕ, ◌+◌, if◌then◌else◌, List, Option, Some, None}
+use Rattle.basis.specs.declared.rows.Holder.{Holder}
+use Rattle.machine.specs.Laws.{holds}
+use Rattle.machine.specs.declared.acts.Answer.{Answer}
+use Rattle.machine.specs.declared.acts.Answer.TheVariants as answer
+use Rattle.machine.specs.declared.acts.Change.{Change}
+use Rattle.machine.specs.declared.acts.Decision.{Decision}
+use Rattle.machine.specs.declared.acts.Decision.TheVariants.{Refused, Accepted}
+use Rattle.machine.specs.declared.acts.Edit.{Edit}
+use Rattle.machine.specs.declared.acts.Edit.TheVariants as edit
+use Rattle.machine.specs.declared.acts.Unit.{Unit as AnyUnit}
+use Rattle.machine.specs.declared.acts.Unit.TheVariants.{Absent, Present}
+use Rattle.machine.specs.declared.records.Organization.{Organization}
+use Rattle.route.specs.declared.acts.Asked.{Asked}
+use Rattle.serve.specs.Checks.{checked}
+use Rattle.serve.specs.Logs.{number_given, no_trace, token_named, id_spelt, task_read, traced}
+use Rattle.serve.specs.declared.logs.Facts.{Facts}
+use Rattle.serve.specs.declared.logs.Trace.{Trace}
+
+-- the run that an answer shows
+abbrev pub told_by : Answer → Option ℕ
+told_by answer.Done = None
+told_by answer.NoState = None
+told_by (answer.State n) = None
+told_by (answer.Workspace shown) = None
+told_by (answer.Run r) = Some r.number
+told_by (answer.Versions after) = None
+told_by (answer.Runs after) = None
+
+-- the version that an edit makes
+abbrev pub edit_number : ℕ → Edit → Option ℕ
+edit_number next (edit.Make settings) = None
+edit_number next (edit.Configure settings outgoing) = None
+edit_number next edit.Remove = None
+edit_number next (edit.AddVersion version outgoing) = number_given next (version.number + 1)
+edit_number next edit.Purge = None
+edit_number next (edit.Hold id text) = None
+edit_number next (edit.Release id) = None
+edit_number next (edit.AddRun number ask created) = None
+edit_number next (edit.Report number action status frees) = None
+
+-- the run that starts, where the workspace stays
+abbrev pub start_of : Edit → Option ℕ → Option ℕ
+start_of edit.Remove start = None
+start_of (edit.Make settings) start = start
+start_of (edit.Configure settings outgoing) start = start
+start_of (edit.AddVersion version outgoing) start = start
+start_of edit.Purge start = start
+start_of (edit.Hold id text) start = start
+start_of (edit.Release id) start = start
+start_of (edit.AddRun number ask created) start = start
+start_of (edit.Report number action status frees) start = start
+
+abbrev pub unless_held : Holder → Option ℕ → Option ℕ
+unless_held holder None = None
+unless_held holder (Some n) = if holds holder n then None else Some n
+
+abbrev pub edit_start : Holder → Change → Option ℕ
+edit_start holder change = unless_held holder (start_of change.edit change.start)
+
+abbrev pub version_by : AnyUnit → Change → Option ℕ
+version_by (Absent workspaces limit) change = None
+version_by (Present u) change = edit_number u.next_version change.edit
+
+abbrev pub run_by : AnyUnit → Change → Option ℕ
+run_by (Absent workspaces limit) change = None
+run_by (Present u) change = edit_start u.holder change
+
+abbrev pub trace_by : AnyUnit → Decision → Trace
+trace_by u (Refused refusal) = no_trace
+trace_by u (Accepted answer None) = record { told = told_by answer; version = None; run = None }
+trace_by u (Accepted answer (Some change)) = record { told = told_by answer; version = version_by u change; run = run_by u change }
+
+-- what the log tells of a request besides its head and its answer
+abbrev pub facts_of : Option Organization → ℕ → Asked → Option (List ℕ) → List ℕ → Facts
+facts_of r at asked content_md5 body = record { token = token_named r at asked; id = id_spelt (task_read r at asked content_md5 body); trace = traced at r (checked r at asked content_md5 body) }

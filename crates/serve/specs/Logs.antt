@@ -1,0 +1,221 @@
+-- What the log tells of an exchange: by what was asked, the record before it, and what it was answered.
+use Rattle.std.specs.Prelude.{ℕ, zero, suc, ◌==◌, if◌then◌else◌, List, Option, Some, None, Result, Ok, Err}
+use Rattle.std.specs.Option.{option_or}
+use Rattle.basis.specs.Checks.{and_then}
+use Rattle.basis.specs.Roles.{counts_at}
+use Rattle.basis.specs.declared.refusals.Refusal.{Refusal}
+use Rattle.basis.specs.declared.refusals.Refusal.TheVariants.{Unavailable}
+use Rattle.basis.specs.declared.rows.Holder.{Holder}
+use Rattle.basis.specs.declared.rows.Holder.TheVariants.{Nobody, Lock as HeldLock, Run as HeldRun}
+use Rattle.basis.specs.declared.rows.Look.{Look as AnyLook}
+use Rattle.basis.specs.declared.rows.Look.TheVariants as look
+use Rattle.sha2.specs.Sha256.{sha256}
+use Rattle.docs.specs.declared.logs.LogAct.{LogAct}
+use Rattle.docs.specs.declared.logs.LogAct.TheVariants as logged
+use Rattle.docs.specs.declared.logs.LogRow.{LogRow}
+use Rattle.machine.specs.Laws.{holds}
+use Rattle.machine.specs.Records.{workspace_in}
+use Rattle.machine.specs.Rules.{Outcome, refused, held, done, no_state, state, workspace, the_run, versions, runs, Ruling, rules}
+use Rattle.machine.specs.Tokens.{asker_of}
+use Rattle.machine.specs.declared.acts.Act.{Act}
+use Rattle.machine.specs.declared.acts.Act.TheVariants as act
+use Rattle.machine.specs.declared.keeps.TokenRow.{TokenRow}
+use Rattle.machine.specs.declared.records.Workspace.{Workspace}
+use Rattle.machine.specs.declared.records.Organization.{Organization}
+use Rattle.route.specs.declared.acts.Asked.{Asked}
+use Rattle.route.specs.declared.acts.AskedAct.{AskedAct}
+use Rattle.route.specs.declared.acts.AskedAct.TheVariants.{ListWorkspaces, OfWorkspace}
+use Rattle.route.specs.declared.acts.WsAct.{WsAct}
+use Rattle.route.specs.declared.acts.WsAct.TheVariants.{Look, Put, Delete, UpdateState, PurgeState, Lock, Unlock, ForceUnlock, MakeRun, ReportRun}
+use Rattle.wire.specs.Replies.{Answer}
+use Rattle.serve.specs.Asks.{Ask, silent, requests, commands}
+use Rattle.serve.specs.Asks as ask
+use Rattle.serve.specs.Checks.{known_caller, may_do, admitted, in_reach, digest_checked, task_of, checked}
+use Rattle.serve.specs.Steps.{seen_at, request_step, refusing}
+use Rattle.serve.specs.declared.logs.Trace.{Trace}
+use Rattle.serve.specs.declared.prepared.Task.{Task}
+use Rattle.serve.specs.declared.prepared.Task.TheVariants.{ListAll, Carry}
+
+-- what is asked, as the log names it
+abbrev pub look_logged : AnyLook → LogAct
+look_logged look.Workspace = logged.ShowWorkspace
+look_logged look.State = logged.ReadState
+look_logged (look.Version n) = logged.ReadVersion
+look_logged (look.Versions after) = logged.ListVersions
+look_logged (look.Run n) = logged.ReadRun
+look_logged (look.Runs after) = logged.ListRuns
+
+abbrev pub ws_act_logged : WsAct → LogAct
+ws_act_logged (Look what) = look_logged what
+ws_act_logged Put = logged.PutWorkspace
+ws_act_logged Delete = logged.DeleteWorkspace
+ws_act_logged UpdateState = logged.UpdateState
+ws_act_logged PurgeState = logged.PurgeState
+ws_act_logged Lock = logged.Lock
+ws_act_logged Unlock = logged.Unlock
+ws_act_logged ForceUnlock = logged.ForceUnlock
+ws_act_logged MakeRun = logged.MakeRun
+ws_act_logged (ReportRun n action) = logged.Report action
+
+abbrev pub act_logged : AskedAct → LogAct
+act_logged (ListWorkspaces after) = logged.ListWorkspaces
+act_logged (OfWorkspace ws what) = ws_act_logged what
+
+-- the workspace that is named
+abbrev pub workspace_named : AskedAct → Option (List ℕ)
+workspace_named (ListWorkspaces after) = None
+workspace_named (OfWorkspace ws what) = Some ws
+
+-- the version or the run that the path names
+abbrev pub look_number : AnyLook → Option ℕ
+look_number look.Workspace = None
+look_number look.State = None
+look_number (look.Version n) = Some n
+look_number (look.Versions after) = None
+look_number (look.Run n) = Some n
+look_number (look.Runs after) = None
+
+abbrev pub ws_act_number : WsAct → Option ℕ
+ws_act_number (Look what) = look_number what
+ws_act_number Put = None
+ws_act_number Delete = None
+ws_act_number UpdateState = None
+ws_act_number PurgeState = None
+ws_act_number Lock = None
+ws_act_number Unlock = None
+ws_act_number ForceUnlock = None
+ws_act_number MakeRun = None
+ws_act_number (ReportRun n action) = Some n
+
+abbrev pub number_named : AskedAct → Option ℕ
+number_named (ListWorkspaces after) = None
+number_named (OfWorkspace ws what) = ws_act_number what
+
+-- the name of the token that asks, where it counts at the moment
+abbrev pub name_counted : ℕ → Option TokenRow → Option (List ℕ)
+name_counted now None = None
+name_counted now (Some row) = if counts_at now row.caller then Some row.name else None
+
+abbrev pub token_named : Option Organization → ℕ → Asked → Option (List ℕ)
+token_named r now asked = name_counted now (asker_of r (sha256 asked.secret))
+
+-- the document, read where the caller may ask and the digest fits, be what it asks of there or not
+abbrev pub task_read : Option Organization → ℕ → Asked → Option (List ℕ) → List ℕ → Result Task Refusal
+task_read r now asked content_md5 body =
+    and_then (known_caller r now asked) (λ token.
+    and_then (may_do token asked) (λ _.
+    and_then (admitted token asked) (λ _.
+    and_then (in_reach asked) (λ _.
+    and_then (digest_checked content_md5 body) (λ _.
+    task_of token.caller.prefix asked.act asked.lock_id body)))))
+
+-- the lock's ID that a document has: that of LOCK, or of UNLOCK
+abbrev pub id_of_act : Act → Option (List ℕ)
+id_of_act (act.Look what) = None
+id_of_act (act.PutWorkspace settings) = None
+id_of_act act.DeleteWorkspace = None
+id_of_act (act.UpdateState head text id) = None
+id_of_act (act.PurgeState id) = None
+id_of_act (act.Lock id text) = Some id
+id_of_act (act.Unlock id) = Some id
+id_of_act act.ForceUnlock = None
+id_of_act (act.MakeRun run) = None
+id_of_act (act.ReportRun n action) = None
+
+abbrev pub id_of_task : Task → Option (List ℕ)
+id_of_task (ListAll after prefix) = None
+id_of_task (Carry order) = id_of_act order.act
+
+abbrev pub id_spelt : Result Task Refusal → Option (List ℕ)
+id_spelt (Ok task) = id_of_task task
+id_spelt (Err refusal) = None
+
+-- the run that is told
+abbrev pub run_told : Outcome → Option ℕ
+run_told (refused refusal) = None
+run_told (held holder) = None
+run_told done = None
+run_told no_state = None
+run_told (state text) = None
+run_told (workspace shown) = None
+run_told (the_run r) = Some r.number
+run_told (versions list) = None
+run_told (runs list) = None
+
+-- the number that was given last: the first is 1
+abbrev pub number_before : ℕ → Option ℕ
+number_before zero = None
+number_before (suc zero) = None
+number_before (suc (suc n)) = Some (suc n)
+
+-- the number that was given, where the next one is another than before
+abbrev pub number_given : ℕ → ℕ → Option ℕ
+number_given before after = if after == before then None else number_before after
+
+-- the version that was made
+abbrev pub version_made : Option Workspace → Option Workspace → Option ℕ
+version_made None after = None
+version_made (Some w) None = None
+version_made (Some w) (Some v) = number_given w.next_version v.next_version
+
+-- the run that holds, where it didn't before
+abbrev pub run_holding : Holder → Holder → Option ℕ
+run_holding before Nobody = None
+run_holding before (HeldLock id text) = None
+run_holding before (HeldRun n) = if holds before n then None else Some n
+
+abbrev pub run_started : Option Workspace → Option Workspace → Option ℕ
+run_started None after = None
+run_started (Some w) None = None
+run_started (Some w) (Some v) = run_holding w.holder v.holder
+
+-- what the rules did
+abbrev pub trace_of : Option Workspace → Ruling → Trace
+trace_of w ruling = record { told = run_told ruling.answer; version = version_made w ruling.left; run = run_started w ruling.left }
+
+abbrev pub no_trace : Trace
+no_trace = record { told = None; version = None; run = None }
+
+abbrev pub traced : ℕ → Option Organization → Result Task Refusal → Trace
+traced now r (Err refusal) = no_trace
+traced now r (Ok (ListAll after prefix)) = no_trace
+traced now r (Ok (Carry order)) = trace_of (workspace_in r order.ws) (rules order.act now (seen_at r order.ws))
+
+-- a row of which nothing is known but the moment: no message was read whole, and there is no reply
+abbrev pub silent_row : ℕ → LogRow
+silent_row at = record { act = None; at = at; id = None; number = None; organization = None; refusal = None; run = None; status = None; token = None; version = None; workspace = None }
+
+-- the row with an answer
+abbrev pub with_answer : Answer → LogRow → LogRow
+with_answer answer row = record row { status = Some answer.status; refusal = answer.refusal }
+
+-- the row of a request, by what is asked, what was answered, the token's name, the ID in the document, and what the rules did
+abbrev pub row_of_request : ℕ → Asked → Answer → Option (List ℕ) → Option (List ℕ) → Trace → LogRow
+row_of_request at asked answer token id trace = record {
+  act = Some (act_logged asked.act);
+  at = at;
+  id = option_or id asked.lock_id;
+  number = option_or (number_named asked.act) (option_or trace.told trace.version);
+  organization = Some asked.caller;
+  refusal = answer.refusal;
+  run = trace.run;
+  status = Some answer.status;
+  token = token;
+  version = trace.version;
+  workspace = workspace_named asked.act;
+}
+
+abbrev pub request_row : Option Organization → ℕ → Asked → Option (List ℕ) → List ℕ → LogRow
+request_row r at asked content_md5 body =
+    row_of_request at asked (request_step r at asked content_md5 body).answer (token_named r at asked) (id_spelt (task_read r at asked content_md5 body)) (traced at r (checked r at asked content_md5 body))
+
+-- the row of what is asked, over the record that it reads: what is unfinished has none, and an operator's command has no exchange
+abbrev pub row_of_ask : Option Organization → Ask → Option LogRow
+row_of_ask r silent = None
+row_of_ask r (ask.refused at awaited refusal is_head) = Some (with_answer (refusing refusal r).answer (silent_row at))
+row_of_ask r (requests at awaited asked content_md5 body) = Some (request_row r at asked content_md5 body)
+row_of_ask r (commands at command) = None
+
+-- the row of the 503 of memory or a store that refused
+abbrev pub unavailable_row : ℕ → LogRow
+unavailable_row at = with_answer (refusing Unavailable None).answer (silent_row at)

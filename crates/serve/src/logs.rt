@@ -1,0 +1,315 @@
+//! What the log tells of an exchange.
+ghost use Rattle.std.specs.Prelude.{◌≡◌, ◌+◌, Some, None, IfOk, option_copied};
+ghost use Rattle.serve.specs.Logs.{look_logged, ws_act_logged, act_logged, workspace_named, look_number, ws_act_number, number_named, id_of_act, id_of_task, number_given, no_trace, silent_row, with_answer, row_of_request, unavailable_row};
+ghost use Rattle.machine.specs.Laws.{holds};
+ghost use Rattle.serve.specs.Inner.Tracing.{told_by, edit_number, edit_start, version_by, run_by, trace_by};
+
+use crate::prepared::Task;
+use basis::{Holder, LockId, Look, Moment, Number, Refusal, Text, WsName};
+use docs::{LogAct, LogRow};
+use machine::{Act, Answer, Change, Decision, Edit, Unit, Version};
+use route::{Asked, AskedAct, WsAct};
+use std::alloc::AllocError;
+use wire::Reply;
+
+/// What the rules did, as far as the log tells it.
+#[derive(Clone, Copy)]
+pub struct Trace {
+    /// The run that is shown.
+    pub told: Option<Number>,
+    /// The version that was made.
+    pub version: Option<Number>,
+    /// The run that holds the workspace afterwards, and didn't before.
+    pub run: Option<Number>,
+}
+
+/// What the log tells of a request besides what its head asks and what it was answered.
+#[derive(Drop)]
+pub struct Facts {
+    /// The name of the token.
+    pub token: Option<Text>,
+    /// The lock's ID in the document.
+    pub id: Option<LockId>,
+    pub trace: Trace,
+}
+
+impl Trace {
+    pub fn none() -> Trace
+        ensures { result ≡ no_trace }
+    {
+        Trace {
+            told: None,
+            version: None,
+            run: None,
+        }
+    }
+}
+
+fn look_logged(look: Look) -> LogAct
+    ensures { result ≡ look_logged look }
+{
+    match look {
+        Look::Workspace => LogAct::ShowWorkspace,
+        Look::State => LogAct::ReadState,
+        Look::Version(_) => LogAct::ReadVersion,
+        Look::Versions(_) => LogAct::ListVersions,
+        Look::Run(_) => LogAct::ReadRun,
+        Look::Runs(_) => LogAct::ListRuns,
+    }
+}
+
+fn ws_act_logged(act: WsAct) -> LogAct
+    ensures { result ≡ ws_act_logged act }
+{
+    match act {
+        WsAct::Look(look) => look_logged(look),
+        WsAct::Put => LogAct::PutWorkspace,
+        WsAct::Delete => LogAct::DeleteWorkspace,
+        WsAct::UpdateState => LogAct::UpdateState,
+        WsAct::PurgeState => LogAct::PurgeState,
+        WsAct::Lock => LogAct::Lock,
+        WsAct::Unlock => LogAct::Unlock,
+        WsAct::ForceUnlock => LogAct::ForceUnlock,
+        WsAct::MakeRun => LogAct::MakeRun,
+        WsAct::ReportRun(_, action) => LogAct::Report(action),
+    }
+}
+
+fn look_number(look: Look) -> Option<Number>
+    ensures { result ≡ look_number look }
+{
+    match look {
+        Look::Version(number) => Some(number),
+        Look::Run(number) => Some(number),
+        Look::Workspace | Look::State => None,
+        Look::Versions(_) | Look::Runs(_) => None,
+    }
+}
+
+fn ws_act_number(act: WsAct) -> Option<Number>
+    ensures { result ≡ ws_act_number act }
+{
+    match act {
+        WsAct::Look(look) => look_number(look),
+        WsAct::ReportRun(number, _) => Some(number),
+        WsAct::Put | WsAct::Delete | WsAct::MakeRun => None,
+        WsAct::UpdateState | WsAct::PurgeState => None,
+        WsAct::Lock | WsAct::Unlock | WsAct::ForceUnlock => None,
+    }
+}
+
+fn act_logged(asked: &AskedAct) -> LogAct
+    ensures { result ≡ act_logged asked.now }
+{
+    match asked {
+        AskedAct::ListWorkspaces { .. } => LogAct::ListWorkspaces,
+        AskedAct::OfWorkspace(_, act) => ws_act_logged(*act),
+    }
+}
+
+fn number_named(asked: &AskedAct) -> Option<Number>
+    ensures { result ≡ number_named asked.now }
+{
+    match asked {
+        AskedAct::ListWorkspaces { .. } => None,
+        AskedAct::OfWorkspace(_, act) => ws_act_number(*act),
+    }
+}
+
+fn workspace_named(asked: AskedAct) -> Option<WsName>
+    ensures { result ≡ workspace_named asked }
+{
+    match asked {
+        AskedAct::ListWorkspaces { .. } => None,
+        AskedAct::OfWorkspace(ws, _) => Some(ws),
+    }
+}
+
+fn id_of_act(act: &Act) -> Option<&LockId>
+    ensures { option_copied result ≡ id_of_act act.now }
+{
+    match act {
+        Act::Lock { id, .. } => Some(id),
+        Act::Unlock(id) => Some(id),
+        Act::Look(_) | Act::PutWorkspace(_) | Act::DeleteWorkspace => None,
+        Act::UpdateState { .. } | Act::PurgeState { .. } => None,
+        Act::ForceUnlock | Act::MakeRun(_) | Act::ReportRun(_, _) => None,
+    }
+}
+
+/// The lock's ID that the document of what is to be done has.
+pub fn spelt_id(task: &Task) -> Result<Option<LockId>, AllocError>
+    ensures { IfOk result (λ id. id ≡ id_of_task task.now) }
+{
+    match task {
+        Task::ListAll { .. } => Ok(None),
+        Task::Carry(order) => match id_of_act(&order.act) {
+            Some(id) => Ok(Some(id.clone()?)),
+            None => Ok(None),
+        },
+    }
+}
+
+// The run that an answer shows.
+fn told_by(answer: &Answer) -> Option<Number>
+    ensures { result ≡ told_by answer.now }
+{
+    match answer {
+        Answer::Run(run) => Some(run.number),
+        Answer::Done | Answer::NoState | Answer::State(_) => None,
+        Answer::Workspace(_) | Answer::Versions(_) | Answer::Runs(_) => None,
+    }
+}
+
+// The number of a version, where the next one isn't this already.
+fn number_given(next: u64, version: &Version) -> Option<Number>
+    ensures { result ≡ number_given next (version.now.number + 1) }
+{
+    let number = version.number;
+    prove!(number.get() >= 1);
+    if u64::from(number.get()) + 1 == next {
+        None
+    } else {
+        Some(number)
+    }
+}
+
+fn edit_number(next: u64, edit: &Edit) -> Option<Number>
+    ensures { result ≡ edit_number next edit.now }
+{
+    match edit {
+        Edit::AddVersion { version, .. } => number_given(next, version),
+        Edit::Make(_) | Edit::Configure { .. } | Edit::Remove | Edit::Purge => None,
+        Edit::Hold { .. } | Edit::Release(_) | Edit::AddRun { .. } | Edit::Report { .. } => None,
+    }
+}
+
+fn is_held_by(holder: &Holder, number: Number) -> bool
+    ensures { result ≡ holds holder.now number }
+{
+    match holder {
+        Holder::Run(held) => held.get() == number.get(),
+        Holder::Nobody | Holder::Lock { .. } => false,
+    }
+}
+
+// The run that starts where the workspace stays, and didn't hold before.
+fn edit_start(holder: &Holder, change: &Change) -> Option<Number>
+    ensures { result ≡ edit_start holder.now change.now }
+{
+    match &change.edit {
+        Edit::Remove => return None,
+        _ => {}
+    }
+    match change.start {
+        Some(number) if !is_held_by(holder, number) => Some(number),
+        _ => None,
+    }
+}
+
+fn version_by(unit: &Unit, change: &Change) -> Option<Number>
+    ensures { result ≡ version_by unit.now change.now }
+{
+    match unit {
+        Unit::Absent { .. } => None,
+        Unit::Present(unit) => edit_number(unit.next_version, &change.edit),
+    }
+}
+
+fn run_by(unit: &Unit, change: &Change) -> Option<Number>
+    ensures { result ≡ run_by unit.now change.now }
+{
+    match unit {
+        Unit::Absent { .. } => None,
+        Unit::Present(unit) => edit_start(&unit.holder, change),
+    }
+}
+
+/// What a decision does, by what is seen of the workspace before it.
+pub fn trace_by(unit: &Unit, decision: &Decision) -> Trace
+    ensures { result ≡ trace_by unit.now decision.now }
+{
+    match decision {
+        Decision::Refused(_) => Trace::none(),
+        Decision::Accepted { answer, change } => match change {
+            None => Trace {
+                told: told_by(answer),
+                version: None,
+                run: None,
+            },
+            Some(change) => Trace {
+                told: told_by(answer),
+                version: version_by(unit, change),
+                run: run_by(unit, change),
+            },
+        },
+    }
+}
+
+/// The row of an exchange of which nothing is known but its moment.
+pub fn silent_row(at: Moment) -> LogRow
+    ensures { result ≡ silent_row at }
+{
+    LogRow {
+        act: None,
+        at,
+        id: None,
+        number: None,
+        organization: None,
+        refusal: None,
+        run: None,
+        status: None,
+        token: None,
+        version: None,
+        workspace: None,
+    }
+}
+
+/// The row of a message that asks nothing which reads: its refusal.
+pub fn refused_row(at: Moment, reply: &Reply) -> LogRow
+    ensures { result ≡ with_answer reply.now (silent_row at) }
+{
+    LogRow {
+        status: Some(reply.status()),
+        refusal: reply.refusal(),
+        ..silent_row(at)
+    }
+}
+
+/// The row of the 503 of memory or a store that refused.
+pub fn unavailable_row(at: Moment) -> LogRow
+    ensures { result ≡ unavailable_row at }
+{
+    let reply = Reply::unavailable(false);
+    refused_row(at, &reply)
+}
+
+/// The row of a request.
+pub fn request_row(at: Moment, asked: Asked, reply: &Reply, facts: Facts) -> LogRow
+    ensures { result ≡ row_of_request at asked reply.now facts.token facts.id facts.trace }
+{
+    let Facts { token, id, trace } = facts;
+    let Asked {
+        caller,
+        secret,
+        org,
+        act,
+        lock_id,
+    } = asked;
+    drop(secret);
+    drop(org);
+    let refusal = reply.refusal();
+    LogRow {
+        act: Some(act_logged(&act)),
+        at,
+        id: id.or(lock_id),
+        number: number_named(&act).or(trace.told.or(trace.version)),
+        organization: Some(caller),
+        refusal,
+        run: trace.run,
+        status: Some(reply.status()),
+        token,
+        version: trace.version,
+        workspace: workspace_named(act),
+    }
+}

@@ -1,0 +1,594 @@
+#!/usr/bin/env python3
+"""Looks at the log of the program `custody`: the lines that `serve --log` prints, and what they tell.
+
+    python3 tools/logs.py CUSTODY    the program as `rt ci` or `rt run` leaves it
+    python3 tools/logs.py story      prints the stories of the log
+
+Over a file, `serve --log` is asked each act and each refusal, the requests of a recorded Terraform, and a long history of two
+organizations (those two as they stand in the stories); peers leave, reset their connection, or don't read; a disk has no room.
+Each line has to be the one that logged.py gives by rules of its own. Then who holds which workspace, its runs and its versions
+are told again from the lines alone, and have to be what SQLite's library finds in the tables of a copy of the file, behind each
+service; who holds, behind each line. Without `--log` nothing more is printed. Where standard output takes no more, the service
+ends with status 3 and accepts no further connection, and all lines before stand there.
+
+What `story` prints stands in crates/stories/stdin; that is looked at, too. It prints a line for each thing that holds, and ends
+with status 1 at the first that doesn't.
+"""
+
+import json
+import os
+import shutil
+import socket
+import sqlite3
+import struct
+import subprocess
+import sys
+import time
+
+import history
+import logged
+import stories
+from files import SMALL_FILES, Service
+from links import READ_FAILED, SMALL_BUFFER, UNWRITTEN, moment_of, received, undated, wait_until
+from logged import ask, line_of, row_of
+from program import ANSWERED_503, DOWN, LEFT_EARLY, NEW_FILE, PATIENCE, Wrong, closed_pipe, free_port, look_at, said
+
+CONTINUE_UNWRITTEN = b"custody: connection %d: 100 Continue could not be written\n"
+UNLOGGED = b"custody: the exchange log could not be written, so nothing more is answered\n"
+NOT_ACCEPTED = "custody: a connection could not be accepted"
+LISTENING = "listening 127.0.0.1:8090"
+
+# How many requests a service answers, behind which the tables are looked at: in a history, and what is asked else.
+EACH = 40
+ACTED = [
+    ("acts", logged.ACTS, 4),
+    ("refusals", logged.REFUSED, len(logged.REFUSED)),
+    ("tokens that end", logged.AT_ITS_END, len(logged.AT_ITS_END)),
+    ("peers that leave", logged.LEAVING, len(logged.LEAVING)),
+]
+
+# Bytes of a file to which standard output is led, behind which it takes no more (see SMALL_FILES).
+MOST_PRINTED = 8 * 512
+MANY = 40
+
+# A text that no buffers of a connection hold, and seconds that a peer may let nothing through.
+BIG = '{"version":4,"serial":1,"x":"%s"}' % ("links" * 1_600_000)
+IDLE = 1
+
+GET = ask("R", "GET", "state/net")
+GET_BIG = ask("R", "GET", "state/big")
+
+
+# ----------------------------------------------------------------------------------------------------
+# The stories
+# ----------------------------------------------------------------------------------------------------
+
+MOMENTS = {1700000000: "Tue, 14 Nov 2023 22:13:20 GMT", 1700000009: "Tue, 14 Nov 2023 22:13:29 GMT", 1700000010: "Tue, 14 Nov 2023 22:13:30 GMT"}
+FIRST_MOMENT = 1700000000
+
+
+def pieces(sent):
+    """The lines that write these bytes."""
+    if not sent:
+        return []
+    if len(sent) > 1000 and len(set(sent)) == 1:
+        return ["* %d %s" % (len(sent), sent[:1].decode())]
+    *lines, rest = sent.split(b"\r\n")
+    told = ["> %s" % line.decode() if line else ">" for line in lines]
+    if rest.endswith(b"\r"):
+        return told + ["\\ %s\\r" % rest[:-1].decode()]
+    return told + (["| " + rest.decode()] if rest else [])
+
+
+def operator(words, first):
+    """A command of an operator as a step of the program."""
+    word, org, *rest = words.split(" ")
+    if word == "org-add":
+        step = ["$ org-add --db m.db %s%s" % ("--limit %s " % rest[0] if rest else "", org)]
+    else:
+        name, role, secret, *bounds = rest
+        options = "".join("--%s %s " % tuple(bound.split("=")) for bound in bounds)
+        step = ["$ token-add --db m.db %s%s %s %s" % (options, org, name, role), "| " + secret]
+    return step + ["= 0", "| ok", "|"] + (["?", "| " + NEW_FILE.decode().rstrip("\n"), "|"] if first else []) + [""]
+
+
+class Scene:
+    """A story of the program: its lines, over what custody does."""
+
+    def __init__(self, name, comment, operated):
+        self.lines, self.custody = ["# " + comment, "story " + name, "file m.db", ""], logged.Custody()
+        for place, words in enumerate(operated):
+            self.custody.operate(words)
+            self.lines += operator(words, place == 0)
+
+    def serve(self, sent, at=FIRST_MOMENT, further=0):
+        """A service with a peer for each of these; it waits for further ones, which don't come."""
+        if at != FIRST_MOMENT:
+            self.lines += ["at %d %s" % (at, MOMENTS[at]), ""]
+        printed, errors = [LISTENING], []
+        for place, bytes_sent in enumerate(sent, 1):
+            told = self.custody.exchange(at, bytes_sent)
+            self.lines += ["peer"] + pieces(bytes_sent) + ["="] + pieces(told.reply(MOMENTS[at])) + [""]
+            printed.append(line_of(place, told.end(), told.row).decode().rstrip("\n"))
+            if told.end() == "ended":
+                errors.append((LEFT_EARLY % place).decode().rstrip("\n"))
+        if further:
+            printed.append("refused down")
+            errors.append(NOT_ACCEPTED)
+        self.lines += ["$ serve --db m.db --port 8090 --count %d --log" % (len(sent) + further), "= %d" % (3 if further else 0)]
+        self.lines += ["| " + line for line in printed] + ["|"]
+        self.lines += (["?"] + ["| " + line for line in errors] + ["|"] if errors else []) + [""]
+        if at != FIRST_MOMENT:
+            self.lines += ["at %d %s" % (FIRST_MOMENT, MOMENTS[FIRST_MOMENT]), ""]
+
+
+# What is said above each story.
+ACT = "Each act, and what refuses it while others hold, with its line of the log (python3 tools/logs.py story)."
+REFUSED = "Each refusal where nobody holds: the organization is that of the token, which has a name where it counts."
+ENDS = "At its end a token has no name any more; its organization is told as ever."
+LEAVING = "Of a peer that leaves within its request the moment is told, and nothing else; one that doesn't come has no line."
+
+UNTOLD = """# The first line can't be flushed: no connection is accepted. Without a clock none is answered, and no line tells of it.
+story a log that can't be flushed, and one without a clock
+file m.db
+breaks output
+
+peer
+\\ G
+=
+
+$ serve --db m.db --port 8090 --count 1 --log
+= 3
+| listening 127.0.0.1:8090
+|
+?
+| custody: there was no file at the path: a new one was made
+|
+
+breaks clock
+
+peer
+\\ G
+=
+
+$ serve --db m.db --port 8090 --log --count 1
+= 3
+| listening 127.0.0.1:8090
+| refused down
+|
+?
+| custody: the clock can't be read, or is out of range
+|
+"""
+
+
+def story():
+    act = Scene("the log has a line for each act", ACT, logged.OPERATED)
+    act.serve(logged.ACTS)
+    refused = Scene("the log has a line for each refusal", REFUSED, logged.OPERATED)
+    refused.serve(logged.REFUSED)
+    ends = Scene("the log names a token up to its end", ENDS, logged.OPERATED)
+    ends.serve([ask("A", "PUT", "workspaces/net")])
+    ends.serve(logged.BEFORE, 1700000009)
+    ends.serve(logged.AT_ITS_END, 1700000010)
+    leaving = Scene("the log has a line for each peer that leaves", LEAVING, logged.OPERATED[:5])
+    leaving.serve(logged.LEAVING, further=1)
+    return "\n".join("\n".join(scene.lines) for scene in (act, refused, ends, leaving)) + "\n" + UNTOLD
+
+
+# ----------------------------------------------------------------------------------------------------
+# What the lines tell
+# ----------------------------------------------------------------------------------------------------
+
+ENDING = ["unchanged", "applied", "fail", "discard", "cancel"]
+
+
+class Workspace:
+    """A workspace as the lines tell it: who holds, its runs with what was reported last, and its versions with their moments."""
+
+    def __init__(self):
+        self.holder, self.released, self.runs, self.last, self.versions = None, None, {}, 0, []
+
+    def read(self, row):
+        act, number = row["act"], row["number"]
+        if act == "lock" and self.holder is None:
+            self.holder = row["id"]
+        if (act == "unlock" and self.holder == row["id"]) or (act == "force unlock" and isinstance(self.holder, str)):
+            self.released, self.holder = self.holder, None
+        if act == "make run" and number not in self.runs:
+            self.runs[number] = (row["at"], None)
+        if act in history.ACTIONS:
+            self.runs[number] = (self.runs[number][0], act)
+            if act in ENDING and self.holder == number:
+                self.holder = None
+        if act == "purge state":
+            self.versions = []
+        if row["version"] is not None:
+            self.versions.append((row["version"], row["at"]))
+            self.last = row["version"]
+        if row["run"] is not None:
+            if self.holder is not None:
+                raise Wrong("run %d begins to hold while %s does" % (row["run"], self.holder))
+            self.holder = row["run"]
+
+
+class Reader:
+    """All workspaces, from the lines alone. A run holds by its number, a lock by its ID."""
+
+    def __init__(self):
+        self.workspaces = {}
+
+    def read(self, line):
+        """Reads a line; what it tells done is done, whether its reply could be written or not."""
+        row = json.loads(line)
+        place = row["organization"], row["workspace"]
+        if row["refusal"] is not None or row["workspace"] is None:
+            return
+        if row["act"] == "delete workspace":
+            del self.workspaces[place]
+        else:
+            self.workspaces.setdefault(place, Workspace()).read(row)
+
+    def holder(self, row):
+        """Who holds the workspace of a row, as a workspace that is shown says it."""
+        found = self.workspaces.get((row["organization"], row["workspace"]))
+        return found and ("run-%d" % found.holder if isinstance(found.holder, int) else found.holder)
+
+
+def tables_in(program, path):
+    """The same workspaces, as SQLite's library finds them in a copy of the file; and the next number of each."""
+    copy = program.folder + "/copy.db"
+    shutil.copyfile(program.folder + "/" + path, copy)
+    tables, found, nexts = sqlite3.connect("file:%s?mode=ro&immutable=1" % copy, uri=True), {}, {}
+    said("SQLite finds the copy", tables.execute("PRAGMA integrity_check").fetchone(), ("ok",))
+    for org, name, lock, run, released, *numbers in tables.execute("SELECT org, name, lock_id, run, released, next_version, next_run FROM ws"):
+        one = found[org, name] = Workspace()
+        one.holder, one.released = lock if run is None else run, released
+        nexts[org, name] = tuple(numbers)
+    for org, name, number, created, action in tables.execute("SELECT org, ws, number, created, action FROM run"):
+        found[org, name].runs[number] = (created, None if action is None else history.ACTIONS[action])
+    for org, name, number, created in tables.execute("SELECT org, ws, number, created FROM version ORDER BY number"):
+        found[org, name].versions.append((number, created))
+    tables.close()
+    os.remove(copy)
+    return found, nexts
+
+
+def look_at_tables(program, path, reader, kept=()):
+    """Whether the lines tell what stands in the tables. Where a PUT said how many versions are kept (`kept`) the oldest may be gone."""
+    found, nexts = tables_in(program, path)
+    said("the workspaces that the lines tell", sorted(reader.workspaces), sorted(found))
+    for place, told in reader.workspaces.items():
+        one, name = found[place], "%s/%s" % place
+        said("who holds %s, by the lines" % name, told.holder, one.holder)
+        said("which lock of %s was released last, by the lines" % name, told.released, one.released)
+        said("the runs of %s, by the lines" % name, told.runs, one.runs)
+        said("the next numbers of %s, by the lines" % name, (told.last + 1, len(told.runs) + 1), nexts[place])
+        most = len(one.versions) if place in kept else history.FIRST_KEPT
+        said("the versions of %s, by the lines" % name, told.versions[-most:] if most else [], one.versions)
+        if place in kept and told.versions and not one.versions:
+            raise Wrong("no version of %s is left, and no line tells that they went" % name)
+
+
+# ----------------------------------------------------------------------------------------------------
+# Over sockets
+# ----------------------------------------------------------------------------------------------------
+
+
+class Due:
+    """A line that is due: how the exchange ends, its row, and the seconds between which its moment is."""
+
+    def __init__(self, end, row, first, last, holder=None):
+        self.end, self.row, self.first, self.last, self.holder = end, row, first, last, holder
+
+
+def look_at_lines(what, output, dues, reader):
+    """Compares the lines with those that are due; and behind each, who holds by the lines."""
+    lines = output.splitlines(keepends=True)
+    said("how many lines there are of %s" % what, len(lines), len(dues))
+    for place, (line, due) in enumerate(zip(lines, dues), 1):
+        try:
+            at = json.loads(line)["at"]
+        except (ValueError, KeyError, TypeError):
+            raise Wrong("line %d of %s: %s" % (place, what, line)) from None
+        if not due.first <= at <= due.last:
+            raise Wrong("line %d of %s: the moment isn't between %d and %d: %s" % (place, what, due.first, due.last, line))
+        said("line %d of %s" % (place, what), line, line_of(place, due.end, {**due.row, "at": at}))
+        reader.read(line)
+        said("who holds behind line %d of %s" % (place, what), reader.holder(due.row), due.holder)
+
+
+def now():
+    return int(time.time())
+
+
+def answered(port, sent):
+    """What a peer gets that sends these bytes and no more, with its date."""
+    with socket.create_connection(("127.0.0.1", port), PATIENCE) as stream:
+        stream.sendall(sent)
+        stream.shutdown(socket.SHUT_WR)
+        return received(stream)
+
+
+def like(reply):
+    """A reply, with the same moment wherever a run or a version was made."""
+    front, created, rest = reply.partition(b'"created":')
+    return front + created + (b"0" + like(rest.lstrip(b"0123456789")) if created else rest)
+
+
+def exchange(port, custody, sent, due_reply=None):
+    """Sends a request, compares its reply, and gives the line that is due."""
+    first = now()
+    came = answered(port, sent)
+    last = now()
+    has_date = b"\r\nDate: " in came
+    told = custody.exchange(moment_of(came) if has_date else last, sent)
+    said("the reply to %s" % sent[:60], like(undated(came)), like(told.reply("DATE")))
+    if due_reply is not None:
+        said("the reply in the story to %s" % sent[:60], like(undated(due_reply)), like(told.reply("DATE")))
+    at = moment_of(came) if has_date else None
+    return Due(told.end(), told.row, at or first, at or last, custody.holder(told.row))
+
+
+def served(program, path, what, custody, reader, requests):
+    """A service with `--log` over a file answers these, with what a story says is due where it says so; then its lines are looked at."""
+    service = Service(program, path, len(requests), "--log")
+    try:
+        dues = [exchange(service.port, custody, sent, due) for sent, due in requests]
+        status, output, errors = service.left()
+    finally:
+        service.kill()
+    left = b"".join(LEFT_EARLY % place for place, due in enumerate(dues, 1) if due.end == "ended")
+    said("how a service ends, with %s" % what, (status, errors), (0, left))
+    look_at_lines(what, output, dues, reader)
+
+
+def operate(program, path, custody, words):
+    """A command of an operator, in both."""
+    _, line, *rest = operator(words, False)[0].replace("--db m.db", "--db " + path).split(" ")
+    secret = [words.split(" ")[4].encode() + b"\n"] if line == "token-add" else []
+    said(words, program.run([line, *rest], *secret)[:2], (0, b"ok\n"))
+    custody.operate(words)
+
+
+def begun(program, path, operated):
+    custody = logged.Custody()
+    for words in operated:
+        operate(program, path, custody, words)
+    return custody, Reader()
+
+
+def look_at_stories(program):
+    with open(stories.TEXT, encoding="utf-8") as file:
+        said("whether the text has the stories of the log", story() in file.read(), True)
+    print("right: the stories of the log stand in the text")
+
+
+def look_at_requests(program, what, path, operated, requests, each):
+    """Requests, with what a story says is due where it says so, so many to a service; behind each the tables."""
+    custody, reader = begun(program, path, operated)
+    for first in range(0, len(requests), each):
+        served(program, path, "%s, from %d on" % (what, first + 1), custody, reader, requests[first : first + each])
+        look_at_tables(program, path, reader, custody.kept)
+    print("right: %d lines of %s, and what they tell" % (len(requests), what))
+
+
+def look_at_acts(program):
+    """Each act and each refusal."""
+    for name, sent, each in ACTED:
+        look_at_requests(program, name, name.replace(" ", "-") + ".db", logged.OPERATED, [(one, None) for one in sent], each)
+
+
+def told_by(name):
+    """The steps of a story, and of those before it: an operator's words, or what is sent and what is due."""
+    return [(sent, due) for _, sent, due in stories.steps_of(stories.all_stories()[name])]
+
+
+def look_at_told(program, name, path):
+    """The requests of a story of a store."""
+    steps = told_by(name)
+    operated = [sent for sent, _ in steps if isinstance(sent, str)]
+    look_at_requests(program, name, path, operated, [step for step in steps if isinstance(step[0], bytes)], EACH)
+
+
+def look_at_terraform(program):
+    look_at_told(program, "Terraform's requests under a lock", "terraform.db")
+    look_at_told(program, "a stock Terraform applies", "applies.db")
+
+
+def look_at_history(program):
+    look_at_told(program, history.NAME, "history.db")
+
+
+# ----------------------------------------------------------------------------------------------------
+# Links and streams that break
+# ----------------------------------------------------------------------------------------------------
+
+
+def reset(port, sent):
+    """A peer that sends these bytes, and resets its connection."""
+    stream = socket.create_connection(("127.0.0.1", port), PATIENCE)
+    stream.sendall(sent)
+    stream.setsockopt(socket.SOL_SOCKET, socket.SO_LINGER, struct.pack("ii", 1, 0))
+    stream.close()
+
+
+# Peers that have reset their connection before it is accepted, and how each ends: what it sent is read.
+RESET = [
+    (b"", "read"),
+    (GET[:-1], "read"),
+    (logged.AWAITING[: logged.AWAITING.index(b"\r\n\r\n") + 4], "continue"),
+    (logged.AWAITING, "continue"),
+    (ask("W", "LOCK", "state/net", logged.LOCK % "x1"), "write"),
+    (ask("W", "POST", "state/net?ID=x1", logged.state(2)), "write"),
+    (ask("V", "LOCK", "state/net", logged.LOCK % "x2"), "write"),
+    (ask("W", "POST", "runs/net"), "write"),
+    (ask("W", "UNLOCK", "state/net", logged.LOCK % "x1"), "write"),
+    (GET, "write"),
+    (b"GARBAGE\r\n\r\n", "write"),
+]
+TOLD = {"read": READ_FAILED, "continue": CONTINUE_UNWRITTEN, "write": UNWRITTEN}
+
+
+def due_of(custody, end, sent, first):
+    """The line of a request that ends so; of one that isn't taken whole nothing is known but the moment."""
+    row = custody.exchange(first, sent).row if end in ("ok", "write") else row_of(first)
+    return Due(end, row, first, first + PATIENCE, custody.holder(row))
+
+
+def look_at_broken(program, path, custody, reader, send, each, *further):
+    """A service whose links break as `send` has it, and give these lines; what was done is told, and what each fault is."""
+    first = now()
+    service = Service(program, path, len(each), "--log", *further)
+    try:
+        send(service.port)
+        dues = [due_of(custody, end, sent, first) for sent, end in each]
+        status, output, errors = service.left()
+    finally:
+        service.kill()
+    faults = b"".join(TOLD[due.end] % place for place, due in enumerate(dues, 1) if due.end != "ok")
+    said("how a service ends whose links broke", (status, errors), (0, faults))
+    look_at_lines("links that break", output, dues, reader)
+    look_at_tables(program, path, reader)
+    print("right: %d lines of links that break, and what they tell" % len(dues))
+
+
+def send_and_reset(port):
+    """Peers that reset their connection while another is waited for."""
+    with socket.create_connection(("127.0.0.1", port), PATIENCE) as waited:
+        waited.sendall(GET[:10])
+        for sent, _ in RESET:
+            reset(port, sent)
+        waited.sendall(GET[10:])
+        received(waited)
+
+
+def send_and_wait(port):
+    """A peer that doesn't read, and one behind it that does."""
+    with socket.socket() as deaf:
+        deaf.setsockopt(socket.SOL_SOCKET, socket.SO_RCVBUF, SMALL_BUFFER)
+        deaf.connect(("127.0.0.1", port))
+        deaf.sendall(GET_BIG)
+        answered(port, GET)
+
+
+def look_at_links(program):
+    custody, reader = begun(program, "links.db", logged.OPERATED)
+    made = [ask("A", "PUT", "workspaces/net"), ask("A", "PUT", "workspaces/big"), logged.POST, ask("W", "POST", "state/big", BIG)]
+    served(program, "links.db", "two states", custody, reader, [(sent, None) for sent in made])
+    look_at_broken(program, "links.db", custody, reader, send_and_reset, [(GET, "ok"), *RESET])
+    look_at_broken(program, "links.db", custody, reader, send_and_wait, [(GET_BIG, "write"), (GET, "ok")], "--idle", str(IDLE))
+
+
+def look_at_full(program):
+    """A change for which there is no room isn't told: its line has the 503 alone."""
+    custody, reader = begun(program, "full.db", logged.OPERATED)
+    served(program, "full.db", "a state", custody, reader, [(ask("A", "PUT", "workspaces/net"), None), (logged.POST, None)])
+    service = Service(program, "full.db", 3, "--log", under=SMALL_FILES)
+    try:
+        dues = [exchange(service.port, custody, GET)]
+        first = now()
+        said("a change without room", undated(answered(service.port, ask("W", "POST", "state/net", logged.state(2)))), DOWN)
+        dues += [Due("ok", row_of(first, status=503, refusal="down"), first, now()), exchange(service.port, custody, GET)]
+        status, output, errors = service.left()
+    finally:
+        service.kill()
+    said("how a service without room ends", (status, errors.startswith(ANSWERED_503 % 2)), (0, True))
+    look_at_lines("a disk without room", output, dues, reader)
+    look_at_tables(program, "full.db", reader)
+    print("right: a change without room is told as a 503")
+
+
+def look_at_silence(program):
+    """Without `--log` the first line is all."""
+    custody, _ = begun(program, "silent.db", logged.OPERATED)
+    service = Service(program, "silent.db", len(logged.ACTS))
+    try:
+        for sent in logged.ACTS:
+            exchange(service.port, custody, sent)
+        service.ends()
+    finally:
+        service.kill()
+    print("right: without --log nothing more is printed")
+
+
+def is_refused(port):
+    """Whether a further connection gets no answer."""
+    try:
+        return answered(port, GET) == b""
+    except ConnectionError:
+        return True
+
+
+def look_at_closed(program):
+    """Nobody reads standard output any more: the next exchange is the last."""
+    custody, reader = begun(program, "closed.db", logged.OPERATED)
+    served(program, "closed.db", "a workspace", custody, reader, [(ask("A", "PUT", "workspaces/net"), None)])
+    service = Service(program, "closed.db", 4, "--log")
+    try:
+        due = exchange(service.port, custody, logged.POST)
+        look_at_lines("a pipe", service.process.stdout.readline(), [due], reader)
+        service.process.stdout.close()
+        exchange(service.port, custody, GET)
+        said("whether a further connection is refused", is_refused(service.port), True)
+        said("how a service ends whose log nobody reads", (service.process.wait(PATIENCE), service.process.stderr.read()), (3, UNLOGGED))
+    finally:
+        service.kill()
+    look_at_tables(program, "closed.db", reader)
+    with closed_pipe() as pipe, open("/dev/full", "wb") as full:
+        for output in (pipe, full):
+            words = ["serve", "--db", "closed.db", "--log", "--port", str(free_port()), "--count", "1"]
+            said("a service that can't print its first line", program.run(words, output=output), (3, None, b""))
+    print("right: a service whose log nobody reads ends with status 3 before it accepts a further connection, and says so")
+
+
+def look_at_filled(program):
+    """A file that takes no more ends within a line: those before it are whole."""
+    custody, reader = begun(program, "filled.db", logged.OPERATED)
+    served(program, "filled.db", "a workspace", custody, reader, [(ask("A", "PUT", "workspaces/net"), None)])
+    port, path = free_port(), program.folder + "/lines"
+    words = ["serve", "--db", "filled.db", "--port", str(port), "--count", str(MANY), "--log"]
+    first, dues = now(), []
+    with open(path, "wb") as lines:
+        process = program.start(words, subprocess.DEVNULL, lines, under=SMALL_FILES)
+    try:
+        wait_until(lambda: os.path.getsize(path))
+        while os.path.getsize(path) < MOST_PRINTED:
+            dues.append(exchange(port, custody, GET))
+            wait_until(lambda: printed(path).count(b"\n") > len(dues) or os.path.getsize(path) >= MOST_PRINTED)
+        said("whether a further connection is refused", is_refused(port), True)
+        said("how a service ends whose log is full", (process.wait(PATIENCE), process.stderr.read()), (3, UNLOGGED))
+    finally:
+        process.kill()
+        process.wait()
+    *lines, front = printed(path).splitlines(keepends=True)
+    said("the first line", lines[0], b"listening 127.0.0.1:%d\n" % port)
+    look_at_lines("a full file", b"".join(lines[1:]), dues[:-1], reader)
+    whole = [line_of(len(dues), dues[-1].end, {**dues[-1].row, "at": at}) for at in range(first, now() + 1)]
+    said("whether a front of the next line stands there", any(line.startswith(front) and line != front for line in whole), True)
+    print("right: a log that is full has %d whole lines and a front of the next, and the service ends with status 3" % len(lines[1:]))
+
+
+def printed(path):
+    with open(path, "rb") as file:
+        return file.read()
+
+
+LOOKS = [
+    look_at_stories,
+    look_at_acts,
+    look_at_terraform,
+    look_at_history,
+    look_at_links,
+    look_at_full,
+    look_at_silence,
+    look_at_closed,
+    look_at_filled,
+]
+
+
+if __name__ == "__main__":
+    if sys.argv[1:] == ["story"]:
+        print(story(), end="")
+    else:
+        look_at(__doc__, *LOOKS)
