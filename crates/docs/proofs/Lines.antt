@@ -1,66 +1,68 @@
--- Each exchange is one line: its value has no float, and compact JSON escapes each control character.
-use Rattle.std.proofs.Common.{◌≡◌, ◌∙◌, refl, ap, arith, ℕ, suc, zero, ℤ, pos, negsuc, ◌+◌, ◌/◌, ◌%◌, ◌≤◌, ◌==◌, ◌||◌, List, [], ◌∷◌, ◌++◌, Bool, true, false, cond, nat_lt, Option, Some, None, decimal, codes, sym, subst, append_assoc}
+-- A line of the log is its members one behind another, and it is one line: compact JSON escapes each control character.
+use Rattle.std.proofs.Common.{◌≡◌, ◌∙◌, refl, ap, ap₂, arith, ℕ, suc, zero, ℤ, pos, negsuc, ◌+◌, ◌/◌, ◌%◌, ◌≤◌, ◌==◌, ◌||◌, List, [], ◌∷◌, ◌++◌, Bool, true, false, cond, nat_lt, Option, Some, None, option_map, MatchOption, Bor, decimal, subst}
 use Rattle.std.specs.List.{AllByRecursion}
+use Rattle.std.specs.Option.{IsSomeAnd, option_copied}
 use Rattle.std.specs.Char.{digit_char}
 use Rattle.std.specs.Fmt.{digits, digits_onto, digit_glyph, signed_decimal}
 use Rattle.std.proofs.lemmas.Bool.{eqb-true, ltb-false}
-use Rattle.json.specs.Print.{escape_letter, escape_byte, escape, quoted}
+use Rattle.json.specs.Print.{escape_letter, escape_byte, escape, quoted, print}
+use Rattle.json.specs.Token.{Token, begin_object, end_object}
+use Rattle.json.specs.Tree.{members_tokens}
+use Rattle.json.specs.Written.{Written}
 use Rattle.serde_json.specs.Data.{Num, unsigned, negative, float, Data, null, boolean, number, string, array, object, Items, no_items, item, Members, no_members, member}
-use Rattle.serde_json.specs.Written.{number_text, comma_if, compact_text, items_text, members_text, has_float}
+use Rattle.serde_json.specs.Written.{number_text, comma_if, compact_text, items_text, members_text, members_outline}
+use Rattle.serde_json.proofs.Texts.{print-outline}
+use Rattle.basis.specs.Refusals.{line_of}
 use Rattle.basis.specs.declared.refusals.Refusal.{Refusal}
 use Rattle.docs.specs.declared.logs.LogAct.{LogAct}
 use Rattle.docs.specs.declared.logs.LogRow.{LogRow}
-use Rattle.docs.specs.Logs.{log_act_value, refusal_value, log_value, log_line, ExchangesAreLines}
-use Rattle.docs.specs.Bodies.{number_value, text_value}
-use Rattle.docs.specs.Inner.Logs.{Puts, asked_text, named_text, outcome_text, token_text}
+use Rattle.docs.specs.Logs.{log_word, log_act_value, refusal_value, log_value, log_line, ExchangesAreLines}
+use Rattle.docs.specs.Bodies.{text_value}
+use Rattle.docs.specs.Inner.Logs.{Puts, asked, named, outcome, made}
 
--- ---- no float
+-- ---- members, one behind another
 
-pub act_plain : (act : Option LogAct) → has_float (log_act_value act) ≡ false
-act_plain None = refl
-act_plain (Some act) = refl
+-- a member put is that of any value that is the same
+pub put_as : {old new : Written} {name : List ℕ} {d e : Data} → d ≡ e → Puts old new (member name d) → Puts old new (member name e)
+put_as {old} {new} {name} is put = subst (λ (x : Data). Puts old new (member name x)) is put
 
-pub refusal_plain : (refusal : Option Refusal) → has_float (refusal_value refusal) ≡ false
-refusal_plain None = refl
-refusal_plain (Some refusal) = refl
+-- some members and then others
+pub then_put : {old mid new : Written} {first then : Members → Members} → Puts old mid first → Puts mid new then → Puts old new (λ rest. first (then rest))
+then_put first then = record { text = λ rest. then.text rest ∙ first.text _ }
 
--- ---- the parts of a line, one behind another
+-- a text made of what may be absent
+pub text_made : {A : Type 0} (from : Option A) (made : Option (Bor (List ℕ))) (text : A → List ℕ) (post : A → Bor (List ℕ) → Type 0) → MatchOption from (made ≡ None) (λ x. IsSomeAnd made (post x)) → ((x : A) (y : Bor (List ℕ)) → post x y → y.now ≡ text x) → option_copied made ≡ option_map text from
+text_made None made text post is each = ap option_copied is
+text_made (Some x) (Some y) text post is each = ap Some (each x y is)
+text_made (Some x) None text post is each = absurd is
 
--- members, with what follows them
-abbrev members_onto : Bool → Members → List ℕ → List ℕ
-members_onto later no_members rest = 125 ∷ rest
-members_onto later (member k d ms) rest = comma_if later ++ (quoted k ++ 58 ∷ (compact_text d ++ members_onto true ms rest))
+-- the same of a text that is lent
+pub text_lent : (from : Option (List ℕ)) (lent made : Option (Bor (List ℕ))) (post : Bor (List ℕ) → Bor (List ℕ) → Type 0) → option_copied lent ≡ from → MatchOption lent (made ≡ None) (λ x. IsSomeAnd made (post x)) → ((x y : Bor (List ℕ)) → post x y → y.now ≡ x.now) → text_value (option_copied made) ≡ text_value from
+text_lent from lent made post lends is each = ap text_value (text_made lent made (λ x. x.now) post is each ∙ lends)
 
-members_then : (later : Bool) (ms : Members) (rest : List ℕ) → members_text later ms ++ rest ≡ members_onto later ms rest
-members_then later no_members rest = refl
-members_then later (member k d ms) rest =
-    append_assoc (comma_if later) (quoted k ++ 58 ∷ (compact_text d ++ members_text true ms)) rest
-    ∙ ap (λ xs. comma_if later ++ xs) (append_assoc (quoted k) (58 ∷ (compact_text d ++ members_text true ms)) rest
-    ∙ ap (λ xs. quoted k ++ 58 ∷ xs) (append_assoc (compact_text d) (members_text true ms) rest ∙ ap (λ xs. compact_text d ++ xs) (members_then true ms rest)))
+-- a number made of what may be absent
+pub number_made : (from made : Option ℕ) (post : ℕ → ℕ → Type 0) → MatchOption from (made ≡ None) (λ x. IsSomeAnd made (post x)) → ((x y : ℕ) → post x y → y ≡ x) → made ≡ from
+number_made None made post is each = is
+number_made (Some x) (Some y) post is each = ap Some (each x y is)
+number_made (Some x) None post is each = absurd is
 
-pub line_of_parts : (connection : ℕ) (end : List ℕ) (row : LogRow) → asked_text connection end row (named_text row (outcome_text row (token_text row (codes "}\n")))) ≡ log_line connection end row
-unfolding log_line escape_byte
-line_of_parts connection end row = sym (ap (λ xs. 123 ∷ xs) (members_then false (members_of connection end row) (10 ∷ [])))
-  where
-    members_of : ℕ → List ℕ → LogRow → Members
-    members_of connection end row =
-        member (codes "act") (log_act_value row.act) (
-        member (codes "at") (number (unsigned row.at)) (
-        member (codes "connection") (number (unsigned connection)) (
-        member (codes "end") (string end) (
-        member (codes "id") (text_value row.id) (
-        member (codes "number") (number_value row.number) (
-        member (codes "organization") (text_value row.organization) (
-        member (codes "refusal") (refusal_value row.refusal) (
-        member (codes "run") (number_value row.run) (
-        member (codes "status") (number_value row.status) (
-        member (codes "token") (text_value row.token) (
-        member (codes "version") (number_value row.version) (
-        member (codes "workspace") (text_value row.workspace) no_members))))))))))))
+pub act_is : (act : Option LogAct) → text_value (option_map log_word act) ≡ log_act_value act
+act_is None = refl
+act_is (Some act) = refl
 
--- a value's text, as that of what it is a view of
-pub puts_as : (old new before : List ℕ) (d e : Data) → d ≡ e → has_float e ≡ false → (has_float d ≡ false → Puts old new (λ rest. before ++ (compact_text d ++ rest))) → Puts old new (λ rest. before ++ (compact_text e ++ rest))
-puts_as old new before d e is plain put = subst (λ (x : Data). Puts old new (λ rest. before ++ (compact_text x ++ rest))) is (put (ap has_float is ∙ plain))
+pub refusal_is : (refusal : Option Refusal) → text_value (option_map (λ r. (line_of r).word) refusal) ≡ refusal_value refusal
+refusal_is None = refl
+refusal_is (Some refusal) = refl
+
+-- what a writer has in the end, which began with nothing
+pub line_written : {begun put : Written} {before : List ℕ} {tokens : List Token} (connection : ℕ) (end : List ℕ) (row : LogRow) → begun.before ≡ [] → begun.tokens ≡ begin_object ∷ [] → Puts begun put (λ rest. asked connection end row (named row (outcome row (made row rest)))) → before ≡ put.before → tokens ≡ put.tokens ++ end_object ∷ [] → (before ++ print tokens) ++ 10 ∷ [] ≡ log_line connection end row
+unfolding log_line
+line_written connection end row first opens puts stays closes =
+    ap (λ xs. xs ++ 10 ∷ []) (
+    ap₂ (λ before tokens. before ++ print tokens) stays closes
+    ∙ puts.text no_members
+    ∙ ap₂ (λ before tokens. before ++ print (tokens ++ members_tokens (members_outline (asked connection end row (named row (outcome row (made row no_members))))))) first opens
+    ∙ print-outline (log_value connection end row))
 
 -- ---- no control character
 

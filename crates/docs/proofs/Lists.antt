@@ -12,7 +12,7 @@ use Rattle.basis.specs.declared.rows.VersionRow.{VersionRow}
 use Rattle.basis.specs.declared.rows.WsRow.{WsRow}
 use Rattle.docs.specs.Bodies.{holder_value, number_value, ws_value, version_value, action_value, text_value, run_value, list_object, list_value}
 
-pub number_plain : (n : Option ℕ) → has_float (number_value n) ≡ false
+number_plain : (n : Option ℕ) → has_float (number_value n) ≡ false
 number_plain None = refl
 number_plain (Some n) = refl
 
@@ -25,7 +25,7 @@ action_plain : (action : Option RunAction) → has_float (action_value action) �
 action_plain None = refl
 action_plain (Some action) = refl
 
-pub text_plain : (text : Option (List ℕ)) → has_float (text_value text) ≡ false
+text_plain : (text : Option (List ℕ)) → has_float (text_value text) ≡ false
 text_plain None = refl
 text_plain (Some text) = refl
 

@@ -97,7 +97,7 @@ fn holder_value(alloc: Global, holder: &Option<HolderId>) -> Result<Value, Alloc
     }
 }
 
-pub(crate) fn number_value(number: Option<Number>) -> Value
+fn number_value(number: Option<Number>) -> Value
     ensures { view result ≡ number_value number }
 {
     match number {
@@ -150,7 +150,7 @@ fn action_value(alloc: Global, action: Option<RunAction>) -> Result<Value, Alloc
     }
 }
 
-pub(crate) fn text_value(alloc: Global, text: &Option<Text>) -> Result<Value, AllocError>
+fn text_value(alloc: Global, text: &Option<Text>) -> Result<Value, AllocError>
     ensures { IfOk result (λ value. view value ≡ text_value text.now) }
 {
     match text {

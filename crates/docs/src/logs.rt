@@ -1,14 +1,13 @@
 //! The lines of the log: one of compact JSON for each exchange.
-ghost use Rattle.std.specs.Prelude.{◌≡◌, ◌++◌, IfOk, OnOk, false};
-ghost use Rattle.serde_json.specs.View.{view};
-ghost use Rattle.serde_json.specs.Written.{compact_text, has_float};
+ghost use Rattle.std.specs.Prelude.{◌≡◌, IfOk, OnOk};
+ghost use Rattle.std.specs.Option.{option_copied};
+ghost use Rattle.serde_json.specs.Data.{member};
 ghost use Rattle.docs.specs.Bodies.{number_value, text_value};
-ghost use Rattle.docs.specs.Logs.{log_word, log_act_value, refusal_value, log_line, ExchangesAreLines};
-ghost use Rattle.docs.specs.Inner.Logs.{Puts, asked_text, named_text, outcome_text, token_text};
+ghost use Rattle.docs.specs.Logs.{log_word, log_line, ExchangesAreLines};
+ghost use Rattle.docs.specs.Inner.Logs.{Puts, asked, named, outcome, made};
 
-use crate::bodies::{number_value, text_value};
 use basis::{Down, LockId, Moment, Number, OrgName, Refusal, RunAction, Text, WsName};
-use serde_json::Value;
+use json::Writer;
 use std::alloc::{AllocError, Global};
 
 /// What a request asks, as the log names it.
@@ -87,8 +86,9 @@ pub struct LogRow {
     pub workspace: Option<WsName>,
 }
 
-// So long is a line at most where its texts are short.
-const USUAL_LINE: usize = 320;
+// A line fits this whatever its names and numbers are, if nothing is escaped and the lock's ID has at most 90
+// bytes; a longer line takes more memory.
+const USUAL_LINE: usize = 512;
 
 /// The line of an exchange, with the line feed that ends it: the number of its connection, how it ended,
 /// and the rest.
@@ -100,12 +100,15 @@ pub fn write_log_line(
 ) -> Result<Vec<u8>, Down>
     ensures { IfOk result (λ v. v.items ≡ log_line connection end.now row.now) }
 {
-    let mut line = Vec::with_capacity(alloc, USUAL_LINE)?;
-    put_asked(&mut line, alloc, connection, end, row)?;
-    put_named(&mut line, alloc, row)?;
-    put_outcome(&mut line, alloc, row)?;
-    put_token(&mut line, alloc, row)?;
-    line.extend_from_slice(b"}\n")?;
+    let mut writer = Writer::new(Vec::with_capacity(alloc, USUAL_LINE)?);
+    writer.begin_object()?;
+    put_asked(&mut writer, connection, end, row)?;
+    put_named(&mut writer, row)?;
+    put_outcome(&mut writer, row)?;
+    put_made(&mut writer, row)?;
+    writer.end_object()?;
+    let mut line = writer.into_inner();
+    line.extend_from_slice(b"\n")?;
     Ok(line)
 }
 
@@ -114,120 +117,82 @@ pub fn exchanges_are_lines()
     ensures { ExchangesAreLines }
 {}
 
-// A value, behind the bytes that stand before it in the line.
-fn put_value(
-    line: &mut Vec<u8>,
-    alloc: Global,
-    before: &str,
-    value: &Value,
-) -> Result<(), AllocError>
-    ensures { OnOk result (has_float (view value.now) ≡ false → Puts line.old.items line.new.items (λ rest. before.now ++ (compact_text (view value.now) ++ rest))) }
+// A member that is a text, or null.
+fn put_text(writer: &mut Writer, name: &str, text: Option<&str>) -> Result<(), AllocError>
+    ensures { OnOk result (Puts writer.old writer.new (member name.now (text_value (option_copied text.entry)))) }
 {
-    let text = value.to_string(alloc)?;
-    line.extend_from_slice(before.as_bytes())?;
-    line.extend_from_slice(text.as_bytes())
+    writer.key(name)?;
+    match text {
+        None => writer.null(),
+        Some(text) => writer.string(text),
+    }
+}
+
+// A member that is a number, or null.
+fn put_number(writer: &mut Writer, name: &str, number: Option<u64>) -> Result<(), AllocError>
+    ensures { OnOk result (Puts writer.old writer.new (member name.now (number_value number))) }
+{
+    writer.key(name)?;
+    match number {
+        None => writer.null(),
+        Some(number) => writer.u64(number),
+    }
 }
 
 // What was asked, when, and how the exchange ended.
 fn put_asked(
-    line: &mut Vec<u8>,
-    alloc: Global,
+    writer: &mut Writer,
     connection: u32,
     end: &str,
     row: &LogRow,
 ) -> Result<(), AllocError>
-    ensures { OnOk result (Puts line.old.items line.new.items (asked_text connection end.now row.now)) }
+    ensures { OnOk result (Puts writer.old writer.new (asked connection end.now row.now)) }
 {
-    let act = act_value(alloc, row.act)?;
-    put_value(line, alloc, "{\"act\":", &act)?;
-    put_value(line, alloc, ",\"at\":", &Value::from(row.at.seconds()))?;
-    put_value(line, alloc, ",\"connection\":", &Value::from(connection))?;
-    let end = Value::try_from_str(alloc, end)?;
-    put_value(line, alloc, ",\"end\":", &end)
+    put_text(writer, "act", row.act.map(LogAct::word))?;
+    put_number(writer, "at", Some(row.at.seconds()))?;
+    put_number(writer, "connection", Some(u64::from(connection)))?;
+    put_text(writer, "end", Some(end))
 }
 
 // The lock's ID, the number and the organization.
-fn put_named(line: &mut Vec<u8>, alloc: Global, row: &LogRow) -> Result<(), AllocError>
-    ensures { OnOk result (Puts line.old.items line.new.items (named_text row.now)) }
+fn put_named(writer: &mut Writer, row: &LogRow) -> Result<(), AllocError>
+    ensures { OnOk result (Puts writer.old writer.new (named row.now)) }
 {
-    let id = id_value(alloc, &row.id)?;
-    put_value(line, alloc, ",\"id\":", &id)?;
-    put_value(line, alloc, ",\"number\":", &number_value(row.number))?;
-    let organization = org_value(alloc, &row.organization)?;
-    put_value(line, alloc, ",\"organization\":", &organization)
+    put_text(writer, "id", row.id.as_ref().map(LockId::as_str))?;
+    put_number(
+        writer,
+        "number",
+        row.number.map(|number| u64::from(number.get())),
+    )?;
+    put_text(
+        writer,
+        "organization",
+        row.organization.as_ref().map(OrgName::as_str),
+    )
 }
 
 // Why it is refused, the run that holds, and the status.
-fn put_outcome(line: &mut Vec<u8>, alloc: Global, row: &LogRow) -> Result<(), AllocError>
-    ensures { OnOk result (Puts line.old.items line.new.items (outcome_text row.now)) }
+fn put_outcome(writer: &mut Writer, row: &LogRow) -> Result<(), AllocError>
+    ensures { OnOk result (Puts writer.old writer.new (outcome row.now)) }
 {
-    let refusal = refusal_value(alloc, row.refusal)?;
-    put_value(line, alloc, ",\"refusal\":", &refusal)?;
-    put_value(line, alloc, ",\"run\":", &number_value(row.run))?;
-    put_value(line, alloc, ",\"status\":", &status_value(row.status))
+    put_text(writer, "refusal", row.refusal.map(Refusal::word))?;
+    put_number(writer, "run", row.run.map(|run| u64::from(run.get())))?;
+    put_number(writer, "status", row.status.map(u64::from))
 }
 
 // The token, the version and the workspace.
-fn put_token(line: &mut Vec<u8>, alloc: Global, row: &LogRow) -> Result<(), AllocError>
-    ensures { OnOk result (Puts line.old.items line.new.items (token_text row.now)) }
+fn put_made(writer: &mut Writer, row: &LogRow) -> Result<(), AllocError>
+    ensures { OnOk result (Puts writer.old writer.new (made row.now)) }
 {
-    let token = text_value(alloc, &row.token)?;
-    put_value(line, alloc, ",\"token\":", &token)?;
-    put_value(line, alloc, ",\"version\":", &number_value(row.version))?;
-    let workspace = ws_name_value(alloc, &row.workspace)?;
-    put_value(line, alloc, ",\"workspace\":", &workspace)
-}
-
-fn act_value(alloc: Global, act: Option<LogAct>) -> Result<Value, AllocError>
-    ensures { IfOk result (λ value. view value ≡ log_act_value act) }
-{
-    match act {
-        None => Ok(Value::Null),
-        Some(act) => Value::try_from_str(alloc, act.word()),
-    }
-}
-
-fn refusal_value(alloc: Global, refusal: Option<Refusal>) -> Result<Value, AllocError>
-    ensures { IfOk result (λ value. view value ≡ refusal_value refusal) }
-{
-    match refusal {
-        None => Ok(Value::Null),
-        Some(refusal) => Value::try_from_str(alloc, refusal.word()),
-    }
-}
-
-fn id_value(alloc: Global, id: &Option<LockId>) -> Result<Value, AllocError>
-    ensures { IfOk result (λ value. view value ≡ text_value id.now) }
-{
-    match id {
-        None => Ok(Value::Null),
-        Some(id) => Value::try_from_str(alloc, id.as_str()),
-    }
-}
-
-fn org_value(alloc: Global, org: &Option<OrgName>) -> Result<Value, AllocError>
-    ensures { IfOk result (λ value. view value ≡ text_value org.now) }
-{
-    match org {
-        None => Ok(Value::Null),
-        Some(org) => Value::try_from_str(alloc, org.as_str()),
-    }
-}
-
-fn ws_name_value(alloc: Global, ws: &Option<WsName>) -> Result<Value, AllocError>
-    ensures { IfOk result (λ value. view value ≡ text_value ws.now) }
-{
-    match ws {
-        None => Ok(Value::Null),
-        Some(ws) => Value::try_from_str(alloc, ws.as_str()),
-    }
-}
-
-fn status_value(status: Option<u16>) -> Value
-    ensures { view result ≡ number_value status }
-{
-    match status {
-        None => Value::Null,
-        Some(status) => Value::from(status),
-    }
+    put_text(writer, "token", row.token.as_ref().map(Text::as_str))?;
+    put_number(
+        writer,
+        "version",
+        row.version.map(|version| u64::from(version.get())),
+    )?;
+    put_text(
+        writer,
+        "workspace",
+        row.workspace.as_ref().map(WsName::as_str),
+    )
 }

@@ -1,37 +1,44 @@
--- Contracts between functions: the parts of a line of the log, as they are put one behind another.
+-- Contracts between functions: the members of a line of the log, as they are put one behind another.
 use Rattle.std.specs.Prelude.{◌≡◌, ℕ, List, ◌++◌, codes}
-use Rattle.serde_json.specs.Data.{unsigned, number, string}
-use Rattle.serde_json.specs.Written.{compact_text}
+use Rattle.json.specs.Print.{print}
+use Rattle.json.specs.Tree.{members_tokens}
+use Rattle.json.specs.Written.{Written}
+use Rattle.serde_json.specs.Data.{Members, member, unsigned, number, string}
+use Rattle.serde_json.specs.Written.{members_outline}
 use Rattle.docs.specs.Bodies.{number_value, text_value}
 use Rattle.docs.specs.Logs.{log_act_value, refusal_value}
 use Rattle.docs.specs.declared.logs.LogRow.{LogRow}
 
--- a text is put behind another, whatever follows
-abbrev pub Puts : List ℕ → List ℕ → (List ℕ → List ℕ) → Type 0
-Puts old new text = (rest : List ℕ) → (new ++ rest) ≡ (old ++ text rest)
+-- the text of a writer, once these members follow and the brace behind them
+abbrev pub text_with : Written → Members → List ℕ
+text_with written rest = written.before ++ print (written.tokens ++ members_tokens (members_outline rest))
 
--- the parts of a line, each with what follows it
-abbrev pub asked_text : ℕ → List ℕ → LogRow → List ℕ → List ℕ
-asked_text connection end row rest =
-    codes "{\"act\":" ++ (compact_text (log_act_value row.act) ++ (
-    codes ",\"at\":" ++ (compact_text (number (unsigned row.at)) ++ (
-    codes ",\"connection\":" ++ (compact_text (number (unsigned connection)) ++ (
-    codes ",\"end\":" ++ (compact_text (string end) ++ rest)))))))
+-- members are put, whatever follows them
+pub record Puts (old new : Written) (put : Members → Members) : Type 0 where
+  pub text : (rest : Members) → text_with new rest ≡ text_with old (put rest)
 
-abbrev pub named_text : LogRow → List ℕ → List ℕ
-named_text row rest =
-    codes ",\"id\":" ++ (compact_text (text_value row.id) ++ (
-    codes ",\"number\":" ++ (compact_text (number_value row.number) ++ (
-    codes ",\"organization\":" ++ (compact_text (text_value row.organization) ++ rest)))))
+-- the members of a line, each part with what follows it
+abbrev pub asked : ℕ → List ℕ → LogRow → Members → Members
+asked connection end row rest =
+    member (codes "act") (log_act_value row.act) (
+    member (codes "at") (number (unsigned row.at)) (
+    member (codes "connection") (number (unsigned connection)) (
+    member (codes "end") (string end) rest)))
 
-abbrev pub outcome_text : LogRow → List ℕ → List ℕ
-outcome_text row rest =
-    codes ",\"refusal\":" ++ (compact_text (refusal_value row.refusal) ++ (
-    codes ",\"run\":" ++ (compact_text (number_value row.run) ++ (
-    codes ",\"status\":" ++ (compact_text (number_value row.status) ++ rest)))))
+abbrev pub named : LogRow → Members → Members
+named row rest =
+    member (codes "id") (text_value row.id) (
+    member (codes "number") (number_value row.number) (
+    member (codes "organization") (text_value row.organization) rest))
 
-abbrev pub token_text : LogRow → List ℕ → List ℕ
-token_text row rest =
-    codes ",\"token\":" ++ (compact_text (text_value row.token) ++ (
-    codes ",\"version\":" ++ (compact_text (number_value row.version) ++ (
-    codes ",\"workspace\":" ++ (compact_text (text_value row.workspace) ++ rest)))))
+abbrev pub outcome : LogRow → Members → Members
+outcome row rest =
+    member (codes "refusal") (refusal_value row.refusal) (
+    member (codes "run") (number_value row.run) (
+    member (codes "status") (number_value row.status) rest))
+
+abbrev pub made : LogRow → Members → Members
+made row rest =
+    member (codes "token") (text_value row.token) (
+    member (codes "version") (number_value row.version) (
+    member (codes "workspace") (text_value row.workspace) rest))

@@ -1,14 +1,15 @@
-use Rattle.std.proofs.Common.{refl, ap, ◌∙◌}
-use Rattle.serde_json.specs.Data.{number, unsigned}
-use Rattle.std.specs.Prelude.{codes}
+use Rattle.std.proofs.Common.{rules, Some, ap, ◌∙◌}
 use Rattle.std.proofs.lemmas.Result.{on_ok_weaker}
-use Rattle.docs.proofs.Lines.{act_plain, puts_as}
+use Rattle.docs.specs.Bodies.{number_value, text_value}
+use Rattle.docs.specs.Logs.{log_word}
+use Rattle.docs.proofs.Lines.{put_as, then_put, text_made, act_is}
 use Rattle.docs.proofs.logs.put_asked.Goals as goal
 
 pub returns : goal.returns
 returns c =
-    on_ok_weaker c.put_value-4.result (λ put rest.
-    puts_as _ _ (codes ",\"end\":") _ _ c.in_ok-end.ensures refl put _
-    ∙ puts_as _ _ (codes ",\"connection\":") _ _ c.from-2.ensures refl c.in_ok-put_value-3.ensures _
-    ∙ puts_as _ _ (codes ",\"at\":") _ _ (c.from.ensures ∙ ap (λ n. number (unsigned n)) c.seconds.ensures.value) refl c.in_ok-put_value-2.ensures _
-    ∙ puts_as _ _ (codes "{\"act\":") _ _ c.in_ok-act.ensures (act_plain c.args.row.now.act) c.in_ok-put_value.ensures _) c.put_value-4.ensures
+    let row = c.args.row.now in
+    on_ok_weaker c.put_text-2.result (λ put.
+    then_put (put_as (ap text_value (text_made row.act c.map.result log_word _ c.map.ensures.cases (λ x y k. search rules)) ∙ act_is row.act) c.in_ok-put_text.ensures) (
+    then_put (put_as (ap (λ n. number_value (Some n)) c.seconds.ensures.value) c.in_ok-put_number.ensures) (
+    then_put (put_as (ap (λ n. number_value (Some n)) c.from.ensures) c.in_ok-put_number-2.ensures)
+    put))) c.put_text-2.ensures

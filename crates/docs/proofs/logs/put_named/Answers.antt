@@ -1,13 +1,13 @@
-use Rattle.std.proofs.Common.{◌∙◌}
-use Rattle.std.specs.Prelude.{codes}
+use Rattle.std.proofs.Common.{rules, ap}
 use Rattle.std.proofs.lemmas.Result.{on_ok_weaker}
-use Rattle.docs.proofs.Lists.{number_plain, text_plain}
-use Rattle.docs.proofs.Lines.{puts_as}
+use Rattle.docs.specs.Bodies.{number_value}
+use Rattle.docs.proofs.Lines.{put_as, then_put, text_lent, number_made}
 use Rattle.docs.proofs.logs.put_named.Goals as goal
 
 pub returns : goal.returns
 returns c =
-    on_ok_weaker c.put_value-3.result (λ put rest.
-    puts_as _ _ (codes ",\"organization\":") _ _ c.in_ok-organization.ensures (text_plain c.args.row.now.organization) put _
-    ∙ puts_as _ _ (codes ",\"number\":") _ _ c.number_value.ensures (number_plain c.args.row.now.number) c.in_ok-put_value-2.ensures _
-    ∙ puts_as _ _ (codes ",\"id\":") _ _ c.in_ok-id.ensures (text_plain c.args.row.now.id) c.in_ok-put_value.ensures _) c.put_value-3.ensures
+    let row = c.args.row.now in
+    on_ok_weaker c.put_text-2.result (λ put.
+    then_put (put_as (text_lent row.id c.as_ref.result c.map.result _ c.as_ref.ensures.value c.map.ensures.cases (λ x y k. search rules)) c.in_ok-put_text.ensures) (
+    then_put (put_as (ap number_value (number_made row.number c.map-2.result _ c.map-2.ensures.cases (λ x y k. search rules))) c.in_ok-put_number.ensures)
+    (put_as (text_lent row.organization c.as_ref-2.result c.map-3.result _ c.as_ref-2.ensures.value c.map-3.ensures.cases (λ x y k. search rules)) put))) c.put_text-2.ensures

@@ -1,13 +1,14 @@
-use Rattle.std.proofs.Common.{◌∙◌}
-use Rattle.std.specs.Prelude.{codes}
+use Rattle.std.proofs.Common.{rules, ap, ◌∙◌}
 use Rattle.std.proofs.lemmas.Result.{on_ok_weaker}
-use Rattle.docs.proofs.Lists.{number_plain}
-use Rattle.docs.proofs.Lines.{refusal_plain, puts_as}
+use Rattle.basis.specs.Refusals.{line_of}
+use Rattle.docs.specs.Bodies.{number_value, text_value}
+use Rattle.docs.proofs.Lines.{put_as, then_put, text_made, number_made, refusal_is}
 use Rattle.docs.proofs.logs.put_outcome.Goals as goal
 
 pub returns : goal.returns
 returns c =
-    on_ok_weaker c.put_value-3.result (λ put rest.
-    puts_as _ _ (codes ",\"status\":") _ _ c.status_value.ensures (number_plain c.args.row.now.status) put _
-    ∙ puts_as _ _ (codes ",\"run\":") _ _ c.number_value.ensures (number_plain c.args.row.now.run) c.in_ok-put_value-2.ensures _
-    ∙ puts_as _ _ (codes ",\"refusal\":") _ _ c.in_ok-refusal.ensures (refusal_plain c.args.row.now.refusal) c.in_ok-put_value.ensures _) c.put_value-3.ensures
+    let row = c.args.row.now in
+    on_ok_weaker c.put_number-2.result (λ put.
+    then_put (put_as (ap text_value (text_made row.refusal c.map.result (λ refusal. (line_of refusal).word) _ c.map.ensures.cases (λ x y k. search rules)) ∙ refusal_is row.refusal) c.in_ok-put_text.ensures) (
+    then_put (put_as (ap number_value (number_made row.run c.map-2.result _ c.map-2.ensures.cases (λ x y k. search rules))) c.in_ok-put_number.ensures)
+    (put_as (ap number_value (number_made row.status c.map-3.result _ c.map-3.ensures.cases (λ x y k. search rules))) put))) c.put_number-2.ensures
