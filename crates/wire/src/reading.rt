@@ -3,7 +3,7 @@ ghost use Rattle.std.specs.Prelude.{◌≡◌, ◌≤◌, ◌↔◌, ◌++◌, �
 ghost use Rattle.std.specs.Io.KnownBytes.{Consumes};
 ghost use Rattle.wire.specs.Heads.{head_end_of, Whole};
 ghost use Rattle.wire.specs.Links.{ReportsReceived, ReportsInput, Writes, continue_if};
-ghost use Rattle.wire.specs.Inner.Bodies.{Fills, Finishes, wire_fault, refusal_fault};
+ghost use Rattle.wire.specs.Inner.Bodies.{Fills, Finishes, ReadsBody, body_fault, wire_fault, refusal_fault};
 ghost use Rattle.wire.specs.Messages.{framed_message};
 
 use crate::devices::{Inlet, Outlet};
@@ -97,17 +97,46 @@ fn finish<I: Inlet, O: Outlet>(
     ensures end { I.ended inlet.old ≡ false → ((I.ended inlet.new ≡ true) ↔ IsErrOf result WireFault.Ended) }
     ensures written { (O.broken outlet.new ≡ true) ↔ IsErrOf result WireFault.Continue }
 {
-    let Some(mut body) = begun(alloc, frame.body_len, rest) else {
+    match read_body(
+        alloc,
+        frame.body_len,
+        frame.awaits_continue,
+        rest,
+        inlet,
+        outlet,
+    ) {
+        Ok(body) => Ok(framed_message(frame, body)),
+        Err(fault) => Err(fault),
+    }
+}
+
+// The `100 Continue` where it is awaited, and the body.
+fn read_body<I: Inlet, O: Outlet>(
+    alloc: Global,
+    len: usize,
+    awaits_continue: bool,
+    rest: &[u8],
+    inlet: &mut I,
+    outlet: &mut O,
+) -> Result<Bytes, WireFault>
+    requires reads { I.broken inlet.old ≡ false }
+    requires writes { O.broken outlet.old ≡ false }
+    ensures body { (received : List ℕ) × Consumes (I.left inlet.old) (I.left inlet.new) received
+        × ReadsBody len awaits_continue (rest.now ++ received) (I.left inlet.new) (O.written outlet.old) (O.written outlet.new) result }
+    ensures read { (I.broken inlet.new ≡ true) ↔ IsErrOf result WireFault.Read }
+    ensures end { I.ended inlet.old ≡ false → ((I.ended inlet.new ≡ true) ↔ IsErrOf result WireFault.Ended) }
+    ensures written { (O.broken outlet.new ≡ true) ↔ IsErrOf result WireFault.Continue }
+{
+    let Some(mut body) = begun(alloc, len, rest) else {
         return Err(WireFault::Down);
     };
-    if write_continue(frame.awaits_continue, outlet).is_err() {
+    if write_continue(awaits_continue, outlet).is_err() {
         return Err(WireFault::Continue);
     }
-    let received = rest.len().min(frame.body_len);
-    match fill(body.as_mut_slice(), received, inlet) {
-        Ok(()) => Ok(framed_message(frame, Bytes::new(body))),
-        Err(BodyFault::Ended) => Err(WireFault::Ended),
-        Err(BodyFault::Failed) => Err(WireFault::Read),
+    let filled = rest.len().min(len);
+    match fill(body.as_mut_slice(), filled, inlet) {
+        Ok(()) => Ok(Bytes::new(body)),
+        Err(fault) => Err(body_fault(fault)),
     }
 }
 
@@ -167,6 +196,15 @@ fn fill<I: Inlet>(body: &mut [u8], begun: usize, inlet: &mut I) -> Result<(), Bo
 pub enum BodyFault {
     Ended,
     Failed,
+}
+
+fn body_fault(fault: BodyFault) -> WireFault
+    ensures { result ≡ body_fault fault }
+{
+    match fault {
+        BodyFault::Ended => WireFault::Ended,
+        BodyFault::Failed => WireFault::Read,
+    }
 }
 
 fn framed_message(frame: Frame, body: Bytes) -> Message

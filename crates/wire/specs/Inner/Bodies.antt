@@ -1,5 +1,5 @@
 -- What the parts of the reading of a message report.
-use Rattle.std.specs.Prelude.{◌≡◌, ℕ, ◌<◌, ◌≤◌, List, [], length, take, Option, Result, Ok, Err, IsTrue}
+use Rattle.std.specs.Prelude.{◌≡◌, ℕ, ◌<◌, ◌≤◌, List, [], length, take, Bool, Option, Result, Ok, Err, IsTrue}
 use Rattle.std.specs.Io.KnownBytes.{Appends, IsAtEnd}
 use Rattle.wire.specs.declared.framing.Frame.{Frame}
 use Rattle.wire.specs.declared.framing.FrameFault.{FrameFault}
@@ -22,15 +22,29 @@ Fills received len left body (Ok done) = (body ≡ received) × (length received
 Fills received len left body (Err BodyEnded) = (length received < len) × IsAtEnd left
 Fills received len left body (Err BodyFailed) = length received < len
 
--- what follows a head that is accepted, by the bytes received after it
+-- why there is no body, by its length, whether a `100 Continue` is awaited, and the bytes received after the head
+abbrev pub LacksBody : ℕ → Bool → List ℕ → Option (List ℕ) → Option (List ℕ) → Option (List ℕ) → WireFault → Type 0
+LacksBody len awaits rest left old new Ended = (length rest < len) × IsAtEnd left × Appends old new (continue_if awaits)
+LacksBody len awaits rest left old new Read = (length rest < len) × Appends old new (continue_if awaits)
+LacksBody len awaits rest left old new Continue = IsTrue awaits × WritesPrefix old new continue_text
+LacksBody len awaits rest left old new (Refused refusal is_head) = ⊥
+LacksBody len awaits rest left old new Down = Appends old new []
+
+-- the body that follows a head
+abbrev pub ReadsBody : ℕ → Bool → List ℕ → Option (List ℕ) → Option (List ℕ) → Option (List ℕ) → Result (List ℕ) WireFault → Type 0
+ReadsBody len awaits rest left old new (Ok body) = (len ≤ length rest) × (body ≡ take len rest) × Appends old new (continue_if awaits)
+ReadsBody len awaits rest left old new (Err fault) = LacksBody len awaits rest left old new fault
+
+-- what follows a head that is accepted
 abbrev pub Finishes : Frame → List ℕ → Option (List ℕ) → Option (List ℕ) → Option (List ℕ) → Result Message WireFault → Type 0
 Finishes frame rest left old new (Ok message) =
     (frame.body_len ≤ length rest) × (message ≡ framed_message frame (take frame.body_len rest)) × Appends old new (continue_if frame.awaits_continue)
-Finishes frame rest left old new (Err Ended) = (length rest < frame.body_len) × IsAtEnd left × Appends old new (continue_if frame.awaits_continue)
-Finishes frame rest left old new (Err Read) = (length rest < frame.body_len) × Appends old new (continue_if frame.awaits_continue)
-Finishes frame rest left old new (Err Continue) = IsTrue frame.awaits_continue × WritesPrefix old new continue_text
-Finishes frame rest left old new (Err (Refused refusal is_head)) = ⊥
-Finishes frame rest left old new (Err Down) = Appends old new []
+Finishes frame rest left old new (Err fault) = LacksBody frame.body_len frame.awaits_continue rest left old new fault
+
+-- the fault of a message whose body isn't whole
+abbrev pub body_fault : BodyFault → WireFault
+body_fault BodyEnded = Ended
+body_fault BodyFailed = Read
 
 -- the fault of a message whose head wasn't read
 abbrev pub wire_fault : HeadFault → WireFault
