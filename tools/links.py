@@ -5,12 +5,14 @@
 
 No contract says what a socket, a timeout or the clock of the system does. Here `serve` is asked over 127.0.0.1, and its times are
 taken from a monotonic clock: who reaches it, when a peer is cut off, which moment it tells, that a peer that sends more than is
-taken reads its whole reply, and that a service which is stopped and goes on serves. It prints a line for each thing that holds,
-and ends with status 1 at the first that doesn't.
+taken reads its whole reply, that one that stays holds up nobody, and that a service which is stopped and goes on serves. It
+prints a line for each thing that holds, and ends with status 1 at the first that doesn't.
 
-A look never fails since the machine is slow, but for the bounds of a cut-off: it comes at most SLACK seconds behind its time.
+A look never fails since the machine is slow, but for two bounds: a cut-off comes at most SLACK seconds behind its time, and
+STAYING peers are served within STAYED seconds.
 """
 
+import contextlib
 import datetime
 import re
 import select
@@ -60,6 +62,11 @@ SMALL_BUFFER = 4096
 # What a rude peer sends behind what is taken: less than is read of it, and more than a buffer holds that nobody reads.
 REST = b"x" * 4_000_000
 TOO_MUCH = 16_777_217
+
+# Peers that are whole, and stay once they have their reply; and the seconds for all of them, the end of the service too. One
+# that waits for each of them to leave waits a second for each.
+STAYING = 5
+STAYED = 3
 
 HELD = MADE.replace(b'"version":null', b'"version":1')
 TOO_LARGE = reply(b"413 Payload Too Large", b'{"error":"too-large"}')
@@ -232,6 +239,23 @@ def look_at_rude_peers(program):
         service.ends()
 
 
+def look_at_staying_peers(program):
+    """A peer whose request was read whole holds up nobody, though it stays."""
+    post = request(b"POST /v1/acme/state/net HTTP/1.1", STATE)
+    for what, sent, due in [("a GET", GET, reply(b"200 OK", STATE)), ("a POST", post, reply(b"200 OK", b""))]:
+        with Service(program, STAYING) as service, contextlib.ExitStack() as staying:
+            begun = time.monotonic()
+            for _ in range(STAYING):
+                peer = staying.enter_context(service.peer())
+                peer.sendall(sent)
+                said("a peer that stays behind %s" % what, undated(received(peer)) == due, True)
+            service.ends()
+            lasted = time.monotonic() - begun
+        if lasted > STAYED:
+            raise Wrong("%d peers that stay behind %s take %.2f seconds, at most %d are due" % (STAYING, what, lasted, STAYED))
+        print("right: %d peers that stay behind %s take %.2f seconds" % (STAYING, what, lasted))
+
+
 def look_at_idle(program):
     """A peer is cut off once it let nothing through for as long as it may, and not before."""
     with Service(program, 3, "--idle", str(IDLE), "--most", str(FAR)) as service:
@@ -310,6 +334,7 @@ LOOKS = {
     "address": look_at_address,
     "clock": look_at_clock,
     "rude": look_at_rude_peers,
+    "staying": look_at_staying_peers,
     "idle": look_at_idle,
     "unread": look_at_unread,
     "most": look_at_most,

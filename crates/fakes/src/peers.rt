@@ -74,7 +74,7 @@ impl<'a> Connections for MemoryPeers<'a> {
 
     ghost accepts = { λ old timeouts result new. AcceptsNext ⟦<FromRead<&'a [u8]> as Inlet>⟧ ⟦<ToWrite<Sipped> as Outlet>⟧ old.waiting.now result new.waiting.now × OnOk result (new.timeouts ≡ Some timeouts) };
 
-    ghost ends = { λ old _ writer new. (new.is_lost ≡ true) ⊎ IfSome (⟦<ToWrite<Sipped> as Outlet>⟧.written writer) (λ bytes. new.got.items ≡ old.got.items ++ bytes ∷ []) };
+    ghost ends = { λ old _ writer _ new. (new.is_lost ≡ true) ⊎ IfSome (⟦<ToWrite<Sipped> as Outlet>⟧.written writer) (λ bytes. new.got.items ≡ old.got.items ++ bytes ∷ []) };
 
     fn bind(&mut self, address: Ipv4Addr, port: u16) -> Result<u16, Cause> {
         self.bound = Some((address, port));
@@ -96,7 +96,7 @@ impl<'a> Connections for MemoryPeers<'a> {
         Ok((FromRead::new(*sent), ToWrite::new(got)))
     }
 
-    fn finish(&mut self, _reader: FromRead<&'a [u8]>, writer: ToWrite<Sipped>) {
+    fn finish(&mut self, _reader: FromRead<&'a [u8]>, writer: ToWrite<Sipped>, _was_whole: bool) {
         let bytes = Bytes::new(writer.into_inner().bytes);
         if self.got.push(bytes).is_err() {
             self.is_lost = true;

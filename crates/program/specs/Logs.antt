@@ -1,5 +1,5 @@
 -- The log on standard output, where `--log` asks for it: a line for each exchange, and how it ended.
-use Rattle.std.specs.Prelude.{◌≡◌, ◌++◌, ℕ, suc, List, [], ◌∷◌, Bool, true, false, Option, Some, None, Result, Ok, Err, codes}
+use Rattle.std.specs.Prelude.{◌≡◌, ◌++◌, ℕ, suc, List, [], ◌∷◌, Bool, true, false, Option, Some, None, Result, Ok, Err, is_some, codes}
 use Rattle.std.specs.Io.KnownBytes.{Appends}
 use Rattle.docs.specs.Logs.{log_line}
 use Rattle.docs.specs.declared.logs.LogRow.{LogRow}
@@ -22,6 +22,11 @@ end_word (Err Write) = codes "write"
 abbrev pub row_text : {T : Type 0} → ℕ → Result T LinkFault → Option LogRow → List ℕ
 row_text place result None = []
 row_text place result (Some row) = log_line place (end_word result) row
+
+-- whether an act is told of the exchange: one is only where a whole message was read
+abbrev pub tells_act : Option LogRow → Bool
+tells_act None = false
+tells_act (Some row) = is_some row.act
 
 -- standard output gets the text where the log is asked for: the whole of it where it is told that it was taken, and else a front
 -- of it; and where no log is asked for it gets nothing, and there is nothing that wasn't taken

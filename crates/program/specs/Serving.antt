@@ -14,7 +14,7 @@ use Rattle.serve.specs.Exchanges.{Exchanges, ChangesAsTold}
 use Rattle.serve.specs.Service.{AreAsked}
 use Rattle.serve.specs.Runs.{IsOwnRecord}
 use Rattle.program.specs.Errors.{GetsConnectionLines, GetsFront, cause_line}
-use Rattle.program.specs.Logs.{row_text, with_log, Logs, Line, log_text, ChangeByLines}
+use Rattle.program.specs.Logs.{row_text, tells_act, with_log, Logs, Line, log_text, ChangeByLines}
 use Rattle.program.specs.declared.reasons.Cause.{Cause}
 use Rattle.program.specs.declared.reasons.Cause.TheVariants as cause
 use Rattle.program.specs.declared.endings.Ending.{Ending}
@@ -69,8 +69,9 @@ AcceptsNone {N} {C} {R} {W} n c timeouts network network' clock clock' why =
 
 module _ {K N R W : Type 0} (k : keep.Ghosts K) (n : connections.Ghosts N R W) (i : inlet.Ghosts R) (o : outlet.Ghosts W) where
   -- the connection of this number, with these two sides, is answered by one exchange at this moment, by the 503 of memory or
-  -- a store that refused or not, told of on the error stream, and in the log where it is asked for, and ended; and whether the
-  -- log's line was taken: the network, the store and what the error stream and standard output have, before and after
+  -- a store that refused or not, told of on the error stream, and in the log where it is asked for, and ended, as one whose message
+  -- was read whole where an act is told of it; and whether the log's line was taken: the network, the store and what the error
+  -- stream and standard output have, before and after
   pub record AnswersOne (logs : Bool) (place at : ℕ) (is_down is_told : Bool) (reader : R) (writer : W) (network network' : N) (store store' : K) (errors errors' output output' : Option (List ℕ)) : Type 0 where
     pub read : R
     pub written : W
@@ -84,7 +85,7 @@ module _ {K N R W : Type 0} (k : keep.Ghosts K) (n : connections.Ghosts N R W) (
     pub changes : k.clean store' → k.sound store → IfSome row (λ told. ChangesAsTold told (k.rows store) (k.rows store'))
     pub lines : GetsConnectionLines place is_down result errors errors'
     pub logged : Logs logs is_told (row_text place result row) output output'
-    pub ends : n.ends network read written network'
+    pub ends : n.ends network read written (tells_act row) network'
 
 -- what the files said of a store, where they weren't refused memory
 abbrev pub says_shut : Result Bool Down → Bool

@@ -3,7 +3,7 @@ ghost use Rattle.std.specs.Prelude.{◌≡◌, OnOk};
 ghost use Rattle.std.specs.Io.KnownBytes.{Appends};
 ghost use Rattle.docs.specs.Logs.{log_line};
 ghost use Rattle.program.specs.Errors.{GetsFront};
-ghost use Rattle.program.specs.Logs.{end_word, row_text, Logs};
+ghost use Rattle.program.specs.Logs.{end_word, row_text, tells_act, Logs};
 
 use crate::errors::send;
 use basis::Down;
@@ -22,6 +22,16 @@ fn end_word(ended: Result<(), LinkFault>) -> &'static str
         Err(LinkFault::Read) => "read",
         Err(LinkFault::Continue) => "continue",
         Err(LinkFault::Write) => "write",
+    }
+}
+
+/// Whether an act is told of an exchange.
+pub fn tells_act(row: &Option<LogRow>) -> bool
+    ensures { result ≡ tells_act row.now }
+{
+    match row {
+        Some(row) => row.act.is_some(),
+        None => false,
     }
 }
 

@@ -83,8 +83,9 @@ pub trait Connections {
     // none, the network after.
     ghost accepts: { Self → AnyTimeouts → Result (Self.Reader × Self.Writer) AnyDown → Self → Type 0 };
 
-    // What ends a connection, its two sides as they are left.
-    ghost ends: { Self → Self.Reader → Self.Writer → Self → Type 0 };
+    // What ends a connection: the network before, its two sides as they are left, whether its message is known to have
+    // been read whole, the network after.
+    ghost ends: { Self → Self.Reader → Self.Writer → Bool → Self → Type 0 };
 
     /// Listens at an address and a port, and gives the port that is listened at; or says why it can't.
     fn bind(&mut self, address: Ipv4Addr, port: u16) -> Result<u16, Cause>
@@ -96,9 +97,10 @@ pub trait Connections {
         ensures sound { IfOk result (λ sides. (Self.Reader.broken sides.0 ≡ false) × (Self.Writer.broken sides.1 ≡ false)) }
         ensures accepted { accepts self.old timeouts.now result self.new };
 
-    /// Ends a connection, and lets the peer read its reply.
-    fn finish(&mut self, reader: Self::Reader, writer: Self::Writer)
-        ensures { ends self.old reader writer self.new };
+    /// Ends a connection. Where its message is known to have been read whole (`was_whole`), it may end at once.
+    /// Else the peer is given time to read its reply, while what it still sends is dropped.
+    fn finish(&mut self, reader: Self::Reader, writer: Self::Writer, was_whole: bool)
+        ensures { ends self.old reader writer was_whole self.new };
 }
 
 /// What tells the moment.

@@ -10,7 +10,7 @@ ghost use Rattle.program.specs.Inner.Serving.{TakesOne};
 
 use crate::endings::Ending;
 use crate::errors::{tell_cause, write_line};
-use crate::logs::log_row;
+use crate::logs::{log_row, tells_act};
 use crate::outside::{Clock, Connections, Files};
 use crate::reasons::Cause;
 use basis::Moment;
@@ -122,7 +122,8 @@ fn serve_one<K: Keep, N: Connections, O: Write, E: Write>(
     let ended = exchange_one(alloc, service, now, &mut inlet, &mut outlet);
     let _ = tell(errors, place, ended, service.was_down());
     let is_told = log_row(alloc, output, logs, place, ended, service.row());
-    network.finish(inlet, outlet);
+    let was_whole = tells_act(service.row());
+    network.finish(inlet, outlet, was_whole);
     is_told
 }
 

@@ -172,7 +172,7 @@ impl<'a> Connections for Slow<'a> {
 
     ghost accepts = { λ _ _ _ _. ⊤ };
 
-    ghost ends = { λ _ _ _ _. ⊤ };
+    ghost ends = { λ _ _ _ _ _. ⊤ };
 
     fn bind(&mut self, address: Ipv4Addr, port: u16) -> Result<u16, Cause> {
         self.network.bind(address, port)
@@ -197,8 +197,8 @@ impl<'a> Connections for Slow<'a> {
         Ok((reader, writer))
     }
 
-    fn finish(&mut self, reader: Self::Reader, writer: Self::Writer) {
-        self.network.finish(reader.inlet, writer.outlet);
+    fn finish(&mut self, reader: Self::Reader, writer: Self::Writer, was_whole: bool) {
+        self.network.finish(reader.inlet, writer.outlet, was_whole);
     }
 }
 

@@ -66,7 +66,7 @@ impl<'a> Connections for TcpSockets<'a> {
 
     ghost accepts = { λ _ _ _ _. ⊤ };
 
-    ghost ends = { λ _ _ _ _. ⊤ };
+    ghost ends = { λ _ _ _ _ _. ⊤ };
 
     fn bind(&mut self, address: Ipv4Addr, port: u16) -> Result<u16, Cause> {
         let listener = match TcpListener::bind(self.rt, (address, port)) {
@@ -96,11 +96,21 @@ impl<'a> Connections for TcpSockets<'a> {
         }
     }
 
-    // Where the link failed there is no reply to be read.
-    fn finish(&mut self, reader: FromRead<TimedStream<'a>>, writer: ToWrite<TimedStream<'a>>) {
+    // Where the link failed there is no reply to be read. Where the whole message was read and no byte waits behind
+    // it, nothing is unread.
+    fn finish(
+        &mut self,
+        reader: FromRead<TimedStream<'a>>,
+        writer: ToWrite<TimedStream<'a>>,
+        was_whole: bool,
+    ) {
         if reader.failed() || writer.failed() {
             return;
         }
-        let _ = linger(&mut reader.into_inner());
+        let mut stream = reader.into_inner();
+        if was_whole && !stream.has_more() {
+            return;
+        }
+        let _ = linger(&mut stream);
     }
 }

@@ -51,6 +51,8 @@ pub struct TimedStream<'a> {
     end: Instant,
     /// How long the system lets a call of this side wait, once it was told.
     told: Option<Duration>,
+    /// Whether the last read of this side filled its buffer, so that more bytes may wait.
+    is_filled: bool,
 }
 
 impl<'a> TimedStream<'a> {
@@ -61,6 +63,7 @@ impl<'a> TimedStream<'a> {
             idle,
             end,
             told: None,
+            is_filled: false,
         }
     }
 
@@ -110,6 +113,24 @@ impl<'a> TimedStream<'a> {
         Ok(())
     }
 
+    /// Whether bytes wait behind those that were read. Where none do, this side is to be read no more. A read that
+    /// left room in its buffer took all that had come, so the system is asked only behind one that left none.
+    pub fn has_more(&self) -> bool {
+        self.is_filled && self.are_waiting()
+    }
+
+    // Whether bytes wait, as the system says at once; where none do, reads don't wait from then on.
+    fn are_waiting(&self) -> bool {
+        let stream = self.socket.stream();
+        if stream.set_nonblocking(true).is_err() {
+            return false;
+        }
+        match stream.peek(&mut [0u8; 1]) {
+            Ok(1) => stream.set_nonblocking(false).is_ok(),
+            _ => false,
+        }
+    }
+
     /// Says that nothing more is written; from now on a read waits no longer than `idle`.
     pub fn end_writing(&mut self, idle: Duration) -> io::Result<()> {
         self.idle = idle;
@@ -125,8 +146,12 @@ impl Read for TimedStream<'_> {
             self.let_read(self.left(begun, now)?)?;
             let mut stream = self.socket.stream();
             match stream.read(buf) {
+                Ok(count) => {
+                    self.is_filled = count == buf.len();
+                    return Ok(count);
+                }
                 Err(error) if error.kind() == ErrorKind::Interrupted => {}
-                answer => return answer,
+                Err(error) => return Err(error),
             }
             now = Instant::now(self.rt)?;
         }
