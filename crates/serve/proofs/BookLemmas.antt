@@ -2,7 +2,6 @@
 use Rattle.std.proofs.Common.{◌≡◌, ◌⊎◌, inl, inr, ℕ, ◌<◌, ◌≤◌, Bool, true, false, not, ◌&&◌, List, [], ◌∷◌, cond, ◌++◌, length, filter, Option, Some, None, option_map, Result, Ok, Err, IfSome, is_some, refl, sym, ap, subst, ◌∙◌, arith}
 use Rattle.std.specs.List.{AllByRecursion, Contains, flat_map}
 use Rattle.std.specs.Str.{bytes_eq}
-use Rattle.std.specs.FinMap.{get}
 use Rattle.std.proofs.lemmas.Bool.{eqb-true}
 use Rattle.std.proofs.lemmas.Slice.Eq.{bytes_eq-Decides}
 use Rattle.basis.specs.Names.{run_id}
@@ -49,7 +48,7 @@ use Rattle.serve.specs.Book.{Entry, book, BooksAreOfTheRun, if_so, put_if, as_lo
 use Rattle.serve.specs.Inner.Taking.{IsTimely, RunsTo}
 use Rattle.serve.proofs.ActLemmas.{IsKeyed, IsAction, act_is, once_is}
 use Rattle.serve.proofs.CheckLemmas.{Passes, order_passes, list_passes}
-use Rattle.serve.proofs.RecordLemmas.{standing_at}
+use Rattle.serve.proofs.RecordLemmas.{standing_at, workspace_lawful}
 use Rattle.serve.proofs.CustodyLemmas.{apart_from, one_of, own_after, other_after, names_of, act_on, command_keeps, is_one, one_name, not_refused, some_is}
 use Rattle.serve.proofs.RunLemmas.{all_asked_one}
 
@@ -666,17 +665,6 @@ own_timely owner (a ∷ asked) all = chosen (is_own owner a) (own_timely owner a
     chosen : (b : Bool) → AllByRecursion IsTimely (own_asks owner asked) → AllByRecursion IsTimely (with_own b a (own_asks owner asked))
     chosen true rest = (all.0, rest)
     chosen false rest = rest
-
-workspace_lawful : (rows : List ℕ → Option Organization) (org ws : List ℕ) → AreLawful rows → IsLawfulIfThere (workspace_in (rows org) ws)
-workspace_lawful rows org ws lawful = by_record (rows org) refl
-  where
-    by_workspace : (o : Organization) → rows org ≡ Some o → (w : Option Workspace) → get o.workspaces ws ≡ w → IsLawfulIfThere w
-    by_workspace o e None t = tt
-    by_workspace o e (Some w) t = ((lawful org o e).workspaces ws w t).lawful
-
-    by_record : (r : Option Organization) → rows org ≡ r → IsLawfulIfThere (workspace_in r ws)
-    by_record None e = tt
-    by_record (Some o) e = by_workspace o e (get o.workspaces ws) refl
 
 pub of_each_book : (Law : List ℕ → List Entry → Type 0) → ((ws : List ℕ) (w : Option Workspace) (es : List Entry) → AreLegal ws w es → Law ws es)
     → (steps : List Step) (old new : List ℕ → Option Organization) (ts : List (List ℕ)) → RunsTo steps old new ts → AreLawful old → OfEachBook Law steps old

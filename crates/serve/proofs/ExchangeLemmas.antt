@@ -3,6 +3,7 @@ use Rattle.std.proofs.Common.{◌≡◌, ◌≢◌, ℕ, Bool, true, false, List
 use Rattle.std.specs.Io.KnownBytes.{Appends, Consumes}
 use Rattle.std.specs.Str.{bytes_eq}
 use Rattle.std.proofs.lemmas.Slice.Eq.{bytes_eq-Decides}
+use Rattle.machine.specs.Laws.{AreLawful}
 use Rattle.machine.specs.declared.records.Organization.{Organization}
 use Rattle.route.specs.Asks.{Asking, asked_of, asks}
 use Rattle.route.specs.Asks as route
@@ -14,19 +15,21 @@ use Rattle.wire.specs.Links.{ReportsReceived, ReportsInput, continue_if, Writes}
 use Rattle.wire.specs.Replies.{Answer, IsReplyText, unavailable_answer}
 use Rattle.wire.proofs.LinkLemmas.{Appends-none, Appends-then, Consumes-none}
 use Rattle.docs.specs.declared.logs.LogRow.{LogRow}
-use Rattle.serve.specs.Logs.{silent_row, unavailable_row, request_row, row_of_ask}
+use Rattle.serve.specs.Logs.{silent_row, with_answer, unavailable_row, request_row, row_of_ask}
 use Rattle.serve.specs.Asks.{Ask, Owner, owner_of, organization, unattributed, operator, silent, requests, commands}
 use Rattle.serve.specs.Asks as ask
-use Rattle.serve.specs.Steps.{Said, replies, request_step, step}
+use Rattle.serve.specs.Steps.{Said, replies, refusing, request_step, step}
 use Rattle.serve.specs.Inner.Prepared.{IsPrepared}
 use Rattle.serve.specs.Inner.Replying.{without_body, PreparesFor, LogsFor, due_reply, due_row, Settles}
 use Rattle.serve.specs.Service.{same_owner, record_for, asked_by, Asks, Carries, Stays, said_to, IsSaidText, is_head, after_ask}
-use Rattle.serve.specs.Exchanges.{IsServed, IsAnswered, Exchanges, ChangesAtMostOne, ChangesAsTold}
+use Rattle.serve.specs.Exchanges.{IsServed, IsAnswered, Exchanges, ChangesAtMostOne, ComesAsTold, ChangesAsTold}
 use Rattle.serve.specs.declared.exchanges.LinkFault.{LinkFault}
 use Rattle.serve.specs.declared.exchanges.LinkFault.TheVariants.{Ended as LinkEnded, Read as LinkRead, Continue as LinkContinue, Write as LinkWrite}
 use Rattle.serve.specs.declared.prepared.Prepared.{Prepared}
 use Rattle.basis.specs.declared.refusals.Refusal.{Refusal}
 use Rattle.serve.proofs.LawLemmas.{refusals_change_nothing}
+use Rattle.serve.proofs.RecordLemmas.{workspace_lawful}
+use Rattle.serve.proofs.ToldLemmas.{request_as_told}
 use Rattle.serve.proofs.TakenLemmas.{prepared_after, carries_after}
 
 -- what is prepared is what is said
@@ -74,17 +77,48 @@ answered_one now received old new awaited text row true unavailable = stayed_one
 one_row : (a b : LogRow) → Some a ≡ Some b → a ≡ b
 one_row a b e = cc
 
+-- a row of no organization, which tells of no version and of no run
+pub record IsOfNobody (row : LogRow) : Type 0 where
+  pub nobody : row.organization ≡ None
+  pub version : row.version ≡ None
+  pub run : row.run ≡ None
+
+pub silent_of_nobody : (row : LogRow) (now : ℕ) → row ≡ silent_row now → IsOfNobody row
+silent_of_nobody row now is = subst IsOfNobody (sym is) (record { nobody = refl; version = refl; run = refl })
+
+pub unavailable_of_nobody : (row : LogRow) (now : ℕ) → row ≡ unavailable_row now → IsOfNobody row
+unavailable_of_nobody row now is = subst IsOfNobody (sym is) (record { nobody = refl; version = refl; run = refl })
+
+pub stayed_told : (row : LogRow) (old new : List ℕ → Option Organization) → IsOfNobody row → Stays old new → ChangesAsTold row old new
+stayed_told row old new of_nobody stays = record {
+  others = λ org apart. stays org;
+  refused = λ some. stays;
+  own = λ org named. absurd (let none : ⊥ = cc (sym of_nobody.nobody ∙ named) in none);
+  nobody = λ none. (of_nobody.version, of_nobody.run);
+}
+
 -- what is asked changes what its row tells
-asked_told : (a : Ask) (row : LogRow) (old new : List ℕ → Option Organization) → Some row ≡ row_of_ask (record_for old (owner_of a)) a → Carries a old new → ChangesAsTold row old new
-asked_told silent row old new is carries = absurd (let none : ⊥ = cc in none)
-asked_told (ask.refused at awaited refusal is_head) row old new is carries = record { others = λ org apart. carries org; refused = λ some org. carries org }
-asked_told (requests at awaited asked content_md5 body) row old new is carries =
+asked_told : (a : Ask) (row : LogRow) (old new : List ℕ → Option Organization) → AreLawful old → Some row ≡ row_of_ask (record_for old (owner_of a)) a → Carries a old new → ChangesAsTold row old new
+asked_told silent row old new lawful is carries = absurd (let none : ⊥ = cc in none)
+asked_told (ask.refused at awaited refusal is_head) row old new lawful is carries =
+    subst (λ (x : LogRow). ChangesAsTold x old new) (sym (one_row row (with_answer (refusing refusal None).answer (silent_row at)) is))
+    (stayed_told (with_answer (refusing refusal None).answer (silent_row at)) old new (record { nobody = refl; version = refl; run = refl }) carries)
+asked_told (requests at awaited asked content_md5 body) row old new lawful is carries =
     let same : row ≡ request_row (old asked.caller) at asked content_md5 body = one_row row (request_row (old asked.caller) at asked content_md5 body) is in
     subst (λ (x : LogRow). ChangesAsTold x old new) (sym same) (record {
       others = λ org apart. carries org ∙ other_stays org (bytes_eq org asked.caller) refl apart;
       refused = λ some org. carries org ∙ refused_stays (request_step (old asked.caller) at asked content_md5 body).answer.refusal refl some org (bytes_eq org asked.caller) refl;
+      own = λ org named. subst (λ (name : List ℕ). ComesAsTold (request_row (old asked.caller) at asked content_md5 body) (old name) (new name)) (one_name asked.caller org named)
+          (request_as_told (old asked.caller) (new asked.caller) at asked content_md5 body (λ ws. workspace_lawful old asked.caller ws lawful) own_step);
+      nobody = λ none. absurd (let not_none : ⊥ = cc in not_none);
     })
   where
+    one_name : (a b : List ℕ) → Some a ≡ Some b → a ≡ b
+    one_name a b e = cc
+
+    own_step : new asked.caller ≡ (request_step (old asked.caller) at asked content_md5 body).left
+    own_step = carries asked.caller ∙ ap (λ (b : Bool). after_ask b (requests at awaited asked content_md5 body) (old asked.caller)) ((bytes_eq-Decides asked.caller asked.caller).1 refl)
+
     other_stays : (org : List ℕ) (b : Bool) → bytes_eq org asked.caller ≡ b → Some asked.caller ≢ Some org → after_ask b (requests at awaited asked content_md5 body) (old org) ≡ old org
     other_stays org true e apart = absurd (apart (ap Some (sym ((bytes_eq-Decides org asked.caller).0 e))))
     other_stays org false e apart = refl
@@ -97,14 +131,11 @@ asked_told (requests at awaited asked content_md5 body) row old new is carries =
         ∙ (refusals_change_nothing (old asked.caller) (requests at awaited asked content_md5 body)).0 awaited at _ refusal refl e
         ∙ ap old (sym ((bytes_eq-Decides org asked.caller).0 is))
     refused_stays (Some refusal) e some org false is = refl
-asked_told (commands at command) row old new is carries = absurd (let none : ⊥ = cc in none)
+asked_told (commands at command) row old new lawful is carries = absurd (let none : ⊥ = cc in none)
 
-answered_told : (now : ℕ) (received : List ℕ) (old new : List ℕ → Option Organization) (awaited : Bool) (text : List ℕ) (row : LogRow) (is_down : Bool) → IsAnswered now received old new awaited text (Some row) is_down → ChangesAsTold row old new
-answered_told now received old new awaited text row false served = asked_told served.ask row old new served.logged served.carries
-answered_told now received old new awaited text row true unavailable = record { others = λ org apart. unavailable.1.stays org; refused = λ some. unavailable.1.stays }
-
-pub stayed_told : (row : LogRow) (old new : List ℕ → Option Organization) → Stays old new → ChangesAsTold row old new
-stayed_told row old new stays = record { others = λ org apart. stays org; refused = λ some. stays }
+answered_told : (now : ℕ) (received : List ℕ) (old new : List ℕ → Option Organization) (awaited : Bool) (text : List ℕ) (row : LogRow) (is_down : Bool) → AreLawful old → IsAnswered now received old new awaited text (Some row) is_down → ChangesAsTold row old new
+answered_told now received old new awaited text row false lawful served = asked_told served.ask row old new lawful served.logged served.carries
+answered_told now received old new awaited text row true lawful unavailable = stayed_told row old new (unavailable_of_nobody row now (one_row row (unavailable_row now) unavailable.1.logged)) unavailable.1.stays
 
 -- what was read of what received is answered by this text
 abbrev pub AnswersRead : ℕ → Result Message WireFault → (List ℕ → Option Organization) → (List ℕ → Option Organization) → Bool → List ℕ → Option LogRow → Type 0
@@ -243,11 +274,11 @@ replied_one {T = T} unread left now old new a c is_down row (Err e) h fault =
     let x = subst (λ (f : LinkFault). Exchanges now h.0 left old new a c is_down row {T = T} (Err f)) fault h.2 in answered_one now h.0 old new x.0 (x.1 ++ x.2) row is_down x.4
 
 -- what changed is what the row tells, where a reply was due
-pub replied_told : {T : Type 0} (unread left : Option (List ℕ)) (now : ℕ) (old new : List ℕ → Option Organization) (a c : Option (List ℕ)) (is_down : Bool) (row : LogRow) (result : Result T LinkFault)
+pub replied_told : {T : Type 0} (unread left : Option (List ℕ)) (now : ℕ) (old new : List ℕ → Option Organization) (a c : Option (List ℕ)) (is_down : Bool) (row : LogRow) (result : Result T LinkFault) → AreLawful old
     → Received unread left (λ received. Exchanges now received left old new a c is_down (Some row) result) → IfErr result (λ fault. fault ≡ LinkWrite) → ChangesAsTold row old new
-replied_told unread left now old new a c is_down row (Ok done) h fault = answered_told now h.0 old new h.2.0 h.2.1 row is_down h.2.2
-replied_told {T = T} unread left now old new a c is_down row (Err e) h fault =
-    let x = subst (λ (f : LinkFault). Exchanges now h.0 left old new a c is_down (Some row) {T = T} (Err f)) fault h.2 in answered_told now h.0 old new x.0 (x.1 ++ x.2) row is_down x.4
+replied_told unread left now old new a c is_down row (Ok done) lawful h fault = answered_told now h.0 old new h.2.0 h.2.1 row is_down lawful h.2.2
+replied_told {T = T} unread left now old new a c is_down row (Err e) lawful h fault =
+    let x = subst (λ (f : LinkFault). Exchanges now h.0 left old new a c is_down (Some row) {T = T} (Err f)) fault h.2 in answered_told now h.0 old new x.0 (x.1 ++ x.2) row is_down lawful x.4
 
 -- what was read of a whole input, as of what received
 of_input : (at : ℕ) (rows : List ℕ → Option Organization) (read : Result Message WireFault) (p : Prepared) (bytes : List ℕ) (a b : Option (List ℕ)) → PreparesFor at rows read p → ReportsInput bytes a b read → ReportsReceived bytes None a b read

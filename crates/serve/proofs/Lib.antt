@@ -14,4 +14,5 @@ pub mod AbsentLemmas
 pub mod AbsentExamples
 pub mod TokenExamples
 pub mod LogLemmas
+pub mod ToldLemmas
 pub mod TellingLemmas

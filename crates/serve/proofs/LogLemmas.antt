@@ -54,7 +54,7 @@ use Rattle.serve.proofs.JudgingLemmas.{after_callers, task_made}
 use Rattle.serve.proofs.RecordLemmas.{standing_at}
 
 -- what stays as it was has no trace
-given_same : (n : ℕ) → number_given n n ≡ None
+pub given_same : (n : ℕ) → number_given n n ≡ None
 given_same n = rw (eq-eqb n n refl) refl
 
 holding_same : (h : Holder) → run_holding h h ≡ None

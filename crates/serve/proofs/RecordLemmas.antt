@@ -8,7 +8,7 @@ use Rattle.std.specs.FinMap.{FinMap, get, insert, get-insert, same_map}
 use Rattle.basis.specs.declared.refusals.Refusal.{Refusal}
 use Rattle.basis.specs.declared.refusals.Refusal.TheVariants.{Unavailable}
 use Rattle.machine.specs.Order.{name_cmp}
-use Rattle.machine.specs.Laws.{IsLawfulOrganization}
+use Rattle.machine.specs.Laws.{IsLawfulOrganization, IsLawfulIfThere, AreLawful}
 use Rattle.machine.specs.Ranges.{IsInRange, IsMoment}
 use Rattle.machine.specs.Records.{workspace_in, count_of, seen_in, standing, with_workspace, placed}
 use Rattle.machine.specs.Rules.{Ruling, refused_by, rules}
@@ -146,3 +146,15 @@ pub there_is : (r : Option Organization) (ws : List ℕ) (act : WsAct) (unit : A
     → b ≡ is_present (named_by act) unit → b ≡ is_there act (workspace_in r ws)
 there_is None ws act unit b some seen h = absurd (let none : ⊥ = cc in none)
 there_is (Some o) ws act unit b some seen h = h ∙ ap (is_present (named_by act)) (seen o refl) ∙ present_is o (named_by act) (get o.workspaces ws)
+
+-- each workspace of lawful records is lawful
+pub workspace_lawful : (rows : List ℕ → Option Organization) (org ws : List ℕ) → AreLawful rows → IsLawfulIfThere (workspace_in (rows org) ws)
+workspace_lawful rows org ws lawful = by_record (rows org) refl
+  where
+    by_workspace : (o : Organization) → rows org ≡ Some o → (w : Option Workspace) → get o.workspaces ws ≡ w → IsLawfulIfThere w
+    by_workspace o e None t = tt
+    by_workspace o e (Some w) t = ((lawful org o e).workspaces ws w t).lawful
+
+    by_record : (r : Option Organization) → rows org ≡ r → IsLawfulIfThere (workspace_in r ws)
+    by_record None e = tt
+    by_record (Some o) e = by_workspace o e (get o.workspaces ws) refl

@@ -130,6 +130,7 @@ pub fn exchange<K: Keep, I: Inlet, O: Outlet>(
     ensures end { I.ended inlet.old ≡ false → ((I.ended inlet.new ≡ true) ↔ IsErrOf result LinkFault.Ended) }
     ensures written { (O.broken outlet.new ≡ true) ↔ (IsErrOf result LinkFault.Continue ⊎ IsErrOf result LinkFault.Write) }
 {
+    keep.records_are_lawful();
     *is_down = false;
     let read = read_message(alloc, inlet, outlet);
     let head_only = without_body(&read);

@@ -2,7 +2,7 @@ use Rattle.std.proofs.Common.{◌≡◌, Bool, true, Option, Some, None, IfSome,
 use Rattle.wire.specs.Replies.{IsReplyText, unavailable_answer}
 use Rattle.serve.specs.Inner.Replying.{PreparesFor, LogsFor, due_reply, due_row}
 use Rattle.serve.specs.declared.prepared.Ready.{Ready}
-use Rattle.serve.proofs.ExchangeLemmas.{AnswersRead, answered_read, asks_something, replied, replied_one, replied_told, stayed_told, refused_read, no_fault, no_reply}
+use Rattle.serve.proofs.ExchangeLemmas.{AnswersRead, answered_read, asks_something, replied, replied_one, replied_told, silent_of_nobody, unavailable_of_nobody, stayed_told, refused_read, no_fault, no_reply}
 use Rattle.serve.proofs.exchanges.exchange.Goals as goal
 
 pub returns-in-Ok-Some-clause-kept : goal.returns-in-Ok-Some-clause-kept
@@ -57,10 +57,11 @@ returns-in-Err-clause-told g c = λ clean sound.
 pub returns-in-Ok-Some-clause-changes : goal.returns-in-Ok-Some-clause-changes
 returns-in-Ok-Some-clause-changes g c = λ clean sound.
     replied_told (g.I.Inlet.left c.args.inlet.now) (g.I.Inlet.left c.read_message-read.new.inlet) c.args.now (g.K.Keep.rows c.args.keep.now) (g.K.Keep.rows c.settle-result.new.keep)
-    (g.O.Outlet.written c.args.outlet.now) (g.O.Outlet.written c.settle-result.new.outlet) c.settle-result.new.down c.row_after.result c.settle-result.result (returns-in-Ok-Some-clause-told g c clean sound) c.settle-result.ensures.fault
+    (g.O.Outlet.written c.args.outlet.now) (g.O.Outlet.written c.settle-result.new.outlet) c.settle-result.new.down c.row_after.result c.settle-result.result
+    (c.records_are_lawful.ensures (c.prepare.ensures.looks.so_far (c.settle-result.ensures.so_far clean)) sound) (returns-in-Ok-Some-clause-told g c clean sound) c.settle-result.ensures.fault
 
 pub returns-in-Ok-None-clause-changes : goal.returns-in-Ok-None-clause-changes
-returns-in-Ok-None-clause-changes g c = λ clean sound. stayed_told c.unavailable_row.result (g.K.Keep.rows c.args.keep.now) (g.K.Keep.rows c.prepare.new.keep) (c.prepare.ensures.looks.same clean)
+returns-in-Ok-None-clause-changes g c = λ clean sound. stayed_told c.unavailable_row.result (g.K.Keep.rows c.args.keep.now) (g.K.Keep.rows c.prepare.new.keep) (unavailable_of_nobody c.unavailable_row.result c.args.now c.unavailable_row.ensures) (c.prepare.ensures.looks.same clean)
 
 pub returns-in-Err-clause-changes : goal.returns-in-Err-clause-changes
-returns-in-Err-clause-changes g c = λ clean sound. stayed_told c.silent_row.result (g.K.Keep.rows c.args.keep.now) (g.K.Keep.rows c.prepare.new.keep) (c.prepare.ensures.looks.same clean)
+returns-in-Err-clause-changes g c = λ clean sound. stayed_told c.silent_row.result (g.K.Keep.rows c.args.keep.now) (g.K.Keep.rows c.prepare.new.keep) (silent_of_nobody c.silent_row.result c.args.now c.silent_row.ensures) (c.prepare.ensures.looks.same clean)
