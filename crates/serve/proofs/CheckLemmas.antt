@@ -66,33 +66,42 @@ pub no_token : (x : Result Token Refusal) (refusal : Refusal) → and_then x (λ
 no_token (Ok token) refusal e = absurd (let none : ⊥ = cc in none)
 no_token (Err other) refusal e = let same : other ≡ refusal = cc in ap Err same
 
-module _ (r : Option Organization) (now : ℕ) (asked : Asked) (content_md5 : Option (List ℕ)) (body : List ℕ) where
-  pub unknown_refused : (refusal : Refusal) → caller_known r now asked ≡ Err refusal → checked r now asked content_md5 body ≡ Err refusal
-  unknown_refused refusal e = after_err (known_caller r now asked) (after_caller r asked content_md5 body) refusal (no_token (known_caller r now asked) refusal e)
+-- the checks of the caller and of the reach, and what follows them for the caller's prefix
+abbrev after_known : Asked → (List ℕ → Result Task Refusal) → Token → Result Task Refusal
+after_known asked rest token = and_then (may_do token asked) (λ _. and_then (admitted token asked) (λ _. and_then (in_reach asked) (λ _. rest token.caller.prefix)))
 
-  -- what follows the caller, by the whole policy
-  by_policy : (token : Token) (caller : Caller) → token.caller ≡ caller
-      → after_caller r asked content_md5 body token ≡ and_then (allowed_by (caller_refused caller asked.act)) (λ _. after_prefix r caller.prefix asked content_md5 body)
-  by_policy token caller e =
-      policy_is (role_refused token.caller.role asked.act) (is_admitted token.caller.prefix asked.act) (after_prefix r token.caller.prefix asked content_md5 body)
-      ∙ ap (λ (x : Caller). and_then (allowed_by (caller_refused x asked.act)) (λ _. after_prefix r x.prefix asked content_md5 body)) e
+abbrev pub known_then : Option Organization → ℕ → Asked → (List ℕ → Result Task Refusal) → Result Task Refusal
+known_then r now asked rest = and_then (known_caller r now asked) (after_known asked rest)
 
-  pub role_refuses : (caller : Caller) (refusal : Refusal) → caller_known r now asked ≡ Ok caller → allowed_by (caller_refused caller asked.act) ≡ Err refusal → checked r now asked content_md5 body ≡ Err refusal
-  role_refuses caller refusal e h =
+module _ (r : Option Organization) (now : ℕ) (asked : Asked) (rest : List ℕ → Result Task Refusal) where
+  pub unknown_refused : (refusal : Refusal) → caller_known r now asked ≡ Err refusal → known_then r now asked rest ≡ Err refusal
+  unknown_refused refusal e = after_err (known_caller r now asked) (after_known asked rest) refusal (no_token (known_caller r now asked) refusal e)
+
+  -- by the whole policy
+  by_policy : (caller : Caller) (x : Result Task Refusal) → caller_known r now asked ≡ Ok caller
+      → and_then (allowed_by (caller_refused caller asked.act)) (λ _. and_then (in_reach asked) (λ _. rest caller.prefix)) ≡ x → known_then r now asked rest ≡ x
+  by_policy caller x e h =
       let t : (token : Token) × (known_caller r now asked ≡ Ok token) × (token.caller ≡ caller) = token_of_caller (known_caller r now asked) caller e in
-      after_ok (known_caller r now asked) (after_caller r asked content_md5 body) t.0 (Err refusal) t.1
-      (by_policy t.0 caller t.2 ∙ after_err (allowed_by (caller_refused caller asked.act)) (λ _. after_prefix r caller.prefix asked content_md5 body) refusal h)
+      after_ok (known_caller r now asked) (after_known asked rest) t.0 x t.1
+      (policy_is (role_refused t.0.caller.role asked.act) (is_admitted t.0.caller.prefix asked.act) (and_then (in_reach asked) (λ _. rest t.0.caller.prefix))
+      ∙ ap (λ (y : Caller). and_then (allowed_by (caller_refused y asked.act)) (λ _. and_then (in_reach asked) (λ _. rest y.prefix))) t.2
+      ∙ h)
 
-  pub past_role : (caller : Caller) (x : Result Task Refusal) → caller_known r now asked ≡ Ok caller → allowed_by (caller_refused caller asked.act) ≡ Ok tt → after_prefix r caller.prefix asked content_md5 body ≡ x
-      → checked r now asked content_md5 body ≡ x
-  past_role caller x e h rest =
-      let t : (token : Token) × (known_caller r now asked ≡ Ok token) × (token.caller ≡ caller) = token_of_caller (known_caller r now asked) caller e in
-      after_ok (known_caller r now asked) (after_caller r asked content_md5 body) t.0 x t.1
-      (by_policy t.0 caller t.2 ∙ after_ok (allowed_by (caller_refused caller asked.act)) (λ _. after_prefix r caller.prefix asked content_md5 body) tt x h rest)
+  pub policy_refuses : (caller : Caller) (refusal : Refusal) → caller_known r now asked ≡ Ok caller → allowed_by (caller_refused caller asked.act) ≡ Err refusal → known_then r now asked rest ≡ Err refusal
+  policy_refuses caller refusal e h =
+      by_policy caller (Err refusal) e (after_err (allowed_by (caller_refused caller asked.act)) (λ _. and_then (in_reach asked) (λ _. rest caller.prefix)) refusal h)
+
+  past_policy : (caller : Caller) (x : Result Task Refusal) → caller_known r now asked ≡ Ok caller → allowed_by (caller_refused caller asked.act) ≡ Ok tt
+      → and_then (in_reach asked) (λ _. rest caller.prefix) ≡ x → known_then r now asked rest ≡ x
+  past_policy caller x e h more = by_policy caller x e (after_ok (allowed_by (caller_refused caller asked.act)) (λ _. and_then (in_reach asked) (λ _. rest caller.prefix)) tt x h more)
+
+  pub out_of_reach : (caller : Caller) (refusal : Refusal) → caller_known r now asked ≡ Ok caller → allowed_by (caller_refused caller asked.act) ≡ Ok tt → in_reach asked ≡ Err refusal
+      → known_then r now asked rest ≡ Err refusal
+  out_of_reach caller refusal e h out = past_policy caller (Err refusal) e h (after_err (in_reach asked) (λ _. rest caller.prefix) refusal out)
 
   pub past_reach : (caller : Caller) (x : Result Task Refusal) → caller_known r now asked ≡ Ok caller → allowed_by (caller_refused caller asked.act) ≡ Ok tt → in_reach asked ≡ Ok tt
-      → after_reach r caller.prefix asked content_md5 body ≡ x → checked r now asked content_md5 body ≡ x
-  past_reach caller x e h reached rest = past_role caller x e h (after_ok (in_reach asked) (λ _. after_reach r caller.prefix asked content_md5 body) tt x reached rest)
+      → rest caller.prefix ≡ x → known_then r now asked rest ≡ x
+  past_reach caller x e h reached more = past_policy caller x e h (after_ok (in_reach asked) (λ _. rest caller.prefix) tt x reached more)
 
 -- who has a token that counts is there
 caller_there : (r : Option Organization) (now : ℕ) (digest : List ℕ) (token : Token) → or_refused BadToken (while_it_counts now (caller_of r digest)) ≡ Ok token → IsSome r

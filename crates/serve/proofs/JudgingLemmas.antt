@@ -46,29 +46,33 @@ task_in_range prefix (OfWorkspace ws what) id body task e =
 pub judged_in_range : (prefix : List ℕ) (asked : AskedAct) (content_md5 id : Option (List ℕ)) (body : List ℕ) (task : Task) → judged_task prefix asked content_md5 id body ≡ Ok task → IsTaskInRange task
 judged_in_range prefix asked content_md5 id body task e = task_in_range prefix asked id body task (passed (digest_checked content_md5 body) (λ _. task_of prefix asked id body) task e).2
 
--- what was judged_task good is answered as what passed the checks
-pub judged_stands : (org : List ℕ) (r : Option Organization) (prefix : List ℕ) (asked : AskedAct) (content_md5 id : Option (List ℕ)) (body : List ℕ) (task : Task) → IsSome r → judged_task prefix asked content_md5 id body ≡ Ok task
-    → (now : ℕ) → carried org now r (Ok task) ≡ carried org now r (after_callers r prefix asked content_md5 id body)
-judged_stands org r prefix (ListWorkspaces after) content_md5 id body task some e now = sym (ap (carried org now r) e)
-judged_stands org r prefix (OfWorkspace ws what) content_md5 id body task some e now = by_found (is_found r ws what) refl
+-- what was judged good comes to what passed the checks does, where what isn't there comes to what a refusal does
+pub judged_as : {A : Type 0} (f : Result Task Refusal → A) (r : Option Organization) (prefix : List ℕ) (asked : AskedAct) (content_md5 id : Option (List ℕ)) (body : List ℕ) (task : Task)
+    → ((ws : List ℕ) (what : WsAct) (act : Act) → act_of what id body ≡ Ok act → is_found r ws what ≡ false → f (Ok (Carry (order ws act))) ≡ f (Err NotFound))
+    → judged_task prefix asked content_md5 id body ≡ Ok task → f (Ok task) ≡ f (after_callers r prefix asked content_md5 id body)
+judged_as f r prefix (ListWorkspaces after) content_md5 id body task missing e = sym (ap f e)
+judged_as f r prefix (OfWorkspace ws what) content_md5 id body task missing e = by_found (is_found r ws what) refl
   where
     made : Result Task Refusal
     made = judged_task prefix (OfWorkspace ws what) content_md5 id body
 
-    by_found : (b : Bool) → is_found r ws what ≡ b → carried org now r (Ok task) ≡ carried org now r (after_callers r prefix (OfWorkspace ws what) content_md5 id body)
-    by_found true is = sym (ap (carried org now r) (after_ok (found r (OfWorkspace ws what)) (λ _. made) tt (Ok task) (ap (require NotFound) is) e))
+    by_found : (b : Bool) → is_found r ws what ≡ b → f (Ok task) ≡ f (after_callers r prefix (OfWorkspace ws what) content_md5 id body)
+    by_found true is = sym (ap f (after_ok (found r (OfWorkspace ws what)) (λ _. made) tt (Ok task) (ap (require NotFound) is) e))
     by_found false is =
         let fit = passed (digest_checked content_md5 body) (λ _. task_of prefix (OfWorkspace ws what) id body) task e in
         let t : (act : Act) × (act_of what id body ≡ Ok act) × (Carry (order ws act) ≡ task) = task_made ws (act_of what id body) task fit.2 in
-        sym (ap (λ (x : Task). carried org now r (Ok x)) t.2)
-        ∙ there r some is t.0 t.1
-        ∙ sym (ap (carried org now r) (after_err (found r (OfWorkspace ws what)) (λ _. made) NotFound (ap (require NotFound) is)))
-      where
-        there : (s : Option Organization) → IsSome s → is_found s ws what ≡ false → (act : Act) → act_of what id body ≡ Ok act → carried org now s (Ok (Carry (order ws act))) ≡ refusing NotFound s
-        there None none gone act spelt_it = absurd (let no_one : ⊥ = cc in no_one)
-        there (Some o) some gone act spelt_it = missing_is_refused org ws o what id body act now spelt_it gone
+        sym (ap (λ (x : Task). f (Ok x)) t.2)
+        ∙ missing ws what t.0 t.1 is
+        ∙ sym (ap f (after_err (found r (OfWorkspace ws what)) (λ _. made) NotFound (ap (require NotFound) is)))
 
--- what was judged_task bad is refused by the checks, once what isn't there is told first
+-- it is answered so
+pub judged_stands : (org : List ℕ) (r : Option Organization) (prefix : List ℕ) (asked : AskedAct) (content_md5 id : Option (List ℕ)) (body : List ℕ) (task : Task) → IsSome r → judged_task prefix asked content_md5 id body ≡ Ok task
+    → (now : ℕ) → carried org now r (Ok task) ≡ carried org now r (after_callers r prefix asked content_md5 id body)
+judged_stands org None prefix asked content_md5 id body task some e now = absurd (let none : ⊥ = cc in none)
+judged_stands org (Some o) prefix asked content_md5 id body task some e now =
+    judged_as (carried org now (Some o)) (Some o) prefix asked content_md5 id body task (λ ws what act spelt gone. missing_is_refused org ws o what id body act now spelt gone) e
+
+-- what was judged bad is refused by the checks, once what isn't there is told first
 pub missed_stands : (r : Option Organization) (prefix : List ℕ) (asked : AskedAct) (content_md5 id : Option (List ℕ)) (body : List ℕ) (refusal : Refusal) → judged_task prefix asked content_md5 id body ≡ Err refusal
     → after_callers r prefix asked content_md5 id body ≡ Err (missed r asked refusal)
 missed_stands r prefix (ListWorkspaces after) content_md5 id body refusal e = e

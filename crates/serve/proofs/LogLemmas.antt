@@ -33,24 +33,23 @@ use Rattle.machine.specs.declared.records.Token.{Token}
 use Rattle.machine.specs.declared.records.Workspace.{Workspace}
 use Rattle.machine.specs.declared.records.Organization.{Organization}
 use Rattle.machine.proofs.TokenLemmas.{asker_calls}
-use Rattle.route.specs.Policy.{role_refused, is_admitted, caller_refused, allowed_by}
+use Rattle.route.specs.Policy.{caller_refused, allowed_by}
 use Rattle.route.specs.declared.acts.Asked.{Asked}
 use Rattle.route.specs.declared.acts.AskedAct.{AskedAct}
-use Rattle.route.specs.declared.acts.AskedAct.TheVariants.{ListWorkspaces, OfWorkspace}
 use Rattle.route.specs.declared.acts.WsAct.{WsAct}
-use Rattle.serve.specs.Checks.{require, while_it_counts, known_caller, may_do, admitted, in_reach, is_found, found, digest_checked, act_of, order, task_of}
+use Rattle.serve.specs.Checks.{while_it_counts, in_reach, is_found, found, act_of, order}
 use Rattle.serve.specs.Inner.Judging.{judged_task}
 use Rattle.serve.specs.Inner.Prepared.{found_counted, row_known, caller_known}
 use Rattle.serve.specs.Inner.Tracing.{told_by, edit_number, start_of, unless_held, trace_by}
 use Rattle.serve.specs.Logs.{run_told, number_given, version_made, run_holding, run_started, trace_of, no_trace, traced, name_counted, token_named, id_spelt, task_read}
 use Rattle.serve.specs.Steps.{seen_at}
-use Rattle.serve.specs.declared.logs.Facts.{Facts}
+use Rattle.serve.specs.declared.logs.RowFacts.{RowFacts}
 use Rattle.serve.specs.declared.logs.Trace.{Trace}
 use Rattle.serve.specs.declared.prepared.Task.{Task}
 use Rattle.serve.specs.declared.prepared.Task.TheVariants.{Carry}
 use Rattle.serve.proofs.ActLemmas.{act_is}
-use Rattle.serve.proofs.CheckLemmas.{after_ok, after_err, passed, policy_is, token_of_caller, no_token}
-use Rattle.serve.proofs.JudgingLemmas.{after_callers, task_made}
+use Rattle.serve.proofs.CheckLemmas.{unknown_refused, policy_refuses, out_of_reach, past_reach}
+use Rattle.serve.proofs.JudgingLemmas.{after_callers, judged_as}
 use Rattle.serve.proofs.RecordLemmas.{standing_at}
 
 -- what stays as it was has no trace
@@ -71,7 +70,7 @@ started_same None = refl
 started_same (Some w) = holding_same w.holder
 
 abbrev trace : Option ℕ → Option ℕ → Option ℕ → Trace
-trace told version run = record { told = told; version = version; run = run }
+trace shown_run version run = record { shown_run = shown_run; version = version; run = run }
 
 traces : (a b c d e f : Option ℕ) → a ≡ b → c ≡ d → e ≡ f → trace a c e ≡ trace b d f
 traces a b c d e f x y z = ap (λ (q : Option ℕ). trace q c e) x ∙ (ap (λ (q : Option ℕ). trace b q e) y ∙ ap (trace b d) z)
@@ -179,24 +178,9 @@ missing_traced ws o what id body act now e gone =
 -- what was judged good has the trace of what passed the checks
 pub judged_traced : (r : Option Organization) (prefix : List ℕ) (asked : AskedAct) (content_md5 id : Option (List ℕ)) (body : List ℕ) (task : Task) → IsSome r → judged_task prefix asked content_md5 id body ≡ Ok task
     → (now : ℕ) → traced now r (Ok task) ≡ traced now r (after_callers r prefix asked content_md5 id body)
-judged_traced r prefix (ListWorkspaces after) content_md5 id body task some e now = sym (ap (traced now r) e)
-judged_traced r prefix (OfWorkspace ws what) content_md5 id body task some e now = by_found (is_found r ws what) refl
-  where
-    made : Result Task Refusal
-    made = judged_task prefix (OfWorkspace ws what) content_md5 id body
-
-    by_found : (b : Bool) → is_found r ws what ≡ b → traced now r (Ok task) ≡ traced now r (after_callers r prefix (OfWorkspace ws what) content_md5 id body)
-    by_found true is = sym (ap (traced now r) (after_ok (found r (OfWorkspace ws what)) (λ _. made) tt (Ok task) (ap (require NotFound) is) e))
-    by_found false is =
-        let fit = passed (digest_checked content_md5 body) (λ _. task_of prefix (OfWorkspace ws what) id body) task e in
-        let t : (act : Act) × (act_of what id body ≡ Ok act) × (Carry (order ws act) ≡ task) = task_made ws (act_of what id body) task fit.2 in
-        sym (ap (λ (x : Task). traced now r (Ok x)) t.2)
-        ∙ there r some is t.0 t.1
-        ∙ sym (ap (traced now r) (after_err (found r (OfWorkspace ws what)) (λ _. made) NotFound (ap (require NotFound) is)))
-      where
-        there : (s : Option Organization) → IsSome s → is_found s ws what ≡ false → (act : Act) → act_of what id body ≡ Ok act → traced now s (Ok (Carry (order ws act))) ≡ no_trace
-        there None none gone act spelt_it = absurd (let no_one : ⊥ = cc in no_one)
-        there (Some o) some gone act spelt_it = missing_traced ws o what id body act now spelt_it gone
+judged_traced None prefix asked content_md5 id body task some e now = absurd (let none : ⊥ = cc in none)
+judged_traced (Some o) prefix asked content_md5 id body task some e now =
+    judged_as (traced now (Some o)) (Some o) prefix asked content_md5 id body task (λ ws what act spelt gone. missing_traced ws o what id body act now spelt gone) e
 
 -- who asks by the token that asks
 abbrev pub caller_by : Result TokenRow Refusal → Result Caller Refusal
@@ -239,41 +223,21 @@ row_names r now asked row e = name_known now (asker_of r (sha256 asked.secret)) 
 
 -- the document, as it is read past the checks of the caller
 module _ (r : Option Organization) (now : ℕ) (asked : Asked) (content_md5 : Option (List ℕ)) (body : List ℕ) where
-  abbrev after_prefix_read : List ℕ → Result Task Refusal
-  after_prefix_read prefix = and_then (in_reach asked) (λ _. judged_task prefix asked.act content_md5 asked.lock_id body)
-
-  abbrev after_caller_read : Token → Result Task Refusal
-  after_caller_read token = and_then (may_do token asked) (λ _. and_then (admitted token asked) (λ _. after_prefix_read token.caller.prefix))
-
-  by_policy : (token : Token) (caller : Caller) → token.caller ≡ caller → after_caller_read token ≡ and_then (allowed_by (caller_refused caller asked.act)) (λ _. after_prefix_read caller.prefix)
-  by_policy token caller e =
-      policy_is (role_refused token.caller.role asked.act) (is_admitted token.caller.prefix asked.act) (after_prefix_read token.caller.prefix)
-      ∙ ap (λ (x : Caller). and_then (allowed_by (caller_refused x asked.act)) (λ _. after_prefix_read x.prefix)) e
+  abbrev read_for : List ℕ → Result Task Refusal
+  read_for prefix = judged_task prefix asked.act content_md5 asked.lock_id body
 
   pub unknown_unread : (refusal : Refusal) → row_known r now asked ≡ Err refusal → None ≡ id_spelt (task_read r now asked content_md5 body)
-  unknown_unread refusal e = sym (ap id_spelt (after_err (known_caller r now asked) after_caller_read refusal (no_token (known_caller r now asked) refusal (no_row_calls r now asked refusal e))))
+  unknown_unread refusal e = sym (ap id_spelt (unknown_refused r now asked read_for refusal (no_row_calls r now asked refusal e)))
 
   pub refused_unread : (caller : Caller) (refusal : Refusal) → caller_known r now asked ≡ Ok caller → allowed_by (caller_refused caller asked.act) ≡ Err refusal → None ≡ id_spelt (task_read r now asked content_md5 body)
-  refused_unread caller refusal e h =
-      let t : (token : Token) × (known_caller r now asked ≡ Ok token) × (token.caller ≡ caller) = token_of_caller (known_caller r now asked) caller e in
-      sym (ap id_spelt (after_ok (known_caller r now asked) after_caller_read t.0 (Err refusal) t.1
-      (by_policy t.0 caller t.2 ∙ after_err (allowed_by (caller_refused caller asked.act)) (λ _. after_prefix_read caller.prefix) refusal h)))
-
-  past_role_read : (caller : Caller) (x : Result Task Refusal) → caller_known r now asked ≡ Ok caller → allowed_by (caller_refused caller asked.act) ≡ Ok tt → after_prefix_read caller.prefix ≡ x
-      → task_read r now asked content_md5 body ≡ x
-  past_role_read caller x e h rest =
-      let t : (token : Token) × (known_caller r now asked ≡ Ok token) × (token.caller ≡ caller) = token_of_caller (known_caller r now asked) caller e in
-      after_ok (known_caller r now asked) after_caller_read t.0 x t.1
-      (by_policy t.0 caller t.2 ∙ after_ok (allowed_by (caller_refused caller asked.act)) (λ _. after_prefix_read caller.prefix) tt x h rest)
+  refused_unread caller refusal e h = sym (ap id_spelt (policy_refuses r now asked read_for caller refusal e h))
 
   pub out_of_reach_unread : (caller : Caller) (refusal : Refusal) → caller_known r now asked ≡ Ok caller → allowed_by (caller_refused caller asked.act) ≡ Ok tt → in_reach asked ≡ Err refusal → None ≡ id_spelt (task_read r now asked content_md5 body)
-  out_of_reach_unread caller refusal e h out =
-      sym (ap id_spelt (past_role_read caller (Err refusal) e h (after_err (in_reach asked) (λ _. judged_task caller.prefix asked.act content_md5 asked.lock_id body) refusal out)))
+  out_of_reach_unread caller refusal e h out = sym (ap id_spelt (out_of_reach r now asked read_for caller refusal e h out))
 
   pub judged_read : (caller : Caller) (x : Result Task Refusal) → caller_known r now asked ≡ Ok caller → allowed_by (caller_refused caller asked.act) ≡ Ok tt → in_reach asked ≡ Ok tt
       → judged_task caller.prefix asked.act content_md5 asked.lock_id body ≡ x → id_spelt x ≡ id_spelt (task_read r now asked content_md5 body)
-  judged_read caller x e h reached is =
-      sym (ap id_spelt (past_role_read caller x e h (after_ok (in_reach asked) (λ _. judged_task caller.prefix asked.act content_md5 asked.lock_id body) tt x reached is)))
+  judged_read caller x e h reached is = sym (ap id_spelt (past_reach r now asked read_for caller x e h reached is))
 
 -- what isn't for want of memory
 pub ok_apart : (task : Task) (x : Result Task Refusal) → x ≡ Ok task → x ≡ Err Unavailable → ⊥
@@ -287,7 +251,7 @@ pub with_known : {T E A : Type 0} (P : T → Type 0) (res : Result T E) → (A �
 with_known P (Ok x) f known = f known
 with_known P (Err e) f known = tt
 
-abbrev pub facts : Option (List ℕ) → Option (List ℕ) → Trace → Facts
+abbrev pub facts : Option (List ℕ) → Option (List ℕ) → Trace → RowFacts
 facts token id trace = record { token = token; id = id; trace = trace }
 
 pub facts_same : (a b c d : Option (List ℕ)) (s t : Trace) → a ≡ b → c ≡ d → s ≡ t → facts a c s ≡ facts b d t

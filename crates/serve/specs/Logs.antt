@@ -171,10 +171,10 @@ run_started (Some w) (Some v) = run_holding w.holder v.holder
 
 -- what the rules did
 abbrev pub trace_of : Option Workspace → Ruling → Trace
-trace_of w ruling = record { told = run_told ruling.answer; version = version_made w ruling.left; run = run_started w ruling.left }
+trace_of w ruling = record { shown_run = run_told ruling.answer; version = version_made w ruling.left; run = run_started w ruling.left }
 
 abbrev pub no_trace : Trace
-no_trace = record { told = None; version = None; run = None }
+no_trace = record { shown_run = None; version = None; run = None }
 
 abbrev pub traced : ℕ → Option Organization → Result Task Refusal → Trace
 traced now r (Err refusal) = no_trace
@@ -195,7 +195,7 @@ row_of_request at asked answer token id trace = record {
   act = Some (act_logged asked.act);
   at = at;
   id = option_or id asked.lock_id;
-  number = option_or (number_named asked.act) (option_or trace.told trace.version);
+  number = option_or (number_named asked.act) (option_or trace.shown_run trace.version);
   organization = Some asked.caller;
   refusal = answer.refusal;
   run = trace.run;

@@ -11,7 +11,7 @@ ghost use Rattle.serve.specs.Inner.Replying.{due_reply, due_row, Settles};
 
 use crate::logs::{silent_row, unavailable_row};
 use crate::messages::{commit, prepare, without_body};
-use crate::prepared::{Prepared, Ready};
+use crate::prepared::{Prepared, PreparedWithRow};
 use basis::{Down, Moment};
 use docs::LogRow;
 use machine::Keep;
@@ -93,7 +93,7 @@ fn settle<K: Keep, O: Outlet>(
 }
 
 // What was prepared has its row once its change is made; where it isn't (`is_down`), the 503 has its own.
-fn row_after(ready: Ready, now: Moment, is_down: bool) -> LogRow
+fn row_after(ready: PreparedWithRow, now: Moment, is_down: bool) -> LogRow
     ensures { result ≡ due_row is_down now ready.row }
 {
     if is_down {

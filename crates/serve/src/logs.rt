@@ -16,7 +16,7 @@ use wire::Reply;
 #[derive(Clone, Copy)]
 pub struct Trace {
     /// The run that is shown.
-    pub told: Option<Number>,
+    pub shown_run: Option<Number>,
     /// The version that was made.
     pub version: Option<Number>,
     /// The run that holds the workspace afterwards, and didn't before.
@@ -25,7 +25,7 @@ pub struct Trace {
 
 /// What the log tells of a request besides what its head asks and what it was answered.
 #[derive(Drop)]
-pub struct Facts {
+pub struct RowFacts {
     /// The name of the token.
     pub token: Option<Text>,
     /// The lock's ID in the document.
@@ -38,7 +38,7 @@ impl Trace {
         ensures { result ≡ no_trace }
     {
         Trace {
-            told: None,
+            shown_run: None,
             version: None,
             run: None,
         }
@@ -233,12 +233,12 @@ pub fn trace_by(unit: &Unit, decision: &Decision) -> Trace
         Decision::Refused(_) => Trace::none(),
         Decision::Accepted { answer, change } => match change {
             None => Trace {
-                told: told_by(answer),
+                shown_run: told_by(answer),
                 version: None,
                 run: None,
             },
             Some(change) => Trace {
-                told: told_by(answer),
+                shown_run: told_by(answer),
                 version: version_by(unit, change),
                 run: run_by(unit, change),
             },
@@ -285,10 +285,10 @@ pub fn unavailable_row(at: Moment) -> LogRow
 }
 
 /// The row of a request.
-pub fn request_row(at: Moment, asked: Asked, reply: &Reply, facts: Facts) -> LogRow
+pub fn request_row(at: Moment, asked: Asked, reply: &Reply, facts: RowFacts) -> LogRow
     ensures { result ≡ row_of_request at asked reply.now facts.token facts.id facts.trace }
 {
-    let Facts { token, id, trace } = facts;
+    let RowFacts { token, id, trace } = facts;
     let Asked {
         caller,
         secret,
@@ -303,7 +303,7 @@ pub fn request_row(at: Moment, asked: Asked, reply: &Reply, facts: Facts) -> Log
         act: Some(act_logged(&act)),
         at,
         id: id.or(lock_id),
-        number: number_named(&act).or(trace.told.or(trace.version)),
+        number: number_named(&act).or(trace.shown_run.or(trace.version)),
         organization: Some(caller),
         refusal,
         run: trace.run,

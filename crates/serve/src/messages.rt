@@ -12,8 +12,8 @@ ghost use Rattle.serve.specs.Inner.Replying.{PreparesFor, IsLogged, LogsFor, wit
 ghost use Rattle.serve.specs.Service.{is_head, asked_by, Asks, Carries, Stays, said_to, IsSaidText};
 
 use crate::exchanges::LinkFault;
-use crate::logs::{Facts, refused_row, request_row};
-use crate::prepared::{Prepared, Ready};
+use crate::logs::{RowFacts, refused_row, request_row};
+use crate::prepared::{Prepared, PreparedWithRow};
 use crate::requests::{refuse, request};
 use basis::{Bytes, Down, Moment, Refusal};
 use machine::Keep;
@@ -39,15 +39,20 @@ pub fn without_body(read: &Result<Message, WireFault>) -> bool
 }
 
 // What a request is answered, with its row of the log.
-fn ready(at: Moment, asked: Asked, prepared: Prepared, facts: Facts) -> Ready
+fn ready(at: Moment, asked: Asked, prepared: Prepared, facts: RowFacts) -> PreparedWithRow
     ensures { result ≡ record { prepared = prepared; row = row_of_request at asked prepared.reply facts.token facts.id facts.trace } }
 {
     let row = request_row(at, asked, &prepared.reply, facts);
-    Ready { prepared, row }
+    PreparedWithRow { prepared, row }
 }
 
 // A refusal of what asks nothing of any organization, with its row of the log.
-fn refused(alloc: Global, at: Moment, refusal: Refusal, is_head: bool) -> Result<Ready, Down>
+fn refused(
+    alloc: Global,
+    at: Moment,
+    refusal: Refusal,
+    is_head: bool,
+) -> Result<PreparedWithRow, Down>
     ensures known { OnOk result (refusal ≢ Refusal.Unavailable) }
     ensures ok { IfOk result (λ r. (r.prepared.reply ≡ refused_answer refusal (error_text refusal) is_head) × (r.prepared.pending ≡ None)) }
     ensures row { IfOk result (λ r. r.row ≡ with_answer (refused_answer refusal (error_text refusal) is_head) (silent_row at)) }
@@ -55,7 +60,7 @@ fn refused(alloc: Global, at: Moment, refusal: Refusal, is_head: bool) -> Result
     match refuse(alloc, refusal, is_head) {
         Ok(prepared) => {
             let row = refused_row(at, &prepared.reply);
-            Ok(Ready { prepared, row })
+            Ok(PreparedWithRow { prepared, row })
         }
         Err(down) => Err(down),
     }
@@ -68,7 +73,7 @@ fn answer<K: Keep>(
     routes: &Routes,
     at: Moment,
     message: Message,
-) -> Result<Ready, Down>
+) -> Result<PreparedWithRow, Down>
     ensures looks { Looks K.rows K.clean K.sound K.shielded keep.old keep.new }
     ensures ok { K.clean keep.new → K.sound keep.old → IfOk result (λ r. (awaited : Bool)
         → IsPrepared (K.rows keep.old) (asked_by at awaited message (asked_of message)) r.prepared) }
@@ -96,7 +101,7 @@ pub fn prepare<K: Keep>(
     routes: &Routes,
     at: Moment,
     read: Result<Message, WireFault>,
-) -> Result<Option<Ready>, LinkFault>
+) -> Result<Option<PreparedWithRow>, LinkFault>
     ensures looks { Looks K.rows K.clean K.sound K.shielded keep.old keep.new }
     ensures ok { K.clean keep.new → K.sound keep.old → IfOk result (λ ready. IfSome ready (λ r. PreparesFor at (K.rows keep.old) read r.prepared)) }
     ensures logs { K.clean keep.new → K.sound keep.old → IfOk result (λ ready. IfSome ready (λ r. LogsFor at (K.rows keep.old) read r.row)) }

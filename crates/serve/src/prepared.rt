@@ -40,7 +40,7 @@ pub struct Prepared {
 
 /// The same, and what the log tells once it is done.
 #[derive(Drop)]
-pub struct Ready {
+pub struct PreparedWithRow {
     pub prepared: Prepared,
     pub row: LogRow,
 }

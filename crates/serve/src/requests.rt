@@ -20,7 +20,7 @@ ghost use Rattle.serve.specs.Inner.Prepared.{Foresees, IsTaskInRange};
 ghost use Rattle.serve.specs.Inner.Units.{holder_in};
 
 use crate::checks::{in_reach, judged, known_caller, missed};
-use crate::logs::{Facts, Trace, spelt_id, trace_by};
+use crate::logs::{RowFacts, Trace, spelt_id, trace_by};
 use crate::prepared::{Order, Pending, Prepared, Task};
 use basis::numbers::MAX_MOMENT;
 use basis::{Bytes, Down, Holder, Moment, OrgName, Prefix, Refusal, RunRow, Text, WsName, WsRow};
@@ -41,7 +41,7 @@ pub fn request<K: Keep>(
     asked: &Asked,
     content_md5: &Option<Bytes>,
     body: Bytes,
-) -> Result<(Prepared, Facts), Down>
+) -> Result<(Prepared, RowFacts), Down>
     ensures looks { Looks K.rows K.clean K.sound K.shielded keep.old keep.new }
     ensures ok { K.clean keep.new → K.sound keep.old → IfOk result (λ p. Foresees (K.rows keep.old asked.now.caller) asked.now.caller
         (request_step (K.rows keep.old asked.now.caller) at asked.now content_md5.now body) p.0) }
@@ -62,7 +62,7 @@ fn carry<K: Keep>(
     org: &OrgName,
     task: Task,
     token: Option<Text>,
-) -> Result<(Prepared, Facts), Down>
+) -> Result<(Prepared, RowFacts), Down>
     ensures looks { Looks K.rows K.clean K.sound K.shielded keep.old keep.new }
     ensures ok { K.clean keep.new → K.sound keep.old → IfOk result (λ p. IsSome (K.rows keep.old org.now) → IsTaskInRange task
         → Foresees (K.rows keep.old org.now) org.now (carried org.now at (K.rows keep.old org.now) (Ok task)) p.0) }
@@ -73,7 +73,7 @@ fn carry<K: Keep>(
         return Err(Down);
     };
     match perform(alloc, keep, at, org, task) {
-        Ok((prepared, trace)) => Ok((prepared, Facts { token, id, trace })),
+        Ok((prepared, trace)) => Ok((prepared, RowFacts { token, id, trace })),
         Err(down) => Err(down),
     }
 }
@@ -83,7 +83,7 @@ fn refuse_request(
     alloc: Global,
     why: Refusal,
     token: Option<Text>,
-) -> Result<(Prepared, Facts), Down>
+) -> Result<(Prepared, RowFacts), Down>
     ensures known { OnOk result (why ≢ Refusal.Unavailable) }
     ensures ok { IfOk result (λ p. (p.0.reply ≡ refused_answer why (error_text why) false) × (p.0.pending ≡ None)) }
     ensures facts { IfOk result (λ p. p.1 ≡ record { token = token; id = None; trace = no_trace }) }
@@ -91,7 +91,7 @@ fn refuse_request(
     match refuse(alloc, why, false) {
         Ok(prepared) => Ok((
             prepared,
-            Facts {
+            RowFacts {
                 token,
                 id: None,
                 trace: Trace::none(),

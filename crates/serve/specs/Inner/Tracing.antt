@@ -15,7 +15,7 @@ use Rattle.machine.specs.declared.records.Organization.{Organization}
 use Rattle.route.specs.declared.acts.Asked.{Asked}
 use Rattle.serve.specs.Checks.{checked}
 use Rattle.serve.specs.Logs.{number_given, no_trace, token_named, id_spelt, task_read, traced}
-use Rattle.serve.specs.declared.logs.Facts.{Facts}
+use Rattle.serve.specs.declared.logs.RowFacts.{RowFacts}
 use Rattle.serve.specs.declared.logs.Trace.{Trace}
 
 -- the run that an answer shows
@@ -69,9 +69,9 @@ run_by (Present u) change = edit_start u.holder change
 
 abbrev pub trace_by : AnyUnit → Decision → Trace
 trace_by u (Refused refusal) = no_trace
-trace_by u (Accepted answer None) = record { told = told_by answer; version = None; run = None }
-trace_by u (Accepted answer (Some change)) = record { told = told_by answer; version = version_by u change; run = run_by u change }
+trace_by u (Accepted answer None) = record { shown_run = told_by answer; version = None; run = None }
+trace_by u (Accepted answer (Some change)) = record { shown_run = told_by answer; version = version_by u change; run = run_by u change }
 
 -- what the log tells of a request besides its head and its answer
-abbrev pub facts_of : Option Organization → ℕ → Asked → Option (List ℕ) → List ℕ → Facts
+abbrev pub facts_of : Option Organization → ℕ → Asked → Option (List ℕ) → List ℕ → RowFacts
 facts_of r at asked content_md5 body = record { token = token_named r at asked; id = id_spelt (task_read r at asked content_md5 body); trace = traced at r (checked r at asked content_md5 body) }

@@ -1,7 +1,7 @@
 use Rattle.std.proofs.Common.{◌≡◌, Bool, true, Option, Some, None, IfSome, Ok, Err, sym, ap, subst, rules}
 use Rattle.wire.specs.Replies.{IsReplyText, unavailable_answer}
 use Rattle.serve.specs.Inner.Replying.{PreparesFor, LogsFor, due_reply, due_row}
-use Rattle.serve.specs.declared.prepared.Ready.{Ready}
+use Rattle.serve.specs.declared.prepared.PreparedWithRow.{PreparedWithRow}
 use Rattle.serve.proofs.ExchangeLemmas.{AnswersRead, answered_read, asks_something, replied, replied_one, replied_told, silent_of_nobody, unavailable_of_nobody, stayed_told, refused_read, no_fault, no_reply}
 use Rattle.serve.proofs.exchanges.exchange.Goals as goal
 
@@ -9,7 +9,7 @@ pub returns-in-Ok-Some-clause-kept : goal.returns-in-Ok-Some-clause-kept
 returns-in-Ok-Some-clause-kept g c = λ clean sound.
     let before : g.K.Keep.clean c.prepare.new.keep = c.settle-result.ensures.so_far clean in
     let some : c.in-Ok-Some.field-0 ≡ Some c.in-Ok-Some.ready = search rules in
-    let ok = subst (λ (o : Option Ready). IfSome o (λ r. PreparesFor c.args.now (g.K.Keep.rows c.args.keep.now) c.read_message-read.result r.prepared)) some (c.in-Ok-Some.ensures.ok before sound) in
+    let ok = subst (λ (o : Option PreparedWithRow). IfSome o (λ r. PreparesFor c.args.now (g.K.Keep.rows c.args.keep.now) c.read_message-read.result r.prepared)) some (c.in-Ok-Some.ensures.ok before sound) in
     let a = asks_something c.args.now c.read_message-read.result (g.K.Keep.rows c.args.keep.now) (g.K.Keep.rows c.prepare.new.keep) c.in-Ok-Some.ready.prepared (c.prepare.ensures.looks.same before) ok in
     c.settle-result.ensures.kept clean (c.prepare.ensures.looks.kept before sound) a.0 a.1
 
@@ -17,8 +17,8 @@ pub returns-in-Ok-Some-clause-told : goal.returns-in-Ok-Some-clause-told
 returns-in-Ok-Some-clause-told g c = λ clean sound.
     let before : g.K.Keep.clean c.prepare.new.keep = c.settle-result.ensures.so_far clean in
     let some : c.in-Ok-Some.field-0 ≡ Some c.in-Ok-Some.ready = search rules in
-    let ok = subst (λ (o : Option Ready). IfSome o (λ r. PreparesFor c.args.now (g.K.Keep.rows c.args.keep.now) c.read_message-read.result r.prepared)) some (c.in-Ok-Some.ensures.ok before sound) in
-    let logs = subst (λ (o : Option Ready). IfSome o (λ r. LogsFor c.args.now (g.K.Keep.rows c.args.keep.now) c.read_message-read.result r.row)) some (c.in-Ok-Some.ensures.logs before sound) in
+    let ok = subst (λ (o : Option PreparedWithRow). IfSome o (λ r. PreparesFor c.args.now (g.K.Keep.rows c.args.keep.now) c.read_message-read.result r.prepared)) some (c.in-Ok-Some.ensures.ok before sound) in
+    let logs = subst (λ (o : Option PreparedWithRow). IfSome o (λ r. LogsFor c.args.now (g.K.Keep.rows c.args.keep.now) c.read_message-read.result r.row)) some (c.in-Ok-Some.ensures.logs before sound) in
     let t = c.settle-result.ensures.text in
     let is_row : Some (due_row c.settle-result.new.down c.args.now c.in-Ok-Some.ready.row) ≡ Some c.row_after.result = ap Some (sym c.row_after.ensures) in
     let is_text = subst (λ (head : Bool). IsReplyText (due_reply c.settle-result.new.down head c.in-Ok-Some.ready.prepared.reply) c.args.now t.0) c.without_body-head_only.ensures t.1 in
