@@ -35,7 +35,7 @@ use Rattle.serve.specs.declared.steps.Step.{Step}
 use Rattle.serve.specs.declared.steps.Step.TheVariants.{Request}
 use Rattle.serve.specs.Asks.{Ask, requests, organization}
 use Rattle.serve.specs.Laws.{renamed}
-use Rattle.serve.specs.Steps.{Said, Answered as StepAnswered, replies, step, own_said, own_record}
+use Rattle.serve.specs.Steps.{Said, Answered as StepAnswered, replies, request_step, step, own_said, own_record}
 use Rattle.serve.specs.Service.{Asks, IsAsked, AreAsked, IsSaidText, AreTexts, asked_by, ask_of, is_own, with_own, own_asks, replies_at, same_owner}
 use Rattle.serve.specs.Runs.{IsOwnMachine}
 use Rattle.serve.specs.AbsentForms.{IsFormOf, AnsweredRequest, record_before, RepliesAreThoseOfAbsentForms, OutOfReachRepliesNotFound, RepliesOutsideThePrefixAreThoseOfAbsentForms, RepliesOutsideThePrefixAreNotFound}
@@ -313,14 +313,24 @@ reply_at steps rows rows' texts asked are own a =
     text_at a.asked.caller (rows a.asked.caller) steps asked texts a.place (Request a.at a.bytes) a.text a.earlier (requests a.at a.awaited a.asked a.content_md5 a.body) are (own a.asked.caller).own_replies a.came a.replied a.came_earlier a.asks
     (own_request a.asked.caller)
 
-pub absent_forms : (steps : List Step) (rows rows' : List ℕ → Option Organization) (texts : List (List ℕ)) (asked : List Ask) → AreAsked steps asked → ((org : List ℕ) → IsOwnMachine org asked rows rows' texts)
-    → RepliesAreThoseOfAbsentForms steps rows texts
-absent_forms steps rows rows' texts asked are own a other org ws ask out needs lacks form asks_it =
+-- where the machine answers the form of a request as it does the request, the reply is that to the form
+as_to_form : (steps : List Step) (rows rows' : List ℕ → Option Organization) (texts : List (List ℕ)) (asked : List Ask) → AreAsked steps asked → ((org : List ℕ) → IsOwnMachine org asked rows rows' texts)
+    → (a : AnsweredRequest steps texts) (other org ws : List ℕ) (ask : Ask) → IsFormOf a.bytes other org ws → Asks a.at other ask
+    → request_step (record_before rows a.asked.caller a.earlier) a.at a.asked a.content_md5 a.body
+    ≡ request_step (record_before rows a.asked.caller a.earlier) a.at (record a.asked { org = org; act = renamed a.asked.act ws }) a.content_md5 a.body
+    → IsSaidText (step (record_before rows a.asked.caller a.earlier) ask).answer a.text
+as_to_form steps rows rows' texts asked are own a other org ws ask form asks_it same =
     let r : Option Organization = record_before rows a.asked.caller a.earlier in
     let is : ask ≡ requests a.at a.awaited (record a.asked { org = org; act = renamed a.asked.act ws }) a.content_md5 a.body = form_asks a.at a.bytes other org ws a.awaited a.asked a.content_md5 a.body ask a.asks form asks_it in
     let alike : (step r (requests a.at a.awaited a.asked a.content_md5 a.body)).answer ≡ (step r (requests a.at a.awaited (record a.asked { org = org; act = renamed a.asked.act ws }) a.content_md5 a.body)).answer =
-    ap (λ (d : StepAnswered). replies a.awaited a.at d.answer) (out_of_reach_is_as_absent r a.at a.asked a.content_md5 a.body org ws out needs lacks) in
+    ap (λ (d : StepAnswered). replies a.awaited a.at d.answer) same in
     subst (λ (said : Said). IsSaidText said a.text) (alike ∙ ap (λ (x : Ask). (step r x).answer) (sym is)) (reply_at steps rows rows' texts asked are own a)
+
+pub absent_forms : (steps : List Step) (rows rows' : List ℕ → Option Organization) (texts : List (List ℕ)) (asked : List Ask) → AreAsked steps asked → ((org : List ℕ) → IsOwnMachine org asked rows rows' texts)
+    → RepliesAreThoseOfAbsentForms steps rows texts
+absent_forms steps rows rows' texts asked are own a other org ws ask out needs lacks form asks_it =
+    as_to_form steps rows rows' texts asked are own a other org ws ask form asks_it
+    (out_of_reach_is_as_absent (record_before rows a.asked.caller a.earlier) a.at a.asked a.content_md5 a.body org ws out needs lacks)
 
 pub out_of_reach : (steps : List Step) (rows rows' : List ℕ → Option Organization) (texts : List (List ℕ)) (asked : List Ask) → AreAsked steps asked → ((org : List ℕ) → IsOwnMachine org asked rows rows' texts)
     → OutOfReachRepliesNotFound steps rows texts
@@ -331,11 +341,8 @@ out_of_reach steps rows rows' texts asked are own a token out known may =
 pub outside_the_prefix : (steps : List Step) (rows rows' : List ℕ → Option Organization) (texts : List (List ℕ)) (asked : List Ask) → AreAsked steps asked → ((org : List ℕ) → IsOwnMachine org asked rows rows' texts)
     → RepliesOutsideThePrefixAreThoseOfAbsentForms steps rows texts
 outside_the_prefix steps rows rows' texts asked are own a token other org ws ask known outside needs lacks form asks_it =
-    let r : Option Organization = record_before rows a.asked.caller a.earlier in
-    let is : ask ≡ requests a.at a.awaited (record a.asked { org = org; act = renamed a.asked.act ws }) a.content_md5 a.body = form_asks a.at a.bytes other org ws a.awaited a.asked a.content_md5 a.body ask a.asks form asks_it in
-    let alike : (step r (requests a.at a.awaited a.asked a.content_md5 a.body)).answer ≡ (step r (requests a.at a.awaited (record a.asked { org = org; act = renamed a.asked.act ws }) a.content_md5 a.body)).answer =
-    ap (λ (d : StepAnswered). replies a.awaited a.at d.answer) (outside_the_prefix_is_as_absent r a.at a.asked a.content_md5 a.body org ws token known outside needs lacks) in
-    subst (λ (said : Said). IsSaidText said a.text) (alike ∙ ap (λ (x : Ask). (step r x).answer) (sym is)) (reply_at steps rows rows' texts asked are own a)
+    as_to_form steps rows rows' texts asked are own a other org ws ask form asks_it
+    (outside_the_prefix_is_as_absent (record_before rows a.asked.caller a.earlier) a.at a.asked a.content_md5 a.body org ws token known outside needs lacks)
 
 pub not_admitted : (steps : List Step) (rows rows' : List ℕ → Option Organization) (texts : List (List ℕ)) (asked : List Ask) → AreAsked steps asked → ((org : List ℕ) → IsOwnMachine org asked rows rows' texts)
     → RepliesOutsideThePrefixAreNotFound steps rows texts

@@ -74,6 +74,9 @@ answered_one : (now : ℕ) (received : List ℕ) (old new : List ℕ → Option 
 answered_one now received old new awaited text row false served = carried_one served.ask old new served.carries
 answered_one now received old new awaited text row true unavailable = stayed_one old new unavailable.1.stays
 
+pub bytes_of : (a b : List ℕ) → Some a ≡ Some b → a ≡ b
+bytes_of a b e = cc
+
 one_row : (a b : LogRow) → Some a ≡ Some b → a ≡ b
 one_row a b e = cc
 
@@ -108,14 +111,11 @@ asked_told (requests at awaited asked content_md5 body) row old new lawful is ca
     subst (λ (x : LogRow). ChangesAsTold x old new) (sym same) (record {
       others = λ org apart. carries org ∙ other_stays org (bytes_eq org asked.caller) refl apart;
       refused = λ some org. carries org ∙ refused_stays (request_step (old asked.caller) at asked content_md5 body).answer.refusal refl some org (bytes_eq org asked.caller) refl;
-      own = λ org named. subst (λ (name : List ℕ). ComesAsTold (request_row (old asked.caller) at asked content_md5 body) (old name) (new name)) (one_name asked.caller org named)
+      own = λ org named. subst (λ (name : List ℕ). ComesAsTold (request_row (old asked.caller) at asked content_md5 body) (old name) (new name)) (bytes_of asked.caller org named)
           (request_as_told (old asked.caller) (new asked.caller) at asked content_md5 body (λ ws. workspace_lawful old asked.caller ws lawful) own_step);
       nobody = λ none. absurd (let not_none : ⊥ = cc in not_none);
     })
   where
-    one_name : (a b : List ℕ) → Some a ≡ Some b → a ≡ b
-    one_name a b e = cc
-
     own_step : new asked.caller ≡ (request_step (old asked.caller) at asked content_md5 body).left
     own_step = carries asked.caller ∙ ap (λ (b : Bool). after_ask b (requests at awaited asked content_md5 body) (old asked.caller)) ((bytes_eq-Decides asked.caller asked.caller).1 refl)
 
@@ -293,9 +293,6 @@ of_input at rows (Err Continue) p bytes a b prepared told = absurd prepared
 pub input_read : (left a b : Option (List ℕ)) (bytes : List ℕ) (read : Result Message WireFault) → left ≡ Some bytes → a ≡ Some [] → IfSome left (λ input. ReportsInput input a b read) → ReportsInput bytes (Some []) b read
 input_read left a b bytes read is none told =
     subst (λ (before : Option (List ℕ)). ReportsInput bytes before b read) none (subst (λ (l : Option (List ℕ)). IfSome l (λ input. ReportsInput input a b read)) is told)
-
-pub bytes_of : (a b : List ℕ) → Some a ≡ Some b → a ≡ b
-bytes_of a b e = cc
 
 -- the text of the reply to a whole input, behind what was written before it
 pub input_answered : (at : ℕ) (read : Result Message WireFault) (old mid new : List ℕ → Option Organization) (p : Prepared) (row : LogRow) (bytes : List ℕ) (b : Option (List ℕ)) (text all : List ℕ)

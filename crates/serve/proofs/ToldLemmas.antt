@@ -48,8 +48,11 @@ given_next a (suc zero) first e = absurd (omega (arith, first, e))
 given_next a (suc (suc k)) first e = rw (ne_eqb (suc (suc k)) a (λ same. omega (arith, e, same))) (ap Some (omega (arith, e)))
 
 -- a version comes, and its number is told, or none comes, and none is told
+abbrev VersionTold : Option ℕ → Workspace → Workspace → Type 0
+VersionTold told w v = (KeepsVersions w v × (told ≡ None)) ⊎ (Makes w.next_version w v × (told ≡ Some w.next_version))
+
 comes_told : (w v : Workspace) → IsLawful w → KeepsVersions w v ⊎ GainsVersion w v
-    → (KeepsVersions w v × (number_given w.next_version v.next_version ≡ None)) ⊎ (Makes w.next_version w v × (number_given w.next_version v.next_version ≡ Some w.next_version))
+    → VersionTold (number_given w.next_version v.next_version) w v
 comes_told w v lawful (inl keeps) = inl (keeps, ap (number_given w.next_version) keeps.next ∙ given_same w.next_version)
 comes_told w v lawful (inr gains) = inr (
   record { gains = gains; number = gains.number; absent = none_above 0 w.versions w.next_version lawful.versions.rise },
@@ -140,19 +143,14 @@ module _ (row : LogRow) (r after : Option Organization) (lawful : (ws : List ℕ
 
   -- of the workspace that was ruled
   version_comes : (h : Ruled) (w v : Workspace) → workspace_in r h.ws ≡ Some w → (rules h.act h.now (seen_at r h.ws)).left ≡ Some v
-      → (KeepsVersions w v × (row.version ≡ None)) ⊎ (Makes w.next_version w v × (row.version ≡ Some w.next_version))
-  version_comes h w v stood left = by_case (comes_told w v (subst IsLawfulIfThere stood (lawful h.ws)) (numbers_rise h.act h.now w v there_left).1)
+      → VersionTold row.version w v
+  version_comes h w v stood left = subst (λ (o : Option ℕ). VersionTold o w v) (sym told) (comes_told w v (subst IsLawfulIfThere stood (lawful h.ws)) (numbers_rise h.act h.now w v there_left).1)
     where
       there_left : (rules h.act h.now (there w)).left ≡ Some v
       there_left = ap (λ (s : Seen). (rules h.act h.now s).left) (sym (seen_there r h.ws w stood)) ∙ left
 
       told : row.version ≡ number_given w.next_version v.next_version
       told = h.made ∙ ap (λ (o : Option Workspace). version_made o (rules h.act h.now (seen_at r h.ws)).left) stood ∙ ap (version_made (Some w)) left
-
-      by_case : (KeepsVersions w v × (number_given w.next_version v.next_version ≡ None)) ⊎ (Makes w.next_version w v × (number_given w.next_version v.next_version ≡ Some w.next_version))
-          → (KeepsVersions w v × (row.version ≡ None)) ⊎ (Makes w.next_version w v × (row.version ≡ Some w.next_version))
-      by_case (inl (keeps, is)) = inl (keeps, told ∙ is)
-      by_case (inr (makes, is)) = inr (makes, told ∙ is)
 
   run_comes : (h : Ruled) (w v : Workspace) → workspace_in r h.ws ≡ Some w → (rules h.act h.now (seen_at r h.ws)).left ≡ Some v → row.run ≡ run_holding w.holder v.holder
   run_comes h w v stood left = h.started ∙ ap (λ (o : Option Workspace). run_started o (rules h.act h.now (seen_at r h.ws)).left) stood ∙ ap (run_started (Some w)) left
@@ -164,11 +162,11 @@ module _ (row : LogRow) (r after : Option Organization) (lawful : (ws : List ℕ
   told_version (Some n) e (inr h) = let b = made_there (workspace_in r h.ws) (rules h.act h.now (seen_at r h.ws)).left n (sym h.made ∙ e) in by_case b.0 b.1 b.2 b.3 (version_comes h b.0 b.1 b.2 b.3)
     where
       by_case : (w v : Workspace) → workspace_in r h.ws ≡ Some w → (rules h.act h.now (seen_at r h.ws)).left ≡ Some v
-          → (KeepsVersions w v × (row.version ≡ None)) ⊎ (Makes w.next_version w v × (row.version ≡ Some w.next_version)) → OfNamed row.workspace r after (Makes n)
+          → VersionTold row.version w v → OfNamed row.workspace r after (Makes n)
       by_case w v stood left (inl (keeps, untold)) = absurd (let none : ⊥ = cc (sym untold ∙ e) in none)
       by_case w v stood left (inr (makes, is)) =
           let same : w.next_version ≡ n = one_number w.next_version n (sym is ∙ e) in
-          record { ws = h.ws; is = h.is; w = w; v = v; stood = stood; stands = h.left ∙ left; so = subst (λ (m : ℕ). Makes m w v) same makes }
+          record { ws = h.ws; is = h.is; before = w; after = v; stood = stood; stands = h.left ∙ left; so = subst (λ (m : ℕ). Makes m w v) same makes }
 
   told_run : (o : Option ℕ) → row.run ≡ o → Goes r after row.workspace row.version row.run → IfSome o (λ n. OfNamed row.workspace r after (Starts n))
   told_run None e goes = tt
@@ -178,36 +176,38 @@ module _ (row : LogRow) (r after : Option Organization) (lawful : (ws : List ℕ
       record {
         ws = h.ws;
         is = h.is;
-        w = b.0;
-        v = b.1;
+        before = b.0;
+        after = b.1;
         stood = b.2;
         stands = h.left ∙ b.3;
         so = holding_starts b.0.holder b.1.holder n (sym (run_comes h b.0 b.1 b.2 b.3) ∙ e);
       }
 
-  -- of a workspace that stays as it is, or was ruled
-  by_workspace : Goes r after row.workspace row.version row.run → (ws : List ℕ)
-      → (workspace_in after ws ≡ workspace_in r ws) ⊎ ((h : Ruled) × (h.ws ≡ ws))
+  -- a workspace is left as it is, or was ruled
+  abbrev LeftOrRuled : List ℕ → Type 0
+  LeftOrRuled ws = (workspace_in after ws ≡ workspace_in r ws) ⊎ ((h : Ruled) × (h.ws ≡ ws))
+
+  by_workspace : Goes r after row.workspace row.version row.run → (ws : List ℕ) → LeftOrRuled ws
   by_workspace (inl still) ws = inl (ap (λ (q : Option Organization). workspace_in q ws) still.stays)
   by_workspace (inr h) ws = by_name (bytes_eq ws h.ws) refl
     where
-      by_name : (b : Bool) → bytes_eq ws h.ws ≡ b → (workspace_in after ws ≡ workspace_in r ws) ⊎ ((g : Ruled) × (g.ws ≡ ws))
+      by_name : (b : Bool) → bytes_eq ws h.ws ≡ b → LeftOrRuled ws
       by_name true same = inr (h, sym ((bytes_eq-Decides ws h.ws).0 same))
       by_name false apart = inl (h.others ws (apart_from ws h.ws apart))
 
   -- what comes is told
   version_told : (ws : List ℕ) (w v : Workspace) → workspace_in r ws ≡ Some w → workspace_in after ws ≡ Some v
-      → (workspace_in after ws ≡ workspace_in r ws) ⊎ ((h : Ruled) × (h.ws ≡ ws)) → KeepsVersions w v ⊎ ((row.workspace ≡ Some ws) × IsSome row.version)
+      → LeftOrRuled ws → KeepsVersions w v ⊎ ((row.workspace ≡ Some ws) × IsSome row.version)
   version_told ws w v stood stands (inl same) = inl (keeps_same w v (same_workspace ws w v same stood stands))
   version_told ws w v stood stands (inr (h, is)) =
       by_case (version_comes h w v (ap (workspace_in r) is ∙ stood) (sym h.left ∙ ap (workspace_in after) is ∙ stands))
     where
-      by_case : (KeepsVersions w v × (row.version ≡ None)) ⊎ (Makes w.next_version w v × (row.version ≡ Some w.next_version)) → KeepsVersions w v ⊎ ((row.workspace ≡ Some ws) × IsSome row.version)
+      by_case : VersionTold row.version w v → KeepsVersions w v ⊎ ((row.workspace ≡ Some ws) × IsSome row.version)
       by_case (inl (keeps, untold)) = inl keeps
       by_case (inr (makes, told)) = inr (h.is ∙ ap Some is, ap is_some told)
 
   run_told : (ws : List ℕ) (w v : Workspace) (n : ℕ) → workspace_in r ws ≡ Some w → workspace_in after ws ≡ Some v → Starts n w v
-      → (workspace_in after ws ≡ workspace_in r ws) ⊎ ((h : Ruled) × (h.ws ≡ ws)) → (row.workspace ≡ Some ws) × (row.run ≡ Some n)
+      → LeftOrRuled ws → (row.workspace ≡ Some ws) × (row.run ≡ Some n)
   run_told ws w v n stood stands starts (inl same) = absurd (none_starts w v n (same_workspace ws w v same stood stands) starts)
   run_told ws w v n stood stands (unheld, held) (inr (h, is)) = (
     h.is ∙ ap Some is,
@@ -215,7 +215,7 @@ module _ (row : LogRow) (r after : Option Organization) (lawful : (ws : List ℕ
   )
 
   -- what wasn't there begins anew
-  made_anew : (ws : List ℕ) (v : Workspace) → workspace_in r ws ≡ None → workspace_in after ws ≡ Some v → (workspace_in after ws ≡ workspace_in r ws) ⊎ ((h : Ruled) × (h.ws ≡ ws)) → IsAnew v
+  made_anew : (ws : List ℕ) (v : Workspace) → workspace_in r ws ≡ None → workspace_in after ws ≡ Some v → LeftOrRuled ws → IsAnew v
   made_anew ws v gone stands (inl same) = absurd (let none : ⊥ = cc (sym gone ∙ sym same ∙ stands) in none)
   made_anew ws v gone stands (inr (h, is)) =
       by_seen (seen_at r h.ws) (standing_at r h.ws ∙ ap (workspace_in r) is ∙ gone) (sym h.left ∙ ap (workspace_in after) is ∙ stands)

@@ -67,15 +67,15 @@ Exchanges now received left old new before after is_down row (Err Write) =
 abbrev pub ChangesAtMostOne : (List ℕ → Option Organization) → (List ℕ → Option Organization) → Type 0
 ChangesAtMostOne old new = (org : List ℕ) × ((other : List ℕ) → other ≢ org → new other ≡ old other)
 
--- of the workspace that is named, in a record before and after: it stood and stands, and this is so of it
-pub record OfNamed (named : Option (List ℕ)) (r after : Option Organization) (IsSo : Workspace → Workspace → Type 0) : Type 0 where
+-- of the workspace of this name, in an organization's record before and after: it stood and stands, and this is so of it
+pub record OfNamed (named : Option (List ℕ)) (old new : Option Organization) (IsSo : Workspace → Workspace → Type 0) : Type 0 where
   pub ws : List ℕ
   pub is : named ≡ Some ws
-  pub w : Workspace
-  pub v : Workspace
-  pub stood : workspace_in r ws ≡ Some w
-  pub stands : workspace_in after ws ≡ Some v
-  pub so : IsSo w v
+  pub before : Workspace
+  pub after : Workspace
+  pub stood : workspace_in old ws ≡ Some before
+  pub stands : workspace_in new ws ≡ Some after
+  pub so : IsSo before after
 
 -- the version of a number is made, and none had it
 pub record Makes (n : ℕ) (w v : Workspace) : Type 0 where
@@ -83,14 +83,15 @@ pub record Makes (n : ℕ) (w v : Workspace) : Type 0 where
   pub number : gains.made.number ≡ n
   pub absent : version_of n w.versions ≡ None
 
--- what comes of a record is what the row tells: in the workspace that it names the version that it tells is made, and the run that it
--- tells starts; in no workspace is another version made, and no other run starts; and what wasn't there begins anew
-pub record ComesAsTold (row : LogRow) (r after : Option Organization) : Type 0 where
-  pub version : IfSome row.version (λ n. OfNamed row.workspace r after (Makes n))
-  pub run : IfSome row.run (λ n. OfNamed row.workspace r after (Starts n))
-  pub versions : (ws : List ℕ) (w v : Workspace) → workspace_in r ws ≡ Some w → workspace_in after ws ≡ Some v → KeepsVersions w v ⊎ ((row.workspace ≡ Some ws) × IsSome row.version)
-  pub runs : (ws : List ℕ) (w v : Workspace) (n : ℕ) → workspace_in r ws ≡ Some w → workspace_in after ws ≡ Some v → Starts n w v → (row.workspace ≡ Some ws) × (row.run ≡ Some n)
-  pub anew : (ws : List ℕ) (v : Workspace) → workspace_in r ws ≡ None → workspace_in after ws ≡ Some v → IsAnew v
+-- what comes of an organization's record is what the row tells. In the workspace that it names the version that it tells is made, and
+-- the run that it tells starts; in no workspace is another version made, and no other run starts; and a workspace that wasn't there
+-- begins anew
+pub record ComesAsTold (row : LogRow) (old new : Option Organization) : Type 0 where
+  pub version : IfSome row.version (λ n. OfNamed row.workspace old new (Makes n))
+  pub run : IfSome row.run (λ n. OfNamed row.workspace old new (Starts n))
+  pub versions : (ws : List ℕ) (w v : Workspace) → workspace_in old ws ≡ Some w → workspace_in new ws ≡ Some v → KeepsVersions w v ⊎ ((row.workspace ≡ Some ws) × IsSome row.version)
+  pub runs : (ws : List ℕ) (w v : Workspace) (n : ℕ) → workspace_in old ws ≡ Some w → workspace_in new ws ≡ Some v → Starts n w v → (row.workspace ≡ Some ws) × (row.run ≡ Some n)
+  pub anew : (ws : List ℕ) (v : Workspace) → workspace_in old ws ≡ None → workspace_in new ws ≡ Some v → IsAnew v
 
 -- what changed is what the row of the log tells: the record of its organization alone, as told, and none where it has a refusal. A row
 -- of no organization tells of no version and of no run
