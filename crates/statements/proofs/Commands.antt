@@ -94,6 +94,10 @@ listing_draft rest tree column = record (point_draft rest tree false) { order = 
 abbrev pub joined_draft : Query → ℕ → Join → ℕ → Draft
 joined_draft rest tree more column = record (listing_draft rest tree column) { from = inner tree more }
 
+-- in no order
+abbrev pub matching_draft : Query → ℕ → Join → Draft
+matching_draft rest tree more = record (joined_draft rest tree more 0) { order = [] }
+
 abbrev pub tally_draft : Query → ℕ → Collation → Term → Draft
 tally_draft rest tree collation argument = record {
   from = inner tree end;

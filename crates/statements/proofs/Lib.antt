@@ -19,6 +19,8 @@ pub mod Frames
 pub mod Fresh
 pub mod Grown
 pub mod Held
+pub mod JoinParts
+pub mod Joined
 pub mod KeepingReads
 pub mod KeepingTexts
 pub mod KeepingWrites
@@ -46,6 +48,8 @@ pub mod Schemas
 pub mod Sorting
 pub mod SyntaxTrees
 pub mod Taking
+pub mod TokenFoundReads
+pub mod TokenFoundTexts
 pub mod TokenReads
 pub mod TokenTexts
 pub mod TokenWrites

@@ -147,9 +147,6 @@ token_role_core = from_table (shown_columns (codes "role" ∷ [])) (codes "token
 abbrev pub named_token_role_core : Core
 named_token_role_core = from_table (shown_columns (codes "role" ∷ [])) (codes "token") (at_key (codes "org") (codes "name"))
 
-abbrev pub find_token_core : Core
-find_token_core = from_table (shown_columns (codes "name" ∷ codes "role" ∷ [])) (codes "token") (also (is_given (codes "org") 1) (is_given (codes "digest") 2))
-
 abbrev pub list_tokens_core : Core
 list_tokens_core = from_table (shown_columns (codes "name" ∷ codes "role" ∷ [])) (codes "token") (is_given (codes "org") 1)
 
@@ -217,6 +214,21 @@ named_of table column = Column (Some table) column
 -- a table that is joined, where no more than one of its rows is to match
 abbrev pub joined_left : List ℕ → Expr → Source
 joined_left table on = roll-Source (record { is_left = true; origin = Table table; alias = None; on = Some on; using = [] })
+
+-- the token of a digest, with its row of bound
+abbrev pub find_token_columns : List Shown
+find_token_columns = One (named_of (codes "token") (codes "name")) None (codes "token.name") ∷ shown_columns (codes "role" ∷ codes "until" ∷ codes "prefix" ∷ [])
+
+abbrev pub of_token : Expr
+of_token = also (Two Eq (named_of (codes "bound") (codes "org")) (Parameter 1)) (Two Eq (named_of (codes "bound") (codes "name")) (named_of (codes "token") (codes "name")))
+
+abbrev pub find_token_test : Expr
+find_token_test = also (Two Eq (named_of (codes "token") (codes "org")) (Parameter 1)) (is_given (codes "digest") 2)
+
+abbrev pub find_token_core : Core
+find_token_core =
+    let token = roll-Source (record { is_left = false; origin = Table (codes "token"); alias = None; on = None; using = [] }) in
+    roll-Core (record { distinct = false; shown = find_token_columns; from = token ∷ joined_left (codes "bound") of_token ∷ []; filter = Some find_token_test; group = []; having = None })
 
 -- the row is one of the workspace, by its columns of these names
 abbrev pub of_workspace : List ℕ → Expr

@@ -9,7 +9,7 @@ use Rattle.statements.specs.Schema.{token_table}
 use Rattle.statements.specs.Rows.{token_cells}
 use Rattle.statements.specs.Tables.{Tables, Holds, token_layout}
 use Rattle.statements.specs.Changes.{is_token, is_digest_of}
-use Rattle.statements.specs.Finds.{role_of_digest, role_of_name, named_role, named_role_of}
+use Rattle.statements.specs.Finds.{role_of_digest, role_of_name}
 use Rattle.statements.specs.Listings.{role_row, is_token_of, token_rows_of, TokensApart}
 use Rattle.statements.specs.declared.rows.NamedRole.{NamedRole}
 use Rattle.statements.specs.Calls.{FirstRow, Pins, IsRole, IsNamedRole}
@@ -18,7 +18,7 @@ use Rattle.statements.proofs.PointReads.{first_own}
 use Rattle.statements.proofs.ReadBack.{role_read, named_role_read}
 use Rattle.statements.proofs.NameLists.{by_text, tokens_apart, own_names}
 use Rattle.statements.proofs.Conditions.{one_text, two_texts, text_blob}
-use Rattle.statements.proofs.TokenTexts.{token_role_text, token_role_means, token_role_rest, named_token_role_text, named_token_role_means, named_token_role_rest, find_token_text, find_token_means, find_token_rest, token_names, list_tokens_text, list_tokens_means, list_tokens_rest}
+use Rattle.statements.proofs.TokenTexts.{token_role_text, token_role_means, token_role_rest, named_token_role_text, named_token_role_means, named_token_role_rest, token_names, list_tokens_text, list_tokens_means, list_tokens_rest}
 
 module _ (old new : State) (t : Tables) (h : Holds old.now t) where
   abbrev held : IsHeld token_layout old.now t.tokens
@@ -33,11 +33,6 @@ module _ (old new : State) (t : Tables) (h : Holds old.now t) where
   named_token_role_shows org name row first =
       first_own token_cells token_table old new held.own t.tokens held.rows held.keyed named_token_role_text (Text org ∷ Text name ∷ []) row first named_token_role_rest (codes "role" ∷ [])
       (is_token org name) (λ x. two_texts x.1.org org x.1.name name) IsRole (λ x. x.1.it.role) (λ x y told. role_read x.1.it.role y told) (named_token_role_means old.now.schema _ _ held.own.place) (λ l. refl)
-
-  pub find_token_shows : (org digest : List ℕ) (row : Option Row) → FirstRow find_token_text (Text org ∷ Blob digest ∷ []) old new row → Pins IsNamedRole row (named_role_of org digest t)
-  find_token_shows org digest row first =
-      first_own token_cells token_table old new held.own t.tokens held.rows held.keyed find_token_text (Text org ∷ Blob digest ∷ []) row first find_token_rest token_names
-      (is_digest_of org digest) (λ x. text_blob x.1.org org x.1.it.digest digest) IsNamedRole named_role (λ x y told. named_role_read x.1.name x.1.it.role y told) (find_token_means old.now.schema _ _ held.own.place) (λ l. refl)
 
   pub list_tokens_shows : (org : List ℕ) (rows : List Row) (roles : List NamedRole) → TokensApart t → Shown list_tokens_text (Text org ∷ []) old new rows → AllZip IsNamedRole rows roles → roles ≡ token_rows_of org t
   list_tokens_shows org rows roles apart shown read =

@@ -13,7 +13,7 @@ use Rattle.sqlite_resolve.specs.Compile.{first, command, timed, returning}
 use Rattle.sqlite_resolve.specs.Select.{named}
 use Rattle.sqlite_resolve.specs.Program.{program}
 use Rattle.sqlite_tied.specs.Compute.{everything}
-use Rattle.statements.specs.declared.tokens.TheConstants.{ADD_TOKEN, TOKEN_ROLE, NAMED_TOKEN_ROLE, FIND_TOKEN, LIST_TOKENS, REMOVE_TOKEN}
+use Rattle.statements.specs.declared.tokens.TheConstants.{ADD_TOKEN, TOKEN_ROLE, NAMED_TOKEN_ROLE, LIST_TOKENS, REMOVE_TOKEN}
 use Rattle.statements.specs.Place.{StandsAt}
 use Rattle.statements.specs.Schema.{token_table}
 use Rattle.statements.specs.Calls.{IsQuery}
@@ -66,22 +66,6 @@ named_token_role_is_query = (named_token_role_select, some_parsed (first named_t
 
 abbrev pub named_token_role_rest : Query
 named_token_role_rest = point_rest (is_at 1 0 ∷ is_at 2 1 ∷ []) (col 1 4 ∷ []) no_page
-
-abbrev pub find_token_text : List ℕ
-find_token_text = FIND_TOKEN.now
-
-abbrev pub find_token_select : ast.Select
-find_token_select = st.select st.find_token_core (st.by_rowid false) None
-
-find_token_reads : first find_token_text ≡ Ok (as_read (some_parsed (first find_token_text)) (written.Select find_token_select))
-unfolding everything
-find_token_reads = refl
-
-pub find_token_is_query : IsQuery find_token_text
-find_token_is_query = (find_token_select, some_parsed (first find_token_text), find_token_reads)
-
-abbrev pub find_token_rest : Query
-find_token_rest = point_rest (is_at 1 0 ∷ is_at 3 1 ∷ []) (col 1 2 ∷ col 1 4 ∷ []) no_page
 
 abbrev pub token_names : List (List ℕ)
 token_names = codes "name" ∷ codes "role" ∷ []
@@ -154,23 +138,6 @@ module _ (s : Schema) (at tree : ℕ) (h : StandsAt s (codes "token") token_tabl
   pub named_token_role_means : Means s (Select (plain_program (point named_token_role_rest tree false)) (codes "role" ∷ [])) named_token_role_text
   unfolding timed returning
   named_token_role_means = means s (written.Select named_token_role_select) _ refl (λ _. refl) named_token_role_is named_token_role_text (some_parsed (first named_token_role_text)) named_token_role_reads
-
-  find_token_named : named s st.find_token_core (st.by_rowid false) no_page ≡ Ok ((point_draft find_token_rest tree false), token_names, (Some Binary ∷ Some Binary ∷ []))
-  unfolding everything
-  find_token_named = rw (h.named, h.found, h.found, h.found, h.small) refl
-
-  find_token_fits : program s [] (point_draft find_token_rest tree false) ≡ Ok (plain_program (point find_token_rest tree false))
-  unfolding everything
-  find_token_fits = rw (h.low, h.treed) refl
-
-  find_token_is : (base : ℕ) → command s [] base (written.Select find_token_select) ≡ Ok (Select (plain_program (point find_token_rest tree false)) token_names)
-  unfolding everything
-  find_token_is base =
-      read_is s find_token_select st.find_token_core (st.by_rowid false) no_page ((point_draft find_token_rest tree false), token_names, (Some Binary ∷ Some Binary ∷ [])) refl refl refl refl refl (λ again. refl) find_token_named (plain_program (point find_token_rest tree false)) find_token_fits base
-
-  pub find_token_means : Means s (Select (plain_program (point find_token_rest tree false)) token_names) find_token_text
-  unfolding timed returning
-  find_token_means = means s (written.Select find_token_select) _ refl (λ _. refl) find_token_is find_token_text (some_parsed (first find_token_text)) find_token_reads
 
   list_tokens_named : named s st.list_tokens_core (st.by_column (codes "name")) no_page ≡ Ok ((listing_draft list_tokens_rest tree 2), token_names, (Some Binary ∷ Some Binary ∷ []))
   unfolding everything

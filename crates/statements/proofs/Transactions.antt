@@ -9,7 +9,7 @@ use Rattle.sqlite.specs.Held.{state}
 use Rattle.sqlite.specs.State.{State, HasCleanDisk, Executes, KeepsCommit, IsUnchanged, IsRolledBack, Survives}
 use Rattle.sqlite.specs.declared.transaction.Transaction.{Transaction}
 use Rattle.sqlite.specs.declared.error.Error.{Error}
-use Rattle.statements.specs.Calls.{Wrote, WroteAny, FirstRow, IsCalm, IsRead, AreRead, IsCount, IsNumber, Pins}
+use Rattle.statements.specs.Calls.{Wrote, WroteAny, FirstRow, IsCalm, IsRead, IsOnly, AreRead, IsCount, IsNumber, Pins}
 use Rattle.statements.specs.Rows.{number}
 use Rattle.sqlite.specs.Effect.{Database}
 use Rattle.statements.specs.Making.{Alters}
@@ -94,6 +94,17 @@ one_read Is old new text params (Ok r) (Ok o) first is P tells = tells o (λ wan
 pub left_calm : {X E : Type 0} {A B : Type 0} (result : Result X E) → OnOk result A × OnErr result (A ⊎ B) → A ⊎ B
 left_calm (Ok x) left = inl left.0
 left_calm (Err e) left = left.1
+
+-- a query whose only row is read as a value
+pub reads_only : {X E F : Type 0} (says : Option X → Tables → Type 0) (Is : Row → X → Type 0) (old new : State) (Gives : List Row → Type 0) (rows : Result (List Row) E) (result : Result (Option X) F)
+    → IfOk rows Gives → IsCalm old new rows → IsOnly Is rows result
+    → ((t : Tables) → Holds old.now t → Gives [] → says None t) → ((t : Tables) → Holds old.now t → (row : Row) (x : X) → Gives (row ∷ []) → Is row x → says (Some x) t)
+    → IfOk result (λ x. (t : Tables) → Holds old.now t → says x t) × (OnOk result (IsUnchanged old new) × OnErr result (IsUnchanged old new ⊎ IsRolledBack old new))
+reads_only says Is old new Gives (Ok rs) (Err f) gives calm is none one = (tt, (tt, inl calm.0))
+reads_only says Is old new Gives (Err e) (Err f) gives calm is none one = (tt, (tt, calm.1))
+reads_only says Is old new Gives (Err e) (Ok o) gives calm is none one = absurd is
+reads_only says Is old new Gives (Ok rs) (Ok None) gives calm is none one = (λ t h. none t h (subst Gives is gives), (calm.0, tt))
+reads_only says Is old new Gives (Ok rs) (Ok (Some x)) gives calm is none one = (λ t h. one t h is.0 x (subst Gives is.1 gives) is.2, (calm.0, tt))
 
 -- a query of many rows, each of which is read as a value
 pub lists_by : {X E F : Type 0} (law : Tables → Type 0) (read : Tables → List X) (Is : Row → X → Type 0) (old new : State) (Gives : List Row → Type 0) (rows : Result (List Row) E) (result : Result (List X) F)

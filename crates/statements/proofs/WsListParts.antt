@@ -1,5 +1,5 @@
--- What the parts of the list of workspaces mean, each by itself: its columns, the tables that it joins, WHERE and ORDER BY. Together they are more than one `rw` takes.
-use Rattle.std.proofs.Common.{◌≡◌, ℕ, pos, true, false, List, [], ◌∷◌, ◌++◌, codes, Some, None, Ok, refl}
+-- What the parts of the list of workspaces mean, each by itself: its columns, the tables that it joins, WHERE and ORDER BY.
+use Rattle.std.proofs.Common.{◌≡◌, ℕ, pos, true, false, List, [], ◌∷◌, ◌++◌, codes, Some, Ok, refl}
 use Rattle.sqlite_value.specs.declared.keys.Collation.TheVariants.{Binary}
 use Rattle.sqlite_value.specs.declared.value.Value.TheVariants.{Int}
 use Rattle.sqlite_sql.specs.declared.ops.ArithOp.TheVariants.{Sub}
@@ -9,25 +9,21 @@ use Rattle.sqlite_sql.specs.Term.{Term, lit, col, op2}
 use Rattle.sqlite_sql.specs.Query.{Query, Join, left, end}
 use Rattle.sqlite_schema.specs.declared.schema.Schema.{Schema}
 use Rattle.sqlite_draft.specs.declared.join.Step.TheVariants.{Left}
-use Rattle.sqlite_ast.specs.declared.Expr.TheViews.{out-Core, roll-Core, out-Source, roll-Source}
-use Rattle.sqlite_ast.specs.declared.Expr.TheBlock.{hidden-the_row-Source-5, shown-the_row-Source-5, hidden-the_row-Shown-4, shown-the_row-Shown-4, hidden-the_row-Expr-0, shown-the_row-Expr-0, hidden-the_row-Expr-1, shown-the_row-Expr-1}
-use denote.Hole.Carrier.{out, roll, shown, hidden}
 use Rattle.sqlite_resolve.specs.declared.scope.Bound.{Bound}
 use Rattle.sqlite_resolve.specs.declared.scope.Level.{Level}
 use Rattle.sqlite_resolve.specs.declared.scope.Output.{Output}
 use Rattle.sqlite_resolve.specs.declared.body.Joined.{Joined}
-use Rattle.sqlite_resolve.specs.declared.state.Carried.{Carried}
-use Rattle.sqlite_resolve.specs.declared.state.State.{State}
-use Rattle.sqlite_resolve.specs.Lowering.{nothing, take_slot}
+use Rattle.sqlite_resolve.specs.Lowering.{nothing}
 use Rattle.sqlite_resolve.specs.Scope.{Context}
-use Rattle.sqlite_resolve.specs.Select.{outermost, inside, named, parts, having, assembled, ungrouped}
+use Rattle.sqlite_resolve.specs.Select.{outermost, inside, named}
 use Rattle.sqlite_resolve.specs.Expr.{lower}
-use Rattle.sqlite_resolve.specs.Body.{within, outputs, left_join, tests, body, bounds, bound, table_in, result, matching, joins, join, inner_join, shared}
-use Rattle.sqlite_resolve.specs.Order.{sorts, keys}
+use Rattle.sqlite_resolve.specs.Body.{within, outputs, left_join, tests}
+use Rattle.sqlite_resolve.specs.Order.{sorts}
 use Rattle.sqlite_tied.specs.Compute.{everything}
 use Rattle.statements.specs.Place.{StandsAt}
 use Rattle.statements.specs.Schema.{ws_table, keeping_table, version_table}
 use Rattle.statements.proofs.SyntaxTrees as st
+use Rattle.statements.proofs.JoinParts.{composed, by_bytes, shown_as, read_so_far, no_tests}
 use Rattle.statements.proofs.Listed.{sorted_by}
 use Rattle.statements.proofs.Commands.{is_from, is_below, is_at, is_above, point_rest, page_to, joined_draft}
 use Rattle.statements.proofs.WsTexts.{ws_columns, ws_orders, run_settings_columns, run_settings_orders}
@@ -53,28 +49,10 @@ list_ws_within_rest = point_rest (is_at 1 0 ∷ is_above 2 1 ∷ is_from 2 2 ∷
 abbrev pub list_ws_names : List (List ℕ)
 list_ws_names = st.ws_names ++ codes "name" ∷ codes "keep" ∷ codes "number" ∷ st.run_settings_names
 
--- what unfolds where the parts are put together, and not inside of them
-unfoldable composed : Unit {0}
-unfolding
-    named parts having assembled ungrouped body bounds bound table_in result matching joins join inner_join shared take_slot keys
-    out-Core roll-Core out-Source roll-Source hidden-the_row-Source-5 shown-the_row-Source-5 hidden-the_row-Shown-4 shown-the_row-Shown-4 hidden-the_row-Expr-0 shown-the_row-Expr-0 hidden-the_row-Expr-1 shown-the_row-Expr-1 out roll shown hidden
-composed = tt
-
--- what a column carries
-abbrev by_bytes : Carried
-by_bytes = record { collation = Some Binary; is_written = false }
-
-abbrev shown_as : List ℕ → ℕ → ℕ → Output
-shown_as name slot place = record { name = name; is_alias = false; is_column = true; term = col slot place; carried = by_bytes }
-
 abbrev pub list_ws_shown : List Output
 list_ws_shown =
     shown_as (codes "kind") 1 4 ∷ shown_as (codes "lock_id") 1 5 ∷ shown_as (codes "lock_text") 1 6 ∷ shown_as (codes "run") 1 7 ∷ shown_as (codes "released") 1 8
     ∷ shown_as (codes "next_version") 1 9 ∷ shown_as (codes "next_run") 1 10 ∷ shown_as (codes "name") 1 2 ∷ shown_as (codes "keep") 2 3 ∷ shown_as (codes "number") 3 3 ∷ shown_as (codes "auto") 1 3 ∷ []
-
--- the resolver's state behind FROM: how much of its budget is left, and what was read last
-abbrev pub read_so_far : ℕ → Carried → State
-read_so_far budget last = record { next = 4; steps = []; aggregates = []; budget = budget; written = None; last = last }
 
 module _ (s : Schema) (at tree : ℕ) (h : StandsAt s (codes "ws") ws_table at tree) (keep_at keepings : ℕ) (k : StandsAt s (codes "keeping") keeping_table keep_at keepings)
     (version_at versions : ℕ) (v : StandsAt s (codes "version") version_table version_at versions) where
@@ -86,7 +64,7 @@ module _ (s : Schema) (at tree : ℕ) (h : StandsAt s (codes "ws") ws_table at t
   abbrev pub list_ws_level : List Output → Level
   list_ws_level shown = record { tables = list_ws_tables; shown = shown }
 
-  pub columns_are : outputs lower (within (outermost s) (list_ws_level []) true) list_ws_tables st.list_ws_columns (read_so_far 100_000 nothing) ≡ Ok (list_ws_shown, read_so_far 99_989 by_bytes)
+  pub columns_are : outputs lower (within (outermost s) (list_ws_level []) true) list_ws_tables st.list_ws_columns (read_so_far 4 100_000 nothing) ≡ Ok (list_ws_shown, read_so_far 4 99_989 by_bytes)
   unfolding everything
   columns_are = rw (h.found, k.found, v.found, h.found, k.found, v.found) refl
 
@@ -94,42 +72,38 @@ module _ (s : Schema) (at tree : ℕ) (h : StandsAt s (codes "ws") ws_table at t
   abbrev pub list_ws_inside : Context
   list_ws_inside = within (outermost s) (list_ws_level list_ws_shown) false
 
-  pub joins_keeping : (done : Joined) → left_join lower list_ws_inside done keepings 2 [] (Some (st.of_workspace (codes "keeping"))) (read_so_far 99_989 by_bytes)
-      ≡ Ok (record done { steps = done.steps ++ Left keepings (of_workspace 2) ∷ [] }, read_so_far 99_982 nothing)
+  pub joins_keeping : (done : Joined) → left_join lower list_ws_inside done keepings 2 [] (Some (st.of_workspace (codes "keeping"))) (read_so_far 4 99_989 by_bytes)
+      ≡ Ok (record done { steps = done.steps ++ Left keepings (of_workspace 2) ∷ [] }, read_so_far 4 99_982 nothing)
   unfolding everything
   joins_keeping done = rw (h.found, k.found, k.found, v.found, h.found, k.found, h.found) refl
 
-  pub joins_version : (done : Joined) → left_join lower list_ws_inside done versions 3 [] (Some (st.of_version_before (codes "version"))) (read_so_far 99_982 nothing)
-      ≡ Ok (record done { steps = done.steps ++ Left versions (of_version_before 3) ∷ [] }, read_so_far 99_969 nothing)
+  pub joins_version : (done : Joined) → left_join lower list_ws_inside done versions 3 [] (Some (st.of_version_before (codes "version"))) (read_so_far 4 99_982 nothing)
+      ≡ Ok (record done { steps = done.steps ++ Left versions (of_version_before 3) ∷ [] }, read_so_far 4 99_969 nothing)
   unfolding everything
   joins_version done = rw (h.found, k.found, v.found, h.found, v.found, h.found, v.found) refl
 
-  pub those_after : tests lower list_ws_inside [] (Some st.list_ws_test) (read_so_far 99_969 nothing) ≡ Ok (is_at 1 0 ∷ is_above 2 1 ∷ [], read_so_far 99_962 nothing)
+  pub those_after : tests lower list_ws_inside [] (Some st.list_ws_test) (read_so_far 4 99_969 nothing) ≡ Ok (is_at 1 0 ∷ is_above 2 1 ∷ [], read_so_far 4 99_962 nothing)
   unfolding everything
   those_after = rw (h.found, k.found, h.found, v.found, h.found, h.found) refl
 
-  pub those_within : tests lower list_ws_inside [] (Some st.list_ws_within_test) (read_so_far 99_969 nothing) ≡ Ok (is_at 1 0 ∷ is_above 2 1 ∷ is_from 2 2 ∷ is_below 2 3 ∷ [], read_so_far 99_954 nothing)
+  pub those_within : tests lower list_ws_inside [] (Some st.list_ws_within_test) (read_so_far 4 99_969 nothing) ≡ Ok (is_at 1 0 ∷ is_above 2 1 ∷ is_from 2 2 ∷ is_below 2 3 ∷ [], read_so_far 4 99_954 nothing)
   unfolding everything
   those_within = rw (h.found, k.found, h.found, v.found, h.found, h.found) refl
 
-  pub by_name : sorts lower (inside s (list_ws_level list_ws_shown) false) list_ws_shown (st.by_column (codes "name")) (read_so_far 99_962 nothing) ≡ Ok (sorted_by 2, read_so_far 99_961 by_bytes)
+  pub by_name : sorts lower (inside s (list_ws_level list_ws_shown) false) list_ws_shown (st.by_column (codes "name")) (read_so_far 4 99_962 nothing) ≡ Ok (sorted_by 2, read_so_far 4 99_961 by_bytes)
   unfolding everything
   by_name = rw (h.found, k.found, v.found, h.found) refl
 
-  pub by_name_within : sorts lower (inside s (list_ws_level list_ws_shown) false) list_ws_shown (st.by_column (codes "name")) (read_so_far 99_954 nothing) ≡ Ok (sorted_by 2, read_so_far 99_953 by_bytes)
+  pub by_name_within : sorts lower (inside s (list_ws_level list_ws_shown) false) list_ws_shown (st.by_column (codes "name")) (read_so_far 4 99_954 nothing) ≡ Ok (sorted_by 2, read_so_far 4 99_953 by_bytes)
   unfolding everything
   by_name_within = rw (h.found, k.found, v.found, h.found) refl
 
-  pub no_tests : (cx : Context) (so_far : State) → tests lower cx [] None so_far ≡ Ok ([], so_far)
-  unfolding tests
-  no_tests cx so_far = refl
-
   pub list_ws_named : named s st.list_ws_core (st.by_column (codes "name")) (page_to 2) ≡ Ok ((joined_draft list_ws_rest tree (with_both keepings versions) 2), list_ws_names, (ws_orders ++ Some Binary ∷ Some Binary ∷ Some Binary ∷ run_settings_orders))
   unfolding composed
-  list_ws_named = rw (h.named, k.named, v.named, columns_are, h.found, no_tests list_ws_inside (read_so_far 99_989 by_bytes))
-      (rw (k.found, joins_keeping _, v.found, joins_version _, those_after) (rw (no_tests (inside s (list_ws_level list_ws_shown) false) (read_so_far 99_962 nothing), by_name) refl))
+  list_ws_named = rw (h.named, k.named, v.named, columns_are, h.found, no_tests list_ws_inside (read_so_far 4 99_989 by_bytes))
+      (rw (k.found, joins_keeping _, v.found, joins_version _, those_after) (rw (no_tests (inside s (list_ws_level list_ws_shown) false) (read_so_far 4 99_962 nothing), by_name) refl))
 
   pub list_ws_within_named : named s st.list_ws_within_core (st.by_column (codes "name")) (page_to 4) ≡ Ok ((joined_draft list_ws_within_rest tree (with_both keepings versions) 2), list_ws_names, (ws_orders ++ Some Binary ∷ Some Binary ∷ Some Binary ∷ run_settings_orders))
   unfolding composed
-  list_ws_within_named = rw (h.named, k.named, v.named, columns_are, h.found, no_tests list_ws_inside (read_so_far 99_989 by_bytes))
-      (rw (k.found, joins_keeping _, v.found, joins_version _, those_within) (rw (no_tests (inside s (list_ws_level list_ws_shown) false) (read_so_far 99_954 nothing), by_name_within) refl))
+  list_ws_within_named = rw (h.named, k.named, v.named, columns_are, h.found, no_tests list_ws_inside (read_so_far 4 99_989 by_bytes))
+      (rw (k.found, joins_keeping _, v.found, joins_version _, those_within) (rw (no_tests (inside s (list_ws_level list_ws_shown) false) (read_so_far 4 99_954 nothing), by_name_within) refl))

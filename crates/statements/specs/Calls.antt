@@ -1,5 +1,5 @@
 -- What a text that is run does; what a query gives: the first row of its answer, or none, and the value that this row is read as.
-use Rattle.std.specs.Prelude.{◌≡◌, ◌⊎◌, ◌<◌, ◌≤◌, ◌==◌, ◌^◌, length, ⊤, ℕ, ℤ, pos, negsuc, Bool, not, List, [], Option, Some, None, Result, Ok, Err, IfOk, OnOk, OnErr}
+use Rattle.std.specs.Prelude.{◌≡◌, ◌⊎◌, ◌<◌, ◌≤◌, ◌==◌, ◌^◌, length, ⊤, ℕ, ℤ, pos, negsuc, Bool, not, List, [], ◌∷◌, Option, Some, None, Result, Ok, Err, IfOk, OnOk, OnErr}
 use Rattle.std.specs.List.{AllZip}
 use Rattle.std.specs.Ordering.{int_eq}
 use Rattle.sqlite_ast.specs.declared.Select.{Select}
@@ -20,6 +20,7 @@ use Rattle.statements.specs.declared.rows.NamedWorkspace.{NamedWorkspace}
 use Rattle.statements.specs.declared.rows.Organization.{Organization}
 use Rattle.basis.specs.declared.rows.RunRow.{RunRow as Run}
 use Rattle.statements.specs.declared.rows.NamedRole.{NamedRole}
+use Rattle.statements.specs.declared.rows.BoundedRole.{BoundedRole}
 use Rattle.basis.specs.declared.roles.Bounds.{Bounds}
 use Rattle.statements.specs.Rows.{number, role_code, status_code, action_code, run_settings_at}
 use Rattle.sqlite.specs.State.{State, IsUnchanged, IsRolledBack, KeepsCommit, ExecutesInside, QueriesRow, Shown, Begins}
@@ -60,6 +61,13 @@ IsRead Is (Ok None) (Ok None) = ⊤
 IsRead Is (Ok None) (Ok (Some x)) = ⊥
 IsRead Is (Ok (Some row)) (Ok None) = ⊥
 IsRead Is (Ok (Some row)) (Ok (Some x)) = Is row x
+
+-- the only row that a query gave is read as a value, and no row as none
+abbrev pub IsOnly : {X E F : Type 0} → (Row → X → Type 0) → Result (List Row) E → Result (Option X) F → Type 0
+IsOnly Is rows (Err f) = ⊤
+IsOnly Is (Err e) (Ok found) = ⊥
+IsOnly Is (Ok rows) (Ok None) = rows ≡ []
+IsOnly Is (Ok rows) (Ok (Some x)) = (row : Row) × (rows ≡ row ∷ []) × Is row x
 
 -- each row that a query gave is read as a value
 abbrev pub AreRead : {X E F : Type 0} → (Row → X → Type 0) → Result (List Row) E → Result (List X) F → Type 0
@@ -137,6 +145,12 @@ pub record IsNamedRole (row : Row) (r : NamedRole) : Type 0 where
 pub record IsBound (row : Row) (b : Bounds) : Type 0 where
   pub until : IsNumberOrNull (column row 0) b.until
   pub prefix : column row 1 ≡ cell.Text b.prefix
+
+pub record IsBoundedRole (row : Row) (b : BoundedRole) : Type 0 where
+  pub name : column row 0 ≡ cell.Text b.token.name
+  pub role : column row 1 ≡ number (role_code b.token.role)
+  pub until : IsNumberOrNull (column row 2) b.bounds.until
+  pub prefix : column row 3 ≡ cell.Text b.bounds.prefix
 
 abbrev pub IsBody : Row → List ℕ → Type 0
 IsBody row body = column row 0 ≡ cell.Blob body

@@ -1,5 +1,5 @@
 -- What each query reads of the rows.
-use Rattle.std.specs.Prelude.{ℕ, pos, Bool, true, false, not, ◌&&◌, List, length, filter, find, slice_get, min, Option, Some, None, option_map}
+use Rattle.std.specs.Prelude.{◌≡◌, ℕ, pos, Bool, true, false, not, ◌&&◌, List, length, filter, find, slice_get, min, Option, Some, None, IfSome, option_map}
 use Rattle.std.specs.declared.cmp.Ordering.{Ordering}
 use Rattle.std.specs.Ordering.{int_cmp, nat_cmp, ordering_then}
 use Rattle.std.specs.Str.{bytes_eq}
@@ -17,6 +17,7 @@ use Rattle.basis.specs.declared.rows.VersionRow.{VersionRow as Version}
 use Rattle.statements.specs.declared.rows.Workspace.{Workspace}
 use Rattle.basis.specs.declared.rows.RunRow.{RunRow as Run}
 use Rattle.statements.specs.declared.rows.NamedRole.{NamedRole}
+use Rattle.statements.specs.declared.rows.BoundedRole.{BoundedRole}
 use Rattle.basis.specs.declared.roles.Bounds.{Bounds}
 use Rattle.statements.specs.Rows.{Kept, TokenRow, VersionRow, RunRow, BoundRow, id_of, number}
 use Rattle.statements.specs.Tables.{Tables}
@@ -48,6 +49,10 @@ bound_in x = record { until = x.1.until; prefix = x.1.prefix }
 -- how far a token of this name reaches
 abbrev pub bound_of : List ℕ → List ℕ → Tables → Option Bounds
 bound_of org name t = option_map bound_in (find (is_bound org name) t.bounds)
+
+-- the token that has this digest, with how far it reaches
+abbrev pub IsBoundedRoleOf : List ℕ → List ℕ → Option BoundedRole → Tables → Type 0
+IsBoundedRoleOf org digest found t = (option_map (λ b. b.token) found ≡ named_role_of org digest t) × IfSome found (λ b. bound_of org b.token.name t ≡ Some b.bounds)
 
 abbrev pub workspace_of : List ℕ → List ℕ → Tables → Option Workspace
 workspace_of org name t = option_map (λ x. x.1.it) (find (is_ws org name) t.wss)

@@ -7,9 +7,9 @@ ghost use Rattle.sqlite.specs.Held.{state};
 ghost use Rattle.sqlite.specs.State.{HasCleanDisk, Survives, Shown};
 ghost use Rattle.basis.specs.declared.numbers.TheConstants.{MAX_MOMENT};
 ghost use Rattle.statements.specs.Rows.{number, role_code, status_code, action_code, flag, flag_at};
-ghost use Rattle.statements.specs.Calls.{Wrote, WroteAny, IsQuery, FirstRow, FirstRows, LimitsTo, IsCalm, IsRead, AreRead, IsOrganization, IsVersionRow, IsTextOrNull, IsRunRow, IsNamedRole, IsNumberOrNull, IsBound, IsBody, IsNumber, IsRole, IsStatusCell, IsActionOrNull, IsStatus, IsCount};
+ghost use Rattle.statements.specs.Calls.{Wrote, WroteAny, IsQuery, FirstRow, FirstRows, LimitsTo, IsCalm, IsRead, IsOnly, AreRead, IsOrganization, IsVersionRow, IsTextOrNull, IsRunRow, IsNamedRole, IsNumberOrNull, IsBound, IsBoundedRole, IsBody, IsNumber, IsRole, IsStatusCell, IsActionOrNull, IsStatus, IsCount};
 
-use crate::rows::{NamedRole, Organization};
+use crate::rows::{BoundedRole, NamedRole, Organization};
 use basis::{
     Bounds, Bytes, Items, KeepCount, Limit, LockId, Moment, Number, Prefix, Role, RunAction,
     RunRow, RunStatus, Text, VersionRow, WsName,
@@ -440,6 +440,23 @@ impl Read for Bounds {
     }
 }
 
+impl Read for BoundedRole {
+    ghost is_in = { IsBoundedRole };
+
+    fn of_row(row: &Row) -> Result<BoundedRole, Error> {
+        Ok(BoundedRole {
+            token: NamedRole {
+                name: Text::new(row.get(0)?),
+                role: role_in(row, 1)?,
+            },
+            bounds: Bounds {
+                until: optional_moment(row, 2)?,
+                prefix: prefix_of(row.get(3)?, 3)?,
+            },
+        })
+    }
+}
+
 impl Read for Role {
     ghost is_in = { IsRole };
 
@@ -463,6 +480,18 @@ pub fn read_one<T: Read + Drop>(row: Result<Option<Row>, Error>) -> Result<Optio
     match row? {
         Some(row) => Ok(Some(T::of_row(&row)?)),
         None => Ok(None),
+    }
+}
+
+/// The value that the only row holds, or none where there is no row. It is an error where there are more.
+pub(crate) fn read_only<T: Read + Drop>(rows: Result<Items<Row>, Error>) -> Result<Option<T>, Error>
+    ensures { IsOnly T.Read.is_in rows result }
+{
+    let rows = rows?;
+    match rows.as_slice() {
+        [] => Ok(None),
+        [row] => Ok(Some(T::of_row(row)?)),
+        _ => Err(Error::InvalidQuery),
     }
 }
 

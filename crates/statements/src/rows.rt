@@ -1,5 +1,5 @@
 //! What rows hold that nothing above has a type for, as values.
-use basis::{Holder, KeepCount, Limit, LockId, Number, Role, RunSettings, Text, WsName};
+use basis::{Bounds, Holder, KeepCount, Limit, LockId, Number, Role, RunSettings, Text, WsName};
 
 /// A workspace, without its versions and runs.
 #[derive(Drop)]
@@ -27,6 +27,13 @@ pub struct NamedWorkspace {
 pub struct NamedRole {
     pub name: Text,
     pub role: Role,
+}
+
+/// A token without its digest, and how far it reaches.
+#[derive(Drop)]
+pub struct BoundedRole {
+    pub token: NamedRole,
+    pub bounds: Bounds,
 }
 
 /// An organization, and how many workspaces it may have.

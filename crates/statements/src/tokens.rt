@@ -2,11 +2,11 @@
 ghost use Rattle.statements.specs.Steps.{AnyRows, Equals, EqualsWhere, Writes, Queries};
 ghost use Rattle.statements.specs.Changes.{token_row_added, token_row_removed, token_added, token_removed, HasNoBound};
 ghost use Rattle.statements.specs.Listings.{token_rows_of, TokensApart};
-ghost use Rattle.statements.specs.Finds.{named_role_of, role_of_digest, role_of_name};
+ghost use Rattle.statements.specs.Finds.{IsBoundedRoleOf, role_of_digest, role_of_name};
 
 use crate::bounds;
-use crate::calls::{all_rows, first_row, read_all, read_one, role_number, write};
-use crate::rows::NamedRole;
+use crate::calls::{all_rows, first_row, read_all, read_one, read_only, role_number, write};
+use crate::rows::{BoundedRole, NamedRole};
 use basis::{Bounds, Items, Role};
 use sqlite::{Alter, Connection, Error, Transaction, params};
 use std::alloc::Global;
@@ -40,18 +40,19 @@ pub fn role_of_name<S: Alter>(
 }
 
 const FIND_TOKEN: &str =
-    "SELECT name, role FROM token WHERE org = ?1 AND digest = ?2 ORDER BY rowid";
+    "SELECT token.name, role, until, prefix FROM token LEFT JOIN bound ON bound.org = ?1 AND bound.name = token.name WHERE token.org = ?1 AND digest = ?2";
 
-/// The token of an organization that has this digest.
+/// The token of an organization that has this digest, and how far it reaches. It is an error where it has no row of
+/// bound, and where more than one row is found.
 pub fn find_by_digest<S: Alter>(
     conn: &mut Connection<S>,
     org: &str,
     digest: &[u8],
-) -> Result<Option<NamedRole>, Error>
-    ensures { Queries S.Store (Equals (named_role_of org.now digest.now)) conn.old conn.new result }
+) -> Result<Option<BoundedRole>, Error>
+    ensures { Queries S.Store (IsBoundedRoleOf org.now digest.now) conn.old conn.new result }
 {
-    let row = first_row(conn, FIND_TOKEN, params![org, digest]);
-    read_one(row)
+    let rows = all_rows(conn, FIND_TOKEN, params![org, digest]);
+    read_only(rows)
 }
 
 const LIST_TOKENS: &str = "SELECT name, role FROM token WHERE org = ?1 ORDER BY name";

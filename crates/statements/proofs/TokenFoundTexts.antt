@@ -1,0 +1,105 @@
+-- What the text that finds a token by its digest, with its row of bound, means in each schema that has the tables token and bound.
+use Rattle.std.proofs.Common.{◌≡◌, ℕ, true, false, List, [], ◌∷◌, ◌++◌, codes, Some, None, Ok, refl}
+use Rattle.sqlite_value.specs.declared.keys.Collation.TheVariants.{Binary}
+use Rattle.sqlite_sql.specs.declared.ops.CompareOp.TheVariants.{Eq}
+use Rattle.sqlite_sql.specs.declared.ops.BinaryOp.TheVariants.{Compare}
+use Rattle.sqlite_sql.specs.Term.{Term, col, op2}
+use Rattle.sqlite_sql.specs.Query.{Query, Join, left, end}
+use Rattle.sqlite_schema.specs.declared.schema.Schema.{Schema}
+use Rattle.sqlite_schema.specs.declared.command.Command.TheVariants.{Select}
+use Rattle.sqlite_ast.specs.declared.Statement.TheVariants as written
+use Rattle.sqlite_ast.specs.declared.Select as ast
+use Rattle.sqlite_draft.specs.declared.join.Step.TheVariants.{Left}
+use Rattle.sqlite_resolve.specs.Compile.{first, command, timed, returning}
+use Rattle.sqlite_resolve.specs.declared.scope.Bound.{Bound}
+use Rattle.sqlite_resolve.specs.declared.scope.Level.{Level}
+use Rattle.sqlite_resolve.specs.declared.scope.Output.{Output}
+use Rattle.sqlite_resolve.specs.declared.body.Joined.{Joined}
+use Rattle.sqlite_resolve.specs.Lowering.{nothing}
+use Rattle.sqlite_resolve.specs.Scope.{Context}
+use Rattle.sqlite_resolve.specs.Select.{outermost, inside, named}
+use Rattle.sqlite_resolve.specs.Expr.{lower}
+use Rattle.sqlite_resolve.specs.Body.{within, outputs, left_join, tests}
+use Rattle.sqlite_resolve.specs.Program.{program}
+use Rattle.sqlite_tied.specs.Compute.{everything}
+use Rattle.statements.specs.declared.tokens.TheConstants.{FIND_TOKEN}
+use Rattle.statements.specs.Place.{StandsAt}
+use Rattle.statements.specs.Schema.{token_table, bound_table}
+use Rattle.statements.specs.Calls.{IsQuery}
+use Rattle.statements.proofs.SyntaxTrees as st
+use Rattle.statements.proofs.Meaning.{Means, means, some_parsed, as_read}
+use Rattle.statements.proofs.Reading.{read_is}
+use Rattle.statements.proofs.Writes.{plain_program}
+use Rattle.statements.proofs.JoinParts.{composed, by_bytes, shown_as, read_so_far, no_tests, no_sorts}
+use Rattle.statements.proofs.Joined.{matching}
+use Rattle.statements.proofs.Commands.{is_at, point_rest, matching_draft, no_page}
+
+abbrev pub find_token_text : List ℕ
+find_token_text = FIND_TOKEN.now
+
+abbrev pub find_token_select : ast.Select
+find_token_select = st.select st.find_token_core [] None
+
+find_token_reads : first find_token_text ≡ Ok (as_read (some_parsed (first find_token_text)) (written.Select find_token_select))
+unfolding everything
+find_token_reads = refl
+
+pub find_token_is_query : IsQuery find_token_text
+find_token_is_query = (find_token_select, some_parsed (first find_token_text), find_token_reads)
+
+abbrev pub find_token_rest : Query
+find_token_rest = point_rest (is_at 1 0 ∷ is_at 3 1 ∷ []) (col 1 2 ∷ col 1 4 ∷ col 2 3 ∷ col 2 4 ∷ []) no_page
+
+-- the row of bound is that of the token
+abbrev pub of_token : List Term
+of_token = op2 (Compare Eq Binary) (col 2 1) (col 0 0) ∷ op2 (Compare Eq Binary) (col 2 2) (col 1 2) ∷ []
+
+abbrev pub find_token_names : List (List ℕ)
+find_token_names = codes "name" ∷ codes "role" ∷ codes "until" ∷ codes "prefix" ∷ []
+
+abbrev find_token_shown : List Output
+find_token_shown = shown_as (codes "name") 1 2 ∷ shown_as (codes "role") 1 4 ∷ shown_as (codes "until") 2 3 ∷ shown_as (codes "prefix") 2 4 ∷ []
+
+module _ (s : Schema) (at tree : ℕ) (h : StandsAt s (codes "token") token_table at tree) (bound_at bounds : ℕ) (k : StandsAt s (codes "bound") bound_table bound_at bounds) where
+  abbrev with_bound : Join
+  with_bound = left bounds of_token end
+
+  abbrev tables : List Bound
+  tables = record { name = codes "token"; table = at; slot = 1; shared = [] } ∷ record { name = codes "bound"; table = bound_at; slot = 2; shared = [] } ∷ []
+
+  abbrev level : List Output → Level
+  level shown = record { tables = tables; shown = shown }
+
+  columns_are : outputs lower (within (outermost s) (level []) true) tables st.find_token_columns (read_so_far 3 100_000 nothing) ≡ Ok (find_token_shown, read_so_far 3 99_996 by_bytes)
+  unfolding everything
+  columns_are = rw (h.found, k.found, h.found, k.found) refl
+
+  -- ON and WHERE, which may name the columns
+  abbrev found_inside : Context
+  found_inside = within (outermost s) (level find_token_shown) false
+
+  joins_bound : (done : Joined) → left_join lower found_inside done bounds 2 [] (Some st.of_token) (read_so_far 3 99_996 by_bytes) ≡ Ok (record done { steps = done.steps ++ Left bounds of_token ∷ [] }, read_so_far 3 99_989 nothing)
+  unfolding everything
+  joins_bound done = rw (h.found, k.found, h.found, k.found, h.found, k.found) refl
+
+  those_of_digest : tests lower found_inside [] (Some st.find_token_test) (read_so_far 3 99_989 nothing) ≡ Ok (is_at 1 0 ∷ is_at 3 1 ∷ [], read_so_far 3 99_982 nothing)
+  unfolding everything
+  those_of_digest = rw (h.found, k.found, h.found, h.found) refl
+
+  find_token_named : named s st.find_token_core [] no_page ≡ Ok ((matching_draft find_token_rest tree with_bound), find_token_names, (Some Binary ∷ Some Binary ∷ Some Binary ∷ Some Binary ∷ []))
+  unfolding composed
+  find_token_named = rw (h.named, k.named, columns_are, h.found, no_tests found_inside (read_so_far 3 99_996 by_bytes))
+      (rw (k.found, joins_bound _, those_of_digest) (rw (no_tests (inside s (level find_token_shown) false) (read_so_far 3 99_982 nothing), no_sorts (inside s (level find_token_shown) false) find_token_shown (read_so_far 3 99_982 nothing)) refl))
+
+  find_token_fits : program s [] (matching_draft find_token_rest tree with_bound) ≡ Ok (plain_program (matching find_token_rest tree with_bound))
+  unfolding everything
+  find_token_fits = rw (h.low, k.low, h.treed, k.treed) refl
+
+  find_token_is : (base : ℕ) → command s [] base (written.Select find_token_select) ≡ Ok (Select (plain_program (matching find_token_rest tree with_bound)) find_token_names)
+  unfolding everything
+  find_token_is base =
+      read_is s find_token_select st.find_token_core [] no_page ((matching_draft find_token_rest tree with_bound), find_token_names, (Some Binary ∷ Some Binary ∷ Some Binary ∷ Some Binary ∷ [])) refl refl refl refl refl (λ again. refl) find_token_named (plain_program (matching find_token_rest tree with_bound)) find_token_fits base
+
+  pub find_token_means : Means s (Select (plain_program (matching find_token_rest tree with_bound)) find_token_names) find_token_text
+  unfolding timed returning
+  find_token_means = means s (written.Select find_token_select) _ refl (λ _. refl) find_token_is find_token_text (some_parsed (first find_token_text)) find_token_reads
