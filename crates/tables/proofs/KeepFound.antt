@@ -1,11 +1,18 @@
 -- What is found by more than one query.
-use Rattle.std.proofs.Common.{◌≡◌, Option, Some, None, is_some, IsSome, IfSome, option_map, Result, Ok, Err, OnOk, sym, ap, ◌∙◌, subst}
+use Rattle.std.proofs.Common.{◌≡◌, ℕ, List, Option, Some, None, is_some, IsSome, IfSome, option_map, Result, Ok, Err, OnOk, sym, ap, ◌∙◌, subst}
+use Rattle.std.specs.Option.{unwrap_or}
 use Rattle.sqlite_trees.specs.declared.store.Store.{Ghosts}
-use Rattle.sqlite.specs.Effect.{Database}
 use Rattle.sqlite.specs.Held.{Held}
-use Rattle.sqlite.specs.State.{State, IsUnchanged}
+use Rattle.sqlite.specs.State.{State}
+use Rattle.basis.specs.declared.roles.Bounds.{Bounds}
+use Rattle.machine.specs.declared.keeps.TokenRow.{TokenRow}
+use Rattle.statements.specs.declared.rows.NamedRole.{NamedRole}
+use Rattle.statements.specs.declared.rows.BoundedRole.{BoundedRole}
+use Rattle.statements.specs.Finds.{bound_of, IsBoundedRoleOf}
 use Rattle.statements.specs.Steps.{Equals, Sees}
 use Rattle.statements.specs.Tables.{Tables, Holds}
+use Rattle.tables.specs.Records.{caller_with, no_bounds, IsBound}
+use Rattle.tables.specs.Inner.Lists.{token_row_in, asker_in}
 use Rattle.texts.proofs.Many.{sees_then, sees_as}
 
 module _ {S : Type 0} (g : Ghosts S) where
@@ -37,16 +44,21 @@ module _ {S : Type 0} (g : Ghosts S) where
 
 -- ---- a token has its row of bound
 
+abbrev pub asker_by : BoundedRole → TokenRow
+asker_by b = record { name = b.token.name; caller = caller_with b.token.role b.bounds }
+
 -- what was found is there
 pub found_there : {A X F : Type 0} (q : Tables → Option A) (x : A) (a : State) (o : Option A) (result : Result X F) → o ≡ Some x → ((t : Tables) → Holds a.now t → o ≡ q t) → OnOk result ((t : Tables) → Holds a.now t → IsSome (q t))
 found_there q x a o (Ok y) is found = λ t held. ap is_some (sym (found t held) ∙ is)
 found_there q x a o (Err e) is found = tt
 
-module _ {A : Type 0} (q : Tables → Option A) (P : A → Tables → Type 0) where
-  pub token_bound : (x : A) (a b : State) (o : Option A) → o ≡ Some x → ((t : Tables) → Holds a.now t → o ≡ q t) → IsUnchanged a b
-      → ((t : Tables) → Holds b.now t → P x t) → (t : Tables) → Holds a.now t → IfSome (q t) (λ y. P y t)
-  token_bound x a b o is found same there t held =
-      subst (λ (p : Option A). IfSome p (λ y. P y t)) (sym is ∙ found t held) (there t (subst (λ (db : Database). Holds db t) (sym same.0.now_is) held))
+module _ (org digest : List ℕ) (t : Tables) where
+  -- the token that was found with how far it reaches is who asks
+  pub asker_found : (found : Option BoundedRole) → IsBoundedRoleOf org digest found t → option_map asker_by found ≡ asker_in org digest t
+  asker_found None told = ap (option_map (token_row_in org t)) told.0
+  asker_found (Some b) told =
+      ap (λ (o : Option Bounds). Some (asker_by (record b { bounds = unwrap_or o no_bounds }))) (sym told.1) ∙ ap (option_map (token_row_in org t)) told.0
 
-  pub no_token_bound : (a : State) (o : Option A) → o ≡ None → ((t : Tables) → Holds a.now t → o ≡ q t) → (t : Tables) → Holds a.now t → IfSome (q t) (λ y. P y t)
-  no_token_bound a o is found t held = subst (λ (p : Option A). IfSome p (λ y. P y t)) (sym is ∙ found t held) tt
+  pub bound_found : (found : Option BoundedRole) → IsBoundedRoleOf org digest found t → IsBound org digest t
+  bound_found None told = subst (λ (o : Option NamedRole). IfSome o (λ x. IsSome (bound_of org x.name t))) told.0 tt
+  bound_found (Some b) told = subst (λ (o : Option NamedRole). IfSome o (λ x. IsSome (bound_of org x.name t))) told.0 (ap is_some told.1)

@@ -9,7 +9,7 @@ ghost use Rattle.statements.specs.Tables.{Tables, Holds};
 ghost use Rattle.machine.specs.Needs.{needed_of};
 ghost use Rattle.machine.specs.Units.{if_needed};
 ghost use Rattle.tables.specs.Records.{caller_with, bounds_at, IsBound, keep_at};
-ghost use Rattle.tables.specs.Inner.Lists.{token_row_in, asker_in};
+ghost use Rattle.tables.specs.Inner.Lists.{asker_in};
 ghost use Rattle.tables.specs.Inner.Units.{holder_status_in, text_in, has_text, newest_by, newest_in, keep_in, outgoing_in, has_version_in, keyed_run_in, asked_run_in, unit_in};
 ghost use Rattle.tables.specs.Inner.Looks.{absent_in, runs_in, around_in, unit_from, present_in};
 
@@ -266,21 +266,6 @@ pub(crate) fn caller_as<S: Alter>(
     Ok(caller_with(token.role, bounds))
 }
 
-/// Who asks by a token of this name and role, and the name.
-fn asker_as<S: Alter>(
-    conn: &mut Connection<S>,
-    org: &str,
-    token: NamedRole,
-) -> Result<TokenRow, Error>
-    ensures looks { Sees S.Store (Equals (λ t. token_row_in org.now t token)) conn.old conn.new result }
-    ensures is_open { HasCleanDisk (state S.Store conn.new) → OnOk result (IsTrue (state S.Store conn.new).is_open) }
-    ensures there { HasCleanDisk (state S.Store conn.new) → OnOk result ((t : Tables) → Holds (state S.Store conn.old).now t → IsSome (bound_of org.now token.name t)) }
-{
-    let caller = caller_as(conn, org, &token)?;
-    let name = token.name;
-    Ok(TokenRow { name, caller })
-}
-
 /// Who asks by the organization's token with this digest, and the token's name. It is an error where the token has no
 /// row of bound.
 pub(crate) fn caller<S: Alter>(
@@ -294,7 +279,11 @@ pub(crate) fn caller<S: Alter>(
 {
     match tokens::find_by_digest(conn, org, digest)? {
         None => Ok(None),
-        Some(token) => Ok(Some(asker_as(conn, org, token)?)),
+        Some(found) => {
+            let name = found.token.name;
+            let caller = caller_with(found.token.role, found.bounds);
+            Ok(Some(TokenRow { name, caller }))
+        }
     }
 }
 
