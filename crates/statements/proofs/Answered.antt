@@ -99,14 +99,14 @@ module _ {R : Type 0} (cells : R → Row) (db : Trees) (tree : ℕ) (xs : List (
       let all = answer_by_keys (point rest tree false) db params source p tests (λ r. r) show (λ x. refl) refl refl (λ x y. in_order (id_of x) (id_of y)) rows a in
       ap (λ l. slice_get l 0) (sym (map-id rows) ∙ all) ∙ first (map show (filter p xs)) ∙ slice_get-map show (filter p xs) 0 ∙ ap (option_map show) (slice_get-filter p xs)
 
-  -- a row by its place in the order of a column: OFFSET passes over as many rows
+  -- the first row in the order of a column
   pub ranked_is : (column : ℕ) (descending : Bool) (order : Kept R → Kept R → Ordering) → ((x y : Kept R) → int_cmp (id_of x) (id_of y) ≡ Less → IsNoTie (order x y))
       → ((x y : Kept R) → output_cmp (ranked rest tree column descending) (output (ranked rest tree column descending) (params ∷ stored cells x ∷ [])) (output (ranked rest tree column descending) (params ∷ stored cells y ∷ [])) ≡ order x y)
-      → (n : ℕ) → ((l : List Row) → slice_get (page (ranked rest tree column descending) params l) 0 ≡ slice_get l n) → (rows : List Row) → IsAnswer (ranked rest tree column descending) db params rows
-      → slice_get rows 0 ≡ option_map show (slice_get (sort_by order (filter p xs)) n)
-  ranked_is column descending order untied is n at rows a =
+      → ((l : List Row) → slice_get (page (ranked rest tree column descending) params l) 0 ≡ slice_get l 0) → (rows : List Row) → IsAnswer (ranked rest tree column descending) db params rows
+      → slice_get rows 0 ≡ option_map show (slice_get (sort_by order (filter p xs)) 0)
+  ranked_is column descending order untied is at rows a =
       let all = answer_sorted (ranked rest tree column descending) db params source p tests (λ r. r) show (λ x. refl) refl refl order untied is rows a in
-      ap (λ l. slice_get l 0) (sym (map-id rows) ∙ all) ∙ at (map show (sort_by order (filter p xs))) ∙ slice_get-map show (sort_by order (filter p xs)) n
+      ap (λ l. slice_get l 0) (sym (map-id rows) ∙ all) ∙ at (map show (sort_by order (filter p xs))) ∙ slice_get-map show (sort_by order (filter p xs)) 0
 
   -- the rows in the order of their rowids
   pub all_are : ((l : List Row) → page (point rest tree false) params l ≡ l) → (rows : List Row) → IsAnswer (point rest tree false) db params rows → rows ≡ map show (filter p xs)

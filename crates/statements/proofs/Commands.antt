@@ -61,10 +61,6 @@ one_page = (lit (Int (pos 1)), lit (Int (pos 0)))
 abbrev pub page_to : ℕ → Term × Term
 page_to parameter = (col 0 parameter, lit (Int (pos 0)))
 
--- one row, behind as many as a parameter says
-abbrev pub one_page_at : ℕ → Term × Term
-one_page_at parameter = (lit (Int (pos 1)), col 0 parameter)
-
 -- WHERE, the columns that are shown, and the page
 abbrev pub point_rest : List Term → List Term → Term × Term → Query
 point_rest filter project page = record (simple_query 0 filter project) { limit = page.0; offset = page.1 }

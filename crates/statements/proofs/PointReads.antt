@@ -1,5 +1,5 @@
 -- What a query over one of our tables reads of its rows, whatever else stands in the database.
-use Rattle.std.proofs.Common.{◌≡◌, ◌<ℤ◌, refl, ℕ, pos, zero, suc, take, drop, Bool, false, List, [], ◌∷◌, map, filter, find, length, slice_get, Option, Some, None, option_map, ap, ◌∙◌, subst, Ordering, Less, Equal, int_cmp, nat_cmp}
+use Rattle.std.proofs.Common.{◌≡◌, ◌<ℤ◌, ℕ, pos, Bool, false, List, [], ◌∷◌, map, filter, find, length, slice_get, Option, Some, None, option_map, ap, ◌∙◌, subst, Ordering, Less, Equal, int_cmp, nat_cmp}
 use Rattle.std.specs.List.{list_all}
 use Rattle.std.specs.Ordering.{ordering_then}
 use Rattle.sqlite_value.specs.declared.keys.Collation.TheVariants.{Binary}
@@ -25,12 +25,6 @@ use Rattle.statements.proofs.Writes.{plain_program}
 use Rattle.statements.proofs.Own.{stored_tree}
 use Rattle.statements.proofs.Answered.{answered, point, ranked, ranked_is, tally, first_is, count_answer, untied_up, in_order_of_numbers}
 use Rattle.statements.proofs.Sorting.{and_key, sorted_same}
-
-pub first_behind : {X : Type 0} (n : ℕ) (xs : List X) → slice_get (take 1 (drop n xs)) 0 ≡ slice_get xs n
-first_behind zero [] = refl
-first_behind zero (x ∷ xs) = refl
-first_behind (suc n) [] = refl
-first_behind (suc n) (x ∷ xs) = first_behind n xs
 
 pub pinned : {A X : Type 0} (Is : Row → X → Type 0) (show : A → Row) (val : A → X) → ((x : A) (y : X) → Is (show x) y → y ≡ val x) → (row : Option Row) (o : Option A) → row ≡ option_map show o
     → Pins Is row (option_map val o)
@@ -64,11 +58,11 @@ module _ {R : Type 0} (cells : R → Row) (table : Table) (old new : State) (own
 
     pub ranked_own : (column : ℕ) (descending : Bool) (order : Kept R → Kept R → Ordering) → ((x y : Kept R) → int_cmp (id_of x) (id_of y) ≡ Less → IsNoTie (order x y))
         → ((x y : Kept R) → output_cmp (ranked rest here column descending) (output (ranked rest here column descending) (params ∷ stored cells x ∷ [])) (output (ranked rest here column descending) (params ∷ stored cells y ∷ [])) ≡ order x y)
-        → (n : ℕ) → Means s (Select (plain_program (ranked rest here column descending)) names) text → ((l : List Row) → slice_get (page (ranked rest here column descending) params l) 0 ≡ slice_get l n)
-        → Pins Is row (option_map val (slice_get (sort_by order (filter p xs)) n))
-    ranked_own column descending order untied is n means at =
+        → Means s (Select (plain_program (ranked rest here column descending)) names) text → ((l : List Row) → slice_get (page (ranked rest here column descending) params l) 0 ≡ slice_get l 0)
+        → Pins Is row (option_map val (slice_get (sort_by order (filter p xs)) 0))
+    ranked_own column descending order untied is means at =
         let got = answered text params old new (ranked rest here column descending) names means row first in
-        pinned Is show val back row (slice_get (sort_by order (filter p xs)) n) (got.2 ∙ ranked_is cells (overlay old.now.trees []) here xs seen keyed rest params p tests column descending order untied is n at got.0 got.1)
+        pinned Is show val back row (slice_get (sort_by order (filter p xs)) 0) (got.2 ∙ ranked_is cells (overlay old.now.trees []) here xs seen keyed rest params p tests column descending order untied is at got.0 got.1)
 
     -- the first by a number: of rows of one number that which stands first
     pub least_own : (column : ℕ) (num : Kept R → ℕ)
@@ -79,7 +73,7 @@ module _ {R : Type 0} (cells : R → Row) (table : Table) (old new : State) (own
     least_own column num is means at =
         let order = λ (x y : Kept R). nat_cmp (num x) (num y) in
         subst (λ (l : List (Kept R)). Pins Is row (option_map val (slice_get l 0))) (sorted_same id_of order (filter p xs) (ascending-filter (λ x y. id_of x <ℤ id_of y) p xs keyed))
-        (ranked_own column false (and_key id_of order) (λ x y. untied_up (order x y) (id_of x) (id_of y)) (λ x y. is x y ∙ in_order_of_numbers (num x) (num y) (id_of x) (id_of y)) 0 means at)
+        (ranked_own column false (and_key id_of order) (λ x y. untied_up (order x y) (id_of x) (id_of y)) (λ x y. is x y ∙ in_order_of_numbers (num x) (num y) (id_of x) (id_of y)) means at)
 
   pub count_own : Means s (Select (plain_program (tally rest here Binary (lit Null))) names) text
       → ((l : List Row) → page (tally rest here Binary (lit Null)) params l ≡ l) → row ≡ Some (count (length (filter p xs)) ∷ [])

@@ -74,11 +74,8 @@ by_rowid descending = roll-Sort (record { key = named (codes "rowid"); descendin
 abbrev pub by_column_and_rowid : List ℕ → Bool → List Sort
 by_column_and_rowid column descending = roll-Sort (record { key = named column; descending = descending; nulls_first = None }) ∷ by_rowid descending
 
-abbrev pub select_from : Core → List Sort → Option Expr → Option Expr → Select
-select_from core order limit offset = roll-Select (record { with = []; first = core; others = []; order = order; limit = limit; offset = offset })
-
 abbrev pub select : Core → List Sort → Option Expr → Select
-select core order limit = select_from core order limit None
+select core order limit = roll-Select (record { with = []; first = core; others = []; order = order; limit = limit; offset = None })
 
 -- the columns of a workspace that say how runs go, and the others besides its key
 abbrev pub run_settings_names : List (List ℕ)
@@ -125,9 +122,6 @@ newest_version_core = from_table (shown_columns (codes "number" ∷ codes "seria
 
 abbrev pub oldest_below_core : Core
 oldest_below_core = from_table (shown_columns (codes "number" ∷ codes "serial" ∷ codes "lineage" ∷ codes "created" ∷ codes "size" ∷ [])) (codes "version") (also (at_key (codes "org") (codes "ws")) (Two Lt (named (codes "number")) (Parameter 3)))
-
-abbrev pub version_back_core : Core
-version_back_core = from_table (shown_columns (codes "number" ∷ [])) (codes "version") (at_key (codes "org") (codes "ws"))
 
 abbrev pub version_size_core : Core
 version_size_core = from_table (shown_columns (codes "size" ∷ [])) (codes "version") (also (at_key (codes "org") (codes "ws")) (is_given (codes "number") 3))

@@ -10,18 +10,18 @@ use Rattle.statements.specs.Schema.{version_table}
 use Rattle.statements.specs.Rows.{Kept, VersionRow, id_of, version_cells, number}
 use Rattle.statements.specs.Tables.{Tables, Holds, version_layout}
 use Rattle.statements.specs.Changes.{is_version, is_version_of, is_version_below}
-use Rattle.statements.specs.Finds.{back_by_number, newest_of, number_back, oldest_below, size_of}
+use Rattle.statements.specs.Finds.{back_by_number, newest_of, oldest_below, size_of}
 use Rattle.statements.specs.Calls.{FirstRow, FirstRows, Pins, IsVersionRow, IsNumber}
 use Rattle.statements.specs.Listings.{version_rows_after, VersionsApart}
 use Rattle.statements.proofs.Held.{IsHeld, versions_held}
 use Rattle.statements.proofs.Listed.{by_column, numbered_are}
-use Rattle.statements.proofs.PointReads.{first_own, ranked_own, least_own, first_behind}
+use Rattle.statements.proofs.PointReads.{first_own, ranked_own, least_own}
 use Rattle.statements.proofs.Answered.{in_order_of_both, untied_down}
 use Rattle.sqlite_typed.proofs.AnswerLemmas.{IsNoTie}
 use Rattle.std.specs.Ordering.{ordering_then}
 use Rattle.statements.proofs.ReadBack.{number_read, version_read}
 use Rattle.statements.proofs.Conditions.{two_texts, two_texts_number, two_texts_above, two_texts_below}
-use Rattle.statements.proofs.VersionTexts.{list_versions_text, list_versions_means, list_versions_rest, list_versions_names, newest_version_text, newest_version_means, newest_version_rest, version_back_text, version_back_means, version_back_rest, oldest_below_text, oldest_below_means, oldest_below_rest, version_size_text, version_size_means, version_size_rest}
+use Rattle.statements.proofs.VersionTexts.{list_versions_text, list_versions_means, list_versions_rest, list_versions_names, newest_version_text, newest_version_means, newest_version_rest, oldest_below_text, oldest_below_means, oldest_below_rest, version_size_text, version_size_means, version_size_rest}
 
 untied_back : (x y : Kept VersionRow) → int_cmp (id_of x) (id_of y) ≡ Less → IsNoTie (back_by_number x y)
 untied_back x y h = untied_down (pos x.1.it.number) (pos y.1.it.number) (id_of x) (id_of y) h
@@ -41,19 +41,13 @@ module _ (old new : State) (t : Tables) (h : Holds old.now t) where
   newest_version_shows org ws row first =
       ranked_own version_cells version_table old new held.own t.versions held.rows held.keyed newest_version_text (Text org ∷ Text ws ∷ []) row first newest_version_rest (codes "number" ∷ codes "serial" ∷ codes "lineage" ∷ codes "created" ∷ codes "size" ∷ [])
       (is_version_of org ws) (λ x. two_texts x.1.org org x.1.ws ws) IsVersionRow (λ x. x.1.it) (λ x y told. version_read x.1.it y told)
-      3 true back_by_number untied_back in_order_back 0 (newest_version_means old.now.schema _ _ held.own.place) first_taken
+      3 true back_by_number untied_back in_order_back (newest_version_means old.now.schema _ _ held.own.place) first_taken
 
   pub oldest_below_shows : (org ws : List ℕ) (n : ℕ) (row : Option Row) → FirstRow oldest_below_text (Text org ∷ Text ws ∷ number n ∷ []) old new row → Pins IsVersionRow row (oldest_below org ws n t)
   oldest_below_shows org ws n row first =
       least_own version_cells version_table old new held.own t.versions held.rows held.keyed oldest_below_text (Text org ∷ Text ws ∷ number n ∷ []) row first oldest_below_rest (codes "number" ∷ codes "serial" ∷ codes "lineage" ∷ codes "created" ∷ codes "size" ∷ [])
       (is_version_below org ws n) (λ x. two_texts_below x.1.org org x.1.ws ws x.1.it.number n) IsVersionRow (λ x. x.1.it) (λ x y told. version_read x.1.it y told)
       3 (λ x. x.1.it.number) (λ x y. refl) (oldest_below_means old.now.schema _ _ held.own.place) first_taken
-
-  pub version_back_shows : (org ws : List ℕ) (place : ℕ) (row : Option Row) → FirstRow version_back_text (Text org ∷ Text ws ∷ number place ∷ []) old new row → Pins IsNumber row (number_back org ws place t)
-  version_back_shows org ws place row first =
-      ranked_own version_cells version_table old new held.own t.versions held.rows held.keyed version_back_text (Text org ∷ Text ws ∷ number place ∷ []) row first version_back_rest (codes "number" ∷ [])
-      (is_version_of org ws) (λ x. two_texts x.1.org org x.1.ws ws) IsNumber (λ x. x.1.it.number) (λ x y told. number_read x.1.it.number y told)
-      3 true back_by_number untied_back in_order_back place (version_back_means old.now.schema _ _ held.own.place) (λ l. first_behind place l)
 
   pub version_size_shows : (org ws : List ℕ) (n : ℕ) (row : Option Row) → FirstRow version_size_text (Text org ∷ Text ws ∷ number n ∷ []) old new row → Pins IsNumber row (size_of org ws n t)
   version_size_shows org ws n row first =

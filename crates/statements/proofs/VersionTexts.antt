@@ -9,12 +9,12 @@ use Rattle.sqlite_schema.specs.declared.command.Source.TheVariants.{Values}
 use Rattle.sqlite_schema.specs.declared.command.Command.TheVariants.{Select, Insert, Delete}
 use Rattle.sqlite_ast.specs.declared.Statement.TheVariants as written
 use Rattle.sqlite_ast.specs.declared.Select as ast
-use Rattle.sqlite_ast.specs.declared.Expr.TheVariants.{Integer, Parameter}
+use Rattle.sqlite_ast.specs.declared.Expr.TheVariants.{Integer}
 use Rattle.sqlite_resolve.specs.Compile.{first, command, timed, returning}
 use Rattle.sqlite_resolve.specs.Select.{named}
 use Rattle.sqlite_resolve.specs.Program.{program}
 use Rattle.sqlite_tied.specs.Compute.{everything}
-use Rattle.statements.specs.declared.versions.TheConstants.{NEWEST_VERSION, OLDEST_VERSION_BELOW, VERSION_BACK, VERSION_SIZE, ADD_VERSION, REMOVE_VERSION, LIST_VERSIONS}
+use Rattle.statements.specs.declared.versions.TheConstants.{NEWEST_VERSION, OLDEST_VERSION_BELOW, VERSION_SIZE, ADD_VERSION, REMOVE_VERSION, LIST_VERSIONS}
 use Rattle.statements.specs.Place.{StandsAt}
 use Rattle.statements.specs.Schema.{version_table}
 use Rattle.statements.specs.Calls.{IsQuery}
@@ -24,7 +24,7 @@ use Rattle.statements.proofs.Reading.{read_is}
 use Rattle.statements.proofs.Writes.{plain_program}
 use Rattle.statements.proofs.Answered.{point, ranked}
 use Rattle.statements.proofs.Listed.{listing}
-use Rattle.statements.proofs.Commands.{is_at, is_below, delete_query, point_rest, point_draft, ranked_draft, no_page, one_page, one_page_at, is_above, listing_draft}
+use Rattle.statements.proofs.Commands.{is_at, is_below, delete_query, point_rest, point_draft, ranked_draft, no_page, one_page, is_above, listing_draft}
 
 abbrev pub newest_version_text : List ℕ
 newest_version_text = NEWEST_VERSION.now
@@ -57,22 +57,6 @@ oldest_below_is_query = (oldest_below_select, some_parsed (first oldest_below_te
 
 abbrev pub oldest_below_rest : Query
 oldest_below_rest = point_rest (is_at 1 0 ∷ is_at 2 1 ∷ is_below 3 2 ∷ []) (col 1 3 ∷ col 1 4 ∷ col 1 5 ∷ col 1 6 ∷ col 1 7 ∷ []) one_page
-
-abbrev pub version_back_text : List ℕ
-version_back_text = VERSION_BACK.now
-
-abbrev pub version_back_select : ast.Select
-version_back_select = st.select_from st.version_back_core (st.by_column_and_rowid (codes "number") true) (Some (Integer (codes "1"))) (Some (Parameter 3))
-
-version_back_reads : first version_back_text ≡ Ok (as_read (some_parsed (first version_back_text)) (written.Select version_back_select))
-unfolding everything
-version_back_reads = refl
-
-pub version_back_is_query : IsQuery version_back_text
-version_back_is_query = (version_back_select, some_parsed (first version_back_text), version_back_reads)
-
-abbrev pub version_back_rest : Query
-version_back_rest = point_rest (is_at 1 0 ∷ is_at 2 1 ∷ []) (col 1 3 ∷ []) (one_page_at 2)
 
 abbrev pub version_size_text : List ℕ
 version_size_text = VERSION_SIZE.now
@@ -180,23 +164,6 @@ module _ (s : Schema) (at tree : ℕ) (h : StandsAt s (codes "version") version_
   pub oldest_below_means : Means s (Select (plain_program (ranked oldest_below_rest tree 3 false)) (codes "number" ∷ codes "serial" ∷ codes "lineage" ∷ codes "created" ∷ codes "size" ∷ [])) oldest_below_text
   unfolding timed returning
   oldest_below_means = means s (written.Select oldest_below_select) _ refl (λ _. refl) oldest_below_is oldest_below_text (some_parsed (first oldest_below_text)) oldest_below_reads
-
-  version_back_named : named s st.version_back_core (st.by_column_and_rowid (codes "number") true) (one_page_at 2) ≡ Ok ((ranked_draft version_back_rest tree 3 true), (codes "number" ∷ []), (Some Binary ∷ []))
-  unfolding everything
-  version_back_named = rw (h.named, h.found, h.found, h.found, h.found, h.small) refl
-
-  version_back_fits : program s [] (ranked_draft version_back_rest tree 3 true) ≡ Ok (plain_program (ranked version_back_rest tree 3 true))
-  unfolding everything
-  version_back_fits = rw (h.low, h.treed) refl
-
-  version_back_is : (base : ℕ) → command s [] base (written.Select version_back_select) ≡ Ok (Select (plain_program (ranked version_back_rest tree 3 true)) (codes "number" ∷ []))
-  unfolding everything
-  version_back_is base =
-      read_is s version_back_select st.version_back_core (st.by_column_and_rowid (codes "number") true) (one_page_at 2) ((ranked_draft version_back_rest tree 3 true), (codes "number" ∷ []), (Some Binary ∷ [])) refl refl refl refl refl (λ again. refl) version_back_named (plain_program (ranked version_back_rest tree 3 true)) version_back_fits base
-
-  pub version_back_means : Means s (Select (plain_program (ranked version_back_rest tree 3 true)) (codes "number" ∷ [])) version_back_text
-  unfolding timed returning
-  version_back_means = means s (written.Select version_back_select) _ refl (λ _. refl) version_back_is version_back_text (some_parsed (first version_back_text)) version_back_reads
 
   version_size_named : named s st.version_size_core (st.by_rowid false) no_page ≡ Ok ((point_draft version_size_rest tree false), (codes "size" ∷ []), (Some Binary ∷ []))
   unfolding everything

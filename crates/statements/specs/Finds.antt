@@ -94,10 +94,6 @@ is_version_before org ws next x = bytes_eq x.1.org org && (bytes_eq x.1.ws ws &&
 abbrev pub version_before : List ℕ → List ℕ → ℕ → Tables → Option ℕ
 version_before org ws next t = option_map (λ x. x.1.it.number) (find (is_version_before org ws next) t.versions)
 
--- the number of the version at a place, counted from 0 at the one with the greatest number
-abbrev pub number_back : List ℕ → List ℕ → ℕ → Tables → Option ℕ
-number_back org ws place t = option_map (λ x. x.1.it.number) (slice_get (sort_by back_by_number (filter (is_version_of org ws) t.versions)) place)
-
 -- of the versions with numbers below this one, that with the least
 abbrev pub oldest_below : List ℕ → List ℕ → ℕ → Tables → Option Version
 oldest_below org ws n t = option_map (λ x. x.1.it) (slice_get (sort_by version_cmp (filter (is_version_below org ws n) t.versions)) 0)

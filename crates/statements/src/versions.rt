@@ -5,7 +5,7 @@ ghost use Rattle.sqlite.specs.State.{Survives};
 ghost use Rattle.statements.specs.Steps.{AnyRows, Equals, EqualsWhere, Writes, Tells, Reads, Queries};
 ghost use Rattle.statements.specs.Changes.{new_version, version_added, version_removed};
 ghost use Rattle.statements.specs.Listings.{version_rows_after, VersionsApart};
-ghost use Rattle.statements.specs.Finds.{newest_of, number_back, oldest_below, size_of};
+ghost use Rattle.statements.specs.Finds.{newest_of, oldest_below, size_of};
 
 use crate::calls::{
     first_row, first_row_inside, first_rows, read_all, read_one, seconds, signed, write,
@@ -45,22 +45,6 @@ pub fn list<S: Alter>(
 {
     let rows = first_rows(alloc, conn, LIST_VERSIONS, params![org, ws, after], most);
     read_all(alloc, rows)
-}
-
-const VERSION_BACK: &str =
-    "SELECT number FROM version WHERE org = ?1 AND ws = ?2 ORDER BY number DESC, rowid DESC LIMIT 1 OFFSET ?3";
-
-/// The number of the version of a workspace at a place, which counts from 0 at the one with the greatest number.
-pub fn number_back<S: Alter>(
-    conn: &mut Connection<S>,
-    org: &str,
-    ws: &str,
-    place: u32,
-) -> Result<Option<Number>, Error>
-    ensures { Queries S.Store (Equals (number_back org.now ws.now place)) conn.old conn.new result }
-{
-    let row = first_row(conn, VERSION_BACK, params![org, ws, place]);
-    read_one(row)
 }
 
 const VERSION_SIZE: &str =
