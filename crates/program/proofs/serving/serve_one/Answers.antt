@@ -16,5 +16,5 @@ returns-clause-answers g c =
       changes = exchanged.ensures.changes;
       lines = search rules;
       logged = search rules;
-      ends = c.finish.ensures;
+      ends = search rules;
     }
