@@ -50,7 +50,7 @@ abbrev pub log_text : ℕ → List Line → List ℕ
 log_text place [] = []
 log_text place (line ∷ lines) = log_line place (end_word line.ended) line.row ++ log_text (suc place) lines
 
--- up to each line no record changed but that of the organization that it names, and none where it tells a refusal
+-- up to each line no record changed but that of the organization that it names, and none where it tells a refusal; versions and runs come as it tells
 abbrev pub ChangeByLines : List Line → (List ℕ → Option Organization) → (List ℕ → Option Organization) → Type 0
 ChangeByLines [] old new = Stays old new
 ChangeByLines (line ∷ lines) old new = (mid : List ℕ → Option Organization) × ChangesAsTold line.row old mid × ChangeByLines lines mid new
