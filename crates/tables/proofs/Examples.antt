@@ -366,6 +366,7 @@ of_one_is_lawful = record {
       keep = (omega arith, omega arith);
       next = (omega arith, omega arith);
       rise = (omega arith, omega arith, tt);
+      gapless = refl;
       each = (record { serial = omega arith; lineage = omega arith; created = omega arith }, tt);
       kept = omega arith;
     };
@@ -471,6 +472,7 @@ of_both_is_lawful = record {
       keep = (omega arith, omega arith);
       next = (omega arith, omega arith);
       rise = (omega arith, omega arith, (omega arith, omega arith, tt));
+      gapless = (refl, refl);
       each = (record { serial = omega arith; lineage = omega arith; created = omega arith }, (record { serial = omega arith; lineage = omega arith; created = omega arith }, tt));
       kept = omega arith;
     };

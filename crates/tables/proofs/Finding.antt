@@ -1,10 +1,10 @@
 -- What the queries find is the part of the record that it stands for.
-use Rattle.std.proofs.Common.{◌≡◌, ℕ, suc, ◌+◌, ◌-◌, ◌≤◌, ◌<◌, nat_lt, Bool, true, false, not, ◌&&◌, ◌==◌, cond, List, [], ◌∷◌, map, filter, find, length, take, reverse, slice_get, min, is_some, Option, Some, None, option_map, IfSome, pos, Ordering, Equal, Greater, int_cmp, nat_cmp, is_gt, refl, sym, ap, subst, ap₂, ◌∙◌, arith}
+use Rattle.std.proofs.Common.{◌≡◌, ℕ, suc, ◌+◌, ◌-◌, ◌≤◌, ◌<◌, nat_le, Bool, true, false, not, ◌&&◌, ◌==◌, cond, List, [], ◌∷◌, map, filter, find, length, reverse, slice_get, min, is_some, Option, Some, None, option_map, IfSome, pos, Ordering, Equal, Greater, int_cmp, nat_cmp, is_gt, refl, sym, ap, subst, ap₂, ◌∙◌, arith}
 use Rattle.std.specs.Str.{bytes_eq}
 use Rattle.std.specs.Option.{unwrap_or, option_or}
 use Rattle.std.specs.List.{AllByRecursion, list_any}
 use Rattle.std.specs.FinMap.{from_entries, entries, get, get-from_entries, len-insert, len-entries, len-empty, len}
-use Rattle.std.proofs.lemmas.Bool.{eqb-true, eq-eqb, ne_eqb, ltb-true, ltb-false}
+use Rattle.std.proofs.lemmas.Bool.{eqb-true, eq-eqb, leb-false}
 use Rattle.std.proofs.lemmas.List.{take_all, length-map, length-reverse, get_or-reverse}
 use Rattle.std.specs.Ordering.{ordering_then}
 use Rattle.std.specs.Cmp.{IsTotalOrder, ranked, tied_itself, nat_cmp_total, int_cmp_total, on_total, then_total, back_total as turned_total}
@@ -12,8 +12,8 @@ use Rattle.std.proofs.lemmas.Int.{ints}
 use Rattle.sqlite_trees.specs.Tree.{IsAscending}
 use Rattle.sqlite_keyed.specs.Lists.{sort_by}
 use Rattle.statements.proofs.Sorting.{filter_both, filter-sort_by, all_sorted, turned_round}
-use Rattle.std.proofs.lemmas.Option.{slice_get-map, slice_get_past, slice_get-get_or}
-use Rattle.machine.proofs.CutLemmas.{last_taken}
+use Rattle.std.proofs.lemmas.Option.{slice_get-map, slice_get-get_or}
+use Rattle.machine.proofs.CutLemmas.{last_taken, none_up_to, outgoing_by_number}
 use Rattle.sqlite_keyed.specs.Rules.{AreApart}
 use Rattle.sqlite_keyed.proofs.ListLemmas.{filter_same, filter_none, all_weaker, all_both, all-filter, slice_get-filter}
 use Rattle.sqlite_keyed.proofs.SliceLemmas.{find-slice, filter-slice, any_is_found}
@@ -21,7 +21,7 @@ use Rattle.basis.specs.Runs.{is_open}
 use Rattle.basis.specs.declared.runs.RunStatus.{RunStatus}
 use Rattle.basis.specs.declared.runs.RunStatus.TheVariants.{Pending, Planning, Planned, Applying, Applied, PlannedAndFinished, Errored, Discarded, Canceled}
 use Rattle.machine.specs.Order.{name_cmp}
-use Rattle.machine.specs.Laws.{Rises, KeysDiffer, is_pending}
+use Rattle.machine.specs.Laws.{Rises, HasNoGap, KeysDiffer, is_pending}
 use Rattle.machine.specs.Settling.{first_waiting, is_waiting}
 use Rattle.machine.specs.Workspaces.{newest, outgoing, is_numbered, run_of, has_key, is_keyed, keyed_run, holder_status, open_runs}
 use Rattle.machine.specs.Records.{count_of, workspace_in as seen_workspace}
@@ -43,7 +43,7 @@ use Rattle.statements.specs.declared.rows.Workspace.{Workspace as WorkspaceCells
 use Rattle.statements.specs.Rows.{Kept, id_of, OrgRow, WsRow, VersionRow, RunRow}
 use Rattle.statements.specs.Tables.{Tables}
 use Rattle.statements.specs.Changes.{is_org, is_version_of, is_version, is_run_of, is_run_row, is_ws, is_ws_of}
-use Rattle.statements.specs.Finds.{version_cmp, run_cmp, back_by_number, newest_of, size_of, number_back, first_waiting_of, status_at_number, workspace_of, workspaces_of, cap_of}
+use Rattle.statements.specs.Finds.{version_cmp, run_cmp, back_by_number, newest_of, size_of, first_waiting_of, status_at_number, workspace_of, workspaces_of, cap_of}
 use Rattle.statements.specs.Finds as finds
 use Rattle.statements.proofs.Found.{found_passes, found_holds}
 use Rattle.tables.specs.Records.{version_at, settings_of_cells, versions_at, runs_at, workspace_at, workspace_by, workspaces_at, organization_at, record_of}
@@ -58,7 +58,7 @@ use Rattle.tables.proofs.Names.{same_name, apart_name, names_apart, pair_first, 
 use Rattle.tables.proofs.Parts.{none_mapped}
 use Rattle.tables.proofs.Sets.{entry_found, got_workspace, workspace_there, one_of}
 use Rattle.tables.proofs.Lawful.{limit_there}
-use Rattle.tables.specs.Inner.Units.{holder_status_in, text_in, has_text, newest_by, newest_in, keep_in, outgoing_in, has_version_in, keyed_run_in, asked_run_in, unit_at, unit_in}
+use Rattle.tables.specs.Inner.Units.{holder_status_in, text_in, has_text, newest_by, newest_in, keep_in, has_version_in, number_before, number_behind, outgoing_in, keyed_run_in, asked_run_in, unit_at, unit_in}
 
 -- ---- lists
 
@@ -86,27 +86,17 @@ either_none : {X : Type 0} (o : Option X) → option_or o None ≡ o
 either_none None = refl
 either_none (Some x) = refl
 
--- one at a place from the last is the last of those that so many stand behind
+-- the first of a list the other way round is its last
 module _ {X : Type 0} (show : X → Version) where
-  place_back : (n : ℕ) (xs : List X) → option_map show (slice_get (reverse xs) n) ≡ newest (take (length (map show xs) - n) (map show xs))
-  place_back n xs = by_test (nat_lt n (length xs)) refl
-    where
-      within : (ys : List X) → n < length ys → option_map show (slice_get (reverse ys) n) ≡ newest (take (length (map show ys) - n) (map show ys))
-      within [] h = absurd (omega arith)
-      within (y ∷ ys) h =
-          let turned : slice_get (reverse (y ∷ ys)) n ≡ slice_get (y ∷ ys) (length (y ∷ ys) - 1 - n) =
-          slice_get-get_or (reverse (y ∷ ys)) n y (omega (arith, h, length-reverse (y ∷ ys))) ∙ ap Some (get_or-reverse (y ∷ ys) n y h) ∙ sym (slice_get-get_or (y ∷ ys) (length (y ∷ ys) - 1 - n) y (omega (arith, h))) in
-          ap (option_map show) turned
-          ∙ sym (slice_get-map show (y ∷ ys) (length (y ∷ ys) - 1 - n))
-          ∙ sym (last_taken (length (y ∷ ys) - 1 - n) (map show (y ∷ ys)) (omega (arith, h, length-map (y ∷ ys) show)))
-          ∙ ap (λ (m : ℕ). newest (take m (map show (y ∷ ys)))) (let same : suc (length (y ∷ ys) - 1 - n) ≡ length (map show (y ∷ ys)) - n = omega (arith, h, length-map (y ∷ ys) show) in same)
-
-      by_test : (b : Bool) → nat_lt n (length xs) ≡ b → option_map show (slice_get (reverse xs) n) ≡ newest (take (length (map show xs) - n) (map show xs))
-      by_test true e = within xs (ltb-true n (length xs) e)
-      by_test false e =
-          let over : length xs ≤ n = ltb-false n (length xs) e in
-          ap (option_map show) (slice_get_past (reverse xs) n (omega (arith, over, length-reverse xs)))
-          ∙ sym (ap (λ (m : ℕ). newest (take m (map show xs))) (let none : length (map show xs) - n ≡ 0 = omega (arith, over, length-map xs show) in none))
+  newest_back : (xs : List X) → option_map show (slice_get (reverse xs) 0) ≡ newest (map show xs)
+  newest_back [] = refl
+  newest_back (y ∷ ys) =
+      let turned : slice_get (reverse (y ∷ ys)) 0 ≡ slice_get (y ∷ ys) (length (y ∷ ys) - 1 - 0) =
+      slice_get-get_or (reverse (y ∷ ys)) 0 y (omega (arith, length-reverse (y ∷ ys))) ∙ ap Some (get_or-reverse (y ∷ ys) 0 y (omega arith)) ∙ sym (slice_get-get_or (y ∷ ys) (length (y ∷ ys) - 1 - 0) y (omega arith)) in
+      ap (option_map show) turned
+      ∙ sym (slice_get-map show (y ∷ ys) (length (y ∷ ys) - 1 - 0))
+      ∙ sym (last_taken (length (y ∷ ys) - 1 - 0) (map show (y ∷ ys)) (omega (arith, length-map (y ∷ ys) show)))
+      ∙ ap newest (take_all (suc (length (y ∷ ys) - 1 - 0)) (map show (y ∷ ys)) (omega (arith, length-map (y ∷ ys) show)))
 
 -- texts of two sizes are two
 other_size : (xs ys : List ℕ) → (length xs == length ys) ≡ false → bytes_eq xs ys ≡ false
@@ -134,20 +124,13 @@ numbered n v = v.number == n
 abbrev numbers : List Version → List ℕ
 numbers vs = map (λ (v : Version). v.number) vs
 
-last_above : (low next n : ℕ) (vs : List Version) → Rises low (numbers vs) next → n ≤ low → find_last (numbered n) vs ≡ None
-last_above low next n [] rise h = refl
-last_above low next n (v ∷ vs) rise h =
-    let apart : (v.number ≡ n) → ⊥ = λ e. omega (arith, rise.0) in
-    ap (λ (o : Option Version). option_or o (cond (v.number == n) (Some v) None)) (last_above v.number next n vs rise.2 (omega (arith, rise.0)))
-    ∙ ap (λ (b : Bool). option_or None (cond b (Some v) None)) (ne_eqb v.number n apart)
-
 -- where numbers rise, the first of a number is the last
 first_is_last : (low next n : ℕ) (vs : List Version) → Rises low (numbers vs) next → find (numbered n) vs ≡ version_of n vs
 first_is_last low next n [] rise = refl
 first_is_last low next n (v ∷ vs) rise = go (v.number == n) refl (first_is_last v.number next n vs rise.2)
   where
     go : (b : Bool) → (v.number == n) ≡ b → find (numbered n) vs ≡ find_last (numbered n) vs → cond b (Some v) (find (numbered n) vs) ≡ option_or (find_last (numbered n) vs) (cond b (Some v) None)
-    go true e more = sym (ap (λ (o : Option Version). option_or o (Some v)) (last_above v.number next n vs rise.2 (omega (arith, eqb-true v.number n e))))
+    go true e more = sym (ap (λ (o : Option Version). option_or o (Some v)) (none_up_to v.number next n vs rise.2 (omega (arith, eqb-true v.number n e))))
     go false e more = more ∙ sym (either_none (find_last (numbered n) vs))
 
 -- the newest version is the last of its number
@@ -356,13 +339,9 @@ module _ (t : Tables) (org ws : List ℕ) where
         sym (sorted_anew version_cmp back_by_number (λ x z e l. sym (put_in_turn back_by_number back_total z x (above z x (greater_number x.1.it.number z.1.it.number e)) l)) (filter (is_version_of org ws) t.versions))
         ∙ turned_round back_by_number rows (each_above 0 next rows rise)
 
-    -- the greatest number of those that go is found by its place from the newest
-    row_behind : (staying : ℕ) → option_map (λ (x : Kept VersionRow). version_at t org ws x.1.it) (slice_get rows_back staying) ≡ newest (take (length (versions_at t org ws) - staying) (versions_at t org ws))
-    row_behind staying = ap (λ (xs : List (Kept VersionRow)). option_map (λ (x : Kept VersionRow). version_at t org ws x.1.it) (slice_get xs staying)) turned ∙ place_back (λ (x : Kept VersionRow). version_at t org ws x.1.it) staying rows
-
     -- the version with the greatest number
     newest_row : option_map (λ (x : Kept VersionRow). version_at t org ws x.1.it) (slice_get rows_back 0) ≡ newest (versions_at t org ws)
-    newest_row = row_behind 0 ∙ ap newest (take_all (length (versions_at t org ws) - 0) (versions_at t org ws) (omega arith))
+    newest_row = ap (λ (xs : List (Kept VersionRow)). option_map (λ (x : Kept VersionRow). version_at t org ws x.1.it) (slice_get xs 0)) turned ∙ newest_back (λ (x : Kept VersionRow). version_at t org ws x.1.it) rows
 
     pub newest_number_found : option_map (λ (h : Head). h.number) (newest_of org ws t) ≡ option_map (λ (v : Version). v.number) (newest (versions_at t org ws))
     newest_number_found =
@@ -391,13 +370,26 @@ module _ (t : Tables) (org ws : List ℕ) where
             let whole : IsWhole org ws x.1.it.number x.1.it.size t = first_holds (λ y. IsWhole org ws y.1.it.number y.1.it.size t) rows_back x (all_sorted back_by_number (λ y. IsWhole org ws y.1.it.number y.1.it.size t) (filter (is_version_of org ws) t.versions) (own_whole a)) e in
             ap (λ (same : Bool). Some (record { number = x.1.it.number; serial = x.1.it.serial; lineage = x.1.it.lineage; is_same = same })) (same_text x whole text)
 
-    behind_found : (staying : ℕ) → number_back org ws staying t ≡ outgoing staying (versions_at t org ws)
-    behind_found staying = mapped (λ (x : Kept VersionRow). version_at t org ws x.1.it) (λ (v : Version). v.number) (slice_get rows_back staying) ∙ ap (option_map (λ (v : Version). v.number)) (row_behind staying)
+    -- no version has a number that is out of range
+    kept_in_range : (last : ℕ) → last ≤ 1_000_000_000 → (b c : Bool) → nat_le 1 last ≡ b → nat_le last 1_000_000_000 ≡ c
+        → cond (has_version (cond (b && c) (Some last) None) (versions_at t org ws)) (cond (b && c) (Some last) None) None ≡ cond (is_some (version_of last (versions_at t org ws))) (Some last) None
+    kept_in_range last most true true e f = refl
+    kept_in_range last most true false e f = absurd (omega (arith, leb-false last 1_000_000_000 f, most))
+    kept_in_range last most false c e f =
+        sym (ap (λ (o : Option Version). cond (is_some o) (Some last) None) (none_up_to 0 next last (versions_at t org ws) rise (omega (arith, leb-false 1 last e))))
 
-    pub outgoing_found : (staying : Staying) (keep : ℕ) → outgoing_in staying keep org ws t ≡ outgoing_by staying keep (versions_at t org ws)
-    outgoing_found StayAll keep = refl
-    outgoing_found MakeRoom keep = behind_found (keep - 1)
-    outgoing_found (StayAtMost staying) keep = behind_found staying
+    -- the greatest number of those that go is told by the next one, since none between is missing
+    module _ (follow : HasNoGap (numbers (versions_at t org ws)) next) (most : next ≤ 1_000_000_001) where
+      behind_found : (staying : ℕ) → number_behind next staying org ws t ≡ outgoing staying (versions_at t org ws)
+      behind_found staying =
+          ap (λ (b : Bool). cond b (number_before next staying) None) (has_version_found next rise (number_before next staying))
+          ∙ kept_in_range (next - 1 - staying) (omega (arith, most)) (nat_le 1 (next - 1 - staying)) (nat_le (next - 1 - staying) 1_000_000_000) refl refl
+          ∙ sym (outgoing_by_number staying next (versions_at t org ws) rise follow)
+
+      pub outgoing_found : (staying : Staying) (keep : ℕ) → outgoing_in staying keep next org ws t ≡ outgoing_by staying keep (versions_at t org ws)
+      outgoing_found StayAll keep = refl
+      outgoing_found MakeRoom keep = behind_found (keep - 1)
+      outgoing_found (StayAtMost staying) keep = behind_found staying
 
 -- ---- counts
 
@@ -463,7 +455,7 @@ module _ (t : Tables) (sound : IsSound t) (org : List ℕ) where
             next_version = w.next_version;
             next_run = w.next_run;
             newest = if_needed (needs act).newest (newest_unit_found t org ws w.next_version lawful.versions.rise (sound_texts t sound) (needs act).text i);
-            outgoing = outgoing_found t org ws w.next_version lawful.versions.rise (needs act).outgoing (keep_in (needs act).keep_versions org ws t) i;
+            outgoing = outgoing_found t org ws w.next_version lawful.versions.rise lawful.versions.gapless lawful.versions.next.1 (needs act).outgoing (keep_in (needs act).keep_versions org ws t) i;
             first_waiting = if_needed (needs act).waiting (first_waiting_found t org ws i);
             has_version = has_version_found t org ws w.next_version lawful.versions.rise (needs act).version i;
             asked_run = asked_run_found t org ws lawful.runs.keys (needs act).run (needs act).key i;

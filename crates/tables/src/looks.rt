@@ -3,14 +3,14 @@ ghost use Rattle.std.specs.Prelude.{◌≡◌, false, cond, is_some, option_copi
 ghost use Rattle.basis.specs.declared.numbers.TheConstants.{FIRST_KEPT};
 ghost use Rattle.sqlite.specs.Held.{state};
 ghost use Rattle.sqlite.specs.State.{HasCleanDisk};
-ghost use Rattle.statements.specs.Finds.{size_of, number_back, cap_of, workspaces_of, first_waiting_of, open_runs_of, bound_of};
+ghost use Rattle.statements.specs.Finds.{size_of, cap_of, workspaces_of, first_waiting_of, open_runs_of, bound_of};
 ghost use Rattle.statements.specs.Steps.{Equals, Sees};
 ghost use Rattle.statements.specs.Tables.{Tables, Holds};
 ghost use Rattle.machine.specs.Needs.{needed_of};
 ghost use Rattle.machine.specs.Units.{if_needed};
 ghost use Rattle.tables.specs.Records.{caller_with, bounds_at, IsBound, keep_at};
 ghost use Rattle.tables.specs.Inner.Lists.{asker_in};
-ghost use Rattle.tables.specs.Inner.Units.{holder_status_in, text_in, has_text, newest_by, newest_in, keep_in, outgoing_in, has_version_in, keyed_run_in, asked_run_in, unit_in};
+ghost use Rattle.tables.specs.Inner.Units.{holder_status_in, text_in, has_text, newest_by, newest_in, keep_in, number_before, has_version_in, number_behind, outgoing_in, keyed_run_in, asked_run_in, unit_in};
 ghost use Rattle.tables.specs.Inner.Looks.{absent_in, runs_in, around_in, unit_from, present_in};
 
 use basis::{
@@ -201,16 +201,31 @@ fn keep_if<S: Alter>(
     }
 }
 
-/// The number of the newest version that so many stand behind.
+/// The number that so many others follow, up to the one before the next.
+fn number_before(next_version: u64, staying: u32) -> Option<Number>
+    ensures { result ≡ number_before next_version staying }
+{
+    Number::new(next_version.saturating_sub(1 + staying as u64))
+}
+
+fn number_if(is_kept: bool, number: Option<Number>) -> Option<Number>
+    ensures { result ≡ cond is_kept number None }
+{
+    if is_kept { number } else { None }
+}
+
+/// The number of the newest version that so many stand behind, since numbers follow one another without a gap.
 fn number_behind<S: Alter>(
     conn: &mut Connection<S>,
     org: &str,
     ws: &str,
+    next_version: u64,
     staying: u32,
 ) -> Result<Option<Number>, Error>
-    ensures looks { Sees S.Store (Equals (number_back org.now ws.now staying)) conn.old conn.new result }
+    ensures looks { Sees S.Store (Equals (number_behind next_version staying org.now ws.now)) conn.old conn.new result }
 {
-    versions::number_back(conn, org, ws, staying)
+    let is_kept = has_version(conn, org, ws, number_before(next_version, staying))?;
+    Ok(number_if(is_kept, number_before(next_version, staying)))
 }
 
 /// The greatest number of the versions that go, of a workspace that keeps so many: those that stay stand behind it.
@@ -220,13 +235,14 @@ fn outgoing<S: Alter>(
     ws: &str,
     staying: Staying,
     keep: KeepCount,
+    next_version: u64,
 ) -> Result<Option<Number>, Error>
-    ensures looks { Sees S.Store (Equals (outgoing_in staying keep org.now ws.now)) conn.old conn.new result }
+    ensures looks { Sees S.Store (Equals (outgoing_in staying keep next_version org.now ws.now)) conn.old conn.new result }
 {
     match staying {
         Staying::StayAll => Ok(None),
-        Staying::MakeRoom => number_behind(conn, org, ws, keep.get() - 1),
-        Staying::StayAtMost(most) => number_behind(conn, org, ws, most.get()),
+        Staying::MakeRoom => number_behind(conn, org, ws, next_version, keep.get() - 1),
+        Staying::StayAtMost(most) => number_behind(conn, org, ws, next_version, most.get()),
     }
 }
 
@@ -492,14 +508,14 @@ fn around<S: Alter>(
     ws: &str,
     needs: &Needs<'_>,
     keep: KeepCount,
-    holder: &Holder,
+    workspace: &WorkspaceCells,
 ) -> Result<Surroundings, Error>
-    ensures looks { Sees S.Store (Equals (around_in (needed_of needs.now) org.now ws.now keep holder.now)) conn.old conn.new result }
+    ensures looks { Sees S.Store (Equals (around_in (needed_of needs.now) org.now ws.now keep workspace.now)) conn.old conn.new result }
 {
     let newest = newest_if(conn, org, ws, needs.newest, needs.text)?;
-    let outgoing = outgoing(conn, org, ws, needs.outgoing, keep)?;
+    let outgoing = outgoing(conn, org, ws, needs.outgoing, keep, workspace.next_version)?;
     let has_version = has_version(conn, org, ws, needs.version)?;
-    let runs = runs_around(conn, org, ws, needs, holder)?;
+    let runs = runs_around(conn, org, ws, needs, &workspace.holder)?;
     Ok(Surroundings {
         newest,
         outgoing,
@@ -541,7 +557,7 @@ fn present<S: Alter>(
     ensures looks { Sees S.Store (Equals (present_in (needed_of needs.now) org.now ws.now workspace)) conn.old conn.new result }
 {
     let keep = keep_if(conn, org, ws, needs.keep_versions)?;
-    let around = around(conn, org, ws, needs, keep, &workspace.holder)?;
+    let around = around(conn, org, ws, needs, keep, &workspace)?;
     Ok(Unit::Present(unit_by(keep, workspace, around)))
 }
 

@@ -27,12 +27,12 @@ runs_in need org ws holder t = record {
   open_runs = cond need.open_runs (open_runs_of org ws t) 0;
 }
 
-abbrev pub around_in : Needed → List ℕ → List ℕ → ℕ → Holder → Tables → Surroundings
-around_in need org ws keep holder t = record {
+abbrev pub around_in : Needed → List ℕ → List ℕ → ℕ → WorkspaceCells → Tables → Surroundings
+around_in need org ws keep w t = record {
   newest = if_needed need.newest (newest_in need.text org ws t);
-  outgoing = outgoing_in need.outgoing keep org ws t;
+  outgoing = outgoing_in need.outgoing keep w.next_version org ws t;
   has_version = has_version_in need.version org ws t;
-  runs = runs_in need org ws holder t;
+  runs = runs_in need org ws w.holder t;
 }
 
 abbrev pub unit_from : ℕ → WorkspaceCells → Surroundings → WorkspaceUnit
@@ -52,4 +52,4 @@ unit_from keep w a = record {
 }
 
 abbrev pub present_in : Needed → List ℕ → List ℕ → WorkspaceCells → Tables → Unit
-present_in need org ws w t = Present (unit_from (keep_in need.keep_versions org ws t) w (around_in need org ws (keep_in need.keep_versions org ws t) w.holder t))
+present_in need org ws w t = Present (unit_from (keep_in need.keep_versions org ws t) w (around_in need org ws (keep_in need.keep_versions org ws t) w t))

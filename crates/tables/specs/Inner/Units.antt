@@ -1,7 +1,8 @@
 -- What a decision sees of a workspace, from what the queries find.
 use Rattle.std.specs.Prelude.{ℕ, Bool, false, ◌==◌, ◌-◌, cond, List, length, Option, Some, None, is_some, option_map}
 use Rattle.std.specs.Option.{unwrap_or}
-use Rattle.basis.specs.declared.numbers.TheConstants.{FIRST_KEPT}
+use Rattle.basis.specs.Numbers.{within}
+use Rattle.basis.specs.declared.numbers.TheConstants.{MAX_NUMBER, FIRST_KEPT}
 use Rattle.basis.specs.declared.runs.RunStatus.{RunStatus}
 use Rattle.machine.specs.Needs.{Needed}
 use Rattle.machine.specs.Units.{if_needed}
@@ -16,7 +17,7 @@ use Rattle.basis.specs.declared.rows.Holder.{Holder}
 use Rattle.basis.specs.declared.rows.Holder.TheVariants.{Nobody, Lock, Run as HoldingRun}
 use Rattle.statements.specs.declared.rows.Workspace.{Workspace as WorkspaceCells}
 use Rattle.statements.specs.Tables.{Tables}
-use Rattle.statements.specs.Finds.{cap_of, workspace_of, workspaces_of, newest_of, number_back, size_of, first_waiting_of, status_at_number, run_at_number, keyed_run_of, open_runs_of}
+use Rattle.statements.specs.Finds.{cap_of, workspace_of, workspaces_of, newest_of, size_of, first_waiting_of, status_at_number, run_at_number, keyed_run_of, open_runs_of}
 use Rattle.texts.specs.Texts.{pages_for, text_of, are_pieces}
 use Rattle.tables.specs.Records.{settings_of_cells, keep_at}
 
@@ -45,16 +46,24 @@ newest_in text org ws t = option_map (newest_by text org ws t) (newest_of org ws
 abbrev pub keep_in : Bool → List ℕ → List ℕ → Tables → ℕ
 keep_in needed org ws t = cond needed (keep_at t org ws) FIRST_KEPT
 
--- the greatest number of the versions that go, of a workspace that keeps so many: those that stay stand behind it
-abbrev pub outgoing_in : Staying → ℕ → List ℕ → List ℕ → Tables → Option ℕ
-outgoing_in StayAll keep org ws t = None
-outgoing_in MakeRoom keep org ws t = number_back org ws (keep - 1) t
-outgoing_in (StayAtMost staying) keep org ws t = number_back org ws staying t
-
 -- whether the version that is asked of has a row
 abbrev pub has_version_in : Option ℕ → List ℕ → List ℕ → Tables → Bool
 has_version_in None org ws t = false
 has_version_in (Some n) org ws t = is_some (size_of org ws n t)
+
+-- the number that so many others follow, up to the one before the next
+abbrev pub number_before : ℕ → ℕ → Option ℕ
+number_before next staying = within 1 MAX_NUMBER (next - 1 - staying)
+
+-- the same, if the version of that number has a row
+abbrev pub number_behind : ℕ → ℕ → List ℕ → List ℕ → Tables → Option ℕ
+number_behind next staying org ws t = cond (has_version_in (number_before next staying) org ws t) (number_before next staying) None
+
+-- the greatest number of the versions that go, of a workspace that keeps so many: those that stay stand behind it, without a gap
+abbrev pub outgoing_in : Staying → ℕ → ℕ → List ℕ → List ℕ → Tables → Option ℕ
+outgoing_in StayAll keep next org ws t = None
+outgoing_in MakeRoom keep next org ws t = number_behind next (keep - 1) org ws t
+outgoing_in (StayAtMost staying) keep next org ws t = number_behind next staying org ws t
 
 -- the run that has a key, if a key is given
 abbrev pub keyed_run_in : Option (List ℕ) → List ℕ → List ℕ → Tables → Option Run
@@ -77,7 +86,7 @@ unit_at need known org ws t (Some w) = Present (record {
   next_version = w.next_version;
   next_run = w.next_run;
   newest = if_needed need.newest (newest_in need.text org ws t);
-  outgoing = outgoing_in need.outgoing (keep_in need.keep_versions org ws t) org ws t;
+  outgoing = outgoing_in need.outgoing (keep_in need.keep_versions org ws t) w.next_version org ws t;
   first_waiting = if_needed need.waiting (first_waiting_of org ws t);
   has_version = has_version_in need.version org ws t;
   asked_run = asked_run_in need.run need.key org ws t;

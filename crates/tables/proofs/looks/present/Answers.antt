@@ -20,6 +20,6 @@ returns g c =
     let ws = c.args.ws.now in
     let need = needed_of c.args.needs.now in
     rw c.unit_by.ensures (record {
-      looks = seen_by_first g.S.Store Error Error Error (keep_in need.keep_versions org ws) (λ keep. around_in need org ws keep c.args.workspace.holder) (make c.args.workspace) c.in_ok-keep.keep c.in_ok-around.around
+      looks = seen_by_first g.S.Store Error Error Error (keep_in need.keep_versions org ws) (λ keep. around_in need org ws keep c.args.workspace) (make c.args.workspace) c.in_ok-keep.keep c.in_ok-around.around
           c.args.conn.now c.keep_if.new.conn c.around.new.conn c.in_ok-keep.ensures.looks c.in_ok-around.ensures.looks;
     })
