@@ -4,8 +4,8 @@
     python3 tools/apart.py [NAME..]    those of these crates, or of all that have some; from the top of the repository
 
 Each is a must-fail edit as those in crates/NAME/must-fail are, and `rt must-fail` tries it in a copy of the repository, where
-it has to be refused. Ends with status 1 where one isn't, or none is there. Some 10 processor minutes for `tables`, once its
-libraries are proved, and a minute for each of its edits; run it where a contract or the text of these crates changed.
+it has to be refused. Ends with status 1 where one isn't, or none is there. A crate is checked once more, `tables` for 10
+processor minutes, and each edit takes a quarter to one. Run it where a contract or the text of such a crate changed.
 """
 
 import os
