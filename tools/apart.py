@@ -1,5 +1,5 @@
 #!/usr/bin/env python3
-"""Tries the mutants of crates whose second check is dear, which stand in crates/NAME/apart and not in the gate.
+"""Tries the mutants that stand apart from the gate, in crates/NAME/apart, since trying them is dear.
 
     python3 tools/apart.py [NAME..]    those of these crates, or of all that have some; from the top of the repository
 
