@@ -2,8 +2,8 @@ pub mod BodyExamples
 pub mod Examples
 pub mod Heading
 pub mod Lines
-pub mod Lists
 pub mod LogExamples
 pub mod Objects
 pub mod Passing
+pub mod Putting
 pub mod ReadingLemmas

@@ -1,50 +1,24 @@
--- A line of the log is its members one behind another, and it is one line: compact JSON escapes each control character.
-use Rattle.std.proofs.Common.{◌≡◌, ◌∙◌, refl, ap, ap₂, arith, ℕ, suc, zero, ℤ, pos, negsuc, ◌+◌, ◌/◌, ◌%◌, ◌≤◌, ◌==◌, ◌||◌, List, [], ◌∷◌, ◌++◌, Bool, true, false, cond, nat_lt, Option, Some, None, option_map, MatchOption, Bor, decimal, subst}
+-- A line of the log is one line: compact JSON escapes each control character.
+use Rattle.std.proofs.Common.{◌≡◌, refl, ap, arith, ℕ, suc, zero, ℤ, pos, negsuc, ◌+◌, ◌/◌, ◌%◌, ◌≤◌, ◌==◌, ◌||◌, List, [], ◌∷◌, ◌++◌, Bool, true, false, cond, nat_lt, Option, Some, None, option_map, decimal}
 use Rattle.std.specs.List.{AllByRecursion}
-use Rattle.std.specs.Option.{IsSomeAnd, option_copied}
 use Rattle.std.specs.Char.{digit_char}
 use Rattle.std.specs.Fmt.{digits, digits_onto, digit_glyph, signed_decimal}
 use Rattle.std.proofs.lemmas.Bool.{eqb-true, ltb-false}
-use Rattle.json.specs.Print.{escape_letter, escape_byte, escape, quoted, print}
-use Rattle.json.specs.Token.{Token, begin_object, end_object}
-use Rattle.json.specs.Tree.{members_tokens}
+use Rattle.json.specs.Print.{escape_letter, escape_byte, escape, quoted}
 use Rattle.json.specs.Written.{Written}
 use Rattle.serde_json.specs.Data.{Num, unsigned, negative, float, Data, null, boolean, number, string, array, object, Items, no_items, item, Members, no_members, member}
-use Rattle.serde_json.specs.Written.{number_text, comma_if, compact_text, items_text, members_text, members_outline}
-use Rattle.serde_json.proofs.Texts.{print-outline}
+use Rattle.serde_json.specs.Written.{number_text, comma_if, compact_text, items_text, members_text}
 use Rattle.basis.specs.Refusals.{line_of}
 use Rattle.basis.specs.declared.refusals.Refusal.{Refusal}
 use Rattle.docs.specs.declared.logs.LogAct.{LogAct}
 use Rattle.docs.specs.declared.logs.LogRow.{LogRow}
 use Rattle.docs.specs.Logs.{log_word, log_act_value, refusal_value, log_value, log_line, ExchangesAreLines}
 use Rattle.docs.specs.Bodies.{text_value}
-use Rattle.docs.specs.Inner.Logs.{Puts, asked, named, outcome, made}
+use Rattle.docs.proofs.Putting.{object_written}
+use Rattle.docs.specs.Inner.Put.{Puts, IsBegun, text_of}
+use Rattle.docs.specs.Inner.Logs.{asked, named, outcome, made}
 
--- ---- members, one behind another
-
--- a member put is that of any value that is the same
-pub put_as : {old new : Written} {name : List ℕ} {d e : Data} → d ≡ e → Puts old new (member name d) → Puts old new (member name e)
-put_as {old} {new} {name} is put = subst (λ (x : Data). Puts old new (member name x)) is put
-
--- some members and then others
-pub then_put : {old mid new : Written} {first then : Members → Members} → Puts old mid first → Puts mid new then → Puts old new (λ rest. first (then rest))
-then_put first then = record { text = λ rest. then.text rest ∙ first.text _ }
-
--- a text made of what may be absent
-pub text_made : {A : Type 0} (from : Option A) (made : Option (Bor (List ℕ))) (text : A → List ℕ) (post : A → Bor (List ℕ) → Type 0) → MatchOption from (made ≡ None) (λ x. IsSomeAnd made (post x)) → ((x : A) (y : Bor (List ℕ)) → post x y → y.now ≡ text x) → option_copied made ≡ option_map text from
-text_made None made text post is each = ap option_copied is
-text_made (Some x) (Some y) text post is each = ap Some (each x y is)
-text_made (Some x) None text post is each = absurd is
-
--- the same of a text that is lent
-pub text_lent : (from : Option (List ℕ)) (lent made : Option (Bor (List ℕ))) (post : Bor (List ℕ) → Bor (List ℕ) → Type 0) → option_copied lent ≡ from → MatchOption lent (made ≡ None) (λ x. IsSomeAnd made (post x)) → ((x y : Bor (List ℕ)) → post x y → y.now ≡ x.now) → text_value (option_copied made) ≡ text_value from
-text_lent from lent made post lends is each = ap text_value (text_made lent made (λ x. x.now) post is each ∙ lends)
-
--- a number made of what may be absent
-pub number_made : (from made : Option ℕ) (post : ℕ → ℕ → Type 0) → MatchOption from (made ≡ None) (λ x. IsSomeAnd made (post x)) → ((x y : ℕ) → post x y → y ≡ x) → made ≡ from
-number_made None made post is each = is
-number_made (Some x) (Some y) post is each = ap Some (each x y is)
-number_made (Some x) None post is each = absurd is
+-- ---- what is put
 
 pub act_is : (act : Option LogAct) → text_value (option_map log_word act) ≡ log_act_value act
 act_is None = refl
@@ -54,15 +28,10 @@ pub refusal_is : (refusal : Option Refusal) → text_value (option_map (λ r. (l
 refusal_is None = refl
 refusal_is (Some refusal) = refl
 
--- what a writer has in the end, which began with nothing
-pub line_written : {begun put : Written} {before : List ℕ} {tokens : List Token} (connection : ℕ) (end : List ℕ) (row : LogRow) → begun.before ≡ [] → begun.tokens ≡ begin_object ∷ [] → Puts begun put (λ rest. asked connection end row (named row (outcome row (made row rest)))) → before ≡ put.before → tokens ≡ put.tokens ++ end_object ∷ [] → (before ++ print tokens) ++ 10 ∷ [] ≡ log_line connection end row
+-- what a writer has in the end, which began with a brace
+pub line_written : {begun put : Written} {out : List ℕ} (connection : ℕ) (end : List ℕ) (row : LogRow) → IsBegun begun → Puts begun put (λ rest. asked connection end row (named row (outcome row (made row rest)))) → out ≡ text_of put → out ++ 10 ∷ [] ≡ log_line connection end row
 unfolding log_line
-line_written connection end row first opens puts stays closes =
-    ap (λ xs. xs ++ 10 ∷ []) (
-    ap₂ (λ before tokens. before ++ print tokens) stays closes
-    ∙ puts.text no_members
-    ∙ ap₂ (λ before tokens. before ++ print (tokens ++ members_tokens (members_outline (asked connection end row (named row (outcome row (made row no_members))))))) first opens
-    ∙ print-outline (log_value connection end row))
+line_written connection end row begun puts is = ap (λ xs. xs ++ 10 ∷ []) (object_written begun puts is)
 
 -- ---- no control character
 

@@ -12,6 +12,7 @@ pub mod faults;
 mod heads;
 pub mod listings;
 pub mod logs;
+mod put;
 
 pub use bodies::{write_error, write_run, write_run_holder, write_ws};
 pub use digests::digest_fits;

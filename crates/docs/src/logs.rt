@@ -1,11 +1,10 @@
 //! The lines of the log: one of compact JSON for each exchange.
 ghost use Rattle.std.specs.Prelude.{◌≡◌, IfOk, OnOk};
-ghost use Rattle.std.specs.Option.{option_copied};
-ghost use Rattle.serde_json.specs.Data.{member};
-ghost use Rattle.docs.specs.Bodies.{number_value, text_value};
 ghost use Rattle.docs.specs.Logs.{log_word, log_line, ExchangesAreLines};
-ghost use Rattle.docs.specs.Inner.Logs.{Puts, asked, named, outcome, made};
+ghost use Rattle.docs.specs.Inner.Put.{Puts};
+ghost use Rattle.docs.specs.Inner.Logs.{asked, named, outcome, made};
 
+use crate::put::{begin_text, end_text, put_number, put_text, whole_number};
 use basis::{Down, LockId, Moment, Number, OrgName, Refusal, RunAction, Text, WsName};
 use json::Writer;
 use std::alloc::{AllocError, Global};
@@ -100,14 +99,12 @@ pub fn write_log_line(
 ) -> Result<Vec<u8>, Down>
     ensures { IfOk result (λ v. v.items ≡ log_line connection end.now row.now) }
 {
-    let mut writer = Writer::new(Vec::with_capacity(alloc, USUAL_LINE)?);
-    writer.begin_object()?;
+    let mut writer = begin_text(alloc, USUAL_LINE)?;
     put_asked(&mut writer, connection, end, row)?;
     put_named(&mut writer, row)?;
     put_outcome(&mut writer, row)?;
     put_made(&mut writer, row)?;
-    writer.end_object()?;
-    let mut line = writer.into_inner();
+    let mut line = end_text(writer)?;
     line.extend_from_slice(b"\n")?;
     Ok(line)
 }
@@ -116,28 +113,6 @@ pub fn write_log_line(
 pub fn exchanges_are_lines()
     ensures { ExchangesAreLines }
 {}
-
-// A member that is a text, or null.
-fn put_text(writer: &mut Writer, name: &str, text: Option<&str>) -> Result<(), AllocError>
-    ensures { OnOk result (Puts writer.old writer.new (member name.now (text_value (option_copied text.entry)))) }
-{
-    writer.key(name)?;
-    match text {
-        None => writer.null(),
-        Some(text) => writer.string(text),
-    }
-}
-
-// A member that is a number, or null.
-fn put_number(writer: &mut Writer, name: &str, number: Option<u64>) -> Result<(), AllocError>
-    ensures { OnOk result (Puts writer.old writer.new (member name.now (number_value number))) }
-{
-    writer.key(name)?;
-    match number {
-        None => writer.null(),
-        Some(number) => writer.u64(number),
-    }
-}
 
 // What was asked, when, and how the exchange ended.
 fn put_asked(
@@ -159,11 +134,7 @@ fn put_named(writer: &mut Writer, row: &LogRow) -> Result<(), AllocError>
     ensures { OnOk result (Puts writer.old writer.new (named row.now)) }
 {
     put_text(writer, "id", row.id.as_ref().map(LockId::as_str))?;
-    put_number(
-        writer,
-        "number",
-        row.number.map(|number| u64::from(number.get())),
-    )?;
+    put_number(writer, "number", row.number.map(whole_number))?;
     put_text(
         writer,
         "organization",
@@ -176,7 +147,7 @@ fn put_outcome(writer: &mut Writer, row: &LogRow) -> Result<(), AllocError>
     ensures { OnOk result (Puts writer.old writer.new (outcome row.now)) }
 {
     put_text(writer, "refusal", row.refusal.map(Refusal::word))?;
-    put_number(writer, "run", row.run.map(|run| u64::from(run.get())))?;
+    put_number(writer, "run", row.run.map(whole_number))?;
     put_number(writer, "status", row.status.map(u64::from))
 }
 
@@ -185,11 +156,7 @@ fn put_made(writer: &mut Writer, row: &LogRow) -> Result<(), AllocError>
     ensures { OnOk result (Puts writer.old writer.new (made row.now)) }
 {
     put_text(writer, "token", row.token.as_ref().map(Text::as_str))?;
-    put_number(
-        writer,
-        "version",
-        row.version.map(|version| u64::from(version.get())),
-    )?;
+    put_number(writer, "version", row.version.map(whole_number))?;
     put_text(
         writer,
         "workspace",

@@ -1,21 +1,9 @@
 -- Contracts between functions: the members of a line of the log, as they are put one behind another.
-use Rattle.std.specs.Prelude.{◌≡◌, ℕ, List, ◌++◌, codes}
-use Rattle.json.specs.Print.{print}
-use Rattle.json.specs.Tree.{members_tokens}
-use Rattle.json.specs.Written.{Written}
+use Rattle.std.specs.Prelude.{ℕ, List, codes}
 use Rattle.serde_json.specs.Data.{Members, member, unsigned, number, string}
-use Rattle.serde_json.specs.Written.{members_outline}
 use Rattle.docs.specs.Bodies.{number_value, text_value}
 use Rattle.docs.specs.Logs.{log_act_value, refusal_value}
 use Rattle.docs.specs.declared.logs.LogRow.{LogRow}
-
--- the text of a writer, once these members follow and the brace behind them
-abbrev pub text_with : Written → Members → List ℕ
-text_with written rest = written.before ++ print (written.tokens ++ members_tokens (members_outline rest))
-
--- members are put, whatever follows them
-pub record Puts (old new : Written) (put : Members → Members) : Type 0 where
-  pub text : (rest : Members) → text_with new rest ≡ text_with old (put rest)
 
 -- the members of a line, each part with what follows it
 abbrev pub asked : ℕ → List ℕ → LogRow → Members → Members

@@ -2,7 +2,8 @@ use Rattle.std.proofs.Common.{rules, Some, ap, ◌∙◌}
 use Rattle.std.proofs.lemmas.Result.{on_ok_weaker}
 use Rattle.docs.specs.Bodies.{number_value, text_value}
 use Rattle.docs.specs.Logs.{log_word}
-use Rattle.docs.proofs.Lines.{put_as, then_put, text_made, act_is}
+use Rattle.docs.proofs.Lines.{act_is}
+use Rattle.docs.proofs.Putting.{put_as, then_put, text_made}
 use Rattle.docs.proofs.logs.put_asked.Goals as goal
 
 pub returns : goal.returns

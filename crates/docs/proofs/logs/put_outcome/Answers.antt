@@ -2,7 +2,8 @@ use Rattle.std.proofs.Common.{rules, ap, ◌∙◌}
 use Rattle.std.proofs.lemmas.Result.{on_ok_weaker}
 use Rattle.basis.specs.Refusals.{line_of}
 use Rattle.docs.specs.Bodies.{number_value, text_value}
-use Rattle.docs.proofs.Lines.{put_as, then_put, text_made, number_made, refusal_is}
+use Rattle.docs.proofs.Lines.{refusal_is}
+use Rattle.docs.proofs.Putting.{put_as, then_put, text_made, number_made}
 use Rattle.docs.proofs.logs.put_outcome.Goals as goal
 
 pub returns : goal.returns
