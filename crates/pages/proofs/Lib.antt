@@ -1,3 +1,4 @@
+pub mod Behind
 pub mod Examples
 pub mod FirstPages
 pub mod FreeTwins
@@ -8,3 +9,6 @@ pub mod PageTexts
 pub mod PageWrites
 pub mod Promises
 pub mod Referring
+pub mod RowReads
+pub mod RowTexts
+pub mod Sights

@@ -1,3 +1,4 @@
+pub mod Heads
 pub mod Inner
 pub mod Pages
 pub mod Puts

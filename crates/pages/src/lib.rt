@@ -3,7 +3,9 @@
 
 pub mod keys;
 mod rows;
+mod scans;
 mod store;
 
 pub use keys::{PageKey, ShaKey};
+pub use scans::heads;
 pub use store::{PageId, get, put, release, same};

@@ -151,7 +151,7 @@ pub(crate) fn first<S: Alter>(
     read_one(row)
 }
 
-const EQUAL_PAGE: &str =
+pub(crate) const EQUAL_PAGE: &str =
     "SELECT twin, uses FROM page WHERE pkey = ?1 AND bytes = ?2 ORDER BY rowid";
 
 /// The page of this key that has these bytes.

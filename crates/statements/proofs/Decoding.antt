@@ -35,10 +35,10 @@ holder_back Nobody = refl
 holder_back (Lock id text) = refl
 holder_back (HeldByRun n) = refl
 
-token_back : (x : Kept TokenRow) → kept_by token_at (stored token_cells x) ≡ x
+pub token_back : (x : Kept TokenRow) → kept_by token_at (stored token_cells x) ≡ x
 token_back x = λ i. (x.0, record { org = x.1.org; name = x.1.name; it = record { digest = x.1.it.digest; role = role_back x.1.it.role i } })
 
-ws_back : (x : Kept WsRow) → kept_by ws_at (stored ws_cells x) ≡ x
+pub ws_back : (x : Kept WsRow) → kept_by ws_at (stored ws_cells x) ≡ x
 ws_back x = λ i. (
   x.0,
   record {
@@ -48,7 +48,7 @@ ws_back x = λ i. (
   },
 )
 
-run_back : (x : Kept RunRow) → kept_by run_at (stored run_cells x) ≡ x
+pub run_back : (x : Kept RunRow) → kept_by run_at (stored run_cells x) ≡ x
 run_back x = λ i. (
   x.0,
   record {
@@ -70,7 +70,7 @@ until_back : (o : Option ℕ) → unless_null (λ v. unsigned_abs (int_of v)) (o
 until_back None = refl
 until_back (Some n) = refl
 
-bound_back : (x : Kept BoundRow) → kept_by bound_at (stored bound_cells x) ≡ x
+pub bound_back : (x : Kept BoundRow) → kept_by bound_at (stored bound_cells x) ≡ x
 bound_back x = λ i. (x.0, record { org = x.1.org; name = x.1.name; until = until_back x.1.until i; prefix = x.1.prefix })
 
 -- the rows of a table are read back from its tree

@@ -43,6 +43,7 @@ pub mod Reading
 pub mod RunReads
 pub mod RunTexts
 pub mod RunWrites
+pub mod ScanTexts
 pub mod SchemaTexts
 pub mod Schemas
 pub mod Sorting
@@ -57,6 +58,7 @@ pub mod Transactions
 pub mod VersionReads
 pub mod VersionTexts
 pub mod VersionWrites
+pub mod Wholes
 pub mod Writes
 pub mod WsListParts
 pub mod WsListTexts

@@ -6,10 +6,10 @@ use Rattle.sqlite_trees.specs.Tree.{Trees}
 use Rattle.sqlite_trees.specs.View.{doubt}
 use Rattle.sqlite_trees.specs.declared.store.Store.{Ghosts}
 use Rattle.sqlite.specs.Held.{state}
-use Rattle.sqlite.specs.State.{State, HasCleanDisk, Executes, KeepsCommit, IsUnchanged, IsRolledBack, Survives}
+use Rattle.sqlite.specs.State.{State, HasCleanDisk, Executes, Shown, KeepsCommit, IsUnchanged, IsRolledBack, Survives}
 use Rattle.sqlite.specs.declared.transaction.Transaction.{Transaction}
 use Rattle.sqlite.specs.declared.error.Error.{Error}
-use Rattle.statements.specs.Calls.{Wrote, WroteAny, FirstRow, IsCalm, IsRead, IsOnly, AreRead, IsCount, IsNumber, Pins}
+use Rattle.statements.specs.Calls.{Wrote, WroteAny, FirstRow, IsCalm, AreAllRead, IsRead, IsOnly, AreRead, IsCount, IsNumber, Pins}
 use Rattle.statements.specs.Rows.{number}
 use Rattle.sqlite.specs.Effect.{Database}
 use Rattle.statements.specs.Making.{Alters}
@@ -115,6 +115,14 @@ lists_by law read Is old new Gives (Ok rs) (Err f) gives calm are shows = (tt, (
 lists_by law read Is old new Gives (Err e) (Err f) gives calm are shows = (tt, (tt, calm.1))
 lists_by law read Is old new Gives (Err e) (Ok xs) gives calm are shows = absurd are
 lists_by law read Is old new Gives (Ok rs) (Ok xs) gives calm are shows = (λ t h lawful. shows t h lawful rs xs gives are, (calm.0, tt))
+
+-- all of whose rows are read as values
+pub holds_by : {X E F : Type 0} (Is : Row → X → Type 0) (old new : State) (text : List ℕ) (rows : Result (List Row) E) (result : Result (List X) F) → IfOk rows (Shown text [] old new) → IsCalm old new rows → AreRead Is rows result
+    → IfOk result (λ xs. (t : Tables) → Holds old.now t → AreAllRead Is text old new xs) × (OnOk result (IsUnchanged old new) × OnErr result (IsUnchanged old new ⊎ IsRolledBack old new))
+holds_by Is old new text (Ok rs) (Err f) shown calm are = (tt, (tt, inl calm.0))
+holds_by Is old new text (Err e) (Err f) shown calm are = (tt, (tt, calm.1))
+holds_by Is old new text (Err e) (Ok xs) shown calm are = absurd are
+holds_by Is old new text (Ok rs) (Ok xs) shown calm are = (λ t h. (rs, shown, are), (calm.0, tt))
 
 pub counts_by : {E F : Type 0} (read : Tables → ℕ) (old new : State) (text : List ℕ) (params : Row) (row : Result (Option Row) E) (result : Result ℕ F)
     → IfOk row (FirstRow text params old new) → IsCalm old new row → IsCount row result

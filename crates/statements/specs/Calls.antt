@@ -75,6 +75,10 @@ AreRead Is rows (Err f) = ⊤
 AreRead Is (Err e) (Ok xs) = ⊥
 AreRead Is (Ok rows) (Ok xs) = AllZip Is rows xs
 
+-- all rows that a query gave, which has no parameters, are read as these values
+abbrev pub AreAllRead : {X : Type 0} → (Row → X → Type 0) → List ℕ → State → State → List X → Type 0
+AreAllRead Is text old new xs = (rows : List Row) × Shown text [] old new rows × AllZip Is rows xs
+
 -- ---- how a row is read
 
 abbrev pub IsFlagCell : Value → Bool → Type 0

@@ -1,5 +1,5 @@
 -- The rows of the tables as typed values, the cells that keep them, and the typed row that cells stand for.
-use Rattle.std.specs.Prelude.{ℕ, ℤ, pos, Bool, List, [], ◌∷◌, Option, if◌then◌else◌, zero, suc, not, unsigned_abs, ◌==◌}
+use Rattle.std.specs.Prelude.{ℕ, ℤ, pos, Bool, List, [], ◌∷◌, if◌then◌else◌, zero, suc, not, unsigned_abs, ◌==◌}
 use Rattle.sqlite_value.specs.declared.value.Value.{Value}
 use Rattle.sqlite_value.specs.declared.value.Value.TheVariants as cell
 use Rattle.sqlite_value.specs.Order.{Row, column}
@@ -13,15 +13,20 @@ use Rattle.basis.specs.declared.runs.RunAction.{RunAction}
 use Rattle.basis.specs.declared.runs.RunAction.TheVariants.{ReportPlanned, ReportUnchanged, Fail, Confirm, ReportApplied, Discard, Cancel}
 use Rattle.basis.specs.declared.rows.Holder.{Holder}
 use Rattle.basis.specs.declared.rows.Holder.TheVariants.{Nobody, Lock, Run as HeldByRun}
-use Rattle.basis.specs.declared.rows.VersionRow.{VersionRow as Version}
-use Rattle.statements.specs.declared.rows.Workspace.{Workspace}
-use Rattle.basis.specs.declared.rows.RunRow.{RunRow as Run}
+use Rattle.statements.specs.declared.rows.Token.{Token as ItsToken}
+use Rattle.statements.specs.declared.rows.OrgRow.{OrgRow as ItsOrgRow}
+use Rattle.statements.specs.declared.rows.TokenRow.{TokenRow as ItsTokenRow}
+use Rattle.statements.specs.declared.rows.WsRow.{WsRow as ItsWsRow}
+use Rattle.statements.specs.declared.rows.VersionRow.{VersionRow as ItsVersionRow}
+use Rattle.statements.specs.declared.rows.RunRow.{RunRow as ItsRunRow}
+use Rattle.statements.specs.declared.rows.VpageRow.{VpageRow as ItsVpageRow}
+use Rattle.statements.specs.declared.rows.BoundRow.{BoundRow as ItsBoundRow}
+use Rattle.statements.specs.declared.rows.KeepingRow.{KeepingRow as ItsKeepingRow}
 use Rattle.std.specs.Ordering.{int_eq}
 
 -- a token: the digest of its secret, and its role
-pub record Token : Type 0 where
-  pub digest : List ℕ
-  pub role : Role
+abbrev pub Token : Type 0
+Token = ItsToken
 
 -- a row with its rowid
 abbrev pub Kept : Type 0 → Type 0
@@ -30,29 +35,20 @@ Kept R = ℤ × R
 abbrev pub id_of : {R : Type 0} → Kept R → ℤ
 id_of x = x.0
 
-pub record OrgRow : Type 0 where
-  pub name : List ℕ
-  pub cap : ℕ
+abbrev pub OrgRow : Type 0
+OrgRow = ItsOrgRow
 
-pub record TokenRow : Type 0 where
-  pub org : List ℕ
-  pub name : List ℕ
-  pub it : Token
+abbrev pub TokenRow : Type 0
+TokenRow = ItsTokenRow
 
-pub record WsRow : Type 0 where
-  pub org : List ℕ
-  pub name : List ℕ
-  pub it : Workspace
+abbrev pub WsRow : Type 0
+WsRow = ItsWsRow
 
-pub record VersionRow : Type 0 where
-  pub org : List ℕ
-  pub ws : List ℕ
-  pub it : Version
+abbrev pub VersionRow : Type 0
+VersionRow = ItsVersionRow
 
-pub record RunRow : Type 0 where
-  pub org : List ℕ
-  pub ws : List ℕ
-  pub it : Run
+abbrev pub RunRow : Type 0
+RunRow = ItsRunRow
 
 -- a page of texts, and how often it is named
 pub record PageRow : Type 0 where
@@ -62,26 +58,16 @@ pub record PageRow : Type 0 where
   pub uses : ℕ
 
 -- the page at a place of a version's text, by its key and twin number
-pub record VpageRow : Type 0 where
-  pub org : List ℕ
-  pub ws : List ℕ
-  pub number : ℕ
-  pub place : ℕ
-  pub key : List ℕ
-  pub twin : ℕ
+abbrev pub VpageRow : Type 0
+VpageRow = ItsVpageRow
 
 -- until which moment a token counts, if it ends, and how the names of its workspaces begin
-pub record BoundRow : Type 0 where
-  pub org : List ℕ
-  pub name : List ℕ
-  pub until : Option ℕ
-  pub prefix : List ℕ
+abbrev pub BoundRow : Type 0
+BoundRow = ItsBoundRow
 
 -- how many versions a workspace keeps
-pub record KeepingRow : Type 0 where
-  pub org : List ℕ
-  pub ws : List ℕ
-  pub keep : ℕ
+abbrev pub KeepingRow : Type 0
+KeepingRow = ItsKeepingRow
 
 -- ---- cells
 

@@ -7,7 +7,8 @@ ghost use Rattle.sqlite.specs.Held.{state};
 ghost use Rattle.sqlite.specs.State.{HasCleanDisk, Survives, Shown};
 ghost use Rattle.basis.specs.declared.numbers.TheConstants.{MAX_MOMENT};
 ghost use Rattle.statements.specs.Rows.{number, role_code, status_code, action_code, flag, flag_at};
-ghost use Rattle.statements.specs.Calls.{Wrote, WroteAny, IsQuery, FirstRow, FirstRows, LimitsTo, IsCalm, IsRead, IsOnly, AreRead, IsOrganization, IsVersionRow, IsTextOrNull, IsRunRow, IsNamedRole, IsNumberOrNull, IsBound, IsBoundedRole, IsBody, IsNumber, IsRole, IsStatusCell, IsActionOrNull, IsStatus, IsCount};
+ghost use Rattle.statements.specs.Steps.{Queries};
+ghost use Rattle.statements.specs.Calls.{Wrote, WroteAny, IsQuery, FirstRow, FirstRows, LimitsTo, IsCalm, AreAllRead, IsRead, IsOnly, AreRead, IsOrganization, IsVersionRow, IsTextOrNull, IsRunRow, IsNamedRole, IsNumberOrNull, IsBound, IsBoundedRole, IsBody, IsNumber, IsRole, IsStatusCell, IsActionOrNull, IsStatus, IsCount};
 
 use crate::rows::{BoundedRole, NamedRole, Organization};
 use basis::{
@@ -107,7 +108,7 @@ pub(crate) fn first_rows<S: Alter>(
 }
 
 /// All rows of a query's answer.
-pub(crate) fn all_rows<S: Alter>(
+pub fn all_rows<S: Alter>(
     conn: &mut Connection<S>,
     sql: &str,
     params: &[ValueRef<'_>],
@@ -181,7 +182,7 @@ pub(crate) fn number_of(number: u64, at: usize) -> Result<Number, Error>
 }
 
 /// A moment, from the seconds since 1970 (UTC).
-fn moment_of(seconds: u64, at: usize) -> Result<Moment, Error>
+pub(crate) fn moment_of(seconds: u64, at: usize) -> Result<Moment, Error>
     ensures { IfOk result (λ x. x ≡ seconds) }
 {
     match Moment::new(seconds) {
@@ -191,7 +192,7 @@ fn moment_of(seconds: u64, at: usize) -> Result<Moment, Error>
 }
 
 /// How many versions a workspace keeps.
-fn keep_of(keep: u64, at: usize) -> Result<KeepCount, Error>
+pub(crate) fn keep_of(keep: u64, at: usize) -> Result<KeepCount, Error>
     ensures { IfOk result (λ x. x ≡ keep) }
 {
     match KeepCount::new(keep) {
@@ -201,7 +202,7 @@ fn keep_of(keep: u64, at: usize) -> Result<KeepCount, Error>
 }
 
 /// How many workspaces an organization may have.
-fn limit_of(cap: u32, at: usize) -> Result<Limit, Error>
+pub(crate) fn limit_of(cap: u32, at: usize) -> Result<Limit, Error>
     ensures { IfOk result (λ x. x ≡ cap) }
 {
     match Limit::new(cap) {
@@ -249,7 +250,7 @@ pub(crate) fn optional_number(row: &Row, at: usize) -> Result<Option<Number>, Er
     }
 }
 
-fn optional_moment(row: &Row, at: usize) -> Result<Option<Moment>, Error>
+pub(crate) fn optional_moment(row: &Row, at: usize) -> Result<Option<Moment>, Error>
     ensures { IfOk result (IsNumberOrNull (column row.now at)) }
 {
     match row.get::<Option<u64>>(at)? {
@@ -277,7 +278,7 @@ pub(crate) fn optional_lock_id(row: &Row, at: usize) -> Result<Option<LockId>, E
 }
 
 /// The role that a number in a row stands for.
-fn role_in(row: &Row, at: usize) -> Result<Role, Error>
+pub(crate) fn role_in(row: &Row, at: usize) -> Result<Role, Error>
     ensures { IfOk result (λ role. column row.now at ≡ number (role_code role)) }
 {
     match row.get::<u64>(at)? {
@@ -295,7 +296,7 @@ pub(crate) fn flag_in(row: &Row, at: usize) -> Result<bool, Error>
     row.get::<bool>(at)
 }
 
-fn status_in(row: &Row, at: usize) -> Result<RunStatus, Error>
+pub(crate) fn status_in(row: &Row, at: usize) -> Result<RunStatus, Error>
     ensures { IfOk result (IsStatusCell (column row.now at)) }
 {
     match row.get::<u64>(at)? {
@@ -312,7 +313,7 @@ fn status_in(row: &Row, at: usize) -> Result<RunStatus, Error>
     }
 }
 
-fn action_in(row: &Row, at: usize) -> Result<Option<RunAction>, Error>
+pub(crate) fn action_in(row: &Row, at: usize) -> Result<Option<RunAction>, Error>
     ensures { IfOk result (IsActionOrNull (column row.now at)) }
 {
     match row.get::<Option<u64>>(at)? {
@@ -506,7 +507,7 @@ fn read_each<T: Read + Drop>(alloc: Global, rows: &[Row]) -> Result<Items<T>, Er
 }
 
 /// The values that the rows hold.
-pub(crate) fn read_all<T: Read + Drop>(
+pub fn read_all<T: Read + Drop>(
     alloc: Global,
     rows: Result<Items<Row>, Error>,
 ) -> Result<Items<T>, Error>
@@ -514,6 +515,18 @@ pub(crate) fn read_all<T: Read + Drop>(
 {
     let rows = rows?;
     read_each(alloc, rows.as_slice())
+}
+
+/// The values that all rows of a query's answer hold, in their order. The query has no parameters.
+pub fn scan<T: Read + Drop, S: Alter>(
+    alloc: Global,
+    conn: &mut Connection<S>,
+    sql: &str,
+) -> Result<Items<T>, Error>
+    ensures { IsQuery sql.now → Queries S.Store (λ xs _. AreAllRead T.Read.is_in sql.now (state S.Store conn.old) (state S.Store conn.new) xs) conn.old conn.new result }
+{
+    let rows = all_rows(conn, sql, &[]);
+    read_all(alloc, rows)
 }
 
 /// Zero stands for no row, which a count never gives.

@@ -9,8 +9,12 @@ pub mod making;
 pub mod organizations;
 pub mod rows;
 pub mod runs;
+pub mod scans;
 pub mod tokens;
 pub mod versions;
 pub mod workspaces;
 
-pub use rows::{NamedRole, NamedWorkspace, Organization, Workspace};
+pub use rows::{
+    BoundRow, KeepingRow, NamedRole, NamedWorkspace, OrgRow, Organization, PageHead, Rows, RunRow,
+    Token, TokenRow, VersionRow, VpageRow, Workspace, WsRow,
+};

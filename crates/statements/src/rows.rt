@@ -1,5 +1,113 @@
 //! What rows hold that nothing above has a type for, as values.
-use basis::{Bounds, Holder, KeepCount, Limit, LockId, Number, Role, RunSettings, Text, WsName};
+use basis::{
+    Bounds, Bytes, Holder, Items, KeepCount, Limit, LockId, Moment, Number, Role, RunSettings,
+    Text, WsName,
+};
+
+/// A token: the digest of its secret, and its role.
+#[derive(Drop)]
+pub struct Token {
+    pub digest: Bytes,
+    pub role: Role,
+}
+
+/// A row of org.
+#[derive(Drop)]
+pub struct OrgRow {
+    pub name: Text,
+    pub cap: Limit,
+}
+
+/// A row of token.
+#[derive(Drop)]
+pub struct TokenRow {
+    pub org: Text,
+    pub name: Text,
+    pub it: Token,
+}
+
+/// A row of ws.
+#[derive(Drop)]
+pub struct WsRow {
+    pub org: Text,
+    pub name: Text,
+    pub it: Workspace,
+}
+
+/// A row of version.
+#[derive(Drop)]
+pub struct VersionRow {
+    pub org: Text,
+    pub ws: Text,
+    pub it: basis::VersionRow,
+}
+
+/// A row of run.
+#[derive(Drop)]
+pub struct RunRow {
+    pub org: Text,
+    pub ws: Text,
+    pub it: basis::RunRow,
+}
+
+/// A row of vpage: the page at a place of a version's text, by its key and twin number.
+#[derive(Drop)]
+pub struct VpageRow {
+    pub org: Text,
+    pub ws: Text,
+    pub number: u64,
+    pub place: u64,
+    pub key: Bytes,
+    pub twin: u64,
+}
+
+/// A row of bound: until which moment a token counts, if it ends, and how the names of its workspaces begin.
+#[derive(Drop)]
+pub struct BoundRow {
+    pub org: Text,
+    pub name: Text,
+    pub until: Option<Moment>,
+    pub prefix: Text,
+}
+
+/// A row of keeping: how many versions a workspace keeps.
+#[derive(Drop)]
+pub struct KeepingRow {
+    pub org: Text,
+    pub ws: Text,
+    pub keep: KeepCount,
+}
+
+/// What a row of page says of its page, without the bytes.
+#[derive(Drop)]
+pub struct PageHead {
+    pub key: Bytes,
+    pub twin: u64,
+    /// How many bytes the page has.
+    pub size: u64,
+    /// How many rows of vpage name it, by its own row.
+    pub uses: u64,
+    /// Whether the key is that of the bytes.
+    pub is_keyed: bool,
+    /// Whether the first page of the key with these bytes has this twin number.
+    pub is_first: bool,
+}
+
+/// The rows of all tables, each with its rowid, and of pages their heads.
+#[derive(Drop)]
+pub struct Rows {
+    pub metas: Items<(i64, u64)>,
+    pub orgs: Items<(i64, OrgRow)>,
+    pub tokens: Items<(i64, TokenRow)>,
+    pub wss: Items<(i64, WsRow)>,
+    pub versions: Items<(i64, VersionRow)>,
+    pub runs: Items<(i64, RunRow)>,
+    pub pages: Items<PageHead>,
+    pub vpages: Items<(i64, VpageRow)>,
+    pub bounds: Items<(i64, BoundRow)>,
+    pub editions: Items<(i64, u64)>,
+    pub keepings: Items<(i64, KeepingRow)>,
+}
 
 /// A workspace, without its versions and runs.
 #[derive(Drop)]

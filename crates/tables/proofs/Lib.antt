@@ -28,6 +28,7 @@ pub mod Ranks
 pub mod Remembering
 pub mod Revoking
 pub mod Shut
+pub mod Filled
 pub mod Sets
 pub mod Stores
 pub mod Telling

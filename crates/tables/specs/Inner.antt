@@ -4,5 +4,6 @@ pub mod Edits
 pub mod Lists
 pub mod Looks
 pub mod Making
+pub mod Scans
 pub mod Steps
 pub mod Units

@@ -3,6 +3,7 @@ pub mod Inner
 pub mod Laws
 pub mod Opening
 pub mod Records
+pub mod Scans
 pub mod Sound
 pub mod Stores
 pub mod Versions

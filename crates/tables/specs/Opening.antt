@@ -31,6 +31,11 @@ pub record IsSoundKeep (seen : Database) (counted : Option Counted) (s : State) 
   pub counts : IsCounted (records_of seen) counted
   pub tied : IsTrue s.is_open → s.committed ≡ seen
 
+-- A store as it was opened: what it has seen is what its connection has committed, and it remembers no count.
+pub record IsFresh (seen : Database) (counted : Option Counted) (s : State) : Type 0 where
+  pub committed : s.committed ≡ seen
+  pub uncounted : counted ≡ None
+
 -- whether one of our tables is there
 abbrev pub any_there : Schema → Bool
 any_there s = list_any (is_in_schema s) our_tables

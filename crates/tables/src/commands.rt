@@ -4,6 +4,7 @@ ghost use Rattle.sqlite.specs.Held.{state};
 ghost use Rattle.sqlite.specs.State.{HasCleanDisk, KeepsCommit};
 ghost use Rattle.machine.specs.Needs.{needed_of};
 ghost use Rattle.tables.specs.Records.{IsBound};
+ghost use Rattle.tables.specs.Scans.{AreRowsOf};
 ghost use Rattle.tables.specs.Inner.Units.{text_in, unit_in};
 ghost use Rattle.statements.specs.Steps.{Equals, EqualsWhere, Sees};
 ghost use Rattle.statements.specs.Tables.{Tables, Holds};
@@ -12,12 +13,14 @@ ghost use Rattle.tables.specs.Inner.Lists.{versions_listed_in, runs_listed_in, w
 ghost use Rattle.tables.specs.Inner.Steps.{LooksAt, ManagesBy, org_managed, limit_managed, token_managed, revocation_managed, is_taken};
 
 use crate::transactions::assert_settled;
-use crate::{listings, looks, transactions};
+use crate::{listings, looks, scans, transactions};
 use basis::{
     Bounds, Bytes, Items, Limit, Listing, Number, Prefix, Role, RunRow, VersionRow, WsRow,
 };
 use machine::{AdminAnswer, Needs, OrgRow, TokenRow, Unit};
+use pages::PageKey;
 use sqlite::{Alter, Connection, Error, ErrorCode};
+use statements::rows::Rows;
 use statements::{organizations, tokens};
 use std::alloc::Global;
 
@@ -200,6 +203,21 @@ pub(crate) fn text<S: Alter>(
 {
     assert_settled(conn);
     looks::text(conn, alloc, org, ws, number)
+}
+
+/// The rows of all tables; of pages their heads.
+pub(crate) fn scan<S: Alter, K: PageKey>(
+    conn: &mut Connection<S>,
+    alloc: Global,
+) -> Result<Rows, Error>
+    requires idle { conn.old.in_transaction ≡ false }
+    ensures idle { conn.new.in_transaction ≡ false }
+    ensures so_far { HasCleanDisk (state S.Store conn.new) → HasCleanDisk (state S.Store conn.old) }
+    ensures shield { (state S.Store conn.old).IsShielded → (state S.Store conn.new).IsShielded }
+    ensures looks { LooksAt (λ rows t. AreRowsOf K.key_of t rows) (state S.Store conn.old) (state S.Store conn.new) result }
+{
+    assert_settled(conn);
+    scans::scan::<S, K>(conn, alloc)
 }
 
 /// The workspaces of an organization that a prefix admits, after a name. All come after the empty one.

@@ -7,6 +7,7 @@ pub mod laws;
 mod listings;
 mod looks;
 mod opening;
+mod scans;
 mod steps;
 mod store;
 mod transactions;

@@ -5,11 +5,12 @@ ghost use Rattle.sqlite.specs.Held.{state};
 ghost use Rattle.sqlite.specs.State.{HasCleanDisk, KeepsCommit};
 ghost use Rattle.tables.specs.Stores.{records_of, IsSoundStore};
 ghost use Rattle.statements.specs.Making.{KeepsTables, KeepsForeign};
-ghost use Rattle.statements.specs.Tables.{Tables, HoldsIn, version_tables, our_tables};
-ghost use Rattle.tables.specs.Opening.{IsSoundKeep, any_there, all_there, newest_there, tells_edition, is_meta, is_edition, has_versions, TellsIn, ToldBy, IsOther, GivesBack};
+ghost use Rattle.statements.specs.Tables.{Tables, Holds, HoldsIn, version_tables, our_tables};
+ghost use Rattle.tables.specs.Opening.{IsSoundKeep, IsFresh, any_there, all_there, newest_there, tells_edition, is_meta, is_edition, has_versions, TellsIn, ToldBy, IsOther, GivesBack};
 ghost use Rattle.basis.specs.Names.{is_prefix};
 ghost use Rattle.machine.specs.Keeping.{Looks};
 ghost use Rattle.machine.specs.Ranges.{IsMoment};
+ghost use Rattle.tables.specs.Scans.{AreRowsOf};
 ghost use Rattle.tables.specs.Versions.{HoldsVersion, version_records};
 
 use crate::counts::Counted;
@@ -23,6 +24,7 @@ use basis::{
 use machine::{Act, AdminAnswer, Change, Fault, Keep, TokenRow, Unit};
 use pages::PageKey;
 use sqlite::{Alter, Connection, MemStore};
+use statements::rows::Rows;
 use std::alloc::Global;
 use std::marker::PhantomData;
 use std::snapshot::Snapshot;
@@ -106,6 +108,7 @@ impl<S: Alter, K: PageKey> SqlKeep<S, K> {
         ensures older { any_there (state S.Store conn).now.schema ≡ true → has_versions (state S.Store conn).now.schema ≡ false
             → IfErr result (λ unopened. unopened.fault ≡ Fault.Schema) × IfOk result (λ _. ⊥) }
         ensures idle { IfErr result (λ unopened. unopened.conn.in_transaction ≡ false) }
+        ensures as_opened { IfOk result (λ keep. ⟦<SqlKeep<S, K> as Keep>⟧.clean keep → IsFresh (state S.Store keep.seen.value).committed keep.counted (state S.Store keep.conn)) }
     {
         match ready(&mut conn) {
             Ok(()) => {
@@ -128,6 +131,17 @@ impl<S: Alter, K: PageKey> SqlKeep<S, K> {
     {
         match commands::is_shut(&mut self.conn) {
             Ok(is_shut) => Ok(is_shut),
+            Err(_) => Err(Down),
+        }
+    }
+
+    /// The rows of all tables, each with its rowid; of pages their heads.
+    pub fn scan(&mut self, alloc: Global) -> Result<Rows, Down>
+        ensures told { HasCleanDisk (state S.Store self.new.conn) → IfOk result (λ rows. (t : Tables) → Holds (state S.Store self.old.conn).committed t → AreRowsOf K.key_of t rows) }
+        ensures looks { Looks ⟦<SqlKeep<S, K> as Keep>⟧.rows ⟦<SqlKeep<S, K> as Keep>⟧.clean ⟦<SqlKeep<S, K> as Keep>⟧.sound ⟦<SqlKeep<S, K> as Keep>⟧.shielded self.old self.new }
+    {
+        match commands::scan::<S, K>(&mut self.conn, alloc) {
+            Ok(rows) => Ok(rows),
             Err(_) => Err(Down),
         }
     }

@@ -7,6 +7,7 @@ pub mod PieceLaws
 pub mod PieceLists
 pub mod PlaceLaws
 pub mod PlaceReads
+pub mod PlaceScans
 pub mod PlaceTexts
 pub mod PlaceWrites
 pub mod RemovedLaws

@@ -1,12 +1,13 @@
 -- Writes, and reads, one after another: what they leave and tell, be it none.
-use Rattle.std.proofs.Common.{◌≡◌, IsTrue, Option, Some, Result, Ok, Err, OnOk, refl, ◌∙◌}
+use Rattle.std.proofs.Common.{◌≡◌, IsTrue, Option, Some, Result, Ok, Err, OnOk, refl}
 use Rattle.sqlite_trees.specs.declared.store.Store.{Ghosts}
 use Rattle.sqlite.specs.Held.{Held, state}
-use Rattle.sqlite.specs.State.{State, HasCleanDisk, IsUnchanged, KeepsCommit}
+use Rattle.sqlite.specs.State.{State, HasCleanDisk, IsUnchanged}
 use Rattle.statements.specs.Steps.{AnyRows, LeavesAsIs, Moves, Queries, Sees}
 use Rattle.statements.specs.Tables.{Tables, Holds}
 use Rattle.statements.proofs.Transactions.{clean_before, moves_then}
 use Rattle.pages.proofs.Looking.{as_it_is, one_look, looks_then, still_holds, failed_behind, moved_behind}
+pub use Rattle.pages.proofs.Sights.{reads_failed, nothing_more}
 
 -- whatever holds, holds where a call was done
 pub when_done : {X E : Type 0} {P : Type 0} (result : Result X E) → P → OnOk result P
@@ -77,14 +78,6 @@ reads_more value next law told one a b c x z y is tells some before after last =
   read = λ clean t holds. is t (some.read (before clean) t holds) ((last clean).0 t (still_holds a b (some.looks (before clean)) t holds));
   told = λ clean t holds. tells t (some.told (before clean) t holds) ((last clean).0 t (still_holds a b (some.looks (before clean)) t holds));
 }
-
--- a read that failed behind others
-pub reads_failed : (a b c : State) → LeavesAsIs a b → KeepsCommit b c → KeepsCommit a c
-reads_failed a b c look kept = record { was_open = λ is. look.was_open (kept.was_open is); committed = λ is. kept.committed is ∙ look.committed }
-
--- what failed behind reads was no read
-pub nothing_more : (a b : State) → LeavesAsIs a b → KeepsCommit a b
-nothing_more a b look = record { was_open = look.was_open; committed = λ _. look.committed }
 
 -- ---- reads as one clause
 

@@ -2,7 +2,9 @@
 #![tactic(auto)]
 
 mod places;
+mod scans;
 mod texts;
 mod whole;
 
+pub use scans::vpages;
 pub use texts::{PAGE_BYTES, add_text, remove_text, same_text, text};

@@ -1,0 +1,44 @@
+-- What the queries that go through the rows of page read of them.
+use Rattle.std.proofs.Common.{◌≡◌, ℤ, [], ◌∷◌, Option, Some, None, refl}
+use Rattle.sqlite_value.specs.declared.value.Value.TheVariants.{Int, Blob}
+use Rattle.sqlite_sql.specs.declared.ops.CompareOp.TheVariants.{Gt}
+use Rattle.sqlite_keyed.proofs.ListLemmas.{first_taken}
+use Rattle.sqlite_typed.proofs.TestLemmas.{at_ints, last_term}
+use Rattle.sqlite_value.specs.Order.{Row}
+use Rattle.sqlite.specs.State.{State}
+use Rattle.statements.specs.Schema.{page_table}
+use Rattle.statements.specs.Rows.{Kept, PageRow, page_cells, number}
+use Rattle.statements.specs.Tables.{Tables, Holds, page_layout}
+use Rattle.statements.specs.Calls.{FirstRow, Pins}
+use Rattle.statements.proofs.Held.{IsHeld, pages_held}
+use Rattle.statements.proofs.PointReads.{first_own}
+use Rattle.statements.proofs.ReadBack.{number_read, blob_read}
+use Rattle.pages.specs.declared.scans.PageRow.{PageRow as ReadRow}
+use Rattle.pages.specs.Inner.Scans.{IsPageRow, is_behind, page_row, page_row_behind}
+use Rattle.pages.proofs.RowTexts.{row_names, first_row_text, first_row_means, first_row_rest, row_after_text, row_after_means, row_after_rest}
+
+int_read : (m n : ℤ) → Int m ≡ Int n → n ≡ m
+int_read m n e = cc
+
+page_row_read : (x : Kept PageRow) (page : ReadRow) → IsPageRow (Int x.0 ∷ Blob x.1.key ∷ number x.1.twin ∷ Blob x.1.bytes ∷ number x.1.uses ∷ []) page → page ≡ page_row x
+page_row_read x page told = λ i. record {
+  id = int_read x.0 page.id told.id i;
+  key = blob_read x.1.key page.key told.key i;
+  twin = number_read x.1.twin page.twin told.twin i;
+  bytes = blob_read x.1.bytes page.bytes told.bytes i;
+  uses = number_read x.1.uses page.uses told.uses i;
+}
+
+module _ (old new : State) (t : Tables) (h : Holds old.now t) where
+  abbrev held : IsHeld page_layout old.now t.pages
+  held = pages_held old.now t h
+
+  pub first_row_shows : (row : Option Row) → FirstRow first_row_text [] old new row → Pins IsPageRow row (page_row_behind None t)
+  first_row_shows row first =
+      first_own page_cells page_table old new held.own t.pages held.rows held.keyed first_row_text [] row first first_row_rest row_names
+      (is_behind None) (λ x. refl) IsPageRow page_row (λ x y told. page_row_read x y told) (first_row_means old.now.schema _ _ held.own.place) first_taken
+
+  pub row_after_shows : (id : ℤ) (row : Option Row) → FirstRow row_after_text (Int id ∷ []) old new row → Pins IsPageRow row (page_row_behind (Some id) t)
+  row_after_shows id row first =
+      first_own page_cells page_table old new held.own t.pages held.rows held.keyed row_after_text (Int id ∷ []) row first row_after_rest row_names
+      (is_behind (Some id)) (λ x. last_term (at_ints _ Gt x.0 id)) IsPageRow page_row (λ x y told. page_row_read x y told) (row_after_means old.now.schema _ _ held.own.place) first_taken

@@ -1,0 +1,72 @@
+-- All rows of one of our tables, in the order of their rowids.
+use Rattle.std.proofs.Common.{◌≡◌, ℕ, true, false, List, [], ◌∷◌, map, Result, refl, ap, ◌∙◌, map-id}
+use Rattle.std.specs.List.{AllZip}
+use Rattle.std.proofs.lemmas.Result.{IfOk-weaker}
+use Rattle.sqlite_value.specs.Order.{Row}
+use Rattle.sqlite_trees.specs.declared.store.Store.{Ghosts}
+use Rattle.sqlite_sql.specs.Term.{Term, eval_all}
+use Rattle.sqlite_sql.specs.Query.{Query}
+use Rattle.sqlite_sql.specs.Program.{overlay}
+use Rattle.sqlite_draft.specs.declared.query.Draft.{Draft}
+use Rattle.sqlite_schema.specs.declared.schema.Schema.{Schema}
+use Rattle.sqlite_schema.specs.declared.command.Command.TheVariants.{Select}
+use Rattle.sqlite.specs.Held.{Held, state}
+use Rattle.sqlite.specs.State.{State, Shown}
+use Rattle.sqlite_keyed.proofs.ListLemmas.{filter_all, all_of}
+use Rattle.statements.specs.declared.making.TheConstants.{NEWEST}
+use Rattle.statements.specs.Place.{tree_of, StandsAt}
+use Rattle.statements.specs.Rows.{Kept, stored}
+use Rattle.statements.specs.Tables.{Layout, count_in}
+use Rattle.statements.specs.Calls.{AreAllRead}
+use Rattle.statements.specs.Steps.{Equals, Queries}
+use Rattle.statements.proofs.Meaning.{Means}
+use Rattle.statements.proofs.Writes.{plain_program}
+use Rattle.statements.proofs.Own.{stored_tree}
+use Rattle.statements.proofs.Answered.{point, all_are}
+use Rattle.statements.proofs.Listed.{all_listed, read_as}
+use Rattle.statements.proofs.Held.{IsHeld, Ours, held_in, holds_all}
+use Rattle.statements.proofs.Commands.{point_rest, point_draft, no_page}
+
+-- a query that shows these columns of each row of a table
+abbrev pub whole : List Term → ℕ → Query
+whole project tree = point (point_rest [] project no_page) tree false
+
+abbrev pub whole_draft : List Term → ℕ → Draft
+whole_draft project tree = point_draft (point_rest [] project no_page) tree false
+
+-- a row that the query shows is read as the row that the table keeps
+module _ {R : Type 0} (layout : Layout R) (old new : State) (xs : List (Kept R)) (held : IsHeld layout old.now xs) (text : List ℕ) (project : List Term) (names : List (List ℕ))
+    (read : Row → Kept R) (back : (x : Kept R) → read (eval_all project ([] ∷ stored layout.cells x ∷ [])) ≡ x) where
+  abbrev here : ℕ
+  here = tree_of old.now.schema layout.table.name
+
+  abbrev show : Kept R → Row
+  show x = eval_all project ([] ∷ stored layout.cells x ∷ [])
+
+  pub whole_are : Means old.now.schema (Select (plain_program (whole project here)) names) text → (rows : List Row) (ys : List (Kept R)) → Shown text [] old new rows
+      → AllZip (λ row y. y ≡ read row) rows ys → ys ≡ xs
+  whole_are means rows ys shown are =
+      let each = filter_all (λ (x : Kept R). true) xs (all_of (λ x. true ≡ true) (λ x. refl) xs) in
+      let answer = all_are layout.cells (overlay old.now.trees []) here xs (stored_tree old.now.trees here held.own.place.low ∙ held.rows) held.keyed (point_rest [] project no_page) [] (λ x. true) (λ x. refl) (λ l. refl) in
+      let listed : rows ≡ map show xs = all_listed text [] old new (whole project here) names means rows _ answer shown ∙ ap (map show) each in
+      read_as (λ row y. y ≡ read row) show (λ x. x) (λ x y told. told ∙ back x) xs rows ys listed are ∙ map-id xs
+
+-- of a table of ours: a scan whose text means such a query gives its rows
+pub scans : {S R E : Type 0} (g : Ghosts S) (x : Ours R) (old new : Held S) (result : Result (List (Kept R)) E) (text : List ℕ) (project : List Term) (names : List (List ℕ)) (read : Row → Kept R)
+    → ((y : Kept R) → read (eval_all project ([] ∷ stored x.layout.cells y ∷ [])) ≡ y)
+    → ((s : Schema) (at tree : ℕ) → StandsAt s x.layout.table.name x.layout.table at tree → Means s (Select (plain_program (whole project tree)) names) text)
+    → Queries g (λ ys _. AreAllRead (λ row y. y ≡ read row) text (state g old) (state g new) ys) old new result → Queries g (Equals x.rows) old new result
+scans g x old new result text project names read back means q = record {
+  mode = q.mode;
+  read = λ clean.
+      let told = q.read clean in (
+        IfOk-weaker result _ _
+            (λ ys gives t h.
+            let held = held_in x (count_in NEWEST) x.low (state g old).now t (holds_all (state g old).now t h) in
+            let all = gives t h in
+            whole_are x.layout (state g old) (state g new) (x.rows t) held text project names read back (means (state g old).now.schema _ _ held.own.place) all.0 ys all.1 all.2)
+            told.0,
+        told.1,
+      );
+  survives = q.survives;
+}

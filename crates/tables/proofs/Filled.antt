@@ -1,0 +1,41 @@
+-- The rows of one table after the other.
+use Rattle.std.proofs.Common.{◌≡◌, ap, sym, subst, ◌∙◌, ℕ, List, IsTrue, Result, Ok, Err, IfOk, OnOk, OnErr}
+use Rattle.sqlite_trees.specs.declared.store.Store.{Ghosts}
+use Rattle.sqlite.specs.Effect.{Database}
+use Rattle.sqlite.specs.Held.{Held}
+use Rattle.sqlite.specs.State.{State, KeepsCommit}
+use Rattle.statements.specs.declared.rows.Rows.{Rows}
+use Rattle.statements.specs.Steps.{LeavesAsIs, Sees}
+use Rattle.statements.specs.Tables.{Tables, Holds}
+use Rattle.texts.proofs.Many.{sees_then}
+use Rattle.tables.specs.Scans.{AreRowsOf}
+use Rattle.tables.specs.Inner.Steps.{IsSettled}
+use Rattle.tables.specs.Inner.Scans.{with_first, with_workspaces, with_others}
+
+-- what one reading fills in, and then another
+pub filled_then : {S X Y E F : Type 0} (g : Ghosts S) (f h : Tables → Rows → Rows) (a b c : Held S) (done : X) (result : Result Y F) (x y z : Rows) → Sees {E = E} g (λ u t. y ≡ f t x) a b (Ok done) → Sees g (λ u t. z ≡ h t y) b c result → Sees g (λ u t. z ≡ h t (f t x)) a c result
+filled_then g f h a b c done result x y z one last = sees_then g (λ u t. y ≡ f t x) (λ u t. z ≡ h t y) (λ u t. z ≡ h t (f t x)) a b c done result (λ u t first second. second ∙ ap (h t) first) one last
+
+-- all of them, whatever there was before
+pub all_filled : (key_of : List ℕ → List ℕ) (t : Tables) (old new : Rows) → new ≡ with_others key_of t (with_workspaces t (with_first t old)) → AreRowsOf key_of t new
+all_filled key_of t old new is = record {
+  metas = ap (λ (r : Rows). r.metas) is;
+  orgs = ap (λ (r : Rows). r.orgs) is;
+  tokens = ap (λ (r : Rows). r.tokens) is;
+  wss = ap (λ (r : Rows). r.wss) is;
+  versions = ap (λ (r : Rows). r.versions) is;
+  runs = ap (λ (r : Rows). r.runs) is;
+  pages = ap (λ (r : Rows). r.pages) is;
+  vpages = ap (λ (r : Rows). r.vpages) is;
+  bounds = ap (λ (r : Rows). r.bounds) is;
+  editions = ap (λ (r : Rows). r.editions) is;
+  keepings = ap (λ (r : Rows). r.keepings) is;
+}
+
+-- a look at rows that wait for no commit is one at those that are committed
+pub looked_at : {X E : Type 0} (says : X → Tables → Type 0) (a b : State) (result : Result X E) → IsSettled a → IfOk result (λ x. (t : Tables) → Holds a.now t → says x t) × (OnOk result (LeavesAsIs a b) × OnErr result (KeepsCommit a b)) → OnOk result (IsTrue b.is_open)
+    → IfOk result (λ x. IsTrue a.is_open × ((t : Tables) → Holds a.committed t → says x t)) × KeepsCommit a b
+looked_at says a b (Ok x) settled seen is_open =
+    let was = seen.1.0.was_open is_open in
+    ((was, λ t held. seen.0 t (subst (λ (db : Database). Holds db t) (sym (settled was)) held)), record { was_open = seen.1.0.was_open; committed = λ is. seen.1.0.committed })
+looked_at says a b (Err e) settled seen is_open = (tt, seen.1.1)
