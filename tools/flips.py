@@ -6,18 +6,22 @@
 One file has what a service keeps: two organizations, tokens, versions of one page and of several, a lock and runs. It has the
 sums of SQLite's cksumvfs, as each new file; a second has the same rows and no sums. Each is closed, and damaged by a fixed
 seed: bits are flipped one at a time, pages are zeroed, swapped or set back to an older form, and the end is cut off. Then the
-log is damaged that lies beside the file of a killed service. Each time `serve` is asked for all that the file has. At last
-pages are swapped beneath a service that has the file open, one so large that it doesn't keep all pages in memory.
+log is damaged that lies beside the file of a killed service. Each time `serve` is asked for all that the file has, and of
+damaged pages `serve --check`, too. Rows are changed by SQL, and `check` has to tell each fault. At last pages are swapped beneath
+a service that has the file open, one so large that it doesn't keep all pages in memory.
 
 Allowed is a file that is refused, a 503, and the right answer. A wrong answer fails where a bit of a file with sums was
 flipped, where the end of a file was cut off, and where what a damaged log gives isn't a state that was once acknowledged. To
 pages of zeros, swapped or older ones, whose sums are right, it is counted and printed, and so is each of a file without sums.
-Beneath a running service a wrong answer fails: each page that it reads has to be the one that it read at the open, or wrote.
+Of `serve --check` a wrong answer fails, but where a page was set back, and its rows fit; and so does one of a file without sums
+where the bit stands in a state's text. Beneath a running service a wrong answer fails: each page that it reads has to be the
+one that it read at the open, or wrote.
 It prints a line for each thing that holds or is counted, and ends with status 1 at the first that doesn't hold.
 """
 
 import os
 import random
+import re
 import shutil
 import sqlite3
 import subprocess
@@ -74,9 +78,9 @@ QUESTIONS += [(org, b"GET", b"/versions/net/%d" % number, b"") for org in ORGS f
 class Service:
     """A service over a file, which answers so many connections, unless it refuses the file."""
 
-    def __init__(self, program, path, count):
+    def __init__(self, program, path, count, more=()):
         self.port = free_port()
-        words = ["serve", "--db", path, "--port", str(self.port), "--count", str(count)]
+        words = ["serve", "--db", path, "--port", str(self.port), "--count", str(count), *more]
         self.process = program.start(words, subprocess.DEVNULL)
         self.is_refused = not self.process.stdout.readline().startswith(b"listening ")
 
@@ -97,9 +101,9 @@ class Service:
         self.process.communicate()
 
 
-def answers(program, path, questions=QUESTIONS):
+def answers(program, path, questions=QUESTIONS, more=()):
     """What a service over a file answers to each question, none where it refuses or has ended."""
-    service = Service(program, path, len(questions))
+    service = Service(program, path, len(questions), more)
     try:
         if service.is_refused:
             service.ends([3])
@@ -233,21 +237,143 @@ class Counts:
         print("%s: %s: %d refused, %d answered rightly or by 503, %d wrongly" % (kind, self.what, self.refused, self.right, len(self.wrong)))
 
 
-def damage_all(program, what, content, older, due, has_sums):
-    chance = random.Random(SEED)
-    kinds = [
-        ("%d bits flipped one at a time" % FLIPS, FLIPS, lambda: flipped(content, chance), not has_sums),
-        ("%d pages zeroed, swapped or set back" % PAGES, PAGES, lambda: repaged(content, older, chance), True),
-        ("cut off %d times" % CUTS, CUTS, lambda: cut(content, chance), False),
-    ]
-    for kind, count, damaged, allows_wrong in kinds:
-        counts = Counts("%s of %d bytes, %s" % (what, len(content), kind))
+def damage_all(program, what, content, older, due, kinds):
+    """Kinds of damage: what it is, how often, a function that damages, whether a wrong answer is only counted, further words of `serve`."""
+    for kind, count, damaged, allows_wrong, more in kinds:
+        counts = Counts("%s of %d bytes, %s%s" % (what, len(content), kind, ", over serve --check" if more else ""))
         for _ in range(count):
             damage, bytes_left = damaged()
             write(program, "damaged.db", bytes_left)
-            counts.take(damage, answers(program, "damaged.db"), due)
+            counts.take(damage, answers(program, "damaged.db", more=more), due)
             forget(program, "damaged.db")
         counts.tell(allows_wrong)
+
+
+def kinds_of(content, older, has_sums):
+    chance = random.Random(SEED)
+    return [
+        ("%d bits flipped one at a time" % FLIPS, FLIPS, lambda: flipped(content, chance), not has_sums, ()),
+        ("%d pages zeroed, swapped or set back" % PAGES, PAGES, lambda: repaged(content, older, chance), True, ()),
+        ("cut off %d times" % CUTS, CUTS, lambda: cut(content, chance), False, ()),
+    ]
+
+
+def texts_in(content):
+    """Where pieces of states' texts stand in a file: each place of the long runs of digits that they have."""
+    return [(found.start(), found.end()) for found in re.finditer(rb"[0-9,]{400,}", content)]
+
+
+def flipped_in_text(content, texts, chance):
+    start, end = chance.choice(texts)
+    place = chance.randrange(start * 8, end * 8)
+    damaged = bytearray(content)
+    damaged[place // 8] ^= 1 << place % 8
+    return "bit %d of a text flipped" % place, bytes(damaged)
+
+
+def checked_kinds(content, older, has_sums):
+    """The same where `serve` looks for faults first."""
+    chance, texts = random.Random(SEED), texts_in(content)
+    shuffled = lambda: chance.choice([zeroed, swapped])(content, older, chance)
+    kinds = [
+        ("%d pages zeroed or swapped" % PAGES, PAGES, shuffled, False, ("--check",)),
+        ("%d pages set back" % (PAGES // 2), PAGES // 2, lambda: set_back(content, older, chance), True, ("--check",)),
+    ]
+    if not has_sums:
+        kinds.append(("%d bits of texts flipped one at a time" % (FLIPS // 3), FLIPS // 3, lambda: flipped_in_text(content, texts, chance), False, ("--check",)))
+    return kinds
+
+
+# What is changed by SQL in a file whose tables are sound, and how a line begins that `check` tells then; none where the open refuses
+# the file, or a row can't be read.
+NET, APP, HELD = "org = 'acme' AND ws = 'net'", "org = 'acme' AND ws = 'app'", "org = 'beta' AND ws = 'app'"
+BREAKS = [
+    ("UPDATE version SET size = size + 1 WHERE %s AND number = 2" % NET, b"fault text acme net 2"),
+    ("UPDATE version SET size = 1152921504606846976 WHERE %s AND number = 2" % NET, b"fault text acme net 2"),
+    ("UPDATE version SET size = size - 16384 WHERE %s AND number = 3" % NET, b"fault place acme net 3"),
+    ("UPDATE version SET number = 9 WHERE %s AND number = 3" % NET, b"fault versions acme net "),
+    ("UPDATE version SET lineage = '%s' WHERE %s AND number = 3" % ("l" * 257, NET), b"fault versions acme net "),
+    ("UPDATE version SET ws = 'nat' WHERE %s" % NET, b"fault ownerless acme nat 1"),
+    ("UPDATE version SET created = 253402300800 WHERE %s AND number = 3" % NET, None),
+    ("UPDATE version SET serial = -1 WHERE %s AND number = 3" % NET, None),
+    ("DELETE FROM version WHERE %s AND number = 2" % NET, b"fault versions acme net "),
+    ("DELETE FROM version WHERE %s AND number = 3" % NET, b"fault place acme net 3"),
+    ("UPDATE page SET bytes = zeroblob(length(bytes)) WHERE rowid = 1", b"fault key acme net 1"),
+    ("UPDATE page SET bytes = zeroblob(16384) WHERE rowid = (SELECT max(rowid) FROM page)", b"fault key "),
+    ("UPDATE page SET bytes = substr(bytes, 2) WHERE rowid = 2", b"fault key acme net 2"),
+    ("UPDATE page SET pkey = zeroblob(32) WHERE rowid = 1", None),
+    ("UPDATE page SET uses = uses + 1 WHERE rowid = 2", b"fault uses acme net 2"),
+    ("UPDATE page SET uses = 9 WHERE rowid = 1", b"fault uses acme net 1"),
+    ("INSERT INTO page SELECT pkey, twin + 1, bytes, 1 FROM page WHERE rowid = 1", b"fault same-page - - -"),
+    ("INSERT INTO page SELECT zeroblob(32), 0, bytes, 1 FROM page WHERE rowid = 1", b"fault key - - -"),
+    ("DELETE FROM page WHERE rowid = 3", None),
+    ("DELETE FROM vpage WHERE %s AND number = 3 AND place = 1" % NET, b"fault text acme net 3"),
+    ("UPDATE vpage SET place = 9 WHERE %s AND number = 3 AND place = 4" % NET, b"fault place acme net 3"),
+    ("UPDATE vpage SET place = place + 1 WHERE %s AND number = 1" % NET, b"fault text acme net 1"),
+    ("UPDATE vpage SET number = 7 WHERE %s AND number = 1" % NET, b"fault place acme net 7"),
+    ("UPDATE vpage SET (pkey, twin) = (SELECT pkey, twin FROM page WHERE rowid = 1) WHERE %s AND number = 3 AND place = 0" % NET, b"fault uses "),
+    ("UPDATE ws SET next_version = 3 WHERE org = 'acme' AND name = 'net'", b"fault versions acme net "),
+    ("UPDATE ws SET next_version = 9 WHERE org = 'acme' AND name = 'net'", b"fault versions acme net "),
+    ("UPDATE ws SET next_run = 1 WHERE org = 'acme' AND name = 'net'", b"fault runs acme net "),
+    ("UPDATE ws SET kind = 0, run = NULL WHERE org = 'acme' AND name = 'net'", b"fault runs acme net "),
+    ("UPDATE ws SET run = 7 WHERE org = 'acme' AND name = 'net'", b"fault runs acme net "),
+    ("UPDATE ws SET run = 1 WHERE org = 'beta' AND name = 'app'", b"fault runs beta app "),
+    ("UPDATE ws SET lock_id = 'run-1' WHERE org = 'acme' AND name = 'app'", b"fault runs acme app "),
+    ("UPDATE ws SET lock_id = NULL WHERE org = 'acme' AND name = 'app'", None),
+    ("UPDATE ws SET name = 'n t' WHERE org = 'beta' AND name = 'net'", None),
+    ("INSERT INTO ws SELECT 'zeta', name, auto, 0, NULL, NULL, NULL, NULL, 1, 1 FROM ws WHERE org = 'acme' AND name = 'net'", b"fault ownerless zeta net -"),
+    ("UPDATE run SET status = 1 WHERE %s AND number = 1" % NET, b"fault runs acme net "),
+    ("UPDATE run SET status = 4, action = 4 WHERE %s AND number = 1" % NET, b"fault runs acme net "),
+    ("UPDATE run SET rkey = '%s' WHERE %s AND number = 1" % ("k" * 65, NET), b"fault runs acme net "),
+    ("UPDATE run SET message = '%s' WHERE %s AND number = 1" % ("m" * 1001, NET), b"fault runs acme net "),
+    ("UPDATE run SET plan_only = 1 WHERE %s AND number = 1" % NET, b"fault runs acme net "),
+    ("UPDATE run SET number = 0 WHERE %s AND number = 1" % NET, None),
+    ("UPDATE run SET status = 9 WHERE %s AND number = 1" % NET, None),
+    ("DELETE FROM run WHERE %s AND number = 2" % HELD, b"fault runs beta app "),
+    ("UPDATE run SET ws = 'nat' WHERE %s" % HELD, b"fault ownerless beta nat 1"),
+    ("DELETE FROM bound WHERE org = 'acme'", b"fault unbounded acme root -"),
+    ("UPDATE bound SET prefix = 'a b' WHERE org = 'acme'", b"fault range acme root -"),
+    ("UPDATE bound SET until = -1 WHERE org = 'acme'", None),
+    ("DELETE FROM keeping WHERE org = 'beta' AND ws = 'net'", b"fault unkept beta net -"),
+    ("UPDATE keeping SET keep = 2 WHERE %s" % NET, b"fault versions acme net "),
+    ("UPDATE keeping SET keep = 1001 WHERE %s" % NET, None),
+    ("UPDATE token SET digest = zeroblob(31) WHERE org = 'acme'", b"fault range acme root -"),
+    ("UPDATE token SET name = 'Root' WHERE org = 'acme'", None),
+    ("INSERT INTO token SELECT 'zeta', name, digest, role FROM token WHERE org = 'acme'", b"fault ownerless zeta root -"),
+    ("DELETE FROM org WHERE name = 'beta'", b"fault ownerless beta net -"),
+    ("UPDATE org SET name = 'Beta' WHERE name = 'beta'", b"fault range Beta - -"),
+    ("UPDATE org SET cap = 100001 WHERE name = 'beta'", None),
+    ("INSERT INTO meta VALUES (1, 1)", b"fault version - - -"),
+]
+
+
+def broken(program, name, content, text):
+    """The file with its rows changed by SQL, which asks neither for what rows refer to nor for their rules."""
+    write(program, name, content)
+    writer = sqlite3.connect(program.folder + "/" + name, isolation_level=None)
+    writer.execute("PRAGMA ignore_check_constraints = ON")
+    writer.execute(text)
+    if writer.total_changes == 0:
+        raise Wrong("it changes nothing: %s" % text)
+    writer.close()
+
+
+def look_at_rows(program, plain):
+    write(program, "sound.db", plain)
+    said("check of sound tables", program.run(["check", "--db", "sound.db"])[:2], (0, b"ok\n"))
+    refused = 0
+    for text, line in BREAKS:
+        broken(program, "broken.db", plain, text)
+        status, output, errors = program.run(["check", "--db", "broken.db"])
+        if line is None:
+            said(text, (status, output), (3, b"refused down\n"))
+            refused += 1
+        elif status != 1 or not any(told.startswith(line) for told in output.splitlines()) or not all(told.startswith(b"fault ") for told in output.splitlines()):
+            raise Wrong("%s: %d %s %s" % (text, status, output, errors))
+        words = ["serve", "--check", "--db", "broken.db", "--port", str(free_port()), "--count", "1"]
+        said("serve --check, " + text, program.run(words)[:2], (3, b"refused down\n"))
+        forget(program, "broken.db")
+    print("right: of %d changes by SQL `check` tells the fault of %d and refuses %d files; `serve --check` refuses each" % (len(BREAKS), len(BREAKS) - refused, refused))
 
 
 def look_at_files(program):
@@ -256,11 +382,12 @@ def look_at_files(program):
     due = answers(program, "whole.db")
     if None in due or not all(answer.startswith(b"HTTP/1.1 20") for answer in due):
         raise Wrong("the file as it was left: %s" % due)
-    damage_all(program, "a file with sums", newer, older, due, True)
+    damage_all(program, "a file with sums", newer, older, due, kinds_of(newer, older, True) + checked_kinds(newer, older, True))
     plain_older, plain = without_sums(program, "older.db", older), without_sums(program, "plain.db", newer)
     said("one that sqlite3 made has none", plain[RESERVED_AT], 0)
     said("the same rows", answers(program, "plain.db"), due)
-    damage_all(program, "a file without sums", plain, plain_older, due, False)
+    damage_all(program, "a file without sums", plain, plain_older, due, kinds_of(plain, plain_older, False) + checked_kinds(plain, plain_older, False))
+    look_at_rows(program, plain)
 
 
 # ----------------------------------------------------------------------------------------------------

@@ -6,7 +6,7 @@ use lib.Utf8.{encode}
 use Rattle.basis.specs.declared.roles.Role.TheVariants.{Write}
 use Rattle.clap.proofs.OnLiterals.{clap_on_literals}
 use Rattle.command_line.specs.Bounds.{bounds, no_bounds}
-use Rattle.command_line.specs.Orders.{carries, adds_token, serves, replays}
+use Rattle.command_line.specs.Orders.{carries, adds_token, looks_over, serves, replays}
 use Rattle.command_line.specs.Words.{asked_in}
 use Rattle.serve.specs.declared.steps.Admin.TheVariants.{OrgAdd, TokenList}
 
@@ -51,12 +51,12 @@ tokens_asked : asked_in (codes "token-list" ∷ codes "--db" ∷ codes "t.db" �
 unfolding clap_on_literals chars is_utf8 encode
 tokens_asked = refl
 
-serving_asked : asked_in (codes "serve" ∷ codes "--db" ∷ codes "t.db" ∷ codes "--port" ∷ codes "8090" ∷ codes "--count" ∷ codes "3" ∷ []) ≡ Some (serves (codes "t.db") 8090 3 (record { idle = 10; most = 120 }) false)
+serving_asked : asked_in (codes "serve" ∷ codes "--db" ∷ codes "t.db" ∷ codes "--port" ∷ codes "8090" ∷ codes "--count" ∷ codes "3" ∷ []) ≡ Some (serves (codes "t.db") 8090 3 (record { idle = 10; most = 120 }) false false)
 unfolding clap_on_literals chars is_utf8 encode
 serving_asked = refl
 
 timeouts_given : asked_in (codes "serve" ∷ codes "--db" ∷ codes "t.db" ∷ codes "--most" ∷ codes "3600" ∷ codes "--idle=1" ∷ codes "--port" ∷ codes "8090" ∷ codes "--count" ∷ codes "3" ∷ [])
-    ≡ Some (serves (codes "t.db") 8090 3 (record { idle = 1; most = 3_600 }) false)
+    ≡ Some (serves (codes "t.db") 8090 3 (record { idle = 1; most = 3_600 }) false false)
 unfolding clap_on_literals chars is_utf8 encode
 timeouts_given = refl
 
@@ -64,7 +64,7 @@ no_such_seconds : asked_in (codes "serve" ∷ codes "--db" ∷ codes "t.db" ∷ 
 unfolding clap_on_literals chars is_utf8 encode
 no_such_seconds = refl
 
-log_asked : asked_in (codes "serve" ∷ codes "--log" ∷ codes "--db" ∷ codes "t.db" ∷ codes "--port" ∷ codes "8090" ∷ codes "--count" ∷ codes "3" ∷ []) ≡ Some (serves (codes "t.db") 8090 3 (record { idle = 10; most = 120 }) true)
+log_asked : asked_in (codes "serve" ∷ codes "--log" ∷ codes "--db" ∷ codes "t.db" ∷ codes "--port" ∷ codes "8090" ∷ codes "--count" ∷ codes "3" ∷ []) ≡ Some (serves (codes "t.db") 8090 3 (record { idle = 10; most = 120 }) true false)
 unfolding clap_on_literals chars is_utf8 encode
 log_asked = refl
 
@@ -75,6 +75,18 @@ no_value_of_log = refl
 log_asked_twice : asked_in (codes "serve" ∷ codes "--db" ∷ codes "t.db" ∷ codes "--log" ∷ codes "--port" ∷ codes "8090" ∷ codes "--count" ∷ codes "3" ∷ codes "--log" ∷ []) ≡ None
 unfolding clap_on_literals chars is_utf8 encode
 log_asked_twice = refl
+
+check_asked_of_serve : asked_in (codes "serve" ∷ codes "--check" ∷ codes "--db" ∷ codes "t.db" ∷ codes "--port" ∷ codes "8090" ∷ codes "--count" ∷ codes "3" ∷ []) ≡ Some (serves (codes "t.db") 8090 3 (record { idle = 10; most = 120 }) false true)
+unfolding clap_on_literals chars is_utf8 encode
+check_asked_of_serve = refl
+
+check_asked : asked_in (codes "check" ∷ codes "--db" ∷ codes "t.db" ∷ []) ≡ Some (looks_over (codes "t.db"))
+unfolding clap_on_literals chars is_utf8 encode
+check_asked = refl
+
+no_file_to_check : asked_in (codes "check" ∷ []) ≡ None
+unfolding clap_on_literals chars is_utf8 encode
+no_file_to_check = refl
 
 frames_asked : asked_in (codes "replay" ∷ []) ≡ Some replays
 unfolding clap_on_literals chars is_utf8 encode

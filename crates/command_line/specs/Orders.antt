@@ -14,7 +14,7 @@ use Rattle.command_line.specs.Commands.{limit_of, role_of, org_command, limit_co
 use Rattle.command_line.specs.declared.orders.NewToken.{NewToken}
 use Rattle.command_line.specs.declared.orders.Values.{Values}
 use Rattle.command_line.specs.declared.orders.Order.{Order}
-use Rattle.command_line.specs.declared.orders.Order.TheVariants.{Carry, AddToken, Serve, Replay}
+use Rattle.command_line.specs.declared.orders.Order.TheVariants.{Carry, AddToken, Check, Serve, Replay}
 use Rattle.command_line.specs.declared.timeouts.Timeouts.{Timeouts}
 
 -- what is asked for; a database is named by the path of its file
@@ -23,12 +23,15 @@ pub data Asked : Type 0 where
   carries : List ℕ → Operator.Admin → Asked
   -- a token of this organization, name and role, with these bounds, its secret aside
   adds_token : List ℕ → List ℕ → List ℕ → Role → Bounds → Asked
-  -- to serve at a port, so many connections, each waited for no longer than these timeouts; whether a line is printed for each exchange
-  serves : List ℕ → ℕ → ℕ → Timeouts → Bool → Asked
+  -- to look for faults in the tables of a file
+  looks_over : List ℕ → Asked
+  -- to serve at a port, so many connections, each waited for no longer than these timeouts; whether a line is printed for each
+  -- exchange; whether faults in the tables are looked for first
+  serves : List ℕ → ℕ → ℕ → Timeouts → Bool → Bool → Asked
   -- to answer frames
   replays : Asked
 
--- the values among the words, by the names of their arguments, and whether `--log` is there
+-- the values among the words, by the names of their arguments, whether `--log` is there, and whether `--check` is
 pub record Given : Type 0 where
   pub db : Option (List ℕ)
   pub org : Option (List ℕ)
@@ -42,6 +45,7 @@ pub record Given : Type 0 where
   pub idle : Option (List ℕ)
   pub most : Option (List ℕ)
   pub logs : Bool
+  pub checks : Bool
 
 -- a port: 1 to 65,535
 abbrev pub port_of : List ℕ → Option ℕ
@@ -94,14 +98,15 @@ timeouts_asked given =
 
 abbrev pub serving_asked : List ℕ → Given → Option Asked
 serving_asked db given =
-    option_and_then (λ port. option_and_then (λ count. option_map (λ timeouts. serves db port count timeouts given.logs) (timeouts_asked given)) (option_and_then connections_of given.count)) (option_and_then port_of given.port)
+    option_and_then (λ port. option_and_then (λ count. option_map (λ timeouts. serves db port count timeouts given.logs given.checks) (timeouts_asked given)) (option_and_then connections_of given.count)) (option_and_then port_of given.port)
 
 -- a command on a file
 abbrev pub file_asked : List ℕ → List ℕ → Given → Option Asked
 file_asked command db given =
     cond (bytes_eq command (codes "serve")) (serving_asked db given)
+    (cond (bytes_eq command (codes "check")) (Some (looks_over db))
     (cond (bytes_eq command (codes "token-add")) (option_map (λ token. adds_token db token.org token.name token.role token.bounds) (token_asked given))
-    (option_map (λ c. carries db c) (command_in command given)))
+    (option_map (λ c. carries db c) (command_in command given))))
 
 -- what a command of this name asks for with these values
 abbrev pub asked_with : List ℕ → Given → Option Asked
@@ -128,6 +133,7 @@ given_in rows = record {
   idle = first_of (codes "idle") rows;
   most = first_of (codes "most") rows;
   logs = flag_of (first_of (codes "log") rows);
+  checks = flag_of (first_of (codes "check") rows);
 }
 
 -- the same, of what a parse found
@@ -145,6 +151,7 @@ given_found found = record {
   idle = first_value found (codes "idle");
   most = first_value found (codes "most");
   logs = flag_of (first_value found (codes "log"));
+  checks = flag_of (first_value found (codes "check"));
 }
 
 abbrev pub text_in : Option (Bor (List ℕ)) → Option (List ℕ)
@@ -164,13 +171,15 @@ given_of values = record {
   idle = text_in values.idle;
   most = text_in values.most;
   logs = values.logs;
+  checks = values.checks;
 }
 
 -- what an order says
 abbrev pub said_by : Order → Asked
 said_by (Carry db command) = carries db.now command
 said_by (AddToken db token) = adds_token db.now token.org token.name token.role token.bounds
-said_by (Serve db port count timeouts logs) = serves db.now port count timeouts logs
+said_by (Check db) = looks_over db.now
+said_by (Serve db port count timeouts logs checks) = serves db.now port count timeouts logs checks
 said_by Replay = replays
 
 -- the command that adds a token with a secret

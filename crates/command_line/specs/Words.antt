@@ -68,9 +68,17 @@ token_revoke = with_rule (with_rule (with_rule (new_app (codes "token-revoke")) 
 abbrev pub with_timeouts : App → App
 with_timeouts app = with_rule (with_rule app (option_rule (codes "idle") false)) (option_rule (codes "most") false)
 
--- `serve --db PATH --port P --count N [--idle SECONDS] [--most SECONDS] [--log]`
+-- `[--log] [--check]` behind the rest
+abbrev pub with_flags : App → App
+with_flags app = with_rule (with_rule app (flag_rule (codes "log"))) (flag_rule (codes "check"))
+
+-- `serve --db PATH --port P --count N [--idle SECONDS] [--most SECONDS] [--log] [--check]`
 abbrev pub serve : App
-serve = with_rule (with_timeouts (with_rule (with_rule (with_rule (new_app (codes "serve")) database) (option_rule (codes "port") true)) (option_rule (codes "count") true))) (flag_rule (codes "log"))
+serve = with_flags (with_timeouts (with_rule (with_rule (with_rule (new_app (codes "serve")) database) (option_rule (codes "port") true)) (option_rule (codes "count") true)))
+
+-- `check --db PATH`
+abbrev pub check : App
+check = with_rule (new_app (codes "check")) database
 
 -- `replay`
 abbrev pub replay : App
@@ -93,7 +101,7 @@ abbrev pub with_tokens : App → App
 with_tokens app = with_subcommand (with_subcommand (with_subcommand app token_add.top) token_list.top) token_revoke.top
 
 abbrev pub with_running : App → App
-with_running app = with_subcommand (with_subcommand app serve.top) replay.top
+with_running app = with_subcommand (with_subcommand (with_subcommand app serve.top) check.top) replay.top
 
 -- the program
 abbrev pub custody : App

@@ -89,21 +89,27 @@ pub enum Order<'a> {
         db: &'a str,
         token: NewToken,
     },
+    /// To look for faults in the tables of a file.
+    Check {
+        db: &'a str,
+    },
     /// To answer so many connections from a file, at a port of the loopback address.
-    /// Where `logs` is true, a line is printed for each exchange.
+    /// Where `logs` is true, a line is printed for each exchange. Where `checks` is true, faults in
+    /// the file's tables are looked for first.
     Serve {
         db: &'a str,
         port: u16,
         count: u32,
         timeouts: Timeouts,
         logs: bool,
+        checks: bool,
     },
     /// To answer frames over a database in memory.
     Replay,
 }
 
 /// The values that stand among the words, by the names of their arguments; none where there is none.
-/// `logs` is whether `--log` is there.
+/// `logs` is whether `--log` is there, and `checks` whether `--check` is.
 #[derive(Drop)]
 pub struct Values<'a> {
     db: Option<&'a str>,
@@ -118,6 +124,7 @@ pub struct Values<'a> {
     idle: Option<&'a str>,
     most: Option<&'a str>,
     logs: bool,
+    checks: bool,
 }
 
 impl<'a> Values<'a> {
@@ -137,6 +144,7 @@ impl<'a> Values<'a> {
             idle: matches.get_str("idle"),
             most: matches.get_str("most"),
             logs: flag_of(matches.get_str("log")),
+            checks: flag_of(matches.get_str("check")),
         }
     }
 }
@@ -272,6 +280,7 @@ fn serving<'a>(db: &'a str, values: &Values<'a>) -> Option<Order<'a>>
         count,
         timeouts,
         logs: values.logs,
+        checks: values.checks,
     })
 }
 
@@ -301,6 +310,7 @@ fn on_file<'a>(
 {
     match command {
         "serve" => serving(db, values).ok_or(Unfit::Syntax),
+        "check" => Ok(Order::Check { db }),
         "token-add" => Ok(Order::AddToken {
             db,
             token: new_token(alloc, values)?,

@@ -3,7 +3,7 @@
 ghost use Rattle.std.specs.Prelude.{◌≡◌, ◌<◌, ◌⊎◌, IfOk, IfErr, IsErrOf, None, Some, codes, length, string_bytes, ℕ, List};
 ghost use Rattle.clap.specs.Words.{app_of, subcommand_of, subcommand_rows_of, HasKind, FailsBy, IsAmong, App, Rule, new_app, with_rule, with_subcommand};
 ghost use Rattle.command_line.specs.Orders.{said_by};
-ghost use Rattle.command_line.specs.Words.{words_bytes, database, organization, option_rule, value_rule, flag_rule, org_add, org_limit, org_list, token_add, token_list, token_revoke, serve, replay, bare, custody, faults, asked_by_command, asked_in, with_organizations, with_tokens, with_running, with_bounds, with_timeouts, IsWhy, IsArg, IsCommand};
+ghost use Rattle.command_line.specs.Words.{words_bytes, database, organization, option_rule, value_rule, flag_rule, org_add, org_limit, org_list, token_add, token_list, token_revoke, serve, check, replay, bare, custody, faults, asked_by_command, asked_in, with_organizations, with_tokens, with_running, with_bounds, with_timeouts, with_flags, IsWhy, IsArg, IsCommand};
 
 use crate::orders::{Order, Values};
 use basis::{Down, Unfit};
@@ -169,13 +169,22 @@ fn serve<'a>(alloc: Global) -> Result<Command<'a>, AllocError>
     let about = "Answers Terraform and runners on the loopback address";
     let port_help = "The TCP port of 127.0.0.1: 1 to 65535";
     let count_help = "How many connections are answered, one after the other: 1 to 1000000";
-    let log_help = "Prints a line of JSON for each exchange on standard output";
     let bare = command(alloc, "serve", about);
     let on_file = with_arg(bare, database(alloc))?;
     let at_port = with_arg(on_file, option(alloc, "port", true, "P", port_help))?;
     let counted = with_arg(at_port, option(alloc, "count", true, "N", count_help))?;
     let timed = with_timeouts(alloc, counted)?;
-    with_arg(timed, flag(alloc, "log", log_help))
+    with_flags(alloc, timed)
+}
+
+fn with_flags<'a>(alloc: Global, bare: Command<'a>) -> Result<Command<'a>, AllocError>
+    ensures { (app : App) → IsCommand bare.entry app → IfOk result (λ whole. IsCommand whole (with_flags app)) }
+{
+    let log_help = "Prints a line of JSON for each exchange on standard output";
+    let check_help =
+        "Looks for faults in the file's tables first, and answers nothing where there are some";
+    let logging = with_arg(bare, flag(alloc, "log", log_help))?;
+    with_arg(logging, flag(alloc, "check", check_help))
 }
 
 fn with_timeouts<'a>(alloc: Global, bare: Command<'a>) -> Result<Command<'a>, AllocError>
@@ -186,6 +195,15 @@ fn with_timeouts<'a>(alloc: Global, bare: Command<'a>) -> Result<Command<'a>, Al
     let most_help = "A connection that lasts longer is ended: 1 to 3600; 120 without";
     let waiting = with_arg(bare, option(alloc, "idle", false, "SECONDS", idle_help))?;
     with_arg(waiting, option(alloc, "most", false, "SECONDS", most_help))
+}
+
+fn check<'a>(alloc: Global) -> Result<Command<'a>, AllocError>
+    ensures { IfOk result (λ command. IsCommand command check) }
+{
+    let about =
+        "Looks for faults in the file's tables: prints a line for each, 50 at most, or `ok` where there is none";
+    let bare = command(alloc, "check", about);
+    with_arg(bare, database(alloc))
 }
 
 fn replay<'a>(alloc: Global) -> Command<'a>
@@ -226,7 +244,8 @@ fn with_running<'a>(alloc: Global, bare: Command<'a>) -> Result<Command<'a>, All
     ensures { (app : App) → IsCommand bare.entry app → IfOk result (λ whole. IsCommand whole (with_running app)) }
 {
     let serving = with_command(bare, serve(alloc)?)?;
-    with_command(serving, replay(alloc))
+    let checking = with_command(serving, check(alloc)?)?;
+    with_command(checking, replay(alloc))
 }
 
 fn custody<'a>(alloc: Global) -> Result<Command<'a>, AllocError>

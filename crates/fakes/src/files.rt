@@ -1,10 +1,10 @@
 //! A database in memory, in the place of one in a file.
-ghost use Rattle.std.specs.Prelude.{◌≡◌, ◌≢◌, Some, Ok, false, not, is_some};
+ghost use Rattle.std.specs.Prelude.{◌≡◌, ◌≢◌, Some, Ok, IfOk, false, not, is_some, map};
 ghost use Rattle.fakes.specs.Files.{IsKeptStore};
 ghost use Rattle.program.specs.declared.reasons.Cause.TheVariants as cause;
 ghost use Rattle.program.specs.declared.reasons.OpenFault.TheVariants as fault;
 
-use basis::{Bytes, Down};
+use basis::{Bytes, Down, Items, Text};
 use machine::{Keep, PlainKeep};
 use program::outside::Files;
 use program::reasons::{Cause, OpenFault};
@@ -22,6 +22,19 @@ pub struct MemoryFile<'a> {
     pub keeps_log: bool,
     /// Whether others than its owner may read the file.
     pub is_readable: bool,
+    /// What a look for faults finds: a line for each.
+    pub faults: Vec<&'a str>,
+}
+
+// The lines of faults.
+fn lines_of(alloc: Global, faults: &[&str]) -> Result<Items<Text>, Down>
+    ensures { IfOk result (λ lines. lines ≡ map (λ fault. fault.now) faults.now) }
+{
+    let mut lines = Items::new(Vec::new(alloc));
+    for fault in faults {
+        lines.push(Text::copy_of(alloc, *fault)?)?;
+    }
+    Ok(lines)
 }
 
 impl<'a> MemoryFile<'a> {
@@ -33,6 +46,7 @@ impl<'a> MemoryFile<'a> {
             store: None,
             keeps_log: false,
             is_readable: false,
+            faults: Vec::new(alloc),
         }
     }
 }
@@ -55,6 +69,11 @@ impl Files<PlainKeep> for MemoryFile<'_> {
     // A store in memory is never shut.
     ghost shuts = { λ store said after. (said ≡ Ok false) × (after ≡ store) };
 
+    // It has no tables: which faults are found is told to it.
+    ghost finds = { λ store _ after. after ≡ store };
+
+    ghost is_ours = { λ store. ⟦<PlainKeep as Keep>⟧.sound store };
+
     fn is_absent(&self, _path: &str) -> bool {
         self.store.is_none()
     }
@@ -75,6 +94,10 @@ impl Files<PlainKeep> for MemoryFile<'_> {
 
     fn is_shut(&self, _store: &mut PlainKeep) -> Result<bool, Down> {
         Ok(false)
+    }
+
+    fn check(&self, alloc: Global, _store: &mut PlainKeep) -> Result<Items<Text>, Down> {
+        lines_of(alloc, self.faults.as_slice())
     }
 
     fn close(&mut self, path: &str, store: PlainKeep) -> Result<(), Down> {

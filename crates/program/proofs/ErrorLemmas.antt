@@ -1,11 +1,12 @@
 -- Lines on the error stream, one behind the other.
-use Rattle.std.proofs.Common.{◌≡◌, ◌++◌, ◌∷◌, [], ℕ, List, Option, Result, Ok, Err, OnOk, ◌∙◌, sym, subst, append_assoc, ap, refl}
-use Rattle.std.proofs.lemmas.List.{append-nil}
+use Rattle.std.proofs.Common.{◌≡◌, ◌<◌, ◌+◌, ◌++◌, ◌∷◌, [], ℕ, List, Option, Result, Ok, Err, OnOk, ◌∙◌, sym, subst, append_assoc, ap, refl, length, drop, get_or}
+use Rattle.std.proofs.lemmas.List.{append-nil, at_drop_more}
 use Rattle.std.specs.Io.KnownBytes.{Appends, Keeps}
 use Rattle.wire.specs.Links.{Writes, WritesPrefix}
 use Rattle.wire.proofs.LinkLemmas.{Appends-then, Appends-kept, WritesPrefix-longer, Writes-then}
 use Rattle.serve.specs.declared.exchanges.LinkFault.{LinkFault}
 use Rattle.program.specs.Errors.{GetsFront, connection_line, fault_line, fault_text}
+use Rattle.program.specs.Replies.{answer_line, fault_lines}
 
 pub behind : (x y z end : List ℕ) → x ++ y ++ z ++ end ≡ x ++ (y ++ z ++ end)
 behind [] y z end = refl
@@ -43,3 +44,21 @@ front_of_first a b x y h = (h.0, h.1 ++ y, ap (λ (text : List ℕ). text ++ y) 
 -- the first text whole, and a front of the next
 pub front_behind : (a b c : Option (List ℕ)) (x y : List ℕ) → Appends a b x → GetsFront b c y → GetsFront a c (x ++ y)
 front_behind a b c x y first h = (x ++ h.0, h.1, ap (λ (text : List ℕ). x ++ text) h.2 ∙ sym (append_assoc x h.0 h.1), Appends-then a b c x h.0 first h.3)
+
+-- the line of one fault more stands behind those so far
+pub lines_more : (faults : List (List ℕ)) (i : ℕ) (fault text front : List ℕ) → i < length faults → fault ≡ get_or faults i fault → text ≡ fault
+    → fault_lines faults ≡ front ++ fault_lines (drop i faults) → fault_lines faults ≡ (front ++ (text ++ 10 ∷ [])) ++ fault_lines (drop (i + 1) faults)
+lines_more faults i fault text front within at is so_far =
+    let one : fault_lines (drop i faults) ≡ answer_line (get_or faults i fault) ++ fault_lines (drop (i + 1) faults) = at_drop_more fault_lines faults i fault within in
+    let same : answer_line (get_or faults i fault) ++ fault_lines (drop (i + 1) faults) ≡ answer_line text ++ fault_lines (drop (i + 1) faults) =
+    ap (λ (t : List ℕ). answer_line t ++ fault_lines (drop (i + 1) faults)) (sym at ∙ sym is) in
+    so_far ∙ ap (λ (t : List ℕ). front ++ t) (one ∙ same) ∙ sym (append_assoc front (answer_line text) (fault_lines (drop (i + 1) faults)))
+
+-- the line of one fault was written in part, and the lines of the others come behind it
+pub lines_broken : (old mid new : Option (List ℕ)) (faults : List (List ℕ)) (i : ℕ) (fault text front : List ℕ) → i < length faults → fault ≡ get_or faults i fault → text ≡ fault
+    → fault_lines faults ≡ front ++ fault_lines (drop i faults) → Appends old mid front → WritesPrefix mid new (text ++ 10 ∷ []) → WritesPrefix old new (fault_lines faults)
+lines_broken old mid new faults i fault text front within at is so_far first h =
+    let line : WritesPrefix old new (front ++ (text ++ 10 ∷ [])) =
+    (front ++ h.0, h.1, h.2, ap (λ (t : List ℕ). front ++ t) h.3 ∙ sym (append_assoc front h.0 h.1), Appends-then old mid new front h.0 first h.4) in
+    subst (λ (t : List ℕ). WritesPrefix old new t) (sym (lines_more faults i fault text front within at is so_far))
+    (WritesPrefix-longer old new (front ++ (text ++ 10 ∷ [])) (fault_lines (drop (i + 1) faults)) line)

@@ -4,7 +4,7 @@ use Rattle.std.specs.Io.KnownBytes.{Appends}
 use Rattle.serve.specs.declared.exchanges.LinkFault.{LinkFault}
 use Rattle.serve.specs.declared.exchanges.LinkFault.TheVariants.{Ended, Read, Continue, Write}
 use Rattle.program.specs.declared.reasons.Cause.{Cause}
-use Rattle.program.specs.declared.reasons.Cause.TheVariants.{InUse, NotPermitted, NoFile, NoFolder, Journal, Corrupt, Unsound, NoRoom, NoMemory, Disk, Store, Shut, Input, PortTaken, PortNotPermitted, Port, Accept, Clock, Log}
+use Rattle.program.specs.declared.reasons.Cause.TheVariants.{InUse, NotPermitted, NoFile, NoFolder, Journal, Corrupt, Unsound, NoRoom, NoMemory, Disk, Store, Shut, Input, PortTaken, PortNotPermitted, Port, Accept, Clock, Log, Faults}
 use Rattle.program.specs.declared.reasons.OtherSchema.{OtherSchema}
 use Rattle.program.specs.declared.reasons.OtherSchema.TheVariants.{Version, Untold}
 
@@ -75,6 +75,7 @@ cause_line Port = codes "custody: the port can't be listened at\n"
 cause_line Accept = codes "custody: a connection could not be accepted\n"
 cause_line Clock = codes "custody: the clock can't be read, or is out of range\n"
 cause_line Log = codes "custody: the exchange log could not be written, so nothing more is answered\n"
+cause_line Faults = codes "custody: the file's tables are not sound, so nothing is answered:\n"
 
 -- how the line on a version ends
 abbrev pub version_end : List ℕ

@@ -1,7 +1,9 @@
 -- What the program does for each kind of words: how it ends, what stands on both streams then, and what lies at
 -- each path. Of a stream that took not all that was to be printed nothing is said.
-use Rattle.std.specs.Prelude.{◌≡◌, ◌≢◌, ◌<◌, ◌⊎◌, ◌+◌, ◌++◌, ℕ, Bool, List, ⊤, Option, Some, None, IfSome, true, false, length, is_some}
+use Rattle.std.specs.Prelude.{◌≡◌, ◌≢◌, ◌<◌, ◌⊎◌, ◌+◌, ◌++◌, ℕ, Bool, List, [], ◌∷◌, ⊤, Option, Some, None, IfSome, Result, Ok, Err, IfOk, true, false, length, is_some}
 use Rattle.std.specs.Io.KnownBytes.{Appends}
+use Rattle.basis.specs.declared.memory.Down.{Down}
+use Rattle.machine.specs.Keeping.{Looks}
 use Rattle.machine.specs.declared.keeps.Keep as keep
 use Rattle.machine.specs.declared.keeps.OrgRow.{OrgRow}
 use Rattle.machine.specs.declared.keeps.TokenRow.{TokenRow}
@@ -24,9 +26,9 @@ use Rattle.program.specs.declared.reasons.OpenFault.TheVariants as fault
 use Rattle.program.specs.Frames.{AreFrames}
 use Rattle.program.specs.Logs.{with_log}
 use Rattle.program.specs.declared.outside.Files as files
-use Rattle.command_line.specs.Orders.{Asked, carries, adds_token, serves, replays}
+use Rattle.command_line.specs.Orders.{Asked, carries, adds_token, looks_over, serves, replays}
 use Rattle.program.specs.Paths.{AllStay, OthersStay}
-use Rattle.program.specs.Replies.{printed, bad_frame_text, answer_line, AreReplies, Replays}
+use Rattle.program.specs.Replies.{printed, bad_frame_text, answer_line, fault_lines, AreReplies, Replays}
 use Rattle.program.specs.Secrets.{secret_in}
 use Rattle.program.specs.Serving.{listening_line, Serves, state, AnswersAtPort}
 use Rattle.program.specs.declared.outside.Clock as clock
@@ -66,6 +68,7 @@ AnswersLine ending.Exists output = Says ending.Exists output
 AnswersLine ending.Absent output = Says ending.Absent output
 AnswersLine ending.Schema output = Says ending.Schema output
 AnswersLine ending.Down output = Says ending.Down output
+AnswersLine ending.Faults output = ⊥
 AnswersLine ending.Usage output = ⊥
 AnswersLine ending.BadFrame output = ⊥
 AnswersLine ending.Unprinted output = ⊤
@@ -163,6 +166,31 @@ abbrev pub AddsToken : Option (List ℕ) → Ending → Stream → Stream → Ty
 AddsToken input e output errors =
     (HasSecret input × AnswersLine e output) ⊎ ((HasNoSecret input × RefusesUsage e output errors) ⊎ RefusesDown e output)
 
+-- faults in the tables of a file: `ok` where there is none, and else a line for each; or why they aren't known
+abbrev pub AnswersFaults : Ending → Stream → Type 0
+AnswersFaults ending.Done output = Says ending.Done output
+AnswersFaults ending.Faults output = (faults : List (List ℕ)) × (0 < length faults) × Gets output (fault_lines faults)
+AnswersFaults ending.Schema output = Says ending.Schema output
+AnswersFaults ending.Down output = Says ending.Down output
+AnswersFaults ending.Unprinted output = ⊤
+AnswersFaults e output = ⊥
+
+-- these faults are told: `ok` where there is none, and else a line for each
+abbrev pub TellsFaults : List (List ℕ) → Ending → Stream → Type 0
+TellsFaults [] e output = IsSaid ending.Done e output.old output.new
+TellsFaults (fault ∷ faults) e output = ((e ≡ ending.Faults) × Gets output (fault_lines (fault ∷ faults))) ⊎ (e ≡ ending.Unprinted)
+
+-- what a look for faults found is told; or that memory or the store refused
+abbrev pub TellsFound : Result (List (List ℕ)) Down → Ending → Stream → Stream → Type 0
+TellsFound (Ok faults) e output errors = TellsFaults faults e output × (errors.new ≡ errors.old)
+TellsFound (Err refused) e output errors = Refuses cause.Store e output errors
+
+-- a look found faults, or memory or the store refused: the error stream is told why nothing is answered, and each fault
+abbrev pub TellsUnsound : Result (List (List ℕ)) Down → Stream → Type 0
+TellsUnsound (Ok []) errors = ⊥
+TellsUnsound (Ok (fault ∷ faults)) errors = GetsFront errors.old errors.new (cause_line cause.Faults ++ fault_lines (fault ∷ faults))
+TellsUnsound (Err refused) errors = TellsCause cause.Store errors
+
 -- connections are served, at the port that is told, and the log stands behind it where it is asked for (`true`)
 abbrev pub ServesAt : Bool → Ending → Stream → Type 0
 ServesAt logs ending.Done output = (port : ℕ) × (log : List ℕ) × Gets output (with_log logs (listening_line port) log)
@@ -189,7 +217,8 @@ ReplaysFrames input e output errors = ⊥
 abbrev pub Does : Asked → Option (List ℕ) → Ending → Stream → Stream → Type 0
 Does (carries db command) input e output errors = AnswersCommand command e output
 Does (adds_token db org name role bounds) input e output errors = AddsToken input e output errors
-Does (serves db port count timeouts logs) input e output errors = ServesAt logs e output
+Does (looks_over db) input e output errors = AnswersFaults e output
+Does (serves db port count timeouts logs checks) input e output errors = ServesAt logs e output
 Does replays input e output errors = ReplaysFrames input e output errors
 
 -- words that ask for nothing that is carried out: for help, whose text goes to the error stream; or for
@@ -267,6 +296,38 @@ module _ {K F : Type 0} (k : keep.Ghosts K) (f : files.Ghosts F K) where
       ⊎ (AllStay f.holds old new × ((HasNoSecret input × RefusesUsage e output errors × GetsFront errors.old errors.new secret_line)
       ⊎ (RefusesDown e output × TellsCause cause.Input errors)))
 
+  -- faults were looked for in the tables of what lay at a path, and of what was found this is told. Where nothing was found,
+  -- what lay there is sound, if its tables are defined as ours. What the look left lies there now, each record as before, and
+  -- nothing else changed
+  pub record LooksOver (path : List ℕ) (Tells : Result (List (List ℕ)) Down → Stream → Type 0) (old new : F) (errors : Stream) : Type 0 where
+    pub before : K
+    pub after : K
+    pub found : f.holds old path before
+    pub left : f.holds new path after
+    pub others : OthersStay f.holds path old new
+    pub look : Looks k.rows k.clean k.sound k.shielded before after
+    pub faults : Result (List (List ℕ)) Down
+    pub finds : f.finds before faults after
+    pub sound : IfOk faults (λ lines. lines ≡ [] → k.clean after → f.is_ours before → k.sound before)
+    pub is_new : Bool
+    pub sought : f.lacks old path is_new
+    pub others_may_read : Bool
+    pub looked : f.reads old path others_may_read
+    pub noted : Option (List ℕ)
+    pub tells : TellsOfFile is_new others_may_read (stream errors.old noted)
+    pub told : Option (List ℕ)
+    pub says : Tells faults (stream noted told)
+    pub log : TellsOfLog (f.copied new path after) (stream told errors.new)
+
+  -- faults are looked for at a path, and what is found is printed
+  abbrev pub LooksAt : List ℕ → F → F → Ending → Stream → Stream → Type 0
+  LooksAt path old new e output errors =
+      LooksOver path (λ faults told. TellsFound faults e output told) old new errors ⊎ RefusesToOpen path old new e output errors
+
+  -- faults are found at a path, or the look for them is refused, and so nothing is answered
+  abbrev pub RefusesUnsound : List ℕ → F → F → Ending → Stream → Stream → Type 0
+  RefusesUnsound path old new e output errors = LooksOver path TellsUnsound old new errors × IsSaid ending.Down e output.old output.new
+
 -- what the program stands on besides its streams
 pub record Outside (F N C : Type 0) : Type 0 where
   pub files : F
@@ -311,13 +372,50 @@ module _ {K F N C R W : Type 0} (k : keep.Ghosts K) (f : files.Ghosts F K) (n : 
     pub says : SaysServed served e told output.new
     pub log : TellsOfLog (f.copied new.files path after) (stream lines errors.new)
 
+  -- the same behind a look for faults in the tables of what was opened, which found none. So what is served is sound, if its
+  -- tables are defined as ours
+  pub record ServesChecked (path : List ℕ) (port : ℕ) (timeouts : Timeouts) (logs : Bool) (count : ℕ) (old new : Outside F N C) (e : Ending) (output errors : Stream) : Type 0 where
+    pub opened : K
+    pub before : K
+    pub after : K
+    pub found : f.holds old.files path opened
+    pub finds : f.finds opened (Ok []) before
+    pub look : Looks k.rows k.clean k.sound k.shielded opened before
+    pub left : f.holds new.files path after
+    pub others : OthersStay f.holds path old.files new.files
+    pub so_far : k.clean after → k.clean before
+    pub shield : k.shielded before → k.shielded after
+    pub kept : k.clean after → k.sound before → k.sound after
+    pub serves : k.clean after → k.sound before → Serves count (k.rows before) (k.rows after)
+    pub sound_ours : k.clean after → f.is_ours opened → k.sound opened × k.sound after
+    pub serves_ours : k.clean after → f.is_ours opened → Serves count (k.rows opened) (k.rows after)
+    pub served : Ending
+    pub told : Option (List ℕ)
+    pub is_new : Bool
+    pub sought : f.lacks old.files path is_new
+    pub others_may_read : Bool
+    pub looked : f.reads old.files path others_may_read
+    pub noted : Option (List ℕ)
+    pub tells : TellsOfFile is_new others_may_read (stream errors.old noted)
+    pub lines : Option (List ℕ)
+    pub answers : AnswersAtPort k f n c i o port timeouts logs count (state old.network old.clock before noted output.old) (state new.network new.clock after lines told) served
+    pub says : SaysServed served e told output.new
+    pub log : TellsOfLog (f.copied new.files path after) (stream lines errors.new)
+
+  -- connections are answered; where a look for faults is asked for (`true`), behind one, and only where it found none
+  abbrev pub ServesAsAsked : Bool → List ℕ → ℕ → Timeouts → Bool → ℕ → Outside F N C → Outside F N C → Ending → Stream → Stream → Type 0
+  ServesAsAsked false path port timeouts logs count old new e output errors = ServesFrom path port timeouts logs count old new e output errors
+  ServesAsAsked true path port timeouts logs count old new e output errors =
+      ServesChecked path port timeouts logs count old new e output errors ⊎ (RefusesUnsound k f path old.files new.files e output errors × IsAlone old new)
+
   -- what is asked for is done to what lies at its path, and to nothing else
   abbrev pub Leaves : Asked → Option (List ℕ) → Outside F N C → Outside F N C → Ending → Stream → Stream → Type 0
   Leaves (carries db command) input old new e output errors = OperatesAt k f db command old.files new.files e output errors × IsAlone old new
   Leaves (adds_token db org name role bounds) input old new e output errors =
       AddsTokenAt k f db (λ secret. TokenAdd org name role secret bounds) input old.files new.files e output errors × IsAlone old new
-  Leaves (serves db port count timeouts logs) input old new e output errors =
-      ServesFrom db port timeouts logs count old new e output errors ⊎ (RefusesToOpen k f db old.files new.files e output errors × IsAlone old new)
+  Leaves (looks_over db) input old new e output errors = LooksAt k f db old.files new.files e output errors × IsAlone old new
+  Leaves (serves db port count timeouts logs checks) input old new e output errors =
+      ServesAsAsked checks db port timeouts logs count old new e output errors ⊎ (RefusesToOpen k f db old.files new.files e output errors × IsAlone old new)
   Leaves replays input old new e output errors = new ≡ old
 
   -- the program by its words: how it ends, what is printed, and what the program stands on before and after

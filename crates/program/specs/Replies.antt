@@ -26,6 +26,10 @@ bad_frame_text frame = codes "custody: bad frame " ++ decimal frame ++ 10 ∷ []
 abbrev pub answer_line : List ℕ → List ℕ
 answer_line words = words ++ 10 ∷ []
 
+-- a line for each fault that was found in the tables of a file
+abbrev pub fault_lines : List (List ℕ) → List ℕ
+fault_lines faults = flat_map answer_line faults
+
 -- no organization is there
 abbrev pub no_records : List ℕ → Option Organization
 no_records org = None

@@ -14,6 +14,8 @@ pub enum Ending {
     Exists,
     /// The organization, or the token, isn't there.
     Absent,
+    /// Faults were found in the tables of the file.
+    Faults,
     /// The words or the secret don't read.
     Usage,
     /// A frame doesn't parse.
@@ -33,7 +35,7 @@ impl Ending {
     {
         match self {
             Ending::Done => 0,
-            Ending::Exists | Ending::Absent => 1,
+            Ending::Exists | Ending::Absent | Ending::Faults => 1,
             Ending::Usage | Ending::BadFrame => 2,
             Ending::Schema | Ending::Down | Ending::Unprinted => 3,
         }
@@ -50,7 +52,7 @@ impl Ending {
             Ending::Usage => "refused usage",
             Ending::Schema => "refused schema",
             Ending::Down => "refused down",
-            Ending::BadFrame | Ending::Unprinted => "",
+            Ending::Faults | Ending::BadFrame | Ending::Unprinted => "",
         }
     }
 }

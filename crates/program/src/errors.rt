@@ -3,8 +3,10 @@ ghost use Rattle.std.specs.Prelude.{◌++◌, ◌∷◌, [], OnOk, codes, decima
 ghost use Rattle.std.specs.Io.KnownBytes.{Appends};
 ghost use Rattle.wire.specs.Links.{Writes};
 ghost use Rattle.program.specs.Errors.{GetsFront, connection_line, cause_line, other_line, version_line, version_end};
+ghost use Rattle.program.specs.Replies.{fault_lines};
 
 use crate::reasons::{Cause, OtherSchema};
+use basis::Text;
 use itoa::Buffer;
 use std::io;
 use std::io::{ErrorKind, Write};
@@ -87,6 +89,35 @@ pub fn tell_cause<E: Write>(errors: &mut E, cause: Cause)
     ensures { GetsFront (E.contents errors.old) (E.contents errors.new) (cause_line cause) }
 {
     let _ = note(errors, cause.line());
+}
+
+fn write_faults<E: Write>(errors: &mut E, faults: &[Text]) -> io::Result<()>
+    ensures { Writes (E.contents errors.old) (E.contents errors.new) (fault_lines faults.now) result }
+{
+    for fault in faults {
+        match write_ended(errors, fault.as_str()) {
+            Ok(()) => {}
+            Err(error) => return Err(error),
+        }
+    }
+    Ok(())
+}
+
+fn note_faults<E: Write>(errors: &mut E, faults: &[Text]) -> io::Result<()>
+    ensures { Writes (E.contents errors.old) (E.contents errors.new) (cause_line Cause.Faults ++ fault_lines faults.now) result }
+{
+    match write_text(errors, Cause::Faults.line().as_bytes()) {
+        Ok(()) => write_faults(errors, faults),
+        Err(error) => Err(error),
+    }
+}
+
+/// Says that the tables of a file aren't sound, and each fault on a line, as far as the stream takes it.
+pub fn tell_faults<E: Write>(errors: &mut E, faults: &[Text])
+    ensures { GetsFront (E.contents errors.old) (E.contents errors.new) (cause_line Cause.Faults ++ fault_lines faults.now) }
+{
+    let _ = note_faults(errors, faults);
+    let _ = errors.flush();
 }
 
 /// What is said of tables that have names of ours, where none tells a version.

@@ -1,5 +1,5 @@
 //! What the program stands on besides its streams: files of databases, connections and a clock.
-ghost use Rattle.std.specs.Prelude.{◌≡◌, ℕ, Bool, List, Option, Result, false, IfOk, IfErr, OnOk, OnErr};
+ghost use Rattle.std.specs.Prelude.{◌≡◌, ℕ, Bool, List, [], Option, Result, false, IfOk, IfErr, OnOk, OnErr};
 ghost use Rattle.std.specs.Net.Addr.{ipv4_octets};
 ghost use Rattle.basis.specs.declared.memory.Down.{Down as AnyDown};
 ghost use Rattle.command_line.specs.declared.timeouts.Timeouts.{Timeouts as AnyTimeouts};
@@ -10,7 +10,7 @@ ghost use Rattle.program.specs.Paths.{AllStay, OthersStay};
 ghost use Rattle.program.specs.Replies.{AreReplies};
 
 use crate::reasons::{Cause, OpenFault};
-use basis::{Bytes, Down, Moment};
+use basis::{Bytes, Down, Items, Moment, Text};
 use command_line::timeouts::Timeouts;
 use machine::Keep;
 use serve::Step;
@@ -38,6 +38,12 @@ pub trait Files<K: Keep> {
     // What finds out whether a fault of the disk has shut a store: the store before and after.
     ghost shuts: { K → Result Bool AnyDown → K → Type 0 };
 
+    // What a look for faults in the tables of a store finds: the store before, a line for each fault, the store after.
+    ghost finds: { K → Result (List (List ℕ)) AnyDown → K → Type 0 };
+
+    // A store as it was opened, its tables defined as ours are: what is premised where one without faults is to be sound.
+    ghost is_ours: { K → Type 0 };
+
     /// Whether nothing lies at a path.
     fn is_absent(&self, path: &str) -> bool
         ensures { lacks self.now path.now result };
@@ -58,6 +64,13 @@ pub trait Files<K: Keep> {
     fn is_shut(&self, store: &mut K) -> Result<bool, Down>
         ensures told { shuts store.old result store.new }
         ensures looks { Looks K.rows K.clean K.sound K.shielded store.old store.new };
+
+    /// Looks for faults in the tables of a store: a line for each, without its line feed, and 50 at most. Where
+    /// there is none the store is sound. An error where memory or the store refused.
+    fn check(&self, alloc: Global, store: &mut K) -> Result<Items<Text>, Down>
+        ensures found { finds store.old result store.new }
+        ensures looks { Looks K.rows K.clean K.sound K.shielded store.old store.new }
+        ensures sound { IfOk result (λ lines. lines ≡ [] → K.clean store.new → is_ours store.old → K.sound store.old) };
 
     /// Closes a store: what it has lies at the path then. After an error its log stays beside the file.
     fn close(&mut self, path: &str, store: K) -> Result<(), Down>

@@ -39,6 +39,8 @@ pub enum Cause {
     Clock,
     /// A line of the log was not taken whole.
     Log,
+    /// Faults were found in the tables of the file.
+    Faults,
 }
 
 impl Cause {
@@ -74,6 +76,7 @@ impl Cause {
             Cause::Log => {
                 "custody: the exchange log could not be written, so nothing more is answered\n"
             }
+            Cause::Faults => "custody: the file's tables are not sound, so nothing is answered:\n",
         }
     }
 }

@@ -2,14 +2,14 @@
 ghost use Rattle.std.specs.Prelude.{OnOk};
 ghost use Rattle.std.specs.Io.KnownBytes.{Appends};
 ghost use Rattle.program.specs.Errors.{GetsFront, cause_line};
-ghost use Rattle.program.specs.Replies.{reply_frame, printed, bad_frame_text, answer_line};
+ghost use Rattle.program.specs.Replies.{reply_frame, printed, bad_frame_text, answer_line, fault_lines};
 ghost use Rattle.program.specs.Outcomes.{IsSaid};
 ghost use Rattle.serve.specs.Service.{org_lines, token_lines};
 
 use crate::endings::Ending;
 use crate::errors::tell_cause;
 use crate::reasons::Cause;
-use basis::Bytes;
+use basis::{Bytes, Text};
 use machine::{OrgRow, TokenRow};
 use serve::{write_org_lines, write_token_lines};
 use std::io;
@@ -46,6 +46,23 @@ pub fn print_answer<W: Write>(output: &mut W, answer: &str) -> io::Result<()>
 {
     output.write_all(answer.as_bytes())?;
     output.write_all(b"\n")?;
+    output.flush()
+}
+
+fn print_fault<O: Write>(output: &mut O, fault: &str) -> io::Result<()>
+    ensures { OnOk result (Appends (O.contents output.old) (O.contents output.new) (answer_line fault.now)) }
+{
+    output.write_all(fault.as_bytes())?;
+    output.write_all(b"\n")
+}
+
+/// Prints a line for each fault, and sends on what a buffer holds.
+pub fn print_faults<O: Write>(output: &mut O, faults: &[Text]) -> io::Result<()>
+    ensures { OnOk result (Appends (O.contents output.old) (O.contents output.new) (fault_lines faults.now)) }
+{
+    for fault in faults {
+        print_fault(output, fault.as_str())?;
+    }
     output.flush()
 }
 

@@ -1,24 +1,24 @@
 //! The program's commands, from its words to its exit status.
-ghost use Rattle.std.specs.Prelude.{◌≡◌, ◌≢◌, ◌<◌, ◌⊎◌, ℕ, List, length, Option, IfOk, IsErrOf, OnOk, OnErr};
+ghost use Rattle.std.specs.Prelude.{◌≡◌, ◌≢◌, ◌<◌, ◌⊎◌, ℕ, List, length, Option, Ok, IfOk, IsErrOf, OnOk, OnErr};
 ghost use Rattle.program.specs.Endings.{status_of};
 ghost use Rattle.program.specs.Errors.{GetsFront, other_line};
 ghost use Rattle.command_line.specs.Orders.{said_by, with_secret};
-ghost use Rattle.program.specs.Outcomes.{stream, IsSaid, AnswersLine, AnswersList, AnswersTokens, TellsWord, TellsList, TellsTokens, TellsAnswer, IsOperated, AnswersCommand, HasSecret, HasNoSecret, IsSecretOf, AddsToken, ServesAt, Does, RefusesWords, OperatesAt, AddsTokenAt, ServesFrom, RefusesToOpen, outside, IsAlone, SaysServed, Refuses, TellsCause, TellsOfLog, TellsOfNew, TellsOfReaders, TellsOfFile, Leaves, Runs};
-ghost use Rattle.program.specs.Inner.Outcomes.{IsSaidWhy};
+ghost use Rattle.program.specs.Outcomes.{stream, IsSaid, AnswersLine, AnswersList, AnswersTokens, TellsWord, TellsList, TellsTokens, TellsAnswer, IsOperated, AnswersFaults, TellsFaults, TellsFound, AnswersCommand, HasSecret, HasNoSecret, IsSecretOf, AddsToken, ServesAt, Does, RefusesWords, OperatesAt, AddsTokenAt, LooksAt, ServesFrom, ServesChecked, ServesAsAsked, RefusesUnsound, RefusesToOpen, outside, IsAlone, SaysServed, Refuses, TellsCause, TellsOfLog, TellsOfNew, TellsOfReaders, TellsOfFile, Leaves, Runs};
+ghost use Rattle.program.specs.Inner.Outcomes.{IsSaidWhy, FindsNone, LooksFirst, ServesOpened};
 ghost use Rattle.program.specs.Paths.{OthersStay};
 ghost use Rattle.program.specs.Serving.{Listens, Serves, state, AnswersAtPort};
 ghost use Rattle.command_line.specs.Words.{words_bytes, IsWhy, AskForHelp, AreNoCommand};
 ghost use Rattle.program.specs.declared.endings.Ending.{Ending};
 
 use crate::endings::Ending;
-use crate::errors::{note, tell_cause, tell_other};
+use crate::errors::{note, tell_cause, tell_faults, tell_other};
 use crate::outside::{Clock, Connections, Files};
 use crate::reasons::{Cause, OpenFault, OtherSchema};
 use crate::replays::{read_all, replay_frames};
-use crate::replies::{print_organizations, print_tokens, refuse, say};
+use crate::replies::{print_faults, print_organizations, print_tokens, refuse, say};
 use crate::secrets::read_secret;
 use crate::serving::serve_loop;
-use basis::{Down, Moment, Secret, Unfit};
+use basis::{Down, Items, Moment, Secret, Text, Unfit};
 use command_line::timeouts::Timeouts;
 use command_line::{NewToken, Order, Unasked, read_words};
 use machine::{AdminAnswer, Keep};
@@ -318,6 +318,58 @@ fn read_and_add<K: Keep, F: Files<K>, I: Read, O: Write, E: Write>(
     }
 }
 
+fn say_faults<O: Write>(output: &mut O, faults: &[Text]) -> Ending
+    ensures line { AnswersFaults result (stream (O.contents output.old) (O.contents output.new)) }
+    ensures tells { TellsFaults faults.now result (stream (O.contents output.old) (O.contents output.new)) }
+{
+    match faults {
+        [] => say(output, Ending::Done),
+        [_, ..] => match print_faults(output, faults) {
+            Ok(()) => Ending::Faults,
+            Err(_) => Ending::Unprinted,
+        },
+    }
+}
+
+fn say_found<O: Write, E: Write>(
+    output: &mut O,
+    errors: &mut E,
+    found: &Result<Items<Text>, Down>,
+) -> Ending
+    ensures line { AnswersFaults result (stream (O.contents output.old) (O.contents output.new)) }
+    ensures tells { TellsFound found.now result (stream (O.contents output.old) (O.contents output.new)) (stream (E.contents errors.old) (E.contents errors.new)) }
+{
+    match found {
+        Ok(faults) => say_faults(output, faults.as_slice()),
+        Err(_) => refuse(output, errors, Cause::Store),
+    }
+}
+
+/// Looks for faults in the tables of a file, and prints what it finds.
+fn check<K: Keep, F: Files<K>, O: Write, E: Write>(
+    alloc: Global,
+    files: &mut F,
+    db: &str,
+    output: &mut O,
+    errors: &mut E,
+) -> Ending
+    ensures line { AnswersFaults result (stream (O.contents output.old) (O.contents output.new)) }
+    ensures looks { LooksAt K.Keep F.Files db.now files.old files.new result (stream (O.contents output.old) (O.contents output.new)) (stream (E.contents errors.old) (E.contents errors.new)) }
+{
+    let is_new = files.is_absent(db);
+    let others_may_read = files.others_may_read(db);
+    let mut store = match files.open(db) {
+        Ok(store) => store,
+        Err(OpenFault::Schema(other)) => return refuse_other(output, errors, other),
+        Err(OpenFault::Down(cause)) => return refuse(output, errors, cause),
+    };
+    tell_of_file(errors, is_new, others_may_read);
+    let found = files.check(alloc, &mut store);
+    let ending = say_found(output, errors, &found);
+    close_after(files, db, store, errors);
+    ending
+}
+
 fn serve_at<K: Keep, F: Files<K>, N: Connections, C: Clock, O: Write, E: Write>(
     alloc: Global,
     files: &F,
@@ -368,6 +420,43 @@ fn refuse_other<O: Write, E: Write>(output: &mut O, errors: &mut E, other: Other
     say(output, Ending::Schema)
 }
 
+/// Answers connections from a store that was opened at a path, and closes it there.
+fn serve_opened<K: Keep, F: Files<K>, N: Connections, C: Clock, O: Write, E: Write>(
+    alloc: Global,
+    files: &mut F,
+    network: &mut N,
+    clock: &mut C,
+    db: &str,
+    keep: K,
+    port: u16,
+    count: u32,
+    timeouts: &Timeouts,
+    logs: bool,
+    output: &mut O,
+    errors: &mut E,
+) -> Ending
+    ensures line { ServesAt logs result (stream (O.contents output.old) (O.contents output.new)) }
+    ensures serves { ServesOpened K.Keep F.Files N.Connections C.Clock N.Reader.Inlet N.Writer.Outlet db.now port timeouts.now logs count keep (outside files.old network.old clock.old) (outside files.new network.new clock.new) result (stream (O.contents output.old) (O.contents output.new)) (stream (E.contents errors.old) (E.contents errors.new)) }
+{
+    let mut service = Service::new(keep);
+    let ending = serve_at(
+        alloc,
+        files,
+        network,
+        clock,
+        &mut service,
+        port,
+        count,
+        timeouts,
+        logs,
+        output,
+        errors,
+    );
+    let keep = service.into_keep();
+    close_after(files, db, keep, errors);
+    say_served(output, ending)
+}
+
 fn serve<K: Keep, F: Files<K>, N: Connections, C: Clock, O: Write, E: Write>(
     alloc: Global,
     files: &mut F,
@@ -393,23 +482,110 @@ fn serve<K: Keep, F: Files<K>, N: Connections, C: Clock, O: Write, E: Write>(
         Err(OpenFault::Down(cause)) => return refuse(output, errors, cause),
     };
     tell_of_file(errors, is_new, others_may_read);
-    let mut service = Service::new(keep);
-    let ending = serve_at(
-        alloc,
-        files,
-        network,
-        clock,
-        &mut service,
-        port,
-        count,
-        timeouts,
-        logs,
-        output,
-        errors,
-    );
-    let keep = service.into_keep();
+    serve_opened(
+        alloc, files, network, clock, db, keep, port, count, timeouts, logs, output, errors,
+    )
+}
+
+fn tell_if_some<E: Write>(errors: &mut E, faults: &[Text]) -> bool
+    ensures { FindsNone (Ok faults.now) result (stream (E.contents errors.old) (E.contents errors.new)) }
+{
+    match faults {
+        [] => true,
+        [_, ..] => {
+            tell_faults(errors, faults);
+            false
+        }
+    }
+}
+
+fn tell_unsound<E: Write>(errors: &mut E, found: &Result<Items<Text>, Down>) -> bool
+    ensures { FindsNone found.now result (stream (E.contents errors.old) (E.contents errors.new)) }
+{
+    match found {
+        Ok(faults) => tell_if_some(errors, faults.as_slice()),
+        Err(_) => {
+            tell_cause(errors, Cause::Store);
+            false
+        }
+    }
+}
+
+/// Looks for faults in the tables of a store; true where it finds none. Else it says why nothing is answered.
+fn look_first<K: Keep, F: Files<K>, E: Write>(
+    alloc: Global,
+    files: &F,
+    store: &mut K,
+    errors: &mut E,
+) -> bool
+    ensures { LooksFirst K.Keep F.Files store.old result store.new (stream (E.contents errors.old) (E.contents errors.new)) }
+{
+    let found = files.check(alloc, store);
+    tell_unsound(errors, &found)
+}
+
+fn serve_checked<K: Keep, F: Files<K>, N: Connections, C: Clock, O: Write, E: Write>(
+    alloc: Global,
+    files: &mut F,
+    network: &mut N,
+    clock: &mut C,
+    db: &str,
+    port: u16,
+    count: u32,
+    timeouts: &Timeouts,
+    logs: bool,
+    output: &mut O,
+    errors: &mut E,
+) -> Ending
+    ensures line { ServesAt logs result (stream (O.contents output.old) (O.contents output.new)) }
+    ensures serves { (ServesChecked K.Keep F.Files N.Connections C.Clock N.Reader.Inlet N.Writer.Outlet db.now port timeouts.now logs count (outside files.old network.old clock.old) (outside files.new network.new clock.new) result (stream (O.contents output.old) (O.contents output.new)) (stream (E.contents errors.old) (E.contents errors.new))
+        ⊎ (RefusesUnsound K.Keep F.Files db.now files.old files.new result (stream (O.contents output.old) (O.contents output.new)) (stream (E.contents errors.old) (E.contents errors.new)) × IsAlone (outside files.old network.old clock.old) (outside files.new network.new clock.new)))
+        ⊎ (RefusesToOpen K.Keep F.Files db.now files.old files.new result (stream (O.contents output.old) (O.contents output.new)) (stream (E.contents errors.old) (E.contents errors.new)) × IsAlone (outside files.old network.old clock.old) (outside files.new network.new clock.new)) }
+{
+    let is_new = files.is_absent(db);
+    let others_may_read = files.others_may_read(db);
+    let mut keep = match files.open(db) {
+        Ok(keep) => keep,
+        Err(OpenFault::Schema(other)) => return refuse_other(output, errors, other),
+        Err(OpenFault::Down(cause)) => return refuse(output, errors, cause),
+    };
+    tell_of_file(errors, is_new, others_may_read);
+    if look_first(alloc, files, &mut keep, errors) {
+        return serve_opened(
+            alloc, files, network, clock, db, keep, port, count, timeouts, logs, output, errors,
+        );
+    }
     close_after(files, db, keep, errors);
-    say_served(output, ending)
+    say(output, Ending::Down)
+}
+
+fn serve_as_asked<K: Keep, F: Files<K>, N: Connections, C: Clock, O: Write, E: Write>(
+    alloc: Global,
+    files: &mut F,
+    network: &mut N,
+    clock: &mut C,
+    db: &str,
+    port: u16,
+    count: u32,
+    timeouts: &Timeouts,
+    logs: bool,
+    checks: bool,
+    output: &mut O,
+    errors: &mut E,
+) -> Ending
+    ensures line { ServesAt logs result (stream (O.contents output.old) (O.contents output.new)) }
+    ensures serves { ServesAsAsked K.Keep F.Files N.Connections C.Clock N.Reader.Inlet N.Writer.Outlet checks db.now port timeouts.now logs count (outside files.old network.old clock.old) (outside files.new network.new clock.new) result (stream (O.contents output.old) (O.contents output.new)) (stream (E.contents errors.old) (E.contents errors.new))
+        ⊎ (RefusesToOpen K.Keep F.Files db.now files.old files.new result (stream (O.contents output.old) (O.contents output.new)) (stream (E.contents errors.old) (E.contents errors.new)) × IsAlone (outside files.old network.old clock.old) (outside files.new network.new clock.new)) }
+{
+    if checks {
+        serve_checked(
+            alloc, files, network, clock, db, port, count, timeouts, logs, output, errors,
+        )
+    } else {
+        serve(
+            alloc, files, network, clock, db, port, count, timeouts, logs, output, errors,
+        )
+    }
 }
 
 fn run_order<K: Keep, F: Files<K>, N: Connections, C: Clock, I: Read, O: Write, E: Write>(
@@ -430,14 +606,16 @@ fn run_order<K: Keep, F: Files<K>, N: Connections, C: Clock, I: Read, O: Write, 
         Order::AddToken { db, token } => {
             read_and_add(alloc, files, db, token, input, output, errors)
         }
+        Order::Check { db } => check(alloc, files, db, output, errors),
         Order::Serve {
             db,
             port,
             count,
             timeouts,
             logs,
-        } => serve(
-            alloc, files, network, clock, db, port, count, &timeouts, logs, output, errors,
+            checks,
+        } => serve_as_asked(
+            alloc, files, network, clock, db, port, count, &timeouts, logs, checks, output, errors,
         ),
         Order::Replay => { replay_frames::<K, F, I, O, E>(alloc, files, input, output, errors) }
     }

@@ -2,11 +2,11 @@
 #![tactic(auto)]
 
 mod begun;
-mod checks;
 mod commands;
 mod devices;
 mod files;
 mod memories;
+mod named_checks;
 mod programs;
 mod sockets;
 mod stories;

@@ -143,6 +143,7 @@ impl<'s> Memory<'s> {
         };
         self.has_no_clock = false;
         self.file.keeps_log = false;
+        self.file.faults = Vec::new(alloc);
         compare_got(alloc, due.as_slice(), &peers)?;
         Ok(Left {
             status,
@@ -188,13 +189,17 @@ impl<'s> Memory<'s> {
         break_streams(alloc, self, &told, modes, counts)
     }
 
-    fn break_next(&mut self, head: &Part<'_>, what: &str) -> Result<(), Failure> {
+    fn break_next(&mut self, head: &Part<'_>, what: &'s str) -> Result<(), Failure> {
+        if let Some(("tables", fault)) = what.split_once(' ') {
+            self.file.faults.push(fault)?;
+            return Ok(());
+        }
         match what {
             "clock" => self.has_no_clock = true,
             "log" => self.file.keeps_log = true,
             "output" => self.is_unflushed = true,
             _ => {
-                return Err(Failure::from(head.unread("a clock, a log or an output breaks")));
+                return Err(Failure::from(head.unread("a clock, a log, an output or tables break")));
             }
         }
         Ok(())

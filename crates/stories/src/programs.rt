@@ -22,7 +22,7 @@ pub enum Does {
     IsAbsent,
     IsSame,
     Connects,
-    /// The clock, the log of the database or the output fails the next command.
+    /// The clock, the log of the database or the output fails the next command, or its tables have a fault.
     Breaks,
     /// A file that can't be read.
     Hides,
@@ -300,7 +300,7 @@ impl Files {
             Some((Does::Takes, port)) => self.take_port(rt, head, port),
             Some((Does::Runs, words)) => run_step(rt, head, words, parts),
             Some((Does::Connects | Does::Breaks, _)) => Err(Failure::from(head.unread(
-                "no file is made or looked at where peers connect, or a clock, a log or an output breaks",
+                "no file is made or looked at where peers connect, or a clock, a log, an output or tables break",
             ))),
             None => Err(Failure::from(head.unread(
                 "a story of the program has steps of the program alone",

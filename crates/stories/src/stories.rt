@@ -1,9 +1,9 @@
 //! A story run by its kind: of a store, of the program, of values, or of checks.
 use crate::begun::run_begun;
-use crate::checks::{is_check, run_check};
 use crate::commands::FrameWords;
 use crate::files::run_in_file;
 use crate::memories::{Memory, Place, WAY, place_of};
+use crate::named_checks::{is_check, run_check};
 use crate::programs::{Files, is_of_program};
 use crate::values::{is_of_values, take_value};
 use std::alloc::Global;

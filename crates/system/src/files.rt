@@ -1,16 +1,21 @@
 //! Databases in files.
-ghost use Rattle.std.specs.Prelude.{◌≡◌, true, false, not, ⊤, is_some, IfOk};
+ghost use Rattle.std.specs.Prelude.{◌≡◌, true, false, not, ⊤, is_some, [], IfOk};
+ghost use Rattle.sha2.specs.Sha256.{sha256};
 ghost use Rattle.sqlite_store.specs.FileStore.{view};
 ghost use Rattle.sqlite_wal.specs.Files.{image_at};
 ghost use Rattle.sqlite.specs.Files.{file_state, IsOpened, IsBlankAs};
 ghost use Rattle.sqlite.specs.Start.{FindsIn};
 ghost use Rattle.sqlite.specs.State.{HasCleanDisk};
 ghost use Rattle.sqlite_disk.specs.Modelled.{calls_of, start_of};
+ghost use Rattle.statements.specs.Tables.{Tables, Holds, tables_of};
+ghost use Rattle.tables.specs.Opening.{IsFresh};
+ghost use Rattle.tables.specs.Scans.{ArePagesKeyed};
+ghost use Rattle.tables.specs.Sound.{IsSound};
 ghost use Rattle.system.specs.Files.{OpensOn, IsClosedOn};
 ghost use Rattle.system.specs.Shields.{AreCleanOrCollided};
 
 use crate::replays::replayed;
-use basis::{Bytes, Down};
+use basis::{Bytes, Down, Items, Text};
 use machine::{Fault, Keep};
 use pages::ShaKey;
 use program::outside::Files;
@@ -207,6 +212,7 @@ fn unopened_fault<S: Alter + Drop>(unopened: Unopened<S>) -> OpenFault {
 pub fn open_file<S: Start>(rt: &HostRuntime, path: &str, start: S) -> Result<FileKeep<S>, OpenFault>
     ensures opens { IfOk result (λ keep. ⟦<FileKeep<S> as Keep>⟧.clean keep → OpensOn (image_at S.Start) (⟦<FileKeep<S> as Keep>⟧.rows keep) (⟦<FileKeep<S> as Keep>⟧.sound keep)) }
     ensures guarded { IfOk result (λ keep. ⟦<FileKeep<S> as Keep>⟧.clean keep → ⟦<FileKeep<S> as Keep>⟧.shielded keep) }
+    ensures as_opened { IfOk result (λ keep. ⟦<FileKeep<S> as Keep>⟧.clean keep → IsFresh (file_state keep.seen.value).committed keep.counted (file_state keep.conn)) }
 {
     match make_private(rt, path) {
         Ok(()) => {}
@@ -256,7 +262,7 @@ impl<'a, S: Start> DiskFiles<'a, S> {
 impl<S: Start> Files<FileKeep<S>> for DiskFiles<'_, S> {
     // Nothing ties what is found to the path: until a file is opened, whatever path it has, it is that of `start`. Of
     // what lies at paths afterwards nothing is said here.
-    ghost holds = { λ files _ store. is_some files.start ≡ true → ⟦<FileKeep<S> as Keep>⟧.clean store → OpensOn (image_at S.Start) (⟦<FileKeep<S> as Keep>⟧.rows store) (⟦<FileKeep<S> as Keep>⟧.sound store) × ⟦<FileKeep<S> as Keep>⟧.shielded store };
+    ghost holds = { λ files _ store. is_some files.start ≡ true → ⟦<FileKeep<S> as Keep>⟧.clean store → OpensOn (image_at S.Start) (⟦<FileKeep<S> as Keep>⟧.rows store) (⟦<FileKeep<S> as Keep>⟧.sound store) × ⟦<FileKeep<S> as Keep>⟧.shielded store × IsFresh (file_state store.seen.value).committed store.counted (file_state store.conn) };
 
     ghost copied = { λ _ _ store. (closed : _) × IsClosedOn ⟦<FileFrom<S> as Disk>⟧ closed (⟦<FileKeep<S> as Keep>⟧.rows store) (⟦<FileKeep<S> as Keep>⟧.sound store) };
 
@@ -271,6 +277,13 @@ impl<S: Start> Files<FileKeep<S>> for DiskFiles<'_, S> {
 
     // A store is shut where its connection is, while its disk kept what it promised.
     ghost shuts = { λ store said after. ⟦<FileKeep<S> as Keep>⟧.clean after → IfOk said (λ is_shut. (file_state store.conn).is_open ≡ not is_shut) };
+
+    // No fault is found exactly where the tables are sound and each page's key is the SHA-256 of its bytes, while the disk
+    // kept what it promised, of tables that stand in the database as ours are defined.
+    ghost finds = { λ store said after. ⟦<FileKeep<S> as Keep>⟧.clean after → IfOk said (λ lines. (t : Tables) → Holds (file_state store.conn).committed t → (lines ≡ [] → IsSound t × ArePagesKeyed sha256 t) × (IsSound t → ArePagesKeyed sha256 t → lines ≡ [])) };
+
+    // The store is as it was opened, and our tables stand in the database as they are defined.
+    ghost is_ours = { λ store. IsFresh (file_state store.seen.value).committed store.counted (file_state store.conn) × Holds (file_state store.seen.value).committed (tables_of (file_state store.seen.value).committed) };
 
     // What can't be looked at counts as there: the open behind it tells why.
     fn is_absent(&self, path: &str) -> bool {
@@ -294,6 +307,10 @@ impl<S: Start> Files<FileKeep<S>> for DiskFiles<'_, S> {
 
     fn is_shut(&self, store: &mut FileKeep<S>) -> Result<bool, Down> {
         store.is_shut()
+    }
+
+    fn check(&self, alloc: Global, store: &mut FileKeep<S>) -> Result<Items<Text>, Down> {
+        checks::check(store, alloc)
     }
 
     fn close(&mut self, _path: &str, store: FileKeep<S>) -> Result<(), Down> {

@@ -6,4 +6,4 @@ returns c =
     let second = c.in_ok-at_port.ensures _ _ first c.option.ensures in
     let third = c.in_ok-counted.ensures _ _ second c.option-2.ensures in
     let fourth = c.in_ok-timed.ensures _ third in
-    c.with_arg-4.ensures _ _ fourth c.flag.ensures
+    c.with_flags.ensures _ fourth

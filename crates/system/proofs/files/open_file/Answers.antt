@@ -38,3 +38,6 @@ returns-in-Ok-open-clause-opens g c clean =
 
 pub returns-in-Ok-open-clause-guarded : goal.returns-in-Ok-open-clause-guarded
 returns-in-Ok-open-clause-guarded g c clean = c.in-Ok-open.ensures.shield (c.in-Ok-open_database.ensures.guarded (c.in-Ok-open.ensures.so_far clean))
+
+pub returns-in-Ok-open-clause-as_opened : goal.returns-in-Ok-open-clause-as_opened
+returns-in-Ok-open-clause-as_opened g c = c.in-Ok-open.ensures.as_opened

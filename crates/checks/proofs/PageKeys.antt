@@ -1,0 +1,17 @@
+-- Pages are apart exactly where their heads are.
+use Rattle.std.proofs.Common.{◌≡◌, ◌↔◌, ℕ, false, ◌&&◌, ◌==◌, List, map}
+use Rattle.std.specs.Str.{bytes_eq}
+use Rattle.sqlite_keyed.specs.Rules.{AreApart}
+use Rattle.sqlite_keyed.proofs.ListLemmas.{ascending-map, ascending_from_map}
+use Rattle.statements.specs.declared.rows.PageHead.{PageHead}
+use Rattle.statements.specs.Rows.{Kept, PageRow}
+use Rattle.statements.specs.Tables.{Tables}
+use Rattle.pages.specs.Rows.{is_page}
+use Rattle.pages.specs.Heads.{head_in}
+
+pub heads_apart : (key_of : List ℕ → List ℕ) (t : Tables) (xs : List (Kept PageRow))
+    → AreApart (λ (a b : PageHead). bytes_eq b.key a.key && b.twin == a.twin) (map (head_in key_of t) xs) ↔ AreApart (λ a b. is_page a.1.key a.1.twin b) xs
+heads_apart key_of t xs = (
+  ascending_from_map (λ (a b : PageHead). (bytes_eq b.key a.key && b.twin == a.twin) ≡ false) (head_in key_of t) xs,
+  ascending-map (λ (a b : PageHead). (bytes_eq b.key a.key && b.twin == a.twin) ≡ false) (head_in key_of t) xs,
+)

@@ -1,0 +1,97 @@
+-- What the looks look for is that the tables are sound.
+use Rattle.std.proofs.Common.{◌≡◌, ℕ, List, map, sym, subst}
+use Rattle.statements.specs.declared.rows.Rows.{Rows}
+use Rattle.statements.specs.Tables.{Tables}
+use Rattle.pages.specs.Heads.{head_in}
+use Rattle.tables.specs.Scans.{AreRowsOf, ArePagesKeyed}
+use Rattle.tables.specs.Sound.{IsSound}
+use Rattle.checks.specs.Counts.{AreFew}
+use Rattle.checks.specs.Judging.{Judges}
+use Rattle.checks.specs.Places.{AreTextsSound}
+use Rattle.checks.specs.Workspaces.{AreLawfulWss, HasWsRows}
+use Rattle.checks.specs.Inner.Looks.{AreRowsFit}
+use Rattle.checks.specs.declared.found.Found.{Found}
+use Rattle.checks.proofs.JudgingLemmas.{judges_both, judges_as}
+use Rattle.checks.proofs.WsTies.{named_by_rows, rows_by_name, counts_by_rows, rows_by_counts}
+
+-- the rows that are read of the tables
+abbrev pub rows_of : (List ℕ → List ℕ) → Tables → Rows
+rows_of key_of t = record {
+  metas = t.metas;
+  orgs = t.orgs;
+  tokens = t.tokens;
+  wss = t.wss;
+  versions = t.versions;
+  runs = t.runs;
+  pages = map (head_in key_of t) t.pages;
+  vpages = t.vpages;
+  bounds = t.bounds;
+  editions = t.editions;
+  keepings = t.keepings;
+}
+
+pub rows_are : (key_of : List ℕ → List ℕ) (t : Tables) (rows : Rows) → AreRowsOf key_of t rows → rows ≡ rows_of key_of t
+rows_are key_of t rows are = λ i. record {
+  metas = are.metas i;
+  orgs = are.orgs i;
+  tokens = are.tokens i;
+  wss = are.wss i;
+  versions = are.versions i;
+  runs = are.runs i;
+  pages = are.pages i;
+  vpages = are.vpages i;
+  bounds = are.bounds i;
+  editions = are.editions i;
+  keepings = are.keepings i;
+}
+
+pub ws_rows : (key_of : List ℕ → List ℕ) (t : Tables) (rows : Rows) → AreRowsOf key_of t rows → HasWsRows rows t
+ws_rows key_of t rows are = record { wss = sym are.wss; versions = sym are.versions; runs = sym are.runs; keepings = sym are.keepings }
+
+-- ---- all of them
+
+module _ (key_of : List ℕ → List ℕ) (t : Tables) where
+  sound_to : AreRowsFit (rows_of key_of t) → AreTextsSound key_of t → AreFew t.wss → AreLawfulWss t → IsSound t
+  sound_to fit texts few lawful = record {
+    told = fit.ranges.told;
+    orgs_apart = fit.names.orgs;
+    tokens_apart = fit.names.tokens;
+    digests_apart = fit.names.digests;
+    wss_apart = fit.names.wss;
+    bounds_apart = fit.others.bounds;
+    tokens_bound = fit.tokens.bound;
+    keepings_apart = fit.others.keepings;
+    wss_kept = fit.owned.kept;
+    tokens_owned = fit.tokens.tokens;
+    bounds_owned = fit.tokens.bounds;
+    wss_owned = fit.owned.wss;
+    keepings_owned = fit.owned.keepings;
+    versions_owned = fit.owned.versions;
+    runs_owned = fit.owned.runs;
+    org_rows = fit.ranges.orgs;
+    token_rows = fit.ranges.tokens;
+    bound_rows = fit.ranges.bounds;
+    counts = counts_by_rows t fit.names.wss few;
+    places = texts.places;
+    placed = texts.placed;
+    texts = texts.texts;
+    workspaces = named_by_rows t lawful;
+  }
+
+  rows_from : IsSound t → AreRowsFit (rows_of key_of t)
+  rows_from s = record {
+    names = record { orgs = s.orgs_apart; tokens = s.tokens_apart; digests = s.digests_apart; wss = s.wss_apart };
+    others = record { bounds = s.bounds_apart; keepings = s.keepings_apart };
+    tokens = record { bound = s.tokens_bound; tokens = s.tokens_owned; bounds = s.bounds_owned };
+    owned = record { kept = s.wss_kept; wss = s.wss_owned; keepings = s.keepings_owned; versions = s.versions_owned; runs = s.runs_owned };
+    ranges = record { told = s.told; orgs = s.org_rows; tokens = s.token_rows; bounds = s.bound_rows };
+  }
+
+  texts_from : IsSound t → ArePagesKeyed key_of t → AreTextsSound key_of t
+  texts_from s keyed = record { places = s.places; keyed = keyed; placed = s.placed; texts = s.texts }
+
+  -- the looks at rows, and those at tables, look for what is promised
+  pub judges_sound : (rows : Rows) (x y z : Found) → AreRowsOf key_of t rows → Judges (AreRowsFit rows) x y → Judges (AreTextsSound key_of t × AreFew t.wss × AreLawfulWss t) y z → Judges (IsSound t × ArePagesKeyed key_of t) x z
+  judges_sound rows x y z are one two =
+      judges_as x z (λ laws. (sound_to laws.0 laws.1.0 laws.1.1 laws.1.2, laws.1.0.keyed)) (λ laws. (rows_from laws.0, (texts_from laws.0 laws.1, rows_by_counts t laws.0.wss_apart laws.0.wss_owned laws.0.counts, rows_by_name t laws.0.wss_apart laws.0.workspaces)))
+      (judges_both x y z (subst (λ (r : Rows). Judges (AreRowsFit r) x y) (rows_are key_of t rows are) one) two)

@@ -1,0 +1,116 @@
+-- The laws of workspaces by the tests of their rows.
+use Rattle.std.proofs.Common.{◌≡◌, ℕ, ◌+◌, Bool, true, false, cond, ◌&&◌, nat_le, List, [], ◌∷◌, filter, find, Option, Some, None, option_map, IfSome, IsTrue, refl, sym, ap, ◌∙◌, subst}
+use Rattle.std.specs.List.{AllByRecursion}
+use Rattle.std.specs.Option.{unwrap_or}
+use Rattle.std.proofs.lemmas.Bool.{and_from, leb-true, le-leb}
+use Rattle.sqlite_keyed.proofs.ListLemmas.{all_weaker}
+use Rattle.sqlite_keyed.proofs.RuleLemmas.{first_of_both, second_of_both}
+use Rattle.basis.specs.Names.{is_ws_name, is_free_id}
+use Rattle.basis.specs.declared.numbers.TheConstants.{MAX_NUMBER, FIRST_KEPT}
+use Rattle.machine.specs.Laws.{IsNext, IsNamedWorkspace}
+use Rattle.machine.specs.Ranges.{IsKeepCount}
+use Rattle.statements.specs.Rows.{Kept, WsRow, VersionRow, RunRow, KeepingRow}
+use Rattle.statements.specs.Tables.{Tables}
+use Rattle.statements.specs.declared.rows.Rows.{Rows}
+use Rattle.statements.specs.Changes.{is_keeping, is_version_of, is_run_of}
+use Rattle.tables.specs.Records.{keep_at, workspace_at}
+use Rattle.checks.specs.declared.found.Found.{Found}
+use Rattle.checks.specs.declared.workspaces.Grouped.{Grouped}
+use Rattle.checks.specs.Judging.{Judges}
+use Rattle.checks.specs.Groups.{picked, places_in}
+use Rattle.checks.specs.Versions.{are_versions}
+use Rattle.checks.specs.Workspaces.{is_next, is_free_if, kept_in, keep_among, IsLawfulRow, IsLawfulAt, AreAllGrouped, HasWsRows, AreLawfulWss}
+use Rattle.checks.proofs.JudgingLemmas.{judges_as}
+use Rattle.checks.proofs.VersionLaws.{versions_by_test, test_of_versions}
+use Rattle.checks.proofs.RunLaws.{runs_by_test, test_of_runs}
+
+next_by_test : (n : ℕ) → is_next n ≡ true → IsNext n
+next_by_test n e = (leb-true 1 n (first_of_both (nat_le 1 n) (nat_le n (MAX_NUMBER + 1)) e), leb-true n (MAX_NUMBER + 1) (second_of_both (nat_le 1 n) (nat_le n (MAX_NUMBER + 1)) e))
+
+test_of_next : (n : ℕ) → IsNext n → is_next n ≡ true
+test_of_next n h = and_from (nat_le 1 n) (nat_le n (MAX_NUMBER + 1)) (le-leb 1 n h.0) (le-leb n (MAX_NUMBER + 1) h.1)
+
+free_by_test : (id : Option (List ℕ)) → is_free_if id ≡ true → IfSome id (λ i. IsTrue (is_free_id i))
+free_by_test None e = tt
+free_by_test (Some id) e = e
+
+test_of_free : (id : Option (List ℕ)) → IfSome id (λ i. IsTrue (is_free_id i)) → is_free_if id ≡ true
+test_of_free None h = refl
+test_of_free (Some id) h = h
+
+kept_is : (test : Kept KeepingRow → Bool) (xs : List (Kept KeepingRow)) → kept_in (filter test xs) ≡ option_map (λ x. x.1.keep) (find test xs)
+kept_is test [] = refl
+kept_is test (x ∷ xs) = go (test x) (kept_is test xs)
+  where
+    go : (b : Bool) → kept_in (filter test xs) ≡ option_map (λ x. x.1.keep) (find test xs)
+        → kept_in (cond b (x ∷ filter test xs) (filter test xs)) ≡ option_map (λ x. x.1.keep) (cond b (Some x) (find test xs))
+    go true more = refl
+    go false more = more
+
+module _ (t : Tables) (x : Kept WsRow) where
+  abbrev Lawful : Type 0
+  Lawful = IsLawfulRow (filter (is_keeping x.1.org x.1.name) t.keepings) (filter (is_version_of x.1.org x.1.name) t.versions) (filter (is_run_of x.1.org x.1.name) t.runs) x.1
+
+  abbrev Named : Type 0
+  Named = IsNamedWorkspace x.1.name (workspace_at t x.1.org x.1.name x.1.it)
+
+  keep_is : keep_among (filter (is_keeping x.1.org x.1.name) t.keepings) ≡ keep_at t x.1.org x.1.name
+  keep_is = ap (λ o. unwrap_or o FIRST_KEPT) (kept_is (is_keeping x.1.org x.1.name) t.keepings)
+
+  -- a row that passes denotes a lawful workspace
+  named_by_tests : Lawful → Named
+  named_by_tests law =
+      let a = is_ws_name x.1.name in
+      let b = is_next x.1.it.next_version in
+      let c = is_next x.1.it.next_run in
+      let d = is_free_if x.1.it.released in
+      let three = first_of_both (a && b && c) d law.own in
+      let two = first_of_both (a && b) c three in
+      record {
+        named = first_of_both a b two;
+        lawful = record {
+          versions = versions_by_test t x.1.org x.1.name (keep_at t x.1.org x.1.name) x.1.it.next_version (subst IsKeepCount keep_is law.keep) (next_by_test x.1.it.next_version (second_of_both a b two))
+              (subst (λ n. are_versions n x.1.it.next_version (filter (is_version_of x.1.org x.1.name) t.versions) ≡ true) keep_is law.versions);
+          runs = runs_by_test t x.1.org x.1.name x.1.it.holder x.1.it.next_run (next_by_test x.1.it.next_run (second_of_both (a && b) c three)) law.runs;
+          released = free_by_test x.1.it.released (second_of_both (a && b && c) d law.own);
+        };
+      }
+
+  tests_of_named : Named → Lawful
+  tests_of_named it =
+      let a = is_ws_name x.1.name in
+      let b = is_next x.1.it.next_version in
+      let c = is_next x.1.it.next_run in
+      let d = is_free_if x.1.it.released in
+      record {
+        keep = subst IsKeepCount (sym keep_is) it.lawful.versions.keep;
+        own = and_from (a && b && c) d (and_from (a && b) c (and_from a b it.named (test_of_next x.1.it.next_version it.lawful.versions.next)) (test_of_next x.1.it.next_run it.lawful.runs.next)) (test_of_free x.1.it.released it.lawful.released);
+        versions = subst (λ n. are_versions n x.1.it.next_version (filter (is_version_of x.1.org x.1.name) t.versions) ≡ true) (sym keep_is) (test_of_versions t x.1.org x.1.name (keep_at t x.1.org x.1.name) x.1.it.next_version it.lawful.versions);
+        runs = test_of_runs t x.1.org x.1.name x.1.it.holder x.1.it.next_run it.lawful.runs;
+      }
+
+moved : (x : WsRow) (ks ls : List (Kept KeepingRow)) (vs us : List (Kept VersionRow)) (rs ss : List (Kept RunRow)) → ks ≡ ls → vs ≡ us → rs ≡ ss → IsLawfulRow ks vs rs x → IsLawfulRow ls us ss x
+moved x ks ls vs us rs ss k v r law =
+    subst (λ l. IsLawfulRow ls us l x) r (subst (λ l. IsLawfulRow ls l rs x) v (subst (λ l. IsLawfulRow l vs rs x) k law))
+
+-- a look by groups at all rows judges the workspaces
+pub workspaces_judged : (rows : Rows) (groups : Grouped) (t : Tables) (a b : Found) → AreAllGrouped rows groups → HasWsRows rows t → Judges (AllByRecursion (IsLawfulAt rows groups) rows.wss) a b → Judges (AreLawfulWss t) a b
+workspaces_judged rows groups t a b grouped has =
+    judges_as a b
+    (λ all. subst (AllByRecursion (Named t)) (sym has.wss) (all_weaker (IsLawfulAt rows groups) (Named t) (λ x law. named_by_tests t x (there x law)) rows.wss all))
+    (λ all. all_weaker (Named t) (IsLawfulAt rows groups) (λ x it. back x (tests_of_named t x it)) rows.wss (subst (AllByRecursion (Named t)) has.wss all))
+  where
+    keepings : (x : Kept WsRow) → picked rows.keepings (places_in groups.keepings x.1.org x.1.name) ≡ filter (is_keeping x.1.org x.1.name) t.keepings
+    keepings x = grouped.keepings x.1.org x.1.name ∙ ap (filter (is_keeping x.1.org x.1.name)) (sym has.keepings)
+
+    versions : (x : Kept WsRow) → picked rows.versions (places_in groups.versions x.1.org x.1.name) ≡ filter (is_version_of x.1.org x.1.name) t.versions
+    versions x = grouped.versions x.1.org x.1.name ∙ ap (filter (is_version_of x.1.org x.1.name)) (sym has.versions)
+
+    runs : (x : Kept WsRow) → picked rows.runs (places_in groups.runs x.1.org x.1.name) ≡ filter (is_run_of x.1.org x.1.name) t.runs
+    runs x = grouped.runs x.1.org x.1.name ∙ ap (filter (is_run_of x.1.org x.1.name)) (sym has.runs)
+
+    there : (x : Kept WsRow) → IsLawfulAt rows groups x → Lawful t x
+    there x = moved x.1 _ _ _ _ _ _ (keepings x) (versions x) (runs x)
+
+    back : (x : Kept WsRow) → Lawful t x → IsLawfulAt rows groups x
+    back x = moved x.1 _ _ _ _ _ _ (sym (keepings x)) (sym (versions x)) (sym (runs x))

@@ -1,0 +1,7 @@
+use Rattle.checks.proofs.SoundRows.{judges_sound}
+use Rattle.checks.proofs.LookLemmas.{told_more}
+use Rattle.checks.proofs.looks.judge.Goals as goal
+
+pub returns : goal.returns
+returns c =
+    told_more c.judge_tables.result (λ last key_of t are. judges_sound key_of t c.args.rows.now c.args.found.now c.judge_rows.new.found c.judge_tables.new.found are c.in_ok-judge_rows.ensures (last key_of t are)) c.judge_tables.ensures

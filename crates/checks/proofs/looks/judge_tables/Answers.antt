@@ -1,0 +1,20 @@
+use Rattle.std.proofs.Common.{List, subst, ◌∙◌}
+use Rattle.statements.specs.Rows.{Kept, WsRow}
+use Rattle.checks.specs.Counts.{AreFew}
+use Rattle.checks.specs.Judging.{Judges}
+use Rattle.checks.proofs.JudgingLemmas.{judges_both, judges_as}
+use Rattle.checks.proofs.SoundRows.{ws_rows}
+use Rattle.checks.proofs.LookLemmas.{told_more}
+use Rattle.checks.proofs.looks.judge_tables.Goals as goal
+
+pub returns : goal.returns
+returns c =
+    let x = c.args.found.now in
+    let x1 = c.judge_pages.new.found in
+    let x2 = c.judge_counts.new.found in
+    let z = c.judge_workspaces.new.found in
+    told_more c.judge_workspaces.result (λ last key_of t are.
+    judges_as x z (λ laws. (laws.0, laws.1.0, laws.1.1)) (λ laws. (laws.0, (laws.1, laws.2)))
+    (judges_both x x1 z (c.in_ok-judge_pages.ensures key_of t (c.as_slice.ensures ∙ are.pages) (c.as_slice-versions.ensures ∙ are.versions) (c.as_slice-vpages.ensures ∙ are.vpages))
+    (judges_both x1 x2 z (subst (λ (ws : List (Kept WsRow)). Judges (AreFew ws) x1 x2) (c.as_slice-2.ensures ∙ are.wss) c.in_ok-judge_counts.ensures) (last t (ws_rows key_of t c.args.rows.now are)))))
+    c.judge_workspaces.ensures

@@ -1,0 +1,8 @@
+use Rattle.std.proofs.Common.{◌≡◌, ℕ, List, [], take}
+use Rattle.std.specs.List.{list_any}
+use Rattle.statements.specs.Changes.{is_org}
+use Rattle.checks.specs.Keys.{has_key}
+use Rattle.checks.proofs.owners.org_keys.Given as goal
+
+abbrev pub invariant-loop-row : goal.invariant-loop-row
+invariant-loop-row l = (name : List ℕ) → has_key l.keys [] name 0 0 ≡ list_any (is_org name) (take l.row-index l.orgs)

@@ -1,0 +1,9 @@
+use Rattle.std.proofs.Common.{take}
+use Rattle.std.specs.List.{AllByRecursion}
+use Rattle.checks.specs.Judging.{Judges}
+use Rattle.checks.specs.Places.{IsPlacedIn}
+use Rattle.checks.proofs.places.judge_places.Given as goal
+
+-- the rows so far are looked at
+abbrev pub invariant-loop-row : goal.invariant-loop-row
+invariant-loop-row l = Judges (AllByRecursion (λ x. IsPlacedIn l.versions x.1) (take l.row-index l.vpages)) l.fn.found l.found

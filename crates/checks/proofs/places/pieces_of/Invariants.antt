@@ -1,0 +1,7 @@
+use Rattle.std.proofs.Common.{List, take}
+use Rattle.statements.specs.declared.rows.PageHead.{PageHead}
+use Rattle.checks.specs.Places.{HasPageSizes, HasPieces}
+use Rattle.checks.proofs.places.pieces_of.Given as goal
+
+abbrev pub invariant-loop-row : goal.invariant-loop-row
+invariant-loop-row l = (heads : List PageHead) → HasPageSizes heads l.sizes → HasPieces heads (take l.row-index l.vpages) l.pieces

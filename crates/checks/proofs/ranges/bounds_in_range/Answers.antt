@@ -1,0 +1,13 @@
+use Rattle.std.proofs.Common.{sym, ap, ◌∙◌}
+use Rattle.basis.specs.Names.{is_prefix}
+use Rattle.tables.specs.Sound.{IsBoundRow}
+use Rattle.checks.proofs.JudgingLemmas.{judges_as}
+use Rattle.checks.proofs.RowLists.{all_judged}
+use Rattle.checks.proofs.ranges.bounds_in_range.Goals as goal
+
+pub loop-row-preserved : goal.loop-row-preserved
+loop-row-preserved c =
+    let x = c.loop-row-item.result in
+    let told = c.in_ok-fits.ensures ∙ ap is_prefix c.as_str.ensures in
+    all_judged IsBoundRow c.args.bounds.now c.loop-row.row-index x c.args.found.now c.loop-row.found c.judge.new.self c.loop-row-test.true c.loop-row-item.is c.loop-row.invariant
+    (judges_as c.loop-row.found c.judge.new.self (λ fits. record { until = c.known_end.ensures; prefix = sym told ∙ fits }) (λ row. told ∙ row.prefix) c.in_ok-judge.ensures)

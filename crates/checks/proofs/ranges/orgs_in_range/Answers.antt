@@ -1,0 +1,13 @@
+use Rattle.std.proofs.Common.{sym, ap, ◌∙◌}
+use Rattle.basis.specs.Names.{is_org_name}
+use Rattle.tables.specs.Sound.{IsOrgRow}
+use Rattle.checks.proofs.JudgingLemmas.{judges_as}
+use Rattle.checks.proofs.RowLists.{all_judged}
+use Rattle.checks.proofs.ranges.orgs_in_range.Goals as goal
+
+pub loop-row-preserved : goal.loop-row-preserved
+loop-row-preserved c =
+    let x = c.loop-row-item.result in
+    let told = c.in_ok-fits.ensures ∙ ap is_org_name c.as_str.ensures in
+    all_judged IsOrgRow c.args.orgs.now c.loop-row.row-index x c.args.found.now c.loop-row.found c.judge.new.self c.loop-row-test.true c.loop-row-item.is c.loop-row.invariant
+    (judges_as c.loop-row.found c.judge.new.self (λ fits. record { named = sym told ∙ fits; limit = c.known_limit.ensures }) (λ row. told ∙ row.named) c.in_ok-judge.ensures)

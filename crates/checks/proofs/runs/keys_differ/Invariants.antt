@@ -1,0 +1,11 @@
+use Rattle.std.proofs.Common.{◌≡◌, ◌&&◌, drop}
+use Rattle.std.specs.List.{list_all}
+use Rattle.std.specs.BTreeSet.{contains_text}
+use Rattle.checks.specs.Groups.{picked}
+use Rattle.checks.specs.Runs.{is_unseen, keys_differ}
+use Rattle.checks.proofs.runs.keys_differ.Given as goal
+
+-- the keys that are left differ from those seen and from one another where all differ
+abbrev pub invariant-loop-place : goal.invariant-loop-place
+invariant-loop-place l =
+    (list_all (is_unseen (contains_text l.seen)) (picked l.rows (drop l.place-index l.places)) && keys_differ (picked l.rows (drop l.place-index l.places))) ≡ keys_differ (picked l.rows l.places)

@@ -1,0 +1,7 @@
+use Rattle.std.proofs.Common.{◌≡◌, ◌++◌, map, drop}
+use Rattle.checks.specs.Groups.{picked}
+use Rattle.checks.specs.Runs.{run_number}
+use Rattle.checks.proofs.runs.run_numbers.Given as goal
+
+abbrev pub invariant-loop-place : goal.invariant-loop-place
+invariant-loop-place l = l.numbers.items ++ map run_number (picked l.rows (drop l.place-index l.places)) ≡ map run_number (picked l.rows l.places)

@@ -1,0 +1,31 @@
+-- Rows by the places where they stand in their list.
+use Rattle.std.specs.Prelude.{◌≡◌, ℕ, Bool, cond, List, [], ◌∷◌, filter, Option, Some, None, slice_get, String, Vec}
+use Rattle.std.specs.Option.{option_map_or}
+use Rattle.std.specs.BTreeMap.{BTreeMap, get_by_text}
+use Rattle.checks.specs.declared.groups.Groups.{Groups}
+
+abbrev pub with_some : {X : Type 0} → Option X → List X → List X
+with_some None xs = xs
+with_some (Some x) xs = x ∷ xs
+
+-- the rows at these places; a place behind the last row has none
+abbrev pub picked : {X : Type 0} → List X → List ℕ → List X
+picked rows [] = []
+picked rows (i ∷ places) = with_some (slice_get rows i) (picked rows places)
+
+-- the number of the first row that doesn't pass, if there is one
+abbrev pub first_unfit : {X : Type 0} → (X → Bool) → (X → ℕ) → List X → Option ℕ
+first_unfit test number [] = None
+first_unfit test number (x ∷ xs) = cond (test x) (first_unfit test number xs) (Some (number x))
+
+-- the places that a map has at a workspace, by its name
+abbrev pub places_at : {Y Z : Type 0} → BTreeMap (String Y) (Vec ℕ Z) → List ℕ → List ℕ
+places_at wss ws = option_map_or (λ places. places.items) (get_by_text wss ws) []
+
+-- the places of the rows of an organization's workspace
+abbrev pub places_in : Groups → List ℕ → List ℕ → List ℕ
+places_in groups org ws = option_map_or (λ wss. places_at wss ws) (get_by_text groups.orgs org) []
+
+-- each group has the places of the rows that pass the test of its workspace
+abbrev pub AreGrouped : {X : Type 0} → (List ℕ → List ℕ → X → Bool) → List X → Groups → Type 0
+AreGrouped is_of rows groups = (org ws : List ℕ) → picked rows (places_in groups org ws) ≡ filter (is_of org ws) rows

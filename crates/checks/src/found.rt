@@ -1,0 +1,136 @@
+//! The faults that were found.
+ghost use Rattle.std.specs.Prelude.{◌≡◌, true, OnOk};
+ghost use Rattle.checks.specs.Judging.{IsClean, Judges};
+
+use basis::{Down, Items, Text};
+use std::alloc::Global;
+
+/// The most faults that are told.
+pub const MAX_FAULTS: usize = 50;
+
+/// What is wrong with a row, or with a page.
+#[derive(Clone, Copy, PartialEq, Eq)]
+pub enum FaultKind {
+    /// The tables tell another version of the schema, or none.
+    Version,
+    /// There is another row of the same key.
+    Twice,
+    /// Another token of the organization has the same digest.
+    DigestTwice,
+    /// There is no row that it belongs to.
+    Ownerless,
+    /// A token has no row that says how far it reaches.
+    Unbounded,
+    /// A workspace has no row that says how many versions it keeps.
+    Unkept,
+    /// A name, limit, digest, end or prefix is out of range.
+    Range,
+    /// The organization has more workspaces than any may have.
+    TooMany,
+    /// The workspace, its holder or a number of it breaks the rules.
+    Unlawful,
+    /// Its versions break the rules: their numbers, how many there are, or a value of one.
+    Versions,
+    /// Its runs break the rules: their numbers, statuses, keys, or who holds.
+    Runs,
+    /// A version's text isn't whole: a page at some place is missing, or of another size.
+    Text,
+    /// A page stands at a place that the text of its version doesn't have.
+    Place,
+    /// A page is named more or less often than it says.
+    Uses,
+    /// A page's key isn't that of its bytes.
+    Key,
+    /// Another page of the key has the same bytes.
+    SamePage,
+}
+
+/// A fault, and where it was found; what isn't known is empty.
+#[derive(Drop)]
+pub struct Fault {
+    pub kind: FaultKind,
+    pub org: Text,
+    /// The name of a workspace, or of a token.
+    pub ws: Text,
+    /// The number of a version or of a run.
+    pub number: Option<u64>,
+}
+
+/// The faults that were found, the first `MAX_FAULTS` of them.
+#[derive(Drop)]
+pub struct Found {
+    faults: Items<Fault>,
+}
+
+impl Found {
+    pub fn new(alloc: Global) -> Found
+        ensures { IsClean result }
+    {
+        Found {
+            faults: Items::new(Vec::new(alloc)),
+        }
+    }
+
+    /// Whether no fault was found.
+    pub fn is_clean(&self) -> bool
+        ensures told { result ≡ true → IsClean self.now }
+        ensures clean { IsClean self.now → result ≡ true }
+    {
+        self.faults.as_slice().is_empty()
+    }
+
+    pub fn faults(&self) -> &[Fault]
+        ensures { result.now ≡ self.now.faults }
+    {
+        self.faults.as_slice()
+    }
+
+    /// Whether as many faults were found as are told.
+    pub fn is_full(&self) -> bool
+        ensures { result ≡ true → ¬ IsClean self.now }
+    {
+        self.faults.as_slice().len() >= MAX_FAULTS
+    }
+
+    /// Notes a fault, if there is room for it.
+    pub fn note(
+        &mut self,
+        alloc: Global,
+        kind: FaultKind,
+        org: &str,
+        ws: &str,
+        number: Option<u64>,
+    ) -> Result<(), Down>
+        ensures { OnOk result (¬ IsClean self.new) }
+    {
+        if self.is_full() {
+            return Ok(());
+        }
+        let org = Text::copy_of(alloc, org)?;
+        let ws = Text::copy_of(alloc, ws)?;
+        self.faults.push(Fault {
+            kind,
+            org,
+            ws,
+            number,
+        })
+    }
+
+    /// Notes a fault unless it holds.
+    pub fn judge(
+        &mut self,
+        alloc: Global,
+        holds: bool,
+        kind: FaultKind,
+        org: &str,
+        ws: &str,
+        number: Option<u64>,
+    ) -> Result<(), Down>
+        ensures { OnOk result (Judges (holds ≡ true) self.old self.new) }
+    {
+        if holds {
+            return Ok(());
+        }
+        self.note(alloc, kind, org, ws, number)
+    }
+}

@@ -1,0 +1,58 @@
+//! The line that tells a fault.
+ghost use Rattle.std.specs.Prelude.{◌≡◌, IfOk};
+ghost use Rattle.checks.specs.Lines.{fault_word, name_or_hyphen, fault_line};
+
+use crate::found::{Fault, FaultKind};
+use basis::{Down, Text, Unfit, WsName};
+use std::alloc::Global;
+
+impl FaultKind {
+    /// The word that tells it.
+    pub fn word(self) -> &'static str
+        ensures { result.now ≡ fault_word self }
+    {
+        match self {
+            FaultKind::Version => "version",
+            FaultKind::Twice => "twice",
+            FaultKind::DigestTwice => "digest-twice",
+            FaultKind::Ownerless => "ownerless",
+            FaultKind::Unbounded => "unbounded",
+            FaultKind::Unkept => "unkept",
+            FaultKind::Range => "range",
+            FaultKind::TooMany => "too-many",
+            FaultKind::Unlawful => "unlawful",
+            FaultKind::Versions => "versions",
+            FaultKind::Runs => "runs",
+            FaultKind::Text => "text",
+            FaultKind::Place => "place",
+            FaultKind::Uses => "uses",
+            FaultKind::Key => "key",
+            FaultKind::SamePage => "same-page",
+        }
+    }
+}
+
+/// A name, or a hyphen in place of what is none: a row may have any bytes there.
+fn name_or_hyphen(alloc: Global, name: &str) -> Result<&str, Down>
+    ensures { IfOk result (λ text. text.now ≡ name_or_hyphen name.entry.now) }
+{
+    match WsName::read(alloc, name) {
+        Ok(_) => Ok(name),
+        Err(Unfit::Syntax) => Ok("-"),
+        Err(Unfit::Down) => Err(Down),
+    }
+}
+
+/// The line that tells a fault, without its line feed: `fault WORD ORG WS NUMBER`, a hyphen for what isn't known.
+pub fn fault_line(alloc: Global, fault: &Fault) -> Result<Text, Down>
+    ensures { IfOk result (λ line. line ≡ fault_line fault.now) }
+{
+    let word = fault.kind.word();
+    let org = name_or_hyphen(alloc, fault.org.as_str())?;
+    let ws = name_or_hyphen(alloc, fault.ws.as_str())?;
+    let line = match fault.number {
+        Some(number) => format!(in alloc; "fault {word} {org} {ws} {number}")?,
+        None => format!(in alloc; "fault {word} {org} {ws} -")?,
+    };
+    Ok(Text::new(line))
+}

@@ -1,0 +1,161 @@
+//! Whether each row has those that it belongs to, or that belong to it.
+ghost use Rattle.std.specs.Prelude.{◌≡◌, ℕ, List, [], true, ◌&&◌, bytes_eq, IfOk, OnOk};
+ghost use Rattle.std.specs.List.{AllByRecursion, list_any};
+ghost use Rattle.statements.specs.Changes.{is_org, is_token, is_ws, is_bound, is_keeping};
+ghost use Rattle.checks.specs.Judging.{Judges};
+ghost use Rattle.checks.specs.Keys.{has_key};
+
+use crate::found::{FaultKind, Found};
+use crate::keys::{Keys, Named, keys_of};
+use basis::Down;
+use statements::rows::{BoundRow, KeepingRow, OrgRow, RunRow, TokenRow, VersionRow, WsRow};
+use std::alloc::Global;
+
+/// The keys of organizations.
+fn org_keys<'a>(alloc: Global, orgs: &'a [(i64, OrgRow)]) -> Result<Keys<'a>, Down>
+    ensures { IfOk result (λ keys. (name : List ℕ) → has_key keys [] name 0 0 ≡ list_any (is_org name) orgs.now) }
+{
+    let mut keys = Keys::new(alloc);
+    for (_, row) in orgs {
+        keys.add_texts(&[], row.name.as_str().as_bytes())?;
+    }
+    Ok(keys)
+}
+
+/// Whether the organization of each row is among these.
+fn all_of_orgs<'a, R: Named>(
+    alloc: Global,
+    orgs: &'a [(i64, OrgRow)],
+    rows: &'a [(i64, R)],
+    found: &mut Found,
+) -> Result<(), Down>
+    ensures { OnOk result (Judges (AllByRecursion (λ x. list_any (is_org (R.org_of x.1)) orgs.now ≡ true) rows.now) found.old found.new) }
+{
+    let keys = org_keys(alloc, orgs)?;
+    for (_, row) in rows {
+        let known = keys.has_texts(&[], row.org().as_bytes());
+        found.judge(
+            alloc,
+            known,
+            FaultKind::Ownerless,
+            row.org(),
+            row.name(),
+            row.number(),
+        )?;
+    }
+    Ok(())
+}
+
+/// Whether for each row there is another, among these, of its organization and name.
+fn all_among<'a, O: Named, R: Named>(
+    alloc: Global,
+    others: &'a [(i64, O)],
+    rows: &'a [(i64, R)],
+    kind: FaultKind,
+    found: &mut Found,
+) -> Result<(), Down>
+    ensures { OnOk result (Judges (AllByRecursion (λ x. list_any (λ y. bytes_eq (O.org_of y.1) (R.org_of x.1) && bytes_eq (O.name_of y.1) (R.name_of x.1)) others.now ≡ true) rows.now) found.old found.new) }
+{
+    let keys = keys_of(alloc, others)?;
+    for (_, row) in rows {
+        let known = keys.has_texts(row.org().as_bytes(), row.name().as_bytes());
+        found.judge(alloc, known, kind, row.org(), row.name(), row.number())?;
+    }
+    Ok(())
+}
+
+/// Whether each token has a row of bound.
+pub fn tokens_bound<'a>(
+    alloc: Global,
+    tokens: &'a [(i64, TokenRow)],
+    bounds: &'a [(i64, BoundRow)],
+    found: &mut Found,
+) -> Result<(), Down>
+    ensures { OnOk result (Judges (AllByRecursion (λ x. list_any (is_bound x.1.org x.1.name) bounds.now ≡ true) tokens.now) found.old found.new) }
+{
+    all_among(alloc, bounds, tokens, FaultKind::Unbounded, found)
+}
+
+/// Whether each workspace has a row of keeping.
+pub fn wss_kept<'a>(
+    alloc: Global,
+    wss: &'a [(i64, WsRow)],
+    keepings: &'a [(i64, KeepingRow)],
+    found: &mut Found,
+) -> Result<(), Down>
+    ensures { OnOk result (Judges (AllByRecursion (λ x. list_any (is_keeping x.1.org x.1.name) keepings.now ≡ true) wss.now) found.old found.new) }
+{
+    all_among(alloc, keepings, wss, FaultKind::Unkept, found)
+}
+
+/// Whether each token is of an organization.
+pub fn tokens_owned<'a>(
+    alloc: Global,
+    tokens: &'a [(i64, TokenRow)],
+    orgs: &'a [(i64, OrgRow)],
+    found: &mut Found,
+) -> Result<(), Down>
+    ensures { OnOk result (Judges (AllByRecursion (λ x. list_any (is_org x.1.org) orgs.now ≡ true) tokens.now) found.old found.new) }
+{
+    all_of_orgs(alloc, orgs, tokens, found)
+}
+
+/// Whether each row of bound is of a token.
+pub fn bounds_owned<'a>(
+    alloc: Global,
+    bounds: &'a [(i64, BoundRow)],
+    tokens: &'a [(i64, TokenRow)],
+    found: &mut Found,
+) -> Result<(), Down>
+    ensures { OnOk result (Judges (AllByRecursion (λ x. list_any (is_token x.1.org x.1.name) tokens.now ≡ true) bounds.now) found.old found.new) }
+{
+    all_among(alloc, tokens, bounds, FaultKind::Ownerless, found)
+}
+
+/// Whether each workspace is of an organization.
+pub fn wss_owned<'a>(
+    alloc: Global,
+    wss: &'a [(i64, WsRow)],
+    orgs: &'a [(i64, OrgRow)],
+    found: &mut Found,
+) -> Result<(), Down>
+    ensures { OnOk result (Judges (AllByRecursion (λ x. list_any (is_org x.1.org) orgs.now ≡ true) wss.now) found.old found.new) }
+{
+    all_of_orgs(alloc, orgs, wss, found)
+}
+
+/// Whether each row of keeping is of a workspace.
+pub fn keepings_owned<'a>(
+    alloc: Global,
+    keepings: &'a [(i64, KeepingRow)],
+    wss: &'a [(i64, WsRow)],
+    found: &mut Found,
+) -> Result<(), Down>
+    ensures { OnOk result (Judges (AllByRecursion (λ x. list_any (is_ws x.1.org x.1.ws) wss.now ≡ true) keepings.now) found.old found.new) }
+{
+    all_among(alloc, wss, keepings, FaultKind::Ownerless, found)
+}
+
+/// Whether each version is of a workspace.
+pub fn versions_owned<'a>(
+    alloc: Global,
+    versions: &'a [(i64, VersionRow)],
+    wss: &'a [(i64, WsRow)],
+    found: &mut Found,
+) -> Result<(), Down>
+    ensures { OnOk result (Judges (AllByRecursion (λ x. list_any (is_ws x.1.org x.1.ws) wss.now ≡ true) versions.now) found.old found.new) }
+{
+    all_among(alloc, wss, versions, FaultKind::Ownerless, found)
+}
+
+/// Whether each run is of a workspace.
+pub fn runs_owned<'a>(
+    alloc: Global,
+    runs: &'a [(i64, RunRow)],
+    wss: &'a [(i64, WsRow)],
+    found: &mut Found,
+) -> Result<(), Down>
+    ensures { OnOk result (Judges (AllByRecursion (λ x. list_any (is_ws x.1.org x.1.ws) wss.now ≡ true) runs.now) found.old found.new) }
+{
+    all_among(alloc, wss, runs, FaultKind::Ownerless, found)
+}

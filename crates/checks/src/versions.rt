@@ -1,0 +1,132 @@
+//! The versions of a workspace.
+ghost use Rattle.std.specs.Prelude.{◌≡◌, ◌++◌, ◌∷◌, [], IfOk, OnOk, map};
+ghost use Rattle.std.specs.List.{list_all};
+ghost use Rattle.checks.specs.Groups.{picked};
+ghost use Rattle.checks.specs.Versions.{is_version_row, unfit_version, version_number, rises, reaches, sorted, are_versions};
+
+use basis::Down;
+use basis::numbers::MAX_MOMENT;
+use basis::rows::{MAX_LINEAGE, MAX_SERIAL};
+use statements::rows::VersionRow;
+use std::alloc::Global;
+
+/// Whether the versions at these places are lawful where so many are kept, and the next one has this
+/// number: their numbers rise without a gap up to that, and each is in range.
+pub fn are_versions(
+    alloc: Global,
+    rows: &[(i64, VersionRow)],
+    places: &[usize],
+    keep: u32,
+    next: u64,
+) -> Result<bool, Down>
+    ensures { IfOk result (λ lawful. lawful ≡ are_versions keep next (picked rows.now places.now)) }
+{
+    let mut numbers = version_numbers(alloc, rows, places)?;
+    sort(&mut numbers);
+    let numbered = numbers.len() as u64 <= u64::from(keep)
+        && rise(&numbers, next)
+        && reach(&numbers, next);
+    Ok(numbered && are_version_rows(rows, places))
+}
+
+// The numbers of the versions at these places.
+fn version_numbers(
+    alloc: Global,
+    rows: &[(i64, VersionRow)],
+    places: &[usize],
+) -> Result<Vec<u64>, Down>
+    ensures { IfOk result (λ ns. ns.items ≡ map version_number (picked rows.now places.now)) }
+{
+    let mut numbers = Vec::new(alloc);
+    for place in places {
+        push_number(&mut numbers, rows, *place)?;
+    }
+    Ok(numbers)
+}
+
+fn push_number(numbers: &mut Vec<u64>, rows: &[(i64, VersionRow)], place: usize) -> Result<(), Down>
+    ensures { OnOk result (numbers.new.items ≡ numbers.old.items ++ map version_number (picked rows.now (place ∷ []))) }
+{
+    let Some(row) = rows.get(place) else {
+        return Ok(());
+    };
+    numbers.push(u64::from(row.1.it.number.get()))?;
+    Ok(())
+}
+
+fn are_version_rows(rows: &[(i64, VersionRow)], places: &[usize]) -> bool
+    ensures { result ≡ list_all is_version_row (picked rows.now places.now) }
+{
+    unfit_version(rows, places).is_none()
+}
+
+/// The number of the first version at these places whose serial, lineage or moment is out of range.
+pub fn unfit_version(rows: &[(i64, VersionRow)], places: &[usize]) -> Option<u64>
+    ensures { result ≡ unfit_version (picked rows.now places.now) }
+{
+    for place in places {
+        if let Some(number) = unfit_at(rows, *place) {
+            return Some(number);
+        }
+    }
+    None
+}
+
+fn unfit_at(rows: &[(i64, VersionRow)], place: usize) -> Option<u64>
+    ensures { result ≡ unfit_version (picked rows.now (place ∷ [])) }
+{
+    match rows.get(place) {
+        Some(row) => unfit_as(row),
+        None => None,
+    }
+}
+
+fn unfit_as(row: &(i64, VersionRow)) -> Option<u64>
+    ensures { result ≡ unfit_version (row.now ∷ []) }
+{
+    if is_version_row(row) {
+        None
+    } else {
+        Some(u64::from(row.1.it.number.get()))
+    }
+}
+
+// Whether serial, lineage and moment are in range.
+fn is_version_row(row: &(i64, VersionRow)) -> bool
+    ensures { result ≡ is_version_row row.now }
+{
+    row.1.it.serial <= MAX_SERIAL
+        && row.1.it.lineage.as_str().len() <= MAX_LINEAGE
+        && row.1.it.created.seconds() <= MAX_MOMENT
+}
+
+/// Sorts numbers.
+pub fn sort(numbers: &mut Vec<u64>)
+    ensures { numbers.new.items ≡ sorted numbers.old.items }
+{
+    numbers.sort_unstable();
+}
+
+/// Whether numbers rise, above 0 and below `next`.
+pub fn rise(numbers: &[u64], next: u64) -> bool
+    ensures { result ≡ rises 0 numbers.now next }
+{
+    let mut low = 0;
+    for number in numbers {
+        if *number <= low || *number >= next {
+            return false;
+        }
+        low = *number;
+    }
+    true
+}
+
+// Whether there are as many numbers, from the first one on, as reach up to `next`.
+fn reach(numbers: &[u64], next: u64) -> bool
+    ensures { result ≡ reaches numbers.now next }
+{
+    match numbers.first() {
+        Some(first) => *first <= next && next - *first == numbers.len() as u64,
+        None => true,
+    }
+}

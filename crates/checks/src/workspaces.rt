@@ -1,0 +1,182 @@
+//! Whether each workspace is lawful, with its versions and runs.
+ghost use Rattle.std.specs.Prelude.{◌≡◌, ◌∷◌, [], IsTrue, IfOk, OnOk};
+ghost use Rattle.std.specs.List.{AllByRecursion};
+ghost use Rattle.basis.specs.Names.{is_ws_name};
+ghost use Rattle.statements.specs.Tables.{Tables};
+ghost use Rattle.checks.specs.Judging.{Judges};
+ghost use Rattle.checks.specs.Groups.{picked};
+ghost use Rattle.checks.specs.Workspaces.{is_next, is_free_if, is_own, kept_in, keep_among, IsLawfulAt, AreAllGrouped, HasWsRows, AreLawfulWss};
+
+use crate::found::{FaultKind, Found};
+use crate::groups::{Groups, group_keepings, group_runs, group_versions};
+use crate::runs::{are_runs, unfit_run};
+use crate::versions::{are_versions, unfit_version};
+use basis::numbers::MAX_NUMBER;
+use basis::{Down, KeepCount, LockId, Unfit, WsName, is_free_id};
+use statements::rows::{KeepingRow, Rows, WsRow};
+use std::alloc::Global;
+
+/// The places of the rows of versions, runs and keeping, by their workspaces.
+#[derive(Drop)]
+pub struct Grouped {
+    pub versions: Groups,
+    pub runs: Groups,
+    pub keepings: Groups,
+}
+
+/// Looks whether each workspace is lawful: its name, next numbers, holder and the lock released last, its
+/// versions, and its runs.
+pub fn judge_workspaces(alloc: Global, rows: &Rows, found: &mut Found) -> Result<(), Down>
+    ensures { OnOk result ((t : Tables) → HasWsRows rows.now t → Judges (AreLawfulWss t) found.old found.new) }
+{
+    let groups = group_all(alloc, rows)?;
+    judge_rows(alloc, rows, &groups, found)?;
+    Ok(())
+}
+
+fn group_all(alloc: Global, rows: &Rows) -> Result<Grouped, Down>
+    ensures { IfOk result (AreAllGrouped rows.now) }
+{
+    let versions = group_versions(alloc, rows.versions.as_slice())?;
+    let runs = group_runs(alloc, rows.runs.as_slice())?;
+    let keepings = group_keepings(alloc, rows.keepings.as_slice())?;
+    Ok(Grouped {
+        versions,
+        runs,
+        keepings,
+    })
+}
+
+fn judge_rows(alloc: Global, rows: &Rows, groups: &Grouped, found: &mut Found) -> Result<(), Down>
+    ensures { OnOk result (Judges (AllByRecursion (IsLawfulAt rows.now groups.now) rows.now.wss) found.old found.new) }
+{
+    let wss = rows.wss.as_slice();
+    for row in wss {
+        judge_row(alloc, rows, groups, row, found)?;
+    }
+    Ok(())
+}
+
+fn judge_row(
+    alloc: Global,
+    rows: &Rows,
+    groups: &Grouped,
+    row: &(i64, WsRow),
+    found: &mut Found,
+) -> Result<(), Down>
+    ensures { OnOk result (Judges (IsLawfulAt rows.now groups.now row.now) found.old found.new) }
+{
+    let org = row.1.org.as_str();
+    let ws = row.1.name.as_str();
+    let own = is_own(alloc, &row.1)?;
+    judge(alloc, found, own, FaultKind::Unlawful, org, ws, None)?;
+    let places = groups.keepings.places(org, ws);
+    let keep = keep_among(rows.keepings.as_slice(), places).get();
+    let places = groups.versions.places(org, ws);
+    let versions = are_versions(
+        alloc,
+        rows.versions.as_slice(),
+        places,
+        keep,
+        row.1.it.next_version,
+    )?;
+    let number = unfit_version(rows.versions.as_slice(), places);
+    judge(alloc, found, versions, FaultKind::Versions, org, ws, number)?;
+    let places = groups.runs.places(org, ws);
+    let runs = are_runs(
+        alloc,
+        rows.runs.as_slice(),
+        places,
+        &row.1.it.holder,
+        row.1.it.next_run,
+    )?;
+    let number = unfit_run(rows.runs.as_slice(), places, &row.1.it.holder);
+    judge(alloc, found, runs, FaultKind::Runs, org, ws, number)?;
+    Ok(())
+}
+
+/// Notes a fault, if what was looked at isn't lawful.
+pub fn judge(
+    alloc: Global,
+    found: &mut Found,
+    lawful: bool,
+    kind: FaultKind,
+    org: &str,
+    ws: &str,
+    number: Option<u64>,
+) -> Result<(), Down>
+    ensures { OnOk result (Judges (IsTrue lawful) found.old found.new) }
+{
+    if lawful {
+        return Ok(());
+    }
+    found.note(alloc, kind, org, ws, number)
+}
+
+// How many versions are kept, by the first of these rows.
+fn keep_among(rows: &[(i64, KeepingRow)], places: &[usize]) -> KeepCount
+    ensures { result ≡ keep_among (picked rows.now places.now) }
+{
+    match kept_in(rows, places) {
+        Some(keep) => keep,
+        None => KeepCount::first(),
+    }
+}
+
+fn kept_in(rows: &[(i64, KeepingRow)], places: &[usize]) -> Option<KeepCount>
+    ensures { result ≡ kept_in (picked rows.now places.now) }
+{
+    for place in places {
+        if let Some(keep) = kept_at(rows, *place) {
+            return Some(keep);
+        }
+    }
+    None
+}
+
+fn kept_at(rows: &[(i64, KeepingRow)], place: usize) -> Option<KeepCount>
+    ensures { result ≡ kept_in (picked rows.now (place ∷ [])) }
+{
+    match rows.get(place) {
+        Some(row) => Some(row.1.keep),
+        None => None,
+    }
+}
+
+// Whether the name, the next numbers and the lock that was released last are in range.
+fn is_own(alloc: Global, row: &WsRow) -> Result<bool, Down>
+    ensures { IfOk result (λ lawful. lawful ≡ is_own row.now) }
+{
+    let named = is_ws_name(alloc, row.name.as_str())?;
+    Ok(
+        named
+            && is_next(row.it.next_version)
+            && is_next(row.it.next_run)
+            && is_free_if(&row.it.released),
+    )
+}
+
+fn is_ws_name(alloc: Global, name: &str) -> Result<bool, Down>
+    ensures { IfOk result (λ named. named ≡ is_ws_name name.now) }
+{
+    match WsName::read(alloc, name) {
+        Ok(_) => Ok(true),
+        Err(Unfit::Syntax) => Ok(false),
+        Err(Unfit::Down) => Err(Down),
+    }
+}
+
+fn is_next(next: u64) -> bool
+    ensures { result ≡ is_next next }
+{
+    1 <= next && next <= MAX_NUMBER as u64 + 1
+}
+
+fn is_free_if(id: &Option<LockId>) -> bool
+    ensures { result ≡ is_free_if id.now }
+{
+    match id {
+        Some(id) => is_free_id(id.as_str().as_bytes()),
+        None => true,
+    }
+}

@@ -1,0 +1,17 @@
+use Rattle.program.proofs.OutcomeLemmas.{served}
+use Rattle.program.proofs.OutsideLemmas.{serves_opened}
+use Rattle.program.proofs.running.serve_opened.Goals as goal
+
+pub returns-clause-line : goal.returns-clause-line
+returns-clause-line g c = served c.args.logs c.serve_at-ending.result c.say_served.result (g.O.Write.contents c.args.output.now) (g.O.Write.contents c.serve_at-ending.new.output) (g.O.Write.contents c.say_served.new.output) c.serve_at-ending.ensures.listens c.say_served.ensures.down c.say_served.ensures.other
+
+pub returns-clause-serves : goal.returns-clause-serves
+returns-clause-serves g c = serves_opened g.K.Keep g.F.Files g.N.Connections g.C.Clock g.N.Reader.Inlet g.N.Writer.Outlet
+    c.args.db.now c.args.port c.args.timeouts.now c.args.logs c.args.count c.args.files.now c.close_after.new.files
+    c.args.network.now c.serve_at-ending.new.network c.args.clock.now c.serve_at-ending.new.clock
+    c.args.keep c.new-service.result.keep c.serve_at-ending.new.service.keep c.into_keep-keep.result c.serve_at-ending.result c.say_served.result
+    (g.O.Write.contents c.args.output.now) (g.O.Write.contents c.serve_at-ending.new.output) (g.O.Write.contents c.say_served.new.output)
+    (g.E.Write.contents c.args.errors.now) (g.E.Write.contents c.serve_at-ending.new.errors) (g.E.Write.contents c.close_after.new.errors)
+    c.new-service.ensures.keep c.into_keep-keep.ensures
+    c.serve_at-ending.ensures.so_far c.serve_at-ending.ensures.shield c.serve_at-ending.ensures.kept c.serve_at-ending.ensures.serves c.serve_at-ending.ensures.answers
+    c.close_after.ensures.closed c.close_after.ensures.others c.say_served.ensures.says c.close_after.ensures.log
