@@ -13,7 +13,7 @@ import re
 import sys
 
 WORD = re.compile(r"[A-Za-z_][A-Za-z0-9_]*(?:[-'][A-Za-z0-9_]+)*")
-USE = re.compile(r"^\s*(?:pub )?(?:ghost )?use (Rattle[^\s{;]*?)(?:\.?\{([^}]*)\})?(?: as (\S+?))?;?\s*$", re.M)
+USE = re.compile(r"^\s*(pub )?(?:ghost )?use (Rattle[^\s{;]*?)(?:\.?\{([^}]*)\})?(?: as (\S+?))?;?\s*$", re.M)
 GHOST_USE = re.compile(r"^\s*ghost use [^\n]*$", re.M)
 ANY_USE = re.compile(r"^\s*(?:pub )?(?:ghost )?use [^\n]*$", re.M)
 ITEM = re.compile(r"^((?:(?:abbrev|unfoldable|pub|data|record|rec|private) )*)([A-Za-z_][A-Za-z0-9_]*(?:[-'][A-Za-z0-9_]+)*)(?: \([^\n]*| \{[^\n]*)? ?: ", re.M)
@@ -42,15 +42,15 @@ def is_named(name, body, counted):
 
 
 def imports(texts):
-    """What is imported of each module, and each import that its file doesn't name."""
-    taken, idle = collections.defaultdict(set), []
+    """What is imported of each module, and each import that its file doesn't name, nor passes on to one that does."""
+    taken, idle, passed = collections.defaultdict(set), [], []
     for path, text in texts.items():
         body = (ANY_USE if path.endswith(".antt") else GHOST_USE).sub("", text)
         counted = names(body)
         for using in USING.findall(text):
             *inner, last = using.split("::")
             taken["Rattle.%s.proofs.%s" % (path.split("/")[1], ".".join(inner))].add(last)
-        for source, listed, alias in USE.findall(text):
+        for is_passed_on, source, listed, alias in USE.findall(text):
             if not listed:
                 taken[source] |= {word for word in counted}
                 continue
@@ -58,8 +58,8 @@ def imports(texts):
                 first, _, last = one.partition(" as ")
                 taken[source].add(first)
                 if not is_named(last or first, body, counted):
-                    idle.append((path, last or first))
-    return taken, idle
+                    (passed if is_passed_on else idle).append((path, last or first))
+    return taken, idle + [row for row in passed if row[1] not in taken[module(row[0])]]
 
 
 def items(path, text, taken):
