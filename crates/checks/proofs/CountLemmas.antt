@@ -7,7 +7,7 @@ use Rattle.statements.specs.Changes.{is_ws_of}
 use Rattle.tables.proofs.Names.{same_name}
 use Rattle.checks.specs.declared.found.Found.{Found}
 use Rattle.checks.specs.Judging.{Judges}
-use Rattle.checks.specs.Counts.{count_in, AreFew}
+use Rattle.checks.specs.Inner.Counts.{count_in, AreFew}
 use Rattle.checks.proofs.JudgingLemmas.{judges_both, judges_as}
 
 counted_on : (xs : List (Kept WsRow)) (x : Kept WsRow) (org : List ℕ) → count_in (xs ++ x ∷ []) org ≡ cond (is_ws_of org x) (count_in xs org + 1) (count_in xs org)

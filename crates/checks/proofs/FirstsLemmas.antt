@@ -12,8 +12,8 @@ use Rattle.std.specs.Cmp.{unsigned_ties}
 use Rattle.std.proofs.lemmas.Map.Text.{is_eq-slice_cmp}
 use Rattle.std.proofs.lemmas.Slice.Eq.{bytes_eq-Decides}
 use Rattle.checks.specs.declared.keys.RowKey.{RowKey}
-use Rattle.checks.specs.Keys.{is_key}
-use Rattle.checks.specs.Firsts.{key_cmp, key_of_parts, value_at, KeepsFirst, AddsOne, IsKeyOf}
+use Rattle.checks.specs.Inner.Keys.{is_key}
+use Rattle.checks.specs.Inner.Firsts.{key_cmp, key_of_parts, value_at, KeepsFirst, AddsOne, IsKeyOf}
 
 both_equal : (a b : Ordering) (p q : Bool) → is_eq a ≡ p → is_eq b ≡ q → is_eq (ordering_then a b) ≡ (p && q)
 both_equal Less b p q is also = ap (λ (x : Bool). x && q) is

@@ -4,7 +4,7 @@ use Rattle.std.specs.Option.{option_map_or}
 use Rattle.std.specs.Str.{bytes_eq}
 use Rattle.std.proofs.lemmas.Option.{slice_get-get_or}
 use Rattle.tables.proofs.Names.{same_name}
-use Rattle.checks.specs.Groups.{with_some, picked}
+use Rattle.checks.specs.Inner.Groups.{with_some, picked}
 
 module _ {X : Type 0} (rows : List X) where
   pub picked_first : (place : ℕ) (places : List ℕ) → picked rows (place ∷ places) ≡ picked rows (place ∷ []) ++ picked rows places

@@ -15,10 +15,10 @@ use Rattle.texts.specs.Texts.{names_page, is_place, page_name, bytes_named, piec
 use Rattle.tables.specs.Sound.{HasText}
 use Rattle.checks.specs.declared.found.Found.{Found}
 use Rattle.checks.specs.Judging.{Judges}
-use Rattle.checks.specs.Heads.{IsSoundHead}
+use Rattle.checks.specs.Inner.Heads.{IsSoundHead}
 use Rattle.checks.proofs.JudgingLemmas.{judges_both, judges_as}
 use Rattle.checks.proofs.PageKeys.{heads_apart}
-use Rattle.checks.specs.Places.{is_head, page_size_in, NamesPage, count_in, IsCountedIn, named_size_in, HasTextIn, AreRowsSound, AreTextsSound}
+use Rattle.checks.specs.Inner.Places.{is_head, page_size_in, NamesPage, count_in, IsCountedIn, named_size_in, HasTextIn, AreRowsSound, AreTextsSound}
 
 -- ---- tests
 

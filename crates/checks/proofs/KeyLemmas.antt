@@ -11,7 +11,8 @@ use Rattle.std.proofs.lemmas.Cmp.{nat_eq_equiv, nat_list_eq_equiv}
 use Rattle.std.proofs.lemmas.Map.Text.{is_eq-slice_cmp}
 use Rattle.statements.proofs.NameLists.{same_text}
 use Rattle.checks.specs.declared.keys.RowKey.{RowKey}
-use Rattle.checks.specs.Keys.{is_key}
+use Rattle.checks.specs.Inner.Firsts.{key_cmp}
+use Rattle.checks.specs.Inner.Keys.{is_key}
 use Rattle.checks.proofs.RowLists.{any_same, or_none}
 
 or_turned : (a b : Bool) → (a || b) ≡ (b || a)
@@ -42,10 +43,6 @@ same_number = eqb-true
 
 pub bytes_turned : (x y : List ℕ) → bytes_eq x y ≡ bytes_eq y x
 bytes_turned = nat_list_eq_equiv.symm
-
--- by its fields in turn
-abbrev pub key_cmp : RowKey → RowKey → Ordering
-key_cmp a b = ordering_then (nat_cmp a.place b.place) (ordering_then (nat_cmp a.number b.number) (ordering_then (slice_cmp nat_cmp a.first.now b.first.now) (slice_cmp nat_cmp a.second.now b.second.now)))
 
 eq_then : (o p : Ordering) → is_eq (ordering_then o p) ≡ (is_eq o && is_eq p)
 eq_then Less p = refl

@@ -13,12 +13,12 @@ use Rattle.statements.specs.declared.rows.PageHead.{PageHead}
 use Rattle.statements.specs.Rows.{Kept, VersionRow, VpageRow}
 use Rattle.texts.specs.Texts.{pages_for, piece_size, names_page}
 use Rattle.checks.specs.declared.keys.RowKey.{RowKey}
-use Rattle.checks.specs.Places.{IsRunOf, AreRuns, size_in, IsPlacedIn, HasCounts, count_in, piece_in, HasPieceIn, HasTextIn, IsCountedIn, NamesPage, AreRowsSound}
-use Rattle.checks.specs.Heads.{IsSoundHead}
 use Rattle.checks.specs.Judging.{Judges}
 use Rattle.checks.specs.declared.found.Found.{Found}
-use Rattle.checks.specs.Keys.{is_key}
-use Rattle.checks.specs.Firsts.{key_cmp, IsKeyOf}
+use Rattle.checks.specs.Inner.Places.{IsRunOf, AreRuns, size_in, IsPlacedIn, HasCounts, count_in, piece_in, HasPieceIn, HasTextIn, IsCountedIn, NamesPage, AreRowsSound}
+use Rattle.checks.specs.Inner.Heads.{IsSoundHead}
+use Rattle.checks.specs.Inner.Keys.{is_key}
+use Rattle.checks.specs.Inner.Firsts.{key_cmp, IsKeyOf}
 use Rattle.checks.proofs.FirstsLemmas.{at_key, empty_at}
 use Rattle.checks.proofs.JudgingLemmas.{judges_both, judges_as}
 

@@ -4,9 +4,9 @@ use Rattle.basis.specs.declared.numbers.TheConstants.{MAX_KEPT}
 use Rattle.statements.specs.Rows.{Kept, WsRow, VersionRow, RunRow, KeepingRow}
 use Rattle.checks.specs.declared.found.Found.{Found}
 use Rattle.checks.specs.Judging.{Judges}
-use Rattle.checks.specs.Versions.{are_versions}
-use Rattle.checks.specs.Runs.{are_runs}
-use Rattle.checks.specs.Workspaces.{is_own, keep_among, IsLawfulRow}
+use Rattle.checks.specs.Inner.Versions.{are_versions}
+use Rattle.checks.specs.Inner.Runs.{are_runs}
+use Rattle.checks.specs.Inner.Workspaces.{is_own, keep_among, IsLawfulRow}
 use Rattle.checks.proofs.JudgingLemmas.{judges_both, judges_as}
 
 -- three looks judge a workspace

@@ -5,12 +5,12 @@ use Rattle.statements.specs.Tables.{Tables}
 use Rattle.pages.specs.Heads.{head_in}
 use Rattle.tables.specs.Scans.{AreRowsOf, ArePagesKeyed}
 use Rattle.tables.specs.Sound.{IsSound}
-use Rattle.checks.specs.Counts.{AreFew}
 use Rattle.checks.specs.Judging.{Judges}
-use Rattle.checks.specs.Places.{AreTextsSound}
-use Rattle.checks.specs.Workspaces.{AreLawfulWss, HasWsRows}
-use Rattle.checks.specs.Inner.Looks.{AreRowsFit}
 use Rattle.checks.specs.declared.found.Found.{Found}
+use Rattle.checks.specs.Inner.Counts.{AreFew}
+use Rattle.checks.specs.Inner.Places.{AreTextsSound}
+use Rattle.checks.specs.Inner.Workspaces.{AreLawfulWss, HasWsRows}
+use Rattle.checks.specs.Inner.Looks.{AreRowsFit}
 use Rattle.checks.proofs.JudgingLemmas.{judges_both, judges_as}
 use Rattle.checks.proofs.WsTies.{named_by_rows, rows_by_name, counts_by_rows, rows_by_counts}
 

@@ -15,7 +15,7 @@ use Rattle.statements.specs.Tables.{Tables}
 use Rattle.statements.specs.Changes.{is_version_of}
 use Rattle.statements.specs.Finds.{version_cmp}
 use Rattle.tables.specs.Records.{version_at, versions_at}
-use Rattle.checks.specs.Versions.{is_version_row, version_number, rises, reaches, sorted, are_versions}
+use Rattle.checks.specs.Inner.Versions.{is_version_row, version_number, rises, reaches, sorted, are_versions}
 use Rattle.checks.proofs.TestLemmas.{all_from_tests, tests_from_all, all_in_order, all_as_they_stand}
 
 -- ---- numbers

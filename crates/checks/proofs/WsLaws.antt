@@ -17,9 +17,9 @@ use Rattle.tables.specs.Records.{keep_at, workspace_at}
 use Rattle.checks.specs.declared.found.Found.{Found}
 use Rattle.checks.specs.declared.workspaces.Grouped.{Grouped}
 use Rattle.checks.specs.Judging.{Judges}
-use Rattle.checks.specs.Groups.{picked, places_in}
-use Rattle.checks.specs.Versions.{are_versions}
-use Rattle.checks.specs.Workspaces.{is_next, is_free_if, kept_in, keep_among, IsLawfulRow, IsLawfulAt, AreAllGrouped, HasWsRows, AreLawfulWss}
+use Rattle.checks.specs.Inner.Groups.{picked, places_in}
+use Rattle.checks.specs.Inner.Versions.{are_versions}
+use Rattle.checks.specs.Inner.Workspaces.{is_next, is_free_if, kept_in, keep_among, IsLawfulRow, IsLawfulAt, AreAllGrouped, HasWsRows, AreLawfulWss}
 use Rattle.checks.proofs.JudgingLemmas.{judges_as}
 use Rattle.checks.proofs.VersionLaws.{versions_by_test, test_of_versions}
 use Rattle.checks.proofs.RunLaws.{runs_by_test, test_of_runs}

@@ -20,8 +20,8 @@ use Rattle.tables.specs.Records.{workspace_at, workspace_by, workspaces_at, orga
 use Rattle.tables.proofs.Names.{same_name, pair_first, pair_second, pair_is, pair_apart}
 use Rattle.tables.proofs.Finding.{entries_counted}
 use Rattle.tables.proofs.Sets.{one_of}
-use Rattle.checks.specs.Workspaces.{AreLawfulWss}
-use Rattle.checks.specs.Counts.{count_in, AreFew}
+use Rattle.checks.specs.Inner.Workspaces.{AreLawfulWss}
+use Rattle.checks.specs.Inner.Counts.{count_in, AreFew}
 
 module _ (t : Tables) where
   abbrev AreSingle : Type 0

@@ -1,2 +1,11 @@
 -- Contracts between functions: nothing here has to be believed, since what it says of public calls is tied to the definitions beside this folder.
+pub mod Counts
+pub mod Firsts
+pub mod Groups
+pub mod Heads
+pub mod Keys
 pub mod Looks
+pub mod Places
+pub mod Runs
+pub mod Versions
+pub mod Workspaces

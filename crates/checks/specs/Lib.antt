@@ -1,12 +1,3 @@
-pub mod Counts
-pub mod Firsts
-pub mod Groups
-pub mod Heads
 pub mod Inner
 pub mod Judging
-pub mod Keys
 pub mod Lines
-pub mod Places
-pub mod Runs
-pub mod Versions
-pub mod Workspaces

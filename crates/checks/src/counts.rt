@@ -1,11 +1,10 @@
 //! Whether no organization has more workspaces than any may have.
 ghost use Rattle.std.specs.Prelude.{OnOk};
 ghost use Rattle.checks.specs.Judging.{Judges};
-ghost use Rattle.checks.specs.Counts.{AreFew};
+ghost use Rattle.checks.specs.Inner.Counts.{AreFew};
 
 use crate::found::{FaultKind, Found};
 use crate::groups::Groups;
-use crate::workspaces::judge;
 use basis::Down;
 use basis::numbers::MAX_LIMIT;
 use statements::rows::WsRow;
@@ -25,7 +24,7 @@ pub fn judge_counts(alloc: Global, wss: &[(i64, WsRow)], found: &mut Found) -> R
         groups.add(alloc, org, "", place)?;
         let count = groups.places(org, "").len();
         let within = count != TOO_MANY;
-        judge(alloc, found, within, FaultKind::TooMany, org, "", None)?;
+        found.judge(alloc, within, FaultKind::TooMany, org, "", None)?;
     }
     Ok(())
 }

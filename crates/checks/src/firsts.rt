@@ -1,7 +1,7 @@
 //! Maps that keep the first value of each key.
 ghost use Rattle.std.specs.Prelude.{◌≡◌, ◌+◌, ◌<◌, ◌^◌, unwrap_or, OnOk};
 ghost use Rattle.std.specs.BTreeMap.{get};
-ghost use Rattle.checks.specs.Firsts.{key_cmp, KeepsFirst, AddsOne};
+ghost use Rattle.checks.specs.Inner.Firsts.{key_cmp, KeepsFirst, AddsOne};
 
 use crate::keys::RowKey;
 use basis::Down;

@@ -3,11 +3,10 @@ ghost use Rattle.std.specs.Prelude.{◌≡◌, ◌++◌, ◌∷◌, [], ◌&&◌
 ghost use Rattle.std.specs.Str.{bytes_eq};
 ghost use Rattle.std.specs.Option.{option_map_or};
 ghost use Rattle.std.specs.BTreeMap.{get_by_text};
-ghost use Rattle.statements.specs.Changes.{is_keeping, is_version_of, is_run_of};
-ghost use Rattle.checks.specs.Groups.{places_at, places_in, AreGrouped};
+ghost use Rattle.checks.specs.Inner.Groups.{places_at, places_in, AreGrouped};
 
+use crate::keys::Named;
 use basis::Down;
-use statements::rows::{KeepingRow, RunRow, VersionRow};
 use std::alloc::Global;
 use std::collections::BTreeMap;
 
@@ -98,35 +97,13 @@ fn take_places(alloc: Global, wss: &mut BTreeMap<String, Vec<usize>>, ws: &str) 
     }
 }
 
-/// The places of versions by their workspaces.
-pub fn group_versions(alloc: Global, rows: &[(i64, VersionRow)]) -> Result<Groups, Down>
-    ensures { IfOk result (AreGrouped is_version_of rows.now) }
+/// The places of rows by the organization and the name that they have.
+pub(crate) fn group<R: Named>(alloc: Global, rows: &[(i64, R)]) -> Result<Groups, Down>
+    ensures { IfOk result (AreGrouped (λ org name x. bytes_eq (R.org_of x.1) org && bytes_eq (R.name_of x.1) name) rows.now) }
 {
     let mut groups = Groups::new(alloc);
     for (place, row) in rows.iter().enumerate() {
-        groups.add(alloc, row.1.org.as_str(), row.1.ws.as_str(), place)?;
-    }
-    Ok(groups)
-}
-
-/// The places of runs by their workspaces.
-pub fn group_runs(alloc: Global, rows: &[(i64, RunRow)]) -> Result<Groups, Down>
-    ensures { IfOk result (AreGrouped is_run_of rows.now) }
-{
-    let mut groups = Groups::new(alloc);
-    for (place, row) in rows.iter().enumerate() {
-        groups.add(alloc, row.1.org.as_str(), row.1.ws.as_str(), place)?;
-    }
-    Ok(groups)
-}
-
-/// The places of rows of keeping by their workspaces.
-pub fn group_keepings(alloc: Global, rows: &[(i64, KeepingRow)]) -> Result<Groups, Down>
-    ensures { IfOk result (AreGrouped is_keeping rows.now) }
-{
-    let mut groups = Groups::new(alloc);
-    for (place, row) in rows.iter().enumerate() {
-        groups.add(alloc, row.1.org.as_str(), row.1.ws.as_str(), place)?;
+        groups.add(alloc, row.1.org(), row.1.name(), place)?;
     }
     Ok(groups)
 }

@@ -2,7 +2,7 @@
 ghost use Rattle.std.specs.Prelude.{OnOk};
 ghost use Rattle.std.specs.List.{AllByRecursion};
 ghost use Rattle.checks.specs.Judging.{IsClean, Judges};
-ghost use Rattle.checks.specs.Heads.{IsSoundHead};
+ghost use Rattle.checks.specs.Inner.Heads.{IsSoundHead};
 
 use crate::found::{FaultKind, Found};
 use basis::Down;

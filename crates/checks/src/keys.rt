@@ -5,7 +5,7 @@ ghost use Rattle.sqlite_keyed.specs.Rules.{AreApart};
 ghost use Rattle.statements.specs.Changes.{is_org, is_token, is_digest_of, is_ws, is_bound, is_keeping};
 ghost use Rattle.texts.specs.Texts.{is_place};
 ghost use Rattle.checks.specs.Judging.{Judges};
-ghost use Rattle.checks.specs.Keys.{is_key, has_key};
+ghost use Rattle.checks.specs.Inner.Keys.{is_key, has_key};
 
 use crate::found::{FaultKind, Found};
 use basis::Down;

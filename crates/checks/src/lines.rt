@@ -3,7 +3,8 @@ ghost use Rattle.std.specs.Prelude.{◌≡◌, IfOk};
 ghost use Rattle.checks.specs.Lines.{fault_word, name_or_hyphen, fault_line};
 
 use crate::found::{Fault, FaultKind};
-use basis::{Down, Text, Unfit, WsName};
+use crate::workspaces::is_ws_name;
+use basis::{Down, Text};
 use std::alloc::Global;
 
 impl FaultKind {
@@ -36,10 +37,10 @@ impl FaultKind {
 fn name_or_hyphen(alloc: Global, name: &str) -> Result<&str, Down>
     ensures { IfOk result (λ text. text.now ≡ name_or_hyphen name.entry.now) }
 {
-    match WsName::read(alloc, name) {
-        Ok(_) => Ok(name),
-        Err(Unfit::Syntax) => Ok("-"),
-        Err(Unfit::Down) => Err(Down),
+    if is_ws_name(alloc, name)? {
+        Ok(name)
+    } else {
+        Ok("-")
     }
 }
 

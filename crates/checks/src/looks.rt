@@ -3,10 +3,10 @@ ghost use Rattle.std.specs.Prelude.{ℕ, List, IfOk, OnOk};
 ghost use Rattle.statements.specs.Tables.{Tables};
 ghost use Rattle.tables.specs.Scans.{AreRowsOf, ArePagesKeyed};
 ghost use Rattle.tables.specs.Sound.{IsSound};
-ghost use Rattle.checks.specs.Counts.{AreFew};
 ghost use Rattle.checks.specs.Judging.{Judges, Decides};
-ghost use Rattle.checks.specs.Places.{AreTextsSound};
-ghost use Rattle.checks.specs.Workspaces.{AreLawfulWss};
+ghost use Rattle.checks.specs.Inner.Counts.{AreFew};
+ghost use Rattle.checks.specs.Inner.Places.{AreTextsSound};
+ghost use Rattle.checks.specs.Inner.Workspaces.{AreLawfulWss};
 ghost use Rattle.checks.specs.Inner.Looks.{AreNamesApart, AreOthersApart, HaveTokensOwners, HaveWorkspacesOwners, AreInRange, AreRowsFit};
 
 use crate::counts::judge_counts;

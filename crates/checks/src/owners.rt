@@ -3,7 +3,7 @@ ghost use Rattle.std.specs.Prelude.{◌≡◌, ℕ, List, [], true, ◌&&◌, by
 ghost use Rattle.std.specs.List.{AllByRecursion, list_any};
 ghost use Rattle.statements.specs.Changes.{is_org, is_token, is_ws, is_bound, is_keeping};
 ghost use Rattle.checks.specs.Judging.{Judges};
-ghost use Rattle.checks.specs.Keys.{has_key};
+ghost use Rattle.checks.specs.Inner.Keys.{has_key};
 
 use crate::found::{FaultKind, Found};
 use crate::keys::{Keys, Named, keys_of};

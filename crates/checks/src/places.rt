@@ -7,8 +7,8 @@ ghost use Rattle.statements.specs.Tables.{Tables};
 ghost use Rattle.pages.specs.Heads.{head_in};
 ghost use Rattle.texts.specs.Texts.{pages_for, piece_size};
 ghost use Rattle.checks.specs.Judging.{Judges};
-ghost use Rattle.checks.specs.Firsts.{IsKeyOf};
-ghost use Rattle.checks.specs.Places.{HasSizes, IsPlacedIn, page_size_in, HasPageSizes, NamesPage, HasCounts, IsCountedIn, HasPieces, piece_in, IsRunOf, AreRuns, HasTextIn, AreRowsSound, AreTextsSound};
+ghost use Rattle.checks.specs.Inner.Firsts.{IsKeyOf};
+ghost use Rattle.checks.specs.Inner.Places.{HasSizes, IsPlacedIn, page_size_in, HasPageSizes, NamesPage, HasCounts, IsCountedIn, HasPieces, piece_in, IsRunOf, AreRuns, HasTextIn, AreRowsSound, AreTextsSound};
 
 use crate::firsts::{add_one, count_at, keep_first};
 use crate::found::{FaultKind, Found};

@@ -1,14 +1,14 @@
 //! Whether each workspace is lawful, with its versions and runs.
-ghost use Rattle.std.specs.Prelude.{◌≡◌, ◌∷◌, [], IsTrue, IfOk, OnOk};
+ghost use Rattle.std.specs.Prelude.{◌≡◌, ◌∷◌, [], IfOk, OnOk};
 ghost use Rattle.std.specs.List.{AllByRecursion};
 ghost use Rattle.basis.specs.Names.{is_ws_name};
 ghost use Rattle.statements.specs.Tables.{Tables};
 ghost use Rattle.checks.specs.Judging.{Judges};
-ghost use Rattle.checks.specs.Groups.{picked};
-ghost use Rattle.checks.specs.Workspaces.{is_next, is_free_if, is_own, kept_in, keep_among, IsLawfulAt, AreAllGrouped, HasWsRows, AreLawfulWss};
+ghost use Rattle.checks.specs.Inner.Groups.{picked};
+ghost use Rattle.checks.specs.Inner.Workspaces.{is_next, is_free_if, is_own, kept_in, keep_among, IsLawfulAt, AreAllGrouped, HasWsRows, AreLawfulWss};
 
 use crate::found::{FaultKind, Found};
-use crate::groups::{Groups, group_keepings, group_runs, group_versions};
+use crate::groups::{Groups, group};
 use crate::runs::{are_runs, unfit_run};
 use crate::versions::{are_versions, unfit_version};
 use basis::numbers::MAX_NUMBER;
@@ -37,9 +37,9 @@ pub fn judge_workspaces(alloc: Global, rows: &Rows, found: &mut Found) -> Result
 fn group_all(alloc: Global, rows: &Rows) -> Result<Grouped, Down>
     ensures { IfOk result (AreAllGrouped rows.now) }
 {
-    let versions = group_versions(alloc, rows.versions.as_slice())?;
-    let runs = group_runs(alloc, rows.runs.as_slice())?;
-    let keepings = group_keepings(alloc, rows.keepings.as_slice())?;
+    let versions = group(alloc, rows.versions.as_slice())?;
+    let runs = group(alloc, rows.runs.as_slice())?;
+    let keepings = group(alloc, rows.keepings.as_slice())?;
     Ok(Grouped {
         versions,
         runs,
@@ -69,7 +69,7 @@ fn judge_row(
     let org = row.1.org.as_str();
     let ws = row.1.name.as_str();
     let own = is_own(alloc, &row.1)?;
-    judge(alloc, found, own, FaultKind::Unlawful, org, ws, None)?;
+    found.judge(alloc, own, FaultKind::Unlawful, org, ws, None)?;
     let places = groups.keepings.places(org, ws);
     let keep = keep_among(rows.keepings.as_slice(), places).get();
     let places = groups.versions.places(org, ws);
@@ -81,7 +81,7 @@ fn judge_row(
         row.1.it.next_version,
     )?;
     let number = unfit_version(rows.versions.as_slice(), places);
-    judge(alloc, found, versions, FaultKind::Versions, org, ws, number)?;
+    found.judge(alloc, versions, FaultKind::Versions, org, ws, number)?;
     let places = groups.runs.places(org, ws);
     let runs = are_runs(
         alloc,
@@ -91,26 +91,8 @@ fn judge_row(
         row.1.it.next_run,
     )?;
     let number = unfit_run(rows.runs.as_slice(), places, &row.1.it.holder);
-    judge(alloc, found, runs, FaultKind::Runs, org, ws, number)?;
+    found.judge(alloc, runs, FaultKind::Runs, org, ws, number)?;
     Ok(())
-}
-
-/// Notes a fault, if what was looked at isn't lawful.
-pub fn judge(
-    alloc: Global,
-    found: &mut Found,
-    lawful: bool,
-    kind: FaultKind,
-    org: &str,
-    ws: &str,
-    number: Option<u64>,
-) -> Result<(), Down>
-    ensures { OnOk result (Judges (IsTrue lawful) found.old found.new) }
-{
-    if lawful {
-        return Ok(());
-    }
-    found.note(alloc, kind, org, ws, number)
 }
 
 // How many versions are kept, by the first of these rows.
@@ -156,7 +138,8 @@ fn is_own(alloc: Global, row: &WsRow) -> Result<bool, Down>
     )
 }
 
-fn is_ws_name(alloc: Global, name: &str) -> Result<bool, Down>
+/// Whether a text is a workspace's name.
+pub(crate) fn is_ws_name(alloc: Global, name: &str) -> Result<bool, Down>
     ensures { IfOk result (λ named. named ≡ is_ws_name name.now) }
 {
     match WsName::read(alloc, name) {

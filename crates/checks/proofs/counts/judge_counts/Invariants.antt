@@ -1,7 +1,7 @@
 use Rattle.std.proofs.Common.{◌≡◌, ℕ, List, [], length, take}
 use Rattle.checks.specs.Judging.{Judges}
-use Rattle.checks.specs.Groups.{places_in}
-use Rattle.checks.specs.Counts.{count_in, AreFew}
+use Rattle.checks.specs.Inner.Groups.{places_in}
+use Rattle.checks.specs.Inner.Counts.{count_in, AreFew}
 use Rattle.checks.proofs.counts.judge_counts.Given as goal
 
 abbrev pub invariant-loop-place : goal.invariant-loop-place

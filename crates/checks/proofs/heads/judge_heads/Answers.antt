@@ -1,4 +1,4 @@
-use Rattle.checks.specs.Heads.{IsSoundHead}
+use Rattle.checks.specs.Inner.Heads.{IsSoundHead}
 use Rattle.checks.proofs.RowLists.{all_judged}
 use Rattle.checks.proofs.heads.judge_heads.Goals as goal
 

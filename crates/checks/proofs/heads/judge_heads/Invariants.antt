@@ -1,7 +1,7 @@
 use Rattle.std.proofs.Common.{take}
 use Rattle.std.specs.List.{AllByRecursion}
 use Rattle.checks.specs.Judging.{Judges}
-use Rattle.checks.specs.Heads.{IsSoundHead}
+use Rattle.checks.specs.Inner.Heads.{IsSoundHead}
 use Rattle.checks.proofs.heads.judge_heads.Given as goal
 
 -- the heads so far are looked at

@@ -3,7 +3,7 @@ use Rattle.std.specs.List.{list_any}
 use Rattle.sqlite_keyed.specs.Rules.{AreApart}
 use Rattle.statements.specs.Changes.{is_digest_of}
 use Rattle.checks.specs.Judging.{Judges}
-use Rattle.checks.specs.Keys.{has_key}
+use Rattle.checks.specs.Inner.Keys.{has_key}
 use Rattle.checks.proofs.keys.digests_apart.Given as goal
 
 abbrev pub invariant-loop-row : goal.invariant-loop-row

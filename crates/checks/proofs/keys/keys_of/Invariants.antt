@@ -1,7 +1,7 @@
 use Rattle.std.proofs.Common.{◌≡◌, ℕ, List, ◌&&◌, take}
 use Rattle.std.specs.Str.{bytes_eq}
 use Rattle.std.specs.List.{list_any}
-use Rattle.checks.specs.Keys.{has_key}
+use Rattle.checks.specs.Inner.Keys.{has_key}
 use Rattle.checks.proofs.keys.keys_of.Given as goal
 
 abbrev pub invariant-loop-row : goal.invariant-loop-row

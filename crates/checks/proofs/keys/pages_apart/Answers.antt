@@ -1,6 +1,6 @@
 use Rattle.std.proofs.Common.{◌&&◌, ◌||◌, ◌==◌, [], not, ap, ap₂, sym, ◌∙◌}
 use Rattle.std.specs.Str.{bytes_eq}
-use Rattle.checks.specs.Keys.{has_key}
+use Rattle.checks.specs.Inner.Keys.{has_key}
 use Rattle.checks.proofs.KeyLemmas.{bytes_turned, number_turned, both_turned}
 use Rattle.checks.proofs.RowLists.{any_judged, apart_judged}
 use Rattle.checks.proofs.keys.pages_apart.Goals as goal

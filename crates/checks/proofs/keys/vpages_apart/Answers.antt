@@ -1,7 +1,7 @@
 use Rattle.std.proofs.Common.{◌&&◌, ◌||◌, ◌==◌, ap₂, sym, ◌∙◌}
 use Rattle.std.specs.Str.{bytes_eq}
 use Rattle.texts.specs.Texts.{is_place}
-use Rattle.checks.specs.Keys.{has_key}
+use Rattle.checks.specs.Inner.Keys.{has_key}
 use Rattle.checks.proofs.KeyLemmas.{bytes_turned, number_turned, regrouped, fresh_by}
 use Rattle.checks.proofs.RowLists.{any_judged, apart_judged}
 use Rattle.checks.proofs.keys.vpages_apart.Goals as goal

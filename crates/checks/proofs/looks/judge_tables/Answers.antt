@@ -1,7 +1,7 @@
 use Rattle.std.proofs.Common.{List, subst, ◌∙◌}
 use Rattle.statements.specs.Rows.{Kept, WsRow}
-use Rattle.checks.specs.Counts.{AreFew}
 use Rattle.checks.specs.Judging.{Judges}
+use Rattle.checks.specs.Inner.Counts.{AreFew}
 use Rattle.checks.proofs.JudgingLemmas.{judges_both, judges_as}
 use Rattle.checks.proofs.SoundRows.{ws_rows}
 use Rattle.checks.proofs.LookLemmas.{told_more}

@@ -1,7 +1,7 @@
 use Rattle.std.proofs.Common.{◌≡◌, [], true, refl, ◌∙◌}
 use Rattle.std.specs.List.{list_any}
 use Rattle.statements.specs.Changes.{is_org}
-use Rattle.checks.specs.Keys.{has_key}
+use Rattle.checks.specs.Inner.Keys.{has_key}
 use Rattle.checks.proofs.JudgingLemmas.{judges_where}
 use Rattle.checks.proofs.KeyLemmas.{told_by}
 use Rattle.checks.proofs.RowLists.{all_judged}

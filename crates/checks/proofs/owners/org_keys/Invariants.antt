@@ -1,7 +1,7 @@
 use Rattle.std.proofs.Common.{◌≡◌, ℕ, List, [], take}
 use Rattle.std.specs.List.{list_any}
 use Rattle.statements.specs.Changes.{is_org}
-use Rattle.checks.specs.Keys.{has_key}
+use Rattle.checks.specs.Inner.Keys.{has_key}
 use Rattle.checks.proofs.owners.org_keys.Given as goal
 
 abbrev pub invariant-loop-row : goal.invariant-loop-row

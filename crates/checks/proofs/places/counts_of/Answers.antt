@@ -2,7 +2,7 @@ use Rattle.std.proofs.Common.{◌∙◌, ◌+◌, ◌≤◌, ℕ, Bool, [], cond
 use Rattle.std.specs.Prelude.{Option, unwrap_or}
 use Rattle.std.specs.BTreeMap.{get}
 use Rattle.texts.specs.Texts.{names_page}
-use Rattle.checks.specs.Firsts.{key_cmp, value_at}
+use Rattle.checks.specs.Inner.Firsts.{key_cmp, value_at}
 use Rattle.checks.proofs.FirstsLemmas.{empty_at}
 use Rattle.checks.proofs.PlacesLemmas.{page_parts, count_more, few}
 use Rattle.checks.proofs.places.counts_of.Goals as goal

@@ -1,5 +1,5 @@
 use Rattle.std.proofs.Common.{take}
-use Rattle.checks.specs.Places.{HasCounts}
+use Rattle.checks.specs.Inner.Places.{HasCounts}
 use Rattle.checks.proofs.places.counts_of.Given as goal
 
 abbrev pub invariant-loop-row : goal.invariant-loop-row

@@ -1,4 +1,4 @@
-use Rattle.checks.specs.Places.{IsCountedIn}
+use Rattle.checks.specs.Inner.Places.{IsCountedIn}
 use Rattle.checks.proofs.RowLists.{all_judged}
 use Rattle.checks.proofs.places.judge_counts.Goals as goal
 

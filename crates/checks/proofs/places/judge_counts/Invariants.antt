@@ -1,7 +1,7 @@
 use Rattle.std.proofs.Common.{take}
 use Rattle.std.specs.List.{AllByRecursion}
 use Rattle.checks.specs.Judging.{Judges}
-use Rattle.checks.specs.Places.{IsCountedIn}
+use Rattle.checks.specs.Inner.Places.{IsCountedIn}
 use Rattle.checks.proofs.places.judge_counts.Given as goal
 
 -- the pages so far are looked at

@@ -1,4 +1,4 @@
-use Rattle.checks.specs.Places.{NamesPage}
+use Rattle.checks.specs.Inner.Places.{NamesPage}
 use Rattle.checks.proofs.PlacesLemmas.{judges_all}
 use Rattle.checks.proofs.RowLists.{all_judged}
 use Rattle.checks.proofs.places.judge_names.Goals as goal

@@ -2,7 +2,7 @@ use Rattle.std.proofs.Common.{List, take}
 use Rattle.std.specs.List.{AllByRecursion}
 use Rattle.statements.specs.declared.rows.PageHead.{PageHead}
 use Rattle.checks.specs.Judging.{Judges}
-use Rattle.checks.specs.Places.{HasPageSizes, NamesPage}
+use Rattle.checks.specs.Inner.Places.{HasPageSizes, NamesPage}
 use Rattle.checks.proofs.places.judge_names.Given as goal
 
 -- the rows so far are looked at

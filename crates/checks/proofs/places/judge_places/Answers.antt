@@ -1,4 +1,4 @@
-use Rattle.checks.specs.Places.{IsPlacedIn}
+use Rattle.checks.specs.Inner.Places.{IsPlacedIn}
 use Rattle.checks.proofs.RowLists.{all_judged}
 use Rattle.checks.proofs.places.judge_places.Goals as goal
 

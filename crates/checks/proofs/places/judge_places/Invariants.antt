@@ -1,7 +1,7 @@
 use Rattle.std.proofs.Common.{take}
 use Rattle.std.specs.List.{AllByRecursion}
 use Rattle.checks.specs.Judging.{Judges}
-use Rattle.checks.specs.Places.{IsPlacedIn}
+use Rattle.checks.specs.Inner.Places.{IsPlacedIn}
 use Rattle.checks.proofs.places.judge_places.Given as goal
 
 -- the rows so far are looked at

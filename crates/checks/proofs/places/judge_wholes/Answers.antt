@@ -1,4 +1,4 @@
-use Rattle.checks.specs.Places.{HasTextIn}
+use Rattle.checks.specs.Inner.Places.{HasTextIn}
 use Rattle.checks.proofs.JudgingLemmas.{judges_right}
 use Rattle.checks.proofs.PlacesLemmas.{judges_all, no_runs}
 use Rattle.checks.proofs.RowLists.{all_judged}

@@ -3,7 +3,7 @@ use Rattle.std.specs.List.{AllByRecursion}
 use Rattle.statements.specs.declared.rows.PageHead.{PageHead}
 use Rattle.statements.specs.Rows.{Kept, VpageRow}
 use Rattle.checks.specs.Judging.{Judges}
-use Rattle.checks.specs.Places.{HasPieces, AreRuns, HasTextIn}
+use Rattle.checks.specs.Inner.Places.{HasPieces, AreRuns, HasTextIn}
 use Rattle.checks.proofs.places.judge_wholes.Given as goal
 
 -- the versions so far are looked at, and the runs that are known are right

@@ -1,5 +1,5 @@
 use Rattle.std.proofs.Common.{◌≡◌, ◌∙◌, Some, sym}
-use Rattle.checks.specs.Firsts.{IsKeyOf, value_at}
+use Rattle.checks.specs.Inner.Firsts.{IsKeyOf, value_at}
 use Rattle.checks.proofs.FirstsLemmas.{at_key}
 use Rattle.checks.proofs.places.known_run.Goals as goal
 

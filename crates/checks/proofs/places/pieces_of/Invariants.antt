@@ -1,6 +1,6 @@
 use Rattle.std.proofs.Common.{List, take}
 use Rattle.statements.specs.declared.rows.PageHead.{PageHead}
-use Rattle.checks.specs.Places.{HasPageSizes, HasPieces}
+use Rattle.checks.specs.Inner.Places.{HasPageSizes, HasPieces}
 use Rattle.checks.proofs.places.pieces_of.Given as goal
 
 abbrev pub invariant-loop-row : goal.invariant-loop-row

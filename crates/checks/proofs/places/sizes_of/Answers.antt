@@ -1,7 +1,7 @@
 use Rattle.std.proofs.Common.{◌∙◌, Bool, Some, None, cond, ap}
 use Rattle.std.specs.Option.{option_or}
 use Rattle.statements.specs.Changes.{is_version}
-use Rattle.checks.specs.Firsts.{value_at, IsKeyOf}
+use Rattle.checks.specs.Inner.Firsts.{value_at, IsKeyOf}
 use Rattle.checks.proofs.FirstsLemmas.{empty_at}
 use Rattle.checks.proofs.PlacesLemmas.{version_parts, first_more}
 use Rattle.checks.proofs.places.sizes_of.Goals as goal

@@ -1,5 +1,5 @@
 use Rattle.std.proofs.Common.{take}
-use Rattle.checks.specs.Places.{HasSizes}
+use Rattle.checks.specs.Inner.Places.{HasSizes}
 use Rattle.checks.proofs.places.sizes_of.Given as goal
 
 abbrev pub invariant-loop-row : goal.invariant-loop-row

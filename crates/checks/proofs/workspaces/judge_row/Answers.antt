@@ -1,8 +1,8 @@
 use Rattle.std.proofs.Common.{◌∙◌}
-use Rattle.checks.specs.Groups.{picked, places_in}
-use Rattle.checks.specs.Versions.{are_versions}
-use Rattle.checks.specs.Runs.{are_runs}
-use Rattle.checks.specs.Workspaces.{keep_among}
+use Rattle.checks.specs.Inner.Groups.{picked, places_in}
+use Rattle.checks.specs.Inner.Versions.{are_versions}
+use Rattle.checks.specs.Inner.Runs.{are_runs}
+use Rattle.checks.specs.Inner.Workspaces.{keep_among}
 use Rattle.checks.proofs.RowLemmas.{row_judged}
 use Rattle.checks.proofs.workspaces.judge_row.Goals as goal
 
@@ -12,7 +12,7 @@ returns c =
     let rows = c.args.rows.now in
     let groups = c.args.groups.now in
     row_judged (picked rows.keepings (places_in groups.keepings x.org x.name)) (picked rows.versions (places_in groups.versions x.org x.name)) (picked rows.runs (places_in groups.runs x.org x.name)) x
-    c.in_ok-own.own c.in_ok-versions.versions c.in_ok-runs.runs c.get-keep.result c.args.found.now c.judge.new.found c.judge-2.new.found c.judge-3.new.found
+    c.in_ok-own.own c.in_ok-versions.versions c.in_ok-runs.runs c.get-keep.result c.args.found.now c.judge.new.self c.judge-2.new.self c.judge-3.new.self
     c.in_ok-own.ensures
     (c.get-keep.ensures.value ∙ c.keep_among.ensures
     ∙ (λ i. keep_among (picked (c.as_slice.ensures i) ((c.places-places.ensures ∙ (λ j. places_in groups.keepings (c.as_str-org.ensures j) (c.as_str-ws.ensures j))) i))))

@@ -1,4 +1,4 @@
-use Rattle.checks.specs.Workspaces.{IsLawfulAt}
+use Rattle.checks.specs.Inner.Workspaces.{IsLawfulAt}
 use Rattle.checks.proofs.LoopLemmas.{judges_more}
 use Rattle.checks.proofs.workspaces.judge_rows.Goals as goal
 

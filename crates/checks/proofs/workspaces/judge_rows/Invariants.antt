@@ -1,7 +1,7 @@
 use Rattle.std.proofs.Common.{take}
 use Rattle.std.specs.List.{AllByRecursion}
 use Rattle.checks.specs.Judging.{Judges}
-use Rattle.checks.specs.Workspaces.{IsLawfulAt}
+use Rattle.checks.specs.Inner.Workspaces.{IsLawfulAt}
 use Rattle.checks.proofs.workspaces.judge_rows.Given as goal
 
 abbrev pub invariant-loop-row : goal.invariant-loop-row

@@ -2,7 +2,7 @@ use Rattle.std.proofs.Common.{◌≡◌, ◌∙◌, ◌++◌, ◌∷◌, [], ap,
 use Rattle.std.specs.Str.{bytes_eq}
 use Rattle.std.specs.BTreeMap.{get_by_text}
 use Rattle.std.proofs.lemmas.Map.Text.{btree_map_updates_text}
-use Rattle.checks.specs.Groups.{places_at, places_in}
+use Rattle.checks.specs.Inner.Groups.{places_at, places_in}
 use Rattle.checks.proofs.GroupLemmas.{put_in, both_tests}
 use Rattle.checks.proofs.groups.Groups.add.Goals as goal
 

@@ -6,7 +6,7 @@ use Rattle.sqlite_keyed.specs.Lists.{sort_by}
 use Rattle.basis.specs.declared.numbers.TheConstants.{MAX_MOMENT}
 use Rattle.basis.specs.declared.rows.TheConstants.{MAX_SERIAL, MAX_LINEAGE}
 use Rattle.statements.specs.Rows.{Kept, VersionRow}
-use Rattle.checks.specs.Groups.{first_unfit}
+use Rattle.checks.specs.Inner.Groups.{first_unfit}
 
 -- serial, lineage and moment are in range
 abbrev pub is_version_row : Kept VersionRow → Bool

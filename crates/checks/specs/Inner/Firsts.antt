@@ -6,7 +6,7 @@ use Rattle.std.specs.Ordering.{ordering_then, nat_cmp}
 use Rattle.std.specs.Cmp.Lexicographic.{slice_cmp}
 use Rattle.std.specs.BTreeMap.{BTreeMap, get}
 use Rattle.checks.specs.declared.keys.RowKey.{RowKey}
-use Rattle.checks.specs.Keys.{is_key}
+use Rattle.checks.specs.Inner.Keys.{is_key}
 
 -- by the place, the number, the first bytes and the second
 abbrev pub key_cmp : RowKey → RowKey → Ordering

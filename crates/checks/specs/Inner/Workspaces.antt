@@ -12,9 +12,9 @@ use Rattle.statements.specs.declared.rows.Rows.{Rows}
 use Rattle.statements.specs.Changes.{is_keeping, is_version_of, is_run_of}
 use Rattle.tables.specs.Records.{workspace_at}
 use Rattle.checks.specs.declared.workspaces.Grouped.{Grouped}
-use Rattle.checks.specs.Groups.{picked, places_in, AreGrouped}
-use Rattle.checks.specs.Versions.{are_versions}
-use Rattle.checks.specs.Runs.{are_runs}
+use Rattle.checks.specs.Inner.Groups.{picked, places_in, AreGrouped}
+use Rattle.checks.specs.Inner.Versions.{are_versions}
+use Rattle.checks.specs.Inner.Runs.{are_runs}
 
 -- the number of a next version or run
 abbrev pub is_next : ℕ → Bool

@@ -12,8 +12,8 @@ use Rattle.tables.specs.Sound.{IsPlaced, HasText}
 use Rattle.tables.specs.Scans.{ArePagesKeyed}
 use Rattle.texts.specs.Texts.{is_place, names_page, pages_for, piece_size, HasSoundPlaces}
 use Rattle.checks.specs.declared.keys.RowKey.{RowKey}
-use Rattle.checks.specs.Firsts.{value_at}
-use Rattle.checks.specs.Heads.{IsSoundHead}
+use Rattle.checks.specs.Inner.Firsts.{value_at}
+use Rattle.checks.specs.Inner.Heads.{IsSoundHead}
 
 -- ---- versions
 
