@@ -1,14 +1,17 @@
 #!/usr/bin/env python3
 """Checks a crate over the libraries that a gate has left in another clone, so that none of the crates below is built anew.
 
-    python3 tools/over.py GATE CRATE [options of `rattle check`]
+    python3 tools/over.py GATE CRATE [--source A,B] [options of `rattle check`]
 
 GATE is the top of a clone in which `rt ci` has proved the crates below CRATE, whose text has to be the same; CRATE is the
 crate's name here. It is what `rt check` does but for that, and is for working alone: only `rt ci` decides. What it has
-checked is kept in GATE/crates/CRATE/out/over, and taken by the next call. Examples, from the top of the repository:
+checked is kept in GATE/crates/CRATE/out/over, and taken by the next call. Crates named by `--source` are read as source: of
+one whose text has changed no library is needed then, nor a proof, but each crate between it and CRATE is to be named, too.
+Examples, from the top of the repository:
 
     python3 tools/over.py ../gate program --only program::serving --allow-holes
     python3 tools/over.py ../gate tables --only 'tables::store::SqlKeep::close' --allow-holes
+    python3 tools/over.py ../gate tables --source statements,pages,texts --only tables::steps --allow-holes
 """
 import os
 import subprocess
@@ -52,11 +55,15 @@ def main():
     if len(sys.argv) < 3 or sys.argv[1] in ("-h", "--help"):
         sys.exit(__doc__)
     gate, name, more, of = os.path.abspath(sys.argv[1]), sys.argv[2], sys.argv[3:], crates()
+    source = []
+    if more[:1] == ["--source"]:
+        source, more = more[1].split(","), more[2:]
     if name not in of:
         sys.exit(f"{name} is no crate of crates.txt")
     kit = os.path.dirname(subprocess.run(["rt", "doc"], capture_output=True, text=True, check=True).stdout.strip())
     folder, ours = f"{TOP}/crates/{name}", below(of, name)
-    for one in ours:
+    built = [one for one in ours if one not in source]
+    for one in built:
         if not os.path.isdir(f"{gate}/crates/{one}/out/rlib/{one}.rlib"):
             sys.exit(f"{gate} has no library of {one}: let rt ci prove it there")
         if texts(f"{gate}/crates/{one}") != texts(f"{TOP}/crates/{one}"):
@@ -65,11 +72,15 @@ def main():
     kept = f"{gate}/crates/{name}/out/over"
     os.makedirs(kept, exist_ok=True)
     words = [f"{kit}/bin/rattle", "check", "--crate-name", name, root, "--extern", f"std={kit}/rlibs/std.rlib"]
-    for one in of[name]:
-        words += ["--extern", f"{one}={gate}/crates/{one}/out/rlib/{one}.rlib" if one in of else f"{one}={kit}/rlibs/{one}.rlib"]
+    for one in dict.fromkeys(it for crate in [*(it for it in ours if it in source), name] for it in of[crate]):
+        if one not in source:
+            words += ["--extern", f"{one}={gate}/crates/{one}/out/rlib/{one}.rlib" if one in of else f"{one}={kit}/rlibs/{one}.rlib"]
     words += ["-L", f"dependency={kit}/rlibs"]
-    for one in ours:
+    for one in built:
         words += ["-L", f"dependency={gate}/crates/{one}/out/rlib"]
+    for one in ours:
+        if one in source:
+            words += ["--lib", f"{one}:{','.join(['std', *of[one]])}={TOP}/crates/{one}/src/lib.rt"]
     words += ["--antt-project", f"{kit}/rattle/logic/antt-project.json", "--logic-built", f"{kit}/logic_built", "--links", f"{name}="]
     sys.exit(subprocess.run([*words, "--jobs", "1", "--incremental", kept, *more], cwd=folder).returncode)
 

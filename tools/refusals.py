@@ -795,4 +795,5 @@ def main():
         sys.exit("memory refused: %d FAILED" % failed)
 
 
-main()
+if __name__ == "__main__":
+    main()

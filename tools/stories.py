@@ -68,7 +68,7 @@ def read(text):
     told, at, stories, story, parts = {"token": {}, "reason": {}, "challenge": {}}, None, {}, None, None
     waiting = []
     for line in text.split("\n"):
-        if line in ["", "stops", "stops first-byte", "large", "resumes"] or line.startswith("#"):
+        if line in ["", "stops", "stops first-byte", "large", "resumes", "copied"] or line.startswith("#"):
             continue
         mark, rest = marked(line, ["|", ">", "\\", "*"])
         if mark:

@@ -6,7 +6,7 @@ use lib.Utf8.{encode}
 use Rattle.basis.specs.declared.roles.Role.TheVariants.{Write}
 use Rattle.clap.proofs.OnLiterals.{clap_on_literals}
 use Rattle.command_line.specs.Bounds.{bounds, no_bounds}
-use Rattle.command_line.specs.Orders.{carries, adds_token, looks_over, serves, replays}
+use Rattle.command_line.specs.Orders.{carries, adds_token, looks_over, copies, compacts, serves, replays}
 use Rattle.command_line.specs.Words.{asked_in}
 use Rattle.serve.specs.declared.steps.Admin.TheVariants.{OrgAdd, TokenList}
 
@@ -87,6 +87,22 @@ check_asked = refl
 no_file_to_check : asked_in (codes "check" ∷ []) ≡ None
 unfolding clap_on_literals chars is_utf8 encode
 no_file_to_check = refl
+
+copy_asked : asked_in (codes "org-copy" ∷ codes "--db" ∷ codes "t.db" ∷ codes "--to" ∷ codes "u.db" ∷ codes "acme" ∷ []) ≡ Some (copies (codes "t.db") (codes "u.db") (codes "acme"))
+unfolding clap_on_literals chars is_utf8 encode
+copy_asked = refl
+
+no_name_to_copy : asked_in (codes "org-copy" ∷ codes "--db" ∷ codes "t.db" ∷ codes "--to" ∷ codes "u.db" ∷ codes "Acme" ∷ []) ≡ None
+unfolding clap_on_literals chars is_utf8 encode
+no_name_to_copy = refl
+
+compacting_asked : asked_in (codes "compact" ∷ codes "--to=u.db" ∷ codes "--db=t.db" ∷ []) ≡ Some (compacts (codes "t.db") (codes "u.db"))
+unfolding clap_on_literals chars is_utf8 encode
+compacting_asked = refl
+
+no_file_to_copy_to : asked_in (codes "compact" ∷ codes "--db=t.db" ∷ []) ≡ None
+unfolding clap_on_literals chars is_utf8 encode
+no_file_to_copy_to = refl
 
 frames_asked : asked_in (codes "replay" ∷ []) ≡ Some replays
 unfolding clap_on_literals chars is_utf8 encode

@@ -14,7 +14,7 @@ use Rattle.command_line.specs.Commands.{limit_of, role_of, org_command, limit_co
 use Rattle.command_line.specs.declared.orders.NewToken.{NewToken}
 use Rattle.command_line.specs.declared.orders.Values.{Values}
 use Rattle.command_line.specs.declared.orders.Order.{Order}
-use Rattle.command_line.specs.declared.orders.Order.TheVariants.{Carry, AddToken, Check, Serve, Replay}
+use Rattle.command_line.specs.declared.orders.Order.TheVariants.{Carry, AddToken, Check, Copy, Compact, Serve, Replay}
 use Rattle.command_line.specs.declared.timeouts.Timeouts.{Timeouts}
 
 -- what is asked for; a database is named by the path of its file
@@ -25,6 +25,10 @@ pub data Asked : Type 0 where
   adds_token : List ℕ → List ℕ → List ℕ → Role → Bounds → Asked
   -- to look for faults in the tables of a file
   looks_over : List ℕ → Asked
+  -- to copy an organization from one file to another: the two paths, and its name
+  copies : List ℕ → List ℕ → List ℕ → Asked
+  -- to copy every organization from one file to another
+  compacts : List ℕ → List ℕ → Asked
   -- to serve at a port, so many connections, each waited for no longer than these timeouts; whether a line is printed for each
   -- exchange; whether faults in the tables are looked for first
   serves : List ℕ → ℕ → ℕ → Timeouts → Bool → Bool → Asked
@@ -34,6 +38,7 @@ pub data Asked : Type 0 where
 -- the values among the words, by the names of their arguments, whether `--log` is there, and whether `--check` is
 pub record Given : Type 0 where
   pub db : Option (List ℕ)
+  pub to : Option (List ℕ)
   pub org : Option (List ℕ)
   pub limit : Option (List ℕ)
   pub name : Option (List ℕ)
@@ -100,13 +105,25 @@ abbrev pub serving_asked : List ℕ → Given → Option Asked
 serving_asked db given =
     option_and_then (λ port. option_and_then (λ count. option_map (λ timeouts. serves db port count timeouts given.logs given.checks) (timeouts_asked given)) (option_and_then connections_of given.count)) (option_and_then port_of given.port)
 
+-- a copy of one organization, where its name reads
+abbrev pub copy_in : List ℕ → List ℕ → List ℕ → Option Asked
+copy_in from to org = cond (is_org_name org) (Some (copies from to org)) None
+
+abbrev pub copying_asked : List ℕ → Given → Option Asked
+copying_asked db given = option_and_then (λ to. option_and_then (λ org. copy_in db to org) given.org) given.to
+
+abbrev pub compacting_asked : List ℕ → Option (List ℕ) → Option Asked
+compacting_asked db to = option_map (λ path. compacts db path) to
+
 -- a command on a file
 abbrev pub file_asked : List ℕ → List ℕ → Given → Option Asked
 file_asked command db given =
     cond (bytes_eq command (codes "serve")) (serving_asked db given)
     (cond (bytes_eq command (codes "check")) (Some (looks_over db))
+    (cond (bytes_eq command (codes "org-copy")) (copying_asked db given)
+    (cond (bytes_eq command (codes "compact")) (compacting_asked db given.to)
     (cond (bytes_eq command (codes "token-add")) (option_map (λ token. adds_token db token.org token.name token.role token.bounds) (token_asked given))
-    (option_map (λ c. carries db c) (command_in command given))))
+    (option_map (λ c. carries db c) (command_in command given))))))
 
 -- what a command of this name asks for with these values
 abbrev pub asked_with : List ℕ → Given → Option Asked
@@ -122,6 +139,7 @@ flag_of None = false
 abbrev pub given_in : List Row → Given
 given_in rows = record {
   db = first_of (codes "db") rows;
+  to = first_of (codes "to") rows;
   org = first_of (codes "org") rows;
   limit = first_of (codes "limit") rows;
   name = first_of (codes "name") rows;
@@ -140,6 +158,7 @@ given_in rows = record {
 abbrev pub given_found : Found → Given
 given_found found = record {
   db = first_value found (codes "db");
+  to = first_value found (codes "to");
   org = first_value found (codes "org");
   limit = first_value found (codes "limit");
   name = first_value found (codes "name");
@@ -160,6 +179,7 @@ text_in value = option_map (λ text. text.now) value
 abbrev pub given_of : Values → Given
 given_of values = record {
   db = text_in values.db;
+  to = text_in values.to;
   org = text_in values.org;
   limit = text_in values.limit;
   name = text_in values.name;
@@ -179,6 +199,8 @@ abbrev pub said_by : Order → Asked
 said_by (Carry db command) = carries db.now command
 said_by (AddToken db token) = adds_token db.now token.org token.name token.role token.bounds
 said_by (Check db) = looks_over db.now
+said_by (Copy from to org) = copies from.now to.now org
+said_by (Compact from to) = compacts from.now to.now
 said_by (Serve db port count timeouts logs checks) = serves db.now port count timeouts logs checks
 said_by Replay = replays
 

@@ -33,6 +33,10 @@ flag_rule id = record (new_rule id) { long = Some id; action = Some SetTrue }
 abbrev pub database : Rule
 database = option_rule (codes "db") true
 
+-- `--to PATH`
+abbrev pub target : Rule
+target = option_rule (codes "to") true
+
 abbrev pub organization : Rule
 organization = value_rule (codes "org")
 
@@ -43,6 +47,10 @@ org_add = with_rule (with_rule (with_rule (new_app (codes "org-add")) database) 
 -- `org-limit --db PATH ORG N`
 abbrev pub org_limit : App
 org_limit = with_rule (with_rule (with_rule (new_app (codes "org-limit")) database) organization) (value_rule (codes "limit"))
+
+-- `org-copy --db PATH --to PATH ORG`
+abbrev pub org_copy : App
+org_copy = with_rule (with_rule (with_rule (new_app (codes "org-copy")) database) target) organization
 
 -- `org-list --db PATH`
 abbrev pub org_list : App
@@ -80,6 +88,10 @@ serve = with_flags (with_timeouts (with_rule (with_rule (with_rule (new_app (cod
 abbrev pub check : App
 check = with_rule (new_app (codes "check")) database
 
+-- `compact --db PATH --to PATH`
+abbrev pub compact : App
+compact = with_rule (with_rule (new_app (codes "compact")) database) target
+
 -- `replay`
 abbrev pub replay : App
 replay = new_app (codes "replay")
@@ -95,13 +107,13 @@ bare = record (new_app (codes "custody")) {
 }
 
 abbrev pub with_organizations : App → App
-with_organizations app = with_subcommand (with_subcommand (with_subcommand app org_add.top) org_limit.top) org_list.top
+with_organizations app = with_subcommand (with_subcommand (with_subcommand (with_subcommand app org_add.top) org_limit.top) org_copy.top) org_list.top
 
 abbrev pub with_tokens : App → App
 with_tokens app = with_subcommand (with_subcommand (with_subcommand app token_add.top) token_list.top) token_revoke.top
 
 abbrev pub with_running : App → App
-with_running app = with_subcommand (with_subcommand (with_subcommand app serve.top) check.top) replay.top
+with_running app = with_subcommand (with_subcommand (with_subcommand (with_subcommand app serve.top) check.top) compact.top) replay.top
 
 -- the program
 abbrev pub custody : App

@@ -2,7 +2,7 @@
 ghost use Rattle.std.specs.Prelude.{◌≡◌, ◌≤◌, Option, Some, None, IfOk, IsErrOf, option_map, option_and_then, IfSome};
 ghost use Rattle.basis.specs.Numbers.{whole_of, within};
 ghost use Rattle.clap.specs.Words.{found_of};
-ghost use Rattle.command_line.specs.Orders.{limit_or_first, command_on, command_in, token_in, token_asked, seconds_or, timeouts_asked, serving_asked, file_asked, asked_with, flag_of, given_found, given_of, text_in, said_by, with_secret, port_of, connections_of, carries};
+ghost use Rattle.command_line.specs.Orders.{limit_or_first, command_on, command_in, token_in, token_asked, seconds_or, timeouts_asked, serving_asked, copy_in, copying_asked, compacting_asked, file_asked, asked_with, flag_of, given_found, given_of, text_in, said_by, with_secret, port_of, connections_of, carries};
 ghost use Rattle.command_line.specs.Bounds.{bounds_given};
 ghost use Rattle.command_line.specs.Commands.{limit_of, limit_command, revoke_command};
 
@@ -93,6 +93,17 @@ pub enum Order<'a> {
     Check {
         db: &'a str,
     },
+    /// To copy an organization from one file to another.
+    Copy {
+        from: &'a str,
+        to: &'a str,
+        org: OrgName,
+    },
+    /// To copy every organization from one file to another.
+    Compact {
+        from: &'a str,
+        to: &'a str,
+    },
     /// To answer so many connections from a file, at a port of the loopback address.
     /// Where `logs` is true, a line is printed for each exchange. Where `checks` is true, faults in
     /// the file's tables are looked for first.
@@ -113,6 +124,7 @@ pub enum Order<'a> {
 #[derive(Drop)]
 pub struct Values<'a> {
     db: Option<&'a str>,
+    to: Option<&'a str>,
     org: Option<&'a str>,
     limit: Option<&'a str>,
     name: Option<&'a str>,
@@ -133,6 +145,7 @@ impl<'a> Values<'a> {
     {
         Values {
             db: matches.get_str("db"),
+            to: matches.get_str("to"),
             org: matches.get_str("org"),
             limit: matches.get_str("limit"),
             name: matches.get_str("name"),
@@ -299,6 +312,31 @@ fn carrying<'a>(
     }
 }
 
+fn copy_in<'a>(alloc: Global, from: &'a str, to: &'a str, org: &str) -> Result<Order<'a>, Unfit>
+    ensures ok { IfOk result (λ order. copy_in from.entry.now to.entry.now org.now ≡ Some (said_by order)) }
+    ensures syntax { IsErrOf result Unfit.Syntax → copy_in from.entry.now to.entry.now org.now ≡ None }
+{
+    let org = OrgName::read(alloc, org)?;
+    Ok(Order::Copy { from, to, org })
+}
+
+fn copying<'a>(alloc: Global, db: &'a str, values: &Values<'a>) -> Result<Order<'a>, Unfit>
+    ensures ok { IfOk result (λ order. copying_asked db.entry.now (given_of values.now) ≡ Some (said_by order)) }
+    ensures syntax { IsErrOf result Unfit.Syntax → copying_asked db.entry.now (given_of values.now) ≡ None }
+{
+    match (values.to, values.org) {
+        (Some(to), Some(org)) => copy_in(alloc, db, to, org),
+        _ => Err(Unfit::Syntax),
+    }
+}
+
+fn compacting<'a>(db: &'a str, to: Option<&'a str>) -> Option<Order<'a>>
+    ensures { option_map said_by result ≡ compacting_asked db.entry.now (text_in to.entry) }
+{
+    let to = to?;
+    Some(Order::Compact { from: db, to })
+}
+
 fn on_file<'a>(
     alloc: Global,
     command: &str,
@@ -311,6 +349,8 @@ fn on_file<'a>(
     match command {
         "serve" => serving(db, values).ok_or(Unfit::Syntax),
         "check" => Ok(Order::Check { db }),
+        "org-copy" => copying(alloc, db, values),
+        "compact" => compacting(db, values.to).ok_or(Unfit::Syntax),
         "token-add" => Ok(Order::AddToken {
             db,
             token: new_token(alloc, values)?,

@@ -3,7 +3,7 @@
 ghost use Rattle.std.specs.Prelude.{◌≡◌, ◌<◌, ◌⊎◌, IfOk, IfErr, IsErrOf, None, Some, codes, length, string_bytes, ℕ, List};
 ghost use Rattle.clap.specs.Words.{app_of, subcommand_of, subcommand_rows_of, HasKind, FailsBy, IsAmong, App, Rule, new_app, with_rule, with_subcommand};
 ghost use Rattle.command_line.specs.Orders.{said_by};
-ghost use Rattle.command_line.specs.Words.{words_bytes, database, organization, option_rule, value_rule, flag_rule, org_add, org_limit, org_list, token_add, token_list, token_revoke, serve, check, replay, bare, custody, faults, asked_by_command, asked_in, with_organizations, with_tokens, with_running, with_bounds, with_timeouts, with_flags, IsWhy, IsArg, IsCommand};
+ghost use Rattle.command_line.specs.Words.{words_bytes, database, target, organization, option_rule, value_rule, flag_rule, org_add, org_limit, org_copy, org_list, token_add, token_list, token_revoke, serve, check, compact, replay, bare, custody, faults, asked_by_command, asked_in, with_organizations, with_tokens, with_running, with_bounds, with_timeouts, with_flags, IsWhy, IsArg, IsCommand};
 
 use crate::orders::{Order, Values};
 use basis::{Down, Unfit};
@@ -58,6 +58,13 @@ fn database<'a>(alloc: Global) -> Arg<'a>
     option(alloc, "db", true, "PATH", help)
 }
 
+fn target<'a>(alloc: Global) -> Arg<'a>
+    ensures { IsArg result target }
+{
+    let help = "The file that it is copied to. It is made where there is none";
+    option(alloc, "to", true, "PATH", help)
+}
+
 fn organization<'a>(alloc: Global) -> Arg<'a>
     ensures { IsArg result organization }
 {
@@ -109,6 +116,16 @@ fn org_limit<'a>(alloc: Global) -> Result<Command<'a>, AllocError>
     let on_file = with_arg(bare, database(alloc))?;
     let of_one = with_arg(on_file, organization(alloc))?;
     with_arg(of_one, value(alloc, "limit", "N", help))
+}
+
+fn org_copy<'a>(alloc: Global) -> Result<Command<'a>, AllocError>
+    ensures { IfOk result (λ command. IsCommand command org_copy) }
+{
+    let about = "Copies an organization, with all that it has, to another file";
+    let bare = command(alloc, "org-copy", about);
+    let on_file = with_arg(bare, database(alloc))?;
+    let to_another = with_arg(on_file, target(alloc))?;
+    with_arg(to_another, organization(alloc))
 }
 
 fn org_list<'a>(alloc: Global) -> Result<Command<'a>, AllocError>
@@ -206,6 +223,16 @@ fn check<'a>(alloc: Global) -> Result<Command<'a>, AllocError>
     with_arg(bare, database(alloc))
 }
 
+fn compact<'a>(alloc: Global) -> Result<Command<'a>, AllocError>
+    ensures { IfOk result (λ command. IsCommand command compact) }
+{
+    let about =
+        "Copies every organization to another file; one that is there already stays as it is";
+    let bare = command(alloc, "compact", about);
+    let on_file = with_arg(bare, database(alloc))?;
+    with_arg(on_file, target(alloc))
+}
+
 fn replay<'a>(alloc: Global) -> Command<'a>
     ensures { IsCommand result replay }
 {
@@ -229,7 +256,8 @@ fn with_organizations<'a>(alloc: Global, bare: Command<'a>) -> Result<Command<'a
 {
     let adding = with_command(bare, org_add(alloc)?)?;
     let limiting = with_command(adding, org_limit(alloc)?)?;
-    with_command(limiting, org_list(alloc)?)
+    let copying = with_command(limiting, org_copy(alloc)?)?;
+    with_command(copying, org_list(alloc)?)
 }
 
 fn with_tokens<'a>(alloc: Global, bare: Command<'a>) -> Result<Command<'a>, AllocError>
@@ -245,7 +273,8 @@ fn with_running<'a>(alloc: Global, bare: Command<'a>) -> Result<Command<'a>, All
 {
     let serving = with_command(bare, serve(alloc)?)?;
     let checking = with_command(serving, check(alloc)?)?;
-    with_command(checking, replay(alloc))
+    let compacting = with_command(checking, compact(alloc)?)?;
+    with_command(compacting, replay(alloc))
 }
 
 fn custody<'a>(alloc: Global) -> Result<Command<'a>, AllocError>

@@ -4,8 +4,8 @@ ghost use Rattle.fakes.specs.Files.{IsKeptStore};
 ghost use Rattle.program.specs.declared.reasons.Cause.TheVariants as cause;
 ghost use Rattle.program.specs.declared.reasons.OpenFault.TheVariants as fault;
 
-use basis::{Bytes, Down, Items, Text};
-use machine::{Keep, PlainKeep};
+use basis::{Bytes, Down, Items, OrgName, Text};
+use machine::{AdminAnswer, Keep, PlainKeep};
 use program::outside::Files;
 use program::reasons::{Cause, OpenFault};
 use program::replays::replay_over;
@@ -98,6 +98,17 @@ impl Files<PlainKeep> for MemoryFile<'_> {
 
     fn check(&self, alloc: Global, _store: &mut PlainKeep) -> Result<Items<Text>, Down> {
         lines_of(alloc, self.faults.as_slice())
+    }
+
+    // There is one path alone, so there is nothing to copy to.
+    fn copy(
+        &self,
+        _alloc: Global,
+        _org: &OrgName,
+        _from: &mut PlainKeep,
+        _to: &mut PlainKeep,
+    ) -> Result<AdminAnswer, Down> {
+        Err(Down)
     }
 
     fn close(&mut self, path: &str, store: PlainKeep) -> Result<(), Down> {

@@ -7,3 +7,5 @@ mod OutcomeLemmas
 mod OutsideLemmas
 mod ErrorLemmas
 mod LogLemmas
+mod MoveLemmas
+mod CopyLemmas

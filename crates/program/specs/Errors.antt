@@ -4,7 +4,7 @@ use Rattle.std.specs.Io.KnownBytes.{Appends}
 use Rattle.serve.specs.declared.exchanges.LinkFault.{LinkFault}
 use Rattle.serve.specs.declared.exchanges.LinkFault.TheVariants.{Ended, Read, Continue, Write}
 use Rattle.program.specs.declared.reasons.Cause.{Cause}
-use Rattle.program.specs.declared.reasons.Cause.TheVariants.{InUse, NotPermitted, NoFile, NoFolder, Journal, Corrupt, Unsound, NoRoom, NoMemory, Disk, Store, Shut, Input, PortTaken, PortNotPermitted, Port, Accept, Clock, Log, Faults}
+use Rattle.program.specs.declared.reasons.Cause.TheVariants.{InUse, NotPermitted, NoFile, NoFolder, Journal, Corrupt, Unsound, NoRoom, NoMemory, Disk, Store, Unfinished, Shut, Input, PortTaken, PortNotPermitted, Port, Accept, Clock, Log, Faults}
 use Rattle.program.specs.declared.reasons.OtherSchema.{OtherSchema}
 use Rattle.program.specs.declared.reasons.OtherSchema.TheVariants.{Version, Untold}
 
@@ -67,6 +67,7 @@ cause_line NoRoom = codes "custody: there is no room on the disk\n"
 cause_line NoMemory = codes "custody: memory was refused\n"
 cause_line Disk = codes "custody: the disk or the system refused\n"
 cause_line Store = codes "custody: memory or the store refused, and no record changed\n"
+cause_line Unfinished = codes "custody: memory or a store refused before all was copied: the same command goes on from there\n"
 cause_line Shut = codes "custody: a fault of the disk has shut the store: see to the disk\n"
 cause_line Input = codes "custody: the input can't be read, or memory was refused\n"
 cause_line PortTaken = codes "custody: the port is taken\n"

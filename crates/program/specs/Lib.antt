@@ -6,6 +6,7 @@ pub mod Headings
 pub mod Inner
 pub mod Lines
 pub mod Logs
+pub mod Moves
 pub mod Outcomes
 pub mod Paths
 pub mod Replies

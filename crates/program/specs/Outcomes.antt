@@ -13,6 +13,7 @@ use Rattle.serve.specs.declared.steps.Admin.TheVariants.{OrgAdd, OrgLimit, OrgLi
 use Rattle.machine.specs.declared.keeps.AdminAnswer.{AdminAnswer}
 use Rattle.machine.specs.declared.keeps.AdminAnswer.TheVariants as answer
 use Rattle.machine.specs.declared.records.Organization.{Organization}
+use Rattle.machine.specs.Effects.{effect}
 use Rattle.serve.specs.Asks.{commands}
 use Rattle.serve.specs.Service.{Carries as CarriesOut, IsAdminAnswer, Stays, org_lines, token_lines}
 use Rattle.program.specs.declared.endings.Ending.{Ending}
@@ -26,8 +27,9 @@ use Rattle.program.specs.declared.reasons.OpenFault.TheVariants as fault
 use Rattle.program.specs.Frames.{AreFrames}
 use Rattle.program.specs.Logs.{with_log}
 use Rattle.program.specs.declared.outside.Files as files
-use Rattle.command_line.specs.Orders.{Asked, carries, adds_token, looks_over, serves, replays}
-use Rattle.program.specs.Paths.{AllStay, OthersStay}
+use Rattle.command_line.specs.Orders.{Asked, carries, adds_token, looks_over, copies, compacts, serves, replays}
+use Rattle.program.specs.Moves.{org_copied, AllAreCopied, SomeAreCopied, CopiesBetween}
+use Rattle.program.specs.Paths.{AllStay, OthersStay, OthersStayBut}
 use Rattle.program.specs.Replies.{printed, bad_frame_text, answer_line, fault_lines, AreReplies, Replays}
 use Rattle.program.specs.Secrets.{secret_in}
 use Rattle.program.specs.Serving.{listening_line, Serves, state, AnswersAtPort}
@@ -72,6 +74,14 @@ AnswersLine ending.Faults output = ⊥
 AnswersLine ending.Usage output = ⊥
 AnswersLine ending.BadFrame output = ⊥
 AnswersLine ending.Unprinted output = ⊤
+
+-- `ok`, or why it isn't
+abbrev pub AnswersDone : Ending → Stream → Type 0
+AnswersDone ending.Done output = Says ending.Done output
+AnswersDone ending.Schema output = Says ending.Schema output
+AnswersDone ending.Down output = Says ending.Down output
+AnswersDone ending.Unprinted output = ⊤
+AnswersDone e output = ⊥
 
 -- the list of all organizations, a line each, or why there is none
 abbrev pub AnswersList : Ending → Stream → Type 0
@@ -141,6 +151,20 @@ abbrev pub IsOperated : Admin → (List ℕ → Option Organization) → (List �
 IsOperated command old new e output errors =
     ((answer : AdminAnswer) × (at : ℕ) × CarriesOut (commands at command) old new × IsAdminAnswer old command answer × TellsAnswer command answer e output × (errors.new ≡ errors.old))
     ⊎ (Stays old new × Refuses cause.Store e output errors)
+
+-- an organization was copied, its record as the rule says by the records before, and the answer was told; or memory or a store
+-- refused, which is told, and no record changed
+abbrev pub IsCopied : List ℕ → (from old new : List ℕ → Option Organization) → Ending → Stream → Stream → Type 0
+IsCopied org from old new e output errors =
+    ((answer : AdminAnswer) × (effect answer (new org) ≡ org_copied (from org) (old org)) × ((other : List ℕ) → other ≢ org → new other ≡ old other)
+    × TellsWord answer e output × (errors.new ≡ errors.old))
+    ⊎ (Stays old new × Refuses cause.Store e output errors)
+
+-- every organization was copied, and `ok` was told; or memory or a store refused before, which is told, and only some were
+abbrev pub IsCompacted : (from old new : List ℕ → Option Organization) → Ending → Stream → Stream → Type 0
+IsCompacted from old new e output errors =
+    (AllAreCopied from old new × IsSaid ending.Done e output.old output.new × (errors.new ≡ errors.old))
+    ⊎ (SomeAreCopied from old new × Refuses cause.Unfinished e output errors)
 
 -- `refused usage` on the standard output, and why on the error stream
 abbrev pub RefusesUsage : Ending → Stream → Stream → Type 0
@@ -218,6 +242,8 @@ abbrev pub Does : Asked → Option (List ℕ) → Ending → Stream → Stream �
 Does (carries db command) input e output errors = AnswersCommand command e output
 Does (adds_token db org name role bounds) input e output errors = AddsToken input e output errors
 Does (looks_over db) input e output errors = AnswersFaults e output
+Does (copies from to org) input e output errors = AnswersLine e output
+Does (compacts from to) input e output errors = AnswersDone e output
 Does (serves db port count timeouts logs checks) input e output errors = ServesAt logs e output
 Does replays input e output errors = ReplaysFrames input e output errors
 
@@ -328,6 +354,87 @@ module _ {K F : Type 0} (k : keep.Ghosts K) (f : files.Ghosts F K) where
   abbrev pub RefusesUnsound : List ℕ → F → F → Ending → Stream → Stream → Type 0
   RefusesUnsound path old new e output errors = LooksOver path TellsUnsound old new errors × IsSaid ending.Down e output.old output.new
 
+  -- a store was opened at a path, and its file told of; what lies at other paths stays
+  pub record Opens (path : List ℕ) (old new : F) (store : K) (errors : Stream) : Type 0 where
+    pub found : f.holds old path store
+    pub others : OthersStay f.holds path old new
+    pub is_new : Bool
+    pub sought : f.lacks old path is_new
+    pub others_may_read : Bool
+    pub looked : f.reads old path others_may_read
+    pub tells : TellsOfFile is_new others_may_read errors
+
+  -- a store was closed at a path; what lies at other paths stays
+  pub record Closes (path : List ℕ) (old new : F) (store : K) (errors : Stream) : Type 0 where
+    pub left : f.holds new path store
+    pub others : OthersStay f.holds path old new
+    pub log : TellsOfLog (f.copied new path store) errors
+
+  -- stores were opened at two paths, one after the other
+  pub record OpensBoth (from to : List ℕ) (old new : F) (source target : K) (errors : Stream) : Type 0 where
+    pub differ : from ≢ to
+    pub mid : F
+    pub noted : Option (List ℕ)
+    pub first : Opens from old mid source (stream errors.old noted)
+    pub second : Opens to mid new target (stream noted errors.new)
+
+  -- they were closed there, the second first
+  pub record ClosesBoth (from to : List ℕ) (old new : F) (source target : K) (errors : Stream) : Type 0 where
+    pub mid : F
+    pub noted : Option (List ℕ)
+    pub second : Closes to old mid target (stream errors.old noted)
+    pub first : Closes from mid new source (stream noted errors.new)
+
+  -- a store was opened at one path, and what lies at the other isn't opened; so the first was closed as it was, and at each other path
+  -- all stays
+  pub record RefusesSecond (from to : List ℕ) (old new : F) (e : Ending) (output errors : Stream) : Type 0 where
+    pub differ : from ≢ to
+    pub source : K
+    pub opened : F
+    pub unopened : F
+    pub noted : Option (List ℕ)
+    pub told : Option (List ℕ)
+    pub first : Opens from old opened source (stream errors.old noted)
+    pub second : RefusesToOpen to opened unopened e output (stream noted told)
+    pub closes : Closes from unopened new source (stream told errors.new)
+    pub others : OthersStay f.holds from old new
+
+  -- of two paths one isn't opened; or they are the same, and nothing is opened
+  abbrev pub RefusesBoth : List ℕ → List ℕ → F → F → Ending → Stream → Stream → Type 0
+  RefusesBoth from to old new e output errors =
+      ((from ≡ to) × (new ≡ old) × Refuses cause.InUse e output errors)
+      ⊎ (((from ≢ to) × RefusesToOpen from old new e output errors) ⊎ RefusesSecond from to old new e output errors)
+
+  -- it was copied from what lay at one path to what lay at another, and this became of the records. What that left lies there now,
+  -- and nothing else changed
+  pub record CopiesOver (from to : List ℕ) (Becomes : (from old new : List ℕ → Option Organization) → Stream → Type 0) (refused : Cause) (old new : F) (errors : Stream) : Type 0 where
+    pub source_before : K
+    pub source_after : K
+    pub target_before : K
+    pub target_after : K
+    pub worked : F
+    pub noted : Option (List ℕ)
+    pub told : Option (List ℕ)
+    pub opens : OpensBoth from to old worked source_before target_before (stream errors.old noted)
+    pub copies : CopiesBetween k (λ source before after. Becomes source before after (stream noted told)) source_before source_after target_before target_after
+    pub why : (told ≡ noted) ⊎ TellsCause refused (stream noted told)
+    pub closes : ClosesBoth from to worked new source_after target_after (stream told errors.new)
+    pub left_source : f.holds new from source_after
+    pub left_target : f.holds new to target_after
+    pub others : OthersStayBut f.holds from to old new
+
+  -- an organization is copied from what lies at one path to what lies at another
+  abbrev pub CopiesAt : List ℕ → List ℕ → List ℕ → F → F → Ending → Stream → Stream → Type 0
+  CopiesAt from to org old new e output errors =
+      CopiesOver from to (λ source before after told. IsCopied org source before after e output told) cause.Store old new errors
+      ⊎ RefusesBoth from to old new e output errors
+
+  -- every organization is copied so
+  abbrev pub CompactsAt : List ℕ → List ℕ → F → F → Ending → Stream → Stream → Type 0
+  CompactsAt from to old new e output errors =
+      CopiesOver from to (λ source before after told. IsCompacted source before after e output told) cause.Unfinished old new errors
+      ⊎ RefusesBoth from to old new e output errors
+
 -- what the program stands on besides its streams
 pub record Outside (F N C : Type 0) : Type 0 where
   pub files : F
@@ -414,6 +521,8 @@ module _ {K F N C R W : Type 0} (k : keep.Ghosts K) (f : files.Ghosts F K) (n : 
   Leaves (adds_token db org name role bounds) input old new e output errors =
       AddsTokenAt k f db (λ secret. TokenAdd org name role secret bounds) input old.files new.files e output errors × IsAlone old new
   Leaves (looks_over db) input old new e output errors = LooksAt k f db old.files new.files e output errors × IsAlone old new
+  Leaves (copies from to org) input old new e output errors = CopiesAt k f from to org old.files new.files e output errors × IsAlone old new
+  Leaves (compacts from to) input old new e output errors = CompactsAt k f from to old.files new.files e output errors × IsAlone old new
   Leaves (serves db port count timeouts logs checks) input old new e output errors =
       ServesAsAsked checks db port timeouts logs count old new e output errors ⊎ (RefusesToOpen k f db old.files new.files e output errors × IsAlone old new)
   Leaves replays input old new e output errors = new ≡ old

@@ -8,3 +8,7 @@ AllStay {F} {K} holds old new = (path : List ℕ) (store : K) → holds old path
 -- what lies at each path but this one stays
 abbrev pub OthersStay : {F K : Type 0} → (F → List ℕ → K → Type 0) → List ℕ → F → F → Type 0
 OthersStay {F} {K} holds path old new = (other : List ℕ) (store : K) → other ≢ path → holds old other store → holds new other store
+
+-- what lies at each path but these two stays
+abbrev pub OthersStayBut : {F K : Type 0} → (F → List ℕ → K → Type 0) → List ℕ → List ℕ → F → F → Type 0
+OthersStayBut {F} {K} holds from to old new = (other : List ℕ) (store : K) → other ≢ from → other ≢ to → holds old other store → holds new other store

@@ -2,12 +2,15 @@
 #![tactic(auto)]
 
 mod bounds;
+mod copying;
 pub mod endings;
 mod errors;
 pub mod frames;
 pub mod headings;
+mod laws;
 pub mod lines;
 mod logs;
+mod openings;
 pub mod outside;
 pub mod reasons;
 pub mod replays;
@@ -17,3 +20,7 @@ mod secrets;
 pub mod serving;
 
 pub use command_line::timeouts;
+pub use laws::{
+    copied_organizations_go_on, copies_to_none_are_the_same, done_copies_are_equal,
+    stopped_copies_go_on,
+};

@@ -1,18 +1,20 @@
 //! What the program stands on besides its streams: files of databases, connections and a clock.
-ghost use Rattle.std.specs.Prelude.{◌≡◌, ℕ, Bool, List, [], Option, Result, false, IfOk, IfErr, OnOk, OnErr};
+ghost use Rattle.std.specs.Prelude.{◌≡◌, ◌≢◌, ℕ, Bool, List, [], Option, Result, false, IfOk, IfErr, OnOk, OnErr};
 ghost use Rattle.std.specs.Net.Addr.{ipv4_octets};
 ghost use Rattle.basis.specs.declared.memory.Down.{Down as AnyDown};
 ghost use Rattle.command_line.specs.declared.timeouts.Timeouts.{Timeouts as AnyTimeouts};
 ghost use Rattle.program.specs.declared.reasons.Cause.{Cause as AnyCause};
 ghost use Rattle.program.specs.declared.reasons.OpenFault.{OpenFault as AnyFault};
+ghost use Rattle.machine.specs.Effects.{effect};
 ghost use Rattle.machine.specs.Keeping.{Looks};
+ghost use Rattle.program.specs.Moves.{org_copied};
 ghost use Rattle.program.specs.Paths.{AllStay, OthersStay};
 ghost use Rattle.program.specs.Replies.{AreReplies};
 
 use crate::reasons::{Cause, OpenFault};
-use basis::{Bytes, Down, Items, Moment, Text};
+use basis::{Bytes, Down, Items, Moment, OrgName, Text};
 use command_line::timeouts::Timeouts;
-use machine::Keep;
+use machine::{AdminAnswer, Keep};
 use serve::Step;
 use std::alloc::Global;
 use std::net::Ipv4Addr;
@@ -71,6 +73,23 @@ pub trait Files<K: Keep> {
         ensures found { finds store.old result store.new }
         ensures looks { Looks K.rows K.clean K.sound K.shielded store.old store.new }
         ensures sound { IfOk result (λ lines. lines ≡ [] → K.clean store.new → is_ours store.old → K.sound store.old) };
+
+    /// Copies an organization from one store to another, in one transaction of the other. What each has of other
+    /// organizations stays. An error where memory or a store refused.
+    fn copy(
+        &self,
+        alloc: Global,
+        org: &OrgName,
+        from: &mut K,
+        to: &mut K,
+    ) -> Result<AdminAnswer, Down>
+        ensures source { Looks K.rows K.clean K.sound K.shielded from.old from.new }
+        ensures so_far { K.clean to.new → K.clean to.old }
+        ensures shield { K.shielded to.old → K.shielded to.new }
+        ensures kept { K.clean to.new → K.sound to.old → K.clean from.new → K.sound from.old → K.sound to.new }
+        ensures own { K.clean to.new → K.sound to.old → K.clean from.new → K.sound from.old → IfOk result (λ answer. effect answer (K.rows to.new org.now) ≡ org_copied (K.rows from.old org.now) (K.rows to.old org.now)) }
+        ensures others { K.clean to.new → K.sound to.old → K.clean from.new → K.sound from.old → (o : List ℕ) → o ≢ org.now → K.rows to.new o ≡ K.rows to.old o }
+        ensures err { K.clean to.new → OnErr result ((o : List ℕ) → K.rows to.new o ≡ K.rows to.old o) };
 
     /// Closes a store: what it has lies at the path then. After an error its log stays beside the file.
     fn close(&mut self, path: &str, store: K) -> Result<(), Down>

@@ -25,6 +25,8 @@ pub enum Cause {
     Disk,
     /// Memory or the store refused, and it isn't told which.
     Store,
+    /// Memory or a store refused before every organization was copied.
+    Unfinished,
     /// A fault of the disk has shut the store.
     Shut,
     /// Standard input can't be read, or memory was refused behind it.
@@ -66,6 +68,9 @@ impl Cause {
             Cause::NoMemory => "custody: memory was refused\n",
             Cause::Disk => "custody: the disk or the system refused\n",
             Cause::Store => "custody: memory or the store refused, and no record changed\n",
+            Cause::Unfinished => {
+                "custody: memory or a store refused before all was copied: the same command goes on from there\n"
+            }
             Cause::Shut => "custody: a fault of the disk has shut the store: see to the disk\n",
             Cause::Input => "custody: the input can't be read, or memory was refused\n",
             Cause::PortTaken => "custody: the port is taken\n",

@@ -3,14 +3,14 @@ ghost use Rattle.std.specs.Prelude.{OnOk};
 ghost use Rattle.std.specs.Io.KnownBytes.{Appends};
 ghost use Rattle.program.specs.Errors.{GetsFront, cause_line};
 ghost use Rattle.program.specs.Replies.{reply_frame, printed, bad_frame_text, answer_line, fault_lines};
-ghost use Rattle.program.specs.Outcomes.{IsSaid};
+ghost use Rattle.program.specs.Outcomes.{stream, IsSaid, AnswersLine, TellsWord};
 ghost use Rattle.serve.specs.Service.{org_lines, token_lines};
 
 use crate::endings::Ending;
 use crate::errors::tell_cause;
 use crate::reasons::Cause;
 use basis::{Bytes, Text};
-use machine::{OrgRow, TokenRow};
+use machine::{AdminAnswer, OrgRow, TokenRow};
 use serve::{write_org_lines, write_token_lines};
 use std::io;
 use std::io::Write;
@@ -99,4 +99,18 @@ pub fn print_tokens<O: Write>(output: &mut O, rows: &[TokenRow]) -> io::Result<(
 {
     write_token_lines(output, rows)?;
     output.flush()
+}
+
+/// Prints the word of an answer, and says how the program ends then; a list has none.
+pub fn say_word<O: Write>(output: &mut O, answer: &AdminAnswer) -> Ending
+    ensures line { AnswersLine result (stream (O.contents output.old) (O.contents output.new)) }
+    ensures tells { TellsWord answer.now result (stream (O.contents output.old) (O.contents output.new)) }
+{
+    match answer {
+        AdminAnswer::Done => say(output, Ending::Done),
+        AdminAnswer::Exists => say(output, Ending::Exists),
+        AdminAnswer::Absent => say(output, Ending::Absent),
+        AdminAnswer::Organizations(_) => say(output, Ending::Down),
+        AdminAnswer::Tokens(_) => say(output, Ending::Down),
+    }
 }

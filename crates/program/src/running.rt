@@ -3,19 +3,20 @@ ghost use Rattle.std.specs.Prelude.{◌≡◌, ◌≢◌, ◌<◌, ◌⊎◌, �
 ghost use Rattle.program.specs.Endings.{status_of};
 ghost use Rattle.program.specs.Errors.{GetsFront, other_line};
 ghost use Rattle.command_line.specs.Orders.{said_by, with_secret};
-ghost use Rattle.program.specs.Outcomes.{stream, IsSaid, AnswersLine, AnswersList, AnswersTokens, TellsWord, TellsList, TellsTokens, TellsAnswer, IsOperated, AnswersFaults, TellsFaults, TellsFound, AnswersCommand, HasSecret, HasNoSecret, IsSecretOf, AddsToken, ServesAt, Does, RefusesWords, OperatesAt, AddsTokenAt, LooksAt, ServesFrom, ServesChecked, ServesAsAsked, RefusesUnsound, RefusesToOpen, outside, IsAlone, SaysServed, Refuses, TellsCause, TellsOfLog, TellsOfNew, TellsOfReaders, TellsOfFile, Leaves, Runs};
+ghost use Rattle.program.specs.Outcomes.{stream, IsSaid, AnswersLine, AnswersList, AnswersTokens, TellsList, TellsTokens, TellsAnswer, IsOperated, AnswersFaults, TellsFaults, TellsFound, AnswersCommand, HasSecret, HasNoSecret, IsSecretOf, AddsToken, ServesAt, Does, RefusesWords, OperatesAt, AddsTokenAt, LooksAt, ServesFrom, ServesChecked, ServesAsAsked, RefusesUnsound, RefusesToOpen, outside, IsAlone, SaysServed, Refuses, TellsCause, Leaves, Runs};
 ghost use Rattle.program.specs.Inner.Outcomes.{IsSaidWhy, FindsNone, LooksFirst, ServesOpened};
-ghost use Rattle.program.specs.Paths.{OthersStay};
 ghost use Rattle.program.specs.Serving.{Listens, Serves, state, AnswersAtPort};
 ghost use Rattle.command_line.specs.Words.{words_bytes, IsWhy, AskForHelp, AreNoCommand};
 ghost use Rattle.program.specs.declared.endings.Ending.{Ending};
 
+use crate::copying::{compact, copy_one};
 use crate::endings::Ending;
 use crate::errors::{note, tell_cause, tell_faults, tell_other};
+use crate::openings::{close_after, refuse_other, tell_of_file};
 use crate::outside::{Clock, Connections, Files};
 use crate::reasons::{Cause, OpenFault, OtherSchema};
 use crate::replays::{read_all, replay_frames};
-use crate::replies::{print_faults, print_organizations, print_tokens, refuse, say};
+use crate::replies::{print_faults, print_organizations, print_tokens, refuse, say, say_word};
 use crate::secrets::read_secret;
 use crate::serving::serve_loop;
 use basis::{Down, Items, Moment, Secret, Text, Unfit};
@@ -34,17 +35,6 @@ const FORMS: &str =
 /// What a secret has to be.
 const SECRET_FORM: &str =
     "custody: the secret isn't one line of 16 to 64 ASCII letters or digits\n";
-
-/// What is said where the log of a file stays beside it.
-const LOG_STAYS: &str =
-    "custody: the log could not be copied into the file: keep the file and its log together\n";
-
-/// What is said where others than its owner may read a file or its log.
-const OTHERS_READ: &str =
-    "custody: others than its owner may read the file or its log: chmod 600 ends that\n";
-
-/// What is said where no file lay at a path.
-const NEW_FILE: &str = "custody: there was no file at the path: a new one was made\n";
 
 /// Says why on the error stream, and the ending on standard output.
 fn say_why<O: Write, E: Write>(output: &mut O, errors: &mut E, ending: Ending, why: &str) -> Ending
@@ -86,19 +76,6 @@ fn say_tokens<O: Write>(output: &mut O, answer: &AdminAnswer) -> Ending
         AdminAnswer::Done | AdminAnswer::Exists | AdminAnswer::Organizations(_) => {
             say(output, Ending::Down)
         }
-    }
-}
-
-fn say_word<O: Write>(output: &mut O, answer: &AdminAnswer) -> Ending
-    ensures line { AnswersLine result (stream (O.contents output.old) (O.contents output.new)) }
-    ensures tells { TellsWord answer.now result (stream (O.contents output.old) (O.contents output.new)) }
-{
-    match answer {
-        AdminAnswer::Done => say(output, Ending::Done),
-        AdminAnswer::Exists => say(output, Ending::Exists),
-        AdminAnswer::Absent => say(output, Ending::Absent),
-        AdminAnswer::Organizations(_) => say(output, Ending::Down),
-        AdminAnswer::Tokens(_) => say(output, Ending::Down),
     }
 }
 
@@ -212,39 +189,6 @@ fn operate<K: Keep, O: Write, E: Write>(
     let keep = service.into_keep();
     let ending = say_answered(output, errors, command, &answered);
     (ending, keep)
-}
-
-fn tell_of_readers<E: Write>(errors: &mut E, others_may_read: bool)
-    ensures { TellsOfReaders others_may_read (stream (E.contents errors.old) (E.contents errors.new)) }
-{
-    if others_may_read {
-        let _ = note(errors, OTHERS_READ);
-    }
-}
-
-fn tell_of_new<E: Write>(errors: &mut E, is_new: bool)
-    ensures { TellsOfNew is_new (stream (E.contents errors.old) (E.contents errors.new)) }
-{
-    if is_new {
-        let _ = note(errors, NEW_FILE);
-    }
-}
-
-fn tell_of_file<E: Write>(errors: &mut E, is_new: bool, others_may_read: bool)
-    ensures { TellsOfFile is_new others_may_read (stream (E.contents errors.old) (E.contents errors.new)) }
-{
-    tell_of_new(errors, is_new);
-    tell_of_readers(errors, others_may_read);
-}
-
-fn close_after<K: Keep, F: Files<K>, E: Write>(files: &mut F, db: &str, store: K, errors: &mut E)
-    ensures closed { F.holds files.new db.now store }
-    ensures others { OthersStay F.holds db.now files.old files.new }
-    ensures log { TellsOfLog (F.copied files.new db.now store) (stream (E.contents errors.old) (E.contents errors.new)) }
-{
-    if files.close(db, store).is_err() {
-        let _ = note(errors, LOG_STAYS);
-    }
 }
 
 fn carry_out<K: Keep, F: Files<K>, O: Write, E: Write>(
@@ -410,14 +354,6 @@ fn say_served<O: Write>(output: &mut O, ending: Ending) -> Ending
         Ending::Down => say(output, Ending::Down),
         _ => ending,
     }
-}
-
-fn refuse_other<O: Write, E: Write>(output: &mut O, errors: &mut E, other: OtherSchema) -> Ending
-    ensures schema { IsSaid Ending.Schema result (O.contents output.old) (O.contents output.new) }
-    ensures why { GetsFront (E.contents errors.old) (E.contents errors.new) (other_line other) }
-{
-    tell_other(errors, other);
-    say(output, Ending::Schema)
 }
 
 /// Answers connections from a store that was opened at a path, and closes it there.
@@ -607,6 +543,8 @@ fn run_order<K: Keep, F: Files<K>, N: Connections, C: Clock, I: Read, O: Write, 
             read_and_add(alloc, files, db, token, input, output, errors)
         }
         Order::Check { db } => check(alloc, files, db, output, errors),
+        Order::Copy { from, to, org } => { copy_one(alloc, files, from, to, &org, output, errors) }
+        Order::Compact { from, to } => compact(alloc, files, from, to, output, errors),
         Order::Serve {
             db,
             port,

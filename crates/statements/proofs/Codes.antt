@@ -38,6 +38,15 @@ pub bound_number : (o : Option ℕ) → bound_value (typed_null number o) ≡ ty
 bound_number None = refl
 bound_number (Some n) = refl
 
+-- an action that may be absent
+pub optional_action : (o : Option RunAction) → or_null (λ n. Int (pos n)) (option_map action_code o) ≡ typed_null (λ a. number (action_code a)) o
+optional_action None = refl
+optional_action (Some a) = refl
+
+pub bound_action : (o : Option RunAction) → bound_value (typed_null (λ a. number (action_code a)) o) ≡ typed_null (λ a. number (action_code a)) o
+bound_action None = refl
+bound_action (Some a) = refl
+
 pub role_back : (r : Role) → role_at (role_code r) ≡ r
 role_back Read = refl
 role_back Write = refl

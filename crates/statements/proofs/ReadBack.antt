@@ -14,9 +14,10 @@ use Rattle.statements.specs.declared.rows.NamedWorkspace.{NamedWorkspace}
 use Rattle.statements.specs.declared.rows.Organization.{Organization}
 use Rattle.basis.specs.declared.rows.RunRow.{RunRow as Run}
 use Rattle.statements.specs.declared.rows.NamedRole.{NamedRole}
+use Rattle.statements.specs.declared.rows.NamedToken.{NamedToken}
 use Rattle.basis.specs.declared.roles.Bounds.{Bounds}
-use Rattle.statements.specs.Rows.{number, flag, role_code, status_code, action_code, run_settings_cells, kind_cell, lock_id_cell, lock_text_cell, run_cell}
-use Rattle.statements.specs.Calls.{IsFlagCell, IsTextOrNull, AreHolderCells, IsWorkspace, IsNamedRow, IsOrganization, IsVersionRow, IsActionOrNull, IsRunRow, IsNamedRole, IsNumberOrNull, IsBound}
+use Rattle.statements.specs.Rows.{Token, number, flag, role_code, status_code, action_code, run_settings_cells, kind_cell, lock_id_cell, lock_text_cell, run_cell}
+use Rattle.statements.specs.Calls.{IsFlagCell, IsTextOrNull, AreHolderCells, IsWorkspace, IsNamedRow, IsOrganization, IsVersionRow, IsActionOrNull, IsRunRow, IsNamedRole, IsNamedToken, IsNumberOrNull, IsBound}
 use Rattle.statements.proofs.Decoding.{run_settings_back}
 use Rattle.statements.proofs.Codes.{same_role, same_status, same_action}
 
@@ -29,7 +30,7 @@ number_read m n e = sym (same_code m n e)
 pub blob_read : (a b : List ℕ) → cell.Blob a ≡ cell.Blob b → b ≡ a
 blob_read a b e = cc
 
-text_read : (a b : List ℕ) → cell.Text a ≡ cell.Text b → b ≡ a
+pub text_read : (a b : List ℕ) → cell.Text a ≡ cell.Text b → b ≡ a
 text_read a b e = cc
 
 pub role_read : (a b : Role) → number (role_code a) ≡ number (role_code b) → b ≡ a
@@ -116,6 +117,12 @@ run_read r q told = λ i. record {
 
 pub named_role_read : (name : List ℕ) (role : Role) (r : NamedRole) → IsNamedRole (cell.Text name ∷ number (role_code role) ∷ []) r → r ≡ record { name = name; role = role }
 named_role_read name role r told = λ i. record { name = text_read name r.name told.name i; role = role_read role r.role told.role i }
+
+pub named_token_read : (name : List ℕ) (it : Token) (x : NamedToken) → IsNamedToken (cell.Text name ∷ cell.Blob it.digest ∷ number (role_code it.role) ∷ []) x → x ≡ record { name = name; it = it }
+named_token_read name it x told = λ i. record {
+  name = text_read name x.name told.name i;
+  it = record { digest = blob_read it.digest x.it.digest told.digest i; role = role_read it.role x.it.role told.role i };
+}
 
 pub bound_read : (until : Option ℕ) (prefix : List ℕ) (b : Bounds) → IsBound (or_null number until ∷ cell.Text prefix ∷ []) b → b ≡ record { until = until; prefix = prefix }
 bound_read until prefix b told = λ i. record { until = optional_number_read until b.until told.until i; prefix = text_read prefix b.prefix told.prefix i }

@@ -140,7 +140,7 @@ unfolding everything
 add_run_reads = refl
 
 abbrev pub add_run_terms : List Term
-add_run_terms = lit Null ∷ col 0 0 ∷ col 0 1 ∷ col 0 2 ∷ col 0 3 ∷ col 0 4 ∷ col 0 5 ∷ col 0 6 ∷ col 0 7 ∷ lit Null ∷ []
+add_run_terms = lit Null ∷ col 0 0 ∷ col 0 1 ∷ col 0 2 ∷ col 0 3 ∷ col 0 4 ∷ col 0 5 ∷ col 0 6 ∷ col 0 7 ∷ col 0 8 ∷ []
 
 abbrev pub remove_runs_text : List ℕ
 remove_runs_text = REMOVE_RUNS.now

@@ -34,10 +34,10 @@ module _ (old new : State) (count : ℕ) (t : Tables) (h : Holds old.now t) wher
       (record_action_query (tree_of old.now.schema run_table.name)) (record_action_means old.now.schema _ _ held.own.place) refl refl refl (λ rows. refl) (is_run_row org ws run) (λ x. two_texts_number x.1.org org x.1.ws ws x.1.it.number run) (λ (x : Kept RunRow). (x.0, record x.1 { it = record x.1.it { status = status; action = Some action } })) (λ x. refl) (λ x. refl) in
       runs_written old.now new.now left.1 t h _ left.0 (IsKeyedBy-update_where id_of (is_run_row org ws run) (λ (x : Kept RunRow). (x.0, record x.1 { it = record x.1.it { status = status; action = Some action } })) (λ x. refl) t.runs held.keyed)
 
-  pub add_run_does : (org ws : List ℕ) (n : ℕ) (plan_only : Bool) (key : Option (List ℕ)) (message : List ℕ) (created : ℕ) (status : RunStatus) → Executes add_run_text (Text org ∷ Text ws ∷ number n ∷ flag plan_only ∷ or_null Text key ∷ Text message ∷ number created ∷ number (status_code status) ∷ []) old new (Ok count) → Turns old.now new.now (run_added org ws (run_made n plan_only key message created status) t)
-  add_run_does org ws n plan_only key message created status ran =
-      let row : RunRow = record { org = org; ws = ws; it = run_made n plan_only key message created status } in
-      let left = insert_own run_cells run_table run_casts old new held.own held.steady t.runs held.rows held.keyed add_run_text (Text org ∷ Text ws ∷ number n ∷ flag plan_only ∷ or_null Text key ∷ Text message ∷ number created ∷ number (status_code status) ∷ []) count ran
+  pub add_run_does : (org ws : List ℕ) (n : ℕ) (plan_only : Bool) (key : Option (List ℕ)) (message : List ℕ) (created : ℕ) (status : RunStatus) (action : Option RunAction) → Executes add_run_text (Text org ∷ Text ws ∷ number n ∷ flag plan_only ∷ or_null Text key ∷ Text message ∷ number created ∷ number (status_code status) ∷ or_null (λ a. number (action_code a)) action ∷ []) old new (Ok count) → Turns old.now new.now (run_added org ws (run_made n plan_only key message created status action) t)
+  add_run_does org ws n plan_only key message created status action ran =
+      let row : RunRow = record { org = org; ws = ws; it = run_made n plan_only key message created status action } in
+      let left = insert_own run_cells run_table run_casts old new held.own held.steady t.runs held.rows held.keyed add_run_text (Text org ∷ Text ws ∷ number n ∷ flag plan_only ∷ or_null Text key ∷ Text message ∷ number created ∷ number (status_code status) ∷ or_null (λ a. number (action_code a)) action ∷ []) count ran
       add_run_terms 10 (add_run_means old.now.schema _ _ held.own.place) refl refl row refl in
       runs_written old.now new.now left.1 t h _ left.0 (keyed_next t.runs row held.keyed)
 

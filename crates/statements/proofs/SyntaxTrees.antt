@@ -144,6 +144,9 @@ named_token_role_core = from_table (shown_columns (codes "role" ∷ [])) (codes 
 abbrev pub list_tokens_core : Core
 list_tokens_core = from_table (shown_columns (codes "name" ∷ codes "role" ∷ [])) (codes "token") (is_given (codes "org") 1)
 
+abbrev pub list_whole_tokens_core : Core
+list_whole_tokens_core = from_table (shown_columns (codes "name" ∷ codes "digest" ∷ codes "role" ∷ [])) (codes "token") (is_given (codes "org") 1)
+
 abbrev pub find_bound_core : Core
 find_bound_core = from_table (shown_columns (codes "until" ∷ codes "prefix" ∷ [])) (codes "bound") (at_key (codes "org") (codes "name"))
 
@@ -255,6 +258,9 @@ list_ws_within_test = also (also list_ws_test (Two Ge (named (codes "name")) (Pa
 abbrev pub list_ws_within_core : Core
 list_ws_within_core = from_ws_joined list_ws_columns list_ws_within_test
 
+abbrev pub list_names_core : Core
+list_names_core = from_table (shown_columns (codes "name" ∷ [])) (codes "ws") (is_given (codes "org") 1)
+
 abbrev pub list_versions_core : Core
 list_versions_core = from_table (shown_columns (codes "number" ∷ codes "serial" ∷ codes "lineage" ∷ codes "created" ∷ codes "size" ∷ [])) (codes "version") (also (at_key (codes "org") (codes "ws")) (is_above (codes "number") 3))
 
@@ -286,7 +292,7 @@ abbrev pub record_action : Statement
 record_action = update (codes "run") ((codes "status", Parameter 4) ∷ (codes "action", Parameter 5) ∷ []) (also (at_key (codes "org") (codes "ws")) (is_given (codes "number") 3))
 
 abbrev pub add_run : Statement
-add_run = insert (codes "run") (codes "org" ∷ codes "ws" ∷ codes "number" ∷ codes "plan_only" ∷ codes "rkey" ∷ codes "message" ∷ codes "created" ∷ codes "status" ∷ []) (Parameter 1 ∷ Parameter 2 ∷ Parameter 3 ∷ Parameter 4 ∷ Parameter 5 ∷ Parameter 6 ∷ Parameter 7 ∷ Parameter 8 ∷ [])
+add_run = insert (codes "run") (codes "org" ∷ codes "ws" ∷ codes "number" ∷ codes "plan_only" ∷ codes "rkey" ∷ codes "message" ∷ codes "created" ∷ codes "status" ∷ codes "action" ∷ []) (Parameter 1 ∷ Parameter 2 ∷ Parameter 3 ∷ Parameter 4 ∷ Parameter 5 ∷ Parameter 6 ∷ Parameter 7 ∷ Parameter 8 ∷ Parameter 9 ∷ [])
 
 abbrev pub remove_runs : Statement
 remove_runs = delete (codes "run") (at_key (codes "org") (codes "ws"))

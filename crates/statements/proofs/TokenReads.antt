@@ -10,15 +10,16 @@ use Rattle.statements.specs.Rows.{token_cells}
 use Rattle.statements.specs.Tables.{Tables, Holds, token_layout}
 use Rattle.statements.specs.Changes.{is_token, is_digest_of}
 use Rattle.statements.specs.Finds.{role_of_digest, role_of_name}
-use Rattle.statements.specs.Listings.{role_row, is_token_of, token_rows_of, TokensApart}
+use Rattle.statements.specs.Listings.{role_row, is_token_of, token_rows_of, token_row_whole, whole_tokens_of, TokensApart}
 use Rattle.statements.specs.declared.rows.NamedRole.{NamedRole}
-use Rattle.statements.specs.Calls.{FirstRow, Pins, IsRole, IsNamedRole}
+use Rattle.statements.specs.declared.rows.NamedToken.{NamedToken}
+use Rattle.statements.specs.Calls.{FirstRow, Pins, IsRole, IsNamedRole, IsNamedToken}
 use Rattle.statements.proofs.Held.{IsHeld, tokens_held}
 use Rattle.statements.proofs.PointReads.{first_own}
-use Rattle.statements.proofs.ReadBack.{role_read, named_role_read}
+use Rattle.statements.proofs.ReadBack.{role_read, named_role_read, named_token_read}
 use Rattle.statements.proofs.NameLists.{by_text, tokens_apart, own_names}
 use Rattle.statements.proofs.Conditions.{one_text, two_texts, text_blob}
-use Rattle.statements.proofs.TokenTexts.{token_role_text, token_role_means, token_role_rest, named_token_role_text, named_token_role_means, named_token_role_rest, token_names, list_tokens_text, list_tokens_means, list_tokens_rest}
+use Rattle.statements.proofs.TokenTexts.{token_role_text, token_role_means, token_role_rest, named_token_role_text, named_token_role_means, named_token_role_rest, token_names, list_tokens_text, list_tokens_means, list_tokens_rest, whole_token_names, list_whole_tokens_text, list_whole_tokens_means, list_whole_tokens_rest}
 
 module _ (old new : State) (t : Tables) (h : Holds old.now t) where
   abbrev held : IsHeld token_layout old.now t.tokens
@@ -39,3 +40,9 @@ module _ (old new : State) (t : Tables) (h : Holds old.now t) where
       own_names token_cells token_table old new held.own t.tokens held.rows list_tokens_text (Text org ∷ []) list_tokens_rest 2 token_names end (λ _. []) (λ terms x. refl)
       IsNamedRole (λ x. x.1.name) (λ x. x.1.it.role) role_row (λ x y told. named_role_read x.1.name x.1.it.role y told)
       (λ x y. by_text x.1.name y.1.name) (list_tokens_means old.now.schema _ _ held.own.place) (λ l. refl) (is_token_of org) (λ x. one_text x.1.org org) (tokens_apart org t.tokens apart) rows roles shown read
+
+  pub list_whole_tokens_shows : (org : List ℕ) (rows : List Row) (tokens : List NamedToken) → TokensApart t → Shown list_whole_tokens_text (Text org ∷ []) old new rows → AllZip IsNamedToken rows tokens → tokens ≡ whole_tokens_of org t
+  list_whole_tokens_shows org rows tokens apart shown read =
+      own_names token_cells token_table old new held.own t.tokens held.rows list_whole_tokens_text (Text org ∷ []) list_whole_tokens_rest 2 whole_token_names end (λ _. []) (λ terms x. refl)
+      IsNamedToken (λ x. x.1.name) (λ x. x.1.it) token_row_whole (λ x y told. named_token_read x.1.name x.1.it y told)
+      (λ x y. by_text x.1.name y.1.name) (list_whole_tokens_means old.now.schema _ _ held.own.place) (λ l. refl) (is_token_of org) (λ x. one_text x.1.org org) (tokens_apart org t.tokens apart) rows tokens shown read

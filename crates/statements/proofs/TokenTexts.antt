@@ -13,7 +13,7 @@ use Rattle.sqlite_resolve.specs.Compile.{first, command, timed, returning}
 use Rattle.sqlite_resolve.specs.Select.{named}
 use Rattle.sqlite_resolve.specs.Program.{program}
 use Rattle.sqlite_tied.specs.Compute.{everything}
-use Rattle.statements.specs.declared.tokens.TheConstants.{ADD_TOKEN, TOKEN_ROLE, NAMED_TOKEN_ROLE, LIST_TOKENS, REMOVE_TOKEN}
+use Rattle.statements.specs.declared.tokens.TheConstants.{ADD_TOKEN, TOKEN_ROLE, NAMED_TOKEN_ROLE, LIST_TOKENS, LIST_WHOLE_TOKENS, REMOVE_TOKEN}
 use Rattle.statements.specs.Place.{StandsAt}
 use Rattle.statements.specs.Schema.{token_table}
 use Rattle.statements.specs.Calls.{IsQuery}
@@ -86,6 +86,25 @@ list_tokens_is_query = (list_tokens_select, some_parsed (first list_tokens_text)
 abbrev pub list_tokens_rest : Query
 list_tokens_rest = point_rest (is_at 1 0 ∷ []) (col 1 2 ∷ col 1 4 ∷ []) no_page
 
+abbrev pub whole_token_names : List (List ℕ)
+whole_token_names = codes "name" ∷ codes "digest" ∷ codes "role" ∷ []
+
+abbrev pub list_whole_tokens_text : List ℕ
+list_whole_tokens_text = LIST_WHOLE_TOKENS.now
+
+abbrev pub list_whole_tokens_select : ast.Select
+list_whole_tokens_select = st.select st.list_whole_tokens_core (st.by_column (codes "name")) None
+
+list_whole_tokens_reads : first list_whole_tokens_text ≡ Ok (as_read (some_parsed (first list_whole_tokens_text)) (written.Select list_whole_tokens_select))
+unfolding everything
+list_whole_tokens_reads = refl
+
+pub list_whole_tokens_is_query : IsQuery list_whole_tokens_text
+list_whole_tokens_is_query = (list_whole_tokens_select, some_parsed (first list_whole_tokens_text), list_whole_tokens_reads)
+
+abbrev pub list_whole_tokens_rest : Query
+list_whole_tokens_rest = point_rest (is_at 1 0 ∷ []) (col 1 2 ∷ col 1 3 ∷ col 1 4 ∷ []) no_page
+
 abbrev pub remove_token_text : List ℕ
 remove_token_text = REMOVE_TOKEN.now
 
@@ -155,6 +174,23 @@ module _ (s : Schema) (at tree : ℕ) (h : StandsAt s (codes "token") token_tabl
   pub list_tokens_means : Means s (Select (plain_program (listing list_tokens_rest tree 2)) token_names) list_tokens_text
   unfolding timed returning
   list_tokens_means = means s (written.Select list_tokens_select) _ refl (λ _. refl) list_tokens_is list_tokens_text (some_parsed (first list_tokens_text)) list_tokens_reads
+
+  list_whole_tokens_named : named s st.list_whole_tokens_core (st.by_column (codes "name")) no_page ≡ Ok ((listing_draft list_whole_tokens_rest tree 2), whole_token_names, (Some Binary ∷ Some Binary ∷ Some Binary ∷ []))
+  unfolding everything
+  list_whole_tokens_named = rw (h.named, h.found, h.found, h.found, h.found) refl
+
+  list_whole_tokens_fits : program s [] (listing_draft list_whole_tokens_rest tree 2) ≡ Ok (plain_program (listing list_whole_tokens_rest tree 2))
+  unfolding everything
+  list_whole_tokens_fits = rw (h.low, h.treed) refl
+
+  list_whole_tokens_is : (base : ℕ) → command s [] base (written.Select list_whole_tokens_select) ≡ Ok (Select (plain_program (listing list_whole_tokens_rest tree 2)) whole_token_names)
+  unfolding everything
+  list_whole_tokens_is base =
+      read_is s list_whole_tokens_select st.list_whole_tokens_core (st.by_column (codes "name")) no_page ((listing_draft list_whole_tokens_rest tree 2), whole_token_names, (Some Binary ∷ Some Binary ∷ Some Binary ∷ [])) refl refl refl refl refl (λ again. refl) list_whole_tokens_named (plain_program (listing list_whole_tokens_rest tree 2)) list_whole_tokens_fits base
+
+  pub list_whole_tokens_means : Means s (Select (plain_program (listing list_whole_tokens_rest tree 2)) whole_token_names) list_whole_tokens_text
+  unfolding timed returning
+  list_whole_tokens_means = means s (written.Select list_whole_tokens_select) _ refl (λ _. refl) list_whole_tokens_is list_whole_tokens_text (some_parsed (first list_whole_tokens_text)) list_whole_tokens_reads
 
   remove_token_is : (base : ℕ) → command s [] base st.remove_token ≡ Ok (Delete at (plain_program (remove_token_query tree)))
   unfolding everything

@@ -8,18 +8,18 @@ use Rattle.sqlite_sql.specs.Term.{Env}
 use Rattle.sqlite_sql.specs.Program.{overlay}
 use Rattle.sqlite_typed.specs.Columns.{or_null}
 use Rattle.sqlite_keyed.proofs.ListLemmas.{ascending_weaker}
-use Rattle.sqlite.specs.State.{State}
+use Rattle.sqlite.specs.State.{State, Shown}
 use Rattle.statements.specs.Place.{tree_of}
 use Rattle.statements.specs.Schema.{ws_table, keeping_table, version_table}
 use Rattle.statements.specs.Rows.{Kept, WsRow, VersionRow, KeepingRow, stored, ws_cells, version_cells, keeping_cells, number}
 use Rattle.statements.specs.Tables.{Tables, Holds, ws_layout, version_layout, keeping_layout}
 use Rattle.statements.specs.Changes.{is_ws, is_ws_of, is_keeping, is_version}
 use Rattle.statements.specs.Finds.{workspace_of, workspaces_of, keep_of, is_one_less, is_version_before, version_before}
-use Rattle.statements.specs.Calls.{FirstRow, FirstRows, LimitsTo, Pins, IsWorkspace, IsNamedRow}
+use Rattle.statements.specs.Calls.{FirstRow, FirstRows, LimitsTo, Pins, IsWorkspace, IsNamedRow, IsName}
 use Rattle.statements.specs.declared.rows.NamedWorkspace.{NamedWorkspace}
-use Rattle.statements.specs.Listings.{named_row, is_behind, workspace_rows_after, later_of, end_of, WorkspacesApart}
+use Rattle.statements.specs.Listings.{named_row, is_behind, workspace_rows_after, workspace_names_of, later_of, end_of, WorkspacesApart, NamesApart}
 use Rattle.statements.proofs.Held.{IsHeld, wss_held, versions_held, keepings_held}
-use Rattle.statements.proofs.NameLists.{by_text, same_text as alike, wss_apart, names_within}
+use Rattle.statements.proofs.NameLists.{by_text, same_text as alike, wss_apart, names_within, own_names}
 use Rattle.statements.proofs.Listed.{Ends, limit_enough}
 use Rattle.statements.proofs.Lefts.{row_or, left_is}
 use Rattle.statements.proofs.Own.{stored_tree}
@@ -29,11 +29,11 @@ use Rattle.sqlite_sql.specs.declared.ops.CompareOp.TheVariants.{Lt, Gt, Ge}
 use Rattle.basis.specs.Names.{admits}
 use Rattle.std.specs.Str.{bytes_eq}
 use Rattle.statements.proofs.PointReads.{first_own, count_own}
-use Rattle.statements.proofs.ReadBack.{workspace_read, named_workspace_read}
+use Rattle.statements.proofs.ReadBack.{text_read, workspace_read, named_workspace_read}
 use Rattle.statements.proofs.Conditions.{one_text, two_texts, same_text, text_after, one_number, two_texts_one_less}
 use Rattle.statements.proofs.WsListParts.{of_workspace, of_version_before, with_both, list_ws_rest, list_ws_names, list_ws_within_rest}
 use Rattle.statements.proofs.WsListTexts.{list_ws_text, list_ws_means, list_ws_within_text, list_ws_within_means}
-use Rattle.statements.proofs.WsTexts.{find_ws_names, find_ws_text, find_ws_means, find_ws_rest, count_ws_text, count_ws_means, count_ws_rest}
+use Rattle.statements.proofs.WsTexts.{find_ws_names, find_ws_text, find_ws_means, find_ws_rest, count_ws_text, count_ws_means, count_ws_rest, list_names_text, list_names_means, list_names_rest}
 
 both_true : (a b : Bool) → (a && b) ≡ true → (a ≡ true) × (b ≡ true)
 both_true true b h = (refl, h)
@@ -150,3 +150,9 @@ module _ (old new : State) (t : Tables) (h : Holds old.now t) where
       (λ x y. by_text x.1.name y.1.name) (list_ws_within_means old.now.schema _ _ held.own.place _ _ kept.own.place _ _ made.own.place) most (λ l. limit_enough most limit limits l) (is_ws_of org) (λ n. is_behind after n && admits prefix n)
       (λ x. then_term (same_text x.1.org org) (then_term (at_texts _ Gt x.1.name after) (then_term (at_texts _ Ge x.1.name (later_of after prefix)) (last_term (at_texts _ Lt x.1.name (end_of prefix)))))
       ∙ ap (λ b. bytes_eq x.1.org org && b) (within after prefix x.1.name some)) (wss_apart org t.wss apart.wss) rows wss first read
+
+  pub list_names_shows : (org : List ℕ) (rows : List Row) (names : List (List ℕ)) → NamesApart t → Shown list_names_text (Text org ∷ []) old new rows → AllZip IsName rows names → names ≡ workspace_names_of org t
+  list_names_shows org rows names apart shown read =
+      own_names ws_cells ws_table old new held.own t.wss held.rows list_names_text (Text org ∷ []) list_names_rest 2 (codes "name" ∷ []) end (λ _. []) (λ terms x. refl)
+      IsName (λ x. x.1.name) (λ x. x.1.it) (λ e. e.0) (λ x y told. text_read x.1.name y told)
+      (λ x y. by_text x.1.name y.1.name) (list_names_means old.now.schema _ _ held.own.place) (λ l. refl) (is_ws_of org) (λ x. one_text x.1.org org) (wss_apart org t.wss apart) rows names shown read

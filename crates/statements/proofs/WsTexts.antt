@@ -17,13 +17,14 @@ use Rattle.sqlite_tied.specs.Compute.{everything}
 use Rattle.statements.specs.Place.{StandsAt}
 use Rattle.statements.specs.Schema.{ws_table}
 use Rattle.statements.specs.Calls.{IsQuery}
-use Rattle.statements.specs.declared.workspaces.TheConstants.{FIND_WS, ADD_WS, SET_RUN_SETTINGS, HOLD_BY_LOCK, HOLD_BY_RUN, RELEASE_LOCK, RELEASE_RUN, SET_NEXT_VERSION, SET_NEXT_RUN, REMOVE_WS, COUNT_WS}
+use Rattle.statements.specs.declared.workspaces.TheConstants.{FIND_WS, ADD_WS, SET_RUN_SETTINGS, HOLD_BY_LOCK, HOLD_BY_RUN, RELEASE_LOCK, RELEASE_RUN, SET_NEXT_VERSION, SET_NEXT_RUN, REMOVE_WS, COUNT_WS, LIST_NAMES}
 use Rattle.statements.proofs.SyntaxTrees as st
 use Rattle.statements.proofs.Meaning.{Means, means, some_parsed, as_read}
 use Rattle.statements.proofs.Reading.{read_is}
 use Rattle.statements.proofs.Writes.{plain_program}
 use Rattle.statements.proofs.Answered.{point, tally}
-use Rattle.statements.proofs.Commands.{is_at, update_query, delete_query, point_rest, point_draft, tally_draft, no_page}
+use Rattle.statements.proofs.Listed.{listing}
+use Rattle.statements.proofs.Commands.{is_at, update_query, delete_query, point_rest, point_draft, tally_draft, listing_draft, no_page}
 
 -- what is shown of a row, its sort orders, and the same of what says how its runs go
 abbrev pub ws_columns : List Term
@@ -167,6 +168,22 @@ count_ws_is_query = (count_ws_select, some_parsed (first count_ws_text), count_w
 abbrev pub count_ws_rest : Query
 count_ws_rest = point_rest (is_at 1 0 ∷ []) [] no_page
 
+abbrev pub list_names_text : List ℕ
+list_names_text = LIST_NAMES.now
+
+abbrev pub list_names_select : ast.Select
+list_names_select = st.select st.list_names_core (st.by_column (codes "name")) None
+
+list_names_reads : first list_names_text ≡ Ok (as_read (some_parsed (first list_names_text)) (written.Select list_names_select))
+unfolding everything
+list_names_reads = refl
+
+pub list_names_is_query : IsQuery list_names_text
+list_names_is_query = (list_names_select, some_parsed (first list_names_text), list_names_reads)
+
+abbrev pub list_names_rest : Query
+list_names_rest = point_rest (is_at 1 0 ∷ []) (col 1 2 ∷ []) no_page
+
 module _ (s : Schema) (at tree : ℕ) (h : StandsAt s (codes "ws") ws_table at tree) where
   find_ws_named : named s st.find_ws_core (st.by_rowid false) no_page ≡ Ok ((point_draft find_ws_rest tree false), find_ws_names, (ws_orders ++ run_settings_orders))
   unfolding everything
@@ -273,3 +290,20 @@ module _ (s : Schema) (at tree : ℕ) (h : StandsAt s (codes "ws") ws_table at t
   pub count_ws_means : Means s (Select (plain_program (tally count_ws_rest tree Binary (lit Null))) (codes "count(*)" ∷ [])) count_ws_text
   unfolding timed returning
   count_ws_means = means s (written.Select count_ws_select) _ refl (λ _. refl) count_ws_is count_ws_text (some_parsed (first count_ws_text)) count_ws_reads
+
+  list_names_named : named s st.list_names_core (st.by_column (codes "name")) no_page ≡ Ok ((listing_draft list_names_rest tree 2), (codes "name" ∷ []), (Some Binary ∷ []))
+  unfolding everything
+  list_names_named = rw (h.named, h.found, h.found, h.found, h.found) refl
+
+  list_names_fits : program s [] (listing_draft list_names_rest tree 2) ≡ Ok (plain_program (listing list_names_rest tree 2))
+  unfolding everything
+  list_names_fits = rw (h.low, h.treed) refl
+
+  list_names_is : (base : ℕ) → command s [] base (written.Select list_names_select) ≡ Ok (Select (plain_program (listing list_names_rest tree 2)) (codes "name" ∷ []))
+  unfolding everything
+  list_names_is base =
+      read_is s list_names_select st.list_names_core (st.by_column (codes "name")) no_page ((listing_draft list_names_rest tree 2), (codes "name" ∷ []), (Some Binary ∷ [])) refl refl refl refl refl (λ again. refl) list_names_named (plain_program (listing list_names_rest tree 2)) list_names_fits base
+
+  pub list_names_means : Means s (Select (plain_program (listing list_names_rest tree 2)) (codes "name" ∷ [])) list_names_text
+  unfolding timed returning
+  list_names_means = means s (written.Select list_names_select) _ refl (λ _. refl) list_names_is list_names_text (some_parsed (first list_names_text)) list_names_reads

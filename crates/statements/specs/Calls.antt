@@ -20,6 +20,7 @@ use Rattle.statements.specs.declared.rows.NamedWorkspace.{NamedWorkspace}
 use Rattle.statements.specs.declared.rows.Organization.{Organization}
 use Rattle.basis.specs.declared.rows.RunRow.{RunRow as Run}
 use Rattle.statements.specs.declared.rows.NamedRole.{NamedRole}
+use Rattle.statements.specs.declared.rows.NamedToken.{NamedToken}
 use Rattle.statements.specs.declared.rows.BoundedRole.{BoundedRole}
 use Rattle.basis.specs.declared.roles.Bounds.{Bounds}
 use Rattle.statements.specs.Rows.{number, role_code, status_code, action_code, run_settings_at}
@@ -115,6 +116,9 @@ pub record IsNamedRow (row : Row) (w : NamedWorkspace) : Type 0 where
   pub keep : IsNumberOrNull (column row 8) w.keep
   pub last : IsNumberOrNull (column row 9) w.last
 
+abbrev pub IsName : Row → List ℕ → Type 0
+IsName row name = column row 0 ≡ cell.Text name
+
 pub record IsOrganization (row : Row) (o : Organization) : Type 0 where
   pub name : column row 0 ≡ cell.Text o.name
   pub cap : column row 1 ≡ number o.cap
@@ -145,6 +149,11 @@ pub record IsRunRow (row : Row) (r : Run) : Type 0 where
 pub record IsNamedRole (row : Row) (r : NamedRole) : Type 0 where
   pub name : column row 0 ≡ cell.Text r.name
   pub role : column row 1 ≡ number (role_code r.role)
+
+pub record IsNamedToken (row : Row) (x : NamedToken) : Type 0 where
+  pub name : column row 0 ≡ cell.Text x.name
+  pub digest : column row 1 ≡ cell.Blob x.it.digest
+  pub role : column row 2 ≡ number (role_code x.it.role)
 
 pub record IsBound (row : Row) (b : Bounds) : Type 0 where
   pub until : IsNumberOrNull (column row 0) b.until

@@ -189,9 +189,9 @@ run_changed_to status org ws n t = record t { runs = update_where (is_run_row or
 abbrev pub run_acted : RunStatus → RunAction → List ℕ → List ℕ → ℕ → Tables → Tables
 run_acted status action org ws n t = record t { runs = update_where (is_run_row org ws n) (λ x. (x.0, record x.1 { it = record x.1.it { status = status; action = Some action } })) t.runs }
 
--- a run on which nothing has acted
-abbrev pub run_made : ℕ → Bool → Option (List ℕ) → List ℕ → ℕ → RunStatus → Run
-run_made number plan_only key message created status = record { number = number; plan_only = plan_only; key = key; message = message; created = created; status = status; action = None }
+-- a run with all its parts, of which the last is the action that it took last
+abbrev pub run_made : ℕ → Bool → Option (List ℕ) → List ℕ → ℕ → RunStatus → Option RunAction → Run
+run_made number plan_only key message created status action = record { number = number; plan_only = plan_only; key = key; message = message; created = created; status = status; action = action }
 
 abbrev pub run_added : List ℕ → List ℕ → Run → Tables → Tables
 run_added org ws it t = record t { runs = with_next (record { org = org; ws = ws; it = it }) t.runs }

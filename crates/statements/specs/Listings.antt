@@ -11,11 +11,12 @@ use Rattle.basis.specs.Names.{admits}
 use Rattle.basis.specs.declared.roles.Role.{Role}
 use Rattle.basis.specs.declared.rows.VersionRow.{VersionRow as Version}
 use Rattle.statements.specs.declared.rows.NamedRole.{NamedRole}
+use Rattle.statements.specs.declared.rows.NamedToken.{NamedToken}
 use Rattle.statements.specs.declared.rows.Workspace.{Workspace}
 use Rattle.statements.specs.declared.rows.NamedWorkspace.{NamedWorkspace}
 use Rattle.basis.specs.declared.rows.RunRow.{RunRow as Run}
 use Rattle.statements.specs.declared.rows.Organization.{Organization}
-use Rattle.statements.specs.Rows.{Kept, TokenRow}
+use Rattle.statements.specs.Rows.{Kept, Token, TokenRow}
 use Rattle.statements.specs.Tables.{Tables}
 use Rattle.statements.specs.Finds.{keep_of, version_before, version_cmp, run_cmp}
 use Rattle.statements.specs.Changes.{is_org, is_token, is_ws_of, is_ws, is_keeping, is_version_of, is_version, is_run_of}
@@ -57,6 +58,16 @@ role_row e = record { name = e.0; role = e.1 }
 abbrev pub token_rows_of : List ℕ → Tables → List NamedRole
 token_rows_of org t = map role_row (entries (roles_by_name org t))
 
+abbrev pub tokens_by_name : List ℕ → Tables → FinMap text_cmp Token
+tokens_by_name org t = from_entries (map (λ x. (x.1.name, x.1.it)) (filter (is_token_of org) t.tokens))
+
+abbrev pub token_row_whole : List ℕ × Token → NamedToken
+token_row_whole e = record { name = e.0; it = e.1 }
+
+-- the same with their digests
+abbrev pub whole_tokens_of : List ℕ → Tables → List NamedToken
+whole_tokens_of org t = map token_row_whole (entries (tokens_by_name org t))
+
 abbrev pub TokensApart : Tables → Type 0
 TokensApart t = AreApart (λ a b. is_token a.1.org a.1.name b) t.tokens
 
@@ -71,6 +82,14 @@ named_row org t e = record { name = e.0; it = e.1; keep = keep_of org e.0 t; las
 -- those of an organization that come after a name and begin with a prefix, each with how many versions it keeps and the number before its next one's, in the order of their names and no more than so many
 abbrev pub workspace_rows_after : List ℕ → List ℕ → List ℕ → ℕ → Tables → List NamedWorkspace
 workspace_rows_after org after prefix most t = take most (map (named_row org t) (filter (λ e. is_behind after e.0 && admits prefix e.0) (entries (workspaces_by_name org t))))
+
+-- the names of those of an organization, in their order
+abbrev pub workspace_names_of : List ℕ → Tables → List (List ℕ)
+workspace_names_of org t = map (λ e. e.0) (entries (workspaces_by_name org t))
+
+-- no two workspaces of an organization have one name
+abbrev pub NamesApart : Tables → Type 0
+NamesApart t = AreApart (λ a b. is_ws a.1.org a.1.name b) t.wss
 
 -- the greater of a name and a prefix
 abbrev pub later_of : List ℕ → List ℕ → List ℕ

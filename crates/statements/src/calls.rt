@@ -8,9 +8,9 @@ ghost use Rattle.sqlite.specs.State.{HasCleanDisk, Survives, Shown};
 ghost use Rattle.basis.specs.declared.numbers.TheConstants.{MAX_MOMENT};
 ghost use Rattle.statements.specs.Rows.{number, role_code, status_code, action_code, flag, flag_at};
 ghost use Rattle.statements.specs.Steps.{Queries};
-ghost use Rattle.statements.specs.Calls.{Wrote, WroteAny, IsQuery, FirstRow, FirstRows, LimitsTo, IsCalm, AreAllRead, IsRead, IsOnly, AreRead, IsOrganization, IsVersionRow, IsTextOrNull, IsRunRow, IsNamedRole, IsNumberOrNull, IsBound, IsBoundedRole, IsBody, IsNumber, IsRole, IsStatusCell, IsActionOrNull, IsStatus, IsCount};
+ghost use Rattle.statements.specs.Calls.{Wrote, WroteAny, IsQuery, FirstRow, FirstRows, LimitsTo, IsCalm, AreAllRead, IsRead, IsOnly, AreRead, IsOrganization, IsVersionRow, IsTextOrNull, IsRunRow, IsNamedRole, IsNamedToken, IsNumberOrNull, IsBound, IsBoundedRole, IsBody, IsNumber, IsRole, IsStatusCell, IsActionOrNull, IsStatus, IsCount};
 
-use crate::rows::{BoundedRole, NamedRole, Organization};
+use crate::rows::{BoundedRole, NamedRole, NamedToken, Organization, Token};
 use basis::{
     Bounds, Bytes, Items, KeepCount, Limit, LockId, Moment, Number, Prefix, Role, RunAction,
     RunRow, RunStatus, Text, VersionRow, WsName,
@@ -430,6 +430,20 @@ impl Read for NamedRole {
     }
 }
 
+impl Read for NamedToken {
+    ghost is_in = { IsNamedToken };
+
+    fn of_row(row: &Row) -> Result<NamedToken, Error> {
+        Ok(NamedToken {
+            name: Text::new(row.get(0)?),
+            it: Token {
+                digest: Bytes::new(row.get(1)?),
+                role: role_in(row, 2)?,
+            },
+        })
+    }
+}
+
 impl Read for Bounds {
     ghost is_in = { IsBound };
 
@@ -579,5 +593,15 @@ pub(crate) fn action_number(action: RunAction) -> u32
         RunAction::ReportApplied => 4,
         RunAction::Discard => 5,
         RunAction::Cancel => 6,
+    }
+}
+
+/// The same of an action that may be absent.
+pub(crate) fn optional_action_number(action: Option<RunAction>) -> Option<u32>
+    ensures { result ≡ option_map action_code action }
+{
+    match action {
+        Some(action) => Some(action_number(action)),
+        None => None,
     }
 }

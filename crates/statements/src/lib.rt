@@ -15,6 +15,6 @@ pub mod versions;
 pub mod workspaces;
 
 pub use rows::{
-    BoundRow, KeepingRow, NamedRole, NamedWorkspace, OrgRow, Organization, PageHead, Rows, RunRow,
-    Token, TokenRow, VersionRow, VpageRow, Workspace, WsRow,
+    BoundRow, KeepingRow, NamedRole, NamedToken, NamedWorkspace, OrgRow, Organization, PageHead,
+    Rows, RunRow, Token, TokenRow, VersionRow, VpageRow, Workspace, WsRow,
 };

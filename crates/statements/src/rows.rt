@@ -130,6 +130,13 @@ pub struct NamedWorkspace {
     pub last: Option<Number>,
 }
 
+/// A token with its name.
+#[derive(Drop)]
+pub struct NamedToken {
+    pub name: Text,
+    pub it: Token,
+}
+
 /// A token without its digest.
 #[derive(Drop)]
 pub struct NamedRole {

@@ -6,8 +6,8 @@ ghost use Rattle.statements.specs.Listings.{run_rows_after, RunsApart};
 ghost use Rattle.statements.specs.Finds.{first_waiting_of, status_at_number, run_at_number, keyed_run_of, open_runs_of};
 
 use crate::calls::{
-    action_number, count_of, first_row, first_rows, read_all, read_one, seconds, status_number,
-    write,
+    action_number, count_of, first_row, first_rows, optional_action_number, read_all, read_one,
+    seconds, status_number, write,
 };
 use basis::{Items, Moment, Number, RunAction, RunRow, RunStatus};
 use sqlite::{Alter, Connection, Error, Transaction, params};
@@ -145,9 +145,9 @@ pub fn record_action<S: Alter>(
 }
 
 const ADD_RUN: &str =
-    "INSERT INTO run (org, ws, number, plan_only, rkey, message, created, status) VALUES (?1, ?2, ?3, ?4, ?5, ?6, ?7, ?8)";
+    "INSERT INTO run (org, ws, number, plan_only, rkey, message, created, status, action) VALUES (?1, ?2, ?3, ?4, ?5, ?6, ?7, ?8, ?9)";
 
-/// Adds a run, on which nothing has acted.
+/// Adds a run with the action that it took last, if any.
 pub fn add<'v, S: Alter>(
     tx: &mut Transaction<'_, S>,
     org: &'v str,
@@ -158,16 +158,20 @@ pub fn add<'v, S: Alter>(
     message: &'v str,
     created: Moment,
     status: RunStatus,
+    action: Option<RunAction>,
 ) -> Result<(), Error>
-    ensures { Writes S.Store AnyRows (run_added org.now ws.now (run_made number plan_only (option_map (λ s. s.now) key.entry) message.now created status)) tx.old tx.new result }
+    ensures { Writes S.Store AnyRows (run_added org.now ws.now (run_made number plan_only (option_map (λ s. s.now) key.entry) message.now created status action)) tx.old tx.new result }
 {
     let number = number.get();
     let created = seconds(created);
     let status = status_number(status);
+    let action = optional_action_number(action);
     write(
         tx,
         ADD_RUN,
-        params![org, ws, number, plan_only, key, message, &created, status],
+        params![
+            org, ws, number, plan_only, key, message, &created, status, action
+        ],
     )
 }
 

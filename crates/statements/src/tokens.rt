@@ -1,12 +1,12 @@
 //! Statements on the table token. Where a token is added or goes, so is how far it reaches.
 ghost use Rattle.statements.specs.Steps.{AnyRows, Equals, EqualsWhere, Writes, Queries};
 ghost use Rattle.statements.specs.Changes.{token_row_added, token_row_removed, token_added, token_removed, HasNoBound};
-ghost use Rattle.statements.specs.Listings.{token_rows_of, TokensApart};
+ghost use Rattle.statements.specs.Listings.{token_rows_of, whole_tokens_of, TokensApart};
 ghost use Rattle.statements.specs.Finds.{IsBoundedRoleOf, role_of_digest, role_of_name};
 
 use crate::bounds;
 use crate::calls::{all_rows, first_row, read_all, read_one, read_only, role_number, write};
-use crate::rows::{BoundedRole, NamedRole};
+use crate::rows::{BoundedRole, NamedRole, NamedToken};
 use basis::{Bounds, Items, Role};
 use sqlite::{Alter, Connection, Error, Transaction, params};
 use std::alloc::Global;
@@ -66,6 +66,20 @@ pub fn list<S: Alter>(
     ensures { Queries S.Store (EqualsWhere TokensApart (token_rows_of org.now)) conn.old conn.new result }
 {
     let rows = all_rows(conn, LIST_TOKENS, params![org]);
+    read_all(alloc, rows)
+}
+
+const LIST_WHOLE_TOKENS: &str = "SELECT name, digest, role FROM token WHERE org = ?1 ORDER BY name";
+
+/// All tokens of an organization with their digests, in the order of their names' bytes.
+pub fn list_whole<S: Alter>(
+    alloc: Global,
+    conn: &mut Connection<S>,
+    org: &str,
+) -> Result<Items<NamedToken>, Error>
+    ensures { Queries S.Store (EqualsWhere TokensApart (whole_tokens_of org.now)) conn.old conn.new result }
+{
+    let rows = all_rows(conn, LIST_WHOLE_TOKENS, params![org]);
     read_all(alloc, rows)
 }
 

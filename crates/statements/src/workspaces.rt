@@ -3,20 +3,20 @@ ghost use Rattle.std.specs.Prelude.{◌≡◌, ◌≢◌, [], None, IfOk, is_som
 ghost use Rattle.sqlite.specs.Held.{state};
 ghost use Rattle.statements.specs.Steps.{AnyRows, Equals, EqualsWhere, Writes, Tells, Queries};
 ghost use Rattle.statements.specs.Changes.{with_run_settings, held_by, released_from, with_next_version, with_next_run, ws_changed, ws_row_added, ws_row_removed, ws_added, ws_removed, HasNoKeeping};
-ghost use Rattle.statements.specs.Listings.{workspace_rows_after, WorkspacesApart, later_of, end_of};
+ghost use Rattle.statements.specs.Listings.{workspace_rows_after, workspace_names_of, WorkspacesApart, NamesApart, later_of, end_of};
 ghost use Rattle.statements.specs.Rows.{run_settings_at};
-ghost use Rattle.statements.specs.Calls.{AreHolderCells, IsWorkspaceWith, IsWorkspace, IsNamedRow};
+ghost use Rattle.statements.specs.Calls.{AreHolderCells, IsWorkspaceWith, IsWorkspace, IsNamedRow, IsName};
 ghost use Rattle.sqlite_value.specs.Order.{column};
 ghost use Rattle.statements.specs.Finds.{workspace_of, workspaces_of};
 ghost use Rattle.basis.specs.declared.rows.Holder.TheVariants.{Nobody, Lock, Run as HeldByRun};
 
 use crate::calls::{
-    Read, count_of, first_row, first_rows, flag_in, limit, lock_id_of, name_of, number_of,
-    optional_keep, optional_lock_id, optional_number, read_all, read_one, update, write,
+    Read, all_rows, count_of, first_row, first_rows, flag_in, limit, lock_id_of, name_of,
+    number_of, optional_keep, optional_lock_id, optional_number, read_all, read_one, update, write,
 };
 use crate::keepings;
 use crate::rows::{NamedWorkspace, Workspace};
-use basis::{Bytes, Holder, Items, KeepCount, LockId, Number, Prefix, RunSettings};
+use basis::{Bytes, Holder, Items, KeepCount, LockId, Number, Prefix, RunSettings, WsName};
 use sqlite::{Alter, Connection, Error, Row, Transaction, params};
 use std::alloc::Global;
 
@@ -74,6 +74,14 @@ impl Read for NamedWorkspace {
             keep: optional_keep(row, 8)?,
             last: optional_number(row, 9)?,
         })
+    }
+}
+
+impl Read for WsName {
+    ghost is_in = { IsName };
+
+    fn of_row(row: &Row) -> Result<WsName, Error> {
+        name_of(row.get(0)?, 0)
     }
 }
 
@@ -184,6 +192,20 @@ pub fn list<'v, S: Alter>(
         return list_all(alloc, conn, org, after, most);
     }
     list_within(alloc, conn, org, after, prefix, most)
+}
+
+const LIST_NAMES: &str = "SELECT name FROM ws WHERE org = ?1 ORDER BY name";
+
+/// The names of all workspaces of an organization, in the order of their bytes.
+pub fn names<S: Alter>(
+    alloc: Global,
+    conn: &mut Connection<S>,
+    org: &str,
+) -> Result<Items<WsName>, Error>
+    ensures { Queries S.Store (EqualsWhere NamesApart (workspace_names_of org.now)) conn.old conn.new result }
+{
+    let rows = all_rows(conn, LIST_NAMES, params![org]);
+    read_all(alloc, rows)
 }
 
 const COUNT_WS: &str = "SELECT count(*) FROM ws WHERE org = ?1";

@@ -1,5 +1,5 @@
 //! A story of a store over tables in a file, which is closed and opened again midway.
-use crate::programs::forget;
+use crate::programs::{forget, is_done};
 use serve::Step;
 use sqlite_disk::{Start, Unknown};
 use std::fs;
@@ -12,17 +12,31 @@ use telling::taking::{Way, take_over};
 /// Where the tables lie while a story runs.
 const PATH: &str = "stories.db";
 
+/// Where copies of them lie.
+const COPY: &str = "copies.db";
+
+/// The words that copy one organization there, then every one, and look for faults.
+const COPYING: &[&str] = &[
+    "org-copy --db stories.db --to copies.db acme",
+    "compact --db stories.db --to copies.db",
+    "check --db copies.db",
+];
+
 /// The name of this way.
 pub const WAY: &str = "tables in a file";
+
+/// The name of the way over a file and its copy.
+const COPIED: &str = "tables that are copied";
 
 // Takes steps over the store in a file, which is opened and closed for them.
 fn take_from<S: Start>(
     rt: &HostRuntime,
+    path: &str,
     start: S,
     steps: &[Step],
     due: &[Due],
 ) -> Result<(), Failure> {
-    let Ok(keep) = open_file(rt, PATH, start) else {
+    let Ok(keep) = open_file(rt, path, start) else {
         return Err(Failure::refused(0, "the file doesn't open"));
     };
     let (keep, taken) = take_over(rt.alloc(), keep, Way::Exchange(ALL), steps, due);
@@ -35,9 +49,9 @@ fn take_from<S: Start>(
 fn take_halves(rt: &HostRuntime, play: &Play) -> Result<(), Failure> {
     let middle = play.steps.len() / 2;
     let (steps, due) = play.between(0, middle);
-    take_from(rt, Unknown, steps, due)?;
+    take_from(rt, PATH, Unknown, steps, due)?;
     let (steps, due) = play.between(middle, play.steps.len());
-    take_from(rt, Unknown, steps, due)
+    take_from(rt, PATH, Unknown, steps, due)
 }
 
 fn take_halves_of(rt: &HostRuntime, play: &Play, bytes: &[u8]) -> Result<(), Failure> {
@@ -45,6 +59,38 @@ fn take_halves_of(rt: &HostRuntime, play: &Play, bytes: &[u8]) -> Result<(), Fai
         return Err(Failure::refused(0, "the file can't be written"));
     }
     take_halves(rt, play)
+}
+
+fn copy_all(rt: &HostRuntime) -> Result<(), Failure> {
+    for words in COPYING {
+        if !is_done(rt, *words)? {
+            return Err(Failure::refused(0, "the organizations aren't copied"));
+        }
+    }
+    Ok(())
+}
+
+fn take_behind(rt: &HostRuntime, play: &Play) -> Result<(), Failure> {
+    let (steps, due) = play.between(0, play.own);
+    take_from(rt, PATH, Unknown, steps, due)?;
+    copy_all(rt)?;
+    let (steps, due) = play.between(play.own, play.steps.len());
+    take_from(rt, COPY, Unknown, steps, due)?;
+    take_from(rt, PATH, Unknown, steps, due)
+}
+
+/// Runs the stories before it over tables in a file, copies each organization to another file by the program's words, and
+/// runs the story over both.
+pub fn run_copied(rt: &HostRuntime, play: &Play) -> Result<(), Failure> {
+    forget(rt, PATH)?;
+    forget(rt, COPY)?;
+    let taken = take_behind(rt, play);
+    forget(rt, PATH)?;
+    forget(rt, COPY)?;
+    match taken {
+        Ok(()) => Ok(()),
+        Err(failure) => Err(failure.on(COPIED)),
+    }
 }
 
 /// Runs a story over tables in a copy of a file.

@@ -123,6 +123,12 @@ fn ran(rt: &HostRuntime, words: &[String], mut input: &[u8]) -> Left {
     }
 }
 
+/// Whether the program does what these words ask.
+pub fn is_done(rt: &HostRuntime, words: &str) -> Result<bool, AllocError> {
+    let words = split(rt.alloc(), words)?;
+    Ok(ran(rt, words.as_slice(), b"").status == 0)
+}
+
 // Whether a text stands in bytes.
 fn contains(bytes: &[u8], text: &str) -> bool {
     match str::from_utf8(bytes) {

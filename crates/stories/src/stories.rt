@@ -1,7 +1,7 @@
 //! A story run by its kind: of a store, of the program, of values, or of checks.
 use crate::begun::run_begun;
 use crate::commands::FrameWords;
-use crate::files::run_in_file;
+use crate::files::{run_copied, run_in_file};
 use crate::memories::{Memory, Place, WAY, place_of};
 use crate::named_checks::{is_check, run_check};
 use crate::programs::{Files, is_of_program};
@@ -48,10 +48,20 @@ fn run_made(
     }
     run_in_memory(rt.alloc(), play)?;
     run_in_file(rt, play)?;
+    run_over_copy(rt, play, modes)?;
     run_beside(rt.alloc(), play)?;
     run_in_breaks(rt.alloc(), play, modes, counts)?;
     run_over_refusals(rt.alloc(), play, modes, counts)?;
     run_in_stops(rt, play, modes, counts)
+}
+
+// The story's own steps over a file to which all was copied, and over that from which it was.
+fn run_over_copy(rt: &HostRuntime, play: &Play, modes: Modes) -> Result<(), Failure> {
+    if modes.copied {
+        run_copied(rt, play)
+    } else {
+        Ok(())
+    }
 }
 
 // The story's own steps over files whose power is cut.

@@ -14,9 +14,11 @@ ghost use Rattle.tables.specs.Sound.{IsSound};
 ghost use Rattle.system.specs.Files.{OpensOn, IsClosedOn};
 ghost use Rattle.system.specs.Shields.{AreCleanOrCollided};
 
+use crate::copies::copy_between;
+use crate::pairs::Pair;
 use crate::replays::replayed;
-use basis::{Bytes, Down, Items, Text};
-use machine::{Fault, Keep};
+use basis::{Bytes, Down, Items, OrgName, Text};
+use machine::{AdminAnswer, Fault, Keep};
 use pages::ShaKey;
 use program::outside::Files;
 use program::reasons::{Cause, OpenFault, OtherSchema};
@@ -243,25 +245,56 @@ pub fn close_file<S: Start>(keep: FileKeep<S>) -> Result<sqlite_disk::Files<File
     }
 }
 
-/// The files of the system. One of them is opened, which `start` stands for; a second is refused.
+// Refuses what would open the first file or its log once more.
+fn refuse_first(rt: &HostRuntime, first: &Option<Pair>, path: &str) -> Result<(), Cause> {
+    let Some(first) = first else {
+        return Err(Cause::Disk);
+    };
+    match first.is_opened_by(rt, path) {
+        Ok(false) => Ok(()),
+        Ok(true) => Err(Cause::InUse),
+        Err(error) => Err(system_cause(error.kind())),
+    }
+}
+
+// Opens a second file, beside the first.
+fn open_other<S: Start>(
+    rt: &HostRuntime,
+    first: &Option<Pair>,
+    path: &str,
+    other: S,
+) -> Result<FileKeep<S>, OpenFault> {
+    match refuse_first(rt, first, path) {
+        Ok(()) => open_file(rt, path, other),
+        Err(cause) => Err(OpenFault::Down(cause)),
+    }
+}
+
+/// The files of the system. One of them is opened, which `start` stands for, and then another, by `other`. A third is
+/// refused, and so is the first once more, by whatever path.
 #[derive(Drop)]
 pub struct DiskFiles<'a, S: Start> {
     rt: &'a HostRuntime,
     start: Option<S>,
+    other: Option<S>,
+    // The first file and its log, where they could be looked at.
+    first: Option<Pair>,
 }
 
 impl<'a, S: Start> DiskFiles<'a, S> {
-    pub fn new(rt: &'a HostRuntime, start: S) -> DiskFiles<'a, S> {
+    pub fn new(rt: &'a HostRuntime, start: S, other: S) -> DiskFiles<'a, S> {
         DiskFiles {
             rt,
             start: Some(start),
+            other: Some(other),
+            first: None,
         }
     }
 }
 
 impl<S: Start> Files<FileKeep<S>> for DiskFiles<'_, S> {
     // Nothing ties what is found to the path: until a file is opened, whatever path it has, it is that of `start`. Of
-    // what lies at paths afterwards nothing is said here.
+    // what lies at paths afterwards, and so of a second file, nothing is said here.
     ghost holds = { λ files _ store. is_some files.start ≡ true → ⟦<FileKeep<S> as Keep>⟧.clean store → OpensOn (image_at S.Start) (⟦<FileKeep<S> as Keep>⟧.rows store) (⟦<FileKeep<S> as Keep>⟧.sound store) × ⟦<FileKeep<S> as Keep>⟧.shielded store × IsFresh (file_state store.seen.value).committed store.counted (file_state store.conn) };
 
     ghost copied = { λ _ _ store. (closed : _) × IsClosedOn ⟦<FileFrom<S> as Disk>⟧ closed (⟦<FileKeep<S> as Keep>⟧.rows store) (⟦<FileKeep<S> as Keep>⟧.sound store) };
@@ -300,8 +333,15 @@ impl<S: Start> Files<FileKeep<S>> for DiskFiles<'_, S> {
 
     fn open(&mut self, path: &str) -> Result<FileKeep<S>, OpenFault> {
         match self.start.take() {
-            Some(start) => open_file(self.rt, path, start),
-            None => Err(OpenFault::Down(Cause::InUse)),
+            Some(start) => {
+                let opened = open_file(self.rt, path, start);
+                self.first = Pair::at(self.rt, path).ok();
+                opened
+            }
+            None => match self.other.take() {
+                Some(other) => open_other(self.rt, &self.first, path, other),
+                None => Err(OpenFault::Down(Cause::InUse)),
+            },
         }
     }
 
@@ -311,6 +351,16 @@ impl<S: Start> Files<FileKeep<S>> for DiskFiles<'_, S> {
 
     fn check(&self, alloc: Global, store: &mut FileKeep<S>) -> Result<Items<Text>, Down> {
         checks::check(store, alloc)
+    }
+
+    fn copy(
+        &self,
+        alloc: Global,
+        org: &OrgName,
+        from: &mut FileKeep<S>,
+        to: &mut FileKeep<S>,
+    ) -> Result<AdminAnswer, Down> {
+        copy_between(alloc, org, from, to)
     }
 
     fn close(&mut self, _path: &str, store: FileKeep<S>) -> Result<(), Down> {

@@ -2,8 +2,10 @@
 #![tactic(auto)]
 
 mod clock;
+mod copies;
 mod files;
 mod laws;
+mod pairs;
 mod replays;
 mod running;
 mod sockets;

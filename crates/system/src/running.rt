@@ -43,6 +43,7 @@ fn run_over<K: Keep, F: Files<K>, I: Read, O: Write, E: Write>(
 fn run_from<S: Start, I: Read, O: Write, E: Write>(
     rt: &HostRuntime,
     start: S,
+    other: S,
     words: &[String],
     input: &mut I,
     output: &mut O,
@@ -50,7 +51,7 @@ fn run_from<S: Start, I: Read, O: Write, E: Write>(
 ) -> u8
     ensures { (ending : Ending) × (result ≡ status_of ending) × Prints (words_bytes words.now) (I.remaining input.old) ending (stream (O.contents output.old) (O.contents output.new)) (stream (E.contents errors.old) (E.contents errors.new)) }
 {
-    let mut files = DiskFiles::new(rt, start);
+    let mut files = DiskFiles::new(rt, start, other);
     run_over(rt, &mut files, words, input, output, errors)
 }
 
@@ -64,5 +65,5 @@ pub fn run_here<I: Read, O: Write, E: Write>(
 ) -> u8
     ensures { (ending : Ending) × (result ≡ status_of ending) × Prints (words_bytes words.now) (I.remaining input.old) ending (stream (O.contents output.old) (O.contents output.new)) (stream (E.contents errors.old) (E.contents errors.new)) }
 {
-    run_from(rt, Unknown, words, input, output, errors)
+    run_from(rt, Unknown, Unknown, words, input, output, errors)
 }

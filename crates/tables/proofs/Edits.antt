@@ -26,7 +26,7 @@ use Rattle.basis.specs.declared.rows.Holder.TheVariants.{Nobody, Lock, Run as He
 use Rattle.statements.specs.declared.rows.Workspace.{Workspace as WorkspaceCells}
 use Rattle.statements.specs.Rows.{Kept, WsRow, KeepingRow, VersionRow, RunRow}
 use Rattle.statements.specs.Tables.{Tables}
-use Rattle.statements.specs.Changes.{is_ws, is_keeping, is_run_of, with_run_settings, held_by, released_from, with_next_version, with_next_run, ws_changed, ws_added, runs_removed, run_made as new_run_cells, run_acted}
+use Rattle.statements.specs.Changes.{is_ws, is_keeping, is_run_of, with_run_settings, held_by, released_from, with_next_version, with_next_run, ws_changed, ws_added, runs_removed, run_made as new_run_cells, run_added, run_acted}
 use Rattle.statements.specs.Finds.{workspace_of, keep_of}
 use Rattle.tables.specs.Records.{version_at, workspace_of_cells, keep_at, workspace_by}
 use Rattle.tables.proofs.Ordered.{versions_in, runs_in, workspace_of_rows, ordered, workspace_ordered, changed_ordered}
@@ -34,7 +34,7 @@ use Rattle.tables.specs.Inner.Edits.{all_gone, removed_rows, made_rows, settings
 use Rattle.tables.specs.Sound.{IsSound}
 use Rattle.tables.proofs.Absent.{none_kept}
 use Rattle.tables.proofs.Finding.{no_version_rows, no_run_rows}
-use Rattle.tables.proofs.TextRows.{Becomes, versions_carried}
+use Rattle.tables.proofs.TextRows.{KeepsRest, Becomes, versions_carried}
 use Rattle.tables.proofs.VersionEdits.{all_go, settings_leave, versions_come}
 use Rattle.tables.proofs.Parts.{row_changed, row_unchanged, row_removed, row_left, row_added, row_added_other, keep_left, keep_added, keep_added_other, keep_set, keep_set_other, runs_begun, runs_begun_other, runs_pushed, runs_pushed_other, runs_acted, runs_acted_other, runs_gone, runs_gone_other}
 use Rattle.tables.proofs.Names.{is_pair, pair_first, pair_second}
@@ -43,12 +43,12 @@ use Rattle.tables.proofs.Sets.{Puts, same_parts}
 -- ---- one workspace, as its rows stand
 
 -- The rows of the workspace of this name stand for that one now, or it has none, and all else is as before.
-record Stands (org ws : List ℕ) (w : Option Workspace) (t u : Tables) : Type 0 where
-  orgs : u.orgs ≡ t.orgs
-  tokens : u.tokens ≡ t.tokens
-  bounds : u.bounds ≡ t.bounds
-  own : workspace_of_rows u org ws ≡ w
-  others : (a b : List ℕ) → is_pair org ws a b ≡ false → workspace_of_rows u a b ≡ workspace_of_rows t a b
+pub record Stands (org ws : List ℕ) (w : Option Workspace) (t u : Tables) : Type 0 where
+  pub orgs : u.orgs ≡ t.orgs
+  pub tokens : u.tokens ≡ t.tokens
+  pub bounds : u.bounds ≡ t.bounds
+  pub own : workspace_of_rows u org ws ≡ w
+  pub others : (a b : List ℕ) → is_pair org ws a b ≡ false → workspace_of_rows u a b ≡ workspace_of_rows t a b
 
 stands_then : {v w : Option Workspace} (org ws : List ℕ) (t u z : Tables) → Stands org ws v t u → Stands org ws w u z → Stands org ws w t z
 stands_then org ws t u z first second = record {
@@ -84,12 +84,23 @@ after_report n action status frees w = record w { holder = cond frees Nobody w.h
 abbrev kept_among : List ℕ → List ℕ → List (Kept KeepingRow) → ℕ
 kept_among a b ks = unwrap_or (option_map (λ (x : Kept KeepingRow). x.1.keep) (find (is_keeping a b) ks)) FIRST_KEPT
 
+-- where the other tables stay, so do the row of each workspace, how many versions it keeps, and its runs
+module _ (t u : Tables) (rest : KeepsRest t u) (a b : List ℕ) where
+  row_stays : workspace_of a b u ≡ workspace_of a b t
+  row_stays = ap (λ (wss : List (Kept WsRow)). option_map (λ (x : Kept WsRow). x.1.it) (find (is_ws a b) wss)) rest.wss
+
+  keep_stays : keep_at u a b ≡ keep_at t a b
+  keep_stays = ap (λ (ks : List (Kept KeepingRow)). kept_among a b ks) rest.keepings
+
+  runs_stay : runs_in u a b ≡ runs_in t a b
+  runs_stay = ap (λ (rs : List (Kept RunRow)). map (λ (x : Kept RunRow). x.1.it) (filter (is_run_of a b) rs)) rest.runs
+
 module _ (org ws : List ℕ) (t : Tables) where
   row : Option WorkspaceCells
   row = workspace_of org ws t
 
   -- what the row holds, and nothing else
-  row_puts : (g : WorkspaceCells → WorkspaceCells) (f : Workspace → Workspace) → ((c : WorkspaceCells) (k : ℕ) (vs : List Version) (rs : List Run) → workspace_of_cells k (g c) vs rs ≡ f (workspace_of_cells k c vs rs))
+  pub row_puts : (g : WorkspaceCells → WorkspaceCells) (f : Workspace → Workspace) → ((c : WorkspaceCells) (k : ℕ) (vs : List Version) (rs : List Run) → workspace_of_cells k (g c) vs rs ≡ f (workspace_of_cells k c vs rs))
       → Stands org ws (option_map f (workspace_of_rows t org ws)) t (ws_changed g org ws t)
   row_puts g f same = record {
     orgs = refl;
@@ -115,7 +126,29 @@ module _ (org ws : List ℕ) (t : Tables) where
         others = λ a b other. same_parts _ _ _ _ _ _ _ _ (row_added_other org ws t of_runs keep a b other) (keep_added_other org ws t of_runs keep a b other) (versions_carried t after refl refl refl a b) refl;
       }
 
-  -- the row and the runs of a workspace stay as its versions go
+  -- versions come and go, and nothing else
+  pub becomes_puts : (f : List Version → List Version) (u : Tables) → Becomes f org ws t u → Stands org ws (option_map (λ (w : Workspace). record w { versions = f w.versions }) (workspace_of_rows t org ws)) t u
+  becomes_puts f u made = record {
+    orgs = made.rest.orgs;
+    tokens = made.rest.tokens;
+    bounds = made.rest.bounds;
+    own = same_parts _ _ _ _ _ _ _ _ (row_stays t u made.rest org ws ∙ sym (kept_row (workspace_of org ws t))) (keep_stays t u made.rest org ws) made.own (runs_stay t u made.rest org ws)
+        ∙ changed_row (λ c. c) (λ (w : Workspace). record w { versions = f w.versions }) (keep_at t org ws) (versions_in t org ws) (f (versions_in t org ws)) (runs_in t org ws) (runs_in t org ws) (λ c. refl) (workspace_of org ws t);
+    others = λ a b other. same_parts _ _ _ _ _ _ _ _ (row_stays t u made.rest a b) (keep_stays t u made.rest a b) (made.others a b other) (runs_stay t u made.rest a b);
+  }
+
+  -- a run comes behind the others, and nothing else
+  pub run_comes : (r : Run) → Stands org ws (option_map (λ (w : Workspace). record w { runs = w.runs ++ r ∷ [] }) (workspace_of_rows t org ws)) t (run_added org ws r t)
+  run_comes r = record {
+    orgs = refl;
+    tokens = refl;
+    bounds = refl;
+    own = same_parts _ _ _ _ _ _ _ _ (sym (kept_row (workspace_of org ws t))) refl (versions_carried t (run_added org ws r t) refl refl refl org ws) (runs_pushed org ws t r)
+        ∙ changed_row (λ c. c) (λ (w : Workspace). record w { runs = w.runs ++ r ∷ [] }) (keep_at t org ws) (versions_in t org ws) (versions_in t org ws) (runs_in t org ws) (runs_in t org ws ++ r ∷ []) (λ c. refl) (workspace_of org ws t);
+    others = λ a b other. same_parts _ _ _ _ _ _ _ _ refl refl (versions_carried t (run_added org ws r t) refl refl refl a b) (runs_pushed_other org ws t r a b other);
+  }
+
+  -- all versions of a workspace go, alone or with its row and its runs
   module _ (sound : IsSound t) where
     abbrev purged_rows : Tables
     purged_rows = all_gone org ws t
@@ -123,34 +156,18 @@ module _ (org ws : List ℕ) (t : Tables) where
     gone : Becomes (λ vs. []) org ws t purged_rows
     gone = all_go org ws t sound
 
-    same_row : (a b : List ℕ) → workspace_of a b purged_rows ≡ workspace_of a b t
-    same_row a b = ap (λ (wss : List (Kept WsRow)). option_map (λ (x : Kept WsRow). x.1.it) (find (is_ws a b) wss)) gone.rest.wss
-
-    same_keep : (a b : List ℕ) → keep_at purged_rows a b ≡ keep_at t a b
-    same_keep a b = ap (λ (ks : List (Kept KeepingRow)). kept_among a b ks) gone.rest.keepings
-
-    same_runs : (a b : List ℕ) → runs_in purged_rows a b ≡ runs_in t a b
-    same_runs a b = ap (λ (rs : List (Kept RunRow)). map (λ (x : Kept RunRow). x.1.it) (filter (is_run_of a b) rs)) gone.rest.runs
-
     removed_puts : Stands org ws None t (removed_rows org ws t)
     removed_puts = record {
       orgs = gone.rest.orgs;
       tokens = gone.rest.tokens;
       bounds = gone.rest.bounds;
       own = same_parts _ _ _ _ _ _ _ _ (row_removed org ws (runs_removed org ws purged_rows)) refl (versions_carried purged_rows (removed_rows org ws t) refl refl refl org ws ∙ gone.own) (runs_gone org ws purged_rows);
-      others = λ a b other. same_parts _ _ _ _ _ _ _ _ (row_left org ws (runs_removed org ws purged_rows) a b other ∙ same_row a b) (keep_left org ws (runs_removed org ws purged_rows) a b other ∙ same_keep a b)
-          (versions_carried purged_rows (removed_rows org ws t) refl refl refl a b ∙ gone.others a b other) (runs_gone_other org ws purged_rows a b other ∙ same_runs a b);
+      others = λ a b other. same_parts _ _ _ _ _ _ _ _ (row_left org ws (runs_removed org ws purged_rows) a b other ∙ row_stays t purged_rows gone.rest a b) (keep_left org ws (runs_removed org ws purged_rows) a b other ∙ keep_stays t purged_rows gone.rest a b)
+          (versions_carried purged_rows (removed_rows org ws t) refl refl refl a b ∙ gone.others a b other) (runs_gone_other org ws purged_rows a b other ∙ runs_stay t purged_rows gone.rest a b);
     }
 
     purge_puts : Stands org ws (option_map purged (workspace_of_rows t org ws)) t purged_rows
-    purge_puts = record {
-      orgs = gone.rest.orgs;
-      tokens = gone.rest.tokens;
-      bounds = gone.rest.bounds;
-      own = same_parts _ _ _ _ _ _ _ _ (same_row org ws ∙ sym (kept_row (workspace_of org ws t))) (same_keep org ws) gone.own (same_runs org ws)
-          ∙ changed_row (λ c. c) purged (keep_at t org ws) (versions_in t org ws) [] (runs_in t org ws) (runs_in t org ws) (λ c. refl) (workspace_of org ws t);
-      others = λ a b other. same_parts _ _ _ _ _ _ _ _ (same_row a b) (same_keep a b) (gone.others a b other) (same_runs a b);
-    }
+    purge_puts = becomes_puts (λ vs. []) purged_rows gone
 
   started_puts : (start : Option ℕ) → Stands org ws (option_map (started_if start) (workspace_of_rows t org ws)) t (started_rows org ws start t)
   started_puts None = record { orgs = refl; tokens = refl; bounds = refl; own = kept (workspace_of_rows t org ws); others = λ a b other. refl }
@@ -196,24 +213,15 @@ module _ (org ws : List ℕ) (t : Tables) where
     leave : Becomes (left_above outgoing) org ws with_set configured
     leave = settings_leave org ws t sound settings outgoing
 
-    leave_row : (a b : List ℕ) → workspace_of a b configured ≡ workspace_of a b with_set
-    leave_row a b = ap (λ (wss : List (Kept WsRow)). option_map (λ (x : Kept WsRow). x.1.it) (find (is_ws a b) wss)) leave.rest.wss
-
-    leave_keep : (a b : List ℕ) → keep_at configured a b ≡ keep_at with_set a b
-    leave_keep a b = ap (λ (ks : List (Kept KeepingRow)). kept_among a b ks) leave.rest.keepings
-
-    leave_runs : (a b : List ℕ) → runs_in configured a b ≡ runs_in t a b
-    leave_runs a b = ap (λ (rs : List (Kept RunRow)). map (λ (x : Kept RunRow). x.1.it) (filter (is_run_of a b) rs)) leave.rest.runs
-
     configured_puts : Stands org ws (option_map (with_fewer settings outgoing) (workspace_of_rows t org ws)) t configured
     configured_puts = record {
       orgs = leave.rest.orgs;
       tokens = leave.rest.tokens;
       bounds = leave.rest.bounds;
-      own = same_parts _ _ _ _ _ _ _ _ (leave_row org ws ∙ row_changed org ws (with_run_settings settings.runs) t) (leave_keep org ws) (leave.own ∙ ap (left_above outgoing) (versions_carried t with_set refl refl refl org ws)) (leave_runs org ws)
+      own = same_parts _ _ _ _ _ _ _ _ (row_stays with_set configured leave.rest org ws ∙ row_changed org ws (with_run_settings settings.runs) t) (keep_stays with_set configured leave.rest org ws) (leave.own ∙ ap (left_above outgoing) (versions_carried t with_set refl refl refl org ws)) (runs_stay with_set configured leave.rest org ws)
           ∙ by_row (workspace_of org ws t) refl;
-      others = λ a b other. same_parts _ _ _ _ _ _ _ _ (leave_row a b ∙ row_unchanged org ws (with_run_settings settings.runs) t a b other) (leave_keep a b ∙ keep_set_other org ws t settings.keep_versions a b other)
-          (leave.others a b other ∙ versions_carried t with_set refl refl refl a b) (leave_runs a b);
+      others = λ a b other. same_parts _ _ _ _ _ _ _ _ (row_stays with_set configured leave.rest a b ∙ row_unchanged org ws (with_run_settings settings.runs) t a b other) (keep_stays with_set configured leave.rest a b ∙ keep_set_other org ws t settings.keep_versions a b other)
+          (leave.others a b other ∙ versions_carried t with_set refl refl refl a b) (runs_stay with_set configured leave.rest a b);
     }
       where
         by_row : (r : Option WorkspaceCells) → workspace_of org ws t ≡ r
@@ -246,31 +254,22 @@ module _ (org ws : List ℕ) (t : Tables) where
     come : Becomes (λ vs. left_above outgoing (vs ++ v ∷ [])) org ws with_number versioned
     come = versions_come org ws t sound keys v takes outgoing
 
-    come_row : (a b : List ℕ) → workspace_of a b versioned ≡ workspace_of a b with_number
-    come_row a b = ap (λ (wss : List (Kept WsRow)). option_map (λ (x : Kept WsRow). x.1.it) (find (is_ws a b) wss)) come.rest.wss
-
-    come_keep : (a b : List ℕ) → keep_at versioned a b ≡ keep_at t a b
-    come_keep a b = ap (λ (ks : List (Kept KeepingRow)). kept_among a b ks) come.rest.keepings
-
-    come_runs : (a b : List ℕ) → runs_in versioned a b ≡ runs_in t a b
-    come_runs a b = ap (λ (rs : List (Kept RunRow)). map (λ (x : Kept RunRow). x.1.it) (filter (is_run_of a b) rs)) come.rest.runs
-
     version_puts : Stands org ws (option_map (one_more v outgoing) (workspace_of_rows t org ws)) t versioned
     version_puts = record {
       orgs = come.rest.orgs;
       tokens = come.rest.tokens;
       bounds = come.rest.bounds;
-      own = same_parts _ _ _ _ _ _ _ _ (come_row org ws ∙ row_changed org ws (with_next_version (v.number + 1)) t) (come_keep org ws)
-          (come.own ∙ ap (λ (vs : List Version). left_above outgoing (vs ++ v ∷ [])) (versions_carried t with_number refl refl refl org ws)) (come_runs org ws)
+      own = same_parts _ _ _ _ _ _ _ _ (row_stays with_number versioned come.rest org ws ∙ row_changed org ws (with_next_version (v.number + 1)) t) (keep_stays with_number versioned come.rest org ws)
+          (come.own ∙ ap (λ (vs : List Version). left_above outgoing (vs ++ v ∷ [])) (versions_carried t with_number refl refl refl org ws)) (runs_stay with_number versioned come.rest org ws)
           ∙ changed_row (with_next_version (v.number + 1)) (one_more v outgoing) (keep_at t org ws) (versions_in t org ws) (left_above outgoing (versions_in t org ws ++ v ∷ [])) (runs_in t org ws) (runs_in t org ws) (λ c. refl) (workspace_of org ws t);
-      others = λ a b other. same_parts _ _ _ _ _ _ _ _ (come_row a b ∙ row_unchanged org ws (with_next_version (v.number + 1)) t a b other) (come_keep a b)
-          (come.others a b other ∙ versions_carried t with_number refl refl refl a b) (come_runs a b);
+      others = λ a b other. same_parts _ _ _ _ _ _ _ _ (row_stays with_number versioned come.rest a b ∙ row_unchanged org ws (with_next_version (v.number + 1)) t a b other) (keep_stays with_number versioned come.rest a b)
+          (come.others a b other ∙ versions_carried t with_number refl refl refl a b) (runs_stay with_number versioned come.rest a b);
     }
 
   module _ (number : ℕ) (ask : RunAsk) (created : ℕ) where
     run_puts : Stands org ws (option_map (with_run (new_run number ask created)) (workspace_of_rows t org ws)) t (run_rows org ws number ask created t)
     run_puts =
-        let new : Run = new_run_cells number ask.plan_only ask.key ask.message created (cond ask.plan_only Planning Pending) in
+        let new : Run = new_run_cells number ask.plan_only ask.key ask.message created (cond ask.plan_only Planning Pending) None in
         there_puts (with_run (new_run number ask created)) (run_put org ws number ask created (run_counted org ws number t)) (record {
           orgs = refl;
           tokens = refl;
@@ -299,7 +298,7 @@ module _ (org ws : List ℕ) (t : Tables) where
       others = λ a b other. same_parts _ _ _ _ _ _ _ _ refl refl (versions_carried t (run_acted status action org ws n t) refl refl refl a b) (runs_acted_other org ws t status action n a b other);
     }
 
-made_puts : (org ws : List ℕ) (t : Tables) → IsSound t → (settings : Settings) → workspace_of org ws t ≡ None → Stands org ws (Some (new_workspace settings)) t (made_rows org ws settings t)
+pub made_puts : (org ws : List ℕ) (t : Tables) → IsSound t → (settings : Settings) → workspace_of org ws t ≡ None → Stands org ws (Some (new_workspace settings)) t (made_rows org ws settings t)
 made_puts org ws t sound settings none = added_puts org ws t settings none (none_kept org ws t none sound) (ap (map (λ (x : Kept VersionRow). version_at t org ws x.1.it)) (no_version_rows t sound org ws none)) (ap (map (λ (x : Kept RunRow). x.1.it)) (no_run_rows t sound org ws none))
 
 module _ (keys : ℕ → List ℕ) (org ws : List ℕ) (t : Tables) (sound : IsSound t) where

@@ -9,6 +9,8 @@ use Rattle.sqlite.specs.declared.error.Error.{Error}
 use Rattle.statements.specs.Steps.{AnyRows, Moves}
 use Rattle.statements.specs.Making.{Alters, HasSchema}
 use Rattle.statements.specs.Tables.{Tables, Holds}
+use Rattle.tables.specs.Inner.Arrivals.{CommitsRelated}
+use Rattle.tables.specs.Inner.Copies.{Relates}
 use Rattle.tables.specs.Inner.Steps.{IsSettled, Commits}
 use Rattle.tables.specs.Inner.Making.{IsMade, StepsFrom}
 use Rattle.tables.specs.Versions.{Becomes, KeepsBeside}
@@ -42,6 +44,25 @@ module _ {S : Type 0} (g : Ghosts S) (h k l m : Held S) (settled : IsSettled (st
   commits_by f (Err e) moved ends fails =
       let from : Moves AnyRows f (state g (record h { in_transaction = true })) (state g l) = subst (λ x. Moves AnyRows f (state g x) (state g l)) begun moved in
       (tt, failed (state g h) (state g l) (state g m) e (λ _. from.was_open) (λ _. from.committed) fails)
+
+  -- rows before and after stand in a relation
+  pub commits_related : {X : Type 0} (R : Tables → Tables → Type 0) (result : Result X Error) → Relates R (state g k) (state g l) → OnOk result (Ends (state g l) (state g m)) → IfErr result (FailsToCommit (state g l) (state g m))
+      → OnOk result (CommitsRelated R (state g h) (state g m)) × OnErr result (KeepsCommit (state g h) (state g m))
+  commits_related R (Ok x) related ends fails =
+      let from : Relates R (state g (record h { in_transaction = true })) (state g l) = subst (λ x. Relates R (state g x) (state g l)) begun related in
+      let was : IsTrue (state g h).is_open = from.was_open ends.1.was_open in (
+        record {
+          rows = λ t held.
+              let u = from.rows t (subst (λ (d : Database). Holds d t) (sym (settled was)) held) in
+              (u.0, subst (λ (d : Database). Holds d u.0) (sym ends.1.committed_is) u.1, u.2);
+          was_open = was;
+          is_open = ends.1.is_open;
+        },
+        tt,
+      )
+  commits_related R (Err e) related ends fails =
+      let from : Relates R (state g (record h { in_transaction = true })) (state g l) = subst (λ x. Relates R (state g x) (state g l)) begun related in
+      (tt, failed (state g h) (state g l) (state g m) e from.was_open (λ _. from.committed) fails)
 
   -- what was told of the rows in the transaction, is told of those that were committed before it
   pub told_committed : (f : Tables → Tables) (law : Tables → Type 0) → Moves AnyRows f (state g k) (state g l) → ((t : Tables) → Holds (state g k).now t → law t) → (t : Tables) → Holds (state g h).committed t → law t

@@ -85,74 +85,64 @@ org_there t org cap e = any_is_found (is_org org) t.orgs ∙ sym (some_mapped (f
 
 -- ---- a change of a workspace
 
+-- a lawful workspace that is put in its place, or goes from it, leaves sound tables sound, where what they say of texts and of owners holds
+module _ (org ws : List ℕ) (after : Option Workspace) (t u : Tables) (sound : IsSound t) (named : IsTrue (is_ws_name ws)) (lawful : IsLawfulIfThere after) (o : Organization) (there : record_of t org ≡ Some o)
+    (few : count_of (placed o ws after) ≤ 100_000) (told : TellsVersion NEWEST u) (texts : AreTexts u) (owned : AreOwned u) (puts : Puts org ws after t u) where
+  put_in_order : AreInOrder u.orgs u.tokens u.bounds
+  put_in_order = subst (λ os. AreInOrder os u.tokens u.bounds) (sym puts.orgs) (subst (λ ts. AreInOrder t.orgs ts u.bounds) (sym puts.tokens) (subst (λ bs. AreInOrder t.orgs t.tokens bs) (sym puts.bounds) (sound_in_order t sound)))
+
+  put_is : (a b : List ℕ) (w : Workspace) → workspace_by u a b ≡ Some w → is_pair org ws a b ≡ true → after ≡ Some w
+  put_is a b w e same = sym puts.own ∙ subst (λ (x : List ℕ). workspace_by u x ws ≡ Some w) (pair_first org ws a b same) (subst (λ (y : List ℕ). workspace_by u a y ≡ Some w) (pair_second org ws a b same) e)
+
+  named_there : (a b : List ℕ) (w : Workspace) → workspace_by u a b ≡ Some w → (c : Bool) → is_pair org ws a b ≡ c → IsNamedWorkspace b w
+  named_there a b w e true same = record {
+    named = subst (λ (n : List ℕ). IsTrue (is_ws_name n)) (sym (pair_second org ws a b same)) named;
+    lawful = if_there IsLawful after w lawful (put_is a b w e same);
+  }
+  named_there a b w e false other = sound.workspaces a b w (sym (puts.others a b other) ∙ e)
+
+  put_within : (q : List ℕ) (p : Organization) → record_of u q ≡ Some p → (c : Bool) → bytes_eq q org ≡ c → count_of p ≤ 100_000
+  put_within q p e true same =
+      let here : record_of u org ≡ Some p = subst (λ (x : List ℕ). record_of u x ≡ Some p) (same_name q org same) e in
+      subst (λ (r : Organization). count_of r ≤ 100_000) (one_of (placed o ws after) p (sym (put_own org ws after t u puts o there) ∙ here)) few
+  put_within q p e false other = sound.counts q p (sym (put_other org ws after t u puts q (names_apart q org other)) ∙ e)
+
+  pub placed_keeps : IsSound u
+  placed_keeps = record {
+    told = told;
+    orgs_apart = put_in_order.orgs_apart;
+    tokens_apart = put_in_order.tokens_apart;
+    digests_apart = put_in_order.digests_apart;
+    wss_apart = owned.wss_apart;
+    bounds_apart = put_in_order.bounds_apart;
+    tokens_bound = put_in_order.tokens_bound;
+    tokens_owned = put_in_order.tokens_owned;
+    bounds_owned = put_in_order.bounds_owned;
+    keepings_apart = owned.keepings_apart;
+    wss_kept = owned.wss_kept;
+    wss_owned = owned.wss_owned;
+    keepings_owned = owned.keepings_owned;
+    versions_owned = owned.versions_owned;
+    runs_owned = owned.runs_owned;
+    org_rows = put_in_order.org_rows;
+    token_rows = put_in_order.token_rows;
+    bound_rows = put_in_order.bound_rows;
+    counts = λ q p e. put_within q p e (bytes_eq q org) refl;
+    places = texts.places;
+    placed = texts.placed;
+    texts = texts.texts;
+    workspaces = λ a b w e. named_there a b w e (is_pair org ws a b) refl;
+  }
+
 -- a due change of a workspace of sound tables leaves them sound
 pub changed_keeps : (keys : ℕ → List ℕ) (org ws : List ℕ) (t : Tables) → IsSound t → (change : Change) → TakesEdit keys org ws change.edit t → (o : Organization) → IsTrue (is_ws_name ws) → record_of t org ≡ Some o
     → IsDue (seen_in o ws) change → IsSound (changed_rows keys org ws change t)
-changed_keeps keys org ws t sound change takes o named there due = record {
-  told = told_changed keys org ws t sound change takes;
-  orgs_apart = order.orgs_apart;
-  tokens_apart = order.tokens_apart;
-  digests_apart = order.digests_apart;
-  wss_apart = owned.wss_apart;
-  bounds_apart = order.bounds_apart;
-  tokens_bound = order.tokens_bound;
-  tokens_owned = order.tokens_owned;
-  bounds_owned = order.bounds_owned;
-  keepings_apart = owned.keepings_apart;
-  wss_kept = owned.wss_kept;
-  wss_owned = owned.wss_owned;
-  keepings_owned = owned.keepings_owned;
-  versions_owned = owned.versions_owned;
-  runs_owned = owned.runs_owned;
-  org_rows = order.org_rows;
-  token_rows = order.token_rows;
-  bound_rows = order.bound_rows;
-  counts = λ q p e. within q p e (bytes_eq q org) refl;
-  places = texts.places;
-  placed = texts.placed;
-  texts = texts.texts;
-  workspaces = λ a b w e. named_there a b w e (is_pair org ws a b) refl;
-}
-  where
-    u : Tables
-    u = changed_rows keys org ws change t
-
-    texts : AreTexts u
-    texts = changed_texts keys org ws t sound change takes
-
-    after : Option Workspace
-    after = changed_by change (workspace_by t org ws)
-
-    lawful : IsLawfulIfThere after
-    lawful = lawful_after org ws t sound change o there due
-
-    puts : Puts org ws after t u
-    puts = changed_puts keys org ws t sound change takes lawful
-
-    order : AreInOrder u.orgs u.tokens u.bounds
-    order = subst (λ os. AreInOrder os u.tokens u.bounds) (sym puts.orgs) (subst (λ ts. AreInOrder t.orgs ts u.bounds) (sym puts.tokens) (subst (λ bs. AreInOrder t.orgs t.tokens bs) (sym puts.bounds) (sound_in_order t sound)))
-
-    owned : AreOwned u
-    owned = changed_are_owned org ws keys t sound (org_there t org o.limit (limit_there t org o there)) change takes
-
-    own : (a b : List ℕ) (w : Workspace) → workspace_by u a b ≡ Some w → is_pair org ws a b ≡ true → after ≡ Some w
-    own a b w e same = sym puts.own ∙ subst (λ (x : List ℕ). workspace_by u x ws ≡ Some w) (pair_first org ws a b same) (subst (λ (y : List ℕ). workspace_by u a y ≡ Some w) (pair_second org ws a b same) e)
-
-    named_there : (a b : List ℕ) (w : Workspace) → workspace_by u a b ≡ Some w → (c : Bool) → is_pair org ws a b ≡ c → IsNamedWorkspace b w
-    named_there a b w e true same = record {
-      named = subst (λ (n : List ℕ). IsTrue (is_ws_name n)) (sym (pair_second org ws a b same)) named;
-      lawful = if_there IsLawful after w lawful (own a b w e same);
-    }
-    named_there a b w e false other = sound.workspaces a b w (sym (puts.others a b other) ∙ e)
-
-    within : (q : List ℕ) (p : Organization) → record_of u q ≡ Some p → (c : Bool) → bytes_eq q org ≡ c → count_of p ≤ 100_000
-    within q p e true same =
-        let here : record_of u org ≡ Some p = subst (λ (x : List ℕ). record_of u x ≡ Some p) (same_name q org same) e in
-        let is : placed o ws after ≡ p = one_of (placed o ws after) p (sym (put_own org ws after t u puts o there) ∙ here) in
-        let counted : count_of (placed o ws (changed_by change (get o.workspaces ws))) ≤ 100_000 = count_within o ws change due 100_000 (limit_is t sound org o there) (sound.counts org o there) in
-        let counted_too : count_of (placed o ws after) ≤ 100_000 = subst (λ (w : Option Workspace). count_of (placed o ws (changed_by change w)) ≤ 100_000) (workspace_there t org ws o there) counted in
-        subst (λ (r : Organization). count_of r ≤ 100_000) is counted_too
-    within q p e false other = sound.counts q p (sym (put_other org ws after t u puts q (names_apart q org other)) ∙ e)
+changed_keeps keys org ws t sound change takes o named there due =
+    let lawful : IsLawfulIfThere (changed_by change (workspace_by t org ws)) = lawful_after org ws t sound change o there due in
+    let counted : count_of (placed o ws (changed_by change (get o.workspaces ws))) ≤ 100_000 = count_within o ws change due 100_000 (limit_is t sound org o there) (sound.counts org o there) in
+    placed_keeps org ws (changed_by change (workspace_by t org ws)) t (changed_rows keys org ws change t) sound named lawful o there
+    (subst (λ (w : Option Workspace). count_of (placed o ws (changed_by change w)) ≤ 100_000) (workspace_there t org ws o there) counted) (told_changed keys org ws t sound change takes)
+    (changed_texts keys org ws t sound change takes) (changed_are_owned org ws keys t sound (org_there t org o.limit (limit_there t org o there)) change takes) (changed_puts keys org ws t sound change takes lawful)
 
 -- ---- an operator's command
 

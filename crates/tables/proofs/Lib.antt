@@ -33,6 +33,7 @@ pub mod Sets
 pub mod Stores
 pub mod Telling
 pub mod Sorted
+pub mod Standing
 pub mod AnyOrder
 pub mod Ordered
 pub mod TextLists
@@ -44,3 +45,8 @@ pub mod VersionEdits
 pub mod KeptTexts
 pub mod GoneSteps
 pub mod LastGone
+pub mod WholeRows
+pub mod Copying
+pub mod Arriving
+pub mod Brought
+pub mod KeepCopied

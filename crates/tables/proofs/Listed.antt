@@ -218,7 +218,7 @@ module _ (t : Tables) (org : List ℕ) where
   abbrev by_name : List (List ℕ × WorkspaceCells)
   by_name = entries (workspaces_by_name org t)
 
-  record_entries : entries (workspaces_at t org) ≡ map (λ (e : List ℕ × WorkspaceCells). (e.0, workspace_at t org e.0 e.1)) (entries (workspaces_by_name org t))
+  pub record_entries : entries (workspaces_at t org) ≡ map (λ (e : List ℕ × WorkspaceCells). (e.0, workspace_at t org e.0 e.1)) (entries (workspaces_by_name org t))
   record_entries = entries_shown (λ (n : List ℕ) (w : WorkspaceCells). workspace_at t org n w) (λ (x : Kept WsRow). x.1.name) (λ (x : Kept WsRow). x.1.it) (filter (is_ws_of org) t.wss)
 
   row_of_name : (q : List ℕ) → get (workspaces_by_name org t) q ≡ workspace_of org q t

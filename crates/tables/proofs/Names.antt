@@ -1,5 +1,5 @@
 -- Tests of rows by names.
-use Rattle.std.proofs.Common.{◌≡◌, ◌≢◌, ℕ, Bool, true, false, ◌&&◌, List, refl, sym, subst, ◌∙◌}
+use Rattle.std.proofs.Common.{◌≡◌, ◌≢◌, ℕ, true, false, List, refl, sym, subst, ◌∙◌}
 use Rattle.std.specs.Str.{bytes_eq}
 use Rattle.std.specs.Ordering.{eq_by_cmp}
 use Rattle.std.specs.Cmp.{eq_by_cmp_equiv}
@@ -9,6 +9,7 @@ use Rattle.std.proofs.lemmas.Slice.Eq.{bytes_eq-Decides}
 use Rattle.sqlite_keyed.proofs.RuleLemmas.{first_of_both, second_of_both}
 use Rattle.machine.specs.Order.{name_cmp}
 use Rattle.machine.proofs.MapLemmas.{names_total}
+pub use Rattle.tables.specs.Inner.Standing.{is_pair}
 
 pub same_name : (a b : List ℕ) → bytes_eq a b ≡ true → a ≡ b
 same_name a b e = (bytes_eq-Decides a b).0 e
@@ -21,9 +22,6 @@ apart_name a b apart = false_from_ne_true (bytes_eq a b) (λ e. apart (same_name
 
 pub names_apart : (a b : List ℕ) → bytes_eq a b ≡ false → a ≢ b
 names_apart a b none e = let no_one : ⊥ = cc (sym ((bytes_eq-Decides a b).1 e) ∙ none) in no_one
-
-abbrev pub is_pair : List ℕ → List ℕ → List ℕ → List ℕ → Bool
-is_pair a b p q = bytes_eq p a && bytes_eq q b
 
 pub pair_first : (a b p q : List ℕ) → is_pair a b p q ≡ true → p ≡ a
 pair_first a b p q e = same_name p a (first_of_both _ _ e)

@@ -25,6 +25,7 @@ use Rattle.statements.proofs.Sorting.{sorted_already, filter-sort_by}
 use Rattle.tables.specs.Records.{version_at, workspace_of_cells, keep_at, versions_at, runs_at, workspace_by}
 use Rattle.tables.proofs.Ranks.{rising}
 use Rattle.tables.proofs.Sorted.{sorted_with, map-sorted}
+pub use Rattle.tables.specs.Inner.Standing.{versions_in, runs_in, workspace_of_rows}
 
 -- ---- versions and runs by their numbers
 
@@ -51,17 +52,6 @@ pub rise_below : {X : Type 0} (num : X → ℕ) (next : ℕ) (xs : List X) → R
 rise_below num next xs rise =
     ascending_weaker (λ x y. num x < num y) (λ x y. nat_cmp (num x) (num y) ≡ Less) (λ x y low. sym (nat_cmp_is (num x) (num y) Less low)) xs (ascending_from_map (λ m n. m < n) num xs (rising 0 next (map num xs) rise))
 
--- ---- as the rows stand
-
-abbrev pub versions_in : Tables → List ℕ → List ℕ → List Version
-versions_in t org ws = map (λ x. version_at t org ws x.1.it) (filter (is_version_of org ws) t.versions)
-
-abbrev pub runs_in : Tables → List ℕ → List ℕ → List Run
-runs_in t org ws = map (λ x. x.1.it) (filter (is_run_of org ws) t.runs)
-
-abbrev pub workspace_of_rows : Tables → List ℕ → List ℕ → Option Workspace
-workspace_of_rows t org ws = option_map (λ (c : WorkspaceCells). workspace_of_cells (keep_at t org ws) c (versions_in t org ws) (runs_in t org ws)) (workspace_of org ws t)
-
 pub versions_sorted : (t : Tables) (org ws : List ℕ) → versions_at t org ws ≡ sort_by by_version (versions_in t org ws)
 versions_sorted t org ws = sym (sort_by-map by_version (λ (x : Kept VersionRow). version_at t org ws x.1.it) (filter (is_version_of org ws) t.versions))
 
@@ -78,6 +68,13 @@ workspace_ordered t org ws = by_row (workspace_of org ws t)
         ≡ option_map ordered (option_map (λ (c : WorkspaceCells). workspace_of_cells (keep_at t org ws) c (versions_in t org ws) (runs_in t org ws)) r)
     by_row None = refl
     by_row (Some c) = λ i. Some (workspace_of_cells (keep_at t org ws) c (versions_sorted t org ws i) (runs_sorted t org ws i))
+
+-- a lawful workspace is in order
+pub lawful_ordered : (w : Workspace) → IsLawful w → ordered w ≡ w
+lawful_ordered w lawful = λ i. record w {
+  versions = sorted_already by_version w.versions (rise_below (λ (v : Version). v.number) w.next_version w.versions lawful.versions.rise) i;
+  runs = sorted_already by_run w.runs (rise_below (λ (r : Run). r.number) w.next_run w.runs lawful.runs.rise) i;
+}
 
 -- ---- a change of what is in order
 

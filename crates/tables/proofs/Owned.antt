@@ -36,6 +36,7 @@ use Rattle.tables.proofs.TextRows.{Becomes, versions_counted}
 use Rattle.tables.proofs.VersionEdits.{all_go, settings_leave, versions_come}
 use Rattle.tables.proofs.Lists.{any_updated}
 use Rattle.tables.proofs.Names.{is_pair, pair_is, pair_first, pair_second, pair_apart}
+pub use Rattle.tables.specs.Inner.Standing.{AreOwned}
 
 module _ {X : Type 0} where
   none_of : (p : X → Bool) (xs : List X) → length (filter p xs) ≡ 0 → AllByRecursion (λ x. p x ≡ false) xs
@@ -74,16 +75,6 @@ pub pair_turned : (a b p q : List ℕ) → is_pair a b p q ≡ false → is_pair
 pair_turned a b p q e = false_from_ne_true (is_pair p q a b) (λ same.
     let none : ⊥ = cc (sym (subst (λ (x : List ℕ). is_pair a b x q ≡ true) (pair_first p q a b same) (subst (λ (y : List ℕ). is_pair a b a y ≡ true) (pair_second p q a b same) (pair_is a b))) ∙ e) in none)
 
--- a workspace has one row, and one of keeping, and no row lacks the one that it belongs to
-pub record AreOwned (t : Tables) : Type 0 where
-  pub wss_apart : AreApart (λ a b. is_ws a.1.org a.1.name b) t.wss
-  pub keepings_apart : AreApart (λ a b. is_keeping a.1.org a.1.ws b) t.keepings
-  pub wss_kept : AllByRecursion (λ x. list_any (is_keeping x.1.org x.1.name) t.keepings ≡ true) t.wss
-  pub wss_owned : AllByRecursion (λ x. list_any (is_org x.1.org) t.orgs ≡ true) t.wss
-  pub keepings_owned : AllByRecursion (λ x. list_any (is_ws x.1.org x.1.ws) t.wss ≡ true) t.keepings
-  pub versions_owned : AllByRecursion (λ x. list_any (is_ws x.1.org x.1.ws) t.wss ≡ true) t.versions
-  pub runs_owned : AllByRecursion (λ x. list_any (is_ws x.1.org x.1.ws) t.wss ≡ true) t.runs
-
 pub sound_are_owned : (t : Tables) → IsSound t → AreOwned t
 sound_are_owned t sound = record {
   wss_apart = sound.wss_apart;
@@ -96,7 +87,7 @@ sound_are_owned t sound = record {
 }
 
 module _ (org ws : List ℕ) (t : Tables) (owned : AreOwned t) where
-  owned_row : (g : WorkspaceCells → WorkspaceCells) → AreOwned (ws_changed g org ws t)
+  pub owned_row : (g : WorkspaceCells → WorkspaceCells) → AreOwned (ws_changed g org ws t)
   owned_row g =
       let f : Kept WsRow → Kept WsRow = λ x. (x.0, record x.1 { it = g x.1.it }) in
       record {
@@ -125,7 +116,7 @@ module _ (org ws : List ℕ) (t : Tables) (owned : AreOwned t) where
   }
 
   -- where versions of one workspace come and go
-  owned_becomes : (f : List Version → List Version) (o w : List ℕ) (u : Tables) → Becomes f o w t u → AreOwned u
+  pub owned_becomes : (f : List Version → List Version) (o w : List ℕ) (u : Tables) → Becomes f o w t u → AreOwned u
   owned_becomes f o w u made = record {
     wss_apart = subst (AreApart (λ (a b : Kept WsRow). is_ws a.1.org a.1.name b)) (sym made.rest.wss) owned.wss_apart;
     keepings_apart = subst (AreApart (λ (a b : Kept KeepingRow). is_keeping a.1.org a.1.ws b)) (sym made.rest.keepings) owned.keepings_apart;
@@ -149,7 +140,7 @@ module _ (org ws : List ℕ) (t : Tables) (owned : AreOwned t) where
     runs_owned = all_updated (λ x. list_any (is_ws x.1.org x.1.ws) t.wss ≡ true) (is_run_row org ws n) (λ x. (x.0, record x.1 { it = record x.1.it { status = Planning } })) (λ x h. h) t.runs owned.runs_owned;
   }
 
-  owned_run : (r : Run) → list_any (is_ws org ws) t.wss ≡ true → AreOwned (run_added org ws r t)
+  pub owned_run : (r : Run) → list_any (is_ws org ws) t.wss ≡ true → AreOwned (run_added org ws r t)
   owned_run r there = record {
     wss_apart = owned.wss_apart;
     keepings_apart = owned.keepings_apart;
@@ -228,7 +219,7 @@ module _ (org ws : List ℕ) (t : Tables) (sound : IsSound t) where
   owned_removed : AreOwned (removed_rows org ws t)
   owned_removed = owned_taken org ws purged_rows owned_purged (all_go org ws t sound).own
 
-  owned_made : (settings : Settings) → workspace_of org ws t ≡ None → list_any (is_org org) t.orgs ≡ true → AreOwned (made_rows org ws settings t)
+  pub owned_made : (settings : Settings) → workspace_of org ws t ≡ None → list_any (is_org org) t.orgs ≡ true → AreOwned (made_rows org ws settings t)
   owned_made settings none there = owned_added org ws t (sound_are_owned t sound) settings.runs settings.keep_versions (no_row org ws t none) (no_keeping org ws t none sound) there
 
   owned_configured : (settings : Settings) (outgoing : Option ℕ) → AreOwned (configured_rows org ws settings outgoing t)
@@ -254,7 +245,7 @@ module _ (org ws : List ℕ) where
   owned_run_rows number ask created t owned None e = owned
   owned_run_rows number ask created t owned (Some w) e =
       owned_row org ws (run_put org ws number ask created t)
-      (owned_run org ws t owned (run_made number ask.plan_only ask.key ask.message created (cond ask.plan_only Planning Pending)) (row_there t w e)) (with_next_run (number + 1))
+      (owned_run org ws t owned (run_made number ask.plan_only ask.key ask.message created (cond ask.plan_only Planning Pending) None) (row_there t w e)) (with_next_run (number + 1))
 
   owned_freed : (frees : Bool) (t : Tables) → AreOwned t → AreOwned (freed_rows frees org ws t)
   owned_freed true t owned = owned_row org ws t owned (held_by Nobody)

@@ -31,12 +31,7 @@ use Rattle.tables.specs.Inner.Edits.{first_gone, so_many_gone, gone_below, row_a
 use Rattle.tables.proofs.Ordered.{versions_total, versions_in}
 use Rattle.tables.proofs.Names.{same_name, name_is, is_pair, pair_is, pair_apart}
 use Rattle.tables.proofs.TextLists.{all_deleted, found_front, none_goes, filter_fewer, absorbed, fewer_left, least, none_least, least_holds, least_passes, least_within}
-
--- what sound tables say of texts
-pub record AreTexts (t : Tables) : Type 0 where
-  pub places : HasSoundPlaces t
-  pub placed : AllByRecursion (IsPlaced t) t.vpages
-  pub texts : AllByRecursion (HasText t) t.versions
+pub use Rattle.tables.specs.Inner.Standing.{AreTexts}
 
 pub sound_texts : (t : Tables) → IsSound t → AreTexts t
 sound_texts t sound = record { places = sound.places; placed = sound.placed; texts = sound.texts }

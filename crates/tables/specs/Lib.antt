@@ -1,3 +1,4 @@
+pub mod Copying
 pub mod Counting
 pub mod Inner
 pub mod Laws

@@ -1,10 +1,11 @@
 //! The calls of a store, over its connection: each with what it has to look at first.
-ghost use Rattle.std.specs.Prelude.{◌≡◌, false, not, ◌||◌, is_some, IsTrue, IfOk, OnOk};
+ghost use Rattle.std.specs.Prelude.{◌≡◌, false, not, ◌||◌, is_some, IsTrue, ⊤, IfOk, OnOk, OnErr};
 ghost use Rattle.sqlite.specs.Held.{state};
 ghost use Rattle.sqlite.specs.State.{HasCleanDisk, KeepsCommit};
 ghost use Rattle.machine.specs.Needs.{needed_of};
 ghost use Rattle.tables.specs.Records.{IsBound};
 ghost use Rattle.tables.specs.Scans.{AreRowsOf};
+ghost use Rattle.tables.specs.Inner.Arrivals.{TakesCommitted, Copies, CommitsRelated};
 ghost use Rattle.tables.specs.Inner.Units.{text_in, unit_in};
 ghost use Rattle.statements.specs.Steps.{Equals, EqualsWhere, Sees};
 ghost use Rattle.statements.specs.Tables.{Tables, Holds};
@@ -58,6 +59,37 @@ pub(crate) fn org_add<S: Alter>(
         return Ok(AdminAnswer::Exists);
     }
     transactions::add_organization(conn, org, limit)?;
+    Ok(AdminAnswer::Done)
+}
+
+/// Copies an organization, with all that it has, from another database. Nothing changes where the other hasn't it, or
+/// this one has it.
+pub(crate) fn copy<T: Alter, K: PageKey, S: Alter>(
+    conn: &mut Connection<S>,
+    alloc: Global,
+    from: &mut Connection<T>,
+    org: &str,
+) -> Result<AdminAnswer, Error>
+    requires idle { conn.old.in_transaction ≡ false }
+    requires source_idle { from.old.in_transaction ≡ false }
+    ensures idle { conn.new.in_transaction ≡ false }
+    ensures so_far { HasCleanDisk (state S.Store conn.new) → HasCleanDisk (state S.Store conn.old) }
+    ensures shield { (state S.Store conn.old).IsShielded → (state S.Store conn.new).IsShielded }
+    ensures looks { Sees T.Store (λ _ _. ⊤) from.old from.new result }
+    ensures done { HasCleanDisk (state S.Store conn.new)
+        → IfOk result (λ answer. CommitsRelated (TakesCommitted T.Store (Copies answer org.now) from.old from.new) (state S.Store conn.old) (state S.Store conn.new)) × OnErr result (KeepsCommit (state S.Store conn.old) (state S.Store conn.new)) }
+{
+    assert_settled(conn);
+    assert_settled(from);
+    let found = organizations::cap(from, org)?;
+    let there = organizations::cap(conn, org)?;
+    let Some(cap) = found else {
+        return Ok(AdminAnswer::Absent);
+    };
+    if there.is_some() {
+        return Ok(AdminAnswer::Exists);
+    }
+    transactions::copy_organization::<T, K, S>(conn, alloc, from, org, cap)?;
     Ok(AdminAnswer::Done)
 }
 

@@ -1,7 +1,9 @@
 //! The store of all organizations in tables: what the rows denote, and when tables are sound.
 #![tactic(auto)]
 
+mod arrivals;
 mod commands;
+mod copies;
 mod counts;
 pub mod laws;
 mod listings;
@@ -11,5 +13,6 @@ mod scans;
 mod steps;
 mod store;
 mod transactions;
+mod wholes;
 
 pub use store::{SqlKeep, Unopened};

@@ -137,7 +137,7 @@ fn number_before(number: Number) -> Option<Number> {
 }
 
 /// Adds a version behind the others, with its text.
-fn add<K: PageKey, S: Alter>(
+pub(crate) fn add<K: PageKey, S: Alter>(
     tx: &mut Transaction<'_, S>,
     org: &str,
     ws: &str,
@@ -218,7 +218,7 @@ fn put<K: PageKey, S: Alter>(
     }
 }
 
-fn optional_str(text: &Option<Text>) -> Option<&str>
+pub(crate) fn optional_str(text: &Option<Text>) -> Option<&str>
     ensures { option_map (λ s. s.now) result ≡ text.now }
 {
     match text {
@@ -262,6 +262,7 @@ fn put_run<S: Alter>(
         message,
         created,
         status,
+        None,
     )
 }
 

@@ -1,5 +1,5 @@
 //! The store of all organizations over one connection to a database.
-ghost use Rattle.std.specs.Prelude.{◌≡◌, true, false, not, ℕ, List, [], Option, Some, None, option_copied, IsTrue, IfSome, IfOk, IfErr};
+ghost use Rattle.std.specs.Prelude.{◌≡◌, true, false, not, ◌≢◌, ℕ, List, [], Option, Some, None, option_copied, IsTrue, IfSome, IfOk, IfErr, OnErr};
 ghost use Rattle.std.specs.Option.{unwrap_or};
 ghost use Rattle.sqlite.specs.Held.{state};
 ghost use Rattle.sqlite.specs.State.{HasCleanDisk, KeepsCommit};
@@ -10,6 +10,7 @@ ghost use Rattle.tables.specs.Opening.{IsSoundKeep, IsFresh, any_there, all_ther
 ghost use Rattle.basis.specs.Names.{is_prefix};
 ghost use Rattle.machine.specs.Keeping.{Looks};
 ghost use Rattle.machine.specs.Ranges.{IsMoment};
+ghost use Rattle.tables.specs.Copying.{IsCopied};
 ghost use Rattle.tables.specs.Scans.{AreRowsOf};
 ghost use Rattle.tables.specs.Versions.{HoldsVersion, version_records};
 
@@ -142,6 +143,35 @@ impl<S: Alter, K: PageKey> SqlKeep<S, K> {
     {
         match commands::scan::<S, K>(&mut self.conn, alloc) {
             Ok(rows) => Ok(rows),
+            Err(_) => Err(Down),
+        }
+    }
+
+    /// Copies an organization, with all that it has, from another store, in one transaction of this one. Nothing changes
+    /// where the other hasn't it, or this one has it.
+    pub fn copy_from<T: Alter>(
+        &mut self,
+        alloc: Global,
+        org: &OrgName,
+        from: &mut SqlKeep<T, K>,
+    ) -> Result<AdminAnswer, Down>
+        ensures source { Looks ⟦<SqlKeep<T, K> as Keep>⟧.rows ⟦<SqlKeep<T, K> as Keep>⟧.clean ⟦<SqlKeep<T, K> as Keep>⟧.sound ⟦<SqlKeep<T, K> as Keep>⟧.shielded from.old from.new }
+        ensures so_far { ⟦<SqlKeep<S, K> as Keep>⟧.clean self.new → ⟦<SqlKeep<S, K> as Keep>⟧.clean self.old }
+        ensures shield { ⟦<SqlKeep<S, K> as Keep>⟧.shielded self.old → ⟦<SqlKeep<S, K> as Keep>⟧.shielded self.new }
+        ensures kept { ⟦<SqlKeep<S, K> as Keep>⟧.clean self.new → ⟦<SqlKeep<S, K> as Keep>⟧.sound self.old → ⟦<SqlKeep<T, K> as Keep>⟧.clean from.new → ⟦<SqlKeep<T, K> as Keep>⟧.sound from.old
+            → ⟦<SqlKeep<S, K> as Keep>⟧.sound self.new }
+        ensures own { ⟦<SqlKeep<S, K> as Keep>⟧.clean self.new → ⟦<SqlKeep<S, K> as Keep>⟧.sound self.old → ⟦<SqlKeep<T, K> as Keep>⟧.clean from.new → ⟦<SqlKeep<T, K> as Keep>⟧.sound from.old
+            → IfOk result (λ answer. IsCopied answer (⟦<SqlKeep<T, K> as Keep>⟧.rows from.old org.now) (⟦<SqlKeep<S, K> as Keep>⟧.rows self.old org.now) (⟦<SqlKeep<S, K> as Keep>⟧.rows self.new org.now)) }
+        ensures others { ⟦<SqlKeep<S, K> as Keep>⟧.clean self.new → ⟦<SqlKeep<S, K> as Keep>⟧.sound self.old → ⟦<SqlKeep<T, K> as Keep>⟧.clean from.new → ⟦<SqlKeep<T, K> as Keep>⟧.sound from.old
+            → (o : List ℕ) → o ≢ org.now → ⟦<SqlKeep<S, K> as Keep>⟧.rows self.new o ≡ ⟦<SqlKeep<S, K> as Keep>⟧.rows self.old o }
+        ensures err { ⟦<SqlKeep<S, K> as Keep>⟧.clean self.new → OnErr result ((o : List ℕ) → ⟦<SqlKeep<S, K> as Keep>⟧.rows self.new o ≡ ⟦<SqlKeep<S, K> as Keep>⟧.rows self.old o) }
+    {
+        self.counted = None;
+        match commands::copy::<T, K, S>(&mut self.conn, alloc, &mut from.conn, org.as_str()) {
+            Ok(answer) => {
+                self.seen = Snapshot::of(&self.conn);
+                Ok(answer)
+            }
             Err(_) => Err(Down),
         }
     }

@@ -1,20 +1,22 @@
 //! The transactions of a store, each as one function: its change is committed, or nothing is.
-ghost use Rattle.std.specs.Prelude.{◌≡◌, ◌<◌, ℕ, true, false, List, OnOk, OnErr};
+ghost use Rattle.std.specs.Prelude.{◌≡◌, ◌<◌, ℕ, true, false, List, ⊤, OnOk, OnErr};
 ghost use Rattle.sqlite.specs.Held.{state};
 ghost use Rattle.sqlite.specs.State.{HasCleanDisk, KeepsCommit};
 ghost use Rattle.statements.specs.declared.making.TheConstants.{NEWEST};
 ghost use Rattle.statements.specs.Changes.{org_row_added, org_capped, token_added, token_removed};
-ghost use Rattle.statements.specs.Steps.{AnyRows};
+ghost use Rattle.statements.specs.Steps.{AnyRows, Sees};
+ghost use Rattle.tables.specs.Inner.Arrivals.{TakesFrom, Brings, CommitsRelated};
 ghost use Rattle.tables.specs.Inner.Edits.{changed_rows, TakesEdit};
 ghost use Rattle.tables.specs.Inner.Making.{IsMade, StepsFrom};
 ghost use Rattle.tables.specs.Inner.Steps.{IsSettled, Transacts};
 
-use crate::steps;
+use crate::{arrivals, steps};
 use basis::{Bounds, Limit, Role};
 use machine::Change;
 use pages::PageKey;
 use sqlite::{Alter, Connection, Error, Transaction};
 use statements::{making, organizations, tokens};
+use std::alloc::Global;
 
 /// Nothing waits to be committed where no transaction is open. It does nothing but show that.
 pub(crate) fn assert_settled<S: Alter>(conn: &Connection<S>)
@@ -95,6 +97,27 @@ pub(crate) fn add_organization<S: Alter>(
 {
     let mut tx = begin(conn);
     organizations::add(&mut tx, org, limit)?;
+    tx.commit()
+}
+
+/// Copies an organization of this limit, which the other database has, to one that lacks it.
+pub(crate) fn copy_organization<T: Alter, K: PageKey, S: Alter>(
+    conn: &mut Connection<S>,
+    alloc: Global,
+    from: &mut Connection<T>,
+    org: &str,
+    cap: Limit,
+) -> Result<(), Error>
+    requires idle { conn.old.in_transaction ≡ false }
+    ensures idle { conn.new.in_transaction ≡ false }
+    ensures so_far { HasCleanDisk (state S.Store conn.new) → HasCleanDisk (state S.Store conn.old) }
+    ensures shield { (state S.Store conn.old).IsShielded → (state S.Store conn.new).IsShielded }
+    ensures looks { Sees T.Store (λ _ _. ⊤) from.old from.new result }
+    ensures done { HasCleanDisk (state S.Store conn.new)
+        → OnOk result (CommitsRelated (TakesFrom T.Store (Brings org.now cap) from.old from.new) (state S.Store conn.old) (state S.Store conn.new)) × OnErr result (KeepsCommit (state S.Store conn.old) (state S.Store conn.new)) }
+{
+    let mut tx = begin(conn);
+    arrivals::bring::<T, K, S>(&mut tx, alloc, from, org, cap)?;
     tx.commit()
 }
 

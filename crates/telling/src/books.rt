@@ -322,6 +322,20 @@ impl<'a> Book<'a> {
     }
 
     // Of the story that begins.
+    fn set_copied(&mut self, line: usize) -> Result<(), Unread> {
+        match self.stories.last_mut() {
+            Some(story) if story.plots.is_empty() && !story.before.is_empty() => {
+                story.modes.copied = true;
+                Ok(())
+            }
+            _ => Err(Unread {
+                line,
+                why: "`copied` stands before the first step of a story that comes after another",
+            }),
+        }
+    }
+
+    // Of the story that begins.
     fn set_begins(&mut self, line: usize, path: &'a str) -> Result<(), Unread> {
         match self.stories.last_mut() {
             Some(story) if story.plots.is_empty() && story.before.is_empty() => {
@@ -418,6 +432,7 @@ impl<'a> Book<'a> {
             Line::Stops(keyed) => self.set_stops(line, keyed),
             Line::Large => self.set_large(line),
             Line::Resumes => self.set_resumes(line),
+            Line::Copied => self.set_copied(line),
             Line::FromFile(path) => self.set_begins(line, path),
             Line::Field(field) => self.add_field(line, field),
             Line::Piece(piece, text) => self.add_piece(alloc, line, piece, text),

@@ -55,6 +55,8 @@ pub enum Line<'a> {
     Large,
     /// `resumes`: a replay may give up, and is gone on with.
     Resumes,
+    /// `copied`: a story's own steps are taken over a copy, too.
+    Copied,
     /// `begins`: a story begins with the tables of a file.
     FromFile(&'a str),
     Piece(Piece, &'a str),
@@ -141,6 +143,9 @@ fn story_in(line: &str) -> Option<Line<'_>> {
     }
     if line == "resumes" {
         return Some(Line::Resumes);
+    }
+    if line == "copied" {
+        return Some(Line::Copied);
     }
     if let Some(path) = behind(line, "begins") {
         return Some(Line::FromFile(path));

@@ -20,6 +20,8 @@ pub struct Modes {
     pub large: bool,
     /// The story is replayed alone. A replay may give up for want of memory, and is gone on with at the step where it stopped.
     pub resumes: bool,
+    /// The organizations of the stories before it are copied to another file, and its own steps are taken over both.
+    pub copied: bool,
 }
 
 /// Nothing breaks.
@@ -32,6 +34,7 @@ pub const NONE: Modes = Modes {
     stops: None,
     large: false,
     resumes: false,
+    copied: false,
 };
 
 // With one word more.

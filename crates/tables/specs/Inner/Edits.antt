@@ -101,7 +101,7 @@ if_there (Some w) after t = after
 
 -- a run comes behind the others: a plan-only run plans at once, and a queued one is pending
 abbrev pub run_put : List ℕ → List ℕ → ℕ → RunAsk → ℕ → Tables → Tables
-run_put org ws number ask created t = run_added org ws (run_made number ask.plan_only ask.key ask.message created (cond ask.plan_only Planning Pending)) t
+run_put org ws number ask created t = run_added org ws (run_made number ask.plan_only ask.key ask.message created (cond ask.plan_only Planning Pending) None) t
 
 abbrev pub run_counted : List ℕ → List ℕ → ℕ → Tables → Tables
 run_counted org ws number t = ws_changed (with_next_run (number + 1)) org ws t

@@ -3,17 +3,17 @@ use Rattle.std.specs.Str.{bytes_eq}
 use Rattle.std.proofs.lemmas.Slice.Eq.{bytes_eq-Decides}
 use Rattle.command_line.proofs.orders.on_file.Goals as goal
 
--- after three tests that fail nothing is left
-passed : {X : Type 0} (b d e : Bool) (w x y z : Option X) → (b ≡ true → ⊥) → (d ≡ true → ⊥) → (e ≡ true → ⊥) → z ≡ None → cond b w (cond d x (cond e y z)) ≡ None
-passed true d e w x y z first second third is = absurd (first refl)
-passed false true e w x y z first second third is = absurd (second refl)
-passed false false true w x y z first second third is = absurd (third refl)
-passed false false false w x y z first second third is = is
+-- a test that fails leaves what follows
+passed : {X : Type 0} (b : Bool) (x y : Option X) → (b ≡ true → ⊥) → y ≡ None → cond b x y ≡ None
+passed true x y fails is = absurd (fails refl)
+passed false x y fails is = is
 
 pub returns-in_default-clause-syntax : goal.returns-in_default-clause-syntax
 returns-in_default-clause-syntax c is =
     let command = c.args.command.now in
-    passed (bytes_eq command (codes "serve")) (bytes_eq command (codes "check")) (bytes_eq command (codes "token-add")) _ _ _ _
-    (λ e. c.in_default.not-serve ((bytes_eq-Decides command (codes "serve")).0 e))
-    (λ e. c.in_default.not-check ((bytes_eq-Decides command (codes "check")).0 e))
-    (λ e. c.in_default.not-text ((bytes_eq-Decides command (codes "token-add")).0 e)) (c.carrying.ensures.syntax is)
+    passed (bytes_eq command (codes "serve")) _ _ (λ e. c.in_default.not-serve ((bytes_eq-Decides command (codes "serve")).0 e))
+    (passed (bytes_eq command (codes "check")) _ _ (λ e. c.in_default.not-check ((bytes_eq-Decides command (codes "check")).0 e))
+    (passed (bytes_eq command (codes "org-copy")) _ _ (λ e. c.in_default.not-text ((bytes_eq-Decides command (codes "org-copy")).0 e))
+    (passed (bytes_eq command (codes "compact")) _ _ (λ e. c.in_default.not-compact ((bytes_eq-Decides command (codes "compact")).0 e))
+    (passed (bytes_eq command (codes "token-add")) _ _ (λ e. c.in_default.not-text-2 ((bytes_eq-Decides command (codes "token-add")).0 e))
+    (c.carrying.ensures.syntax is)))))

@@ -6,4 +6,4 @@ all_told P Clean A B D (Ok x) one two three = λ first clean. (one clean, two cl
 all_told P Clean A B D (Err e) one two three = tt
 
 pub returns-in-Some-clause-opened : goal.returns-in-Some-clause-opened
-returns-in-Some-clause-opened g c = all_told _ _ _ _ _ c.open_file.result c.open_file.ensures.opens c.open_file.ensures.guarded c.open_file.ensures.as_opened
+returns-in-Some-clause-opened g c = all_told _ _ _ _ _ c.open_file-opened.result c.open_file-opened.ensures.opens c.open_file-opened.ensures.guarded c.open_file-opened.ensures.as_opened

@@ -1,0 +1,145 @@
+-- Copies from one store to another, one after the other, and the two files that they lie in.
+use Rattle.std.proofs.Common.{◌≡◌, ◌≢◌, ◌⊎◌, ◌∙◌, ◌||◌, ℕ, Bool, true, false, List, [], ◌∷◌, Option, Some, None, Result, Ok, Err, IfOk, OnOk, refl, sym, ap, subst, inl, inr}
+use Rattle.std.specs.Prelude.{OnErr}
+use Rattle.std.specs.List.{AllByRecursion, list_any}
+use Rattle.std.specs.Str.{bytes_eq}
+use Rattle.std.proofs.lemmas.Slice.Eq.{bytes_eq-Decides}
+use Rattle.basis.specs.declared.memory.Down.{Down}
+use Rattle.machine.specs.Effects.{Effect, effect}
+use Rattle.machine.specs.Tokens.{AreOrganizations, ListsOrganizations, is_row_of}
+use Rattle.machine.specs.declared.keeps.AdminAnswer.{AdminAnswer}
+use Rattle.machine.specs.declared.keeps.AdminAnswer.TheVariants.{Organizations}
+use Rattle.machine.specs.declared.keeps.Keep as keep
+use Rattle.machine.specs.declared.keeps.OrgRow.{OrgRow}
+use Rattle.machine.specs.declared.records.Organization.{Organization}
+use Rattle.serve.specs.Service.{Stays}
+use Rattle.program.specs.declared.endings.Ending.{Ending}
+use Rattle.program.specs.declared.endings.Ending.TheVariants.{Done}
+use Rattle.program.specs.declared.outside.Files as files
+use Rattle.program.specs.declared.reasons.Cause.{Cause}
+use Rattle.program.specs.declared.reasons.Cause.TheVariants.{Store, Unfinished}
+use Rattle.program.specs.Moves.{org_copied, copied_into, Arrives, AllAreCopied, SomeAreCopied, CopiesBetween}
+use Rattle.program.specs.Outcomes.{Stream, stream, IsSaid, TellsCause, TellsWord, Refuses, RefusesToOpen, RefusesSecond, Opens, OpensBoth, Closes, ClosesBoth, CopiesOver, IsCopied, IsCompacted}
+use Rattle.program.proofs.MoveLemmas.{copied_none, copied_left}
+
+-- ---- records
+
+abbrev Records : Type 0
+Records = List ℕ → Option Organization
+
+listed : (P : List ℕ → Type 0) (rows : List OrgRow) (org : List ℕ) → AllByRecursion (λ row. P row.name) rows → list_any (is_row_of org) rows ≡ true → P org
+listed P [] org all is = absurd (let no : ⊥ = cc in no)
+listed P (row ∷ rows) org all is = by_test (bytes_eq row.name org) refl is (listed P rows org all.1)
+  where
+    by_test : (b : Bool) → bytes_eq row.name org ≡ b → b || list_any (is_row_of org) rows ≡ true → (list_any (is_row_of org) rows ≡ true → P org) → P org
+    by_test true e there later = subst P ((bytes_eq-Decides row.name org).0 e) all.0
+    by_test false e there later = later there
+
+-- where those of the list of all organizations were copied, every one was
+all_listed : (from old new : Records) (rows : List OrgRow) → AreOrganizations from rows → SomeAreCopied from old new → AllByRecursion (λ row. Arrives from old new row.name) rows → AllAreCopied from old new
+all_listed from old new rows are some all org = by_record (from org) refl
+  where
+    by_cases : from org ≡ None → (new org ≡ old org) ⊎ Arrives from old new org → Arrives from old new org
+    by_cases none (inl stays) = stays ∙ sym (copied_none (old org)) ∙ ap (λ (r : Option Organization). copied_into r (old org)) (sym none)
+    by_cases none (inr copied) = copied
+
+    by_record : (r : Option Organization) → from org ≡ r → Arrives from old new org
+    by_record (Some o) is = listed (Arrives from old new) rows org all (are.whole org o is)
+    by_record None is = by_cases is (some org)
+
+-- the same by the answer that has the list
+pub by_list : {T : Type 0} (from old new : Records) (told : AdminAnswer) (rows : List OrgRow) (result : Result T Down) → told ≡ Organizations rows
+    → SomeAreCopied from old new × OnOk result (AllByRecursion (λ row. Arrives from old new row.name) rows) → SomeAreCopied from old new × OnOk result (ListsOrganizations from told → AllAreCopied from old new)
+by_list from old new told rows (Ok done) is copies = (copies.0, λ lists. all_listed from old new rows (subst (ListsOrganizations from) is lists) copies.0 copies.1)
+by_list from old new told rows (Err refused) is copies = (copies.0, tt)
+
+-- an answer by the rule, and the record that it says
+arrives : (from old new : Records) (org : List ℕ) (answer : AdminAnswer) → effect answer (new org) ≡ org_copied (from org) (old org) → Arrives from old new org
+arrives from old new org answer is = ap (λ (e : Effect AdminAnswer (Option Organization)). e.left) is ∙ copied_left (from org) (old org)
+
+-- one organization is copied, and each other record stays
+pub one_copied : (from old new : Records) (org name : List ℕ) (answer : AdminAnswer) → org ≡ name → effect answer (new org) ≡ org_copied (from org) (old org)
+    → ((other : List ℕ) → other ≢ org → new other ≡ old other) → SomeAreCopied from old new × Arrives from old new name
+one_copied from old new org name answer is own others = (some, subst (Arrives from old new) is here)
+  where
+    here : Arrives from old new org
+    here = arrives from old new org answer own
+
+    by_test : (other : List ℕ) (b : Bool) → bytes_eq other org ≡ b → (new other ≡ old other) ⊎ Arrives from old new other
+    by_test other true e = inr (subst (Arrives from old new) (sym ((bytes_eq-Decides other org).0 e)) here)
+    by_test other false e = inl (others other (λ same. let is_so = (bytes_eq-Decides other org).1 same in let no : ⊥ = cc in no))
+
+    some : SomeAreCopied from old new
+    some other = by_test other (bytes_eq other org) refl
+
+-- ---- stores
+
+module _ {K : Type 0} (k : keep.Ghosts K) where
+  -- what became of the records, told otherwise
+  pub copies_as : (Q R : Records → Records → Records → Type 0) (a b x y : K) → ((from old new : Records) → Q from old new → R from old new) → CopiesBetween k Q a b x y → CopiesBetween k R a b x y
+  copies_as Q R a b x y means copies = record {
+    look = copies.look;
+    so_far = copies.so_far;
+    shield = copies.shield;
+    kept = copies.kept;
+    model = λ clean sound clean_source sound_source. means (k.rows a) (k.rows x) (k.rows y) (copies.model clean sound clean_source sound_source);
+  }
+
+-- ---- answers
+
+-- an answer is told as it is, and where there is none `refused down`, with its cause
+pub copied : (org : List ℕ) (from old new : Records) (e : Ending) (output errors : Stream) (result : Result AdminAnswer Down)
+    → IfOk result (λ answer. effect answer (new org) ≡ org_copied (from org) (old org)) → ((other : List ℕ) → other ≢ org → new other ≡ old other) → OnErr result (Stays old new)
+    → IfOk result (λ answer. TellsWord answer e output × (errors.new ≡ errors.old)) → OnErr result (Refuses Store e output errors) → IsCopied org from old new e output errors
+copied org from old new e output errors (Ok answer) own others stays tells down = inl (answer, own, others, tells.0, tells.1)
+copied org from old new e output errors (Err d) own others stays tells down = inr (stays, down)
+
+pub compacted : {T : Type 0} (from old new : Records) (e : Ending) (output errors : Stream) (result : Result T Down) → SomeAreCopied from old new → OnOk result (AllAreCopied from old new)
+    → OnOk result (IsSaid Done e output.old output.new × (errors.new ≡ errors.old)) → OnErr result (Refuses Unfinished e output errors) → IsCompacted from old new e output errors
+compacted from old new e output errors (Ok done) some all tells down = inl (all, tells.0, tells.1)
+compacted from old new e output errors (Err d) some all tells down = inr (some, down)
+
+-- ---- files
+
+module _ {K F : Type 0} (k : keep.Ghosts K) (f : files.Ghosts F K) where
+  -- the second of two paths isn't opened, and the first is closed again
+  pub refuses_second : (from to : List ℕ) (old opened unopened new : F) (source : K) (e : Ending) (out said before noted told after : Option (List ℕ)) → from ≢ to
+      → Opens k f from old opened source (stream before noted) → RefusesToOpen k f to opened unopened e (stream out said) (stream noted told) → Closes k f from unopened new source (stream told after)
+      → RefusesSecond k f from to old new e (stream out said) (stream before after)
+  refuses_second from to old opened unopened new source e out said before noted told after differ first second closes = record {
+    differ = differ;
+    source = source;
+    opened = opened;
+    unopened = unopened;
+    noted = noted;
+    told = told;
+    first = first;
+    second = second;
+    closes = closes;
+    others = λ other store apart held. closes.others other store apart (second.0 other store (first.others other store apart held));
+  }
+
+  -- stores are opened at two paths, it is copied from one to the other, and they are closed
+  pub copies_over : (from to : List ℕ) (Becomes : Records → Records → Records → Stream → Type 0) (refused : Cause) (old worked new : F) (source source' target target' : K) (before noted told after : Option (List ℕ))
+      → OpensBoth k f from to old worked source target (stream before noted)
+      → CopiesBetween k (λ s o n. Becomes s o n (stream noted told)) source source' target target'
+      → (told ≡ noted) ⊎ TellsCause refused (stream noted told)
+      → ClosesBoth k f from to worked new source' target' (stream told after)
+      → CopiesOver k f from to Becomes refused old new (stream before after)
+  copies_over from to Becomes refused old worked new source source' target target' before noted told after opens copies why closes = record {
+    source_before = source;
+    source_after = source';
+    target_before = target;
+    target_after = target';
+    worked = worked;
+    noted = noted;
+    told = told;
+    opens = opens;
+    copies = copies;
+    why = why;
+    closes = closes;
+    left_source = closes.first.left;
+    left_target = closes.first.others to target' (λ e. opens.differ (sym e)) closes.second.left;
+    others = λ other store apart_from apart_to held.
+        closes.first.others other store apart_from (closes.second.others other store apart_to (opens.second.others other store apart_to (opens.first.others other store apart_from held)));
+  }

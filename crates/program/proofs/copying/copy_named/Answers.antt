@@ -1,0 +1,16 @@
+use Rattle.program.proofs.CopyLemmas.{one_copied}
+use Rattle.program.proofs.copying.copy_named.Goals as goal
+
+pub returns-in-Ok-copy : goal.returns-in-Ok-copy
+returns-in-Ok-copy g c =
+    let rows = g.K.Keep.rows in
+    let copy = c.copy.ensures in
+    record {
+      look = copy.source;
+      so_far = copy.so_far;
+      shield = copy.shield;
+      kept = copy.kept;
+      model = λ clean sound clean_source sound_source.
+          one_copied (rows c.args.from.now) (rows c.args.to.now) (rows c.copy.new.to) c.in-Ok.org c.args.name.now c.in-Ok-copy.field-0 c.in-Ok.ensures.ok
+          (c.in-Ok-copy.ensures.own clean sound clean_source sound_source) (copy.others clean sound clean_source sound_source);
+    }

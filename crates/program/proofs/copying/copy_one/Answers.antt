@@ -1,0 +1,34 @@
+use Rattle.std.proofs.Common.{List, ℕ, Option, inl, inr, subst}
+use Rattle.program.specs.declared.reasons.Cause.TheVariants.{Store}
+use Rattle.program.specs.Outcomes.{stream, IsCopied}
+use Rattle.program.proofs.CopyLemmas.{copied, copies_over}
+use Rattle.program.proofs.copying.copy_one.Goals as goal
+
+pub returns-in-Err-clause-copies : goal.returns-in-Err-clause-copies
+returns-in-Err-clause-copies g c = inr c.in-Err.ensures.refused
+
+pub returns-clause-copies : goal.returns-clause-copies
+returns-clause-copies g c =
+    let rows = g.K.Keep.rows in
+    let out = g.O.Write.contents in
+    let err = g.E.Write.contents in
+    let org = c.args.org.now in
+    let source = c.in-Ok.stores.0 in
+    let target = c.in-Ok.stores.1 in
+    let copy = c.copy-answered.ensures in
+    let said = c.say_copied-ending in
+    let told = stream (err c.open_both.new.errors) (err said.new.errors) in
+    inl (copies_over g.K.Keep g.F.Files c.args.from.now c.args.to.now (λ from old new errors. IsCopied org from old new said.result (stream (out c.args.output.now) (out said.new.output)) errors) Store
+    c.args.files.now c.open_both.new.files c.close_both.new.files source c.copy-answered.new.from target c.copy-answered.new.to
+    (err c.args.errors.now) (err c.open_both.new.errors) (err said.new.errors) (err c.close_both.new.errors) c.in-Ok.ensures.opened.0
+    (record {
+      look = copy.source;
+      so_far = copy.so_far;
+      shield = copy.shield;
+      kept = copy.kept;
+      model = λ clean sound clean_source sound_source.
+          subst (λ (before : Option (List ℕ)). IsCopied org (rows source) (rows target) (rows c.copy-answered.new.to) said.result (stream before (out said.new.output)) told) c.in-Ok.ensures.opened.1
+          (copied org (rows source) (rows target) (rows c.copy-answered.new.to) said.result (stream (out c.open_both.new.output) (out said.new.output)) told c.copy-answered.result
+          (copy.own clean sound clean_source sound_source) (copy.others clean sound clean_source sound_source) (copy.err clean) said.ensures.tells said.ensures.down);
+    })
+    said.ensures.why c.close_both.ensures)

@@ -1,0 +1,139 @@
+//! Files that are opened and closed, and what is told of them.
+ghost use Rattle.std.specs.Prelude.{◌≡◌, IfOk, IfErr};
+ghost use Rattle.program.specs.Errors.{GetsFront, other_line};
+ghost use Rattle.program.specs.Outcomes.{stream, IsSaid, TellsOfLog, TellsOfNew, TellsOfReaders, TellsOfFile, RefusesToOpen, Opens, OpensBoth, RefusesBoth, ClosesBoth};
+ghost use Rattle.program.specs.Paths.{OthersStay};
+
+use crate::endings::Ending;
+use crate::errors::{note, tell_other};
+use crate::outside::Files;
+use crate::reasons::{Cause, OpenFault, OtherSchema};
+use crate::replies::{refuse, say};
+use machine::Keep;
+use std::io::Write;
+
+/// What is said where the log of a file stays beside it.
+const LOG_STAYS: &str =
+    "custody: the log could not be copied into the file: keep the file and its log together\n";
+
+/// What is said where others than its owner may read a file or its log.
+const OTHERS_READ: &str =
+    "custody: others than its owner may read the file or its log: chmod 600 ends that\n";
+
+/// What is said where no file lay at a path.
+const NEW_FILE: &str = "custody: there was no file at the path: a new one was made\n";
+
+fn tell_of_readers<E: Write>(errors: &mut E, others_may_read: bool)
+    ensures { TellsOfReaders others_may_read (stream (E.contents errors.old) (E.contents errors.new)) }
+{
+    if others_may_read {
+        let _ = note(errors, OTHERS_READ);
+    }
+}
+
+fn tell_of_new<E: Write>(errors: &mut E, is_new: bool)
+    ensures { TellsOfNew is_new (stream (E.contents errors.old) (E.contents errors.new)) }
+{
+    if is_new {
+        let _ = note(errors, NEW_FILE);
+    }
+}
+
+pub fn tell_of_file<E: Write>(errors: &mut E, is_new: bool, others_may_read: bool)
+    ensures { TellsOfFile is_new others_may_read (stream (E.contents errors.old) (E.contents errors.new)) }
+{
+    tell_of_new(errors, is_new);
+    tell_of_readers(errors, others_may_read);
+}
+
+pub fn close_after<K: Keep, F: Files<K>, E: Write>(
+    files: &mut F,
+    db: &str,
+    store: K,
+    errors: &mut E,
+)
+    ensures closed { F.holds files.new db.now store }
+    ensures others { OthersStay F.holds db.now files.old files.new }
+    ensures log { TellsOfLog (F.copied files.new db.now store) (stream (E.contents errors.old) (E.contents errors.new)) }
+{
+    if files.close(db, store).is_err() {
+        let _ = note(errors, LOG_STAYS);
+    }
+}
+
+pub fn refuse_other<O: Write, E: Write>(
+    output: &mut O,
+    errors: &mut E,
+    other: OtherSchema,
+) -> Ending
+    ensures schema { IsSaid Ending.Schema result (O.contents output.old) (O.contents output.new) }
+    ensures why { GetsFront (E.contents errors.old) (E.contents errors.new) (other_line other) }
+{
+    tell_other(errors, other);
+    say(output, Ending::Schema)
+}
+
+/// Opens the store of a path, and tells of its file; or says why it isn't opened.
+fn open_one<K: Keep, F: Files<K>, O: Write, E: Write>(
+    files: &mut F,
+    path: &str,
+    output: &mut O,
+    errors: &mut E,
+) -> Result<K, Ending>
+    ensures opened { IfOk result (λ store. Opens K.Keep F.Files path.now files.old files.new store (stream (E.contents errors.old) (E.contents errors.new)) × (O.contents output.new ≡ O.contents output.old)) }
+    ensures refused { IfErr result (λ ending. RefusesToOpen K.Keep F.Files path.now files.old files.new ending (stream (O.contents output.old) (O.contents output.new)) (stream (E.contents errors.old) (E.contents errors.new))) }
+{
+    let is_new = files.is_absent(path);
+    let others_may_read = files.others_may_read(path);
+    match files.open(path) {
+        Ok(store) => {
+            tell_of_file(errors, is_new, others_may_read);
+            Ok(store)
+        }
+        Err(OpenFault::Schema(other)) => Err(refuse_other(output, errors, other)),
+        Err(OpenFault::Down(cause)) => Err(refuse(output, errors, cause)),
+    }
+}
+
+/// Opens the stores of two paths, the first first; or says why one isn't opened. Where the second isn't, the first is
+/// closed again. Of one path nothing is opened.
+pub fn open_both<K: Keep, F: Files<K>, O: Write, E: Write>(
+    files: &mut F,
+    from: &str,
+    to: &str,
+    output: &mut O,
+    errors: &mut E,
+) -> Result<(K, K), Ending>
+    ensures opened { IfOk result (λ stores. OpensBoth K.Keep F.Files from.now to.now files.old files.new stores.0 stores.1 (stream (E.contents errors.old) (E.contents errors.new)) × (O.contents output.new ≡ O.contents output.old)) }
+    ensures refused { IfErr result (λ ending. RefusesBoth K.Keep F.Files from.now to.now files.old files.new ending (stream (O.contents output.old) (O.contents output.new)) (stream (E.contents errors.old) (E.contents errors.new))) }
+{
+    if from == to {
+        return Err(refuse(output, errors, Cause::InUse));
+    }
+    let source = match open_one(files, from, output, errors) {
+        Ok(source) => source,
+        Err(ending) => return Err(ending),
+    };
+    match open_one(files, to, output, errors) {
+        Ok(target) => Ok((source, target)),
+        Err(ending) => {
+            close_after(files, from, source, errors);
+            Err(ending)
+        }
+    }
+}
+
+/// Closes the stores of two paths, the second first.
+pub fn close_both<K: Keep, F: Files<K>, E: Write>(
+    files: &mut F,
+    from: &str,
+    source: K,
+    to: &str,
+    target: K,
+    errors: &mut E,
+)
+    ensures { ClosesBoth K.Keep F.Files from.now to.now files.old files.new source target (stream (E.contents errors.old) (E.contents errors.new)) }
+{
+    close_after(files, to, target, errors);
+    close_after(files, from, source, errors);
+}

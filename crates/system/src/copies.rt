@@ -1,0 +1,33 @@
+//! An organization is copied from one database to another.
+ghost use Rattle.std.specs.Prelude.{◌≡◌, ◌≢◌, ℕ, List, IfOk, OnErr};
+ghost use Rattle.machine.specs.Effects.{effect};
+ghost use Rattle.machine.specs.Keeping.{Looks};
+ghost use Rattle.program.specs.Moves.{org_copied};
+
+use basis::{Down, OrgName};
+use machine::{AdminAnswer, Keep};
+use pages::PageKey;
+use sqlite::Alter;
+use std::alloc::Global;
+use tables::SqlKeep;
+
+/// Copies an organization from one store to another, in one transaction of the other.
+pub fn copy_between<S: Alter, K: PageKey>(
+    alloc: Global,
+    org: &OrgName,
+    from: &mut SqlKeep<S, K>,
+    to: &mut SqlKeep<S, K>,
+) -> Result<AdminAnswer, Down>
+    ensures source { Looks ⟦<SqlKeep<S, K> as Keep>⟧.rows ⟦<SqlKeep<S, K> as Keep>⟧.clean ⟦<SqlKeep<S, K> as Keep>⟧.sound ⟦<SqlKeep<S, K> as Keep>⟧.shielded from.old from.new }
+    ensures so_far { ⟦<SqlKeep<S, K> as Keep>⟧.clean to.new → ⟦<SqlKeep<S, K> as Keep>⟧.clean to.old }
+    ensures shield { ⟦<SqlKeep<S, K> as Keep>⟧.shielded to.old → ⟦<SqlKeep<S, K> as Keep>⟧.shielded to.new }
+    ensures kept { ⟦<SqlKeep<S, K> as Keep>⟧.clean to.new → ⟦<SqlKeep<S, K> as Keep>⟧.sound to.old → ⟦<SqlKeep<S, K> as Keep>⟧.clean from.new → ⟦<SqlKeep<S, K> as Keep>⟧.sound from.old
+        → ⟦<SqlKeep<S, K> as Keep>⟧.sound to.new }
+    ensures own { ⟦<SqlKeep<S, K> as Keep>⟧.clean to.new → ⟦<SqlKeep<S, K> as Keep>⟧.sound to.old → ⟦<SqlKeep<S, K> as Keep>⟧.clean from.new → ⟦<SqlKeep<S, K> as Keep>⟧.sound from.old
+        → IfOk result (λ answer. effect answer (⟦<SqlKeep<S, K> as Keep>⟧.rows to.new org.now) ≡ org_copied (⟦<SqlKeep<S, K> as Keep>⟧.rows from.old org.now) (⟦<SqlKeep<S, K> as Keep>⟧.rows to.old org.now)) }
+    ensures others { ⟦<SqlKeep<S, K> as Keep>⟧.clean to.new → ⟦<SqlKeep<S, K> as Keep>⟧.sound to.old → ⟦<SqlKeep<S, K> as Keep>⟧.clean from.new → ⟦<SqlKeep<S, K> as Keep>⟧.sound from.old
+        → (o : List ℕ) → o ≢ org.now → ⟦<SqlKeep<S, K> as Keep>⟧.rows to.new o ≡ ⟦<SqlKeep<S, K> as Keep>⟧.rows to.old o }
+    ensures err { ⟦<SqlKeep<S, K> as Keep>⟧.clean to.new → OnErr result ((o : List ℕ) → ⟦<SqlKeep<S, K> as Keep>⟧.rows to.new o ≡ ⟦<SqlKeep<S, K> as Keep>⟧.rows to.old o) }
+{
+    to.copy_from(alloc, org, from)
+}

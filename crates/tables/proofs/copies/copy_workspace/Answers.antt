@@ -1,0 +1,23 @@
+use Rattle.std.proofs.Common.{false, Some, sym, ap, ◌∙◌}
+use Rattle.std.proofs.lemmas.Result.{on_ok_weaker}
+use Rattle.sqlite.specs.Held.{state}
+use Rattle.machine.specs.Workspaces.{new_workspace}
+use Rattle.pages.proofs.Looking.{still_holds}
+use Rattle.tables.proofs.Copying.{never_done, related_in_vain}
+use Rattle.tables.proofs.copies.copy_workspace.Goals as goal
+
+pub returns-in_err-whole-clause-copies : goal.returns-in_err-whole-clause-copies
+returns-in_err-whole-clause-copies g c =
+    let failed = c.from_residual.ensures.0 in
+    (new_workspace (record { runs = record { auto_apply = false }; keep_versions = 0 }), related_in_vain g.S.Store _ c.args.tx.now c.from_residual.result failed, λ clean. never_done _ c.from_residual.result failed)
+
+pub returns-clause-copies : goal.returns-clause-copies
+returns-clause-copies g c =
+    let copied = c.copy_parts.ensures.copies in (
+      copied.0,
+      copied.1,
+      λ clean.
+          let seen = c.in_ok-whole.ensures.sees (c.copy_parts.ensures.looks.so_far clean) in
+          on_ok_weaker c.copy_parts.result
+          (λ told f holds sound. (seen.0 f holds sound).is ∙ ap Some (sym (told f (still_holds (state g.T.Store c.args.from.now) (state g.T.Store c.read_whole.new.conn) seen.1.0 f holds)))) (copied.2 clean),
+    )

@@ -1,0 +1,58 @@
+-- A workspace as its rows stand, and while they come.
+use Rattle.std.specs.Prelude.{◌≡◌, ℕ, Bool, true, false, ◌&&◌, List, map, filter, Option, Some, option_map}
+use Rattle.std.specs.Str.{bytes_eq}
+use Rattle.std.specs.List.{AllByRecursion, list_any}
+use Rattle.sqlite_keyed.specs.Rules.{AreApart}
+use Rattle.basis.specs.declared.rows.RunRow.{RunRow as Run}
+use Rattle.machine.specs.declared.records.Version.{Version}
+use Rattle.machine.specs.declared.records.Workspace.{Workspace}
+use Rattle.statements.specs.declared.rows.Workspace.{Workspace as WorkspaceCells}
+use Rattle.statements.specs.Tables.{Tables}
+use Rattle.statements.specs.Changes.{is_org, is_ws, is_keeping, is_version_of, is_run_of}
+use Rattle.statements.specs.Finds.{workspace_of}
+use Rattle.texts.specs.Texts.{HasSoundPlaces}
+use Rattle.tables.specs.Records.{version_at, workspace_of_cells, keep_at}
+use Rattle.tables.specs.Sound.{IsPlaced, HasText}
+
+abbrev pub is_pair : List ℕ → List ℕ → List ℕ → List ℕ → Bool
+is_pair a b p q = bytes_eq p a && bytes_eq q b
+
+-- what sound tables say of texts
+pub record AreTexts (t : Tables) : Type 0 where
+  pub places : HasSoundPlaces t
+  pub placed : AllByRecursion (IsPlaced t) t.vpages
+  pub texts : AllByRecursion (HasText t) t.versions
+
+-- a workspace has one row, and one of keeping, and no row lacks the one that it belongs to
+pub record AreOwned (t : Tables) : Type 0 where
+  pub wss_apart : AreApart (λ a b. is_ws a.1.org a.1.name b) t.wss
+  pub keepings_apart : AreApart (λ a b. is_keeping a.1.org a.1.ws b) t.keepings
+  pub wss_kept : AllByRecursion (λ x. list_any (is_keeping x.1.org x.1.name) t.keepings ≡ true) t.wss
+  pub wss_owned : AllByRecursion (λ x. list_any (is_org x.1.org) t.orgs ≡ true) t.wss
+  pub keepings_owned : AllByRecursion (λ x. list_any (is_ws x.1.org x.1.ws) t.wss ≡ true) t.keepings
+  pub versions_owned : AllByRecursion (λ x. list_any (is_ws x.1.org x.1.ws) t.wss ≡ true) t.versions
+  pub runs_owned : AllByRecursion (λ x. list_any (is_ws x.1.org x.1.ws) t.wss ≡ true) t.runs
+
+-- ---- as the rows stand
+
+abbrev pub versions_in : Tables → List ℕ → List ℕ → List Version
+versions_in t org ws = map (λ x. version_at t org ws x.1.it) (filter (is_version_of org ws) t.versions)
+
+abbrev pub runs_in : Tables → List ℕ → List ℕ → List Run
+runs_in t org ws = map (λ x. x.1.it) (filter (is_run_of org ws) t.runs)
+
+abbrev pub workspace_of_rows : Tables → List ℕ → List ℕ → Option Workspace
+workspace_of_rows t org ws = option_map (λ (c : WorkspaceCells). workspace_of_cells (keep_at t org ws) c (versions_in t org ws) (runs_in t org ws)) (workspace_of org ws t)
+
+-- The rows of the workspace of this name stand for this one so far, in the order in which they stand: it had none in the tables before.
+-- What sound tables say of texts, and of rows that belong to others, holds; every other workspace is as before, and so are organizations, tokens and the version.
+pub record StandsSoFar (org ws : List ℕ) (w : Workspace) (t u : Tables) : Type 0 where
+  pub metas : u.metas ≡ t.metas
+  pub editions : u.editions ≡ t.editions
+  pub orgs : u.orgs ≡ t.orgs
+  pub tokens : u.tokens ≡ t.tokens
+  pub bounds : u.bounds ≡ t.bounds
+  pub own : workspace_of_rows u org ws ≡ Some w
+  pub others : (a b : List ℕ) → is_pair org ws a b ≡ false → workspace_of_rows u a b ≡ workspace_of_rows t a b
+  pub texts : AreTexts u
+  pub owned : AreOwned u

@@ -1,0 +1,218 @@
+//! An organization is copied from one database to another, row by row, inside one transaction of the other.
+ghost use Rattle.std.specs.Prelude.{◌≡◌, List, [], ◌∷◌, map, Some, ⊤, OnOk, IfOk};
+ghost use Rattle.sqlite.specs.Held.{state};
+ghost use Rattle.sqlite.specs.State.{HasCleanDisk};
+ghost use Rattle.machine.specs.declared.records.Version.{Version as AnyVersion};
+ghost use Rattle.machine.specs.declared.records.Workspace.{Workspace as AnyWorkspace};
+ghost use Rattle.statements.specs.Steps.{Steps, Sees};
+ghost use Rattle.statements.specs.Tables.{Tables, Holds};
+ghost use Rattle.tables.specs.Records.{version_at, workspace_by, workspace_of_cells};
+ghost use Rattle.tables.specs.Sound.{IsSound};
+ghost use Rattle.tables.specs.Inner.Copies.{RelatedSteps, AreMadeBy, released_rows, held_rows, counted_rows, Carries, with_versions, with_runs, Begins};
+
+use crate::steps;
+use crate::wholes::{Whole, read_whole};
+use basis::{Bytes, Holder, KeepCount, LockId, RunRow, VersionRow};
+use machine::{StateText, Version};
+use pages::PageKey;
+use sqlite::{Alter, Connection, Error, Transaction};
+use statements::rows::Workspace;
+use statements::{runs, workspaces};
+use std::alloc::Global;
+
+/// The columns of the table ws that have the next numbers.
+const NEXT_VERSION_COLUMN: usize = 8;
+
+const NEXT_RUN_COLUMN: usize = 9;
+
+/// The ID that was released last, of a workspace that nobody holds.
+fn put_released<S: Alter>(
+    tx: &mut Transaction<'_, S>,
+    org: &str,
+    ws: &str,
+    released: &Option<LockId>,
+) -> Result<(), Error>
+    ensures { RelatedSteps S.Store (AreMadeBy (released_rows org.now ws.now released.now)) tx.old tx.new result }
+{
+    match released {
+        None => Ok(()),
+        Some(id) => workspaces::release_lock(tx, org, ws, id),
+    }
+}
+
+/// Lets the holder hold a workspace that nobody holds.
+fn put_holder<S: Alter>(
+    tx: &mut Transaction<'_, S>,
+    org: &str,
+    ws: &str,
+    holder: &Holder,
+) -> Result<(), Error>
+    ensures { RelatedSteps S.Store (AreMadeBy (held_rows org.now ws.now holder.now)) tx.old tx.new result }
+{
+    match holder {
+        Holder::Nobody => Ok(()),
+        Holder::Lock { id, text } => workspaces::hold_by_lock(tx, org, ws, id, text.as_slice()),
+        Holder::Run(number) => workspaces::hold_by_run(tx, org, ws, *number),
+    }
+}
+
+/// Sets the numbers of the next version and the next run.
+fn put_counts<S: Alter>(
+    tx: &mut Transaction<'_, S>,
+    org: &str,
+    ws: &str,
+    head: &Workspace,
+) -> Result<(), Error>
+    ensures { Steps S.Store (counted_rows org.now ws.now head.now) tx.old tx.new result }
+{
+    let Ok(version) = u32::try_from(head.next_version) else {
+        return Err(Error::IntegralValueOutOfRange(NEXT_VERSION_COLUMN));
+    };
+    let Ok(run) = u32::try_from(head.next_run) else {
+        return Err(Error::IntegralValueOutOfRange(NEXT_RUN_COLUMN));
+    };
+    workspaces::set_next_version(tx, org, ws, version)?;
+    workspaces::set_next_run(tx, org, ws, run)?;
+    Ok(())
+}
+
+/// A workspace comes without its versions and runs. There was none of the name.
+fn put_head<S: Alter>(
+    tx: &mut Transaction<'_, S>,
+    org: &str,
+    ws: &str,
+    head: &Workspace,
+    keep: KeepCount,
+) -> Result<(), Error>
+    ensures { RelatedSteps S.Store (Begins org.now ws.now (workspace_of_cells keep head.now [] [])) tx.old tx.new result }
+{
+    workspaces::add(tx, org, ws, head.runs, keep)?;
+    put_counts(tx, org, ws, head)?;
+    put_released(tx, org, ws, &head.released)?;
+    put_holder(tx, org, ws, &head.holder)
+}
+
+/// A version with a text.
+fn version_of(alloc: Global, head: &VersionRow, text: Bytes) -> Result<Version, Error>
+    ensures { IfOk result (λ version. version ≡ record { number = head.now.number; serial = head.now.serial; lineage = head.now.lineage; created = head.now.created; text = text }) }
+{
+    Ok(Version {
+        number: head.number,
+        serial: head.serial,
+        lineage: head.lineage.clone()?,
+        created: head.created,
+        text: StateText::new(alloc, text)?,
+    })
+}
+
+/// Copies a version, whose text is read in the other database.
+fn copy_version<T: Alter, K: PageKey, S: Alter>(
+    tx: &mut Transaction<'_, S>,
+    alloc: Global,
+    from: &mut Connection<T>,
+    org: &str,
+    ws: &str,
+    head: &VersionRow,
+) -> Result<(), Error>
+    ensures looks { Sees T.Store (λ _ _. ⊤) from.old from.new result }
+    ensures copies { (version : AnyVersion) × RelatedSteps S.Store (Carries org.now ws.now (with_versions (version ∷ []))) tx.old tx.new result
+        × (HasCleanDisk (state T.Store from.new) → OnOk result ((f : Tables) → Holds (state T.Store from.old).now f → version ≡ version_at f org.now ws.now head.now)) }
+{
+    let text = texts::text(alloc, from, org, ws, head.number, head.size)?;
+    let version = version_of(alloc, head, text)?;
+    steps::add::<K, S>(tx, org, ws, &version)
+}
+
+/// Copies versions, one after the other.
+fn copy_versions<T: Alter, K: PageKey, S: Alter>(
+    tx: &mut Transaction<'_, S>,
+    alloc: Global,
+    from: &mut Connection<T>,
+    org: &str,
+    ws: &str,
+    heads: &[VersionRow],
+) -> Result<(), Error>
+    ensures looks { Sees T.Store (λ _ _. ⊤) from.old from.new result }
+    ensures copies { (versions : List AnyVersion) × RelatedSteps S.Store (Carries org.now ws.now (with_versions versions)) tx.old tx.new result
+        × (HasCleanDisk (state T.Store from.new) → OnOk result ((f : Tables) → Holds (state T.Store from.old).now f → versions ≡ map (version_at f org.now ws.now) heads.now)) }
+{
+    'versions: for head in heads {
+        copy_version::<T, K, S>(tx, alloc, from, org, ws, head)?;
+    }
+    Ok(())
+}
+
+/// Adds a run as it stands.
+fn put_run<S: Alter>(
+    tx: &mut Transaction<'_, S>,
+    org: &str,
+    ws: &str,
+    run: &RunRow,
+) -> Result<(), Error>
+    ensures { RelatedSteps S.Store (Carries org.now ws.now (with_runs (run.now ∷ []))) tx.old tx.new result }
+{
+    let key = steps::optional_str(&run.key);
+    let message = run.message.as_str();
+    runs::add(
+        tx,
+        org,
+        ws,
+        run.number,
+        run.plan_only,
+        key,
+        message,
+        run.created,
+        run.status,
+        run.action,
+    )
+}
+
+/// Adds runs, one after the other.
+fn put_runs<S: Alter>(
+    tx: &mut Transaction<'_, S>,
+    org: &str,
+    ws: &str,
+    runs: &[RunRow],
+) -> Result<(), Error>
+    ensures { RelatedSteps S.Store (Carries org.now ws.now (with_runs runs.now)) tx.old tx.new result }
+{
+    'runs: for run in runs {
+        put_run(tx, org, ws, run)?;
+    }
+    Ok(())
+}
+
+/// Copies a workspace that was read but for its texts. There was none of the name.
+fn copy_parts<T: Alter, K: PageKey, S: Alter>(
+    tx: &mut Transaction<'_, S>,
+    alloc: Global,
+    from: &mut Connection<T>,
+    org: &str,
+    ws: &str,
+    whole: &Whole,
+) -> Result<(), Error>
+    ensures looks { Sees T.Store (λ _ _. ⊤) from.old from.new result }
+    ensures copies { (w : AnyWorkspace) × RelatedSteps S.Store (Begins org.now ws.now w) tx.old tx.new result
+        × (HasCleanDisk (state T.Store from.new) → OnOk result ((f : Tables) → Holds (state T.Store from.old).now f
+        → w ≡ workspace_of_cells whole.now.keep whole.now.it (map (version_at f org.now ws.now) whole.now.versions) whole.now.runs)) }
+{
+    put_head(tx, org, ws, &whole.it, whole.keep)?;
+    copy_versions::<T, K, S>(tx, alloc, from, org, ws, whole.versions.as_slice())?;
+    put_runs(tx, org, ws, whole.runs.as_slice())
+}
+
+/// Copies a workspace of an organization. There was none of the name.
+pub(crate) fn copy_workspace<T: Alter, K: PageKey, S: Alter>(
+    tx: &mut Transaction<'_, S>,
+    alloc: Global,
+    from: &mut Connection<T>,
+    org: &str,
+    ws: &str,
+) -> Result<(), Error>
+    ensures looks { Sees T.Store (λ _ _. ⊤) from.old from.new result }
+    ensures copies { (w : AnyWorkspace) × RelatedSteps S.Store (Begins org.now ws.now w) tx.old tx.new result
+        × (HasCleanDisk (state T.Store from.new) → OnOk result ((f : Tables) → Holds (state T.Store from.old).now f → IsSound f → workspace_by f org.now ws.now ≡ Some w)) }
+{
+    let whole = read_whole(alloc, from, org, ws)?;
+    copy_parts::<T, K, S>(tx, alloc, from, org, ws, &whole)
+}

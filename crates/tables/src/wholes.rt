@@ -1,0 +1,51 @@
+//! A workspace is read whole, but for the texts of its versions.
+ghost use Rattle.statements.specs.Steps.{Sees};
+ghost use Rattle.tables.specs.Sound.{IsSound};
+ghost use Rattle.tables.specs.Inner.Copies.{IsWhole};
+
+use basis::numbers::{MAX_KEPT, MAX_NUMBER};
+use basis::{Items, KeepCount, RunRow, VersionRow};
+use sqlite::{Alter, Connection, Error};
+use statements::rows::Workspace;
+use statements::{keepings, runs, versions, workspaces};
+use std::alloc::Global;
+
+/// The most versions of a workspace.
+const MOST_VERSIONS: usize = MAX_KEPT as usize;
+
+/// The most runs of a workspace: each has a number of its own.
+const MOST_RUNS: usize = MAX_NUMBER as usize;
+
+/// A workspace without the texts of its versions.
+#[derive(Drop)]
+pub(crate) struct Whole {
+    pub it: Workspace,
+    pub keep: KeepCount,
+    pub versions: Items<VersionRow>,
+    pub runs: Items<RunRow>,
+}
+
+/// Reads a workspace of an organization. It is an error where there is none of the name.
+pub(crate) fn read_whole<S: Alter>(
+    alloc: Global,
+    conn: &mut Connection<S>,
+    org: &str,
+    ws: &str,
+) -> Result<Whole, Error>
+    ensures { Sees S.Store (λ whole f. IsSound f → IsWhole org.now ws.now f whole.it whole.keep whole.versions whole.runs) conn.old conn.new result }
+{
+    let Some(it) = workspaces::find(conn, org, ws)? else {
+        return Err(Error::QueryReturnedNoRows);
+    };
+    let Some(keep) = keepings::find(conn, org, ws)? else {
+        return Err(Error::QueryReturnedNoRows);
+    };
+    let versions = versions::list(alloc, conn, org, ws, 0, MOST_VERSIONS)?;
+    let runs = runs::list(alloc, conn, org, ws, 0, MOST_RUNS)?;
+    Ok(Whole {
+        it,
+        keep,
+        versions,
+        runs,
+    })
+}

@@ -1,0 +1,336 @@
+#!/usr/bin/env python3
+"""Moves an organization from one file to another in the middle of its history, and looks at what comes of it.
+
+    python3 tools/moves.py CUSTODY    the program as `rt ci` or `rt run` leaves it
+
+The requests of the story that history.py makes are asked of a service that nothing is moved from. Behind each tenth its file
+is taken, the organization acme is copied from it to a new file (`org-copy`), and what follows is asked of two services: what
+has a token of acme of the one over the new file, all else of the one over the old. Each reply has to be the one that the
+first service gave, but for the moments of what came behind the copy. The rows of acme have to be the same in both files, by
+SQLite's own library, and all others as before.
+
+The words of `org-copy` and `compact` are refused as they have to be. A copy is killed at each call that changes a file
+(ended.c): the organization is there whole or not at all, the other file has what it had, and sent again it is done. So is
+`compact`, which goes on. What is compacted has the same rows, sums, and no free pages but those few that the last page of a
+text leaves.
+
+Each request for memory of either is refused in turn (refuse.c): it ends as it is due, or with `refused down`, when of an
+organization nothing was copied; and sent again it is done.
+
+It prints a line for each thing that holds, and ends with status 1 at the first that doesn't.
+"""
+
+import os
+import re
+import shutil
+import sqlite3
+import sys
+import tempfile
+
+import refusals
+import stories
+from files import IN_USE, Service
+from program import NEW_FILE, Program, Wrong, compiled, exchanged, request, said
+
+STORY = "a long history of two organizations that share texts"
+# How many requests stand between two files that are taken.
+STRIDE = 10
+TOKEN = re.compile(rb"\r\nAuthorization: Bearer ([a-z0-9-]+)\.")
+CREATED = re.compile(rb'"created":(\d+)')
+KILLED = -9
+# (a file that memory didn't suffice to look at may be the one that is open: no other is opened then)
+UNSEEN = b"custody: the disk or the system refused\n"
+CAUSES = [*refusals.CAUSES, UNSEEN, b"custody: memory or a store refused before all was copied: the same command goes on from there\n"]
+# A page of a text whose uses are counted once more leaves the file's pages that its bytes were in; the next one takes them.
+MOST_FREE = 4
+# The tables, each with the column that names the organization; of a text its pages, with their bytes.
+ROWS = {
+    "org": "SELECT name, cap FROM org WHERE name = ?",
+    "token": "SELECT name, digest, role FROM token WHERE org = ?",
+    "bound": "SELECT name, until, prefix FROM bound WHERE org = ?",
+    "ws": "SELECT name, auto, kind, lock_id, lock_text, run, released, next_version, next_run FROM ws WHERE org = ?",
+    "keeping": "SELECT ws, keep FROM keeping WHERE org = ?",
+    "version": "SELECT ws, number, serial, lineage, created, size FROM version WHERE org = ?",
+    "run": "SELECT ws, number, plan_only, rkey, message, created, status, action FROM run WHERE org = ?",
+    "text": "SELECT ws, number, place, pkey, bytes FROM vpage JOIN page USING (pkey, twin) WHERE org = ?",
+}
+
+
+def opened(path):
+    return sqlite3.connect("file:%s?mode=ro" % path, uri=True)
+
+
+def rows_of(path, org):
+    """What a file has of an organization, by table, in an order that no rowid makes."""
+    with opened(path) as conn:
+        found = {table: sorted(conn.execute(text, (org,)), key=repr) for table, text in ROWS.items()}
+    conn.close()
+    return found
+
+
+def orgs_in(path):
+    with opened(path) as conn:
+        found = [name for (name,) in conn.execute("SELECT name FROM org ORDER BY name")]
+    conn.close()
+    return found
+
+
+def all_rows(path):
+    return {org: rows_of(path, org) for org in orgs_in(path)}
+
+
+def look_at_form(what, path):
+    """SQLite finds the file whole; each page has the uses that name it, no page is free, and each ends with a sum."""
+    with opened(path) as conn:
+        said("the form of " + what, conn.execute("PRAGMA integrity_check").fetchall(), [("ok",)])
+        said("the references of " + what, conn.execute("PRAGMA foreign_key_check").fetchall(), [])
+        uses = "SELECT count(*) FROM page WHERE uses <> (SELECT count(*) FROM vpage WHERE vpage.pkey = page.pkey AND vpage.twin = page.twin)"
+        said("pages of other uses in " + what, conn.execute(uses).fetchall(), [(0,)])
+        ((free,),) = conn.execute("PRAGMA freelist_count")
+    conn.close()
+    with open(path, "rb") as file:
+        head = file.read(100)
+    said("the bytes that each page keeps for its sum in " + what, head[20], 8)
+    return free
+
+
+def asked():
+    """The requests of the history, each with the organization whose token it has, and the words that come before it."""
+    steps = stories.steps_of(stories.all_stories()[STORY])
+    words = [sent for _, sent, _ in steps if isinstance(sent, str)]
+    return words, [(TOKEN.search(sent).group(1), sent) for _, sent, _ in steps if isinstance(sent, bytes)]
+
+
+def begin(program, path, words):
+    for line in words:
+        parts = line.split(" ")
+        given = b""
+        if parts[0] == "token-add":
+            given, parts = parts[-1].encode() + b"\n", parts[:-1]
+        status, output, _ = program.run([parts[0], "--db", path, *parts[1:]], given)
+        said(line, (status, output), (0, b"ok\n"))
+
+
+def ask(program, path, requests):
+    service = Service(program, path, len(requests)) if requests else None
+    try:
+        replies = [exchanged(service.port, sent) for _, sent in requests]
+    except BaseException:
+        service.kill()
+        raise
+    if service:
+        service.ends()
+    return replies
+
+
+def small(program):
+    """A file with two organizations, of which one has a bit of everything: tokens, a lock, runs, versions that share pages."""
+    words, requests = asked()
+    path = program.folder + "/small.db"
+    begin(program, path, [*words, "token-add --until 4000000000 --prefix ne acme ends write endsendsendsends"])
+    lock = b'{"ID":"held"}'
+    texts = [b'{"serial":%d,"x":"%s"}' % (serial, b"x" * 20000) for serial in (1, 2)]
+    sent = [request(b"PUT /v1/acme/workspaces/%s HTTP/1.1" % name) for name in (b"net", b"app", b"old")]
+    sent += [request(b"POST /v1/acme/state/net HTTP/1.1", text) for text in texts]
+    sent += [request(b"LOCK /v1/acme/state/net HTTP/1.1", lock), request(b"UNLOCK /v1/acme/state/net HTTP/1.1", lock)]
+    sent += [request(b"POST /v1/acme/runs/app HTTP/1.1"), request(b"POST /v1/acme/runs/app/1/actions/fail HTTP/1.1"), request(b"POST /v1/acme/runs/app HTTP/1.1")]
+    sent += [request(b"POST /v1/acme/state/old HTTP/1.1", texts[0]), request(b"DELETE /v1/acme/state/old HTTP/1.1")]
+    sent += [request(b"LOCK /v1/acme/state/net HTTP/1.1", b'{"ID":"x9"}')]
+    for one, came in zip(sent, ask(program, path, [(b"acme", one.replace(b"adminadminadmin1", secret_of(words))) for one in sent])):
+        said("the reply to %s" % one[:60], came[:12], b"HTTP/1.1 200")
+    return path
+
+
+def secret_of(words):
+    """The secret of an admin of acme."""
+    return next(line.split(" ")[4].encode() for line in words if line.startswith("token-add acme") and line.split(" ")[3] == "admin")
+
+
+def masked(reply):
+    """A reply without moments: what came behind a copy came later than it did where nothing was moved."""
+    return CREATED.sub(b'"created":AT', reply)
+
+
+def look_at_history(program):
+    words, requests = asked()
+    path, new = program.folder + "/stays.db", program.folder + "/moved.db"
+    begin(program, path, words)
+    replies, taken = [], []
+    for at in range(0, len(requests), STRIDE):
+        replies += ask(program, path, requests[at : at + STRIDE])
+        taken.append("%s/taken%d.db" % (program.folder, at + STRIDE))
+        shutil.copy(path, taken[-1])
+    print("right: %d requests were asked of a service that nothing is moved from" % len(requests))
+    for number, old in enumerate(taken[:-1]):
+        before = all_rows(old)
+        said("a copy", program.run(["org-copy", "--db", old, "--to", new, "acme"]), (0, b"ok\n", NEW_FILE))
+        said("what the copied file has", all_rows(old), before)
+        said("what the new file has", all_rows(new), {"acme": before["acme"]})
+        look_at_form("the new file", new)
+        behind = [(place, org, sent) for place, (org, sent) in enumerate(requests)][(number + 1) * STRIDE :]
+        for file, is_ours in [(new, lambda org: org == b"acme"), (old, lambda org: org != b"acme")]:
+            ours = [(place, (org, sent)) for place, org, sent in behind if is_ours(org)]
+            for (place, (_, sent)), came in zip(ours, ask(program, file, [it for _, it in ours])):
+                said("the reply to %s" % sent[:60], masked(came), masked(replies[place]))
+        forget(new, old)
+    print("right: %d times acme was moved on its way, and each reply is the one that it got where it stayed" % (len(taken) - 1))
+    return path
+
+
+def forget(*paths):
+    for path in paths:
+        for file in (path, path + "-wal"):
+            if os.path.exists(file):
+                os.remove(file)
+
+
+def look_at_words(program, path):
+    """What is refused changes nothing."""
+    new, before = program.folder + "/to.db", all_rows(path)
+    copy = ["org-copy", "--db", path, "--to", new]
+    program.is_due("an organization that isn't there isn't copied", [*copy, "gamma"], 1, b"refused absent\n", NEW_FILE)
+    said("what a file has that was made for it", all_rows(new), {})
+    program.is_due("one that is there is copied", [*copy, "acme"], 0, b"ok\n")
+    there = all_rows(new)
+    program.is_due("and not twice", [*copy, "acme"], 1, b"refused exists\n")
+    said("what stands there then", all_rows(new), there)
+    for words in ([*copy, "Acme"], copy, [*copy[:-2], "acme"], ["compact", *copy[1:], "acme"]):
+        said("words that aren't those of a command", program.run(words)[:2], (2, b"refused usage\n"))
+    os.symlink(path, program.folder + "/link.db")
+    for other in (path, program.folder + "/link.db", program.folder + "/../" + os.path.basename(program.folder) + "/" + os.path.basename(path)):
+        for words in (["org-copy", "--db", path, "--to", other, "acme"], ["compact", "--db", path, "--to", other]):
+            said("a file copied to itself", program.run(words), (3, b"refused down\n", IN_USE))
+    print("right: a file isn't copied to itself, by whatever path")
+    os.mkdir(program.folder + "/none")
+    for words in (["org-copy", "--db", path, "--to", program.folder + "/none", "acme"], ["compact", "--db", path, "--to", program.folder + "/none"]):
+        status, output, _ = program.run(words)
+        said("a copy to what is no file", (status, output), (3, b"refused down\n"))
+    with open(program.folder + "/other.db", "wb"):
+        pass
+    with sqlite3.connect(program.folder + "/other.db") as conn:
+        conn.execute("CREATE TABLE org (a)")
+    conn.close()
+    status, output, _ = program.run(["org-copy", "--db", path, "--to", program.folder + "/other.db", "acme"])
+    said("a copy to a file of another schema", (status, output), (3, b"refused schema\n"))
+    said("what the copied file has", all_rows(path), before)
+    print("right: where the other file doesn't open nothing is copied")
+    forget(new)
+
+
+def look_at_kills(program, path):
+    """A copy is killed at each call that changes a file: it is whole or it isn't there."""
+    env = {**os.environ, "LD_PRELOAD": compiled("ended", program.folder)}
+    before = all_rows(path)
+    for words, parts in [(["org-copy"], ["acme"]), (["compact"], [])]:
+        kills, seen = 0, set()
+        while True:
+            old, new = program.folder + "/from.db", program.folder + "/to.db"
+            shutil.copy(path, old)
+            words = [words[0], "--db", old, "--to", new, *parts]
+            status, output, _ = program.run(words, env={**env, "ENDS": str(kills + 1)})
+            said("what the copied file has", all_rows(old), before)
+            if status != KILLED:
+                said("a copy that isn't killed", (status, output), (0, b"ok\n"))
+                break
+            kills += 1
+            has = all_rows(new) if has_tables(new) else {}
+            seen.add(tuple(has))
+            for org, rows in has.items():
+                said("an organization of a copy that was killed", rows, before[org])
+            status, output, _ = program.run(words)
+            again = (1, b"refused exists\n") if words[0] == "org-copy" and has else (0, b"ok\n")
+            said("a copy behind one that was killed", (status, output), again)
+            said("what stands there then", all_rows(new), {org: before[org] for org in (parts or before)})
+            look_at_form("it", new)
+            forget(old, new)
+        due = {(), ("acme",)} if parts else {(), ("acme",), ("acme", "beta")}
+        said("what a copy that is killed leaves", seen, due)
+        free = look_at_form("it", program.folder + "/to.db")
+        if free > MOST_FREE:
+            raise Wrong("it has %d free pages" % free)
+        print("right: %s was killed at each of %d calls, and left an organization whole or not at all" % (words[0], kills))
+        forget(program.folder + "/from.db", program.folder + "/to.db")
+
+
+def has_tables(path):
+    """Whether a file has our tables: one that is being made has another first byte until it is whole."""
+    if not os.path.exists(path):
+        return False
+    with open(path, "rb") as file:
+        if file.read(16) != b"SQLite format 3\0":
+            return False
+    with opened(path) as conn:
+        found = conn.execute("SELECT count(*) FROM sqlite_schema WHERE name = 'keeping'").fetchall()
+    conn.close()
+    return found == [(1,)]
+
+
+class Both(refusals.File):
+    """Two files with their logs, of which a copy is made from the first to the second."""
+
+    def __init__(self, folder):
+        super().__init__(folder)
+        self.parts = ["%s/%s.db%s" % (folder, name, end) for name in ("from", "to") for end in ("", "-wal")]
+
+    def copied(self, room, found):
+        """The files once more in another folder: whose locks the program has."""
+        for path, part in zip(self.parts, found):
+            if part is not None:
+                with os.fdopen(os.open("%s/%s" % (room, os.path.basename(path)), os.O_WRONLY | os.O_CREAT, 0o600), "wb") as file:
+                    file.write(part)
+        return [all_rows(path) if has_tables(path) else {} for path in (room + "/from.db", room + "/to.db")]
+
+
+def look_at_memory(program, path):
+    """Each request for memory is refused in turn."""
+    library = compiled("refuse", program.folder)
+    for words, orgs in [(["org-copy", "--db", "from.db", "--to", "to.db", "acme"], ["acme"]), (["compact", "--db", "from.db", "--to", "to.db"], ["acme", "beta"])]:
+        with tempfile.TemporaryDirectory(dir=program.folder) as folder:
+            shutil.copy(path, folder + "/from.db")
+            before, files, counts, good = all_rows(path), Both(folder), refusals.Counts(), []
+
+            def judge(status, out, errors):
+                is_right = (status, out) == (0, b"ok\n")
+                if not is_right and (status, out) != refusals.REFUSED:
+                    raise refusals.Wrong("status %d, %s, %s" % (status, out, errors))
+                told = [line for line in errors.splitlines(True) if line not in (NEW_FILE, refusals.LOG_STAYS)]
+                if len(told) != (0 if is_right else 1) or any(line not in CAUSES for line in told):
+                    raise refusals.Wrong("after %s the error stream has %s" % (out, errors))
+                found = files.bytes()
+                if (is_right, found) not in good:
+                    with tempfile.TemporaryDirectory(dir=program.folder) as room:
+                        left, came = files.copied(room, found)
+                        is_due = came == {org: before[org] for org in orgs} if is_right else all(before[org] == rows for org, rows in came.items())
+                        if left != before or not is_due or not is_right and len(orgs) == 1 and came:
+                            raise refusals.Wrong("after %s the files have %s and %s" % (out, list(left), list(came)))
+                        if not is_right and program.run(words, under=["env", "-C", room])[:2] != (0, b"ok\n"):
+                            raise refusals.Wrong("it isn't done again with memory")
+                    good.append((is_right, found))
+                return is_right
+
+            try:
+                with refusals.Program(library, "request", [program.path, *words], folder) as run:
+                    refusals.refuse_run(run, counts, judge, files)
+            except refusals.Wrong as wrong:
+                raise Wrong(wrong)
+        print("right: %s with each of %d requests for memory refused" % (words[0], sum(counts.values())))
+
+
+def main():
+    if len(sys.argv) != 2:
+        sys.exit(__doc__)
+    with tempfile.TemporaryDirectory() as folder:
+        program = Program(sys.argv[1], folder)
+        try:
+            path = look_at_history(program)
+            look_at_words(program, path)
+            some = small(program)
+            look_at_kills(program, some)
+            look_at_memory(program, some)
+        except Wrong as wrong:
+            print("WRONG:", wrong)
+            sys.exit(1)
+
+
+if __name__ == "__main__":
+    main()
