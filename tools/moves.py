@@ -281,39 +281,53 @@ class Both(refusals.File):
         return [all_rows(path) if has_tables(path) else {} for path in (room + "/from.db", room + "/to.db")]
 
 
+class Refused:
+    """Two files of which a copy is made, a request for memory refused: what comes of it, and whether it is due."""
+
+    def __init__(self, program, words, orgs, path, folder):
+        shutil.copy(path, folder + "/from.db")
+        self.program, self.words, self.files = program, words, Both(folder)
+        self.before = all_rows(path)
+        self.whole, self.is_one = {org: self.before[org] for org in orgs}, len(orgs) == 1
+        # What was looked at already.
+        self.good = []
+
+    def judge(self, status, out, errors):
+        is_right = (status, out) == (0, b"ok\n")
+        if not is_right and (status, out) != refusals.REFUSED:
+            raise refusals.Wrong("status %d, %s, %s" % (status, out, errors))
+        told = [line for line in errors.splitlines(True) if line not in (NEW_FILE, refusals.LOG_STAYS)]
+        if len(told) != (0 if is_right else 1) or any(line not in CAUSES for line in told):
+            raise refusals.Wrong("after %s the error stream has %s" % (out, errors))
+        found = self.files.bytes()
+        if (is_right, found) not in self.good:
+            self.look_at(is_right, found)
+            self.good.append((is_right, found))
+        return is_right
+
+    def look_at(self, is_right, found):
+        """The rows of both files, and the same words once more, with memory."""
+        with tempfile.TemporaryDirectory(dir=self.program.folder) as room:
+            left, came = self.files.copied(room, found)
+            is_due = came == self.whole if is_right else all(self.before[org] == rows for org, rows in came.items())
+            if left != self.before or not is_due or not is_right and self.is_one and came:
+                raise refusals.Wrong("the files have %s and %s" % (list(left), list(came)))
+            if not is_right and self.program.run(self.words, under=["env", "-C", room])[:2] != (0, b"ok\n"):
+                raise refusals.Wrong("it isn't done again with memory")
+
+
 def look_at_memory(program, path):
     """Each request for memory is refused in turn."""
-    library = compiled("refuse", program.folder)
+    library, counts = compiled("refuse", program.folder), refusals.Counts()
     for words, orgs in [(["org-copy", "--db", "from.db", "--to", "to.db", "acme"], ["acme"]), (["compact", "--db", "from.db", "--to", "to.db"], ["acme", "beta"])]:
         with tempfile.TemporaryDirectory(dir=program.folder) as folder:
-            shutil.copy(path, folder + "/from.db")
-            before, files, counts, good = all_rows(path), Both(folder), refusals.Counts(), []
-
-            def judge(status, out, errors):
-                is_right = (status, out) == (0, b"ok\n")
-                if not is_right and (status, out) != refusals.REFUSED:
-                    raise refusals.Wrong("status %d, %s, %s" % (status, out, errors))
-                told = [line for line in errors.splitlines(True) if line not in (NEW_FILE, refusals.LOG_STAYS)]
-                if len(told) != (0 if is_right else 1) or any(line not in CAUSES for line in told):
-                    raise refusals.Wrong("after %s the error stream has %s" % (out, errors))
-                found = files.bytes()
-                if (is_right, found) not in good:
-                    with tempfile.TemporaryDirectory(dir=program.folder) as room:
-                        left, came = files.copied(room, found)
-                        is_due = came == {org: before[org] for org in orgs} if is_right else all(before[org] == rows for org, rows in came.items())
-                        if left != before or not is_due or not is_right and len(orgs) == 1 and came:
-                            raise refusals.Wrong("after %s the files have %s and %s" % (out, list(left), list(came)))
-                        if not is_right and program.run(words, under=["env", "-C", room])[:2] != (0, b"ok\n"):
-                            raise refusals.Wrong("it isn't done again with memory")
-                    good.append((is_right, found))
-                return is_right
-
+            refused = Refused(program, words, orgs, path, folder)
             try:
                 with refusals.Program(library, "request", [program.path, *words], folder) as run:
-                    refusals.refuse_run(run, counts, judge, files)
+                    many = refusals.refuse_run(run, counts, refused.judge, refused.files)
             except refusals.Wrong as wrong:
                 raise Wrong(wrong)
-        print("right: %s with each of %d requests for memory refused" % (words[0], sum(counts.values())))
+        print("right: %s with each of %d requests for memory refused" % (words[0], many))
 
 
 def main():
