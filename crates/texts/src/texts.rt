@@ -43,6 +43,10 @@ fn piece_at(text: &[u8], place: u64) -> &[u8]
     piece
 }
 
+/// How many pages in a row may differ from those at their places in the version before. Behind them none is looked at: where
+/// something was put in, all that follows has moved.
+const MOST_MOVED: u64 = 4;
+
 /// The page at a place of a version that is looked at, if one is. None is looked for at the first place: it holds the serial.
 fn look_at<S: Alter>(
     tx: &mut Transaction<'_, S>,
@@ -50,6 +54,7 @@ fn look_at<S: Alter>(
     ws: &str,
     before: &Option<Number>,
     place: u64,
+    moved: u64,
 ) -> Result<Option<PageId>, Error>
     requires place_fits { place < 2 ^ 63 }
     ensures same_reference { tx.new.conn.ghost_name ≡ tx.old.conn.ghost_name }
@@ -60,7 +65,7 @@ fn look_at<S: Alter>(
     match before {
         None => Ok(None),
         Some(before) => {
-            if place == 0 {
+            if place == 0 || moved >= MOST_MOVED {
                 Ok(None)
             } else {
                 find_inside(tx, org, ws, *before, place)
@@ -76,6 +81,20 @@ fn key_in(found: &Option<PageId>) -> Option<&[u8; 32]> {
     }
 }
 
+/// How many pages in a row differ, by the one that was looked at and the one that was put.
+fn moved_after(moved: u64, found: &Option<PageId>, put: &PageId) -> u64 {
+    match found {
+        None => moved,
+        Some(found) => {
+            if found.key == put.key {
+                0
+            } else {
+                moved.saturating_add(1)
+            }
+        }
+    }
+}
+
 /// Puts a piece of a version's text, at a place that has none. Nothing else adds a row to the table vpage.
 /// It needs no key of its own where it is the piece at the same place of the version before.
 fn add_piece<K: PageKey, S: Alter>(
@@ -86,12 +105,14 @@ fn add_piece<K: PageKey, S: Alter>(
     before: &Option<Number>,
     place: u64,
     piece: &[u8],
+    moved: &mut u64,
 ) -> Result<(), Error>
     requires place_fits { place < 2 ^ 63 }
     ensures { (key : List ℕ) × AddsPiece S.Store K.key_of key org.now ws.now number place piece.now tx.old tx.new result }
 {
-    let found = look_at(tx, org, ws, before, place)?;
+    let found = look_at(tx, org, ws, before, place, *moved)?;
     let id = put::<K, S>(tx, key_in(&found), piece)?;
+    *moved = moved_after(*moved, &found, &id);
     add(tx, org, ws, number, place, id.key.as_slice(), id.twin)
 }
 
@@ -111,8 +132,10 @@ pub fn add_text<K: PageKey, S: Alter>(
     ensures shield { (state S.Store tx.old.conn.now).IsShielded → (state S.Store tx.new.conn.now).IsShielded }
 {
     let pages = pages_for(text.len() as u64);
+    let mut moved = 0;
     'places: for place in 0..pages {
-        add_piece::<K, S>(tx, org, ws, number, &before, place, piece_at(text, place))?;
+        let piece = piece_at(text, place);
+        add_piece::<K, S>(tx, org, ws, number, &before, place, piece, &mut moved)?;
     }
     Ok(())
 }

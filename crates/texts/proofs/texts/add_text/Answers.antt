@@ -26,7 +26,7 @@ places-preserved g c =
     let n = c.args.number in
     let text = c.args.text.now in
     let place = c.places.place in
-    let piece = c.piece_at.result.now in
+    let piece = c.piece_at-piece.result.now in
     let keys = c.places.invariant.1.0 in
     let key = c.in_ok-add_piece.ensures.0 in
     let key_of = g.K.PageKey.key_of in
@@ -39,10 +39,10 @@ places-preserved g c =
         keys_to keys place key,
         writes_more (pieces_added keys org ws n text place) (piece_placed key org ws n place piece) (pieces_added (keys_to keys place key) org ws n text (place + 1))
             (λ t. TwinsFit keys org ws n text place t × KeysFit key_of keys org ws n text place t) (λ t. (twin_for key piece t < twin_limit) × IsKeyFor key_of piece key t)
-            (λ t. TwinsFit (keys_to keys place key) org ws n text (place + 1) t × KeysFit key_of (keys_to keys place key) org ws n text (place + 1) t) s0 s1 s2 (λ t. ap (λ p. piece_placed key org ws n place p (pieces_added keys org ws n text place t)) c.piece_at.ensures ∙ added_more org ws n t keys key text place)
+            (λ t. TwinsFit (keys_to keys place key) org ws n text (place + 1) t × KeysFit key_of (keys_to keys place key) org ws n text (place + 1) t) s0 s1 s2 (λ t. ap (λ p. piece_placed key org ws n place p (pieces_added keys org ws n text place t)) c.piece_at-piece.ensures ∙ added_more org ws n t keys key text place)
             (λ t fit low. (
-              fit_more org ws n t keys key text place fit.0 (subst (λ p. twin_for key p (pieces_added keys org ws n text place t) < twin_limit) c.piece_at.ensures low.0),
-              keyed_more org ws n t keys key text place key_of fit.1 (subst (λ p. IsKeyFor key_of p key (pieces_added keys org ws n text place t)) c.piece_at.ensures low.1),
+              fit_more org ws n t keys key text place fit.0 (subst (λ p. twin_for key p (pieces_added keys org ws n text place t) < twin_limit) c.piece_at-piece.ensures low.0),
+              keyed_more org ws n t keys key text place key_of fit.1 (subst (λ p. IsKeyFor key_of p key (pieces_added keys org ws n text place t)) c.piece_at-piece.ensures low.1),
             )) c.places.invariant.1.1 one.steps.so_far one.steps.shield
             (λ clean inside. ((one.steps.changed clean inside).0, λ t holds. (one.fits clean t holds, one.keyed clean t holds))),
       ),
