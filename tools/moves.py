@@ -4,18 +4,19 @@
     python3 tools/moves.py CUSTODY    the program as `rt ci` or `rt run` leaves it
 
 The requests of the story that history.py makes are asked of a service that nothing is moved from. Behind each tenth its file
-is taken, the organization acme is copied from it to a new file (`org-copy`), and what follows is asked of two services: what
-has a token of acme of the one over the new file, all else of the one over the old. Each reply has to be the one that the
-first service gave, but for the moments of what came behind the copy. The rows of acme have to be the same in both files, by
-SQLite's own library, and all others as before.
+is taken, the organization acme is copied from it to a new file (`org-copy`) and removed at the old one (`org-remove`), and
+what follows is asked of two services: what has a token of acme of the one over the new file, all else of the one over the
+old. Each reply has to be the one that the first service gave, but for the moments of what came behind the copy. The rows of
+acme have to be in the new file as they were in the old one, by SQLite's own library, and all others as before. Behind the
+last request acme is copied back.
 
-The words of `org-copy` and `compact` are refused as they have to be. A copy is killed at each call that changes a file
-(ended.c): the organization is there whole or not at all, the other file has what it had, and sent again it is done. So is
+The words of the three commands are refused as they have to be. A copy and a removal are killed at each call that changes a
+file (ended.c): the organization is there whole or not at all, all else is as it was, and sent again it is done. So is
 `compact`, which goes on. What is compacted has the same rows, sums, and no free pages but those few that the last page of a
 text leaves.
 
-Each request for memory of either is refused in turn (refuse.c): it ends as it is due, or with `refused down`, when of an
-organization nothing was copied; and sent again it is done.
+Each request for memory of `org-copy` and `compact` is refused in turn (refuse.c): it ends as it is due, or with `refused
+down`, when of an organization nothing was copied; and sent again it is done. (Those of `org-remove`: refusals.py.)
 
 It prints a line for each thing that holds, and ends with status 1 at the first that doesn't.
 """
@@ -166,12 +167,17 @@ def look_at_history(program):
         said("a copy", program.run(["org-copy", "--db", old, "--to", new, "acme"]), (0, b"ok\n", NEW_FILE))
         said("what the copied file has", all_rows(old), before)
         said("what the new file has", all_rows(new), {"acme": before["acme"]})
-        look_at_form("the new file", new)
+        said("a removal", program.run(["org-remove", "--db", old, "--force", "acme"]), (0, b"ok\n", b""))
+        said("what the old file has then", all_rows(old), {"beta": before["beta"]})
+        for what, file in [("the new file", new), ("the old file", old)]:
+            look_at_form(what, file)
         behind = [(place, org, sent) for place, (org, sent) in enumerate(requests)][(number + 1) * STRIDE :]
         for file, is_ours in [(new, lambda org: org == b"acme"), (old, lambda org: org != b"acme")]:
             ours = [(place, (org, sent)) for place, org, sent in behind if is_ours(org)]
             for (place, (_, sent)), came in zip(ours, ask(program, file, [it for _, it in ours])):
                 said("the reply to %s" % sent[:60], masked(came), masked(replies[place]))
+        said("a copy back", program.run(["org-copy", "--db", new, "--to", old, "acme"]), (0, b"ok\n", b""))
+        said("what is copied back", rows_of(old, "acme"), rows_of(new, "acme"))
         forget(new, old)
     print("right: %d times acme was moved on its way, and each reply is the one that it got where it stayed" % (len(taken) - 1))
     return path
@@ -215,6 +221,57 @@ def look_at_words(program, path):
     said("what the copied file has", all_rows(path), before)
     print("right: where the other file doesn't open nothing is copied")
     forget(new)
+
+
+def look_at_removals(program, path):
+    """An organization goes with all that it has and nothing else, where it isn't in use or by force."""
+    file, before = program.folder + "/from.db", all_rows(path)
+    left = {org: rows for org, rows in before.items() if org != "acme"}
+    shutil.copy(path, file)
+    remove = ["org-remove", "--db", file]
+    program.is_due("one that isn't there isn't removed", [*remove, "gamma"], 1, b"refused absent\n")
+    program.is_due("nor one in which a lock holds", [*remove, "acme"], 1, b"refused in-use\n")
+    for words in (remove, [*remove, "--force"], [*remove, "Acme"], [*remove, "acme", "beta"]):
+        said("words that aren't those of a removal", program.run(words)[:2], (2, b"refused usage\n"))
+    said("what the file has", all_rows(file), before)
+    program.is_due("by force it is", [*remove, "--force", "acme"], 0, b"ok\n")
+    said("what the file has then", all_rows(file), left)
+    look_at_form("it", file)
+    _, requests = asked()
+    (came,) = ask(program, file, [next(one for one in requests if one[0] == b"acme")])
+    said("the reply to whom it had let in", came[:12], b"HTTP/1.1 401")
+    program.is_due("and not twice", [*remove, "--force", "acme"], 1, b"refused absent\n")
+    program.is_due("its name is added anew", ["org-add", "--db", file, "--limit", "3", "acme"], 0, b"ok\n")
+    program.is_due("and has nothing", ["org-list", "--db", file], 0, b"acme 0 3\nbeta %d %d\n" % (len(left["beta"]["ws"]), left["beta"]["org"][0][1]))
+    program.is_due("nor is it in use", [*remove, "acme"], 0, b"ok\n")
+    said("what the file has in the end", all_rows(file), left)
+    forget(file)
+
+
+def look_at_killed_removals(program, path):
+    """A removal is killed at each call that changes a file: the organization is there whole or not at all."""
+    env = {**os.environ, "LD_PRELOAD": compiled("ended", program.folder)}
+    file, before = program.folder + "/from.db", all_rows(path)
+    left = {org: rows for org, rows in before.items() if org != "acme"}
+    remove = ["org-remove", "--db", file, "--force", "acme"]
+    kills, seen = 0, set()
+    while True:
+        shutil.copy(path, file)
+        status, output, _ = program.run(remove, env={**env, "ENDS": str(kills + 1)})
+        has = all_rows(file)
+        said("what a removal that was killed leaves", has, before if "acme" in has else left)
+        look_at_form("it", file)
+        if status != KILLED:
+            said("a removal that isn't killed", (status, output), (0, b"ok\n"))
+            break
+        kills += 1
+        seen.add("acme" in has)
+        said("a removal behind one that was killed", program.run(remove)[:2], (0, b"ok\n") if "acme" in has else (1, b"refused absent\n"))
+        said("what the file has then", all_rows(file), left)
+        forget(file)
+    said("what a removal that is killed leaves", seen, {True, False})
+    print("right: org-remove was killed at each of %d calls, and left an organization whole or not at all" % kills)
+    forget(file)
 
 
 def look_at_kills(program, path):
@@ -339,7 +396,9 @@ def main():
             path = look_at_history(program)
             look_at_words(program, path)
             some = small(program)
+            look_at_removals(program, some)
             look_at_kills(program, some)
+            look_at_killed_removals(program, some)
             look_at_memory(program, some)
         except Wrong as wrong:
             print("WRONG:", wrong)

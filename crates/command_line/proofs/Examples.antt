@@ -8,7 +8,7 @@ use Rattle.clap.proofs.OnLiterals.{clap_on_literals}
 use Rattle.command_line.specs.Bounds.{bounds, no_bounds}
 use Rattle.command_line.specs.Orders.{carries, adds_token, looks_over, copies, compacts, serves, replays}
 use Rattle.command_line.specs.Words.{asked_in}
-use Rattle.serve.specs.declared.steps.Admin.TheVariants.{OrgAdd, TokenList}
+use Rattle.serve.specs.declared.steps.Admin.TheVariants.{OrgAdd, OrgRemove, TokenList}
 
 organization_asked : asked_in (codes "org-add" ∷ codes "--db" ∷ codes "t.db" ∷ codes "acme" ∷ []) ≡ Some (carries (codes "t.db") (OrgAdd (codes "acme") 200))
 unfolding clap_on_literals chars is_utf8 encode
@@ -87,6 +87,22 @@ check_asked = refl
 no_file_to_check : asked_in (codes "check" ∷ []) ≡ None
 unfolding clap_on_literals chars is_utf8 encode
 no_file_to_check = refl
+
+removal_asked : asked_in (codes "org-remove" ∷ codes "--db" ∷ codes "t.db" ∷ codes "acme" ∷ []) ≡ Some (carries (codes "t.db") (OrgRemove (codes "acme") false))
+unfolding clap_on_literals chars is_utf8 encode
+removal_asked = refl
+
+removal_by_force : asked_in (codes "org-remove" ∷ codes "acme" ∷ codes "--force" ∷ codes "--db=t.db" ∷ []) ≡ Some (carries (codes "t.db") (OrgRemove (codes "acme") true))
+unfolding clap_on_literals chars is_utf8 encode
+removal_by_force = refl
+
+no_name_to_remove : asked_in (codes "org-remove" ∷ codes "--db" ∷ codes "t.db" ∷ codes "--force" ∷ codes "Acme" ∷ []) ≡ None
+unfolding clap_on_literals chars is_utf8 encode
+no_name_to_remove = refl
+
+no_force_elsewhere : asked_in (codes "org-copy" ∷ codes "--db" ∷ codes "t.db" ∷ codes "--to" ∷ codes "u.db" ∷ codes "--force" ∷ codes "acme" ∷ []) ≡ None
+unfolding clap_on_literals chars is_utf8 encode
+no_force_elsewhere = refl
 
 copy_asked : asked_in (codes "org-copy" ∷ codes "--db" ∷ codes "t.db" ∷ codes "--to" ∷ codes "u.db" ∷ codes "acme" ∷ []) ≡ Some (copies (codes "t.db") (codes "u.db") (codes "acme"))
 unfolding clap_on_literals chars is_utf8 encode

@@ -1,5 +1,5 @@
 -- The operator's commands, from the words that name what they are about.
-use Rattle.std.specs.Prelude.{ℕ, List, Option, Some, None, ◌&&◌, cond, option_map, option_and_then, bytes_eq}
+use Rattle.std.specs.Prelude.{ℕ, Bool, List, Option, Some, None, ◌&&◌, cond, option_map, option_and_then, bytes_eq}
 use Rattle.basis.specs.Names.{is_org_name, is_secret}
 use Rattle.basis.specs.Numbers.{whole_of, within}
 use Rattle.basis.specs.Roles.{role_word}
@@ -7,7 +7,7 @@ use Rattle.basis.specs.declared.roles.Bounds.{Bounds}
 use Rattle.basis.specs.declared.roles.Role.{Role}
 use Rattle.basis.specs.declared.roles.Role.TheVariants.{Read, Write, Admin}
 use Rattle.serve.specs.declared.steps.Admin as Operator
-use Rattle.serve.specs.declared.steps.Admin.TheVariants.{OrgAdd, OrgLimit, TokenAdd, TokenList, TokenRevoke}
+use Rattle.serve.specs.declared.steps.Admin.TheVariants.{OrgAdd, OrgLimit, OrgRemove, TokenAdd, TokenList, TokenRevoke}
 
 -- the limit that a word writes
 abbrev pub limit_of : List ℕ → Option ℕ
@@ -27,6 +27,10 @@ org_command org limit = cond (is_org_name org) (option_map (λ n. OrgAdd org n) 
 -- a command that sets an organization's limit, where its name and the limit read
 abbrev pub limit_command : List ℕ → Option ℕ → Option Operator.Admin
 limit_command org limit = cond (is_org_name org) (option_map (λ n. OrgLimit org n) limit) None
+
+-- a command that removes an organization, by force or not, where its name reads
+abbrev pub remove_command : List ℕ → Bool → Option Operator.Admin
+remove_command org is_forced = cond (is_org_name org) (Some (OrgRemove org is_forced)) None
 
 -- a command that adds a token with these bounds, where organization, name, role and secret read
 abbrev pub token_command : List ℕ → List ℕ → List ℕ → List ℕ → Bounds → Option Operator.Admin

@@ -10,7 +10,7 @@ use Rattle.clap.specs.declared.parser.matches.Found.{Found}
 use Rattle.serve.specs.declared.steps.Admin as Operator
 use Rattle.serve.specs.declared.steps.Admin.TheVariants.{OrgList, TokenAdd}
 use Rattle.command_line.specs.Bounds.{bounds_given}
-use Rattle.command_line.specs.Commands.{limit_of, role_of, org_command, limit_command, list_command, revoke_command}
+use Rattle.command_line.specs.Commands.{limit_of, role_of, org_command, limit_command, remove_command, list_command, revoke_command}
 use Rattle.command_line.specs.declared.orders.NewToken.{NewToken}
 use Rattle.command_line.specs.declared.orders.Values.{Values}
 use Rattle.command_line.specs.declared.orders.Order.{Order}
@@ -35,7 +35,7 @@ pub data Asked : Type 0 where
   -- to answer frames
   replays : Asked
 
--- the values among the words, by the names of their arguments, whether `--log` is there, and whether `--check` is
+-- the values among the words, by the names of their arguments, and whether `--log`, `--check` and `--force` are there
 pub record Given : Type 0 where
   pub db : Option (List ℕ)
   pub to : Option (List ℕ)
@@ -51,6 +51,7 @@ pub record Given : Type 0 where
   pub most : Option (List ℕ)
   pub logs : Bool
   pub checks : Bool
+  pub forces : Bool
 
 -- a port: 1 to 65,535
 abbrev pub port_of : List ℕ → Option ℕ
@@ -79,8 +80,9 @@ abbrev pub command_on : List ℕ → List ℕ → Given → Option Operator.Admi
 command_on command org given =
     cond (bytes_eq command (codes "org-add")) (org_command org (limit_or_first given.limit))
     (cond (bytes_eq command (codes "org-limit")) (option_and_then (λ limit. limit_command org (limit_of limit)) given.limit)
+    (cond (bytes_eq command (codes "org-remove")) (remove_command org given.forces)
     (cond (bytes_eq command (codes "token-list")) (list_command org)
-    (cond (bytes_eq command (codes "token-revoke")) (option_and_then (λ name. revoke_command org name) given.name) None)))
+    (cond (bytes_eq command (codes "token-revoke")) (option_and_then (λ name. revoke_command org name) given.name) None))))
 
 -- an operator's command that needs no secret
 abbrev pub command_in : List ℕ → Given → Option Operator.Admin
@@ -152,6 +154,7 @@ given_in rows = record {
   most = first_of (codes "most") rows;
   logs = flag_of (first_of (codes "log") rows);
   checks = flag_of (first_of (codes "check") rows);
+  forces = flag_of (first_of (codes "force") rows);
 }
 
 -- the same, of what a parse found
@@ -171,6 +174,7 @@ given_found found = record {
   most = first_value found (codes "most");
   logs = flag_of (first_value found (codes "log"));
   checks = flag_of (first_value found (codes "check"));
+  forces = flag_of (first_value found (codes "force"));
 }
 
 abbrev pub text_in : Option (Bor (List ℕ)) → Option (List ℕ)
@@ -192,6 +196,7 @@ given_of values = record {
   most = text_in values.most;
   logs = values.logs;
   checks = values.checks;
+  forces = values.forces;
 }
 
 -- what an order says

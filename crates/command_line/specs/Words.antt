@@ -52,6 +52,10 @@ org_limit = with_rule (with_rule (with_rule (new_app (codes "org-limit")) databa
 abbrev pub org_copy : App
 org_copy = with_rule (with_rule (with_rule (new_app (codes "org-copy")) database) target) organization
 
+-- `org-remove --db PATH [--force] ORG`
+abbrev pub org_remove : App
+org_remove = with_rule (with_rule (with_rule (new_app (codes "org-remove")) database) (flag_rule (codes "force"))) organization
+
 -- `org-list --db PATH`
 abbrev pub org_list : App
 org_list = with_rule (new_app (codes "org-list")) database
@@ -107,7 +111,7 @@ bare = record (new_app (codes "custody")) {
 }
 
 abbrev pub with_organizations : App → App
-with_organizations app = with_subcommand (with_subcommand (with_subcommand (with_subcommand app org_add.top) org_limit.top) org_copy.top) org_list.top
+with_organizations app = with_subcommand (with_subcommand (with_subcommand (with_subcommand (with_subcommand app org_add.top) org_limit.top) org_copy.top) org_remove.top) org_list.top
 
 abbrev pub with_tokens : App → App
 with_tokens app = with_subcommand (with_subcommand (with_subcommand app token_add.top) token_list.top) token_revoke.top

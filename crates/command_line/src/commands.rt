@@ -1,6 +1,6 @@
 //! The operator's commands, from the words that name what they are about.
 ghost use Rattle.std.specs.Prelude.{◌≡◌, Some, None, IfOk, IsErrOf};
-ghost use Rattle.command_line.specs.Commands.{limit_of, role_of, org_command, limit_command, token_command, list_command, revoke_command};
+ghost use Rattle.command_line.specs.Commands.{limit_of, role_of, org_command, limit_command, remove_command, token_command, list_command, revoke_command};
 
 use basis::numbers::whole_number;
 use basis::{Bounds, Limit, OrgName, Role, Secret, Unfit};
@@ -45,6 +45,15 @@ pub fn org_limit(alloc: Global, org: &str, limit: Option<Limit>) -> Result<Admin
     };
     let org = OrgName::read(alloc, org)?;
     Ok(Admin::OrgLimit { org, limit })
+}
+
+/// The command that removes an organization, by force or not.
+pub fn org_remove(alloc: Global, org: &str, is_forced: bool) -> Result<Admin, Unfit>
+    ensures ok { IfOk result (λ command. remove_command org.now is_forced ≡ Some command) }
+    ensures syntax { IsErrOf result Unfit.Syntax → remove_command org.now is_forced ≡ None }
+{
+    let org = OrgName::read(alloc, org)?;
+    Ok(Admin::OrgRemove { org, is_forced })
 }
 
 /// The command that adds a token with these bounds.

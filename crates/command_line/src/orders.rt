@@ -120,7 +120,7 @@ pub enum Order<'a> {
 }
 
 /// The values that stand among the words, by the names of their arguments; none where there is none.
-/// `logs` is whether `--log` is there, and `checks` whether `--check` is.
+/// `logs`, `checks` and `forces` are whether `--log`, `--check` and `--force` are there.
 #[derive(Drop)]
 pub struct Values<'a> {
     db: Option<&'a str>,
@@ -137,6 +137,7 @@ pub struct Values<'a> {
     most: Option<&'a str>,
     logs: bool,
     checks: bool,
+    forces: bool,
 }
 
 impl<'a> Values<'a> {
@@ -158,6 +159,7 @@ impl<'a> Values<'a> {
             most: matches.get_str("most"),
             logs: flag_of(matches.get_str("log")),
             checks: flag_of(matches.get_str("check")),
+            forces: flag_of(matches.get_str("force")),
         }
     }
 }
@@ -218,6 +220,7 @@ fn command_on(alloc: Global, command: &str, org: &str, values: &Values<'_>) -> R
     match command {
         "org-add" => commands::org_add(alloc, org, limit_or_first(values.limit)),
         "org-limit" => limit_command(alloc, org, values.limit),
+        "org-remove" => commands::org_remove(alloc, org, values.forces),
         "token-list" => commands::token_list(alloc, org),
         "token-revoke" => revoke_command(alloc, org, values.name),
         _ => Err(Unfit::Syntax),

@@ -3,7 +3,7 @@
 ghost use Rattle.std.specs.Prelude.{◌≡◌, ◌<◌, ◌⊎◌, IfOk, IfErr, IsErrOf, None, Some, codes, length, string_bytes, ℕ, List};
 ghost use Rattle.clap.specs.Words.{app_of, subcommand_of, subcommand_rows_of, HasKind, FailsBy, IsAmong, App, Rule, new_app, with_rule, with_subcommand};
 ghost use Rattle.command_line.specs.Orders.{said_by};
-ghost use Rattle.command_line.specs.Words.{words_bytes, database, target, organization, option_rule, value_rule, flag_rule, org_add, org_limit, org_copy, org_list, token_add, token_list, token_revoke, serve, check, compact, replay, bare, custody, faults, asked_by_command, asked_in, with_organizations, with_tokens, with_running, with_bounds, with_timeouts, with_flags, IsWhy, IsArg, IsCommand};
+ghost use Rattle.command_line.specs.Words.{words_bytes, database, target, organization, option_rule, value_rule, flag_rule, org_add, org_limit, org_copy, org_remove, org_list, token_add, token_list, token_revoke, serve, check, compact, replay, bare, custody, faults, asked_by_command, asked_in, with_organizations, with_tokens, with_running, with_bounds, with_timeouts, with_flags, IsWhy, IsArg, IsCommand};
 
 use crate::orders::{Order, Values};
 use basis::{Down, Unfit};
@@ -126,6 +126,17 @@ fn org_copy<'a>(alloc: Global) -> Result<Command<'a>, AllocError>
     let on_file = with_arg(bare, database(alloc))?;
     let to_another = with_arg(on_file, target(alloc))?;
     with_arg(to_another, organization(alloc))
+}
+
+fn org_remove<'a>(alloc: Global) -> Result<Command<'a>, AllocError>
+    ensures { IfOk result (λ command. IsCommand command org_remove) }
+{
+    let about = "Removes an organization, with all that it has";
+    let help = "Also where a lock holds or a run is open";
+    let bare = command(alloc, "org-remove", about);
+    let on_file = with_arg(bare, database(alloc))?;
+    let forcing = with_arg(on_file, flag(alloc, "force", help))?;
+    with_arg(forcing, organization(alloc))
 }
 
 fn org_list<'a>(alloc: Global) -> Result<Command<'a>, AllocError>
@@ -257,7 +268,8 @@ fn with_organizations<'a>(alloc: Global, bare: Command<'a>) -> Result<Command<'a
     let adding = with_command(bare, org_add(alloc)?)?;
     let limiting = with_command(adding, org_limit(alloc)?)?;
     let copying = with_command(limiting, org_copy(alloc)?)?;
-    with_command(copying, org_list(alloc)?)
+    let removing = with_command(copying, org_remove(alloc)?)?;
+    with_command(removing, org_list(alloc)?)
 }
 
 fn with_tokens<'a>(alloc: Global, bare: Command<'a>) -> Result<Command<'a>, AllocError>

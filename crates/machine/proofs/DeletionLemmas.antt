@@ -1,9 +1,10 @@
 -- What DELETE of a workspace comes to: it is refused and the workspace stays, or the workspace goes.
-use Rattle.std.proofs.Common.{◌≡◌, ◌⊎◌, inl, inr, nat_lt, Bool, true, false, cond, Some, None, refl, sym, ap, subst, ◌∙◌, arith}
+use Rattle.std.proofs.Common.{◌≡◌, ◌⊎◌, inl, inr, nat_lt, Bool, true, false, ◌||◌, cond, Some, None, refl, sym, ap, subst, ◌∙◌, arith}
 use Rattle.std.proofs.lemmas.Bool.{ltb-false}
 use Rattle.basis.specs.declared.refusals.Refusal.TheVariants.{OpenRuns, Locked}
 use Rattle.machine.specs.Effects.{effect}
 use Rattle.machine.specs.Custody.{IsRefusal, IsUnlocked}
+use Rattle.machine.specs.Removal.{is_locked, DeleteAsksTheSame}
 use Rattle.machine.specs.Workspaces.{open_runs}
 use Rattle.machine.specs.Rules.{refused, held, done, Ruling, delete}
 use Rattle.basis.specs.declared.rows.Holder.{Holder}
@@ -48,3 +49,18 @@ pub delete_again : (w v : Workspace) → (delete w.holder w).left ≡ Some v →
 delete_again w v e =
     let same_one : w ≡ v = let same = delete_left w v e in cc in
     subst (λ (x : Workspace). (delete x.holder x).left ≡ Some v) same_one e
+
+-- it is refused where the workspace is in use, and only there
+idle_asks : (w : Workspace) (b : Bool) → (b ≡ true → IsRefusal (cond b (effect (refused OpenRuns) (Some w)) (effect done None)).answer)
+    × (b ≡ false → (cond b (effect (refused OpenRuns) (Some w)) (effect done None)).left ≡ None)
+idle_asks w true = (λ used. tt, λ unused. absurd (let none : ⊥ = cc in none))
+idle_asks w false = (λ used. absurd (let none : ⊥ = cc in none), λ unused. refl)
+
+use_asks : (w : Workspace) (h : Holder) → ((is_locked h || nat_lt 0 (open_runs w.runs)) ≡ true → IsRefusal (delete h w).answer)
+    × ((is_locked h || nat_lt 0 (open_runs w.runs)) ≡ false → (delete h w).left ≡ None)
+use_asks w Nobody = idle_asks w (nat_lt 0 (open_runs w.runs))
+use_asks w (Lock id text) = (λ used. tt, λ unused. absurd (let none : ⊥ = cc in none))
+use_asks w (Run n) = idle_asks w (nat_lt 0 (open_runs w.runs))
+
+pub delete_asks_the_same : DeleteAsksTheSame
+delete_asks_the_same now w = use_asks w w.holder

@@ -1,5 +1,5 @@
 -- What a change does to the laws of records.
-use Rattle.std.proofs.Common.{◌≡◌, ◌≢◌, ℕ, Bool, true, false, ◌||◌, cond, List, [], ◌∷◌, Option, Some, None, Result, Ok, Err, OnOk, OnErr, IfOk, IsTrue, is_some, nat_lt, refl, sym, ap, subst, ◌∙◌, ◌≤◌}
+use Rattle.std.proofs.Common.{◌≡◌, ◌≢◌, ℕ, Bool, true, false, not, ◌&&◌, ◌||◌, cond, List, [], ◌∷◌, Option, Some, None, Result, Ok, Err, OnOk, OnErr, IfOk, IsTrue, is_some, nat_lt, refl, sym, ap, subst, ◌∙◌, ◌≤◌}
 use Rattle.std.specs.Prelude.{option_map}
 use Rattle.std.specs.Str.{bytes_eq}
 use Rattle.std.specs.Ordering.{is_eq}
@@ -14,10 +14,11 @@ use Rattle.machine.specs.Laws.{IsLawful, IsLawfulIfThere, IsToken, IsNamedWorksp
 use Rattle.machine.specs.Records.{count_of, seen_by, seen_in, standing, with_workspace, placed}
 use Rattle.machine.specs.Changes.{changed_by, IsDue}
 use Rattle.machine.specs.Rules.{rules}
+use Rattle.machine.specs.Removal.{has_use, org_removed}
 use Rattle.machine.specs.Tokens.{token_with, has_digest, new_organization, org_added, with_limit, org_limited, with_token, token_added, without_token, token_revoked}
 use Rattle.machine.specs.declared.acts.Change.{Change}
 use Rattle.machine.specs.declared.keeps.AdminAnswer.{AdminAnswer}
-use Rattle.machine.specs.declared.keeps.AdminAnswer.TheVariants.{Done, Exists, Absent}
+use Rattle.machine.specs.declared.keeps.AdminAnswer.TheVariants.{Done, Exists, Absent, InUse}
 use Rattle.machine.specs.declared.records.Token.{Token}
 use Rattle.machine.specs.declared.records.Workspace.{Workspace}
 use Rattle.machine.specs.declared.records.Organization.{Organization}
@@ -239,6 +240,22 @@ pub token_revoke_keeps : (answer : AdminAnswer) (old new : Rows) (org name : Lis
 token_revoke_keeps answer old new org name lawful own others =
     kept_by (λ q. get old q) (λ q. get new q) org lawful others
     (λ o e. without_token_is_lawful name (get old org) (lawful org) o (sym (ap (λ x. x.left) own) ∙ e))
+
+-- an organization that isn't removed is the one that was there
+unremoved_is_lawful : (is_forced : Bool) (r : Option Organization) → ((o : Organization) → r ≡ Some o → IsLawfulOrganization o)
+    → (o : Organization) → (org_removed is_forced r).left ≡ Some o → IsLawfulOrganization o
+unremoved_is_lawful is_forced None lawful o e = absurd (let none : ⊥ = cc in none)
+unremoved_is_lawful is_forced (Some p) lawful o e = chosen (not is_forced && has_use p) e
+  where
+    chosen : (b : Bool) → (cond b (effect InUse (Some p)) (effect Done None)).left ≡ Some o → IsLawfulOrganization o
+    chosen true is = lawful o is
+    chosen false is = absurd (let none : ⊥ = cc in none)
+
+pub org_remove_keeps : (answer : AdminAnswer) (old new : Rows) (org : List ℕ) (is_forced : Bool) → AreLawful (λ q. get old q)
+    → effect answer (get new org) ≡ org_removed is_forced (get old org) → ((q : List ℕ) → q ≢ org → get new q ≡ get old q) → AreLawful (λ q. get new q)
+org_remove_keeps answer old new org is_forced lawful own others =
+    kept_by (λ q. get old q) (λ q. get new q) org lawful others
+    (λ o e. unremoved_is_lawful is_forced (get old org) (lawful org) o (sym (ap (λ x. x.left) own) ∙ e))
 
 -- a store with no organization
 pub none_are_lawful : (m : Rows) → m ≡ empty → AreLawful (λ q. get m q)

@@ -17,11 +17,12 @@ use Rattle.machine.specs.declared.acts.Change.{Change}
 use Rattle.machine.specs.declared.records.Workspace.{Workspace}
 use Rattle.machine.specs.declared.records.Organization.{Organization}
 use Rattle.machine.specs.declared.records.Token.{Token}
-use Rattle.machine.specs.declared.keeps.AdminAnswer.TheVariants.{Done, Absent}
+use Rattle.machine.specs.declared.keeps.AdminAnswer.TheVariants.{Done, Absent, InUse}
 use Rattle.machine.specs.declared.keeps.OrgRow.{OrgRow}
 use Rattle.machine.specs.Effects.{effect}
 use Rattle.machine.specs.Records.{count_of}
 use Rattle.machine.specs.Inner.Places.{org_row}
+use Rattle.machine.specs.Removal.{is_in_use, has_use, org_removed}
 use Rattle.machine.specs.Tokens.{token_revoked, without_token, is_row_of, Ascend, TellsOrganization, AreOrganizations}
 use Rattle.machine.proofs.MapLemmas.{remove_absent, names_total, tied_names, below_apart, not_tied, both_first, both_second, is_true}
 use Rattle.machine.specs.declared.records.Version.{Version}
@@ -74,6 +75,28 @@ pub revoke_missed : (o : Organization) (name : List ℕ) (after : FinMap name_cm
 revoke_missed o name after made missed =
     ap (λ (m : FinMap name_cmp Token). effect Absent (Some (record o { tokens = m }))) (made ∙ remove_absent o.tokens name (none_from (get o.tokens name) missed))
     ∙ ap (λ b. cond b (effect Done (Some (without_token o name))) (effect Absent (Some o))) (sym missed)
+
+-- what entries of another type tell of an organization's use
+any_through : {E : Type 0} (name : E → List ℕ) (value : E → Workspace) (es : List E)
+    → list_any (λ e. is_in_use (value e)) es ≡ list_any (λ (e : List ℕ × Workspace). is_in_use e.1) (map (λ e. (name e, value e)) es)
+any_through name value [] = refl
+any_through name value (e ∷ es) = ap (λ b. is_in_use (value e) || b) (any_through name value es)
+
+pub use_seen : {E : Type 0} (o : Organization) (name : E → List ℕ) (value : E → Workspace) (es : List E) → map (λ e. (name e, value e)) es ≡ entries o.workspaces
+    → list_any (λ e. is_in_use (value e)) es ≡ has_use o
+use_seen o name value es same = any_through name value es ∙ ap (list_any (λ (e : List ℕ × Workspace). is_in_use e.1)) same
+
+-- an organization stays where it is in use and nothing is forced, and goes otherwise
+module _ (is_forced : Bool) (o : Organization) (r : Option Organization) (was : Some o ≡ r) where
+  pub removal_refused : is_forced ≡ false → has_use o ≡ true → effect InUse r ≡ org_removed is_forced r
+  removal_refused unforced used = rw (← was, unforced) (ap (λ b. cond b (effect InUse (Some o)) (effect Done None)) (sym used))
+
+  module _ (after : Option Organization) (gone : after ≡ None) where
+    pub unused_removed : is_forced ≡ false → has_use o ≡ false → effect Done after ≡ org_removed is_forced r
+    unused_removed unforced unused = rw (← was, gone, unforced) (ap (λ b. cond b (effect InUse (Some o)) (effect Done None)) (sym unused))
+
+    pub forced_removed : is_forced ≡ true → effect Done after ≡ org_removed is_forced r
+    forced_removed forced = rw (← was, gone, forced) refl
 
 -- the organizations of a map, a row for each
 abbrev pub row_at : List ℕ × Organization → OrgRow

@@ -17,6 +17,7 @@ pub mod Meaning
 pub mod Units
 pub mod Named
 pub mod Tokens
+pub mod Removal
 pub mod Keeping
 pub mod Paging
 pub mod Custody

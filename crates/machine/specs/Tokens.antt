@@ -12,7 +12,7 @@ use Rattle.machine.specs.Records.{count_of}
 use Rattle.machine.specs.declared.records.Token.{Token}
 use Rattle.machine.specs.declared.records.Organization.{Organization}
 use Rattle.machine.specs.declared.keeps.AdminAnswer.{AdminAnswer}
-use Rattle.machine.specs.declared.keeps.AdminAnswer.TheVariants.{Done, Exists, Absent, Organizations, Tokens}
+use Rattle.machine.specs.declared.keeps.AdminAnswer.TheVariants.{Done, Exists, Absent, InUse, Organizations, Tokens}
 use Rattle.machine.specs.declared.keeps.OrgRow.{OrgRow}
 use Rattle.machine.specs.declared.keeps.TokenRow.{TokenRow}
 
@@ -118,5 +118,6 @@ abbrev pub ListsOrganizations : (List ℕ → Option Organization) → AdminAnsw
 ListsOrganizations records Done = ⊥
 ListsOrganizations records Exists = ⊥
 ListsOrganizations records Absent = ⊥
+ListsOrganizations records InUse = ⊥
 ListsOrganizations records (Organizations rows) = AreOrganizations records rows
 ListsOrganizations records (Tokens rows) = ⊥

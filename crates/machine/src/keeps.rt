@@ -6,6 +6,7 @@ ghost use Rattle.machine.specs.Laws.{AreLawful};
 ghost use Rattle.machine.specs.Keeping.{Looks};
 ghost use Rattle.machine.specs.Showing.{workspaces_after, versions_after, runs_after};
 ghost use Rattle.machine.specs.Tokens.{asker_of, org_added, org_limited, token_added, token_revoked, token_of, tokens_told, ListsOrganizations};
+ghost use Rattle.machine.specs.Removal.{org_removed};
 ghost use Rattle.machine.specs.Records.{workspace_in, seen_in, placed};
 ghost use Rattle.machine.specs.Changes.{changed_by, IsDue};
 ghost use Rattle.machine.specs.Units.{unit_of, version_text};
@@ -51,6 +52,8 @@ pub enum AdminAnswer {
     Exists,
     /// The organization, or its token, isn't there.
     Absent,
+    /// A lock holds in the organization, or a run is open.
+    InUse,
     /// All organizations, in the order of their names' bytes.
     Organizations(Items<OrgRow>),
     /// The tokens of an organization, in the order of their names' bytes.
@@ -172,6 +175,21 @@ pub trait Keep {
         ensures shield { shielded self.old → shielded self.new }
         ensures kept { clean self.new → sound self.old → sound self.new }
         ensures own { clean self.new → sound self.old → IfOk result (λ answer. effect answer (rows self.new org.now) ≡ org_limited limit (rows self.old org.now)) }
+        ensures others { clean self.new → sound self.old → (o : List ℕ) → o ≢ org.now → rows self.new o ≡ rows self.old o }
+        ensures err { clean self.new → OnErr result ((o : List ℕ) → rows self.new o ≡ rows self.old o) };
+
+    /// Removes an organization, with all that it has, in one transaction. One in which a lock holds or a run is open goes
+    /// only by force.
+    fn org_remove(
+        &mut self,
+        alloc: Global,
+        org: &OrgName,
+        is_forced: bool,
+    ) -> Result<AdminAnswer, Down>
+        ensures so_far { clean self.new → clean self.old }
+        ensures shield { shielded self.old → shielded self.new }
+        ensures kept { clean self.new → sound self.old → sound self.new }
+        ensures own { clean self.new → sound self.old → IfOk result (λ answer. effect answer (rows self.new org.now) ≡ org_removed is_forced (rows self.old org.now)) }
         ensures others { clean self.new → sound self.old → (o : List ℕ) → o ≢ org.now → rows self.new o ≡ rows self.old o }
         ensures err { clean self.new → OnErr result ((o : List ℕ) → rows self.new o ≡ rows self.old o) };
 

@@ -1,5 +1,6 @@
 //! Laws of the rules, each the contract of a call that does nothing.
 ghost use Rattle.machine.specs.Sameness.{SameThingsAreEqualRecords};
+ghost use Rattle.machine.specs.Removal.{DeleteAsksTheSame};
 ghost use Rattle.machine.specs.Settling.{SettlesOnce};
 ghost use Rattle.machine.specs.Tokens.{AskersAskByTheirTokens};
 ghost use Rattle.machine.specs.Paging.{WorkspacePagesFollow, VersionPagesFollow, RunPagesFollow, WorkspacesAreShown, VersionsAreShown, RunsAreShown};
@@ -47,6 +48,11 @@ pub fn locked_workspaces_stay()
 /// A workspace goes by DELETE alone, where no lock holds and no run is open.
 pub fn workspaces_go_by_delete()
     ensures { WorkspacesGoByDelete }
+{}
+
+/// An organization that isn't in use is one of which each workspace could be deleted.
+pub fn delete_asks_the_same()
+    ensures { DeleteAsksTheSame }
 {}
 
 /// What is made where no workspace was, be it that one of its name was deleted, begins anew.

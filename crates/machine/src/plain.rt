@@ -2,9 +2,11 @@
 ghost use Rattle.std.specs.Prelude.{◌≡◌, ◌≢◌, ℕ, ⊤, List, Option, Some, None, IsTrue, IfSome, IfOk, OnOk, OnErr, cond, is_some, false, option_map, option_copied};
 ghost use Rattle.std.specs.Prelude.{map as map_list, find, filter};
 ghost use Rattle.std.specs.FinMap as map;
+ghost use Rattle.std.specs.List.{list_any};
 ghost use Rattle.machine.specs.Effects.{effect};
 ghost use Rattle.machine.specs.Laws.{AreLawful};
 ghost use Rattle.machine.specs.Records.{with_workspace, placed};
+ghost use Rattle.machine.specs.Removal.{is_in_use, org_removed};
 ghost use Rattle.basis.specs.Names.{is_prefix};
 ghost use Rattle.machine.specs.Showing.{comes_after, is_listed, shown_of, row_of, version_row, workspaces_listed, versions_listed, runs_listed};
 ghost use Rattle.machine.specs.Tokens.{token_with, row_with, asker_of, has_digest, new_organization, org_added, org_limited, token_added, token_revoked, token_of, token_row, tokens_listed, tokens_told};
@@ -190,6 +192,15 @@ impl Keep for PlainKeep {
         Ok(AdminAnswer::Organizations(rows))
     }
 
+    fn org_remove(
+        &mut self,
+        _alloc: Global,
+        org: &OrgName,
+        is_forced: bool,
+    ) -> Result<AdminAnswer, Down> {
+        Ok(self.organizations.leave(org.as_str(), is_forced))
+    }
+
     fn token_revoke(
         &mut self,
         _alloc: Global,
@@ -258,6 +269,20 @@ impl NameMap<Organization> {
             }
             Err(_) => AdminAnswer::Absent,
         }
+    }
+
+    fn leave(&mut self, org: &str, is_forced: bool) -> AdminAnswer
+        ensures own { effect result (map.get self.new org.now) ≡ org_removed is_forced (map.get self.old org.now) }
+        ensures others { (o : List ℕ) → o ≢ org.now → map.get self.new o ≡ map.get self.old o }
+    {
+        let Some(organization) = self.get(org) else {
+            return AdminAnswer::Absent;
+        };
+        if !is_forced && has_use(organization.workspaces.entries()) {
+            return AdminAnswer::InUse;
+        }
+        self.remove(org);
+        AdminAnswer::Done
     }
 
     fn revoke(&mut self, org: &str, name: &str) -> AdminAnswer
@@ -613,6 +638,19 @@ impl Workspace {
         self.start(change.start);
         Ok(())
     }
+}
+
+// Whether a lock holds in the workspace, or a run is open.
+fn is_in_use(workspace: &Workspace) -> bool
+    ensures { result ≡ is_in_use workspace.now }
+{
+    matches!(workspace.holder, Holder::Lock { .. }) || open_runs(workspace.runs.as_slice()) > 0
+}
+
+fn has_use(entries: &[Entry<Workspace>]) -> bool
+    ensures { result ≡ list_any (λ e. is_in_use e.value) entries.now }
+{
+    entries.iter().any(|entry| is_in_use(&entry.value))
 }
 
 fn is_removal(edit: &Edit) -> bool

@@ -18,7 +18,7 @@ use Rattle.serve.specs.Steps.{replies, refusing, command_said, step}
 use Rattle.serve.specs.declared.exchanges.LinkFault.{LinkFault}
 use Rattle.serve.specs.declared.exchanges.LinkFault.TheVariants.{Ended, Read, Continue, Write}
 use Rattle.serve.specs.declared.steps.Admin.{Admin}
-use Rattle.serve.specs.declared.steps.Admin.TheVariants.{OrgAdd, OrgLimit, OrgList, TokenAdd, TokenList, TokenRevoke}
+use Rattle.serve.specs.declared.steps.Admin.TheVariants.{OrgAdd, OrgLimit, OrgRemove, OrgList, TokenAdd, TokenList, TokenRevoke}
 use Rattle.command_line.specs.declared.timeouts.Timeouts.{Timeouts}
 use Rattle.program.specs.declared.outside.Clock as clock
 use Rattle.program.specs.declared.outside.Connections as connections
@@ -55,6 +55,7 @@ heard_log false line old heard new first same = ([], subst (λ (o : Option (List
 unsaid : (command : Admin) (word : AdminAnswer) (awaited : Bool) (at : ℕ) (answer : Answer) → command_said command word ≡ replies awaited at answer → ⊥
 unsaid (OrgAdd org limit) word awaited at answer e = let none : ⊥ = cc in none
 unsaid (OrgLimit org limit) word awaited at answer e = let none : ⊥ = cc in none
+unsaid (OrgRemove org is_forced) word awaited at answer e = let none : ⊥ = cc in none
 unsaid OrgList word awaited at answer e = let none : ⊥ = cc in none
 unsaid (TokenAdd org name role secret bounds) word awaited at answer e = let none : ⊥ = cc in none
 unsaid (TokenList org) word awaited at answer e = let none : ⊥ = cc in none

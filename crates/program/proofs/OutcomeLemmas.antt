@@ -10,7 +10,7 @@ use Rattle.serve.specs.Service.{Carries as CarriesOut, IsAdminAnswer, Stays}
 use Rattle.wire.proofs.LinkLemmas.{Appends-then}
 use Rattle.std.specs.Io.KnownBytes.{Appends}
 use Rattle.program.specs.declared.endings.Ending.{Ending}
-use Rattle.program.specs.declared.endings.Ending.TheVariants.{Done, Exists, Absent, Faults, Usage, BadFrame, Schema, Down, Unprinted}
+use Rattle.program.specs.declared.endings.Ending.TheVariants.{Done, Exists, Absent, InUse, Faults, Usage, BadFrame, Schema, Down, Unprinted}
 use Rattle.program.specs.Endings.{ending_line}
 use Rattle.program.specs.declared.reasons.Cause.TheVariants as cause
 use Rattle.program.specs.Logs.{with_log}
@@ -47,6 +47,7 @@ served logs Done result old mid new listens down other =
     (listens.0, listens.1, subst (λ (o : Option (List ℕ)). Appends old o (with_log logs (listening_line listens.0) listens.1)) (sym same.1) listens.2)
 served logs Exists result old mid new listens down other = absurd listens
 served logs Absent result old mid new listens down other = absurd listens
+served logs InUse result old mid new listens down other = absurd listens
 served logs Faults result old mid new listens down other = absurd listens
 served logs Usage result old mid new listens down other = absurd listens
 served logs BadFrame result old mid new listens down other = absurd listens

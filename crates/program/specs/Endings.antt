@@ -1,13 +1,14 @@
 -- How the program ends: its exit status, and the line on standard output.
 use Rattle.std.specs.Prelude.{ℕ, List, [], codes}
 use Rattle.program.specs.declared.endings.Ending.{Ending}
-use Rattle.program.specs.declared.endings.Ending.TheVariants.{Done, Exists, Absent, Faults, Usage, BadFrame, Schema, Down, Unprinted}
+use Rattle.program.specs.declared.endings.Ending.TheVariants.{Done, Exists, Absent, InUse, Faults, Usage, BadFrame, Schema, Down, Unprinted}
 
 -- the exit status
 abbrev pub status_of : Ending → ℕ
 status_of Done = 0
 status_of Exists = 1
 status_of Absent = 1
+status_of InUse = 1
 status_of Faults = 1
 status_of Usage = 2
 status_of BadFrame = 2
@@ -20,6 +21,7 @@ abbrev pub ending_line : Ending → List ℕ
 ending_line Done = codes "ok"
 ending_line Exists = codes "refused exists"
 ending_line Absent = codes "refused absent"
+ending_line InUse = codes "refused in-use"
 ending_line Usage = codes "refused usage"
 ending_line Schema = codes "refused schema"
 ending_line Down = codes "refused down"

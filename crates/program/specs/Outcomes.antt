@@ -9,7 +9,7 @@ use Rattle.machine.specs.declared.keeps.OrgRow.{OrgRow}
 use Rattle.machine.specs.declared.keeps.TokenRow.{TokenRow}
 use Rattle.serve.specs.declared.steps.Step.{Step}
 use Rattle.serve.specs.declared.steps.Admin.{Admin}
-use Rattle.serve.specs.declared.steps.Admin.TheVariants.{OrgAdd, OrgLimit, OrgList, TokenAdd, TokenList, TokenRevoke}
+use Rattle.serve.specs.declared.steps.Admin.TheVariants.{OrgAdd, OrgLimit, OrgRemove, OrgList, TokenAdd, TokenList, TokenRevoke}
 use Rattle.machine.specs.declared.keeps.AdminAnswer.{AdminAnswer}
 use Rattle.machine.specs.declared.keeps.AdminAnswer.TheVariants as answer
 use Rattle.machine.specs.declared.records.Organization.{Organization}
@@ -68,6 +68,7 @@ abbrev pub AnswersLine : Ending → Stream → Type 0
 AnswersLine ending.Done output = Says ending.Done output
 AnswersLine ending.Exists output = Says ending.Exists output
 AnswersLine ending.Absent output = Says ending.Absent output
+AnswersLine ending.InUse output = Says ending.InUse output
 AnswersLine ending.Schema output = Says ending.Schema output
 AnswersLine ending.Down output = Says ending.Down output
 AnswersLine ending.Faults output = ⊥
@@ -105,6 +106,7 @@ abbrev pub AnswersCommand : Admin → Ending → Stream → Type 0
 AnswersCommand OrgList e output = AnswersList e output
 AnswersCommand (OrgAdd org limit) e output = AnswersLine e output
 AnswersCommand (OrgLimit org limit) e output = AnswersLine e output
+AnswersCommand (OrgRemove org is_forced) e output = AnswersLine e output
 AnswersCommand (TokenAdd org name role secret bounds) e output = AnswersLine e output
 AnswersCommand (TokenList org) e output = AnswersTokens e output
 AnswersCommand (TokenRevoke org name) e output = AnswersLine e output
@@ -114,6 +116,7 @@ abbrev pub TellsWord : AdminAnswer → Ending → Stream → Type 0
 TellsWord answer.Done e output = IsSaid ending.Done e output.old output.new
 TellsWord answer.Exists e output = IsSaid ending.Exists e output.old output.new
 TellsWord answer.Absent e output = IsSaid ending.Absent e output.old output.new
+TellsWord answer.InUse e output = IsSaid ending.InUse e output.old output.new
 TellsWord (answer.Organizations rows) e output = ⊤
 TellsWord (answer.Tokens rows) e output = ⊤
 
@@ -133,6 +136,7 @@ abbrev pub TellsAnswer : Admin → AdminAnswer → Ending → Stream → Type 0
 TellsAnswer OrgList answer e output = TellsList answer e output
 TellsAnswer (OrgAdd org limit) answer e output = TellsWord answer e output
 TellsAnswer (OrgLimit org limit) answer e output = TellsWord answer e output
+TellsAnswer (OrgRemove org is_forced) answer e output = TellsWord answer e output
 TellsAnswer (TokenAdd org name role secret bounds) answer e output = TellsWord answer e output
 TellsAnswer (TokenList org) answer e output = TellsTokens answer e output
 TellsAnswer (TokenRevoke org name) answer e output = TellsWord answer e output

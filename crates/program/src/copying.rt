@@ -100,7 +100,7 @@ fn copy_listed<K: Keep, F: Files<K>>(
     match listed {
         AdminAnswer::Organizations(rows) => copy_each(alloc, files, rows.as_slice(), from, to),
         AdminAnswer::Done | AdminAnswer::Exists => Err(Down),
-        AdminAnswer::Absent | AdminAnswer::Tokens(_) => Err(Down),
+        AdminAnswer::Absent | AdminAnswer::InUse | AdminAnswer::Tokens(_) => Err(Down),
     }
 }
 

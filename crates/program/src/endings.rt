@@ -14,6 +14,8 @@ pub enum Ending {
     Exists,
     /// The organization, or the token, isn't there.
     Absent,
+    /// A lock holds in the organization, or a run is open.
+    InUse,
     /// Faults were found in the tables of the file.
     Faults,
     /// The words or the secret don't read.
@@ -35,7 +37,7 @@ impl Ending {
     {
         match self {
             Ending::Done => 0,
-            Ending::Exists | Ending::Absent | Ending::Faults => 1,
+            Ending::Exists | Ending::Absent | Ending::InUse | Ending::Faults => 1,
             Ending::Usage | Ending::BadFrame => 2,
             Ending::Schema | Ending::Down | Ending::Unprinted => 3,
         }
@@ -49,6 +51,7 @@ impl Ending {
             Ending::Done => "ok",
             Ending::Exists => "refused exists",
             Ending::Absent => "refused absent",
+            Ending::InUse => "refused in-use",
             Ending::Usage => "refused usage",
             Ending::Schema => "refused schema",
             Ending::Down => "refused down",

@@ -110,6 +110,7 @@ pub fn say_word<O: Write>(output: &mut O, answer: &AdminAnswer) -> Ending
         AdminAnswer::Done => say(output, Ending::Done),
         AdminAnswer::Exists => say(output, Ending::Exists),
         AdminAnswer::Absent => say(output, Ending::Absent),
+        AdminAnswer::InUse => say(output, Ending::InUse),
         AdminAnswer::Organizations(_) => say(output, Ending::Down),
         AdminAnswer::Tokens(_) => say(output, Ending::Down),
     }

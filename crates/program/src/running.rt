@@ -59,7 +59,7 @@ fn say_list<O: Write>(output: &mut O, answer: &AdminAnswer) -> Ending
             Err(_) => Ending::Unprinted,
         },
         AdminAnswer::Done | AdminAnswer::Exists | AdminAnswer::Absent => say(output, Ending::Down),
-        AdminAnswer::Tokens(_) => say(output, Ending::Down),
+        AdminAnswer::InUse | AdminAnswer::Tokens(_) => say(output, Ending::Down),
     }
 }
 
@@ -73,9 +73,8 @@ fn say_tokens<O: Write>(output: &mut O, answer: &AdminAnswer) -> Ending
             Err(_) => Ending::Unprinted,
         },
         AdminAnswer::Absent => say(output, Ending::Absent),
-        AdminAnswer::Done | AdminAnswer::Exists | AdminAnswer::Organizations(_) => {
-            say(output, Ending::Down)
-        }
+        AdminAnswer::Done | AdminAnswer::Exists | AdminAnswer::InUse => say(output, Ending::Down),
+        AdminAnswer::Organizations(_) => say(output, Ending::Down),
     }
 }
 
@@ -87,6 +86,7 @@ fn say_answer<O: Write>(output: &mut O, command: &Admin, answer: &AdminAnswer) -
         Admin::OrgList => say_list(output, answer),
         Admin::OrgAdd { .. } => say_word(output, answer),
         Admin::OrgLimit { .. } => say_word(output, answer),
+        Admin::OrgRemove { .. } => say_word(output, answer),
         Admin::TokenAdd { .. } => say_word(output, answer),
         Admin::TokenList { .. } => say_tokens(output, answer),
         Admin::TokenRevoke { .. } => say_word(output, answer),
@@ -101,6 +101,7 @@ fn say_down<O: Write>(output: &mut O, command: &Admin) -> Ending
         Admin::OrgList => say(output, Ending::Down),
         Admin::OrgAdd { .. } => say(output, Ending::Down),
         Admin::OrgLimit { .. } => say(output, Ending::Down),
+        Admin::OrgRemove { .. } => say(output, Ending::Down),
         Admin::TokenAdd { .. } => say(output, Ending::Down),
         Admin::TokenList { .. } => say(output, Ending::Down),
         Admin::TokenRevoke { .. } => say(output, Ending::Down),
@@ -147,6 +148,7 @@ fn say_schema<O: Write>(output: &mut O, command: &Admin) -> Ending
         Admin::OrgList => say(output, Ending::Schema),
         Admin::OrgAdd { .. } => say(output, Ending::Schema),
         Admin::OrgLimit { .. } => say(output, Ending::Schema),
+        Admin::OrgRemove { .. } => say(output, Ending::Schema),
         Admin::TokenAdd { .. } => say(output, Ending::Schema),
         Admin::TokenList { .. } => say(output, Ending::Schema),
         Admin::TokenRevoke { .. } => say(output, Ending::Schema),

@@ -1,5 +1,5 @@
 -- Small histories of one workspace: how its periods are cut, and, for each law of the book, one that breaks it.
-use Rattle.std.proofs.Common.{◌≡◌, inl, inr, ℕ, zero, suc, Bool, true, false, List, [], ◌∷◌, Option, Some, None, refl, sym, ap, subst, ◌∙◌, arith}
+use Rattle.std.proofs.Common.{◌≡◌, ◌⊎◌, inl, inr, ℕ, zero, suc, Bool, true, false, List, [], ◌∷◌, Option, Some, None, refl, sym, ap, subst, ◌∙◌, arith}
 use Rattle.std.specs.Prelude.{codes}
 use Rattle.std.specs.List.{Contains}
 use Rattle.std.specs.Fmt.{digits}
@@ -16,6 +16,7 @@ use Rattle.machine.specs.Custody.{IsRepeatable, Releases}
 use Rattle.machine.specs.Laws.{is_nobody}
 use Rattle.machine.specs.Workspaces.{new_workspace}
 use Rattle.machine.specs.declared.acts.Act.{Act}
+use Rattle.machine.specs.declared.keeps.AdminAnswer.TheVariants.{Done}
 use Rattle.machine.specs.declared.acts.Act.TheVariants.{PurgeState as PurgeAct, Unlock as UnlockAct, MakeRun as MakeRunAct, ReportRun as ReportRunAct}
 use Rattle.basis.specs.declared.rows.Holder.TheVariants.{Nobody, Lock as HeldLock, Run as HeldRun}
 use Rattle.basis.specs.declared.rows.RunRow.{RunRow as Run}
@@ -25,9 +26,11 @@ use Rattle.route.specs.declared.acts.AskedAct.TheVariants.{OfWorkspace}
 use Rattle.route.specs.declared.acts.WsAct.{WsAct}
 use Rattle.route.specs.declared.acts.WsAct.TheVariants.{Look, Put, Delete, UpdateState, PurgeState, Lock, Unlock, MakeRun, ReportRun}
 use Rattle.wire.specs.Replies.{empty_answer}
-use Rattle.serve.specs.Asks.{Ask, requests}
-use Rattle.serve.specs.Steps.{replies}
-use Rattle.serve.specs.Book.{Entry, periods, is_held, is_lock, life, LosesVersion, IsApplying, LocksKeepOthersOut, RunsKeepOthersOut, NoIdWhereNobodyHolds, LocksEndByUnlock, OneRunAtATime, StartsRise, RepeatsLeaveIt, DoneOnceIsDone}
+use Rattle.serve.specs.declared.steps.Admin.TheVariants.{OrgRemove}
+use Rattle.serve.specs.Asks.{Ask, requests, commands}
+use Rattle.serve.specs.Custody.{ForcesRemoval}
+use Rattle.serve.specs.Steps.{replies, tells}
+use Rattle.serve.specs.Book.{Entry, periods, is_held, is_lock, life, LosesVersion, IsApplying, IsRemovedByForce, LocksKeepOthersOut, RunsKeepOthersOut, NoIdWhereNobodyHolds, LocksEndByUnlock, OneRunAtATime, StartsRise, RepeatsLeaveIt, DoneOnceIsDone}
 use Rattle.serve.proofs.CustodyLemmas.{is_one}
 
 abbrev net : List ℕ
@@ -117,13 +120,24 @@ first_byte None = 0
 first_byte (Some []) = 0
 first_byte (Some (b ∷ bytes)) = b
 
+-- what no forced removal is
+not_by_force : {X : Type 0} (e : Entry) → (ForcesRemoval e.ask → ⊥) → X ⊎ IsRemovedByForce e → X
+not_by_force e other (inl x) = x
+not_by_force e other (inr forced) = absurd (other forced.0)
+
 -- under a lock a version was made without its ID
-update_without_the_id : LocksKeepOthersOut net (locks ∷ accepted (asks UpdateState None) (locked_before 1) (locked_before 2) ∷ []) → ⊥
-update_without_the_id law = let none : ⊥ = cc ((law x1).0.0 (inl (omega arith))).1 in none
+abbrev posts_without_the_id : Entry
+posts_without_the_id = accepted (asks UpdateState None) (locked_before 1) (locked_before 2)
+
+update_without_the_id : LocksKeepOthersOut net (locks ∷ posts_without_the_id ∷ []) → ⊥
+update_without_the_id law = let none : ⊥ = cc (not_by_force posts_without_the_id (λ forced. forced) ((law x1).0.0 (inl (omega arith)))).1 in none
 
 -- under a lock a purge was accepted with another ID
-purge_with_another_id : LocksKeepOthersOut net (locks ∷ accepted (asks PurgeState (Some (codes "y1"))) (locked_before 1) (locked_before 1) ∷ []) → ⊥
-purge_with_another_id law = omega (arith, ap first_byte ((law x1).0.0 (inr (inl (refl, refl)))).1)
+abbrev purges_by_another_id : Entry
+purges_by_another_id = accepted (asks PurgeState (Some (codes "y1"))) (locked_before 1) (locked_before 1)
+
+purge_with_another_id : LocksKeepOthersOut net (locks ∷ purges_by_another_id ∷ []) → ⊥
+purge_with_another_id law = omega (arith, ap first_byte (not_by_force purges_by_another_id (λ forced. forced) ((law x1).0.0 (inr (inl (refl, refl))))).1)
 
 -- under a lock a version was let go, by a PUT of the workspace: that of number 1, of two
 abbrev version : ℕ → Version
@@ -140,7 +154,8 @@ first_is_gone (zero, low, same) = omega (arith, ap (λ (v : Version). v.number) 
 first_is_gone (suc k, low, same) = omega (arith, low)
 
 version_let_go_under_a_lock : LocksKeepOthersOut net (accepted (asks Put None) keeps_two keeps_one ∷ []) → ⊥
-version_let_go_under_a_lock law = let none : ⊥ = cc ((law x1).0.0 (inr (inr (version 1, (0, omega arith, refl), first_is_gone)))).1 in none
+version_let_go_under_a_lock law =
+    let none : ⊥ = cc (not_by_force (accepted (asks Put None) keeps_two keeps_one) (λ forced. forced) ((law x1).0.0 (inr (inr (version 1, (0, omega arith, refl), first_is_gone))))).1 in none
 
 -- one that is as it was is not let go
 abbrev settings_alone : Entry
@@ -160,7 +175,19 @@ none_is_left : Contains [] (version 1) → ⊥
 none_is_left (k, low, same) = omega (arith, low)
 
 version_gone_with_its_workspace : RunsKeepOthersOut net (deletes_beside_a_run ∷ []) → ⊥
-version_gone_with_its_workspace law = let none : ⊥ = cc ((law 1).0.0 (inr (inr (version 1, (0, omega arith, refl), none_is_left)))).1 in none
+version_gone_with_its_workspace law =
+    let none : ⊥ = cc (not_by_force deletes_beside_a_run (λ forced. forced) ((law 1).0.0 (inr (inr (version 1, (0, omega arith, refl), none_is_left))))).1 in none
+
+-- or with its organization, without force
+abbrev removes : Bool → Workspace → Entry
+removes is_forced w = record { ask = commands 1_700_000_000 (OrgRemove (codes "acme") is_forced); said = tells Done; before = Some w; after = None }
+
+removal_beside_a_run : RunsKeepOthersOut net (removes false run_keeps_one ∷ []) → ⊥
+removal_beside_a_run law =
+    (not_by_force (removes false run_keeps_one) (λ forced. let none : ⊥ = cc forced in none) ((law 1).0.0 (inr (inr (version 1, (0, omega arith, refl), none_is_left))))).0
+
+removal_by_force : IsRemovedByForce (removes true run_keeps_one)
+removal_by_force = (refl, refl, refl)
 
 -- in the period of a run a version was made while it was planned
 abbrev posts_planned : Entry
@@ -171,7 +198,7 @@ one_run r s e = cc
 
 update_of_a_planned_run : RunsKeepOthersOut net (posts_planned ∷ []) → ⊥
 update_of_a_planned_run law =
-    let applying : IsApplying 1 (Some (held_by 1 Planned [])) = ((law 1).0.0 (inl (omega arith))).2 in
+    let applying : IsApplying 1 (Some (held_by 1 Planned [])) = (not_by_force posts_planned (λ forced. forced) ((law 1).0.0 (inl (omega arith)))).2 in
     let status : Planned ≡ Applying = ap (λ (r : Run). r.status) (one_run (run 1 Planned) applying.0 applying.1) ∙ applying.2 in
     let none : ⊥ = cc status in none
 
@@ -182,7 +209,7 @@ posts_without = accepted (asks UpdateState (Some x1)) (held_by 1 Applying []) (r
 update_beside_a_run : RunsKeepOthersOut net (posts_without ∷ []) → ⊥
 unfolding run_id digits
 update_beside_a_run law =
-    let apart : 120 ≡ 114 = ap first_byte ((law 1).0.0 (inl (omega arith))).1 in
+    let apart : 120 ≡ 114 = ap first_byte (not_by_force posts_without (λ forced. forced) ((law 1).0.0 (inl (omega arith)))).1 in
     omega (arith, apart)
 
 -- an ID was accepted where nobody holds
@@ -193,10 +220,17 @@ no_id_where_nobody_holds : NoIdWhereNobodyHolds net (accepted (asks UpdateState 
 no_id_where_nobody_holds = (((λ how. refl), tt), tt)
 
 -- a lock ended by a purge
-lock_ended_by_a_purge : LocksEndByUnlock net (accepted (asks PurgeState (Some x1)) (locked_before 1) empty ∷ []) → ⊥
+abbrev purges_the_lock : Entry
+purges_the_lock = accepted (asks PurgeState (Some x1)) (locked_before 1) empty
+
+lock_ended_by_a_purge : LocksEndByUnlock net (purges_the_lock ∷ []) → ⊥
 lock_ended_by_a_purge law =
-    let ends = ((law x1).0.0 refl).1 in
+    let ends = (not_by_force purges_the_lock (λ forced. forced) ((law x1).0.0 refl)).1 in
     subst (λ (a : Act). Releases a x1) (is_one (PurgeAct (Some x1)) ends.0 ends.1) ends.2
+
+-- or by a removal of its organization, without force
+lock_ended_by_a_removal : LocksEndByUnlock net (removes false (locked_before 1) ∷ []) → ⊥
+lock_ended_by_a_removal law = (not_by_force (removes false (locked_before 1)) (λ forced. let none : ⊥ = cc forced in none) ((law x1).0.0 refl)).0
 
 -- two runs are active
 two_active_runs : OneRunAtATime net (accepted (asks (Look look.Workspace) None) (held_by 1 Planning (run 2 Planned ∷ [])) (held_by 1 Planning (run 2 Planned ∷ [])) ∷ []) → ⊥

@@ -16,6 +16,7 @@ use Rattle.machine.specs.Rules.{Outcome, refused, held, done, no_state, state, w
 use Rattle.machine.specs.Workspaces.{run_of, holder_status}
 use Rattle.machine.specs.Custody.{IsRefusal, IsWriter, WritesWith, Releases, IsRepeatable}
 use Rattle.machine.specs.Queue.{is_active_run, Starts}
+use Rattle.machine.specs.Removal.{is_in_use}
 use Rattle.machine.specs.declared.acts.Act.{Act}
 use Rattle.machine.specs.declared.acts.Act.TheVariants.{UpdateState as UpdateAct, PurgeState as PurgeAct}
 use Rattle.basis.specs.declared.rows.Holder.{Holder}
@@ -35,6 +36,7 @@ use Rattle.route.specs.declared.acts.AskedAct.{AskedAct}
 use Rattle.route.specs.declared.acts.AskedAct.TheVariants.{OfWorkspace}
 use Rattle.route.specs.declared.acts.WsAct.{WsAct}
 use Rattle.route.specs.declared.acts.WsAct.TheVariants.{UpdateState, PurgeState}
+use Rattle.serve.specs.declared.steps.Admin.{Admin}
 use Rattle.serve.specs.declared.prepared.Task.{Task}
 use Rattle.serve.specs.declared.prepared.Task.TheVariants.{ListAll, Carry}
 use Rattle.serve.specs.declared.steps.Step.{Step}
@@ -43,14 +45,15 @@ use Rattle.serve.specs.Asks as ask
 use Rattle.serve.specs.Checks.{spelt, act_of, checked}
 use Rattle.serve.specs.Steps.{Said, replies, answer_to, seen_at, carried, step}
 use Rattle.serve.specs.Service.{with_own, is_own, own_asks}
-use Rattle.serve.specs.Custody.{NamesIn, Names, CarriesId, IsActOn, ReleasesLock, asked_again, MayRepeat, IsAccepted}
-use Rattle.serve.specs.Book.{Entry, book, BooksAreOfTheRun, if_so, put_if, as_long_as, begun_periods, periods, PeriodsAreTheStepsBetween, InEachPeriod, is_lock, is_held, is_run, life, AsksOf, AsksFor, CarriesNoId, IsAcceptedUpdate, IsAcceptedPurge, next_version, MakesVersion, kept_versions, LosesVersion, WritesState, IsApplying, starts, Repeats, IsDoneOnce, LocksKeepOthersOut, RunsKeepOthersOut, NoIdWhereNobodyHolds, LocksEndByUnlock, OneRunAtATime, StartsRise, RepeatsLeaveIt, DoneOnceIsDone, OfEachBook}
+use Rattle.serve.specs.Custody.{NamesIn, Names, RemovesOrganization, ForcesRemoval, IsForcedRemoval, IsInUseIn, CarriesId, IsActOn, ReleasesLock, asked_again, MayRepeat, IsAccepted}
+use Rattle.serve.specs.Book.{Entry, book, BooksAreOfTheRun, if_so, put_if, as_long_as, begun_periods, periods, PeriodsAreTheStepsBetween, InEachPeriod, is_lock, is_held, is_run, life, AsksOf, AsksFor, CarriesNoId, IsAcceptedUpdate, IsAcceptedPurge, next_version, MakesVersion, kept_versions, LosesVersion, WritesState, IsApplying, starts, Repeats, IsDoneOnce, IsRemovedByForce, LocksKeepOthersOut, RunsKeepOthersOut, NoIdWhereNobodyHolds, LocksEndByUnlock, OneRunAtATime, StartsRise, RepeatsLeaveIt, DoneOnceIsDone, OfEachBook}
 use Rattle.serve.specs.Inner.Taking.{IsTimely, RunsTo}
 use Rattle.serve.proofs.ActLemmas.{IsKeyed, IsAction, act_is, once_is}
 use Rattle.serve.proofs.CheckLemmas.{Passes, order_passes, list_passes}
 use Rattle.serve.proofs.RecordLemmas.{standing_at, workspace_lawful}
-use Rattle.serve.proofs.CustodyLemmas.{apart_from, one_of, own_after, other_after, names_of, act_on, command_keeps, is_one, one_name, not_refused, some_is}
+use Rattle.serve.proofs.CustodyLemmas.{apart_from, one_of, own_after, other_after, names_of, act_on, is_one, one_name, not_refused, some_is}
 use Rattle.serve.proofs.RunLemmas.{all_asked_one}
+use Rattle.serve.proofs.RemovalLemmas.{held_is_used, Comes, command_comes}
 
 -- ---- what was made of a step
 
@@ -78,17 +81,24 @@ pub record Unruled (ws : List ℕ) (e : Entry) : Type 0 where
   pub stays : e.after ≡ e.before
   pub refuses : Names e.ask ws → IsAccepted e.said → ⊥
 
+-- the organization was removed, by force or where the workspace isn't in use
+pub record Removed (e : Entry) : Type 0 where
+  pub removes : RemovesOrganization e.ask
+  pub accepts : IsAccepted e.said
+  pub gone : e.after ≡ None
+  pub reason : ForcesRemoval e.ask ⊎ ((w : Workspace) → e.before ≡ Some w → is_in_use w ≡ true → ⊥)
+
 abbrev pub Goes : List ℕ → Entry → Type 0
-Goes ws e = Ruled ws e ⊎ Unruled ws e
+Goes ws e = Ruled ws e ⊎ Unruled ws e ⊎ Removed e
 
 abbrev entry_of : List ℕ → Option Organization → Ask → Entry
 entry_of ws r a = record { ask = a; said = (step r a).answer; before = workspace_in r ws; after = workspace_in (step r a).left ws }
 
 request_goes : (ws : List ℕ) (r : Option Organization) (now : ℕ) (awaited : Bool) (asked : Asked) (content_md5 : Option (List ℕ)) (body : List ℕ) (x : Result Task _) → checked r now asked content_md5 body ≡ x → IsMoment now
     → Goes ws (record { ask = requests now awaited asked content_md5 body; said = replies awaited now (carried asked.caller now r x).answer; before = workspace_in r ws; after = workspace_in (carried asked.caller now r x).left ws })
-request_goes ws r now awaited asked content_md5 body (Err refusal) e moment = inr (record { stays = refl; refuses = λ names accepted. let none : ⊥ = cc in none })
+request_goes ws r now awaited asked content_md5 body (Err refusal) e moment = inr (inl (record { stays = refl; refuses = λ names accepted. let none : ⊥ = cc in none }))
 request_goes ws r now awaited asked content_md5 body (Ok (ListAll after prefix)) e moment =
-    inr (record { stays = refl; refuses = λ names accepted. subst (λ (a : AskedAct). NamesIn a ws) (list_passes r now asked content_md5 body after prefix e) names })
+    inr (inl (record { stays = refl; refuses = λ names accepted. subst (λ (a : AskedAct). NamesIn a ws) (list_passes r now asked content_md5 body after prefix e) names }))
 request_goes ws r now awaited asked content_md5 body (Ok (Carry o)) e moment = by_name (bytes_eq ws o.ws) refl
   where
     p : Passes r asked body o
@@ -121,16 +131,24 @@ request_goes ws r now awaited asked content_md5 body (Ok (Carry o)) e moment = b
       says = refl;
       leaves = own_after r asked.caller o.ws o.act now p.there;
     }))
-    by_name false apart = inr (record {
+    by_name false apart = inr (inl (record {
       stays = other_after r asked.caller o.ws ws o.act now (apart_from ws o.ws apart);
       refuses = λ names accepted. apart_from ws o.ws apart (sym (subst (λ (a : AskedAct). NamesIn a ws) p.asks names));
-    })
+    }))
+
+command_goes : (ws : List ℕ) (r : Option Organization) (at : ℕ) (command : Admin) → Comes r command → Goes ws (entry_of ws r (commands at command))
+command_goes ws r at command (inl h) = inr (inr (record { removes = h.removes; accepts = h.accepts; gone = ap (λ (o : Option Organization). workspace_in o ws) h.gone; reason = by_reason h.reason }))
+  where
+    by_reason : IsForcedRemoval command ⊎ (IsInUseIn r → ⊥) → IsForcedRemoval command ⊎ ((w : Workspace) → workspace_in r ws ≡ Some w → is_in_use w ≡ true → ⊥)
+    by_reason (inl forced) = inl forced
+    by_reason (inr free) = inr (λ w stands used. free (ws, w, stands, used))
+command_goes ws r at command (inr h) = inr (inl (record { stays = h.keeps ws; refuses = λ names accepted. names }))
 
 step_goes : (ws : List ℕ) (r : Option Organization) (a : Ask) → IsTimely a → Goes ws (entry_of ws r a)
-step_goes ws r silent timely = inr (record { stays = refl; refuses = λ names accepted. names })
-step_goes ws r (ask.refused at awaited refusal is_head) timely = inr (record { stays = refl; refuses = λ names accepted. names })
+step_goes ws r silent timely = inr (inl (record { stays = refl; refuses = λ names accepted. names }))
+step_goes ws r (ask.refused at awaited refusal is_head) timely = inr (inl (record { stays = refl; refuses = λ names accepted. names }))
 step_goes ws r (requests at awaited asked content_md5 body) timely = request_goes ws r at awaited asked content_md5 body (checked r at asked content_md5 body) refl timely
-step_goes ws r (commands at command) timely = inr (record { stays = command_keeps r command ws; refuses = λ names accepted. names })
+step_goes ws r (commands at command) timely = command_goes ws r at command (command_comes r command)
 
 -- each step of a book is such a one, from a lawful workspace to a lawful one, and goes on where the one before it ended
 pub record IsLegal (ws : List ℕ) (e : Entry) : Type 0 where
@@ -140,7 +158,8 @@ pub record IsLegal (ws : List ℕ) (e : Entry) : Type 0 where
 
 lawful_goes : (ws : List ℕ) (e : Entry) → Goes ws e → IsLawfulIfThere e.before → IsLawfulIfThere e.after
 lawful_goes ws e (inl h) lawful = subst IsLawfulIfThere (sym h.leaves) (rules_are_lawful h.act h.now h.seen h.range h.moment (subst IsLawfulIfThere (sym h.stands) lawful))
-lawful_goes ws e (inr h) lawful = subst IsLawfulIfThere (sym h.stays) lawful
+lawful_goes ws e (inr (inl h)) lawful = subst IsLawfulIfThere (sym h.stays) lawful
+lawful_goes ws e (inr (inr h)) lawful = subst IsLawfulIfThere (sym h.gone) tt
 
 abbrev pub Joins : Option Workspace → List Entry → Type 0
 Joins w [] = Unit {0}
@@ -287,6 +306,30 @@ for_names ws act (ask.refused at awaited refusal is_head) asks = asks
 for_names ws act (requests at awaited asked content_md5 body) asks = names_of asked.act ws asks.0 asks.1
 for_names ws act (commands at command) asks = asks
 
+-- the removal of an organization names no workspace, nor does what it repeats
+removal_names : (ws : List ℕ) (a : Ask) → RemovesOrganization a → Names a ws → ⊥
+removal_names ws silent removes names = names
+removal_names ws (ask.refused at awaited refusal is_head) removes names = names
+removal_names ws (requests at awaited asked content_md5 body) removes names = removes
+removal_names ws (commands at command) removes names = names
+
+names_again : (ws : List ℕ) (at : ℕ) (a : Ask) → Names a ws → Names (asked_again at a) ws
+names_again ws at silent names = names
+names_again ws at (ask.refused now awaited refusal is_head) names = names
+names_again ws at (requests now awaited asked content_md5 body) names = names
+names_again ws at (commands now command) names = names
+
+repeat_removes : (ws : List ℕ) (e f : Entry) → Names e.ask ws → Repeats e f → Removed f → ⊥
+repeat_removes ws e f names again h = removal_names ws (asked_again again.0 e.ask) (subst RemovesOrganization again.1 h.removes) (names_again ws again.0 e.ask names)
+
+-- who is held in use goes by force alone
+forced_of : (ws : List ℕ) (e : Entry) (w : Workspace) → Removed e → IsLegal ws e → is_nobody w.holder ≡ false → e.before ≡ Some w → IsRemovedByForce e
+forced_of ws e w h legal somebody b = (by_reason h.reason, h.accepts, h.gone)
+  where
+    by_reason : ForcesRemoval e.ask ⊎ ((v : Workspace) → e.before ≡ Some v → is_in_use v ≡ true → ⊥) → ForcesRemoval e.ask
+    by_reason (inl forced) = forced
+    by_reason (inr free) = absurd (free w b (held_is_used w (subst IsLawfulIfThere b legal.first) somebody))
+
 -- the act of the path, and so the act
 spells_of : (ws : List ℕ) (e : Entry) (h : Ruled ws e) (what : WsAct) → AsksOf ws what e.ask → act_of what h.asked.lock_id h.body ≡ Ok h.act
 spells_of ws e h what asks =
@@ -352,26 +395,32 @@ none_made ws e h (inr (inl purge)) = h.refuses (asks_names ws PurgeState e.ask p
 none_made ws e h (inr (inr loses)) = stays_kept (kept_versions e.before) (kept_versions e.after) loses.0 (ap kept_versions h.stays) loses.1 loses.2
 
 -- while somebody holds
-written_by : (ws : List ℕ) (e : Entry) (w : Workspace) → IsLegal ws e → is_nobody w.holder ≡ false → e.before ≡ Some w → WritesState ws e → (h : Ruled ws e) × IsOfWriter w h.asked.lock_id
+abbrev IsByWriter : List ℕ → Entry → Workspace → Type 0
+IsByWriter ws e w = (h : Ruled ws e) × IsOfWriter w h.asked.lock_id
+
+written_by : (ws : List ℕ) (e : Entry) (w : Workspace) → IsLegal ws e → is_nobody w.holder ≡ false → e.before ≡ Some w → WritesState ws e → IsByWriter ws e w ⊎ IsRemovedByForce e
 written_by ws e w legal somebody b writes = by_goes legal.goes writes
   where
     lawful : IsLawful w
     lawful = subst IsLawfulIfThere b legal.first
 
-    by_goes : Goes ws e → WritesState ws e → (h : Ruled ws e) × IsOfWriter w h.asked.lock_id
-    by_goes (inl h) (inl makes) = (h, made_writer ws e h w lawful b makes)
-    by_goes (inl h) (inr (inl purge)) = (h, purge_writer ws e h w b purge)
-    by_goes (inl h) (inr (inr loses)) = (h, lost_writer ws e h w lawful somebody b loses)
-    by_goes (inr h) writes = absurd (none_made ws e h writes)
+    by_goes : Goes ws e → WritesState ws e → IsByWriter ws e w ⊎ IsRemovedByForce e
+    by_goes (inl h) (inl makes) = inl (h, made_writer ws e h w lawful b makes)
+    by_goes (inl h) (inr (inl purge)) = inl (h, purge_writer ws e h w b purge)
+    by_goes (inl h) (inr (inr loses)) = inl (h, lost_writer ws e h w lawful somebody b loses)
+    by_goes (inr (inl h)) writes = absurd (none_made ws e h writes)
+    by_goes (inr (inr h)) writes = inr (forced_of ws e w h legal somebody b)
 
-accepted_by : (ws : List ℕ) (e : Entry) (w : Workspace) → IsLegal ws e → e.before ≡ Some w → IsAcceptedUpdate ws e ⊎ IsAcceptedPurge ws e → (h : Ruled ws e) × IsOfWriter w h.asked.lock_id
+accepted_by : (ws : List ℕ) (e : Entry) (w : Workspace) → IsLegal ws e → e.before ≡ Some w → IsAcceptedUpdate ws e ⊎ IsAcceptedPurge ws e → IsByWriter ws e w
 accepted_by ws e w legal b accepted = by_goes legal.goes accepted
   where
-    by_goes : Goes ws e → IsAcceptedUpdate ws e ⊎ IsAcceptedPurge ws e → (h : Ruled ws e) × IsOfWriter w h.asked.lock_id
+    by_goes : Goes ws e → IsAcceptedUpdate ws e ⊎ IsAcceptedPurge ws e → IsByWriter ws e w
     by_goes (inl h) (inl update) = (h, update_writer ws e h w b update)
     by_goes (inl h) (inr purge) = (h, purge_writer ws e h w b purge)
-    by_goes (inr h) (inl update) = absurd (h.refuses (asks_names ws UpdateState e.ask update.0) update.1)
-    by_goes (inr h) (inr purge) = absurd (h.refuses (asks_names ws PurgeState e.ask purge.0) purge.1)
+    by_goes (inr (inl h)) (inl update) = absurd (h.refuses (asks_names ws UpdateState e.ask update.0) update.1)
+    by_goes (inr (inl h)) (inr purge) = absurd (h.refuses (asks_names ws PurgeState e.ask purge.0) purge.1)
+    by_goes (inr (inr h)) (inl update) = absurd (removal_names ws e.ask h.removes (asks_names ws UpdateState e.ask update.0))
+    by_goes (inr (inr h)) (inr purge) = absurd (removal_names ws e.ask h.removes (asks_names ws PurgeState e.ask purge.0))
 
 -- who holds, where one holds
 lock_there : (id : List ℕ) (o : Option Workspace) → is_held (is_lock id) o ≡ true → (w : Workspace) × (text : List ℕ) × (o ≡ Some w) × (w.holder ≡ HeldLock id text)
@@ -414,8 +463,11 @@ pub locks_keep_others_out : (ws : List ℕ) (w : Option Workspace) (es : List En
 locks_keep_others_out ws w es legal id =
     in_periods (is_held (is_lock id)) _ es w legal.0 (all_of (IsLegal ws) _ es (λ e is so writes.
     let at = lock_there id e.before so in
-    let by = written_by ws e at.0 is (ap is_nobody at.3) at.2 writes in
-    (names_it ws e by.0, carries ws e by.0 id (writer_as at.0 by.0.asked.lock_id (HeldLock id at.1) at.3 by.1))) legal.1)
+    by_id e at.0 at.1 at.3 (written_by ws e at.0 is (ap is_nobody at.3) at.2 writes)) legal.1)
+  where
+    by_id : (e : Entry) (v : Workspace) (text : List ℕ) → v.holder ≡ HeldLock id text → IsByWriter ws e v ⊎ IsRemovedByForce e → (Names e.ask ws × CarriesId e.ask id) ⊎ IsRemovedByForce e
+    by_id e v text at (inl by) = inl (names_it ws e by.0, carries ws e by.0 id (writer_as v by.0.asked.lock_id (HeldLock id text) at by.1))
+    by_id e v text at (inr forced) = inr forced
 
 -- in the period of a run
 status_is : (n : ℕ) (o : Option Run) → option_map (λ (r : Run). r.status) o ≡ Some Applying → (r : Run) × (o ≡ Some r) × (r.status ≡ Applying)
@@ -426,9 +478,14 @@ pub runs_keep_others_out : (ws : List ℕ) (w : Option Workspace) (es : List Ent
 runs_keep_others_out ws w es legal n =
     in_periods (is_held (is_run n)) _ es w legal.0 (all_of (IsLegal ws) _ es (λ e is so writes.
     let at = run_there n e.before so in
-    let by = written_by ws e at.0 is (ap is_nobody at.2) at.1 writes in
-    let writer = writer_as at.0 by.0.asked.lock_id (HeldRun n) at.2 by.1 in
-    (names_it ws e by.0, carries ws e by.0 (run_id n) writer.0, subst (IsApplying n) (sym at.1) (status_is n (run_of n at.0.runs) writer.1))) legal.1)
+    by_id e at.0 at.1 at.2 (written_by ws e at.0 is (ap is_nobody at.2) at.1 writes)) legal.1)
+  where
+    by_id : (e : Entry) (v : Workspace) → e.before ≡ Some v → v.holder ≡ HeldRun n → IsByWriter ws e v ⊎ IsRemovedByForce e
+        → (Names e.ask ws × CarriesId e.ask (run_id n) × IsApplying n e.before) ⊎ IsRemovedByForce e
+    by_id e v b at (inl by) =
+        let writer = writer_as v by.0.asked.lock_id (HeldRun n) at by.1 in
+        inl (names_it ws e by.0, carries ws e by.0 (run_id n) writer.0, subst (IsApplying n) (sym b) (status_is n (run_of n v.runs) writer.1))
+    by_id e v b at (inr forced) = inr forced
 
 -- while nobody holds
 pub no_id_where_nobody_holds : (ws : List ℕ) (w : Option Workspace) (es : List Entry) → AreLegal ws w es → NoIdWhereNobodyHolds ws es
@@ -450,7 +507,8 @@ answer_accepted org ws (the_run r) h = refl
 answer_accepted org ws (versions list) h = refl
 answer_accepted org ws (runs list) h = refl
 
-lock_ends : (ws : List ℕ) (id : List ℕ) (e : Entry) → IsLegal ws e → is_held (is_lock id) e.before ≡ true → is_held (is_lock id) e.after ≡ false → Names e.ask ws × ReleasesLock e.ask id × IsAccepted e.said
+lock_ends : (ws : List ℕ) (id : List ℕ) (e : Entry) → IsLegal ws e → is_held (is_lock id) e.before ≡ true → is_held (is_lock id) e.after ≡ false
+    → (Names e.ask ws × ReleasesLock e.ask id × IsAccepted e.said) ⊎ IsRemovedByForce e
 lock_ends ws id e legal so gone = by_goes legal.goes
   where
     stays_held : e.after ≡ e.before → ⊥
@@ -461,13 +519,16 @@ lock_ends ws id e legal so gone = by_goes legal.goes
         absurd (let none : ⊥ = cc (sym gone ∙ ap (is_held (is_lock id)) after ∙ ap (is_lock id) still ∙ (bytes_eq-Decides id id).1 refl) in none)
     released h w v text after (inr releases) = releases
 
-    by_goes : Goes ws e → Names e.ask ws × ReleasesLock e.ask id × IsAccepted e.said
-    by_goes (inr h) = absurd (stays_held h.stays)
+    by_goes : Goes ws e → (Names e.ask ws × ReleasesLock e.ask id × IsAccepted e.said) ⊎ IsRemovedByForce e
+    by_goes (inr (inl h)) = absurd (stays_held h.stays)
+    by_goes (inr (inr h)) =
+        let at = lock_there id e.before so in
+        inr (forced_of ws e at.0 h legal (ap is_nobody at.3) at.2)
     by_goes (inl h) =
         let at = lock_there id e.before so in
         let v = some_is (rules h.act h.now (there at.0)).left (locked_workspaces_stay h.act h.now at.0 id at.1 at.3) in
         let after : e.after ≡ Some v.0 = leaves_of ws e h at.0 at.2 ∙ v.1 in
-        let releases : Releases h.act id = released h at.0 v.0 at.1 after (holds_until_released h.act h.now at.0 v.0 id at.1 at.3 v.1) in (
+        let releases : Releases h.act id = released h at.0 v.0 at.1 after (holds_until_released h.act h.now at.0 v.0 id at.1 at.3 v.1) in inl (
           names_it ws e h,
           subst (λ (a : Ask). ReleasesLock a id) (sym h.asking) (h.act, act_on h.asked ws h.body h.what h.act h.asks h.spells, releases),
           subst IsAccepted (sym h.says) (answer_accepted h.asked.caller ws (rules h.act h.now h.seen).answer
@@ -503,7 +564,8 @@ start_of ws e n legal is = by_goes legal.goes
     v = run_there n e.after both.1
 
     by_goes : Goes ws e → (h : Ruled ws e) × (w : Workspace) × (v : Workspace) × (e.before ≡ Some w) × (e.after ≡ Some v) × Starts n w v
-    by_goes (inr h) = absurd (let none : ⊥ = cc (sym both.0 ∙ ap (is_held (is_run n)) (sym h.stays) ∙ both.1) in none)
+    by_goes (inr (inl h)) = absurd (let none : ⊥ = cc (sym both.0 ∙ ap (is_held (is_run n)) (sym h.stays) ∙ both.1) in none)
+    by_goes (inr (inr h)) = absurd (let none : ⊥ = cc (sym h.gone ∙ v.1) in none)
     by_goes (inl h) = by_before e.before refl
       where
         by_before : (o : Option Workspace) → e.before ≡ o → (h : Ruled ws e) × (w : Workspace) × (v : Workspace) × (e.before ≡ Some w) × (e.after ≡ Some v) × Starts n w v
@@ -530,7 +592,8 @@ below_kept : (ws : List ℕ) (n : ℕ) (f : Entry) (u x : Workspace) → IsLegal
 below_kept ws n f u x legal b a below = by_goes legal.goes
   where
     by_goes : Goes ws f → IsBelow n x
-    by_goes (inr h) = subst (IsBelow n) (same_workspace f.before u x b (sym h.stays ∙ a)) below
+    by_goes (inr (inl h)) = subst (IsBelow n) (same_workspace f.before u x b (sym h.stays ∙ a)) below
+    by_goes (inr (inr h)) = absurd (let none : ⊥ = cc (sym h.gone ∙ a) in none)
     by_goes (inl h) = stays_below h.act h.now u x n (lawful_at ws f u legal b) (sym (leaves_of ws f h u b) ∙ a) below
 
 above : (ws : List ℕ) (n m : ℕ) (f : Entry) (u : Workspace) → IsLegal ws f → f.before ≡ Some u → IsBelow n u → starts m f ≡ true → n < m
@@ -565,8 +628,10 @@ repeat_leaves : (ws : List ℕ) (e f : Entry) → IsLegal ws e → IsLegal ws f 
 repeat_leaves ws e f first second names may accepted again same = by_goes first.goes second.goes
   where
     by_goes : Goes ws e → Goes ws f → f.after ≡ f.before
-    by_goes (inr h) k = absurd (h.refuses names accepted)
-    by_goes (inl h) (inr k) = k.stays
+    by_goes (inr (inl h)) k = absurd (h.refuses names accepted)
+    by_goes (inr (inr h)) k = absurd (removal_names ws e.ask h.removes names)
+    by_goes (inl h) (inr (inl k)) = k.stays
+    by_goes (inl h) (inr (inr k)) = absurd (repeat_removes ws e f names again k)
     by_goes (inl h) (inl k) =
         let repeatable : IsRepeatable h.act = subst MayRepeat h.asking may h.act (act_on h.asked ws h.body h.what h.act h.asks h.spells) in
         let still : (rules h.act k.now k.seen).left ≡ standing k.seen =
@@ -605,7 +670,8 @@ reaches_kept : (ws : List ℕ) (v : Workspace) (f : Entry) (u x : Workspace) →
 reaches_kept ws v f u x legal b a reaches = by_goes legal.goes
   where
     by_goes : Goes ws f → Reaches v x
-    by_goes (inr h) = subst (Reaches v) (same_workspace f.before u x b (sym h.stays ∙ a)) reaches
+    by_goes (inr (inl h)) = subst (Reaches v) (same_workspace f.before u x b (sym h.stays ∙ a)) reaches
+    by_goes (inr (inr h)) = absurd (let none : ⊥ = cc (sym h.gone ∙ a) in none)
     by_goes (inl h) = reaches_more h.act h.now v u x reaches h.range h.moment (sym (leaves_of ws f h u b) ∙ a)
 
 for_act : (ws : List ℕ) (e : Entry) (h : Ruled ws e) (act : Act) → AsksFor ws act e.ask → h.act ≡ act
@@ -619,7 +685,8 @@ done_once : (ws : List ℕ) (e : Entry) (es : List Entry) (act : Act) → IsLega
 done_once ws e es act first legal asks once accepted = by_goes first.goes
   where
     by_goes : Goes ws e → AllByRecursion (λ (f : Entry). Repeats e f → f.after ≡ f.before) (life e es)
-    by_goes (inr h) = absurd (h.refuses (for_names ws act e.ask asks) accepted)
+    by_goes (inr (inl h)) = absurd (h.refuses (for_names ws act e.ask asks) accepted)
+    by_goes (inr (inr h)) = absurd (removal_names ws e.ask h.removes (for_names ws act e.ask asks))
     by_goes (inl h) = by_before e.before refl
       where
         once_of : IsDoneOnce h.act
@@ -644,7 +711,8 @@ done_once ws e es act first legal asks once accepted = by_goes first.goes
                 again f u is c reaches repeats = by_way is.goes
                   where
                     by_way : Goes ws f → f.after ≡ f.before
-                    by_way (inr k) = k.stays
+                    by_way (inr (inl k)) = k.stays
+                    by_way (inr (inr k)) = absurd (repeat_removes ws e f (for_names ws act e.ask asks) repeats k)
                     by_way (inl k) =
                         leaves_of ws f k u c ∙ ap (λ (x : Act). (rules x k.now (there u)).left) (same_act ws e f h k repeats)
                         ∙ done_again h.act once_of h.now k.now w v u h.range h.moment (lawful_at ws e w first b) (accepted_there ws e h w b accepted) left reaches ∙ sym c

@@ -1,17 +1,17 @@
 -- What a step leaves of a workspace.
-use Rattle.std.proofs.Common.{◌≡◌, ◌≢◌, ◌⊎◌, inl, inr, ℕ, ◌≤◌, Bool, true, false, ◌||◌, cond, List, Option, Some, None, Result, Ok, Err, IsSome, is_some, nat_lt, refl, sym, ap, subst, ◌∙◌}
+use Rattle.std.proofs.Common.{◌≡◌, ◌≢◌, ◌⊎◌, inl, inr, ℕ, ◌≤◌, Bool, true, false, not, ◌&&◌, ◌||◌, cond, List, Option, Some, None, Result, Ok, Err, IsSome, is_some, nat_lt, refl, sym, ap, subst, ◌∙◌}
 use Rattle.std.specs.Str.{bytes_eq}
-use Rattle.std.specs.FinMap.{get, get-empty}
+use Rattle.std.specs.FinMap.{get}
 use Rattle.std.proofs.lemmas.Slice.Eq.{bytes_eq-Decides}
 use Rattle.basis.specs.declared.refusals.Refusal.{Refusal}
 use Rattle.basis.specs.declared.refusals.Refusal.TheVariants.{BadToken}
 use Rattle.sha2.specs.Sha256.{sha256}
-use Rattle.machine.specs.Order.{name_cmp}
 use Rattle.machine.specs.Effects.{effect}
 use Rattle.machine.specs.Records.{Seen, missing, there, workspace_in, count_of, seen_by, seen_in, standing, placed}
 use Rattle.machine.specs.Rules.{Outcome, refused, held, done, no_state, state, workspace, the_run, versions, runs, rules}
 use Rattle.machine.specs.Custody.{WritesWith, Releases, IsRepeatable, IsRefusal}
-use Rattle.machine.specs.Tokens.{new_organization, token_of, with_token, without_token, has_digest, token_added, token_revoked}
+use Rattle.machine.specs.Removal.{has_use}
+use Rattle.machine.specs.Tokens.{token_of, with_token, without_token, has_digest, token_added, token_revoked}
 use Rattle.machine.specs.declared.keeps.AdminAnswer.TheVariants.{Done, Exists, Absent}
 use Rattle.machine.specs.declared.acts.Act.{Act}
 use Rattle.machine.specs.declared.acts.Act.TheVariants.{DeleteWorkspace as DeleteAct}
@@ -27,7 +27,7 @@ use Rattle.route.specs.declared.acts.AskedAct.{AskedAct}
 use Rattle.route.specs.declared.acts.AskedAct.TheVariants.{ListWorkspaces, OfWorkspace}
 use Rattle.route.specs.declared.acts.WsAct.{WsAct}
 use Rattle.serve.specs.declared.steps.Admin.{Admin}
-use Rattle.serve.specs.declared.steps.Admin.TheVariants.{OrgAdd, OrgLimit, OrgList, TokenAdd, TokenList, TokenRevoke}
+use Rattle.serve.specs.declared.steps.Admin.TheVariants.{OrgAdd, OrgLimit, OrgRemove, OrgList, TokenAdd, TokenList, TokenRevoke}
 use Rattle.serve.specs.declared.prepared.Order.{Order}
 use Rattle.serve.specs.declared.prepared.Task.{Task}
 use Rattle.serve.specs.declared.prepared.Task.TheVariants.{ListAll, Carry}
@@ -35,11 +35,12 @@ use Rattle.serve.specs.Asks.{Ask, silent, requests, commands}
 use Rattle.serve.specs.Asks as ask
 use Rattle.serve.specs.Checks.{spelt, act_of, checked}
 use Rattle.serve.specs.Steps.{answer_to, seen_at, ruled_in, carried, command_step}
-use Rattle.serve.specs.Custody.{NamesIn, StepsChangeWhatTheyName, IsActOn, IsInCustody, LocksAreKept, asked_again, StepsAreRepeatable, RepeatsLeaveTheWorkspace, SameBytesAskAgain, RequestsChangeTheirWorkspaceAlone}
+use Rattle.serve.specs.Custody.{NamesIn, IsRemoval, IsForcedRemoval, StepsChangeWhatTheyName, IsActOn, IsInCustody, LocksAreKept, IsInUseIn, OrganizationsGoByRemoval, RemovalsAreCarriedOut, OrganizationsBeginAnew, asked_again, StepsAreRepeatable, RepeatsLeaveTheWorkspace, SameBytesAskAgain, RequestsChangeTheirWorkspaceAlone}
 use Rattle.serve.proofs.ActLemmas.{act_is}
 use Rattle.serve.proofs.CheckLemmas.{Passes, order_passes, list_passes, checked_later}
 use Rattle.serve.proofs.RecordLemmas.{placed_as_it_was, standing_at}
 use Rattle.serve.proofs.LawLemmas.{ruled_leaves}
+use Rattle.serve.proofs.RemovalLemmas.{lock_is_used, Comes, command_comes, removal_goes, removed_again}
 use Rattle.serve.specs.Service.{asked_by, ask_of}
 use Rattle.route.specs.Asks.{Asking, asked_of, asks}
 use Rattle.route.specs.Asks as route
@@ -76,30 +77,6 @@ names_of act ws what e = subst (λ (a : AskedAct). NamesIn a ws) (sym e) refl
 pub act_on : (asked : Asked) (ws body : List ℕ) (what : WsAct) (act : Act) → asked.act ≡ OfWorkspace ws what → act_of what asked.lock_id body ≡ Ok act → IsActOn asked.act asked.lock_id body act
 act_on asked ws body what act e spelt = subst (λ (a : AskedAct). IsActOn a asked.lock_id body act) (sym e) spelt
 
--- an operator's command leaves every workspace
-pub command_keeps : (r : Option Organization) (command : Admin) (ws : List ℕ) → workspace_in (command_step r command).left ws ≡ workspace_in r ws
-command_keeps None (OrgAdd org limit) ws = nothing_in limit ws
-  where
-    nothing_in : (limit : ℕ) (ws : List ℕ) → workspace_in (Some (new_organization limit)) ws ≡ None
-    nothing_in limit ws = get-empty name_cmp ws
-command_keeps (Some o) (OrgAdd org limit) ws = refl
-command_keeps None (TokenAdd org name role secret bounds) ws = refl
-command_keeps (Some o) (TokenAdd org name role secret bounds) ws = chosen (is_some (get o.tokens name) || has_digest (sha256 secret) o)
-  where
-    chosen : (b : Bool) → workspace_in (cond b (effect Exists (Some o)) (effect Done (Some (with_token o name (token_of (sha256 secret) role bounds))))).left ws ≡ get o.workspaces ws
-    chosen true = refl
-    chosen false = refl
-command_keeps r (TokenList org) ws = refl
-command_keeps None (OrgLimit org limit) ws = refl
-command_keeps (Some o) (OrgLimit org limit) ws = refl
-command_keeps r OrgList ws = refl
-command_keeps None (TokenRevoke org name) ws = refl
-command_keeps (Some o) (TokenRevoke org name) ws = taken (is_some (get o.tokens name))
-  where
-    taken : (b : Bool) → workspace_in (cond b (effect Done (Some (without_token o name))) (effect Absent (Some o))).left ws ≡ get o.workspaces ws
-    taken true = refl
-    taken false = refl
-
 -- a step changes at most the workspace that it names
 request_leaves_others : (r : Option Organization) (now : ℕ) (asked : Asked) (content_md5 : Option (List ℕ)) (body ws : List ℕ) (x : Result Task Refusal) → checked r now asked content_md5 body ≡ x
     → (NamesIn asked.act ws → ⊥) → workspace_in (carried asked.caller now r x).left ws ≡ workspace_in r ws
@@ -111,10 +88,14 @@ request_leaves_others r now asked content_md5 body ws (Ok (Carry order)) e other
     (λ same. other (subst (NamesIn asked.act) (sym same) (names_of asked.act order.ws p.what p.asks)))
 
 pub steps_change_what_they_name : StepsChangeWhatTheyName
-steps_change_what_they_name r silent ws other = refl
-steps_change_what_they_name r (ask.refused at awaited refusal is_head) ws other = refl
-steps_change_what_they_name r (requests at awaited asked content_md5 body) ws other = request_leaves_others r at asked content_md5 body ws (checked r at asked content_md5 body) refl other
-steps_change_what_they_name r (commands at command) ws other = command_keeps r command ws
+steps_change_what_they_name r silent ws other stays = refl
+steps_change_what_they_name r (ask.refused at awaited refusal is_head) ws other stays = refl
+steps_change_what_they_name r (requests at awaited asked content_md5 body) ws other stays = request_leaves_others r at asked content_md5 body ws (checked r at asked content_md5 body) refl other
+steps_change_what_they_name r (commands at command) ws other stays = by_case (command_comes r command)
+  where
+    by_case : Comes r command → workspace_in (command_step r command).left ws ≡ workspace_in r ws
+    by_case (inl removed) = absurd (stays removed.removes)
+    by_case (inr leaves) = leaves.keeps ws
 
 abbrev read_act : Act → Result Act Refusal
 read_act act = Ok act
@@ -181,11 +162,48 @@ request_kept r now awaited asked content_md5 body ws w own text (Ok (Carry o)) e
         (other_after r asked.caller o.ws ws o.act now (apart_from ws o.ws apart) ∙ stands) lock
 
 pub locks_are_kept : LocksAreKept
-locks_are_kept r silent ws w own text stands lock = stays (workspace_in r ws) silent ws own text w stands lock
-locks_are_kept r (ask.refused at awaited refusal is_head) ws w own text stands lock = stays (workspace_in r ws) (ask.refused at awaited refusal is_head) ws own text w stands lock
-locks_are_kept r (requests at awaited asked content_md5 body) ws w own text stands lock = request_kept r at awaited asked content_md5 body ws w own text (checked r at asked content_md5 body) refl stands lock
-locks_are_kept r (commands at command) ws w own text stands lock =
-    stays (workspace_in (command_step r command).left ws) (commands at command) ws own text w (command_keeps r command ws ∙ stands) lock
+locks_are_kept r silent ws w own text stands lock = inl (stays (workspace_in r ws) silent ws own text w stands lock)
+locks_are_kept r (ask.refused at awaited refusal is_head) ws w own text stands lock = inl (stays (workspace_in r ws) (ask.refused at awaited refusal is_head) ws own text w stands lock)
+locks_are_kept r (requests at awaited asked content_md5 body) ws w own text stands lock =
+    inl (request_kept r at awaited asked content_md5 body ws w own text (checked r at asked content_md5 body) refl stands lock)
+locks_are_kept r (commands at command) ws w own text stands lock = by_case (command_comes r command)
+  where
+    by_reason : IsForcedRemoval command ⊎ (IsInUseIn r → ⊥) → IsForcedRemoval command
+    by_reason (inl forced) = forced
+    by_reason (inr free) = absurd (free (ws, w, stands, lock_is_used w own text lock))
+
+    by_case : Comes r command → Kept (workspace_in (command_step r command).left ws) (commands at command) ws own text w ⊎ IsForcedRemoval command
+    by_case (inl removed) = inr (by_reason removed.reason)
+    by_case (inr leaves) = inl (stays (workspace_in (command_step r command).left ws) (commands at command) ws own text w (leaves.keeps ws ∙ stands) lock)
+
+-- how an organization goes
+request_leaves_one : (o : Organization) (now : ℕ) (org : List ℕ) (x : Result Task Refusal) → IsSome (carried org now (Some o) x).left
+request_leaves_one o now org (Err refusal) = refl
+request_leaves_one o now org (Ok (ListAll after prefix)) = refl
+request_leaves_one o now org (Ok (Carry order)) = refl
+
+some_stays : (left : Option Organization) → IsSome left → left ≡ None → ⊥
+some_stays left some gone = let none : ⊥ = cc (sym some ∙ ap is_some gone) in none
+
+pub organizations_go_by_removal : OrganizationsGoByRemoval
+organizations_go_by_removal o silent gone = absurd (some_stays (Some o) refl gone)
+organizations_go_by_removal o (ask.refused at awaited refusal is_head) gone = absurd (some_stays (Some o) refl gone)
+organizations_go_by_removal o (requests at awaited asked content_md5 body) gone =
+    absurd (some_stays _ (request_leaves_one o at asked.caller (checked (Some o) at asked content_md5 body)) gone)
+organizations_go_by_removal o (commands at command) gone = by_case (command_comes (Some o) command)
+  where
+    by_case : Comes (Some o) command → IsRemoval command × (IsForcedRemoval command ⊎ (IsInUseIn (Some o) → ⊥))
+    by_case (inl removed) = (removed.removes, removed.reason)
+    by_case (inr leaves) = absurd (some_stays (command_step (Some o) command).left (leaves.there refl) gone)
+
+pub removals_are_carried_out : RemovalsAreCarriedOut
+removals_are_carried_out o silent removes reason = absurd removes
+removals_are_carried_out o (ask.refused at awaited refusal is_head) removes reason = absurd removes
+removals_are_carried_out o (requests at awaited asked content_md5 body) removes reason = absurd removes
+removals_are_carried_out o (commands at command) removes reason = removal_goes o command removes reason
+
+pub organizations_begin_anew : OrganizationsBeginAnew
+organizations_begin_anew at org limit = refl
 
 -- two orders of one request, over two records, are one
 pub one_name : (a b : List ℕ) (c d : WsAct) → OfWorkspace a c ≡ OfWorkspace b d → (a ≡ b) × (c ≡ d)
@@ -317,6 +335,8 @@ command_again r (TokenList org) = refl
 command_again None (OrgLimit org limit) = refl
 command_again (Some o) (OrgLimit org limit) = refl
 command_again r OrgList = refl
+command_again None (OrgRemove org is_forced) = refl
+command_again (Some o) (OrgRemove org is_forced) = removed_again o is_forced (not is_forced && has_use o) refl
 command_again None (TokenRevoke org name) = refl
 command_again (Some o) (TokenRevoke org name) = revoked_again o name (is_some (get o.tokens name)) refl
 

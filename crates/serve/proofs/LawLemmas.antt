@@ -1,6 +1,6 @@
 -- Refusals change nothing, and what is out of reach is told as what isn't there.
 use Rattle.std.specs.Prelude.{if◌then◌else◌}
-use Rattle.std.proofs.Common.{◌≡◌, ◌≢◌, ℕ, Bool, true, false, ◌||◌, cond, List, Option, Some, None, Result, Ok, Err, is_some, refl, sym, ap, ◌∙◌}
+use Rattle.std.proofs.Common.{◌≡◌, ◌≢◌, ℕ, Bool, true, false, not, ◌&&◌, ◌||◌, cond, List, Option, Some, None, Result, Ok, Err, is_some, refl, sym, ap, ◌∙◌}
 use Rattle.std.specs.Prelude.{option_map}
 use Rattle.std.specs.FinMap.{get}
 use Rattle.basis.specs.Checks.{and_then}
@@ -10,9 +10,10 @@ use Rattle.machine.specs.Effects.{effect}
 use Rattle.machine.specs.Records.{workspace_in, placed}
 use Rattle.machine.specs.Rules.{Outcome, refused, held, done, no_state, state, workspace, the_run, versions, runs, Ruling, rules}
 use Rattle.machine.specs.Custody.{IsRefusal}
+use Rattle.machine.specs.Removal.{has_use}
 use Rattle.machine.specs.Tokens.{token_of, with_token, without_token, has_digest}
 use Rattle.machine.specs.declared.keeps.AdminAnswer.{AdminAnswer}
-use Rattle.machine.specs.declared.keeps.AdminAnswer.TheVariants.{Done, Exists, Absent}
+use Rattle.machine.specs.declared.keeps.AdminAnswer.TheVariants.{Done, Exists, Absent, InUse}
 use Rattle.machine.specs.declared.records.Token.{Token}
 use Rattle.machine.specs.declared.records.Workspace.{Workspace}
 use Rattle.machine.specs.declared.records.Organization.{Organization}
@@ -28,7 +29,7 @@ use Rattle.route.specs.declared.acts.AskedAct.TheVariants.{ListWorkspaces, OfWor
 use Rattle.route.specs.declared.acts.WsAct.{WsAct}
 use Rattle.wire.specs.Replies.{Answer}
 use Rattle.serve.specs.declared.steps.Admin.{Admin}
-use Rattle.serve.specs.declared.steps.Admin.TheVariants.{OrgAdd, OrgLimit, OrgList, TokenAdd, TokenList, TokenRevoke}
+use Rattle.serve.specs.declared.steps.Admin.TheVariants.{OrgAdd, OrgLimit, OrgRemove, OrgList, TokenAdd, TokenList, TokenRevoke}
 use Rattle.serve.specs.declared.prepared.Task.{Task}
 use Rattle.serve.specs.declared.prepared.Task.TheVariants.{ListAll, Carry}
 use Rattle.serve.specs.Asks.{silent, requests, commands}
@@ -75,6 +76,12 @@ command_leaves r (TokenList org) apart = refl
 command_leaves None (OrgLimit org limit) apart = refl
 command_leaves (Some o) (OrgLimit org limit) apart = absurd (apart refl)
 command_leaves r OrgList apart = refl
+command_leaves None (OrgRemove org is_forced) apart = refl
+command_leaves (Some o) (OrgRemove org is_forced) apart = removed (not is_forced && has_use o) apart
+  where
+    removed : (b : Bool) → (cond b (effect InUse (Some o)) (effect Done None)).answer ≢ Done → (cond b (effect InUse (Some o)) (effect Done None)).left ≡ Some o
+    removed true apart = refl
+    removed false apart = absurd (apart refl)
 command_leaves None (TokenRevoke org name) apart = refl
 command_leaves (Some o) (TokenRevoke org name) apart = taken (is_some (get o.tokens name)) apart
   where
@@ -86,6 +93,7 @@ command_leaves (Some o) (TokenRevoke org name) apart = taken (is_some (get o.tok
 said_is : (command : Admin) (a b : AdminAnswer) → command_said command a ≡ tells b → a ≡ b
 said_is (OrgAdd org limit) a b e = cc
 said_is (OrgLimit org limit) a b e = cc
+said_is (OrgRemove org is_forced) a b e = cc
 said_is OrgList a b e = absurd (let none : ⊥ = cc in none)
 said_is (TokenAdd org name role secret bounds) a b e = cc
 said_is (TokenList org) a b e = absurd (let none : ⊥ = cc in none)
@@ -94,6 +102,7 @@ said_is (TokenRevoke org name) a b e = cc
 no_reply : (command : Admin) (a : AdminAnswer) (awaited : Bool) (now : ℕ) (answer : Answer) → command_said command a ≡ replies awaited now answer → ⊥
 no_reply (OrgAdd org limit) a awaited now answer e = let none : ⊥ = cc in none
 no_reply (OrgLimit org limit) a awaited now answer e = let none : ⊥ = cc in none
+no_reply (OrgRemove org is_forced) a awaited now answer e = let none : ⊥ = cc in none
 no_reply OrgList a awaited now answer e = let none : ⊥ = cc in none
 no_reply (TokenAdd org name role secret bounds) a awaited now answer e = let none : ⊥ = cc in none
 no_reply (TokenList org) a awaited now answer e = let none : ⊥ = cc in none

@@ -6,6 +6,7 @@ pub mod TakenLemmas
 pub mod RunLemmas
 pub mod ExchangeLemmas
 pub mod LawLemmas
+pub mod RemovalLemmas
 pub mod CustodyLemmas
 pub mod HolderLemmas
 pub mod BookLemmas

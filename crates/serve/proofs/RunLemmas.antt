@@ -12,7 +12,7 @@ use Rattle.wire.specs.Links.{continue_if}
 use Rattle.serve.specs.declared.steps.Step.{Step}
 use Rattle.serve.specs.declared.steps.Step.TheVariants.{Request, Command}
 use Rattle.serve.specs.declared.steps.Admin.{Admin}
-use Rattle.serve.specs.declared.steps.Admin.TheVariants.{OrgAdd, OrgLimit, OrgList, TokenAdd, TokenList, TokenRevoke}
+use Rattle.serve.specs.declared.steps.Admin.TheVariants.{OrgAdd, OrgLimit, OrgRemove, OrgList, TokenAdd, TokenList, TokenRevoke}
 use Rattle.machine.specs.declared.keeps.AdminAnswer.{AdminAnswer}
 use Rattle.serve.specs.Asks.{Ask, silent, refused, requests, commands, Owner, organization, unattributed, operator, commanded_of, owner_of}
 use Rattle.serve.specs.Steps.{Said, nothing, replies, tells, lists, lists_tokens, command_step, command_said, step, own_said, own_record}
@@ -97,6 +97,7 @@ said_more false owner rows a text e is = tt
 nobody_commands : (command : Admin) → same_owner unattributed (commanded_of command) ≡ true → ⊥
 nobody_commands (OrgAdd org limit) e = let no : ⊥ = cc in no
 nobody_commands (OrgLimit org limit) e = let no : ⊥ = cc in no
+nobody_commands (OrgRemove org is_forced) e = let no : ⊥ = cc in no
 nobody_commands OrgList e = let no : ⊥ = cc in no
 nobody_commands (TokenAdd org name role secret bounds) e = let no : ⊥ = cc in no
 nobody_commands (TokenList org) e = let no : ⊥ = cc in no
@@ -111,6 +112,7 @@ nobody_still (commands at command) r e = absurd (nobody_commands command e)
 list_still : (command : Admin) (r : Option Organization) → same_owner operator (commanded_of command) ≡ true → (command_step r command).left ≡ r
 list_still (OrgAdd org limit) r e = absurd (let no : ⊥ = cc in no)
 list_still (OrgLimit org limit) r e = absurd (let no : ⊥ = cc in no)
+list_still (OrgRemove org is_forced) r e = absurd (let no : ⊥ = cc in no)
 list_still OrgList r e = refl
 list_still (TokenAdd org name role secret bounds) r e = absurd (let no : ⊥ = cc in no)
 list_still (TokenList org) r e = refl
@@ -217,6 +219,7 @@ IsOfOne lists_tokens = ⊥
 said_of_one : (org : List ℕ) (command : Admin) (answer : AdminAnswer) → same_owner (organization org) (commanded_of command) ≡ true → IsOfOne (command_said command answer)
 said_of_one org (OrgAdd name limit) answer own = tt
 said_of_one org (OrgLimit name limit) answer own = tt
+said_of_one org (OrgRemove name is_forced) answer own = tt
 said_of_one org OrgList answer own = absurd (let none : ⊥ = cc in none)
 said_of_one org (TokenAdd name token role secret bounds) answer own = tt
 said_of_one org (TokenList name) answer own = absurd (let none : ⊥ = cc in none)

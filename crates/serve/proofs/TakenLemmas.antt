@@ -17,7 +17,7 @@ use Rattle.serve.specs.Inner.Taking.{IsTaken, IsOnOne, IsTimely}
 use Rattle.serve.specs.declared.steps.Step.{Step}
 use Rattle.serve.specs.declared.steps.Step.TheVariants.{Command, Request}
 use Rattle.serve.specs.declared.steps.Admin.{Admin}
-use Rattle.serve.specs.declared.steps.Admin.TheVariants.{OrgAdd, OrgLimit, OrgList, TokenAdd, TokenList, TokenRevoke}
+use Rattle.serve.specs.declared.steps.Admin.TheVariants.{OrgAdd, OrgLimit, OrgRemove, OrgList, TokenAdd, TokenList, TokenRevoke}
 use Rattle.machine.specs.Tokens.{tokens_told}
 use Rattle.machine.specs.declared.keeps.AdminAnswer.{AdminAnswer}
 use Rattle.serve.proofs.RecordLemmas.{if_ok}
@@ -99,6 +99,7 @@ pub word_taken : (rows : List ℕ → Option Organization) (command : Admin) (an
     → IsSaidText (said_to rows (commands at command)) text
 word_taken rows (OrgAdd org limit) answer text at is made one = made ∙ ap admin_word is
 word_taken rows (OrgLimit org limit) answer text at is made one = made ∙ ap admin_word is
+word_taken rows (OrgRemove org is_forced) answer text at is made one = made ∙ ap admin_word is
 word_taken rows OrgList answer text at is made one = absurd one
 word_taken rows (TokenAdd org name role secret bounds) answer text at is made one = made ∙ ap admin_word is
 word_taken rows (TokenList org) answer text at is made one = absurd one

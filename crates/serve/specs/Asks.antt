@@ -3,7 +3,7 @@ use Rattle.std.specs.Prelude.{ℕ, Bool, List, Option}
 use Rattle.basis.specs.declared.refusals.Refusal.{Refusal}
 use Rattle.route.specs.declared.acts.Asked.{Asked}
 use Rattle.serve.specs.declared.steps.Admin.{Admin}
-use Rattle.serve.specs.declared.steps.Admin.TheVariants.{OrgAdd, OrgLimit, OrgList, TokenAdd, TokenList, TokenRevoke}
+use Rattle.serve.specs.declared.steps.Admin.TheVariants.{OrgAdd, OrgLimit, OrgRemove, OrgList, TokenAdd, TokenList, TokenRevoke}
 
 -- what a step asks, at a moment; the flag `awaited` says that `100 Continue` goes before the reply
 pub data Ask : Type 0 where
@@ -29,6 +29,7 @@ pub data Owner : Type 0 where
 abbrev pub commanded_of : Admin → Owner
 commanded_of (OrgAdd org limit) = organization org
 commanded_of (OrgLimit org limit) = organization org
+commanded_of (OrgRemove org is_forced) = organization org
 commanded_of OrgList = operator
 commanded_of (TokenAdd org name role secret bounds) = organization org
 commanded_of (TokenList org) = operator

@@ -23,7 +23,7 @@ use Rattle.route.specs.declared.acts.WsAct.TheVariants.{UpdateState, PurgeState}
 use Rattle.serve.specs.declared.steps.Step.{Step}
 use Rattle.serve.specs.Asks.{Ask, silent, requests, commands, organization}
 use Rattle.serve.specs.Asks as ask
-use Rattle.serve.specs.Custody.{Names, IsActOn, CarriesId, ReleasesLock, asked_again, MayRepeat, IsAccepted}
+use Rattle.serve.specs.Custody.{Names, IsActOn, CarriesId, ReleasesLock, ForcesRemoval, asked_again, MayRepeat, IsAccepted}
 use Rattle.serve.specs.Service.{AreAsked, own_asks}
 use Rattle.serve.specs.Steps.{Said, step, own_said, own_record}
 
@@ -177,21 +177,26 @@ IsDoneOnce act = ⊥
 
 -- ---- custody
 
--- in the period of a lock, a step that makes a version, or is an accepted purge, or after which a version is gone that was kept before it, carried its ID
-abbrev pub LocksKeepOthersOut : List ℕ → List Entry → Type 0
-LocksKeepOthersOut ws es = (id : List ℕ) → InEachPeriod (is_held (is_lock id)) (λ e. WritesState ws e → Names e.ask ws × CarriesId e.ask id) es
+-- the operator removed the organization by force, and nothing is left
+abbrev pub IsRemovedByForce : Entry → Type 0
+IsRemovedByForce e = ForcesRemoval e.ask × IsAccepted e.said × (e.after ≡ None)
 
--- in the period of a run, such a step carried `run-` and its number, and the run was applying
+-- in the period of a lock, a step that makes a version, or is an accepted purge, or after which a version is gone that was kept before it, carried
+-- its ID, or took all by force
+abbrev pub LocksKeepOthersOut : List ℕ → List Entry → Type 0
+LocksKeepOthersOut ws es = (id : List ℕ) → InEachPeriod (is_held (is_lock id)) (λ e. WritesState ws e → (Names e.ask ws × CarriesId e.ask id) ⊎ IsRemovedByForce e) es
+
+-- in the period of a run, such a step carried `run-` and its number, and the run was applying, or it took all by force
 abbrev pub RunsKeepOthersOut : List ℕ → List Entry → Type 0
-RunsKeepOthersOut ws es = (n : ℕ) → InEachPeriod (is_held (is_run n)) (λ e. WritesState ws e → Names e.ask ws × CarriesId e.ask (run_id n) × IsApplying n e.before) es
+RunsKeepOthersOut ws es = (n : ℕ) → InEachPeriod (is_held (is_run n)) (λ e. WritesState ws e → (Names e.ask ws × CarriesId e.ask (run_id n) × IsApplying n e.before) ⊎ IsRemovedByForce e) es
 
 -- while nobody holds, an accepted update or purge carried no ID
 abbrev pub NoIdWhereNobodyHolds : List ℕ → List Entry → Type 0
 NoIdWhereNobodyHolds ws es = InEachPeriod (is_held is_nobody) (λ e. IsAcceptedUpdate ws e ⊎ IsAcceptedPurge ws e → CarriesNoId e.ask) es
 
--- a lock's period ends by an UNLOCK of its ID, or by a forced one, and by nothing else
+-- a lock's period ends by an UNLOCK of its ID, or by a forced one, or by a forced removal of the organization, and by nothing else
 abbrev pub LocksEndByUnlock : List ℕ → List Entry → Type 0
-LocksEndByUnlock ws es = (id : List ℕ) → InEachPeriod (is_held (is_lock id)) (λ e. is_held (is_lock id) e.after ≡ false → Names e.ask ws × ReleasesLock e.ask id × IsAccepted e.said) es
+LocksEndByUnlock ws es = (id : List ℕ) → InEachPeriod (is_held (is_lock id)) (λ e. is_held (is_lock id) e.after ≡ false → (Names e.ask ws × ReleasesLock e.ask id × IsAccepted e.said) ⊎ IsRemovedByForce e) es
 
 -- after each step at most one queued run is planning, planned or applying
 abbrev pub OneRunAtATime : List ℕ → List Entry → Type 0

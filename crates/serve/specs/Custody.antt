@@ -1,8 +1,10 @@
 -- Custody, step by step: what a step of an organization's machine may do to a workspace.
-use Rattle.std.specs.Prelude.{◌≡◌, ◌⊎◌, ℕ, ◌≤◌, List, Option, Some, None, Ok, ⊤}
+use Rattle.std.specs.Prelude.{◌≡◌, ◌⊎◌, ℕ, ◌≤◌, true, List, Option, Some, None, Ok, ⊤}
 use Rattle.basis.specs.declared.refusals.Refusal.TheVariants.{Locked}
 use Rattle.machine.specs.Records.{workspace_in}
 use Rattle.machine.specs.Custody.{Releases, IsRepeatable}
+use Rattle.machine.specs.Removal.{is_in_use}
+use Rattle.machine.specs.Tokens.{new_organization}
 use Rattle.machine.specs.declared.acts.Act.{Act}
 use Rattle.machine.specs.declared.keeps.AdminAnswer.TheVariants.{Done}
 use Rattle.basis.specs.declared.rows.Holder.TheVariants.{Lock}
@@ -14,6 +16,8 @@ use Rattle.route.specs.declared.acts.AskedAct.TheVariants.{ListWorkspaces, OfWor
 use Rattle.serve.specs.Asks.{Ask, silent, requests, commands}
 use Rattle.serve.specs.Asks as ask
 use Rattle.serve.specs.Checks.{act_of}
+use Rattle.serve.specs.declared.steps.Admin.{Admin}
+use Rattle.serve.specs.declared.steps.Admin.TheVariants.{OrgAdd, OrgRemove}
 use Rattle.serve.specs.Service.{Asks}
 use Rattle.serve.specs.Steps.{Said, nothing, replies, tells, lists, lists_tokens, holder_text, request_step, step}
 
@@ -29,9 +33,32 @@ Names (ask.refused at awaited refusal is_head) ws = ⊥
 Names (requests at awaited asked content_md5 body) ws = NamesIn asked.act ws
 Names (commands at command) ws = ⊥
 
--- a step changes at most the workspace that it names
+-- the removal of an organization, and one by force
+abbrev pub IsRemoval : Admin → Type 0
+IsRemoval (OrgRemove org is_forced) = ⊤
+IsRemoval command = ⊥
+
+abbrev pub IsForcedRemoval : Admin → Type 0
+IsForcedRemoval (OrgRemove org is_forced) = is_forced ≡ true
+IsForcedRemoval command = ⊥
+
+-- the step is the operator's removal of the organization
+abbrev pub RemovesOrganization : Ask → Type 0
+RemovesOrganization silent = ⊥
+RemovesOrganization (ask.refused at awaited refusal is_head) = ⊥
+RemovesOrganization (requests at awaited asked content_md5 body) = ⊥
+RemovesOrganization (commands at command) = IsRemoval command
+
+-- and it is by force
+abbrev pub ForcesRemoval : Ask → Type 0
+ForcesRemoval silent = ⊥
+ForcesRemoval (ask.refused at awaited refusal is_head) = ⊥
+ForcesRemoval (requests at awaited asked content_md5 body) = ⊥
+ForcesRemoval (commands at command) = IsForcedRemoval command
+
+-- a step changes at most the workspace that it names; the removal of the organization takes all of them
 abbrev pub StepsChangeWhatTheyName : Type 0
-StepsChangeWhatTheyName = (r : Option Organization) (what : Ask) (ws : List ℕ) → (Names what ws → ⊥) → workspace_in (step r what).left ws ≡ workspace_in r ws
+StepsChangeWhatTheyName = (r : Option Organization) (what : Ask) (ws : List ℕ) → (Names what ws → ⊥) → (RemovesOrganization what → ⊥) → workspace_in (step r what).left ws ≡ workspace_in r ws
 
 -- the request has this ID in its query
 abbrev pub CarriesId : Ask → List ℕ → Type 0
@@ -58,11 +85,28 @@ pub record IsInCustody (what : Ask) (ws held text : List ℕ) (w v : Workspace) 
   pub versions : (v.versions ≡ w.versions) ⊎ (Names what ws × CarriesId what held)
   pub holder : (v.holder ≡ Lock held text) ⊎ (Names what ws × ReleasesLock what held)
 
--- a workspace that a lock holds is there after every step, and in custody: of every record, every step and every workspace
+-- a workspace that a lock holds is there after every step, and in custody, or its organization was removed by force: of every record, every
+-- step and every workspace
 abbrev pub LocksAreKept : Type 0
 LocksAreKept = (r : Option Organization) (what : Ask) (ws : List ℕ) (w : Workspace) (held text : List ℕ)
     → workspace_in r ws ≡ Some w → w.holder ≡ Lock held text
-    → (v : Workspace) × (workspace_in (step r what).left ws ≡ Some v) × IsInCustody what ws held text w v
+    → ((v : Workspace) × (workspace_in (step r what).left ws ≡ Some v) × IsInCustody what ws held text w v) ⊎ ForcesRemoval what
+
+-- An organization goes by its removal alone: by force, or where none of its workspaces is in use. Added again, it begins anew, with no token
+-- and no workspace.
+abbrev pub IsInUseIn : Option Organization → Type 0
+IsInUseIn r = (ws : List ℕ) × (w : Workspace) × (workspace_in r ws ≡ Some w) × (is_in_use w ≡ true)
+
+abbrev pub OrganizationsGoByRemoval : Type 0
+OrganizationsGoByRemoval = (o : Organization) (what : Ask) → (step (Some o) what).left ≡ None
+    → RemovesOrganization what × (ForcesRemoval what ⊎ (IsInUseIn (Some o) → ⊥))
+
+abbrev pub RemovalsAreCarriedOut : Type 0
+RemovalsAreCarriedOut = (o : Organization) (what : Ask) → RemovesOrganization what → (ForcesRemoval what ⊎ (IsInUseIn (Some o) → ⊥))
+    → (step (Some o) what).left ≡ None
+
+abbrev pub OrganizationsBeginAnew : Type 0
+OrganizationsBeginAnew = (at : ℕ) (org : List ℕ) (limit : ℕ) → (step None (commands at (OrgAdd org limit))).left ≡ Some (new_organization limit)
 
 -- the same thing asked at another moment: the same bytes, sent again
 abbrev pub asked_again : ℕ → Ask → Ask

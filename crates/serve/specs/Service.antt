@@ -5,7 +5,7 @@ use Rattle.std.specs.Str.{bytes_eq}
 use Rattle.machine.specs.declared.keeps.AdminAnswer.{AdminAnswer}
 use Rattle.basis.specs.Roles.{role_word}
 use Rattle.machine.specs.Tokens.{AreOrganizations, ListsOrganizations, tokens_told}
-use Rattle.machine.specs.declared.keeps.AdminAnswer.TheVariants.{Done, Exists, Absent, Organizations, Tokens}
+use Rattle.machine.specs.declared.keeps.AdminAnswer.TheVariants.{Done, Exists, Absent, InUse, Organizations, Tokens}
 use Rattle.machine.specs.declared.keeps.OrgRow.{OrgRow}
 use Rattle.machine.specs.declared.keeps.TokenRow.{TokenRow}
 use Rattle.machine.specs.declared.records.Organization.{Organization}
@@ -20,7 +20,7 @@ use Rattle.serve.specs.declared.steps.Step.{Step}
 use Rattle.serve.specs.declared.steps.Step.TheVariants.{Request, Command}
 use Rattle.serve.specs.Asks.{Ask, silent, refused, requests, commands, Owner, organization, unattributed, operator, owner_of}
 use Rattle.serve.specs.declared.steps.Admin.{Admin}
-use Rattle.serve.specs.declared.steps.Admin.TheVariants.{OrgAdd, OrgLimit, OrgList, TokenAdd, TokenList, TokenRevoke}
+use Rattle.serve.specs.declared.steps.Admin.TheVariants.{OrgAdd, OrgLimit, OrgRemove, OrgList, TokenAdd, TokenList, TokenRevoke}
 use Rattle.serve.specs.Steps.{Said, nothing, replies, tells, lists, lists_tokens, command_step, step}
 
 -- the method of a message is HEAD
@@ -85,6 +85,7 @@ abbrev pub admin_word : AdminAnswer → List ℕ
 admin_word Done = codes "ok\n"
 admin_word Exists = codes "refused exists\n"
 admin_word Absent = codes "refused absent\n"
+admin_word InUse = codes "refused in-use\n"
 admin_word (Organizations rows) = []
 admin_word (Tokens rows) = []
 
@@ -93,6 +94,7 @@ abbrev pub token_list_text : AdminAnswer → List ℕ
 token_list_text Done = admin_word Done
 token_list_text Exists = admin_word Exists
 token_list_text Absent = admin_word Absent
+token_list_text InUse = admin_word InUse
 token_list_text (Organizations rows) = admin_word (Organizations rows)
 token_list_text (Tokens rows) = token_lines rows
 
@@ -169,6 +171,7 @@ said_to rows ask = (step (record_for rows (owner_of ask)) ask).answer
 abbrev pub IsAdminAnswer : (List ℕ → Option Organization) → Admin → AdminAnswer → Type 0
 IsAdminAnswer rows (OrgAdd org limit) answer = answer ≡ (command_step (rows org) (OrgAdd org limit)).answer
 IsAdminAnswer rows (OrgLimit org limit) answer = answer ≡ (command_step (rows org) (OrgLimit org limit)).answer
+IsAdminAnswer rows (OrgRemove org is_forced) answer = answer ≡ (command_step (rows org) (OrgRemove org is_forced)).answer
 IsAdminAnswer rows OrgList answer = ListsOrganizations rows answer
 IsAdminAnswer rows (TokenAdd org name role secret bounds) answer = answer ≡ (command_step (rows org) (TokenAdd org name role secret bounds)).answer
 IsAdminAnswer rows (TokenList org) answer = answer ≡ tokens_told (rows org)
@@ -182,6 +185,7 @@ ListsAll records text = (rows : List OrgRow) × AreOrganizations records rows ×
 abbrev pub IsListedBy : (List ℕ → Option Organization) → Admin → List ℕ → Type 0
 IsListedBy records (OrgAdd org limit) text = ⊤
 IsListedBy records (OrgLimit org limit) text = ⊤
+IsListedBy records (OrgRemove org is_forced) text = ⊤
 IsListedBy records OrgList text = ListsAll records text
 IsListedBy records (TokenAdd org name role secret bounds) text = ⊤
 IsListedBy records (TokenList org) text = text ≡ token_list_text (tokens_told (records org))

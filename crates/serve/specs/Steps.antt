@@ -8,6 +8,7 @@ use Rattle.machine.specs.Effects.{Effect, effect}
 use Rattle.machine.specs.Rules.{Outcome, refused, held, done, no_state, state, workspace, the_run, versions, runs, Ruling, rules}
 use Rattle.machine.specs.Showing.{row_of, workspaces_after}
 use Rattle.machine.specs.Records.{Seen, missing, seen_in, placed}
+use Rattle.machine.specs.Removal.{org_removed}
 use Rattle.machine.specs.Tokens.{Managed, org_added, org_limited, token_added, token_revoked, token_of}
 use Rattle.machine.specs.declared.keeps.AdminAnswer.{AdminAnswer}
 use Rattle.machine.specs.declared.keeps.AdminAnswer.TheVariants.{Done}
@@ -17,7 +18,7 @@ use Rattle.machine.specs.declared.records.Organization.{Organization}
 use Rattle.route.specs.declared.acts.Asked.{Asked}
 use Rattle.wire.specs.Replies.{Answer, empty_answer, no_content_answer, document_answer, refused_answer}
 use Rattle.serve.specs.declared.steps.Admin.{Admin}
-use Rattle.serve.specs.declared.steps.Admin.TheVariants.{OrgAdd, OrgLimit, OrgList, TokenAdd, TokenList, TokenRevoke}
+use Rattle.serve.specs.declared.steps.Admin.TheVariants.{OrgAdd, OrgLimit, OrgRemove, OrgList, TokenAdd, TokenList, TokenRevoke}
 use Rattle.serve.specs.Asks.{Ask, silent, requests, commands}
 use Rattle.serve.specs.Asks as ask
 use Rattle.serve.specs.Checks.{checked}
@@ -86,6 +87,7 @@ request_step r now asked content_md5 body = carried asked.caller now r (checked 
 abbrev pub command_step : Option Organization → Admin → Managed
 command_step r (OrgAdd org limit) = org_added limit r
 command_step r (OrgLimit org limit) = org_limited limit r
+command_step r (OrgRemove org is_forced) = org_removed is_forced r
 command_step r OrgList = effect Done r
 command_step r (TokenAdd org name role secret bounds) = token_added name (token_of (sha256 secret) role bounds) r
 command_step r (TokenList org) = effect Done r
@@ -95,6 +97,7 @@ command_step r (TokenRevoke org name) = token_revoked name r
 abbrev pub command_said : Admin → AdminAnswer → Said
 command_said (OrgAdd org limit) answer = tells answer
 command_said (OrgLimit org limit) answer = tells answer
+command_said (OrgRemove org is_forced) answer = tells answer
 command_said OrgList answer = lists
 command_said (TokenAdd org name role secret bounds) answer = tells answer
 command_said (TokenList org) answer = lists_tokens

@@ -41,6 +41,7 @@ pub fn token_list_text(alloc: Global, answer: &AdminAnswer) -> Result<Vec<u8>, D
         AdminAnswer::Done => word_text(alloc, answer),
         AdminAnswer::Exists => word_text(alloc, answer),
         AdminAnswer::Absent => word_text(alloc, answer),
+        AdminAnswer::InUse => word_text(alloc, answer),
         AdminAnswer::Organizations(_) => word_text(alloc, answer),
     }
 }
@@ -62,6 +63,7 @@ pub fn admin_word(answer: &AdminAnswer) -> &'static [u8]
         AdminAnswer::Done => b"ok\n",
         AdminAnswer::Exists => b"refused exists\n",
         AdminAnswer::Absent => b"refused absent\n",
+        AdminAnswer::InUse => b"refused in-use\n",
         AdminAnswer::Organizations(_) => b"",
         AdminAnswer::Tokens(_) => b"",
     }
@@ -79,6 +81,7 @@ pub fn command<K: Keep>(alloc: Global, keep: &mut K, command: &Admin) -> Result<
     match command {
         Admin::OrgAdd { org, limit } => keep.org_add(alloc, org, *limit),
         Admin::OrgLimit { org, limit } => keep.org_limit(alloc, org, *limit),
+        Admin::OrgRemove { org, is_forced } => keep.org_remove(alloc, org, *is_forced),
         Admin::OrgList => keep.org_list(alloc),
         Admin::TokenList { org } => keep.token_list(alloc, org),
         Admin::TokenRevoke { org, name } => keep.token_revoke(alloc, org, name),

@@ -1,6 +1,6 @@
 //! Laws of steps and runs, each the contract of a call that does nothing.
 ghost use Rattle.serve.specs.Laws.{OneAsking, TwoWorlds, SameStepsAskTheSame, RefusedStepsChangeNothing, OutOfReachIsNotFound, OutOfReachIsAsAbsent, OutsideThePrefixIsNotFound, OutsideThePrefixIsAsAbsent, NamesDecideNothing, SecretsAreNotTold};
-ghost use Rattle.serve.specs.Custody.{StepsChangeWhatTheyName, LocksAreKept, StepsAreRepeatable, RepeatsLeaveTheWorkspace, LockedTellsTheHolder, SameBytesAskAgain, RequestsChangeTheirWorkspaceAlone};
+ghost use Rattle.serve.specs.Custody.{StepsChangeWhatTheyName, LocksAreKept, OrganizationsGoByRemoval, RemovalsAreCarriedOut, OrganizationsBeginAnew, StepsAreRepeatable, RepeatsLeaveTheWorkspace, LockedTellsTheHolder, SameBytesAskAgain, RequestsChangeTheirWorkspaceAlone};
 ghost use Rattle.serve.specs.Book.{BooksAreOfTheRun, PeriodsAreTheStepsBetween};
 
 /// The steps of a list ask one list of things.
@@ -49,16 +49,24 @@ pub fn outside_the_prefix_is_as_absent()
     ensures { OutsideThePrefixIsAsAbsent }
 {}
 
-/// A step changes at most the workspace that it names.
+/// A step changes at most the workspace that it names; the removal of the organization takes all of them.
 pub fn steps_change_what_they_name()
     ensures { StepsChangeWhatTheyName }
 {}
 
 /// What a step of an organization's machine leaves of a workspace that a lock holds, of every record:
 /// the workspace; its versions, or the step carried the lock's ID; and the lock with its text, or the
-/// step released it.
+/// step released it; or the organization was removed by force.
 pub fn locks_are_kept()
     ensures { LocksAreKept }
+{}
+
+/// An organization goes by the operator's removal alone, which asks whether it is in use unless it is forced; added
+/// again, it begins anew.
+pub fn organizations_go_by_removal()
+    ensures alone { OrganizationsGoByRemoval }
+    ensures carried_out { RemovalsAreCarriedOut }
+    ensures anew { OrganizationsBeginAnew }
 {}
 
 /// What is asked again, not before, while the record is as the first time left it, changes nothing

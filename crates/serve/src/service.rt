@@ -51,7 +51,7 @@ fn list_lines(alloc: Global, answer: &AdminAnswer) -> Result<Bytes, Down>
     match answer {
         AdminAnswer::Organizations(rows) => Ok(Bytes::new(org_lines(alloc, rows.as_slice())?)),
         AdminAnswer::Done | AdminAnswer::Exists => Err(Down),
-        AdminAnswer::Absent | AdminAnswer::Tokens(_) => Err(Down),
+        AdminAnswer::Absent | AdminAnswer::InUse | AdminAnswer::Tokens(_) => Err(Down),
     }
 }
 
@@ -86,6 +86,7 @@ fn take_command<K: Keep>(alloc: Global, keep: &mut K, asked: &Admin) -> Result<B
         Admin::TokenList { org } => take_tokens(alloc, keep, org),
         Admin::OrgAdd { .. } => take_word(alloc, keep, asked),
         Admin::OrgLimit { .. } => take_word(alloc, keep, asked),
+        Admin::OrgRemove { .. } => take_word(alloc, keep, asked),
         Admin::TokenAdd { .. } => take_word(alloc, keep, asked),
         Admin::TokenRevoke { .. } => take_word(alloc, keep, asked),
     }
@@ -367,16 +368,17 @@ impl<K: Keep> Service<K> {
         ensures row { self.new.row ≡ self.old.row }
 
         // Custody, over the book of each workspace (`Book`): its steps with the workspace before and after each, in the own machine's run over the steps taken.
-        // In the period of a lock, a step that makes a version, or is an accepted purge, or after which a version kept before it is gone, carried its ID.
+        // In the period of a lock, a step that makes a version, or is an accepted purge, or after which a version kept before it is gone, carried its ID,
+        // or took the organization away by force.
         ensures lock_periods { K.clean self.new.keep → K.sound self.old.keep → OfEachBook LocksKeepOthersOut (take self.new.taken steps.now) (K.rows self.old.keep) }
 
-        // In the period of a run, such a step carried the run's ID, and the run was applying.
+        // In the period of a run, such a step carried the run's ID, and the run was applying, or it took the organization away by force.
         ensures run_periods { K.clean self.new.keep → K.sound self.old.keep → OfEachBook RunsKeepOthersOut (take self.new.taken steps.now) (K.rows self.old.keep) }
 
         // While nobody holds, an accepted update or purge carried no ID.
         ensures unheld { K.clean self.new.keep → K.sound self.old.keep → OfEachBook NoIdWhereNobodyHolds (take self.new.taken steps.now) (K.rows self.old.keep) }
 
-        // A lock's period ends by an UNLOCK of its ID or a forced one, and by nothing else.
+        // A lock's period ends by an UNLOCK of its ID or a forced one, or by a forced removal of the organization, and by nothing else.
         ensures lock_ends { K.clean self.new.keep → K.sound self.old.keep → OfEachBook LocksEndByUnlock (take self.new.taken steps.now) (K.rows self.old.keep) }
 
         // After each step at most one queued run is active.

@@ -14,6 +14,11 @@ pub enum Admin {
         org: OrgName,
         limit: Limit,
     },
+    /// Removes an organization, with all that it has: also one in which a lock holds or a run is open, where it is forced.
+    OrgRemove {
+        org: OrgName,
+        is_forced: bool,
+    },
     /// Lists all organizations.
     OrgList,
     TokenAdd {

@@ -6,14 +6,14 @@ use Rattle.sqlite_sql.specs.Term.{Term, lit, col}
 use Rattle.sqlite_sql.specs.Query.{Query}
 use Rattle.sqlite_schema.specs.declared.schema.Schema.{Schema}
 use Rattle.sqlite_schema.specs.declared.command.Source.TheVariants.{Values}
-use Rattle.sqlite_schema.specs.declared.command.Command.TheVariants.{Select, Insert, Update}
+use Rattle.sqlite_schema.specs.declared.command.Command.TheVariants.{Select, Insert, Update, Delete}
 use Rattle.sqlite_ast.specs.declared.Statement.TheVariants as written
 use Rattle.sqlite_ast.specs.declared.Select as ast
 use Rattle.sqlite_resolve.specs.Compile.{first, command, timed, returning}
 use Rattle.sqlite_resolve.specs.Select.{named}
 use Rattle.sqlite_resolve.specs.Program.{program}
 use Rattle.sqlite_tied.specs.Compute.{everything}
-use Rattle.statements.specs.declared.organizations.TheConstants.{ADD_ORG, SET_CAP, ORG_CAP, LIST_ORGS}
+use Rattle.statements.specs.declared.organizations.TheConstants.{ADD_ORG, SET_CAP, REMOVE_ORG, ORG_CAP, LIST_ORGS}
 use Rattle.statements.specs.Place.{StandsAt}
 use Rattle.statements.specs.Schema.{org_table}
 use Rattle.statements.specs.Calls.{IsQuery}
@@ -23,7 +23,7 @@ use Rattle.statements.proofs.Reading.{read_is}
 use Rattle.statements.proofs.Writes.{plain_program}
 use Rattle.statements.proofs.Answered.{point}
 use Rattle.statements.proofs.Listed.{listing}
-use Rattle.statements.proofs.Commands.{is_at, update_query, point_rest, point_draft, no_page, listing_draft}
+use Rattle.statements.proofs.Commands.{is_at, update_query, delete_query, point_rest, point_draft, no_page, listing_draft}
 
 abbrev pub add_org_text : List ℕ
 add_org_text = ADD_ORG.now
@@ -44,6 +44,16 @@ set_cap_reads = refl
 
 abbrev pub set_cap_query : ℕ → Query
 set_cap_query tree = update_query tree (is_at 1 0 ∷ []) (col 1 1 ∷ col 0 1 ∷ [])
+
+abbrev pub remove_org_text : List ℕ
+remove_org_text = REMOVE_ORG.now
+
+remove_org_reads : first remove_org_text ≡ Ok (as_read (some_parsed (first remove_org_text)) st.remove_org)
+unfolding everything
+remove_org_reads = refl
+
+abbrev pub remove_org_query : ℕ → Query
+remove_org_query tree = delete_query tree (is_at 1 0 ∷ [])
 
 abbrev pub org_cap_text : List ℕ
 org_cap_text = ORG_CAP.now
@@ -113,6 +123,14 @@ module _ (s : Schema) (at tree : ℕ) (h : StandsAt s (codes "org") org_table at
   pub set_cap_means : Means s (Update at (plain_program (set_cap_query tree))) set_cap_text
   unfolding everything
   set_cap_means = means s st.set_cap _ refl (λ _. refl) set_cap_is set_cap_text (some_parsed (first set_cap_text)) set_cap_reads
+
+  remove_org_is : (base : ℕ) → command s [] base st.remove_org ≡ Ok (Delete at (plain_program (remove_org_query tree)))
+  unfolding everything
+  remove_org_is base = rw (h.named, h.found, h.found, h.found, h.treed, h.low) refl
+
+  pub remove_org_means : Means s (Delete at (plain_program (remove_org_query tree))) remove_org_text
+  unfolding everything
+  remove_org_means = means s st.remove_org _ refl (λ _. refl) remove_org_is remove_org_text (some_parsed (first remove_org_text)) remove_org_reads
 
   org_cap_named : named s st.org_cap_core (st.by_rowid false) no_page ≡ Ok ((point_draft org_cap_rest tree false), (codes "cap" ∷ []), (Some Binary ∷ []))
   unfolding everything

@@ -201,6 +201,9 @@ org_cap_core = from_table (shown_columns (codes "cap" ∷ [])) (codes "org") (is
 abbrev pub set_cap : Statement
 set_cap = update (codes "org") ((codes "cap", Parameter 2) ∷ []) (is_given (codes "name") 1)
 
+abbrev pub remove_org : Statement
+remove_org = delete (codes "org") (is_given (codes "name") 1)
+
 abbrev pub list_orgs_core : Core
 list_orgs_core = from_all (shown_columns (codes "name" ∷ codes "cap" ∷ [])) (codes "org")
 

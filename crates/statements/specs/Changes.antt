@@ -34,6 +34,9 @@ is_org name x = bytes_eq x.1.name name
 abbrev pub org_row_added : List ℕ → ℕ → Tables → Tables
 org_row_added name cap t = record t { orgs = with_next (record { name = name; cap = cap }) t.orgs }
 
+abbrev pub org_row_removed : List ℕ → Tables → Tables
+org_row_removed name t = record t { orgs = delete_where (is_org name) t.orgs }
+
 -- the organization may have so many workspaces
 abbrev pub org_capped : List ℕ → ℕ → Tables → Tables
 org_capped name cap t = record t { orgs = update_where (is_org name) (λ x. (x.0, record x.1 { cap = cap })) t.orgs }

@@ -1,6 +1,6 @@
 //! Statements on the table org.
 ghost use Rattle.statements.specs.Steps.{AnyRows, Equals, EqualsWhere, Writes, Queries};
-ghost use Rattle.statements.specs.Changes.{org_row_added, org_capped};
+ghost use Rattle.statements.specs.Changes.{org_row_added, org_row_removed, org_capped};
 ghost use Rattle.statements.specs.Listings.{organizations_in, OrgsApart};
 ghost use Rattle.statements.specs.Finds.{cap_of};
 
@@ -48,4 +48,13 @@ pub fn set_cap<S: Alter>(tx: &mut Transaction<'_, S>, name: &str, cap: Limit) ->
 {
     let cap = cap.get();
     write(tx, SET_CAP, params![name, cap])
+}
+
+const REMOVE_ORG: &str = "DELETE FROM org WHERE name = ?1";
+
+/// Removes the row of an organization. What it has is to go before it.
+pub fn remove<S: Alter>(tx: &mut Transaction<'_, S>, name: &str) -> Result<(), Error>
+    ensures { Writes S.Store AnyRows (org_row_removed name.now) tx.old tx.new result }
+{
+    write(tx, REMOVE_ORG, params![name])
 }

@@ -1,4 +1,4 @@
-//! An operator's command, by the words that a frame has; and the list of tokens, which no frame asks for.
+//! An operator's command, by the words that a frame has; and the list of tokens and the removal of an organization, which no frame asks for.
 use basis::{Moment, OrgName, Unfit};
 use program::headings::Heading;
 use program::lines::split_words;
@@ -20,6 +20,15 @@ fn list_of(alloc: Global, at: Moment, org: &str) -> Result<Step, Unfit> {
     })
 }
 
+// What removes an organization.
+fn removal_of(alloc: Global, at: Moment, org: &str, is_forced: bool) -> Result<Step, Unfit> {
+    let org = OrgName::read(alloc, org)?;
+    Ok(Step::Command {
+        at,
+        command: Admin::OrgRemove { org, is_forced },
+    })
+}
+
 // What a frame with these words asks for.
 fn framed(alloc: Global, at: Moment, words: &str) -> Result<Step, Unfit> {
     let line = frame_line(alloc, at, words)?;
@@ -37,6 +46,10 @@ impl ReadsCommands for FrameWords {
     fn read(&self, alloc: Global, at: Moment, words: &str) -> Result<Step, Unfit> {
         match words.split_once(' ') {
             Some(("token-list", org)) => list_of(alloc, at, org),
+            Some(("org-remove", words)) => match words.strip_prefix("--force ") {
+                Some(org) => removal_of(alloc, at, org, true),
+                None => removal_of(alloc, at, words, false),
+            },
             _ => framed(alloc, at, words),
         }
     }

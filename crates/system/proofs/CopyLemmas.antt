@@ -2,7 +2,7 @@
 use Rattle.std.proofs.Common.{◌≡◌, ap, Option, Some, None}
 use Rattle.machine.specs.Effects.{effect}
 use Rattle.machine.specs.declared.keeps.AdminAnswer.{AdminAnswer}
-use Rattle.machine.specs.declared.keeps.AdminAnswer.TheVariants.{Done, Exists, Absent, Organizations, Tokens}
+use Rattle.machine.specs.declared.keeps.AdminAnswer.TheVariants.{Done, Exists, Absent, InUse, Organizations, Tokens}
 use Rattle.machine.specs.declared.records.Organization.{Organization}
 use Rattle.program.specs.Moves.{org_copied}
 use Rattle.tables.specs.Copying.{IsCopied}
@@ -17,5 +17,6 @@ copied_by_rule Exists (Some o) None after c = absurd (cc c.1)
 copied_by_rule Exists None before after c = absurd (cc c.0)
 copied_by_rule Absent None before after c = ap (effect Absent) c.1
 copied_by_rule Absent (Some o) before after c = absurd (cc c.0)
+copied_by_rule InUse from before after c = absurd c
 copied_by_rule (Organizations rows) from before after c = absurd c
 copied_by_rule (Tokens rows) from before after c = absurd c

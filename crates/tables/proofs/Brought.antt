@@ -59,7 +59,7 @@ module _ {X : Type 0} where
   either (Some x) other = Some x
 
   -- none of the names behind a name is that one
-  none_below : (q : List ℕ) (es : List (List ℕ × X)) → T (below_all name_cmp q es) → find_entry name_cmp q es ≡ None
+  pub none_below : (q : List ℕ) (es : List (List ℕ × X)) → T (below_all name_cmp q es) → find_entry name_cmp q es ≡ None
   none_below q [] below = refl
   none_below q (e ∷ es) below =
       let other : eq_by_cmp name_cmp q e.0 ≡ false = not_tied q e.0 (λ same. below_apart q e.0 (both_first _ _ below) (sym same)) in
@@ -90,10 +90,10 @@ module _ {X : Type 0} where
 -- ---- sound tables on the way
 
 -- Sound tables, in which the organization is this one, and every other one is as in the tables at first.
-record Leads (org : List ℕ) (first : Tables) (o : Organization) (t : Tables) : Type 0 where
-  sound : IsSound t
-  own : record_of t org ≡ Some o
-  others : (q : List ℕ) → q ≢ org → record_of t q ≡ record_of first q
+pub record Leads (org : List ℕ) (first : Tables) (o : Organization) (t : Tables) : Type 0 where
+  pub sound : IsSound t
+  pub own : record_of t org ≡ Some o
+  pub others : (q : List ℕ) → q ≢ org → record_of t q ≡ record_of first q
 
 none_some : {X : Type 0} (o : Option X) (x : X) → o ≡ None → o ≡ Some x → ⊥
 none_some o x e f = cc
@@ -231,7 +231,7 @@ module _ (f : Tables) (org : List ℕ) where
       go false e more = more
 
   -- the entries of the record's tokens, by the list of rows
-  token_entries : map (token_entry f org) (whole_tokens_of org f) ≡ entries (tokens_at f org)
+  pub token_entries : map (token_entry f org) (whole_tokens_of org f) ≡ entries (tokens_at f org)
   token_entries =
       mapped (entries (tokens_by_name org f))
       ∙ sym (entries_shown (λ (n : List ℕ) (cells : TokenCells). token_of_cells (bounds_at f org n) cells) (λ (x : Kept TokenRow). x.1.name) (λ (x : Kept TokenRow). x.1.it) own_rows)
@@ -242,7 +242,7 @@ module _ (f : Tables) (org : List ℕ) where
       mapped (e ∷ es) = ap (λ rest. of_row e ∷ rest) (mapped es)
 
   -- and the names of its workspaces
-  workspace_names : workspace_names_of org f ≡ map (λ (e : List ℕ × Workspace). e.0) (entries (workspaces_at f org))
+  pub workspace_names : workspace_names_of org f ≡ map (λ (e : List ℕ × Workspace). e.0) (entries (workspaces_at f org))
   workspace_names = mapped (entries (workspaces_by_name org f)) ∙ sym (ap (map (λ (e : List ℕ × Workspace). e.0)) (record_entries f org))
     where
       mapped : (es : List (List ℕ × WorkspaceCells)) → map (λ (e : List ℕ × WorkspaceCells). e.0) es ≡ map (λ (e : List ℕ × Workspace). e.0) (map (λ (e : List ℕ × WorkspaceCells). (e.0, workspace_at f org e.0 e.1)) es)
@@ -270,7 +270,7 @@ module _ (f : Tables) (org : List ℕ) where
     tokens_are = all_weaker (λ (e : List ℕ × Token). find_entry name_cmp e.0 (entries (tokens_at f org)) ≡ Some e.1) (λ (e : List ℕ × Token). get (tokens_at f org) e.0 ≡ Some e.1) (λ e is. get-entries (tokens_at f org) e.0 ∙ is)
         (entries (tokens_at f org)) (all_found (entries (tokens_at f org)) (entries_sorted (tokens_at f org)))
 
-    workspaces_are : AllByRecursion (λ (e : List ℕ × Workspace). (workspace_by f org e.0 ≡ Some e.1) × IsNamedWorkspace e.0 e.1) (entries (workspaces_at f org))
+    pub workspaces_are : AllByRecursion (λ (e : List ℕ × Workspace). (workspace_by f org e.0 ≡ Some e.1) × IsNamedWorkspace e.0 e.1) (entries (workspaces_at f org))
     workspaces_are = all_weaker (λ (e : List ℕ × Workspace). find_entry name_cmp e.0 (entries (workspaces_at f org)) ≡ Some e.1) (λ (e : List ℕ × Workspace). (workspace_by f org e.0 ≡ Some e.1) × IsNamedWorkspace e.0 e.1)
         (λ e is. let got : get (workspaces_at f org) e.0 ≡ Some e.1 = get-entries (workspaces_at f org) e.0 ∙ is in (sym (got_workspace f org e.0) ∙ got, lawful.workspaces e.0 e.1 got))
         (entries (workspaces_at f org)) (all_found (entries (workspaces_at f org)) (entries_sorted (workspaces_at f org)))

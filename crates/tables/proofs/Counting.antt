@@ -28,7 +28,7 @@ made_in_room act room w e = by_act (put_or_missed act)
     by_act (inl put) = made room put.0 (subst (λ (a : Act). Some w ≡ (rules_missing a room).left) put.1 e)
     by_act (inr misses) = absurd (let none : ⊥ = cc (e ∙ ap (λ (r : Ruling). r.left) (misses room).0) in none)
 
-len_with : (m : FinMap name_cmp Workspace) (name : List ℕ) (w : Option Workspace) (limit : ℕ) → len m ≤ limit → (is_some (get m name) ≡ false → is_some w ≡ true → len m < limit) → len (with_workspace m name w) ≤ limit
+pub len_with : (m : FinMap name_cmp Workspace) (name : List ℕ) (w : Option Workspace) (limit : ℕ) → len m ≤ limit → (is_some (get m name) ≡ false → is_some w ≡ true → len m < limit) → len (with_workspace m name w) ≤ limit
 len_with m name None limit within room = subst (λ (n : ℕ). n ≤ limit) (sym (len-remove names_total m name)) (fewer (is_some (get m name)))
   where
     fewer : (b : Bool) → cond b (len m - 1) (len m) ≤ limit

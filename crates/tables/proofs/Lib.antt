@@ -50,3 +50,6 @@ pub mod Copying
 pub mod Arriving
 pub mod Brought
 pub mod KeepCopied
+pub mod Departing
+pub mod KeepRemoved
+pub mod Using

@@ -51,6 +51,15 @@ module _ (org name : List ℕ) (t : Tables) where
       by_name q true e = subst (λ (n : List ℕ). get (tokens_at left org) n ≡ get (remove (tokens_at t org) name) n) (sym (same_name q name e)) (got_removed ∙ sym (removed_own (tokens_at t org) name))
       by_name q false e = other_token org name t left revoke_changes org q (other_ws org name q e) ∙ sym (removed_other (tokens_at t org) name q (names_apart q name e))
 
+  -- its record is without the token
+  pub revoke_own : (o : Organization) → record_of t org ≡ Some o → record_of left org ≡ Some (without_token o name)
+  revoke_own o e = by_limit (cap_of org t) e
+    where
+      by_limit : (c : Option ℕ) → option_map (organization_at t org) c ≡ Some o → option_map (organization_at left org) c ≡ Some (without_token o name)
+      by_limit None f = absurd (let none : ⊥ = cc in none)
+      by_limit (Some cap) f = subst (λ (p : Organization). Some (organization_at left org cap) ≡ Some (without_token p name)) (one_of (organization_at t org cap) o f)
+          (λ i. Some (record { limit = cap; tokens = tokens_left i; workspaces = workspaces_carried t left same_rows org i }))
+
   -- the answer, by whether the organization and the token are there
   revoked_there : (cap : ℕ) (b : Bool) → cap_of org t ≡ Some cap → is_some (role_of_name org name t) ≡ b
       → token_revoked name (record_of t org) ≡ cond b (effect Done (Some (without_token (organization_at t org cap) name))) (effect Absent (Some (organization_at t org cap)))

@@ -2,6 +2,7 @@
 pub mod Arrivals
 pub mod Copies
 pub mod Counting
+pub mod Departures
 pub mod Edits
 pub mod Lists
 pub mod Looks

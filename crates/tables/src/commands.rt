@@ -6,6 +6,7 @@ ghost use Rattle.machine.specs.Needs.{needed_of};
 ghost use Rattle.tables.specs.Records.{IsBound};
 ghost use Rattle.tables.specs.Scans.{AreRowsOf};
 ghost use Rattle.tables.specs.Inner.Arrivals.{TakesCommitted, Copies, CommitsRelated};
+ghost use Rattle.tables.specs.Inner.Departures.{Leaves};
 ghost use Rattle.tables.specs.Inner.Units.{text_in, unit_in};
 ghost use Rattle.statements.specs.Steps.{Equals, EqualsWhere, Sees};
 ghost use Rattle.statements.specs.Tables.{Tables, Holds};
@@ -14,7 +15,7 @@ ghost use Rattle.tables.specs.Inner.Lists.{versions_listed_in, runs_listed_in, w
 ghost use Rattle.tables.specs.Inner.Steps.{LooksAt, ManagesBy, org_managed, limit_managed, token_managed, revocation_managed, is_taken};
 
 use crate::transactions::assert_settled;
-use crate::{listings, looks, scans, transactions};
+use crate::{departures, listings, looks, scans, transactions};
 use basis::{
     Bounds, Bytes, Items, Limit, Listing, Number, Prefix, Role, RunRow, VersionRow, WsRow,
 };
@@ -90,6 +91,33 @@ pub(crate) fn copy<T: Alter, K: PageKey, S: Alter>(
         return Ok(AdminAnswer::Exists);
     }
     transactions::copy_organization::<T, K, S>(conn, alloc, from, org, cap)?;
+    Ok(AdminAnswer::Done)
+}
+
+/// Removes an organization, with all that it has. One in which a lock holds or a run is open goes only by force.
+pub(crate) fn org_remove<S: Alter>(
+    conn: &mut Connection<S>,
+    alloc: Global,
+    org: &str,
+    is_forced: bool,
+) -> Result<AdminAnswer, Error>
+    requires idle { conn.old.in_transaction ≡ false }
+    ensures idle { conn.new.in_transaction ≡ false }
+    ensures so_far { HasCleanDisk (state S.Store conn.new) → HasCleanDisk (state S.Store conn.old) }
+    ensures shield { (state S.Store conn.old).IsShielded → (state S.Store conn.new).IsShielded }
+    ensures done { HasCleanDisk (state S.Store conn.new)
+        → IfOk result (λ answer. CommitsRelated (Leaves answer is_forced org.now) (state S.Store conn.old) (state S.Store conn.new)) × OnErr result (KeepsCommit (state S.Store conn.old) (state S.Store conn.new)) }
+{
+    assert_settled(conn);
+    let cap = organizations::cap(conn, org)?;
+    if cap.is_none() {
+        return Ok(AdminAnswer::Absent);
+    }
+    let all = departures::read_possessions(alloc, conn, org)?;
+    if departures::is_kept_back(conn, org, is_forced, all.names.as_slice())? {
+        return Ok(AdminAnswer::InUse);
+    }
+    transactions::remove_organization(conn, org, all.names.as_slice(), all.tokens.as_slice())?;
     Ok(AdminAnswer::Done)
 }
 

@@ -5,6 +5,7 @@ mod arrivals;
 mod commands;
 mod copies;
 mod counts;
+mod departures;
 pub mod laws;
 mod listings;
 mod looks;

@@ -82,7 +82,11 @@ fn purge<S: Alter>(tx: &mut Transaction<'_, S>, org: &str, ws: &str) -> Result<(
 }
 
 /// Removes a workspace with its versions and runs.
-fn remove<S: Alter>(tx: &mut Transaction<'_, S>, org: &str, ws: &str) -> Result<(), Error>
+pub(crate) fn remove<S: Alter>(
+    tx: &mut Transaction<'_, S>,
+    org: &str,
+    ws: &str,
+) -> Result<(), Error>
     ensures { Steps S.Store (removed_rows org.now ws.now) tx.old tx.new result }
 {
     purge(tx, org, ws)?;

@@ -376,6 +376,22 @@ impl<S: Alter, K: PageKey> Keep for SqlKeep<S, K> {
         }
     }
 
+    fn org_remove(
+        &mut self,
+        alloc: Global,
+        org: &OrgName,
+        is_forced: bool,
+    ) -> Result<AdminAnswer, Down> {
+        self.counted = None;
+        match commands::org_remove(&mut self.conn, alloc, org.as_str(), is_forced) {
+            Ok(answer) => {
+                self.seen = Snapshot::of(&self.conn);
+                Ok(answer)
+            }
+            Err(_) => Err(Down),
+        }
+    }
+
     fn org_list(&mut self, alloc: Global) -> Result<AdminAnswer, Down> {
         match commands::org_list(&mut self.conn, alloc) {
             Ok(rows) => Ok(AdminAnswer::Organizations(rows)),

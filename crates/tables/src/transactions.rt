@@ -6,15 +6,18 @@ ghost use Rattle.statements.specs.declared.making.TheConstants.{NEWEST};
 ghost use Rattle.statements.specs.Changes.{org_row_added, org_capped, token_added, token_removed};
 ghost use Rattle.statements.specs.Steps.{AnyRows, Sees};
 ghost use Rattle.tables.specs.Inner.Arrivals.{TakesFrom, Brings, CommitsRelated};
+ghost use Rattle.tables.specs.Inner.Copies.{AreMadeBy};
+ghost use Rattle.tables.specs.Inner.Departures.{all_gone_of};
 ghost use Rattle.tables.specs.Inner.Edits.{changed_rows, TakesEdit};
 ghost use Rattle.tables.specs.Inner.Making.{IsMade, StepsFrom};
 ghost use Rattle.tables.specs.Inner.Steps.{IsSettled, Transacts};
 
-use crate::{arrivals, steps};
-use basis::{Bounds, Limit, Role};
+use crate::{arrivals, departures, steps};
+use basis::{Bounds, Limit, Role, WsName};
 use machine::Change;
 use pages::PageKey;
 use sqlite::{Alter, Connection, Error, Transaction};
+use statements::rows::NamedToken;
 use statements::{making, organizations, tokens};
 use std::alloc::Global;
 
@@ -118,6 +121,25 @@ pub(crate) fn copy_organization<T: Alter, K: PageKey, S: Alter>(
 {
     let mut tx = begin(conn);
     arrivals::bring::<T, K, S>(&mut tx, alloc, from, org, cap)?;
+    tx.commit()
+}
+
+/// Removes an organization of which these are all workspaces and tokens.
+pub(crate) fn remove_organization<S: Alter>(
+    conn: &mut Connection<S>,
+    org: &str,
+    names: &[WsName],
+    list: &[NamedToken],
+) -> Result<(), Error>
+    requires idle { conn.old.in_transaction ≡ false }
+    ensures idle { conn.new.in_transaction ≡ false }
+    ensures so_far { HasCleanDisk (state S.Store conn.new) → HasCleanDisk (state S.Store conn.old) }
+    ensures shield { (state S.Store conn.old).IsShielded → (state S.Store conn.new).IsShielded }
+    ensures done { HasCleanDisk (state S.Store conn.new)
+        → OnOk result (CommitsRelated (AreMadeBy (all_gone_of org.now names.now list.now)) (state S.Store conn.old) (state S.Store conn.new)) × OnErr result (KeepsCommit (state S.Store conn.old) (state S.Store conn.new)) }
+{
+    let mut tx = begin(conn);
+    departures::leave(&mut tx, org, names, list)?;
     tx.commit()
 }
 

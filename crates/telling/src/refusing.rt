@@ -106,6 +106,15 @@ impl<K: Keep> Keep for Refusing<K> {
         Err(Down)
     }
 
+    fn org_remove(
+        &mut self,
+        _alloc: Global,
+        _org: &OrgName,
+        _is_forced: bool,
+    ) -> Result<AdminAnswer, Down> {
+        Err(Down)
+    }
+
     fn org_list(&mut self, _alloc: Global) -> Result<AdminAnswer, Down> {
         Err(Down)
     }

@@ -124,6 +124,7 @@ fn answer_lines(alloc: Global, answer: &AdminAnswer) -> Result<Vec<u8>, AllocErr
         AdminAnswer::Done => Vec::from_slice(alloc, b"ok\n"),
         AdminAnswer::Exists => Vec::from_slice(alloc, b"refused exists\n"),
         AdminAnswer::Absent => Vec::from_slice(alloc, b"refused absent\n"),
+        AdminAnswer::InUse => Vec::from_slice(alloc, b"refused in-use\n"),
         AdminAnswer::Organizations(rows) => list_lines(alloc, rows.as_slice()),
         AdminAnswer::Tokens(rows) => token_lines(alloc, rows.as_slice()),
     }

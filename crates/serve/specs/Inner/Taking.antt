@@ -3,7 +3,7 @@ use Rattle.std.specs.Prelude.{ℕ, List, Option, ⊤}
 use Rattle.machine.specs.declared.records.Organization.{Organization}
 use Rattle.serve.specs.declared.steps.Step.{Step}
 use Rattle.serve.specs.declared.steps.Admin.{Admin}
-use Rattle.serve.specs.declared.steps.Admin.TheVariants.{OrgAdd, OrgLimit, OrgList, TokenAdd, TokenList, TokenRevoke}
+use Rattle.serve.specs.declared.steps.Admin.TheVariants.{OrgAdd, OrgLimit, OrgRemove, OrgList, TokenAdd, TokenList, TokenRevoke}
 use Rattle.serve.specs.Asks.{Ask, Owner, silent, requests, commands}
 use Rattle.serve.specs.Service.{IsAsked, AreAsked, Carries, said_to, IsSaidText, IsListed}
 use Rattle.serve.specs.Runs.{IsOwnRecord, AreOwnReplies, ListsAreTold}
@@ -39,6 +39,7 @@ pub record RunsTo (steps : List Step) (old new : List ℕ → Option Organizatio
 abbrev pub IsOnOne : Admin → Type 0
 IsOnOne (OrgAdd org limit) = ⊤
 IsOnOne (OrgLimit org limit) = ⊤
+IsOnOne (OrgRemove org is_forced) = ⊤
 IsOnOne OrgList = ⊥
 IsOnOne (TokenAdd org name role secret bounds) = ⊤
 IsOnOne (TokenList org) = ⊥

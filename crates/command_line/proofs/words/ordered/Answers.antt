@@ -27,7 +27,7 @@ found_is None name rows n r = cc
 found_is (Some p) name rows n r = ap₂ (λ a b. asked_with a (given_in b)) (some_is p.0 name n) (some_is p.1 rows r)
 
 values_agree : (f : Found) → given_found f ≡ given_in (rows_of f)
-values_agree f = rw (first_value-rows f (codes "db"), first_value-rows f (codes "to"), first_value-rows f (codes "org"), first_value-rows f (codes "limit"), first_value-rows f (codes "name"), first_value-rows f (codes "role"), first_value-rows f (codes "until"), first_value-rows f (codes "prefix"), first_value-rows f (codes "port"), first_value-rows f (codes "count"), first_value-rows f (codes "idle"), first_value-rows f (codes "most"), first_value-rows f (codes "log"), first_value-rows f (codes "check")) refl
+values_agree f = rw (first_value-rows f (codes "db"), first_value-rows f (codes "to"), first_value-rows f (codes "org"), first_value-rows f (codes "limit"), first_value-rows f (codes "name"), first_value-rows f (codes "role"), first_value-rows f (codes "until"), first_value-rows f (codes "prefix"), first_value-rows f (codes "port"), first_value-rows f (codes "count"), first_value-rows f (codes "idle"), first_value-rows f (codes "most"), first_value-rows f (codes "log"), first_value-rows f (codes "check"), first_value-rows f (codes "force")) refl
 
 pub returns-in-Some-clause-ok : goal.returns-in-Some-clause-ok
 returns-in-Some-clause-ok c =

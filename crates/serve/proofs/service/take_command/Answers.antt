@@ -8,6 +8,9 @@ returns-in-OrgAdd-clause-ok g c = λ clean sound. if_ok c.take_word.result (λ t
 pub returns-in-OrgLimit-clause-ok : goal.returns-in-OrgLimit-clause-ok
 returns-in-OrgLimit-clause-ok g c = λ clean sound. if_ok c.take_word-in-OrgLimit.result (λ text taken at. let both = taken at in (both.0, both.1 (rw c.in-OrgLimit.is tt), rw c.in-OrgLimit.is tt)) (c.take_word-in-OrgLimit.ensures.ok clean sound)
 
+pub returns-in-OrgRemove-clause-ok : goal.returns-in-OrgRemove-clause-ok
+returns-in-OrgRemove-clause-ok g c = λ clean sound. if_ok c.take_word-in-OrgRemove.result (λ text taken at. let both = taken at in (both.0, both.1 (rw c.in-OrgRemove.is tt), rw c.in-OrgRemove.is tt)) (c.take_word-in-OrgRemove.ensures.ok clean sound)
+
 pub returns-in-TokenAdd-clause-ok : goal.returns-in-TokenAdd-clause-ok
 returns-in-TokenAdd-clause-ok g c = λ clean sound. if_ok c.take_word-in-TokenAdd.result (λ text taken at. let both = taken at in (both.0, both.1 (rw c.in-TokenAdd.is tt), rw c.in-TokenAdd.is tt)) (c.take_word-in-TokenAdd.ensures.ok clean sound)
 
