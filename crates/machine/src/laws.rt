@@ -50,7 +50,7 @@ pub fn workspaces_go_by_delete()
     ensures { WorkspacesGoByDelete }
 {}
 
-/// An organization that isn't in use is one of which each workspace could be deleted.
+/// A workspace is in use where DELETE of it is refused, and one that isn't goes by DELETE.
 pub fn delete_asks_the_same()
     ensures { DeleteAsksTheSame }
 {}
