@@ -372,18 +372,21 @@ class Refused:
             if not is_right and self.program.run(self.words, under=["env", "-C", room])[:2] != (0, b"ok\n"):
                 raise refusals.Wrong("it isn't done again with memory")
 
+    def refuse_each(self, library, counts):
+        """Refuses each request for memory in turn, and gives how many there were."""
+        try:
+            with refusals.Program(library, "request", [self.program.path, *self.words], self.files.folder) as run:
+                return refusals.refuse_run(run, counts, self.judge, self.files)
+        except refusals.Wrong as wrong:
+            raise Wrong(wrong)
+
 
 def look_at_memory(program, path):
     """Each request for memory is refused in turn."""
     library, counts = compiled("refuse", program.folder), refusals.Counts()
     for words, orgs in [(["org-copy", "--db", "from.db", "--to", "to.db", "acme"], ["acme"]), (["compact", "--db", "from.db", "--to", "to.db"], ["acme", "beta"])]:
         with tempfile.TemporaryDirectory(dir=program.folder) as folder:
-            refused = Refused(program, words, orgs, path, folder)
-            try:
-                with refusals.Program(library, "request", [program.path, *words], folder) as run:
-                    many = refusals.refuse_run(run, counts, refused.judge, refused.files)
-            except refusals.Wrong as wrong:
-                raise Wrong(wrong)
+            many = Refused(program, words, orgs, path, folder).refuse_each(library, counts)
         print("right: %s with each of %d requests for memory refused" % (words[0], many))
 
 
