@@ -7,6 +7,7 @@ pub mod Calm
 pub mod Casts
 pub mod Childless
 pub mod Codes
+pub mod Columns
 pub mod Commands
 pub mod Conditions
 pub mod Counts

@@ -1,5 +1,5 @@
 -- The statements as they are written, without the blanks of their texts.
-use Rattle.std.specs.Prelude.{ℕ, Bool, true, false, List, [], ◌∷◌, ◌++◌, map, codes, Option, Some, None}
+use Rattle.std.specs.Prelude.{ℕ, suc, Bool, true, false, List, [], ◌∷◌, ◌++◌, map, zip, codes, Option, Some, None}
 use Rattle.sqlite_ast.specs.declared.Expr.{Expr}
 use Rattle.sqlite_ast.specs.declared.Expr.TheVariants.{Column, Parameter, Integer, Text, Null, CallStar, Binary as Two}
 use Rattle.sqlite_ast.specs.declared.Binary.TheVariants.{And, Eq, Lt, Gt, Ge, Sub}
@@ -14,6 +14,8 @@ use Rattle.sqlite_ast.specs.declared.Sort.{Sort, roll-Sort}
 use Rattle.sqlite_ast.specs.declared.Select.{Select, roll-Select}
 use Rattle.sqlite_ast.specs.declared.Statement.{Statement}
 use Rattle.sqlite_ast.specs.declared.Statement.TheVariants as written
+use Rattle.statements.specs.Schema.{run_settings_columns}
+use Rattle.statements.proofs.Columns.{names_of}
 
 abbrev pub named : List ℕ → Expr
 named column = Column None column
@@ -28,6 +30,11 @@ also = Two And
 -- the two columns are the first two parameters
 abbrev pub at_key : List ℕ → List ℕ → Expr
 at_key a b = also (is_given a 1) (is_given b 2)
+
+-- a parameter for each of these columns, the first of this number
+abbrev pub parameters : ℕ → List (List ℕ) → List Expr
+parameters n [] = []
+parameters n (name ∷ names) = Parameter n ∷ parameters (suc n) names
 
 abbrev pub zero : Expr
 zero = Integer (codes "0")
@@ -79,7 +86,7 @@ select core order limit = roll-Select (record { with = []; first = core; others 
 
 -- the columns of a workspace that say how runs go, and the others besides its key
 abbrev pub run_settings_names : List (List ℕ)
-run_settings_names = codes "auto" ∷ []
+run_settings_names = names_of run_settings_columns
 
 abbrev pub ws_names : List (List ℕ)
 ws_names = codes "kind" ∷ codes "lock_id" ∷ codes "lock_text" ∷ codes "run" ∷ codes "released" ∷ codes "next_version" ∷ codes "next_run" ∷ []
@@ -88,10 +95,12 @@ abbrev pub find_ws_core : Core
 find_ws_core = from_table (shown_columns (ws_names ++ run_settings_names)) (codes "ws") (at_key (codes "org") (codes "name"))
 
 abbrev pub add_ws : Statement
-add_ws = insert (codes "ws") (codes "org" ∷ codes "name" ∷ codes "auto" ∷ codes "kind" ∷ codes "next_version" ∷ codes "next_run" ∷ []) (Parameter 1 ∷ Parameter 2 ∷ Parameter 3 ∷ zero ∷ one ∷ one ∷ [])
+add_ws =
+    insert (codes "ws") (codes "org" ∷ codes "name" ∷ (run_settings_names ++ codes "kind" ∷ codes "next_version" ∷ codes "next_run" ∷ []))
+    (Parameter 1 ∷ Parameter 2 ∷ (parameters 3 run_settings_names ++ zero ∷ one ∷ one ∷ []))
 
 abbrev pub set_run_settings : Statement
-set_run_settings = update (codes "ws") ((codes "auto", Parameter 3) ∷ []) (at_key (codes "org") (codes "name"))
+set_run_settings = update (codes "ws") (zip run_settings_names (parameters 3 run_settings_names)) (at_key (codes "org") (codes "name"))
 
 abbrev pub hold_by_lock : Statement
 hold_by_lock = update (codes "ws") ((codes "kind", one) ∷ (codes "lock_id", Parameter 3) ∷ (codes "lock_text", Parameter 4) ∷ (codes "run", Null) ∷ []) (at_key (codes "org") (codes "name"))

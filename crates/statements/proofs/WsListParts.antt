@@ -1,5 +1,6 @@
 -- What the parts of the list of workspaces mean, each by itself: its columns, the tables that it joins, WHERE and ORDER BY.
-use Rattle.std.proofs.Common.{◌≡◌, ℕ, pos, true, false, List, [], ◌∷◌, ◌++◌, codes, Some, Ok, refl}
+use Rattle.std.proofs.Common.{◌≡◌, ℕ, ◌+◌, ◌-◌, pos, true, false, List, [], ◌∷◌, ◌++◌, map, length, codes, Option, Some, Ok, refl}
+use Rattle.sqlite_value.specs.declared.keys.Collation.{Collation}
 use Rattle.sqlite_value.specs.declared.keys.Collation.TheVariants.{Binary}
 use Rattle.sqlite_value.specs.declared.value.Value.TheVariants.{Int}
 use Rattle.sqlite_sql.specs.declared.ops.ArithOp.TheVariants.{Sub}
@@ -8,6 +9,7 @@ use Rattle.sqlite_sql.specs.declared.ops.BinaryOp.TheVariants.{Compare, Arith}
 use Rattle.sqlite_sql.specs.Term.{Term, lit, col, op2}
 use Rattle.sqlite_sql.specs.Query.{Query, Join, left, end}
 use Rattle.sqlite_schema.specs.declared.schema.Schema.{Schema}
+use Rattle.sqlite_schema.specs.declared.schema.Table.{Table}
 use Rattle.sqlite_draft.specs.declared.join.Step.TheVariants.{Left}
 use Rattle.sqlite_resolve.specs.declared.scope.Bound.{Bound}
 use Rattle.sqlite_resolve.specs.declared.scope.Level.{Level}
@@ -23,10 +25,10 @@ use Rattle.sqlite_tied.specs.Compute.{everything}
 use Rattle.statements.specs.Place.{StandsAt}
 use Rattle.statements.specs.Schema.{ws_table, keeping_table, version_table}
 use Rattle.statements.proofs.SyntaxTrees as st
+use Rattle.statements.proofs.Columns.{place_of, orders_of}
 use Rattle.statements.proofs.JoinParts.{composed, by_bytes, shown_as, read_so_far, no_tests}
 use Rattle.statements.proofs.Listed.{sorted_by}
 use Rattle.statements.proofs.Commands.{is_from, is_below, is_at, is_above, point_rest, page_to, joined_draft}
-use Rattle.statements.proofs.WsTexts.{ws_columns, ws_orders, run_settings_columns, run_settings_orders}
 
 -- a row that a later step of FROM finds is one of the workspace in ws
 abbrev pub of_workspace : ℕ → List Term
@@ -34,25 +36,39 @@ of_workspace slot = op2 (Compare Eq Binary) (col slot 1) (col 0 0) ∷ op2 (Comp
 
 -- and it is that of the version before the next one
 abbrev pub of_version_before : ℕ → List Term
-of_version_before slot = of_workspace slot ++ op2 (Compare Eq Binary) (col slot 3) (op2 (Arith Sub) (col 1 9) (lit (Int (pos 1)))) ∷ []
+of_version_before slot = of_workspace slot ++ op2 (Compare Eq Binary) (col slot 3) (op2 (Arith Sub) (col 1 (place_of ws_table (codes "next_version"))) (lit (Int (pos 1)))) ∷ []
 
 -- the rows of keeping and of version
 abbrev pub with_both : ℕ → ℕ → Join
 with_both keepings versions = left keepings (of_workspace 2) (left versions (of_version_before 3) end)
 
-abbrev pub list_ws_rest : Query
-list_ws_rest = point_rest (is_at 1 0 ∷ is_above 2 1 ∷ []) (ws_columns ++ col 1 2 ∷ col 2 3 ∷ col 3 3 ∷ run_settings_columns) (page_to 2)
-
-abbrev pub list_ws_within_rest : Query
-list_ws_within_rest = point_rest (is_at 1 0 ∷ is_above 2 1 ∷ is_from 2 2 ∷ is_below 2 3 ∷ []) (ws_columns ++ col 1 2 ∷ col 2 3 ∷ col 3 3 ∷ run_settings_columns) (page_to 4)
-
 abbrev pub list_ws_names : List (List ℕ)
 list_ws_names = st.ws_names ++ codes "name" ∷ codes "keep" ∷ codes "number" ∷ st.run_settings_names
 
+abbrev pub list_ws_orders : List (Option Collation)
+list_ws_orders = orders_of list_ws_names
+
+-- columns of the table of a step of FROM
+abbrev shown_in : ℕ → Table → List (List ℕ) → List Output
+shown_in slot table = map (λ name. shown_as name slot (place_of table name))
+
 abbrev pub list_ws_shown : List Output
 list_ws_shown =
-    shown_as (codes "kind") 1 4 ∷ shown_as (codes "lock_id") 1 5 ∷ shown_as (codes "lock_text") 1 6 ∷ shown_as (codes "run") 1 7 ∷ shown_as (codes "released") 1 8
-    ∷ shown_as (codes "next_version") 1 9 ∷ shown_as (codes "next_run") 1 10 ∷ shown_as (codes "name") 1 2 ∷ shown_as (codes "keep") 2 3 ∷ shown_as (codes "number") 3 3 ∷ shown_as (codes "auto") 1 3 ∷ []
+    shown_in 1 ws_table st.ws_names ++ shown_in 1 ws_table (codes "name" ∷ []) ++ shown_in 2 keeping_table (codes "keep" ∷ []) ++ shown_in 3 version_table (codes "number" ∷ [])
+    ++ shown_in 1 ws_table st.run_settings_names
+
+abbrev list_ws_project : List Term
+list_ws_project = map (λ (o : Output). o.term) list_ws_shown
+
+abbrev pub list_ws_rest : Query
+list_ws_rest = point_rest (is_at 1 0 ∷ is_above 2 1 ∷ []) list_ws_project (page_to 2)
+
+abbrev pub list_ws_within_rest : Query
+list_ws_within_rest = point_rest (is_at 1 0 ∷ is_above 2 1 ∷ is_from 2 2 ∷ is_below 2 3 ∷ []) list_ws_project (page_to 4)
+
+-- what is left of the resolver's budget behind the columns and so many steps
+abbrev left_behind : ℕ → ℕ
+left_behind steps = 100_000 - (length list_ws_names + steps)
 
 module _ (s : Schema) (at tree : ℕ) (h : StandsAt s (codes "ws") ws_table at tree) (keep_at keepings : ℕ) (k : StandsAt s (codes "keeping") keeping_table keep_at keepings)
     (version_at versions : ℕ) (v : StandsAt s (codes "version") version_table version_at versions) where
@@ -64,7 +80,7 @@ module _ (s : Schema) (at tree : ℕ) (h : StandsAt s (codes "ws") ws_table at t
   abbrev pub list_ws_level : List Output → Level
   list_ws_level shown = record { tables = list_ws_tables; shown = shown }
 
-  pub columns_are : outputs lower (within (outermost s) (list_ws_level []) true) list_ws_tables st.list_ws_columns (read_so_far 4 100_000 nothing) ≡ Ok (list_ws_shown, read_so_far 4 99_989 by_bytes)
+  pub columns_are : outputs lower (within (outermost s) (list_ws_level []) true) list_ws_tables st.list_ws_columns (read_so_far 4 100_000 nothing) ≡ Ok (list_ws_shown, read_so_far 4 (left_behind 0) by_bytes)
   unfolding everything
   columns_are = rw (h.found, k.found, v.found, h.found, k.found, v.found) refl
 
@@ -72,38 +88,38 @@ module _ (s : Schema) (at tree : ℕ) (h : StandsAt s (codes "ws") ws_table at t
   abbrev pub list_ws_inside : Context
   list_ws_inside = within (outermost s) (list_ws_level list_ws_shown) false
 
-  pub joins_keeping : (done : Joined) → left_join lower list_ws_inside done keepings 2 [] (Some (st.of_workspace (codes "keeping"))) (read_so_far 4 99_989 by_bytes)
-      ≡ Ok (record done { steps = done.steps ++ Left keepings (of_workspace 2) ∷ [] }, read_so_far 4 99_982 nothing)
+  pub joins_keeping : (done : Joined) → left_join lower list_ws_inside done keepings 2 [] (Some (st.of_workspace (codes "keeping"))) (read_so_far 4 (left_behind 0) by_bytes)
+      ≡ Ok (record done { steps = done.steps ++ Left keepings (of_workspace 2) ∷ [] }, read_so_far 4 (left_behind 7) nothing)
   unfolding everything
   joins_keeping done = rw (h.found, k.found, k.found, v.found, h.found, k.found, h.found) refl
 
-  pub joins_version : (done : Joined) → left_join lower list_ws_inside done versions 3 [] (Some (st.of_version_before (codes "version"))) (read_so_far 4 99_982 nothing)
-      ≡ Ok (record done { steps = done.steps ++ Left versions (of_version_before 3) ∷ [] }, read_so_far 4 99_969 nothing)
+  pub joins_version : (done : Joined) → left_join lower list_ws_inside done versions 3 [] (Some (st.of_version_before (codes "version"))) (read_so_far 4 (left_behind 7) nothing)
+      ≡ Ok (record done { steps = done.steps ++ Left versions (of_version_before 3) ∷ [] }, read_so_far 4 (left_behind 20) nothing)
   unfolding everything
   joins_version done = rw (h.found, k.found, v.found, h.found, v.found, h.found, v.found) refl
 
-  pub those_after : tests lower list_ws_inside [] (Some st.list_ws_test) (read_so_far 4 99_969 nothing) ≡ Ok (is_at 1 0 ∷ is_above 2 1 ∷ [], read_so_far 4 99_962 nothing)
+  pub those_after : tests lower list_ws_inside [] (Some st.list_ws_test) (read_so_far 4 (left_behind 20) nothing) ≡ Ok (is_at 1 0 ∷ is_above 2 1 ∷ [], read_so_far 4 (left_behind 27) nothing)
   unfolding everything
   those_after = rw (h.found, k.found, h.found, v.found, h.found, h.found) refl
 
-  pub those_within : tests lower list_ws_inside [] (Some st.list_ws_within_test) (read_so_far 4 99_969 nothing) ≡ Ok (is_at 1 0 ∷ is_above 2 1 ∷ is_from 2 2 ∷ is_below 2 3 ∷ [], read_so_far 4 99_954 nothing)
+  pub those_within : tests lower list_ws_inside [] (Some st.list_ws_within_test) (read_so_far 4 (left_behind 20) nothing) ≡ Ok (is_at 1 0 ∷ is_above 2 1 ∷ is_from 2 2 ∷ is_below 2 3 ∷ [], read_so_far 4 (left_behind 35) nothing)
   unfolding everything
   those_within = rw (h.found, k.found, h.found, v.found, h.found, h.found) refl
 
-  pub by_name : sorts lower (inside s (list_ws_level list_ws_shown) false) list_ws_shown (st.by_column (codes "name")) (read_so_far 4 99_962 nothing) ≡ Ok (sorted_by 2, read_so_far 4 99_961 by_bytes)
+  pub by_name : sorts lower (inside s (list_ws_level list_ws_shown) false) list_ws_shown (st.by_column (codes "name")) (read_so_far 4 (left_behind 27) nothing) ≡ Ok (sorted_by 2, read_so_far 4 (left_behind 28) by_bytes)
   unfolding everything
   by_name = rw (h.found, k.found, v.found, h.found) refl
 
-  pub by_name_within : sorts lower (inside s (list_ws_level list_ws_shown) false) list_ws_shown (st.by_column (codes "name")) (read_so_far 4 99_954 nothing) ≡ Ok (sorted_by 2, read_so_far 4 99_953 by_bytes)
+  pub by_name_within : sorts lower (inside s (list_ws_level list_ws_shown) false) list_ws_shown (st.by_column (codes "name")) (read_so_far 4 (left_behind 35) nothing) ≡ Ok (sorted_by 2, read_so_far 4 (left_behind 36) by_bytes)
   unfolding everything
   by_name_within = rw (h.found, k.found, v.found, h.found) refl
 
-  pub list_ws_named : named s st.list_ws_core (st.by_column (codes "name")) (page_to 2) ≡ Ok ((joined_draft list_ws_rest tree (with_both keepings versions) 2), list_ws_names, (ws_orders ++ Some Binary ∷ Some Binary ∷ Some Binary ∷ run_settings_orders))
+  pub list_ws_named : named s st.list_ws_core (st.by_column (codes "name")) (page_to 2) ≡ Ok ((joined_draft list_ws_rest tree (with_both keepings versions) 2), list_ws_names, list_ws_orders)
   unfolding composed
-  list_ws_named = rw (h.named, k.named, v.named, columns_are, h.found, no_tests list_ws_inside (read_so_far 4 99_989 by_bytes))
-      (rw (k.found, joins_keeping _, v.found, joins_version _, those_after) (rw (no_tests (inside s (list_ws_level list_ws_shown) false) (read_so_far 4 99_962 nothing), by_name) refl))
+  list_ws_named = rw (h.named, k.named, v.named, columns_are, h.found, no_tests list_ws_inside (read_so_far 4 (left_behind 0) by_bytes))
+      (rw (k.found, joins_keeping _, v.found, joins_version _, those_after) (rw (no_tests (inside s (list_ws_level list_ws_shown) false) (read_so_far 4 (left_behind 27) nothing), by_name) refl))
 
-  pub list_ws_within_named : named s st.list_ws_within_core (st.by_column (codes "name")) (page_to 4) ≡ Ok ((joined_draft list_ws_within_rest tree (with_both keepings versions) 2), list_ws_names, (ws_orders ++ Some Binary ∷ Some Binary ∷ Some Binary ∷ run_settings_orders))
+  pub list_ws_within_named : named s st.list_ws_within_core (st.by_column (codes "name")) (page_to 4) ≡ Ok ((joined_draft list_ws_within_rest tree (with_both keepings versions) 2), list_ws_names, list_ws_orders)
   unfolding composed
-  list_ws_within_named = rw (h.named, k.named, v.named, columns_are, h.found, no_tests list_ws_inside (read_so_far 4 99_989 by_bytes))
-      (rw (k.found, joins_keeping _, v.found, joins_version _, those_within) (rw (no_tests (inside s (list_ws_level list_ws_shown) false) (read_so_far 4 99_954 nothing), by_name_within) refl))
+  list_ws_within_named = rw (h.named, k.named, v.named, columns_are, h.found, no_tests list_ws_inside (read_so_far 4 (left_behind 0) by_bytes))
+      (rw (k.found, joins_keeping _, v.found, joins_version _, those_within) (rw (no_tests (inside s (list_ws_level list_ws_shown) false) (read_so_far 4 (left_behind 35) nothing), by_name_within) refl))

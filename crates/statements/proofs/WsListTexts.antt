@@ -1,6 +1,5 @@
 -- What the texts of the list of workspaces mean, in each schema that has the tables ws, keeping and version.
-use Rattle.std.proofs.Common.{◌≡◌, ℕ, List, [], ◌∷◌, ◌++◌, codes, Some, Ok, refl}
-use Rattle.sqlite_value.specs.declared.keys.Collation.TheVariants.{Binary}
+use Rattle.std.proofs.Common.{◌≡◌, ℕ, List, [], codes, Some, Ok, refl}
 use Rattle.sqlite_schema.specs.declared.schema.Schema.{Schema}
 use Rattle.sqlite_schema.specs.declared.command.Command.TheVariants.{Select}
 use Rattle.sqlite_ast.specs.declared.Statement.TheVariants as written
@@ -14,8 +13,7 @@ use Rattle.statements.specs.Schema.{ws_table, keeping_table, version_table}
 use Rattle.statements.specs.Calls.{IsQuery}
 use Rattle.statements.specs.declared.workspaces.TheConstants.{LIST_WS, LIST_WS_WITHIN}
 use Rattle.statements.proofs.SyntaxTrees as st
-use Rattle.statements.proofs.WsListParts.{with_both, list_ws_rest, list_ws_within_rest, list_ws_names, list_ws_named, list_ws_within_named}
-use Rattle.statements.proofs.WsTexts.{ws_orders, run_settings_orders}
+use Rattle.statements.proofs.WsListParts.{with_both, list_ws_rest, list_ws_within_rest, list_ws_names, list_ws_orders, list_ws_named, list_ws_within_named}
 use Rattle.statements.proofs.Meaning.{Means, means, some_parsed, as_read}
 use Rattle.statements.proofs.Reading.{read_is}
 use Rattle.statements.proofs.Writes.{plain_program}
@@ -57,7 +55,7 @@ module _ (s : Schema) (at tree : ℕ) (h : StandsAt s (codes "ws") ws_table at t
   list_ws_is : (base : ℕ) → command s [] base (written.Select list_ws_select) ≡ Ok (Select (plain_program (joined_listing list_ws_rest tree (with_both keepings versions) 2)) list_ws_names)
   unfolding everything
   list_ws_is base =
-      read_is s list_ws_select st.list_ws_core (st.by_column (codes "name")) (page_to 2) ((joined_draft list_ws_rest tree (with_both keepings versions) 2), list_ws_names, (ws_orders ++ Some Binary ∷ Some Binary ∷ Some Binary ∷ run_settings_orders)) refl refl refl refl refl (λ again. refl) (list_ws_named s at tree h keep_at keepings k version_at versions v) (plain_program (joined_listing list_ws_rest tree (with_both keepings versions) 2)) list_ws_fits base
+      read_is s list_ws_select st.list_ws_core (st.by_column (codes "name")) (page_to 2) ((joined_draft list_ws_rest tree (with_both keepings versions) 2), list_ws_names, list_ws_orders) refl refl refl refl refl (λ again. refl) (list_ws_named s at tree h keep_at keepings k version_at versions v) (plain_program (joined_listing list_ws_rest tree (with_both keepings versions) 2)) list_ws_fits base
 
   pub list_ws_means : Means s (Select (plain_program (joined_listing list_ws_rest tree (with_both keepings versions) 2)) list_ws_names) list_ws_text
   unfolding timed returning
@@ -70,7 +68,7 @@ module _ (s : Schema) (at tree : ℕ) (h : StandsAt s (codes "ws") ws_table at t
   list_ws_within_is : (base : ℕ) → command s [] base (written.Select list_ws_within_select) ≡ Ok (Select (plain_program (joined_listing list_ws_within_rest tree (with_both keepings versions) 2)) list_ws_names)
   unfolding everything
   list_ws_within_is base =
-      read_is s list_ws_within_select st.list_ws_within_core (st.by_column (codes "name")) (page_to 4) ((joined_draft list_ws_within_rest tree (with_both keepings versions) 2), list_ws_names, (ws_orders ++ Some Binary ∷ Some Binary ∷ Some Binary ∷ run_settings_orders)) refl refl refl refl refl (λ again. refl) (list_ws_within_named s at tree h keep_at keepings k version_at versions v) (plain_program (joined_listing list_ws_within_rest tree (with_both keepings versions) 2)) list_ws_within_fits base
+      read_is s list_ws_within_select st.list_ws_within_core (st.by_column (codes "name")) (page_to 4) ((joined_draft list_ws_within_rest tree (with_both keepings versions) 2), list_ws_names, list_ws_orders) refl refl refl refl refl (λ again. refl) (list_ws_within_named s at tree h keep_at keepings k version_at versions v) (plain_program (joined_listing list_ws_within_rest tree (with_both keepings versions) 2)) list_ws_within_fits base
 
   pub list_ws_within_means : Means s (Select (plain_program (joined_listing list_ws_within_rest tree (with_both keepings versions) 2)) list_ws_names) list_ws_within_text
   unfolding timed returning

@@ -1,7 +1,6 @@
 -- What the texts on the table ws mean, in each schema that has it.
-use Rattle.std.proofs.Common.{◌≡◌, ℕ, pos, false, List, [], ◌∷◌, ◌++◌, codes, Option, Some, None, Ok, refl}
+use Rattle.std.proofs.Common.{◌≡◌, ℕ, pos, false, List, [], ◌∷◌, ◌++◌, length, codes, Some, None, Ok, refl}
 use Rattle.sqlite_value.specs.declared.value.Value.TheVariants.{Null, Int}
-use Rattle.sqlite_value.specs.declared.keys.Collation.{Collation}
 use Rattle.sqlite_value.specs.declared.keys.Collation.TheVariants.{Binary}
 use Rattle.sqlite_sql.specs.Term.{Term, lit, col}
 use Rattle.sqlite_sql.specs.Query.{Query}
@@ -24,20 +23,12 @@ use Rattle.statements.proofs.Reading.{read_is}
 use Rattle.statements.proofs.Writes.{plain_program}
 use Rattle.statements.proofs.Answered.{point, tally}
 use Rattle.statements.proofs.Listed.{listing}
+use Rattle.statements.proofs.Columns.{shown_of, orders_of, given_from, new_cells, cells_with}
 use Rattle.statements.proofs.Commands.{is_at, update_query, delete_query, point_rest, point_draft, tally_draft, listing_draft, no_page}
 
--- what is shown of a row, its sort orders, and the same of what says how its runs go
-abbrev pub ws_columns : List Term
-ws_columns = col 1 4 ∷ col 1 5 ∷ col 1 6 ∷ col 1 7 ∷ col 1 8 ∷ col 1 9 ∷ col 1 10 ∷ []
-
-abbrev pub ws_orders : List (Option Collation)
-ws_orders = Some Binary ∷ Some Binary ∷ Some Binary ∷ Some Binary ∷ Some Binary ∷ Some Binary ∷ Some Binary ∷ []
-
-abbrev pub run_settings_columns : List Term
-run_settings_columns = col 1 3 ∷ []
-
-abbrev pub run_settings_orders : List (Option Collation)
-run_settings_orders = Some Binary ∷ []
+-- the row of a workspace in which some columns are set
+abbrev pub set_ws_query : List (List ℕ × Term) → ℕ → Query
+set_ws_query given tree = update_query tree (is_at 1 0 ∷ is_at 2 1 ∷ []) (cells_with ws_table given)
 
 abbrev pub find_ws_names : List (List ℕ)
 find_ws_names = st.ws_names ++ st.run_settings_names
@@ -56,7 +47,7 @@ pub find_ws_is_query : IsQuery find_ws_text
 find_ws_is_query = (find_ws_select, some_parsed (first find_ws_text), find_ws_reads)
 
 abbrev pub find_ws_rest : Query
-find_ws_rest = point_rest (is_at 1 0 ∷ is_at 2 1 ∷ []) (ws_columns ++ run_settings_columns) no_page
+find_ws_rest = point_rest (is_at 1 0 ∷ is_at 2 1 ∷ []) (shown_of ws_table find_ws_names) no_page
 
 abbrev pub add_ws_text : List ℕ
 add_ws_text = ADD_WS.now
@@ -66,11 +57,11 @@ unfolding everything
 add_ws_reads = refl
 
 abbrev pub add_ws_terms : List Term
-add_ws_terms = lit Null ∷ col 0 0 ∷ col 0 1 ∷ col 0 2 ∷ lit (Int (pos 0)) ∷ lit Null ∷ lit Null ∷ lit Null ∷ lit Null ∷ lit (Int (pos 1)) ∷ lit (Int (pos 1)) ∷ []
+add_ws_terms = new_cells ws_table (given_from 0 (codes "org" ∷ codes "name" ∷ st.run_settings_names) ++ (codes "kind", lit (Int (pos 0))) ∷ (codes "next_version", lit (Int (pos 1))) ∷ (codes "next_run", lit (Int (pos 1))) ∷ [])
 
 -- the columns of ws, with the rowid
 abbrev pub add_ws_width : ℕ
-add_ws_width = 11
+add_ws_width = length add_ws_terms
 
 abbrev pub set_run_settings_text : List ℕ
 set_run_settings_text = SET_RUN_SETTINGS.now
@@ -80,7 +71,7 @@ unfolding everything
 set_run_settings_reads = refl
 
 abbrev pub set_run_settings_query : ℕ → Query
-set_run_settings_query tree = update_query tree (is_at 1 0 ∷ is_at 2 1 ∷ []) (col 1 1 ∷ col 1 2 ∷ col 0 2 ∷ col 1 4 ∷ col 1 5 ∷ col 1 6 ∷ col 1 7 ∷ col 1 8 ∷ col 1 9 ∷ col 1 10 ∷ [])
+set_run_settings_query = set_ws_query (given_from 2 st.run_settings_names)
 
 abbrev pub hold_by_lock_text : List ℕ
 hold_by_lock_text = HOLD_BY_LOCK.now
@@ -90,7 +81,7 @@ unfolding everything
 hold_by_lock_reads = refl
 
 abbrev pub hold_by_lock_query : ℕ → Query
-hold_by_lock_query tree = update_query tree (is_at 1 0 ∷ is_at 2 1 ∷ []) (col 1 1 ∷ col 1 2 ∷ col 1 3 ∷ lit (Int (pos 1)) ∷ col 0 2 ∷ col 0 3 ∷ lit Null ∷ col 1 8 ∷ col 1 9 ∷ col 1 10 ∷ [])
+hold_by_lock_query = set_ws_query ((codes "kind", lit (Int (pos 1))) ∷ (codes "lock_id", col 0 2) ∷ (codes "lock_text", col 0 3) ∷ (codes "run", lit Null) ∷ [])
 
 abbrev pub hold_by_run_text : List ℕ
 hold_by_run_text = HOLD_BY_RUN.now
@@ -100,7 +91,7 @@ unfolding everything
 hold_by_run_reads = refl
 
 abbrev pub hold_by_run_query : ℕ → Query
-hold_by_run_query tree = update_query tree (is_at 1 0 ∷ is_at 2 1 ∷ []) (col 1 1 ∷ col 1 2 ∷ col 1 3 ∷ lit (Int (pos 2)) ∷ lit Null ∷ lit Null ∷ col 0 2 ∷ col 1 8 ∷ col 1 9 ∷ col 1 10 ∷ [])
+hold_by_run_query = set_ws_query ((codes "kind", lit (Int (pos 2))) ∷ (codes "lock_id", lit Null) ∷ (codes "lock_text", lit Null) ∷ (codes "run", col 0 2) ∷ [])
 
 abbrev pub release_lock_text : List ℕ
 release_lock_text = RELEASE_LOCK.now
@@ -110,7 +101,7 @@ unfolding everything
 release_lock_reads = refl
 
 abbrev pub release_lock_query : ℕ → Query
-release_lock_query tree = update_query tree (is_at 1 0 ∷ is_at 2 1 ∷ []) (col 1 1 ∷ col 1 2 ∷ col 1 3 ∷ lit (Int (pos 0)) ∷ lit Null ∷ lit Null ∷ lit Null ∷ col 0 2 ∷ col 1 9 ∷ col 1 10 ∷ [])
+release_lock_query = set_ws_query ((codes "kind", lit (Int (pos 0))) ∷ (codes "lock_id", lit Null) ∷ (codes "lock_text", lit Null) ∷ (codes "run", lit Null) ∷ (codes "released", col 0 2) ∷ [])
 
 abbrev pub release_run_text : List ℕ
 release_run_text = RELEASE_RUN.now
@@ -120,7 +111,7 @@ unfolding everything
 release_run_reads = refl
 
 abbrev pub release_run_query : ℕ → Query
-release_run_query tree = update_query tree (is_at 1 0 ∷ is_at 2 1 ∷ []) (col 1 1 ∷ col 1 2 ∷ col 1 3 ∷ lit (Int (pos 0)) ∷ lit Null ∷ lit Null ∷ lit Null ∷ col 1 8 ∷ col 1 9 ∷ col 1 10 ∷ [])
+release_run_query = set_ws_query ((codes "kind", lit (Int (pos 0))) ∷ (codes "lock_id", lit Null) ∷ (codes "lock_text", lit Null) ∷ (codes "run", lit Null) ∷ [])
 
 abbrev pub set_next_version_text : List ℕ
 set_next_version_text = SET_NEXT_VERSION.now
@@ -130,7 +121,7 @@ unfolding everything
 set_next_version_reads = refl
 
 abbrev pub set_next_version_query : ℕ → Query
-set_next_version_query tree = update_query tree (is_at 1 0 ∷ is_at 2 1 ∷ []) (col 1 1 ∷ col 1 2 ∷ col 1 3 ∷ col 1 4 ∷ col 1 5 ∷ col 1 6 ∷ col 1 7 ∷ col 1 8 ∷ col 0 2 ∷ col 1 10 ∷ [])
+set_next_version_query = set_ws_query ((codes "next_version", col 0 2) ∷ [])
 
 abbrev pub set_next_run_text : List ℕ
 set_next_run_text = SET_NEXT_RUN.now
@@ -140,7 +131,7 @@ unfolding everything
 set_next_run_reads = refl
 
 abbrev pub set_next_run_query : ℕ → Query
-set_next_run_query tree = update_query tree (is_at 1 0 ∷ is_at 2 1 ∷ []) (col 1 1 ∷ col 1 2 ∷ col 1 3 ∷ col 1 4 ∷ col 1 5 ∷ col 1 6 ∷ col 1 7 ∷ col 1 8 ∷ col 1 9 ∷ col 0 2 ∷ [])
+set_next_run_query = set_ws_query ((codes "next_run", col 0 2) ∷ [])
 
 abbrev pub remove_ws_text : List ℕ
 remove_ws_text = REMOVE_WS.now
@@ -185,7 +176,7 @@ abbrev pub list_names_rest : Query
 list_names_rest = point_rest (is_at 1 0 ∷ []) (col 1 2 ∷ []) no_page
 
 module _ (s : Schema) (at tree : ℕ) (h : StandsAt s (codes "ws") ws_table at tree) where
-  find_ws_named : named s st.find_ws_core (st.by_rowid false) no_page ≡ Ok ((point_draft find_ws_rest tree false), find_ws_names, (ws_orders ++ run_settings_orders))
+  find_ws_named : named s st.find_ws_core (st.by_rowid false) no_page ≡ Ok ((point_draft find_ws_rest tree false), find_ws_names, orders_of find_ws_names)
   unfolding everything
   find_ws_named = rw (h.named, h.found, h.found, h.found, h.small) refl
 
@@ -196,7 +187,7 @@ module _ (s : Schema) (at tree : ℕ) (h : StandsAt s (codes "ws") ws_table at t
   find_ws_is : (base : ℕ) → command s [] base (written.Select find_ws_select) ≡ Ok (Select (plain_program (point find_ws_rest tree false)) find_ws_names)
   unfolding everything
   find_ws_is base =
-      read_is s find_ws_select st.find_ws_core (st.by_rowid false) no_page ((point_draft find_ws_rest tree false), find_ws_names, (ws_orders ++ run_settings_orders)) refl refl refl refl refl (λ again. refl) find_ws_named (plain_program (point find_ws_rest tree false)) find_ws_fits base
+      read_is s find_ws_select st.find_ws_core (st.by_rowid false) no_page ((point_draft find_ws_rest tree false), find_ws_names, orders_of find_ws_names) refl refl refl refl refl (λ again. refl) find_ws_named (plain_program (point find_ws_rest tree false)) find_ws_fits base
 
   pub find_ws_means : Means s (Select (plain_program (point find_ws_rest tree false)) find_ws_names) find_ws_text
   unfolding timed returning

@@ -1,5 +1,5 @@
 -- The tables, as their texts define them.
-use Rattle.std.specs.Prelude.{ℕ, pos, Bool, true, false, List, [], ◌∷◌, codes, Some, None}
+use Rattle.std.specs.Prelude.{ℕ, ◌+◌, pos, Bool, true, false, List, [], ◌∷◌, ◌++◌, length, codes, Some, None}
 use Rattle.sqlite_value.specs.declared.keys.Collation.TheVariants.{Binary}
 use Rattle.sqlite_value.specs.declared.keys.Order.{Order}
 use Rattle.sqlite_value.specs.declared.value.Value.TheVariants.{Null, Int}
@@ -39,10 +39,6 @@ keyed_table name columns primary uniques orders checks = record {
 abbrev pub is_between : ℕ → ℕ → ℕ → Term
 is_between place least most = op2 And (op2 (Compare Ge Binary) (col 1 place) (lit (Int (pos least)))) (op2 (Compare Le Binary) (col 1 place) (lit (Int (pos most))))
 
--- the column at a place is not null exactly where `kind`, at place 4, is the number
-abbrev pub is_given_for : ℕ → ℕ → Term
-is_given_for place kind = op2 (Compare Eq Binary) (op1 Not (op2 (Is Binary) (col 1 place) (lit Null))) (op2 (Compare Eq Binary) (col 1 4) (lit (Int (pos kind))))
-
 abbrev pub org_table : Table
 org_table = keyed_table (codes "org")
     (column (codes "name") Text true ∷ column (codes "cap") Integer true ∷ [])
@@ -53,13 +49,25 @@ token_table = keyed_table (codes "token")
     (column (codes "org") Text true ∷ column (codes "name") Text true ∷ column (codes "digest") Blob true ∷ column (codes "role") Integer true ∷ [])
     (1 ∷ 2 ∷ []) ((1 ∷ 2 ∷ []) ∷ (1 ∷ 3 ∷ []) ∷ []) (plain ∷ plain ∷ []) (is_between 4 0 2 ∷ [])
 
+-- the columns of a workspace that say how runs go
+abbrev pub run_settings_columns : List Column
+run_settings_columns = column (codes "auto") Integer true ∷ []
+
+-- the place of the column `kind`, which stands behind them
+abbrev pub kind_place : ℕ
+kind_place = 3 + length run_settings_columns
+
+-- the column so many places behind `kind` is not null exactly where `kind` is the number
+abbrev pub is_given_for : ℕ → ℕ → Term
+is_given_for behind kind = op2 (Compare Eq Binary) (op1 Not (op2 (Is Binary) (col 1 (kind_place + behind)) (lit Null))) (op2 (Compare Eq Binary) (col 1 kind_place) (lit (Int (pos kind))))
+
 abbrev pub ws_table : Table
 ws_table = keyed_table (codes "ws")
-    (column (codes "org") Text true ∷ column (codes "name") Text true ∷ column (codes "auto") Integer true ∷ column (codes "kind") Integer true
+    (column (codes "org") Text true ∷ column (codes "name") Text true ∷ (run_settings_columns ++ column (codes "kind") Integer true
     ∷ column (codes "lock_id") Text false ∷ column (codes "lock_text") Blob false ∷ column (codes "run") Integer false ∷ column (codes "released") Text false
-    ∷ column (codes "next_version") Integer true ∷ column (codes "next_run") Integer true ∷ [])
+    ∷ column (codes "next_version") Integer true ∷ column (codes "next_run") Integer true ∷ []))
     (1 ∷ 2 ∷ []) ((1 ∷ 2 ∷ []) ∷ []) (plain ∷ [])
-    (is_between 4 0 2 ∷ is_given_for 5 1 ∷ is_given_for 6 1 ∷ is_given_for 7 2 ∷ [])
+    (is_between kind_place 0 2 ∷ is_given_for 1 1 ∷ is_given_for 2 1 ∷ is_given_for 3 2 ∷ [])
 
 abbrev pub version_table : Table
 version_table = keyed_table (codes "version")
