@@ -12,6 +12,7 @@ use Rattle.statements.specs.Schema.{meta_table, org_table, token_table, ws_table
 use Rattle.statements.specs.Rows.{OrgRow, TokenRow, WsRow, VersionRow, RunRow, PageRow, VpageRow, BoundRow, KeepingRow, kind_cell, lock_id_cell, run_cell, meta_cells, org_cells, token_cells, ws_cells, version_cells, run_cells, page_cells, vpage_cells, bound_cells, edition_cells, keeping_cells, number, action_code}
 use Rattle.basis.specs.declared.runs.RunAction.{RunAction}
 use Rattle.statements.proofs.Own.{cast_int, cast_null}
+use Rattle.statements.proofs.RunSettings.{run_settings_cast}
 
 cast_kind : (h : Holder) → cast kind.Integer (kind_cell h) ≡ kind_cell h
 cast_kind Nobody = cast_int (pos 0)
@@ -50,7 +51,7 @@ token_casts r = then_cell refl (then_cell refl (then_cell refl (then_cell (cast_
 
 pub ws_casts : (r : WsRow) → cast_all ws_table.columns (ws_cells r) ≡ ws_cells r
 ws_casts r =
-    then_cell refl (then_cell refl (then_cell (cast_int _) (then_cell (cast_kind r.it.holder) (then_cell (cast_lock_id r.it.holder) (then_cell refl (then_cell (cast_run r.it.holder)
+    then_cell refl (then_cell refl (run_settings_cast r.it.runs _ (then_cell (cast_kind r.it.holder) (then_cell (cast_lock_id r.it.holder) (then_cell refl (then_cell (cast_run r.it.holder)
     (then_cell (cast_text r.it.released) (then_cell (cast_int _) (then_cell (cast_int _) refl)))))))))
 
 pub version_casts : (r : VersionRow) → cast_all version_table.columns (version_cells r) ≡ version_cells r

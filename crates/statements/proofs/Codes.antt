@@ -1,5 +1,5 @@
--- The numbers by which SQL keeps a role, a status or an action: each means one. Moments and limits fit into an integer of SQL. Texts and numbers that may be absent.
-use Rattle.std.proofs.Common.{◌≡◌, ◌≤◌, inl, inr, ℕ, ℤ, pos, SFits, w64, arith, refl, sym, ap, ◌∙◌, subst, List, Option, Some, None, option_map, Bor}
+-- The numbers by which SQL keeps a flag, a role, a status or an action: each means one. Moments and limits fit into an integer of SQL. Texts and numbers that may be absent.
+use Rattle.std.proofs.Common.{◌≡◌, ◌≤◌, inl, inr, Bool, true, false, not, cond, ℕ, ℤ, pos, int_eq, SFits, w64, arith, refl, sym, ap, ◌∙◌, subst, List, Option, Some, None, option_map, Bor}
 use Rattle.sqlite_value.specs.declared.value.Value.TheVariants.{Text, Int}
 use Rattle.sqlite.specs.Values.{or_null, bound_value}
 use Rattle.sqlite_typed.specs.Columns.{or_null as typed_null}
@@ -46,6 +46,10 @@ optional_action (Some a) = refl
 pub bound_action : (o : Option RunAction) → bound_value (typed_null (λ a. number (action_code a)) o) ≡ typed_null (λ a. number (action_code a)) o
 bound_action None = refl
 bound_action (Some a) = refl
+
+pub flag_back : (b : Bool) → not (int_eq (cond b (pos 1) (pos 0)) (pos 0)) ≡ b
+flag_back true = refl
+flag_back false = refl
 
 pub role_back : (r : Role) → role_at (role_code r) ≡ r
 role_back Read = refl

@@ -1,26 +1,19 @@
 -- The typed rows of a database are those that it holds.
-use Rattle.std.proofs.Common.{◌≡◌, ℕ, pos, nat_lt, arith, Bool, true, false, not, cond, unsigned_abs, List, [], map, Option, Some, None, refl, ap, ◌∙◌, int_eq}
+use Rattle.std.proofs.Common.{◌≡◌, ℕ, nat_lt, arith, Bool, true, false, cond, unsigned_abs, List, [], map, Option, Some, None, refl, ap, ◌∙◌}
 use Rattle.sqlite_value.specs.declared.value.Value.TheVariants as cell
 use Rattle.sqlite_typed.specs.Columns.{or_null, bytes_of, int_of, unless_null}
 use Rattle.std.proofs.lemmas.Bool.Decides.{nat_tests}
 use Rattle.sqlite_keyed.proofs.ListLemmas.{map_back}
 use Rattle.sqlite.specs.Effect.{Database}
-use Rattle.basis.specs.declared.rows.RunSettings.{RunSettings}
 use Rattle.basis.specs.declared.runs.RunAction.{RunAction}
 use Rattle.basis.specs.declared.rows.Holder.{Holder}
 use Rattle.basis.specs.declared.rows.Holder.TheVariants.{Nobody, Lock, Run as HeldByRun}
-use Rattle.statements.specs.Rows.{Kept, TokenRow, WsRow, RunRow, BoundRow, stored, token_cells, ws_cells, run_cells, bound_cells, run_settings_cells, number, action_code, kind_cell, lock_id_cell, lock_text_cell, run_cell, kept_by, token_at, ws_at, run_at, bound_at, run_settings_at, holder_at, action_at}
+use Rattle.statements.specs.Rows.{Kept, TokenRow, WsRow, RunRow, BoundRow, stored, token_cells, ws_cells, run_cells, bound_cells, number, action_code, kind_cell, lock_id_cell, lock_text_cell, run_cell, kept_by, token_at, ws_at, run_at, bound_at, holder_at, action_at}
 use Rattle.statements.specs.declared.making.TheConstants.{NEWEST}
 use Rattle.statements.specs.Tables.{Layout, Tables, Holds, HoldsIn, count_in, rows_in, up_to, rows_of, tables_of, tables_at}
 use Rattle.statements.proofs.Held.{IsHeld, Ours, metas, orgs, tokens, wss, versions, runs, pages, vpages, bounds, editions, keepings, held_in, holds_all}
-use Rattle.statements.proofs.Codes.{role_back, status_back, action_back}
-
-flag_back : (b : Bool) → not (int_eq (cond b (pos 1) (pos 0)) (pos 0)) ≡ b
-flag_back true = refl
-flag_back false = refl
-
-pub run_settings_back : (runs : RunSettings) → run_settings_at (run_settings_cells runs) 0 ≡ runs
-run_settings_back runs = λ i. record { auto_apply = flag_back runs.auto_apply i }
+use Rattle.statements.proofs.Codes.{flag_back, role_back, status_back, action_back}
+use Rattle.statements.proofs.RunSettings.{run_settings_back}
 
 text_back : (o : Option (List ℕ)) → unless_null bytes_of (or_null cell.Text o) ≡ o
 text_back None = refl

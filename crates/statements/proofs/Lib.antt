@@ -42,6 +42,7 @@ pub mod Prefixes
 pub mod ReadBack
 pub mod Reading
 pub mod RunReads
+pub mod RunSettings
 pub mod RunTexts
 pub mod RunWrites
 pub mod ScanTexts

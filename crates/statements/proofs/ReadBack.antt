@@ -18,8 +18,8 @@ use Rattle.statements.specs.declared.rows.NamedToken.{NamedToken}
 use Rattle.basis.specs.declared.roles.Bounds.{Bounds}
 use Rattle.statements.specs.Rows.{Token, number, flag, role_code, status_code, action_code, run_settings_cells, kind_cell, lock_id_cell, lock_text_cell, run_cell}
 use Rattle.statements.specs.Calls.{IsFlagCell, IsTextOrNull, AreHolderCells, IsWorkspace, IsNamedRow, IsOrganization, IsVersionRow, IsActionOrNull, IsRunRow, IsNamedRole, IsNamedToken, IsNumberOrNull, IsBound}
-use Rattle.statements.proofs.Decoding.{run_settings_back}
 use Rattle.statements.proofs.Codes.{same_role, same_status, same_action}
+use Rattle.statements.proofs.RunSettings.{run_settings_back}
 
 same_code : (m n : ℕ) → number m ≡ number n → m ≡ n
 same_code m n e = cc

@@ -1,5 +1,5 @@
 -- The rows of the tables as typed values, the cells that keep them, and the typed row that cells stand for.
-use Rattle.std.specs.Prelude.{ℕ, ℤ, pos, Bool, List, [], ◌∷◌, if◌then◌else◌, zero, suc, not, unsigned_abs, ◌==◌}
+use Rattle.std.specs.Prelude.{ℕ, ℤ, pos, Bool, List, [], ◌∷◌, ◌++◌, length, if◌then◌else◌, zero, suc, not, unsigned_abs, ◌+◌, ◌==◌}
 use Rattle.sqlite_value.specs.declared.value.Value.{Value}
 use Rattle.sqlite_value.specs.declared.value.Value.TheVariants as cell
 use Rattle.sqlite_value.specs.Order.{Row, column}
@@ -135,8 +135,8 @@ token_cells r = cell.Text r.org ∷ cell.Text r.name ∷ cell.Blob r.it.digest �
 
 abbrev pub ws_cells : WsRow → Row
 ws_cells r =
-    cell.Text r.org ∷ cell.Text r.name ∷ flag r.it.runs.auto_apply ∷ kind_cell r.it.holder ∷ lock_id_cell r.it.holder ∷ lock_text_cell r.it.holder ∷ run_cell r.it.holder
-    ∷ or_null cell.Text r.it.released ∷ number r.it.next_version ∷ number r.it.next_run ∷ []
+    cell.Text r.org ∷ cell.Text r.name ∷ (run_settings_cells r.it.runs ++ kind_cell r.it.holder ∷ lock_id_cell r.it.holder ∷ lock_text_cell r.it.holder ∷ run_cell r.it.holder
+    ∷ or_null cell.Text r.it.released ∷ number r.it.next_version ∷ number r.it.next_run ∷ [])
 
 abbrev pub version_cells : VersionRow → Row
 version_cells r =
@@ -200,6 +200,14 @@ action_at n =
 abbrev pub run_settings_at : Row → ℕ → RunSettings
 run_settings_at r at = record { auto_apply = flag_at r at }
 
+-- how many columns say how runs go
+abbrev pub run_settings_width : ℕ
+run_settings_width = length (run_settings_cells (run_settings_at [] 0))
+
+-- the column of a row of ws that comes so many behind those, the first of them 0
+abbrev pub behind_run_settings : ℕ → ℕ
+behind_run_settings n = 3 + run_settings_width + n
+
 -- from the columns kind, lock_id, lock_text and run
 abbrev pub holder_at : ℕ → List ℕ → List ℕ → ℕ → Holder
 holder_at zero id text run = Nobody
@@ -225,10 +233,10 @@ ws_at r = record {
   name = bytes_at r 2;
   it = record {
     runs = run_settings_at r 3;
-    holder = holder_at (number_at r 4) (bytes_at r 5) (bytes_at r 6) (number_at r 7);
-    released = unless_null bytes_of (column r 8);
-    next_version = number_at r 9;
-    next_run = number_at r 10;
+    holder = holder_at (number_at r (behind_run_settings 0)) (bytes_at r (behind_run_settings 1)) (bytes_at r (behind_run_settings 2)) (number_at r (behind_run_settings 3));
+    released = unless_null bytes_of (column r (behind_run_settings 4));
+    next_version = number_at r (behind_run_settings 5);
+    next_run = number_at r (behind_run_settings 6);
   };
 }
 

@@ -3,7 +3,7 @@ ghost use Rattle.std.specs.Prelude.{◌≡◌, IfOk, unsigned_abs};
 ghost use Rattle.sqlite_value.specs.Order.{column};
 ghost use Rattle.sqlite_typed.specs.Columns.{int_of, bytes_of, unless_null};
 ghost use Rattle.statements.specs.Steps.{Equals, Queries};
-ghost use Rattle.statements.specs.Rows.{kept_by, org_at, token_at, ws_at, version_at, run_at, vpage_at, bound_at, keeping_at, number_at, bytes_at, role_at, status_at, action_at, holder_at};
+ghost use Rattle.statements.specs.Rows.{kept_by, org_at, token_at, ws_at, version_at, run_at, vpage_at, bound_at, keeping_at, number_at, bytes_at, role_at, status_at, action_at, holder_at, behind_run_settings};
 
 use crate::calls::{
     Read, action_in, flag_in, keep_of, limit_of, lock_id_of, moment_of, number_of,
@@ -12,9 +12,10 @@ use crate::calls::{
 use crate::rows::{
     BoundRow, KeepingRow, OrgRow, RunRow, Token, TokenRow, VersionRow, VpageRow, Workspace, WsRow,
 };
+use crate::workspaces::{RUN_SETTINGS_WIDTH, run_settings_in};
 use basis::{
-    Bytes, Holder, Items, KeepCount, Limit, LockId, Moment, Number, Role, RunAction, RunSettings,
-    RunStatus, Text,
+    Bytes, Holder, Items, KeepCount, Limit, LockId, Moment, Number, Role, RunAction, RunStatus,
+    Text,
 };
 use sqlite::{Alter, Connection, Error, Row};
 use std::alloc::Global;
@@ -111,18 +112,21 @@ fn action_of_row(row: &Row, at: usize) -> Result<Option<RunAction>, Error>
     action_in(row, at)
 }
 
+/// The first column of a row of ws behind those that say how runs go.
+const BEHIND_RUN_SETTINGS: usize = 3 + RUN_SETTINGS_WIDTH;
+
 /// Who holds a workspace, from the columns kind, lock_id, lock_text and run.
 fn holder_of_row(row: &Row) -> Result<Holder, Error>
-    ensures { IfOk result (λ x. x ≡ holder_at (number_at row.now 4) (bytes_at row.now 5) (bytes_at row.now 6) (number_at row.now 7)) }
+    ensures { IfOk result (λ x. x ≡ holder_at (number_at row.now (behind_run_settings 0)) (bytes_at row.now (behind_run_settings 1)) (bytes_at row.now (behind_run_settings 2)) (number_at row.now (behind_run_settings 3))) }
 {
-    match unsigned_in(row, 4)? {
+    match unsigned_in(row, BEHIND_RUN_SETTINGS)? {
         0 => Ok(Holder::Nobody),
         1 => Ok(Holder::Lock {
-            id: lock_id_in(row, 5)?,
-            text: bytes_in(row, 6)?,
+            id: lock_id_in(row, BEHIND_RUN_SETTINGS + 1)?,
+            text: bytes_in(row, BEHIND_RUN_SETTINGS + 2)?,
         }),
-        2 => Ok(Holder::Run(number_in(row, 7)?)),
-        _ => Err(Error::IntegralValueOutOfRange(4)),
+        2 => Ok(Holder::Run(number_in(row, BEHIND_RUN_SETTINGS + 3)?)),
+        _ => Err(Error::IntegralValueOutOfRange(BEHIND_RUN_SETTINGS)),
     }
 }
 
@@ -174,13 +178,11 @@ impl Read for (i64, WsRow) {
             org: text_in(row, 1)?,
             name: text_in(row, 2)?,
             it: Workspace {
-                runs: RunSettings {
-                    auto_apply: flag_in(row, 3)?,
-                },
+                runs: run_settings_in(row, 3)?,
                 holder: holder_of_row(row)?,
-                released: some_lock_id_in(row, 8)?,
-                next_version: unsigned_in(row, 9)?,
-                next_run: unsigned_in(row, 10)?,
+                released: some_lock_id_in(row, BEHIND_RUN_SETTINGS + 4)?,
+                next_version: unsigned_in(row, BEHIND_RUN_SETTINGS + 5)?,
+                next_run: unsigned_in(row, BEHIND_RUN_SETTINGS + 6)?,
             },
         };
         Ok((id, it))

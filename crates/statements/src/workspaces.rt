@@ -1,12 +1,14 @@
 //! Statements on the table ws. Where a workspace is added or goes, so is how many versions it keeps.
-ghost use Rattle.std.specs.Prelude.{◌≡◌, ◌≢◌, [], None, IfOk, is_some, string_bytes};
+ghost use Rattle.std.specs.Prelude.{◌≡◌, ◌≢◌, [], ◌∷◌, None, IfOk, is_some, string_bytes};
 ghost use Rattle.sqlite.specs.Held.{state};
+ghost use Rattle.sqlite.specs.Values.{bound};
 ghost use Rattle.statements.specs.Steps.{AnyRows, Equals, EqualsWhere, Writes, Tells, Queries};
 ghost use Rattle.statements.specs.Changes.{with_run_settings, held_by, released_from, with_next_version, with_next_run, ws_changed, ws_row_added, ws_row_removed, ws_added, ws_removed, HasNoKeeping};
 ghost use Rattle.statements.specs.Listings.{workspace_rows_after, workspace_names_of, WorkspacesApart, NamesApart, later_of, end_of};
-ghost use Rattle.statements.specs.Rows.{run_settings_at};
+ghost use Rattle.statements.specs.Rows.{run_settings_at, run_settings_cells};
 ghost use Rattle.statements.specs.Calls.{AreHolderCells, IsWorkspaceWith, IsWorkspace, IsNamedRow, IsName};
 ghost use Rattle.sqlite_value.specs.Order.{column};
+ghost use Rattle.sqlite_value.specs.declared.value.Value.TheVariants.{Text};
 ghost use Rattle.statements.specs.Finds.{workspace_of, workspaces_of};
 ghost use Rattle.basis.specs.declared.rows.Holder.TheVariants.{Nobody, Lock, Run as HeldByRun};
 
@@ -17,16 +19,32 @@ use crate::calls::{
 use crate::keepings;
 use crate::rows::{NamedWorkspace, Workspace};
 use basis::{Bytes, Holder, Items, KeepCount, LockId, Number, Prefix, RunSettings, WsName};
+use sqlite::types::{ToSql, ValueRef};
 use sqlite::{Alter, Connection, Error, Row, Transaction, params};
 use std::alloc::Global;
 
+/// How many columns say how runs go.
+pub(crate) const RUN_SETTINGS_WIDTH: usize = 1;
+
 /// The settings of runs in a row of an answer, of which the first stands in this column.
-fn run_settings_in(row: &Row, at: usize) -> Result<RunSettings, Error>
+pub(crate) fn run_settings_in(row: &Row, at: u8) -> Result<RunSettings, Error>
     ensures { IfOk result (λ runs. runs ≡ run_settings_at row.now at) }
 {
+    let at = usize::from(at);
     Ok(RunSettings {
         auto_apply: flag_in(row, at)?,
     })
+}
+
+/// The parameters of a text that writes the settings of the runs of a workspace, behind its name.
+fn params_of<'v>(
+    org: &'v str,
+    name: &'v str,
+    runs: RunSettings,
+) -> [ValueRef<'v>; 2 + RUN_SETTINGS_WIDTH]
+    ensures { bound result ≡ Text org.now ∷ Text name.now ∷ run_settings_cells runs }
+{
+    [org.to_sql(), name.to_sql(), runs.auto_apply.to_sql()]
 }
 
 fn holder_in(row: &Row) -> Result<Holder, Error>
@@ -44,7 +62,7 @@ fn holder_in(row: &Row) -> Result<Holder, Error>
 }
 
 /// A workspace, of which the settings of runs begin in this column.
-fn workspace_in(row: &Row, at: usize) -> Result<Workspace, Error>
+fn workspace_in(row: &Row, at: u8) -> Result<Workspace, Error>
     ensures { IfOk result (IsWorkspaceWith at row.now) }
 {
     Ok(Workspace {
@@ -231,7 +249,7 @@ fn add_row<S: Alter>(
     ensures writes { Writes S.Store AnyRows (ws_row_added org.now name.now runs) tx.old tx.new result }
     ensures fresh { Tells (λ _ t. workspace_of org.now name.now t ≡ None) (state S.Store tx.old.conn.now) (state S.Store tx.new.conn.now) result }
 {
-    write(tx, ADD_WS, params![org, name, runs.auto_apply])
+    write(tx, ADD_WS, &params_of(org, name, runs))
 }
 
 /// Adds a workspace that nobody holds, whose versions and runs begin at 1, and how many versions it keeps. There was none
@@ -261,7 +279,7 @@ pub fn set_run_settings<S: Alter>(
 ) -> Result<(), Error>
     ensures { Writes S.Store AnyRows (ws_changed (with_run_settings runs) org.now name.now) tx.old tx.new result }
 {
-    write(tx, SET_RUN_SETTINGS, params![org, name, runs.auto_apply])
+    write(tx, SET_RUN_SETTINGS, &params_of(org, name, runs))
 }
 
 const HOLD_BY_LOCK: &str =

@@ -20,10 +20,10 @@ use statements::rows::Workspace;
 use statements::{runs, workspaces};
 use std::alloc::Global;
 
-/// The columns of the table ws that have the next numbers.
-const NEXT_VERSION_COLUMN: usize = 8;
+/// The columns of a workspace's row, as it is read, that have the next numbers.
+const NEXT_VERSION_COLUMN: usize = 5;
 
-const NEXT_RUN_COLUMN: usize = 9;
+const NEXT_RUN_COLUMN: usize = 6;
 
 /// The ID that was released last, of a workspace that nobody holds.
 fn put_released<S: Alter>(

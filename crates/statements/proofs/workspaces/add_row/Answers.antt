@@ -14,7 +14,7 @@ returns-clause-writes g c = record {
       let old = state g.S.Store c.args.tx.now.conn.now in
       let new = state g.S.Store c.write.new.tx.conn.now in
       moves_by (ws_row_added c.args.org.now c.args.name.now c.args.runs) old new add_ws_text _ c.write.result
-      (rw (c.params-to_sql.ensures, c.params-to_sql-2.ensures, c.params-to_sql-3.ensures) at (c.write.ensures.runs clean inside))
+      (rw c.params_of.ensures at (c.write.ensures.runs clean inside))
       (λ count t holds ran. add_ws_does old new count t holds c.args.org.now c.args.name.now c.args.runs ran);
   survives = c.write.ensures.survives;
 }
@@ -24,5 +24,5 @@ returns-clause-fresh g c clean inside =
     let old = state g.S.Store c.args.tx.now.conn.now in
     let new = state g.S.Store c.write.new.tx.conn.now in
     tells_by (λ t. workspace_of c.args.org.now c.args.name.now t ≡ None) old new add_ws_text _ c.write.result
-    (rw (c.params-to_sql.ensures, c.params-to_sql-2.ensures, c.params-to_sql-3.ensures) at (c.write.ensures.runs clean inside))
+    (rw c.params_of.ensures at (c.write.ensures.runs clean inside))
     (λ count t holds ran. add_ws_finds old new count t holds c.args.org.now c.args.name.now c.args.runs ran)

@@ -12,7 +12,7 @@ returns g c = record {
       let old = state g.S.Store c.args.tx.now.conn.now in
       let new = state g.S.Store c.write.new.tx.conn.now in
       moves_by (ws_changed (with_run_settings c.args.runs) c.args.org.now c.args.name.now) old new set_run_settings_text _ c.write.result
-      (rw (c.params-to_sql.ensures, c.params-to_sql-2.ensures, c.params-to_sql-3.ensures) at (c.write.ensures.runs clean inside))
+      (rw c.params_of.ensures at (c.write.ensures.runs clean inside))
       (λ count t holds ran. set_run_settings_does old new count t holds c.args.org.now c.args.name.now c.args.runs ran);
   survives = c.write.ensures.survives;
 }
