@@ -1,12 +1,14 @@
 -- A page that is put by the first page of its key: where there is none, it is the key's only one; where that has its bytes, it is the one that is used again.
-use Rattle.std.proofs.Common.{◌≡◌, ◌==◌, ℕ, Bool, true, false, ◌&&◌, cond, List, [], ◌∷◌, find, is_some, Option, Some, None, IsSome, option_map, refl, sym, ap, ◌∙◌, subst, arith}
+use Rattle.std.proofs.Common.{◌≡◌, ◌==◌, ℕ, ◌+◌, Bool, true, false, ◌&&◌, cond, List, [], ◌∷◌, find, is_some, Option, Some, None, IsSome, option_map, inr, refl, sym, ap, ◌∙◌, subst, arith}
 use Rattle.std.specs.Str.{bytes_eq}
 use Rattle.statements.specs.Rows.{Kept, PageRow}
 use Rattle.statements.specs.Tables.{Tables}
 use Rattle.pages.specs.declared.rows.FirstPage.{FirstPage}
-use Rattle.pages.specs.Rows.{page_added, page_use, page_uses, equal_page, is_of_key, compared, first_page}
+use Rattle.pages.specs.declared.rows.PageUse.{PageUse}
+use Rattle.pages.specs.Rows.{page_added, page_used, page_use, page_uses, equal_page, is_of_key, compared, first_page}
+use Rattle.pages.specs.Pages.{IsKeyFor}
 use Rattle.pages.specs.Puts.{twin_limit, free_twin, twin_found, twin_for, put_found, page_put}
-use Rattle.pages.specs.Inner.Calls.{put_with, twin_with, is_alike}
+use Rattle.pages.specs.Inner.Calls.{put_with, twin_with, alike}
 use Rattle.pages.proofs.FreeTwins.{free_begin, free_here}
 
 module _ {X : Type 0} (p q : X → Bool) where
@@ -40,12 +42,17 @@ module _ (key bytes : List ℕ) (t : Tables) where
   first_equal : (x : Kept PageRow) → find (is_of_key key) t.pages ≡ Some x → bytes_eq x.1.bytes bytes ≡ true → equal_page key bytes t ≡ Some (page_use x)
   first_equal x found same = ap (option_map page_use) (first_narrower (is_of_key key) (λ y. bytes_eq y.1.bytes bytes) t.pages x found same)
 
-  alike_is : is_alike (first_page key bytes t) ≡ true → IsSome (equal_page key bytes t)
-  alike_is alike = go (find (is_of_key key) t.pages) refl alike
+  -- where the first page of the key has the bytes, it is the page of the key that has them
+  alike_is : (found : PageUse) → alike (first_page key bytes t) ≡ Some found → equal_page key bytes t ≡ Some found
+  alike_is found is = go (find (is_of_key key) t.pages) refl is
     where
-      go : (o : Option (Kept PageRow)) → find (is_of_key key) t.pages ≡ o → is_alike (option_map (compared bytes) o) ≡ true → IsSome (equal_page key bytes t)
-      go None none same = absurd (let no_one : ⊥ = cc in no_one)
-      go (Some x) found same = ap is_some (first_equal x found same)
+      go : (o : Option (Kept PageRow)) → find (is_of_key key) t.pages ≡ o → alike (option_map (compared bytes) o) ≡ Some found → equal_page key bytes t ≡ Some found
+      go None none is = absurd (let no_one : ⊥ = cc in no_one)
+      go (Some x) there is = by_bytes (bytes_eq x.1.bytes bytes) refl is
+        where
+          by_bytes : (b : Bool) → bytes_eq x.1.bytes bytes ≡ b → cond b (Some (page_use x)) None ≡ Some found → equal_page key bytes t ≡ Some found
+          by_bytes true same is = first_equal x there same ∙ is
+          by_bytes false other is = absurd (let no_one : ⊥ = cc in no_one)
 
   pub put_with_is : put_with key bytes (first_page key bytes t) t ≡ page_put key bytes t
   put_with_is = go (find (is_of_key key) t.pages) refl
@@ -69,7 +76,19 @@ module _ (key bytes : List ℕ) (t : Tables) where
           by_bytes true same = sym (ap (λ o. twin_found key o t) (first_equal x found same))
           by_bytes false other = refl
 
--- where the first page of a key has the bytes, a page of the key has them
-pub alike_there : (known key bytes : List ℕ) (t : Tables) (first : Option FirstPage) (same : Bool) → known ≡ key → first ≡ first_page known bytes t → same ≡ is_alike first → same ≡ true → IsSome (equal_page key bytes t)
-alike_there known key bytes t first same key_is first_is same_is is_true =
-    subst (λ (k : List ℕ). IsSome (equal_page k bytes t)) key_is (alike_is known bytes t (ap is_alike (sym first_is) ∙ sym same_is ∙ is_true))
+-- so it is where the key that was asked for is this one
+pub found_equal : (asked key bytes : List ℕ) (t : Tables) (first : Option FirstPage) (found : PageUse) → asked ≡ key → first ≡ first_page asked bytes t → alike first ≡ Some found → equal_page key bytes t ≡ Some found
+found_equal asked key bytes t first found named seen same =
+    let shown : first_page key bytes t ≡ first = sym (seen ∙ ap (λ (k : List ℕ). first_page k bytes t) named) in
+    alike_is key bytes t found (ap alike shown ∙ same)
+
+module _ (key bytes : List ℕ) (t : Tables) (found : PageUse) (equal : equal_page key bytes t ≡ Some found) where
+  -- the page of the key that has the bytes: to put them is one use more of it
+  pub used_is_put : page_used key found.twin (found.uses + 1) t ≡ page_put key bytes t
+  used_is_put = ap (λ o. put_found key bytes o t) (sym equal)
+
+  pub found_twin : found.twin ≡ twin_for key bytes t
+  found_twin = ap (λ o. twin_found key o t) (sym equal)
+
+  pub found_fits : (key_of : List ℕ → List ℕ) (name : List ℕ) → name ≡ key → IsKeyFor key_of bytes name t
+  found_fits key_of name named = inr (subst (λ (k : List ℕ). IsSome (equal_page k bytes t)) (sym named) (ap is_some equal))

@@ -1,12 +1,18 @@
 -- From what a call did to the rows to what it promises of the map of pages.
-use Rattle.std.proofs.Common.{◌≡◌, ◌<◌, ℕ, List, Option, Some, None, IsSome, Result, Ok, Err, OnOk, sym, ◌∙◌, subst}
-use Rattle.sqlite.specs.State.{State}
-use Rattle.statements.specs.Steps.{AnyRows, Moves}
+use Rattle.std.proofs.Common.{◌≡◌, ◌<◌, ℕ, List, Option, Some, None, IsSome, Result, Ok, Err, IfOk, OnOk, inl, sym, ◌∙◌, subst}
+use Rattle.sqlite_trees.specs.declared.store.Store.{Ghosts}
+use Rattle.sqlite.specs.Held.{state}
+use Rattle.sqlite.specs.State.{State, HasCleanDisk, IsUnchanged, Survives}
+use Rattle.sqlite.specs.declared.transaction.Transaction.{Transaction}
+use Rattle.statements.specs.Steps.{AnyRows, LeavesAsIs, Moves, Steps}
 use Rattle.statements.specs.Tables.{Tables, Holds}
 use Rattle.statements.proofs.Decoding.{tables-held}
+use Rattle.statements.proofs.Transactions.{clean_before}
+use Rattle.pages.specs.declared.store.PageId.{PageId}
 use Rattle.pages.specs.Rows.{page_uses}
 use Rattle.pages.specs.Puts.{twin_limit, twin_for, page_put, page_released}
-use Rattle.pages.specs.Pages.{pages_in, HasSoundPages, PutsPage, ReleasesPage}
+use Rattle.pages.specs.Pages.{pages_in, HasSoundPages, IsKeyFor, PutsPage, PutsUnder, ReleasesPage}
+use Rattle.pages.proofs.Looking.{one_look, still_holds, step_after}
 use Rattle.pages.proofs.PageLaws.{put_is, put_keeps, release_is, release_keeps}
 
 -- the rows that a database holds after a step are those of the step
@@ -22,6 +28,40 @@ puts_by key bytes twin a b moved fits told t u before after sound =
       subst (λ n. PutsPage key bytes n (pages_in t) (pages_in u)) (sym at) (subst (λ v. PutsPage key bytes (twin_for key bytes t) (pages_in t) (pages_in v)) is (put_is key bytes t sound low)),
       subst HasSoundPages is (put_keeps key bytes t low sound),
     )
+
+puts_if : {E : Type 0} (key bytes : List ℕ) (a b : State) (result : Result PageId E) → OnOk result (Moves AnyRows (page_put key bytes) a b) → IfOk result (λ id. (id.key ≡ key) × (id.twin < twin_limit))
+    → IfOk result (λ id. (t : Tables) → Holds a.now t → id.twin ≡ twin_for key bytes t) → IfOk result (λ id. (t u : Tables) → Holds a.now t → Holds b.now u → HasSoundPages t → PutsPage key bytes id.twin (pages_in t) (pages_in u) × HasSoundPages u)
+puts_if key bytes a b (Ok id) moved named told = puts_by key bytes id.twin a b moved named.1 told
+puts_if key bytes a b (Err e) moved named told = tt
+
+told_before : {E : Type 0} (key bytes : List ℕ) (a b : State) (result : Result PageId E) → LeavesAsIs a b → IfOk result (λ id. (t : Tables) → Holds b.now t → id.twin ≡ twin_for key bytes t) → IfOk result (λ id. (t : Tables) → Holds a.now t → id.twin ≡ twin_for key bytes t)
+told_before key bytes a b (Ok id) look told = λ t before. told t (still_holds a b look t before)
+told_before key bytes a b (Err e) look told = tt
+
+module _ {S E : Type 0} (g : Ghosts S) (key bytes : List ℕ) (a : Transaction S) where
+  -- the steps of a put, and the name that it gives, as one clause
+  pub puts_under : (b : Transaction S) (result : Result PageId E) → Steps g (page_put key bytes) a b result → IfOk result (λ id. (id.key ≡ key) × (id.twin < twin_limit))
+      → (HasCleanDisk (state g b.conn.now) → IfOk result (λ id. (t : Tables) → Holds (state g a.conn.now).now t → id.twin ≡ twin_for key bytes t)) → PutsUnder g key bytes a b result
+  puts_under b result steps named told = record {
+    steps = record { same_reference = steps.same_reference; changed = steps.changed; so_far = steps.so_far; shield = steps.shield };
+    named = named;
+    tells = told;
+    puts = λ clean inside. puts_if key bytes (state g a.conn.now) (state g b.conn.now) result (steps.changed clean inside).0 named (told clean);
+  }
+
+  -- a put behind a query
+  pub puts_behind : (b c : Transaction S) (result : Result PageId E) → b.conn.ghost_name ≡ a.conn.ghost_name → Survives (state g a.conn.now) (state g b.conn.now) (λ _. ⊥)
+      → (HasCleanDisk (state g b.conn.now) → IsUnchanged (state g a.conn.now) (state g b.conn.now)) → PutsUnder g key bytes b c result → PutsUnder g key bytes a c result
+  puts_behind b c result same_reference survives same put =
+      let s0 = state g a.conn.now in
+      let s1 = state g b.conn.now in
+      puts_under c result (step_after g (page_put key bytes) a b c result same_reference (λ clean. one_look s0 s1 (same clean)) (clean_before s0 s1 _ survives) survives.shield put.steps) put.named
+      (λ clean. told_before key bytes s0 s1 result (one_look s0 s1 (same (put.steps.so_far clean))) (put.tells clean))
+
+-- a page's own key is a key for it
+pub own_fits : {E : Type 0} (key_of : List ℕ → List ℕ) (page : List ℕ) (a : State) (result : Result PageId E) → IfOk result (λ id. (id.key ≡ key_of page) × (id.twin < twin_limit)) → IfOk result (λ id. (t : Tables) → Holds a.now t → IsKeyFor key_of page id.key t)
+own_fits key_of page a (Ok id) named = λ t before. inl named.0
+own_fits key_of page a (Err e) named = tt
 
 pub releases_by : (key : List ℕ) (twin : ℕ) (uses : Option ℕ) (a b : State) → Moves AnyRows (page_released key twin) a b → IsSome uses → ((t : Tables) → Holds a.now t → uses ≡ page_uses key twin t)
     → (t u : Tables) → Holds a.now t → Holds b.now u → ReleasesPage key twin (pages_in t) (pages_in u) × (HasSoundPages t → HasSoundPages u)

@@ -9,7 +9,7 @@ ghost use Rattle.statements.specs.Tables.{Tables, Holds};
 ghost use Rattle.pages.specs.Rows.{page_added, page_used, page_bytes, IsPageName};
 ghost use Rattle.pages.specs.Puts.{free_twin, twin_found, twin_for, put_found, page_put, lessened, released_found, page_released, is_bytes_of};
 ghost use Rattle.pages.specs.Pages.{IsKeyFor, PutsUnder, ReleasesBy, SparesNamed, GetsBy};
-ghost use Rattle.pages.specs.Inner.Calls.{OnlyLooks, TellsBy, put_with, twin_with, is_alike};
+ghost use Rattle.pages.specs.Inner.Calls.{OnlyLooks, TellsBy, put_with, twin_with, alike};
 
 use crate::keys::PageKey;
 use crate::rows::{FirstPage, PageUse, add, bytes, equal, first, remove, set_uses, uses};
@@ -176,37 +176,54 @@ fn put_under<S: Alter>(tx: &mut Transaction<'_, S>, key: &[u8], page: &[u8]) -> 
     put_with(tx, key, first, page)
 }
 
-fn is_alike(first: &Option<FirstPage>) -> bool
-    ensures { result ≡ is_alike first.now }
+/// The first page of a key, if it has the bytes that were asked for.
+fn alike(first: Option<FirstPage>) -> Option<PageUse>
+    ensures { result ≡ alike first }
 {
     match first {
-        None => false,
-        Some(first) => first.same,
+        Some(page) if page.same => Some(page.found),
+        _ => None,
     }
 }
 
-/// The key of a page: the known one, if the first page of that has these bytes, since comparing costs less than a key.
-fn key_for<K: PageKey, S: Alter>(
-    tx: &mut Transaction<'_, S>,
-    known: Option<&[u8; 32]>,
-    page: &[u8],
-) -> Result<[u8; 32], Error>
-    ensures same_reference { tx.new.conn.ghost_name ≡ tx.old.conn.ghost_name }
-    ensures looks { OnlyLooks (state S.Store tx.old.conn.now) (state S.Store tx.new.conn.now) result }
-    ensures keyed { HasCleanDisk (state S.Store tx.new.conn.now) → IfOk result (λ key. (t : Tables) → Holds (state S.Store tx.old.conn.now).now t → IsKeyFor K.key_of page.now key t) }
-    ensures so_far { HasCleanDisk (state S.Store tx.new.conn.now) → HasCleanDisk (state S.Store tx.old.conn.now) }
-    ensures shield { (state S.Store tx.old.conn.now).IsShielded → (state S.Store tx.new.conn.now).IsShielded }
+/// Puts a page under its own key.
+fn put_own<K: PageKey, S: Alter>(tx: &mut Transaction<'_, S>, page: &[u8]) -> Result<PageId, Error>
+    ensures { PutsUnder S.Store (K.key_of page.now) page.now tx.old tx.new result }
 {
-    match known {
-        None => Ok(K::key(page)),
-        Some(known) => {
-            let first = first(tx, known.as_slice(), page)?;
-            if is_alike(&first) {
-                Ok(*known)
-            } else {
-                Ok(K::key(page))
-            }
-        }
+    let key = K::key(page);
+    let twin = put_under(tx, key.as_slice(), page)?;
+    Ok(PageId { key, twin })
+}
+
+/// One use more of a page that is there under a known key.
+fn use_known<S: Alter>(
+    tx: &mut Transaction<'_, S>,
+    known: &[u8; 32],
+    found: PageUse,
+) -> Result<PageId, Error>
+    ensures steps { Steps S.Store (page_used known.now found.twin (found.uses + 1)) tx.old tx.new result }
+    ensures named { IfOk result (λ id. (id.key ≡ known.now) × (id.twin ≡ found.twin)) }
+    ensures fits { IfOk result (λ id. id.twin < 2 ^ 63) }
+{
+    let twin = use_again(tx, known.as_slice(), found)?;
+    Ok(PageId { key: *known, twin })
+}
+
+/// Puts a page under a known key, if the first page of that has its bytes, or else under its own.
+/// Comparing its bytes costs less than a key.
+fn put_known<K: PageKey, S: Alter>(
+    tx: &mut Transaction<'_, S>,
+    known: &[u8; 32],
+    page: &[u8],
+) -> Result<PageId, Error>
+    ensures puts { (key : List ℕ) × PutsUnder S.Store key page.now tx.old tx.new result }
+    ensures keyed { HasCleanDisk (state S.Store tx.new.conn.now) → IfOk result (λ id. (t : Tables) → Holds (state S.Store tx.old.conn.now).now t → IsKeyFor K.key_of page.now id.key t) }
+{
+    let first = first(tx, known.as_slice(), page)?;
+    let found = alike(first);
+    match found {
+        None => put_own::<K, S>(tx, page),
+        Some(found) => use_known(tx, known, found),
     }
 }
 
@@ -221,9 +238,10 @@ pub fn put<K: PageKey, S: Alter>(
     ensures puts { (key : List ℕ) × PutsUnder S.Store key page.now tx.old tx.new result }
     ensures keyed { HasCleanDisk (state S.Store tx.new.conn.now) → IfOk result (λ id. (t : Tables) → Holds (state S.Store tx.old.conn.now).now t → IsKeyFor K.key_of page.now id.key t) }
 {
-    let key = key_for::<K, S>(tx, known, page)?;
-    let twin = put_under(tx, key.as_slice(), page)?;
-    Ok(PageId { key, twin })
+    match known {
+        None => put_own::<K, S>(tx, page),
+        Some(known) => put_known::<K, S>(tx, known, page),
+    }
 }
 
 /// The bytes of a page. It is an error where the page isn't there.

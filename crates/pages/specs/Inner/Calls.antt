@@ -1,5 +1,5 @@
 -- What calls inside a transaction leave and tell.
-use Rattle.std.specs.Prelude.{◌≡◌, ◌+◌, ℕ, Bool, false, cond, List, Option, Some, None, Result, IfOk, OnOk, OnErr}
+use Rattle.std.specs.Prelude.{◌≡◌, ◌+◌, ℕ, cond, List, Option, Some, None, Result, IfOk, OnOk, OnErr}
 use Rattle.sqlite_value.specs.Order.{Row, column}
 use Rattle.sqlite.specs.State.{State, HasCleanDisk, KeepsCommit}
 use Rattle.statements.specs.Rows.{number}
@@ -28,10 +28,10 @@ abbrev pub twin_with : List ℕ → List ℕ → Option FirstPage → Tables →
 twin_with key bytes None t = 0
 twin_with key bytes (Some first) t = cond first.same first.found.twin (twin_for key bytes t)
 
--- whether the first page of a key has the bytes that were asked for
-abbrev pub is_alike : Option FirstPage → Bool
-is_alike None = false
-is_alike (Some first) = first.same
+-- the first page of a key, if it has the bytes that were asked for
+abbrev pub alike : Option FirstPage → Option PageUse
+alike None = None
+alike (Some first) = cond first.same (Some first.found) None
 
 -- only queries are run
 abbrev pub OnlyLooks : {X E : Type 0} → State → State → Result X E → Type 0
