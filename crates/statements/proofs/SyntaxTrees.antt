@@ -42,9 +42,6 @@ zero = Integer (codes "0")
 abbrev pub one : Expr
 one = Integer (codes "1")
 
-abbrev pub two : Expr
-two = Integer (codes "2")
-
 abbrev pub four : Expr
 four = Integer (codes "4")
 
@@ -102,17 +99,11 @@ add_ws =
 abbrev pub set_run_settings : Statement
 set_run_settings = update (codes "ws") (zip run_settings_names (parameters 3 run_settings_names)) (at_key (codes "org") (codes "name"))
 
-abbrev pub hold_by_lock : Statement
-hold_by_lock = update (codes "ws") ((codes "kind", one) ∷ (codes "lock_id", Parameter 3) ∷ (codes "lock_text", Parameter 4) ∷ (codes "run", Null) ∷ []) (at_key (codes "org") (codes "name"))
-
-abbrev pub hold_by_run : Statement
-hold_by_run = update (codes "ws") ((codes "kind", two) ∷ (codes "lock_id", Null) ∷ (codes "lock_text", Null) ∷ (codes "run", Parameter 3) ∷ []) (at_key (codes "org") (codes "name"))
+abbrev pub hold : Statement
+hold = update (codes "ws") ((codes "kind", Parameter 3) ∷ (codes "lock_id", Parameter 4) ∷ (codes "lock_text", Parameter 5) ∷ (codes "run", Parameter 6) ∷ []) (at_key (codes "org") (codes "name"))
 
 abbrev pub release_lock : Statement
 release_lock = update (codes "ws") ((codes "kind", zero) ∷ (codes "lock_id", Null) ∷ (codes "lock_text", Null) ∷ (codes "run", Null) ∷ (codes "released", Parameter 3) ∷ []) (at_key (codes "org") (codes "name"))
-
-abbrev pub release_run : Statement
-release_run = update (codes "ws") ((codes "kind", zero) ∷ (codes "lock_id", Null) ∷ (codes "lock_text", Null) ∷ (codes "run", Null) ∷ []) (at_key (codes "org") (codes "name"))
 
 abbrev pub set_next_version : Statement
 set_next_version = update (codes "ws") ((codes "next_version", Parameter 3) ∷ []) (at_key (codes "org") (codes "name"))

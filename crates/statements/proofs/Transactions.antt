@@ -1,5 +1,5 @@
 -- From what a text does to what a function of it promises.
-use Rattle.std.proofs.Common.{◌≡◌, ◌⊎◌, inl, ◌≤◌, ℕ, Bool, not, ◌==◌, List, [], ◌∷◌, Option, Some, None, Result, Ok, Err, IfOk, OnOk, OnErr, refl, ap, subst, ◌∙◌, arith}
+use Rattle.std.proofs.Common.{◌≡◌, ◌⊎◌, inl, ◌≤◌, ℕ, Bool, IsTrue, not, ◌==◌, List, [], ◌∷◌, Option, Some, None, Result, Ok, Err, IfOk, OnOk, OnErr, refl, ap, subst, ◌∙◌, arith}
 use Rattle.std.specs.List.{AllZip}
 use Rattle.sqlite_value.specs.Order.{Row}
 use Rattle.sqlite_trees.specs.Tree.{Trees}
@@ -40,6 +40,13 @@ moves_where law change old new text params (Err e) wrote does = (tt, wrote.1)
 pub moves_by : {X E : Type 0} (change : Tables → Tables) (old new : State) (text : List ℕ) (params : Row) (result : Result X E) → Wrote text params old new result
     → ((count : ℕ) (t : Tables) → Holds old.now t → Executes text params old new (Ok count) → Turns old.now new.now (change t)) → OnOk result (Moves AnyRows change old new) × OnErr result (KeepsCommit old new)
 moves_by change old new text params result wrote does = moves_where AnyRows change old new text params result wrote (λ count t h any. does count t h)
+
+-- the whole of what a write promises
+pub writes_by : {S X E : Type 0} (g : Ghosts S) (change : Tables → Tables) (old new : Transaction S) (text : List ℕ) (params : Row) (result : Result X E) → new.conn.ghost_name ≡ old.conn.ghost_name
+    → (HasCleanDisk (state g new.conn.now) → IsTrue (state g old.conn.now).in_transaction → Wrote text params (state g old.conn.now) (state g new.conn.now) result) → Survives (state g old.conn.now) (state g new.conn.now) (λ _. ⊥)
+    → ((count : ℕ) (t : Tables) → Holds (state g old.conn.now).now t → Executes text params (state g old.conn.now) (state g new.conn.now) (Ok count) → Turns (state g old.conn.now).now (state g new.conn.now).now (change t)) → Writes g AnyRows change old new result
+writes_by g change old new text params result same runs survives does =
+    record { same_reference = same; changed = λ clean inside. moves_by change (state g old.conn.now) (state g new.conn.now) text params result (runs clean inside) does; survives = survives }
 
 -- a write that tells whether there were rows to write
 pub any_wrote : {E : Type 0} (old new : State) (text : List ℕ) (params : Row) (result : Result Bool E) → WroteAny text params old new result → Wrote text params old new result

@@ -16,7 +16,7 @@ use Rattle.sqlite_tied.specs.Compute.{everything}
 use Rattle.statements.specs.Place.{StandsAt}
 use Rattle.statements.specs.Schema.{ws_table}
 use Rattle.statements.specs.Calls.{IsQuery}
-use Rattle.statements.specs.declared.workspaces.TheConstants.{FIND_WS, ADD_WS, SET_RUN_SETTINGS, HOLD_BY_LOCK, HOLD_BY_RUN, RELEASE_LOCK, RELEASE_RUN, SET_NEXT_VERSION, SET_NEXT_RUN, REMOVE_WS, COUNT_WS, LIST_NAMES}
+use Rattle.statements.specs.declared.workspaces.TheConstants.{FIND_WS, ADD_WS, SET_RUN_SETTINGS, HOLD, RELEASE_LOCK, SET_NEXT_VERSION, SET_NEXT_RUN, REMOVE_WS, COUNT_WS, LIST_NAMES}
 use Rattle.statements.proofs.SyntaxTrees as st
 use Rattle.statements.proofs.Meaning.{Means, means, some_parsed, as_read}
 use Rattle.statements.proofs.Reading.{read_is}
@@ -73,25 +73,15 @@ set_run_settings_reads = refl
 abbrev pub set_run_settings_query : ℕ → Query
 set_run_settings_query = set_ws_query (given_from 2 st.run_settings_names)
 
-abbrev pub hold_by_lock_text : List ℕ
-hold_by_lock_text = HOLD_BY_LOCK.now
+abbrev pub hold_text : List ℕ
+hold_text = HOLD.now
 
-hold_by_lock_reads : first hold_by_lock_text ≡ Ok (as_read (some_parsed (first hold_by_lock_text)) st.hold_by_lock)
+hold_reads : first hold_text ≡ Ok (as_read (some_parsed (first hold_text)) st.hold)
 unfolding everything
-hold_by_lock_reads = refl
+hold_reads = refl
 
-abbrev pub hold_by_lock_query : ℕ → Query
-hold_by_lock_query = set_ws_query ((codes "kind", lit (Int (pos 1))) ∷ (codes "lock_id", col 0 2) ∷ (codes "lock_text", col 0 3) ∷ (codes "run", lit Null) ∷ [])
-
-abbrev pub hold_by_run_text : List ℕ
-hold_by_run_text = HOLD_BY_RUN.now
-
-hold_by_run_reads : first hold_by_run_text ≡ Ok (as_read (some_parsed (first hold_by_run_text)) st.hold_by_run)
-unfolding everything
-hold_by_run_reads = refl
-
-abbrev pub hold_by_run_query : ℕ → Query
-hold_by_run_query = set_ws_query ((codes "kind", lit (Int (pos 2))) ∷ (codes "lock_id", lit Null) ∷ (codes "lock_text", lit Null) ∷ (codes "run", col 0 2) ∷ [])
+abbrev pub hold_query : ℕ → Query
+hold_query = set_ws_query (given_from 2 (codes "kind" ∷ codes "lock_id" ∷ codes "lock_text" ∷ codes "run" ∷ []))
 
 abbrev pub release_lock_text : List ℕ
 release_lock_text = RELEASE_LOCK.now
@@ -102,16 +92,6 @@ release_lock_reads = refl
 
 abbrev pub release_lock_query : ℕ → Query
 release_lock_query = set_ws_query ((codes "kind", lit (Int (pos 0))) ∷ (codes "lock_id", lit Null) ∷ (codes "lock_text", lit Null) ∷ (codes "run", lit Null) ∷ (codes "released", col 0 2) ∷ [])
-
-abbrev pub release_run_text : List ℕ
-release_run_text = RELEASE_RUN.now
-
-release_run_reads : first release_run_text ≡ Ok (as_read (some_parsed (first release_run_text)) st.release_run)
-unfolding everything
-release_run_reads = refl
-
-abbrev pub release_run_query : ℕ → Query
-release_run_query = set_ws_query ((codes "kind", lit (Int (pos 0))) ∷ (codes "lock_id", lit Null) ∷ (codes "lock_text", lit Null) ∷ (codes "run", lit Null) ∷ [])
 
 abbrev pub set_next_version_text : List ℕ
 set_next_version_text = SET_NEXT_VERSION.now
@@ -209,21 +189,13 @@ module _ (s : Schema) (at tree : ℕ) (h : StandsAt s (codes "ws") ws_table at t
   unfolding everything
   set_run_settings_means = means s st.set_run_settings _ refl (λ _. refl) set_run_settings_is set_run_settings_text (some_parsed (first set_run_settings_text)) set_run_settings_reads
 
-  hold_by_lock_is : (base : ℕ) → command s [] base st.hold_by_lock ≡ Ok (Update at (plain_program (hold_by_lock_query tree)))
+  hold_is : (base : ℕ) → command s [] base st.hold ≡ Ok (Update at (plain_program (hold_query tree)))
   unfolding everything
-  hold_by_lock_is base = rw (h.named, h.found, h.found, h.found, h.treed, h.low) refl
+  hold_is base = rw (h.named, h.found, h.found, h.found, h.treed, h.low) refl
 
-  pub hold_by_lock_means : Means s (Update at (plain_program (hold_by_lock_query tree))) hold_by_lock_text
+  pub hold_means : Means s (Update at (plain_program (hold_query tree))) hold_text
   unfolding everything
-  hold_by_lock_means = means s st.hold_by_lock _ refl (λ _. refl) hold_by_lock_is hold_by_lock_text (some_parsed (first hold_by_lock_text)) hold_by_lock_reads
-
-  hold_by_run_is : (base : ℕ) → command s [] base st.hold_by_run ≡ Ok (Update at (plain_program (hold_by_run_query tree)))
-  unfolding everything
-  hold_by_run_is base = rw (h.named, h.found, h.found, h.found, h.treed, h.low) refl
-
-  pub hold_by_run_means : Means s (Update at (plain_program (hold_by_run_query tree))) hold_by_run_text
-  unfolding everything
-  hold_by_run_means = means s st.hold_by_run _ refl (λ _. refl) hold_by_run_is hold_by_run_text (some_parsed (first hold_by_run_text)) hold_by_run_reads
+  hold_means = means s st.hold _ refl (λ _. refl) hold_is hold_text (some_parsed (first hold_text)) hold_reads
 
   release_lock_is : (base : ℕ) → command s [] base st.release_lock ≡ Ok (Update at (plain_program (release_lock_query tree)))
   unfolding everything
@@ -232,14 +204,6 @@ module _ (s : Schema) (at tree : ℕ) (h : StandsAt s (codes "ws") ws_table at t
   pub release_lock_means : Means s (Update at (plain_program (release_lock_query tree))) release_lock_text
   unfolding everything
   release_lock_means = means s st.release_lock _ refl (λ _. refl) release_lock_is release_lock_text (some_parsed (first release_lock_text)) release_lock_reads
-
-  release_run_is : (base : ℕ) → command s [] base st.release_run ≡ Ok (Update at (plain_program (release_run_query tree)))
-  unfolding everything
-  release_run_is base = rw (h.named, h.found, h.found, h.found, h.treed, h.low) refl
-
-  pub release_run_means : Means s (Update at (plain_program (release_run_query tree))) release_run_text
-  unfolding everything
-  release_run_means = means s st.release_run _ refl (λ _. refl) release_run_is release_run_text (some_parsed (first release_run_text)) release_run_reads
 
   set_next_version_is : (base : ℕ) → command s [] base st.set_next_version ≡ Ok (Update at (plain_program (set_next_version_query tree)))
   unfolding everything

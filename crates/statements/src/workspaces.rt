@@ -10,7 +10,7 @@ ghost use Rattle.statements.specs.Calls.{AreHolderCells, IsWorkspaceWith, IsWork
 ghost use Rattle.sqlite_value.specs.Order.{column};
 ghost use Rattle.sqlite_value.specs.declared.value.Value.TheVariants.{Text};
 ghost use Rattle.statements.specs.Finds.{workspace_of, workspaces_of};
-ghost use Rattle.basis.specs.declared.rows.Holder.TheVariants.{Nobody, Lock, Run as HeldByRun};
+ghost use Rattle.basis.specs.declared.rows.Holder.TheVariants.{Lock};
 
 use crate::calls::{
     Read, all_rows, count_of, first_row, first_rows, flag_in, limit, lock_id_of, name_of,
@@ -282,8 +282,8 @@ pub fn set_run_settings<S: Alter>(
     write(tx, SET_RUN_SETTINGS, &params_of(org, name, runs))
 }
 
-const HOLD_BY_LOCK: &str =
-    "UPDATE ws SET kind = 1, lock_id = ?3, lock_text = ?4, run = NULL WHERE org = ?1 AND name = ?2";
+const HOLD: &str =
+    "UPDATE ws SET kind = ?3, lock_id = ?4, lock_text = ?5, run = ?6 WHERE org = ?1 AND name = ?2";
 
 /// Lets a lock hold a workspace, with the text that took it.
 pub fn hold_by_lock<S: Alter>(
@@ -296,23 +296,28 @@ pub fn hold_by_lock<S: Alter>(
     ensures { Writes S.Store AnyRows (ws_changed (held_by (Lock id.now text.now)) org.now name.now) tx.old tx.new result }
 {
     let id = id.as_str();
-    write(tx, HOLD_BY_LOCK, params![org, name, id, text])
+    let none: Option<u32> = None;
+    write(tx, HOLD, params![org, name, 1, id, text, none])
 }
 
-const HOLD_BY_RUN: &str =
-    "UPDATE ws SET kind = 2, lock_id = NULL, lock_text = NULL, run = ?3 WHERE org = ?1 AND name = ?2";
-
-/// Lets a run hold a workspace.
-pub fn hold_by_run<S: Alter>(
+/// Lets the holder, or nobody, hold a workspace. The ID released last stays.
+pub fn hold<S: Alter>(
     tx: &mut Transaction<'_, S>,
     org: &str,
     name: &str,
-    run: Number,
+    holder: &Holder,
 ) -> Result<(), Error>
-    ensures { Writes S.Store AnyRows (ws_changed (held_by (HeldByRun run)) org.now name.now) tx.old tx.new result }
+    ensures { Writes S.Store AnyRows (ws_changed (held_by holder.now) org.now name.now) tx.old tx.new result }
 {
-    let run = run.get();
-    write(tx, HOLD_BY_RUN, params![org, name, run])
+    let none: Option<u32> = None;
+    match holder {
+        Holder::Nobody => write(tx, HOLD, params![org, name, 0, none, none, none]),
+        Holder::Lock { id, text } => hold_by_lock(tx, org, name, id, text.as_slice()),
+        Holder::Run(run) => {
+            let run = run.get();
+            write(tx, HOLD, params![org, name, 2, none, none, run])
+        }
+    }
 }
 
 const RELEASE_LOCK: &str =
@@ -329,20 +334,6 @@ pub fn release_lock<S: Alter>(
 {
     let id = id.as_str();
     write(tx, RELEASE_LOCK, params![org, name, id])
-}
-
-const RELEASE_RUN: &str =
-    "UPDATE ws SET kind = 0, lock_id = NULL, lock_text = NULL, run = NULL WHERE org = ?1 AND name = ?2";
-
-/// Lets nobody hold a workspace. The ID released last stays.
-pub fn release_run<S: Alter>(
-    tx: &mut Transaction<'_, S>,
-    org: &str,
-    name: &str,
-) -> Result<(), Error>
-    ensures { Writes S.Store AnyRows (ws_changed (held_by Nobody) org.now name.now) tx.old tx.new result }
-{
-    write(tx, RELEASE_RUN, params![org, name])
 }
 
 const SET_NEXT_VERSION: &str = "UPDATE ws SET next_version = ?3 WHERE org = ?1 AND name = ?2";

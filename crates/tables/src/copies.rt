@@ -51,8 +51,7 @@ fn put_holder<S: Alter>(
 {
     match holder {
         Holder::Nobody => Ok(()),
-        Holder::Lock { id, text } => workspaces::hold_by_lock(tx, org, ws, id, text.as_slice()),
-        Holder::Run(number) => workspaces::hold_by_run(tx, org, ws, *number),
+        _ => workspaces::hold(tx, org, ws, holder),
     }
 }
 

@@ -8,7 +8,7 @@ ghost use Rattle.tables.specs.Inner.Edits.{version_gone, oldest_gone, gone_below
 ghost use Rattle.tables.specs.Inner.Steps.{KeyedSteps};
 
 use basis::numbers::{MAX_KEPT, MAX_NUMBER};
-use basis::{Moment, Number, RunAction, RunAsk, RunStatus, Settings, Text, VersionRow};
+use basis::{Holder, Moment, Number, RunAction, RunAsk, RunStatus, Settings, Text, VersionRow};
 use machine::{Change, Edit, Version};
 use pages::PageKey;
 use sqlite::{Alter, Error, Transaction};
@@ -316,7 +316,7 @@ fn report<S: Alter>(
 {
     runs::record_action(tx, org, ws, number, status, action)?;
     if frees {
-        workspaces::release_run(tx, org, ws)
+        workspaces::hold(tx, org, ws, &Holder::Nobody)
     } else {
         Ok(())
     }
@@ -362,7 +362,7 @@ fn start<S: Alter>(
 ) -> Result<(), Error>
     ensures { Steps S.Store (begun_rows org.now ws.now number) tx.old tx.new result }
 {
-    workspaces::hold_by_run(tx, org, ws, number)?;
+    workspaces::hold(tx, org, ws, &Holder::Run(number))?;
     runs::set_status(tx, org, ws, number, RunStatus::Planning)
 }
 
