@@ -4,6 +4,7 @@ use Rattle.std.specs.Prelude.{codes}
 use Rattle.std.specs.Str.{chars, is_utf8}
 use Rattle.serde_json.proofs.OnLiterals.{serde_json_on_literals}
 use Rattle.docs.specs.Documents.{state_head, make_head, lock_id_of, settings_of, make_settings, run_ask, make_ask}
+use Rattle.docs.specs.RunSettings.{make_run_settings}
 
 first_state : state_head (codes "{\"version\":4,\"serial\":1,\"lineage\":\"a1\"}") ≡ Some (make_head 1 (codes "a1"))
 unfolding serde_json_on_literals chars is_utf8 state_head lock_id_of settings_of run_ask
@@ -87,15 +88,15 @@ no_id : lock_id_of (codes "{\"id\":\"x1\"}") ≡ None
 unfolding serde_json_on_literals chars is_utf8 state_head lock_id_of settings_of run_ask
 no_id = refl
 
-no_settings : settings_of [] ≡ Some (make_settings false None)
+no_settings : settings_of [] ≡ Some (make_settings (make_run_settings false) None)
 unfolding serde_json_on_literals chars is_utf8 state_head lock_id_of settings_of run_ask
 no_settings = refl
 
-settings : settings_of (codes "{\"auto_apply\":true,\"x\":2}") ≡ Some (make_settings true None)
+settings : settings_of (codes "{\"auto_apply\":true,\"x\":2}") ≡ Some (make_settings (make_run_settings true) None)
 unfolding serde_json_on_literals chars is_utf8 state_head lock_id_of settings_of run_ask
 settings = refl
 
-empty_settings : settings_of (codes "{}") ≡ Some (make_settings false None)
+empty_settings : settings_of (codes "{}") ≡ Some (make_settings (make_run_settings false) None)
 unfolding serde_json_on_literals chars is_utf8 state_head lock_id_of settings_of run_ask
 empty_settings = refl
 
@@ -107,11 +108,11 @@ flag_is_a_number : settings_of (codes "{\"auto_apply\":1}") ≡ None
 unfolding serde_json_on_literals chars is_utf8 state_head lock_id_of settings_of run_ask
 flag_is_a_number = refl
 
-kept : settings_of (codes "{\"keep_versions\":2}") ≡ Some (make_settings false (Some 2))
+kept : settings_of (codes "{\"keep_versions\":2}") ≡ Some (make_settings (make_run_settings false) (Some 2))
 unfolding serde_json_on_literals chars is_utf8 state_head lock_id_of settings_of run_ask
 kept = refl
 
-kept_at_most : settings_of (codes "{\"keep_versions\":1000}") ≡ Some (make_settings false (Some 1_000))
+kept_at_most : settings_of (codes "{\"keep_versions\":1000}") ≡ Some (make_settings (make_run_settings false) (Some 1_000))
 unfolding serde_json_on_literals chars is_utf8 state_head lock_id_of settings_of run_ask
 kept_at_most = refl
 

@@ -1,5 +1,6 @@
 pub mod BodyExamples
 pub mod Examples
+pub mod FlagLemmas
 pub mod Heading
 pub mod Lines
 pub mod LogExamples
@@ -7,3 +8,4 @@ pub mod Objects
 pub mod Passing
 pub mod Putting
 pub mod ReadingLemmas
+pub mod RunSettings

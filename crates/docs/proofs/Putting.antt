@@ -3,7 +3,7 @@ use Rattle.std.proofs.Common.{◌≡◌, ◌∙◌, refl, sym, ap, ap₂, ℕ, L
 use Rattle.std.proofs.lemmas.List.{drop_more, drop_all}
 use Rattle.std.specs.Option.{IsSomeAnd, option_copied}
 use Rattle.json.specs.Print.{print}
-use Rattle.json.specs.Token.{begin_object, end_object}
+use Rattle.json.specs.Token.{Token, begin_object, end_object}
 use Rattle.json.specs.Tree.{json_tokens, items_tokens, members_tokens}
 use Rattle.json.specs.Written.{Written}
 use Rattle.serde_json.specs.Data.{Data, object, no_items, Members, no_members, member}
@@ -12,7 +12,7 @@ use Rattle.serde_json.proofs.Texts.{print-outline}
 use Rattle.basis.specs.Runs.{action_word}
 use Rattle.basis.specs.declared.runs.RunAction.{RunAction}
 use Rattle.docs.specs.Bodies.{action_value, text_value, objects}
-use Rattle.docs.specs.Inner.Put.{Puts, PutsValue, PutsItems, IsBegun, ahead, text_of, object_text}
+use Rattle.docs.specs.Inner.Put.{Puts, PutsValue, PutsItems, IsBegun, with_member, with_members, ahead, text_of, object_text}
 
 -- ---- members, one behind another
 
@@ -23,6 +23,20 @@ put_as {old} {new} {name} is put = subst (λ (x : Data). Puts old new (member na
 -- some members and then others
 pub then_put : {old mid new : Written} {first then : Members → Members} → Puts old mid first → Puts mid new then → Puts old new (λ rest. first (then rest))
 then_put first then = record { before = then.before ∙ first.before; tokens = λ rest. then.tokens rest ∙ first.tokens _ }
+
+with_members_ahead : (tokens : List Token) (ms rest : Members) → with_members tokens ms ++ members_tokens (members_outline rest) ≡ tokens ++ members_tokens (members_outline (ahead ms rest))
+unfolding with_member
+with_members_ahead tokens no_members rest = refl
+with_members_ahead tokens (member name value ms) rest =
+    with_members_ahead (with_member tokens name value) ms rest
+    ∙ append_assoc tokens (Token.key name ∷ json_tokens (outline value)) (members_tokens (members_outline (ahead ms rest)))
+
+-- members whose tokens follow those before are put
+pub members_put : {old new : Written} (ms : Members) → new.before ≡ old.before → new.tokens ≡ with_members old.tokens ms → Puts old new (ahead ms)
+members_put {old = old} ms stays is = record {
+  before = stays;
+  tokens = λ rest. ap (λ tokens. tokens ++ members_tokens (members_outline rest)) is ∙ with_members_ahead old.tokens ms rest;
+}
 
 -- a text made of what may be absent
 pub text_made : {A : Type 0} (from : Option A) (made : Option (Bor (List ℕ))) (text : A → List ℕ) (post : A → Bor (List ℕ) → Type 0) → MatchOption from (made ≡ None) (λ x. IsSomeAnd made (post x)) → ((x : A) (y : Bor (List ℕ)) → post x y → y.now ≡ text x) → option_copied made ≡ option_map text from

@@ -1,11 +1,11 @@
 -- The functions of Documents and the relations of Readings say the same.
-use Rattle.std.proofs.Common.{◌≡◌, ◌∙◌, sym, ap, refl, arith, ℕ, ◌<◌, ◌≤◌, List, [], ◌∷◌, length, Bool, true, false, ◌&&◌, not, cond, nat_le, Option, Some, None, option_map, option_and_then, codes}
+use Rattle.std.proofs.Common.{◌≡◌, ◌∙◌, sym, ap, refl, arith, ℕ, ◌<◌, ◌≤◌, List, [], ◌∷◌, length, Bool, true, false, ◌&&◌, not, cond, nat_le, Option, Some, None, option_and_then, codes}
 use Rattle.std.specs.Str.{is_utf8}
 use Rattle.std.proofs.lemmas.Str.{IsUtf8-from_is_utf8, is_utf8-from_IsUtf8}
 use Rattle.std.proofs.lemmas.Bool.{leb-true, le-leb}
 use Rattle.std.proofs.lemmas.Option.{cond_some, option_and_then_some}
 use Rattle.serde_json.specs.Data.{Data, null, boolean, number, string, array, object, unsigned, negative, float, Members}
-use Rattle.serde_json.specs.Find.{get_member, as_bool, as_number, as_object, as_str, as_u64}
+use Rattle.serde_json.specs.Find.{get_member, as_number, as_object, as_str, as_u64}
 use Rattle.serde_json.specs.Read.{read}
 use Rattle.basis.specs.declared.rows.RunAsk.{RunAsk}
 use Rattle.basis.specs.declared.numbers.TheConstants.{MAX_KEPT}
@@ -15,19 +15,19 @@ use Rattle.basis.specs.declared.rows.TheConstants.{MAX_LINEAGE, MAX_SERIAL}
 use Rattle.basis.specs.Names.{is_free_id}
 use Rattle.basis.specs.Numbers.{within}
 use Rattle.docs.specs.declared.documents.TheConstants.{MAX_SMALL, MAX_KEY, MAX_MESSAGE}
-use Rattle.docs.specs.Documents.{state_head, lock_id_of, settings_of, run_ask, object_of, serial_of, text_within, optional_text, make_head, head_in, free_id, lock_id_in, flag_of, small_object_of, keep_of, make_settings, settings_in, key_of, make_ask, ask_in}
-use Rattle.docs.specs.Readings.{IsObject, IsText, IsState, IsLock, IsFlag, IsSmallObject, IsKeep, IsSettings, IsKey, IsAsk, StateLaw, LockLaw, SettingsLaw, AskLaw}
+use Rattle.docs.specs.Documents.{state_head, lock_id_of, settings_of, run_ask, object_of, serial_of, text_within, optional_text, make_head, head_in, free_id, lock_id_in, small_object_of, keep_of, make_settings, settings_in, key_of, make_ask, ask_in}
+use Rattle.docs.specs.Readings.{IsObject, IsText, IsState, IsLock, IsSmallObject, IsKeep, IsSettings, IsKey, IsAsk, StateLaw, LockLaw, SettingsLaw, AskLaw}
+use Rattle.docs.specs.Flags.{flag_of}
+use Rattle.docs.specs.RunSettings.{run_settings_in}
+use Rattle.docs.proofs.FlagLemmas.{option_map_some, flag_read, flag_said}
+use Rattle.docs.proofs.RunSettings.{run_settings_read, run_settings_said}
 
--- ---- tests and options
+-- ---- tests
 
 both : (a b : Bool) → (a && b) ≡ true → (a ≡ true) × (b ≡ true)
 both true true is = (refl, refl)
 both true false is = absurd (cc)
 both false b is = absurd (cc)
-
-option_map_some : {A B P : Type 0} (f : A → B) (o : Option A) (y : B) → option_map f o ≡ Some y → ((x : A) → o ≡ Some x → f x ≡ y → P) → P
-option_map_some f None y is k = absurd (cc)
-option_map_some f (Some x) y is k = k x refl (cc)
 
 -- ---- objects
 
@@ -149,22 +149,6 @@ lock_law bytes id = (
 
 -- ---- settings
 
-boolean_as : (d : Data) (b : Bool) → as_bool d ≡ Some b → d ≡ boolean b
-boolean_as (boolean c) b is = cc
-boolean_as null b is = absurd (cc)
-boolean_as (number n) b is = absurd (cc)
-boolean_as (string s) b is = absurd (cc)
-boolean_as (array ds) b is = absurd (cc)
-boolean_as (object ms) b is = absurd (cc)
-
-flag_read : (found : Option Data) (flag : Bool) → flag_of found ≡ Some flag → IsFlag found flag
-flag_read None flag is = cc
-flag_read (Some value) flag is = boolean_as value flag is
-
-flag_said : (found : Option Data) (flag : Bool) → IsFlag found flag → flag_of found ≡ Some flag
-flag_said None flag is = ap Some (sym is)
-flag_said (Some value) flag is = rw is refl
-
 small_read_as : (b : ℕ) (bytes : List ℕ) (ms : Members) (t : Bool) → nat_le (length (b ∷ bytes)) MAX_SMALL ≡ t → cond t (object_of (b ∷ bytes)) None ≡ Some ms → IsSmallObject (b ∷ bytes) ms
 small_read_as b bytes ms true short is = (object_read (b ∷ bytes) ms is, leb-true _ _ short)
 small_read_as b bytes ms false short is = absurd (cc)
@@ -204,12 +188,12 @@ keep_said (Some value) (Some keep) is = rw (is.0, le-leb _ _ is.1, le-leb _ _ is
 
 settings_read : (bytes : List ℕ) (ms : Members) (settings : SettingsAsk) → IsSmallObject bytes ms → settings_in ms ≡ Some settings → IsSettings bytes settings
 settings_read bytes ms settings document is =
-    option_and_then_some _ (flag_of (get_member (codes "auto_apply") ms)) settings is (λ flag flag_is rest.
-    option_map_some (make_settings flag) (keep_of (get_member (codes "keep_versions") ms)) settings rest (λ keep keep_is made.
+    option_and_then_some _ (run_settings_in ms) settings is (λ runs runs_are rest.
+    option_map_some (make_settings runs) (keep_of (get_member (codes "keep_versions") ms)) settings rest (λ keep keep_is made.
     rw (← made) (record {
       members = ms;
       document = document;
-      auto_apply = flag_read (get_member (codes "auto_apply") ms) flag flag_is;
+      runs = run_settings_read ms runs runs_are;
       keep_versions = keep_read (get_member (codes "keep_versions") ms) keep keep_is;
     })))
 
@@ -218,7 +202,7 @@ pub settings_law : (bytes : List ℕ) → SettingsLaw bytes
 unfolding settings_of
 settings_law bytes settings = (
   (λ is. option_and_then_some settings_in (small_object_of bytes) settings is (λ ms document found. settings_read bytes ms settings (small_read bytes ms document) found)),
-  (λ is. rw (small_said bytes is.members is.document, flag_said (get_member (codes "auto_apply") is.members) settings.runs.auto_apply is.auto_apply, keep_said (get_member (codes "keep_versions") is.members) settings.keep_versions is.keep_versions) refl),
+  (λ is. rw (small_said bytes is.members is.document, run_settings_said is.members settings.runs is.runs, keep_said (get_member (codes "keep_versions") is.members) settings.keep_versions is.keep_versions) refl),
 )
 
 -- ---- runs

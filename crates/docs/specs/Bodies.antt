@@ -14,6 +14,7 @@ use Rattle.basis.specs.declared.rows.VersionRow.{VersionRow}
 use Rattle.basis.specs.declared.rows.WsRow.{WsRow}
 use Rattle.basis.specs.declared.runs.RunAction.{RunAction}
 use Rattle.basis.specs.Runs.{status_word, action_word}
+use Rattle.docs.specs.RunSettings.{run_settings_members}
 
 -- the members of a refusal's body: its word
 abbrev pub error_members : Refusal → Members
@@ -34,10 +35,10 @@ abbrev pub number_value : Option ℕ → Data
 number_value None = null
 number_value (Some n) = number (unsigned n)
 
--- auto-apply, holder, how many versions are kept, name and the number of the newest version
+-- how runs go, holder, how many versions are kept, name and the number of the newest version
 abbrev pub ws_members : WsRow → Members
 ws_members row =
-    member (codes "auto_apply") (boolean row.settings.runs.auto_apply) (
+    run_settings_members row.settings.runs (
     member (codes "holder") (holder_value row.holder) (
     member (codes "keep_versions") (number (unsigned row.settings.keep_versions)) (
     member (codes "name") (string row.name) (

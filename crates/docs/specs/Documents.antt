@@ -1,18 +1,21 @@
 -- What documents say: a state, the information of a lock, a workspace's settings, a run's creation. Each is read by cases on
 -- the JSON value that the bytes have; where a key stands twice, the value counts that the reading keeps.
-use Rattle.std.specs.Prelude.{ℕ, List, [], ◌∷◌, length, Bool, false, nat_le, if◌then◌else◌, Option, Some, None, option_map, option_and_then, codes}
+use Rattle.std.specs.Prelude.{ℕ, List, [], ◌∷◌, length, Bool, nat_le, if◌then◌else◌, Option, Some, None, option_map, option_and_then, codes}
 use Rattle.std.specs.Str.{is_utf8}
 use Rattle.serde_json.specs.Data.{Data, Members, no_members}
 use Rattle.serde_json.specs.Read.{read}
-use Rattle.serde_json.specs.Find.{get_member, as_bool, as_number, as_object, as_str, as_u64}
+use Rattle.serde_json.specs.Find.{get_member, as_number, as_object, as_str, as_u64}
 use Rattle.basis.specs.Names.{has_length, is_free_id}
 use Rattle.basis.specs.Numbers.{within}
 use Rattle.basis.specs.declared.rows.RunAsk.{RunAsk}
 use Rattle.basis.specs.declared.numbers.TheConstants.{MAX_KEPT}
+use Rattle.basis.specs.declared.rows.RunSettings.{RunSettings}
 use Rattle.basis.specs.declared.rows.SettingsAsk.{SettingsAsk}
 use Rattle.basis.specs.declared.rows.StateHead.{StateHead}
 use Rattle.basis.specs.declared.rows.TheConstants.{MAX_LINEAGE, MAX_SERIAL}
 use Rattle.docs.specs.declared.documents.TheConstants.{MAX_SMALL, MAX_KEY, MAX_MESSAGE}
+use Rattle.docs.specs.Flags.{flag_of}
+use Rattle.docs.specs.RunSettings.{run_settings_in}
 
 -- the members of the object that a JSON text is (RFC 8259), in UTF-8 and nested at most 127 deep
 abbrev pub object_of : List ℕ → Option Members
@@ -57,11 +60,6 @@ lock_id_in members = option_and_then free_id (option_and_then as_str (get_member
 unfoldable pub lock_id_of : List ℕ → Option (List ℕ)
 lock_id_of bytes = option_and_then lock_id_in (object_of bytes)
 
--- true or false; where the key is absent, false
-abbrev pub flag_of : Option Data → Option Bool
-flag_of None = Some false
-flag_of (Some value) = as_bool value
-
 -- the members of what a small request brings: no bytes are the empty object, and MAX_SMALL bytes are the most
 abbrev pub small_object_of : List ℕ → Option Members
 small_object_of [] = Some no_members
@@ -73,14 +71,14 @@ keep_of None = Some None
 keep_of (Some value) = option_map Some (option_and_then (within 1 MAX_KEPT) (option_and_then as_u64 (as_number value)))
 
 -- what is set of a workspace
-abbrev pub make_settings : Bool → Option ℕ → SettingsAsk
-make_settings auto_apply keep_versions = record { runs = record { auto_apply = auto_apply }; keep_versions = keep_versions }
+abbrev pub make_settings : RunSettings → Option ℕ → SettingsAsk
+make_settings runs keep_versions = record { runs = runs; keep_versions = keep_versions }
 
--- auto-apply and how many versions are to be kept, where they are there
+-- how runs go and how many versions are to be kept, where they are there
 abbrev pub settings_in : Members → Option SettingsAsk
 settings_in members =
-    option_and_then (λ auto_apply. option_map (make_settings auto_apply) (keep_of (get_member (codes "keep_versions") members)))
-    (flag_of (get_member (codes "auto_apply") members))
+    option_and_then (λ runs. option_map (make_settings runs) (keep_of (get_member (codes "keep_versions") members)))
+    (run_settings_in members)
 
 -- what is asked of a workspace's settings
 unfoldable pub settings_of : List ℕ → Option SettingsAsk

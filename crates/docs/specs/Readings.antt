@@ -1,7 +1,7 @@
 -- The same documents as relations: which bytes say what.
-use Rattle.std.specs.Prelude.{◌≡◌, ◌↔◌, ℕ, ◌<◌, ◌≤◌, ◌^◌, List, [], ◌∷◌, length, Bool, false, nat_eq, Option, Some, None, IsUtf8, codes}
+use Rattle.std.specs.Prelude.{◌≡◌, ◌↔◌, ℕ, ◌<◌, ◌≤◌, ◌^◌, List, [], ◌∷◌, length, false, nat_eq, Option, Some, None, IsUtf8, codes}
 use Rattle.std.specs.List.{starts_with}
-use Rattle.serde_json.specs.Data.{Data, boolean, number, unsigned, string, object, Members, no_members}
+use Rattle.serde_json.specs.Data.{Data, number, unsigned, string, object, Members, no_members}
 use Rattle.serde_json.specs.Read.{read}
 use Rattle.serde_json.specs.Find.{get_member}
 use Rattle.basis.specs.declared.rows.RunAsk.{RunAsk}
@@ -12,6 +12,8 @@ use Rattle.basis.specs.declared.names.TheConstants.{MAX_LOCK_ID}
 use Rattle.basis.specs.declared.rows.TheConstants.{MAX_LINEAGE}
 use Rattle.docs.specs.declared.documents.TheConstants.{MAX_SMALL, MAX_KEY, MAX_MESSAGE}
 use Rattle.docs.specs.Documents.{state_head, lock_id_of, settings_of, run_ask}
+use Rattle.docs.specs.Flags.{IsFlag}
+use Rattle.docs.specs.RunSettings.{AreRunSettings}
 
 -- the bytes are a JSON object with these members, in UTF-8
 pub record IsObject (bytes : List ℕ) (members : Members) : Type 0 where
@@ -40,11 +42,6 @@ pub record IsLock (bytes id : List ℕ) : Type 0 where
   pub most : length id ≤ MAX_LOCK_ID
   pub free : starts_with nat_eq id (codes "run-") ≡ false
 
--- absent, or true or false
-abbrev pub IsFlag : Option Data → Bool → Type 0
-IsFlag None flag = flag ≡ false
-IsFlag (Some value) flag = value ≡ boolean flag
-
 -- no bytes, which are the empty object, or an object of at most MAX_SMALL bytes
 abbrev pub IsSmallObject : List ℕ → Members → Type 0
 IsSmallObject [] members = members ≡ no_members
@@ -56,11 +53,11 @@ IsKeep None keep = keep ≡ None
 IsKeep (Some value) None = ⊥
 IsKeep (Some value) (Some keep) = (value ≡ number (unsigned keep)) × (1 ≤ keep) × (keep ≤ MAX_KEPT)
 
--- settings: auto-apply is off where it is absent
+-- settings: how runs go, and how many versions are to be kept
 pub record IsSettings (bytes : List ℕ) (settings : SettingsAsk) : Type 0 where
   pub members : Members
   pub document : IsSmallObject bytes members
-  pub auto_apply : IsFlag (get_member (codes "auto_apply") members) settings.runs.auto_apply
+  pub runs : AreRunSettings members settings.runs
   pub keep_versions : IsKeep (get_member (codes "keep_versions") members) settings.keep_versions
 
 -- absent, or a text of 1 to MAX_KEY bytes

@@ -8,6 +8,7 @@ use crate::put::{
     Shown, begin_text, end_text, put_flag, put_number, put_run_id, put_text, whole_number,
     write_shown,
 };
+use crate::run_settings::put_run_settings;
 use basis::{
     Down, HolderId, Number, OrgName, Refusal, RunAction, RunRow, Text, VersionRow, WsName, WsRow,
 };
@@ -67,7 +68,7 @@ impl Shown for WsRow {
     ghost members = { ws_members };
 
     fn put(&self, writer: &mut Writer) -> Result<(), AllocError> {
-        put_flag(writer, "auto_apply", self.settings.runs.auto_apply)?;
+        put_run_settings(writer, self.settings.runs)?;
         put_holder(writer, &self.holder)?;
         let keep = u64::from(self.settings.keep_versions.get());
         put_number(writer, "keep_versions", Some(keep))?;

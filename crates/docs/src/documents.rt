@@ -4,11 +4,13 @@ ghost use Rattle.serde_json.specs.Data.{Members, object};
 ghost use Rattle.serde_json.specs.Find.{get};
 ghost use Rattle.serde_json.specs.View.{view};
 ghost use Rattle.docs.specs.Readings.{StateLaw, LockLaw, SettingsLaw, AskLaw};
-ghost use Rattle.docs.specs.Documents.{object_of, optional_text, state_head, lock_id_of, flag_of, small_object_of, keep_of, settings_of, key_of, run_ask};
+ghost use Rattle.docs.specs.Documents.{object_of, optional_text, state_head, lock_id_of, small_object_of, keep_of, settings_of, key_of, run_ask};
 
 use crate::faults::DocFault;
+use crate::flags::read_flag;
 use crate::heads::read_head;
-use basis::{KeepCount, LockId, RunAsk, RunSettings, SettingsAsk, StateHead, Text, is_free_id};
+use crate::run_settings::read_run_settings;
+use basis::{KeepCount, LockId, RunAsk, SettingsAsk, StateHead, Text, is_free_id};
 use json::Scratch;
 use serde_json::{Map, Value};
 use std::alloc::Global;
@@ -57,7 +59,7 @@ pub fn read_lock(alloc: Global, bytes: &[u8]) -> Result<LockId, DocFault>
     }
 }
 
-/// What is asked of a workspace's settings: no bytes, or a JSON object with `auto_apply` and
+/// What is asked of a workspace's settings: no bytes, or a JSON object with what says how runs go and
 /// `keep_versions`, each or none.
 #[tactic(auto, unfolding(crate::specs::Documents::settings_of))]
 pub fn read_settings(alloc: Global, bytes: &[u8]) -> Result<SettingsAsk, DocFault>
@@ -68,12 +70,12 @@ pub fn read_settings(alloc: Global, bytes: &[u8]) -> Result<SettingsAsk, DocFaul
     ensures law { SettingsLaw bytes.now }
 {
     let value = read_small_object(alloc, bytes)?;
-    let Some(auto_apply) = read_flag(&value, "auto_apply") else {
+    let Some(runs) = read_run_settings(&value) else {
         return Err(DocFault::Bad);
     };
     let keep_versions = read_keep(&value)?;
     Ok(SettingsAsk {
-        runs: RunSettings { auto_apply },
+        runs,
         keep_versions,
     })
 }
@@ -181,15 +183,5 @@ fn read_text(alloc: Global, value: &Value, key: &str, most: usize) -> Result<Tex
     match found.as_str() {
         Some(text) if text.len() <= most => Ok(Text::copy_of(alloc, text)?),
         _ => Err(DocFault::Bad),
-    }
-}
-
-// A flag under a key that may be absent.
-fn read_flag(value: &Value, key: &str) -> Option<bool>
-    ensures { result ≡ flag_of (get key.now (view value.now)) }
-{
-    match value.get(key) {
-        None => Some(false),
-        Some(found) => found.as_bool(),
     }
 }

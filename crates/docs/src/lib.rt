@@ -9,10 +9,12 @@ pub mod bodies;
 pub mod digests;
 pub mod documents;
 pub mod faults;
+mod flags;
 mod heads;
 pub mod listings;
 pub mod logs;
 mod put;
+mod run_settings;
 
 pub use bodies::{write_error, write_run, write_run_holder, write_ws};
 pub use digests::digest_fits;

@@ -4,7 +4,7 @@ ghost use Rattle.std.specs.Option.{option_copied};
 ghost use Rattle.serde_json.specs.Data.{Members, member, boolean, string, array, object, no_items};
 ghost use Rattle.basis.specs.Names.{run_id};
 ghost use Rattle.docs.specs.Bodies.{number_value, text_value, objects};
-ghost use Rattle.docs.specs.Inner.Put.{Puts, PutsValue, PutsItems, IsBegun, ahead, text_of, object_text};
+ghost use Rattle.docs.specs.Inner.Put.{Puts, PutsValue, PutsItems, IsBegun, with_member, ahead, text_of, object_text};
 
 use arrayvec::ArrayString;
 use basis::{Down, Number};
@@ -68,8 +68,10 @@ pub(crate) fn whole_number(number: Number) -> u64
 }
 
 // A member that is true or false.
+#[tactic(auto, unfolding(crate::specs::Inner::Put::with_member))]
 pub(crate) fn put_flag(writer: &mut Writer, name: &str, flag: bool) -> Result<(), AllocError>
-    ensures { OnOk result (Puts writer.old writer.new (member name.now (boolean flag))) }
+    ensures puts { OnOk result (Puts writer.old writer.new (member name.now (boolean flag))) }
+    ensures tokens { OnOk result (writer.new.tokens ≡ with_member writer.old.tokens name.now (boolean flag)) }
 {
     writer.key(name)?;
     writer.boolean(flag)

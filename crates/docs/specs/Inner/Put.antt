@@ -16,6 +16,15 @@ pub record Puts (old new : Written) (put : Members → Members) : Type 0 where
   pub before : new.before ≡ old.before
   pub tokens : (rest : Members) → then_members new rest ≡ then_members old (put rest)
 
+-- one member more, as tokens
+unfoldable pub with_member : List Token → List ℕ → Data → List Token
+with_member tokens name value = tokens ++ Token.key name ∷ json_tokens (outline value)
+
+-- more members, one behind another
+abbrev pub with_members : List Token → Members → List Token
+with_members tokens no_members = tokens
+with_members tokens (member name value ms) = with_members (with_member tokens name value) ms
+
 -- members with others behind them
 abbrev pub ahead : Members → Members → Members
 ahead no_members rest = rest

@@ -15,5 +15,5 @@ returns c =
     then_put (put_as (text_lent row.key c.as_ref.result c.map-2.result _ c.as_ref.ensures.value c.map-2.ensures.cases (λ x y k. search rules)) c.in_ok-put_text-2.ensures) (
     then_put (put_as (ap string c.as_str.ensures) c.in_ok-put_text-3.ensures) (
     then_put (put_as (ap (λ n. number_value (Some n)) c.whole_number.ensures) c.in_ok-put_number-2.ensures) (
-    then_put c.in_ok-put_flag.ensures
+    then_put c.in_ok-put_flag.ensures.puts
     (put_as (ap string c.word.ensures) put))))))) c.put_text-4.ensures
