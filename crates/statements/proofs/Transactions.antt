@@ -1,19 +1,19 @@
 -- From what a text does to what a function of it promises.
-use Rattle.std.proofs.Common.{◌≡◌, ◌⊎◌, inl, ◌≤◌, ℕ, Bool, IsTrue, not, ◌==◌, List, [], ◌∷◌, Option, Some, None, Result, Ok, Err, IfOk, OnOk, OnErr, refl, ap, subst, ◌∙◌, arith}
+use Rattle.std.proofs.Common.{◌≡◌, ◌⊎◌, inl, ◌≤◌, ℕ, Bool, false, IsTrue, not, ◌==◌, List, [], ◌∷◌, Option, Some, None, Result, Ok, Err, IfOk, OnOk, OnErr, refl, ap, subst, ◌∙◌, arith}
 use Rattle.std.specs.List.{AllZip}
 use Rattle.sqlite_value.specs.Order.{Row}
 use Rattle.sqlite_trees.specs.Tree.{Trees}
 use Rattle.sqlite_trees.specs.View.{doubt}
 use Rattle.sqlite_trees.specs.declared.store.Store.{Ghosts}
-use Rattle.sqlite.specs.Held.{state}
+use Rattle.sqlite.specs.Held.{Held, state}
 use Rattle.sqlite.specs.State.{State, HasCleanDisk, Executes, Shown, KeepsCommit, IsUnchanged, IsRolledBack, Survives}
 use Rattle.sqlite.specs.declared.transaction.Transaction.{Transaction}
 use Rattle.sqlite.specs.declared.error.Error.{Error}
 use Rattle.statements.specs.Calls.{Wrote, WroteAny, FirstRow, IsCalm, AreAllRead, IsRead, IsOnly, AreRead, IsCount, IsNumber, Pins}
 use Rattle.statements.specs.Rows.{number}
 use Rattle.sqlite.specs.Effect.{Database}
-use Rattle.statements.specs.Making.{Alters}
-use Rattle.statements.specs.Steps.{AnyRows, Moves, Writes}
+use Rattle.statements.specs.Making.{Alters, MakesBy}
+use Rattle.statements.specs.Steps.{AnyRows, Equals, EqualsWhere, Moves, Writes, Queries}
 use Rattle.sqlite.proofs.InsideLemmas.{keeps_then}
 use Rattle.sqlite.proofs.StateLemmas.{survives_then}
 use Rattle.statements.specs.Tables.{Tables, Holds, our_tables}
@@ -40,13 +40,6 @@ moves_where law change old new text params (Err e) wrote does = (tt, wrote.1)
 pub moves_by : {X E : Type 0} (change : Tables → Tables) (old new : State) (text : List ℕ) (params : Row) (result : Result X E) → Wrote text params old new result
     → ((count : ℕ) (t : Tables) → Holds old.now t → Executes text params old new (Ok count) → Turns old.now new.now (change t)) → OnOk result (Moves AnyRows change old new) × OnErr result (KeepsCommit old new)
 moves_by change old new text params result wrote does = moves_where AnyRows change old new text params result wrote (λ count t h any. does count t h)
-
--- the whole of what a write promises
-pub writes_by : {S X E : Type 0} (g : Ghosts S) (change : Tables → Tables) (old new : Transaction S) (text : List ℕ) (params : Row) (result : Result X E) → new.conn.ghost_name ≡ old.conn.ghost_name
-    → (HasCleanDisk (state g new.conn.now) → IsTrue (state g old.conn.now).in_transaction → Wrote text params (state g old.conn.now) (state g new.conn.now) result) → Survives (state g old.conn.now) (state g new.conn.now) (λ _. ⊥)
-    → ((count : ℕ) (t : Tables) → Holds (state g old.conn.now).now t → Executes text params (state g old.conn.now) (state g new.conn.now) (Ok count) → Turns (state g old.conn.now).now (state g new.conn.now).now (change t)) → Writes g AnyRows change old new result
-writes_by g change old new text params result same runs survives does =
-    record { same_reference = same; changed = λ clean inside. moves_by change (state g old.conn.now) (state g new.conn.now) text params result (runs clean inside) does; survives = survives }
 
 -- a write that tells whether there were rows to write
 pub any_wrote : {E : Type 0} (old new : State) (text : List ℕ) (params : Row) (result : Result Bool E) → WroteAny text params old new result → Wrote text params old new result
@@ -146,6 +139,65 @@ counts_by read old new text params (Ok r) (Ok n) first calm is shows = (λ t h. 
         let shown : row ≡ number m ∷ [] = cc in
         let told : number m ≡ number n = subst (λ (l : Row). IsNumber l n) shown is in
         cc
+
+-- ---- the whole of what a function promises
+
+module _ {S X E : Type 0} (g : Ghosts S) (old new : Transaction S) (text : List ℕ) (params : Row) (result : Result X E) where
+  abbrev before : State
+  before = state g old.conn.now
+
+  abbrev after : State
+  after = state g new.conn.now
+
+  abbrev WroteIt : Type 0
+  WroteIt = HasCleanDisk after → IsTrue before.in_transaction → Wrote text params before after result
+
+  pub writes_where : {law : Tables → Type 0} {change : Tables → Tables} → new.conn.ghost_name ≡ old.conn.ghost_name → WroteIt → Survives before after (λ _. ⊥)
+      → ((count : ℕ) (t : Tables) → Holds before.now t → law t → Executes text params before after (Ok count) → Turns before.now after.now (change t)) → Writes g law change old new result
+  writes_where {law} {change} same wrote survives does = record { same_reference = same; changed = λ clean inside. moves_where law change before after text params result (wrote clean inside) does; survives = survives }
+
+  pub writes_by : {change : Tables → Tables} → new.conn.ghost_name ≡ old.conn.ghost_name → WroteIt → Survives before after (λ _. ⊥)
+      → ((count : ℕ) (t : Tables) → Holds before.now t → Executes text params before after (Ok count) → Turns before.now after.now (change t)) → Writes g AnyRows change old new result
+  writes_by same wrote survives does = writes_where same wrote survives (λ count t h any. does count t h)
+
+  pub makes_by : {Change : Database → Database → Type 0} → new.conn.ghost_name ≡ old.conn.ghost_name → WroteIt → Survives before after (λ _. ⊥)
+      → ((count : ℕ) → Executes text params before after (Ok count) → Change before.now after.now) → MakesBy g Change old new result
+  makes_by {Change} same wrote survives does =
+      record { same_reference = same; made = λ clean inside. alters_by Change before after text params result (wrote clean inside) does; clean = survives.clean; shield = survives.shield }
+
+module _ {S : Type 0} (g : Ghosts S) (old new : Held S) where
+  abbrev s : State
+  s = state g old
+
+  abbrev left : State
+  left = state g new
+
+  abbrev StaysOut : Type 0
+  StaysOut = old.in_transaction ≡ false → new.in_transaction ≡ false
+
+  pub queries_by : {X E F : Type 0} {read : Tables → Option X} (Is : Row → X → Type 0) (text : List ℕ) (params : Row) (row : Result (Option Row) E) (result : Result (Option X) F)
+      → StaysOut → (HasCleanDisk left → IfOk row (FirstRow text params s left)) → (HasCleanDisk left → IsCalm s left row) → Survives s left (λ _. ⊥) → IsRead Is row result
+      → ((t : Tables) → Holds s.now t → (r : Option Row) → FirstRow text params s left r → Pins Is r (read t)) → Queries g (Equals read) old new result
+  queries_by {X} {E} {F} {read} Is text params row result mode first calm survives is pins =
+      record { mode = mode; read = λ clean. reads_by read Is s left text params row result (first clean) (calm clean) is pins; survives = survives }
+
+  pub queries_only : {X E F : Type 0} {says : Option X → Tables → Type 0} (Is : Row → X → Type 0) (Gives : State → State → List Row → Type 0) (rows : Result (List Row) E) (result : Result (Option X) F)
+      → StaysOut → (HasCleanDisk left → IfOk rows (Gives s left)) → (HasCleanDisk left → IsCalm s left rows) → Survives s left (λ _. ⊥) → IsOnly Is rows result
+      → ((t : Tables) → Holds s.now t → Gives s left [] → says None t) → ((t : Tables) → Holds s.now t → (row : Row) (x : X) → Gives s left (row ∷ []) → Is row x → says (Some x) t) → Queries g says old new result
+  queries_only {X} {E} {F} {says} Is Gives rows result mode gives calm survives is none one =
+      record { mode = mode; read = λ clean. reads_only says Is s left (Gives s left) rows result (gives clean) (calm clean) is none one; survives = survives }
+
+  pub queries_all : {X E F : Type 0} {law : Tables → Type 0} {read : Tables → List X} (Is : Row → X → Type 0) (Gives : State → State → List Row → Type 0) (rows : Result (List Row) E) (result : Result (List X) F)
+      → StaysOut → (HasCleanDisk left → IfOk rows (Gives s left)) → (HasCleanDisk left → IsCalm s left rows) → Survives s left (λ _. ⊥) → AreRead Is rows result
+      → ((t : Tables) → Holds s.now t → law t → (rs : List Row) (xs : List X) → Gives s left rs → AllZip Is rs xs → xs ≡ read t) → Queries g (EqualsWhere law read) old new result
+  queries_all {X} {E} {F} {law} {read} Is Gives rows result mode gives calm survives are shows =
+      record { mode = mode; read = λ clean. lists_by law read Is s left (Gives s left) rows result (gives clean) (calm clean) are shows; survives = survives }
+
+  pub queries_count : {E F : Type 0} {read : Tables → ℕ} (text : List ℕ) (params : Row) (row : Result (Option Row) E) (result : Result ℕ F)
+      → StaysOut → (HasCleanDisk left → IfOk row (FirstRow text params s left)) → (HasCleanDisk left → IsCalm s left row) → Survives s left (λ _. ⊥) → IsCount row result
+      → ((t : Tables) → Holds s.now t → (r : Option Row) → FirstRow text params s left r → r ≡ Some (number (read t) ∷ [])) → Queries g (Equals read) old new result
+  queries_count {E} {F} {read} text params row result mode first calm survives is shows =
+      record { mode = mode; read = λ clean. counts_by read s left text params row result (first clean) (calm clean) is shows; survives = survives }
 
 -- ---- one after another
 

@@ -1,20 +1,9 @@
-use Rattle.sqlite.specs.Held.{state}
-use Rattle.statements.specs.Changes.{keepings_filled}
-use Rattle.statements.specs.Inner.Making.{Moved}
-use Rattle.statements.proofs.Transactions.{alters_by}
-use Rattle.statements.proofs.KeepingTexts.{fill_keepings_text}
+use Rattle.statements.proofs.Transactions.{makes_by}
 use Rattle.statements.proofs.KeepingWrites.{fill_keepings_does}
 use Rattle.statements.proofs.keepings.fill.Goals as goal
 
 pub returns : goal.returns
-returns g c = record {
-  same_reference = c.write.ensures.same_reference;
-  made = λ clean inside.
-      let old = state g.S.Store c.args.tx.now.conn.now in
-      let new = state g.S.Store c.write.new.tx.conn.now in
-      alters_by (Moved 3 keepings_filled) old new fill_keepings_text _ c.write.result
-      (c.write.ensures.runs clean inside)
-      (λ count ran. fill_keepings_does old new count ran);
-  clean = c.write.ensures.survives.clean;
-  shield = c.write.ensures.survives.shield;
-}
+returns g c =
+    makes_by g.S.Store _ _ _ _ c.write.result c.write.ensures.same_reference
+    c.write.ensures.runs c.write.ensures.survives
+    (λ count. fill_keepings_does _ _ count)

@@ -1,23 +1,18 @@
 use Rattle.sqlite.specs.Held.{state}
 use Rattle.std.proofs.Common.{◌≡◌, ℕ, List, [], Option}
 use Rattle.sqlite_schema.specs.declared.schema.Table.{Table}
-use Rattle.statements.specs.Making.{HasEdition, told_version, edition_in}
+use Rattle.statements.specs.Making.{HasEdition, told_version}
 use Rattle.statements.specs.Rows.{Kept}
 use Rattle.statements.specs.Calls.{IsNumber}
-use Rattle.statements.proofs.Transactions.{reads_by, one_read}
+use Rattle.statements.proofs.Transactions.{queries_by, one_read}
 use Rattle.statements.proofs.EditionTexts.{edition_text, edition_is_query, edition_told, edition_shows}
 use Rattle.statements.proofs.making.edition.Goals as goal
 
 pub returns-clause-reads : goal.returns-clause-reads
-returns-clause-reads g c = record {
-  mode = c.first_row-row.ensures.mode;
-  read = λ clean.
-      let old = state g.S.Store c.args.conn.now in
-      let new = state g.S.Store c.first_row-row.new.conn in
-      reads_by edition_in IsNumber old new edition_text _ c.first_row-row.result c.read_one.result
-      (c.first_row-row.ensures.row edition_is_query clean) (c.first_row-row.ensures.calm edition_is_query clean) c.read_one.ensures (λ t holds row first. edition_shows old new t holds row first);
-  survives = c.first_row-row.ensures.survives edition_is_query;
-}
+returns-clause-reads g c =
+    queries_by g.S.Store _ _ IsNumber edition_text _ c.first_row-row.result c.read_one.result c.first_row-row.ensures.mode
+    (c.first_row-row.ensures.row edition_is_query) (c.first_row-row.ensures.calm edition_is_query) (c.first_row-row.ensures.survives edition_is_query) c.read_one.ensures
+    (λ t holds row first. edition_shows _ _ t holds row first)
 
 pub returns-clause-told : goal.returns-clause-told
 returns-clause-told g c clean =

@@ -1,20 +1,11 @@
 use Rattle.std.proofs.Common.{pos, w64}
 use Rattle.std.proofs.lemmas.Int.{to_z-of_z}
-use Rattle.sqlite.specs.Held.{state}
-use Rattle.statements.specs.Inner.Making.{Told}
-use Rattle.statements.proofs.Transactions.{alters_by}
-use Rattle.statements.proofs.EditionTexts.{set_version_text, set_version_does}
+use Rattle.statements.proofs.Transactions.{makes_by}
+use Rattle.statements.proofs.EditionTexts.{set_version_does}
 use Rattle.statements.proofs.making.set_version.Goals as goal
 
 pub returns : goal.returns
-returns g c = record {
-  same_reference = c.write.ensures.same_reference;
-  made = λ clean inside.
-      let old = state g.S.Store c.args.tx.now.conn.now in
-      let new = state g.S.Store c.write.new.tx.conn.now in
-      alters_by (Told c.args.version) old new set_version_text _ c.write.result
-      (rw (c.params-to_sql.ensures, c.signed-version.ensures, to_z-of_z w64 (pos c.args.version) (record { sfits = c.requires.fits })) at (c.write.ensures.runs clean inside))
-      (λ count ran. set_version_does c.args.version c.requires.there old new count ran);
-  clean = c.write.ensures.survives.clean;
-  shield = c.write.ensures.survives.shield;
-}
+returns g c =
+    makes_by g.S.Store _ _ _ _ c.write.result c.write.ensures.same_reference
+    (λ clean inside. rw (c.params-to_sql.ensures, c.signed-version.ensures, to_z-of_z w64 (pos c.args.version) (record { sfits = c.requires.fits })) at (c.write.ensures.runs clean inside)) c.write.ensures.survives
+    (λ count. set_version_does c.args.version c.requires.there _ _ count)

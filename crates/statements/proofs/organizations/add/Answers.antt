@@ -1,18 +1,9 @@
-use Rattle.sqlite.specs.Held.{state}
-use Rattle.statements.specs.Changes.{org_row_added}
-use Rattle.statements.proofs.Transactions.{moves_by}
-use Rattle.statements.proofs.OrgTexts.{add_org_text}
+use Rattle.statements.proofs.Transactions.{writes_by}
 use Rattle.statements.proofs.OrgWrites.{add_org_does}
 use Rattle.statements.proofs.organizations.add.Goals as goal
 
 pub returns : goal.returns
-returns g c = record {
-  same_reference = c.write.ensures.same_reference;
-  changed = λ clean inside.
-      let old = state g.S.Store c.args.tx.now.conn.now in
-      let new = state g.S.Store c.write.new.tx.conn.now in
-      moves_by (org_row_added c.args.name.now c.args.cap) old new add_org_text _ c.write.result
-      (rw (c.params-to_sql.ensures, c.params-to_sql-2.ensures, c.get-cap.ensures.value) at (c.write.ensures.runs clean inside))
-      (λ count t holds ran. add_org_does old new count t holds c.args.name.now c.args.cap ran);
-  survives = c.write.ensures.survives;
-}
+returns g c =
+    writes_by g.S.Store _ _ _ _ c.write.result c.write.ensures.same_reference
+    (λ clean inside. rw (c.params-to_sql.ensures, c.params-to_sql-2.ensures, c.get-cap.ensures.value) at (c.write.ensures.runs clean inside)) c.write.ensures.survives
+    (λ count t holds. add_org_does _ _ count t holds c.args.name.now c.args.cap)

@@ -1,18 +1,9 @@
-use Rattle.sqlite.specs.Held.{state}
-use Rattle.statements.specs.Changes.{run_acted}
-use Rattle.statements.proofs.Transactions.{moves_by}
-use Rattle.statements.proofs.RunTexts.{record_action_text}
+use Rattle.statements.proofs.Transactions.{writes_by}
 use Rattle.statements.proofs.RunWrites.{record_action_does}
 use Rattle.statements.proofs.runs.record_action.Goals as goal
 
 pub returns : goal.returns
-returns g c = record {
-  same_reference = c.write.ensures.same_reference;
-  changed = λ clean inside.
-      let old = state g.S.Store c.args.tx.now.conn.now in
-      let new = state g.S.Store c.write.new.tx.conn.now in
-      moves_by (run_acted c.args.status c.args.action c.args.org.now c.args.ws.now c.args.run) old new record_action_text _ c.write.result
-      (rw (c.action_number-action.ensures) at (rw (c.params-to_sql.ensures, c.params-to_sql-2.ensures, c.params-to_sql-3.ensures, c.params-to_sql-4.ensures, c.params-to_sql-5.ensures, c.get-run.ensures.value, c.status_number-status.ensures) at (c.write.ensures.runs clean inside)))
-      (λ count t holds ran. record_action_does old new count t holds c.args.org.now c.args.ws.now c.args.run c.args.status c.args.action ran);
-  survives = c.write.ensures.survives;
-}
+returns g c =
+    writes_by g.S.Store _ _ _ _ c.write.result c.write.ensures.same_reference
+    (λ clean inside. rw (c.action_number-action.ensures) at (rw (c.params-to_sql.ensures, c.params-to_sql-2.ensures, c.params-to_sql-3.ensures, c.params-to_sql-4.ensures, c.params-to_sql-5.ensures, c.get-run.ensures.value, c.status_number-status.ensures) at (c.write.ensures.runs clean inside))) c.write.ensures.survives
+    (λ count t holds. record_action_does _ _ count t holds c.args.org.now c.args.ws.now c.args.run c.args.status c.args.action)

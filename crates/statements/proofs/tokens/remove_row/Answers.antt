@@ -1,18 +1,9 @@
-use Rattle.sqlite.specs.Held.{state}
-use Rattle.statements.specs.Changes.{HasNoBound, token_row_removed}
-use Rattle.statements.proofs.Transactions.{moves_where}
-use Rattle.statements.proofs.TokenTexts.{remove_token_text}
+use Rattle.statements.proofs.Transactions.{writes_where}
 use Rattle.statements.proofs.TokenWrites.{remove_token_does}
 use Rattle.statements.proofs.tokens.remove_row.Goals as goal
 
 pub returns : goal.returns
-returns g c = record {
-  same_reference = c.write.ensures.same_reference;
-  changed = λ clean inside.
-      let old = state g.S.Store c.args.tx.now.conn.now in
-      let new = state g.S.Store c.write.new.tx.conn.now in
-      moves_where (HasNoBound c.args.org.now c.args.name.now) (token_row_removed c.args.org.now c.args.name.now) old new remove_token_text _ c.write.result
-      (rw (c.params-to_sql.ensures, c.params-to_sql-2.ensures) at (c.write.ensures.runs clean inside))
-      (λ count t holds none ran. remove_token_does old new count t holds c.args.org.now c.args.name.now none ran);
-  survives = c.write.ensures.survives;
-}
+returns g c =
+    writes_where g.S.Store _ _ _ _ c.write.result c.write.ensures.same_reference
+    (λ clean inside. rw (c.params-to_sql.ensures, c.params-to_sql-2.ensures) at (c.write.ensures.runs clean inside)) c.write.ensures.survives
+    (λ count t holds none. remove_token_does _ _ count t holds c.args.org.now c.args.name.now none)

@@ -1,19 +1,11 @@
-use Rattle.sqlite.specs.Held.{state}
-use Rattle.statements.specs.Finds.{size_of}
 use Rattle.statements.specs.Calls.{IsNumber}
-use Rattle.statements.proofs.Transactions.{reads_by}
+use Rattle.statements.proofs.Transactions.{queries_by}
 use Rattle.statements.proofs.VersionTexts.{version_size_text, version_size_is_query}
 use Rattle.statements.proofs.VersionReads.{version_size_shows}
 use Rattle.statements.proofs.versions.size.Goals as goal
 
 pub returns : goal.returns
-returns g c = record {
-  mode = c.first_row-row.ensures.mode;
-  read = λ clean.
-      let old = state g.S.Store c.args.conn.now in
-      let new = state g.S.Store c.first_row-row.new.conn in
-      reads_by (size_of c.args.org.now c.args.ws.now c.args.number) IsNumber old new version_size_text _ c.first_row-row.result c.read_one.result
-      (rw (c.params-to_sql.ensures, c.params-to_sql-2.ensures, c.params-to_sql-3.ensures, c.get-number.ensures.value) at (c.first_row-row.ensures.row version_size_is_query clean)) (c.first_row-row.ensures.calm version_size_is_query clean) c.read_one.ensures
-      (λ t holds row first. version_size_shows old new t holds c.args.org.now c.args.ws.now c.args.number row first);
-  survives = c.first_row-row.ensures.survives version_size_is_query;
-}
+returns g c =
+    queries_by g.S.Store _ _ IsNumber version_size_text _ c.first_row-row.result c.read_one.result c.first_row-row.ensures.mode
+    (λ clean. rw (c.params-to_sql.ensures, c.params-to_sql-2.ensures, c.params-to_sql-3.ensures, c.get-number.ensures.value) at (c.first_row-row.ensures.row version_size_is_query clean)) (c.first_row-row.ensures.calm version_size_is_query) (c.first_row-row.ensures.survives version_size_is_query) c.read_one.ensures
+    (λ t holds row first. version_size_shows _ _ t holds c.args.org.now c.args.ws.now c.args.number row first)
